@@ -1,0 +1,4 @@
+pub mod Order
+pub mod Number
+pub mod Rising
+pub mod Failing

@@ -1,0 +1,5 @@
+pub mod Outcome
+pub mod Message
+pub mod Lines
+pub mod Done
+pub mod Run

@@ -1,0 +1,84 @@
+-- What the three texts of a run ask for, and what is printed of it (this project's own format).
+use Rattle.std.specs.Prelude.{◌≡◌, ℕ, List, Bool, Result, Ok, Err, IsTrue, ◌↔◌, length}
+use Rattle.torus.specs.declared.fault.Fault.TheVariants as fault
+use Rattle.torus.specs.declared.step.Step.{Step}
+use Rattle.script.specs.declared.fault.LineFault.{LineFault}
+use Rattle.script.specs.Machine.{machine_of}
+use Rattle.script.specs.Scripts.{scripts_of}
+use Rattle.script.specs.Steps.{steps_of}
+use Rattle.machine_core.specs.Wire.{Load, after, run_of}
+use Rattle.machine_core.specs.Core.{Core, IsAfter, IsLawful, all_finished, ledger_after}
+use Rattle.machine_core.specs.Loaded.{load_of}
+use Rattle.machine_core.specs.Scripts.{AreFinished}
+use Rattle.report_lines.specs.Line.{text_of}
+use Rattle.history.specs.Report.{report_of}
+use Rattle.commands.specs.declared.fault.ProgramFault.{ProgramFault}
+use Rattle.commands.specs.declared.fault.ProgramFault.TheVariants as program
+use Rattle.commands.specs.Done.{Does, Output}
+
+-- a machine with its scripts, and the steps that it is to make
+pub record Asked : Type 0 where
+  pub load : Load
+  pub steps : List Step
+
+-- what is read next, unless the texts before have a fault
+infixl 10 ◌then◌
+abbrev pub ◌then◌ : {A B : Type 0} → Result A LineFault → (A → Result B LineFault) → Result B LineFault
+(Ok x) then next = next x
+(Err e) then next = Err e
+
+-- what three texts ask for, or the first fault; they are taken in this order
+abbrev pub asked_of : List (List ℕ) → List (List ℕ) → List (List ℕ) → Result Asked LineFault
+asked_of machine scripts steps =
+    machine_of machine then λ m. scripts_of m scripts then λ s. steps_of m steps then λ list.
+    Ok (record { load = load_of m s; steps = list })
+
+-- the machine after the steps: its agents, its packets, and its book
+abbrev pub core_of : Asked → Core
+core_of a = record {
+  shape = a.load.shape;
+  tags = a.load.tags;
+  opening = a.load.opening;
+  state = after a.load a.steps;
+  ledger = ledger_after a.load a.steps;
+}
+
+-- a machine has made the steps that were asked for
+pub record HasRun (asked : Result Asked LineFault) (c : Core) : Type 0 where
+  pub run : Asked
+  pub read : asked ≡ Ok run
+  pub after : IsAfter run.load c run.steps
+
+-- a fault of a text, or want of memory
+abbrev pub IsReadFault : Result Asked LineFault → ProgramFault → Type 0
+IsReadFault asked (program.Line found) = asked ≡ Err found
+IsReadFault asked (program.Fault which) = which ≡ fault.Memory
+IsReadFault asked _ = ⊥
+
+-- no fault, want of memory aside
+abbrev pub IsNoFault : ProgramFault → Type 0
+IsNoFault f = ⊥
+
+-- a text is the report of a machine's run, and the answer says whether every script is finished
+pub record IsOfMachine (c : Core) (finished : Bool) (text : List ℕ) : Type 0 where
+  pub is : text ≡ text_of (report_of c)
+  pub value : finished ≡ all_finished c.state
+  pub law : (l : Load) (steps : List Step) → IsAfter l c steps → IsTrue finished ↔ AreFinished (run_of l steps) (length steps) l.scripts
+
+-- A text is the report of the run that was asked for: the run has one legal order, which is that of the report's order lines (Herlihy and Wing, TOPLAS 12(3), 1990: linearizability), every processor has followed its script, and the answer says whether every script is finished.
+pub record IsRunText (asked : Result Asked LineFault) (finished : Bool) (text : List ℕ) : Type 0 where
+  pub run : Asked
+  pub read : asked ≡ Ok run
+  pub is : text ≡ text_of (report_of (core_of run))
+  pub lawful : IsLawful run.load run.steps (ledger_after run.load run.steps).rows
+  pub value : finished ≡ all_finished (after run.load run.steps)
+  pub ended : IsTrue finished ↔ AreFinished (run_of run.load run.steps) (length run.steps) run.load.scripts
+
+-- this is the first fault of the texts
+abbrev pub IsTextsFault : Result Asked LineFault → ProgramFault → Type 0
+IsTextsFault asked (program.Line found) = asked ≡ Err found
+IsTextsFault asked _ = ⊥
+
+-- the report of the run was printed
+abbrev pub PrintsRun : Result Asked LineFault → Output → Output → Result Bool ProgramFault → Type 0
+PrintsRun asked = Does (IsRunText asked) (IsTextsFault asked)

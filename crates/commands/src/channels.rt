@@ -1,0 +1,70 @@
+ghost use Rattle.std.specs.Prelude.{◌≡◌, ◌<◌, OnOk, OnErr, length};
+ghost use Rattle.std.specs.Io.KnownBytes.{Appends};
+ghost use Rattle.std.specs.List.{flat_map};
+ghost use Rattle.std.specs.Str.Lines.{lines};
+ghost use Rattle.report_lines.specs.Taken.{AppendsFront, Rose};
+ghost use Rattle.channel_number.specs.Order.{channel_count};
+ghost use Rattle.commands.specs.Done.{PrintsChannels, output};
+ghost use Rattle.channel_number.specs.Rising.{IsRising};
+ghost use Rattle.commands.specs.Lines.{channels_lines, order_lines};
+
+use crate::ProgramFault;
+use crate::line::place_line;
+use channel_number::{Rising, channel_count, check, numbers};
+use report_lines::output::put_all;
+use report_lines::{Out, OutputFailed};
+use script::read_machine;
+use std::alloc::Allocator;
+use torus::Torus;
+
+/// Prints the number of each channel, in channel order, and `rising` after the check that they rise
+/// along every route.
+///
+/// Errors: the machine text's first fault, or want of memory; and nothing was written then. If the
+/// output fails, a beginning was written.
+pub fn channels_text<A: Allocator + Copy, W: Out>(
+    alloc: A,
+    machine: &[u8],
+    out: &mut W,
+) -> Result<(), ProgramFault>
+    ensures { PrintsChannels (lines machine.now) (output (W.taken out.old) (W.failures out.old)) (output (W.taken out.new) (W.failures out.new)) result }
+{
+    let machine = read_machine(alloc, machine)?;
+    let torus = machine.torus();
+    let numbers = numbers(alloc, torus)?;
+    put_checked(out, torus, &numbers)?;
+    Ok(())
+}
+
+/// Puts a line for each channel, and one after the check of the numbers.
+fn put_checked<W: Out>(out: &mut W, torus: &Torus, numbers: &[u32]) -> Result<(), OutputFailed>
+    requires count { length numbers.now ≡ channel_count torus.now }
+    requires rising { IsRising torus.now numbers.now }
+    ensures ok { OnOk result (Appends (W.taken out.old) (W.taken out.new) (channels_lines torus.now numbers.now)) }
+    ensures err { OnErr result (AppendsFront (W.taken out.old) (W.taken out.new) (channels_lines torus.now numbers.now)) }
+    ensures quiet { OnOk result (W.failures out.new ≡ W.failures out.old) }
+    ensures failed { OnErr result (Rose (W.failures out.old) (W.failures out.new)) }
+{
+    put_channels(out, torus, numbers)?;
+    match check(torus, numbers) {
+        Ok(Rising) => put_all(out, b"rising\n"),
+        Err(_) => Ok(()),
+    }
+}
+
+/// Puts a line for each channel, in channel order.
+fn put_channels<W: Out>(out: &mut W, torus: &Torus, numbers: &[u32]) -> Result<(), OutputFailed>
+    requires { length numbers.now ≡ channel_count torus.now }
+    ensures ok { OnOk result (Appends (W.taken out.old) (W.taken out.new) (flat_map (λ line. line) (order_lines torus.now numbers.now (channel_count torus.now)))) }
+    ensures err { OnErr result (AppendsFront (W.taken out.old) (W.taken out.new) (flat_map (λ line. line) (order_lines torus.now numbers.now (channel_count torus.now)))) }
+    ensures quiet { OnOk result (W.failures out.new ≡ W.failures out.old) }
+    ensures failed { OnErr result (Rose (W.failures out.old) (W.failures out.new)) }
+{
+    let at_tile = 8 * torus.dims() + 4;
+    for index in 0..channel_count(torus) {
+        let number = numbers[index as usize];
+        let line = place_line(index / at_tile, index % at_tile, number);
+        put_all(out, line.as_str().as_bytes())?;
+    }
+    Ok(())
+}

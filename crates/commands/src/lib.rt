@@ -1,0 +1,20 @@
+//! The commands of the program over texts and outputs: what each answers, the status that the
+//! program ends with, and what it prints for a fault.
+#![tactic(auto)]
+
+pub mod channels;
+pub mod check;
+pub mod fault;
+mod line;
+pub mod message;
+pub mod route;
+pub mod steps;
+#[cfg(test)]
+mod tests;
+
+pub use channels::channels_text;
+pub use check::check_text;
+pub use fault::{ProgramFault, finished, status_of};
+pub use message::fault_text;
+pub use route::route_text;
+pub use steps::steps_text;

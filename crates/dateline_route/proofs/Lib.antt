@@ -1,0 +1,9 @@
+pub mod Climbs
+pub mod Ends
+pub mod Examples
+pub mod First
+pub mod Lengths
+pub mod Rings
+pub mod Runs
+pub mod Tiles
+pub mod Walks

@@ -1,0 +1,4 @@
+pub mod Ring
+pub mod Route
+pub mod Next
+pub mod Walk

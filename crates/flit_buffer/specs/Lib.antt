@@ -1,0 +1,12 @@
+pub mod Channel
+pub mod Words
+pub mod Ends
+pub mod Places
+pub mod Wants
+pub mod Agent
+pub mod Surroundings
+pub mod Refinement
+pub mod Steps
+pub mod Runs
+pub mod Seen
+pub mod Joined

@@ -1,0 +1,87 @@
+ghost use Rattle.std.specs.Prelude.{◌≡◌, ◌^◌, ◌≤◌, IsSome, is_some, if◌then◌else◌};
+ghost use Rattle.flit_buffer.specs.Wants.{HasPort, want_op, outcome, ports_after};
+
+use crate::receiver::Receiver;
+use crate::sender::Sender;
+use crate::want::Want;
+use crate::word_op::WordOp;
+use packet::Op;
+use std::alloc::{Allocator, Global};
+use std::marker::Model;
+
+/// The ends of channels by which an agent reaches its surroundings, and the position in the row
+/// from which the words of the memory stand.
+#[derive(Drop)]
+pub struct Ports<A: Allocator = Global> {
+    inputs: Vec<Receiver, A>,
+    outputs: Vec<Sender, A>,
+    words: usize,
+}
+
+impl<A: Allocator> Model for Ports<A> {
+    ghost use Rattle.std.specs.Prelude.{◌≤◌, ◌^◌};
+    ghost use Rattle.flit_buffer.specs.Wants.{PortEnds};
+
+    ghost Value = { PortEnds };
+
+    ghost view = { λ p. record { inputs = p.inputs.items; outputs = p.outputs.items; words = p.words } };
+
+    ghost invariant = { λ p. p.words ≤ 2 ^ 32 };
+}
+
+impl<A: Allocator> Ports<A> {
+    /// Ports with these ends. The words stand from a position of at most 2^32 on.
+    pub fn new(inputs: Vec<Receiver, A>, outputs: Vec<Sender, A>, words: usize) -> Self
+        requires { words ≤ 2 ^ 32 }
+        ensures { result ≡ record { inputs = inputs.items; outputs = outputs.items; words = words } }
+    {
+        Ports {
+            inputs,
+            outputs,
+            words,
+        }
+    }
+
+    /// The operation by which a want is tried; None exactly where it wants to put and no credit is
+    /// held, or wants a credit and all are held. The input or output is there.
+    pub fn op(&self, want: Want) -> Option<WordOp>
+        requires { HasPort self.now want }
+        ensures { result ≡ want_op self.now want }
+    {
+        match want {
+            Want::Take(input) => Some(self.inputs[input as usize].take_op()),
+            Want::Put(output, flit) => self.outputs[output as usize].put_op(flit),
+            Want::Credit(output) => self.outputs[output as usize].credit_op(),
+            Want::Access(word, op) => Some(WordOp::at(self.words + word as usize, op)),
+            Want::Await(word, _) => Some(WordOp::Load(self.words + word as usize)),
+        }
+    }
+
+    /// Takes the word that the operation of a want found, and answers what the agent learns; None
+    /// exactly where the word doesn't grant the want, and then nothing changes. A store learns
+    /// nothing, which is 0, and so does a put or a credit.
+    pub fn absorb(&mut self, want: Want, got: u64) -> Option<u64>
+        requires port { HasPort self.old want }
+        requires tried { IsSome (want_op self.old want) }
+        ensures learned { result ≡ outcome want got }
+        ensures after { self.new ≡ (if is_some (outcome want got) then ports_after self.old want else self.old) }
+    {
+        match want {
+            Want::Take(input) => self.inputs[input as usize].take_got(got),
+            Want::Put(output, _) => {
+                self.outputs[output as usize].put_done();
+                Some(0)
+            }
+            Want::Credit(output) => {
+                if self.outputs[output as usize].credit_got(got) {
+                    Some(0)
+                } else {
+                    None
+                }
+            }
+            Want::Access(_, Op::Store(_)) => Some(0),
+            Want::Access(_, _) => Some(got),
+            Want::Await(_, value) => if got == value { Some(value) } else { None },
+        }
+    }
+}

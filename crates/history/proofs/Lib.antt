@@ -1,0 +1,3 @@
+pub mod RowMore
+pub mod Limits
+pub mod Fitting

@@ -1,0 +1,7 @@
+use Rattle.std.proofs.Common.{◌≡◌, take}
+use Rattle.machine_core.specs.Core.{shown}
+use Rattle.history.proofs.rows.last_words.Given as goal
+
+-- the words of the addresses so far are there
+abbrev pub invariant-loop-address : goal.invariant-loop-address
+invariant-loop-address g l = l.words.items ≡ take l.address (shown l.machine).memory

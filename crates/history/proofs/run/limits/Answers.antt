@@ -1,0 +1,5 @@
+use Rattle.history.proofs.Limits.{within_limits}
+use Rattle.history.proofs.run.limits.Goals as goal
+
+pub returns : goal.returns
+returns g c = within_limits c.args.machine.now c.reached.ensures

@@ -1,0 +1,48 @@
+-- What the report of a machine says (this project's own format).
+use Rattle.std.specs.Prelude.{◌≡◌, ◌≤◌, All, List, length, map}
+use Rattle.torus.specs.Shape.{tiles_of}
+use Rattle.home_bank.specs.declared.entry.Entry.{Entry}
+use Rattle.runs.specs.declared.answer.Answer.{Answer}
+use Rattle.runs.specs.declared.ordered.Ordered.{Ordered}
+use Rattle.report_lines.specs.declared.line.OrderLine.{OrderLine}
+use Rattle.report_lines.specs.declared.line.ReportLine.{ReportLine}
+use Rattle.report_lines.specs.declared.parts.EntryRow.{EntryRow}
+use Rattle.report_lines.specs.declared.parts.AnswerRow.{AnswerRow}
+use Rattle.report_lines.specs.declared.parts.Parts.{Parts}
+use Rattle.report_lines.specs.Contents.{items_of, report_lines_of}
+use Rattle.machine_core.specs.Core.{Core, shown, all_finished}
+
+-- what is reported of a service
+abbrev pub entry_row : Entry → EntryRow
+entry_row e = record { source = e.source; tag = e.tag.0; address = e.address; op = e.op; reply = e.reply }
+
+-- what is reported of an answer
+abbrev pub answer_row : Answer → AnswerRow
+answer_row a = record { index = a.index; bank = a.bank; place = a.place; reply = a.reply }
+
+-- what is reported of an operation's place in the one order: the service, and the numbers of its events
+abbrev pub order_line : Ordered → OrderLine
+order_line r = record { bank = r.bank; place = r.place; issued = r.issued; served = r.served; answered = r.answered }
+
+-- the report of a machine: its shape, opening words, histories, answers, words, one order, and whether every script is finished
+abbrev pub report_of : Core → List ReportLine
+report_of c = report_lines_of c.shape c.opening (map (map entry_row) (shown c).entries) (map (map answer_row) (shown c).answers) (shown c).memory (map order_line c.ledger.rows) (all_finished c.state)
+
+-- these are the parts of the report of a machine
+pub record IsMadeOf {A : Type 0} (c : Core) (parts : Parts A) : Type 0 where
+  pub torus : parts.torus ≡ c.shape
+  pub opening : parts.opening.items ≡ c.opening
+  pub entries : items_of parts.entries.items ≡ map (map entry_row) (shown c).entries
+  pub answers : items_of parts.answers.items ≡ map (map answer_row) (shown c).answers
+  pub last : parts.last.items ≡ (shown c).memory
+  pub order : parts.order.items ≡ map order_line c.ledger.rows
+  pub finished : parts.finished ≡ all_finished c.state
+
+-- a machine has a bank and a processor for each of at most 64 tiles, a word for each of at most 65536 addresses, and at most 65536 entries in each bank (this project's own format)
+pub record IsWithinLimits (c : Core) : Type 0 where
+  pub tiles : tiles_of c.shape ≤ 64
+  pub banks : length (shown c).entries ≡ tiles_of c.shape
+  pub processors : length (shown c).answers ≡ tiles_of c.shape
+  pub words : length c.opening ≤ 65536
+  pub memory : length (shown c).memory ≡ length c.opening
+  pub places : All (λ es. length es ≤ 65536) (shown c).entries

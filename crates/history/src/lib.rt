@@ -1,0 +1,14 @@
+//! The report of a machine's run.
+#![tactic(auto)]
+
+mod rows;
+pub mod run;
+
+pub use report_lines::{
+    AnswerLine, AnswerRow, EntryLine, EntryRow, LineText, OrderLine, Out, OutputFailed, Parts,
+    Piped, Radices, Report, ReportLine, line_of, write_report,
+};
+pub use run::of_run;
+
+#[cfg(test)]
+mod tests;

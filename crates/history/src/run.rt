@@ -1,0 +1,75 @@
+//! The report of a machine's run.
+
+ghost use Rattle.std.specs.Prelude.{◌≡◌, IfErr, IfOk};
+ghost use Rattle.history.specs.Report.{IsMadeOf, IsWithinLimits, report_of};
+
+use crate::rows::{bank_rows, last_words, opening_words, order_lines, processor_rows};
+use machine_core::Machine;
+use report_lines::{Parts, Report};
+use std::alloc::{AllocError, Allocator};
+use torus::Fault;
+
+/// What a machine shows is within the limits of a report.
+fn limits<B: Allocator>(machine: &Machine<B>)
+    ensures { IsWithinLimits machine.now }
+{
+    machine.reached();
+}
+
+/// The parts of a machine's report.
+fn parts_of<A: Allocator + Copy, B: Allocator>(
+    alloc: A,
+    machine: &Machine<B>,
+) -> Result<Parts<A>, AllocError>
+    requires { IsWithinLimits machine.now }
+    ensures { IfOk result (λ parts. IsMadeOf machine.now parts) }
+{
+    let torus = *machine.torus();
+    let opening = opening_words(alloc, machine)?;
+    let entries = bank_rows(alloc, machine, torus.tiles())?;
+    let answers = processor_rows(alloc, machine, torus.tiles())?;
+    let last = last_words(alloc, machine)?;
+    let Ok(rows) = machine.order(alloc) else {
+        return Err(AllocError);
+    };
+    let order = order_lines(alloc, rows.as_slice())?;
+    let finished = machine.finished();
+    Ok(Parts {
+        torus,
+        opening,
+        entries,
+        answers,
+        last,
+        order,
+        finished,
+    })
+}
+
+/// The report of a machine.
+fn lines_of_run<A: Allocator + Copy, B: Allocator>(
+    alloc: A,
+    machine: &Machine<B>,
+) -> Result<Report<A>, AllocError>
+    ensures { IfOk result (λ report. report ≡ report_of machine.now) }
+{
+    limits(machine);
+    let parts = parts_of(alloc, machine)?;
+    Report::of_parts(alloc, &parts)
+}
+
+/// The report of a machine's run: its shape, opening words, histories, answers, words, one order,
+/// and whether every script is finished.
+///
+/// Errors: `Fault::Memory` alone.
+pub fn of_run<A: Allocator + Copy, B: Allocator>(
+    alloc: A,
+    machine: &Machine<B>,
+) -> Result<Report<A>, Fault>
+    ensures report { IfOk result (λ report. report ≡ report_of machine.now) }
+    ensures fault { IfErr result (λ fault. fault ≡ Fault.Memory) }
+{
+    match lines_of_run(alloc, machine) {
+        Ok(report) => Ok(report),
+        Err(_) => Err(Fault::Memory),
+    }
+}

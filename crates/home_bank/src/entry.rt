@@ -1,0 +1,13 @@
+use packet::{Op, Reply};
+use torus::Tag;
+
+/// A service in a bank's history: who asked by which tag, what was done where, and what was replied.
+#[derive(Clone, Copy, Debug, PartialEq, Eq)]
+pub struct Entry {
+    /// The tile of the processor that asked.
+    pub source: u32,
+    pub tag: Tag,
+    pub address: u32,
+    pub op: Op,
+    pub reply: Reply,
+}

@@ -1,0 +1,104 @@
+ghost use Rattle.std.specs.Prelude.{◌≡◌, ◌<◌, ◌≤◌, [], ◌∷◌, ◌++◌, ◌↔◌, length, vec_len, vec_capacity, IfOk, IsTrue};
+ghost use Rattle.home_bank.specs.History.{response_of, recorded, IsHistory};
+
+use crate::Entry;
+use packet::{Reply, Request, Response};
+use std::alloc::{AllocError, Allocator, Global};
+use std::marker::Model;
+
+/// What a bank has served, in the order of the services. It knows no words.
+#[derive(Drop)]
+pub struct History<A: Allocator = Global> {
+    tile: u32,
+    tiles: u32,
+    entries: Vec<Entry, A>,
+    room: usize,
+}
+
+impl<A: Allocator> Model for History<A> {
+    ghost use Rattle.home_bank.specs.History.{Services};
+
+    ghost Value = { Services };
+
+    ghost use Rattle.home_bank.specs.Inside.{services_of, IsReserved};
+
+    ghost view = { services_of };
+
+    ghost invariant = { IsReserved };
+}
+
+impl<A: Allocator> History<A> {
+    /// An empty history of the bank of a tile, among that many tiles (1 to 64). It takes the
+    /// memory for `room` entries (at most 65536), and none later.
+    pub fn new(alloc: A, tile: u32, tiles: u32, room: usize) -> Result<History<A>, AllocError>
+        requires tile { tile < tiles }
+        requires tiles { tiles ≤ 64 }
+        requires room { room ≤ 65536 }
+        ensures { IfOk result (λ h. h ≡ record { tile = tile; tiles = tiles; entries = []; room = room }) }
+    {
+        let entries = Vec::with_capacity(alloc, room)?;
+        Ok(History {
+            tile,
+            tiles,
+            entries,
+            room,
+        })
+    }
+
+    /// Adds the entry of a service, and gives the packet that answers its request.
+    pub fn record(&mut self, request: Request, reply: Reply) -> Response
+        requires word { request.word < 65536 }
+        requires room { length self.old.entries < self.old.room }
+        ensures history { self.new ≡ recorded self.old request reply }
+        ensures response { result ≡ response_of self.old.tile (length self.old.entries) request reply }
+    {
+        let place = self.entries.len() as u32;
+        let entry = Entry {
+            source: request.source,
+            tag: request.tag,
+            address: self.tile + request.word * self.tiles,
+            op: request.op,
+            reply,
+        };
+        push_within(&mut self.entries, entry);
+        Response {
+            destination: request.source,
+            source: self.tile,
+            tag: request.tag,
+            place,
+            code: request.op.code(),
+            reply,
+        }
+    }
+
+    /// The tile whose bank it is.
+    pub fn tile(&self) -> u32
+        ensures tile { result ≡ self.now.tile }
+        ensures limits { IsHistory self.now }
+    {
+        self.tile
+    }
+
+    /// The entries, in the order of the services.
+    pub fn entries(&self) -> &[Entry]
+        ensures { result.now ≡ self.now.entries }
+    {
+        self.entries.as_slice()
+    }
+
+    /// Whether there is room for no further entry.
+    pub fn is_full(&self) -> bool
+        ensures { IsTrue result ↔ (length self.now.entries ≡ self.now.room) }
+    {
+        self.entries.len() == self.room
+    }
+}
+
+/// Adds an element where there is room for it.
+fn push_within<T: Drop, A: Allocator>(items: &mut Vec<T, A>, item: T)
+    requires { vec_len items.old < vec_capacity items.old }
+    ensures items { items.new.items ≡ items.old.items ++ item ∷ [] }
+    ensures capacity { vec_capacity items.old ≤ vec_capacity items.new }
+{
+    let _ = items.push(item);
+}

@@ -1,0 +1,49 @@
+-- What a machine's fields stand for, and what is true of every machine.
+use Rattle.std.specs.Prelude.{◌≡◌, ℕ, ◌≤◌, List, map, Some, slice_get, vec_capacity}
+use Rattle.torus.specs.Shape.{tiles_of}
+use Rattle.torus.specs.declared.step.Step.{Step}
+use Rattle.script.specs.declared.line.Line.{Line}
+use Rattle.net_interface.specs.Scripts.{operation_count}
+use Rattle.machine_core.specs.declared.rows.ProcessorRow.{ProcessorRow}
+use Rattle.machine_core.specs.declared.rows.BankRow.{BankRow}
+use Rattle.machine_core.specs.declared.machine.Machine.TheInside.{Inside}
+use Rattle.machine_core.specs.Wire.{Load, State}
+use Rattle.machine_core.specs.Ledger.{Ledger}
+use Rattle.machine_core.specs.Room.{home_room, all_room}
+use Rattle.machine_core.specs.Rows.{processor_of, bank_of, HasProcessorRoom, HasBankRoom}
+use Rattle.machine_core.specs.Core.{Core, IsAfter}
+
+abbrev pub state_of : {A : Type 0} → Inside A → State
+state_of a = record {
+  processors = map processor_of a.processors.items;
+  banks = map (λ row. bank_of row.bank) a.banks.items;
+  requests = a.requests.items;
+  responses = a.responses.items;
+}
+
+abbrev pub ledger_of : {A : Type 0} → Inside A → Ledger
+ledger_of a = record {
+  events = a.events;
+  issues = map (λ row. row.numbers.items) a.processors.items;
+  positions = map (λ row. row.positions.items) a.banks.items;
+  rows = a.order.items;
+}
+
+abbrev pub core_of : {A : Type 0} → Inside A → Core
+core_of a = record { shape = a.torus; tags = a.tags; opening = a.opening.items; state = state_of a; ledger = ledger_of a }
+
+-- the room that was reserved for a load is there
+pub record HasRoom {A : Type 0} (l : Load) (a : Inside A) : Type 0 where
+  pub processors : (t : ℕ) (lines : List Line) (row : ProcessorRow A) → slice_get l.scripts t ≡ Some lines → slice_get a.processors.items t ≡ Some row → HasProcessorRoom (operation_count lines) row
+  pub banks : (b : ℕ) (row : BankRow A) → slice_get a.banks.items b ≡ Some row → HasBankRoom (home_room (tiles_of l.shape) b l.scripts) row
+  pub requests : all_room l.scripts ≤ vec_capacity a.requests
+  pub responses : all_room l.scripts ≤ vec_capacity a.responses
+  pub order : all_room l.scripts ≤ vec_capacity a.order
+
+-- every machine stands where some list of steps leads from an accepted load
+pub record IsMachine {A : Type 0} (a : Inside A) : Type 0 where
+  pub load : Load
+  pub steps : List Step
+  pub after : IsAfter load (core_of a) steps
+  pub room : HasRoom load a
+  pub banks : (b : ℕ) (row : BankRow A) → slice_get a.banks.items b ≡ Some row → (row.bank.tile ≡ b) × (row.bank.tiles ≡ tiles_of a.torus)

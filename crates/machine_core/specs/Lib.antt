@@ -1,0 +1,9 @@
+pub mod Wire
+pub mod Scripts
+pub mod Ledger
+pub mod Core
+pub mod Rows
+pub mod Room
+pub mod Inside
+pub mod Loaded
+pub mod Reported

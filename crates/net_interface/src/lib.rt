@@ -1,0 +1,10 @@
+//! The processor side of a tile: which operation of its script comes next.
+#![tactic(auto)]
+
+pub mod follower;
+pub mod laws;
+mod spin;
+#[cfg(test)]
+mod tests;
+
+pub use follower::Follower;

@@ -1,0 +1,10 @@
+pub mod Accepted
+pub mod Answered
+pub mod Fields
+pub mod FlitBits
+pub mod Folds
+pub mod Offering
+pub mod Refusals
+pub mod Shapes
+pub mod Spelled
+pub mod Told

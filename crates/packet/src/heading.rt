@@ -1,0 +1,9 @@
+use torus::Class;
+
+/// What a router has to know of a packet: its head flit tells it.
+#[derive(Clone, Copy, Debug, PartialEq, Eq)]
+pub struct Head {
+    /// The tile that the packet goes to, 0 to 63.
+    pub destination: u32,
+    pub class: Class,
+}

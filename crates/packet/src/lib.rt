@@ -1,0 +1,23 @@
+//! What goes between processors and banks: operations, their replies and packets; and what the
+//! operations mean on one sequential memory.
+#![tactic(auto)]
+
+pub mod assembler;
+pub mod flit;
+pub mod flit_laws;
+#[cfg(test)]
+mod flit_tests;
+pub mod heading;
+pub mod kinds;
+pub mod laws;
+pub mod memory;
+pub mod spelling;
+#[cfg(test)]
+mod tests;
+
+pub use assembler::{Assembler, Kind, Offered};
+pub use flit::{head, is_tail};
+pub use heading::Head;
+pub use kinds::{Code, Op, Operation, Packet, Reply, Request, Response};
+pub use memory::apply;
+pub use spelling::flits;

@@ -1,0 +1,56 @@
+-- What a good report says, in the terms of one memory (this project's own format).
+use Rattle.std.specs.Prelude.{◌≡◌, ℕ, ◌<◌, List, [], ◌∷◌, length, replicate, slice_set, fold, map, flat_map, All, IfSome}
+use Rattle.std.specs.List.{range_with_len}
+use Rattle.std.specs.List.Sorted.{IsStrictlyIncreasing}
+use Rattle.packet.specs.Memory.{memory_after, replies}
+use Rattle.report_lines.specs.Contents.{set_words}
+use Rattle.report_lines.specs.declared.line.OrderLine.{OrderLine}
+use Rattle.report_lines.specs.declared.line.ReportLine.{ReportLine}
+use Rattle.report_lines.specs.declared.line.ReportLine.TheVariants.{Header, Shape, Init, Entry, Answer, Word, Order, End}
+use Rattle.report_check.specs.Seen.{Seen, seen_of, entries_at, operation_of, orders_at}
+
+-- the opening words with one more line: all 0 behind the shape, and those that `init` lines name
+abbrev pub opening_after : List ℕ → ReportLine → List ℕ
+opening_after m (Header version) = m
+opening_after m (Shape radices words) = replicate words 0
+opening_after m (Init address value) = slice_set m address value
+opening_after m (Entry e) = m
+opening_after m (Answer a) = m
+opening_after m (Word address value) = m
+opening_after m (Order o) = m
+opening_after m (End complete) = m
+
+-- the opening words that the lines say
+abbrev pub opening_of : List ReportLine → List ℕ
+opening_of lines = fold opening_after [] lines
+
+-- the word that a `word` line tells, with its address
+abbrev pub word_in : ReportLine → List (ℕ × ℕ)
+word_in (Header version) = []
+word_in (Shape radices words) = []
+word_in (Init address value) = []
+word_in (Entry e) = []
+word_in (Answer a) = []
+word_in (Word address value) = (address, value) ∷ []
+word_in (Order o) = []
+word_in (End complete) = []
+
+-- the words that the `word` lines tell
+abbrev pub told_words : List ReportLine → List (ℕ × ℕ)
+told_words lines = flat_map word_in lines
+
+-- the entries replay on one memory from the opening words, in the order of the report and in each bank by itself, and the `word` lines tell the words that are not 0 of the memory that they leave (Herlihy and Wing, TOPLAS 12(3), 1990: a legal sequential history)
+pub record EntriesReplay (lines : List ReportLine) : Type 0 where
+  pub whole : map (λ e. e.reply) (seen_of lines).entries ≡ replies (map operation_of (seen_of lines).entries) (opening_of lines)
+  pub banks : (bank : ℕ) → map (λ e. e.reply) (entries_at (seen_of lines).entries bank) ≡ replies (map operation_of (entries_at (seen_of lines).entries bank)) (opening_of lines)
+  pub last : told_words lines ≡ set_words (memory_after (map operation_of (seen_of lines).entries) (opening_of lines))
+
+-- an entry is issued, then served, then answered
+abbrev pub IsTimely : OrderLine → Type 0
+IsTimely o = (o.issued < o.served) × IfSome o.answered (λ n. o.served < n)
+
+-- the order lines give one order of the entries: each once, the places of a bank rising, by rising numbers of service
+pub record OrdersEntries (s : Seen) : Type 0 where
+  pub places : (bank : ℕ) → map (λ o. o.place) (orders_at s.orders bank) ≡ range_with_len 0 (length (entries_at s.entries bank))
+  pub rises : IsStrictlyIncreasing (map (λ o. o.served) s.orders)
+  pub timely : All IsTimely s.orders

@@ -1,0 +1,190 @@
+-- Reading a line at the beginning of a text.
+use Rattle.std.specs.Prelude.{◌≡◌, ℕ, ◌+◌, ◌-◌, ◌*◌, ◌^◌, ◌==◌, ◌&&◌, if◌then◌else◌, List, [], ◌∷◌, Option, Some, None, true, false, nat_lt, codes}
+use Rattle.std.specs.Char.{is_ascii_digit}
+use Rattle.std.specs.Option.{option_or}
+use Rattle.packet.specs.declared.kinds.Op.{Op}
+use Rattle.packet.specs.declared.kinds.Op.TheVariants.{Load, Store, Swap, Cas, Add, And, Or, Xor, Max, Min}
+use Rattle.packet.specs.declared.kinds.Reply.{Reply}
+use Rattle.packet.specs.declared.kinds.Reply.TheVariants.{Old, Ok as Stored}
+use Rattle.report_lines.specs.declared.line.Radices.{Radices}
+use Rattle.report_lines.specs.declared.line.Radices.TheVariants.{One, Two, Three}
+use Rattle.report_lines.specs.declared.line.ReportLine.{ReportLine}
+use Rattle.report_lines.specs.declared.line.ReportLine.TheVariants.{Header, Shape, Init, Entry, Answer, Word, Order, End}
+
+infixl 10 ◌>>=◌
+-- what is read after something was read
+abbrev pub ◌>>=◌ : {A B : Type 0} → Option A → (A → Option B) → Option B
+None >>= f = None
+(Some x) >>= f = f x
+
+-- what a function returned, seen by view, is what reading gives
+abbrev pub Gives : {X Y : Type 0} → (X → Y) → Option X → Option Y → Type 0
+Gives view None read = read ≡ None
+Gives view (Some x) read = read ≡ Some (view x)
+
+-- what stands behind these bytes, where the text begins with them
+unfoldable pub behind : List ℕ → List ℕ → Option (List ℕ)
+behind [] text = Some text
+behind (b ∷ bytes) [] = None
+behind (b ∷ bytes) (c ∷ text) = if c == b then behind bytes text else None
+
+-- the digits up to an end, behind those of a number
+unfoldable pub digits_on : ℕ → ℕ → List ℕ → Option (ℕ × List ℕ)
+digits_on end n [] = None
+digits_on end n (b ∷ text) =
+    if is_ascii_digit b then (if nat_lt (10 * n + (b - 48)) (2 ^ 64) then digits_on end (10 * n + (b - 48)) text else None)
+    else (if b == end then Some (n, text) else None)
+
+-- a number of 64 bits up to an end, and what stands behind that
+unfoldable pub number_at : ℕ → List ℕ → Option (ℕ × List ℕ)
+number_at end [] = None
+number_at end (b ∷ text) =
+    if b == 48 then (behind (end ∷ []) text >>= λ rest. Some (0, rest))
+    else (if is_ascii_digit b then digits_on end (b - 48) text else None)
+
+-- a number of 32 bits
+unfoldable pub index_at : ℕ → List ℕ → Option (ℕ × List ℕ)
+index_at end text = do
+  n ← number_at end text
+  if nat_lt n.0 (2 ^ 32) then Some (n.0, n.1) else None
+
+-- what follows a word that the text begins with, else the other reading
+abbrev pub instead : {A B : Type 0} → Option A → (A → Option B) → Option B → Option B
+instead None f other = other
+instead (Some x) f other = f x
+
+-- a reply at the end of a line
+unfoldable pub reply_at : List ℕ → Option (Reply × List ℕ)
+reply_at text = instead (behind (codes "ok\n") text) (λ rest. Some (Stored, rest)) (number_at 10 text >>= λ n. Some (Old n.0, n.1))
+
+-- an event number or a dash at the end of a line
+unfoldable pub event_at : List ℕ → Option (Option ℕ × List ℕ)
+event_at text = instead (behind (codes "-\n") text) (λ rest. Some (None, rest)) (index_at 10 text >>= λ n. Some (Some n.0, n.1))
+
+-- an address and a value up to an end
+unfoldable pub pair_at : ℕ → List ℕ → Option (ℕ × ℕ × List ℕ)
+pair_at end text = do
+  a ← index_at 32 text
+  v ← number_at end a.1
+  Some (a.0, v.0, v.1)
+
+-- what stands behind `load `
+unfoldable pub load_at : List ℕ → Option (Op × ℕ × List ℕ)
+load_at text = do
+  a ← index_at 32 text
+  Some (Load, a.0, a.1)
+
+-- what stands behind `cas `
+unfoldable pub cas_at : List ℕ → Option (Op × ℕ × List ℕ)
+cas_at text = do
+  a ← index_at 32 text
+  e ← number_at 32 a.1
+  n ← number_at 32 e.1
+  Some (Cas e.0 n.0, a.0, n.1)
+
+-- an operation that is one of and, or, xor, max and min
+unfoldable pub newer_at : List ℕ → Option (Op × ℕ × List ℕ)
+newer_at text =
+    instead (behind (codes "and ") text) (λ rest. pair_at 32 rest >>= λ p. Some (And p.1, p.0, p.2))
+    (instead (behind (codes "or ") text) (λ rest. pair_at 32 rest >>= λ p. Some (Or p.1, p.0, p.2))
+    (instead (behind (codes "xor ") text) (λ rest. pair_at 32 rest >>= λ p. Some (Xor p.1, p.0, p.2))
+    (instead (behind (codes "max ") text) (λ rest. pair_at 32 rest >>= λ p. Some (Max p.1, p.0, p.2))
+    (instead (behind (codes "min ") text) (λ rest. pair_at 32 rest >>= λ p. Some (Min p.1, p.0, p.2))
+    None))))
+
+-- an operation with its address, up to the space behind them
+unfoldable pub op_at : List ℕ → Option (Op × ℕ × List ℕ)
+op_at text =
+    instead (behind (codes "load ") text) load_at
+    (instead (behind (codes "store ") text) (λ rest. pair_at 32 rest >>= λ p. Some (Store p.1, p.0, p.2))
+    (instead (behind (codes "swap ") text) (λ rest. pair_at 32 rest >>= λ p. Some (Swap p.1, p.0, p.2))
+    (instead (behind (codes "cas ") text) cas_at
+    (instead (behind (codes "add ") text) (λ rest. pair_at 32 rest >>= λ p. Some (Add p.1, p.0, p.2))
+    (newer_at text)))))
+
+-- what stands behind `entry `
+unfoldable pub entry_at : List ℕ → Option (ReportLine × List ℕ)
+entry_at text = do
+  bank ← index_at 32 text
+  place ← index_at 32 bank.1
+  source ← index_at 32 place.1
+  tag ← index_at 32 source.1
+  op ← op_at tag.1
+  reply ← reply_at op.2
+  Some (Entry (record { bank = bank.0; place = place.0; source = source.0; tag = tag.0; address = op.1; op = op.0; reply = reply.0 }), reply.1)
+
+-- what stands behind `answer `
+unfoldable pub answer_at : List ℕ → Option (ReportLine × List ℕ)
+answer_at text = do
+  processor ← index_at 32 text
+  index ← index_at 32 processor.1
+  bank ← index_at 32 index.1
+  place ← index_at 32 bank.1
+  reply ← reply_at place.1
+  Some (Answer (record { processor = processor.0; index = index.0; bank = bank.0; place = place.0; reply = reply.0 }), reply.1)
+
+-- what stands behind `order `
+unfoldable pub order_at : List ℕ → Option (ReportLine × List ℕ)
+order_at text = do
+  bank ← index_at 32 text
+  place ← index_at 32 bank.1
+  issued ← index_at 32 place.1
+  served ← index_at 32 issued.1
+  answered ← event_at served.1
+  Some (Order (record { bank = bank.0; place = place.0; issued = issued.0; served = served.0; answered = answered.0 }), answered.1)
+
+-- radices that are all the same, and their number
+unfoldable pub uniform_at : List ℕ → Option (Radices × List ℕ)
+uniform_at text = do
+  k ← index_at 32 text
+  instead (behind (codes "1 ") k.1) (λ rest. Some (One k.0, rest))
+      (instead (behind (codes "2 ") k.1) (λ rest. Some (Two k.0 k.0, rest))
+      (instead (behind (codes "3 ") k.1) (λ rest. Some (Three k.0 k.0 k.0, rest))
+      None))
+
+-- two radices that differ
+unfoldable pub two_at : List ℕ → Option (Radices × List ℕ)
+two_at text = do
+  j ← index_at 120 text
+  k ← index_at 32 j.1
+  rest ← behind (codes "2 ") k.1
+  if j.0 == k.0 then None else Some (Two j.0 k.0, rest)
+
+-- three radices of which some differ
+unfoldable pub three_at : List ℕ → Option (Radices × List ℕ)
+three_at text = do
+  j ← index_at 120 text
+  k ← index_at 120 j.1
+  l ← index_at 32 k.1
+  rest ← behind (codes "3 ") l.1
+  if (j.0 == k.0) && (k.0 == l.0) then None else Some (Three j.0 k.0 l.0, rest)
+
+-- the radices and the number of dimensions
+unfoldable pub radices_at : List ℕ → Option (Radices × List ℕ)
+radices_at text = option_or (uniform_at text) (option_or (two_at text) (three_at text))
+
+-- what stands behind `shape `
+unfoldable pub shape_at : List ℕ → Option (ReportLine × List ℕ)
+shape_at text = do
+  radices ← radices_at text
+  words ← index_at 10 radices.1
+  Some (Shape radices.0 words.0, words.1)
+
+-- what stands behind `end `
+unfoldable pub end_at : List ℕ → Option (ReportLine × List ℕ)
+end_at text =
+    instead (behind (codes "complete\n") text) (λ rest. Some (End true, rest))
+    (instead (behind (codes "incomplete\n") text) (λ rest. Some (End false, rest)) None)
+
+-- the line that the text begins with, and what stands behind it
+unfoldable pub line_at : List ℕ → Option (ReportLine × List ℕ)
+line_at text =
+    instead (behind (codes "entry ") text) entry_at
+    (instead (behind (codes "answer ") text) answer_at
+    (instead (behind (codes "order ") text) order_at
+    (instead (behind (codes "word ") text) (λ rest. pair_at 10 rest >>= λ p. Some (Word p.0 p.1, p.2))
+    (instead (behind (codes "init ") text) (λ rest. pair_at 10 rest >>= λ p. Some (Init p.0 p.1, p.2))
+    (instead (behind (codes "end ") text) end_at
+    (instead (behind (codes "shape ") text) shape_at
+    (instead (behind (codes "torusmem ") text) (λ rest. index_at 10 rest >>= λ n. Some (Header n.0, n.1))
+    None)))))))

@@ -1,0 +1,23 @@
+//! Laws of good reports, each the contract of a function that does nothing.
+
+ghost use Rattle.std.specs.Prelude.{◌≡◌, ◌≢◌, ℕ, List, []};
+ghost use Rattle.report_lines.specs.declared.line.ReportLine.{ReportLine};
+ghost use Rattle.report_check.specs.Seen.{seen_of};
+ghost use Rattle.report_check.specs.Good.{AreGood, FirstBad, GoodReport};
+ghost use Rattle.report_check.specs.Meaning.{EntriesReplay, OrdersEntries};
+
+/// A text has at most one first bad line, and none if it is a good report.
+pub fn one_verdict()
+    ensures one { (text : List ℕ) (m n : ℕ) → FirstBad text m → FirstBad text n → m ≡ n }
+    ensures apart { (text : List ℕ) (n : ℕ) → GoodReport text → FirstBad text n → ⊥ }
+{}
+
+/// The entries of a good report replay on one memory, and its last words are that memory's.
+pub fn entries_replay()
+    ensures { (lines : List ReportLine) → AreGood lines → EntriesReplay lines }
+{}
+
+/// The order lines of a good report, where it has any, give one order of its entries.
+pub fn orders_are_whole()
+    ensures { (lines : List ReportLine) → AreGood lines → (seen_of lines).orders ≢ [] → OrdersEntries (seen_of lines) }
+{}

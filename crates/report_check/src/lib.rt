@@ -1,0 +1,17 @@
+//! The checker of reports.
+#![tactic(auto)]
+
+pub mod check;
+mod checker;
+pub mod fault;
+pub mod laws;
+mod lines;
+mod making;
+mod reading;
+mod taking;
+
+pub use check::check_report;
+pub use fault::CheckFault;
+
+#[cfg(test)]
+mod tests;

@@ -1,0 +1,275 @@
+use super::*;
+use linked_list_allocator::LocalHeap;
+use std::alloc::{AllocError, Allocator, Global};
+use std::test::Fail;
+
+const ROW: &str =
+    "torusmem 1\nshape 2 1 8\nentry 1 0 0 0 store 5 17 ok\nentry 1 1 0 0 load 5 17\nanswer 0 0 1 0 ok\nanswer 0 1 1 1 17\nword 5 17\norder 1 0 1 2 3\norder 1 1 4 5 6\nend complete\n";
+
+/// Stands for want of memory.
+const REFUSED: u64 = 1_000_000;
+
+/// 0 for a good report, else the first bad line.
+fn verdict<A: Allocator + Copy>(alloc: A, text: &[u8]) -> u64 {
+    match check_report(alloc, text) {
+        Ok(()) => 0,
+        Err(CheckFault::BadReport { line }) => line,
+        Err(CheckFault::Memory) => REFUSED,
+    }
+}
+
+/// Texts and their verdicts.
+const TEXTS: [(&str, u64); 51] = [
+    (ROW, 0),
+    // A reply that is not the word.
+    (
+        "torusmem 1\nshape 2 1 8\nentry 1 0 0 0 store 5 17 ok\nentry 1 1 0 0 load 5 18\nanswer 0 0 1 0 ok\n",
+        4,
+    ),
+    // The `word` line is left out.
+    (
+        "torusmem 1\nshape 2 1 8\nentry 1 0 0 0 store 5 17 ok\nentry 1 1 0 0 load 5 17\nanswer 0 0 1 0 ok\nanswer 0 1 1 1 17\norder 1 0 1 2 3\norder 1 1 4 5 6\nend complete\n",
+        7,
+    ),
+    // Cut after the ninth line.
+    (
+        "torusmem 1\nshape 2 1 8\nentry 1 0 0 0 store 5 17 ok\nentry 1 1 0 0 load 5 17\nanswer 0 0 1 0 ok\nanswer 0 1 1 1 17\nword 5 17\norder 1 0 1 2 3\norder 1 1 4 5 6\n",
+        10,
+    ),
+    ("", 1),
+    ("torusmem 1\nshape 2 1 8\nend complete\n", 0),
+    ("torusmem 1\nshape 2 1 8\nend incomplete\n", 0),
+    ("torusmem 1\nshape 2 1 8\nend complete\n\n", 4),
+    ("torusmem 1\nshape 2 1 8\nend complete\nx", 4),
+    ("torusmem 1\nshape 2 1 8\nend complete", 3),
+    ("torusmem 1\nshape 8 3 8\n", 2),
+    ("torusmem 1\nshape 2 1 0\n", 2),
+    ("torusmem 1\nshape 2 1 65537\n", 2),
+    ("torusmem 1\nshape 02 1 8\n", 2),
+    ("torusmem 1\nshape  2 1 8\n", 2),
+    ("torusmem 1\nshape 2 1 8 \n", 2),
+    ("torusmem 1\nshape 2 1 8\r\n", 2),
+    ("torusmem 1\nshape 2 4 8\n", 2),
+    ("torusmem 1\nshape 2 0 8\n", 2),
+    ("torusmem 1\nshape 9 1 8\n", 2),
+    ("torusmem 3\n", 1),
+    ("torusmem 1 \n", 1),
+    ("torusmem 1\nshape 2 1 8\nword 5 0\n", 3),
+    ("torusmem 1\nshape 2 1 8\nentry 0 0 0 0 load 1 0\n", 3),
+    (
+        "torusmem 1\nshape 2 1 8\nentry 1 0 0 0 store 1 7 ok\nword 1 7\norder 1 0 1 2 -\nend incomplete\n",
+        0,
+    ),
+    (
+        "torusmem 1\nshape 2 1 8\nentry 1 0 0 0 store 1 7 ok\nword 1 7\norder 1 0 1 2 -\nend complete\n",
+        6,
+    ),
+    // An order line that says no answer where there is one, and one that says an answer where there is none.
+    (
+        "torusmem 1\nshape 2 1 8\nentry 1 0 0 0 store 1 7 ok\nanswer 0 0 1 0 ok\nword 1 7\norder 1 0 1 2 -\n",
+        6,
+    ),
+    (
+        "torusmem 1\nshape 2 1 8\nentry 1 0 0 0 store 1 7 ok\nword 1 7\norder 1 0 1 2 3\n",
+        5,
+    ),
+    // No order line at all.
+    (
+        "torusmem 1\nshape 2 1 8\nentry 1 0 0 0 store 1 7 ok\nword 1 7\nend incomplete\n",
+        0,
+    ),
+    // One order line for two entries.
+    (
+        "torusmem 1\nshape 2 1 8\nentry 1 0 0 0 load 1 0\nentry 1 1 0 0 load 1 0\norder 1 0 1 2 -\nend incomplete\n",
+        6,
+    ),
+    // An event number that is taken twice, 0, and the greatest one.
+    (
+        "torusmem 1\nshape 2 1 8\nentry 1 0 0 0 load 1 0\nentry 1 1 0 0 load 1 0\norder 1 0 1 2 -\norder 1 1 1 3 -\n",
+        6,
+    ),
+    (
+        "torusmem 1\nshape 2 1 8\nentry 1 0 0 0 load 1 0\norder 1 0 0 2 -\n",
+        4,
+    ),
+    (
+        "torusmem 1\nshape 2 1 8\nentry 1 0 0 0 load 1 0\norder 1 0 1 196608 -\nend incomplete\n",
+        0,
+    ),
+    (
+        "torusmem 1\nshape 2 1 8\nentry 1 0 0 0 load 1 0\norder 1 0 1 196609 -\n",
+        4,
+    ),
+    // The numbers of service rise, whatever the banks are.
+    (
+        "torusmem 1\nshape 2 1 8\nentry 0 0 0 0 load 0 0\nentry 1 0 1 0 load 1 0\norder 1 0 1 2 -\norder 0 0 3 4 -\nend incomplete\n",
+        0,
+    ),
+    (
+        "torusmem 1\nshape 2 1 8\nentry 0 0 0 0 load 0 0\nentry 1 0 1 0 load 1 0\norder 1 0 3 4 -\norder 0 0 1 2 -\n",
+        6,
+    ),
+    // An `init` line twice, and with 0.
+    ("torusmem 1\nshape 2 1 8\ninit 5 1\ninit 5 1\n", 4),
+    ("torusmem 1\nshape 2 1 8\ninit 5 0\n", 3),
+    ("torusmem 1\nshape 2 1 8\ninit 8 1\n", 3),
+    (
+        "torusmem 1\nshape 2 1 8\ninit 5 18446744073709551615\nentry 1 0 1 15 add 5 1 18446744073709551615\nend incomplete\n",
+        0,
+    ),
+    ("torusmem 1\nshape 2 1 8\ninit 5 18446744073709551616\n", 3),
+    // Radices that differ, and a list of radices that do not.
+    ("torusmem 1\nshape 2x4 2 8\nend complete\n", 0),
+    ("torusmem 1\nshape 2x4x8 3 8\nend complete\n", 0),
+    ("torusmem 1\nshape 2x4x8 2 8\n", 2),
+    ("torusmem 1\nshape 4x4 2 8\n", 2),
+    ("torusmem 1\nshape 2x4 3 8\n", 2),
+    ("torusmem 1\nshape 2x9 2 8\n", 2),
+    ("torusmem 1\nshape 4x8x4 3 8\n", 2),
+    // The newer operations want version 2, and version 2 wants one of them.
+    (
+        "torusmem 2\nshape 2 1 8\ninit 0 12\nentry 0 0 0 0 and 0 10 12\nentry 0 1 0 0 or 0 3 8\nentry 0 2 0 0 xor 0 6 11\nentry 0 3 0 0 max 0 20 13\nentry 0 4 0 0 min 0 5 20\nanswer 0 0 0 0 12\nanswer 0 1 0 1 8\nanswer 0 2 0 2 11\nanswer 0 3 0 3 13\nanswer 0 4 0 4 20\nword 0 5\norder 0 0 1 2 3\norder 0 1 4 5 6\norder 0 2 7 8 9\norder 0 3 10 11 12\norder 0 4 13 14 15\nend complete\n",
+        0,
+    ),
+    (
+        "torusmem 1\nshape 2 1 8\nentry 0 0 0 0 load 0 0\nentry 0 1 0 0 or 0 3 0\n",
+        4,
+    ),
+    (
+        "torusmem 2\nshape 2 1 8\nentry 0 0 0 0 load 0 0\nend incomplete\n",
+        4,
+    ),
+];
+
+#[test]
+fn texts(rt: HostRuntime) {
+    for (text, want) in TEXTS {
+        assert_eq!(rt; verdict(rt.alloc(), text.as_bytes()), want, "{text}");
+    }
+}
+
+/// How many texts are good that have another byte at one place.
+fn good_changes(alloc: Global, row: &[u8], at: usize) -> Result<u32, AllocError> {
+    let mut good = 0u32;
+    for byte in 0..=255u8 {
+        let mut text = Vec::from_slice(alloc, row)?;
+        if let Some(place) = text.get_mut(at) {
+            *place = byte;
+        }
+        if text.as_slice() != row && verdict(alloc, &text) == 0 {
+            good = good.saturating_add(1);
+        }
+    }
+    Ok(good)
+}
+
+#[test]
+fn changes_of_one_byte(rt: HostRuntime) -> Result<(), AllocError> {
+    let mut good = 0u32;
+    for at in 0..ROW.len() {
+        good = good.saturating_add(good_changes(rt.alloc(), ROW.as_bytes(), at)?);
+    }
+    assert_eq!(rt; good, 37);
+    Ok(())
+}
+
+/// A text that ends too early is bad at the line behind its whole lines.
+#[test]
+fn cut_texts(rt: HostRuntime) {
+    let row = ROW.as_bytes();
+    let mut line = 1u64;
+    for (at, &byte) in row.iter().enumerate() {
+        assert_eq!(rt; verdict(rt.alloc(), &row[..at]), line);
+        if byte == b'\n' {
+            line = line.saturating_add(1);
+        }
+    }
+}
+
+/// The first report with two of its lines exchanged, and the first bad line: an answer may stand
+/// where an entry or another answer is missing, and a `word` line where an answer is.
+#[test]
+fn exchanged_lines(rt: HostRuntime) -> Result<(), Fail> {
+    for (first, second, want) in [
+        (0, 1, 1),
+        (1, 2, 2),
+        (2, 3, 3),
+        (2, 4, 3),
+        (3, 4, 5),
+        (3, 6, 5),
+        (3, 9, 4),
+        (4, 5, 6),
+        (5, 6, 7),
+        (6, 7, 7),
+        (7, 8, 8),
+        (8, 9, 9),
+    ] {
+        let mut text = String::new(rt.alloc());
+        for (at, line) in ROW.lines().enumerate() {
+            let there = if at == first {
+                ROW.lines().nth(second).ok_or("no line")?
+            } else if at == second {
+                ROW.lines().nth(first).ok_or("no line")?
+            } else {
+                line
+            };
+            text.push_str(there)?;
+            text.push_str("\n")?;
+        }
+        assert_eq!(rt;
+            verdict(rt.alloc(), text.as_bytes()),
+            want,
+            "{first} {second}"
+        );
+    }
+    Ok(())
+}
+
+/// A report of so many loads of word 0 by one processor, that no machine writes.
+fn long_report(alloc: Global, version: u32, count: u32) -> Result<String, AllocError> {
+    let mut text = format!(in alloc; "torusmem {version}\nshape 8 2 64\n")?;
+    for place in 0..count {
+        text.push_str(format!(in alloc; "entry 0 {place} 3 15 load 0 0\n")?.as_str())?;
+    }
+    Ok(text)
+}
+
+#[test]
+fn more_than_a_machine_writes(rt: HostRuntime) -> Result<(), AllocError> {
+    // More entries of a processor than a script has operations.
+    let mut text = long_report(rt.alloc(), 1, 4097)?;
+    text.push_str("end incomplete\n")?;
+    assert_eq!(rt; verdict(rt.alloc(), text.as_bytes()), 0);
+    // The greatest number of entries, and one more.
+    let mut text = long_report(rt.alloc(), 1, 65536)?;
+    text.push_str("end incomplete\n")?;
+    assert_eq!(rt; verdict(rt.alloc(), text.as_bytes()), 0);
+    let text = long_report(rt.alloc(), 1, 65537)?;
+    assert_eq!(rt; verdict(rt.alloc(), text.as_bytes()), 65539);
+    // No place is left for the operation that the version wants: the line behind is bad.
+    let mut text = long_report(rt.alloc(), 2, 65536)?;
+    text.push_str("end incomplete\n")?;
+    assert_eq!(rt; verdict(rt.alloc(), text.as_bytes()), 65539);
+    // Issued against the order of the indexes, answered against the order of service.
+    let text =
+        "torusmem 1\nshape 2 1 8\nentry 0 0 0 0 load 0 0\nentry 0 1 0 1 load 0 0\nanswer 0 7 0 1 0\nanswer 0 9 0 0 0\norder 0 0 1 3 6\norder 0 1 2 4 5\nend complete\n";
+    assert_eq!(rt; verdict(rt.alloc(), text.as_bytes()), 0);
+    Ok(())
+}
+
+/// Budgets of memory round each request: refused or good, and nothing is kept.
+#[test]
+fn budgets(rt: HostRuntime) -> Result<(), Fail> {
+    let mut good = false;
+    for base in [0, 196_608, 393_216] {
+        for step in 0..128usize {
+            let heap = LocalHeap::new(rt.alloc(), base + 16 * step)?;
+            let found = verdict(&heap, ROW.as_bytes());
+            assert!(rt; found == 0 || found == REFUSED);
+            assert_eq!(rt; heap.used(), 0);
+            good = found == 0;
+        }
+    }
+    assert!(rt; good);
+    Ok(())
+}

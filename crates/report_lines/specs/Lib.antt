@@ -1,0 +1,4 @@
+pub mod Line
+pub mod Taken
+pub mod Contents
+pub mod Parts

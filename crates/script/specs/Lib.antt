@@ -1,0 +1,12 @@
+pub mod Words
+pub mod Outcome
+pub mod Settings
+pub mod Machine
+pub mod MachineViews
+pub mod Inside
+pub mod Form
+pub mod Scripts
+pub mod ScriptViews
+pub mod ScriptsInside
+pub mod Steps
+pub mod Views

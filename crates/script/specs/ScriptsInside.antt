@@ -1,0 +1,10 @@
+-- How `Scripts` keeps its lists.
+use Rattle.script.specs.declared.scripts.Scripts.TheInside.{Inside}
+use Rattle.script.specs.Scripts.{ScriptsSpec, AreAcceptedScripts}
+use Rattle.script.specs.ScriptViews.{lists_of}
+
+abbrev pub scripts_of_fields : {A : Type 0} → Inside A → ScriptsSpec
+scripts_of_fields s = record { words = s.words; lists = lists_of s.lists.items }
+
+abbrev pub IsScripts : {A : Type 0} → Inside A → Type 0
+IsScripts s = AreAcceptedScripts (scripts_of_fields s)

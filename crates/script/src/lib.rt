@@ -1,0 +1,27 @@
+//! The three input texts: machine, scripts and steps.
+#![tactic(auto)]
+
+mod attempt;
+pub mod fault;
+mod few;
+mod form;
+pub mod line;
+pub mod lists;
+pub mod machine;
+mod number;
+mod progress;
+mod reading;
+pub mod scripts;
+mod settings;
+pub mod steps;
+mod words;
+
+pub use fault::LineFault;
+pub use line::{Line, Value};
+pub use lists::LineList;
+pub use machine::{MachineText, read_machine};
+pub use scripts::{Scripts, read_scripts};
+pub use steps::read_steps;
+
+#[cfg(test)]
+mod tests;

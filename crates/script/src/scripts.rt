@@ -1,0 +1,108 @@
+ghost use Rattle.std.specs.Prelude.{◌≡◌, ◌≤◌, ◌↔◌, IsTrue, IfOk, [], length, map, replicate, slice_get};
+ghost use Rattle.std.specs.Option.{option_copied};
+ghost use Rattle.std.specs.Str.Lines.{lines};
+ghost use Rattle.script.specs.Outcome.{Gives};
+ghost use Rattle.script.specs.Scripts.{ScriptsSpec, AreAcceptedScripts, Fit, fits, scripts_of, scripts_from};
+ghost use Rattle.script.specs.ScriptViews.{lists_of};
+
+use crate::fault::{fault_at, out_of_memory};
+use crate::lists::LineList;
+use crate::progress::Progress;
+use crate::words::{first_words, next_line};
+use crate::{Line, LineFault, MachineText};
+use std::alloc::{Allocator, Global};
+use std::marker::Model;
+
+/// The scripts of all processors: at most 4096 operations each and 65536 in all, where a spin counts
+/// the greatest number of its loads.
+#[derive(Drop)]
+pub struct Scripts<A: Allocator = Global> {
+    words: u32,
+    lists: Vec<LineList<A>, A>,
+}
+
+impl<A: Allocator> Model for Scripts<A> {
+    ghost use Rattle.script.specs.Scripts.{ScriptsSpec};
+
+    ghost Value = { ScriptsSpec };
+
+    ghost use Rattle.script.specs.ScriptsInside.{scripts_of_fields, IsScripts};
+
+    ghost view = { scripts_of_fields };
+
+    ghost invariant = { IsScripts };
+}
+
+impl<A: Allocator> Scripts<A> {
+    /// Whether the scripts were read for a machine of as many tiles and words as this one.
+    pub fn fits<B: Allocator>(&self, machine: &MachineText<B>) -> bool
+        ensures value { result ≡ fits self.now machine.now }
+        ensures fit { IsTrue result ↔ Fit self.now machine.now }
+        ensures accepted { AreAcceptedScripts self.now }
+    {
+        self.lists.len() == machine.torus().tiles() as usize && self.words == machine.words()
+    }
+
+    /// The lines of a processor, in order; `None` exactly where there is no such processor.
+    pub fn lines(&self, p: u32) -> Option<&[Line]>
+        ensures value { option_copied result ≡ slice_get self.now.lists p }
+        ensures accepted { AreAcceptedScripts self.now }
+    {
+        match self.lists.get(p as usize) {
+            Some(list) => Some(list.lines.as_slice()),
+            None => None,
+        }
+    }
+
+    /// The lines of each processor, by tile.
+    pub fn into_lists(self) -> Vec<LineList<A>, A>
+        ensures value { lists_of result.items ≡ self.lists }
+        ensures accepted { AreAcceptedScripts self }
+    {
+        self.lists
+    }
+}
+
+/// Reads a script text for a machine.
+///
+/// Errors: the first fault and its line, or `Fault::Memory` at line 0.
+pub fn read_scripts<A: Allocator + Copy, B: Allocator>(
+    alloc: A,
+    text: &[u8],
+    machine: &MachineText<B>,
+) -> Result<Scripts<A>, LineFault>
+    ensures value { Gives (λ s. s) result (scripts_of machine.now (lines text.now)) }
+    ensures fit { IfOk result (λ s. Fit s machine.now) }
+{
+    read_lists(alloc, text, machine.torus().tiles(), machine.words())
+}
+
+/// Reads a script text for so many tiles and words.
+fn read_lists<A: Allocator + Copy>(
+    alloc: A,
+    text: &[u8],
+    tiles: u32,
+    words: u32,
+) -> Result<Scripts<A>, LineFault>
+    requires { tiles ≤ 64 }
+    ensures value { Gives (λ s. s) result (scripts_from words (replicate tiles []) 1 (lines text.now)) }
+    ensures fit { IfOk result (λ s. (length s.lists ≡ tiles) × (s.words ≡ words)) }
+{
+    let Ok(mut progress) = Progress::none(alloc, tiles, words) else {
+        return Err(out_of_memory());
+    };
+    let mut number = 1u64;
+    let mut rest = text;
+    while let Some((line, after)) = next_line(rest) {
+        let (found, count) = first_words(line);
+        if let Err(fault) = progress.take(&found[..count]) {
+            return Err(fault_at(fault, number));
+        }
+        number += 1;
+        rest = after;
+    }
+    Ok(Scripts {
+        words,
+        lists: progress.lists,
+    })
+}

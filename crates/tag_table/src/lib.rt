@@ -1,0 +1,10 @@
+//! The tags of a processor: which of them are out, and which operation holds each.
+#![tactic(auto)]
+
+pub mod laws;
+pub mod table;
+#[cfg(test)]
+mod tests;
+
+pub use table::TagTable;
+pub use torus::{OpId, Tag};

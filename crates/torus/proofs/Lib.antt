@@ -1,0 +1,4 @@
+pub mod MixedRadix
+pub mod Kept
+pub mod Refusals
+pub mod Hops

@@ -1,0 +1,5 @@
+pub mod Shape
+pub mod Refusal
+pub mod Digits
+pub mod Inside
+pub mod Filled

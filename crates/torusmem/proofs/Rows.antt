@@ -1,0 +1,44 @@
+-- What clap says of a parse, said of its rows.
+use Rattle.std.specs.Prelude.{◌≡◌, ℕ, Bool, true, false, IfSome, Option, Some, None, Result, Ok, option_map}
+use Rattle.std.specs.Str.Parse.{ParsesBool, ParsesUnsigned, digits_value, without_leading_plus}
+use Rattle.std.proofs.Common.{refl, ap, sym, ◌∙◌}
+use Rattle.clap.specs.Words.{ReadsOne, Text, first_of, first_value, one_of, one_text, rows_of}
+use Rattle.clap.specs.declared.parser.matches.Found.{Found}
+use Rattle.clap.proofs.WalkLemmas.{first_value-rows, one_text-rows}
+use Rattle.torusmem.specs.Job.{flag_text, number_in}
+
+-- the first value of an argument
+pub first_value_rows : (f : Found) (id : Text) → first_value f id ≡ first_of id (rows_of f)
+first_value_rows f id = first_value-rows f id
+
+-- a number that was read is the one that is written
+pub number_of_text : {E : Type 0} (more other : Text → Result ℕ E → Type 0) (given : Option Text) (n : ℕ)
+    → (given ≡ None → Some n ≡ None)
+    → ((t : Text) → given ≡ Some t → ReadsOne (λ bs r. ParsesUnsigned 32 10 bs r × more bs r × other bs r) t (Some n))
+    → option_map (λ t. digits_value 10 (without_leading_plus t)) given ≡ Some n
+number_of_text more other None n none value = let e : Some n ≡ None = none refl in cc
+number_of_text more other (Some t) n none value = ap Some (sym (value t refl).0.1)
+
+pub number_read : {E : Type 0} (more other : Text → Result ℕ E → Type 0) (f : Found) (id : Text) (result : Option ℕ)
+    → (one_text f id ≡ None → result ≡ None)
+    → ((t : Text) → one_text f id ≡ Some t → ReadsOne (λ bs r. ParsesUnsigned 32 10 bs r × more bs r × other bs r) t result)
+    → IfSome result (λ n. number_in id (rows_of f) ≡ Some n)
+number_read more other f id None none value = tt
+number_read more other f id (Some n) none value =
+    ap (option_map (λ t. digits_value 10 (without_leading_plus t))) (sym (one_text-rows f id)) ∙ number_of_text more other (one_text f id) n none value
+
+-- a flag that was read is the one that is written
+pub flag_of_text : (E : Type 0) (given : Option Text) (b : Bool)
+    → (given ≡ None → Some b ≡ None) → ((t : Text) → given ≡ Some t → ReadsOne (ParsesBool {E = E}) t (Some b))
+    → given ≡ Some (flag_text b)
+flag_of_text E None b none value = let e : Some b ≡ None = none refl in cc
+flag_of_text E (Some t) true none value = ap Some (value t refl)
+flag_of_text E (Some t) false none value = ap Some (value t refl)
+
+pub flag_read : (E : Type 0) (f : Found) (id : Text) (result : Option Bool) (b : Bool)
+    → (one_text f id ≡ None → result ≡ None) → ((t : Text) → one_text f id ≡ Some t → ReadsOne (ParsesBool {E = E}) t result)
+    → result ≡ Some b → one_of id (rows_of f) ≡ Some (flag_text b)
+flag_read E f id None b none value is = cc
+flag_read E f id (Some x) b none value is =
+    let same : x ≡ b = cc in
+    sym (one_text-rows f id) ∙ flag_of_text E (one_text f id) x none value ∙ ap (λ v. Some (flag_text v)) same

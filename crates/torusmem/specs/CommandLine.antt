@@ -1,0 +1,60 @@
+-- The command line, in the words of `clap` (this project's own format).
+use Rattle.std.specs.Prelude.{ℕ, ℤ, pos, List, [], ◌∷◌, Option, Some, codes, true, option_map}
+use Rattle.clap.specs.Words.{App, Row, Rule, Text, new_app, new_rule, with_rule, with_subcommand, subcommand_of}
+use Rattle.clap.specs.declared.builder.action.ArgAction.TheVariants.{SetTrue}
+use Rattle.clap.specs.declared.builder.value_parser.ValueParser.TheVariants as vp
+use Rattle.torusmem.specs.Job.{rows_in}
+
+-- a word that has to stand there
+abbrev pub needed : Text → Rule
+needed id = record (new_rule id) { required = true }
+
+-- a number of 32 bits that has to stand there
+abbrev pub tile : Text → Rule
+tile id = record (new_rule id) { required = true; parser = Some (vp.Signed (pos 0) (pos 4294967295)) }
+
+-- the option `--reply`
+abbrev pub reply_flag : Rule
+reply_flag = record (new_rule (codes "reply")) { long = Some (codes "reply"); action = Some SetTrue }
+
+-- `steps MACHINE SCRIPT STEPS`
+abbrev pub steps_app : App
+steps_app = with_rule (with_rule (with_rule (new_app (codes "steps"))
+    (needed (codes "MACHINE"))) (needed (codes "SCRIPT"))) (needed (codes "STEPS"))
+
+-- `route MACHINE SRC DST [--reply]`
+abbrev pub route_app : App
+route_app = with_rule (with_rule (with_rule (with_rule (new_app (codes "route"))
+    (needed (codes "MACHINE"))) (tile (codes "SRC"))) (tile (codes "DST"))) reply_flag
+
+-- `channels MACHINE`
+abbrev pub channels_app : App
+channels_app = with_rule (new_app (codes "channels")) (needed (codes "MACHINE"))
+
+-- `check REPORT`
+abbrev pub check_app : App
+check_app = with_rule (new_app (codes "check")) (needed (codes "REPORT"))
+
+-- the program, whose subcommand has to stand there
+abbrev pub top_app : App
+top_app = let app = new_app (codes "torusmem") in record app { top = record app.top { subcommand_required = true } }
+
+-- the program with the subcommands that run scripts
+abbrev pub running_app : App
+running_app = with_subcommand top_app steps_app.top
+
+-- and with those on routes
+abbrev pub routing_app : App
+routing_app = with_subcommand (with_subcommand running_app route_app.top) channels_app.top
+
+-- the program with all its subcommands
+abbrev pub torusmem_app : App
+torusmem_app = with_subcommand routing_app check_app.top
+
+-- the name of the subcommand that the words name
+abbrev pub name_by : List Text → Option Text
+name_by words = option_map (λ found. found.0) (subcommand_of torusmem_app words)
+
+-- the values that the words give to its arguments
+abbrev pub rows_by : List Text → Option (List Row)
+rows_by words = rows_in (subcommand_of torusmem_app words)

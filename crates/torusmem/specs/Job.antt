@@ -1,0 +1,44 @@
+-- What a job says of the values that the words of its subcommand give (this project's own format).
+use Rattle.std.specs.Prelude.{◌≡◌, ℕ, Bool, true, false, List, Option, Some, codes, option_map}
+use Rattle.std.specs.Option.{option_and_then}
+use Rattle.std.specs.Str.Parse.{digits_value, without_leading_plus}
+use Rattle.clap.specs.Words.{Row, Text, first_of, one_of}
+use Rattle.torus.specs.declared.shape.Class.{Class}
+use Rattle.torus.specs.declared.shape.Class.TheVariants.{Request, Reply}
+use Rattle.torusmem.specs.declared.command.Job.{Job}
+use Rattle.torusmem.specs.declared.command.Job.TheVariants.{Steps, Route, Channels, Check}
+
+-- the values of a subcommand's arguments
+abbrev pub rows_in : Option (Text × List Row) → Option (List Row)
+rows_in = option_map (λ found. found.1)
+
+-- the number that is written for an argument
+abbrev pub number_in : Text → List Row → Option ℕ
+number_in id rows = option_map (λ text. digits_value 10 (without_leading_plus text)) (one_of id rows)
+
+-- how `clap` writes whether a flag is given
+abbrev pub flag_text : Bool → Text
+flag_text true = codes "true"
+flag_text false = codes "false"
+
+-- whether `--reply` is given, as a class
+abbrev pub class_word : Class → Text
+class_word Request = flag_text false
+class_word Reply = flag_text true
+
+-- the subcommand of a job
+abbrev pub name_of : Job → Text
+name_of (Steps machine script steps) = codes "steps"
+name_of (Route machine src dst class) = codes "route"
+name_of (Channels machine) = codes "channels"
+name_of (Check report) = codes "check"
+
+-- the values are those of the job: words as they are given, and the numbers that are written
+abbrev pub AreOf : Job → List Row → Type 0
+AreOf (Steps machine script steps) rows = (first_of (codes "MACHINE") rows ≡ Some machine.now)
+    × (first_of (codes "SCRIPT") rows ≡ Some script.now) × (first_of (codes "STEPS") rows ≡ Some steps.now)
+AreOf (Route machine src dst class) rows = (first_of (codes "MACHINE") rows ≡ Some machine.now)
+    × (number_in (codes "SRC") rows ≡ Some src) × (number_in (codes "DST") rows ≡ Some dst)
+    × (one_of (codes "reply") rows ≡ Some (class_word class))
+AreOf (Channels machine) rows = first_of (codes "MACHINE") rows ≡ Some machine.now
+AreOf (Check report) rows = first_of (codes "REPORT") rows ≡ Some report.now

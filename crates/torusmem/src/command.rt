@@ -1,0 +1,197 @@
+ghost use Rattle.std.specs.Prelude.{◌≡◌, IfOk, IfSome, Some, map, codes, false, option_map};
+ghost use Rattle.clap.specs.Words.{app_of, found_of, first_of, one_of, rows_of, rule_of, subcommand_name_of, subcommand_rows_of};
+ghost use Rattle.clap.specs.declared.builder.command.Command.TheViews.{out-Command as fields_of};
+ghost use Rattle.torusmem.specs.CommandLine.{steps_app, route_app, channels_app, check_app, running_app, routing_app, torusmem_app, needed, tile, reply_flag, name_by, rows_by};
+ghost use Rattle.torusmem.specs.Job.{AreOf, class_word, name_of, number_in, rows_in};
+
+use clap::error::ErrorKind;
+use clap::{Arg, ArgAction, ArgMatches, Command, Error, value_parser};
+use std::alloc::{AllocError, Global};
+use std::convert::AsStr;
+use torus::Class;
+
+/// What the command line asks for. Files are named as they were given.
+#[derive(Clone, Copy, Debug, PartialEq, Eq)]
+pub enum Job<'a> {
+    /// Run the listed steps, and print the report.
+    Steps {
+        machine: &'a str,
+        script: &'a str,
+        steps: &'a str,
+    },
+    /// Print a route.
+    Route {
+        machine: &'a str,
+        src: u32,
+        dst: u32,
+        class: Class,
+    },
+    /// Print the channels and their numbers.
+    Channels {
+        machine: &'a str,
+    },
+    /// Check a report.
+    Check {
+        report: &'a str,
+    },
+}
+
+/// Reads the words of a command line, the program's own name among them.
+///
+/// Errors: what the parser says of the words, help among it, or that memory ran out.
+pub fn read_command<'a, S: AsStr>(alloc: Global, words: &'a [S]) -> Result<Job<'a>, Error>
+    ensures named { IfOk result (λ job. name_by (map S.text words.entry.now) ≡ Some (name_of job)) }
+    ensures given { IfOk result (λ job. IfSome (rows_by (map S.text words.entry.now)) (AreOf job)) }
+{
+    let mut command = command(alloc)?;
+    let matches = command.try_get_matches_from_mut(words)?;
+    match job_of(&matches) {
+        Some(job) => Ok(job),
+        None => Err(command.error(ErrorKind::InvalidValue, "a value is missing")?),
+    }
+}
+
+/// The job that the matches name.
+fn job_of<'a>(matches: &ArgMatches<'a>) -> Option<Job<'a>>
+    ensures named { IfSome result (λ job. subcommand_name_of matches.now ≡ Some (name_of job)) }
+    ensures given { IfSome result (λ job. IfSome (rows_in (subcommand_rows_of matches.now)) (AreOf job)) }
+{
+    match matches.subcommand()? {
+        ("steps", given) => Some(Job::Steps {
+            machine: word(given, "MACHINE")?,
+            script: word(given, "SCRIPT")?,
+            steps: word(given, "STEPS")?,
+        }),
+        ("route", given) => Some(Job::Route {
+            machine: word(given, "MACHINE")?,
+            src: number(given, "SRC")?,
+            dst: number(given, "DST")?,
+            class: class(given)?,
+        }),
+        ("channels", given) => Some(Job::Channels {
+            machine: word(given, "MACHINE")?,
+        }),
+        ("check", given) => Some(Job::Check {
+            report: word(given, "REPORT")?,
+        }),
+        _ => None,
+    }
+}
+
+/// The word that was given for an argument.
+#[tactic(auto, using(crate::proofs::Rows::first_value_rows))]
+fn word<'a>(given: &ArgMatches<'a>, id: &str) -> Option<&'a str>
+    ensures { option_map (λ s. s.now) result ≡ first_of id.now (rows_of (found_of given.now)) }
+{
+    given.get_str(id)
+}
+
+/// The number that was given for an argument.
+fn number(given: &ArgMatches<'_>, id: &str) -> Option<u32>
+    ensures { IfSome result (λ n. number_in id.now (rows_of (found_of given.now)) ≡ Some n) }
+{
+    given.get_one::<u32>(id)
+}
+
+/// The class of the packets of a route: that of replies where the words say so.
+fn class(given: &ArgMatches<'_>) -> Option<Class>
+    ensures { IfSome result (λ class. one_of (codes "reply") (rows_of (found_of given.now)) ≡ Some (class_word class)) }
+{
+    if given.get_one::<bool>("reply")? {
+        Some(Class::Reply)
+    } else {
+        Some(Class::Request)
+    }
+}
+
+/// The whole command line.
+fn command<'a>(alloc: Global) -> Result<Command<'a>, AllocError>
+    ensures { IfOk result (λ c. (app_of c ≡ torusmem_app) × ((fields_of c).has_globals ≡ false)) }
+{
+    routing_command(alloc)?.subcommand(check_command(alloc)?)
+}
+
+/// The program with the subcommands that run scripts, and those on routes.
+fn routing_command<'a>(alloc: Global) -> Result<Command<'a>, AllocError>
+    ensures { IfOk result (λ c. (app_of c ≡ routing_app) × ((fields_of c).has_globals ≡ false)) }
+{
+    running_command(alloc)?
+        .subcommand(route_command(alloc)?)?
+        .subcommand(channels_command(alloc)?)
+}
+
+/// The program with the subcommands that run scripts.
+fn running_command<'a>(alloc: Global) -> Result<Command<'a>, AllocError>
+    ensures { IfOk result (λ c. (app_of c ≡ running_app) × ((fields_of c).has_globals ≡ false)) }
+{
+    Command::new(alloc, "torusmem")
+        .about("A shared memory spread over a torus of tiles")
+        .subcommand_required(true)
+        .subcommand(steps_command(alloc)?)
+}
+
+fn steps_command<'a>(alloc: Global) -> Result<Command<'a>, AllocError>
+    ensures { IfOk result (λ c. (app_of c ≡ steps_app) × ((fields_of c).has_globals ≡ false)) }
+{
+    Command::new(alloc, "steps")
+        .about("Runs the listed steps and prints the report")
+        .arg(needed(alloc, "MACHINE", "The file of the machine"))?
+        .arg(needed(alloc, "SCRIPT", "The file of the scripts"))?
+        .arg(needed(alloc, "STEPS", "The file of the steps"))
+}
+
+fn route_command<'a>(alloc: Global) -> Result<Command<'a>, AllocError>
+    ensures { IfOk result (λ c. (app_of c ≡ route_app) × ((fields_of c).has_globals ≡ false)) }
+{
+    Command::new(alloc, "route")
+        .about("Prints the channels of a route and their numbers")
+        .arg(needed(alloc, "MACHINE", "The file of the machine"))?
+        .arg(tile(alloc, "SRC", "The tile that sends"))?
+        .arg(tile(alloc, "DST", "The tile that receives"))?
+        .arg(reply_flag(alloc))
+}
+
+fn channels_command<'a>(alloc: Global) -> Result<Command<'a>, AllocError>
+    ensures { IfOk result (λ c. (app_of c ≡ channels_app) × ((fields_of c).has_globals ≡ false)) }
+{
+    Command::new(alloc, "channels")
+        .about("Prints the number of each channel, and checks that they rise along every route")
+        .arg(needed(alloc, "MACHINE", "The file of the machine"))
+}
+
+fn check_command<'a>(alloc: Global) -> Result<Command<'a>, AllocError>
+    ensures { IfOk result (λ c. (app_of c ≡ check_app) × ((fields_of c).has_globals ≡ false)) }
+{
+    Command::new(alloc, "check")
+        .about("Checks a report")
+        .arg(needed(alloc, "REPORT", "The file of the report"))
+}
+
+/// A word that has to stand there.
+fn needed<'a>(alloc: Global, id: &'a str, help: &'a str) -> Arg<'a>
+    ensures rule { rule_of result ≡ needed id.entry.now }
+    ensures local { result.global ≡ false }
+{
+    Arg::new(alloc, id).required(true).help(help)
+}
+
+/// A tile that has to be named: any number of 32 bits.
+fn tile<'a>(alloc: Global, id: &'a str, help: &'a str) -> Arg<'a>
+    ensures rule { rule_of result ≡ tile id.entry.now }
+    ensures local { result.global ≡ false }
+{
+    Arg::new(alloc, id)
+        .required(true)
+        .value_parser(value_parser!(u32))
+        .help(help)
+}
+
+fn reply_flag<'a>(alloc: Global) -> Arg<'a>
+    ensures rule { rule_of result ≡ reply_flag }
+    ensures local { result.global ≡ false }
+{
+    Arg::new(alloc, "reply")
+        .long("reply")
+        .action(ArgAction::SetTrue)
+        .help("The route of a reply, and not of a request")
+}

@@ -1,0 +1,130 @@
+//! The command line of torusmem, a shared memory spread over a torus of tiles.
+#![tactic(auto)]
+
+mod command;
+
+use command::{Job, read_command};
+use commands::{
+    ProgramFault, channels_text, check_text, fault_text, finished, route_text, status_of,
+    steps_text,
+};
+use report_lines::{Out, Piped};
+use std::io::{BufWriter, ErrorKind, Write};
+use std::process::ExitCode;
+use std::rt::{Env, Files};
+use std::{env, fs, io};
+use torus::Fault;
+
+/// Why there is no answer.
+enum Failure<'a> {
+    /// A file of this name can't be read.
+    Unread(&'a str),
+    /// What the command answers.
+    Fault(ProgramFault),
+}
+
+impl From<ProgramFault> for Failure<'_> {
+    fn from(fault: ProgramFault) -> Self {
+        Failure::Fault(fault)
+    }
+}
+
+fn main(rt: HostRuntime) -> ExitCode {
+    ExitCode::from(run(&rt))
+}
+
+/// Does what the command line asks for, and answers the exit status.
+fn run<R: Env + Files + Print + Eprint + AllocGlobal>(rt: &R) -> u8 {
+    let Ok(words) = words(rt) else {
+        let _ = eprintln!(rt; "the command line can't be read");
+        return 2;
+    };
+    match read_command(rt.alloc(), words.as_slice()) {
+        Ok(job) => done(rt, &job),
+        Err(error) => {
+            let _ = eprint!(rt; "{error}");
+            2
+        }
+    }
+}
+
+fn words<R: Env + AllocGlobal>(rt: &R) -> io::Result<Vec<String>> {
+    Ok(env::args(rt)?.collect(rt.alloc())?)
+}
+
+/// Does the job: results go to standard output, and a fault goes to standard error.
+fn done<R: Files + Print + Eprint + AllocGlobal>(rt: &R, job: &Job) -> u8 {
+    match printed(rt, job) {
+        Ok(finished) => status_of(&Ok(finished)),
+        Err(Failure::Unread(name)) => {
+            let _ = eprintln!(rt; "cannot read {name}");
+            1
+        }
+        Err(Failure::Fault(fault)) => {
+            let text = fault_text(&fault);
+            let _ = eprintln!(rt; "{text}");
+            status_of(&Err(fault))
+        }
+    }
+}
+
+/// The answer of the job, whose output was written to its last byte.
+fn printed<'a, R: Files + Print + AllocGlobal>(rt: &R, job: &Job<'a>) -> Result<bool, Failure<'a>> {
+    let Ok(mut writer) = BufWriter::new(rt.alloc(), io::writer(rt)) else {
+        return Err(Failure::Fault(ProgramFault::Fault(Fault::Memory)));
+    };
+    let answer = answer(rt, job, &mut Piped::new(&mut writer))?;
+    if writer.flush().is_err() {
+        return Err(Failure::Fault(ProgramFault::Output));
+    }
+    Ok(answer)
+}
+
+/// The answer of the job: whether every script is finished.
+fn answer<'a, R: Files + AllocGlobal, W: Out>(
+    rt: &R,
+    job: &Job<'a>,
+    out: &mut W,
+) -> Result<bool, Failure<'a>> {
+    let alloc = rt.alloc();
+    match *job {
+        Job::Steps {
+            machine,
+            script,
+            steps,
+        } => {
+            let machine = text(rt, machine)?;
+            let script = text(rt, script)?;
+            let steps = text(rt, steps)?;
+            Ok(steps_text(alloc, &machine, &script, &steps, out)?)
+        }
+        Job::Route {
+            machine,
+            src,
+            dst,
+            class,
+        } => {
+            let machine = text(rt, machine)?;
+            Ok(finished(route_text(alloc, &machine, src, dst, class, out))?)
+        }
+        Job::Channels { machine } => {
+            let machine = text(rt, machine)?;
+            Ok(finished(channels_text(alloc, &machine, out))?)
+        }
+        Job::Check { report } => {
+            let report = text(rt, report)?;
+            Ok(finished(check_text(alloc, &report, out))?)
+        }
+    }
+}
+
+/// All bytes of a file.
+fn text<'a, R: Files + AllocGlobal>(rt: &R, name: &'a str) -> Result<Vec<u8>, Failure<'a>> {
+    match fs::read(rt, name) {
+        Ok(bytes) => Ok(bytes),
+        Err(error) if error.kind() == ErrorKind::OutOfMemory => {
+            Err(Failure::Fault(ProgramFault::Fault(Fault::Memory)))
+        }
+        Err(_) => Err(Failure::Unread(name)),
+    }
+}
