@@ -40,6 +40,7 @@ run_printed asked c finished text ran printed = record {
   run = ran.run;
   read = ran.read;
   is = printed.is ∙ ap (λ (x : Core). text_of (report_of x)) (core_is ran.run.load c ran.run.steps ran.after);
+  good = printed.good;
   lawful = subst (λ (b : Ledger). IsLawful ran.run.load ran.run.steps b.rows) ran.after.book ran.after.lawful;
   value = printed.value ∙ ap all_finished ran.after.state;
   ended = printed.law ran.run.load ran.run.steps ran.after;

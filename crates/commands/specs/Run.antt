@@ -11,6 +11,7 @@ use Rattle.machine_core.specs.Core.{Core, IsAfter, IsLawful, all_finished, ledge
 use Rattle.machine_core.specs.Loaded.{load_of}
 use Rattle.machine_core.specs.Scripts.{AreFinished}
 use Rattle.report_lines.specs.Line.{text_of}
+use Rattle.report_check.specs.Good.{GoodReport}
 use Rattle.history.specs.Report.{report_of}
 use Rattle.commands.specs.declared.fault.ProgramFault.{ProgramFault}
 use Rattle.commands.specs.declared.fault.ProgramFault.TheVariants as program
@@ -59,17 +60,19 @@ IsReadFault asked _ = ⊥
 abbrev pub IsNoFault : ProgramFault → Type 0
 IsNoFault f = ⊥
 
--- a text is the report of a machine's run, and the answer says whether every script is finished
+-- a text is the report of a machine's run, a good one, and the answer says whether every script is finished
 pub record IsOfMachine (c : Core) (finished : Bool) (text : List ℕ) : Type 0 where
   pub is : text ≡ text_of (report_of c)
+  pub good : GoodReport text
   pub value : finished ≡ all_finished c.state
   pub law : (l : Load) (steps : List Step) → IsAfter l c steps → IsTrue finished ↔ AreFinished (run_of l steps) (length steps) l.scripts
 
--- A text is the report of the run that was asked for: the run has one legal order, which is that of the report's order lines (Herlihy and Wing, TOPLAS 12(3), 1990: linearizability), every processor has followed its script, and the answer says whether every script is finished.
+-- A text is the report of the run that was asked for, and a good one: the run has one legal order, which is that of the report's order lines (Herlihy and Wing, TOPLAS 12(3), 1990: linearizability), every processor has followed its script, and the answer says whether every script is finished.
 pub record IsRunText (asked : Result Asked LineFault) (finished : Bool) (text : List ℕ) : Type 0 where
   pub run : Asked
   pub read : asked ≡ Ok run
   pub is : text ≡ text_of (report_of (core_of run))
+  pub good : GoodReport text
   pub lawful : IsLawful run.load run.steps (ledger_after run.load run.steps).rows
   pub value : finished ≡ all_finished (after run.load run.steps)
   pub ended : IsTrue finished ↔ AreFinished (run_of run.load run.steps) (length run.steps) run.load.scripts

@@ -1,3 +1,6 @@
 pub mod RowMore
 pub mod Limits
 pub mod Fitting
+pub mod Mapped
+pub mod Contents
+pub mod Good

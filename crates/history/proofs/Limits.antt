@@ -2,7 +2,7 @@
 use Rattle.std.proofs.Common.{◌≡◌, ℕ, zero, suc, ◌<◌, ◌≤◌, List, [], ◌∷◌, length, sym, ◌∙◌, ap, subst, arith, slice_index_or}
 use Rattle.torus.specs.Shape.{Shape}
 use Rattle.torus.specs.declared.step.Step.{Step}
-use Rattle.runs.specs.Observed.{total}
+use Rattle.runs.specs.Observed.{event_count, total}
 use Rattle.machine_core.specs.Wire.{Load, State, after}
 use Rattle.machine_core.specs.Ledger.{Ledger}
 use Rattle.machine_core.specs.Core.{Core, IsAfter, ledger_after}
@@ -42,4 +42,5 @@ within_limits c (l, steps, h) =
       words = h.accepted.words_high;
       memory = e.whole.account.shown.size;
       places = all_within _ 65536 (omega (arith, room, asked, rows));
+      events = let numbered = e.book.events in let same = ap event_count e.shown in let most = w.events in omega (arith, numbered, same, most, room);
     })

@@ -10,6 +10,7 @@ use Rattle.report_lines.specs.declared.parts.EntryRow.{EntryRow}
 use Rattle.report_lines.specs.declared.parts.AnswerRow.{AnswerRow}
 use Rattle.report_lines.specs.declared.parts.Parts.{Parts}
 use Rattle.report_lines.specs.Contents.{items_of, report_lines_of}
+use Rattle.runs.specs.Observed.{event_count}
 use Rattle.machine_core.specs.Core.{Core, shown, all_finished}
 
 -- what is reported of a service
@@ -38,7 +39,7 @@ pub record IsMadeOf {A : Type 0} (c : Core) (parts : Parts A) : Type 0 where
   pub order : parts.order.items ≡ map order_line c.ledger.rows
   pub finished : parts.finished ≡ all_finished c.state
 
--- a machine has a bank and a processor for each of at most 64 tiles, a word for each of at most 65536 addresses, and at most 65536 entries in each bank (this project's own format)
+-- a machine has a bank and a processor for each of at most 64 tiles, a word for each of at most 65536 addresses, at most 65536 entries in each bank, and at most 196608 events (this project's own format)
 pub record IsWithinLimits (c : Core) : Type 0 where
   pub tiles : tiles_of c.shape ≤ 64
   pub banks : length (shown c).entries ≡ tiles_of c.shape
@@ -46,3 +47,4 @@ pub record IsWithinLimits (c : Core) : Type 0 where
   pub words : length c.opening ≤ 65536
   pub memory : length (shown c).memory ≡ length c.opening
   pub places : All (λ es. length es ≤ 65536) (shown c).entries
+  pub events : event_count (shown c) ≤ 196608

@@ -4,6 +4,7 @@
 mod rows;
 pub mod run;
 
+pub use report_check::{CheckFault, check_report};
 pub use report_lines::{
     AnswerLine, AnswerRow, EntryLine, EntryRow, LineText, OrderLine, Out, OutputFailed, Parts,
     Piped, Radices, Report, ReportLine, line_of, write_report,

@@ -1,10 +1,15 @@
 //! The report of a machine's run.
 
 ghost use Rattle.std.specs.Prelude.{◌≡◌, IfErr, IfOk};
+ghost use Rattle.report_lines.specs.Line.{text_of};
+ghost use Rattle.report_check.specs.Good.{GoodReport};
 ghost use Rattle.history.specs.Report.{IsMadeOf, IsWithinLimits, report_of};
 
 use crate::rows::{bank_rows, last_words, opening_words, order_lines, processor_rows};
 use machine_core::Machine;
+use machine_core::laws::reached_machines_report_well;
+use report_facts::laws::contents_are_good;
+use report_facts::numbers_fit;
 use report_lines::{Parts, Report};
 use std::alloc::{AllocError, Allocator};
 use torus::Fault;
@@ -45,16 +50,31 @@ fn parts_of<A: Allocator + Copy, B: Allocator>(
     })
 }
 
+/// The report of a machine is a good one.
+fn goodness<A: Allocator + Copy, B: Allocator>(machine: &Machine<B>, report: &Report<A>)
+    requires limits { IsWithinLimits machine.now }
+    requires report { report.now ≡ report_of machine.now }
+    ensures { GoodReport (text_of report.now) }
+{
+    machine.reached();
+    reached_machines_report_well();
+    contents_are_good();
+    numbers_fit(report.lines());
+}
+
 /// The report of a machine.
 fn lines_of_run<A: Allocator + Copy, B: Allocator>(
     alloc: A,
     machine: &Machine<B>,
 ) -> Result<Report<A>, AllocError>
-    ensures { IfOk result (λ report. report ≡ report_of machine.now) }
+    ensures report { IfOk result (λ report. report ≡ report_of machine.now) }
+    ensures good { IfOk result (λ report. GoodReport (text_of report)) }
 {
     limits(machine);
     let parts = parts_of(alloc, machine)?;
-    Report::of_parts(alloc, &parts)
+    let report = Report::of_parts(alloc, &parts)?;
+    goodness(machine, &report);
+    Ok(report)
 }
 
 /// The report of a machine's run: its shape, opening words, histories, answers, words, one order,
@@ -65,7 +85,10 @@ pub fn of_run<A: Allocator + Copy, B: Allocator>(
     alloc: A,
     machine: &Machine<B>,
 ) -> Result<Report<A>, Fault>
+    // The report says what the machine shows.
     ensures report { IfOk result (λ report. report ≡ report_of machine.now) }
+    // It is a good one: the checker accepts its text.
+    ensures good { IfOk result (λ report. GoodReport (text_of report)) }
     ensures fault { IfErr result (λ fault. fault ≡ Fault.Memory) }
 {
     match lines_of_run(alloc, machine) {

@@ -13,6 +13,7 @@ returns-in_err-write_report g c =
         _,
         record {
           is = ap text_of c.in_ok-report.ensures.report;
+          good = c.in_ok-report.ensures.good;
           value = c.finished-finished.ensures.value;
           law = c.finished-finished.ensures.law;
         },

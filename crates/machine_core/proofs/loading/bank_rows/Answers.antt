@@ -1,14 +1,21 @@
-use Rattle.std.proofs.Common.{◌≡◌, ℕ, length, slice_get, sym, ◌∙◌, ap, subst}
+use Rattle.std.proofs.Common.{◌≡◌, ◌≤◌, ℕ, arith, length, slice_get, slice_index_or, sym, ◌∙◌, ap, subst}
 use Rattle.std.proofs.lemmas.List.{length-map}
 use Rattle.script.specs.ScriptViews.{lists_of}
 use Rattle.machine_core.specs.declared.rows.BankRow.{BankRow}
-use Rattle.machine_core.specs.Room.{home_room}
+use Rattle.machine_core.specs.Room.{all_room, home_room}
 use Rattle.machine_core.specs.Rows.{bank_of}
 use Rattle.machine_core.specs.Wire.{first_bank}
 use Rattle.machine_core.specs.Loaded.{IsFirstBankRow}
+use Rattle.machine_core.proofs.LoadingCounts.{home_within}
 use Rattle.machine_core.proofs.Places.{length-tabulate}
 use Rattle.machine_core.proofs.LoadingRows.{banks_more, each_more}
 use Rattle.machine_core.proofs.loading.bank_rows.Goals as goal
+
+pub bank_row-requires-clause-few : goal.bank_row-requires-clause-few
+bank_row-requires-clause-few g c =
+    let v : slice_index_or c.home_rooms-rooms.result c.loop-bank.bank 0 ≡ home_room c.args.tiles c.loop-bank.bank (lists_of c.args.scripts.now) = c.home_rooms-rooms.ensures c.loop-bank.bank c.loop-bank-test.true in
+    let few : all_room (lists_of c.args.scripts.now) ≤ 65536 = c.requires.few in
+    omega (arith, home_within c.args.tiles c.loop-bank.bank (lists_of c.args.scripts.now))
 
 pub loop-bank-preserved : goal.loop-bank-preserved
 loop-bank-preserved g c =
@@ -21,6 +28,6 @@ loop-bank-preserved g c =
           (λ (k : ℕ) (r : BankRow g.row.A.Denot). IsFirstBankRow c.args.tiles k c.args.opening.now (home_room c.args.tiles k (lists_of c.args.scripts.now)) r)
           c.loop-bank.rows.items c.in_ok-bank_row.field-0 c.loop-bank.invariant.each
           (subst (λ (k : ℕ). IsFirstBankRow c.args.tiles k c.args.opening.now (home_room c.args.tiles k (lists_of c.args.scripts.now)) c.in_ok-bank_row.field-0) (sym count)
-          (subst (λ (n : ℕ). IsFirstBankRow c.args.tiles c.loop-bank.bank c.args.opening.now n c.in_ok-bank_row.field-0) c.home_room-room.ensures.value c.in_ok-bank_row.ensures))
+          (subst (λ (n : ℕ). IsFirstBankRow c.args.tiles c.loop-bank.bank c.args.opening.now n c.in_ok-bank_row.field-0) (c.home_rooms-rooms.ensures c.loop-bank.bank c.loop-bank-test.true) c.in_ok-bank_row.ensures))
           b row (ap (λ xs. slice_get xs b) (sym c.in_ok-push.ensures.items) ∙ h);
     }
