@@ -1,3 +1,3 @@
-pub mod History
+pub mod ServiceList
 pub mod Bank
 pub mod Inside

@@ -1,18 +1,18 @@
 ghost use Rattle.std.specs.Prelude.{◌≡◌, ◌<◌, ◌≤◌, ◌↔◌, ℕ, List, [], length, IfOk, IsTrue, slice_get, vec_len};
 ghost use Rattle.packet.specs.Memory.{new_word, reply_to};
-ghost use Rattle.home_bank.specs.Bank.{IsBank, IsFor, IsRequestAnd, bank_after, answer_of, Replays};
+ghost use Rattle.home_bank.specs.Bank.{IsBank, IsFor, IsRequestAnd, bank_after, response_to, Replays};
 
-use crate::{Entry, History};
+use crate::{Entry, ServiceList};
 use packet::{Op, Packet, Reply, Request, Response, apply};
 use std::alloc::{AllocError, Allocator, Global};
 use std::marker::Model;
 
-/// The words of a tile's bank, and the history of what it served. Word w is at the address
+/// The words of a tile's bank, and the list of its services. Word w is at the address
 /// `tile + w * tiles`.
 #[derive(Drop)]
 pub struct Bank<A: Allocator = Global> {
     words: Vec<u64, A>,
-    history: History<A>,
+    services: ServiceList<A>,
 }
 
 impl<A: Allocator> Model for Bank<A> {
@@ -29,7 +29,7 @@ impl<A: Allocator> Model for Bank<A> {
 
 impl<A: Allocator> Bank<A> {
     /// The bank of a tile, among that many tiles (1 to 64), with these words (at most 65536) and
-    /// an empty history. It takes the memory for `room` entries (at most 65536), and none later.
+    /// no entry yet. It takes the memory for `room` entries (at most 65536), and none later.
     pub fn new(
         alloc: A,
         tile: u32,
@@ -44,18 +44,18 @@ impl<A: Allocator> Bank<A> {
         ensures bank { IfOk result (λ b. b ≡ record { tile = tile; tiles = tiles; words = words.items; entries = []; room = room }) }
         ensures replays { IfOk result (λ b. Replays words.items b) }
     {
-        let history = History::new(alloc, tile, tiles, room)?;
-        Ok(Bank { words, history })
+        let services = ServiceList::new(alloc, tile, tiles, room)?;
+        Ok(Bank { words, services })
     }
 
-    /// Serves a request to this bank for a word that it has, while the history has room: performs
+    /// Serves a request to this bank for a word that it has, while there is room for an entry: performs
     /// the operation on the word, adds the entry, and gives the packet that answers the request. It
     /// takes no memory.
     pub fn serve_whole(&mut self, request: Packet) -> Packet
         requires asked { IsRequestAnd request (λ r. IsFor self.old r) }
         requires room { length self.old.entries < self.old.room }
         ensures served { IsRequestAnd request (λ r. self.new ≡ bank_after self.old r) }
-        ensures answer { IsRequestAnd request (λ r. result ≡ Packet.Response (answer_of self.old r)) }
+        ensures answer { IsRequestAnd request (λ r. result ≡ Packet.Response (response_to self.old r)) }
         ensures replays { (opening : List ℕ) → Replays opening self.old → Replays opening self.new }
     {
         match request {
@@ -69,11 +69,11 @@ impl<A: Allocator> Bank<A> {
         requires asked { IsFor self.old request }
         requires room { length self.old.entries < self.old.room }
         ensures served { self.new ≡ bank_after self.old request }
-        ensures answer { result ≡ answer_of self.old request }
+        ensures answer { result ≡ response_to self.old request }
         ensures limits { IsBank self.old }
     {
         let reply = perform(request.op, &mut self.words[request.word as usize]);
-        self.history.record(request, reply)
+        self.services.record(request, reply)
     }
 
     /// The tile whose bank it is.
@@ -81,7 +81,7 @@ impl<A: Allocator> Bank<A> {
         ensures tile { result ≡ self.now.tile }
         ensures limits { IsBank self.now }
     {
-        self.history.tile()
+        self.services.tile()
     }
 
     /// How many words there are.
@@ -98,18 +98,18 @@ impl<A: Allocator> Bank<A> {
         self.words.get(number as usize).copied()
     }
 
-    /// What was served, in the order of the services.
+    /// The entries of its service list, in the order of the services.
     pub fn entries(&self) -> &[Entry]
         ensures { result.now ≡ self.now.entries }
     {
-        self.history.entries()
+        self.services.entries()
     }
 
-    /// Whether the history has room for no further entry.
+    /// Whether there is room for no further entry.
     pub fn is_full(&self) -> bool
         ensures { IsTrue result ↔ (length self.now.entries ≡ self.now.room) }
     {
-        self.history.is_full()
+        self.services.is_full()
     }
 }
 

@@ -1,7 +1,7 @@
 use packet::{Op, Reply};
 use torus::Tag;
 
-/// A service in a bank's history: who asked by which tag, what was done where, and what was replied.
+/// An entry of a bank's service list: who asked by which tag, what was done where, and what was replied.
 #[derive(Clone, Copy, Debug, PartialEq, Eq)]
 pub struct Entry {
     /// The tile of the processor that asked.

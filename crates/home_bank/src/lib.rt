@@ -1,13 +1,13 @@
-//! A bank of words, and the history of what it served.
+//! A bank of words, and the list of its services.
 #![tactic(auto)]
 
 pub mod bank;
 pub mod entry;
-pub mod history;
 pub mod laws;
+pub mod service_list;
 #[cfg(test)]
 mod tests;
 
 pub use bank::Bank;
 pub use entry::Entry;
-pub use history::History;
+pub use service_list::ServiceList;

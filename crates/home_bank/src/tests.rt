@@ -5,7 +5,7 @@ use std::alloc::{AllocError, Allocator, Global};
 use std::test::Fail;
 use torus::Tag;
 
-/// Asks for an operation on a word of a bank, where the bank has the word and the history has room.
+/// Asks for an operation on a word of a bank, where the bank has the word and there is room for an entry.
 fn ask<A: Allocator>(bank: &mut Bank<A>, word: u32, op: Op) -> Option<Response> {
     let destination = bank.tile();
     if word >= bank.word_count() || bank.is_full() {
@@ -27,22 +27,22 @@ fn ask<A: Allocator>(bank: &mut Bank<A>, word: u32, op: Op) -> Option<Response> 
 #[test]
 fn all_ten_operations(rt: HostRuntime) -> Result<(), Fail> {
     let services = [
-        (0, Op::And(10), Reply::Old(12), 8),
-        (0, Op::Or(3), Reply::Old(8), 11),
-        (0, Op::Xor(6), Reply::Old(11), 13),
-        (0, Op::Max(20), Reply::Old(13), 20),
-        (0, Op::Min(5), Reply::Old(20), 5),
-        (1, Op::Cas(7, 9), Reply::Old(7), 9),
-        (1, Op::Cas(7, 8), Reply::Old(9), 9),
-        (2, Op::Swap(3), Reply::Old(0), 3),
-        (2, Op::Swap(3), Reply::Old(3), 3),
-        (3, Op::Add(1), Reply::Old(18446744073709551615), 0),
-        (0, Op::Store(17), Reply::Ok, 17),
-        (0, Op::Load, Reply::Old(17), 17),
+        (0, 2, Op::And(10), Reply::Old(12), 8),
+        (0, 2, Op::Or(3), Reply::Old(8), 11),
+        (0, 2, Op::Xor(6), Reply::Old(11), 13),
+        (0, 2, Op::Max(20), Reply::Old(13), 20),
+        (0, 2, Op::Min(5), Reply::Old(20), 5),
+        (1, 6, Op::Cas(7, 9), Reply::Old(7), 9),
+        (1, 6, Op::Cas(7, 8), Reply::Old(9), 9),
+        (2, 10, Op::Swap(3), Reply::Old(0), 3),
+        (2, 10, Op::Swap(3), Reply::Old(3), 3),
+        (3, 14, Op::Add(1), Reply::Old(18446744073709551615), 0),
+        (0, 2, Op::Store(17), Reply::Ok, 17),
+        (0, 2, Op::Load, Reply::Old(17), 17),
     ];
     let words = Vec::from_slice(rt.alloc(), &[12, 7, 0, 18446744073709551615])?;
     let mut bank = Bank::new(rt.alloc(), 2, 4, words, 12)?;
-    for (number, (word, op, reply, left)) in services.iter().enumerate() {
+    for (number, (word, address, op, reply, left)) in services.iter().enumerate() {
         let expected = Response {
             destination: 5,
             source: 2,
@@ -51,29 +51,39 @@ fn all_ten_operations(rt: HostRuntime) -> Result<(), Fail> {
             code: op.code(),
             reply: *reply,
         };
-        assert_eq!(rt; ask(&mut bank, *word, *op), Some(expected), "at {number}");
-        assert_eq!(rt; bank.word(*word), Some(*left), "at {number}");
         let entry = Entry {
             source: 5,
             tag: Tag(3),
-            address: 2 + 4 * *word,
+            address: *address,
             op: *op,
             reply: *reply,
         };
-        assert_eq!(rt; bank.entries().get(number), Some(&entry), "at {number}");
+        let response = ask(&mut bank, *word, *op);
+        let shown = (
+            response,
+            bank.word(*word),
+            bank.entries().get(number).copied(),
+        );
+        assert_eq!(rt;
+            shown,
+            (Some(expected), Some(*left), Some(entry)),
+            "at {number}"
+        );
     }
-    assert_eq!(rt; bank.word(1), Some(9));
-    assert_eq!(rt; bank.word(4), None);
-    assert!(rt; bank.is_full());
-    assert_eq!(rt; bank.entries().len(), 12);
+    let at_last = (
+        bank.word(1),
+        bank.word(4),
+        bank.is_full(),
+        bank.entries().len(),
+    );
+    assert_eq!(rt; at_last, (Some(9), None, true, 12));
     Ok(())
 }
 
 #[test]
-fn a_history_by_itself(rt: HostRuntime) -> Result<(), Fail> {
-    let mut history = History::new(rt.alloc(), 1, 3, 1)?;
-    assert_eq!(rt; history.tile(), 1);
-    assert!(rt; !history.is_full());
+fn a_service_list_by_itself(rt: HostRuntime) -> Result<(), Fail> {
+    let mut services = ServiceList::new(rt.alloc(), 1, 3, 1)?;
+    assert_eq!(rt; (services.tile(), services.is_full()), (1, false));
     let request = Request {
         destination: 1,
         source: 0,
@@ -81,11 +91,14 @@ fn a_history_by_itself(rt: HostRuntime) -> Result<(), Fail> {
         word: 2,
         op: Op::Store(7),
     };
-    let response = history.record(request, Reply::Ok);
-    assert_eq!(rt; response.place, 0);
-    assert_eq!(rt; response.code, Code::Store);
-    assert!(rt; history.is_full());
-    assert_eq!(rt; history.entries().len(), 1);
+    let response = services.record(request, Reply::Ok);
+    let told = (
+        response.place,
+        response.code,
+        services.is_full(),
+        services.entries().len(),
+    );
+    assert_eq!(rt; told, (0, Code::Store, true, 1));
     Ok(())
 }
 
@@ -122,16 +135,17 @@ fn memory_refused_at_every_budget(rt: HostRuntime) -> Result<(), Fail> {
     let mut refused = 0;
     let mut suffices = false;
     for steps in 0..64 {
-        match within(rt.alloc(), steps * 16)? {
+        let expected_now = match within(rt.alloc(), steps * 16)? {
             None => {
-                assert!(rt; !suffices, "refused after {steps} steps");
                 refused = steps;
+                !suffices
             }
             Some(response) => {
-                assert_eq!(rt; response, Some(expected));
                 suffices = true;
+                response == Some(expected)
             }
-        }
+        };
+        assert!(rt; expected_now, "at {steps} steps");
     }
     assert!(rt; suffices && refused >= 1);
     Ok(())

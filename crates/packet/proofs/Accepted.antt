@@ -6,11 +6,11 @@ use Rattle.packet.specs.declared.kinds.Code.TheVariants as code
 use Rattle.packet.specs.declared.kinds.Packet.{Packet}
 use Rattle.packet.specs.Kinds.{code_of, IsReplyOf}
 use Rattle.packet.specs.Flit.{field, Heading, IsHeadFlit, IsPayloadFlit, operation_told}
-use Rattle.packet.specs.Spelling.{number_of, values_of_op, values_of_reply, values_of, heading_of, IsSound, SpellsWith, Spells}
+use Rattle.packet.specs.Spelling.{code_number, values_of_op, values_of_reply, values_of, heading_of, IsSound, SpellsWith, Spells}
 use Rattle.packet.specs.Refusal.{flits_of_request, flits_of_reply, flits_told}
 use Rattle.packet.specs.Reading.{heading_told, code_numbered, op_with, reply_with, packet_with, value_at, packet_told, IsAcceptedHead, IsAcceptedPayload}
 use Rattle.packet.proofs.Fields.{field_below}
-use Rattle.packet.proofs.Spelled.{number_of_below}
+use Rattle.packet.proofs.Spelled.{code_number_below}
 use Rattle.packet.proofs.Told.{heading_told-head, heading_spelled, packet_told-spelled}
 
 -- a whole packet, flit by flit
@@ -28,7 +28,7 @@ pub data Counts (v w : ℕ) : List ℕ → ℕ → Type 0 where
   one : Counts v w (v ∷ []) 3
   two : Counts v w (v ∷ w ∷ []) 5
 
-counts-request : (c : Code) (v w : ℕ) → Counts v w (values_of_op (op_with c v w)) (flits_of_request (number_of c))
+counts-request : (c : Code) (v w : ℕ) → Counts v w (values_of_op (op_with c v w)) (flits_of_request (code_number c))
 counts-request code.Load v w = none
 counts-request code.Store v w = one
 counts-request code.Swap v w = one
@@ -40,7 +40,7 @@ counts-request code.Xor v w = one
 counts-request code.Max v w = one
 counts-request code.Min v w = one
 
-counts-reply : (c : Code) (v w : ℕ) → Counts v w (values_of_reply (reply_with c v)) (flits_of_reply (number_of c))
+counts-reply : (c : Code) (v w : ℕ) → Counts v w (values_of_reply (reply_with c v)) (flits_of_reply (code_number c))
 counts-reply code.Load v w = one
 counts-reply code.Store v w = none
 counts-reply code.Swap v w = one
@@ -76,18 +76,18 @@ IsReplyOf-reply_with code.Xor v = refl
 IsReplyOf-reply_with code.Max v = refl
 IsReplyOf-reply_with code.Min v = refl
 
-number_of-code_numbered : (n : ℕ) → n ≤ 9 → number_of (code_numbered n) ≡ n
-number_of-code_numbered zero h = refl
-number_of-code_numbered (suc zero) h = refl
-number_of-code_numbered (suc (suc zero)) h = refl
-number_of-code_numbered (suc (suc (suc zero))) h = refl
-number_of-code_numbered (suc (suc (suc (suc zero)))) h = refl
-number_of-code_numbered (suc (suc (suc (suc (suc zero))))) h = refl
-number_of-code_numbered (suc (suc (suc (suc (suc (suc zero)))))) h = refl
-number_of-code_numbered (suc (suc (suc (suc (suc (suc (suc zero))))))) h = refl
-number_of-code_numbered (suc (suc (suc (suc (suc (suc (suc (suc zero)))))))) h = refl
-number_of-code_numbered (suc (suc (suc (suc (suc (suc (suc (suc (suc zero))))))))) h = refl
-number_of-code_numbered (suc (suc (suc (suc (suc (suc (suc (suc (suc (suc n)))))))))) h = absurd (omega arith)
+code_number-code_numbered : (n : ℕ) → n ≤ 9 → code_number (code_numbered n) ≡ n
+code_number-code_numbered zero h = refl
+code_number-code_numbered (suc zero) h = refl
+code_number-code_numbered (suc (suc zero)) h = refl
+code_number-code_numbered (suc (suc (suc zero))) h = refl
+code_number-code_numbered (suc (suc (suc (suc zero)))) h = refl
+code_number-code_numbered (suc (suc (suc (suc (suc zero))))) h = refl
+code_number-code_numbered (suc (suc (suc (suc (suc (suc zero)))))) h = refl
+code_number-code_numbered (suc (suc (suc (suc (suc (suc (suc zero))))))) h = refl
+code_number-code_numbered (suc (suc (suc (suc (suc (suc (suc (suc zero)))))))) h = refl
+code_number-code_numbered (suc (suc (suc (suc (suc (suc (suc (suc (suc zero))))))))) h = refl
+code_number-code_numbered (suc (suc (suc (suc (suc (suc (suc (suc (suc (suc n)))))))))) h = absurd (omega arith)
 
 -- the packet of a heading: it tells that heading, is sound, and brings as many values as the heading says
 pub record IsPacketOf (told : Heading) (v w : ℕ) (p : Packet) : Type 0 where
@@ -98,10 +98,10 @@ pub record IsPacketOf (told : Heading) (v w : ℕ) (p : Packet) : Type 0 where
 IsPacketOf-request : (o d s g p v w : ℕ) → o ≤ 9 → IsPacketOf (record { operation = o; class = 0; destination = d; source = s; tag = g; place = p }) v w (packet_with (record { operation = o; class = 0; destination = d; source = s; tag = g; place = p }) v w)
 IsPacketOf-request o d s g p v w known =
     let c = code_numbered o in
-    let n : number_of c ≡ o = number_of-code_numbered o known in
+    let n : code_number c ≡ o = code_number-code_numbered o known in
     let made : ℕ → Heading = λ (k : ℕ). record { operation = k; class = 0; destination = d; source = s; tag = g; place = p } in
     record {
-      heading = ap made (ap number_of (code_of-op_with c v w) ∙ n);
+      heading = ap made (ap code_number (code_of-op_with c v w) ∙ n);
       sound = tt;
       counts = subst (λ (k : ℕ). Counts v w (values_of_op (op_with c v w)) (flits_of_request k)) n (counts-request c v w);
     }
@@ -109,7 +109,7 @@ IsPacketOf-request o d s g p v w known =
 IsPacketOf-reply : (o d s g p v w : ℕ) → o ≤ 9 → IsPacketOf (record { operation = o; class = 1; destination = d; source = s; tag = g; place = p }) v w (packet_with (record { operation = o; class = 1; destination = d; source = s; tag = g; place = p }) v w)
 IsPacketOf-reply o d s g p v w known =
     let c = code_numbered o in
-    let n : number_of c ≡ o = number_of-code_numbered o known in
+    let n : code_number c ≡ o = code_number-code_numbered o known in
     let made : ℕ → Heading = λ (k : ℕ). record { operation = k; class = 1; destination = d; source = s; tag = g; place = p } in
     record {
       heading = ap made n;
@@ -231,7 +231,7 @@ pub IsWhole-spelled : (p : Packet) (xs : List ℕ) → Spells p xs → IsWhole x
 IsWhole-spelled p xs s =
     let h = get_or xs 0 0 in
     let told = heading_of p in
-    let small : told.operation < 10 = number_of_below _ in
+    let small : told.operation < 10 = code_number_below _ in
     let e : heading_told h ≡ told = heading_spelled told (values_of p) xs s.bits in
     let known : told.operation ≤ 9 = omega arith in
     let known' : operation_told h ≤ 9 = subst (λ (t : Heading). t.operation ≤ 9) (sym e) known in

@@ -4,7 +4,9 @@ pub mod Fields
 pub mod FlitBits
 pub mod Folds
 pub mod Offering
+pub mod OneAnswer
 pub mod Refusals
 pub mod Shapes
 pub mod Spelled
 pub mod Told
+pub mod Words

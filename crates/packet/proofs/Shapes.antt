@@ -12,14 +12,15 @@ use Rattle.torus.specs.declared.shape.Class.TheVariants as class
 use Rattle.packet.specs.Flit.{field, Heading, IsHeadFlit, IsPayloadFlit, class_number, class_numbered}
 use Rattle.packet.specs.Spelling.{SpellsWith, Spells, heading_of, values_of, values_of_reply, class_of, TellsPacket, IsTailShaped, IsSpellable}
 use Rattle.packet.specs.Refusal.{flits_told}
-use Rattle.packet.specs.Written.{spelling_of, IsOfWords}
+use Rattle.packet.specs.Written.{IsOfWords}
+use Rattle.packet.specs.Flits.{flits_of}
 use Rattle.packet.proofs.Fields.{above-zero}
-use Rattle.packet.proofs.Spelled.{Spells-spelling_of, spelling_only, few_values}
+use Rattle.packet.proofs.Spelled.{Spells-flits_of, spelling_only, few_values}
 use Rattle.packet.proofs.Accepted.{IsWhole, IsWhole-spelled}
 
-pub one_list : (p : Packet) (xs : List ℕ) → IsSpellable p → IsOfWords p → Spells p xs ↔ (xs ≡ spelling_of p)
+pub one_list : (p : Packet) (xs : List ℕ) → IsSpellable p → IsOfWords p → Spells p xs ↔ (xs ≡ flits_of p)
 one_list p xs s w =
-    (λ h. spelling_only p xs h, λ e. subst (λ (ys : List ℕ). Spells p ys) (sym e) (Spells-spelling_of p s w))
+    (λ h. spelling_only p xs h, λ e. subst (λ (ys : List ℕ). Spells p ys) (sym e) (Spells-flits_of p s w))
 
 length-whole : (xs : List ℕ) → IsWhole xs → flits_told (get_or xs 0 0) ≡ length xs
 length-whole (h ∷ []) w = w.1

@@ -11,21 +11,22 @@ use Rattle.packet.specs.declared.kinds.Reply.TheVariants.{Old, Ok as Stored}
 use Rattle.packet.specs.declared.kinds.Packet.{Packet}
 use Rattle.packet.specs.declared.kinds.Packet.TheVariants.{Request, Response}
 use Rattle.packet.specs.Flit.{Heading, IsPayloadFlit}
-use Rattle.packet.specs.Spelling.{number_of, values_of_op, values_of_reply, values_of, heading_of, SpellsWith, Spells, IsSpellable, place_of, code_in}
-use Rattle.packet.specs.Written.{head_flit, flits_for, spelling_of, IsOfWords}
+use Rattle.packet.specs.Spelling.{code_number, values_of_op, values_of_reply, values_of, heading_of, SpellsWith, Spells, IsSpellable, place_of, code_in}
+use Rattle.packet.specs.Written.{head_flit, flits_for, IsOfWords}
+use Rattle.packet.specs.Flits.{flits_of}
 use Rattle.packet.proofs.FlitBits.{FitsHead, IsHeadFlit-written, IsPayloadFlit-written, same_head, same_payload, FitsHead-told, value_below}
 
-pub number_of_below : (c : Code) → number_of c < 10
-number_of_below code.Load = omega arith
-number_of_below code.Store = omega arith
-number_of_below code.Swap = omega arith
-number_of_below code.Cas = omega arith
-number_of_below code.Add = omega arith
-number_of_below code.And = omega arith
-number_of_below code.Or = omega arith
-number_of_below code.Xor = omega arith
-number_of_below code.Max = omega arith
-number_of_below code.Min = omega arith
+pub code_number_below : (c : Code) → code_number c < 10
+code_number_below code.Load = omega arith
+code_number_below code.Store = omega arith
+code_number_below code.Swap = omega arith
+code_number_below code.Cas = omega arith
+code_number_below code.Add = omega arith
+code_number_below code.And = omega arith
+code_number_below code.Or = omega arith
+code_number_below code.Xor = omega arith
+code_number_below code.Max = omega arith
+code_number_below code.Min = omega arith
 
 at_most_two : (op : Op) → length (values_of_op op) ≤ 2
 at_most_two Load = omega arith
@@ -49,9 +50,9 @@ few_values (Response r) = at_most_one r.reply
 
 pub FitsHead-packet : (p : Packet) → IsSpellable p → place_of p < 2 ^ 32 → FitsHead (heading_of p)
 FitsHead-packet (Request r) s w =
-    record { operation = omega (arith, number_of_below (code_in (Request r))); class = omega arith; destination = s.destination; source = s.source; tag = s.tag; place = w }
+    record { operation = omega (arith, code_number_below (code_in (Request r))); class = omega arith; destination = s.destination; source = s.source; tag = s.tag; place = w }
 FitsHead-packet (Response r) s w =
-    record { operation = omega (arith, number_of_below r.code); class = omega arith; destination = s.destination; source = s.source; tag = s.tag; place = w }
+    record { operation = omega (arith, code_number_below r.code); class = omega arith; destination = s.destination; source = s.source; tag = s.tag; place = w }
 
 -- the two flits of a value
 high-written : (v : ℕ) → v < 2 ^ 64 → IsPayloadFlit 0 (v / 2 ^ 32) (2 ^ 61 + v / 2 ^ 32)
@@ -71,8 +72,9 @@ SpellsWith-written told (v ∷ w ∷ []) fits all few =
     (IsHeadFlit-written told _ 0 fits (omega arith) (omega arith), high-written v small, low-written v 0 _ (omega arith) (omega arith), high-written w small', low-written w 1 _ (omega arith) (omega arith))
 SpellsWith-written told (v ∷ w ∷ x ∷ xs) fits all few = absurd (omega arith)
 
-pub Spells-spelling_of : (p : Packet) → IsSpellable p → IsOfWords p → Spells p (spelling_of p)
-Spells-spelling_of p s w =
+pub Spells-flits_of : (p : Packet) → IsSpellable p → IsOfWords p → Spells p (flits_of p)
+unfolding flits_of
+Spells-flits_of p s w =
     record { sound = s.sound; bits = SpellsWith-written (heading_of p) (values_of p) (FitsHead-packet p s w.place) w.values (few_values p) }
 
 -- what spells a heading and its values is what is written for them
@@ -97,7 +99,8 @@ written_only told (v ∷ w ∷ []) (h ∷ a ∷ b ∷ c ∷ d ∷ []) s =
 written_only told vs xs s = absurd s
 
 -- the flits that spell a packet are those written for it
-pub spelling_only : (p : Packet) (xs : List ℕ) → Spells p xs → xs ≡ spelling_of p
+pub spelling_only : (p : Packet) (xs : List ℕ) → Spells p xs → xs ≡ flits_of p
+unfolding flits_of
 spelling_only p xs s = written_only (heading_of p) (values_of p) xs s.bits
 
 pub one_spelling : (p : Packet) (xs ys : List ℕ) → Spells p xs → Spells p ys → xs ≡ ys

@@ -10,20 +10,20 @@ use Rattle.packet.specs.declared.kinds.Packet.{Packet}
 use Rattle.packet.specs.declared.kinds.Packet.TheVariants.{Request, Response}
 use Rattle.packet.specs.Kinds.{code_of, IsReplyOf}
 use Rattle.packet.specs.Flit.{field, Heading, IsHeadFlit}
-use Rattle.packet.specs.Spelling.{number_of, values_of_op, values_of_reply, heading_of, SpellsWith, Spells}
+use Rattle.packet.specs.Spelling.{code_number, values_of_op, values_of_reply, heading_of, SpellsWith, Spells}
 use Rattle.packet.specs.Reading.{heading_told, code_numbered, op_with, reply_with, packet_with, value_at, packet_told}
 
-pub code_numbered-number_of : (c : Code) → code_numbered (number_of c) ≡ c
-code_numbered-number_of code.Load = refl
-code_numbered-number_of code.Store = refl
-code_numbered-number_of code.Swap = refl
-code_numbered-number_of code.Cas = refl
-code_numbered-number_of code.Add = refl
-code_numbered-number_of code.And = refl
-code_numbered-number_of code.Or = refl
-code_numbered-number_of code.Xor = refl
-code_numbered-number_of code.Max = refl
-code_numbered-number_of code.Min = refl
+pub code_numbered-code_number : (c : Code) → code_numbered (code_number c) ≡ c
+code_numbered-code_number code.Load = refl
+code_numbered-code_number code.Store = refl
+code_numbered-code_number code.Swap = refl
+code_numbered-code_number code.Cas = refl
+code_numbered-code_number code.Add = refl
+code_numbered-code_number code.And = refl
+code_numbered-code_number code.Or = refl
+code_numbered-code_number code.Xor = refl
+code_numbered-code_number code.Max = refl
+code_numbered-code_number code.Min = refl
 
 same_heading : (a b : Heading) → a.operation ≡ b.operation → a.class ≡ b.class → a.destination ≡ b.destination → a.source ≡ b.source → a.tag ≡ b.tag → a.place ≡ b.place → a ≡ b
 same_heading a b o c d s t p =
@@ -98,14 +98,14 @@ packet_told-spelled (Request r) xs s =
     let w = value_at xs 3 in
     let request : Op → Packet = λ (o : Op). Request (record r { op = o }) in
     ap (λ k. packet_with k v w) (heading_spelled told (values_of_op r.op) xs s.bits)
-    ∙ ap (λ c. request (op_with c v w)) (code_numbered-number_of (code_of r.op))
+    ∙ ap (λ c. request (op_with c v w)) (code_numbered-code_number (code_of r.op))
     ∙ ap request (op_told told r.op xs s.bits)
 packet_told-spelled (Response r) xs s =
     let told = heading_of (Response r) in
     let v = value_at xs 1 in
     let w = value_at xs 3 in
     ap (λ k. packet_with k v w) (heading_spelled told (values_of_reply r.reply) xs s.bits)
-    ∙ ap (λ c. Response (record r { code = c; reply = reply_with c v })) (code_numbered-number_of r.code)
+    ∙ ap (λ c. Response (record r { code = c; reply = reply_with c v })) (code_numbered-code_number r.code)
     ∙ ap (λ a. Response (record r { reply = a })) (reply_told told r.code r.reply xs s.sound s.bits)
 
 -- a list of flits spells at most one packet

@@ -3,11 +3,13 @@ use Rattle.std.specs.Prelude.{◌≡◌, ℕ, ◌+◌, ◌*◌, ◌/◌, ◌%◌
 use Rattle.torus.specs.declared.shape.Class.{Class}
 use Rattle.torus.specs.declared.shape.Class.TheVariants.{Request, Reply}
 
--- the number that so many bits of a flit make, of which `low` is the lowest (Dally and Towles, Principles and Practices of Interconnection Networks, chapter 12: the fields of a flit)
+-- the number that so many bits of a flit make, of which `low` is the lowest (Dally and Towles, Principles
+-- and Practices of Interconnection Networks, chapter 12: the fields of a flit)
 unfoldable pub field : ℕ → ℕ → ℕ → ℕ
 field flit low width = flit / 2 ^ low % 2 ^ width
 
--- what a head flit tells: the number of an operation, a class, two tiles and a tag; and of a request the word, of a reply the place (this project's own format)
+-- what a head flit tells: the number of an operation, a class, two tiles and a tag; and of a request the
+-- word, of a reply the place (this project's own format)
 pub record Heading : Type 0 where
   pub operation : ℕ
   pub class : ℕ

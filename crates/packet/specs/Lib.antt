@@ -1,5 +1,6 @@
 pub mod Answer
 pub mod Flit
+pub mod Flits
 pub mod Kinds
 pub mod Memory
 pub mod Reading

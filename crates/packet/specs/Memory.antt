@@ -6,7 +6,8 @@ use Rattle.packet.specs.declared.kinds.Reply.{Reply}
 use Rattle.packet.specs.declared.kinds.Reply.TheVariants.{Old, Ok as Stored}
 use Rattle.packet.specs.declared.kinds.Operation.{Operation}
 
--- the word that an operation leaves where it found w, modulo 2^64 (Herlihy and Wing, TOPLAS 12(3), 1990: the sequential specification of an object)
+-- the word that an operation leaves where it found w, modulo 2^64 (Herlihy and Wing, TOPLAS 12(3), 1990:
+-- the sequential specification of an object)
 abbrev pub new_word : Op → ℕ → ℕ
 new_word Load w = w
 new_word (Store v) w = v

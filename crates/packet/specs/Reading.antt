@@ -15,7 +15,14 @@ use Rattle.packet.specs.Refusal.{flits_told}
 -- what a head flit tells (this project's own format)
 abbrev pub heading_told : ℕ → Heading
 heading_told h =
-    record { operation = operation_told h; class = field h 57 1; destination = field h 51 6; source = field h 45 6; tag = field h 41 4; place = field h 0 32 }
+    record {
+      operation = operation_told h;
+      class = field h 57 1;
+      destination = field h 51 6;
+      source = field h 45 6;
+      tag = field h 41 4;
+      place = field h 0 32;
+    }
 
 -- the operation of a number from 0 to 9 (this project's own format)
 abbrev pub code_numbered : ℕ → Code
@@ -53,8 +60,21 @@ reply_with _ v = Old v
 abbrev pub packet_with : Heading → ℕ → ℕ → Packet
 packet_with told v w =
     if told.class == 0
-    then Request (record { destination = told.destination; source = told.source; tag = record { 0 = told.tag }; word = told.place; op = op_with (code_numbered told.operation) v w })
-    else Response (record { destination = told.destination; source = told.source; tag = record { 0 = told.tag }; place = told.place; code = code_numbered told.operation; reply = reply_with (code_numbered told.operation) v })
+    then Request (record {
+      destination = told.destination;
+      source = told.source;
+      tag = record { 0 = told.tag };
+      word = told.place;
+      op = op_with (code_numbered told.operation) v w;
+    })
+    else Response (record {
+      destination = told.destination;
+      source = told.source;
+      tag = record { 0 = told.tag };
+      place = told.place;
+      code = code_numbered told.operation;
+      reply = reply_with (code_numbered told.operation) v;
+    })
 
 -- the half of a value in flit `at` (this project's own format)
 abbrev pub half_at : List ℕ → ℕ → ℕ
@@ -84,4 +104,5 @@ IsAcceptedPayload tail flit = IsPayloadFlit tail (field flit 0 32) flit
 -- some flits of a packet from the first on, and not all of it (this project's own format)
 abbrev pub IsBegun : List ℕ → Type 0
 IsBegun [] = Unit {0}
-IsBegun (head ∷ rest) = IsAcceptedHead 0 head × AllByRecursion (IsAcceptedPayload 0) rest × (length rest + 1 < flits_told head)
+IsBegun (head ∷ rest) =
+    IsAcceptedHead 0 head × AllByRecursion (IsAcceptedPayload 0) rest × (length rest + 1 < flits_told head)

@@ -14,17 +14,17 @@ use Rattle.packet.specs.Kinds.{code_of, IsReplyOf}
 use Rattle.packet.specs.Flit.{field, Heading, IsHeadFlit, IsPayloadFlit, class_number, class_numbered}
 
 -- the number of an operation in a head flit (this project's own format)
-abbrev pub number_of : Code → ℕ
-number_of code.Load = 0
-number_of code.Store = 1
-number_of code.Swap = 2
-number_of code.Cas = 3
-number_of code.Add = 4
-number_of code.And = 5
-number_of code.Or = 6
-number_of code.Xor = 7
-number_of code.Max = 8
-number_of code.Min = 9
+abbrev pub code_number : Code → ℕ
+code_number code.Load = 0
+code_number code.Store = 1
+code_number code.Swap = 2
+code_number code.Cas = 3
+code_number code.Add = 4
+code_number code.And = 5
+code_number code.Or = 6
+code_number code.Xor = 7
+code_number code.Max = 8
+code_number code.Min = 9
 
 -- the values that an operation brings (this project's own format)
 abbrev pub values_of_op : Op → List ℕ
@@ -82,20 +82,29 @@ place_of (Response r) = r.place
 -- what the head flit of a packet tells (this project's own format)
 abbrev pub heading_of : Packet → Heading
 heading_of p =
-    record { operation = number_of (code_in p); class = class_number (class_of p); destination = destination_of p; source = source_of p; tag = tag_of p; place = place_of p }
+    record {
+      operation = code_number (code_in p);
+      class = class_number (class_of p);
+      destination = destination_of p;
+      source = source_of p;
+      tag = tag_of p;
+      place = place_of p;
+    }
 
 -- a reply packet brings `ok` exactly if it replies to a store (this project's own format)
 abbrev pub IsSound : Packet → Type 0
 IsSound (Request r) = Unit {0}
 IsSound (Response r) = IsReplyOf r.code r.reply
 
--- flits for a heading and its values: a head alone, or a head and two flits for each value, the high half first; only the last has the tail bit (this project's own format)
+-- flits for a heading and its values: a head alone, or a head and two flits for each value, the high half
+-- first; only the last has the tail bit (this project's own format)
 abbrev pub SpellsWith : Heading → List ℕ → List ℕ → Type 0
 SpellsWith told [] (h ∷ []) = IsHeadFlit 1 told h
 SpellsWith told (v ∷ []) (h ∷ a ∷ b ∷ []) =
     IsHeadFlit 0 told h × IsPayloadFlit 0 (v / 2 ^ 32) a × IsPayloadFlit 1 (v % 2 ^ 32) b
 SpellsWith told (v ∷ w ∷ []) (h ∷ a ∷ b ∷ c ∷ d ∷ []) =
-    IsHeadFlit 0 told h × IsPayloadFlit 0 (v / 2 ^ 32) a × IsPayloadFlit 0 (v % 2 ^ 32) b × IsPayloadFlit 0 (w / 2 ^ 32) c × IsPayloadFlit 1 (w % 2 ^ 32) d
+    IsHeadFlit 0 told h × IsPayloadFlit 0 (v / 2 ^ 32) a × IsPayloadFlit 0 (v % 2 ^ 32) b
+    × IsPayloadFlit 0 (w / 2 ^ 32) c × IsPayloadFlit 1 (w % 2 ^ 32) d
 SpellsWith told _ _ = ⊥
 
 -- the flits spell the packet (this project's own format)
@@ -117,7 +126,8 @@ pub record IsSpellable (p : Packet) : Type 0 where
   pub tag : tag_of p < 16
   pub sound : IsSound p
 
--- a head flit tells where the packet goes, and its class (Dally and Towles, chapter 12: the head flit carries the route information)
+-- a head flit tells where the packet goes, and its class (Dally and Towles, chapter 12: the head flit
+-- carries the route information)
 pub record TellsPacket (p : Packet) (head : ℕ) : Type 0 where
   pub head_bit : field head 63 1 ≡ 1
   pub flit_bit : field head 61 1 ≡ 1
@@ -129,7 +139,8 @@ abbrev pub tail_bit_before : List ℕ → ℕ
 tail_bit_before [] = 1
 tail_bit_before (flit ∷ flits) = 0
 
--- what follows a head flit: no flit has the head bit, and the last alone has the tail bit (Dally and Towles, chapter 12: body and tail flits)
+-- what follows a head flit: no flit has the head bit, and the last alone has the tail bit (Dally and
+-- Towles, chapter 12: body and tail flits)
 abbrev pub IsTailShaped : List ℕ → Type 0
 IsTailShaped [] = Unit {0}
 IsTailShaped (flit ∷ flits) =

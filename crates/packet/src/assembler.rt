@@ -5,6 +5,7 @@ ghost use Rattle.packet.specs.Flit.{operation_told};
 ghost use Rattle.packet.specs.Spelling.{Spells, ProperlyBegins};
 ghost use Rattle.packet.specs.Refusal.{flits_told, tail_wanted, refusal_at_start, refusal_inside, refusal};
 ghost use Rattle.packet.specs.Answer.{flits_left};
+ghost use Rattle.packet.specs.Flits.{offered};
 ghost use Rattle.packet.specs.declared.kinds.Packet.{Packet};
 ghost use Rattle.packet.specs.declared.assembler.Kind.{Kind};
 ghost use Rattle.packet.specs.declared.assembler.Offered.TheVariants.{More, Whole, Refused};
@@ -80,6 +81,7 @@ impl Assembler {
         ensures whole { (p : Packet) → (result ≡ Whole p) ↔ Spells p (self.old ++ flit ∷ []) }
         ensures more { (result ≡ More) ↔ ProperlyBegins (self.old ++ flit ∷ []) }
         ensures refused { (k : Kind) → (result ≡ Refused k) ↔ (refusal self.old flit ≡ Some k) }
+        ensures answer { result ≡ offered self.old flit }
         ensures left { self.new ≡ flits_left result self.old flit }
     {
         if let Some(kind) = refusal(&self.flits, flit) {

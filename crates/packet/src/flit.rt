@@ -1,7 +1,8 @@
 //! Flits: words of 64 bits that go over the wires.
 
-ghost use Rattle.std.specs.Prelude.{◌≡◌, ◌<◌, ◌^◌, ◌↔◌, SomeIff, IsTrue};
-ghost use Rattle.packet.specs.Flit.{field, class_numbered, operation_told};
+ghost use Rattle.std.specs.Prelude.{◌≡◌, ◌<◌, ◌^◌, ◌↔◌, IsTrue};
+ghost use Rattle.packet.specs.Flit.{field, operation_told};
+ghost use Rattle.packet.specs.Flits.{head_of, is_tail};
 
 use crate::heading::Head;
 use torus::Class;
@@ -35,7 +36,7 @@ pub(crate) fn operation_told(flit: u64) -> u64
 
 /// What a head flit tells a router: `None` exactly if the word is no head flit.
 pub fn head(flit: u64) -> Option<Head>
-    ensures { SomeIff result ((field flit 63 1 ≡ 1) × (field flit 61 1 ≡ 1)) (record { destination = field flit 51 6; class = class_numbered (field flit 57 1) }) }
+    ensures { result ≡ head_of flit }
 {
     if field(flit, 63, 1) == 0 || field(flit, 61, 1) == 0 {
         return None;
@@ -53,7 +54,8 @@ pub fn head(flit: u64) -> Option<Head>
 
 /// Whether a flit is the last of its packet.
 pub fn is_tail(flit: u64) -> bool
-    ensures { IsTrue result ↔ (field flit 62 1 ≡ 1) }
+    ensures value { result ≡ is_tail flit }
+    ensures bit { IsTrue result ↔ (field flit 62 1 ≡ 1) }
 {
     field(flit, 62, 1) == 1
 }

@@ -3,14 +3,16 @@
 ghost use Rattle.std.specs.Prelude.{◌≡◌, ◌↔◌, ℕ, ◌+◌, ◌*◌, ◌^◌, ◌<◌, ◌≤◌, List, [], ◌∷◌, ◌++◌, length, All};
 ghost use Rattle.packet.specs.Flit.{field};
 ghost use Rattle.packet.specs.Spelling.{Spells, IsSpellable, IsTailShaped, TellsPacket, class_of, values_of};
-ghost use Rattle.packet.specs.Written.{spelling_of, IsOfWords};
+ghost use Rattle.packet.specs.Flits.{flits_of};
+ghost use Rattle.packet.specs.Written.{IsOfWords};
 ghost use Rattle.packet.specs.declared.kinds.Packet.{Packet};
 ghost use Rattle.torus.specs.declared.shape.Class.TheVariants.{Reply};
 
 /// A packet that can be spelled is spelled by one list, a packet that is spelled can be, and a list
 /// spells at most one packet.
 pub fn one_spelling_each()
-    ensures one_list { (p : Packet) (flits : List ℕ) → IsSpellable p → IsOfWords p → Spells p flits ↔ (flits ≡ spelling_of p) }
+    ensures one_list { (p : Packet) (flits : List ℕ) → IsSpellable p → IsOfWords p
+        → Spells p flits ↔ (flits ≡ flits_of p) }
     ensures spellable { (p : Packet) (flits : List ℕ) → Spells p flits → IsSpellable p }
     ensures of_words { (p : Packet) (flits : List ℕ) → Spells p flits → IsOfWords p }
     ensures one_packet { (p q : Packet) (flits : List ℕ) → Spells p flits → Spells q flits → p ≡ q }
@@ -26,7 +28,8 @@ pub fn no_spelling_begins_another()
 /// bit.
 pub fn head_and_tail()
     ensures head { (p : Packet) (head : ℕ) (rest : List ℕ) → Spells p (head ∷ rest) → TellsPacket p head }
-    ensures alone { (p : Packet) (head : ℕ) (rest : List ℕ) → Spells p (head ∷ rest) → (field head 62 1 ≡ 1) ↔ (rest ≡ []) }
+    ensures alone { (p : Packet) (head : ℕ) (rest : List ℕ) → Spells p (head ∷ rest)
+        → (field head 62 1 ≡ 1) ↔ (rest ≡ []) }
     ensures rest { (p : Packet) (head : ℕ) (rest : List ℕ) → Spells p (head ∷ rest) → IsTailShaped rest }
 {}
 

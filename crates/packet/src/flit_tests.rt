@@ -1,7 +1,9 @@
-ghost use Rattle.std.specs.Prelude.{◌≡◌};
-ghost use Rattle.packet.specs.declared.kinds.Packet.TheVariants.{Request as Asked};
+ghost use Rattle.std.specs.Prelude.{◌<◌};
+ghost use Rattle.packet.specs.Kinds.{IsReplyOf};
+ghost use Rattle.packet.specs.Spelling.{IsSpellable};
 
 use super::*;
+use std::process::Abort;
 use torus::{Class, Tag};
 
 const LOAD: u64 = 0xE018_0000_0000_0000;
@@ -29,59 +31,69 @@ fn assembled(flits: &[u64]) -> Option<Packet> {
     whole
 }
 
-/// A request to tile 1 from tile 0 with tag 0 for word 0.
-fn request_to_1(op: Op) -> Packet
-    ensures { result ≡ Asked (record { destination = 1; source = 0; tag = record { 0 = 0 }; word = 0; op = op }) }
+/// A request packet.
+fn request(destination: u32, source: u32, tag: u32, word: u32, op: Op) -> Packet
+    requires destination { destination < 64 }
+    requires source { source < 64 }
+    requires tag { tag < 16 }
+    ensures { IsSpellable result }
 {
     Packet::Request(Request {
-        destination: 1,
-        source: 0,
-        tag: Tag(0),
-        word: 0,
+        destination,
+        source,
+        tag: Tag(tag),
+        word,
         op,
     })
 }
 
-#[test]
-fn load_request(rt: HostRuntime) {
-    let packet = Packet::Request(Request {
-        destination: 3,
-        source: 0,
-        tag: Tag(0),
-        word: 0,
-        op: Op::Load,
-    });
-    assert_eq!(rt; flits(&packet).as_slice(), [LOAD].as_slice());
-    assert_eq!(rt; assembled(&[LOAD]), Some(packet));
+/// A reply packet.
+fn response(destination: u32, source: u32, tag: u32, place: u32, code: Code, reply: Reply) -> Packet
+    requires destination { destination < 64 }
+    requires source { source < 64 }
+    requires tag { tag < 16 }
+    requires reply { IsReplyOf code reply }
+    ensures { IsSpellable result }
+{
+    Packet::Response(Response {
+        destination,
+        source,
+        tag: Tag(tag),
+        place,
+        code,
+        reply,
+    })
+}
+
+/// Compares the flits of a packet, and the packet that they make again.
+fn compare<R: Abort>(rt: &R, packet: Packet, told: &[u64])
+    requires { IsSpellable packet }
+{
+    assert_eq!(rt;
+        (flits(&packet).as_slice(), assembled(told)),
+        (told, Some(packet))
+    );
+}
+
+/// Offers flits to a new assembler, one after the other, and compares what it answers.
+fn offer_each<R: Abort>(rt: &R, offers: &[(u64, Offered)]) {
+    let mut assembler = Assembler::new();
+    for &(flit, answer) in offers {
+        assert_eq!(rt; assembler.offer(flit), answer, "flit {flit}");
+    }
 }
 
 #[test]
-fn store_request_and_its_reply(rt: HostRuntime) {
-    let packet = request_to_1(Op::Store(7));
-    assert_eq!(rt; flits(&packet).as_slice(), STORE.as_slice());
-    assert_eq!(rt; assembled(&STORE), Some(packet));
-    let reply = Packet::Response(Response {
-        destination: 0,
-        source: 1,
-        tag: Tag(0),
-        place: 0,
-        code: Code::Store,
-        reply: Reply::Ok,
-    });
-    let told = [0xE600_2000_0000_0000];
-    assert_eq!(rt; flits(&reply).as_slice(), told.as_slice());
-    assert_eq!(rt; assembled(&told), Some(reply));
-}
-
-#[test]
-fn cas_request(rt: HostRuntime) {
-    let packet = Packet::Request(Request {
-        destination: 5,
-        source: 2,
-        tag: Tag(3),
-        word: 9,
-        op: Op::Cas(0x1122_3344_5566_7788, 0xFFFF_FFFF_FFFF_FFFF),
-    });
+fn requests_and_their_flits(rt: HostRuntime) {
+    compare(&rt, request(3, 0, 0, 0, Op::Load), &[LOAD]);
+    compare(&rt, request(1, 0, 0, 0, Op::Store(7)), &STORE);
+    let cas = request(
+        5,
+        2,
+        3,
+        9,
+        Op::Cas(0x1122_3344_5566_7788, 0xFFFF_FFFF_FFFF_FFFF),
+    );
     let told = [
         0xAC28_4600_0000_0009,
         0x2000_0000_1122_3344,
@@ -89,100 +101,65 @@ fn cas_request(rt: HostRuntime) {
         0x2000_0000_FFFF_FFFF,
         0x6000_0000_FFFF_FFFF,
     ];
-    assert_eq!(rt; flits(&packet).as_slice(), told.as_slice());
-    assert_eq!(rt; assembled(&told), Some(packet));
+    compare(&rt, cas, &told);
+    for &(op, head) in &[
+        (Op::And(7), 0xB408_0000_0000_0000),
+        (Op::Max(7), 0xA008_0100_0000_0000),
+        (Op::Min(7), 0xA408_0100_0000_0000),
+    ] {
+        compare(&rt, request(1, 0, 0, 0, op), &[head, STORE[1], STORE[2]]);
+    }
 }
 
 #[test]
-fn add_reply(rt: HostRuntime) {
-    let packet = Packet::Response(Response {
-        destination: 2,
-        source: 5,
-        tag: Tag(3),
-        place: 65535,
-        code: Code::Add,
-        reply: Reply::Old(17),
-    });
+fn replies_and_their_flits(rt: HostRuntime) {
+    let stored = response(0, 1, 0, 0, Code::Store, Reply::Ok);
+    compare(&rt, stored, &[0xE600_2000_0000_0000]);
+    let added = response(2, 5, 3, 65535, Code::Add, Reply::Old(17));
     let told = [
         0xB210_A600_0000_FFFF,
         0x2000_0000_0000_0000,
         0x6000_0000_0000_0011,
     ];
-    assert_eq!(rt; flits(&packet).as_slice(), told.as_slice());
-    assert_eq!(rt; assembled(&told), Some(packet));
-}
-
-#[test]
-fn and_max_and_min_requests(rt: HostRuntime) {
-    for (op, head) in [
-        (Op::And(7), 0xB408_0000_0000_0000),
-        (Op::Max(7), 0xA008_0100_0000_0000),
-        (Op::Min(7), 0xA408_0100_0000_0000),
-    ] {
-        let packet = request_to_1(op);
-        let told = [head, 0x2000_0000_0000_0000, 0x6000_0000_0000_0007];
-        assert_eq!(rt; flits(&packet).as_slice(), told.as_slice());
-        assert_eq!(rt; assembled(&told), Some(packet));
-    }
-}
-
-#[test]
-fn max_reply(rt: HostRuntime) {
-    let packet = Packet::Response(Response {
-        destination: 0,
-        source: 1,
-        tag: Tag(0),
-        place: 0,
-        code: Code::Max,
-        reply: Reply::Old(17),
-    });
+    compare(&rt, added, &told);
+    let greatest = response(0, 1, 0, 0, Code::Max, Reply::Old(17));
     let told = [
         0xA200_2100_0000_0000,
         0x2000_0000_0000_0000,
         0x6000_0000_0000_0011,
     ];
-    assert_eq!(rt; flits(&packet).as_slice(), told.as_slice());
-    assert_eq!(rt; assembled(&told), Some(packet));
+    compare(&rt, greatest, &told);
 }
 
 #[test]
 fn a_packet_follows_a_refusal(rt: HostRuntime) {
-    let mut assembler = Assembler::new();
-    assert_eq!(rt;
-        assembler.offer(0x6000_0000_0000_0007),
-        Offered::Refused(Kind::NotBegun)
-    );
-    assert_eq!(rt;
-        Some(assembler.offer(LOAD)),
-        assembled(&[LOAD]).map(Offered::Whole)
-    );
+    let load = request(3, 0, 0, 0, Op::Load);
+    let offers = [
+        (0x6000_0000_0000_0007, Offered::Refused(Kind::NotBegun)),
+        (LOAD, Offered::Whole(load)),
+    ];
+    offer_each(&rt, &offers);
 }
 
 #[test]
 fn refusals_inside_a_packet(rt: HostRuntime) {
-    let mut assembler = Assembler::new();
     let [head, high, low] = STORE;
-    assert_eq!(rt; assembler.offer(head), Offered::More);
-    assert_eq!(rt; assembler.offer(0), Offered::Refused(Kind::NoFlit));
-    assert_eq!(rt; assembler.offer(LOAD), Offered::Refused(Kind::Inside));
-    assert_eq!(rt;
-        assembler.offer(0x2000_0001_0000_0000),
-        Offered::Refused(Kind::Zeros)
-    );
-    assert_eq!(rt;
-        assembler.offer(0x6000_0000_0000_0000),
-        Offered::Refused(Kind::Tail)
-    );
-    assert_eq!(rt; assembler.offer(high), Offered::More);
-    assert_eq!(rt;
-        assembler.offer(low),
-        Offered::Whole(request_to_1(Op::Store(7)))
-    );
+    let store = request(1, 0, 0, 0, Op::Store(7));
+    let offers = [
+        (head, Offered::More),
+        (0, Offered::Refused(Kind::NoFlit)),
+        (LOAD, Offered::Refused(Kind::Inside)),
+        (0x2000_0001_0000_0000, Offered::Refused(Kind::Zeros)),
+        (0x6000_0000_0000_0000, Offered::Refused(Kind::Tail)),
+        (high, Offered::More),
+        (low, Offered::Whole(store)),
+    ];
+    offer_each(&rt, &offers);
 }
 
 #[test]
 fn refusals_at_the_start(rt: HostRuntime) {
-    for (flit, kind) in [
+    for &(flit, kind) in &[
         (0, Kind::NoFlit),
         (0xF418_0000_0000_0000, Kind::Tail),
         (0xE018_0100_0000_0000, Kind::Tail),
@@ -190,7 +167,7 @@ fn refusals_at_the_start(rt: HostRuntime) {
         (0xA808_0100_0000_0000, Kind::Operation),
         (0xE018_0080_0000_0000, Kind::Zeros),
     ] {
-        assert_eq!(rt; Assembler::new().offer(flit), Offered::Refused(kind));
+        offer_each(&rt, &[(flit, Offered::Refused(kind))]);
     }
 }
 
@@ -200,15 +177,16 @@ fn heads_and_tails(rt: HostRuntime) {
         destination: 3,
         class: Class::Request,
     };
-    assert_eq!(rt; head(LOAD), Some(load));
-    assert!(rt; is_tail(LOAD));
-    let add_reply = Head {
+    let added = Head {
         destination: 2,
         class: Class::Reply,
     };
-    assert_eq!(rt; head(0xB210_A600_0000_FFFF), Some(add_reply));
-    assert!(rt; !is_tail(0xB210_A600_0000_FFFF));
-    assert_eq!(rt; head(0x6000_0000_0000_0007), None);
-    assert!(rt; is_tail(0x6000_0000_0000_0007));
-    assert_eq!(rt; head(0x8000_0000_0000_0000), None);
+    for &(flit, told, last) in &[
+        (LOAD, Some(load), true),
+        (0xB210_A600_0000_FFFF, Some(added), false),
+        (0x6000_0000_0000_0007, None, true),
+        (0x8000_0000_0000_0000, None, false),
+    ] {
+        assert_eq!(rt; (head(flit), is_tail(flit)), (told, last), "flit {flit}");
+    }
 }

@@ -98,7 +98,7 @@ pub struct Response {
     /// The tile of the bank.
     pub source: u32,
     pub tag: Tag,
-    /// The number of the service in the bank's history, from 0.
+    /// The number of the entry in the bank's service list, from 0.
     pub place: u32,
     pub code: Code,
     /// `Ok` exactly with the code of store.

@@ -1,7 +1,8 @@
 //! Laws of the one sequential memory, each the contract of a function that does nothing.
 
-ghost use Rattle.std.specs.Prelude.{◌≡◌, ◌≢◌, ℕ, List, ◌++◌, length, slice_index};
-ghost use Rattle.packet.specs.Memory.{memory_after_one, memory_after, replies};
+ghost use Rattle.std.specs.Prelude.{◌≡◌, ◌≢◌, ◌<◌, ◌^◌, ℕ, List, ◌++◌, length, slice_index, All};
+ghost use Rattle.packet.specs.Memory.{new_word, reply_to, memory_after_one, memory_after, replies};
+ghost use Rattle.packet.specs.Spelling.{values_of_op, values_of_reply};
 ghost use Rattle.packet.specs.declared.kinds.Op.{Op};
 ghost use Rattle.packet.specs.declared.kinds.Op.TheVariants.{Load};
 ghost use Rattle.packet.specs.declared.kinds.Operation.{Operation};
@@ -9,13 +10,16 @@ ghost use Rattle.packet.specs.declared.kinds.Operation.{Operation};
 /// Two lists of operations, one after the other, have the replies of the first and then those of
 /// the second on the memory that the first leaves, and leave what the second leaves there.
 pub fn folds_append()
-    ensures memory { (xs ys : List Operation) (m : List ℕ) → memory_after (xs ++ ys) m ≡ memory_after ys (memory_after xs m) }
-    ensures replies { (xs ys : List Operation) (m : List ℕ) → replies (xs ++ ys) m ≡ replies xs m ++ replies ys (memory_after xs m) }
+    ensures memory { (xs ys : List Operation) (m : List ℕ)
+        → memory_after (xs ++ ys) m ≡ memory_after ys (memory_after xs m) }
+    ensures replies { (xs ys : List Operation) (m : List ℕ)
+        → replies (xs ++ ys) m ≡ replies xs m ++ replies ys (memory_after xs m) }
 {}
 
 /// An operation leaves every word but the one at its address.
 pub fn other_words_stay()
-    ensures { (o : Operation) (m : List ℕ) (a : ℕ) → a ≢ o.address → slice_index (memory_after_one o m) a ≡ slice_index m a }
+    ensures { (o : Operation) (m : List ℕ) (a : ℕ) → a ≢ o.address
+        → slice_index (memory_after_one o m) a ≡ slice_index m a }
 {}
 
 /// A load changes nothing.
@@ -27,4 +31,10 @@ pub fn load_changes_nothing()
 pub fn lengths_stay()
     ensures words { (os : List Operation) (m : List ℕ) → length (memory_after os m) ≡ length m }
     ensures replies { (os : List Operation) (m : List ℕ) → length (replies os m) ≡ length os }
+{}
+
+/// An operation of 64-bit values leaves a 64-bit word, and replies one.
+pub fn operations_leave_words()
+    ensures word { (op : Op) (w : ℕ) → w < 2 ^ 64 → All (λ v. v < 2 ^ 64) (values_of_op op) → new_word op w < 2 ^ 64 }
+    ensures reply { (op : Op) (w : ℕ) → w < 2 ^ 64 → All (λ v. v < 2 ^ 64) (values_of_reply (reply_to op w)) }
 {}

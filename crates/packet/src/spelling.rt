@@ -3,8 +3,9 @@
 ghost use Rattle.std.specs.Prelude.{◌≡◌, ℕ, ◌<◌, ◌≤◌, ◌+◌, ◌^◌, ◌++◌, List, length, All};
 ghost use Rattle.arrayvec.specs.ArrayVec.{array_vec_len};
 ghost use Rattle.packet.specs.Flit.{class_number};
-ghost use Rattle.packet.specs.Spelling.{Spells, IsSpellable, number_of, values_of, heading_of, place_of};
-ghost use Rattle.packet.specs.Written.{head_flit, value_flits, flits_for, spelling_of};
+ghost use Rattle.packet.specs.Spelling.{Spells, IsSpellable, code_number, values_of, heading_of, place_of};
+ghost use Rattle.packet.specs.Flits.{flits_of};
+ghost use Rattle.packet.specs.Written.{head_flit, value_flits, flits_for};
 
 use crate::flit::{FLIT, HEAD, TAIL};
 use crate::{Code, Op, Packet, Reply};
@@ -18,9 +19,9 @@ pub fn flits(packet: &Packet) -> ArrayVec<u64, 5>
     requires { IsSpellable packet.now }
     ensures spells { Spells packet.now result.items }
     ensures alone { (other : List ℕ) → Spells packet.now other → other ≡ result.items }
-    ensures list { result.items ≡ spelling_of packet.now }
+    ensures list { result.items ≡ flits_of packet.now }
 {
-    flits_for(head_of(packet), &values_of(packet))
+    flits_for(head_flit_of(packet), &values_of(packet))
 }
 
 /// A head flit, and the flits of at most two values.
@@ -77,7 +78,7 @@ fn values_of(packet: &Packet) -> ArrayVec<u64, 2>
 }
 
 /// The head flit of a packet, without the tail bit.
-fn head_of(packet: &Packet) -> u64
+fn head_flit_of(packet: &Packet) -> u64
     requires { IsSpellable packet.now }
     ensures bits { result ≡ head_flit (heading_of packet.now) }
     ensures below { result < 2 ^ 63 + 2 ^ 62 }
@@ -108,11 +109,18 @@ fn head_flit(class: Class, code: Code, destination: u32, source: u32, tag: Tag, 
     requires destination { destination < 64 }
     requires source { source < 64 }
     requires tag { tag.0 < 16 }
-    ensures bits { result ≡ head_flit (record { operation = number_of code; class = class_number class; destination = destination; source = source; tag = tag.0; place = place }) }
+    ensures bits { result ≡ head_flit (record {
+      operation = code_number code;
+      class = class_number class;
+      destination = destination;
+      source = source;
+      tag = tag.0;
+      place = place;
+    }) }
     ensures below { result < 2 ^ 63 + 2 ^ 62 }
     ensures place { place < 2 ^ 32 }
 {
-    let operation = number_of(code);
+    let operation = code_number(code);
     HEAD + FLIT
         + (operation % 8 << 58)
         + (class_number(class) << 57)
@@ -124,8 +132,8 @@ fn head_flit(class: Class, code: Code, destination: u32, source: u32, tag: Tag, 
 }
 
 /// The number of an operation in a head flit.
-fn number_of(code: Code) -> u64
-    ensures value { result ≡ number_of code }
+fn code_number(code: Code) -> u64
+    ensures value { result ≡ code_number code }
     ensures below { result < 10 }
 {
     match code {

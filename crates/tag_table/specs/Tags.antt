@@ -3,7 +3,8 @@ use Rattle.std.specs.Prelude.{◌≡◌, ◌≢◌, ◌<◌, ◌≤◌, ◌+◌,
 use Rattle.torus.specs.declared.step.Tag.{Tag}
 use Rattle.torus.specs.declared.step.OpId.{OpId}
 
--- a table of tags is a list: for each tag, by its number, the operation that holds it, or None while it is free; this is the holder of tag t, None too where there is no such tag
+-- a table of tags is a list: for each tag, by its number, the operation that holds it, or None while it is
+-- free; this is the holder of tag t, None too where there is no such tag
 abbrev pub holder_of : List (Option OpId) → ℕ → Option OpId
 holder_of tags t = slice_index_or tags t None
 

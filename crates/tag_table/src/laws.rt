@@ -14,13 +14,17 @@ pub fn first_free_is_lowest()
 /// is given back.
 pub fn takes_and_gives_change_one_tag()
     ensures none_out { (n : ℕ) → out_count (replicate n None) ≡ 0 }
-    ensures taken { (tags : List (Option OpId)) (t : ℕ) (id : OpId) → free_tag tags ≡ Some t → IsTaken tags (slice_set tags t (Some id)) t id }
-    ensures given { (tags : List (Option OpId)) (t : ℕ) (id : OpId) → holder_of tags t ≡ Some id → IsGivenBack tags (slice_set tags t None) t id }
+    ensures taken { (tags : List (Option OpId)) (t : ℕ) (id : OpId) → free_tag tags ≡ Some t
+        → IsTaken tags (slice_set tags t (Some id)) t id }
+    ensures given { (tags : List (Option OpId)) (t : ℕ) (id : OpId) → holder_of tags t ≡ Some id
+        → IsGivenBack tags (slice_set tags t None) t id }
 {}
 
 /// Operations hold distinct tags, as long as no operation takes a tag while it holds one.
 pub fn operations_hold_distinct_tags()
     ensures free { (n : ℕ) → HoldDistinctTags (replicate n None) }
-    ensures taken { (tags : List (Option OpId)) (t : ℕ) (id : OpId) → HoldDistinctTags tags → HoldsNone tags id → HoldDistinctTags (slice_set tags t (Some id)) }
-    ensures given { (tags : List (Option OpId)) (t : ℕ) → HoldDistinctTags tags → HoldDistinctTags (slice_set tags t None) }
+    ensures taken { (tags : List (Option OpId)) (t : ℕ) (id : OpId) → HoldDistinctTags tags → HoldsNone tags id
+        → HoldDistinctTags (slice_set tags t (Some id)) }
+    ensures given { (tags : List (Option OpId)) (t : ℕ) → HoldDistinctTags tags
+        → HoldDistinctTags (slice_set tags t None) }
 {}

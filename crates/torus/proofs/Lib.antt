@@ -2,3 +2,4 @@ pub mod MixedRadix
 pub mod Kept
 pub mod Refusals
 pub mod Hops
+pub mod Neighbours

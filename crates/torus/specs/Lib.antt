@@ -2,4 +2,5 @@ pub mod Shape
 pub mod Refusal
 pub mod Digits
 pub mod Inside
+pub mod FaultCode
 pub mod Filled

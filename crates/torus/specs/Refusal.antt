@@ -17,7 +17,8 @@ is_dims n = nat_le 1 n && nat_le n 3
 abbrev pub are_below : List ℕ → List ℕ → Bool
 are_below datelines radices = list_all (λ p. nat_lt p.0 p.1) (zip datelines radices)
 
--- the torus of these radices and datelines, or the first fault: dimensions, radices, tiles, one dateline for each dimension, each below its radix
+-- the torus of these radices and datelines, or the first fault: dimensions, radices, tiles, one dateline
+-- for each dimension, each below its radix
 abbrev pub mixed_of : List ℕ → List ℕ → Result Shape Fault
 mixed_of radices datelines =
     if not (is_dims (length radices)) then Err Dimensions

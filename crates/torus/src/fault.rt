@@ -1,48 +1,75 @@
-use thiserror::Error;
+ghost use Rattle.std.specs.Prelude.{◌≡◌, ◌≤◌, length};
+ghost use Rattle.torus.specs.FaultCode.{fault_code};
+
+use std::error::Error;
+use std::fmt;
 
 /// Why a shape, a text or a call is refused. Prints as its code, `F1` to `F14`, and nothing else.
-#[derive(Clone, Copy, Debug, PartialEq, Eq, Error)]
+#[derive(Clone, Copy, Debug, PartialEq, Eq)]
 pub enum Fault {
     /// A radix is not 2 to 8.
-    #[error("F1")]
     Radix,
     /// The number of dimensions is not 1 to 3.
-    #[error("F2")]
     Dimensions,
     /// There are more than 64 tiles.
-    #[error("F3")]
     Tiles,
     /// A line is not understood.
-    #[error("F4")]
     Line,
     /// A setting is missing or given twice.
-    #[error("F5")]
     Setting,
     /// A number is out of its range.
-    #[error("F6")]
     Range,
     /// An address is not below the number of words.
-    #[error("F7")]
     Address,
     /// A processor is not below the number of tiles.
-    #[error("F8")]
     Processor,
     /// A script is too long, or all scripts together are.
-    #[error("F9")]
     Length,
     /// `last` stands in the first operation of a script.
-    #[error("F10")]
     Last,
     /// A step names no agent, no channel, or a choice that its agent does not have.
-    #[error("F11")]
     Step,
     /// A request for memory was refused.
-    #[error("F12")]
     Memory,
     /// A list has not one number for each dimension.
-    #[error("F13")]
     Count,
     /// A dateline is not below its radix.
-    #[error("F14")]
     Dateline,
 }
+
+impl Fault {
+    /// The code, `F1` to `F14`.
+    pub fn code(self) -> &'static str
+        ensures code { result.now ≡ fault_code self }
+        ensures short { length result.now ≤ 3 }
+    {
+        match self {
+            Fault::Radix => "F1",
+            Fault::Dimensions => "F2",
+            Fault::Tiles => "F3",
+            Fault::Line => "F4",
+            Fault::Setting => "F5",
+            Fault::Range => "F6",
+            Fault::Address => "F7",
+            Fault::Processor => "F8",
+            Fault::Length => "F9",
+            Fault::Last => "F10",
+            Fault::Step => "F11",
+            Fault::Memory => "F12",
+            Fault::Count => "F13",
+            Fault::Dateline => "F14",
+        }
+    }
+}
+
+impl fmt::Display for Fault {
+    ghost use Rattle.std.specs.Prelude.{Some};
+
+    ghost output = { λ fault. Some (fault_code fault) };
+
+    fn fmt<W: fmt::Write>(&self, f: &mut fmt::Formatter<W>) -> fmt::Result {
+        f.write_str(self.code())
+    }
+}
+
+impl Error for Fault {}

@@ -1,6 +1,6 @@
 //! Laws of tiles, digits, neighbours and homes, each the contract of a function that does nothing.
 
-ghost use Rattle.std.specs.Prelude.{◌≡◌, ◌<◌, ℕ, List};
+ghost use Rattle.std.specs.Prelude.{◌≡◌, ◌≢◌, ◌<◌, ℕ, List};
 ghost use Rattle.torus.specs.Digits.{AreDigits, AreInRange};
 ghost use Rattle.torus.specs.Shape.{Shape, IsAccepted, IsNeighbour, dims_of, tiles_of, home_of};
 ghost use Rattle.torus.specs.declared.shape.Dir.{Dir};
@@ -19,6 +19,12 @@ pub fn digits_name_tiles()
 /// A hop leads to one tile only.
 pub fn neighbours_are_unique()
     ensures { (s : Shape) → IsAccepted s → (t d u v : ℕ) (dir : Dir) → IsNeighbour s t d dir u → IsNeighbour s t d dir v → u ≡ v }
+{}
+
+/// A hop leads to a tile, and to another one than that which it leaves.
+pub fn neighbours_are_other_tiles()
+    ensures exists { (s : Shape) → IsAccepted s → (t d : ℕ) (dir : Dir) → t < tiles_of s → d < dims_of s → (u : ℕ) × IsNeighbour s t d dir u }
+    ensures other { (s : Shape) → IsAccepted s → (t d u : ℕ) (dir : Dir) → d < dims_of s → IsNeighbour s t d dir u → u ≢ t }
 {}
 
 /// Plus and minus hops undo each other.

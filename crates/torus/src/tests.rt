@@ -1,4 +1,5 @@
 use super::*;
+use std::process::Abort;
 use std::test::Fail;
 
 /// The tile that one hop leads to, where there is such a hop.
@@ -28,112 +29,142 @@ fn ring(torus: &Torus, d: u32) -> Option<(u32, u32)> {
     }
 }
 
+/// Follows hops: from a tile, in a dimension and a direction, to a tile.
+fn follow<R: Abort>(rt: &R, torus: &Torus, hops: &[(u32, u32, Dir, u32)]) {
+    for &(from, d, dir, to) in hops {
+        assert_eq!(rt; hop(torus, from, d, dir), Some(to), "from {from}");
+    }
+}
+
+/// Compares the radix and the dateline of each of two dimensions.
+fn compare_rings<R: Abort>(rt: &R, torus: &Torus, first: (u32, u32), second: (u32, u32)) {
+    assert_eq!(rt;
+        (ring(torus, 0), ring(torus, 1)),
+        (Some(first), Some(second))
+    );
+}
+
+/// Looks for a refusal.
+fn refused<R: Abort>(rt: &R, made: Result<Torus, Fault>, fault: Fault) {
+    assert_eq!(rt; made.err(), Some(fault));
+}
+
 #[test]
 fn radix_4_dims_2(rt: HostRuntime) -> Result<(), Fail> {
     let torus = Torus::new(4, 2)?;
-    assert_eq!(rt; torus.tiles(), 16);
-    assert_eq!(rt; torus.dims(), 2);
-    assert_eq!(rt; ring(&torus, 0), Some((4, 3)));
-    assert_eq!(rt; ring(&torus, 1), Some((4, 3)));
-    assert_eq!(rt; digit(&torus, 6, 0), Some(2));
-    assert_eq!(rt; digit(&torus, 6, 1), Some(1));
-    assert_eq!(rt; hop(&torus, 0, 0, Dir::Plus), Some(1));
-    assert_eq!(rt; hop(&torus, 1, 0, Dir::Plus), Some(2));
-    assert_eq!(rt; hop(&torus, 2, 1, Dir::Plus), Some(6));
-    assert_eq!(rt; hop(&torus, 6, 1, Dir::Plus), Some(10));
-    assert_eq!(rt; hop(&torus, 11, 0, Dir::Plus), Some(8));
-    assert_eq!(rt; hop(&torus, 12, 1, Dir::Plus), Some(0));
+    assert_eq!(rt; (torus.tiles(), torus.dims()), (16, 2));
+    compare_rings(&rt, &torus, (4, 3), (4, 3));
+    assert_eq!(rt;
+        (digit(&torus, 6, 0), digit(&torus, 6, 1)),
+        (Some(2), Some(1))
+    );
+    let hops = [
+        (0, 0, Dir::Plus, 1),
+        (1, 0, Dir::Plus, 2),
+        (2, 1, Dir::Plus, 6),
+        (6, 1, Dir::Plus, 10),
+        (11, 0, Dir::Plus, 8),
+        (12, 1, Dir::Plus, 0),
+    ];
+    follow(&rt, &torus, &hops);
     Ok(())
 }
 
 #[test]
-fn radix_8_dims_1(rt: HostRuntime) -> Result<(), Fail> {
+fn one_dimension(rt: HostRuntime) -> Result<(), Fail> {
     let torus = Torus::new(8, 1)?;
-    assert_eq!(rt; hop(&torus, 6, 0, Dir::Plus), Some(7));
-    assert_eq!(rt; hop(&torus, 7, 0, Dir::Plus), Some(0));
-    assert_eq!(rt; hop(&torus, 0, 0, Dir::Minus), Some(7));
-    Ok(())
-}
-
-#[test]
-fn radix_5_dims_1(rt: HostRuntime) -> Result<(), Fail> {
+    follow(
+        &rt,
+        &torus,
+        &[
+            (6, 0, Dir::Plus, 7),
+            (7, 0, Dir::Plus, 0),
+            (0, 0, Dir::Minus, 7),
+        ],
+    );
     let torus = Torus::new(5, 1)?;
-    assert_eq!(rt; hop(&torus, 0, 0, Dir::Minus), Some(4));
-    assert_eq!(rt; hop(&torus, 4, 0, Dir::Minus), Some(3));
-    Ok(())
-}
-
-#[test]
-fn radix_2_dims_1(rt: HostRuntime) -> Result<(), Fail> {
+    follow(&rt, &torus, &[(0, 0, Dir::Minus, 4), (4, 0, Dir::Minus, 3)]);
     let torus = Torus::new(2, 1)?;
-    assert_eq!(rt; torus.tiles(), 2);
-    assert_eq!(rt; hop(&torus, 0, 0, Dir::Plus), Some(1));
-    assert_eq!(rt; hop(&torus, 0, 0, Dir::Minus), Some(1));
-    assert_eq!(rt; torus.home(5), (1, 2));
-    assert_eq!(rt; torus.home(0), (0, 0));
+    follow(&rt, &torus, &[(0, 0, Dir::Plus, 1), (0, 0, Dir::Minus, 1)]);
+    assert_eq!(rt;
+        (torus.tiles(), torus.home(5), torus.home(0)),
+        (2, (1, 2), (0, 0))
+    );
     Ok(())
 }
 
 #[test]
 fn a_radix_for_each_dimension(rt: HostRuntime) -> Result<(), Fail> {
     let torus = Torus::mixed(&[2, 4], &[1, 3])?;
-    assert_eq!(rt; torus.tiles(), 8);
-    assert_eq!(rt; ring(&torus, 0), Some((2, 1)));
-    assert_eq!(rt; ring(&torus, 1), Some((4, 3)));
-    assert_eq!(rt; hop(&torus, 1, 0, Dir::Plus), Some(0));
-    assert_eq!(rt; hop(&torus, 0, 1, Dir::Minus), Some(6));
-    assert_eq!(rt; Torus::mixed(&[4, 4], &[3, 3]), Torus::new(4, 2));
+    compare_rings(&rt, &torus, (2, 1), (4, 3));
+    follow(&rt, &torus, &[(1, 0, Dir::Plus, 0), (0, 1, Dir::Minus, 6)]);
+    let both = (torus.tiles(), Torus::mixed(&[4, 4], &[3, 3])?);
+    assert_eq!(rt; both, (8, Torus::new(4, 2)?));
     Ok(())
 }
 
 #[test]
 fn refusals_of_new(rt: HostRuntime) {
-    assert_eq!(rt; Torus::new(1, 1), Err(Fault::Radix));
-    assert_eq!(rt; Torus::new(9, 1), Err(Fault::Radix));
-    assert_eq!(rt; Torus::new(2, 0), Err(Fault::Dimensions));
-    assert_eq!(rt; Torus::new(2, 4), Err(Fault::Dimensions));
-    assert_eq!(rt; Torus::new(5, 3), Err(Fault::Tiles));
-    assert_eq!(rt; Torus::new(0, 0), Err(Fault::Radix), "the radix goes first");
-    assert_eq!(rt; Torus::new(u32::MAX, u32::MAX), Err(Fault::Radix));
+    let refusals = [
+        (1, 1, Fault::Radix),
+        (9, 1, Fault::Radix),
+        (2, 0, Fault::Dimensions),
+        (2, 4, Fault::Dimensions),
+        (5, 3, Fault::Tiles),
+        (0, 0, Fault::Radix),
+        (u32::MAX, u32::MAX, Fault::Radix),
+    ];
+    for &(radix, dims, fault) in &refusals {
+        refused(&rt, Torus::new(radix, dims), fault);
+    }
 }
 
 #[test]
 fn refusals_of_mixed(rt: HostRuntime) {
-    assert_eq!(rt; Torus::mixed(&[], &[]), Err(Fault::Dimensions));
-    assert_eq!(rt;
+    refused(&rt, Torus::mixed(&[], &[]), Fault::Dimensions);
+    refused(
+        &rt,
         Torus::mixed(&[2, 2, 2, 2], &[1, 1, 1, 1]),
-        Err(Fault::Dimensions)
+        Fault::Dimensions,
     );
-    assert_eq!(rt; Torus::mixed(&[2, 9], &[1, 1]), Err(Fault::Radix));
-    assert_eq!(rt; Torus::mixed(&[8, 8, 2], &[1, 1, 1]), Err(Fault::Tiles));
-    assert_eq!(rt; Torus::mixed(&[2, 4], &[1]), Err(Fault::Count));
-    assert_eq!(rt; Torus::mixed(&[4], &[4]), Err(Fault::Dateline));
+    refused(&rt, Torus::mixed(&[2, 9], &[1, 1]), Fault::Radix);
+    refused(&rt, Torus::mixed(&[8, 8, 2], &[1, 1, 1]), Fault::Tiles);
+    refused(&rt, Torus::mixed(&[2, 4], &[1]), Fault::Count);
+    refused(&rt, Torus::mixed(&[4], &[4]), Fault::Dateline);
 }
 
 #[test]
 fn the_first_refusal_of_mixed_is_given(rt: HostRuntime) {
-    assert_eq!(rt; Torus::mixed(&[9, 9, 9, 9], &[]), Err(Fault::Dimensions));
-    assert_eq!(rt;
+    refused(&rt, Torus::mixed(&[9, 9, 9, 9], &[]), Fault::Dimensions);
+    refused(
+        &rt,
         Torus::mixed(&[u32::MAX, u32::MAX, 8], &[]),
-        Err(Fault::Radix)
+        Fault::Radix,
     );
-    assert_eq!(rt; Torus::mixed(&[8, 8, 8], &[]), Err(Fault::Tiles));
-    assert_eq!(rt; Torus::mixed(&[2, 4], &[9]), Err(Fault::Count));
+    refused(&rt, Torus::mixed(&[8, 8, 8], &[]), Fault::Tiles);
+    refused(&rt, Torus::mixed(&[2, 4], &[9]), Fault::Count);
 }
 
 #[test]
 fn faults_print_their_codes(rt: HostRuntime) -> Result<(), Fail> {
-    assert_eq!(rt; format!(in rt.alloc(); "{}", Fault::Radix)?.as_str(), "F1");
-    assert_eq!(rt; format!(in rt.alloc(); "{}", Fault::Tiles)?.as_str(), "F3");
-    assert_eq!(rt; format!(in rt.alloc(); "{}", Fault::Last)?.as_str(), "F10");
-    assert_eq!(rt; format!(in rt.alloc(); "{}", Fault::Step)?.as_str(), "F11");
-    assert_eq!(rt;
-        format!(in rt.alloc(); "{}", Fault::Memory)?.as_str(),
-        "F12"
-    );
-    assert_eq!(rt;
-        format!(in rt.alloc(); "{}", Fault::Dateline)?.as_str(),
-        "F14"
-    );
+    let codes = [
+        (Fault::Radix, "F1"),
+        (Fault::Dimensions, "F2"),
+        (Fault::Tiles, "F3"),
+        (Fault::Line, "F4"),
+        (Fault::Setting, "F5"),
+        (Fault::Range, "F6"),
+        (Fault::Address, "F7"),
+        (Fault::Processor, "F8"),
+        (Fault::Length, "F9"),
+        (Fault::Last, "F10"),
+        (Fault::Step, "F11"),
+        (Fault::Memory, "F12"),
+        (Fault::Count, "F13"),
+        (Fault::Dateline, "F14"),
+    ];
+    for &(fault, code) in &codes {
+        assert_eq!(rt; format!(in rt.alloc(); "{fault}")?.as_str(), code);
+    }
     Ok(())
 }

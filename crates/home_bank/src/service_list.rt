@@ -1,22 +1,22 @@
 ghost use Rattle.std.specs.Prelude.{◌≡◌, ◌<◌, ◌≤◌, [], ◌∷◌, ◌++◌, ◌↔◌, length, vec_len, vec_capacity, IfOk, IsTrue};
-ghost use Rattle.home_bank.specs.History.{response_of, recorded, IsHistory};
+ghost use Rattle.home_bank.specs.ServiceList.{response_of, recorded, IsServiceList};
 
 use crate::Entry;
 use packet::{Reply, Request, Response};
 use std::alloc::{AllocError, Allocator, Global};
 use std::marker::Model;
 
-/// What a bank has served, in the order of the services. It knows no words.
+/// The service list of a bank: an entry for each service, in their order. It knows no words.
 #[derive(Drop)]
-pub struct History<A: Allocator = Global> {
+pub struct ServiceList<A: Allocator = Global> {
     tile: u32,
     tiles: u32,
     entries: Vec<Entry, A>,
     room: usize,
 }
 
-impl<A: Allocator> Model for History<A> {
-    ghost use Rattle.home_bank.specs.History.{Services};
+impl<A: Allocator> Model for ServiceList<A> {
+    ghost use Rattle.home_bank.specs.ServiceList.{Services};
 
     ghost Value = { Services };
 
@@ -27,17 +27,17 @@ impl<A: Allocator> Model for History<A> {
     ghost invariant = { IsReserved };
 }
 
-impl<A: Allocator> History<A> {
-    /// An empty history of the bank of a tile, among that many tiles (1 to 64). It takes the
+impl<A: Allocator> ServiceList<A> {
+    /// An empty service list of the bank of a tile, among that many tiles (1 to 64). It takes the
     /// memory for `room` entries (at most 65536), and none later.
-    pub fn new(alloc: A, tile: u32, tiles: u32, room: usize) -> Result<History<A>, AllocError>
+    pub fn new(alloc: A, tile: u32, tiles: u32, room: usize) -> Result<ServiceList<A>, AllocError>
         requires tile { tile < tiles }
         requires tiles { tiles ≤ 64 }
         requires room { room ≤ 65536 }
         ensures { IfOk result (λ h. h ≡ record { tile = tile; tiles = tiles; entries = []; room = room }) }
     {
         let entries = Vec::with_capacity(alloc, room)?;
-        Ok(History {
+        Ok(ServiceList {
             tile,
             tiles,
             entries,
@@ -49,7 +49,7 @@ impl<A: Allocator> History<A> {
     pub fn record(&mut self, request: Request, reply: Reply) -> Response
         requires word { request.word < 65536 }
         requires room { length self.old.entries < self.old.room }
-        ensures history { self.new ≡ recorded self.old request reply }
+        ensures services { self.new ≡ recorded self.old request reply }
         ensures response { result ≡ response_of self.old.tile (length self.old.entries) request reply }
     {
         let place = self.entries.len() as u32;
@@ -71,10 +71,10 @@ impl<A: Allocator> History<A> {
         }
     }
 
-    /// The tile whose bank it is.
+    /// The tile whose bank's services they are.
     pub fn tile(&self) -> u32
         ensures tile { result ≡ self.now.tile }
-        ensures limits { IsHistory self.now }
+        ensures limits { IsServiceList self.now }
     {
         self.tile
     }

@@ -1,4 +1,4 @@
--- The history of a bank: what it served, in the order of the services.
+-- The service list of a bank: an entry for each service, in their order.
 use Rattle.std.specs.Prelude.{◌<◌, ◌≤◌, ◌+◌, ◌*◌, ℕ, List, [], ◌∷◌, ◌++◌, length}
 use Rattle.packet.specs.declared.kinds.Request.{Request}
 use Rattle.packet.specs.declared.kinds.Response.{Response}
@@ -6,14 +6,16 @@ use Rattle.packet.specs.declared.kinds.Reply.{Reply}
 use Rattle.packet.specs.Kinds.{code_of}
 use Rattle.home_bank.specs.declared.entry.Entry.{Entry}
 
--- whose history it is, of how many tiles, its entries in the order of the services, and how many entries there is room for
+-- the tile whose bank's services they are, of how many tiles; an entry for each service, in their order;
+-- and for how many entries there is room
 pub record Services : Type 0 where
   pub tile : ℕ
   pub tiles : ℕ
   pub entries : List Entry
   pub room : ℕ
 
--- low-order interleaving: the address of word w of a tile's bank (Dally and Towles, Principles and Practices of Interconnection Networks, chapter 3; this project's own format)
+-- low-order interleaving: the address of word w of a tile's bank (Dally and Towles, Principles and
+-- Practices of Interconnection Networks, chapter 3; this project's own format)
 abbrev pub address_of : ℕ → ℕ → ℕ → ℕ
 address_of tile tiles w = tile + w * tiles
 
@@ -28,7 +30,7 @@ entry_of tile tiles r reply =
       reply = reply;
     }
 
--- the packet that brings the reply to a request back to its source, with the place of the service in the history
+-- the packet that brings the reply to a request back to its source, with the place of its entry in the service list
 abbrev pub response_of : ℕ → ℕ → Request → Reply → Response
 response_of tile place r reply =
     record {
@@ -40,12 +42,12 @@ response_of tile place r reply =
       reply = reply;
     }
 
--- the history with one entry more
+-- the service list with one entry more
 abbrev pub recorded : Services → Request → Reply → Services
 recorded h r reply = record h { entries = h.entries ++ entry_of h.tile h.tiles r reply ∷ [] }
 
--- what is true of every history: a tile among at most 64, and at most 65536 entries (this project's own limits)
-pub record IsHistory (h : Services) : Type 0 where
+-- what is true of every service list: a tile among at most 64, and at most 65536 entries (this project's own limits)
+pub record IsServiceList (h : Services) : Type 0 where
   pub tile : h.tile < h.tiles
   pub tiles : h.tiles ≤ 64
   pub entries : length h.entries ≤ h.room
