@@ -5,9 +5,10 @@ use Rattle.std.proofs.lemmas.Bool.{cases_eq, eq-eqb, ne_eqb, cond-true, cond-fal
 use Rattle.packet.specs.declared.kinds.Reply.{Reply}
 use Rattle.packet.specs.declared.kinds.Operation.{Operation}
 use Rattle.script.specs.declared.line.Line.{Line}
+use Rattle.script.specs.Scripts.{operation_count}
 use Rattle.net_interface.specs.declared.spin.OpenSpin.{OpenSpin}
 use Rattle.net_interface.specs.declared.follower.Follower.TheInside.{Inside}
-use Rattle.net_interface.specs.Scripts.{operation_count, IsAcceptedScript}
+use Rattle.net_interface.specs.Scripts.{IsFollowable}
 use Rattle.net_interface.specs.Following.{Following, ready, next_operation_of, first_of, after_issue, after_answer, last_answered, other_answered, spin_issued, ahead_issued, spin_answered, unfenced, past_fences, loads_left, is_empty, HasLoad}
 use Rattle.net_interface.specs.Inside.{following_of, IsFollower}
 use Rattle.net_interface.proofs.Places.{left_issued, left_answered, left_of_answered, left_of_none, drop_begins, count_past_fences, count_unfenced}
@@ -176,9 +177,9 @@ answered_other {A} a i reply waiting j ls at h is_other is_waiting is_j is_ls wi
     is_ls place
 
 -- the start
-pub first_kept : (lines : List Line) → IsAcceptedScript lines → operation_count lines < 2 ^ 32 → (at : ℕ) → drop at lines ≡ past_fences lines →
+pub first_kept : (lines : List Line) → IsFollowable lines → operation_count lines < 2 ^ 32 → (at : ℕ) → drop at lines ≡ past_fences lines →
     0 + (0 + operation_count (drop at lines)) < 2 ^ 32
-first_kept lines accepted few at place = let e = ap operation_count place in let k = count_past_fences lines in omega arith
+first_kept lines followable few at place = let e = ap operation_count place in let k = count_past_fences lines in omega arith
 
 pub first_shows : (lines : List Line) (at : ℕ) → drop at lines ≡ past_fences lines →
     (let f : Following = record { ahead = drop at lines; spin = None; issued = 0; waiting = 0; last = None } in f) ≡ first_of lines

@@ -1,7 +1,11 @@
 pub mod Histories
+pub mod Operations
 pub mod Residual
 pub mod Places
 pub mod Shown
 pub mod Kept
-pub mod Accepted
+pub mod Followable
+pub mod Homes
+pub mod Ended
+pub mod Values
 mod Examples

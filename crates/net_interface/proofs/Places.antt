@@ -1,7 +1,8 @@
 -- What is kept of the lines ahead and of an open spin, from call to call.
-use Rattle.std.proofs.Common.{◌≡◌, ℕ, zero, suc, ◌+◌, ◌<◌, ◌≤◌, ◌==◌, ◌&&◌, ◌||◌, true, false, List, [], ◌∷◌, drop, Option, Some, None, refl, sym, ◌∙◌, ap, arith, slice_get, inl, inr, eqb-true, eq-eqb, zero-add}
+use Rattle.std.proofs.Common.{◌≡◌, ℕ, zero, suc, ◌+◌, ◌<◌, ◌≤◌, ◌==◌, ◌&&◌, ◌||◌, Bool, true, false, List, [], ◌∷◌, drop, take, Option, Some, None, refl, ◌∙◌, ap, arith, slice_get, eqb-true, eq-eqb}
 use Rattle.std.specs.Prelude.{option_map, option_and_then, is_none, IsSome}
 use Rattle.std.proofs.lemmas.Bool.{cond_both, and_parts, and_from, both_ways, or_parts, eqb-false}
+use Rattle.std.proofs.lemmas.List.Sums.{sum_by-cons}
 use Rattle.std.proofs.lemmas.Option.{same_Some}
 use Rattle.packet.specs.declared.kinds.Op.{Op}
 use Rattle.packet.specs.declared.kinds.Op.TheVariants as op
@@ -11,8 +12,9 @@ use Rattle.script.specs.declared.line.Line.{Line}
 use Rattle.script.specs.declared.line.Line.TheVariants as line
 use Rattle.script.specs.declared.line.Value.{Value}
 use Rattle.script.specs.declared.line.Value.TheVariants.{Number, Last}
+use Rattle.script.specs.Scripts.{operations_of, operation_count, is_last, mentions_last}
 use Rattle.net_interface.specs.declared.spin.OpenSpin.{OpenSpin}
-use Rattle.net_interface.specs.Scripts.{number_of, address_of, operation_count, IsLast, UsesLast, IsAcceptedScript, IsAddressIn}
+use Rattle.net_interface.specs.Scripts.{reply_number, address_of, IsFollowable, IsAddressIn}
 use Rattle.net_interface.specs.Following.{operand_of, asked, operation_of, ready, spin_issued, ahead_issued, past_fences, spin_answered, unfenced, loads_left, HasLoad}
 use Rattle.net_interface.proofs.Residual.{HasLoads, BeginsWithLoads, WantsLoad, HasNoFence}
 
@@ -61,7 +63,7 @@ no_fence_left spin waiting ahead z n = unfenced_cases spin waiting ahead HasNoFe
 -- counts
 pub count_past_fences : (lines : List Line) → operation_count (past_fences lines) ≡ operation_count lines
 count_past_fences [] = refl
-count_past_fences (line.Fence ∷ lines) = count_past_fences lines ∙ sym (zero-add (operation_count lines))
+count_past_fences (line.Fence ∷ lines) = omega (arith, count_past_fences lines, sum_by-cons operations_of line.Fence lines)
 count_past_fences (first ∷ lines) = refl
 
 pub count_unfenced : (spin : Option OpenSpin) (waiting : ℕ) (ahead : List Line) → operation_count (unfenced spin waiting ahead) ≡ operation_count ahead
@@ -81,15 +83,15 @@ left_issued (Some s) ahead None o h loads wants = cc
 left_issued (Some s) ahead (Some reply) o h loads wants = omega arith
 left_issued None [] last o h loads wants = cc
 left_issued None (line.Fence ∷ lines) last o h loads wants = cc
-left_issued None (line.Spin a v m ∷ lines) last o h loads wants = omega arith
-left_issued None (first ∷ lines) last o h loads wants = omega arith
+left_issued None (line.Spin a v m ∷ lines) last o h loads wants = omega (arith, sum_by-cons operations_of (line.Spin a v m) lines)
+left_issued None (first ∷ lines) last o h loads wants = omega (arith, sum_by-cons operations_of first lines)
 
 -- the end of a spin
 pub spin_answered_cases : (s : OpenSpin) (reply : Reply) (P : Option OpenSpin → Type 0) →
-    (((number_of reply == s.sought) || (s.left == 0)) ≡ true → P None) → (((number_of reply == s.sought) ≡ false) → 0 < s.left → P (Some s)) → P (spin_answered (Some s) reply)
+    (((reply_number reply == s.sought) || (s.left == 0)) ≡ true → P None) → (((reply_number reply == s.sought) ≡ false) → 0 < s.left → P (Some s)) → P (spin_answered (Some s) reply)
 spin_answered_cases s reply P over again =
-    cond_both ((number_of reply == s.sought) || (s.left == 0)) None (Some s) P over
-    (λ e. let r = or_parts (number_of reply == s.sought) (s.left == 0) e in let ne = eqb-false s.left 0 r.1 in again r.0 (omega arith))
+    cond_both ((reply_number reply == s.sought) || (s.left == 0)) None (Some s) P over
+    (λ e. let r = or_parts (reply_number reply == s.sought) (s.left == 0) e in let ne = eqb-false s.left 0 r.1 in again r.0 (omega arith))
 
 pub left_answered : (spin : Option OpenSpin) (reply : Reply) → loads_left (spin_answered spin reply) ≤ loads_left spin
 left_answered None reply = omega arith
@@ -125,40 +127,41 @@ drop_begins [] (suc at) h = tt
 drop_begins (first ∷ lines) zero h = has_loads first (λ a v m e. h 0 a v m (ap (λ (x : Line). Some x) e))
 drop_begins (first ∷ lines) (suc at) h = drop_begins lines at (λ k. h (suc k))
 
-pub accepted_loads : (lines : List Line) → IsAcceptedScript lines → Each HasLoads lines
-accepted_loads lines h = each_from HasLoads lines (λ k first g. has_loads first (λ a v m e. h.loads k a v m (g ∙ ap (λ (x : Line). Some x) e)))
+pub followable_loads : (lines : List Line) → IsFollowable lines → Each HasLoads lines
+followable_loads lines h = each_from HasLoads lines (λ k first g. has_loads first (λ a v m e. h.loads k a v m (g ∙ ap (λ (x : Line). Some x) e)))
 
 -- no number replied before is named at the start
 abbrev pub BeginsPlainly : List Line → Type 0
 BeginsPlainly [] = Unit {0}
-BeginsPlainly (first ∷ lines) = UsesLast first → ⊥
+BeginsPlainly (first ∷ lines) = mentions_last first ≡ true → ⊥
 
 abbrev IsLastPreceded : List Line → Type 0
-IsLastPreceded lines = (k : ℕ) (first : Line) → slice_get lines k ≡ Some first → UsesLast first →
-    (j a : ℕ) × (earlier : Line) × (j < k) × (slice_get lines j ≡ Some earlier) × (address_of earlier ≡ Some a)
+IsLastPreceded lines = (k : ℕ) (first : Line) → slice_get lines k ≡ Some first → mentions_last first ≡ true → 0 < operation_count (take k lines)
 
 preceded_tail : (lines : List Line) → IsLastPreceded (line.Fence ∷ lines) → IsLastPreceded lines
-preceded_tail lines h k first g u = preceded_at lines k (h (suc k) first g u)
-  where
-    preceded_at : (lines : List Line) (k : ℕ) →
-        ((j a : ℕ) × (earlier : Line) × (j < suc k) × (slice_get (line.Fence ∷ lines) j ≡ Some earlier) × (address_of earlier ≡ Some a)) →
-        (j a : ℕ) × (earlier : Line) × (j < k) × (slice_get lines j ≡ Some earlier) × (address_of earlier ≡ Some a)
-    preceded_at lines k (zero, a, earlier, lt, g, e) = absurd (let f : line.Fence ≡ earlier = same_Some line.Fence earlier g in let d = ap address_of f ∙ e in cc)
-    preceded_at lines k (suc j, a, earlier, lt, g, e) = (j, a, earlier, omega arith, g, e)
+preceded_tail lines h k first g u = omega (arith, h (suc k) first g u, sum_by-cons operations_of line.Fence (take k lines))
 
 begins_plainly : (lines : List Line) → IsLastPreceded lines → BeginsPlainly (past_fences lines)
 begins_plainly [] h = tt
 begins_plainly (line.Fence ∷ lines) h = begins_plainly lines (preceded_tail lines h)
-begins_plainly (first ∷ lines) h = λ u. let r = h 0 first refl u in absurd (let lt = r.3 in omega arith)
+begins_plainly (first ∷ lines) h = λ u. absurd (omega (arith, h 0 first refl u))
 
-pub accepted_start : (lines : List Line) → IsAcceptedScript lines → BeginsPlainly (past_fences lines)
-accepted_start lines h = begins_plainly lines h.last
+pub followable_start : (lines : List Line) → IsFollowable lines → BeginsPlainly (past_fences lines)
+followable_start lines h = begins_plainly lines h.lasts
 
 -- an operation is ready wherever what its line takes is known
-known_operand : (v : Value) (last : Option Reply) → (IsLast v → IsSome last) → IsSome (operand_of v last)
+known_operand : (v : Value) (last : Option Reply) → (is_last v ≡ true → IsSome last) → IsSome (operand_of v last)
 known_operand (Number n) last h = refl
-known_operand Last None h = absurd (let e = h tt in cc)
+known_operand Last None h = absurd (let e = h refl in cc)
 known_operand Last (Some reply) h = refl
+
+or_left : (a b : Bool) → a ≡ true → (a || b) ≡ true
+or_left true b h = refl
+or_left false b h = cc
+
+or_right : (a b : Bool) → b ≡ true → (a || b) ≡ true
+or_right true b h = refl
+or_right false b h = h
 
 some_mapped : {A B : Type 0} (f : A → B) (x : Option A) → IsSome x → IsSome (option_map f x)
 some_mapped f None h = cc
@@ -171,15 +174,15 @@ some_then f (Some x) h k = k x
 abbrev asking : (ℕ → Op) → ℕ → ℕ → Operation
 asking kind a x = record { address = a; op = kind x }
 
-known_asked : (kind : ℕ → Op) (a : ℕ) (v : Value) (last : Option Reply) → (IsLast v → IsSome last) → IsSome (asked kind a v last)
+known_asked : (kind : ℕ → Op) (a : ℕ) (v : Value) (last : Option Reply) → (is_last v ≡ true → IsSome last) → IsSome (asked kind a v last)
 known_asked kind a v last h = some_mapped (asking kind a) (operand_of v last) (known_operand v last h)
 
-pub known_operation : (first : Line) (lines : List Line) (last : Option Reply) → HasNoFence (first ∷ lines) → (UsesLast first → IsSome last) → IsSome (operation_of first last)
+pub known_operation : (first : Line) (lines : List Line) (last : Option Reply) → HasNoFence (first ∷ lines) → (mentions_last first ≡ true → IsSome last) → IsSome (operation_of first last)
 known_operation (line.Load a) lines last f h = refl
 known_operation (line.Store a v) lines last f h = known_asked op.Store a v last h
 known_operation (line.Swap a v) lines last f h = known_asked op.Swap a v last h
 known_operation (line.Cas a e n) lines last f h =
-    some_then (λ x. asked (op.Cas x) a n last) (operand_of e last) (known_operand e last (λ u. h (inl u))) (λ x. known_asked (op.Cas x) a n last (λ u. h (inr u)))
+    some_then (λ x. asked (op.Cas x) a n last) (operand_of e last) (known_operand e last (λ u. h (or_left (is_last e) (is_last n) u))) (λ x. known_asked (op.Cas x) a n last (λ u. h (or_right (is_last e) (is_last n) u)))
 known_operation (line.Add a v) lines last f h = known_asked op.Add a v last h
 known_operation (line.And a v) lines last f h = known_asked op.And a v last h
 known_operation (line.Or a v) lines last f h = known_asked op.Or a v last h

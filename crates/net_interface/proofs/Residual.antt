@@ -1,20 +1,17 @@
 -- What a script still allows after the operations so far, however many more of these are answered.
 use Rattle.std.proofs.Common.{◌≡◌, ℕ, zero, suc, ◌-◌, ◌<◌, ◌==◌, ◌||◌, Bool, true, false, List, [], ◌∷◌, ◌++◌, Option, Some, None, refl, sym, ◌∙◌, ap, subst, arith, append_assoc, sub-one, eqb-true}
-use Rattle.std.specs.Prelude.{option_map, option_and_then}
 use Rattle.std.specs.Bool.{MatchBool}
 use Rattle.std.proofs.lemmas.Bool.{MatchBool-at_false}
 use Rattle.std.proofs.lemmas.Option.{same_Some}
-use Rattle.packet.specs.declared.kinds.Op.{Op}
 use Rattle.packet.specs.declared.kinds.Op.TheVariants as op
 use Rattle.packet.specs.declared.kinds.Reply.{Reply}
 use Rattle.packet.specs.declared.kinds.Operation.{Operation}
 use Rattle.script.specs.declared.line.Line.{Line}
 use Rattle.script.specs.declared.line.Line.TheVariants as line
-use Rattle.script.specs.declared.line.Value.{Value}
-use Rattle.script.specs.declared.line.Value.TheVariants.{Number, Last}
 use Rattle.net_interface.specs.declared.spin.OpenSpin.{OpenSpin}
-use Rattle.net_interface.specs.Scripts.{Invocation, number_of, IsLastReply, IsOperand, Asks, IsOf, AfterLoad, Spins, Allows, FollowsScript, AreAnsweredBefore, AreAnswersBefore, AreAnswered, last_reply}
-use Rattle.net_interface.specs.Following.{operand_of, asked, operation_of, ready, spin_issued, ahead_issued, past_fences}
+use Rattle.net_interface.specs.Scripts.{Invocation, reply_number, IsLastReply, AfterLoad, Spins, Allows, FollowsScript, AreAnsweredBefore, AreAnswersBefore, AreAnswered, last_reply}
+use Rattle.net_interface.specs.Following.{ready, spin_issued, ahead_issued, past_fences}
+use Rattle.net_interface.proofs.Operations.{IsKnown, IsShown, line_to, line_from}
 use Rattle.net_interface.proofs.Histories.{IsSame, Extends, extends_trans, extends_more, answers_before_less, all_answered_before, HasLastReply, last_reply_before, last_reply_kept, last_reply_unique, last_known}
 
 -- what may come next, from a spin that isn't over or the lines ahead
@@ -113,109 +110,28 @@ ended_from false a v zero over past ops h k = k
 ended_from false a v (suc n) over past ops h k = absurd (let e = eqb-true (suc n) 0 h in omega arith)
 
 over_to : (lines : List Line) (past : List Invocation) (s : OpenSpin) (ahead : List Line) (reply : Reply) → Leads lines past (Some s) ahead →
-    HasLastReply past reply → ((number_of reply == s.sought) || (s.left == 0)) ≡ true →
+    HasLastReply past reply → ((reply_number reply == s.sought) || (s.left == 0)) ≡ true →
     (q ops : List Invocation) → Extends past q → IsLater past ops → Allows ahead q ops → FollowsScript lines (q ++ ops)
 over_to lines past s ahead reply h last ends q [] e later k = h.to q [] e tt tt
 over_to lines past s ahead reply h last ends q (o ∷ ops) e later k = h.to q (o ∷ ops) e later (
   reply,
   last_reply_before past q o.issue reply e last later,
-  ended_to (number_of reply == s.sought) s.address s.sought s.left (Allows ahead) q (o ∷ ops) ends k,
+  ended_to (reply_number reply == s.sought) s.address s.sought s.left (Allows ahead) q (o ∷ ops) ends k,
 )
 
 over_from : (lines : List Line) (past : List Invocation) (s : OpenSpin) (ahead : List Line) (reply : Reply) → Leads lines past (Some s) ahead →
-    HasLastReply past reply → ((number_of reply == s.sought) || (s.left == 0)) ≡ true →
+    HasLastReply past reply → ((reply_number reply == s.sought) || (s.left == 0)) ≡ true →
     (q ops : List Invocation) → Extends past q → FollowsScript lines (q ++ ops) → Allows ahead q ops
 over_from lines past s ahead reply h last ends q [] e k = allows_nothing ahead q
 over_from lines past s ahead reply h last ends q (o ∷ ops) e k =
     let c = h.from q (o ∷ ops) e k in
     let same = last_reply_unique q o.issue c.0 reply c.1 (last_reply_kept past q reply e last) in
-    ended_from (number_of reply == s.sought) s.address s.sought s.left (Allows ahead) q (o ∷ ops) ends
-    (subst (λ (r : Reply). MatchBool (number_of r == s.sought) (Allows ahead q (o ∷ ops)) (Spins s.address s.sought s.left (Allows ahead) q (o ∷ ops))) same c.2)
+    ended_from (reply_number reply == s.sought) s.address s.sought s.left (Allows ahead) q (o ∷ ops) ends
+    (subst (λ (r : Reply). MatchBool (reply_number r == s.sought) (Allows ahead q (o ∷ ops)) (Spins s.address s.sought s.left (Allows ahead) q (o ∷ ops))) same c.2)
 
 pub leads_over : (lines : List Line) (past : List Invocation) (s : OpenSpin) (ahead : List Line) (reply : Reply) → Leads lines past (Some s) ahead →
-    HasLastReply past reply → ((number_of reply == s.sought) || (s.left == 0)) ≡ true → Leads lines past None ahead
+    HasLastReply past reply → ((reply_number reply == s.sought) || (s.left == 0)) ≡ true → Leads lines past None ahead
 leads_over lines past s ahead reply h last ends = record { to = over_to lines past s ahead reply h last ends; from = over_from lines past s ahead reply h last ends }
-
--- the last reply is known, and was given before step t
-abbrev pub IsKnown : Option Reply → List Invocation → ℕ → Type 0
-IsKnown last q t = (reply : Reply) → last ≡ Some reply → IsLastReply q t reply
-
--- what is known of the last reply
-abbrev pub IsShown : Option Reply → List Invocation → ℕ → Type 0
-IsShown last q t = (reply : Reply) → IsLastReply q t reply → last ≡ Some reply
-
-operand_to : (v : Value) (last : Option Reply) (q : List Invocation) (t x : ℕ) → operand_of v last ≡ Some x → IsKnown last q t → IsOperand v q t x
-operand_to (Number n) last q t x h known = sym (same_Some n x h)
-operand_to Last None q t x h known = cc
-operand_to Last (Some reply) q t x h known = (reply, known reply refl, sym (same_Some (number_of reply) x h))
-
-operand_from : (v : Value) (last : Option Reply) (q : List Invocation) (t x : ℕ) → IsOperand v q t x → IsShown last q t → operand_of v last ≡ Some x
-operand_from (Number n) last q t x h shown = ap (λ (y : ℕ). Some y) (sym h)
-operand_from Last last q t x h shown = ap (option_map number_of) (shown h.0 h.1) ∙ ap (λ (y : ℕ). Some y) (sym h.2)
-
--- the operation asked for, by its operands
-abbrev asking : (ℕ → Op) → ℕ → ℕ → Operation
-asking kind a x = record { address = a; op = kind x }
-
-asked_parts : (kind : ℕ → Op) (a : ℕ) (x : Option ℕ) (o : Operation) → option_map (asking kind a) x ≡ Some o → (y : ℕ) × (x ≡ Some y) × (o ≡ asking kind a y)
-asked_parts kind a None o h = cc
-asked_parts kind a (Some y) o h = (y, refl, sym (same_Some (asking kind a y) o h))
-
-cas_parts : (a : ℕ) (x y : Option ℕ) (o : Operation) → option_and_then (λ e. option_map (asking (op.Cas e) a) y) x ≡ Some o →
-    (e n : ℕ) × (x ≡ Some e) × (y ≡ Some n) × (o ≡ asking (op.Cas e) a n)
-cas_parts a None y o h = cc
-cas_parts a (Some e) y o h = let r = asked_parts (op.Cas e) a y o h in (e, r.0, refl, r.1, r.2)
-
-asks_to : (kind : ℕ → Op) (a : ℕ) (v : Value) (last : Option Reply) (q : List Invocation) (o : Invocation) →
-    asked kind a v last ≡ Some o.operation → IsKnown last q o.issue → Asks kind a v q o
-asks_to kind a v last q o h known =
-    let r = asked_parts kind a (operand_of v last) o.operation h in
-    (r.0, operand_to v last q o.issue r.0 r.1 known, r.2)
-
-asks_from : (kind : ℕ → Op) (a : ℕ) (v : Value) (last : Option Reply) (q : List Invocation) (o : Invocation) →
-    Asks kind a v q o → IsShown last q o.issue → asked kind a v last ≡ Some o.operation
-asks_from kind a v last q o h shown =
-    ap (option_map (asking kind a)) (operand_from v last q o.issue h.0 h.1 shown) ∙ ap (λ (x : Operation). Some x) (sym h.2)
-
--- a line of one operation
-abbrev pub IsOrdinary : Line → Type 0
-IsOrdinary line.Fence = ⊥
-IsOrdinary (line.Spin a v m) = ⊥
-IsOrdinary first = Unit {0}
-
-line_to : (first : Line) (last : Option Reply) (q : List Invocation) (o : Invocation) → IsOrdinary first →
-    operation_of first last ≡ Some o.operation → IsKnown last q o.issue → IsOf first q o
-line_to (line.Load a) last q o c h known = sym (same_Some (record { address = a; op = op.Load }) o.operation h)
-line_to (line.Store a v) last q o c h known = asks_to op.Store a v last q o h known
-line_to (line.Swap a v) last q o c h known = asks_to op.Swap a v last q o h known
-line_to (line.Cas a e n) last q o c h known =
-    let r = cas_parts a (operand_of e last) (operand_of n last) o.operation h in
-    (r.0, r.1, operand_to e last q o.issue r.0 r.2 known, operand_to n last q o.issue r.1 r.3 known, r.4)
-line_to (line.Add a v) last q o c h known = asks_to op.Add a v last q o h known
-line_to (line.And a v) last q o c h known = asks_to op.And a v last q o h known
-line_to (line.Or a v) last q o c h known = asks_to op.Or a v last q o h known
-line_to (line.Xor a v) last q o c h known = asks_to op.Xor a v last q o h known
-line_to (line.Max a v) last q o c h known = asks_to op.Max a v last q o h known
-line_to (line.Min a v) last q o c h known = asks_to op.Min a v last q o h known
-line_to line.Fence last q o c h known = absurd c
-line_to (line.Spin a v m) last q o c h known = absurd c
-
-line_from : (first : Line) (last : Option Reply) (q : List Invocation) (o : Invocation) →
-    IsOf first q o → IsShown last q o.issue → operation_of first last ≡ Some o.operation
-line_from (line.Load a) last q o h shown = ap (λ (x : Operation). Some x) (sym h)
-line_from (line.Store a v) last q o h shown = asks_from op.Store a v last q o h shown
-line_from (line.Swap a v) last q o h shown = asks_from op.Swap a v last q o h shown
-line_from (line.Cas a e n) last q o h shown =
-    ap (option_and_then (λ (x : ℕ). asked (op.Cas x) a n last)) (operand_from e last q o.issue h.0 h.2 shown)
-    ∙ (ap (option_map (asking (op.Cas h.0) a)) (operand_from n last q o.issue h.1 h.3 shown) ∙ ap (λ (x : Operation). Some x) (sym h.4))
-line_from (line.Add a v) last q o h shown = asks_from op.Add a v last q o h shown
-line_from (line.And a v) last q o h shown = asks_from op.And a v last q o h shown
-line_from (line.Or a v) last q o h shown = asks_from op.Or a v last q o h shown
-line_from (line.Xor a v) last q o h shown = asks_from op.Xor a v last q o h shown
-line_from (line.Max a v) last q o h shown = asks_from op.Max a v last q o h shown
-line_from (line.Min a v) last q o h shown = asks_from op.Min a v last q o h shown
-line_from line.Fence last q o h shown = absurd h
-line_from (line.Spin a v m) last q o h shown = absurd h
 
 -- a spin line makes at least one load
 abbrev pub HasLoads : Line → Type 0
@@ -230,7 +146,7 @@ BeginsWithLoads (first ∷ lines) = HasLoads first
 abbrev pub WantsLoad : Option OpenSpin → Option Reply → Type 0
 WantsLoad None last = Unit {0}
 WantsLoad (Some s) None = Unit {0}
-WantsLoad (Some s) (Some reply) = ((number_of reply == s.sought) ≡ false) × (0 < s.left)
+WantsLoad (Some s) (Some reply) = ((reply_number reply == s.sought) ≡ false) × (0 < s.left)
 
 spins_to : (a v left : ℕ) (over : List Invocation → List Invocation → Type 0) (q : List Invocation) (o : Invocation) (ops : List Invocation) → 0 < left →
     o.operation ≡ record { address = a; op = op.Load } → AfterLoad v over (Spins a v (left - 1) over) (q ++ o ∷ []) ops → Spins a v left over q (o ∷ ops)
@@ -257,7 +173,7 @@ step_to (Some s) ahead None q o ops h known loads wants k = cc
 step_to (Some s) ahead (Some reply) q o ops h known loads wants k = (
   reply,
   known reply refl,
-  match_false (number_of reply == s.sought) (Allows ahead q (o ∷ ops)) (Spins s.address s.sought s.left (Allows ahead) q (o ∷ ops)) wants.0
+  match_false (reply_number reply == s.sought) (Allows ahead q (o ∷ ops)) (Spins s.address s.sought s.left (Allows ahead) q (o ∷ ops)) wants.0
       (spins_to s.address s.sought s.left (Allows ahead) q o ops wants.1 (sym (same_Some (load_at s.address) o.operation h)) k),
 )
 step_to None [] last q o ops h known loads wants k = cc
@@ -278,7 +194,7 @@ pub step_ready : (spin : Option OpenSpin) (ahead : List Line) (last : Option Rep
 step_ready (Some s) ahead None q o ops shown loads wants fence k = let e = shown k.0 k.1 in cc
 step_ready (Some s) ahead (Some reply) q o ops shown loads wants fence k =
     let e : reply ≡ k.0 = same_Some reply k.0 (shown k.0 k.1) in
-    let w : (number_of k.0 == s.sought) ≡ false = ap (λ (r : Reply). number_of r == s.sought) (sym e) ∙ wants.0 in
+    let w : (reply_number k.0 == s.sought) ≡ false = ap (λ (r : Reply). reply_number r == s.sought) (sym e) ∙ wants.0 in
     let again = MatchBool-at_false (Allows ahead q (o ∷ ops)) (Spins s.address s.sought s.left (Allows ahead) q (o ∷ ops)) w k.2 in
     ap (λ (x : Operation). Some x) (sym (spins_from s.address s.sought s.left (Allows ahead) q o ops wants.1 again).0)
 step_ready None [] last q o ops shown loads wants fence k = absurd k
@@ -297,7 +213,7 @@ pub step_from : (spin : Option OpenSpin) (ahead : List Line) (last : Option Repl
 step_from (Some s) ahead None q o ops h one loads wants k = cc
 step_from (Some s) ahead (Some reply) q o ops h one loads wants k =
     let e : reply ≡ k.0 = one reply k.0 refl k.1 in
-    let w : (number_of k.0 == s.sought) ≡ false = ap (λ (r : Reply). number_of r == s.sought) (sym e) ∙ wants.0 in
+    let w : (reply_number k.0 == s.sought) ≡ false = ap (λ (r : Reply). reply_number r == s.sought) (sym e) ∙ wants.0 in
     let again = MatchBool-at_false (Allows ahead q (o ∷ ops)) (Spins s.address s.sought s.left (Allows ahead) q (o ∷ ops)) w k.2 in
     (spins_from s.address s.sought s.left (Allows ahead) q o ops wants.1 again).1
 step_from None [] last q o ops h one loads wants k = absurd k

@@ -6,12 +6,13 @@ use Rattle.std.proofs.lemmas.Option.{slice_get_within}
 use Rattle.packet.specs.declared.kinds.Reply.{Reply}
 use Rattle.packet.specs.declared.kinds.Operation.{Operation}
 use Rattle.script.specs.declared.line.Line.{Line}
+use Rattle.script.specs.Scripts.{operation_count}
 use Rattle.net_interface.specs.declared.spin.OpenSpin.{OpenSpin}
-use Rattle.net_interface.specs.Scripts.{Invocation, operation_count, IsAcceptedScript, AreAnswered, AreAnswersBefore, FollowsScript, HasFinished, last_reply, unanswered, IsAddressIn}
+use Rattle.net_interface.specs.Scripts.{Invocation, IsFollowable, AreAnswered, AreAnswersBefore, FollowsScript, HasFinished, last_reply, unanswered, IsAddressIn}
 use Rattle.net_interface.specs.Following.{Following, ShowsPast, starts, issues, answers, first_of, next_operation_of, after_issue, after_answer, last_answered, other_answered, is_finished, is_empty, left_of, loads_left, ready, past_fences, unfenced, spin_answered, spin_issued, ahead_issued}
 use Rattle.net_interface.proofs.Histories.{extends_refl, extends_set, with_answer, HasLastReply, last_reply_more, last_reply_answered, last_reply_other, last_shown, last_shown_before, last_known, last_reply_before, unanswered_more, unanswered_set, none_waits, all_answered, some_last, later_step}
 use Rattle.net_interface.proofs.Residual.{Leads, leads_start, leads_past_fences, leads_on, leads_over, leads_issued, HasLoads, WantsLoad, HasNoFence, step_to, step_ready, Continues, continues_nothing}
-use Rattle.net_interface.proofs.Places.{Each, each_from, each_past_fences, each_issued, each_unfenced, unfenced_cases, no_fence, no_fence_left, count_past_fences, count_unfenced, left_issued, left_answered, wants_left, spin_answered_cases, wants_none, wants_answered, begins_with_loads, accepted_loads, BeginsPlainly, accepted_start, known_operation, IsLineIn, IsSpinIn, spin_in_issued, spin_in_answered, ready_address}
+use Rattle.net_interface.proofs.Places.{Each, each_from, each_past_fences, each_issued, each_unfenced, unfenced_cases, no_fence, no_fence_left, count_past_fences, count_unfenced, left_issued, left_answered, wants_left, spin_answered_cases, wants_none, wants_answered, begins_with_loads, followable_loads, BeginsPlainly, followable_start, known_operation, IsLineIn, IsSpinIn, spin_in_issued, spin_in_answered, ready_address}
 
 pub record Stands (lines : List Line) (past : List Invocation) (f : Following) : Type 0 where
   pub issued : f.issued ≡ length past
@@ -27,17 +28,17 @@ pub record Stands (lines : List Line) (past : List Invocation) (f : Following) :
   pub spin : IsSpinIn lines f.spin
 
 -- the start
-stands_first : (lines : List Line) → IsAcceptedScript lines → Stands lines [] (first_of lines)
+stands_first : (lines : List Line) → IsFollowable lines → Stands lines [] (first_of lines)
 unfolding first_of
-stands_first lines accepted = record {
+stands_first lines followable = record {
   issued = refl;
   waiting = refl;
   last = refl;
   leads = leads_past_fences lines [] lines (leads_start lines) (λ i o g. cc);
-  loads = each_past_fences HasLoads lines (accepted_loads lines accepted);
+  loads = each_past_fences HasLoads lines (followable_loads lines followable);
   wants = tt;
   fence = λ _ _. no_fence lines;
-  begins = λ _. (refl, accepted_start lines accepted);
+  begins = λ _. (refl, followable_start lines followable);
   count = let e = count_past_fences lines in omega arith;
   ahead_in = each_past_fences (IsLineIn lines) lines (each_from (IsLineIn lines) lines (λ k first g. (k, g)));
   spin = tt;
@@ -134,31 +135,31 @@ module _ (lines : List Line) (past : List Invocation) (f : Following) (i : ℕ) 
       (λ e. stands_last (eqb-true (i + 1) f.issued e ∙ s.issued))
       (λ e. stands_other (λ k. eqb-false (i + 1) f.issued e (k ∙ sym s.issued)))
 
-pub stands : (lines : List Line) (past : List Invocation) (f : Following) → IsAcceptedScript lines → ShowsPast lines past f → Stands lines past f
-stands lines past f accepted starts = stands_first lines accepted
-stands lines past f accepted (issues before g o t h next answered) = stands_issued lines before g o t (stands lines before g accepted h) next answered
-stands lines past f accepted (answers before g i o t reply h at open_) = stands_answered lines before g i o t reply (stands lines before g accepted h) at open_
+pub stands : (lines : List Line) (past : List Invocation) (f : Following) → IsFollowable lines → ShowsPast lines past f → Stands lines past f
+stands lines past f followable starts = stands_first lines followable
+stands lines past f followable (issues before g o t h next answered) = stands_issued lines before g o t (stands lines before g followable h) next answered
+stands lines past f followable (answers before g i o t reply h at open_) = stands_answered lines before g i o t reply (stands lines before g followable h) at open_
 
 -- laws
-module _ (lines : List Line) (past : List Invocation) (f : Following) (accepted : IsAcceptedScript lines) (h : ShowsPast lines past f) where
+module _ (lines : List Line) (past : List Invocation) (f : Following) (followable : IsFollowable lines) (h : ShowsPast lines past f) where
   pub issued_is : f.issued ≡ length past
-  issued_is = (stands lines past f accepted h).issued
+  issued_is = (stands lines past f followable h).issued
 
   pub waiting_is : f.waiting ≡ unanswered past
-  waiting_is = (stands lines past f accepted h).waiting
+  waiting_is = (stands lines past f followable h).waiting
 
   pub last_is : f.last ≡ last_reply past
-  last_is = (stands lines past f accepted h).last
+  last_is = (stands lines past f followable h).last
 
   pub followed : FollowsScript lines past
   followed =
-      let s = stands lines past f accepted h in
+      let s = stands lines past f followable h in
       subst (FollowsScript lines) (append-nil past) (s.leads.to past [] (extends_refl past) tt (continues_nothing f.spin f.ahead past))
 
   pub ready_is_allowed : (o : Invocation) → AreAnswersBefore past o.issue → next_operation_of f ≡ Some o.operation → FollowsScript lines (past ++ o ∷ [])
   unfolding next_operation_of
   ready_is_allowed o before next =
-      let s = stands lines past f accepted h in
+      let s = stands lines past f followable h in
       s.leads.to past (o ∷ []) (extends_refl past) before
       (step_to f.spin f.ahead f.last past o [] next
       (λ reply is. last_reply_before past past o.issue reply (extends_refl past) (last_known past reply (sym s.last ∙ is)) before)
@@ -167,7 +168,7 @@ module _ (lines : List Line) (past : List Invocation) (f : Following) (accepted 
   pub allowed_is_ready : (o : Invocation) → FollowsScript lines (past ++ o ∷ []) → next_operation_of f ≡ Some o.operation
   unfolding next_operation_of
   allowed_is_ready o k =
-      let s = stands lines past f accepted h in
+      let s = stands lines past f followable h in
       step_ready f.spin f.ahead f.last past o []
       (λ reply l. s.last ∙ last_shown_before past o.issue reply l)
       (begins_with_loads f.ahead s.loads) s.wants
@@ -205,22 +206,22 @@ no_spin : (spin : Option OpenSpin) → is_none spin ≡ true → spin ≡ None
 no_spin None h = refl
 no_spin (Some s) h = cc
 
-module _ (lines : List Line) (past : List Invocation) (f : Following) (accepted : IsAcceptedScript lines) (h : ShowsPast lines past f) where
+module _ (lines : List Line) (past : List Invocation) (f : Following) (followable : IsFollowable lines) (h : ShowsPast lines past f) where
   pub progress : AreAnswered past → is_finished f ≡ false → IsSome (next_operation_of f)
   unfolding next_operation_of is_finished
   progress answered test =
-      let s = stands lines past f accepted h in
+      let s = stands lines past f followable h in
       let none = s.waiting ∙ none_waits past answered in
       ready_unless f.spin f.ahead f.last f.waiting past s.last answered (s.fence none) s.begins none test
 
   pub finished_is : is_finished f ≡ true → HasFinished lines past
   unfolding is_finished
   finished_is test =
-      let s = stands lines past f accepted h in
+      let s = stands lines past f followable h in
       let a = and_parts (is_empty f.ahead && is_none f.spin) (f.waiting == 0) test in
       let b = and_parts (is_empty f.ahead) (is_none f.spin) a.0 in
       record {
-        follows = followed lines past f accepted h;
+        follows = followed lines past f followable h;
         finished = record {
           answered = all_answered past (sym s.waiting ∙ eqb-true f.waiting 0 a.1);
           complete = λ o k.
@@ -235,21 +236,21 @@ module _ (lines : List Line) (past : List Invocation) (f : Following) (accepted 
       let r = some_value (next_operation_of f) (progress done.finished.answered test) in
       let t = later_step past in
       done.finished.complete (record { operation = r.0; issue = t.0; answer = None })
-      (ready_is_allowed lines past f accepted h (record { operation = r.0; issue = t.0; answer = None }) t.1 r.1))
+      (ready_is_allowed lines past f followable h (record { operation = r.0; issue = t.0; answer = None }) t.1 r.1))
 
   pub address_is : (o : Operation) → next_operation_of f ≡ Some o → IsAddressIn lines o.address
   unfolding next_operation_of
-  address_is o next = let s = stands lines past f accepted h in ready_address lines f.spin f.ahead f.last o s.ahead_in s.spin next
+  address_is o next = let s = stands lines past f followable h in ready_address lines f.spin f.ahead f.last o s.ahead_in s.spin next
 
   pub left_after_issue : (o : Operation) → next_operation_of f ≡ Some o → left_of (after_issue f) < left_of f
   unfolding next_operation_of after_issue left_of
   left_after_issue o next =
-      let s = stands lines past f accepted h in
+      let s = stands lines past f followable h in
       let k = left_issued f.spin f.ahead f.last o next (begins_with_loads f.ahead s.loads) (wants_left f.spin f.last s.wants) in omega arith
 
   pub left_within : length past + left_of f ≤ operation_count lines
   unfolding left_of
-  left_within = let s = stands lines past f accepted h in let e = s.issued in let k = s.count in omega arith
+  left_within = let s = stands lines past f followable h in let e = s.issued in let k = s.count in omega arith
 
 pub left_after_answer : (f : Following) (i : ℕ) (reply : Reply) → left_of (after_answer f i reply) ≤ left_of f
 unfolding after_answer left_of

@@ -1,5 +1,6 @@
 -- What a follower of a script keeps, and what its calls make of it.
-use Rattle.std.specs.Prelude.{◌≡◌, ℕ, ◌+◌, ◌-◌, ◌<◌, ◌==◌, ◌&&◌, ◌||◌, Bool, true, false, List, [], ◌∷◌, ◌++◌, Option, Some, None, is_none, option_map, option_and_then, slice_get, slice_set, if◌then◌else◌}
+use Rattle.std.specs.Prelude.{◌≡◌, ℕ, ◌+◌, ◌-◌, ◌<◌, ◌==◌, ◌&&◌, ◌||◌, Bool, true, false, List, [], ◌∷◌, ◌++◌, Option}
+use Rattle.std.specs.Prelude.{Some, None, is_none, option_map, option_and_then, slice_get, slice_set, if◌then◌else◌}
 use Rattle.packet.specs.declared.kinds.Op.{Op}
 use Rattle.packet.specs.declared.kinds.Op.TheVariants as op
 use Rattle.packet.specs.declared.kinds.Reply.{Reply}
@@ -8,10 +9,13 @@ use Rattle.script.specs.declared.line.Line.{Line}
 use Rattle.script.specs.declared.line.Line.TheVariants as line
 use Rattle.script.specs.declared.line.Value.{Value}
 use Rattle.script.specs.declared.line.Value.TheVariants.{Number, Last}
+use Rattle.script.specs.Scripts.{operation_count}
 use Rattle.net_interface.specs.declared.spin.OpenSpin.{OpenSpin}
-use Rattle.net_interface.specs.Scripts.{Invocation, number_of, operation_count, AreAnswersBefore}
+use Rattle.net_interface.specs.Scripts.{Invocation, reply_number, AreAnswersBefore}
 
--- what a follower keeps of a script: the lines of which nothing is issued, with no fence in front that holds nothing back; the spin that isn't over; how many operations are issued, and how many of these await an answer; and the reply to the last one, if it is answered
+-- what a follower keeps of a script: the lines of which nothing is issued, with no fence in front that holds
+-- nothing back; the spin that isn't over; how many operations are issued, and how many of these await an answer;
+-- and the reply to the last one, if it is answered
 pub record Following : Type 0 where
   pub ahead : List Line
   pub spin : Option OpenSpin
@@ -28,7 +32,7 @@ past_fences (first ∷ lines) = first ∷ lines
 -- what an operand stands for where the operation before has this reply
 abbrev pub operand_of : Value → Option Reply → Option ℕ
 operand_of (Number n) last = Some n
-operand_of Last last = option_map number_of last
+operand_of Last last = option_map reply_number last
 
 -- an operation with what the operand stands for, if that is known
 abbrev pub asked : (ℕ → Op) → ℕ → Value → Option Reply → Option Operation
@@ -97,7 +101,7 @@ after_issue f = record {
 -- a spin is over when its load is answered with the number sought, or no load is left
 abbrev pub spin_answered : Option OpenSpin → Reply → Option OpenSpin
 spin_answered None reply = None
-spin_answered (Some s) reply = if (number_of reply == s.sought) || (s.left == 0) then None else Some s
+spin_answered (Some s) reply = if (reply_number reply == s.sought) || (s.left == 0) then None else Some s
 
 -- nothing waits for an answer, and no spin wants another load: past every fence that comes next
 abbrev pub unfenced : Option OpenSpin → ℕ → List Line → List Line
@@ -144,7 +148,9 @@ HasLoad (Some s) (Some reply) = 0 < s.left
 unfoldable pub left_of : Following → ℕ
 left_of f = loads_left f.spin + operation_count f.ahead
 
--- a follower of these lines shows these operations: its calls led there, each operation issued when it was ready and later than every answer before, and each answered at most once, with any reply, at any step (a reachable state and its history)
+-- a follower of these lines shows these operations: its calls led there, each operation issued when it was ready
+-- and later than every answer before, and each answered at most once, with any reply, at any step (a reachable
+-- state and its history)
 pub data ShowsPast (lines : List Line) : List Invocation → Following → Type 0 where
   starts : ShowsPast lines [] (first_of lines)
   issues : (past : List Invocation) (f : Following) (o : Operation) (t : ℕ) →

@@ -1,9 +1,9 @@
 -- What a `Follower`'s fields stand for, and what is true of each.
 use Rattle.std.specs.Prelude.{◌≡◌, ℕ, ◌+◌, ◌<◌, ◌≤◌, ◌^◌, Some, length, drop, slice_get}
 use Rattle.script.specs.declared.line.Line.TheVariants.{Spin}
+use Rattle.script.specs.Scripts.{operation_count}
 use Rattle.net_interface.specs.declared.follower.Follower.TheInside.{Inside}
 use Rattle.net_interface.specs.Following.{Following, loads_left, HasLoad}
-use Rattle.net_interface.specs.Scripts.{operation_count}
 
 abbrev pub following_of : {A : Type 0} → Inside A → Following
 following_of a = record { ahead = drop a.at a.lines.items; spin = a.spin; issued = a.issued; waiting = a.waiting; last = a.last }

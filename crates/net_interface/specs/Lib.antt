@@ -1,3 +1,4 @@
 pub mod Scripts
+pub mod Homes
 pub mod Following
 pub mod Inside

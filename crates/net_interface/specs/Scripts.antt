@@ -1,5 +1,6 @@
 -- What a processor's script allows it to issue, said of the operations that it issued, when, and when they were answered.
-use Rattle.std.specs.Prelude.{◌≡◌, ℕ, zero, suc, ◌+◌, ◌-◌, ◌<◌, ◌==◌, ◌⊎◌, List, [], ◌∷◌, ◌++◌, Option, Some, None, option_map, option_and_then, length, slice_get}
+use Rattle.std.specs.Prelude.{◌≡◌, ℕ, zero, suc, ◌+◌, ◌-◌, ◌<◌, ◌==◌, true, List, [], ◌∷◌, ◌++◌, Option, Some, None}
+use Rattle.std.specs.Prelude.{option_map, option_and_then, length, take, slice_get}
 use Rattle.std.specs.Bool.{MatchBool}
 use Rattle.packet.specs.declared.kinds.Op.{Op}
 use Rattle.packet.specs.declared.kinds.Op.TheVariants as op
@@ -10,17 +11,19 @@ use Rattle.script.specs.declared.line.Line.{Line}
 use Rattle.script.specs.declared.line.Line.TheVariants as line
 use Rattle.script.specs.declared.line.Value.{Value}
 use Rattle.script.specs.declared.line.Value.TheVariants.{Number, Last}
+use Rattle.script.specs.Scripts.{operation_count, mentions_last}
 
--- an operation that a processor issued: what it asks, the step of its issue, and, if it is answered, the step of that and the reply (Herlihy and Wing, TOPLAS 12(3), 1990: an invocation and its response)
+-- an operation that a processor issued: what it asks, the step of its issue, and, if it is answered, the step of
+-- that and the reply (Herlihy and Wing, TOPLAS 12(3), 1990: an invocation and its response)
 pub record Invocation : Type 0 where
   pub operation : Operation
   pub issue : ℕ
   pub answer : Option (ℕ × Reply)
 
 -- the number that a reply brings; `ok` counts as 0 (this project's own format)
-abbrev pub number_of : Reply → ℕ
-number_of Stored = 0
-number_of (Old w) = w
+abbrev pub reply_number : Reply → ℕ
+reply_number Stored = 0
+reply_number (Old w) = w
 
 -- it was answered before step t, with this reply
 abbrev pub IsAnsweredBefore : Invocation → ℕ → Reply → Type 0
@@ -30,10 +33,11 @@ IsAnsweredBefore o t reply = (a : ℕ) × (o.answer ≡ Some (a, reply)) × (a <
 abbrev pub IsLastReply : List Invocation → ℕ → Reply → Type 0
 IsLastReply past t reply = (o : Invocation) × (slice_get past (length past - 1) ≡ Some o) × IsAnsweredBefore o t reply
 
--- x is what an operand stands for in an operation issued at step t after these: a number, or the number replied to the operation just before (this project's own format)
+-- x is what an operand stands for in an operation issued at step t after these: a number, or the number replied
+-- to the operation just before (this project's own format)
 abbrev pub IsOperand : Value → List Invocation → ℕ → ℕ → Type 0
 IsOperand (Number n) past t x = x ≡ n
-IsOperand Last past t x = (reply : Reply) × IsLastReply past t reply × (x ≡ number_of reply)
+IsOperand Last past t x = (reply : Reply) × IsLastReply past t reply × (x ≡ reply_number reply)
 
 -- it is an operation of this kind and address, with what the operand stands for
 abbrev pub Asks : (ℕ → Op) → ℕ → Value → List Invocation → Invocation → Type 0
@@ -55,11 +59,12 @@ IsOf (line.Min a v) past o = Asks op.Min a v past o
 IsOf line.Fence past o = ⊥
 IsOf (line.Spin a v m) past o = ⊥
 
--- what may follow a load of a spin, the last of `past`: nothing yet; or, issued after its answer, what comes after the spin where the answer is the number sought, and the spin again where it is another
+-- what may follow a load of a spin, the last of `past`: nothing yet; or, issued after its answer, what comes
+-- after the spin where the answer is the number sought, and the spin again where it is another
 abbrev pub AfterLoad : ℕ → (List Invocation → List Invocation → Type 0) → (List Invocation → List Invocation → Type 0) → List Invocation → List Invocation → Type 0
 AfterLoad sought over again past [] = Unit {0}
 AfterLoad sought over again past (o ∷ ops) =
-    (reply : Reply) × IsLastReply past o.issue reply × MatchBool (number_of reply == sought) (over past (o ∷ ops)) (again past (o ∷ ops))
+    (reply : Reply) × IsLastReply past o.issue reply × MatchBool (reply_number reply == sought) (over past (o ∷ ops)) (again past (o ∷ ops))
 
 -- all of these were answered before step t
 abbrev pub AreAnsweredBefore : List Invocation → ℕ → Type 0
@@ -73,7 +78,8 @@ Spins a sought (suc most) over past [] = Unit {0}
 Spins a sought (suc most) over past (o ∷ ops) =
     (o.operation ≡ record { address = a; op = op.Load }) × AfterLoad sought over (Spins a sought most over) (past ++ o ∷ []) ops
 
--- after the operations `past` the lines allow the operations `ops`, as far as these go: each line's operation in turn; past a fence only when every earlier one is answered (this project's own format)
+-- after the operations `past` the lines allow the operations `ops`, as far as these go: each line's operation in
+-- turn; past a fence only when every earlier one is answered (this project's own format)
 abbrev pub Allows : List Line → List Invocation → List Invocation → Type 0
 Allows [] past [] = Unit {0}
 Allows [] past (o ∷ ops) = ⊥
@@ -144,39 +150,9 @@ address_of (line.Spin a v m) = Some a
 abbrev pub IsAddressIn : List Line → ℕ → Type 0
 IsAddressIn lines a = (k : ℕ) × (first : Line) × (slice_get lines k ≡ Some first) × (address_of first ≡ Some a)
 
--- how many operations a line allows at most: a fence none, a spin its greatest number of loads
-abbrev pub count_of : Line → ℕ
-count_of line.Fence = 0
-count_of (line.Spin a v m) = m
-count_of first = 1
-
--- how many operations a script allows at most
-abbrev pub operation_count : List Line → ℕ
-operation_count [] = 0
-operation_count (first ∷ lines) = count_of first + operation_count lines
-
--- an operand that is the number replied before
-abbrev pub IsLast : Value → Type 0
-IsLast (Number n) = ⊥
-IsLast Last = Unit {0}
-
--- a line that names the number replied before
-abbrev pub UsesLast : Line → Type 0
-UsesLast (line.Load a) = ⊥
-UsesLast (line.Store a v) = IsLast v
-UsesLast (line.Swap a v) = IsLast v
-UsesLast (line.Cas a e n) = IsLast e ⊎ IsLast n
-UsesLast (line.Add a v) = IsLast v
-UsesLast (line.And a v) = IsLast v
-UsesLast (line.Or a v) = IsLast v
-UsesLast (line.Xor a v) = IsLast v
-UsesLast (line.Max a v) = IsLast v
-UsesLast (line.Min a v) = IsLast v
-UsesLast line.Fence = ⊥
-UsesLast (line.Spin a v m) = ⊥
-
--- a script that a processor can follow to its end: each spin makes at least one load, and before a line that names the number replied before there stands an operation or a spin (this project's own format)
-pub record IsAcceptedScript (lines : List Line) : Type 0 where
+-- what a follower asks of lines: each spin makes at least one load, and before a line that names the number
+-- replied before there stands an operation. Accepted scripts are such, for any number of words (this project's
+-- own format)
+pub record IsFollowable (lines : List Line) : Type 0 where
   pub loads : (k a v m : ℕ) → slice_get lines k ≡ Some (line.Spin a v m) → 0 < m
-  pub last : (k : ℕ) (first : Line) → slice_get lines k ≡ Some first → UsesLast first →
-      (j a : ℕ) × (earlier : Line) × (j < k) × (slice_get lines j ≡ Some earlier) × (address_of earlier ≡ Some a)
+  pub lasts : (k : ℕ) (first : Line) → slice_get lines k ≡ Some first → mentions_last first ≡ true → 0 < operation_count (take k lines)

@@ -1,10 +1,13 @@
 //! The follower of one processor's script.
 
 ghost use Rattle.std.specs.Prelude.{◌≡◌, ℕ, ◌^◌, ◌<◌, ◌≤◌, ◌==◌, ◌&&◌, length, drop, slice_get, is_none, IsSome, Some, None, option_map};
-ghost use Rattle.net_interface.specs.Scripts.{operation_count, IsAcceptedScript};
-ghost use Rattle.net_interface.specs.Following.{operand_of, operation_of, ready, first_operation, opened, spin_issued, ahead_issued, unfenced, is_empty, past_fences, first_of, next_operation_of, after_issue, after_answer, is_finished};
+ghost use Rattle.script.specs.Scripts.{operation_count};
+ghost use Rattle.net_interface.specs.Scripts.{IsFollowable};
+ghost use Rattle.net_interface.specs.Following.{operand_of, operation_of, ready, first_operation, opened};
+ghost use Rattle.net_interface.specs.Following.{spin_issued, ahead_issued, unfenced, is_empty, past_fences, first_of};
+ghost use Rattle.net_interface.specs.Following.{next_operation_of, after_issue, after_answer, is_finished};
 
-use crate::spin::{OpenSpin, number_of, spin_answered};
+use crate::spin::{OpenSpin, reply_number, spin_answered};
 use packet::{Op, Operation, Reply};
 use script::{Line, Value};
 use std::alloc::{Allocator, Global};
@@ -37,9 +40,9 @@ impl<A: Allocator> Model for Follower<A> {
 }
 
 impl<A: Allocator> Follower<A> {
-    /// A follower of an accepted script, at its start.
+    /// A follower of a script, at its start.
     pub fn new(lines: Vec<Line, A>) -> Follower<A>
-        requires accepted { IsAcceptedScript lines.items }
+        requires followable { IsFollowable lines.items }
         requires few { operation_count lines.items < 2 ^ 32 }
         ensures { result ≡ first_of lines.items }
     {
@@ -104,7 +107,7 @@ fn operand_of(value: Value, last: Option<Reply>) -> Option<u64>
 {
     match value {
         Value::Number(number) => Some(number),
-        Value::Last => last.map(number_of),
+        Value::Last => last.map(reply_number),
     }
 }
 

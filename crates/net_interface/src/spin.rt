@@ -1,13 +1,13 @@
 //! A spin that isn't over.
 
 ghost use Rattle.std.specs.Prelude.{◌≡◌, ◌<◌};
-ghost use Rattle.net_interface.specs.Scripts.{number_of};
+ghost use Rattle.net_interface.specs.Scripts.{reply_number};
 ghost use Rattle.net_interface.specs.Following.{spin_answered};
 
 use packet::Reply;
 
 /// A spin of which a load is issued, and which isn't over.
-#[derive(Clone, Copy, Debug, PartialEq, Eq)]
+#[derive(Clone, Copy)]
 pub struct OpenSpin {
     pub address: u32,
     /// The number whose reply ends the spin.
@@ -17,8 +17,8 @@ pub struct OpenSpin {
 }
 
 /// The number that a reply brings; `Ok` counts as 0.
-pub(crate) fn number_of(reply: Reply) -> u64
-    ensures { result ≡ number_of reply }
+pub(crate) fn reply_number(reply: Reply) -> u64
+    ensures { result ≡ reply_number reply }
 {
     match reply {
         Reply::Ok => 0,
@@ -32,7 +32,7 @@ pub(crate) fn spin_answered(spin: Option<OpenSpin>, reply: Reply) -> Option<Open
     ensures { result ≡ spin_answered spin reply }
 {
     match spin {
-        Some(open) if number_of(reply) != open.sought && open.left != 0 => spin,
+        Some(open) if reply_number(reply) != open.sought && open.left != 0 => spin,
         _ => None,
     }
 }

@@ -17,28 +17,28 @@ enum Act {
     Ends,
 }
 
-fn walk(rt: &impl Abort, mut follower: Follower, acts: &[Act]) {
+/// Looks at which operation is ready, and at whether the script is finished.
+fn looks<R: Abort>(rt: &R, follower: &Follower, next: Option<(u32, Op)>, finished: bool) {
+    assert_eq!(rt;
+        (follower.next_operation(), follower.finished()),
+        (next, finished)
+    );
+}
+
+fn walk<R: Abort>(rt: &R, mut follower: Follower, acts: &[Act]) {
     let mut issued = 0u32;
     for act in acts {
         match *act {
             Act::Issues(address, op) => {
-                let next = follower.next_operation();
-                assert_eq!(rt; next, Some((address, op)));
-                assert!(rt; !follower.finished());
-                if next.is_some() {
+                looks(rt, &follower, Some((address, op)), false);
+                if follower.next_operation().is_some() {
                     assert_eq!(rt; follower.issue(), issued);
                 }
                 issued = issued.saturating_add(1);
             }
-            Act::Waits => {
-                assert_eq!(rt; follower.next_operation(), None);
-                assert!(rt; !follower.finished());
-            }
+            Act::Waits => looks(rt, &follower, None, false),
             Act::Answers(index, reply) => follower.answer(index, reply),
-            Act::Ends => {
-                assert_eq!(rt; follower.next_operation(), None);
-                assert!(rt; follower.finished());
-            }
+            Act::Ends => looks(rt, &follower, None, true),
         }
     }
 }
@@ -63,7 +63,7 @@ fn a_spin_ends_by_its_count(rt: HostRuntime) -> Result<(), Fail> {
 }
 
 #[test]
-#[tactic(auto, using(crate::proofs::Accepted::accepted_by))]
+#[tactic(auto, using(crate::proofs::Followable::followable_by))]
 fn a_spin_ends_where_its_first_load_finds_the_number(rt: HostRuntime) -> Result<(), Fail> {
     let lines = vec![in rt.alloc(); Line::Spin(3, 5, 3), Line::Store(4, Value::Last)]?;
     let acts = [
@@ -98,7 +98,7 @@ fn a_spin_ends_where_a_middle_load_finds_the_number(rt: HostRuntime) -> Result<(
 }
 
 #[test]
-#[tactic(auto, using(crate::proofs::Accepted::accepted_by))]
+#[tactic(auto, using(crate::proofs::Followable::followable_by))]
 fn last_after_a_spin_is_the_reply_of_its_last_load(rt: HostRuntime) -> Result<(), Fail> {
     for found in [5, 6] {
         let lines = vec![in rt.alloc(); Line::Spin(3, 5, 2), Line::Swap(4, Value::Last)]?;
@@ -137,7 +137,7 @@ fn a_spin_of_one_load(rt: HostRuntime) -> Result<(), Fail> {
 }
 
 #[test]
-#[tactic(auto, using(crate::proofs::Accepted::accepted_by))]
+#[tactic(auto, using(crate::proofs::Followable::followable_by))]
 fn last_is_the_number_replied_just_before(rt: HostRuntime) -> Result<(), Fail> {
     let lines = vec![in rt.alloc(); Line::Load(4), Line::Store(5, Value::Last)]?;
     let acts = [
@@ -154,7 +154,7 @@ fn last_is_the_number_replied_just_before(rt: HostRuntime) -> Result<(), Fail> {
 }
 
 #[test]
-#[tactic(auto, using(crate::proofs::Accepted::accepted_by))]
+#[tactic(auto, using(crate::proofs::Followable::followable_by))]
 fn ok_counts_as_0(rt: HostRuntime) -> Result<(), Fail> {
     let lines = vec![in rt.alloc();
         Line::Store(0, Value::Number(7)),
@@ -181,7 +181,7 @@ fn a_script_without_operations_is_finished(rt: HostRuntime) -> Result<(), Fail> 
 }
 
 #[test]
-#[tactic(auto, using(crate::proofs::Accepted::accepted_by))]
+#[tactic(auto, using(crate::proofs::Followable::followable_by))]
 fn every_kind_of_line(rt: HostRuntime) -> Result<(), Fail> {
     let lines = vec![in rt.alloc();
         Line::Fence,

@@ -1,5 +1,7 @@
 -- The machine text: what each line makes of what the lines before it made, and what the whole text is.
-use Rattle.std.specs.Prelude.{ℕ, ◌+◌, ◌^◌, ◌<◌, ◌≤◌, ◌&&◌, ◌==◌, Bool, true, false, not, nat_le, nat_lt, List, [], ◌∷◌, length, replicate, slice_index, slice_set, is_some, ok_or, unwrap_or, Result, Ok, Err, if◌then◌else◌, codes}
+use Rattle.std.specs.Prelude.{ℕ, ◌+◌, ◌^◌, ◌<◌, ◌≤◌, ◌&&◌, ◌==◌, Bool, true, false, not, nat_le, nat_lt, List, []}
+use Rattle.std.specs.Prelude.{◌∷◌, length, replicate, slice_index, slice_set, is_some, ok_or, unwrap_or, Result, Ok}
+use Rattle.std.specs.Prelude.{Err, if◌then◌else◌, codes}
 use Rattle.std.specs.List.{slice_index_or}
 use Rattle.std.specs.Str.{bytes_eq}
 use Rattle.torus.specs.declared.fault.Fault.{Fault}
@@ -10,7 +12,8 @@ use Rattle.script.specs.Outcome.{◌>>=◌, then_lines}
 use Rattle.script.specs.Words.{words_of, value_of, begins_comment}
 use Rattle.script.specs.Settings.{Settings, no_settings, an_index, one_index, after_setting, spread, last_digits}
 
--- a machine as its text gives it: the torus (Dally and Towles, chapter 5), the flits that a channel holds (chapter 13), the tags of a processor, and the opening words by address
+-- a machine as its text gives it: the torus (Dally and Towles, chapter 5), the flits that a channel holds
+-- (chapter 13), the tags of a processor, and the opening words by address
 pub record MachineSpec : Type 0 where
   pub shape : Shape
   pub depth : ℕ
@@ -85,7 +88,8 @@ machine_with r =
       opening = r.opening;
     })
 
--- the machine of these lines, of which the first has this number, after what was read; or the fault of the first bad line. A setting that is missing shows at the line after the last
+-- the machine of these lines, of which the first has this number, after what was read; or the fault of the first
+-- bad line. A setting that is missing shows at the line after the last
 abbrev pub machine_from : Reading → ℕ → List (List ℕ) → Result MachineSpec LineFault
 machine_from r number [] = then_lines number (machine_with r) Ok
 machine_from r number (line ∷ lines) = then_lines number (after_words r (words_of line)) (λ next. machine_from next (number + 1) lines)

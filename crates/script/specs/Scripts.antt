@@ -1,5 +1,7 @@
 -- The script text: what each line makes of what the lines before it made, and what the whole text is.
-use Rattle.std.specs.Prelude.{◌≡◌, ℕ, ◌+◌, ◌^◌, ◌<◌, ◌≤◌, ◌&&◌, ◌||◌, ◌==◌, Bool, true, false, nat_le, nat_lt, List, [], ◌∷◌, ◌++◌, length, take, replicate, sum_by, slice_get, slice_set, Some, Result, Ok, Err, if◌then◌else◌}
+use Rattle.std.specs.Prelude.{◌≡◌, ℕ, ◌+◌, ◌^◌, ◌<◌, ◌≤◌, ◌&&◌, ◌||◌, ◌==◌, Bool, true, false, nat_le, nat_lt, List}
+use Rattle.std.specs.Prelude.{[], ◌∷◌, ◌++◌, length, take, replicate, sum_by, slice_get, slice_set, Some, Result, Ok}
+use Rattle.std.specs.Prelude.{Err, if◌then◌else◌}
 use Rattle.std.specs.List.{slice_index_or}
 use Rattle.torus.specs.declared.fault.Fault.{Fault}
 use Rattle.torus.specs.declared.fault.Fault.TheVariants as fault
@@ -74,7 +76,8 @@ add_line lists p line =
     then Ok (slice_set lists p (script_of lists p ++ line ∷ []))
     else Err fault.Length)
 
--- what the words of a line make of the scripts; a line without words and a comment are skipped. After the shape come the processor, the address, the numbers, `last` and the count
+-- what the words of a line make of the scripts; a line without words and a comment are skipped. After the shape
+-- come the processor, the address, the numbers, `last` and the count
 abbrev pub take_line : ℕ → List (List Line) → List ℕ → List (List ℕ) → Result (List (List Line)) Fault
 take_line words lists processor rest =
     an_index processor >>= λ p. form_of rest >>= λ form.

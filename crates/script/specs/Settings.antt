@@ -1,5 +1,7 @@
 -- What the lines of a machine text ask for, and their checks in order (this project's own format).
-use Rattle.std.specs.Prelude.{◌≡◌, ℕ, ◌-◌, ◌≤◌, ◌&&◌, ◌==◌, true, not, nat_le, List, [], ◌∷◌, length, map, replicate, Option, Some, None, is_some, ok_or, Result, Ok, Err, if◌then◌else◌, IfSome, IsSomeAnd, codes}
+use Rattle.std.specs.Prelude.{◌≡◌, ℕ, ◌-◌, ◌≤◌, ◌&&◌, ◌==◌, true, not, nat_le, List, [], ◌∷◌, length, map, replicate}
+use Rattle.std.specs.Prelude.{Option, Some, None, is_some, ok_or, Result, Ok, Err, if◌then◌else◌, IfSome, IsSomeAnd}
+use Rattle.std.specs.Prelude.{codes}
 use Rattle.std.specs.List.{list_all}
 use Rattle.std.specs.Str.{bytes_eq}
 use Rattle.torus.specs.declared.fault.Fault.{Fault}

@@ -1,11 +1,11 @@
-ghost use Rattle.std.specs.Prelude.{◌≡◌, ◌≤◌, map};
+ghost use Rattle.std.specs.Prelude.{◌≡◌, ◌≤◌, ◌∷◌, [], map};
 ghost use Rattle.script.specs.Steps.{choice_word, a_choice, attempt_of, processor_choice, router_choice, bank_choice, agent_choice, step_of};
 
-use crate::form::an_index;
+use crate::number::an_index;
 use torus::{Choice, Fault, Step};
 
 /// A word for a choice.
-#[derive(Clone, Copy, Debug, PartialEq, Eq)]
+#[derive(Clone, Copy)]
 pub(crate) enum ChoiceWord {
     Send,
     Take,
@@ -17,7 +17,7 @@ pub(crate) enum ChoiceWord {
 }
 
 /// A line of a steps text before it is checked that there is such an agent and such a choice.
-#[derive(Clone, Copy, Debug, PartialEq, Eq)]
+#[derive(Clone, Copy)]
 pub(crate) struct Attempt {
     pub(crate) agent: u32,
     pub(crate) word: ChoiceWord,
@@ -67,27 +67,32 @@ pub(crate) fn attempt_of(words: &[&[u8]]) -> Result<Attempt, Fault>
     match words {
         [] => Err(Fault::Line),
         [_] => Err(Fault::Line),
-        [agent, word] => {
-            let agent = an_index(agent)?;
-            let word = a_choice(word)?;
-            Ok(Attempt {
-                agent,
-                word,
-                number: None,
-            })
-        }
-        [agent, word, number] => {
-            let agent = an_index(agent)?;
-            let word = a_choice(word)?;
-            let number = an_index(number)?;
-            Ok(Attempt {
-                agent,
-                word,
-                number: Some(number),
-            })
-        }
+        [agent, word] => two_words(agent, word),
+        [agent, word, number] => three_words(agent, word, number),
         [_, _, _, _, ..] => Err(Fault::Line),
     }
+}
+
+/// What an agent and a choice say.
+fn two_words(agent: &[u8], word: &[u8]) -> Result<Attempt, Fault>
+    ensures { result ≡ attempt_of (agent.now ∷ word.now ∷ []) }
+{
+    Ok(Attempt {
+        agent: an_index(agent)?,
+        word: a_choice(word)?,
+        number: None,
+    })
+}
+
+/// What an agent, a choice and the number of an input or output say.
+fn three_words(agent: &[u8], word: &[u8], number: &[u8]) -> Result<Attempt, Fault>
+    ensures { result ≡ attempt_of (agent.now ∷ word.now ∷ number.now ∷ []) }
+{
+    Ok(Attempt {
+        agent: an_index(agent)?,
+        word: a_choice(word)?,
+        number: Some(an_index(number)?),
+    })
 }
 
 impl ChoiceWord {

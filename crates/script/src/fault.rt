@@ -1,15 +1,22 @@
 ghost use Rattle.std.specs.Prelude.{◌≡◌};
 ghost use Rattle.script.specs.Outcome.{line_of_fault};
 
+use std::fmt;
 use thiserror::Error;
 use torus::Fault;
 
-/// The first fault of a text and the number of its line, from 1. Want of memory is at line 0.
+/// The first fault of a text and the number of its line, from 1. Want of memory is at line 0. Prints
+/// as `fault F7 at line 3`.
 #[derive(Clone, Copy, Debug, PartialEq, Eq, Error)]
-#[error("fault {fault} at line {line}")]
 pub struct LineFault {
     pub fault: Fault,
     pub line: u64,
+}
+
+impl fmt::Display for LineFault {
+    fn fmt<W: fmt::Write>(&self, f: &mut fmt::Formatter<W>) -> fmt::Result {
+        write!(f, "fault {} at line {}", self.fault, self.line)
+    }
 }
 
 /// A fault that was found at a line.

@@ -1,4 +1,4 @@
-ghost use Rattle.std.specs.Prelude.{◌≡◌, ◌≤◌, true, length, map, ◌-◌, take, IfOk};
+ghost use Rattle.std.specs.Prelude.{◌≡◌, ◌≤◌, true, length, map, ◌-◌, ◌∷◌, [], take, IfOk};
 ghost use Rattle.std.specs.List.{list_all};
 ghost use Rattle.torus.specs.Refusal.{mixed_of, is_radix, is_dims};
 ghost use Rattle.torus.specs.Shape.{product, IsAccepted};
@@ -6,11 +6,11 @@ ghost use Rattle.script.specs.Outcome.{Agrees};
 ghost use Rattle.script.specs.Settings.{few_indexes, one_index, spread, last_digits, counted, dated};
 ghost use Rattle.script.specs.Views.{few_list};
 
-use crate::number::index;
+use crate::number::an_index;
 use torus::{Fault, Torus};
 
 /// One number for each of one to three dimensions, or one for all.
-#[derive(Clone, Copy, Debug, PartialEq, Eq)]
+#[derive(Clone, Copy)]
 pub(crate) enum Few {
     One(u32),
     Two(u32, u32),
@@ -22,21 +22,31 @@ pub(crate) fn few_indexes(values: &[&[u8]]) -> Result<Few, Fault>
     ensures { Agrees few_list result (few_indexes (map (λ value. value.now) values.now)) }
 {
     match values {
-        [a] => Ok(Few::One(index(a).ok_or(Fault::Line)?)),
-        [a, b] => {
-            let a = index(a).ok_or(Fault::Line)?;
-            let b = index(b).ok_or(Fault::Line)?;
-            Ok(Few::Two(a, b))
-        }
-        [a, b, c] => {
-            let a = index(a).ok_or(Fault::Line)?;
-            let b = index(b).ok_or(Fault::Line)?;
-            let c = index(c).ok_or(Fault::Line)?;
-            Ok(Few::Three(a, b, c))
-        }
+        [a] => Ok(Few::One(an_index(a)?)),
+        [a, b] => two_indexes(a, b),
+        [a, b, c] => three_indexes(a, b, c),
         [] => Err(Fault::Line),
         [_, _, _, _, ..] => Err(Fault::Line),
     }
+}
+
+/// Two numbers.
+fn two_indexes(a: &[u8], b: &[u8]) -> Result<Few, Fault>
+    ensures { Agrees few_list result (few_indexes (a.now ∷ b.now ∷ [])) }
+{
+    let a = an_index(a)?;
+    let b = an_index(b)?;
+    Ok(Few::Two(a, b))
+}
+
+/// Three numbers.
+fn three_indexes(a: &[u8], b: &[u8], c: &[u8]) -> Result<Few, Fault>
+    ensures { Agrees few_list result (few_indexes (a.now ∷ b.now ∷ c.now ∷ [])) }
+{
+    let a = an_index(a)?;
+    let b = an_index(b)?;
+    let c = an_index(c)?;
+    Ok(Few::Three(a, b, c))
 }
 
 /// The one number after a keyword.
@@ -44,7 +54,7 @@ pub(crate) fn one_index(values: &[&[u8]]) -> Result<u32, Fault>
     ensures { result ≡ one_index (map (λ value. value.now) values.now) }
 {
     match values {
-        [value] => index(value).ok_or(Fault::Line),
+        [value] => an_index(value),
         _ => Err(Fault::Line),
     }
 }

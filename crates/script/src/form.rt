@@ -1,21 +1,22 @@
 ghost use Rattle.std.specs.Prelude.{◌≡◌, map, IfOk};
-ghost use Rattle.script.specs.Form.{form_of, one_word, two_words, three_words, four_words, update_form, cas_form, spin_form, one_value, operand_of, checked_word, checked_value, update_line, line_of_form, below};
+ghost use Rattle.script.specs.Form.{form_of, one_word, two_words, three_words, four_words, update_form, cas_form};
+ghost use Rattle.script.specs.Form.{spin_form, one_value, operand_of, checked_word, checked_value, update_line};
+ghost use Rattle.script.specs.Form.{line_of_form, below};
 ghost use Rattle.script.specs.Scripts.{IsAcceptedLine};
-ghost use Rattle.script.specs.Settings.{an_index};
 
-use crate::number::{index, value};
+use crate::number::{a_value, an_index, value};
 use crate::{Line, Value};
 use torus::Fault;
 
 /// A value as a line gives it, before it is checked to be a word.
-#[derive(Clone, Copy, Debug, PartialEq, Eq)]
+#[derive(Clone, Copy)]
 pub(crate) enum Operand {
     Number(u128),
     Last,
 }
 
 /// An operation of one value that replies or drops the old word.
-#[derive(Clone, Copy, Debug, PartialEq, Eq)]
+#[derive(Clone, Copy)]
 pub(crate) enum Update {
     Store,
     Swap,
@@ -28,7 +29,7 @@ pub(crate) enum Update {
 }
 
 /// What stands after the processor, before its numbers are checked.
-#[derive(Clone, Copy, Debug, PartialEq, Eq)]
+#[derive(Clone, Copy)]
 pub(crate) enum Form {
     Fence,
     Load(u32),
@@ -81,13 +82,6 @@ fn update_of(keyword: &[u8]) -> Option<Update>
     None
 }
 
-/// The number that a word spells where one belongs.
-pub(crate) fn an_index(word: &[u8]) -> Result<u32, Fault>
-    ensures { result ≡ an_index word.now }
-{
-    index(word).ok_or(Fault::Line)
-}
-
 /// An operation of one value.
 fn update_form(update: Update, a: &[u8], v: &[u8]) -> Result<Form, Fault>
     ensures { result ≡ update_form update a.now v.now }
@@ -112,7 +106,7 @@ fn spin_form(a: &[u8], v: &[u8], m: &[u8]) -> Result<Form, Fault>
     ensures { result ≡ spin_form a.now v.now m.now }
 {
     let a = an_index(a)?;
-    let v = value(v).ok_or(Fault::Line)?;
+    let v = a_value(v)?;
     let m = an_index(m)?;
     Ok(Form::Spin(a, v, m))
 }

@@ -1,5 +1,5 @@
 /// A value in a script: a number, or the number that the operation just before was answered.
-#[derive(Clone, Copy, Debug, PartialEq, Eq)]
+#[derive(Clone, Copy, PartialEq, Eq)]
 pub enum Value {
     Number(u64),
     /// The number replied to the operation just before it in the same script; `ok` counts as 0.
@@ -7,7 +7,7 @@ pub enum Value {
 }
 
 /// A line of one processor's script. The first number is the address.
-#[derive(Clone, Copy, Debug, PartialEq, Eq)]
+#[derive(Clone, Copy, PartialEq, Eq)]
 pub enum Line {
     Load(u32),
     Store(u32, Value),

@@ -118,7 +118,10 @@ pub fn read_machine<A: Allocator + Copy>(alloc: A, text: &[u8]) -> Result<Machin
         number += 1;
         rest = after;
     }
-    machine_with(reading).map_err(|fault| fault_at(fault, number))
+    match machine_with(reading) {
+        Ok(machine) => Ok(machine),
+        Err(fault) => Err(fault_at(fault, number)),
+    }
 }
 
 /// The machine of settings that are all given.

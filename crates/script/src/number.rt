@@ -1,5 +1,8 @@
-ghost use Rattle.std.specs.Prelude.{◌≡◌};
+ghost use Rattle.std.specs.Prelude.{◌≡◌, ok_or};
+ghost use Rattle.script.specs.Settings.{an_index};
 ghost use Rattle.script.specs.Words.{index_of, value_of};
+
+use torus::Fault;
 
 /// What a word spells that is too large for any index: 2^31.
 const MOST_INDEX: u64 = 1 << 31;
@@ -9,7 +12,7 @@ const MOST_VALUE: u128 = 1 << 64;
 
 /// The index that a word spells; from 2^31 on they are all one.
 #[tactic(auto, using(crate::proofs::Numbers::value_more, crate::proofs::Numbers::digits_drop))]
-pub(crate) fn index(word: &[u8]) -> Option<u32>
+fn index(word: &[u8]) -> Option<u32>
     ensures { result ≡ index_of word.now }
 {
     if word.is_empty() {
@@ -41,4 +44,18 @@ pub(crate) fn value(word: &[u8]) -> Option<u128>
         number = (number * 10 + u128::from(*digit - b'0')).min(MOST_VALUE);
     }
     Some(number)
+}
+
+/// The index that a word spells where one belongs.
+pub(crate) fn an_index(word: &[u8]) -> Result<u32, Fault>
+    ensures { result ≡ an_index word.now }
+{
+    index(word).ok_or(Fault::Line)
+}
+
+/// The value that a word spells where one belongs.
+pub(crate) fn a_value(word: &[u8]) -> Result<u128, Fault>
+    ensures { result ≡ ok_or (value_of word.now) Fault.Line }
+{
+    value(word).ok_or(Fault::Line)
 }

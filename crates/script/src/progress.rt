@@ -4,8 +4,9 @@ ghost use Rattle.script.specs.ScriptViews.{lists_of, IsCounted};
 ghost use Rattle.script.specs.Outcome.{Makes};
 
 use crate::Line;
-use crate::form::{an_index, form_of};
+use crate::form::form_of;
 use crate::lists::{LineList, empty_lists, push_line};
+use crate::number::an_index;
 use std::alloc::{AllocError, Allocator};
 use torus::Fault;
 

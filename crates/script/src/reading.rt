@@ -4,7 +4,7 @@ ghost use Rattle.script.specs.MachineViews.{reading_of, IsChecked};
 ghost use Rattle.script.specs.Outcome.{Makes};
 
 use crate::few::one_index;
-use crate::number::{index, value};
+use crate::number::{a_value, an_index};
 use crate::settings::Settings;
 use std::alloc::Allocator;
 use torus::Fault;
@@ -66,8 +66,12 @@ impl<A: Allocator + Copy> Reading<A> {
         if !(1 <= words && words <= 65536) {
             return Err(Fault::Range);
         }
-        let opening = vec![in alloc; 0u64; words as usize].map_err(|_| Fault::Memory)?;
-        let named = vec![in alloc; false; words as usize].map_err(|_| Fault::Memory)?;
+        let Ok(opening) = vec![in alloc; 0u64; words as usize] else {
+            return Err(Fault::Memory);
+        };
+        let Ok(named) = vec![in alloc; false; words as usize] else {
+            return Err(Fault::Memory);
+        };
         self.opening = opening;
         self.named = named;
         Ok(())
@@ -81,8 +85,8 @@ impl<A: Allocator + Copy> Reading<A> {
     {
         match values {
             [a, v] => {
-                let a = index(a).ok_or(Fault::Line)?;
-                let v = value(v).ok_or(Fault::Line)?;
+                let a = an_index(a)?;
+                let v = a_value(v)?;
                 self.set_word(a, v)
             }
             _ => Err(Fault::Line),

@@ -7,7 +7,7 @@ use crate::few::{Few, few_indexes, one_index};
 use torus::Fault;
 
 /// The settings of a machine text so far; the words of the memory apart.
-#[derive(Clone, Copy, Debug, PartialEq, Eq)]
+#[derive(Clone, Copy)]
 pub(crate) struct Settings {
     pub(crate) radices: Option<Few>,
     pub(crate) dims: Option<u32>,

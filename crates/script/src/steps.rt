@@ -79,5 +79,8 @@ fn take_step<A: Allocator>(
     ensures { Makes steps.new.items result (take_step tiles dims steps.old.items (map (λ word. word.now) words.now)) }
 {
     let step = attempt_of(words)?.step(tiles, dims)?;
-    steps.push(step).map_err(|_| Fault::Memory)
+    match steps.push(step) {
+        Ok(()) => Ok(()),
+        Err(_) => Err(Fault::Memory),
+    }
 }

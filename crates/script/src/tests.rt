@@ -1,49 +1,57 @@
 use super::*;
 use linked_list_allocator::LocalHeap;
 use std::alloc::{AllocError, Allocator, Global};
+use std::process::Abort;
 use std::test::Fail;
 use torus::{Choice, Fault, Step};
 
 /// Two tiles, eight words.
 const SMALL: &[u8] = b"radix 2\ndims 1\ndepth 4\ntags 4\nwords 8\n";
 
+/// Two tiles, nine words.
+const NINE: &[u8] = b"radix 2\ndims 1\ndepth 4\ntags 4\nwords 9\n";
+
+/// Two tiles, 64 words.
+const WIDE: &[u8] = b"radix 2\ndims 1\ndepth 4\ntags 4\nwords 64\n";
+
 /// Sixty-four tiles, eight words.
 const LARGE: &[u8] = b"radix 8\ndims 2\ndepth 4\ntags 4\nwords 8\n";
 
-/// The fault of a reading, if it failed.
-fn fault_of<T: Drop>(read: Result<T, LineFault>) -> Option<LineFault> {
+/// What a reading ended in: the fault and its line, if it failed.
+type Found = Option<(Fault, u64)>;
+
+fn fault_of<T: Drop>(read: Result<T, LineFault>) -> Found {
     match read {
         Ok(_) => None,
-        Err(fault) => Some(fault),
+        Err(found) => Some((found.fault, found.line)),
     }
 }
 
-fn at(fault: Fault, line: u64) -> Option<LineFault> {
-    Some(LineFault { fault, line })
-}
-
-fn machine_fault(alloc: Global, text: &[u8]) -> Option<LineFault> {
-    fault_of(read_machine(alloc, text))
-}
-
-fn script_fault(alloc: Global, text: &[u8]) -> Result<Option<LineFault>, LineFault> {
-    let machine = read_machine(alloc, SMALL)?;
+/// The fault of reading a script text for the machine of a text.
+fn script_fault(alloc: Global, machine: &[u8], text: &[u8]) -> Result<Found, LineFault> {
+    let machine = read_machine(alloc, machine)?;
     Ok(fault_of(read_scripts(alloc, text, &machine)))
 }
 
-fn steps_fault(alloc: Global, text: &[u8]) -> Result<Option<LineFault>, LineFault> {
-    let machine = read_machine(alloc, SMALL)?;
-    Ok(fault_of(read_steps(alloc, text, &machine)))
-}
-
-/// A text of a line so many times.
-fn repeated(alloc: Global, line: &[u8], times: u32) -> Result<Vec<u8>, AllocError> {
+/// A line so many times, and then other lines.
+fn repeated(alloc: Global, line: &[u8], times: u32, after: &[u8]) -> Result<Vec<u8>, AllocError> {
     let mut text = Vec::new(alloc);
     for time in 0..times {
         let _ = time;
         text.extend_from_slice(line)?;
     }
+    text.extend_from_slice(after)?;
     Ok(text)
+}
+
+/// Looks for what holds.
+fn holds<R: Abort>(rt: &R, what: &str, held: bool) {
+    assert!(rt; held, "{what}");
+}
+
+/// Looks at what a reading ended in.
+fn ends<R: Abort>(rt: &R, found: Found, wanted: Found) {
+    assert_eq!(rt; found, wanted);
 }
 
 #[test]
@@ -51,17 +59,17 @@ fn machine_is_read(rt: HostRuntime) -> Result<(), Fail> {
     let text =
         b"# two tiles\n\nwords 8\r\n \ttags\t4 \ndepth 04\ndims 1\nradix 2\ninit 7 18446744073709551615\ninit 0 3";
     let machine = read_machine(rt.alloc(), text)?;
-    assert_eq!(rt; machine.torus().tiles(), 2);
-    assert_eq!(rt; machine.torus().dims(), 1);
-    assert_eq!(rt; machine.depth(), 4);
-    assert_eq!(rt; machine.tags(), 4);
-    assert_eq!(rt; machine.words(), 8);
-    assert_eq!(rt; machine.opening(0), Some(3));
-    assert_eq!(rt; machine.opening(1), Some(0));
-    assert_eq!(rt; machine.opening(7), Some(u64::MAX));
-    assert_eq!(rt; machine.opening(8), None);
+    holds(&rt, "tiles", machine.torus().tiles() == 2);
+    holds(&rt, "dims", machine.torus().dims() == 1);
+    holds(&rt, "depth", machine.depth() == 4);
+    holds(&rt, "tags", machine.tags() == 4);
+    holds(&rt, "words", machine.words() == 8);
+    holds(&rt, "word 0", machine.opening(0) == Some(3));
+    holds(&rt, "word 1", machine.opening(1) == Some(0));
+    holds(&rt, "word 7", machine.opening(7) == Some(u64::MAX));
+    holds(&rt, "no word 8", machine.opening(8) == None);
     let opening = machine.into_opening();
-    assert_eq!(rt; opening.len(), 8);
+    holds(&rt, "opening", opening.len() == 8);
     Ok(())
 }
 
@@ -70,13 +78,13 @@ fn radices_and_datelines_are_read(rt: HostRuntime) -> Result<(), Fail> {
     let text = b"radix 2 4\ndims 2\ndepth 1\ntags 1\nwords 1\ninit 0 1\ndateline 1 2\n";
     let machine = read_machine(rt.alloc(), text)?;
     let torus = machine.torus();
-    assert_eq!(rt; torus.tiles(), 8);
-    assert!(rt; torus.dims() == 2);
+    holds(&rt, "tiles", torus.tiles() == 8);
+    holds(&rt, "dims", torus.dims() == 2);
     if torus.dims() == 2 {
-        assert_eq!(rt; torus.radix_of(0), 2);
-        assert_eq!(rt; torus.radix_of(1), 4);
-        assert_eq!(rt; torus.dateline_of(0), 1);
-        assert_eq!(rt; torus.dateline_of(1), 2);
+        holds(&rt, "first radix", torus.radix_of(0) == 2);
+        holds(&rt, "second radix", torus.radix_of(1) == 4);
+        holds(&rt, "first dateline", torus.dateline_of(0) == 1);
+        holds(&rt, "second dateline", torus.dateline_of(1) == 2);
     }
     Ok(())
 }
@@ -84,97 +92,123 @@ fn radices_and_datelines_are_read(rt: HostRuntime) -> Result<(), Fail> {
 #[test]
 fn one_radix_stands_for_all(rt: HostRuntime) -> Result<(), Fail> {
     let one = read_machine(rt.alloc(), b"dims 2\nradix 4\ndepth 1\ntags 1\nwords 1\n")?;
-    let two = read_machine(rt.alloc(), b"radix 4 4\ndims 2\ndepth 1\ntags 1\nwords 1\n")?;
-    let given = read_machine(
-        rt.alloc(),
+    let same: [&[u8]; 2] = [
+        b"radix 4 4\ndims 2\ndepth 1\ntags 1\nwords 1\n",
         b"radix 4\ndims 2\ndateline 3 3\ndepth 1\ntags 1\nwords 1\n",
-    )?;
-    assert!(rt; one.torus() == two.torus());
-    assert!(rt; one.torus() == given.torus());
+    ];
+    for text in same {
+        let other = read_machine(rt.alloc(), text)?;
+        holds(&rt, "same torus", one.torus() == other.torus());
+    }
     Ok(())
 }
 
 #[test]
 fn machine_faults(rt: HostRuntime) {
-    let rows: [(&[u8], Fault, u64); 24] = [
-        (b"", Fault::Setting, 1),
-        (b"radix 2\n", Fault::Setting, 2),
-        (b"radix 2", Fault::Setting, 2),
-        (b"radix 5\ndims 3\n", Fault::Tiles, 2),
-        (b"dims 3\nradix 5\n", Fault::Tiles, 2),
-        (b"radix 2\ndims 1\ndepth 0\n", Fault::Range, 3),
-        (b"radix 2\ndims 1\ndepth 9\n", Fault::Range, 3),
-        (b"tags 0\n", Fault::Range, 1),
-        (b"tags 17\n", Fault::Range, 1),
-        (b"words 65537\n", Fault::Range, 1),
-        (b"words 0\n", Fault::Range, 1),
-        (b"radix 99999999999999999999999999\n", Fault::Radix, 1),
-        (b"radix 1\n", Fault::Radix, 1),
-        (b"radix 2 9\n", Fault::Radix, 1),
-        (b"dims 4\n", Fault::Dimensions, 1),
-        (b"dims 0\n", Fault::Dimensions, 1),
-        (b"words 8\ninit 0 1\n", Fault::Setting, 2),
-        (b"radix 2\nradix 9\n", Fault::Setting, 2),
-        (b"words 8\nwords 9\n", Fault::Setting, 2),
-        (b"radix 2 4\ndims 3\n", Fault::Count, 2),
-        (b"dims 3\nradix 2 4\n", Fault::Count, 2),
-        (b"radix 8 8 8\ndims 3\n", Fault::Tiles, 2),
-        (b"radix 8 8 8\ndims 2\n", Fault::Count, 2),
-        (b"radix 4\ndims 1\ndateline 4\n", Fault::Dateline, 3),
-    ];
-    for (text, fault, line) in rows {
-        assert_eq!(rt; machine_fault(rt.alloc(), text), at(fault, line));
-    }
-}
-
-#[test]
-fn machine_shapes(rt: HostRuntime) {
-    let rows: [(&[u8], Fault, u64); 16] = [
-        (b"radix 4\ndateline 3\n", Fault::Setting, 2),
-        (b"radix 4\ndims 2\ndateline 3\n", Fault::Count, 3),
+    let rows: [(Found, &[&[u8]]); 17] = [
+        (Some((Fault::Setting, 1)), &[b""]),
         (
-            b"radix 4\ndims 1\ndateline 3\ndateline 9\n",
-            Fault::Setting,
-            4,
+            Some((Fault::Setting, 2)),
+            &[
+                b"radix 2\n",
+                b"radix 2",
+                b"words 8\ninit 0 1\n",
+                b"radix 2\nradix 9\n",
+                b"words 8\nwords 9\n",
+                b"radix 4\ndateline 3\n",
+            ],
         ),
-        (b"radix\n", Fault::Line, 1),
-        (b"radix 2 2 2 2\n", Fault::Line, 1),
-        (b"dims 1 1\n", Fault::Line, 1),
-        (b"Radix 2\n", Fault::Line, 1),
-        (b"radix +2\n", Fault::Line, 1),
-        (b"radix 2 # two\n", Fault::Line, 1),
-        (b"init 0\n", Fault::Line, 1),
-        (b"init 0 1 2\n", Fault::Line, 1),
-        (b"init x 1\n", Fault::Line, 1),
-        (b"dateline\n", Fault::Line, 1),
-        (b"radix 2\r\r\n", Fault::Line, 1),
-        (b"radix 2\r", Fault::Line, 1),
-        (b"\xEF\xBB\xBFradix 2\n", Fault::Line, 1),
-    ];
-    for (text, fault, line) in rows {
-        assert_eq!(rt; machine_fault(rt.alloc(), text), at(fault, line));
-    }
-}
-
-#[test]
-fn opening_words(rt: HostRuntime) -> Result<(), Fail> {
-    let rows: [(&[u8], Option<LineFault>); 6] = [
-        (b"init 8 99999999999999999999\n", at(Fault::Address, 6)),
-        (b"init 0 18446744073709551616\n", at(Fault::Range, 6)),
         (
-            b"init 0 0\ninit 0 18446744073709551616\n",
-            at(Fault::Range, 7),
+            Some((Fault::Tiles, 2)),
+            &[
+                b"radix 5\ndims 3\n",
+                b"dims 3\nradix 5\n",
+                b"radix 8 8 8\ndims 3\n",
+            ],
         ),
-        (b"init 0 0\ninit 0 1\n", at(Fault::Setting, 7)),
-        (b"init 0 0\ninit 1 1\ninit 2 2\n", None),
-        (b"init 00 0000000000000000000000000001\n", None),
+        (
+            Some((Fault::Range, 3)),
+            &[b"radix 2\ndims 1\ndepth 0\n", b"radix 2\ndims 1\ndepth 9\n"],
+        ),
+        (
+            Some((Fault::Range, 1)),
+            &[b"tags 0\n", b"tags 17\n", b"words 65537\n", b"words 0\n"],
+        ),
+        (
+            Some((Fault::Radix, 1)),
+            &[
+                b"radix 99999999999999999999999999\n",
+                b"radix 1\n",
+                b"radix 2 9\n",
+            ],
+        ),
+        (Some((Fault::Dimensions, 1)), &[b"dims 4\n", b"dims 0\n"]),
+        (
+            Some((Fault::Count, 2)),
+            &[
+                b"radix 2 4\ndims 3\n",
+                b"dims 3\nradix 2 4\n",
+                b"radix 8 8 8\ndims 2\n",
+            ],
+        ),
+        (
+            Some((Fault::Dateline, 3)),
+            &[b"radix 4\ndims 1\ndateline 4\n"],
+        ),
+        (Some((Fault::Count, 3)), &[b"radix 4\ndims 2\ndateline 3\n"]),
+        (
+            Some((Fault::Setting, 4)),
+            &[b"radix 4\ndims 1\ndateline 3\ndateline 9\n"],
+        ),
+        (
+            Some((Fault::Line, 1)),
+            &[
+                b"radix\n",
+                b"radix 2 2 2 2\n",
+                b"dims 1 1\n",
+                b"Radix 2\n",
+                b"radix +2\n",
+                b"radix 2 # two\n",
+                b"init 0\n",
+                b"init 0 1 2\n",
+                b"init x 1\n",
+                b"dateline\n",
+                b"radix 2\r\r\n",
+                b"radix 2\r",
+                b"\xEF\xBB\xBFradix 2\n",
+            ],
+        ),
+        (
+            Some((Fault::Address, 6)),
+            &[b"radix 2\ndims 1\ndepth 4\ntags 4\nwords 8\ninit 8 99999999999999999999\n"],
+        ),
+        (
+            Some((Fault::Range, 6)),
+            &[b"radix 2\ndims 1\ndepth 4\ntags 4\nwords 8\ninit 0 18446744073709551616\n"],
+        ),
+        (
+            Some((Fault::Range, 7)),
+            &[
+                b"radix 2\ndims 1\ndepth 4\ntags 4\nwords 8\ninit 0 0\ninit 0 18446744073709551616\n",
+            ],
+        ),
+        (
+            Some((Fault::Setting, 7)),
+            &[b"radix 2\ndims 1\ndepth 4\ntags 4\nwords 8\ninit 0 0\ninit 0 1\n"],
+        ),
+        (
+            None,
+            &[
+                b"radix 2\ndims 1\ndepth 4\ntags 4\nwords 8\ninit 0 0\ninit 1 1\ninit 2 2\n",
+                b"radix 2\ndims 1\ndepth 4\ntags 4\nwords 8\ninit 00 0000000000000000000000000001\n",
+            ],
+        ),
     ];
-    for (lines, fault) in rows {
-        let mut text = Vec::from_slice(rt.alloc(), SMALL)?;
-        text.extend_from_slice(lines)?;
-        assert_eq!(rt; machine_fault(rt.alloc(), &text), fault);
+    for (fault, texts) in rows {
+        for text in texts {
+            ends(&rt, fault_of(read_machine(rt.alloc(), text)), fault);
+        }
     }
-    Ok(())
 }
 
 /// Whether a processor has exactly these lines.
@@ -189,10 +223,6 @@ fn has_lines(scripts: &Scripts, p: u32, lines: &[Line]) -> bool {
 fn scripts_are_read(rt: HostRuntime) -> Result<(), Fail> {
     let machine = read_machine(rt.alloc(), SMALL)?;
     let text =
-        b"1 load 7\n# the rest\n0 store 5 17\n0 fence\r\n0 cas 2 last 9\n0 spin 0 18446744073709551615 4096\n0\tmax 1 last";
-    let scripts = read_scripts(rt.alloc(), text, &machine);
-    assert_eq!(rt; fault_of(scripts), at(Fault::Length, 6));
-    let text =
         b"1 load 7\n# the rest\n0 store 5 17\n0 fence\r\n0 cas 2 last 9\n0 spin 0 18446744073709551615 4000\n0\tswap 1 last";
     let scripts = read_scripts(rt.alloc(), text, &machine)?;
     let first = [
@@ -202,16 +232,20 @@ fn scripts_are_read(rt: HostRuntime) -> Result<(), Fail> {
         Line::Spin(0, u64::MAX, 4000),
         Line::Swap(1, Value::Last),
     ];
-    assert!(rt; has_lines(&scripts, 0, &first));
-    assert!(rt; has_lines(&scripts, 1, &[Line::Load(7)]));
-    assert!(rt; scripts.lines(2).is_none());
-    assert!(rt; scripts.fits(&machine));
+    holds(&rt, "first lines", has_lines(&scripts, 0, &first));
+    holds(
+        &rt,
+        "second lines",
+        has_lines(&scripts, 1, &[Line::Load(7)]),
+    );
+    holds(&rt, "no third", scripts.lines(2).is_none());
     let larger = read_machine(rt.alloc(), LARGE)?;
-    assert!(rt; !scripts.fits(&larger));
-    let longer = read_machine(rt.alloc(), b"radix 2\ndims 1\ndepth 4\ntags 4\nwords 9\n")?;
-    assert!(rt; !scripts.fits(&longer));
+    let longer = read_machine(rt.alloc(), NINE)?;
+    holds(&rt, "fits", scripts.fits(&machine));
+    holds(&rt, "too few scripts", !scripts.fits(&larger));
+    holds(&rt, "too few words", !scripts.fits(&longer));
     let lists = scripts.into_lists();
-    assert_eq!(rt; lists.len(), 2);
+    holds(&rt, "lists", lists.len() == 2);
     Ok(())
 }
 
@@ -228,107 +262,135 @@ fn newer_operations_are_read(rt: HostRuntime) -> Result<(), Fail> {
         Line::Min(0, Value::Last),
         Line::Add(0, Value::Number(1)),
     ];
-    assert!(rt; has_lines(&scripts, 0, &lines));
-    assert!(rt; has_lines(&scripts, 1, &[]));
+    holds(&rt, "first lines", has_lines(&scripts, 0, &lines));
+    holds(&rt, "no second lines", has_lines(&scripts, 1, &[]));
     Ok(())
 }
 
 #[test]
 fn script_faults(rt: HostRuntime) -> Result<(), Fail> {
-    let rows: [(&[u8], Option<LineFault>); 22] = [
-        (b"", None),
-        (b"0 load 8\n", at(Fault::Address, 1)),
-        (b"0 load 7\n", None),
-        (b"0 store 8 99999999999999999999\n", at(Fault::Address, 1)),
-        (b"0 store 1 18446744073709551616\n", at(Fault::Range, 1)),
-        (b"0 store 1 18446744073709551615\n", None),
-        (b"0 spin 0 1 0\n", at(Fault::Range, 1)),
-        (b"0 spin 0 1 4097\n", at(Fault::Range, 1)),
-        (b"0 spin 0 18446744073709551616 1\n", at(Fault::Range, 1)),
-        (b"0 spin 0 last 3\n", at(Fault::Line, 1)),
-        (b"0 loa", at(Fault::Line, 1)),
-        (b"0 load 0\xFF\n", at(Fault::Line, 1)),
-        (b"2 load 0\n", at(Fault::Processor, 1)),
-        (b"2 load 8\n", at(Fault::Processor, 1)),
-        (b"99999999999999999999 fence\n", at(Fault::Processor, 1)),
-        (b"0 add 0 last\n", at(Fault::Last, 1)),
-        (b"0 fence\n0 cas 0 1 last\n", at(Fault::Last, 2)),
-        (b"1 load 0\n0 cas 0 last 1\n", at(Fault::Last, 2)),
-        (b"0 load 0\n0 cas 0 last last\n", None),
-        (b"0 cas 0 last 18446744073709551616\n", at(Fault::Range, 1)),
-        (b"0 spin 0 1 4096\n0 spin 0 1 4096\n", at(Fault::Length, 2)),
-        (b"0 load 8\n0 jump 0\n", at(Fault::Address, 1)),
+    let rows: [(Found, &[&[u8]]); 10] = [
+        (
+            None,
+            &[
+                b"",
+                b"0 load 7\n",
+                b"0 store 1 18446744073709551615\n",
+                b"0 load 0\n0 cas 0 last last\n",
+                b"0 load 0\r\n",
+            ],
+        ),
+        (
+            Some((Fault::Address, 1)),
+            &[
+                b"0 load 8\n",
+                b"0 store 8 99999999999999999999\n",
+                b"0 load 8\n0 jump 0\n",
+            ],
+        ),
+        (
+            Some((Fault::Range, 1)),
+            &[
+                b"0 store 1 18446744073709551616\n",
+                b"0 spin 0 1 0\n",
+                b"0 spin 0 1 4097\n",
+                b"0 spin 0 18446744073709551616 1\n",
+                b"0 cas 0 last 18446744073709551616\n",
+            ],
+        ),
+        (
+            Some((Fault::Line, 1)),
+            &[
+                b"0 spin 0 last 3\n",
+                b"0 loa",
+                b"0 load 0\xFF\n",
+                b"0\n",
+                b"0 load\n",
+                b"0 load last\n",
+                b"0 load 0 0\n",
+                b"0 store 0\n",
+                b"0 store 0 Last\n",
+                b"0 cas 0 1\n",
+                b"0 cas 0 1 2 3\n",
+                b"0 cas 0 1 2 3 4\n",
+                b"0 fence 0\n",
+                b"0 spin 0 1\n",
+                b"0 spin 0 1 last\n",
+                b"x load 0\n",
+                b"-1 load 0\n",
+                b"0 load 0\r",
+                b"0 load 0\r\r\n",
+                b"0 load\x0C0\n",
+                b"0 load 0\0\n",
+            ],
+        ),
+        (
+            Some((Fault::Processor, 1)),
+            &[
+                b"2 load 0\n",
+                b"2 load 8\n",
+                b"99999999999999999999 fence\n",
+            ],
+        ),
+        (Some((Fault::Last, 1)), &[b"0 add 0 last\n"]),
+        (
+            Some((Fault::Last, 2)),
+            &[b"0 fence\n0 cas 0 1 last\n", b"1 load 0\n0 cas 0 last 1\n"],
+        ),
+        (
+            Some((Fault::Length, 2)),
+            &[b"0 spin 0 1 4096\n0 spin 0 1 4096\n"],
+        ),
+        (
+            Some((Fault::Length, 6)),
+            &[
+                b"1 load 7\n# the rest\n0 store 5 17\n0 fence\r\n0 cas 2 last 9\n0 spin 0 18446744073709551615 4096\n0\tmax 1 last",
+            ],
+        ),
+        (Some((Fault::Line, 2)), &[b"\n\r"]),
     ];
-    for (text, fault) in rows {
-        assert!(rt; script_fault(rt.alloc(), text)? == fault);
+    for (fault, texts) in rows {
+        for text in texts {
+            let found = script_fault(rt.alloc(), SMALL, text)?;
+            ends(&rt, found, fault);
+        }
     }
     Ok(())
 }
 
+/// Scripts of the greatest lengths, and addresses of 64 words: a machine, a line, how often it
+/// stands, and the lines after it.
 #[test]
-fn script_shapes(rt: HostRuntime) -> Result<(), Fail> {
-    let rows: [(&[u8], Option<LineFault>); 20] = [
-        (b"0\n", at(Fault::Line, 1)),
-        (b"0 load\n", at(Fault::Line, 1)),
-        (b"0 load last\n", at(Fault::Line, 1)),
-        (b"0 load 0 0\n", at(Fault::Line, 1)),
-        (b"0 store 0\n", at(Fault::Line, 1)),
-        (b"0 store 0 Last\n", at(Fault::Line, 1)),
-        (b"0 cas 0 1\n", at(Fault::Line, 1)),
-        (b"0 cas 0 1 2 3\n", at(Fault::Line, 1)),
-        (b"0 cas 0 1 2 3 4\n", at(Fault::Line, 1)),
-        (b"0 fence 0\n", at(Fault::Line, 1)),
-        (b"0 spin 0 1\n", at(Fault::Line, 1)),
-        (b"0 spin 0 1 last\n", at(Fault::Line, 1)),
-        (b"x load 0\n", at(Fault::Line, 1)),
-        (b"-1 load 0\n", at(Fault::Line, 1)),
-        (b"0 load 0\r\n", None),
-        (b"0 load 0\r", at(Fault::Line, 1)),
-        (b"\n\r", at(Fault::Line, 2)),
-        (b"0 load 0\r\r\n", at(Fault::Line, 1)),
-        (b"0 load\x0C0\n", at(Fault::Line, 1)),
-        (b"0 load 0\0\n", at(Fault::Line, 1)),
-    ];
-    for (text, fault) in rows {
-        assert!(rt; script_fault(rt.alloc(), text)? == fault);
-    }
-    Ok(())
-}
-
-#[test]
-fn address_of_64_words(rt: HostRuntime) -> Result<(), Fail> {
-    let machine = read_machine(rt.alloc(), b"radix 2\ndims 1\ndepth 4\ntags 4\nwords 64\n")?;
-    let above = fault_of(read_scripts(rt.alloc(), b"0 load 64\n", &machine));
-    let below = fault_of(read_scripts(rt.alloc(), b"0 load 63\n", &machine));
-    assert_eq!(rt; above, at(Fault::Address, 1));
-    assert_eq!(rt; below, None);
-    Ok(())
-}
-
-#[test]
-fn scripts_have_a_greatest_length(rt: HostRuntime) -> Result<(), Fail> {
-    let text = repeated(rt.alloc(), b"0 load 0\n", 4096)?;
-    assert!(rt; script_fault(rt.alloc(), &text)? == None);
-    let text = repeated(rt.alloc(), b"0 load 0\n", 4097)?;
-    assert!(rt; script_fault(rt.alloc(), &text)? == at(Fault::Length, 4097));
-    let mut text = repeated(rt.alloc(), b"0 load 0\n", 4096)?;
-    text.extend_from_slice(b"0 fence\n1 load 0\n0 load 0\n")?;
-    assert!(rt; script_fault(rt.alloc(), &text)? == at(Fault::Length, 4099));
-    Ok(())
-}
-
-#[test]
-fn all_scripts_have_a_greatest_length(rt: HostRuntime) -> Result<(), Fail> {
-    let machine = read_machine(rt.alloc(), LARGE)?;
+fn script_limits(rt: HostRuntime) -> Result<(), Fail> {
+    let load = b"0 load 0\n".as_slice();
     let full =
-        b"0 spin 0 1 4096\n1 spin 0 1 4096\n2 spin 0 1 4096\n3 spin 0 1 4096\n4 spin 0 1 4096\n5 spin 0 1 4096\n6 spin 0 1 4096\n7 spin 0 1 4096\n8 spin 0 1 4096\n9 spin 0 1 4096\n10 spin 0 1 4096\n11 spin 0 1 4096\n12 spin 0 1 4096\n13 spin 0 1 4096\n14 spin 0 1 4096\n15 spin 0 1 4096\n";
-    let read = fault_of(read_scripts(rt.alloc(), full, &machine));
-    assert_eq!(rt; read, None);
-    let mut text = Vec::from_slice(rt.alloc(), full)?;
-    text.extend_from_slice(b"16 load 0\n")?;
-    let refused = fault_of(read_scripts(rt.alloc(), &text, &machine));
-    assert_eq!(rt; refused, at(Fault::Length, 17));
+        b"0 spin 0 1 4096\n1 spin 0 1 4096\n2 spin 0 1 4096\n3 spin 0 1 4096\n4 spin 0 1 4096\n5 spin 0 1 4096\n6 spin 0 1 4096\n7 spin 0 1 4096\n8 spin 0 1 4096\n9 spin 0 1 4096\n10 spin 0 1 4096\n11 spin 0 1 4096\n12 spin 0 1 4096\n13 spin 0 1 4096\n14 spin 0 1 4096\n15 spin 0 1 4096\n".as_slice();
+    let rows: [(&[u8], &[u8], u32, &[u8], Found); 7] = [
+        (SMALL, load, 4096, b"", None),
+        (SMALL, load, 4097, b"", Some((Fault::Length, 4097))),
+        (
+            SMALL,
+            load,
+            4096,
+            b"0 fence\n1 load 0\n0 load 0\n",
+            Some((Fault::Length, 4099)),
+        ),
+        (LARGE, full, 1, b"", None),
+        (LARGE, full, 1, b"16 load 0\n", Some((Fault::Length, 17))),
+        (WIDE, load, 0, b"0 load 64\n", Some((Fault::Address, 1))),
+        (WIDE, load, 0, b"0 load 63\n", None),
+    ];
+    for (machine, line, times, after, fault) in rows {
+        let text = repeated(rt.alloc(), line, times, after)?;
+        let found = script_fault(rt.alloc(), machine, &text)?;
+        ends(&rt, found, fault);
+    }
     Ok(())
+}
+
+/// The step of an agent.
+fn step(agent: u32, choice: Choice) -> Step {
+    Step { agent, choice }
 }
 
 #[test]
@@ -338,72 +400,57 @@ fn steps_are_read(rt: HostRuntime) -> Result<(), Fail> {
         b"0 send\n# the router\n1 take 9\r\n\n4 put 0\n4 credit 8\n5 serve\n2 take\n3 done\n0 look\n0 credit";
     let steps = read_steps(rt.alloc(), text, &machine)?;
     let wanted = [
-        Step {
-            agent: 0,
-            choice: Choice::Send,
-        },
-        Step {
-            agent: 1,
-            choice: Choice::TakeFrom(9),
-        },
-        Step {
-            agent: 4,
-            choice: Choice::Put(0),
-        },
-        Step {
-            agent: 4,
-            choice: Choice::CreditOf(8),
-        },
-        Step {
-            agent: 5,
-            choice: Choice::Serve,
-        },
-        Step {
-            agent: 2,
-            choice: Choice::Take,
-        },
-        Step {
-            agent: 3,
-            choice: Choice::Done,
-        },
-        Step {
-            agent: 0,
-            choice: Choice::Look,
-        },
-        Step {
-            agent: 0,
-            choice: Choice::Credit,
-        },
+        step(0, Choice::Send),
+        step(1, Choice::TakeFrom(9)),
+        step(4, Choice::Put(0)),
+        step(4, Choice::CreditOf(8)),
+        step(5, Choice::Serve),
+        step(2, Choice::Take),
+        step(3, Choice::Done),
+        step(0, Choice::Look),
+        step(0, Choice::Credit),
     ];
-    assert!(rt; steps.as_slice() == wanted.as_slice());
+    holds(&rt, "steps", steps.as_slice() == wanted.as_slice());
     Ok(())
 }
 
 #[test]
 fn steps_faults(rt: HostRuntime) -> Result<(), Fail> {
-    let rows: [(&[u8], Option<LineFault>); 19] = [
-        (b"", None),
-        (b"6 send\n", at(Fault::Step, 1)),
-        (b"5 send\n", None),
-        (b"1 take 10\n", at(Fault::Step, 1)),
-        (b"0 serve\n", at(Fault::Step, 1)),
-        (b"0 jump\n", at(Fault::Line, 1)),
-        (b"0 send x\n", at(Fault::Line, 1)),
-        (b"999 jump\n", at(Fault::Line, 1)),
-        (b"1 take 0 0\n", at(Fault::Line, 1)),
-        (b"0\n", at(Fault::Line, 1)),
-        (b"x send\n", at(Fault::Line, 1)),
-        (b"0 send 5\n", at(Fault::Step, 1)),
-        (b"1 take\n", at(Fault::Step, 1)),
-        (b"1 send 0\n", at(Fault::Step, 1)),
-        (b"2 done\n", at(Fault::Step, 1)),
-        (b"2 look\n", at(Fault::Step, 1)),
-        (b"0 put 0\n", at(Fault::Step, 1)),
-        (b"1 put 99999999999999999999\n", at(Fault::Step, 1)),
-        (b"0 send\n\n6 send\n0 jump\n", at(Fault::Step, 3)),
+    let rows: [(Found, &[&[u8]]); 4] = [
+        (None, &[b"", b"5 send\n"]),
+        (
+            Some((Fault::Step, 1)),
+            &[
+                b"6 send\n",
+                b"1 take 10\n",
+                b"0 serve\n",
+                b"0 send 5\n",
+                b"1 take\n",
+                b"1 send 0\n",
+                b"2 done\n",
+                b"2 look\n",
+                b"0 put 0\n",
+                b"1 put 99999999999999999999\n",
+            ],
+        ),
+        (
+            Some((Fault::Line, 1)),
+            &[
+                b"0 jump\n",
+                b"0 send x\n",
+                b"999 jump\n",
+                b"1 take 0 0\n",
+                b"0\n",
+                b"x send\n",
+            ],
+        ),
+        (Some((Fault::Step, 3)), &[b"0 send\n\n6 send\n0 jump\n"]),
     ];
-    for (text, fault) in rows {
-        assert!(rt; steps_fault(rt.alloc(), text)? == fault);
+    let machine = read_machine(rt.alloc(), SMALL)?;
+    for (fault, texts) in rows {
+        for text in texts {
+            ends(&rt, fault_of(read_steps(rt.alloc(), text, &machine)), fault);
+        }
     }
     Ok(())
 }
@@ -424,6 +471,7 @@ fn read_all<A: Allocator + Copy>(
     Ok((count, steps.len()))
 }
 
+/// The same within a budget of memory, all of which is free again afterwards.
 fn read_within(
     alloc: Global,
     budget: usize,
@@ -438,30 +486,10 @@ fn read_within(
     Ok(read)
 }
 
-/// Each budget gives want of memory, and from the first that suffices on the right answer.
+/// Each budget gives want of memory, and from the first that suffices on the right answer: lines
+/// and steps, or a fault.
 #[test]
 fn each_budget(rt: HostRuntime) -> Result<(), Fail> {
-    let memory = Err(LineFault {
-        fault: Fault::Memory,
-        line: 0,
-    });
-    let lines = b"0 load 0\n0 load 1\n0 load 2\n0 load 3\n0 fence\n1 store 1 1\n";
-    let steps = b"0 send\n0 send\n2 serve\n0 take\n0 credit\n";
-    let mut enough = false;
-    for at in 0..200 {
-        let read = read_within(rt.alloc(), at * 16, lines, steps)?;
-        if enough || read != memory {
-            assert!(rt; read == Ok((5, 5)));
-            enough = true;
-        }
-    }
-    assert!(rt; enough);
-    Ok(())
-}
-
-/// A fault is told, or want of memory in its place.
-#[test]
-fn faults_at_each_budget(rt: HostRuntime) -> Result<(), Fail> {
     let memory = Err(LineFault {
         fault: Fault::Memory,
         line: 0,
@@ -470,16 +498,25 @@ fn faults_at_each_budget(rt: HostRuntime) -> Result<(), Fail> {
         fault: Fault::Address,
         line: 4,
     });
-    let lines = b"0 load 0\n0 load 1\n0 load 2\n0 load 8\n";
-    let mut enough = false;
-    for at in 0..200 {
-        let read = read_within(rt.alloc(), at * 16, lines, b"")?;
-        if enough || read != memory {
-            assert!(rt; read == fault);
-            enough = true;
+    let rows: [(&[u8], &[u8], Result<(usize, usize), LineFault>); 2] = [
+        (
+            b"0 load 0\n0 load 1\n0 load 2\n0 load 3\n0 fence\n1 store 1 1\n",
+            b"0 send\n0 send\n2 serve\n0 take\n0 credit\n",
+            Ok((5, 5)),
+        ),
+        (b"0 load 0\n0 load 1\n0 load 2\n0 load 8\n", b"", fault),
+    ];
+    for (lines, steps, right) in rows {
+        let mut enough = false;
+        for at in 0..200 {
+            let read = read_within(rt.alloc(), at * 16, lines, steps)?;
+            if enough || read != memory {
+                holds(&rt, "right answer", read == right);
+                enough = true;
+            }
         }
+        holds(&rt, "enough memory", enough);
     }
-    assert!(rt; enough);
     Ok(())
 }
 

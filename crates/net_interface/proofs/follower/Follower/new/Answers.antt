@@ -10,8 +10,8 @@ invariant_of-result g c =
     let place = subst (λ (ls : List Line). drop m.result ls ≡ past_fences ls) c.as_slice.ensures.value m.ensures.place in
     record {
       within = subst (λ (ls : List Line). m.result ≤ length ls) c.as_slice.ensures.value m.ensures.within;
-      few = first_kept c.args.lines.items c.requires.accepted c.requires.few m.result place;
-      loads = c.requires.accepted.loads;
+      few = first_kept c.args.lines.items c.requires.followable c.requires.few m.result place;
+      loads = c.requires.followable.loads;
       more = tt;
       waiting = omega arith;
     }
