@@ -13,8 +13,8 @@ use Rattle.dateline_route.specs.Route.{corrected, hop_of, hops_in, way_in, route
 use Rattle.dateline_route.specs.Walk.{IsChannel}
 use Rattle.dateline_route.proofs.Climbs.{RisesIn, RisesAlong, climbs_route, climbs_increase}
 use Rattle.dateline_route.proofs.Ends.{channels}
-use Rattle.dateline_route.proofs.Runs.{IsAfter, few_hops}
-use Rattle.dateline_route.proofs.Walks.{IsTrip, InRun, in_run, tile_at, after_at, ejection}
+use Rattle.dateline_route.proofs.Dimensions.{IsAfter, few_hops}
+use Rattle.dateline_route.proofs.Walks.{IsTrip, InDimension, in_dimension, tile_at, after_at, ejection}
 use Rattle.channel_number.specs.Order.{channel_index}
 use Rattle.channel_number.specs.Number.{number_of, first_number, rank_of, IsNumbering}
 use Rattle.channel_number.specs.Rising.{along, IsRising}
@@ -28,7 +28,7 @@ sum_more ks d low = grind (arith, common_steps)
 abbrev pub begin_at : Shape → Class → ℕ → ℕ
 begin_at s class d = first_number s class + 1 + 2 * sum (take d s.radices)
 
-number-hop : (s : Shape) (src dst d i : ℕ) (dir : Dir) (class : Class) → InRun s src dst d (corrected s src dst d) dir → i < radix_of s d →
+number-hop : (s : Shape) (src dst d i : ℕ) (dir : Dir) (class : Class) → InDimension s src dst d (corrected s src dst d) dir → i < radix_of s d →
     number_of s (hop_of s (corrected s src dst d) dir d class i) ≡ begin_at s class d + rank_at dir (radix_of s d) (dateline_of s d) (digit_of s (corrected s src dst d) d) i
 number-hop s src dst d i dir class r few =
     let t : ℕ = corrected s src dst d in
@@ -43,7 +43,7 @@ hops_rise s src dst class d trip low =
     let x : ℕ = digit_of s t d in
     let z : ℕ = dateline_of s d in
     let dir : Dir = way_in s t dst d in
-    let r : InRun s src dst d t dir = in_run s src dst d trip low in
+    let r : InDimension s src dst d t dir = in_dimension s src dst d trip low in
     let here : x < k = digit_below s trip.accepted t d low in
     let line : z < k = trip.accepted.dateline d low in
     let few : hops_in s t dst d < k = (few_hops dir k x (digit_of s dst d) r.way here (digit_below s trip.accepted dst d low) (trip.accepted.radix_high d low)).1 in

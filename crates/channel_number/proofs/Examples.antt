@@ -5,7 +5,8 @@ use Rattle.torus.specs.declared.shape.Dir.TheVariants.{Plus, Minus}
 use Rattle.dateline_route.specs.declared.channel.Kind.TheVariants.{Injection, Hop, Ejection}
 use Rattle.dateline_route.specs.Route.{route_of}
 use Rattle.channel_number.specs.Number.{number_of}
-use Rattle.channel_number.specs.Order.{channel_index}
+use Rattle.channel_number.specs.Order.{channel_index, channel_at}
+use Rattle.channel_number.specs.Ports.{input_channel, output_channel}
 
 two_dimensions : map (number_of (record { radices = 4 ∷ 4 ∷ []; datelines = 3 ∷ 3 ∷ [] })) (route_of (record { radices = 4 ∷ 4 ∷ []; datelines = 3 ∷ 3 ∷ [] }) 0 10 Request) ≡ 0 ∷ 1 ∷ 2 ∷ 9 ∷ 10 ∷ 17 ∷ []
 two_dimensions = refl
@@ -51,3 +52,16 @@ table_of_tile_1 = refl
 
 order_of_tile_1 : map (channel_index (record { radices = 2 ∷ []; datelines = 1 ∷ [] })) (record { tile = 1; class = Request; kind = Hop 0 Plus false } ∷ record { tile = 1; class = Request; kind = Hop 0 Plus true } ∷ record { tile = 1; class = Reply; kind = Hop 0 Plus false } ∷ record { tile = 1; class = Reply; kind = Hop 0 Plus true } ∷ record { tile = 1; class = Request; kind = Hop 0 Minus false } ∷ record { tile = 1; class = Request; kind = Hop 0 Minus true } ∷ record { tile = 1; class = Reply; kind = Hop 0 Minus false } ∷ record { tile = 1; class = Reply; kind = Hop 0 Minus true } ∷ record { tile = 1; class = Request; kind = Injection } ∷ record { tile = 1; class = Reply; kind = Injection } ∷ record { tile = 1; class = Request; kind = Ejection } ∷ record { tile = 1; class = Reply; kind = Ejection } ∷ []) ≡ 12 ∷ 13 ∷ 14 ∷ 15 ∷ 16 ∷ 17 ∷ 18 ∷ 19 ∷ 20 ∷ 21 ∷ 22 ∷ 23 ∷ []
 order_of_tile_1 = refl
+
+inputs_of_tile_0 : map (input_channel (record { radices = 2 ∷ []; datelines = 1 ∷ [] }) 0) (0 ∷ 1 ∷ 2 ∷ 3 ∷ 4 ∷ 5 ∷ 6 ∷ 7 ∷ 8 ∷ 9 ∷ []) ≡ 12 ∷ 13 ∷ 14 ∷ 15 ∷ 16 ∷ 17 ∷ 18 ∷ 19 ∷ 8 ∷ 9 ∷ []
+inputs_of_tile_0 = refl
+
+outputs_of_tile_0 : map (output_channel (record { radices = 2 ∷ []; datelines = 1 ∷ [] }) 0) (0 ∷ 1 ∷ 2 ∷ 3 ∷ 4 ∷ 5 ∷ 6 ∷ 7 ∷ 8 ∷ 9 ∷ []) ≡ 0 ∷ 1 ∷ 2 ∷ 3 ∷ 4 ∷ 5 ∷ 6 ∷ 7 ∷ 10 ∷ 11 ∷ []
+outputs_of_tile_0 = refl
+
+-- on a ring of four tiles the plus hops arrive at tile 1 from tile 0, the minus hops from tile 2
+inputs_on_a_ring : map (input_channel (record { radices = 4 ∷ []; datelines = 3 ∷ [] }) 1) (0 ∷ 1 ∷ 2 ∷ 3 ∷ 4 ∷ 5 ∷ 6 ∷ 7 ∷ 8 ∷ 9 ∷ []) ≡ 0 ∷ 1 ∷ 2 ∷ 3 ∷ 28 ∷ 29 ∷ 30 ∷ 31 ∷ 20 ∷ 21 ∷ []
+inputs_on_a_ring = refl
+
+channel_of_place_31 : channel_at (record { radices = 4 ∷ []; datelines = 3 ∷ [] }) 31 ≡ record { tile = 2; class = Reply; kind = Hop 0 Minus true }
+channel_of_place_31 = refl

@@ -1,6 +1,11 @@
 pub mod Alongs
+pub mod Arrivals
 pub mod Climb
+pub mod Decoding
 pub mod Examples
+pub mod Leading
+pub mod Most
 pub mod Numberings
 pub mod Orders
+pub mod Ports
 pub mod Ranks

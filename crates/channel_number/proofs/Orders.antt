@@ -1,7 +1,6 @@
 -- The order of the channels: each has a place of its own.
-use Rattle.std.proofs.Common.{◌≡◌, ℕ, ◌+◌, ◌-◌, ◌*◌, ◌/◌, ◌%◌, ◌<◌, ◌≤◌, zero, suc, Bool, true, false, refl, sym, ◌∙◌, ap, subst, arith, inl, inr}
-use Rattle.std.proofs.lemmas.Nat.{mul-add-lt, div-mul-add, mod-mul-add, mod_below, div_below, div-add-mod'}
-use Rattle.std.proofs.lemmas.Bool.{cases_lt}
+use Rattle.std.proofs.Common.{◌≡◌, ℕ, ◌+◌, ◌*◌, ◌/◌, ◌%◌, ◌<◌, ◌≤◌, Bool, true, false, refl, sym, ◌∙◌, ap, subst, arith}
+use Rattle.std.proofs.lemmas.Nat.{mul-add-lt, div-mul-add, mod-mul-add}
 use Rattle.std.proofs.Math.Nat.{mul_comm}
 use Rattle.torus.specs.Shape.{Shape, dims_of, tiles_of}
 use Rattle.torus.specs.declared.shape.Class.{Class}
@@ -15,15 +14,15 @@ use Rattle.dateline_route.specs.Walk.{IsChannel, IsInside}
 use Rattle.dateline_route.proofs.Walks.{same_channel}
 use Rattle.channel_number.specs.Order.{dir_place, class_place, bit_place, place_of, channels_at_tile, channel_count, channel_index}
 
-dir_small : (dir : Dir) → dir_place dir ≤ 1
+pub dir_small : (dir : Dir) → dir_place dir ≤ 1
 dir_small Plus = omega arith
 dir_small Minus = omega arith
 
-class_small : (class : Class) → class_place class ≤ 1
+pub class_small : (class : Class) → class_place class ≤ 1
 class_small Request = omega arith
 class_small Reply = omega arith
 
-bit_small : (bit : Bool) → bit_place bit ≤ 1
+pub bit_small : (bit : Bool) → bit_place bit ≤ 1
 bit_small false = omega arith
 bit_small true = omega arith
 
@@ -98,75 +97,6 @@ one_index s x y h g same =
     let place : p ≡ q = sym (mod-mul-add x.tile per p low) ∙ ap (λ m. m % per) same ∙ mod-mul-add y.tile per q low' in
     let parts : (x.class ≡ y.class) × (x.kind ≡ y.kind) = one_place n s x.class y.class x.kind y.kind refl h.kind g.kind place in
     same_channel x y tile parts.0 parts.1
-
--- the channel of a tile that has a place
-dir_from : ℕ → Dir
-dir_from zero = Plus
-dir_from (suc m) = Minus
-
-class_from : ℕ → Class
-class_from zero = Request
-class_from (suc m) = Reply
-
-bit_from : ℕ → Bool
-bit_from zero = false
-bit_from (suc m) = true
-
-dir_place-dir_from : (m : ℕ) → m ≤ 1 → dir_place (dir_from m) ≡ m
-unfolding dir_from
-dir_place-dir_from zero h = refl
-dir_place-dir_from (suc m) h = omega arith
-
-class_place-class_from : (m : ℕ) → m ≤ 1 → class_place (class_from m) ≡ m
-unfolding class_from
-class_place-class_from zero h = refl
-class_place-class_from (suc m) h = omega arith
-
-bit_place-bit_from : (m : ℕ) → m ≤ 1 → bit_place (bit_from m) ≡ m
-unfolding bit_from
-bit_place-bit_from zero h = refl
-bit_place-bit_from (suc m) h = omega arith
-
--- a class and a kind that have this place
-pub record AtPlace (s : Shape) (p : ℕ) : Type 0 where
-  pub class : Class
-  pub kind : Kind
-  pub inside : IsInside s kind
-  pub place : place_of (dims_of s) class kind ≡ p
-
-each_place : (s : Shape) (p : ℕ) → p < channels_at_tile s → AtPlace s p
-each_place s p low =
-    elim (cases_lt p (8 * dims_of s)) [
-      | inl hop ↦ record {
-        class = class_from ((p / 2) % 2);
-        kind = Hop (p / 8) (dir_from ((p / 4) % 2)) (bit_from (p % 2));
-        inside = (let under : p / 8 < dims_of s = omega arith in under);
-        place = omega (arith, dir_place-dir_from ((p / 4) % 2) (omega arith), class_place-class_from ((p / 2) % 2) (omega arith), bit_place-bit_from (p % 2) (omega arith));
-      }
-      | inr over ↦ elim (cases_lt p (8 * dims_of s + 2)) [
-        | inl in_ ↦ record {
-          class = class_from (p - 8 * dims_of s);
-          kind = Injection;
-          inside = tt;
-          place = omega (arith, class_place-class_from (p - 8 * dims_of s) (omega arith));
-        }
-        | inr out ↦ record {
-          class = class_from (p - (8 * dims_of s + 2));
-          kind = Ejection;
-          inside = tt;
-          place = omega (arith, class_place-class_from (p - (8 * dims_of s + 2)) (omega arith));
-        }
-      ]
-    ]
-
--- each index is that of a channel
-pub each_index : (s : Shape) (i : ℕ) → i < channel_count s → (x : Channel) × IsChannel s x × (channel_index s x ≡ i)
-each_index s i low =
-    let per : ℕ = channels_at_tile s in
-    let some : 0 < per = omega arith in
-    let p : AtPlace s (i % per) = each_place s (i % per) (mod_below i per some) in
-    let tile : i / per < tiles_of s = div_below i per (tiles_of s) some low in
-    (record { tile = i / per; class = p.class; kind = p.kind }, record { tile = tile; kind = p.inside }, ap (λ m. i / per * per + m) p.place ∙ div-add-mod' i per)
 
 pub hop_inside : (s : Shape) (kind : Kind) (d : ℕ) (dir : Dir) (bit : Bool) → kind ≡ Hop d dir bit → IsInside s kind → d < dims_of s
 hop_inside s kind d dir bit e inside = let P : Kind → Type 0 = λ k. IsInside s k in subst P e inside

@@ -59,7 +59,7 @@ crossed dir k z x (suc i) hz hx many =
       | inr other ↦ ap (λ b. b || here) (crossed dir k z x i hz hx (omega arith))
     ])
 
--- the rank of hop i of a run from digit x on
+-- the rank of hop i of those from digit x on
 abbrev pub rank_at : Dir → ℕ → ℕ → ℕ → ℕ → ℕ
 rank_at dir k z x i = rank_of dir k z (digit_after dir k x i) (is_crossed dir k z x i)
 

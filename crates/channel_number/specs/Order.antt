@@ -1,5 +1,6 @@
--- The order of the channels of a torus: tile by tile, at a tile the hops by dimension, direction, class and bit, then the injections and the ejections by class (this project's own format).
-use Rattle.std.specs.Prelude.{ℕ, ◌+◌, ◌*◌, Bool, true, false}
+-- The order of the channels of a torus:
+-- tile by tile, at a tile the hops by dimension, direction, class and bit, then the injections and the ejections by class (this project's own format).
+use Rattle.std.specs.Prelude.{ℕ, zero, suc, ◌+◌, ◌*◌, ◌/◌, ◌%◌, ◌==◌, nat_lt, Bool, true, false, if◌then◌else◌}
 use Rattle.torus.specs.Shape.{Shape, dims_of, tiles_of}
 use Rattle.torus.specs.declared.shape.Class.{Class}
 use Rattle.torus.specs.declared.shape.Class.TheVariants.{Request, Reply}
@@ -41,3 +42,30 @@ channel_count s = tiles_of s * channels_at_tile s
 -- the place of a channel among all (this project's own format)
 abbrev pub channel_index : Shape → Channel → ℕ
 channel_index s x = x.tile * channels_at_tile s + place_of (dims_of s) x.class x.kind
+
+-- the direction of a place among the directions
+abbrev pub dir_at : ℕ → Dir
+dir_at zero = Plus
+dir_at (suc m) = Minus
+
+-- the class of a place among the classes
+abbrev pub class_at : ℕ → Class
+class_at zero = Request
+class_at (suc m) = Reply
+
+-- the class of the channel at place p of a tile, in n dimensions (this project's own format)
+abbrev pub class_of_place : ℕ → ℕ → Class
+class_of_place n p = if nat_lt p (8 * n) then class_at (p / 2 % 2) else class_at (p % 2)
+
+-- the kind of the channel at place p of a tile, in n dimensions: the hops stand first, then the injections, then the ejections (this project's own format)
+abbrev pub kind_of_place : ℕ → ℕ → Kind
+kind_of_place n p =
+    if nat_lt p (8 * n) then Hop (p / 8) (dir_at (p / 4 % 2)) (p % 2 == 1) else if nat_lt p (8 * n + 2) then Injection else Ejection
+
+-- the channel that has a place among all (this project's own format)
+abbrev pub channel_at : Shape → ℕ → Channel
+channel_at s x = record {
+  tile = x / channels_at_tile s;
+  class = class_of_place (dims_of s) (x % channels_at_tile s);
+  kind = kind_of_place (dims_of s) (x % channels_at_tile s);
+}

@@ -12,10 +12,12 @@ use dateline_route::{Channel, Kind};
 use std::alloc::{AllocError, Allocator};
 use torus::{Class, Dir, Fault, Torus};
 
-/// The number of a channel: along each route the numbers rise. At most 99.
+/// The number of a channel: along each route the numbers rise. At most 67, that of the ejections of
+/// replies where two dimensions have radix 8.
 pub fn number_of(torus: &Torus, channel: Channel) -> u32
     requires { IsChannel torus.now channel }
-    ensures { result ≡ number_of torus.now channel }
+    ensures value { result ≡ number_of torus.now channel }
+    ensures small { result ≤ 67 }
 {
     let first = first_number(torus, channel.class);
     match channel.kind {

@@ -9,8 +9,8 @@ use Rattle.std.proofs.lemmas.List.FromFn.{map-range_with_len_more}
 use Rattle.torus.specs.Shape.{Shape, dims_of}
 use Rattle.torus.specs.declared.shape.Class.{Class}
 use Rattle.dateline_route.specs.declared.channel.Channel.{Channel}
-use Rattle.dateline_route.specs.Route.{corrected, hop_of, hops_in, way_in, run_of, hops_below, route_of}
-use Rattle.dateline_route.proofs.Runs.{hops_below_more}
+use Rattle.dateline_route.specs.Route.{corrected, hop_of, hops_in, way_in, dimension_hops, hops_below, route_of}
+use Rattle.dateline_route.proofs.Dimensions.{hops_below_more}
 use Rattle.dateline_route.proofs.Walks.{injection, ejection}
 
 -- the numbers of these channels rise, from a on and below b
@@ -47,9 +47,9 @@ climbs_some f channel n a c (suc i) r low =
     let next : i + 1 ≡ suc i = omega arith in
     subst Q next (subst P (sym (map-range_with_len_more channel 0 (i + 1) (i + 1) (omega arith))) both)
 
-pub climbs_run : (f : Channel → ℕ) (channel : ℕ → Channel) (n a c : ℕ) → Rises f channel n a c → Climbs f a (map channel (range_with_len 0 n)) c
-climbs_run f channel zero a c r = r.first
-climbs_run f channel (suc n) a c r =
+pub climbs_dimension : (f : Channel → ℕ) (channel : ℕ → Channel) (n a c : ℕ) → Rises f channel n a c → Climbs f a (map channel (range_with_len 0 n)) c
+climbs_dimension f channel zero a c r = r.first
+climbs_dimension f channel (suc n) a c r =
     let all : Climbs f a (map channel (range_with_len 0 (n + 1))) (f (channel n) + 1) = climbs_some f channel (suc n) a c n r (omega arith) in
     let high : f (channel n) < c = r.high n (omega arith) in
     let P : ℕ → Type 0 = λ m. Climbs f a (map channel (range_with_len 0 m)) c in
@@ -66,11 +66,11 @@ climbs_hops s src dst class f low zero all = omega arith
 climbs_hops s src dst class f low (suc n) all =
     let t : ℕ = corrected s src dst n in
     let before : Climbs f (low 0) (hops_below s src dst class n) (low n) = climbs_hops s src dst class f low n (λ d under. all d (omega arith)) in
-    let run : Climbs f (low n) (run_of s t dst class n) (low (n + 1)) = climbs_run f (hop_of s t (way_in s t dst n) n class) (hops_in s t dst n) (low n) (low (n + 1)) (all n (omega arith)) in
+    let more : Climbs f (low n) (dimension_hops s t dst class n) (low (n + 1)) = climbs_dimension f (hop_of s t (way_in s t dst n) n class) (hops_in s t dst n) (low n) (low (n + 1)) (all n (omega arith)) in
     let P : List Channel → Type 0 = λ xs. Climbs f (low 0) xs (low (n + 1)) in
     let Q : ℕ → Type 0 = λ m. Climbs f (low 0) (hops_below s src dst class m) (low m) in
     let next : n + 1 ≡ suc n = omega arith in
-    subst Q next (subst P (sym (hops_below_more s src dst class n)) (climbs_on f (low 0) (hops_below s src dst class n) (low n) (run_of s t dst class n) (low (n + 1)) before run))
+    subst Q next (subst P (sym (hops_below_more s src dst class n)) (climbs_on f (low 0) (hops_below s src dst class n) (low n) (dimension_hops s t dst class n) (low (n + 1)) before more))
 
 -- what rises from the injection to the ejection
 pub record RisesAlong (s : Shape) (src dst : ℕ) (class : Class) (f : Channel → ℕ) (low : ℕ → ℕ) : Type 0 where

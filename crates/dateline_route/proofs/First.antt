@@ -1,12 +1,13 @@
 -- The first number that passes a test, and the first dimension in which two tiles' digits differ.
-use Rattle.std.proofs.Common.{◌≡◌, ◌≢◌, ℕ, ◌+◌, ◌<◌, zero, suc, Bool, true, false, not, None, Some, [], ◌∷◌, refl, ◌∙◌, ap, subst, arith, inl, inr}
+use Rattle.std.proofs.Common.{◌≡◌, ◌≢◌, ℕ, ◌+◌, ◌<◌, zero, suc, Bool, true, false, cond, not, Option, None, Some, [], ◌∷◌, refl, sym, ◌∙◌, ap, subst, arith, inl, inr}
 use Rattle.std.specs.Prelude.{find, ◌==◌}
 use Rattle.std.specs.Option.{option_or}
 use Rattle.std.specs.List.{range_with_len}
 use Rattle.std.proofs.lemmas.Bool.{cases_eq, ne_eqb, eq-eqb}
 use Rattle.std.proofs.lemmas.List.Folds.{find-append}
 use Rattle.torus.specs.Shape.{Shape, dims_of, digit_of, radix_of}
-use Rattle.dateline_route.specs.Next.{next_of, output_in, hop_to}
+use Rattle.dateline_route.specs.Next.{next_of, output_in, hop_to, first_apart}
+use Rattle.dateline_route.specs.Walk.{IsInside, kind_of}
 use Rattle.dateline_route.specs.Ring.{shorter_way}
 use Rattle.dateline_route.specs.declared.channel.Input.{Input}
 use Rattle.dateline_route.specs.declared.channel.Output.TheVariants.{Eject}
@@ -43,6 +44,18 @@ find_none p (suc n) fails =
     let next : n + 1 ≡ suc n = omega arith in
     subst P next (find_none_more p n (find_none p n (λ d low. fails d (omega arith))) (fails n (omega arith)))
 
+found_by : (n d : ℕ) (o : Option ℕ) (bit : Bool) → ((m : ℕ) → o ≡ Some m → m < n) → option_or o (cond bit (Some n) None) ≡ Some d → d < suc n
+found_by n d None true h e = let same : n ≡ d = cc in omega arith
+found_by n d None false h e = cc
+found_by n d (Some m) bit h e = let low = h m refl in let same : m ≡ d = cc in omega arith
+
+-- what is found below a number is below it
+pub find_in : (p : ℕ → Bool) (n d : ℕ) → find p (range_with_len 0 n) ≡ Some d → d < n
+find_in p zero d e = cc
+find_in p (suc n) d e =
+    let next : n + 1 ≡ suc n = omega arith in
+    found_by n d (find p (range_with_len 0 n)) (p n) (find_in p n) (sym (ap (λ m. find p (range_with_len 0 m)) (sym next) ∙ one_more p n) ∙ e)
+
 -- whether two digits differ
 abbrev pub apart : Shape → ℕ → ℕ → ℕ → Bool
 apart s t dst d = not (digit_of s t d == digit_of s dst d)
@@ -63,3 +76,11 @@ next_hops s t came dst d low same other =
 pub next_ejects : (s : Shape) (t : ℕ) (came : Input) (dst : ℕ) → ((e : ℕ) → e < dims_of s → digit_of s t e ≡ digit_of s dst e) → next_of s t came dst ≡ Eject
 next_ejects s t came dst same =
     ap (output_in s t came dst) (find_none (apart s t dst) (dims_of s) (λ e under. apart_false s t dst e (same e under)))
+
+-- a router's choice is in one of the torus's dimensions
+chosen_in : (s : Shape) (t : ℕ) (came : Input) (dst : ℕ) (d : Option ℕ) → ((m : ℕ) → d ≡ Some m → m < dims_of s) → IsInside s (kind_of (output_in s t came dst d))
+chosen_in s t came dst None h = tt
+chosen_in s t came dst (Some d) h = h d refl
+
+pub chosen_inside : (s : Shape) (t : ℕ) (came : Input) (dst : ℕ) → IsInside s (kind_of (next_of s t came dst))
+chosen_inside s t came dst = chosen_in s t came dst (first_apart s t dst) (find_in (apart s t dst) (dims_of s))

@@ -14,11 +14,11 @@ use Rattle.dateline_route.specs.declared.channel.Channel.{Channel}
 use Rattle.dateline_route.specs.declared.channel.Kind.{Kind}
 use Rattle.dateline_route.specs.declared.channel.Kind.TheVariants.{Injection, Hop, Ejection}
 use Rattle.dateline_route.specs.Ring.{hops_by}
-use Rattle.dateline_route.specs.Route.{corrected, hop_of, hops_in, way_in, run_of, hops_below, route_of}
+use Rattle.dateline_route.specs.Route.{corrected, hop_of, hops_in, way_in, dimension_hops, hops_below, route_of}
 use Rattle.dateline_route.proofs.Climbs.{RisesIn, RisesAlong, climbs_route, climbs_increase, distinct}
 use Rattle.dateline_route.proofs.Rings.{shorter_hops, hops_by-digit_after}
-use Rattle.dateline_route.proofs.Runs.{IsAfter, hops_below_more, few_hops}
-use Rattle.dateline_route.proofs.Walks.{IsTrip, InRun, in_run, tile_at, after_at, ejection}
+use Rattle.dateline_route.proofs.Dimensions.{IsAfter, hops_below_more, few_hops}
+use Rattle.dateline_route.proofs.Walks.{IsTrip, InDimension, in_dimension, tile_at, after_at, ejection}
 
 -- the sum of the first n
 abbrev pub total : (ℕ → ℕ) → ℕ → ℕ
@@ -35,8 +35,8 @@ length-hops_below s src dst class (suc n) =
     let f : ℕ → Channel = hop_of s t (way_in s t dst n) n class in
     let P : ℕ → Type 0 = λ m. length (hops_below s src dst class m) ≡ total (hops_at s src dst) n + hops_at s src dst n in
     let next : n + 1 ≡ suc n = omega arith in
-    subst P next (ap length (hops_below_more s src dst class n) ∙ length-append (hops_below s src dst class n) (run_of s t dst class n)
-    ∙ ap (λ m. m + length (run_of s t dst class n)) (length-hops_below s src dst class n) ∙ ap (λ m. total (hops_at s src dst) n + m) (length-map-range_with_len f 0 (hops_in s t dst n)))
+    subst P next (ap length (hops_below_more s src dst class n) ∙ length-append (hops_below s src dst class n) (dimension_hops s t dst class n)
+    ∙ ap (λ m. m + length (dimension_hops s t dst class n)) (length-hops_below s src dst class n) ∙ ap (λ m. total (hops_at s src dst) n + m) (length-map-range_with_len f 0 (hops_in s t dst n)))
 
 product_large : (x y z : ℕ) → x ≤ 4 → y ≤ 4 → z ≤ 4 → 9 ≤ x + (y + z) → 9 ≤ x * (y * z)
 product_large x zero zero a b c sum = omega arith
@@ -103,7 +103,7 @@ route_short s h src dst from to class =
     let trip : IsTrip s src dst = record { accepted = h; from = from; to = to } in
     let half : (d : ℕ) → d < dims_of s → hops_at s src dst d + hops_at s src dst d ≤ radix_of s d =
     λ d low. shorter_hops (radix_of s d) (digit_of s (corrected s src dst d) d) (digit_of s dst d) (way_in s (corrected s src dst d) dst d)
-    (digit_below s h (corrected s src dst d) d low) (digit_below s h dst d low) (in_run s src dst d trip low).way in
+    (digit_below s h (corrected s src dst d) d low) (digit_below s h dst d low) (in_dimension s src dst d trip low).way in
     let few : total (hops_at s src dst) (dims_of s) ≤ 8 = half_rings s.radices (hops_at s src dst) h.dims_low h.dims_high h.radix_high h.tiles half in
     omega (arith, length-append (hops_below s src dst class (dims_of s)) (ejection dst class ∷ []), length-hops_below s src dst class (dims_of s))
 
@@ -116,7 +116,7 @@ key_of s src t Ejection = 25
 abbrev pub key : Shape → ℕ → Channel → ℕ
 key s src x = key_of s src x.tile x.kind
 
-key-hop : (s : Shape) (src dst d i : ℕ) (dir : Dir) (class : Class) → InRun s src dst d (corrected s src dst d) dir → i < radix_of s d → key s src (hop_of s (corrected s src dst d) dir d class i) ≡ 1 + (8 * d + i)
+key-hop : (s : Shape) (src dst d i : ℕ) (dir : Dir) (class : Class) → InDimension s src dst d (corrected s src dst d) dir → i < radix_of s d → key s src (hop_of s (corrected s src dst d) dir d class i) ≡ 1 + (8 * d + i)
 key-hop s src dst d i dir class r few =
     let t : ℕ = corrected s src dst d in
     let k : ℕ = radix_of s d in
@@ -132,7 +132,7 @@ key_rises s src dst class d trip low =
     let t : ℕ = corrected s src dst d in
     let k : ℕ = radix_of s d in
     let dir : Dir = way_in s t dst d in
-    let r : InRun s src dst d t dir = in_run s src dst d trip low in
+    let r : InDimension s src dst d t dir = in_dimension s src dst d trip low in
     let small : k ≤ 8 = trip.accepted.radix_high d low in
     let few : hops_in s t dst d < k = (few_hops dir k (digit_of s t d) (digit_of s dst d) r.way (digit_below s trip.accepted t d low) (digit_below s trip.accepted dst d low) small).1 in
     let is : (i : ℕ) → i < k → key s src (hop_of s t dir d class i) ≡ 1 + (8 * d + i) = λ i less. key-hop s src dst d i dir class r less in

@@ -17,11 +17,11 @@ use Rattle.dateline_route.specs.declared.channel.Input.{Input}
 use Rattle.dateline_route.specs.declared.channel.Output.TheVariants.{Hop as To}
 use Rattle.dateline_route.specs.Ring.{hops_by, shorter_way, digit_after, is_crossed}
 use Rattle.dateline_route.specs.Next.{next_of, came_on_one, is_dateline_hop, hop_to}
-use Rattle.dateline_route.specs.Route.{with_digit, corrected, hop_of, hops_in, way_in, run_of, hops_below, route_of}
+use Rattle.dateline_route.specs.Route.{with_digit, corrected, hop_of, hops_in, way_in, dimension_hops, hops_below, route_of}
 use Rattle.dateline_route.specs.Walk.{LeadsTo, Follows, WalksOn, IsWalk, input_of, kind_of}
 use Rattle.dateline_route.proofs.First.{next_hops, next_ejects}
 use Rattle.dateline_route.proofs.Rings.{IsShorter, shorter, shorter_way-is, shorter_stays, apart_before, hops_by_below, one_hop-digit_after, digit_after_below, digit_after-hops_by}
-use Rattle.dateline_route.proofs.Runs.{IsAfter, crossed_in, crossed_more, after_none, after_is, hops_below_more, corrected_more}
+use Rattle.dateline_route.proofs.Dimensions.{IsAfter, crossed_in, crossed_more, after_none, after_is, hops_below_more, corrected_more}
 use Rattle.dateline_route.proofs.Tiles.{IsCorrected, corrected_is, corrected_all, with_digit_moved, moved_hop}
 
 -- the last of some channels
@@ -84,7 +84,7 @@ here_hop s dst first xs t class d b bit dir u h next n =
     }
 
 -- a packet in dimension d, on its way from tile t in direction dir
-pub record InRun (s : Shape) (src dst d t : ℕ) (dir : Dir) : Type 0 where
+pub record InDimension (s : Shape) (src dst d t : ℕ) (dir : Dir) : Type 0 where
   pub accepted : IsAccepted s
   pub to : dst < tiles_of s
   pub low : d < dims_of s
@@ -94,13 +94,13 @@ pub record InRun (s : Shape) (src dst d t : ℕ) (dir : Dir) : Type 0 where
 abbrev pub tile_at : Shape → ℕ → Dir → ℕ → ℕ → ℕ
 tile_at s t dir d i = with_digit s t d (digit_after dir (radix_of s d) (digit_of s t d) i)
 
-pub after_at : (s : Shape) (src dst d t : ℕ) (dir : Dir) (i : ℕ) → InRun s src dst d t dir → i ≤ radix_of s d → IsAfter s t dir d i (tile_at s t dir d i)
+pub after_at : (s : Shape) (src dst d t : ℕ) (dir : Dir) (i : ℕ) → InDimension s src dst d t dir → i ≤ radix_of s d → IsAfter s t dir d i (tile_at s t dir d i)
 after_at s src dst d t dir i r few =
     let x : ℕ = digit_of s t d in
     let here : x < radix_of s d = digit_below s r.accepted t d r.low in
     record { moved = with_digit_moved s r.accepted t d (digit_after dir (radix_of s d) x i) r.start.tile r.low (digit_after_below dir (radix_of s d) x i here few) }
 
-hop_further : (s : Shape) (src dst d t : ℕ) (dir : Dir) (i : ℕ) → InRun s src dst d t dir → i < radix_of s d → IsNeighbour s (tile_at s t dir d i) d dir (tile_at s t dir d (i + 1))
+hop_further : (s : Shape) (src dst d t : ℕ) (dir : Dir) (i : ℕ) → InDimension s src dst d t dir → i < radix_of s d → IsNeighbour s (tile_at s t dir d i) d dir (tile_at s t dir d (i + 1))
 hop_further s src dst d t dir i r few =
     let k : ℕ = radix_of s d in
     let x : ℕ = digit_of s t d in
@@ -111,10 +111,10 @@ hop_further s src dst d t dir i r few =
     (subst P (sym (one_hop-digit_after dir k x i (digit_below s r.accepted t d r.low) few)) b.moved)
 
 -- there `next` goes on in the same way
-next_in_run : (s : Shape) (src dst d t : ℕ) (dir : Dir) (i : ℕ) → InRun s src dst d t dir → i < hops_by dir (radix_of s d) (digit_of s t d) (digit_of s dst d) →
+next_in_dimension : (s : Shape) (src dst d t : ℕ) (dir : Dir) (i : ℕ) → InDimension s src dst d t dir → i < hops_by dir (radix_of s d) (digit_of s t d) (digit_of s dst d) →
     (came : Input) → came_on_one came d ≡ crossed_in s t dir d i →
     next_of s (tile_at s t dir d i) came dst ≡ To d dir (is_crossed dir (radix_of s d) (dateline_of s d) (digit_of s t d) i)
-next_in_run s src dst d t dir i r few came bit =
+next_in_dimension s src dst d t dir i r few came bit =
     let k : ℕ = radix_of s d in
     let x : ℕ = digit_of s t d in
     let y : ℕ = digit_of s dst d in
@@ -133,26 +133,26 @@ next_in_run s src dst d t dir i r few came bit =
     ap (λ b. is_dateline_hop s u d dir || b) bit ∙ or_comm (is_dateline_hop s u d dir) (crossed_in s t dir d i) ∙ crossed_more s t d i u dir a in
     next_hops s u came dst d r.low same differ ∙ ap (hop_to s u came d) way ∙ ap (To d dir) crossed
 
--- the hops of a run, one by one
+-- the hops of a dimension, one by one
 abbrev pub AfterHops : Shape → ℕ → Channel → List Channel → ℕ → Dir → Class → ℕ → ℕ → Type 0
 AfterHops s dst first before t dir class d i = Here s dst first (before ++ map (hop_of s t dir d class) (range_with_len 0 i)) (tile_at s t dir d i) class d (crossed_in s t dir d i)
 
-run_walks : (s : Shape) (src dst d t : ℕ) (dir : Dir) (first : Channel) (before : List Channel) (class : Class) (i : ℕ) → InRun s src dst d t dir →
+dimension_walks : (s : Shape) (src dst d t : ℕ) (dir : Dir) (first : Channel) (before : List Channel) (class : Class) (i : ℕ) → InDimension s src dst d t dir →
     Here s dst first before t class d false → i ≤ hops_by dir (radix_of s d) (digit_of s t d) (digit_of s dst d) → AfterHops s dst first before t dir class d i
-run_walks s src dst d t dir first before class zero r h few =
+dimension_walks s src dst d t dir first before class zero r h few =
     let still : t ≡ tile_at s t dir d 0 = after_is s r.accepted t d 0 t dir r.start.tile r.low (omega arith) (after_none s r.accepted t d dir r.start.tile r.low) in
     let P : ℕ → Type 0 = λ u. Here s dst first (before ++ []) u class d false in
     let Q : List Channel → Type 0 = λ xs. Here s dst first xs t class d false in
     subst P still (subst Q (sym (append-nil before)) h)
-run_walks s src dst d t dir first before class (suc i) r h few =
+dimension_walks s src dst d t dir first before class (suc i) r h few =
     let k : ℕ = radix_of s d in
     let x : ℕ = digit_of s t d in
     let f : ℕ → Channel = hop_of s t dir d class in
-    let so_far : AfterHops s dst first before t dir class d i = run_walks s src dst d t dir first before class i r h (omega arith) in
+    let so_far : AfterHops s dst first before t dir class d i = dimension_walks s src dst d t dir first before class i r h (omega arith) in
     let short : i < k = omega (arith, hops_by_below dir k x (digit_of s dst d) (digit_below s r.accepted t d r.low) (digit_below s r.accepted dst d r.low)) in
     let more : Here s dst first ((before ++ map f (range_with_len 0 i)) ++ f i ∷ []) (tile_at s t dir d (i + 1)) class d (crossed_in s t dir d (i + 1)) =
     here_hop s dst first (before ++ map f (range_with_len 0 i)) (tile_at s t dir d i) class d (crossed_in s t dir d i) (is_crossed dir k (dateline_of s d) x i) dir (tile_at s t dir d (i + 1))
-    so_far (next_in_run s src dst d t dir i r (omega arith)) (hop_further s src dst d t dir i r short) in
+    so_far (next_in_dimension s src dst d t dir i r (omega arith)) (hop_further s src dst d t dir i r short) in
     let list : (before ++ map f (range_with_len 0 i)) ++ f i ∷ [] ≡ before ++ map f (range_with_len 0 (i + 1)) =
     append_assoc before (map f (range_with_len 0 i)) (f i ∷ []) ∙ ap (λ xs. before ++ xs) (sym (map-range_with_len_more f 0 i i (omega arith))) in
     let P : List Channel → Type 0 = λ xs. Here s dst first xs (tile_at s t dir d (i + 1)) class d (crossed_in s t dir d (i + 1)) in
@@ -166,8 +166,8 @@ pub record IsTrip (s : Shape) (src dst : ℕ) : Type 0 where
   pub from : src < tiles_of s
   pub to : dst < tiles_of s
 
-pub in_run : (s : Shape) (src dst d : ℕ) → IsTrip s src dst → d < dims_of s → InRun s src dst d (corrected s src dst d) (way_in s (corrected s src dst d) dst d)
-in_run s src dst d trip low = record {
+pub in_dimension : (s : Shape) (src dst d : ℕ) → IsTrip s src dst → d < dims_of s → InDimension s src dst d (corrected s src dst d) (way_in s (corrected s src dst d) dst d)
+in_dimension s src dst d trip low = record {
   accepted = trip.accepted;
   to = trip.to;
   low = low;
@@ -208,10 +208,10 @@ hops_walk s src dst class (suc d) trip low =
     let x : ℕ = digit_of s t d in
     let y : ℕ = digit_of s dst d in
     let dir : Dir = way_in s t dst d in
-    let r : InRun s src dst d t dir = in_run s src dst d trip inside in
+    let r : InDimension s src dst d t dir = in_dimension s src dst d trip inside in
     let before : Here s dst first (hops_below s src dst class d) t class d false = hops_walk s src dst class d trip (omega arith) in
-    let after = next_dimension s dst first (hops_below s src dst class d ++ run_of s t dst class d) (tile_at s t dir d (hops_in s t dst d)) class d (crossed_in s t dir d (hops_in s t dst d))
-    (run_walks s src dst d t dir first (hops_below s src dst class d) class (hops_in s t dst d) r before (omega arith)) in
+    let after = next_dimension s dst first (hops_below s src dst class d ++ dimension_hops s t dst class d) (tile_at s t dir d (hops_in s t dst d)) class d (crossed_in s t dir d (hops_in s t dst d))
+    (dimension_walks s src dst d t dir first (hops_below s src dst class d) class (hops_in s t dst d) r before (omega arith)) in
     let leads : tile_at s t dir d (hops_in s t dst d) ≡ corrected s src dst (d + 1) =
     ap (with_digit s t d) (digit_after-hops_by dir k x y (digit_below s trip.accepted t d inside) (digit_below s trip.accepted dst d inside)) ∙ sym (corrected_more s src dst d) in
     let P : List Channel → Type 0 = λ xs. Here s dst first xs (tile_at s t dir d (hops_in s t dst d)) class (d + 1) false in

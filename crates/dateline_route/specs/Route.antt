@@ -25,7 +25,8 @@ way_in s t dst d = shorter_way (radix_of s d) (digit_of s t d) (digit_of s dst d
 abbrev pub hops_in : Shape → ℕ → ℕ → ℕ → ℕ
 hops_in s t dst d = hops_by (way_in s t dst d) (radix_of s d) (digit_of s t d) (digit_of s dst d)
 
--- hop i, from 0, of those from tile t in dimension d: out of the tile that i hops lead to; on bit 1 exactly if the dateline hop is it or comes before it (Dally and Towles, chapters 8 and 14)
+-- hop i, from 0, of those from tile t in dimension d:
+-- out of the tile that i hops lead to; on bit 1 exactly if the dateline hop is it or comes before it (Dally and Towles, chapters 8 and 14)
 abbrev pub hop_of : Shape → ℕ → Dir → ℕ → Class → ℕ → Channel
 hop_of s t dir d class i = record {
   tile = with_digit s t d (digit_after dir (radix_of s d) (digit_of s t d) i);
@@ -33,13 +34,13 @@ hop_of s t dir d class i = record {
   kind = Hop d dir (is_crossed dir (radix_of s d) (dateline_of s d) (digit_of s t d) i);
 }
 
--- the run of hops that brings digit d of tile t to the destination's (Dally and Towles, chapter 8)
-abbrev pub run_of : Shape → ℕ → ℕ → Class → ℕ → List Channel
-run_of s t dst class d = map (hop_of s t (way_in s t dst d) d class) (range_with_len 0 (hops_in s t dst d))
+-- the hops that bring digit d of tile t to the destination's (Dally and Towles, chapter 8)
+abbrev pub dimension_hops : Shape → ℕ → ℕ → Class → ℕ → List Channel
+dimension_hops s t dst class d = map (hop_of s t (way_in s t dst d) d class) (range_with_len 0 (hops_in s t dst d))
 
 -- the hops in the dimensions below n, in rising order (Dally and Towles, chapter 8: dimension-order routing)
 abbrev pub hops_below : Shape → ℕ → ℕ → Class → ℕ → List Channel
-hops_below s src dst class n = flat_map (λ d. run_of s (corrected s src dst d) dst class d) (range_with_len 0 n)
+hops_below s src dst class n = flat_map (λ d. dimension_hops s (corrected s src dst d) dst class d) (range_with_len 0 n)
 
 -- the route: the source's injection, the hops, the destination's ejection (Dally and Towles, chapters 8 and 14)
 abbrev pub route_of : Shape → ℕ → ℕ → Class → List Channel

@@ -26,7 +26,8 @@ abbrev pub IsHop : Kind → Type 0
 IsHop (Hop d dir bit) = Unit {0}
 IsHop _ = ⊥
 
--- the channels out of tile t of this kind lead to the router of tile u: an injection to its own, a hop to its neighbour's, an ejection to none (Dally and Towles, chapter 5)
+-- the channels out of tile t of this kind lead to the router of tile u:
+-- an injection to its own, a hop to its neighbour's, an ejection to none (Dally and Towles, chapter 5)
 abbrev pub LeadsTo : Shape → ℕ → Kind → ℕ → Type 0
 LeadsTo s t Injection u = u ≡ t
 LeadsTo s t (Hop d dir bit) u = IsNeighbour s t d dir u

@@ -1,3 +1,7 @@
+ghost use Rattle.std.specs.Prelude.{◌≡◌};
+ghost use Rattle.torus.specs.declared.shape.Class.TheVariants.{Request};
+ghost use Rattle.dateline_route.specs.declared.channel.Kind.TheVariants.{Injection};
+
 use torus::{Class, Dir};
 
 /// Where a packet comes from at the router of a tile.
@@ -40,7 +44,9 @@ pub struct Channel {
 
 impl Default for Channel {
     /// The request injection of tile 0.
-    fn default() -> Self {
+    fn default() -> Self
+        ensures { result ≡ record { tile = 0; class = Request; kind = Injection } }
+    {
         Channel {
             tile: 0,
             class: Class::Request,

@@ -1,15 +1,16 @@
 //! Laws of routes, each the contract of a function that does nothing.
 
-ghost use Rattle.std.specs.Prelude.{◌≡◌, ◌≢◌, ◌+◌, ◌<◌, ◌≤◌, ◌↔◌, ℕ, List, [], ◌∷◌, ◌++◌, length, All};
+ghost use Rattle.std.specs.Prelude.{◌≡◌, ◌≢◌, ◌+◌, ◌<◌, ◌≤◌, ◌↔◌, ℕ, Bool, List, [], ◌∷◌, ◌++◌, length, All};
 ghost use Rattle.std.specs.List.{AllPairs, AllAdjacentBelow};
-ghost use Rattle.torus.specs.Shape.{Shape, IsAccepted, tiles_of, one_hop};
+ghost use Rattle.torus.specs.Shape.{Shape, IsAccepted, tiles_of, radix_of, one_hop};
 ghost use Rattle.torus.specs.declared.shape.Class.{Class};
 ghost use Rattle.torus.specs.declared.shape.Dir.{Dir};
+ghost use Rattle.torus.specs.declared.shape.Dir.TheVariants.{Minus};
 ghost use Rattle.dateline_route.specs.declared.channel.Channel.{Channel};
-ghost use Rattle.dateline_route.specs.declared.channel.Kind.TheVariants.{Injection, Ejection};
+ghost use Rattle.dateline_route.specs.declared.channel.Kind.TheVariants.{Injection, Hop, Ejection};
 ghost use Rattle.dateline_route.specs.Ring.{hops_by, shorter_way, digit_after};
 ghost use Rattle.dateline_route.specs.Route.{route_of};
-ghost use Rattle.dateline_route.specs.Walk.{IsWalk, IsChannel, IsHop, LeadsTo};
+ghost use Rattle.dateline_route.specs.Walk.{IsWalk, IsChannel, IsHop, LeadsTo, Follows};
 
 /// Walked from the source, `next` gives the route, and no other list.
 pub fn next_walks_the_route()
@@ -32,9 +33,28 @@ pub fn routes_join_their_ends()
         → AllAdjacentBelow (λ x y. LeadsTo s x.tile x.kind y.tile) (route_of s src dst class) (length (route_of s src dst class)) }
 {}
 
-/// On a ring of k digits the hops of a run lead from digit to digit; they bring digit x to digit y,
+/// Each next channel of a route is the choice of the router to which the one before leads, made from
+/// its tile, the input by which the packet comes and the destination alone.
+pub fn routers_choose_the_route()
+    ensures { (s : Shape) → IsAccepted s → (src dst : ℕ) → src < tiles_of s → dst < tiles_of s → (class : Class)
+        → AllAdjacentBelow (Follows s dst) (route_of s src dst class) (length (route_of s src dst class)) }
+{}
+
+/// A channel that leads to a tile's router and a channel that leaves that router are different ones.
+pub fn inputs_and_outputs_differ()
+    ensures { (s : Shape) → IsAccepted s → (x y : Channel) → IsChannel s x → LeadsTo s x.tile x.kind y.tile → y.kind ≢ Injection → x ≢ y }
+{}
+
+/// In a dimension of radix 2 both directions lead to the same tile and a tie goes plus: no route takes
+/// a minus channel there.
+pub fn rings_of_two_tiles_go_plus()
+    ensures { (s : Shape) → IsAccepted s → (src dst : ℕ) (class : Class) (d : ℕ) (bit : Bool) → radix_of s d ≡ 2
+        → All (λ x. x.kind ≢ Hop d Minus bit) (route_of s src dst class) }
+{}
+
+/// On a ring of k digits the hops of a dimension lead from digit to digit; they bring digit x to digit y,
 /// and no fewer hops do so in either direction.
-pub fn runs_are_shortest()
+pub fn hops_are_fewest()
     ensures first { (dir : Dir) (k x : ℕ) → x < k → digit_after dir k x 0 ≡ x }
     ensures next { (dir : Dir) (k x i : ℕ) → x < k → i < k → digit_after dir k x (i + 1) ≡ one_hop dir k (digit_after dir k x i) }
     ensures leads { (k x y : ℕ) → x < k → y < k → digit_after (shorter_way k x y) k x (hops_by (shorter_way k x y) k x y) ≡ y }

@@ -3,7 +3,7 @@
 ghost use Rattle.std.specs.Prelude.{◌≡◌, ◌+◌, ◌<◌, ◌≤◌, ◌++◌, length, All};
 ghost use Rattle.torus.specs.Shape.{tiles_of, dims_of, digit_of};
 ghost use Rattle.dateline_route.specs.Walk.{IsChannel};
-ghost use Rattle.dateline_route.specs.Route.{with_digit, run_of, route_of};
+ghost use Rattle.dateline_route.specs.Route.{with_digit, dimension_hops, route_of};
 
 use crate::hop::is_dateline_hop;
 use crate::ring::{hops_by, shorter_way};
@@ -31,7 +31,7 @@ pub fn route(torus: &Torus, src: u32, dst: u32, class: Class) -> ArrayVec<Channe
     });
     let mut at = src;
     for dim in 0..torus.dims() {
-        at = push_run(torus, at, dst, dim, class, &mut channels);
+        at = push_hops(torus, at, dst, dim, class, &mut channels);
     }
     channels.push(Channel {
         tile: dst,
@@ -43,7 +43,7 @@ pub fn route(torus: &Torus, src: u32, dst: u32, class: Class) -> ArrayVec<Channe
 
 /// Appends the hops that bring digit `dim` of tile `start` to that of `dst`: at most four. Answers
 /// the tile that they lead to.
-fn push_run(
+fn push_hops(
     torus: &Torus,
     start: u32,
     dst: u32,
@@ -55,7 +55,7 @@ fn push_run(
     requires dst { dst < tiles_of torus.now }
     requires dimension { dim < dims_of torus.now }
     requires room { length channels.old.items + 4 ≤ 14 }
-    ensures run { channels.new.items ≡ channels.old.items ++ run_of torus.now start dst class dim }
+    ensures hops { channels.new.items ≡ channels.old.items ++ dimension_hops torus.now start dst class dim }
     ensures tile { result ≡ with_digit torus.now start dim (digit_of torus.now dst dim) }
     ensures few { length channels.new.items ≤ length channels.old.items + 4 }
 {

@@ -2,119 +2,176 @@ use super::*;
 use std::test::Fail;
 use torus::{Class, Dir, Torus};
 
-/// A hop that a route is expected to have: tile, dimension, direction and bit.
+/// A hop: tile, dimension, direction and bit.
 type Expected = (u32, u32, Dir, bool);
 
-/// Asserts that a route has these hops between its injection and its ejection.
-fn assert_hops(
-    rt: &impl std::process::Abort,
-    torus: &Torus,
-    ends: (u32, u32),
-    class: Class,
-    hops: &[Expected],
-) {
-    assert!(rt; ends.0 < torus.tiles());
-    assert!(rt; ends.1 < torus.tiles());
-    let channels = route(torus, ends.0, ends.1, class);
-    assert_eq!(rt; channels.len(), hops.len() + 2);
-    assert_eq!(rt;
-        channels[0],
-        Channel {
-            tile: ends.0,
-            class,
-            kind: Kind::Injection
+/// The ends of a route, its class, and its hops.
+type Trip = (u32, u32, Class, &'static [Expected]);
+
+/// Routes of tori with one radix for all dimensions: radix, dimensions, the route.
+const ONE_RADIX: [(u32, u32, Trip); 5] = [
+    (
+        4,
+        2,
+        (
+            0,
+            10,
+            Class::Request,
+            &[
+                (0, 0, Dir::Plus, false),
+                (1, 0, Dir::Plus, false),
+                (2, 1, Dir::Plus, false),
+                (6, 1, Dir::Plus, false),
+            ],
+        ),
+    ),
+    (
+        4,
+        2,
+        (
+            10,
+            0,
+            Class::Reply,
+            &[
+                (10, 0, Dir::Plus, false),
+                (11, 0, Dir::Plus, true),
+                (8, 1, Dir::Plus, false),
+                (12, 1, Dir::Plus, true),
+            ],
+        ),
+    ),
+    (
+        8,
+        1,
+        (
+            6,
+            1,
+            Class::Request,
+            &[
+                (6, 0, Dir::Plus, false),
+                (7, 0, Dir::Plus, true),
+                (0, 0, Dir::Plus, true),
+            ],
+        ),
+    ),
+    (
+        5,
+        1,
+        (
+            0,
+            3,
+            Class::Request,
+            &[(0, 0, Dir::Minus, true), (4, 0, Dir::Minus, true)],
+        ),
+    ),
+    (4, 1, (2, 2, Class::Request, &[])),
+];
+
+/// Routes of tori with their own radices and datelines: these, the route.
+const STATED: [(&[u32], &[u32], Trip); 4] = [
+    (
+        &[8],
+        &[2],
+        (
+            6,
+            1,
+            Class::Request,
+            &[
+                (6, 0, Dir::Plus, false),
+                (7, 0, Dir::Plus, false),
+                (0, 0, Dir::Plus, false),
+            ],
+        ),
+    ),
+    (
+        &[8],
+        &[2],
+        (
+            1,
+            4,
+            Class::Request,
+            &[
+                (1, 0, Dir::Plus, false),
+                (2, 0, Dir::Plus, true),
+                (3, 0, Dir::Plus, true),
+            ],
+        ),
+    ),
+    (
+        &[2, 4],
+        &[1, 3],
+        (
+            1,
+            6,
+            Class::Request,
+            &[(1, 0, Dir::Plus, true), (0, 1, Dir::Minus, true)],
+        ),
+    ),
+    (
+        &[2, 4],
+        &[1, 3],
+        (
+            1,
+            6,
+            Class::Reply,
+            &[(1, 0, Dir::Plus, true), (0, 1, Dir::Minus, true)],
+        ),
+    ),
+];
+
+/// Whether a route has these hops between its injection and its ejection.
+fn has_hops(torus: &Torus, trip: Trip) -> bool {
+    let (src, dst, class, hops) = trip;
+    if src >= torus.tiles() || dst >= torus.tiles() {
+        return false;
+    }
+    let channels = route(torus, src, dst, class);
+    for (channel, &(tile, dim, dir, bit)) in channels[1..].iter().zip(hops) {
+        let kind = Kind::Hop { dim, dir, bit };
+        if *channel != (Channel { tile, class, kind }) {
+            return false;
         }
-    );
-    for (channel, (tile, dim, dir, bit)) in channels[1..].iter().zip(hops) {
-        let kind = Kind::Hop {
-            dim: *dim,
-            dir: *dir,
-            bit: *bit,
-        };
-        assert_eq!(rt;
-            *channel,
-            Channel {
-                tile: *tile,
-                class,
-                kind
-            }
+    }
+    let first = Channel {
+        tile: src,
+        class,
+        kind: Kind::Injection,
+    };
+    let last = Channel {
+        tile: dst,
+        class,
+        kind: Kind::Ejection,
+    };
+    channels.len() == hops.len() + 2 && channels[0] == first && channels[channels.len() - 1] == last
+}
+
+/// The next output, where there are such tiles.
+fn next_output(torus: &Torus, at: u32, came: Input, dst: u32, class: Class) -> Option<Output> {
+    if at < torus.tiles() && dst < torus.tiles() {
+        Some(next(torus, at, came, dst, class))
+    } else {
+        None
+    }
+}
+
+#[test]
+fn routes_have_their_hops(rt: HostRuntime) -> Result<(), Fail> {
+    for &(radix, dims, trip) in &ONE_RADIX {
+        assert!(rt; has_hops(&Torus::new(radix, dims)?, trip), "radix {radix}");
+    }
+    for &(radices, datelines, trip) in &STATED {
+        assert!(rt;
+            has_hops(&Torus::mixed(radices, datelines)?, trip),
+            "to {}",
+            trip.1
         );
     }
-    assert_eq!(rt;
-        channels[channels.len() - 1],
-        Channel {
-            tile: ends.1,
-            class,
-            kind: Kind::Ejection
-        }
-    );
-}
-
-#[test]
-fn two_dimensions_there_and_back(rt: HostRuntime) -> Result<(), Fail> {
-    let torus = Torus::new(4, 2)?;
-    let there = [
-        (0, 0, Dir::Plus, false),
-        (1, 0, Dir::Plus, false),
-        (2, 1, Dir::Plus, false),
-        (6, 1, Dir::Plus, false),
-    ];
-    assert_hops(&rt, &torus, (0, 10), Class::Request, &there);
-    let back = [
-        (10, 0, Dir::Plus, false),
-        (11, 0, Dir::Plus, true),
-        (8, 1, Dir::Plus, false),
-        (12, 1, Dir::Plus, true),
-    ];
-    assert_hops(&rt, &torus, (10, 0), Class::Reply, &back);
-    Ok(())
-}
-
-#[test]
-fn one_ring(rt: HostRuntime) -> Result<(), Fail> {
-    let plus = [
-        (6, 0, Dir::Plus, false),
-        (7, 0, Dir::Plus, true),
-        (0, 0, Dir::Plus, true),
-    ];
-    assert_hops(&rt, &Torus::new(8, 1)?, (6, 1), Class::Request, &plus);
-    let minus = [(0, 0, Dir::Minus, true), (4, 0, Dir::Minus, true)];
-    assert_hops(&rt, &Torus::new(5, 1)?, (0, 3), Class::Request, &minus);
-    assert_hops(&rt, &Torus::new(4, 1)?, (2, 2), Class::Request, &[]);
-    Ok(())
-}
-
-#[test]
-fn stated_datelines(rt: HostRuntime) -> Result<(), Fail> {
-    let torus = Torus::mixed(&[8], &[2])?;
-    let before = [
-        (6, 0, Dir::Plus, false),
-        (7, 0, Dir::Plus, false),
-        (0, 0, Dir::Plus, false),
-    ];
-    assert_hops(&rt, &torus, (6, 1), Class::Request, &before);
-    let across = [
-        (1, 0, Dir::Plus, false),
-        (2, 0, Dir::Plus, true),
-        (3, 0, Dir::Plus, true),
-    ];
-    assert_hops(&rt, &torus, (1, 4), Class::Request, &across);
-    Ok(())
-}
-
-#[test]
-fn mixed_radices(rt: HostRuntime) -> Result<(), Fail> {
-    let torus = Torus::mixed(&[2, 4], &[1, 3])?;
-    let hops = [(1, 0, Dir::Plus, true), (0, 1, Dir::Minus, true)];
-    assert_hops(&rt, &torus, (1, 6), Class::Request, &hops);
-    assert_hops(&rt, &torus, (1, 6), Class::Reply, &hops);
     Ok(())
 }
 
 #[test]
 fn next_sees_one_tile_and_one_input(rt: HostRuntime) -> Result<(), Fail> {
     let torus = Torus::new(4, 2)?;
-    assert_eq!(rt; torus.tiles(), 16);
     let over = Input::Hop {
         dim: 0,
         dir: Dir::Plus,
@@ -125,13 +182,18 @@ fn next_sees_one_tile_and_one_input(rt: HostRuntime) -> Result<(), Fail> {
         dir: Dir::Plus,
         bit: false,
     };
-    assert_eq!(rt; next(&torus, 8, over, 0, Class::Reply), on);
     let stays = Output::Hop {
         dim: 0,
         dir: Dir::Plus,
         bit: true,
     };
-    assert_eq!(rt; next(&torus, 8, over, 2, Class::Request), stays);
-    assert_eq!(rt; next(&torus, 2, over, 2, Class::Request), Output::Eject);
+    let choices = [
+        (8, 0, Class::Reply, on),
+        (8, 2, Class::Request, stays),
+        (2, 2, Class::Request, Output::Eject),
+    ];
+    for &(at, dst, class, output) in &choices {
+        assert_eq!(rt; next_output(&torus, at, over, dst, class), Some(output));
+    }
     Ok(())
 }

@@ -7,7 +7,7 @@ use Rattle.channel_number.proofs.number.all_numbers.Goals as goal
 pub loop-index-preserved : goal.loop-index-preserved
 loop-index-preserved g c =
     begun_more c.args.torus.now c.loop-index.numbers.items c.push.new.self.items c.loop-index.index c.number_of.result c.channel_at.result
-    c.loop-index.invariant c.channel_at.ensures.channel c.channel_at.ensures.index c.number_of.ensures c.in_ok-push.ensures.items
+    c.loop-index.invariant c.channel_at.ensures.channel c.channel_at.ensures.index c.number_of.ensures.value c.in_ok-push.ensures.items
 
 pub returns : goal.returns
 returns g c =

@@ -8,22 +8,22 @@ use Rattle.dateline_route.specs.Route.{hops_below, route_of}
 use Rattle.dateline_route.specs.Walk.{IsChannel}
 use Rattle.dateline_route.proofs.Ends.{channels}
 use Rattle.dateline_route.proofs.Lengths.{route_short, route_long}
-use Rattle.dateline_route.proofs.Runs.{channels_more, tile_more}
+use Rattle.dateline_route.proofs.Dimensions.{channels_more, tile_more}
 use Rattle.dateline_route.proofs.Tiles.{corrected_is}
 use Rattle.dateline_route.proofs.path.route.Goals as goal
 
-pub push_run-at-requires-clause-start : goal.push_run-at-requires-clause-start
-push_run-at-requires-clause-start c =
+pub push_hops-at-requires-clause-start : goal.push_hops-at-requires-clause-start
+push_hops-at-requires-clause-start c =
     let P : ℕ → Type 0 = λ t. t < tiles_of c.args.torus.now in
     subst P (sym c.loop-dim.invariant.at)
     (corrected_is c.args.torus.now c.dims-dim-end.ensures.accepted c.args.src c.args.dst c.loop-dim.dim c.requires.src c.requires.dst (omega arith)).tile
 
 pub loop-dim-preserved : goal.loop-dim-preserved
 loop-dim-preserved c = record {
-  at = tile_more c.args.torus.now c.args.src c.args.dst c.loop-dim.dim c.loop-dim.at c.push_run-at.result c.loop-dim.invariant.at c.push_run-at.ensures.tile;
+  at = tile_more c.args.torus.now c.args.src c.args.dst c.loop-dim.dim c.loop-dim.at c.push_hops-at.result c.loop-dim.invariant.at c.push_hops-at.ensures.tile;
   made = channels_more c.args.torus.now c.args.src c.args.dst c.args.class c.loop-dim.dim c.loop-dim.at
-      (record { tile = c.args.src; class = c.args.class; kind = Injection }) c.loop-dim.channels.items c.push_run-at.new.channels.items
-      c.loop-dim.invariant.at c.loop-dim.invariant.made c.push_run-at.ensures.run;
+      (record { tile = c.args.src; class = c.args.class; kind = Injection }) c.loop-dim.channels.items c.push_hops-at.new.channels.items
+      c.loop-dim.invariant.at c.loop-dim.invariant.made c.push_hops-at.ensures.hops;
   few = omega arith;
 }
 

@@ -1,8 +1,8 @@
 use Rattle.std.proofs.Common.{◌≡◌, ◌++◌, map}
 use Rattle.std.specs.List.{range_with_len}
 use Rattle.dateline_route.specs.Route.{hop_of}
-use Rattle.dateline_route.proofs.Runs.{IsAfter, crossed_in}
-use Rattle.dateline_route.proofs.path.push_run.Given as goal
+use Rattle.dateline_route.proofs.Dimensions.{IsAfter, crossed_in}
+use Rattle.dateline_route.proofs.path.push_hops.Given as goal
 
 -- where the hops so far lead, whether the dateline is crossed, and the hops
 abbrev pub invariant-loop-hop : goal.invariant-loop-hop

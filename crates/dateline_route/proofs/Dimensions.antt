@@ -1,4 +1,4 @@
--- The run of hops in one dimension, hop by hop.
+-- The hops of one dimension, one by one.
 use Rattle.std.proofs.Common.{◌≡◌, ℕ, ◌+◌, ◌<◌, ◌≤◌, suc, Bool, List, [], ◌∷◌, ◌++◌, length, map, refl, sym, ◌∙◌, ap, subst, arith, append_assoc, length-append}
 use Rattle.std.specs.Prelude.{◌==◌, ◌||◌}
 use Rattle.std.specs.List.{list_any, flat_map, range_with_len}
@@ -15,7 +15,7 @@ use Rattle.dateline_route.specs.declared.channel.Channel.{Channel}
 use Rattle.dateline_route.specs.declared.channel.Kind.TheVariants.{Hop}
 use Rattle.dateline_route.specs.Ring.{hops_by, shorter_way, digit_after, dateline_out_of}
 use Rattle.dateline_route.specs.Next.{is_dateline_hop}
-use Rattle.dateline_route.specs.Route.{with_digit, hop_of, way_in, run_of, corrected, hops_below}
+use Rattle.dateline_route.specs.Route.{with_digit, hop_of, way_in, dimension_hops, corrected, hops_below}
 use Rattle.dateline_route.proofs.Rings.{way_between, range_more, IsShorter, shorter, shorter_hops, one_hop-digit_after, digit_after-zero, digit_after_below, hops_by_below, digit_after-hops_by}
 use Rattle.dateline_route.proofs.Tiles.{with_digit_moved, moved_is, hop_moves}
 
@@ -53,7 +53,7 @@ after_is s h t d i u dir below low few a =
     moved_is s h t d y u (with_digit s t d y) a.moved
     (with_digit_moved s h t d y below low (digit_after_below dir (radix_of s d) (digit_of s t d) i (digit_below s h t d low) few))
 
--- the tile where the run ends
+-- the tile where they end
 pub after_all : (s : Shape) → IsAccepted s → (t dst d u : ℕ) (dir : Dir) → t < tiles_of s → d < dims_of s →
     IsAfter s t dir d (hops_by dir (radix_of s d) (digit_of s t d) (digit_of s dst d)) u → u ≡ with_digit s t d (digit_of s dst d)
 after_all s h t dst d u dir below low a =
@@ -81,7 +81,7 @@ hop_is s h t d i u dir class bit below low few a crossed =
     let channel : ℕ → Bool → Channel = λ v b. record { tile = v; class = class; kind = Hop d dir b } in
     ap (λ v. channel v bit) (after_is s h t d i u dir below low few a) ∙ ap (channel (with_digit s t d (digit_after dir (radix_of s d) (digit_of s t d) i))) crossed
 
--- a run has at most four hops, and fewer than the ring's digits
+-- they are at most four, and fewer than the digits of the ring
 pub few_hops : (dir : Dir) (k x y : ℕ) → IsShorter k x y dir → x < k → y < k → k ≤ 8 → (hops_by dir k x y ≤ 4) × (hops_by dir k x y < k)
 few_hops dir k x y h here there small =
     let half : hops_by dir k x y + hops_by dir k x y ≤ k = shorter_hops k x y dir here there h in
@@ -94,9 +94,9 @@ hops_at : (dir : Dir) (k l x v y w : ℕ) → k ≡ l → x ≡ v → y ≡ w �
 hops_at dir k l x v y w k_is x_is y_is = ap (λ n. hops_by dir n x y) k_is ∙ ap (λ n. hops_by dir l n y) x_is ∙ ap (λ n. hops_by dir l v n) y_is
 
 -- in what follows k, x, y are the radix, and the digits of the two tiles, as the code has them
-pub run_few : (s : Shape) → IsAccepted s → (t dst d : ℕ) → d < dims_of s → (dir : Dir) (k x y n : ℕ) →
+pub hops_few : (s : Shape) → IsAccepted s → (t dst d : ℕ) → d < dims_of s → (dir : Dir) (k x y n : ℕ) →
     k ≡ radix_of s d → x ≡ digit_of s t d → y ≡ digit_of s dst d → dir ≡ shorter_way k x y → n ≡ hops_by dir k x y → (n ≤ 4) × (n < radix_of s d)
-run_few s h t dst d low dir k x y n k_is x_is y_is way n_is =
+hops_few s h t dst d low dir k x y n k_is x_is y_is way n_is =
     let way' = way_between dir k (radix_of s d) x (digit_of s t d) y (digit_of s dst d) way k_is x_is y_is in
     let few = few_hops dir (radix_of s d) (digit_of s t d) (digit_of s dst d) (is_shorter dir (radix_of s d) (digit_of s t d) (digit_of s dst d) way')
     (digit_below s h t d low) (digit_below s h dst d low) (h.radix_high d low) in
@@ -104,26 +104,26 @@ run_few s h t dst d low dir k x y n k_is x_is y_is way n_is =
     let P : ℕ → Type 0 = λ m. (m ≤ 4) × (m < radix_of s d) in
     subst P (sym same) few
 
--- the whole run
-pub run_ends : (s : Shape) (t dst : ℕ) (class : Class) (d : ℕ) (old : List Channel) (dir : Dir) (k x y n : ℕ) →
+-- all of them
+pub hops_end : (s : Shape) (t dst : ℕ) (class : Class) (d : ℕ) (old : List Channel) (dir : Dir) (k x y n : ℕ) →
     k ≡ radix_of s d → x ≡ digit_of s t d → y ≡ digit_of s dst d → dir ≡ shorter_way k x y → n ≡ hops_by dir k x y →
-    old ++ map (hop_of s t dir d class) (range_with_len 0 n) ≡ old ++ run_of s t dst class d
-run_ends s t dst class d old dir k x y n k_is x_is y_is way n_is =
+    old ++ map (hop_of s t dir d class) (range_with_len 0 n) ≡ old ++ dimension_hops s t dst class d
+hops_end s t dst class d old dir k x y n k_is x_is y_is way n_is =
     let way' : dir ≡ way_in s t dst d = way_between dir k (radix_of s d) x (digit_of s t d) y (digit_of s dst d) way k_is x_is y_is in
     let same : n ≡ hops_by dir (radix_of s d) (digit_of s t d) (digit_of s dst d) = n_is ∙ hops_at dir k (radix_of s d) x (digit_of s t d) y (digit_of s dst d) k_is x_is y_is in
     ap (λ m. old ++ map (hop_of s t dir d class) (range_with_len 0 m)) same
     ∙ ap (λ w. old ++ map (hop_of s t w d class) (range_with_len 0 (hops_by w (radix_of s d) (digit_of s t d) (digit_of s dst d)))) way'
 
 -- the tile where it ends
-pub run_leads : (s : Shape) → IsAccepted s → (t dst d u : ℕ) → t < tiles_of s → d < dims_of s → (dir : Dir) (k x y n : ℕ) →
+pub hops_lead : (s : Shape) → IsAccepted s → (t dst d u : ℕ) → t < tiles_of s → d < dims_of s → (dir : Dir) (k x y n : ℕ) →
     k ≡ radix_of s d → x ≡ digit_of s t d → y ≡ digit_of s dst d → n ≡ hops_by dir k x y → IsAfter s t dir d n u → u ≡ with_digit s t d (digit_of s dst d)
-run_leads s h t dst d u below low dir k x y n k_is x_is y_is n_is a =
+hops_lead s h t dst d u below low dir k x y n k_is x_is y_is n_is a =
     let same : n ≡ hops_by dir (radix_of s d) (digit_of s t d) (digit_of s dst d) = n_is ∙ hops_at dir k (radix_of s d) x (digit_of s t d) y (digit_of s dst d) k_is x_is y_is in
     let P : ℕ → Type 0 = λ m. IsAfter s t dir d m u in
     after_all s h t dst d u dir below low (subst P same a)
 
-pub length-run : {X : Type 0} (f : ℕ → X) (xs ys : List X) (n : ℕ) → ys ≡ xs ++ map f (range_with_len 0 n) → length ys ≡ length xs + n
-length-run f xs ys n e = ap length e ∙ length-append xs (map f (range_with_len 0 n)) ∙ ap (λ m. length xs + m) (length-map-range_with_len f 0 n)
+pub length-pushed : {X : Type 0} (f : ℕ → X) (xs ys : List X) (n : ℕ) → ys ≡ xs ++ map f (range_with_len 0 n) → length ys ≡ length xs + n
+length-pushed f xs ys n e = ap length e ∙ length-append xs (map f (range_with_len 0 n)) ∙ ap (λ m. length xs + m) (length-map-range_with_len f 0 n)
 
 -- the list of one hop more
 pub made_more : {X : Type 0} (f : ℕ → X) (old xs ys : List X) (n : ℕ) (x : X) → xs ≡ old ++ map f (range_with_len 0 n) → ys ≡ xs ++ x ∷ [] → x ≡ f n → ys ≡ old ++ map f (range_with_len 0 (n + 1))
@@ -132,19 +132,19 @@ made_more f old xs ys n x before after e =
     ∙ append_assoc old (map f (range_with_len 0 n)) (f n ∷ []) ∙ ap (λ zs. old ++ zs) (sym (map-range_with_len_more f 0 n n (omega arith)))
 
 -- the hops of one dimension more
-pub hops_below_more : (s : Shape) (src dst : ℕ) (class : Class) (d : ℕ) → hops_below s src dst class (d + 1) ≡ hops_below s src dst class d ++ run_of s (corrected s src dst d) dst class d
+pub hops_below_more : (s : Shape) (src dst : ℕ) (class : Class) (d : ℕ) → hops_below s src dst class (d + 1) ≡ hops_below s src dst class d ++ dimension_hops s (corrected s src dst d) dst class d
 hops_below_more s src dst class d =
-    let run : ℕ → List Channel = λ e. run_of s (corrected s src dst e) dst class e in
-    ap (flat_map run) (range_more 0 d d (omega arith)) ∙ flat_map-append run (range_with_len 0 d) (d ∷ []) ∙ ap (λ hops. hops_below s src dst class d ++ hops) (append-nil (run d))
+    let each : ℕ → List Channel = λ e. dimension_hops s (corrected s src dst e) dst class e in
+    ap (flat_map each) (range_more 0 d d (omega arith)) ∙ flat_map-append each (range_with_len 0 d) (d ∷ []) ∙ ap (λ hops. hops_below s src dst class d ++ hops) (append-nil (each d))
 
 pub corrected_more : (s : Shape) (src dst d : ℕ) → corrected s src dst (d + 1) ≡ with_digit s (corrected s src dst d) d (digit_of s dst d)
 corrected_more s src dst d = let next : d + 1 ≡ suc d = omega arith in ap (corrected s src dst) next
 
--- the channels so far, after the run of one dimension more
+-- the channels so far, after the hops of one dimension more
 pub channels_more : (s : Shape) (src dst : ℕ) (class : Class) (d t : ℕ) (first : Channel) (old new : List Channel) → t ≡ corrected s src dst d →
-    old ≡ first ∷ hops_below s src dst class d → new ≡ old ++ run_of s t dst class d → new ≡ first ∷ hops_below s src dst class (d + 1)
+    old ≡ first ∷ hops_below s src dst class d → new ≡ old ++ dimension_hops s t dst class d → new ≡ first ∷ hops_below s src dst class (d + 1)
 channels_more s src dst class d t first old new t_is old_is new_is =
-    new_is ∙ ap (λ u. old ++ run_of s u dst class d) t_is ∙ ap (λ xs. xs ++ run_of s (corrected s src dst d) dst class d) old_is
+    new_is ∙ ap (λ u. old ++ dimension_hops s u dst class d) t_is ∙ ap (λ xs. xs ++ dimension_hops s (corrected s src dst d) dst class d) old_is
     ∙ ap (λ hops. first ∷ hops) (sym (hops_below_more s src dst class d))
 
 pub tile_more : (s : Shape) (src dst d t u : ℕ) → t ≡ corrected s src dst d → u ≡ with_digit s t d (digit_of s dst d) → u ≡ corrected s src dst (d + 1)
