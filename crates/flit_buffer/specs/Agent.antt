@@ -1,5 +1,6 @@
--- The form of an agent. One table says what a choice wants in a state, and which state follows once it is granted; here it is read at the agent's ports, over one word.
-use Rattle.std.specs.Prelude.{ℕ, Option, Some, None, option_and_then}
+-- The form of an agent. One table says what a choice wants in a state, and which state follows once it is granted; here it is read at ports, over one word.
+use Rattle.std.specs.Prelude.{ℕ, List, slice_index, Option, Some, None, option_and_then}
+use Rattle.flit_buffer.specs.Words.{word_of}
 use Rattle.flit_buffer.specs.Wants.{PortEnds, want_op, outcome, ports_after}
 use Rattle.flit_buffer.specs.declared.word_op.WordOp.{WordOp}
 use Rattle.flit_buffer.specs.declared.want.Want.{Want}
@@ -25,3 +26,7 @@ module _ {S C : Type 0} (wants : S → C → Option Want) where
     -- the agent after the operation of a choice found a word; None where the choice doesn't move (this project's own format)
     abbrev pub absorbed : Agent S → C → ℕ → Option (Agent S)
     absorbed a choice found = option_and_then (λ want. agent_with a choice want (outcome want found)) (wants a.state choice)
+
+    -- the agent after an attempt over a row, at once; None where the choice has no operation or doesn't move (this project's own format)
+    abbrev pub attempted : Agent S → C → List ℕ → Option (Agent S)
+    attempted a choice row = option_and_then (λ o. absorbed a choice (slice_index row (word_of o))) (next_op a choice)

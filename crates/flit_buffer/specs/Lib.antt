@@ -10,3 +10,5 @@ pub mod Steps
 pub mod Runs
 pub mod Seen
 pub mod Joined
+pub mod OwnPart
+pub mod Tries

@@ -1,11 +1,12 @@
-ghost use Rattle.std.specs.Prelude.{◌≡◌, ◌^◌, ◌≤◌, IsSome, is_some, if◌then◌else◌};
+ghost use Rattle.std.specs.Prelude.{◌≡◌, ◌^◌, ◌<◌, ◌≤◌, IsSome, IfSome, is_some, vec_len, if◌then◌else◌};
+ghost use Rattle.flit_buffer.specs.Words.{word_of};
+ghost use Rattle.flit_buffer.specs.Tries.{tried, performed_by};
 ghost use Rattle.flit_buffer.specs.Wants.{HasPort, want_op, outcome, ports_after};
 
 use crate::receiver::Receiver;
 use crate::sender::Sender;
 use crate::want::Want;
-use crate::word_op::WordOp;
-use packet::Op;
+use crate::word_op::{WordOp, perform};
 use std::alloc::{Allocator, Global};
 use std::marker::Model;
 
@@ -79,9 +80,42 @@ impl<A: Allocator> Ports<A> {
                     None
                 }
             }
-            Want::Access(_, Op::Store(_)) => Some(0),
-            Want::Access(_, _) => Some(got),
-            Want::Await(_, value) => if got == value { Some(value) } else { None },
+            Want::Access(_, _) | Want::Await(_, _) => want.outcome(got),
+        }
+    }
+
+    /// Tries a want over a row: performs its operation, if it has one, and takes the word found.
+    /// Answers what the agent learns; None exactly where there is no operation or the word doesn't
+    /// grant the want, and then nothing changes.
+    #[inline(always)]
+    pub fn attempt<B: Allocator>(&mut self, want: Want, row: &mut Vec<u64, B>) -> Option<u64>
+        requires port { HasPort self.old want }
+        requires room { IfSome (want_op self.old want) (λ o. word_of o < vec_len row.old) }
+        ensures learned { result ≡ tried self.old row.old.items want }
+        ensures after { self.new ≡ (if is_some (tried self.old row.old.items want) then ports_after self.old want else self.old) }
+        ensures row { row.new.items ≡ performed_by row.old.items (want_op self.old want) }
+    {
+        match want {
+            Want::Take(input) => self.inputs[input as usize].take(row),
+            Want::Put(output, flit) => {
+                if self.outputs[output as usize].put(flit, row) {
+                    Some(0)
+                } else {
+                    None
+                }
+            }
+            Want::Credit(output) => {
+                if self.outputs[output as usize].credit(row) {
+                    Some(0)
+                } else {
+                    None
+                }
+            }
+            Want::Access(word, op) => {
+                let found = perform(WordOp::at(self.words + word as usize, op), row);
+                want.outcome(found)
+            }
+            Want::Await(word, _) => want.outcome(row[self.words + word as usize]),
         }
     }
 }

@@ -1,7 +1,10 @@
-ghost use Rattle.std.specs.Prelude.{◌≡◌, ◌+◌, ◌^◌, ◌<◌, ◌≤◌, ◌==◌, if◌then◌else◌};
+ghost use Rattle.std.specs.Prelude.{◌≡◌, ◌^◌, ◌<◌, ◌≤◌, ◌==◌, if◌then◌else◌, vec_len, slice_index, slice_set};
 ghost use Rattle.flit_buffer.specs.Ends.{take_op, after_take};
+ghost use Rattle.flit_buffer.specs.Tries.{take_place, flit_in};
 
+use crate::ring::place_after;
 use crate::word_op::WordOp;
+use std::alloc::Allocator;
 use std::marker::Model;
 
 /// The receiving end of a channel: which place is emptied next.
@@ -49,13 +52,27 @@ impl Receiver {
     /// Takes the word that the swap of `take_op` found, and answers the flit; None exactly when the
     /// place was empty.
     pub fn take_got(&mut self, got: u64) -> Option<u64>
-        ensures flit { result ≡ (if got == 0 then None else Some got) }
+        ensures flit { result ≡ flit_in got }
         ensures after { self.new ≡ (if got == 0 then self.old else after_take self.old) }
     {
         if got == 0 {
             return None;
         }
-        self.next = (self.next + 1) % self.depth;
+        self.next = place_after(self.next, 1, self.depth);
         Some(got)
+    }
+
+    /// Takes the flit of the next place of a row; None exactly when the place is empty. This is the
+    /// swap of `take_op`, with `take_got` of what it finds.
+    pub fn take<A: Allocator>(&mut self, row: &mut Vec<u64, A>) -> Option<u64>
+        requires { take_place self.old < vec_len row.old }
+        ensures flit { result ≡ flit_in (slice_index row.old.items (take_place self.old)) }
+        ensures after { self.new ≡ (if slice_index row.old.items (take_place self.old) == 0 then self.old else after_take self.old) }
+        ensures row { row.new.items ≡ slice_set row.old.items (take_place self.old) 0 }
+    {
+        let place = self.base + self.next;
+        let flit = self.take_got(row[place])?;
+        row[place] = 0;
+        Some(flit)
     }
 }

@@ -1,7 +1,10 @@
-ghost use Rattle.std.specs.Prelude.{◌≡◌, ◌+◌, ◌^◌, ◌<◌, ◌≤◌, ◌==◌, if◌then◌else◌};
+ghost use Rattle.std.specs.Prelude.{◌≡◌, ◌^◌, ◌<◌, ◌≤◌, ◌==◌, nat_lt, if◌then◌else◌, vec_len, slice_set};
 ghost use Rattle.flit_buffer.specs.Ends.{put_op, credit_op, after_put, after_credit};
+ghost use Rattle.flit_buffer.specs.Tries.{put_place, credit_place, is_credited};
 
+use crate::ring::place_after;
 use crate::word_op::WordOp;
+use std::alloc::Allocator;
 use std::marker::Model;
 
 /// The sending end of a channel: which place is filled next, and how many credits are held.
@@ -57,7 +60,7 @@ impl Sender {
         requires { 0 < self.old.credits }
         ensures { self.new ≡ after_put self.old }
     {
-        self.next = (self.next + 1) % self.depth;
+        self.next = place_after(self.next, 1, self.depth);
         self.credits -= 1;
     }
 
@@ -66,7 +69,7 @@ impl Sender {
         ensures { result ≡ credit_op self.now }
     {
         if self.credits < self.depth {
-            Some(WordOp::Load(self.base + (self.next + self.credits) % self.depth))
+            Some(WordOp::Load(self.base + place_after(self.next, self.credits, self.depth)))
         } else {
             None
         }
@@ -85,5 +88,34 @@ impl Sender {
         } else {
             false
         }
+    }
+
+    /// Puts a flit in the next place of a row, and answers whether a credit was held: else nothing
+    /// changes. This is the store of `put_op`, with `put_done`.
+    pub fn put<A: Allocator>(&mut self, flit: u64, row: &mut Vec<u64, A>) -> bool
+        requires { 0 < self.old.credits → put_place self.old < vec_len row.old }
+        ensures done { result ≡ nat_lt 0 self.old.credits }
+        ensures after { self.new ≡ (if nat_lt 0 self.old.credits then after_put self.old else self.old) }
+        ensures row { row.new.items ≡ (if nat_lt 0 self.old.credits then slice_set row.old.items (put_place self.old) flit else row.old.items) }
+    {
+        if self.credits == 0 {
+            return false;
+        }
+        row[self.base + self.next] = flit;
+        self.put_done();
+        true
+    }
+
+    /// Looks in a row for a credit, and answers whether one came back. This is the load of
+    /// `credit_op`, with `credit_got` of what it finds.
+    pub fn credit<A: Allocator>(&mut self, row: &Vec<u64, A>) -> bool
+        requires { self.old.credits < self.old.depth → credit_place self.old < vec_len row.now }
+        ensures came { result ≡ is_credited self.old row.now.items }
+        ensures after { self.new ≡ (if is_credited self.old row.now.items then after_credit self.old else self.old) }
+    {
+        if self.credits == self.depth {
+            return false;
+        }
+        self.credit_got(row[self.base + place_after(self.next, self.credits, self.depth)])
     }
 }
