@@ -1,0 +1,5 @@
+pub mod Ownership
+pub mod Ways
+pub mod WantedPorts
+pub mod Begins
+pub mod EmptyChannels

@@ -1,0 +1,6 @@
+pub mod Table
+pub mod Ways
+pub mod Reach
+pub mod Owned
+pub mod Inside
+pub mod Beginning

@@ -1,0 +1,11 @@
+//! The router of a tile, as an agent.
+#![tactic(auto)]
+
+pub mod laws;
+mod owners;
+pub mod router;
+mod start;
+#[cfg(test)]
+mod tests;
+
+pub use router::Router;

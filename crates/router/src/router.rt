@@ -1,0 +1,263 @@
+ghost use Rattle.std.specs.Prelude.{◌≡◌, ℕ, ◌<◌, ◌≤◌, length, IsTrue, ◌↔◌, vec_len, slice_index, slice_index_or, Some, IfOk, IfSome, IsSome, MatchOption};
+ghost use Rattle.torus.specs.Shape.{tiles_of, dims_of};
+ghost use Rattle.torus.specs.declared.step.Stepped.TheVariants as stepped;
+ghost use Rattle.flit_buffer.specs.Agent.{next_op, absorbed, attempted};
+ghost use Rattle.flit_buffer.specs.Tries.{performed_by};
+ghost use Rattle.flit_buffer.specs.Words.{word_of};
+ghost use Rattle.flit_buffer.specs.Wants.{HasPort};
+ghost use Rattle.dateline_route.specs.declared.channel.Input.TheVariants.{Inject};
+ghost use Rattle.dateline_route.specs.declared.channel.Output.TheVariants.{Eject};
+ghost use Rattle.dateline_route.specs.Next.{next_of};
+ghost use Rattle.packet.specs.Flits.{head_of};
+ghost use Rattle.channel_number.specs.Ports.{port_count, output_number};
+ghost use Rattle.router.specs.Beginning.{new_ports};
+ghost use Rattle.router.specs.Table.{empty_router, output_for, router_wants, router_after, IsRoutable, NamesTile, with_agent};
+ghost use Rattle.router.specs.Ways.{onward, HasDimension};
+
+use crate::owners::Owners;
+use crate::start::new_ports;
+use dateline_route::{Input, Output, next};
+use flit_buffer::{Ports, Want, WordOp};
+use packet::{Head, head, is_tail};
+use std::alloc::{AllocError, Allocator, Global};
+use std::marker::Model;
+use torus::{Choice, Class, Dir, Stepped, Torus};
+
+/// The router of a tile: a latch for each input, the output that each input owns, and the ends of
+/// the channels at its inputs and outputs.
+#[derive(Drop)]
+pub struct Router<A: Allocator = Global> {
+    torus: Torus,
+    tile: u32,
+    latches: Vec<Option<u64>, A>,
+    owners: Owners<A>,
+    ways: Vec<Output, A>,
+    ports: Ports<A>,
+}
+
+impl<A: Allocator> Model for Router<A> {
+    ghost use Rattle.router.specs.Beginning.{new_ports};
+    ghost use Rattle.router.specs.Table.{Place};
+
+    ghost Value = { Place };
+
+    ghost use Rattle.router.specs.Inside.{place_of, IsRouter};
+
+    ghost view = { place_of };
+
+    ghost invariant = { IsRouter };
+}
+
+/// The next channel of the ways from a tile to each tile, for packets that are injected there.
+fn ways_from<A: Allocator + Copy>(
+    alloc: A,
+    torus: &Torus,
+    tile: u32,
+) -> Result<Vec<Output, A>, AllocError>
+    requires { tile < tiles_of torus.now }
+    ensures { IfOk result (λ ways. (length ways.items ≡ tiles_of torus.now) × ((dst : ℕ) → dst < tiles_of torus.now → slice_index_or ways.items dst Eject ≡ next_of torus.now tile Inject dst)) }
+{
+    let mut ways = Vec::new(alloc);
+    for dst in 0..torus.tiles() {
+        ways.push(next(torus, tile, Input::Inject, dst, Class::Request))?;
+    }
+    Ok(ways)
+}
+
+/// The number of an output for packets of a class, in so many dimensions.
+fn output_number(dims: u32, class: Class, output: Output) -> u32
+    requires dims { dims ≤ 3 }
+    requires output { HasDimension dims output }
+    ensures value { result ≡ output_number dims class output }
+    ensures within { result < port_count dims }
+{
+    match output {
+        Output::Eject => {
+            let place = match class {
+                Class::Request => 0,
+                Class::Reply => 1,
+            };
+            8 * dims + place
+        }
+        Output::Hop { dim, dir, bit } => {
+            let dir = match dir {
+                Dir::Plus => 0,
+                Dir::Minus => 4,
+            };
+            let class = match class {
+                Class::Request => 0,
+                Class::Reply => 2,
+            };
+            8 * dim + dir + class + u32::from(bit)
+        }
+    }
+}
+
+/// The way of a packet that came by an input, by that of one that was injected here.
+fn onward(input: u32, output: Output) -> Output
+    ensures { result ≡ onward input output }
+{
+    match output {
+        Output::Eject => Output::Eject,
+        Output::Hop { dim, dir, bit } => Output::Hop {
+            dim,
+            dir,
+            bit: bit || (input / 8 == dim && input % 2 == 1),
+        },
+    }
+}
+
+impl<A: Allocator + Copy> Router<A> {
+    /// The router of a tile with nothing in its latches, over channels of this depth that are all
+    /// empty. The depth is 1 to 8. The places of each channel stand in the row from its place among
+    /// the channels times the depth on.
+    ///
+    /// Errors: `AllocError` where there is no room; the steps take none.
+    pub fn new(alloc: A, torus: Torus, tile: u32, depth: u32) -> Result<Router<A>, AllocError>
+        requires tile { tile < tiles_of torus }
+        requires some { 0 < depth }
+        requires few { depth ≤ 8 }
+        ensures { IfOk result (λ r. r ≡ record { torus = torus; tile = tile; agent = record { state = empty_router (port_count (dims_of torus)); ports = new_ports torus tile depth } }) }
+    {
+        let count = 8 * torus.dims() as usize + 2;
+        let latches = vec![in alloc; None; count]?;
+        let owners = Owners::new(alloc, count)?;
+        let ways = ways_from(alloc, &torus, tile)?;
+        let ports = new_ports(alloc, &torus, tile, depth)?;
+        Ok(Router {
+            torus,
+            tile,
+            latches,
+            owners,
+            ways,
+            ports,
+        })
+    }
+}
+
+impl<A: Allocator> Router<A> {
+    /// The output to which the flit of an input may go; None where no output is its own or free.
+    #[inline(never)]
+    fn output_for(&self, input: u32, flit: u64) -> Option<u32>
+        requires input { input < port_count (dims_of self.now.torus) }
+        requires flit { NamesTile self.now.torus flit }
+        ensures value { result ≡ output_for self.now.torus self.now.tile self.now.agent.state input (head_of flit) }
+        ensures within { IfSome result (λ output. output < port_count (dims_of self.now.torus)) }
+    {
+        let Some(head) = head(flit) else {
+            return self.owners.output_of(input);
+        };
+        let output = onward(input, self.ways[head.destination as usize]);
+        let output = output_number(self.torus.dims(), head.class, output);
+        if self.owners.is_owned(output) {
+            None
+        } else {
+            Some(output)
+        }
+    }
+
+    /// What a choice wants.
+    #[inline(always)]
+    fn wants(&self, choice: Choice) -> Option<Want>
+        ensures value { result ≡ router_wants self.now.torus self.now.tile self.now.agent.state choice }
+        ensures port { IfSome result (HasPort self.now.agent.ports) }
+    {
+        match choice {
+            Choice::TakeFrom(input) => {
+                if (input as usize) < self.latches.len() && self.latches[input as usize].is_none() {
+                    Some(Want::Take(input))
+                } else {
+                    None
+                }
+            }
+            Choice::Put(input) => {
+                if (input as usize) < self.latches.len() {
+                    let flit = self.latches[input as usize]?;
+                    let output = self.output_for(input, flit)?;
+                    Some(Want::Put(output, flit))
+                } else {
+                    None
+                }
+            }
+            Choice::CreditOf(output) => {
+                if (output as usize) < self.latches.len() {
+                    Some(Want::Credit(output))
+                } else {
+                    None
+                }
+            }
+            _ => None,
+        }
+    }
+
+    /// The operation of a choice; None exactly when the router hasn't that choice or its condition
+    /// fails.
+    pub fn next_op(&self, choice: Choice) -> Option<WordOp>
+        ensures { result ≡ next_op (router_wants self.now.torus self.now.tile) self.now.agent choice }
+    {
+        let want = self.wants(choice)?;
+        self.ports.op(want)
+    }
+
+    /// Whether a word is no head flit or names a tile.
+    pub fn is_routable(&self, flit: u64) -> bool
+        ensures { IsTrue result ↔ NamesTile self.now.torus flit }
+    {
+        match head(flit) {
+            Some(head) => (head.destination as usize) < self.ways.len(),
+            None => true,
+        }
+    }
+
+    /// Takes the word that the operation of a choice found. A head flit that is taken names a tile.
+    pub fn absorb(&mut self, choice: Choice, got: u64) -> Stepped
+        requires tried { IsSome (next_op (router_wants self.old.torus self.old.tile) self.old.agent choice) }
+        requires flit { IsRoutable self.old.torus choice got }
+        ensures { MatchOption (absorbed (router_wants self.old.torus self.old.tile) router_after self.old.agent choice got) ((result ≡ stepped.Idle) × (self.new ≡ self.old)) (λ a. (result ≡ stepped.Moved) × (self.new ≡ with_agent self.old a)) }
+    {
+        let Some(want) = self.wants(choice) else {
+            return Stepped::Idle;
+        };
+        let Some(learned) = self.ports.absorb(want, got) else {
+            return Stepped::Idle;
+        };
+        self.note(choice, want, learned);
+        Stepped::Moved
+    }
+
+    /// Tries a choice over a row, at once: performs its operation, if it has one, and takes the word
+    /// found.
+    #[inline(always)]
+    pub fn attempt<B: Allocator>(&mut self, choice: Choice, row: &mut Vec<u64, B>) -> Stepped
+        requires room { IfSome (next_op (router_wants self.old.torus self.old.tile) self.old.agent choice) (λ o. word_of o < vec_len row.old) }
+        requires flit { IfSome (next_op (router_wants self.old.torus self.old.tile) self.old.agent choice) (λ o. IsRoutable self.old.torus choice (slice_index row.old.items (word_of o))) }
+        ensures row { row.new.items ≡ performed_by row.old.items (next_op (router_wants self.old.torus self.old.tile) self.old.agent choice) }
+        ensures step { MatchOption (attempted (router_wants self.old.torus self.old.tile) router_after self.old.agent choice row.old.items) ((result ≡ stepped.Idle) × (self.new ≡ self.old)) (λ a. (result ≡ stepped.Moved) × (self.new ≡ with_agent self.old a)) }
+    {
+        let Some(want) = self.wants(choice) else {
+            return Stepped::Idle;
+        };
+        let Some(learned) = self.ports.attempt(want, row) else {
+            return Stepped::Idle;
+        };
+        self.note(choice, want, learned);
+        Stepped::Moved
+    }
+
+    /// What follows in the router once a want of a choice is granted.
+    fn note(&mut self, choice: Choice, want: Want, learned: u64)
+        requires wanted { router_wants self.old.torus self.old.tile self.old.agent.state choice ≡ Some want }
+        requires port { HasPort self.old.agent.ports want }
+        requires flit { IsRoutable self.old.torus choice learned }
+        ensures { self.new ≡ with_agent self.old (record { state = router_after self.old.agent.state choice want learned; ports = self.old.agent.ports }) }
+    {
+        match (choice, want) {
+            (Choice::TakeFrom(input), _) => self.latches[input as usize] = Some(learned),
+            (Choice::Put(input), Want::Put(output, flit)) => {
+                self.latches[input as usize] = None;
+                self.owners.pass(input, output, is_tail(flit));
+            }
+            _ => {}
+        }
+    }
+}
