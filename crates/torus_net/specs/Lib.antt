@@ -1,0 +1,3 @@
+pub mod TorusNet
+pub mod Ends
+pub mod Heads
