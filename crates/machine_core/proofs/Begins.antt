@@ -3,20 +3,19 @@ use Rattle.std.proofs.Common.{◌≡◌, ℕ, suc, ◌≤◌, List, [], ◌∷�
 use Rattle.std.proofs.lemmas.List.{length-map}
 use Rattle.torus.specs.Shape.{Shape, tiles_of}
 use Rattle.script.specs.Machine.{MachineSpec, IsAcceptedMachine}
-use Rattle.script.specs.Scripts.{ScriptsSpec, AreAcceptedScripts, Fit}
+use Rattle.script.specs.Scripts.{ScriptsSpec, AreAcceptedScripts, Fit, operation_count, total_count}
 use Rattle.script.specs.declared.line.Line.{Line}
-use Rattle.net_interface.specs.Scripts.{operation_count}
 use Rattle.runs.specs.Observed.{tabulate}
 use Rattle.runs.proofs.Words.{length-tabulate}
 use Rattle.machine_core.specs.declared.rows.ProcessorRow.{ProcessorRow}
 use Rattle.machine_core.specs.declared.rows.BankRow.{BankRow}
 use Rattle.machine_core.specs.declared.machine.Machine.TheInside.{Inside}
-use Rattle.machine_core.specs.Wire.{Load, State, first_processor, first_bank, first_state}
-use Rattle.machine_core.specs.Ledger.{Ledger}
-use Rattle.machine_core.specs.Room.{home_room, all_room}
-use Rattle.machine_core.specs.Rows.{processor_of, bank_of, HasProcessorRoom}
-use Rattle.machine_core.specs.Core.{Core, IsAccepted, IsAfter, IsLawful, first_ledger}
-use Rattle.machine_core.specs.Inside.{state_of, ledger_of, core_of, IsMachine}
+use Rattle.machine_core.specs.Wire.{Load, State, first_processor, first_bank, first_state, bank_of}
+use Rattle.machine_core.specs.EventBook.{EventBook}
+use Rattle.machine_core.specs.Room.{home_room}
+use Rattle.machine_core.specs.Rows.{processor_of, HasProcessorRoom}
+use Rattle.machine_core.specs.Core.{Core, IsAccepted, IsAfter, IsLawful, first_book}
+use Rattle.machine_core.specs.Inside.{state_of, book_of, core_of, IsMachine}
 use Rattle.machine_core.specs.Loaded.{IsFirstBankRow, load_of}
 use Rattle.machine_core.proofs.LoadingAccepted.{accepted_load}
 use Rattle.machine_core.proofs.ScriptLaws.{ScriptLaws}
@@ -24,6 +23,7 @@ use Rattle.machine_core.proofs.Reach.{lawful}
 
 pub record Begun {A : Type 0} (l : Load) (a : Inside A) : Type 0 where
   pub shape : a.torus ≡ l.shape
+  pub depth : a.depth ≡ l.depth
   pub tags : a.tags ≡ l.tags
   pub opening : a.opening.items ≡ l.opening
   pub processors : map processor_of a.processors.items ≡ map (first_processor l.tags) l.scripts
@@ -35,9 +35,9 @@ pub record Begun {A : Type 0} (l : Load) (a : Inside A) : Type 0 where
   pub responses : a.responses.items ≡ []
   pub order : a.order.items ≡ []
   pub events : a.events ≡ 0
-  pub request_room : all_room l.scripts ≤ vec_capacity a.requests
-  pub response_room : all_room l.scripts ≤ vec_capacity a.responses
-  pub order_room : all_room l.scripts ≤ vec_capacity a.order
+  pub request_room : total_count l.scripts ≤ vec_capacity a.requests
+  pub response_room : total_count l.scripts ≤ vec_capacity a.responses
+  pub order_room : total_count l.scripts ≤ vec_capacity a.order
 
 all_empty : {A B : Type 0} (f : A → List B) (xs : List A) (n : ℕ) → length xs ≡ n → ((k : ℕ) (x : A) → slice_get xs k ≡ Some x → f x ≡ []) → map f xs ≡ replicate n []
 all_empty f [] n e h = ap (λ k. replicate k []) e
@@ -50,7 +50,7 @@ same_state p q hp hb hr hs =
     ∙ (ap (λ z. record { processors = q.processors; banks = q.banks; requests = z; responses = p.responses }) hr
     ∙ ap (λ z. record { processors = q.processors; banks = q.banks; requests = q.requests; responses = z }) hs))
 
-same_book : (p q : Ledger) → p.events ≡ q.events → p.issues ≡ q.issues → p.positions ≡ q.positions → p.rows ≡ q.rows → p ≡ q
+same_book : (p q : EventBook) → p.events ≡ q.events → p.issues ≡ q.issues → p.positions ≡ q.positions → p.rows ≡ q.rows → p ≡ q
 same_book p q he hi hp hr =
     ap (λ z. record { events = z; issues = p.issues; positions = p.positions; rows = p.rows }) he
     ∙ (ap (λ z. record { events = q.events; issues = z; positions = p.positions; rows = p.rows }) hi
@@ -64,18 +64,19 @@ is_after_none {A = A} laws l a ok b =
     sym (length-map a.processors.items processor_of) ∙ (ap (λ xs. length xs) b.processors ∙ (length-map l.scripts (first_processor l.tags) ∙ ok.processors)) in
     let banks : length a.banks.items ≡ tiles =
     sym (length-map a.banks.items (λ (row : BankRow A). bank_of row.bank)) ∙ (ap (λ xs. length xs) b.banks ∙ length-tabulate (first_bank tiles l.opening) tiles) in
-    let book : ledger_of a ≡ first_ledger tiles = same_book (ledger_of a) (first_ledger tiles) b.events
+    let book : book_of a ≡ first_book tiles = same_book (book_of a) (first_book tiles) b.events
     (all_empty (λ (row : ProcessorRow A). row.numbers.items) a.processors.items tiles processors b.numbers)
     (all_empty (λ (row : BankRow A). row.positions.items) a.banks.items tiles banks (λ k row h. (b.each k row h).positions))
     b.order in
     record {
       accepted = ok;
       shape = b.shape;
+      depth = b.depth;
       tags = b.tags;
       opening = b.opening;
       state = same_state (state_of a) (first_state l) b.processors b.banks b.requests b.responses;
       book = book;
-      lawful = subst (λ (g : Ledger). IsLawful l [] g.rows) (sym book) (lawful laws l ok []);
+      lawful = subst (λ (g : EventBook). IsLawful l [] g.rows) (sym book) (lawful laws l ok []);
     }
 
 pub is_machine : {A : Type 0} (laws : ScriptLaws) (l : Load) (a : Inside A) → IsAccepted l → Begun l a → IsMachine a
@@ -107,22 +108,23 @@ each_as {A = A} tiles n opening o scripts lists rows ht ho hs h b row at =
     (subst (λ (k : ℕ). IsFirstBankRow k b o (home_room k b lists) row) ht (h b row at)))
 
 -- the room that was taken
-pub room_as : (scripts lists : List (List Line)) (room capacity : ℕ) → lists ≡ scripts → room ≡ all_room lists → room ≤ capacity → all_room scripts ≤ capacity
-room_as scripts lists room capacity same is h = let e = ap all_room same in omega (arith, e, is, h)
+pub room_as : (scripts lists : List (List Line)) (room capacity : ℕ) → lists ≡ scripts → room ≡ total_count lists → room ≤ capacity → total_count scripts ≤ capacity
+room_as scripts lists room capacity same is h = let e = ap total_count same in omega (arith, e, is, h)
 
-same_load : (m : MachineSpec) (s : ScriptsSpec) (shape : Shape) (tags : ℕ) (opening : List ℕ) (scripts : List (List Line)) → shape ≡ m.shape → tags ≡ m.tags → opening ≡ m.opening → scripts ≡ s.lists
-    → ◌≡◌ {A = Load} (record { shape = shape; tags = tags; opening = opening; scripts = scripts }) (load_of m s)
-same_load m s shape tags opening scripts hs ht ho hl =
-    ap (λ (x : Shape). record { shape = x; tags = tags; opening = opening; scripts = scripts }) hs
-    ∙ (ap (λ (x : ℕ). record { shape = m.shape; tags = x; opening = opening; scripts = scripts }) ht
-    ∙ (ap (λ (x : List ℕ). record { shape = m.shape; tags = m.tags; opening = x; scripts = scripts }) ho
-    ∙ ap (λ (x : List (List Line)). record { shape = m.shape; tags = m.tags; opening = m.opening; scripts = x }) hl))
+same_load : (m : MachineSpec) (s : ScriptsSpec) (shape : Shape) (depth tags : ℕ) (opening : List ℕ) (scripts : List (List Line)) → shape ≡ m.shape → depth ≡ m.depth → tags ≡ m.tags → opening ≡ m.opening → scripts ≡ s.lists
+    → ◌≡◌ {A = Load} (record { shape = shape; depth = depth; tags = tags; opening = opening; scripts = scripts }) (load_of m s)
+same_load m s shape depth tags opening scripts hs hd ht ho hl =
+    ap (λ (x : Shape). record { shape = x; depth = depth; tags = tags; opening = opening; scripts = scripts }) hs
+    ∙ (ap (λ (x : ℕ). record { shape = m.shape; depth = x; tags = tags; opening = opening; scripts = scripts }) hd
+    ∙ (ap (λ (x : ℕ). record { shape = m.shape; depth = m.depth; tags = x; opening = opening; scripts = scripts }) ht
+    ∙ (ap (λ (x : List ℕ). record { shape = m.shape; depth = m.depth; tags = m.tags; opening = x; scripts = scripts }) ho
+    ∙ ap (λ (x : List (List Line)). record { shape = m.shape; depth = m.depth; tags = m.tags; opening = m.opening; scripts = x }) hl)))
 
 -- what is loaded is accepted, said of its parts
-pub accepted_as : (m : MachineSpec) (s : ScriptsSpec) (shape : Shape) (tags : ℕ) (opening : List ℕ) (scripts : List (List Line)) → IsAcceptedMachine m → AreAcceptedScripts s → Fit s m
-    → shape ≡ m.shape → tags ≡ m.tags → opening ≡ m.opening → scripts ≡ s.lists → IsAccepted (record { shape = shape; tags = tags; opening = opening; scripts = scripts })
-accepted_as m s shape tags opening scripts machine script fit hs ht ho hl = subst IsAccepted (sym (same_load m s shape tags opening scripts hs ht ho hl)) (accepted_load m s machine script fit)
+pub accepted_as : (m : MachineSpec) (s : ScriptsSpec) (shape : Shape) (depth tags : ℕ) (opening : List ℕ) (scripts : List (List Line)) → IsAcceptedMachine m → AreAcceptedScripts s → Fit s m
+    → shape ≡ m.shape → depth ≡ m.depth → tags ≡ m.tags → opening ≡ m.opening → scripts ≡ s.lists → IsAccepted (record { shape = shape; depth = depth; tags = tags; opening = opening; scripts = scripts })
+accepted_as m s shape depth tags opening scripts machine script fit hs hd ht ho hl = subst IsAccepted (sym (same_load m s shape depth tags opening scripts hs hd ht ho hl)) (accepted_load m s machine script fit)
 
-pub after_as : (m : MachineSpec) (s : ScriptsSpec) (shape : Shape) (tags : ℕ) (opening : List ℕ) (scripts : List (List Line)) (c : Core)
-    → shape ≡ m.shape → tags ≡ m.tags → opening ≡ m.opening → scripts ≡ s.lists → IsAfter (record { shape = shape; tags = tags; opening = opening; scripts = scripts }) c [] → IsAfter (load_of m s) c []
-after_as m s shape tags opening scripts c hs ht ho hl h = subst (λ (l : Load). IsAfter l c []) (same_load m s shape tags opening scripts hs ht ho hl) h
+pub after_as : (m : MachineSpec) (s : ScriptsSpec) (shape : Shape) (depth tags : ℕ) (opening : List ℕ) (scripts : List (List Line)) (c : Core)
+    → shape ≡ m.shape → depth ≡ m.depth → tags ≡ m.tags → opening ≡ m.opening → scripts ≡ s.lists → IsAfter (record { shape = shape; depth = depth; tags = tags; opening = opening; scripts = scripts }) c [] → IsAfter (load_of m s) c []
+after_as m s shape depth tags opening scripts c hs hd ht ho hl h = subst (λ (l : Load). IsAfter l c []) (same_load m s shape depth tags opening scripts hs hd ht ho hl) h

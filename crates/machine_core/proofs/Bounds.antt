@@ -1,113 +1,49 @@
 -- What `load` reserved is room enough: wherever a list of steps leads, a move that is found has room.
-use Rattle.std.proofs.Common.{◌≡◌, ℕ, zero, suc, ◌+◌, ◌*◌, ◌^◌, ◌/◌, ◌%◌, ◌<◌, ◌≤◌, ◌==◌, cond, List, [], ◌∷◌, length, map, take, replicate, Option, Some, None, refl, sym, ◌∙◌, ap, subst, arith, slice_get, slice_index_or, set, get_or, eq-eqb}
-use Rattle.std.specs.Prelude.{is_some}
+use Rattle.std.proofs.Common.{◌≡◌, ℕ, ◌+◌, ◌*◌, ◌^◌, ◌/◌, ◌%◌, ◌<◌, ◌≤◌, ◌==◌, List, length, take, Some, sym, ◌∙◌, ap, subst, arith, slice_get, eq-eqb}
 use Rattle.std.proofs.lemmas.Bool.{cond-true}
-use Rattle.std.proofs.lemmas.List.{length-map, length_push, take_all}
-use Rattle.std.proofs.lemmas.List.Sums.{sum_by-set, sum_by-cons}
+use Rattle.std.proofs.lemmas.List.{length-map, take_all}
 use Rattle.std.proofs.lemmas.Option.{slice_get_within, get_or_from_slice_get}
 use Rattle.torus.specs.Shape.{tiles_of}
-use Rattle.torus.specs.declared.step.OpId.{OpId}
 use Rattle.torus.specs.declared.step.Step.{Step}
 use Rattle.packet.specs.declared.kinds.Operation.{Operation}
 use Rattle.packet.specs.declared.kinds.Request.{Request}
 use Rattle.packet.specs.declared.kinds.Response.{Response}
 use Rattle.script.specs.declared.line.Line.{Line}
-use Rattle.net_interface.specs.Scripts.{operation_count}
-use Rattle.tag_table.specs.Tags.{out_count}
+use Rattle.script.specs.Scripts.{operation_count, total_count}
 use Rattle.runs.specs.Observed.{Observed, list_at, total, event_count}
 use Rattle.runs.specs.Order.{LinearizationPoint, home, count_at}
 use Rattle.runs.specs.Events.{order_after}
 use Rattle.runs.proofs.Lists.{within_length, list_within}
 use Rattle.runs.proofs.Account.{home_within}
 use Rattle.runs.proofs.BankReplay.{name_entries}
-use Rattle.machine_core.specs.Wire.{Load, Processor, State, Move, Sends, Serves, Takes, processor_at, bank_at, no_processor, first_processor, moved, moved_by, after, show, first_state, run_of, index_of, answer_of, issued_by, answered_by}
-use Rattle.machine_core.specs.Room.{home_room, all_room}
-use Rattle.machine_core.specs.Ledger.{Ledger, row_at}
-use Rattle.machine_core.specs.Core.{IsAccepted, ledger_after}
+use Rattle.machine_core.specs.Wire.{Load, Processor, State, Sends, Serves, Takes, processor_at, bank_at, after, show, run_of, index_of}
+use Rattle.machine_core.specs.Room.{home_room}
+use Rattle.machine_core.specs.EventBook.{EventBook, row_at}
+use Rattle.machine_core.specs.Core.{IsAccepted, book_after}
+use Rattle.machine_core.proofs.LoadingAccepted.{followable}
 use Rattle.machine_core.proofs.ScriptLaws.{ScriptLaws}
 use Rattle.machine_core.proofs.Counts.{asked_of, asked_remove}
 use Rattle.machine_core.proofs.Transport.{Holds}
 use Rattle.machine_core.proofs.Follows.{Follows}
 use Rattle.machine_core.proofs.Choices.{Found}
-use Rattle.machine_core.proofs.Whole.{Whole, tags_of, words_of, tags_at, words_at, issued_at, entries_at, index_is, processor_set}
-use Rattle.machine_core.proofs.Law.{held, state_at, event_at, move_at, move_found, after_more}
-use Rattle.machine_core.proofs.Ledgers.{IsLedgerOf}
+use Rattle.machine_core.proofs.Whole.{Whole, tags_of, words_of, tags_at, words_at, issued_at, entries_at, index_is}
+use Rattle.machine_core.proofs.Law.{held, state_at, event_at}
+use Rattle.machine_core.proofs.EventBooks.{IsBookOf}
 use Rattle.machine_core.proofs.Reach.{kept, lawful}
 use Rattle.machine_core.proofs.BoundsScripts.{followed_home_within, home_total_within, total_within_room, total_below_room}
-
--- the tags that are out and the answers are as many as the operations issued
-abbrev pub Balanced : Processor → Type 0
-Balanced p = out_count p.tags + length p.answers ≡ length p.issued
-
-abbrev is_out : Option OpId → ℕ
-is_out x = cond (is_some x) 1 0
-
-out_more : (tags : List (Option OpId)) (k : ℕ) (id : OpId) → slice_get tags k ≡ Some None → out_count (set tags k (Some id)) ≡ out_count tags + 1
-out_more tags k id free =
-    let was : is_out (get_or tags k None) ≡ 0 = ap is_out (get_or_from_slice_get tags k None None free) in
-    let change = sum_by-set is_out tags k (Some id) None (slice_get_within tags k None free) in
-    omega (arith, was, change)
-
-out_less : (tags : List (Option OpId)) (k : ℕ) (id : OpId) → slice_get tags k ≡ Some (Some id) → out_count (set tags k None) + 1 ≡ out_count tags
-out_less tags k id holds =
-    let was : is_out (get_or tags k None) ≡ 1 = ap is_out (get_or_from_slice_get tags k (Some id) None holds) in
-    let change = sum_by-set is_out tags k None None (slice_get_within tags k (Some id) holds) in
-    omega (arith, was, change)
-
-issued_balanced : (p : Processor) (tag : ℕ) (o : Operation) → slice_get p.tags tag ≡ Some None → Balanced p → Balanced (issued_by p tag o)
-issued_balanced p tag o free h =
-    let more = out_more p.tags tag (record { 0 = p.following.issued }) free in
-    omega (arith, more, h, length_push p.issued o)
-
-answered_balanced : (p : Processor) (r : Response) (i : ℕ) → slice_get p.tags r.tag.0 ≡ Some (Some (record { 0 = i })) → Balanced p → Balanced (answered_by p r)
-answered_balanced p r i holds h =
-    let less = out_less p.tags r.tag.0 (record { 0 = i }) holds in
-    omega (arith, less, h, length_push p.answers (answer_of p r))
-
-balanced_move : (tiles tags : ℕ) (opening : List ℕ) (s : State) (order : List LinearizationPoint) (m : Move) → Whole tiles tags opening s order → Found s m
-    → ((p : ℕ) → Balanced (processor_at s p)) → (p : ℕ) → Balanced (processor_at (moved tiles s m) p)
-balanced_move tiles tags opening s order (Sends t tag o) w f h p =
-    processor_set s t (issued_by (processor_at s t) tag o) p Balanced (issued_balanced (processor_at s t) tag o f.2 (h t)) (h p)
-balanced_move tiles tags opening s order (Serves b place r) w f h p = h p
-balanced_move tiles tags opening s order (Takes t place r) w f h p =
-    let q = w.sound.responses place r f.0 in
-    let holds : slice_get (processor_at s t).tags r.tag.0 ≡ Some (Some (record { 0 = q.index })) =
-    subst (λ (d : ℕ). slice_get (processor_at s d).tags r.tag.0 ≡ Some (Some (record { 0 = q.index }))) f.1 (sym (ap (λ xs. slice_get xs r.tag.0) (tags_at s r.destination)) ∙ q.holds) in
-    processor_set s t (answered_by (processor_at s t) r) p Balanced (answered_balanced (processor_at s t) r q.index holds (h t)) (h p)
-
-balanced_any : (tiles tags : ℕ) (opening : List ℕ) (s : State) (order : List LinearizationPoint) (m : Option Move) → Whole tiles tags opening s order → ((x : Move) → m ≡ Some x → Found s x)
-    → ((p : ℕ) → Balanced (processor_at s p)) → (p : ℕ) → Balanced (processor_at (moved_by tiles s m) p)
-balanced_any tiles tags opening s order None w f h p = h p
-balanced_any tiles tags opening s order (Some m) w f h p = balanced_move tiles tags opening s order m w (f m refl) h p
-
-out_none : (n : ℕ) → out_count (replicate n None) ≡ 0
-out_none zero = refl
-out_none (suc n) = omega (arith, out_none n, sum_by-cons is_out None (replicate n None))
-
-balanced_first : (tags : ℕ) (scripts : List (List Line)) (p : ℕ) → Balanced (slice_index_or (map (first_processor tags) scripts) p no_processor)
-balanced_first tags [] p = refl
-balanced_first tags (lines ∷ scripts) zero = omega (arith, out_none tags)
-balanced_first tags (lines ∷ scripts) (suc p) = balanced_first tags scripts p
-
-balanced : (laws : ScriptLaws) (l : Load) → IsAccepted l → (steps : List Step) (n p : ℕ) → Balanced (processor_at (state_at l steps n) p)
-balanced laws l ok steps zero p = balanced_first l.tags l.scripts p
-balanced laws l ok steps (suc n) p =
-    let s : State = state_at l steps n in
-    let now : state_at l steps (suc n) ≡ moved_by (tiles_of l.shape) s (move_at s (slice_get steps n)) = after_more (tiles_of l.shape) steps (first_state l) n in
-    subst (λ (x : State). Balanced (processor_at x p)) (sym now)
-    (balanced_any (tiles_of l.shape) l.tags l.opening s _ (move_at s (slice_get steps n)) (held laws l ok steps n).whole (λ x h. move_found s (slice_get steps n) x h) (λ q. balanced laws l ok steps n q) p)
+use Rattle.machine_core.proofs.Balances.{Balanced, out_less, balanced}
 
 -- what holds where a list of steps leads
-pub record AtEnd (l : Load) (steps : List Step) (s : State) (g : Ledger) : Type 0 where
+pub record AtEnd (l : Load) (steps : List Step) (s : State) (g : EventBook) : Type 0 where
   pub order : List LinearizationPoint
   pub whole : Whole (tiles_of l.shape) l.tags l.opening s order
   pub shown : run_of l steps (length steps) ≡ show (tiles_of l.shape) (length l.opening) s
   pub follows : (p : ℕ) (lines : List Line) → slice_get l.scripts p ≡ Some lines → Follows (run_of l steps) (length steps) p lines (processor_at s p).following
-  pub book : IsLedgerOf (run_of l steps) (length steps) g
+  pub book : IsBookOf (run_of l steps) (length steps) g
   pub rows : length g.rows ≡ total (show (tiles_of l.shape) (length l.opening) s).entries
   pub balanced : (p : ℕ) → Balanced (processor_at s p)
 
-pub at_end : (laws : ScriptLaws) (l : Load) → IsAccepted l → (steps : List Step) → AtEnd l steps (after l steps) (ledger_after l steps)
+pub at_end : (laws : ScriptLaws) (l : Load) → IsAccepted l → (steps : List Step) → AtEnd l steps (after l steps) (book_after l steps)
 at_end laws l ok steps =
     let n : ℕ = length steps in
     let tiles : ℕ = tiles_of l.shape in
@@ -120,37 +56,37 @@ at_end laws l ok steps =
       whole = subst (λ (s : State). Whole tiles l.tags l.opening s (order_after (event_at l steps) n)) state h.whole;
       shown = shown;
       follows = λ p lines there. subst (λ (s : State). Follows (run_of l steps) n p lines (processor_at s p).following) state (h.follows p lines there);
-      book = subst (λ (xs : List Step). IsLedgerOf (run_of l steps) n (ledger_after l xs)) all (kept laws l ok steps n).book;
-      rows = (name_entries tiles l.tags l.opening (run_of l steps) n (ledger_after l steps).rows (lawful laws l ok steps).order).count ∙ ap (λ (x : Observed). total x.entries) shown;
+      book = subst (λ (xs : List Step). IsBookOf (run_of l steps) n (book_after l xs)) all (kept laws l ok steps n).book;
+      rows = (name_entries tiles l.tags l.opening (run_of l steps) n (book_after l steps).rows (lawful laws l ok steps).order).count ∙ ap (λ (x : Observed). total x.entries) shown;
       balanced = λ p. subst (λ (s : State). Balanced (processor_at s p)) state (balanced laws l ok steps n p);
     }
 
 -- The bounds in such a state: what is issued is within the scripts' counts, and the book has as many of each as the state.
-pub record Within (l : Load) (s : State) (g : Ledger) : Type 0 where
+pub record Within (l : Load) (s : State) (g : EventBook) : Type 0 where
   pub processors : length s.processors ≡ tiles_of l.shape
   pub issued : (p : ℕ) (lines : List Line) → slice_get l.scripts p ≡ Some lines → length (processor_at s p).issued ≤ operation_count lines
   pub homes : (b : ℕ) → asked_of b s.requests + length (bank_at s b).entries ≤ home_room (tiles_of l.shape) b l.scripts
-  pub asked : length s.requests + length g.rows ≤ all_room l.scripts
+  pub asked : length s.requests + length g.rows ≤ total_count l.scripts
   pub told : length s.responses ≤ length g.rows
-  pub events : g.events ≤ 3 * all_room l.scripts
+  pub events : g.events ≤ 3 * total_count l.scripts
   pub issues : (p : ℕ) → length (list_at g.issues p) ≡ length (processor_at s p).issued
   pub positions : (b : ℕ) → length (list_at g.positions b) ≡ length (bank_at s b).entries
   pub rows : (b place : ℕ) → place < length (list_at g.positions b) → row_at b place g < length g.rows
 
-issued_within : (laws : ScriptLaws) (l : Load) → IsAccepted l → (steps : List Step) → AtEnd l steps (after l steps) (ledger_after l steps)
+issued_within : (laws : ScriptLaws) (l : Load) → IsAccepted l → (steps : List Step) → AtEnd l steps (after l steps) (book_after l steps)
     → (p : ℕ) (lines : List Line) → slice_get l.scripts p ≡ Some lines → length (list_at (show (tiles_of l.shape) (length l.opening) (after l steps)).issued p) ≤ operation_count lines
 issued_within laws l ok steps h p lines there =
     let f = h.follows p lines there in
-    let most = laws.total lines f.ops (processor_at (after l steps) p).following (ok.scripts p lines there).0 f.shows in
+    let most = laws.total lines f.ops (processor_at (after l steps) p).following (followable l ok p lines there).0 f.shows in
     let same = ap (λ (x : Observed). length (list_at x.issued p)) h.shown in
     omega (arith, most, same, f.are.count)
 
-pub within : (laws : ScriptLaws) (l : Load) → IsAccepted l → (steps : List Step) → Within l (after l steps) (ledger_after l steps)
+pub within : (laws : ScriptLaws) (l : Load) → IsAccepted l → (steps : List Step) → Within l (after l steps) (book_after l steps)
 within laws l ok steps =
     let tiles : ℕ = tiles_of l.shape in
     let M : ℕ = length l.opening in
     let s : State = after l steps in
-    let g : Ledger = ledger_after l steps in
+    let g : EventBook = book_after l steps in
     let h = at_end laws l ok steps in
     let count : length (show tiles M s).issued ≡ length l.scripts = h.whole.account.shown.processors ∙ sym ok.processors in
     let issued = issued_within laws l ok steps h in
@@ -168,7 +104,7 @@ within laws l ok steps =
           let f = h.follows p lines there in
           let same = ap (λ (x : Observed). list_at x.issued p) h.shown in
           followed_home_within tiles b lines f.ops (list_at (show tiles M s).issued p)
-          (laws.followed lines f.ops (processor_at s p).following (ok.scripts p lines there).0 f.shows)
+          (laws.followed lines f.ops (processor_at s p).following (followable l ok p lines there).0 f.shows)
           (f.are.count ∙ ap length same)
           (λ i o there. sym (ap (λ xs. slice_get xs i) same) ∙ (f.are.each i o there).0)) in
           omega (arith, of_bank, here, most);
@@ -185,21 +121,21 @@ within laws l ok steps =
     }
 
 -- the count of events is far below what a number of 32 bits can be
-pub event_bound : (laws : ScriptLaws) (l : Load) → IsAccepted l → (steps : List Step) → (ledger_after l steps).events + 1 < 2 ^ 32
+pub event_bound : (laws : ScriptLaws) (l : Load) → IsAccepted l → (steps : List Step) → (book_after l steps).events + 1 < 2 ^ 32
 event_bound laws l ok steps =
     let w = within laws l ok steps in
-    let most = ok.operations in
+    let most = ok.scripts.total in
     let e = w.events in
     omega (arith, most, e)
 
 -- room for an issue of processor t
-pub record SendRoom (l : Load) (s : State) (g : Ledger) (t : ℕ) (lines : List Line) : Type 0 where
+pub record SendRoom (l : Load) (s : State) (g : EventBook) (t : ℕ) (lines : List Line) : Type 0 where
   pub issued : length (processor_at s t).issued < operation_count lines
   pub numbers : length (list_at g.issues t) < operation_count lines
-  pub requests : length s.requests < all_room l.scripts
+  pub requests : length s.requests < total_count l.scripts
 
 pub send_room : (laws : ScriptLaws) (l : Load) → IsAccepted l → (steps : List Step) (t tag : ℕ) (o : Operation) (lines : List Line) → Found (after l steps) (Sends t tag o) → slice_get l.scripts t ≡ Some lines
-    → SendRoom l (after l steps) (ledger_after l steps) t lines
+    → SendRoom l (after l steps) (book_after l steps) t lines
 send_room laws l ok steps t tag o lines found there =
     let tiles : ℕ = tiles_of l.shape in
     let M : ℕ = length l.opening in
@@ -207,7 +143,7 @@ send_room laws l ok steps t tag o lines found there =
     let h = at_end laws l ok steps in
     let w = within laws l ok steps in
     let f = h.follows t lines there in
-    let accepted = (ok.scripts t lines there).0 in
+    let accepted = (followable l ok t lines there).0 in
     let most = laws.total lines f.ops (processor_at s t).following accepted f.shows in
     let falls = laws.issue lines f.ops (processor_at s t).following o accepted f.shows found.1 in
     let same = ap (λ (x : Observed). length (list_at x.issued t)) h.shown in
@@ -223,11 +159,11 @@ send_room laws l ok steps t tag o lines found there =
     }
 
 -- room for a service of bank b, of a request in flight; and the request is of a word of the bank, of an issued operation of a tile
-pub record ServeRoom (l : Load) (s : State) (g : Ledger) (b : ℕ) (r : Request) : Type 0 where
+pub record ServeRoom (l : Load) (s : State) (g : EventBook) (b : ℕ) (r : Request) : Type 0 where
   pub entries : length (bank_at s b).entries < home_room (tiles_of l.shape) b l.scripts
   pub positions : length (list_at g.positions b) < home_room (tiles_of l.shape) b l.scripts
-  pub responses : length s.responses < all_room l.scripts
-  pub rows : length g.rows < all_room l.scripts
+  pub responses : length s.responses < total_count l.scripts
+  pub rows : length g.rows < total_count l.scripts
   pub bank : b < tiles_of l.shape
   pub word : r.word < length (bank_at s b).words
   pub source : r.source < tiles_of l.shape
@@ -235,12 +171,12 @@ pub record ServeRoom (l : Load) (s : State) (g : Ledger) (b : ℕ) (r : Request)
   pub number : index_of (processor_at s r.source) r.tag.0 < length (list_at g.issues r.source)
 
 pub serve_room : (laws : ScriptLaws) (l : Load) → IsAccepted l → (steps : List Step) (b place : ℕ) (r : Request) → Found (after l steps) (Serves b place r)
-    → ServeRoom l (after l steps) (ledger_after l steps) b r
+    → ServeRoom l (after l steps) (book_after l steps) b r
 serve_room laws l ok steps b place r found =
     let tiles : ℕ = tiles_of l.shape in
     let M : ℕ = length l.opening in
     let s : State = after l steps in
-    let g : Ledger = ledger_after l steps in
+    let g : EventBook = book_after l steps in
     let h = at_end laws l ok steps in
     let w = within laws l ok steps in
     let q = h.whole.sound.requests place r found.0 in
@@ -271,7 +207,7 @@ serve_room laws l ok steps b place r found =
     }
 
 -- room for an answer of processor p, of a response in flight; the tag is held; and the service that the response names has its row
-pub record TakeRoom (l : Load) (s : State) (g : Ledger) (p : ℕ) (r : Response) : Type 0 where
+pub record TakeRoom (l : Load) (s : State) (g : EventBook) (p : ℕ) (r : Response) : Type 0 where
   pub answers : (lines : List Line) → slice_get l.scripts p ≡ Some lines → length (processor_at s p).answers < operation_count lines
   pub processor : p < tiles_of l.shape
   pub held : (i : ℕ) × (slice_get (processor_at s p).tags r.tag.0 ≡ Some (Some (record { 0 = i }))) × (i < length (processor_at s p).issued)
@@ -280,12 +216,12 @@ pub record TakeRoom (l : Load) (s : State) (g : Ledger) (p : ℕ) (r : Response)
   pub row : row_at r.source r.place g < length g.rows
 
 pub take_room : (laws : ScriptLaws) (l : Load) → IsAccepted l → (steps : List Step) (p place : ℕ) (r : Response) → Found (after l steps) (Takes p place r)
-    → TakeRoom l (after l steps) (ledger_after l steps) p r
+    → TakeRoom l (after l steps) (book_after l steps) p r
 take_room laws l ok steps p place r found =
     let tiles : ℕ = tiles_of l.shape in
     let M : ℕ = length l.opening in
     let s : State = after l steps in
-    let g : Ledger = ledger_after l steps in
+    let g : EventBook = book_after l steps in
     let h = at_end laws l ok steps in
     let w = within laws l ok steps in
     let q = h.whole.sound.responses place r found.0 in

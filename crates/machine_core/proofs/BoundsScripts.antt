@@ -1,107 +1,21 @@
--- How many operations of a processor that follows its script can have an address that passes a test, and of all processors together.
-use Rattle.std.proofs.Common.{◌≡◌, ℕ, zero, suc, ◌+◌, ◌%◌, ◌<◌, ◌≤◌, ◌==◌, Bool, true, false, cond, List, [], ◌∷◌, ◌++◌, length, Option, Some, None, refl, ap, arith, slice_get}
-use Rattle.std.specs.Prelude.{count_by, sum_by}
-use Rattle.std.specs.Bool.{MatchBool}
+-- How many operations of a processor that follows its script can be at home in a bank, and of all processors together.
+use Rattle.std.proofs.Common.{◌≡◌, ℕ, zero, suc, ◌%◌, ◌<◌, ◌≤◌, ◌==◌, Bool, cond, List, [], ◌∷◌, length, Some, refl, ap, arith, slice_get}
+use Rattle.std.specs.Prelude.{count_by}
 use Rattle.std.proofs.lemmas.List.Sums.{sum_by-cons}
 use Rattle.std.proofs.lemmas.Option.{same_Some}
 use Rattle.packet.specs.declared.kinds.Operation.{Operation}
 use Rattle.script.specs.declared.line.Line.{Line}
-use Rattle.script.specs.declared.line.Line.TheVariants as line
-use Rattle.net_interface.specs.Scripts.{Invocation, Allows, Spins, FollowsScript, number_of, address_of, count_of, operation_count}
+use Rattle.net_interface.specs.Scripts.{Invocation, FollowsScript}
+use Rattle.script.specs.Scripts.{operation_count, total_count}
 use Rattle.runs.specs.Observed.{list_at, total}
-use Rattle.machine_core.specs.Room.{is_home, line_home_count, script_home_count, home_room, all_room}
+use Rattle.machine_core.specs.Room.{home_room}
+use Rattle.net_interface.specs.Homes.{script_home_count}
+use Rattle.net_interface.proofs.Homes.{invoked, allowed_homes}
 use Rattle.machine_core.proofs.Counts.{home_count, home_total}
 
 -- how many operations have an address that passes
 abbrev pub passing : (ℕ → Bool) → List Operation → ℕ
 passing test os = count_by (λ o. test o.address) os
-
--- the same of operations as they were issued
-abbrev pub invoked : (ℕ → Bool) → List Invocation → ℕ
-invoked test ops = count_by (λ o. test o.operation.address) ops
-
--- whether the address of a line passes; a fence's doesn't
-abbrev pub passes : (ℕ → Bool) → Option ℕ → Bool
-passes test None = false
-passes test (Some a) = test a
-
--- how many operations of a line can have an address that passes
-abbrev pub line_room : (ℕ → Bool) → Line → ℕ
-line_room test first = cond (passes test (address_of first)) (count_of first) 0
-
--- and of a script
-abbrev pub lines_room : (ℕ → Bool) → List Line → ℕ
-lines_room test lines = sum_by (line_room test) lines
-
-invoked_cons : (test : ℕ → Bool) (o : Invocation) (ops : List Invocation) → invoked test (o ∷ ops) ≡ cond (test o.operation.address) 1 0 + invoked test ops
-invoked_cons test o ops = sum_by-cons (λ (x : Invocation). cond (test x.operation.address) 1 0) o ops
-
-one_more : (test : ℕ → Bool) (a n : ℕ) (o : Invocation) (ops : List Invocation) → o.operation.address ≡ a → invoked test ops ≤ n → invoked test (o ∷ ops) ≤ cond (test a) 1 0 + n
-one_more test a n o ops e h =
-    let d : ◌≡◌ {A = ℕ} (cond (test o.operation.address) 1 0) (cond (test a) 1 0) = ap (λ k. cond (test k) 1 0) e in
-    omega (arith, invoked_cons test o ops, d, h)
-
-cond_suc : (b : Bool) (m : ℕ) → cond b (suc m) 0 ≡ cond b 1 0 + cond b m 0
-cond_suc true m = omega arith
-cond_suc false m = omega arith
-
-either : (b : Bool) (P Q : Type 0) (x n : ℕ) → (P → x ≤ n) → (Q → x ≤ n) → MatchBool b P Q → x ≤ n
-either true P Q x n f g h = f h
-either false P Q x n f g h = g h
-
--- a spin makes at most so many loads, all of its address
-spin_within : (test : ℕ → Bool) (a sought n : ℕ) (over : List Invocation → List Invocation → Type 0) → ((past ops : List Invocation) → over past ops → invoked test ops ≤ n)
-    → (most : ℕ) (past ops : List Invocation) → Spins a sought most over past ops → invoked test ops ≤ cond (test a) most 0 + n
-spin_within test a sought n over below zero past ops h = omega (arith, below past ops h)
-spin_within test a sought n over below (suc most) past [] h = omega arith
-spin_within test a sought n over below (suc most) past (o ∷ []) h =
-    let none : invoked test [] ≤ cond (test a) most 0 + n = omega arith in
-    omega (arith, one_more test a (cond (test a) most 0 + n) o [] (ap (λ (x : Operation). x.address) h.0) none, cond_suc (test a) most)
-spin_within test a sought n over below (suc most) past (o ∷ q ∷ ops) h =
-    let rest : invoked test (q ∷ ops) ≤ cond (test a) most 0 + n = either (number_of h.1.0 == sought) (over (past ++ o ∷ []) (q ∷ ops)) (Spins a sought most over (past ++ o ∷ []) (q ∷ ops)) (invoked test (q ∷ ops)) (cond (test a) most 0 + n)
-    (λ g. omega (arith, below (past ++ o ∷ []) (q ∷ ops) g))
-    (λ g. spin_within test a sought n over below most (past ++ o ∷ []) (q ∷ ops) g) h.1.2 in
-    omega (arith, one_more test a (cond (test a) most 0 + n) o (q ∷ ops) (ap (λ (x : Operation). x.address) h.0) rest, cond_suc (test a) most)
-
-room_cons : (test : ℕ → Bool) (first : Line) (lines : List Line) → lines_room test (first ∷ lines) ≡ line_room test first + lines_room test lines
-room_cons test first lines = sum_by-cons (line_room test) first lines
-
--- an operation of an operation line
-line_within : (test : ℕ → Bool) (a : ℕ) (first : Line) (lines : List Line) (o : Invocation) (ops : List Invocation) → cond (test a) 1 0 ≡ line_room test first → o.operation.address ≡ a
-    → invoked test ops ≤ lines_room test lines → invoked test (o ∷ ops) ≤ lines_room test (first ∷ lines)
-line_within test a first lines o ops e f h = omega (arith, e, one_more test a (lines_room test lines) o ops f h, room_cons test first lines)
-
-abbrev address_in : Operation → ℕ
-address_in o = o.address
-
--- the operations that a script allows, of the addresses that pass, are at most as many as its lines of those addresses count
-pub allowed_within : (test : ℕ → Bool) (lines : List Line) (past ops : List Invocation) → Allows lines past ops → invoked test ops ≤ lines_room test lines
-allowed_within test [] past [] h = omega arith
-allowed_within test [] past (o ∷ ops) h = absurd h
-allowed_within test (line.Fence ∷ lines) past [] h = omega arith
-allowed_within test (line.Fence ∷ lines) past (o ∷ ops) h = omega (arith, allowed_within test lines past (o ∷ ops) h.1, room_cons test line.Fence lines)
-allowed_within test (line.Spin a v m ∷ lines) past ops h =
-    omega (arith, spin_within test a v (lines_room test lines) (Allows lines) (λ p q g. allowed_within test lines p q g) m past ops h, room_cons test (line.Spin a v m) lines)
-allowed_within test (line.Load a ∷ lines) past [] h = omega arith
-allowed_within test (line.Load a ∷ lines) past (o ∷ ops) h = line_within test a (line.Load a) lines o ops refl (ap address_in h.0) (allowed_within test lines (past ++ o ∷ []) ops h.1)
-allowed_within test (line.Store a v ∷ lines) past [] h = omega arith
-allowed_within test (line.Store a v ∷ lines) past (o ∷ ops) h = line_within test a (line.Store a v) lines o ops refl (ap address_in h.0.2) (allowed_within test lines (past ++ o ∷ []) ops h.1)
-allowed_within test (line.Swap a v ∷ lines) past [] h = omega arith
-allowed_within test (line.Swap a v ∷ lines) past (o ∷ ops) h = line_within test a (line.Swap a v) lines o ops refl (ap address_in h.0.2) (allowed_within test lines (past ++ o ∷ []) ops h.1)
-allowed_within test (line.Cas a e n ∷ lines) past [] h = omega arith
-allowed_within test (line.Cas a e n ∷ lines) past (o ∷ ops) h = line_within test a (line.Cas a e n) lines o ops refl (ap address_in h.0.4) (allowed_within test lines (past ++ o ∷ []) ops h.1)
-allowed_within test (line.Add a v ∷ lines) past [] h = omega arith
-allowed_within test (line.Add a v ∷ lines) past (o ∷ ops) h = line_within test a (line.Add a v) lines o ops refl (ap address_in h.0.2) (allowed_within test lines (past ++ o ∷ []) ops h.1)
-allowed_within test (line.And a v ∷ lines) past [] h = omega arith
-allowed_within test (line.And a v ∷ lines) past (o ∷ ops) h = line_within test a (line.And a v) lines o ops refl (ap address_in h.0.2) (allowed_within test lines (past ++ o ∷ []) ops h.1)
-allowed_within test (line.Or a v ∷ lines) past [] h = omega arith
-allowed_within test (line.Or a v ∷ lines) past (o ∷ ops) h = line_within test a (line.Or a v) lines o ops refl (ap address_in h.0.2) (allowed_within test lines (past ++ o ∷ []) ops h.1)
-allowed_within test (line.Xor a v ∷ lines) past [] h = omega arith
-allowed_within test (line.Xor a v ∷ lines) past (o ∷ ops) h = line_within test a (line.Xor a v) lines o ops refl (ap address_in h.0.2) (allowed_within test lines (past ++ o ∷ []) ops h.1)
-allowed_within test (line.Max a v ∷ lines) past [] h = omega arith
-allowed_within test (line.Max a v ∷ lines) past (o ∷ ops) h = line_within test a (line.Max a v) lines o ops refl (ap address_in h.0.2) (allowed_within test lines (past ++ o ∷ []) ops h.1)
-allowed_within test (line.Min a v ∷ lines) past [] h = omega arith
-allowed_within test (line.Min a v ∷ lines) past (o ∷ ops) h = line_within test a (line.Min a v) lines o ops refl (ap address_in h.0.2) (allowed_within test lines (past ++ o ∷ []) ops h.1)
 
 -- the operations that a processor issued, as invocations or not
 pub same_passing : (test : ℕ → Bool) (ops : List Invocation) (os : List Operation) → length ops ≡ length os
@@ -113,25 +27,13 @@ same_passing test (x ∷ ops) (o ∷ os) e h =
     let same : o ≡ x.operation = same_Some _ _ (h 0 x refl) in
     let one : ◌≡◌ {A = ℕ} (cond (test o.address) 1 0) (cond (test x.operation.address) 1 0) = ap (λ (y : Operation). cond (test y.address) 1 0) same in
     let rest = same_passing test ops os (omega arith) (λ i y g. h (suc i) y g) in
-    omega (arith, one, rest, invoked_cons test x ops, sum_by-cons (λ (y : Operation). cond (test y.address) 1 0) o os)
-
-passes_home : (tiles b : ℕ) (x : Option ℕ) → passes (λ a. (a % tiles) == b) x ≡ is_home tiles b x
-passes_home tiles b None = refl
-passes_home tiles b (Some a) = refl
-
--- the test is that of a bank
-home_lines : (tiles b : ℕ) (lines : List Line) → lines_room (λ a. (a % tiles) == b) lines ≡ script_home_count tiles b lines
-home_lines tiles b [] = refl
-home_lines tiles b (first ∷ lines) =
-    let one : line_room (λ a. (a % tiles) == b) first ≡ line_home_count tiles b first = ap (λ c. cond c (count_of first) 0) (passes_home tiles b (address_of first)) in
-    omega (arith, one, home_lines tiles b lines, room_cons (λ a. (a % tiles) == b) first lines, sum_by-cons (line_home_count tiles b) first lines)
+    omega (arith, one, rest, sum_by-cons (λ (y : Invocation). cond (test y.operation.address) 1 0) x ops, sum_by-cons (λ (y : Operation). cond (test y.address) 1 0) o os)
 
 -- a processor that follows its script issues at most so many operations to a bank
 pub followed_home_within : (tiles b : ℕ) (lines : List Line) (ops : List Invocation) (os : List Operation) → FollowsScript lines ops → length ops ≡ length os
     → ((i : ℕ) (o : Invocation) → slice_get ops i ≡ Some o → slice_get os i ≡ Some o.operation) → home_count tiles b os ≤ script_home_count tiles b lines
 followed_home_within tiles b lines ops os follows e h =
-    let allowed = allowed_within (λ a. (a % tiles) == b) lines [] ops follows in
-    omega (arith, allowed, same_passing (λ a. (a % tiles) == b) ops os e h, home_lines tiles b lines)
+    omega (arith, allowed_homes tiles b lines ops follows, same_passing (λ a. (a % tiles) == b) ops os e h)
 
 -- all processors together
 pub home_total_within : (tiles b : ℕ) (oss : List (List Operation)) (scripts : List (List Line)) → length oss ≡ length scripts
@@ -142,7 +44,7 @@ home_total_within tiles b (os ∷ oss) (lines ∷ scripts) e h =
     omega (arith, h 0 lines refl, home_total_within tiles b oss scripts (omega arith) (λ p ls g. h (suc p) ls g), sum_by-cons (script_home_count tiles b) lines scripts)
 
 pub total_within_room : (oss : List (List Operation)) (scripts : List (List Line)) → length oss ≡ length scripts
-    → ((p : ℕ) (lines : List Line) → slice_get scripts p ≡ Some lines → length (list_at oss p) ≤ operation_count lines) → total oss ≤ all_room scripts
+    → ((p : ℕ) (lines : List Line) → slice_get scripts p ≡ Some lines → length (list_at oss p) ≤ operation_count lines) → total oss ≤ total_count scripts
 total_within_room [] scripts e h = omega arith
 total_within_room (os ∷ oss) [] e h = absurd (omega arith)
 total_within_room (os ∷ oss) (lines ∷ scripts) e h =
@@ -151,7 +53,7 @@ total_within_room (os ∷ oss) (lines ∷ scripts) e h =
 -- where one processor has room, there is room for one more of all
 pub total_below_room : (oss : List (List Operation)) (scripts : List (List Line)) → length oss ≡ length scripts
     → ((p : ℕ) (lines : List Line) → slice_get scripts p ≡ Some lines → length (list_at oss p) ≤ operation_count lines)
-    → (t : ℕ) (own : List Line) → slice_get scripts t ≡ Some own → length (list_at oss t) < operation_count own → total oss < all_room scripts
+    → (t : ℕ) (own : List Line) → slice_get scripts t ≡ Some own → length (list_at oss t) < operation_count own → total oss < total_count scripts
 total_below_room oss [] e h t own there below = absurd (cc)
 total_below_room [] (lines ∷ scripts) e h t own there below = absurd (omega arith)
 total_below_room (os ∷ oss) (lines ∷ scripts) e h zero own there below =
@@ -159,20 +61,3 @@ total_below_room (os ∷ oss) (lines ∷ scripts) e h zero own there below =
     omega (arith, same, below, total_within_room oss scripts (omega arith) (λ p ls g. h (suc p) ls g), sum_by-cons operation_count lines scripts)
 total_below_room (os ∷ oss) (lines ∷ scripts) e h (suc t) own there below =
     omega (arith, h 0 lines refl, total_below_room oss scripts (omega arith) (λ p ls g. h (suc p) ls g) t own there below, sum_by-cons operation_count lines scripts)
-
-line_home_within : (tiles b : ℕ) (first : Line) → line_home_count tiles b first ≤ count_of first
-line_home_within tiles b first = part (is_home tiles b (address_of first)) (count_of first)
-  where
-    part : (c : Bool) (n : ℕ) → cond c n 0 ≤ n
-    part true n = omega arith
-    part false n = omega arith
-
-script_home_within : (tiles b : ℕ) (lines : List Line) → script_home_count tiles b lines ≤ operation_count lines
-script_home_within tiles b [] = omega arith
-script_home_within tiles b (first ∷ lines) = omega (arith, line_home_within tiles b first, script_home_within tiles b lines, sum_by-cons (line_home_count tiles b) first lines)
-
--- the room of a bank is within that of all operations
-pub home_room_within : (tiles b : ℕ) (scripts : List (List Line)) → home_room tiles b scripts ≤ all_room scripts
-home_room_within tiles b [] = omega arith
-home_room_within tiles b (lines ∷ scripts) =
-    omega (arith, script_home_within tiles b lines, home_room_within tiles b scripts, sum_by-cons (script_home_count tiles b) lines scripts, sum_by-cons operation_count lines scripts)

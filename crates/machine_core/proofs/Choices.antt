@@ -36,12 +36,13 @@ oldest_found {A} test xs k x h = option_and_then_some (λ k. option_map (λ x. (
           subst (λ (z : A). test z ≡ false) (get_or_from_slice_get xs i y x there) (passes.2 i before),
     ))
 
--- what an enabled choice finds; a request is the oldest of its source to its bank
+-- what an enabled choice finds; a request is the oldest of its source to its bank, a response the oldest of its bank to its processor
 abbrev pub Found : State → Move → Type 0
 Found s (Sends t tag o) = (t < length s.processors) × (next_operation_of (processor_at s t).following ≡ Some o) × (slice_get (processor_at s t).tags tag ≡ Some None)
 Found s (Serves b place r) = (slice_get s.requests place ≡ Some r) × (r.destination ≡ b)
     × ((k : ℕ) (q : Request) → k < place → slice_get s.requests k ≡ Some q → q.source ≡ r.source → q.destination ≡ r.destination → ⊥)
 Found s (Takes p place r) = (slice_get s.responses place ≡ Some r) × (r.destination ≡ p)
+    × ((k : ℕ) (q : Response) → k < place → slice_get s.responses k ≡ Some q → q.source ≡ r.source → q.destination ≡ r.destination → ⊥)
 
 is_none_only : {A : Type 0} (o : Option A) → is_none o ≡ true → o ≡ None
 is_none_only None h = refl
@@ -78,7 +79,15 @@ takes_found : (s : State) (p : ℕ) (m : Move) → takes s p ≡ Some m → Foun
 takes_found s p m h = option_and_then_some _ (slice_get s.processors p) m h (λ row is_row h1.
     let f = option_map_some (λ (f : ℕ × Response). Takes p f.0 f.1) (oldest (λ r. r.destination == p) s.responses) m h1 in
     let g = oldest_found (λ (r : Response). r.destination == p) s.responses f.0.0 f.0.1 f.1 in
-    subst (Found s) f.2 (g.0, eqb-true f.0.1.destination p g.1))
+    let here : f.0.1.destination ≡ p = eqb-true f.0.1.destination p g.1 in
+    subst (Found s) f.2 (
+      g.0,
+      here,
+      λ k q below there source to.
+          let passes : (q.destination == p) ≡ true = eq-eqb q.destination p (to ∙ here) in
+          let fails : (q.destination == p) ≡ false = g.2 k q below there in
+          let no : ◌≡◌ {A = Bool} true false = sym passes ∙ fails in cc,
+    ))
 
 chosen : {A : Type 0} (b : Bool) (o : Option A) (m : A) → cond b o None ≡ Some m → o ≡ Some m
 chosen true o m h = h

@@ -10,9 +10,8 @@ use Rattle.net_interface.specs.Scripts.{Invocation}
 use Rattle.net_interface.specs.Following.{Following, ShowsPast, starts, issues, answers, first_of, next_operation_of, after_issue, after_answer}
 use Rattle.runs.specs.declared.answer.Answer.{Answer}
 use Rattle.runs.specs.Observed.{Observed, Run, list_at, HasAnswered, IsIssuedAt, IsAnsweredAt}
-use Rattle.runs.proofs.Lists.{get_push_cases, get_append_left, get_push, within_length}
+use Rattle.runs.proofs.Lists.{get_push_cases, get_append_left, get_push, within_length, get_set_same, get_set_other}
 use Rattle.machine_core.specs.Scripts.{AreInvocationsOf}
-use Rattle.machine_core.proofs.Places.{get_set_same, get_set_other}
 
 -- the follower of p shows the operations that p issued in the first n steps of a run
 pub record Follows (run : Run) (n p : ℕ) (lines : List Line) (f : Following) : Type 0 where

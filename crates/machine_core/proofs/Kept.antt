@@ -1,35 +1,33 @@
 -- A machine's fields after a move: they are those of the machine that the move makes.
-use Rattle.std.proofs.Common.{◌≡◌, ⊎_elim, ℕ, zero, suc, ◌+◌, ◌*◌, ◌<◌, ◌≤◌, ◌==◌, List, [], ◌∷◌, ◌++◌, length, map, Option, Some, None, refl, sym, ◌∙◌, ap, subst, arith, slice_get, slice_set, slice_index_or, set, vec_len, vec_capacity}
+use Rattle.std.proofs.Common.{◌≡◌, ⊎_elim, ℕ, zero, suc, ◌+◌, ◌*◌, ◌<◌, ◌≤◌, ◌==◌, List, [], ◌∷◌, ◌++◌, length, map, Some, refl, sym, ◌∙◌, ap, subst, arith, slice_get, slice_set, slice_index_or, set, vec_len, vec_capacity}
 use Rattle.std.specs.Prelude.{Vec, remove}
 use Rattle.std.specs.Vec.{with_item}
-use Rattle.std.specs.Option.{option_map, option_and_then}
+use Rattle.std.specs.Option.{option_map}
 use Rattle.std.proofs.lemmas.Bool.{cases_eq}
 use Rattle.std.proofs.lemmas.List.{map-set, set-get_or}
 use Rattle.std.proofs.lemmas.Nat.{mod-mul-add, div-mul-add}
-use Rattle.std.proofs.lemmas.Option.{slice_get_within, slice_get-get_or, same_Some, get_or_from_slice_get, slice_get-map, slice_get_past}
+use Rattle.std.proofs.lemmas.Option.{slice_get_within, slice_get-get_or, same_Some, get_or_from_slice_get}
 use Rattle.torus.specs.Shape.{tiles_of}
 use Rattle.torus.specs.declared.step.Step.{Step}
 use Rattle.torus.specs.declared.step.Choice.TheVariants.{Send, Take, Serve}
-use Rattle.torus.specs.declared.step.Stepped.TheVariants.{Moved, Idle}
-use Rattle.torus.specs.declared.step.Tag.{Tag}
 use Rattle.packet.specs.declared.kinds.Operation.{Operation}
 use Rattle.packet.specs.declared.kinds.Request.{Request}
 use Rattle.packet.specs.declared.kinds.Response.{Response}
 use Rattle.script.specs.declared.line.Line.{Line}
 use Rattle.home_bank.specs.Bank.{BankState, bank_after}
-use Rattle.net_interface.specs.Scripts.{operation_count}
+use Rattle.script.specs.Scripts.{operation_count}
 use Rattle.runs.specs.declared.ordered.Ordered.{Ordered}
 use Rattle.runs.specs.Observed.{list_at}
 use Rattle.runs.proofs.Lists.{get_set_same, get_set_other}
 use Rattle.machine_core.specs.declared.rows.ProcessorRow.{ProcessorRow}
 use Rattle.machine_core.specs.declared.rows.BankRow.{BankRow}
 use Rattle.machine_core.specs.declared.machine.Machine.TheInside.{Inside}
-use Rattle.machine_core.specs.Wire.{Processor, Bank, State, Move, Sends, Serves, Takes, sends, serves, takes, ready, oldest, processor_at, bank_at, no_processor, issued_by, served_by, answered_by, request_of, response_of, index_of, move_of}
-use Rattle.machine_core.specs.Ledger.{Ledger, new_row, no_row, answered_row, row_at}
+use Rattle.machine_core.specs.Wire.{Processor, Bank, State, Move, Sends, Serves, Takes, sends, serves, takes, ready, oldest, processor_at, bank_at, no_processor, issued_by, served_by, answered_by, request_of, response_of, index_of, move_of, bank_of}
+use Rattle.machine_core.specs.EventBook.{EventBook, new_row, no_row, answered_row, row_at}
 use Rattle.machine_core.specs.Room.{home_room}
-use Rattle.machine_core.specs.Rows.{processor_of, bank_of, HasProcessorRoom, KeepsProcessorRoom, HasBankRoom}
-use Rattle.machine_core.specs.Core.{Core, IsAfter, Steps, told, shown, core_moved, core_next}
-use Rattle.machine_core.specs.Inside.{state_of, ledger_of, core_of, HasRoom, IsMachine}
+use Rattle.machine_core.specs.Rows.{processor_of, HasProcessorRoom, KeepsProcessorRoom, HasBankRoom}
+use Rattle.machine_core.specs.Core.{Core, IsAfter, told, core_moved, core_next}
+use Rattle.machine_core.specs.Inside.{state_of, book_of, core_of, HasRoom, IsMachine}
 use Rattle.machine_core.proofs.ScriptLaws.{ScriptLaws}
 use Rattle.machine_core.proofs.Reach.{after_step}
 
@@ -50,21 +48,21 @@ serves_step s t = rw (mod-mul-add t 3 2 (omega arith), div-mul-add t 3 2 (omega 
 -- a machine is determined by its parts
 same_core : (c : Core) (p q : List Processor) (a b : List Bank) (r u : List Request) (m n : List Response) (e f : ℕ) (i j : List (List ℕ)) (x y : List (List ℕ)) (v w : List Ordered)
     → p ≡ q → a ≡ b → r ≡ u → m ≡ n → e ≡ f → i ≡ j → x ≡ y → v ≡ w
-    → ◌≡◌ {A = Core} (record { shape = c.shape; tags = c.tags; opening = c.opening; state = record { processors = p; banks = a; requests = r; responses = m }; ledger = record { events = e; issues = i; positions = x; rows = v } })
-    (record { shape = c.shape; tags = c.tags; opening = c.opening; state = record { processors = q; banks = b; requests = u; responses = n }; ledger = record { events = f; issues = j; positions = y; rows = w } })
+    → ◌≡◌ {A = Core} (record { shape = c.shape; depth = c.depth; tags = c.tags; opening = c.opening; state = record { processors = p; banks = a; requests = r; responses = m }; book = record { events = e; issues = i; positions = x; rows = v } })
+    (record { shape = c.shape; depth = c.depth; tags = c.tags; opening = c.opening; state = record { processors = q; banks = b; requests = u; responses = n }; book = record { events = f; issues = j; positions = y; rows = w } })
 same_core c p q a b r u m n e f i j x y v w hp ha hr hm he hi hx hv =
     let state : ◌≡◌ {A = State} (record { processors = p; banks = a; requests = r; responses = m }) (record { processors = q; banks = b; requests = u; responses = n }) =
     ap (λ z. record { processors = z; banks = a; requests = r; responses = m }) hp
     ∙ (ap (λ z. record { processors = q; banks = z; requests = r; responses = m }) ha
     ∙ (ap (λ z. record { processors = q; banks = b; requests = z; responses = m }) hr
     ∙ ap (λ z. record { processors = q; banks = b; requests = u; responses = z }) hm)) in
-    let book : ◌≡◌ {A = Ledger} (record { events = e; issues = i; positions = x; rows = v }) (record { events = f; issues = j; positions = y; rows = w }) =
+    let book : ◌≡◌ {A = EventBook} (record { events = e; issues = i; positions = x; rows = v }) (record { events = f; issues = j; positions = y; rows = w }) =
     ap (λ z. record { events = z; issues = i; positions = x; rows = v }) he
     ∙ (ap (λ z. record { events = f; issues = z; positions = x; rows = v }) hi
     ∙ (ap (λ z. record { events = f; issues = j; positions = z; rows = v }) hx
     ∙ ap (λ z. record { events = f; issues = j; positions = y; rows = z }) hv)) in
-    ap (λ (s : State). record { shape = c.shape; tags = c.tags; opening = c.opening; state = s; ledger = record { events = e; issues = i; positions = x; rows = v } }) state
-    ∙ ap (λ (g : Ledger). record { shape = c.shape; tags = c.tags; opening = c.opening; state = record { processors = q; banks = b; requests = u; responses = n }; ledger = g }) book
+    ap (λ (s : State). record { shape = c.shape; depth = c.depth; tags = c.tags; opening = c.opening; state = s; book = record { events = e; issues = i; positions = x; rows = v } }) state
+    ∙ ap (λ (g : EventBook). record { shape = c.shape; depth = c.depth; tags = c.tags; opening = c.opening; state = record { processors = q; banks = b; requests = u; responses = n }; book = g }) book
 
 -- what a list of rows holds at a place
 pub map_at : {A B : Type 0} (f : A → B) (xs : List A) (k : ℕ) (x : A) → slice_get xs k ≡ Some x → slice_get (map f xs) k ≡ Some (f x)
@@ -78,11 +76,11 @@ processor_there a t row h = get_or_from_slice_get (state_of a).processors t (pro
 pub bank_there : {A : Type 0} (a : Inside A) (b : ℕ) (row : BankRow A) → slice_get a.banks.items b ≡ Some row → bank_at (state_of a) b ≡ bank_of row.bank
 bank_there a b row h = get_or_from_slice_get (state_of a).banks b (bank_of row.bank) _ (map_at (λ (x : BankRow _). bank_of x.bank) a.banks.items b row h)
 
-pub numbers_there : {A : Type 0} (a : Inside A) (t : ℕ) (row : ProcessorRow A) → slice_get a.processors.items t ≡ Some row → list_at (ledger_of a).issues t ≡ row.numbers.items
-numbers_there a t row h = get_or_from_slice_get (ledger_of a).issues t row.numbers.items [] (map_at (λ (x : ProcessorRow _). x.numbers.items) a.processors.items t row h)
+pub numbers_there : {A : Type 0} (a : Inside A) (t : ℕ) (row : ProcessorRow A) → slice_get a.processors.items t ≡ Some row → list_at (book_of a).issues t ≡ row.numbers.items
+numbers_there a t row h = get_or_from_slice_get (book_of a).issues t row.numbers.items [] (map_at (λ (x : ProcessorRow _). x.numbers.items) a.processors.items t row h)
 
-pub positions_there : {A : Type 0} (a : Inside A) (b : ℕ) (row : BankRow A) → slice_get a.banks.items b ≡ Some row → list_at (ledger_of a).positions b ≡ row.positions.items
-positions_there a b row h = get_or_from_slice_get (ledger_of a).positions b row.positions.items [] (map_at (λ (x : BankRow _). x.positions.items) a.banks.items b row h)
+pub positions_there : {A : Type 0} (a : Inside A) (b : ℕ) (row : BankRow A) → slice_get a.banks.items b ≡ Some row → list_at (book_of a).positions b ≡ row.positions.items
+positions_there a b row h = get_or_from_slice_get (book_of a).positions b row.positions.items [] (map_at (λ (x : BankRow _). x.positions.items) a.banks.items b row h)
 
 row_room : {A : Type 0} (scripts : List (List Line)) (rows : List (ProcessorRow A)) (t : ℕ) (old new : ProcessorRow A) → slice_get rows t ≡ Some old → KeepsProcessorRoom old new
     → ((k : ℕ) (lines : List Line) (row : ProcessorRow A) → slice_get scripts k ≡ Some lines → slice_get rows k ≡ Some row → HasProcessorRoom (operation_count lines) row)
@@ -100,6 +98,7 @@ row_room {A = A} scripts rows t old new there keeps room k lines row script h = 
 abbrev pub with_sent : {A : Type 0} → Inside A → ℕ → ProcessorRow A → Vec Request A → ℕ → Inside A
 with_sent a t row requests number = record {
   torus = a.torus;
+  depth = a.depth;
   tags = a.tags;
   opening = a.opening;
   processors = with_item a.processors t row;
@@ -142,7 +141,7 @@ sent laws a is t tag number o old new requests there is_ready count row numbers 
     (map-set processor_of a.processors.items t new ∙ ap (slice_set (state_of a).processors t) (row ∙ ap (λ (p : Processor). issued_by p tag o) (sym (processor_there a t old there))))
     refl flight refl count
     (map-set (λ (x : ProcessorRow _). x.numbers.items) a.processors.items t new
-    ∙ ap (slice_set (ledger_of a).issues t) (numbers ∙ (ap (λ n. old.numbers.items ++ n ∷ []) count ∙ ap (λ xs. xs ++ (a.events + 1) ∷ []) (sym (numbers_there a t old there)))))
+    ∙ ap (slice_set (book_of a).issues t) (numbers ∙ (ap (λ n. old.numbers.items ++ n ∷ []) count ∙ ap (λ xs. xs ++ (a.events + 1) ∷ []) (sym (numbers_there a t old there)))))
     refl refl in
     made laws a after (Sends t tag o) (record { agent = t * 3 + 0; choice = Send }) is
     (sends_step (state_of a) t ∙ sends_is (state_of a) t tag o (processor_of old) (map_at processor_of a.processors.items t old there) is_ready)
@@ -160,6 +159,7 @@ sent laws a is t tag number o old new requests there is_ready count row numbers 
 abbrev pub with_served : {A : Type 0} → Inside A → ℕ → BankRow A → Vec Request A → Vec Response A → ℕ → Vec Ordered A → Inside A
 with_served a b row requests responses number order = record {
   torus = a.torus;
+  depth = a.depth;
   tags = a.tags;
   opening = a.opening;
   processors = a.processors;
@@ -204,8 +204,8 @@ pub served : {A : Type 0} (laws : ScriptLaws) (a : Inside A) (is : IsMachine a) 
     → slice_get a.banks.items b ≡ Some old → oldest (λ r. r.destination == b) a.requests.items ≡ Some (place, r) → r.destination ≡ b → number ≡ a.events + 1
     → new.bank ≡ bank_after old.bank r → new.positions.items ≡ old.positions.items ++ vec_len a.order ∷ [] → vec_capacity old.positions ≤ vec_capacity new.positions
     → requests.items ≡ remove a.requests.items place → vec_capacity a.requests ≤ vec_capacity requests
-    → q ≡ response_of (bank_of old.bank) r → responses.items ≡ a.responses.items ++ q ∷ [] → vec_capacity a.responses ≤ vec_capacity responses
-    → x ≡ new_row b r.source (index_of (processor_at (state_of a) r.source) r.tag.0) (ledger_of a) → order.items ≡ a.order.items ++ x ∷ [] → vec_capacity a.order ≤ vec_capacity order
+    → q ≡ response_of (tiles_of a.torus) (bank_of old.bank) r → responses.items ≡ a.responses.items ++ q ∷ [] → vec_capacity a.responses ≤ vec_capacity responses
+    → x ≡ new_row b r.source (index_of (processor_at (state_of a) r.source) r.tag.0) (book_of a) → order.items ≡ a.order.items ++ x ∷ [] → vec_capacity a.order ≤ vec_capacity order
     → Made a (with_served a b new requests responses number order) (Serves b place r)
 served laws a is b place number index r q x old new requests responses order there is_oldest here count bank positions more_positions asked more_asked q_is told more_told x_is rows more_rows =
     let after : Inside _ = with_served a b new requests responses number order in
@@ -216,10 +216,10 @@ served laws a is b place number index r q x old new requests responses order the
     (map-set (λ (y : BankRow _). bank_of y.bank) a.banks.items b new
     ∙ ap (slice_set (state_of a).banks b) (ap bank_of bank ∙ (served_bank b (tiles_of a.torus) old.bank r home.0 home.1 here ∙ ap (λ y. served_by (tiles_of a.torus) y r) (sym (bank_there a b old there)))))
     asked
-    (told ∙ ap (λ y. a.responses.items ++ y ∷ []) (q_is ∙ ap (λ y. response_of y r) (sym (bank_there a b old there))))
+    (told ∙ ap (λ y. a.responses.items ++ y ∷ []) (q_is ∙ ap (λ y. response_of (tiles_of a.torus) y r) (sym (bank_there a b old there))))
     count refl
     (map-set (λ (y : BankRow _). y.positions.items) a.banks.items b new
-    ∙ ap (slice_set (ledger_of a).positions b) (positions ∙ (ap (λ n. old.positions.items ++ n ∷ []) len ∙ ap (λ xs. xs ++ length a.order.items ∷ []) (sym (positions_there a b old there)))))
+    ∙ ap (slice_set (book_of a).positions b) (positions ∙ (ap (λ n. old.positions.items ++ n ∷ []) len ∙ ap (λ xs. xs ++ length a.order.items ∷ []) (sym (positions_there a b old there)))))
     (rows ∙ ap (λ y. a.order.items ++ y ∷ []) x_is) in
     made laws a after (Serves b place r) (record { agent = b * 3 + 2; choice = Serve }) is
     (serves_step (state_of a) b ∙ serves_is (state_of a) b place r (bank_of old.bank) (map_at (λ (y : BankRow _). bank_of y.bank) a.banks.items b old there) is_oldest)
@@ -237,6 +237,7 @@ served laws a is b place number index r q x old new requests responses order the
 abbrev pub with_taken : {A : Type 0} → Inside A → ℕ → ProcessorRow A → Vec Response A → ℕ → Vec Ordered A → Inside A
 with_taken a p row responses number order = record {
   torus = a.torus;
+  depth = a.depth;
   tags = a.tags;
   opening = a.opening;
   processors = with_item a.processors p row;
@@ -254,7 +255,7 @@ pub taken : {A : Type 0} (laws : ScriptLaws) (a : Inside A) (is : IsMachine a) (
     → slice_get a.processors.items p ≡ Some old → oldest (λ r. r.destination == p) a.responses.items ≡ Some (place, r) → number ≡ a.events + 1
     → processor_of new ≡ answered_by (processor_of old) r → new.numbers.items ≡ old.numbers.items → KeepsProcessorRoom old new
     → responses.items ≡ remove a.responses.items place → vec_capacity a.responses ≤ vec_capacity responses
-    → position ≡ row_at r.source r.place (ledger_of a)
+    → position ≡ row_at r.source r.place (book_of a)
     → order.items ≡ slice_set a.order.items position (answered_row (slice_index_or a.order.items position no_row) number) → vec_capacity a.order ≤ vec_capacity order
     → Made a (with_taken a p new responses number order) (Takes p place r)
 taken laws a is p place number position r old new responses order there is_oldest count row numbers keeps told more_told at rows more_rows =
@@ -263,10 +264,10 @@ taken laws a is p place number position r old new responses order there is_oldes
     (map-set processor_of a.processors.items p new ∙ ap (slice_set (state_of a).processors p) (row ∙ ap (λ (x : Processor). answered_by x r) (sym (processor_there a p old there))))
     refl refl told count
     (map-set (λ (x : ProcessorRow _). x.numbers.items) a.processors.items p new
-    ∙ (ap (slice_set (ledger_of a).issues p) (numbers ∙ sym (numbers_there a p old there)) ∙ set-get_or (ledger_of a).issues p []))
+    ∙ (ap (slice_set (book_of a).issues p) (numbers ∙ sym (numbers_there a p old there)) ∙ set-get_or (book_of a).issues p []))
     refl
     (rows ∙ (ap (λ k. slice_set a.order.items k (answered_row (slice_index_or a.order.items k no_row) number)) at
-    ∙ ap (λ n. slice_set a.order.items (row_at r.source r.place (ledger_of a)) (answered_row (slice_index_or a.order.items (row_at r.source r.place (ledger_of a)) no_row) n)) count)) in
+    ∙ ap (λ n. slice_set a.order.items (row_at r.source r.place (book_of a)) (answered_row (slice_index_or a.order.items (row_at r.source r.place (book_of a)) no_row) n)) count)) in
     made laws a after (Takes p place r) (record { agent = p * 3 + 0; choice = Take }) is
     (takes_step (state_of a) p ∙ takes_is (state_of a) p place r (processor_of old) (map_at processor_of a.processors.items p old there) is_oldest)
     change
@@ -278,59 +279,3 @@ taken laws a is p place number position r old new responses order there is_oldes
       order = omega (arith, is.room.order, more_rows);
     })
     is.banks
-
--- what a step that moves tells and changes
-pub steps_of : {A : Type 0} (old new : Inside A) (m : Move) (o : Option Move) → o ≡ Some m → Made old new m → Steps (core_of old) (core_of new) Moved o
-steps_of old new m o is h = record {
-  result = sym (ap told is);
-  change = h.change ∙ sym (ap (core_next (core_of old)) is);
-}
-
--- what a step that doesn't move tells
-pub idle_steps : (c : Core) (o : Option Move) → o ≡ None → Steps c c Idle o
-idle_steps c o is = record { result = sym (ap told is); change = sym (ap (core_next c) is) }
-
-ready_found : (x : Option (ℕ × Operation)) (t : Tag) (o : Operation) → ◌≡◌ {A = Option (Tag × Operation)} (Some (t, o)) (option_map (λ (f : ℕ × Operation). (record { 0 = f.0 }, f.1)) x) → x ≡ Some (t.0, o)
-ready_found None t o h = absurd (cc)
-ready_found (Some f) t o h =
-    let e : ◌≡◌ {A = Tag × Operation} (t, o) (record { 0 = f.0 }, f.1) = same_Some _ _ h in
-    ap Some (sym (ap (λ (p : Tag × Operation). (p.0.0, p.1)) e))
-
--- the operation that `ready` answered
-pub ready_is : {A : Type 0} (row : ProcessorRow A) (t : Tag) (o : Operation) → ◌≡◌ {A = Option (Tag × Operation)} (Some (t, o)) (option_map (λ (f : ℕ × Operation). (record { 0 = f.0 }, f.1)) (ready (processor_of row)))
-    → ready (processor_of row) ≡ Some (t.0, o)
-ready_is row t o h = ready_found (ready (processor_of row)) t o h
-
--- a processor that isn't there sends nothing
-pub sends_none : (s : State) (t : ℕ) → slice_get s.processors t ≡ None → sends s t ≡ None
-sends_none s t h = rw h refl
-
-ready_none_found : (x : Option (ℕ × Operation)) → ◌≡◌ {A = Option (Tag × Operation)} None (option_map (λ (f : ℕ × Operation). (record { 0 = f.0 }, f.1)) x) → x ≡ None
-ready_none_found None h = refl
-ready_none_found (Some f) h = absurd (cc)
-
--- what a machine shows of a processor's answers
-pub answers_there : {A : Type 0} (a : Inside A) (t : ℕ) (o : Option (ProcessorRow A)) → slice_get a.processors.items t ≡ o → slice_get (shown (core_of a)).answers t ≡ option_map (λ (row : ProcessorRow A). row.answers.items) o
-answers_there a t None h = slice_get-map (λ (p : Processor). p.answers) (state_of a).processors t ∙ ap (option_map (λ (p : Processor). p.answers)) (slice_get-map processor_of a.processors.items t ∙ ap (option_map processor_of) h)
-answers_there a t (Some row) h = slice_get-map (λ (p : Processor). p.answers) (state_of a).processors t ∙ ap (option_map (λ (p : Processor). p.answers)) (slice_get-map processor_of a.processors.items t ∙ ap (option_map processor_of) h)
-
--- and of a bank's history
-pub entries_there : {A : Type 0} (a : Inside A) (b : ℕ) (o : Option (BankRow A)) → slice_get a.banks.items b ≡ o → slice_get (shown (core_of a)).entries b ≡ option_map (λ (row : BankRow A). row.bank.entries) o
-entries_there a b None h = slice_get-map (λ (x : Bank). x.entries) (state_of a).banks b ∙ ap (option_map (λ (x : Bank). x.entries)) (slice_get-map (λ (row : BankRow _). bank_of row.bank) a.banks.items b ∙ ap (option_map (λ (row : BankRow _). bank_of row.bank)) h)
-entries_there a b (Some row) h = slice_get-map (λ (x : Bank). x.entries) (state_of a).banks b ∙ ap (option_map (λ (x : Bank). x.entries)) (slice_get-map (λ (row : BankRow _). bank_of row.bank) a.banks.items b ∙ ap (option_map (λ (row : BankRow _). bank_of row.bank)) h)
-
--- what stands past the end of a vector
-pub vec_past : {A B : Type 0} (v : Vec A B) (k : ℕ) → vec_len v ≤ k → slice_get v.items k ≡ None
-vec_past v k h = slice_get_past v.items k (let n = v.ok.0 in omega arith)
-
-nothing : {A B : Type 0} {f : A → Option B} (o : Option A) → ((x : A) → f x ≡ None) → option_and_then f o ≡ None
-nothing None h = refl
-nothing (Some x) h = h x
-
--- a bank to which no request is in flight serves nothing
-pub serves_none : (s : State) (b : ℕ) → oldest (λ (r : Request). r.destination == b) s.requests ≡ None → serves s b ≡ None
-serves_none s b h = nothing (slice_get s.banks b) (λ (bank : Bank). ap (option_map (λ (f : ℕ × Request). Serves b f.0 f.1)) h)
-
--- a processor to which no response is in flight takes nothing
-pub takes_none : (s : State) (p : ℕ) → oldest (λ (r : Response). r.destination == p) s.responses ≡ None → takes s p ≡ None
-takes_none s p h = nothing (slice_get s.processors p) (λ (q : Processor). ap (option_map (λ (f : ℕ × Response). Takes p f.0 f.1)) h)

@@ -1,44 +1,17 @@
--- The counts of operations, as sums, and how many of them are at home in a bank.
-use Rattle.std.proofs.Common.{◌≡◌, ℕ, ◌+◌, ◌%◌, ◌/◌, ◌*◌, ◌-◌, ◌<◌, ◌≤◌, true, false, cond, List, [], ◌∷◌, length, take, get_or, refl, sym, ◌∙◌, ap, arith}
+-- The counts of operations, and how many of them are at home in a bank.
+use Rattle.std.proofs.Common.{◌≡◌, ℕ, ◌+◌, ◌%◌, ◌/◌, ◌*◌, ◌-◌, ◌<◌, ◌≤◌, true, false, cond, List, [], ◌∷◌, length, take, get_or, sym, ◌∙◌, ap, arith, ⊎_elim}
 use Rattle.std.specs.Prelude.{sum_by}
 use Rattle.std.proofs.lemmas.List.{get_or-map, length-map}
 use Rattle.std.proofs.lemmas.List.Sums.{sum_by-cons, sum_by_more, sum_by-take-le}
 use Rattle.std.proofs.Math.Nat.{div-add-mod, mul-le-mul_left}
 use Rattle.std.proofs.lemmas.Bool.{cases_lt}
-use Rattle.std.proofs.Common.{⊎_elim}
 use Rattle.script.specs.declared.line.Line.{Line}
-use Rattle.script.specs.declared.line.Line.TheVariants.{Load, Store, Swap, Cas, Add, And, Or, Xor, Max, Min, Fence, Spin}
 use Rattle.script.specs.declared.lists.LineList.{LineList}
-use Rattle.script.specs.Scripts.{operations_of, operation_count as script_count, total_count}
+use Rattle.script.specs.Scripts.{operations_of, operation_count, total_count}
 use Rattle.script.specs.ScriptViews.{lists_of}
-use Rattle.net_interface.specs.Scripts.{address_of, count_of, operation_count}
-use Rattle.machine_core.specs.Room.{is_home, line_home_count, script_home_count, home_room, all_room}
-
--- both readings of a line count the same
-pub count_is : (line : Line) → count_of line ≡ operations_of line
-count_is (Load a) = refl
-count_is (Store a v) = refl
-count_is (Swap a v) = refl
-count_is (Cas a e n) = refl
-count_is (Add a v) = refl
-count_is (And a v) = refl
-count_is (Or a v) = refl
-count_is (Xor a v) = refl
-count_is (Max a v) = refl
-count_is (Min a v) = refl
-count_is Fence = refl
-count_is (Spin a v m) = refl
-
--- and of a script
-pub count_is_sum : (lines : List Line) → operation_count lines ≡ sum_by operations_of lines
-count_is_sum [] = refl
-count_is_sum (line ∷ lines) = let s = sum_by-cons operations_of line lines in let e = count_is line in omega (arith, count_is_sum lines)
-
--- and of all scripts
-pub room_is_total : (lists : List (List Line)) → all_room lists ≡ total_count lists
-room_is_total [] = refl
-room_is_total (lines ∷ lists) =
-    let s = sum_by-cons operation_count lines lists in let t = sum_by-cons script_count lines lists in omega (arith, count_is_sum lines, room_is_total lists)
+use Rattle.net_interface.specs.Scripts.{address_of}
+use Rattle.machine_core.specs.Room.{home_room}
+use Rattle.net_interface.specs.Homes.{is_home, line_home_count, script_home_count}
 
 -- one line more
 pub count_more : (lines : List Line) (i : ℕ) (d : Line) → i < length lines → sum_by operations_of (take (i + 1) lines) ≡ sum_by operations_of (take i lines) + operations_of (get_or lines i d)
@@ -46,21 +19,20 @@ count_more lines i d h = sum_by_more operations_of lines i d h
 
 -- a part of the lines counts no more than all
 pub count_within : (lines : List Line) (i : ℕ) → sum_by operations_of (take i lines) ≤ operation_count lines
-count_within lines i = omega (arith, sum_by-take-le operations_of lines i, count_is_sum lines)
+count_within lines i = sum_by-take-le operations_of lines i
 
 -- what a line can bring to a bank is within what it counts
 pub line_home_within : (tiles b : ℕ) (line : Line) → line_home_count tiles b line ≤ operations_of line
 line_home_within tiles b line =
-    let e = count_is line in
-    elim (is_home tiles b (address_of line)) as (λ h. cond h (count_of line) 0 ≤ operations_of line) [ true ↦ omega arith | false ↦ omega arith ]
+    elim (is_home tiles b (address_of line)) as (λ h. cond h (operations_of line) 0 ≤ operations_of line) [ true ↦ omega arith | false ↦ omega arith ]
 
 pub script_home_within : (tiles b : ℕ) (lines : List Line) → script_home_count tiles b lines ≤ operation_count lines
 script_home_within tiles b [] = omega arith
 script_home_within tiles b (line ∷ lines) =
-    let s = sum_by-cons (line_home_count tiles b) line lines in let e = count_is line in
+    let s = sum_by-cons (line_home_count tiles b) line lines in let e = sum_by-cons operations_of line lines in
     omega (arith, line_home_within tiles b line, script_home_within tiles b lines)
 
-pub home_within : (tiles b : ℕ) (lists : List (List Line)) → home_room tiles b lists ≤ all_room lists
+pub home_within : (tiles b : ℕ) (lists : List (List Line)) → home_room tiles b lists ≤ total_count lists
 home_within tiles b [] = omega arith
 home_within tiles b (lines ∷ lists) =
     let s = sum_by-cons (script_home_count tiles b) lines lists in let t = sum_by-cons operation_count lines lists in

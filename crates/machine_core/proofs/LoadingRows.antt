@@ -6,13 +6,13 @@ use Rattle.std.proofs.lemmas.Option.{slice_get-map, slice_get_within}
 use Rattle.script.specs.declared.line.Line.{Line}
 use Rattle.script.specs.declared.lists.LineList.{LineList}
 use Rattle.script.specs.ScriptViews.{lists_of}
-use Rattle.net_interface.specs.Scripts.{operation_count}
+use Rattle.script.specs.Scripts.{operation_count}
 use Rattle.runs.specs.Observed.{tabulate}
 use Rattle.runs.proofs.Lists.{get_push_cases}
 use Rattle.machine_core.specs.declared.rows.ProcessorRow.{ProcessorRow}
 use Rattle.machine_core.specs.declared.rows.BankRow.{BankRow}
-use Rattle.machine_core.specs.Wire.{Processor, Bank, first_processor}
-use Rattle.machine_core.specs.Rows.{processor_of, bank_of, HasProcessorRoom}
+use Rattle.machine_core.specs.Wire.{Processor, Bank, first_processor, bank_of}
+use Rattle.machine_core.specs.Rows.{processor_of, HasProcessorRoom}
 
 get_middle : {A : Type 0} (xs rest : List A) (x : A) → slice_get (xs ++ x ∷ rest) (length xs) ≡ Some x
 get_middle [] rest x = refl

@@ -11,30 +11,31 @@ use Rattle.packet.specs.declared.kinds.Operation.{Operation}
 use Rattle.packet.specs.declared.kinds.Request.{Request}
 use Rattle.packet.specs.declared.kinds.Response.{Response}
 use Rattle.script.specs.declared.line.Line.{Line}
-use Rattle.home_bank.specs.Bank.{BankState, IsFor, answer_of as bank_answer}
+use Rattle.home_bank.specs.Bank.{BankState, IsFor, response_to}
 use Rattle.runs.specs.declared.ordered.Ordered.{Ordered}
 use Rattle.runs.specs.Observed.{list_at}
 use Rattle.machine_core.specs.declared.rows.ProcessorRow.{ProcessorRow}
 use Rattle.machine_core.specs.declared.rows.BankRow.{BankRow}
 use Rattle.machine_core.specs.declared.machine.Machine.TheInside.{Inside}
-use Rattle.machine_core.specs.Wire.{Processor, Bank, State, Move, Sends, Serves, Takes, ready, oldest, processor_at, bank_at, index_of, response_of, after}
-use Rattle.machine_core.specs.Ledger.{Ledger, new_row, row_at}
-use Rattle.machine_core.specs.Rows.{processor_of, bank_of}
-use Rattle.machine_core.specs.Inside.{state_of, ledger_of, IsMachine}
+use Rattle.machine_core.specs.Wire.{Processor, Bank, State, Move, Sends, Serves, Takes, ready, oldest, processor_at, bank_at, index_of, response_of, after, bank_of}
+use Rattle.machine_core.specs.EventBook.{EventBook, new_row, row_at}
+use Rattle.machine_core.specs.Rows.{processor_of}
+use Rattle.machine_core.specs.Inside.{state_of, book_of, IsMachine}
 use Rattle.machine_core.proofs.ScriptLaws.{ScriptLaws}
 use Rattle.machine_core.proofs.Choices.{Found, found, oldest_found}
-use Rattle.machine_core.proofs.Kept.{vec_at, ready_is, map_at, processor_there, bank_there, numbers_there, positions_there, sends_step, takes_step, serves_step, sends_is, serves_is, takes_is}
+use Rattle.machine_core.proofs.Kept.{vec_at, map_at, processor_there, bank_there, numbers_there, positions_there, sends_step, takes_step, serves_step, sends_is, serves_is, takes_is}
+use Rattle.machine_core.proofs.Attempts.{ready_is}
 use Rattle.machine_core.proofs.Bounds.{Within, within, at_end, event_bound, SendRoom, send_room, ServeRoom, serve_room, TakeRoom, take_room}
 
 -- the bounds of where a machine stands
-stands : {A : Type 0} (laws : ScriptLaws) (a : Inside A) (is : IsMachine a) → Within is.load (state_of a) (ledger_of a)
+stands : {A : Type 0} (laws : ScriptLaws) (a : Inside A) (is : IsMachine a) → Within is.load (state_of a) (book_of a)
 stands laws a is =
-    subst (λ (s : State). Within is.load s (ledger_of a)) (sym is.after.state)
-    (subst (λ (g : Ledger). Within is.load (after is.load is.steps) g) (sym is.after.book) (within laws is.load is.after.accepted is.steps))
+    subst (λ (s : State). Within is.load s (book_of a)) (sym is.after.state)
+    (subst (λ (g : EventBook). Within is.load (after is.load is.steps) g) (sym is.after.book) (within laws is.load is.after.accepted is.steps))
 
 -- the number of the next event
 pub number_fits : {A : Type 0} (laws : ScriptLaws) (a : Inside A) (is : IsMachine a) → a.events + 1 < 2 ^ 32
-number_fits laws a is = subst (λ (g : Ledger). g.events + 1 < 2 ^ 32) (sym is.after.book) (event_bound laws is.load is.after.accepted is.steps)
+number_fits laws a is = subst (λ (g : EventBook). g.events + 1 < 2 ^ 32) (sym is.after.book) (event_bound laws is.load is.after.accepted is.steps)
 
 pub record FitsSend {A : Type 0} (a : Inside A) (row : ProcessorRow A) : Type 0 where
   pub issued : vec_len row.issued < vec_capacity row.issued
@@ -52,9 +53,9 @@ send_fits laws a is t tag o row there is_ready =
     let bounds = stands laws a is in
     let lines : List Line = get_or l.scripts t [] in
     let script : slice_get l.scripts t ≡ Some lines = slice_get-get_or l.scripts t [] (omega (arith, here.0, bounds.processors, ok.processors)) in
-    let room : SendRoom l (state_of a) (ledger_of a) t lines =
-    subst (λ (s : State). SendRoom l s (ledger_of a) t lines) (sym is.after.state)
-    (subst (λ (g : Ledger). SendRoom l (after l is.steps) g t lines) (sym is.after.book)
+    let room : SendRoom l (state_of a) (book_of a) t lines =
+    subst (λ (s : State). SendRoom l s (book_of a) t lines) (sym is.after.state)
+    (subst (λ (g : EventBook). SendRoom l (after l is.steps) g t lines) (sym is.after.book)
     (send_room laws l ok is.steps t tag o lines (subst (λ (s : State). Found s m) is.after.state here) script)) in
     let reserved = is.room.processors t lines row script there in
     record {
@@ -72,7 +73,7 @@ pub record FitsServe {A : Type 0} (a : Inside A) (b : ℕ) (r : Request) (row : 
   pub responses : vec_len a.responses < vec_capacity a.responses
   pub order : vec_len a.order < vec_capacity a.order
   pub position : vec_len a.order < 65536
-  pub place : length (list_at (ledger_of a).positions b) ≡ length row.bank.entries
+  pub place : length (list_at (book_of a).positions b) ≡ length row.bank.entries
 
 -- a request that is served goes to the bank that serves it
 pub asked_here : (b place : ℕ) (r : Request) (requests : List Request) → oldest (λ r. r.destination == b) requests ≡ Some (place, r) → r.destination ≡ b
@@ -87,15 +88,15 @@ serve_fits {A = A} laws a is b place r row there is_oldest =
     let here : Found (state_of a) m = found (state_of a) (record { agent = b * 3 + 2; choice = Serve }) m
     (serves_step (state_of a) b ∙ serves_is (state_of a) b place r (bank_of row.bank) (map_at (λ (y : BankRow A). bank_of y.bank) a.banks.items b row there) is_oldest) in
     let bounds = stands laws a is in
-    let room : ServeRoom l (state_of a) (ledger_of a) b r =
-    subst (λ (s : State). ServeRoom l s (ledger_of a) b r) (sym is.after.state)
-    (subst (λ (g : Ledger). ServeRoom l (after l is.steps) g b r) (sym is.after.book)
+    let room : ServeRoom l (state_of a) (book_of a) b r =
+    subst (λ (s : State). ServeRoom l s (book_of a) b r) (sym is.after.state)
+    (subst (λ (g : EventBook). ServeRoom l (after l is.steps) g b r) (sym is.after.book)
     (serve_room laws l ok is.steps b place r (subst (λ (s : State). Found s m) is.after.state here))) in
     let reserved = is.room.banks b row there in
     let home = is.banks b row there in
     let bank = bank_there a b row there in
     let entries : length (bank_at (state_of a) b).entries ≡ length row.bank.entries = ap (λ (x : Bank). length x.entries) bank in
-    let positions : length (list_at (ledger_of a).positions b) ≡ length row.positions.items = ap (λ (xs : List ℕ). length xs) (positions_there a b row there) in
+    let positions : length (list_at (book_of a).positions b) ≡ length row.positions.items = ap (λ (xs : List ℕ). length xs) (positions_there a b row there) in
     let counted : length a.processors.items ≡ tiles_of l.shape = sym (length-map a.processors.items processor_of) ∙ bounds.processors in
     record {
       source = omega (arith, room.source, counted, a.processors.ok.0);
@@ -108,27 +109,27 @@ serve_fits {A = A} laws a is b place r row there is_oldest =
       positions = omega (arith, room.positions, positions, row.positions.ok.0, reserved.positions);
       responses = omega (arith, room.responses, a.responses.ok.0, is.room.responses);
       order = omega (arith, room.rows, a.order.ok.0, is.room.order);
-      position = omega (arith, room.rows, a.order.ok.0, ok.operations);
+      position = omega (arith, room.rows, a.order.ok.0, ok.scripts.total);
       place = bounds.positions b ∙ entries;
     }
 
 -- the row that a service adds to the book
 pub row_is : {A : Type 0} (a : Inside A) (b place : ℕ) (r : Request) (row : BankRow A) (of : ProcessorRow A) (index issued number : ℕ)
     → slice_get a.processors.items r.source ≡ Some of → index ≡ index_of (processor_of of) r.tag.0 → index < vec_len of.numbers → issued ≡ slice_index_or of.numbers.items index issued
-    → number ≡ a.events + 1 → place ≡ length (list_at (ledger_of a).positions b)
+    → number ≡ a.events + 1 → place ≡ length (list_at (book_of a).positions b)
     → ◌≡◌ {A = Ordered} (record { bank = b; place = place; source = r.source; index = index; issued = issued; served = number; answered = None })
-    (new_row b r.source (index_of (processor_at (state_of a) r.source) r.tag.0) (ledger_of a))
+    (new_row b r.source (index_of (processor_at (state_of a) r.source) r.tag.0) (book_of a))
 row_is a b place r row of index issued number at is_index within_numbers is_issued count is_place =
     let same : index ≡ index_of (processor_at (state_of a) r.source) r.tag.0 = is_index ∙ sym (ap (λ (p : Processor). index_of p r.tag.0) (processor_there a r.source of at)) in
     let length_is = of.numbers.ok.0 in
     let found_at : slice_get of.numbers.items index ≡ Some issued = slice_get-get_or of.numbers.items index issued (omega (arith, within_numbers, length_is)) ∙ ap Some (sym is_issued) in
-    let value : issued ≡ slice_index (list_at (ledger_of a).issues r.source) (index_of (processor_at (state_of a) r.source) r.tag.0) =
+    let value : issued ≡ slice_index (list_at (book_of a).issues r.source) (index_of (processor_at (state_of a) r.source) r.tag.0) =
     sym (get_or_from_slice_get of.numbers.items index issued 0 found_at)
-    ∙ (ap (λ (xs : List ℕ). slice_index xs index) (sym (numbers_there a r.source of at)) ∙ ap (slice_index (list_at (ledger_of a).issues r.source)) same) in
+    ∙ (ap (λ (xs : List ℕ). slice_index xs index) (sym (numbers_there a r.source of at)) ∙ ap (slice_index (list_at (book_of a).issues r.source)) same) in
     ap (λ (n : ℕ). record { bank = b; place = n; source = r.source; index = index; issued = issued; served = number; answered = None }) is_place
-    ∙ (ap (λ (n : ℕ). record { bank = b; place = length (list_at (ledger_of a).positions b); source = r.source; index = n; issued = issued; served = number; answered = None }) same
-    ∙ (ap (λ (n : ℕ). record { bank = b; place = length (list_at (ledger_of a).positions b); source = r.source; index = index_of (processor_at (state_of a) r.source) r.tag.0; issued = n; served = number; answered = None }) value
-    ∙ ap (λ (n : ℕ). record { bank = b; place = length (list_at (ledger_of a).positions b); source = r.source; index = index_of (processor_at (state_of a) r.source) r.tag.0; issued = slice_index (list_at (ledger_of a).issues r.source) (index_of (processor_at (state_of a) r.source) r.tag.0); served = n; answered = None }) count))
+    ∙ (ap (λ (n : ℕ). record { bank = b; place = length (list_at (book_of a).positions b); source = r.source; index = n; issued = issued; served = number; answered = None }) same
+    ∙ (ap (λ (n : ℕ). record { bank = b; place = length (list_at (book_of a).positions b); source = r.source; index = index_of (processor_at (state_of a) r.source) r.tag.0; issued = n; served = number; answered = None }) value
+    ∙ ap (λ (n : ℕ). record { bank = b; place = length (list_at (book_of a).positions b); source = r.source; index = index_of (processor_at (state_of a) r.source) r.tag.0; issued = slice_index (list_at (book_of a).issues r.source) (index_of (processor_at (state_of a) r.source) r.tag.0); served = n; answered = None }) count))
 
 -- a bank for each tile
 banks_counted : {A : Type 0} (laws : ScriptLaws) (a : Inside A) (is : IsMachine a) → length a.banks.items ≡ tiles_of is.load.shape
@@ -143,7 +144,7 @@ pub record FitsTake {A : Type 0} (a : Inside A) (r : Response) (row : ProcessorR
   pub place : (of : BankRow A) → slice_get a.banks.items r.source ≡ Some of → r.place < vec_len of.positions
   pub held : (i : ℕ) × (slice_get row.tags r.tag.0 ≡ Some (Some (record { 0 = i }))) × (i < vec_len row.issued)
   pub answers : vec_len row.answers < vec_capacity row.answers
-  pub order : row_at r.source r.place (ledger_of a) < vec_len a.order
+  pub order : row_at r.source r.place (book_of a) < vec_len a.order
 
 pub take_fits : {A : Type 0} (laws : ScriptLaws) (a : Inside A) (is : IsMachine a) (p place : ℕ) (r : Response) (row : ProcessorRow A)
     → slice_get a.processors.items p ≡ Some row → oldest (λ r. r.destination == p) a.responses.items ≡ Some (place, r) → FitsTake a r row
@@ -155,9 +156,9 @@ take_fits {A = A} laws a is p place r row there is_oldest =
     (takes_step (state_of a) p ∙ takes_is (state_of a) p place r (processor_of row) (map_at processor_of a.processors.items p row there) is_oldest) in
     let bounds = stands laws a is in
     let lines : List Line = get_or l.scripts p [] in
-    let room : TakeRoom l (state_of a) (ledger_of a) p r =
-    subst (λ (s : State). TakeRoom l s (ledger_of a) p r) (sym is.after.state)
-    (subst (λ (g : Ledger). TakeRoom l (after l is.steps) g p r) (sym is.after.book)
+    let room : TakeRoom l (state_of a) (book_of a) p r =
+    subst (λ (s : State). TakeRoom l s (book_of a) p r) (sym is.after.state)
+    (subst (λ (g : EventBook). TakeRoom l (after l is.steps) g p r) (sym is.after.book)
     (take_room laws l ok is.steps p place r (subst (λ (s : State). Found s m) is.after.state here))) in
     let script : slice_get l.scripts p ≡ Some lines = slice_get-get_or l.scripts p [] (omega (arith, room.processor, ok.processors)) in
     let reserved = is.room.processors p lines row script there in
@@ -177,7 +178,7 @@ take_fits {A = A} laws a is p place r row there is_oldest =
 
 -- where the row of a response stands
 pub position_is : {A : Type 0} (a : Inside A) (r : Response) (of : BankRow A) (position : ℕ) → slice_get a.banks.items r.source ≡ Some of → r.place < vec_len of.positions
-    → position ≡ slice_index_or of.positions.items r.place position → position ≡ row_at r.source r.place (ledger_of a)
+    → position ≡ slice_index_or of.positions.items r.place position → position ≡ row_at r.source r.place (book_of a)
 position_is a r of position at short is =
     let length_is = of.positions.ok.0 in
     let found_at : slice_get of.positions.items r.place ≡ Some position = slice_get-get_or of.positions.items r.place position (omega (arith, short, length_is)) ∙ ap Some (sym is) in
@@ -228,8 +229,8 @@ serve_source laws a is b place r xs result short same is_oldest some =
     record { source = fits.source; holder = λ of is_of. fits.holder of (vec_at a.processors r.source of fits.source is_of); position = fits.position }
 
 -- the reply of a bank, as the core says it
-pub response_is : (s : BankState) (r : Request) → r.destination ≡ s.tile → bank_answer s r ≡ response_of (bank_of s) r
-response_is s r h = rw h refl
+pub response_is : (tiles : ℕ) (s : BankState) (r : Request) → r.destination ≡ s.tile → response_to s r ≡ response_of tiles (bank_of s) r
+response_is tiles s r h = rw h refl
 
 -- what a processor finds that has a response
 pub take_here : {A : Type 0} (laws : ScriptLaws) (a : Inside A) (is : IsMachine a) (p place : ℕ) (r : Response) (row : ProcessorRow A) (xs : List Response) (result : Option (ℕ × Response))
@@ -241,7 +242,7 @@ pub record FitsBank {A : Type 0} (a : Inside A) (r : Response) : Type 0 where
   pub source : r.source < vec_len a.banks
   pub place : (of : BankRow A) → of ≡ slice_index_or a.banks.items r.source of → r.place < vec_len of.positions
   pub order : (of : BankRow A) (position : ℕ) → of ≡ slice_index_or a.banks.items r.source of → position ≡ slice_index_or of.positions.items r.place position
-      → (position ≡ row_at r.source r.place (ledger_of a)) × (position < vec_len a.order)
+      → (position ≡ row_at r.source r.place (book_of a)) × (position < vec_len a.order)
 
 pub take_source : {A : Type 0} (laws : ScriptLaws) (a : Inside A) (is : IsMachine a) (p place : ℕ) (r : Response) (xs : List Response) (result : Option (ℕ × Response))
     → p < vec_len a.processors → xs ≡ a.responses.items → result ≡ oldest (λ r. r.destination == p) xs → result ≡ Some (place, r) → FitsBank a r

@@ -15,15 +15,15 @@ use Rattle.runs.specs.Observed.{Run, IsFirst, list_at, words_by_address, HasAnsw
 use Rattle.runs.proofs.Lists.{same_get, within_length}
 use Rattle.machine_core.specs.declared.rows.BankRow.{BankRow}
 use Rattle.machine_core.specs.declared.machine.Machine.TheInside.{Inside}
-use Rattle.machine_core.specs.Wire.{Load, Processor, Bank, State, processor_at, no_processor, after, run_of}
-use Rattle.machine_core.specs.Ledger.{Ledger}
+use Rattle.machine_core.specs.Wire.{Load, Processor, Bank, State, processor_at, no_processor, after, run_of, bank_of}
+use Rattle.machine_core.specs.EventBook.{EventBook}
 use Rattle.machine_core.specs.Scripts.{AreInvocationsOf, HasFinishedIn, AreFinished}
-use Rattle.machine_core.specs.Rows.{bank_of}
-use Rattle.machine_core.specs.Core.{Core, IsAccepted, IsAfter, shown, all_finished, ledger_after}
+use Rattle.machine_core.specs.Core.{Core, IsAccepted, IsAfter, shown, all_finished, book_after}
 use Rattle.machine_core.specs.Inside.{state_of, core_of, IsMachine}
+use Rattle.machine_core.proofs.LoadingAccepted.{followable}
 use Rattle.machine_core.proofs.ScriptLaws.{ScriptLaws}
 use Rattle.machine_core.proofs.ScriptLawsHold.{script_laws}
-use Rattle.machine_core.proofs.Places.{length-tabulate, word_at}
+use Rattle.runs.proofs.Words.{length-tabulate, word_at}
 use Rattle.machine_core.proofs.Whole.{words_of, words_at}
 use Rattle.machine_core.proofs.Kept.{bank_there}
 use Rattle.machine_core.proofs.Bounds.{AtEnd, at_end}
@@ -139,7 +139,7 @@ all_from test [] d h = refl
 all_from test (x ∷ xs) d h = ap (λ (b : Bool). b && list_all test xs) (h 0 (omega arith)) ∙ all_from test xs d (λ k l. h (suc k) (omega arith))
 
 -- where every follower is at its end, every script is finished
-finished_to : (laws : ScriptLaws) (l : Load) → IsAccepted l → (steps : List Step) (s : State) (g : Ledger) → AtEnd l steps s g → length s.processors ≡ length l.scripts
+finished_to : (laws : ScriptLaws) (l : Load) → IsAccepted l → (steps : List Step) (s : State) (g : EventBook) → AtEnd l steps s g → length s.processors ≡ length l.scripts
     → all_finished s ≡ true → AreFinished (run_of l steps) (length steps) l.scripts
 finished_to laws l ok steps s g e count all = record {
   each = λ p below.
@@ -148,11 +148,11 @@ finished_to laws l ok steps s g e count all = record {
       let f = e.follows p script.0 script.1 in
       let is : is_finished (processor_at s p).following ≡ true = all_at (λ (q : Processor). is_finished q.following) s.processors p no_processor all (omega (arith, below, count)) in
       subst (HasFinishedIn (run_of l steps) (length steps) p) (sym lines_are)
-      (record { ops = f.ops; are = f.are; finished = laws.finished script.0 f.ops _ (ok.scripts p script.0 script.1).0 f.shows is });
+      (record { ops = f.ops; are = f.are; finished = laws.finished script.0 f.ops _ (followable l ok p script.0 script.1).0 f.shows is });
 }
 
 -- and where every script is finished, every follower is at its end
-finished_from : (laws : ScriptLaws) (l : Load) → IsAccepted l → (steps : List Step) (s : State) (g : Ledger) → AtEnd l steps s g → length s.processors ≡ length l.scripts
+finished_from : (laws : ScriptLaws) (l : Load) → IsAccepted l → (steps : List Step) (s : State) (g : EventBook) → AtEnd l steps s g → length s.processors ≡ length l.scripts
     → ((p : ℕ) → AnswersOnce (run_of l steps) (length steps) p) → AreFinished (run_of l steps) (length steps) l.scripts → all_finished s ≡ true
 finished_from laws l ok steps s g e count once are = all_from (λ (q : Processor). is_finished q.following) s.processors no_processor (λ p below.
     let in_scripts : p < length l.scripts = omega (arith, below, count) in
@@ -161,7 +161,7 @@ finished_from laws l ok steps s g e count once are = all_from (λ (q : Processor
     let f = e.follows p script.0 script.1 in
     let done : HasFinishedIn (run_of l steps) (length steps) p script.0 = subst (HasFinishedIn (run_of l steps) (length steps) p) lines_are (are.each p in_scripts) in
     let same : done.ops ≡ f.ops = same_invocations (run_of l steps) (length steps) p done.ops f.ops (once p) done.are f.are in
-    laws.complete script.0 f.ops _ (ok.scripts p script.0 script.1).0 f.shows (subst (HasFinished script.0) same done.finished))
+    laws.complete script.0 f.ops _ (followable l ok p script.0 script.1).0 f.shows (subst (HasFinished script.0) same done.finished))
 
 pub finished_law : (laws : ScriptLaws) (l : Load) (c : Core) (steps : List Step) → IsAfter l c steps → (all_finished c.state ≡ true) ↔ AreFinished (run_of l steps) (length steps) l.scripts
 finished_law laws l c steps h =
@@ -170,6 +170,6 @@ finished_law laws l c steps h =
     sym (length-map (after l steps).processors (λ (q : Processor). q.issued)) ∙ (e.whole.account.shown.processors ∙ sym h.accepted.processors) in
     let once : (p : ℕ) → AnswersOnce (run_of l steps) (length steps) p = λ p i j a b hi hj same. h.lawful.order.services.once p i j a b hi hj same in
     subst (λ (s : State). (all_finished s ≡ true) ↔ AreFinished (run_of l steps) (length steps) l.scripts) (sym h.state) (
-      finished_to laws l h.accepted steps (after l steps) (ledger_after l steps) e count,
-      finished_from laws l h.accepted steps (after l steps) (ledger_after l steps) e count once,
+      finished_to laws l h.accepted steps (after l steps) (book_after l steps) e count,
+      finished_from laws l h.accepted steps (after l steps) (book_after l steps) e count once,
     )

@@ -14,6 +14,7 @@ use Rattle.packet.specs.declared.kinds.Request.{Request}
 use Rattle.packet.specs.declared.kinds.Response.{Response}
 use Rattle.packet.specs.Memory.{reply_to, new_word, reply_of_one}
 use Rattle.home_bank.specs.declared.entry.Entry.{Entry}
+use Rattle.home_bank.specs.ServiceList.{entry_of as entry_served}
 use Rattle.net_interface.specs.Following.{Following, after_issue, after_answer, last_answered, other_answered}
 use Rattle.runs.specs.declared.answer.Answer.{Answer}
 use Rattle.runs.specs.Observed.{Observed, list_at, words_by_address}
@@ -21,10 +22,12 @@ use Rattle.runs.specs.Order.{LinearizationPoint}
 use Rattle.runs.specs.Events.{Event, Issued, Served, Answered, push_at, entry_of, happens, points_of, MayIssue, MayServe, MayAnswer, MayHappen}
 use Rattle.runs.proofs.Lists.{length_list_at_push, total_push, list_within}
 use Rattle.runs.proofs.Account.{Account, keeps, home_within}
-use Rattle.machine_core.specs.Wire.{Processor, Bank, State, Sends, Serves, Takes, processor_at, bank_at, no_processor, moved, show, index_in, index_of, operation_of, answer_of, issued_by, served_by, answered_by, request_of, response_of, entry_for}
+use Rattle.machine_core.specs.Wire.{Processor, Bank, State, Sends, Serves, Takes, processor_at, bank_at, no_processor, moved, show, index_in, index_of, operation_of, answer_of, issued_by, served_by, answered_by, request_of, response_of}
 use Rattle.machine_core.proofs.Counts.{Counted, length-remove, home_total_push, asked_of, asked_push, asked_remove}
-use Rattle.machine_core.proofs.Places.{put, length_list_at_put, words_by_address_put, word_at}
-use Rattle.machine_core.proofs.Transport.{Tags, Holds, answer_in, Sound, sends_sound, serves_sound, takes_sound, served_in_turn}
+use Rattle.runs.proofs.Words.{put, length_list_at_put, words_by_address_put, word_at}
+use Rattle.machine_core.proofs.Transport.{Tags, Holds, answer_in, Sound, sends_sound, served_in_turn}
+use Rattle.machine_core.proofs.Deliveries.{serves_sound, takes_sound}
+use Rattle.machine_core.proofs.Telling.{Telling, answered_in_turn, telling_sends, telling_serves, telling_takes}
 use Rattle.machine_core.proofs.Choices.{Found, list_at_map}
 
 abbrev pub tags_of : State → Tags
@@ -36,6 +39,7 @@ words_of s = map (λ b. b.words) s.banks
 pub record Whole (tiles tags : ℕ) (opening : List ℕ) (s : State) (order : List LinearizationPoint) : Type 0 where
   pub account : Account tiles tags opening (show tiles (length opening) s) order
   pub sound : Sound tiles opening (show tiles (length opening) s) (tags_of s) s.requests s.responses order
+  pub telling : Telling (show tiles (length opening) s) s.responses
   pub words : (a : ℕ) → a < length opening → a / tiles < length (list_at (words_of s) (a % tiles))
   pub tag_counts : (p : ℕ) → p < tiles → length (list_at (tags_of s) p) ≡ tags
   pub followed : (p : ℕ) → (processor_at s p).following.issued ≡ length (processor_at s p).issued
@@ -122,6 +126,7 @@ sends_steps tiles tags opening s order t tag o n w f within =
       whole = rw append-nil (record {
         account = rw shown (rw append-nil at (keeps tiles tags opening (show tiles M s) order (Issued t o) n w.account may));
         sound = rw (shown, tagged) sound;
+        telling = rw shown (telling_sends tiles (show tiles M s) s.responses t o w.telling);
         words = w.words;
         tag_counts = λ p h. rw (tagged, length_list_at_put) (w.tag_counts p h);
         followed = λ p. processor_set s t new p (λ (x : Processor). x.following.issued ≡ length x.issued)
@@ -184,7 +189,7 @@ serves_steps tiles tags opening s order place r n w there oldest =
     sym (ap (λ xs. slice_index xs r.word) (words_at s b)) ∙ (sym (ap (λ c. slice_index (list_at (words_of s) c) r.word) q.bank)
     ∙ (sym (ap (λ k. slice_index (list_at (words_of s) (a % tiles)) k) q.word) ∙ sym (word_at tiles M (words_of s) a below))) in
     let told : reply_to r.op (slice_index bank.words r.word) ≡ reply_of_one o m = sym (ap (λ p. reply_to p (slice_index bank.words r.word)) q.op) ∙ ap (reply_to o.op) found in
-    let entry : entry_for tiles bank r ≡ entry_of r.source r.tag o m = same_entry _ _ _ _ _ _ r.source r.tag (address_is tiles a r.word b q.word q.bank) (sym q.op) told in
+    let entry : entry_served b tiles r (reply_to r.op (slice_index bank.words r.word)) ≡ entry_of r.source r.tag o m = same_entry _ _ _ _ _ _ r.source r.tag (address_is tiles a r.word b q.word q.bank) (sym q.op) told in
     let written : words_of after ≡ put (words_of s) (a % tiles) (a / tiles) (new_word o.op (slice_index m a)) =
     map-set (λ (c : Bank). c.words) s.banks b (served_by tiles bank r)
     ∙ (sym (ap (λ xs. slice_set (words_of s) b (slice_set xs r.word (new_word r.op (slice_index bank.words r.word)))) (words_at s b))
@@ -195,7 +200,7 @@ serves_steps tiles tags opening s order place r n w there oldest =
     let banks_in : a % tiles < length (words_of s) = subst (λ (k : ℕ). a % tiles < k) (sym (length-map s.banks (λ (c : Bank). c.words) ∙ (sym (length-map s.banks (λ (c : Bank). c.entries)) ∙ w.account.shown.banks))) home_in in
     let shown : show tiles M after ≡ happens tiles (show tiles M s) (Served r.source q.index r.tag o) = same_shown _ _ _ _ _ _ _ _ refl refl
     (map-set (λ (c : Bank). c.entries) s.banks b (served_by tiles bank r)
-    ∙ (sym (ap (λ es. slice_set (show tiles M s).entries b (es ++ entry_for tiles bank r ∷ [])) (entries_at tiles M s b))
+    ∙ (sym (ap (λ es. slice_set (show tiles M s).entries b (es ++ entry_served b tiles r (reply_to r.op (slice_index bank.words r.word)) ∷ [])) (entries_at tiles M s b))
     ∙ (ap (λ e. push_at (show tiles M s).entries b e) entry ∙ sym (ap (λ c. push_at (show tiles M s).entries c (entry_of r.source r.tag o m)) q.bank))))
     (ap (words_by_address tiles M) written ∙ words_by_address_put tiles M (words_of s) a (new_word o.op (slice_index m a)) below banks_in (w.words a below)) in
     let may : MayServe tiles tags (show tiles M s) order r.source q.index r.tag o = record {
@@ -204,8 +209,10 @@ serves_steps tiles tags opening s order place r n w there oldest =
       waits = q.waits;
       in_turn = served_in_turn tiles opening (show tiles M s) (tags_of s) s.requests s.responses order w.sound place r there q oldest;
     } in
-    let sound = serves_sound tiles tags opening (show tiles M s) (tags_of s) s.requests s.responses order w.account w.sound place n r there q (response_of bank r) refl refl (sym q.bank)
+    let sound = serves_sound tiles tags opening (show tiles M s) (tags_of s) s.requests s.responses order w.account w.sound place n r there q (response_of tiles bank r) refl refl (sym q.bank)
     (sym (ap length (entries_at tiles M s b)) ∙ sym (ap (λ c. length (list_at (show tiles M s).entries c)) q.bank)) told in
+    let telling = telling_serves tiles tags opening (show tiles M s) (tags_of s) s.responses order w.account w.sound.responses w.telling r.source q.index r.tag o (response_of tiles bank r) refl (sym q.bank)
+    (sym (ap length (entries_at tiles M s b)) ∙ sym (ap (λ c. length (list_at (show tiles M s).entries c)) q.bank)) in
     let in_entries : a % tiles < length (show tiles M s).entries = subst (λ (k : ℕ). a % tiles < k) (sym w.account.shown.banks) home_in in
     record {
       shown = shown;
@@ -213,6 +220,7 @@ serves_steps tiles tags opening s order place r n w there oldest =
       whole = record {
         account = rw shown (keeps tiles tags opening (show tiles M s) order (Served r.source q.index r.tag o) n w.account may);
         sound = rw shown sound;
+        telling = rw shown telling;
         words = λ c h. rw (written, length_list_at_put) (w.words c h);
         tag_counts = w.tag_counts;
         followed = w.followed;
@@ -243,8 +251,9 @@ takes_answer tiles tags opening s order place r w there =
     ∙ ap (λ o. answer_in r q.index o) op
 
 pub takes_steps : (tiles tags : ℕ) (opening : List ℕ) (s : State) (order : List LinearizationPoint) (place : ℕ) (r : Response) (n : ℕ) → (w : Whole tiles tags opening s order) → (there : slice_get s.responses place ≡ Some r)
+    → ((k : ℕ) (q : Response) → k < place → slice_get s.responses k ≡ Some q → q.source ≡ r.source → q.destination ≡ r.destination → ⊥)
     → let q = w.sound.responses place r there in Steps tiles tags opening s order n (moved tiles s (Takes r.destination place r)) (Answered r.destination (answer_in r q.index q.op))
-takes_steps tiles tags opening s order place r n w there =
+takes_steps tiles tags opening s order place r n w there oldest =
     let q = w.sound.responses place r there in
     let M : ℕ = length opening in
     let p : ℕ = r.destination in
@@ -262,7 +271,12 @@ takes_steps tiles tags opening s order place r n w there =
     refl refl in
     let tagged : tags_of after ≡ put (tags_of s) p r.tag.0 None =
     map-set (λ (x : Processor). x.tags) s.processors p new ∙ sym (ap (λ xs. slice_set (tags_of s) p (slice_set xs r.tag.0 None)) (tags_at s p)) in
-    let may : MayAnswer tiles opening (show tiles M s) order p a = record { tells = q.at; first = (w.sound.held p r.tag.0 q.index q.holds).1 } in
+    let in_answers : p < length (show tiles M s).answers = subst (λ (k : ℕ). p < k) (sym w.account.shown.answerers) p_in in
+    let may : MayAnswer tiles opening (show tiles M s) order p a = record {
+      tells = q.at;
+      first = (w.sound.held p r.tag.0 q.index q.holds).1;
+      in_turn = answered_in_turn (show tiles M s) s.responses w.telling place r there oldest;
+    } in
     let sound = takes_sound tiles opening (show tiles M s) (tags_of s) s.requests s.responses order w.sound place r there q p_in in
     record {
       shown = shown;
@@ -270,14 +284,14 @@ takes_steps tiles tags opening s order place r n w there =
       whole = rw append-nil (record {
         account = rw shown (rw append-nil at (keeps tiles tags opening (show tiles M s) order (Answered p a) n w.account may));
         sound = rw (shown, tagged) sound;
+        telling = rw shown (telling_takes tiles (show tiles M s) s.responses w.telling place r q.index q.op there in_answers);
         words = w.words;
         tag_counts = λ c h. rw (tagged, length_list_at_put) (w.tag_counts c h);
         followed = λ c. processor_set s p new c (λ (x : Processor). x.following.issued ≡ length x.issued)
             (answer_counted pr.following (index_of pr r.tag.0) r.reply ∙ w.followed p) (w.followed c);
         counted = rw shown (record {
           asked = w.counted.asked;
-          told = let in_answers : p < length (show tiles M s).answers = subst (λ (k : ℕ). p < k) (sym w.account.shown.answerers) p_in in
-              omega (arith, w.counted.told, total_push (show tiles M s).answers p a in_answers, length-remove s.responses place (slice_get_within s.responses place r there));
+          told = omega (arith, w.counted.told, total_push (show tiles M s).answers p a in_answers, length-remove s.responses place (slice_get_within s.responses place r there));
           homes = w.counted.homes;
         });
       });

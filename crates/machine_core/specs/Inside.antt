@@ -3,14 +3,14 @@ use Rattle.std.specs.Prelude.{◌≡◌, ℕ, ◌≤◌, List, map, Some, slice_
 use Rattle.torus.specs.Shape.{tiles_of}
 use Rattle.torus.specs.declared.step.Step.{Step}
 use Rattle.script.specs.declared.line.Line.{Line}
-use Rattle.net_interface.specs.Scripts.{operation_count}
+use Rattle.script.specs.Scripts.{operation_count, total_count}
 use Rattle.machine_core.specs.declared.rows.ProcessorRow.{ProcessorRow}
 use Rattle.machine_core.specs.declared.rows.BankRow.{BankRow}
 use Rattle.machine_core.specs.declared.machine.Machine.TheInside.{Inside}
-use Rattle.machine_core.specs.Wire.{Load, State}
-use Rattle.machine_core.specs.Ledger.{Ledger}
-use Rattle.machine_core.specs.Room.{home_room, all_room}
-use Rattle.machine_core.specs.Rows.{processor_of, bank_of, HasProcessorRoom, HasBankRoom}
+use Rattle.machine_core.specs.Wire.{Load, State, bank_of}
+use Rattle.machine_core.specs.EventBook.{EventBook}
+use Rattle.machine_core.specs.Room.{home_room}
+use Rattle.machine_core.specs.Rows.{processor_of, HasProcessorRoom, HasBankRoom}
 use Rattle.machine_core.specs.Core.{Core, IsAfter}
 
 abbrev pub state_of : {A : Type 0} → Inside A → State
@@ -21,8 +21,8 @@ state_of a = record {
   responses = a.responses.items;
 }
 
-abbrev pub ledger_of : {A : Type 0} → Inside A → Ledger
-ledger_of a = record {
+abbrev pub book_of : {A : Type 0} → Inside A → EventBook
+book_of a = record {
   events = a.events;
   issues = map (λ row. row.numbers.items) a.processors.items;
   positions = map (λ row. row.positions.items) a.banks.items;
@@ -30,15 +30,24 @@ ledger_of a = record {
 }
 
 abbrev pub core_of : {A : Type 0} → Inside A → Core
-core_of a = record { shape = a.torus; tags = a.tags; opening = a.opening.items; state = state_of a; ledger = ledger_of a }
+core_of a = record {
+  shape = a.torus;
+  depth = a.depth;
+  tags = a.tags;
+  opening = a.opening.items;
+  state = state_of a;
+  book = book_of a;
+}
 
 -- the room that was reserved for a load is there
 pub record HasRoom {A : Type 0} (l : Load) (a : Inside A) : Type 0 where
-  pub processors : (t : ℕ) (lines : List Line) (row : ProcessorRow A) → slice_get l.scripts t ≡ Some lines → slice_get a.processors.items t ≡ Some row → HasProcessorRoom (operation_count lines) row
-  pub banks : (b : ℕ) (row : BankRow A) → slice_get a.banks.items b ≡ Some row → HasBankRoom (home_room (tiles_of l.shape) b l.scripts) row
-  pub requests : all_room l.scripts ≤ vec_capacity a.requests
-  pub responses : all_room l.scripts ≤ vec_capacity a.responses
-  pub order : all_room l.scripts ≤ vec_capacity a.order
+  pub processors : (t : ℕ) (lines : List Line) (row : ProcessorRow A) → slice_get l.scripts t ≡ Some lines
+      → slice_get a.processors.items t ≡ Some row → HasProcessorRoom (operation_count lines) row
+  pub banks : (b : ℕ) (row : BankRow A) → slice_get a.banks.items b ≡ Some row
+      → HasBankRoom (home_room (tiles_of l.shape) b l.scripts) row
+  pub requests : total_count l.scripts ≤ vec_capacity a.requests
+  pub responses : total_count l.scripts ≤ vec_capacity a.responses
+  pub order : total_count l.scripts ≤ vec_capacity a.order
 
 -- every machine stands where some list of steps leads from an accepted load
 pub record IsMachine {A : Type 0} (a : Inside A) : Type 0 where
@@ -46,4 +55,5 @@ pub record IsMachine {A : Type 0} (a : Inside A) : Type 0 where
   pub steps : List Step
   pub after : IsAfter load (core_of a) steps
   pub room : HasRoom load a
-  pub banks : (b : ℕ) (row : BankRow A) → slice_get a.banks.items b ≡ Some row → (row.bank.tile ≡ b) × (row.bank.tiles ≡ tiles_of a.torus)
+  pub banks : (b : ℕ) (row : BankRow A) → slice_get a.banks.items b ≡ Some row
+      → (row.bank.tile ≡ b) × (row.bank.tiles ≡ tiles_of a.torus)

@@ -1,6 +1,6 @@
 pub mod Wire
 pub mod Scripts
-pub mod Ledger
+pub mod EventBook
 pub mod Core
 pub mod Rows
 pub mod Room

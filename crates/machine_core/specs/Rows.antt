@@ -1,15 +1,12 @@
 -- What the rows of a machine's fields stand for.
 use Rattle.std.specs.Prelude.{◌≡◌, ℕ, ◌≤◌, vec_capacity}
-use Rattle.home_bank.specs.Bank.{BankState}
 use Rattle.machine_core.specs.declared.rows.ProcessorRow.{ProcessorRow}
 use Rattle.machine_core.specs.declared.rows.BankRow.{BankRow}
-use Rattle.machine_core.specs.Wire.{Processor, Bank}
+use Rattle.machine_core.specs.Wire.{Processor}
 
 abbrev pub processor_of : {A : Type 0} → ProcessorRow A → Processor
-processor_of row = record { following = row.follower; tags = row.tags; issued = row.issued.items; answers = row.answers.items }
-
-abbrev pub bank_of : BankState → Bank
-bank_of b = record { words = b.words; entries = b.entries }
+processor_of row =
+    record { following = row.follower; tags = row.tags; issued = row.issued.items; answers = row.answers.items }
 
 -- room in a processor's row for so many operations
 pub record HasProcessorRoom {A : Type 0} (n : ℕ) (row : ProcessorRow A) : Type 0 where

@@ -9,33 +9,39 @@ use Rattle.packet.specs.declared.kinds.Op.TheVariants.{Load as Loads}
 use Rattle.packet.specs.declared.kinds.Operation.{Operation}
 use Rattle.packet.specs.declared.kinds.Request.{Request}
 use Rattle.packet.specs.declared.kinds.Response.{Response}
-use Rattle.packet.specs.Kinds.{code_of}
-use Rattle.packet.specs.Memory.{new_word, reply_to}
 use Rattle.script.specs.declared.line.Line.{Line}
 use Rattle.home_bank.specs.declared.entry.Entry.{Entry}
+use Rattle.home_bank.specs.Bank.{BankState, bank_after, response_to}
 use Rattle.tag_table.specs.Tags.{free_tag}
 use Rattle.net_interface.specs.Following.{Following, first_of, next_operation_of, after_issue, after_answer}
 use Rattle.runs.specs.declared.answer.Answer.{Answer}
 use Rattle.runs.specs.Observed.{Observed, Run, tabulate, words_by_address}
 
--- what is loaded: the torus, the tags of a processor, the opening words by address, and each processor's script (this project's own format)
+-- what is loaded: the torus, the flits that a channel holds, the tags of a processor, the opening words by address,
+-- and each processor's script (this project's own format)
 pub record Load : Type 0 where
   pub shape : Shape
+  pub depth : ℕ
   pub tags : ℕ
   pub opening : List ℕ
   pub scripts : List (List Line)
 
--- a processor: how far it has followed its script, which operation holds each tag, its operations as they were issued, and its answers in the order of answering
+-- a processor: how far it has followed its script, which operation holds each tag, its operations as they were
+-- issued, and its answers in the order of answering
 pub record Processor : Type 0 where
   pub following : Following
   pub tags : List (Option OpId)
   pub issued : List Operation
   pub answers : List Answer
 
--- a bank: its words, and the history of its services
+-- a bank: its words, and the entries of its services
 pub record Bank : Type 0 where
   pub words : List ℕ
   pub entries : List Entry
+
+-- the words and the entries of a bank
+abbrev pub bank_of : BankState → Bank
+bank_of b = record { words = b.words; entries = b.entries }
 
 -- the machine at a moment; packets in flight stand in the order in which they were sent
 pub record State : Type 0 where
@@ -46,13 +52,15 @@ pub record State : Type 0 where
 
 -- bank b begins with the words of the addresses b, b + N, b + 2N and so on (low-order interleaving)
 abbrev pub first_words : ℕ → List ℕ → ℕ → List ℕ
-first_words tiles opening b = tabulate (λ w. slice_index opening (w * tiles + b)) ((length opening + tiles - 1 - b) / tiles)
+first_words tiles opening b =
+    tabulate (λ w. slice_index opening (w * tiles + b)) ((length opening + tiles - 1 - b) / tiles)
 
 abbrev pub first_bank : ℕ → List ℕ → ℕ → Bank
 first_bank tiles opening b = record { words = first_words tiles opening b; entries = [] }
 
 abbrev pub first_processor : ℕ → List Line → Processor
-first_processor tags lines = record { following = first_of lines; tags = replicate tags None; issued = []; answers = [] }
+first_processor tags lines =
+    record { following = first_of lines; tags = replicate tags None; issued = []; answers = [] }
 
 -- the state of a load before any step: nothing is issued, no tag is out, nothing is in flight
 abbrev pub first_state : Load → State
@@ -85,11 +93,17 @@ sends s t = option_and_then (λ p. option_map (λ f. Sends t f.0 f.1) (ready p))
 
 -- a request in flight to the bank exists: the oldest is served
 abbrev pub serves : State → ℕ → Option Move
-serves s b = option_and_then (λ bank. option_map (λ f. Serves b f.0 f.1) (oldest (λ r. r.destination == b) s.requests)) (slice_get s.banks b)
+serves s b =
+    option_and_then
+    (λ bank. option_map (λ f. Serves b f.0 f.1) (oldest (λ r. r.destination == b) s.requests))
+    (slice_get s.banks b)
 
 -- a response in flight to the processor exists: the oldest is taken
 abbrev pub takes : State → ℕ → Option Move
-takes s p = option_and_then (λ processor. option_map (λ f. Takes p f.0 f.1) (oldest (λ r. r.destination == p) s.responses)) (slice_get s.processors p)
+takes s p =
+    option_and_then
+    (λ processor. option_map (λ f. Takes p f.0 f.1) (oldest (λ r. r.destination == p) s.responses))
+    (slice_get s.processors p)
 
 -- tile t has processor 3t and bank 3t + 2; no other choice is ever enabled
 abbrev pub choice_move : State → ℕ → Choice → Option Move
@@ -133,39 +147,30 @@ issued_by p tag o = record {
 
 -- the request of an operation, to its home bank
 abbrev pub request_of : ℕ → ℕ → ℕ → Operation → Request
-request_of tiles t tag o = record { destination = o.address % tiles; source = t; tag = record { 0 = tag }; word = o.address / tiles; op = o.op }
+request_of tiles t tag o =
+    record { destination = o.address % tiles; source = t; tag = record { 0 = tag }; word = o.address / tiles; op = o.op }
 
--- the entry of a service
-abbrev pub entry_for : ℕ → Bank → Request → Entry
-entry_for tiles bank r = record {
-  source = r.source;
-  tag = r.tag;
-  address = r.destination + r.word * tiles;
-  op = r.op;
-  reply = reply_to r.op (slice_index bank.words r.word);
-}
+-- a bank as what serves a request, of which it looks at no room
+abbrev pub as_bank : ℕ → ℕ → Bank → BankState
+as_bank tiles b bank = record { tile = b; tiles = tiles; words = bank.words; entries = bank.entries; room = 0 }
 
 -- the bank after a service
 abbrev pub served_by : ℕ → Bank → Request → Bank
-served_by tiles bank r = record {
-  words = slice_set bank.words r.word (new_word r.op (slice_index bank.words r.word));
-  entries = bank.entries ++ entry_for tiles bank r ∷ [];
-}
+served_by tiles bank r = bank_of (bank_after (as_bank tiles r.destination bank) r)
 
 -- the reply that goes back
-abbrev pub response_of : Bank → Request → Response
-response_of bank r = record {
-  destination = r.source;
-  source = r.destination;
-  tag = r.tag;
-  place = length bank.entries;
-  code = code_of r.op;
-  reply = reply_to r.op (slice_index bank.words r.word);
-}
+abbrev pub response_of : ℕ → Bank → Request → Response
+response_of tiles bank r = response_to (as_bank tiles r.destination bank) r
 
 -- the answer that a reply brings
 abbrev pub answer_of : Processor → Response → Answer
-answer_of p r = record { index = index_of p r.tag.0; op = (operation_of p r.tag.0).op; reply = r.reply; bank = r.source; place = r.place }
+answer_of p r = record {
+  index = index_of p r.tag.0;
+  op = (operation_of p r.tag.0).op;
+  reply = r.reply;
+  bank = r.source;
+  place = r.place;
+}
 
 -- the processor after an answer, which gives the tag back
 abbrev pub answered_by : Processor → Response → Processor
@@ -188,7 +193,7 @@ moved tiles s (Serves b place r) = record {
   processors = s.processors;
   banks = slice_set s.banks b (served_by tiles (bank_at s b) r);
   requests = remove s.requests place;
-  responses = s.responses ++ response_of (bank_at s b) r ∷ [];
+  responses = s.responses ++ response_of tiles (bank_at s b) r ∷ [];
 }
 moved tiles s (Takes p place r) = record {
   processors = slice_set s.processors p (answered_by (processor_at s p) r);

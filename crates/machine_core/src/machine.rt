@@ -27,6 +27,7 @@ use torus::{Choice, Fault, Step, Stepped, Torus};
 #[derive(Drop)]
 pub struct Machine<A: Allocator = Global> {
     torus: Torus,
+    depth: u32,
     tags: u32,
     opening: Vec<u64, A>,
     processors: Vec<ProcessorRow<A>, A>,
@@ -54,12 +55,13 @@ impl<A: Allocator + Copy> Machine<A> {
     fn begin(
         alloc: A,
         torus: Torus,
+        depth: u32,
         tags: u32,
         opening: Vec<u64, A>,
         lists: Vec<LineList<A>, A>,
     ) -> Result<Machine<A>, AllocError>
-        requires { IsAccepted (record { shape = torus; tags = tags; opening = opening.items; scripts = lists_of lists.items }) }
-        ensures { IfOk result (λ m. IsAfter (record { shape = torus; tags = tags; opening = opening.items; scripts = lists_of lists.items }) m []) }
+        requires { IsAccepted (record { shape = torus; depth = depth; tags = tags; opening = opening.items; scripts = lists_of lists.items }) }
+        ensures { IfOk result (λ m. IsAfter (record { shape = torus; depth = depth; tags = tags; opening = opening.items; scripts = lists_of lists.items }) m []) }
     {
         let room = all_room(lists.as_slice());
         let requests = Vec::with_capacity(alloc, room)?;
@@ -69,6 +71,7 @@ impl<A: Allocator + Copy> Machine<A> {
         let processors = processor_rows(alloc, tags, lists)?;
         Ok(Machine {
             torus,
+            depth,
             tags,
             opening,
             processors,
@@ -89,10 +92,11 @@ impl<A: Allocator + Copy> Machine<A> {
         ensures fault { IfErr result (λ fault. fault ≡ Fault.Memory) }
     {
         let torus = *machine.torus();
+        let depth = machine.depth();
         let tags = machine.tags();
         let opening = machine.into_opening();
         let lists = scripts.into_lists();
-        match Machine::begin(alloc, torus, tags, opening, lists) {
+        match Machine::begin(alloc, torus, depth, tags, opening, lists) {
             Ok(loaded) => Ok(loaded),
             Err(_) => Err(Fault::Memory),
         }
@@ -251,7 +255,7 @@ impl<A: Allocator> Machine<A> {
         }
     }
 
-    /// A bank's history, in the order of the services; `None` exactly where there is no such bank.
+    /// A bank's entries, in the order of its services; `None` exactly where there is no such bank.
     pub fn bank(&self, bank: u32) -> Option<&[Entry]>
         ensures { option_copied result ≡ slice_get (shown self.now).entries bank }
     {
@@ -287,7 +291,7 @@ impl<A: Allocator> Machine<A> {
     ///
     /// Errors: `Fault::Memory` alone.
     pub fn order<B: Allocator + Copy>(&self, alloc: B) -> Result<Vec<Ordered, B>, Fault>
-        ensures rows { IfOk result (λ rows. rows.items ≡ self.now.ledger.rows) }
+        ensures rows { IfOk result (λ rows. rows.items ≡ self.now.book.rows) }
         ensures fault { IfErr result (λ fault. fault ≡ Fault.Memory) }
     {
         match Vec::from_slice(alloc, self.order.as_slice()) {

@@ -7,10 +7,10 @@ ghost use Rattle.packet.specs.declared.kinds.Operation.{Operation};
 ghost use Rattle.packet.specs.declared.kinds.Request.{Request};
 ghost use Rattle.packet.specs.declared.kinds.Response.{Response};
 ghost use Rattle.packet.specs.declared.kinds.Packet.TheVariants as packet;
-ghost use Rattle.home_bank.specs.Bank.{IsFor, bank_after, answer_of as bank_answer};
+ghost use Rattle.home_bank.specs.Bank.{IsFor, bank_after, response_to};
 ghost use Rattle.machine_core.specs.Wire.{oldest, ready, request_of, issued_by, answered_by, index_of, operation_of};
 ghost use Rattle.torus.specs.Shape.{tiles_of};
-ghost use Rattle.machine_core.specs.Ledger.{answered_row, no_row};
+ghost use Rattle.machine_core.specs.EventBook.{answered_row, no_row};
 ghost use Rattle.machine_core.specs.Rows.{processor_of, KeepsProcessorRoom};
 
 use crate::rows::{BankRow, ProcessorRow};
@@ -125,7 +125,7 @@ pub fn serve<A: Allocator>(bank: &mut Bank<A>, request: Request) -> Response
     requires asked { IsFor bank.old request }
     requires room { length bank.old.entries < bank.old.room }
     ensures bank { bank.new ≡ bank_after bank.old request }
-    ensures response { result ≡ bank_answer bank.old request }
+    ensures response { result ≡ response_to bank.old request }
 {
     match bank.serve_whole(Packet::Request(request)) {
         Packet::Response(response) => response,
@@ -141,7 +141,7 @@ pub fn serve_row<A: Allocator>(row: &mut BankRow<A>, request: Request, position:
     ensures bank { row.new.bank ≡ bank_after row.old.bank request }
     ensures positions { row.new.positions.items ≡ row.old.positions.items ++ position ∷ [] }
     ensures capacity { vec_capacity row.old.positions ≤ vec_capacity row.new.positions }
-    ensures response { result ≡ bank_answer row.old.bank request }
+    ensures response { result ≡ response_to row.old.bank request }
 {
     push_within(&mut row.positions, position);
     serve(&mut row.bank, request)

@@ -9,8 +9,8 @@ use Rattle.packet.specs.Memory.{replies, memory_after, reply_of_one, memory_afte
 use Rattle.torus.specs.declared.step.Tag.{Tag}
 use Rattle.home_bank.specs.declared.entry.Entry.{Entry}
 use Rattle.runs.specs.declared.answer.Answer.{Answer}
-use Rattle.runs.specs.Observed.{Observed, list_at, HasAnswered, IsOfMachine}
-use Rattle.runs.specs.Order.{LinearizationPoint, operations_of, home, count_at, IsInOrder, StandsBefore}
+use Rattle.runs.specs.Observed.{Observed, list_at, HasAnswered, IsOfMachine, IsTold}
+use Rattle.runs.specs.Order.{LinearizationPoint, operations_of, home, count_at, IsInOrder, StandsBefore, IsToldBefore}
 use Rattle.runs.specs.Events.{Event, Nothing, Issued, Served, Answered, push_at, entry_of, happens, nothing_yet, points_of, MayIssue, MayServe, MayAnswer, MayHappen, TellsService}
 use Rattle.runs.proofs.Lists.{push_at_cases, push_at_keeps, push_at_new, length-push_at, length_list_at_push, list_at_none, list_within, get_push_cases, get_append_left}
 use Rattle.runs.proofs.Folds.{reply_kept, reply_new, memory_new, before_kept}
@@ -24,6 +24,11 @@ pub record HasEntry (tiles : ℕ) (opening : List ℕ) (s : Observed) (order : L
   pub op : entry.op ≡ x.operation.op
   pub reply : slice_get (replies (operations_of order) opening) k ≡ Some entry.reply
 
+-- of an answer of p, each earlier service of p by that bank is told by an earlier answer
+abbrev pub AnswerTurns : Observed → Type 0
+AnswerTurns s = (p i place : ℕ) (a : Answer) (earlier : Entry) → slice_get (list_at s.answers p) i ≡ Some a → place < a.place
+    → slice_get (list_at s.entries a.bank) place ≡ Some earlier → earlier.source ≡ p → IsToldBefore s p i a.bank place
+
 -- what is shown agrees with the order of the services so far
 pub record Account (tiles tags : ℕ) (opening : List ℕ) (s : Observed) (order : List LinearizationPoint) : Type 0 where
   pub memory : s.memory ≡ memory_after (operations_of order) opening
@@ -35,6 +40,7 @@ pub record Account (tiles tags : ℕ) (opening : List ℕ) (s : Observed) (order
   pub once : (p i j : ℕ) (a c : Answer) → slice_get (list_at s.answers p) i ≡ Some a → slice_get (list_at s.answers p) j ≡ Some c → a.index ≡ c.index → i ≡ j
   pub in_turn : (k i : ℕ) (y : LinearizationPoint) (o : Operation) → slice_get order k ≡ Some y → i < y.index
       → slice_get (list_at s.issued y.source) i ≡ Some o → home tiles o ≡ home tiles y.operation → StandsBefore order k y.source i
+  pub answer_turns : AnswerTurns s
   pub shown : IsOfMachine tiles tags (length opening) s
 
 -- a home is a tile, where a processor has issued anything
@@ -85,31 +91,6 @@ pub count_more : (tiles b : ℕ) (order : List LinearizationPoint) (x : Lineariz
 count_more tiles b order x =
     omega (arith, sum_by-append (λ (y : LinearizationPoint). cond (home tiles y.operation == b) 1 0) order (x ∷ []))
 
--- the answer that tells a service, as it is made
-abbrev pub answer_of : ℕ → Observed → ℕ → Operation → Answer
-answer_of tiles s i o = record { index = i; op = o.op; reply = reply_of_one o s.memory; bank = home tiles o; place = length (list_at s.entries (home tiles o)) }
-
--- What a service is told stands from there on: the answer that a core sends back with it.
-pub tells_new : (tiles tags : ℕ) (opening : List ℕ) (s : Observed) (order : List LinearizationPoint) (p i t : ℕ) (o : Operation)
-    → Account tiles tags opening s order → TellsService tiles opening (order ++ (record { source = p; index = i; operation = o; step = t }) ∷ []) p (answer_of tiles s i o)
-tells_new tiles tags opening s order p i t o a =
-    let new : LinearizationPoint = record { source = p; index = i; operation = o; step = t } in
-    record {
-      k = length order;
-      point = new;
-      there = get_push_there order new;
-      source = refl;
-      index = refl;
-      op = refl;
-      bank = refl;
-      place = a.counts (home tiles o) ∙ ap (count_at tiles (home tiles o)) (sym (take_at order (new ∷ []) (length order) refl));
-      reply = reply_new order new opening ∙ ap (λ m. Some (reply_of_one o m)) (sym a.memory);
-    }
-  where
-    get_push_there : (xs : List LinearizationPoint) (x : LinearizationPoint) → slice_get (xs ++ x ∷ []) (length xs) ≡ Some x
-    get_push_there [] x = refl
-    get_push_there (y ∷ ys) x = get_push_there ys x
-
 -- the machine's lists, after a service
 served_shown : (tiles tags : ℕ) (opening : List ℕ) (s : Observed) (order : List LinearizationPoint) (p i : ℕ) (tag : Tag) (o : Operation)
     → IsOfMachine tiles tags (length opening) s → MayServe tiles tags s order p i tag o → IsOfMachine tiles tags (length opening) (happens tiles s (Served p i tag o))
@@ -125,6 +106,16 @@ served_shown tiles tags opening s order p i tag o shown may = record {
       subst (λ (x : Entry). x.tag.0 < tags) new.2 may.tagged)
       (push_at_cases s.entries (home tiles o) (entry_of p tag o s.memory) b place e h);
 }
+
+-- the service that an answer tells has been made
+pub told_within : (tiles tags : ℕ) (opening : List ℕ) (s : Observed) (order : List LinearizationPoint) (p : ℕ) (a : Answer)
+    → Account tiles tags opening s order → TellsService tiles opening order p a → a.place < length (list_at s.entries a.bank)
+told_within tiles tags opening s order p a acc at =
+    let e = acc.entries at.k at.point at.there in
+    let within = slice_get_within (list_at s.entries (home tiles at.point.operation)) (count_at tiles (home tiles at.point.operation) (take at.k order)) e.entry e.there in
+    let place : a.place ≡ count_at tiles (home tiles at.point.operation) (take at.k order) = at.place ∙ ap (λ b. count_at tiles b (take at.k order)) at.bank in
+    let bank = ap (λ b. length (list_at s.entries b)) at.bank in
+    omega (arith, within, place, bank)
 
 -- all that follows from one service
 served_keeps : (tiles tags : ℕ) (opening : List ℕ) (s : Observed) (order : List LinearizationPoint) (p i : ℕ) (tag : Tag) (o : Operation) (t : ℕ)
@@ -180,6 +171,13 @@ served_keeps tiles tags opening s order p i tag o t a may =
           let last = rk.0 in
           (at.0, at.1, omega arith, get_append_left order (new ∷ []) at.0 at.1 at.2, at.3, at.4))
           (get_push_cases order new k y hk);
+      answer_turns = λ q j place c earlier h below there of. ⊎_elim
+          (λ old. a.answer_turns q j place c earlier h below old of)
+          (λ (r : (c.bank ≡ b) × (place ≡ length (list_at s.entries b)) × (e ≡ earlier)).
+          let same = ap (λ n. length (list_at s.entries n)) r.0 in
+          let last = r.1 in
+          absurd (omega (arith, told_within tiles tags opening s order q c a (a.answers q j c h), same, last)))
+          (push_at_cases s.entries b e c.bank place earlier there);
       shown = served_shown tiles tags opening s order p i tag o a.shown may;
     }
 
@@ -201,6 +199,7 @@ issued_keeps tiles tags opening s order p o a may = record {
       let f = new.1 in
       absurd (omega arith))
       (push_at_cases s.issued p o y.source i earlier hi);
+  answer_turns = a.answer_turns;
   shown = record {
     processors = length-push_at s.issued p o ∙ a.shown.processors;
     answerers = a.shown.answerers;
@@ -237,6 +236,16 @@ answered_keeps tiles tags opening s order p new a may = record {
       (push_at_cases s.answers p new q j d hj))
       (push_at_cases s.answers p new q i c hi);
   in_turn = a.in_turn;
+  answer_turns = λ q i place c earlier h below there of. ⊎_elim
+      (λ l. let at = a.answer_turns q i place c earlier l below there of in (at.0, at.1, at.2, push_at_keeps s.answers p new q at.0 at.1 at.3, at.4, at.5))
+      (λ (r : (q ≡ p) × (i ≡ length (list_at s.answers p)) × (new ≡ c)).
+      let told : IsTold s p c.bank place =
+      subst (λ (d : Answer). place < d.place → slice_get (list_at s.entries d.bank) place ≡ Some earlier → IsTold s p d.bank place) r.2
+      (λ l g. may.in_turn place earlier l g (of ∙ r.0)) below there in
+      let within = slice_get_within (list_at s.answers p) told.0 told.1 told.2 in
+      let last = r.1 in
+      (told.0, told.1, omega arith, push_at_keeps s.answers p new q told.0 told.1 (ap (λ n. slice_get (list_at s.answers n) told.0) r.0 ∙ told.2), told.3, told.4))
+      (push_at_cases s.answers p new q i c h);
   shown = record {
     processors = a.shown.processors;
     answerers = length-push_at s.answers p new ∙ a.shown.answerers;
@@ -265,6 +274,7 @@ account_none tiles tags opening = record {
   answers = λ p i a h. let e : None ≡ Some a = sym (ap (λ xs. slice_get xs i) (list_at_none {A = Answer} tiles p)) ∙ h in cc;
   once = λ p i j a c h. let e : None ≡ Some a = sym (ap (λ xs. slice_get xs i) (list_at_none {A = Answer} tiles p)) ∙ h in cc;
   in_turn = λ k i y o h. cc;
+  answer_turns = λ p i place a earlier h. let e : None ≡ Some a = sym (ap (λ xs. slice_get xs i) (list_at_none {A = Answer} tiles p)) ∙ h in cc;
   shown = record {
     processors = length-replicate tiles [];
     answerers = length-replicate tiles [];

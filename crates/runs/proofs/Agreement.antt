@@ -5,11 +5,11 @@ use Rattle.std.proofs.lemmas.Option.{slice_get_within}
 use Rattle.runs.specs.declared.ordered.Ordered.{Ordered}
 use Rattle.runs.specs.Observed.{Observed, Run, list_at, total, event_count, IsFirst, HasIssued, HasServed, HasAnswered, IsOfMachine}
 use Rattle.runs.specs.Order.{LinearizationPoint, home, count_at, IsLegalOrder, IsServiceOrder}
-use Rattle.runs.specs.Log.{IsLog}
+use Rattle.runs.specs.Growth.{OnlyGrows}
 use Rattle.runs.specs.Rows.{IsIssueNumber, IsAnswerNumber, AreIssueNumbers, AreRowsOf}
+use Rattle.runs.proofs.Account.{AnswerTurns, Account}
 use Rattle.runs.specs.OneOrder.{HasOneOrder}
 use Rattle.runs.specs.Events.{Event, happens, nothing_yet, points_of, order_after, MayHappen, IsHistory}
-use Rattle.runs.proofs.Account.{Account}
 use Rattle.runs.proofs.History.{account}
 
 -- two runs show the same after each of the first n steps
@@ -87,6 +87,7 @@ services_agree tiles opening run other n order agree within services =
       places = λ p i a h. services.places p i a (ap (λ (s : Observed). slice_get (list_at s.answers p) i) now ∙ h);
       once = λ p i j a c hi hj same. services.once p i j a c (ap (λ (s : Observed). slice_get (list_at s.answers p) i) now ∙ hi) (ap (λ (s : Observed). slice_get (list_at s.answers p) j) now ∙ hj) same;
       in_turn = λ k i y o h less issued same. services.in_turn k i y o h less (ap (λ (s : Observed). slice_get (list_at s.issued y.source) i) now ∙ issued) same;
+      answer_turns = subst AnswerTurns now services.answer_turns;
     }
 
 pub answer_number_agree : (run other : Run) (n p i : ℕ) (m : Option ℕ) → Agree run other n → IsAnswerNumber run n p i m → IsAnswerNumber other n p i m
@@ -126,20 +127,20 @@ rows_agree tiles opening run other n order rows agree legal are = record {
       };
 }
 
-pub log_agree : (opening : List ℕ) (run other : Run) (n : ℕ) → Agree run other n → IsLog opening run n → IsLog opening other n
-log_agree opening run other n agree log =
+pub grows_agree : (opening : List ℕ) (run other : Run) (n : ℕ) → Agree run other n → OnlyGrows opening run n → OnlyGrows opening other n
+grows_agree opening run other n agree growing =
     let at : (k : ℕ) → k < n → run k ≡ other k = λ k l. agree k (omega arith) in
     let next : (k : ℕ) → k < n → run (suc k) ≡ other (suc k) = λ k l. agree (suc k) (omega arith) in
     let zero_is : run 0 ≡ other 0 = agree 0 (omega arith) in
     record {
-      empty = ap event_count (sym zero_is) ∙ log.empty;
-      words = ap (λ (s : Observed). s.memory) (sym zero_is) ∙ log.words;
-      issues_stay = λ k p i o l h. ap (λ (s : Observed). slice_get (list_at s.issued p) i) (sym (next k l)) ∙ log.issues_stay k p i o l (ap (λ (s : Observed). slice_get (list_at s.issued p) i) (at k l) ∙ h);
-      answers_stay = λ k p i a l h. ap (λ (s : Observed). slice_get (list_at s.answers p) i) (sym (next k l)) ∙ log.answers_stay k p i a l (ap (λ (s : Observed). slice_get (list_at s.answers p) i) (at k l) ∙ h);
-      entries_stay = λ k b place e l h. ap (λ (s : Observed). slice_get (list_at s.entries b) place) (sym (next k l)) ∙ log.entries_stay k b place e l (ap (λ (s : Observed). slice_get (list_at s.entries b) place) (at k l) ∙ h);
-      one = λ k l. omega (arith, log.one k l, ap event_count (at k l), ap event_count (next k l));
+      empty = ap event_count (sym zero_is) ∙ growing.empty;
+      words = ap (λ (s : Observed). s.memory) (sym zero_is) ∙ growing.words;
+      issues_stay = λ k p i o l h. ap (λ (s : Observed). slice_get (list_at s.issued p) i) (sym (next k l)) ∙ growing.issues_stay k p i o l (ap (λ (s : Observed). slice_get (list_at s.issued p) i) (at k l) ∙ h);
+      answers_stay = λ k p i a l h. ap (λ (s : Observed). slice_get (list_at s.answers p) i) (sym (next k l)) ∙ growing.answers_stay k p i a l (ap (λ (s : Observed). slice_get (list_at s.answers p) i) (at k l) ∙ h);
+      entries_stay = λ k b place e l h. ap (λ (s : Observed). slice_get (list_at s.entries b) place) (sym (next k l)) ∙ growing.entries_stay k b place e l (ap (λ (s : Observed). slice_get (list_at s.entries b) place) (at k l) ∙ h);
+      one = λ k l. omega (arith, growing.one k l, ap event_count (at k l), ap event_count (next k l));
       words_stay = λ k l h. ap (λ (s : Observed). s.memory) (sym (next k l))
-          ∙ (log.words_stay k l (ap (λ (s : Observed). total s.entries) (next k l) ∙ (h ∙ ap (λ (s : Observed). total s.entries) (sym (at k l)))) ∙ ap (λ (s : Observed). s.memory) (at k l));
+          ∙ (growing.words_stay k l (ap (λ (s : Observed). total s.entries) (next k l) ∙ (h ∙ ap (λ (s : Observed). total s.entries) (sym (at k l)))) ∙ ap (λ (s : Observed). s.memory) (at k l));
     }
 
 -- A run's one order is that of every run that shows the same.
@@ -149,7 +150,7 @@ one_order_agree tiles tags opening run other n rows agree one = record {
   legal = legal_agree opening run other n one.order agree one.legal;
   services = services_agree tiles opening run other n one.order agree one.legal.within one.services;
   numbered = rows_agree tiles opening run other n one.order rows agree one.legal one.numbered;
-  log = log_agree opening run other n agree one.log;
+  grows = grows_agree opening run other n agree one.grows;
   shown = subst (IsOfMachine tiles tags (length opening)) (agree n (omega arith)) one.shown;
 }
 

@@ -1,5 +1,5 @@
 -- The entries of a run's one order, taken bank by bank, replay on one memory.
-use Rattle.std.proofs.Common.{◌≡◌, ℕ, zero, suc, ◌+◌, ◌<◌, List, [], ◌∷◌, length, map, take, Some, refl, sym, ◌∙◌, ap, subst, arith, slice_get}
+use Rattle.std.proofs.Common.{◌≡◌, ℕ, zero, suc, ◌+◌, ◌<◌, List, [], ◌∷◌, length, map, flat_map, take, Some, refl, sym, ◌∙◌, ap, subst, arith, slice_get}
 use Rattle.std.specs.Prelude.{count_by, filter}
 use Rattle.std.proofs.lemmas.Bool.{eq-eqb}
 use Rattle.std.proofs.lemmas.List.{length-map}
@@ -12,7 +12,7 @@ use Rattle.runs.specs.declared.ordered.Ordered.{Ordered}
 use Rattle.runs.specs.Observed.{Run, list_at, total}
 use Rattle.runs.specs.Order.{LinearizationPoint, operations_of, home, count_at}
 use Rattle.runs.specs.OneOrder.{HasOneOrder}
-use Rattle.runs.specs.Consequences.{operation_of, NameEntries, bank_by_bank, ReplaysByBank}
+use Rattle.runs.specs.Consequences.{operation_of, NameEntries, ReplaysByBank}
 use Rattle.runs.proofs.Lists.{within_length}
 use Rattle.runs.proofs.Account.{home_within}
 use Rattle.runs.proofs.Counting.{count_cons, filter_at, same_lists}
@@ -97,7 +97,7 @@ bank_told tiles tags opening run n rows one b =
 
 -- all entries, bank by bank
 entries_told : (tiles tags : ℕ) (opening : List ℕ) (run : Run) (n : ℕ) (rows : List Ordered) (one : HasOneOrder tiles tags opening run n rows)
-    → map told_by (bank_by_bank (run n).entries) ≡ by_bank tiles 0 tiles (all_told one.order opening)
+    → map told_by (flat_map (λ es. es) (run n).entries) ≡ by_bank tiles 0 tiles (all_told one.order opening)
 entries_told tiles tags opening run n rows one =
     joined told_by tiles 0 (run n).entries (all_told one.order opening) (λ b l.
     let e : b ≡ 0 + b = omega arith in
@@ -106,7 +106,7 @@ entries_told tiles tags opening run n rows one =
 
 pub banks_replay : (tiles tags : ℕ) (opening : List ℕ) (run : Run) (n : ℕ) (rows : List Ordered) → HasOneOrder tiles tags opening run n rows → ReplaysByBank opening (run n)
 banks_replay tiles tags opening run n rows one =
-    let es : List Entry = bank_by_bank (run n).entries in
+    let es : List Entry = flat_map (λ es. es) (run n).entries in
     let os : List Operation = operations_of one.order in
     let qs : List Told = all_told one.order opening in
     let are : map told_by es ≡ by_bank tiles 0 tiles qs = entries_told tiles tags opening run n rows one in
@@ -124,7 +124,7 @@ banks_replay tiles tags opening run n rows one =
 
 entries_counted : (tiles tags : ℕ) (opening : List ℕ) (run : Run) (n : ℕ) (rows : List Ordered) → HasOneOrder tiles tags opening run n rows → length rows ≡ total (run n).entries
 entries_counted tiles tags opening run n rows one =
-    let es : List Entry = bank_by_bank (run n).entries in
+    let es : List Entry = flat_map (λ es. es) (run n).entries in
     let os : List Operation = operations_of one.order in
     let qs : List Told = all_told one.order opening in
     let are = ap length (entries_told tiles tags opening run n rows one) in

@@ -6,10 +6,10 @@ use Rattle.runs.specs.declared.answer.Answer.{Answer}
 use Rattle.runs.specs.declared.ordered.Ordered.{Ordered}
 use Rattle.runs.specs.Observed.{Run, list_at, event_count, HasIssued, HasAnswered, IsIssuedAt, IsAnsweredAt}
 use Rattle.runs.specs.Order.{LinearizationPoint, home, count_at, StandsBefore, IsLegalOrder}
-use Rattle.runs.specs.Log.{IsLog}
+use Rattle.runs.specs.Growth.{OnlyGrows}
 use Rattle.runs.specs.Rows.{IsAnswerNumber, IsRowOf, AreRowsOf}
 use Rattle.runs.specs.OneOrder.{HasOneOrder}
-use Rattle.runs.specs.Consequences.{Precedes, EventKind, Issue, Service, Response, number_of, AreEventNumbers}
+use Rattle.runs.specs.Consequences.{Precedes, EventKind, Issue, Service, Response, event_number, AreEventNumbers}
 use Rattle.runs.proofs.Lists.{within_length}
 use Rattle.runs.proofs.Growth.{kept_along}
 use Rattle.runs.proofs.EventTimes.{count_monotone, Mark, IssueMark, ServiceMark, AnswerMark, IsEvent, later_counts, one_event, one_first, issue_event, service_event, IsAnswerAt, answer_event}
@@ -23,13 +23,13 @@ pub record Effect (order : List LinearizationPoint) (p i t : ℕ) : Type 0 where
   pub index : point.index ≡ i
   pub before : point.step < t
 
-pub effect_before : (opening : List ℕ) (run : Run) (n : ℕ) (order : List LinearizationPoint) → IsLegalOrder opening run n order → IsLog opening run n
+pub effect_before : (opening : List ℕ) (run : Run) (n : ℕ) (order : List LinearizationPoint) → IsLegalOrder opening run n order → OnlyGrows opening run n
     → (p i t : ℕ) → IsAnsweredAt run p i t → t ≤ n → Effect order p i t
-effect_before opening run n order legal log p i t first l =
+effect_before opening run n order legal growing p i t first l =
     let at = first.holds in
     let a : Answer = at.1 in
     let there : slice_get (list_at (run n).answers p) at.0 ≡ Some a =
-    kept_along (λ k. list_at (run k).answers p) n (λ k j x m h. log.answers_stay k p j x m h) t n at.0 a l (omega arith) at.2 in
+    kept_along (λ k. list_at (run k).answers p) n (λ k j x m h. growing.answers_stay k p j x m h) t n at.0 a l (omega arith) at.2 in
     let effect = legal.answered p at.0 a there in
     let answered : IsAnsweredAt run p i effect.at = subst (λ (j : ℕ). IsAnsweredAt run p j effect.at) at.3 effect.answered in
     let same = one_first (λ k. HasAnswered (run k) p i) t effect.at first answered in
@@ -37,10 +37,10 @@ effect_before opening run n order legal log p i t first l =
     record { k = effect.k; point = effect.point; there = effect.there; source = effect.source; index = effect.index ∙ at.3; before = omega arith }
 
 -- so for a point of the order
-pub answered_after : (opening : List ℕ) (run : Run) (n : ℕ) (order : List LinearizationPoint) → IsLegalOrder opening run n order → IsLog opening run n
+pub answered_after : (opening : List ℕ) (run : Run) (n : ℕ) (order : List LinearizationPoint) → IsLegalOrder opening run n order → OnlyGrows opening run n
     → (k : ℕ) (x : LinearizationPoint) (t : ℕ) → slice_get order k ≡ Some x → IsAnsweredAt run x.source x.index t → t ≤ n → x.step < t
-answered_after opening run n order legal log k x t there first l =
-    let effect = effect_before opening run n order legal log x.source x.index t first l in
+answered_after opening run n order legal growing k x t there first l =
+    let effect = effect_before opening run n order legal growing x.source x.index t first l in
     let same = legal.distinct effect.k k effect.point x effect.there there effect.source effect.index in
     let moved : slice_get order k ≡ Some effect.point = subst (λ (j : ℕ). slice_get order j ≡ Some effect.point) same effect.there in
     let e : effect.point ≡ x = same_Some effect.point x (sym moved ∙ there) in
@@ -56,15 +56,15 @@ issued_before opening run n order legal k x t there first =
     omega arith
 
 -- An operation that is answered before another is issued stands before it.
-pub real_time : (opening : List ℕ) (run : Run) (n : ℕ) (order : List LinearizationPoint) → IsLegalOrder opening run n order → IsLog opening run n
+pub real_time : (opening : List ℕ) (run : Run) (n : ℕ) (order : List LinearizationPoint) → IsLegalOrder opening run n order → OnlyGrows opening run n
     → (p i k : ℕ) (y : LinearizationPoint) → slice_get order k ≡ Some y → Precedes run p i y.source y.index → StandsBefore order k p i
-real_time opening run n order legal log p i k y there h =
+real_time opening run n order legal growing p i k y there h =
     let t : ℕ = h.0 in
     let u : ℕ = h.1 in
     let l = h.4 in
     let issued = issued_before opening run n order legal k y u there h.3 in
     let within = legal.within k y there in
-    let effect = effect_before opening run n order legal log p i t h.2 (omega arith) in
+    let effect = effect_before opening run n order legal growing p i t h.2 (omega arith) in
     let before = effect.before in
     let earlier : effect.k < k = ⊎_elim
     (λ (l : effect.k < k). l)
@@ -108,23 +108,23 @@ pub record RowEvent (tiles : ℕ) (run : Run) (n : ℕ) (order : List Linearizat
   pub counts : number ≡ event_count (run (suc u))
 
 row_event : (tiles tags : ℕ) (opening : List ℕ) (run : Run) (n : ℕ) (rows : List Ordered) (one : HasOneOrder tiles tags opening run n rows) (k m : ℕ) (x : LinearizationPoint) (row : Ordered) (d : EventKind)
-    → slice_get one.order k ≡ Some x → IsRowOf tiles run n one.order k x row → number_of row d ≡ Some m → RowEvent tiles run n one.order k x d m
+    → slice_get one.order k ≡ Some x → IsRowOf tiles run n one.order k x row → event_number row d ≡ Some m → RowEvent tiles run n one.order k x d m
 row_event tiles tags opening run n rows one k m x row Issue there is h =
     let was = one.legal.issued k x there in
     let t : ℕ = is.issued.0 in
     let before = issued_before opening run n one.order one.legal k x t there is.issued.1 in
     let within = one.legal.within k x there in
-    let e = issue_event opening run n x.source x.index t one.log is.issued.1 (omega arith) in
+    let e = issue_event opening run n x.source x.index t one.grows is.issued.1 (omega arith) in
     record { u = e.0; mark = IssueMark x.source x.index; event = e.2; kind = refl; counts = sym (same_Some row.issued m h) ∙ (is.issued.2 ∙ ap (λ s. event_count (run s)) e.1) }
 row_event tiles tags opening run n rows one k m x row Service there is h =
     let was = one.services.served k x there in
     let b : ℕ = home tiles x.operation in
     let place : ℕ = count_at tiles b (take k one.order) in
-    let e = service_event opening run n b place x.step one.log was.served (one.legal.within k x there) in
+    let e = service_event opening run n b place x.step one.grows was.served (one.legal.within k x there) in
     record { u = e.0; mark = ServiceMark b place; event = e.2; kind = (refl, e.1); counts = sym (same_Some row.served m h) ∙ (is.served ∙ ap (λ s. event_count (run s)) e.1) }
 row_event tiles tags opening run n rows one k m x row Response there is h =
     let number : IsAnswerNumber run n x.source x.index (Some m) = subst (IsAnswerNumber run n x.source x.index) h is.answered in
-    let e = answer_event opening run n x.source x.index number.0 one.log number.2 number.1 in
+    let e = answer_event opening run n x.source x.index number.0 one.grows number.2 number.1 in
     record { u = e.0; mark = AnswerMark x.source e.1; event = e.3; kind = (e.1, refl, e.4); counts = number.3 ∙ ap (λ s. event_count (run s)) e.2 }
 
 -- one event is of one point, and of one kind
@@ -170,21 +170,21 @@ served_above tiles tags opening run n rows one k x there t l =
     let was = one.services.served k x there in
     let b : ℕ = home tiles x.operation in
     let place : ℕ = count_at tiles b (take k one.order) in
-    let e = service_event opening run n b place x.step one.log was.served (one.legal.within k x there) in
+    let e = service_event opening run n b place x.step one.grows was.served (one.legal.within k x there) in
     let s = e.1 in
-    rw e.1 (later_counts opening run n t e.0 (ServiceMark b place) one.log e.2 (omega arith))
+    rw e.1 (later_counts opening run n t e.0 (ServiceMark b place) one.grows e.2 (omega arith))
 
 -- and an answer's
 answered_above : (tiles tags : ℕ) (opening : List ℕ) (run : Run) (n : ℕ) (rows : List Ordered) (one : HasOneOrder tiles tags opening run n rows) (p i t u : ℕ)
     → IsAnsweredAt run p i t → t ≤ n → u < t → event_count (run u) < event_count (run t)
 answered_above tiles tags opening run n rows one p i t u first l before =
-    let e = answer_event opening run n p i t one.log first l in
+    let e = answer_event opening run n p i t one.grows first l in
     let s = e.2 in
-    rw e.2 (later_counts opening run n u e.0 (AnswerMark p e.1) one.log e.3 (omega arith))
+    rw e.2 (later_counts opening run n u e.0 (AnswerMark p e.1) one.grows e.3 (omega arith))
 
 pub numbers : (tiles tags : ℕ) (opening : List ℕ) (run : Run) (n : ℕ) (rows : List Ordered) → HasOneOrder tiles tags opening run n rows → AreEventNumbers (event_count (run n)) rows
 numbers tiles tags opening run n rows one =
-    let event : (k m : ℕ) (row : Ordered) (d : EventKind) (h : slice_get rows k ≡ Some row) → number_of row d ≡ Some m
+    let event : (k m : ℕ) (row : Ordered) (d : EventKind) (h : slice_get rows k ≡ Some row) → event_number row d ≡ Some m
     → (at : PointOf tiles run n one.order k row) × RowEvent tiles run n one.order k at.point d m =
     λ k m row d h g. let at = point_of tiles run n one.order rows one.numbered k row h in (at, row_event tiles tags opening run n rows one k m at.point row d at.there at.is g) in
     record {
@@ -197,7 +197,7 @@ numbers tiles tags opening run n rows one =
           let at = point_of tiles run n one.order rows one.numbered k row h in
           let x : LinearizationPoint = at.point in
           let number : IsAnswerNumber run n x.source x.index (Some m) = subst (IsAnswerNumber run n x.source x.index) g at.is.answered in
-          let after = answered_after opening run n one.order one.legal one.log k x number.0 at.there number.2 number.1 in
+          let after = answered_after opening run n one.order one.legal one.grows k x number.0 at.there number.2 number.1 in
           omega (arith, at.is.served, number.3, answered_above tiles tags opening run n rows one x.source x.index number.0 x.step number.2 number.1 after);
       rising = λ j k row other l hj hk.
           let x = point_of tiles run n one.order rows one.numbered j row hj in
@@ -207,17 +207,17 @@ numbers tiles tags opening run n rows one =
       distinct = λ j k m row other d e hj hk gd ge.
           let x = event j m row d hj gd in
           let y = event k m other e hk ge in
-          let same = one_event opening run n x.1.u y.1.u x.1.mark y.1.mark one.log x.1.event y.1.event (sym x.1.counts ∙ y.1.counts) in
+          let same = one_event opening run n x.1.u y.1.u x.1.mark y.1.mark one.grows x.1.event y.1.event (sym x.1.counts ∙ y.1.counts) in
           let kind : IsEventOf tiles run one.order k y.0.point e x.1.u x.1.mark =
           subst (λ (u : ℕ). IsEventOf tiles run one.order k y.0.point e u x.1.mark) (sym same.0) (subst (λ (m : Mark). IsEventOf tiles run one.order k y.0.point e y.1.u m) (sym same.1) y.1.kind) in
           same_kind tiles tags opening run n rows one j k x.1.u x.0.point y.0.point d e x.1.mark x.0.there y.0.there x.1.kind kind;
       low = λ k m row d h g.
           let x = event k m row d h g in
-          omega (arith, x.1.counts, later_counts opening run n x.1.u x.1.u x.1.mark one.log x.1.event (omega arith));
+          omega (arith, x.1.counts, later_counts opening run n x.1.u x.1.u x.1.mark one.grows x.1.event (omega arith));
       high = λ k m row d h g.
           let x = event k m row d h g in
           let within = x.1.event.within in
-          omega (arith, x.1.counts, count_monotone opening run n one.log (suc x.1.u) n (omega arith) (omega arith));
+          omega (arith, x.1.counts, count_monotone opening run n one.grows (suc x.1.u) n (omega arith) (omega arith));
     }
 
 -- said of rows: an answer's number below an issue's

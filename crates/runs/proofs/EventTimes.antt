@@ -1,10 +1,10 @@
--- The events of a log, and the count of events at each.
+-- The events of a run, and the count of events at each.
 use Rattle.std.proofs.Common.{◌≡◌, ◌≢◌, ◌⊎◌, inl, inr, ⊎_elim, ℕ, zero, suc, ◌<◌, ◌≤◌, List, length, Some, refl, sym, ◌∙◌, ap, subst, arith, slice_get}
 use Rattle.std.proofs.lemmas.Bool.{cases_eq, cases_lt}
 use Rattle.std.proofs.lemmas.Option.{slice_get_within}
 use Rattle.runs.specs.declared.answer.Answer.{Answer}
 use Rattle.runs.specs.Observed.{Observed, Run, list_at, event_count, IsFirst, IsIssuedAt, IsServedAt, IsAnsweredAt}
-use Rattle.runs.specs.Log.{IsLog}
+use Rattle.runs.specs.Growth.{OnlyGrows}
 use Rattle.runs.proofs.Lists.{within_length}
 use Rattle.runs.proofs.Growth.{length_kept, Grows, total_grows, total_within, IsNew, total_new, one_new}
 
@@ -14,20 +14,20 @@ pub record AllGrow (s t : Observed) : Type 0 where
   pub entries : Grows s.entries t.entries
   pub answers : Grows s.answers t.answers
 
-pub grows : (opening : List ℕ) (run : Run) (n : ℕ) → IsLog opening run n → (k : ℕ) → k < n → AllGrow (run k) (run (suc k))
-grows opening run n log k l = record {
-  issued = λ p. length_kept (list_at (run k).issued p) (list_at (run (suc k)).issued p) (λ i x h. log.issues_stay k p i x l h);
-  entries = λ b. length_kept (list_at (run k).entries b) (list_at (run (suc k)).entries b) (λ i x h. log.entries_stay k b i x l h);
-  answers = λ p. length_kept (list_at (run k).answers p) (list_at (run (suc k)).answers p) (λ i x h. log.answers_stay k p i x l h);
+pub grows : (opening : List ℕ) (run : Run) (n : ℕ) → OnlyGrows opening run n → (k : ℕ) → k < n → AllGrow (run k) (run (suc k))
+grows opening run n growing k l = record {
+  issued = λ p. length_kept (list_at (run k).issued p) (list_at (run (suc k)).issued p) (λ i x h. growing.issues_stay k p i x l h);
+  entries = λ b. length_kept (list_at (run k).entries b) (list_at (run (suc k)).entries b) (λ i x h. growing.entries_stay k b i x l h);
+  answers = λ p. length_kept (list_at (run k).answers p) (list_at (run (suc k)).answers p) (λ i x h. growing.answers_stay k p i x l h);
 }
 
 pub count_grows : (s t : Observed) → AllGrow s t → event_count s ≤ event_count t
 count_grows s t g = omega (arith, total_grows s.issued t.issued g.issued, total_grows s.entries t.entries g.entries, total_grows s.answers t.answers g.answers)
 
-pub count_monotone : (opening : List ℕ) (run : Run) (n : ℕ) → IsLog opening run n → (j k : ℕ) → j ≤ k → k ≤ n → event_count (run j) ≤ event_count (run k)
-count_monotone opening run n log j zero l m = let z : j ≡ 0 = omega arith in rw z (omega arith)
-count_monotone opening run n log j (suc k) l m = ⊎_elim
-    (λ (below : j < suc k). omega (arith, count_monotone opening run n log j k (omega arith) (omega arith), count_grows (run k) (run (suc k)) (grows opening run n log k (omega arith))))
+pub count_monotone : (opening : List ℕ) (run : Run) (n : ℕ) → OnlyGrows opening run n → (j k : ℕ) → j ≤ k → k ≤ n → event_count (run j) ≤ event_count (run k)
+count_monotone opening run n growing j zero l m = let z : j ≡ 0 = omega arith in rw z (omega arith)
+count_monotone opening run n growing j (suc k) l m = ⊎_elim
+    (λ (below : j < suc k). omega (arith, count_monotone opening run n growing j k (omega arith) (omega arith), count_grows (run k) (run (suc k)) (grows opening run n growing k (omega arith))))
     (λ (above : suc k ≤ j). let z : j ≡ suc k = omega arith in rw z (omega arith))
     (cases_lt j (suc k))
 
@@ -71,30 +71,30 @@ one_mark s t (ServiceMark b i) (AnswerMark q j) g one h e =
 one_mark s t (AnswerMark q j) (ServiceMark b i) g one e h =
     absurd (omega (arith, one, total_new s.entries t.entries b i g.entries h, total_new s.answers t.answers q j g.answers e, total_grows s.issued t.issued g.issued))
 
--- an event at step u + 1 of a log
+-- an event at step u + 1 of a run
 pub record IsEvent (run : Run) (n u : ℕ) (m : Mark) : Type 0 where
   pub within : u < n
   pub marked : IsMarked (run u) (run (suc u)) m
 
-pub event_counts : (opening : List ℕ) (run : Run) (n u : ℕ) (m : Mark) → IsLog opening run n → IsEvent run n u m → event_count (run u) < event_count (run (suc u))
-event_counts opening run n u m log e = mark_counts (run u) (run (suc u)) m (grows opening run n log u e.within) e.marked
+pub event_counts : (opening : List ℕ) (run : Run) (n u : ℕ) (m : Mark) → OnlyGrows opening run n → IsEvent run n u m → event_count (run u) < event_count (run (suc u))
+event_counts opening run n u m growing e = mark_counts (run u) (run (suc u)) m (grows opening run n growing u e.within) e.marked
 
 -- later events have greater numbers
-pub later_counts : (opening : List ℕ) (run : Run) (n t u : ℕ) (m : Mark) → IsLog opening run n → IsEvent run n u m → t ≤ u → event_count (run t) < event_count (run (suc u))
-later_counts opening run n t u m log e l =
+pub later_counts : (opening : List ℕ) (run : Run) (n t u : ℕ) (m : Mark) → OnlyGrows opening run n → IsEvent run n u m → t ≤ u → event_count (run t) < event_count (run (suc u))
+later_counts opening run n t u m growing e l =
     let w = e.within in
-    omega (arith, event_counts opening run n u m log e, count_monotone opening run n log t u l (omega arith))
+    omega (arith, event_counts opening run n u m growing e, count_monotone opening run n growing t u l (omega arith))
 
 -- events of one number are one event
-pub one_event : (opening : List ℕ) (run : Run) (n t u : ℕ) (l m : Mark) → IsLog opening run n → IsEvent run n t l → IsEvent run n u m
+pub one_event : (opening : List ℕ) (run : Run) (n t u : ℕ) (l m : Mark) → OnlyGrows opening run n → IsEvent run n t l → IsEvent run n u m
     → event_count (run (suc t)) ≡ event_count (run (suc u)) → (t ≡ u) × (l ≡ m)
-one_event opening run n t u l m log x y same = ⊎_elim
+one_event opening run n t u l m growing x y same = ⊎_elim
     (λ (equal : t ≡ u).
     let there : IsMarked (run t) (run (suc t)) m = subst (λ (v : ℕ). IsMarked (run v) (run (suc v)) m) (sym equal) y.marked in
-    (equal, one_mark (run t) (run (suc t)) l m (grows opening run n log t x.within) (log.one t x.within) x.marked there))
+    (equal, one_mark (run t) (run (suc t)) l m (grows opening run n growing t x.within) (growing.one t x.within) x.marked there))
     (λ (other : t ≢ u). ⊎_elim
-    (λ (before : t < u). absurd (omega (arith, same, later_counts opening run n (suc t) u m log y (omega arith))))
-    (λ (after : u ≤ t). absurd (omega (arith, same, later_counts opening run n (suc u) t l log x (⊎_elim (λ (l : suc u ≤ t). l) (λ (g : t < suc u). absurd (other (omega arith))) (cases_le (suc u) t)))))
+    (λ (before : t < u). absurd (omega (arith, same, later_counts opening run n (suc t) u m growing y (omega arith))))
+    (λ (after : u ≤ t). absurd (omega (arith, same, later_counts opening run n (suc u) t l growing x (⊎_elim (λ (l : suc u ≤ t). l) (λ (g : t < suc u). absurd (other (omega arith))) (cases_le (suc u) t)))))
     (cases_lt t u))
     (cases_eq t u)
   where
@@ -112,9 +112,9 @@ one_first P s t x y = ⊎_elim
     (cases_lt s t)
 
 -- what is first issued, served or answered at a step is new there
-pub issue_event : (opening : List ℕ) (run : Run) (n p i t : ℕ) → IsLog opening run n → IsIssuedAt run p i t → t ≤ n → (u : ℕ) × (t ≡ suc u) × IsEvent run n u (IssueMark p i)
-issue_event opening run n p i zero log first l = absurd (omega (arith, first.holds, total_within (run 0).issued p, log.empty))
-issue_event opening run n p i (suc u) log first l = (
+pub issue_event : (opening : List ℕ) (run : Run) (n p i t : ℕ) → OnlyGrows opening run n → IsIssuedAt run p i t → t ≤ n → (u : ℕ) × (t ≡ suc u) × IsEvent run n u (IssueMark p i)
+issue_event opening run n p i zero growing first l = absurd (omega (arith, first.holds, total_within (run 0).issued p, growing.empty))
+issue_event opening run n p i (suc u) growing first l = (
   u,
   refl,
   record {
@@ -126,9 +126,9 @@ issue_event opening run n p i (suc u) log first l = (
   },
 )
 
-pub service_event : (opening : List ℕ) (run : Run) (n b place t : ℕ) → IsLog opening run n → IsServedAt run b place t → t ≤ n → (u : ℕ) × (t ≡ suc u) × IsEvent run n u (ServiceMark b place)
-service_event opening run n b place zero log first l = absurd (omega (arith, first.holds, total_within (run 0).entries b, log.empty))
-service_event opening run n b place (suc u) log first l = (
+pub service_event : (opening : List ℕ) (run : Run) (n b place t : ℕ) → OnlyGrows opening run n → IsServedAt run b place t → t ≤ n → (u : ℕ) × (t ≡ suc u) × IsEvent run n u (ServiceMark b place)
+service_event opening run n b place zero growing first l = absurd (omega (arith, first.holds, total_within (run 0).entries b, growing.empty))
+service_event opening run n b place (suc u) growing first l = (
   u,
   refl,
   record {
@@ -146,12 +146,12 @@ pub record IsAnswerAt (s : Observed) (p i k : ℕ) : Type 0 where
   pub there : slice_get (list_at s.answers p) k ≡ Some answer
   pub index : answer.index ≡ i
 
-pub answer_event : (opening : List ℕ) (run : Run) (n p i t : ℕ) → IsLog opening run n → IsAnsweredAt run p i t → t ≤ n
+pub answer_event : (opening : List ℕ) (run : Run) (n p i t : ℕ) → OnlyGrows opening run n → IsAnsweredAt run p i t → t ≤ n
     → (u : ℕ) × (k : ℕ) × (t ≡ suc u) × IsEvent run n u (AnswerMark p k) × IsAnswerAt (run (suc u)) p i k
-answer_event opening run n p i zero log first l =
+answer_event opening run n p i zero growing first l =
     let at = first.holds in
-    absurd (omega (arith, slice_get_within (list_at (run 0).answers p) at.0 at.1 at.2, total_within (run 0).answers p, log.empty))
-answer_event opening run n p i (suc u) log first l =
+    absurd (omega (arith, slice_get_within (list_at (run 0).answers p) at.0 at.1 at.2, total_within (run 0).answers p, growing.empty))
+answer_event opening run n p i (suc u) growing first l =
     let at = first.holds in
     let k : ℕ = at.0 in (
       u,
@@ -163,7 +163,7 @@ answer_event opening run n p i (suc u) log first l =
           absent = ⊎_elim
               (λ (h : k < length (list_at (run u).answers p)).
               let old = within_length (list_at (run u).answers p) k h in
-              let kept = log.answers_stay u p k old.0 (omega arith) old.1 in
+              let kept = growing.answers_stay u p k old.0 (omega arith) old.1 in
               let there : slice_get (list_at (run (suc u)).answers p) k ≡ Some at.1 = at.2 in
               let same : old.0 ≡ at.1 = cc in
               absurd (first.not_before u (omega arith) (k, old.0, old.1, ap (λ (a : Answer). a.index) same ∙ at.3)))

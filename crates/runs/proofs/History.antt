@@ -245,4 +245,5 @@ service_order tiles tags opening run event n h =
           record { k = at.k; point = at.point; there = at.there; source = at.source; index = at.index; bank = at.bank; place = at.place };
       once = acc.once;
       in_turn = acc.in_turn;
+      answer_turns = acc.answer_turns;
     }

@@ -181,7 +181,7 @@ are_first tiles tags opening run n rows one b p (suc k) l =
     let y = within_length one.order k (omega arith) in
     first_step tiles tags opening run n rows one b p k y.0 (is_of tiles b p y.0) refl y.1 (are_first tiles tags opening run n rows one b p k (omega arith))
 
--- as many entries of p stand in b's history before a place
+-- as many entries of p stand in b's list before a place
 abbrev pub is_from : ℕ → Entry → Bool
 is_from p e = e.source == p
 

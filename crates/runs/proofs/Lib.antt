@@ -1,6 +1,7 @@
 pub mod Lists
 pub mod Folds
 pub mod Account
+pub mod Told
 pub mod History
 pub mod Numbers
 pub mod Growth
@@ -16,3 +17,5 @@ pub mod Words
 pub mod Positions
 pub mod Agreement
 pub mod InTurn
+pub mod AnswersInTurn
+pub mod Beginnings

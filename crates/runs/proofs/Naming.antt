@@ -165,7 +165,7 @@ answers_numbered tiles tags opening run n rows one = record {
       let first = number.2.holds in
       let a : Answer = first.1 in
       let there : slice_get (list_at (run n).answers x.source) first.0 ≡ Some a =
-      kept_along (λ t. list_at (run t).answers x.source) n (λ t j y l q. one.log.answers_stay t x.source j y l q) number.0 n first.0 a number.1 (omega arith) first.2 in
+      kept_along (λ t. list_at (run t).answers x.source) n (λ t j y l q. one.grows.answers_stay t x.source j y l q) number.0 n first.0 a number.1 (omega arith) first.2 in
       let named = answer_place tiles tags opening run n rows one x.source first.0 k x a there at.there refl (sym first.3) in
       (first.0, a, ap (λ p. slice_get (list_at (run n).answers p) first.0) at.is.source ∙ there, first.3 ∙ sym at.is.index, named.bank ∙ sym at.is.bank, named.place ∙ sym at.is.place);
   unanswered = λ k p i row a h g there bank place.

@@ -1,4 +1,4 @@
--- The count of events, step by step; and that a history is a log.
+-- The count of events, step by step; and that what a history shows only grows.
 use Rattle.std.proofs.Common.{◌≡◌, ℕ, suc, ◌+◌, ◌<◌, ◌≤◌, List, length, Some, refl, sym, ◌∙◌, ap, subst, arith, slice_get}
 use Rattle.packet.specs.declared.kinds.Operation.{Operation}
 use Rattle.torus.specs.declared.step.Tag.{Tag}
@@ -6,7 +6,7 @@ use Rattle.home_bank.specs.declared.entry.Entry.{Entry}
 use Rattle.runs.specs.declared.answer.Answer.{Answer}
 use Rattle.runs.specs.Observed.{Observed, Run, list_at, total, event_count}
 use Rattle.runs.specs.Order.{LinearizationPoint, home}
-use Rattle.runs.specs.Log.{IsLog}
+use Rattle.runs.specs.Growth.{OnlyGrows}
 use Rattle.runs.specs.Events.{Event, Nothing, Issued, Served, Answered, entry_of, happens, nothing_yet, order_after, MayHappen, IsHistory}
 use Rattle.runs.proofs.Lists.{push_at_keeps, total_push, total_none, list_within}
 use Rattle.runs.proofs.Account.{Account, home_within}
@@ -88,8 +88,8 @@ words_kept tiles tags opening s order (Served p i tag o) acc may same =
 words_kept tiles tags opening s order (Answered p a) acc may same = refl
 
 -- What a history shows only grows, by an event a step at most.
-pub log : (tiles tags : ℕ) (opening : List ℕ) (run : Run) (event : ℕ → Event) (n : ℕ) → IsHistory tiles tags opening run event n → IsLog opening run n
-log tiles tags opening run event n h =
+pub only_grows : (tiles tags : ℕ) (opening : List ℕ) (run : Run) (event : ℕ → Event) (n : ℕ) → IsHistory tiles tags opening run event n → OnlyGrows opening run n
+only_grows tiles tags opening run event n h =
     let up_to : (k : ℕ) → k < n → IsHistory tiles tags opening run event (suc k) = λ k l. record { start = h.start; each = λ j i. h.each j (omega arith); may = λ j i. h.may j (omega arith) } in
     record {
       empty = ap event_count h.start ∙ count_none tiles opening;

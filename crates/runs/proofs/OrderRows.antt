@@ -17,7 +17,7 @@ use Rattle.runs.proofs.Folds.{before_kept}
 use Rattle.runs.proofs.Account.{unserved_unanswered}
 use Rattle.runs.proofs.History.{shorter, account, first_below, answers_cases, answered_monotone, legal, service_order}
 use Rattle.runs.proofs.Growth.{length_kept, kept_along}
-use Rattle.runs.proofs.Numbers.{log, answerer_within}
+use Rattle.runs.proofs.Numbers.{only_grows, answerer_within}
 
 -- who has been answered after a step was before, or is answered by it
 answered_before : (tiles tags : ℕ) (opening : List ℕ) (run : Run) (event : ℕ → Event) (n : ℕ) → IsHistory tiles tags opening run event (suc n) → (p i : ℕ) → HasAnswered (run (suc n)) p i
@@ -178,7 +178,7 @@ issue_number tiles tags opening run event n h p o is =
     let may : MayHappen tiles tags opening (run n) (order_after event n) (Issued p o) = subst (MayHappen tiles tags opening (run n) (order_after event n)) is (h.may n (omega arith)) in
     let i : ℕ = length (list_at (run n).issued p) in
     let p_in : p < length (run n).issued = subst (λ (k : ℕ). p < k) (sym acc.shown.processors) may.source in
-    let l = log tiles tags opening run event (suc n) h in (
+    let l = only_grows tiles tags opening run event (suc n) h in (
       suc n,
       record {
         holds = subst (λ (s : Observed). i < length (list_at s.issued p)) (sym (h.each n (omega arith) ∙ ap (happens tiles (run n)) is))
@@ -276,6 +276,12 @@ one_order tiles tags opening run event n rows h are = record {
   legal = legal tiles tags opening run event n h;
   services = service_order tiles tags opening run event n h;
   numbered = are;
-  log = log tiles tags opening run event n h;
+  grows = only_grows tiles tags opening run event n h;
   shown = (account tiles tags opening run event n h).shown;
 }
+
+-- It is the order of the services.
+pub one_order_is : (tiles tags : ℕ) (opening : List ℕ) (run : Run) (event : ℕ → Event) (n : ℕ) (rows : List Ordered) (h : IsHistory tiles tags opening run event n) (are : AreRowsOf tiles run n (order_after event n) rows)
+    → (one_order tiles tags opening run event n rows h are).order ≡ order_after event n
+unfolding one_order
+one_order_is tiles tags opening run event n rows h are = refl

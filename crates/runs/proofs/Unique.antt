@@ -6,7 +6,7 @@ use Rattle.packet.specs.declared.kinds.Operation.{Operation}
 use Rattle.runs.specs.declared.ordered.Ordered.{Ordered}
 use Rattle.runs.specs.Observed.{Run, list_at, event_count, HasIssued, HasServed, HasAnswered, IsServedAt}
 use Rattle.runs.specs.Order.{LinearizationPoint, home, count_at}
-use Rattle.runs.specs.Log.{IsLog}
+use Rattle.runs.specs.Growth.{OnlyGrows}
 use Rattle.runs.specs.Rows.{IsIssueNumber, IsAnswerNumber, IsRowOf, AreRowsOf}
 use Rattle.runs.specs.OneOrder.{HasOneOrder}
 use Rattle.runs.proofs.Lists.{within_length}
@@ -144,35 +144,35 @@ same_order tiles tags opening run n rows others one two =
     (omega (arith, one.numbered.count, two.numbered.count, (name_entries tiles tags opening run n rows one).count, (name_entries tiles tags opening run n others two).count))
     (λ k x y hx hy. same_before tiles tags opening run n rows others one two (suc k) k x y (omega arith) hx hy)
 
-issue_number_same : (run : Run) (p i l m : ℕ) → IsIssueNumber run p i l → IsIssueNumber run p i m → l ≡ m
+pub issue_number_same : (run : Run) (p i l m : ℕ) → IsIssueNumber run p i l → IsIssueNumber run p i m → l ≡ m
 issue_number_same run p i l m x y =
     x.2 ∙ (ap (λ t. event_count (run t)) (one_first (λ k. HasIssued (run k) p i) x.0 y.0 x.1 y.1) ∙ sym y.2)
 
-answer_number_same : (opening : List ℕ) (run : Run) (n p i : ℕ) (l m : Option ℕ) → IsLog opening run n → IsAnswerNumber run n p i l → IsAnswerNumber run n p i m → l ≡ m
-answer_number_same opening run n p i None None log x y = refl
-answer_number_same opening run n p i None (Some m) log x y =
+pub answer_number_same : (opening : List ℕ) (run : Run) (n p i : ℕ) (l m : Option ℕ) → OnlyGrows opening run n → IsAnswerNumber run n p i l → IsAnswerNumber run n p i m → l ≡ m
+answer_number_same opening run n p i None None growing x y = refl
+answer_number_same opening run n p i None (Some m) growing x y =
     let at = y.2.holds in
-    absurd (x (at.0, at.1, kept_along (λ t. list_at (run t).answers p) n (λ t j a l h. log.answers_stay t p j a l h) y.0 n at.0 at.1 y.1 (omega arith) at.2, at.3))
-answer_number_same opening run n p i (Some l) None log x y =
+    absurd (x (at.0, at.1, kept_along (λ t. list_at (run t).answers p) n (λ t j a l h. growing.answers_stay t p j a l h) y.0 n at.0 at.1 y.1 (omega arith) at.2, at.3))
+answer_number_same opening run n p i (Some l) None growing x y =
     let at = x.2.holds in
-    absurd (y (at.0, at.1, kept_along (λ t. list_at (run t).answers p) n (λ t j a l h. log.answers_stay t p j a l h) x.0 n at.0 at.1 x.1 (omega arith) at.2, at.3))
-answer_number_same opening run n p i (Some l) (Some m) log x y =
+    absurd (y (at.0, at.1, kept_along (λ t. list_at (run t).answers p) n (λ t j a l h. growing.answers_stay t p j a l h) x.0 n at.0 at.1 x.1 (omega arith) at.2, at.3))
+answer_number_same opening run n p i (Some l) (Some m) growing x y =
     ap (λ (c : ℕ). Some c) (x.3 ∙ (ap (λ t. event_count (run t)) (one_first (λ k. HasAnswered (run k) p i) x.0 y.0 x.2 y.2) ∙ sym y.3))
 
 abbrev pub row_from : ℕ → ℕ → ℕ → ℕ → ℕ → ℕ → Option ℕ → Ordered
 row_from bank place source index issued served answered =
     record { bank = bank; place = place; source = source; index = index; issued = issued; served = served; answered = answered }
 
-same_row : (opening : List ℕ) (tiles : ℕ) (run : Run) (n : ℕ) (order : List LinearizationPoint) (k : ℕ) (x : LinearizationPoint) (r s : Ordered) → IsLog opening run n
+same_row : (opening : List ℕ) (tiles : ℕ) (run : Run) (n : ℕ) (order : List LinearizationPoint) (k : ℕ) (x : LinearizationPoint) (r s : Ordered) → OnlyGrows opening run n
     → IsRowOf tiles run n order k x r → IsRowOf tiles run n order k x s → r ≡ s
-same_row opening tiles run n order k x r s log a c =
+same_row opening tiles run n order k x r s growing a c =
     ap (λ b. row_from b r.place r.source r.index r.issued r.served r.answered) (a.bank ∙ sym c.bank)
     ∙ (ap (λ p. row_from s.bank p r.source r.index r.issued r.served r.answered) (a.place ∙ sym c.place)
     ∙ (ap (λ p. row_from s.bank s.place p r.index r.issued r.served r.answered) (a.source ∙ sym c.source)
     ∙ (ap (λ i. row_from s.bank s.place s.source i r.issued r.served r.answered) (a.index ∙ sym c.index)
     ∙ (ap (λ m. row_from s.bank s.place s.source s.index m r.served r.answered) (issue_number_same run x.source x.index r.issued s.issued a.issued c.issued)
     ∙ (ap (λ m. row_from s.bank s.place s.source s.index s.issued m r.answered) (a.served ∙ sym c.served)
-    ∙ ap (row_from s.bank s.place s.source s.index s.issued s.served) (answer_number_same opening run n x.source x.index r.answered s.answered log a.answered c.answered))))))
+    ∙ ap (row_from s.bank s.place s.source s.index s.issued s.served) (answer_number_same opening run n x.source x.index r.answered s.answered growing a.answered c.answered))))))
 
 pub same_rows : (tiles tags : ℕ) (opening : List ℕ) (run : Run) (n : ℕ) (rows others : List Ordered) → HasOneOrder tiles tags opening run n rows → HasOneOrder tiles tags opening run n others → rows ≡ others
 same_rows tiles tags opening run n rows others one two =
@@ -183,4 +183,4 @@ same_rows tiles tags opening run n rows others one two =
     let within = slice_get_within rows k r hr in
     let count = one.numbered.count in
     let x = within_length order k (omega arith) in
-    same_row opening tiles run n order k x.0 r s one.log (one.numbered.each k x.0 r x.1 hr) (are.each k x.0 s x.1 hs))
+    same_row opening tiles run n order k x.0 r s one.grows (one.numbered.each k x.0 r x.1 hr) (are.each k x.0 s x.1 hs))

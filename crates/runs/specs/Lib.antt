@@ -1,6 +1,6 @@
 pub mod Observed
 pub mod Order
-pub mod Log
+pub mod Growth
 pub mod Rows
 pub mod OneOrder
 pub mod Events

@@ -4,7 +4,8 @@ use Rattle.packet.specs.declared.kinds.Operation.{Operation}
 use Rattle.home_bank.specs.declared.entry.Entry.{Entry}
 use Rattle.runs.specs.declared.answer.Answer.{Answer}
 
--- what a machine shows at a moment: the operations that each processor has issued, its answers in the order of answering, each bank's history, and the words by address (this project's own format)
+-- what a machine shows at a moment: the operations that each processor has issued, its answers in the order of
+-- answering, the entries of each bank's services, and the words by address (this project's own format)
 pub record Observed : Type 0 where
   pub issued : List (List Operation)
   pub answers : List (List Answer)
@@ -28,7 +29,7 @@ pub record IsFirst (P : ℕ → Type 0) (t : ℕ) : Type 0 where
 abbrev pub HasIssued : Observed → ℕ → ℕ → Type 0
 HasIssued s p i = i < length (list_at s.issued p)
 
--- bank b has made the service of this place in its history
+-- bank b has made the service of this place
 abbrev pub HasServed : Observed → ℕ → ℕ → Type 0
 HasServed s b place = place < length (list_at s.entries b)
 
@@ -36,11 +37,16 @@ HasServed s b place = place < length (list_at s.entries b)
 abbrev pub HasAnswered : Observed → ℕ → ℕ → Type 0
 HasAnswered s p i = (k : ℕ) × (a : Answer) × (slice_get (list_at s.answers p) k ≡ Some a) × (a.index ≡ i)
 
+-- p's answers hold one that names the service of this place of bank b
+abbrev pub IsTold : Observed → ℕ → ℕ → ℕ → Type 0
+IsTold s p b place =
+    (k : ℕ) × (a : Answer) × (slice_get (list_at s.answers p) k ≡ Some a) × (a.bank ≡ b) × (a.place ≡ place)
+
 -- p's operation i is issued at step t: its invocation (Herlihy and Wing, TOPLAS 12(3), 1990)
 abbrev pub IsIssuedAt : Run → ℕ → ℕ → ℕ → Type 0
 IsIssuedAt run p i t = IsFirst (λ k. HasIssued (run k) p i) t
 
--- the service of this place in bank b's history is made at step t
+-- bank b makes the service of this place at step t
 abbrev pub IsServedAt : Run → ℕ → ℕ → ℕ → Type 0
 IsServedAt run b place t = IsFirst (λ k. HasServed (run k) b place) t
 
@@ -53,7 +59,8 @@ abbrev pub total : {A : Type 0} → List (List A) → ℕ
 total [] = 0
 total (xs ∷ xss) = length xs + total xss
 
--- how many events have happened: issues, services and answers; of the step of an event, this is the event's number (this project's own format)
+-- how many events have happened: issues, services and answers; of the step of an event, this is the event's number
+-- (this project's own format)
 abbrev pub event_count : Observed → ℕ
 event_count s = total s.issued + total s.entries + total s.answers
 
@@ -62,11 +69,14 @@ abbrev pub tabulate : {A : Type 0} → (ℕ → A) → ℕ → List A
 tabulate f zero = []
 tabulate f (suc n) = tabulate f n ++ f n ∷ []
 
--- the first m words by address, of the words of each bank: low-order interleaving puts address a in bank a mod N, as its word a div N (Dally and Towles, Principles and Practices of Interconnection Networks, chapter 3; this project's own format)
+-- the first m words by address, of the words of each bank: low-order interleaving puts address a in bank a mod N,
+-- as its word a div N (Dally and Towles, Principles and Practices of Interconnection Networks, chapter 3; this
+-- project's own format)
 abbrev pub words_by_address : ℕ → ℕ → List (List ℕ) → List ℕ
 words_by_address tiles m banks = tabulate (λ a. slice_index (list_at banks (a % tiles)) (a / tiles)) m
 
--- what is shown is of a machine with so many tiles, tags a processor and words: a list for each processor and each bank, addresses of the memory, tags that a processor has (this project's own format)
+-- what is shown is of a machine with so many tiles, tags a processor and words: a list for each processor and each
+-- bank, addresses of the memory, tags that a processor has (this project's own format)
 pub record IsOfMachine (tiles tags words : ℕ) (s : Observed) : Type 0 where
   pub processors : length s.issued ≡ tiles
   pub answerers : length s.answers ≡ tiles

@@ -3,14 +3,16 @@ use Rattle.std.specs.Prelude.{ℕ, List, length}
 use Rattle.runs.specs.declared.ordered.Ordered.{Ordered}
 use Rattle.runs.specs.Observed.{Run, IsOfMachine}
 use Rattle.runs.specs.Order.{LinearizationPoint, IsLegalOrder, IsServiceOrder}
-use Rattle.runs.specs.Log.{IsLog}
+use Rattle.runs.specs.Growth.{OnlyGrows}
 use Rattle.runs.specs.Rows.{AreRowsOf}
 
--- The first n steps of a run are a log, and their operations that took effect have one order: it is legal, it is that of the services, and the rows are its rows (Herlihy and Wing, TOPLAS 12(3), 1990: the run is linearizable, and the rows tell the linearization).
+-- In the first n steps of a run what is shown only grows, and their operations that took effect have one order: it
+-- is legal, it is that of the services, and the rows are its rows (Herlihy and Wing, TOPLAS 12(3), 1990: the run is
+-- linearizable, and the rows tell the linearization).
 pub record HasOneOrder (tiles tags : ℕ) (opening : List ℕ) (run : Run) (n : ℕ) (rows : List Ordered) : Type 0 where
   pub order : List LinearizationPoint
   pub legal : IsLegalOrder opening run n order
   pub services : IsServiceOrder tiles opening run n order
   pub numbered : AreRowsOf tiles run n order rows
-  pub log : IsLog opening run n
+  pub grows : OnlyGrows opening run n
   pub shown : IsOfMachine tiles tags (length opening) (run n)

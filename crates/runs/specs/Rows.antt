@@ -19,7 +19,8 @@ pub record AreIssueNumbers (run : Run) (n : ℕ) (numbers : List (List ℕ)) : T
   pub count : (p : ℕ) → length (list_at numbers p) ≡ length (list_at (run n).issued p)
   pub each : (p i m : ℕ) → slice_get (list_at numbers p) i ≡ Some m → IsIssueNumber run p i m
 
--- the row of the k-th of the order: its operation, its service, and the numbers of its events (this project's own format)
+-- the row of the k-th of the order: its operation, its service, and the numbers of its events (this project's own
+-- format)
 pub record IsRowOf (tiles : ℕ) (run : Run) (n : ℕ) (order : List LinearizationPoint) (k : ℕ) (x : LinearizationPoint) (row : Ordered) : Type 0 where
   pub source : row.source ≡ x.source
   pub index : row.index ≡ x.index
@@ -35,9 +36,25 @@ pub record AreRowsOf (tiles : ℕ) (run : Run) (n : ℕ) (order : List Lineariza
   pub each : (k : ℕ) (x : LinearizationPoint) (row : Ordered) → slice_get order k ≡ Some x → slice_get rows k ≡ Some row
       → IsRowOf tiles run n order k x row
 
--- for each bank, which row each place of its history has: the rows by bank and place (this project's own format)
+-- for each bank, which row each of its services has: the rows by bank and place (this project's own format)
 pub record ArePositions (s : Observed) (rows : List Ordered) (positions : List (List ℕ)) : Type 0 where
   pub banks : length positions ≡ length s.entries
   pub count : (b : ℕ) → length (list_at positions b) ≡ length (list_at s.entries b)
   pub each : (b place k : ℕ) → slice_get (list_at positions b) place ≡ Some k
       → (row : Ordered) × (slice_get rows k ≡ Some row) × (row.bank ≡ b) × (row.place ≡ place)
+
+-- a row goes on as another: the same service of the same operation, with the numbers that it had; the number of its
+-- answer may have come since (this project's own format)
+pub record GoesOn (row later : Ordered) : Type 0 where
+  pub bank : later.bank ≡ row.bank
+  pub place : later.place ≡ row.place
+  pub source : later.source ≡ row.source
+  pub index : later.index ≡ row.index
+  pub issued : later.issued ≡ row.issued
+  pub served : later.served ≡ row.served
+  pub answered : (m : ℕ) → row.answered ≡ Some m → later.answered ≡ Some m
+
+-- the first rows of a longer run: each stands where it stood, and goes on (this project's own format)
+pub record BeginRows (rows later : List Ordered) : Type 0 where
+  pub each : (k : ℕ) (row : Ordered) → slice_get rows k ≡ Some row
+      → (now : Ordered) × (slice_get later k ≡ Some now) × GoesOn row now

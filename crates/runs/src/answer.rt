@@ -10,6 +10,6 @@ pub struct Answer {
     pub reply: Reply,
     /// The tile of the bank that served it.
     pub bank: u32,
-    /// The number of the service in the bank's history, from 0.
+    /// The number of the service among the bank's, from 0.
     pub place: u32,
 }

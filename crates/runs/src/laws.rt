@@ -1,15 +1,15 @@
 //! Laws of runs and their orders, each the contract of a function that does nothing.
 
-ghost use Rattle.std.specs.Prelude.{◌≡◌, ◌<◌, ℕ, List, Some, length, slice_get};
+ghost use Rattle.std.specs.Prelude.{◌≡◌, ◌<◌, ◌≤◌, ℕ, List, Some, length, slice_get};
 ghost use Rattle.home_bank.specs.declared.entry.Entry.{Entry};
 ghost use Rattle.runs.specs.declared.ordered.Ordered.{Ordered};
 ghost use Rattle.runs.specs.Observed.{Run, event_count, list_at};
 ghost use Rattle.runs.specs.Order.{LinearizationPoint, IsLegalOrder, StandsBefore};
-ghost use Rattle.runs.specs.Log.{IsLog};
-ghost use Rattle.runs.specs.Rows.{AreRowsOf};
+ghost use Rattle.runs.specs.Growth.{OnlyGrows};
+ghost use Rattle.runs.specs.Rows.{AreRowsOf, BeginRows};
 ghost use Rattle.runs.specs.OneOrder.{HasOneOrder};
 ghost use Rattle.runs.specs.Events.{Event, IsHistory, order_after};
-ghost use Rattle.runs.specs.Consequences.{Precedes, AreEventNumbers, NameEntries, AnswersNameEntries, AnswersAreNumbered, EntryStands, ReplaysByBank, ServesInTurn};
+ghost use Rattle.runs.specs.Consequences.{Precedes, AreEventNumbers, NameEntries, AnswersNameEntries, AnswersAreNumbered, EntryStands, ReplaysByBank, ServesInTurn, AnswersInTurn};
 
 /// A run whose steps are issues, services and answers, each where it may happen, has one legal
 /// order, that of its services; and rows that tell it with the numbers of the events.
@@ -30,7 +30,7 @@ pub fn order_is_unique()
 /// An operation that is answered before another is issued comes before it in a legal order.
 pub fn order_respects_real_time()
     ensures order { (opening : List ℕ) (run : Run) (n : ℕ) (order : List LinearizationPoint)
-        → IsLegalOrder opening run n order → IsLog opening run n
+        → IsLegalOrder opening run n order → OnlyGrows opening run n
         → (p i k : ℕ) (y : LinearizationPoint) → slice_get order k ≡ Some y → Precedes run p i y.source y.index
         → StandsBefore order k p i }
     ensures rows { (tiles tags : ℕ) (opening : List ℕ) (run : Run) (n : ℕ) (rows : List Ordered)
@@ -77,4 +77,19 @@ pub fn banks_replay()
 pub fn banks_serve_in_turn()
     ensures { (tiles tags : ℕ) (opening : List ℕ) (run : Run) (n : ℕ) (rows : List Ordered)
         → HasOneOrder tiles tags opening run n rows → (b p : ℕ) → ServesInTurn tiles (run n) b p }
+{}
+
+/// Each bank answers each processor in the order of its services: no reply overtakes an earlier one
+/// of the same bank to the same processor.
+pub fn answers_come_in_turn()
+    ensures { (tiles tags : ℕ) (opening : List ℕ) (run : Run) (n : ℕ) (rows : List Ordered)
+        → HasOneOrder tiles tags opening run n rows → (b p : ℕ) → AnswersInTurn (run n) b p }
+{}
+
+/// The order of a beginning of a run is a beginning of its order: the rows stand where they stood,
+/// with the numbers that they had, and with answers' numbers that have come since.
+pub fn orders_go_on()
+    ensures { (tiles tags : ℕ) (opening : List ℕ) (run : Run) (event : ℕ → Event) (k n : ℕ) (rows later : List Ordered)
+        → k ≤ n → IsHistory tiles tags opening run event n
+        → HasOneOrder tiles tags opening run k rows → HasOneOrder tiles tags opening run n later → BeginRows rows later }
 {}

@@ -5,7 +5,7 @@
 pub struct Ordered {
     /// The tile of the bank that served the operation.
     pub bank: u32,
-    /// The number of the service in the bank's history, from 0.
+    /// The number of the service among the bank's, from 0.
     pub place: u32,
     /// The tile of the processor that issued the operation.
     pub source: u32,

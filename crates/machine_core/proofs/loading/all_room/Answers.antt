@@ -2,8 +2,7 @@ use Rattle.std.proofs.Common.{◌≡◌, ◌≤◌, ◌+◌, arith, take, ap}
 use Rattle.std.specs.Prelude.{sum_by}
 use Rattle.std.proofs.lemmas.List.Sums.{sum_by-take-le}
 use Rattle.script.specs.ScriptViews.{lists_of}
-use Rattle.net_interface.specs.Scripts.{operation_count}
-use Rattle.machine_core.specs.Room.{all_room}
+use Rattle.script.specs.Scripts.{operation_count, total_count}
 use Rattle.machine_core.proofs.LoadingCounts.{lists_more}
 use Rattle.machine_core.proofs.loading.all_room.Given.{Over}
 use Rattle.machine_core.proofs.loading.all_room.Goals as goal
@@ -13,7 +12,7 @@ operation_count-count-requires g c =
     let m = lists_more operation_count c.args.scripts.now c.loop-script.script-index c.script-item.result c.loop-script-test.true c.script-item.is in
     let w = sum_by-take-le operation_count (lists_of c.args.scripts.now) (c.loop-script.script-index + 1) in
     let v = ap operation_count c.as_slice.ensures.value in
-    let few : all_room (lists_of c.args.scripts.now) ≤ 65536 = c.requires in
+    let few : total_count (lists_of c.args.scripts.now) ≤ 65536 = c.requires in
     omega arith
 
 -- the count with one script more is that of one more
@@ -28,7 +27,7 @@ counted g c =
 pub overflow_add-count : goal.overflow_add-count
 overflow_add-count g c =
     let w = sum_by-take-le operation_count (lists_of c.args.scripts.now) (c.loop-script.script-index + 1) in
-    let few : all_room (lists_of c.args.scripts.now) ≤ 65536 = c.requires in
+    let few : total_count (lists_of c.args.scripts.now) ≤ 65536 = c.requires in
     omega (arith, counted g c)
 
 pub loop-script-preserved : goal.loop-script-preserved

@@ -1,7 +1,7 @@
 use Rattle.std.proofs.Common.{◌≡◌, take}
 use Rattle.std.specs.Prelude.{sum_by}
 use Rattle.script.specs.ScriptViews.{lists_of}
-use Rattle.net_interface.specs.Scripts.{operation_count}
+use Rattle.script.specs.Scripts.{operation_count}
 use Rattle.machine_core.proofs.loading.all_room.Given as goal
 
 abbrev pub invariant-loop-script : goal.invariant-loop-script

@@ -2,19 +2,19 @@ use Rattle.std.proofs.Common.{◌≡◌, ◌≤◌, ℕ, arith, length, slice_ge
 use Rattle.std.proofs.lemmas.List.{length-map}
 use Rattle.script.specs.ScriptViews.{lists_of}
 use Rattle.machine_core.specs.declared.rows.BankRow.{BankRow}
-use Rattle.machine_core.specs.Room.{all_room, home_room}
-use Rattle.machine_core.specs.Rows.{bank_of}
-use Rattle.machine_core.specs.Wire.{first_bank}
+use Rattle.machine_core.specs.Room.{home_room}
+use Rattle.script.specs.Scripts.{total_count}
+use Rattle.machine_core.specs.Wire.{bank_of, first_bank}
 use Rattle.machine_core.specs.Loaded.{IsFirstBankRow}
 use Rattle.machine_core.proofs.LoadingCounts.{home_within}
-use Rattle.machine_core.proofs.Places.{length-tabulate}
+use Rattle.runs.proofs.Words.{length-tabulate}
 use Rattle.machine_core.proofs.LoadingRows.{banks_more, each_more}
 use Rattle.machine_core.proofs.loading.bank_rows.Goals as goal
 
 pub bank_row-requires-clause-few : goal.bank_row-requires-clause-few
 bank_row-requires-clause-few g c =
     let v : slice_index_or c.home_rooms-rooms.result c.loop-bank.bank 0 ≡ home_room c.args.tiles c.loop-bank.bank (lists_of c.args.scripts.now) = c.home_rooms-rooms.ensures c.loop-bank.bank c.loop-bank-test.true in
-    let few : all_room (lists_of c.args.scripts.now) ≤ 65536 = c.requires.few in
+    let few : total_count (lists_of c.args.scripts.now) ≤ 65536 = c.requires.few in
     omega (arith, home_within c.args.tiles c.loop-bank.bank (lists_of c.args.scripts.now))
 
 pub loop-bank-preserved : goal.loop-bank-preserved

@@ -1,6 +1,6 @@
 use Rattle.std.proofs.Common.{◌≡◌, ◌+◌, ◌<◌, ℕ, take, slice_index}
 use Rattle.std.specs.Prelude.{sum_by}
-use Rattle.machine_core.specs.Room.{line_home_count}
+use Rattle.net_interface.specs.Homes.{line_home_count}
 use Rattle.machine_core.proofs.loading.count_script.Given as goal
 
 -- each count has risen by that of the lines so far

@@ -3,8 +3,8 @@ use Rattle.std.specs.Prelude.{sum_by}
 use Rattle.std.proofs.lemmas.List.{get_or-replicate}
 use Rattle.std.proofs.lemmas.List.Sums.{sum_by-take-le}
 use Rattle.script.specs.ScriptViews.{lists_of}
-use Rattle.net_interface.specs.Scripts.{operation_count}
-use Rattle.machine_core.specs.Room.{all_room, script_home_count}
+use Rattle.script.specs.Scripts.{operation_count, total_count}
+use Rattle.net_interface.specs.Homes.{script_home_count}
 use Rattle.machine_core.proofs.LoadingCounts.{lists_more, home_within}
 use Rattle.machine_core.proofs.loading.home_rooms.Goals as goal
 
@@ -16,7 +16,7 @@ count_script-requires-clause-few g c = λ b below.
     let m = lists_more operation_count c.args.scripts.now c.loop-script.script-index c.script-item.result c.loop-script-test.true c.script-item.is in
     let w = sum_by-take-le operation_count (lists_of c.args.scripts.now) (c.loop-script.script-index + 1) in
     let v = ap operation_count c.as_slice.ensures.value in
-    let few : all_room (lists_of c.args.scripts.now) ≤ 65536 = c.requires.few in
+    let few : total_count (lists_of c.args.scripts.now) ≤ 65536 = c.requires.few in
     let i : slice_index c.loop-script.rooms b ≡ sum_by (script_home_count c.args.tiles b) (take c.loop-script.script-index (lists_of c.args.scripts.now)) = c.loop-script.invariant b below in
     omega (arith, home_within c.args.tiles b (take c.loop-script.script-index (lists_of c.args.scripts.now)))
 

@@ -1,7 +1,7 @@
 use Rattle.std.proofs.Common.{◌≡◌, ◌<◌, ℕ, take, slice_index}
 use Rattle.std.specs.Prelude.{sum_by}
 use Rattle.script.specs.ScriptViews.{lists_of}
-use Rattle.machine_core.specs.Room.{script_home_count}
+use Rattle.net_interface.specs.Homes.{script_home_count}
 use Rattle.machine_core.proofs.loading.home_rooms.Given as goal
 
 -- each count is that of the scripts so far

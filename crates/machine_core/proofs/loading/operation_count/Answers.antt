@@ -1,11 +1,10 @@
-use Rattle.std.proofs.Common.{◌≡◌, ◌≤◌, ◌+◌, List, arith, take, sym, ◌∙◌, ap}
+use Rattle.std.proofs.Common.{◌≡◌, ◌≤◌, ◌+◌, List, arith, take, ◌∙◌, ap}
 use Rattle.std.specs.Prelude.{sum_by}
 use Rattle.std.proofs.lemmas.List.{take_all}
 use Rattle.script.specs.declared.line.Line.{Line}
 use Rattle.script.specs.declared.line.Line.TheVariants.{Load}
-use Rattle.script.specs.Scripts.{operations_of}
-use Rattle.net_interface.specs.Scripts.{operation_count}
-use Rattle.machine_core.proofs.LoadingCounts.{count_more, count_within, count_is_sum}
+use Rattle.script.specs.Scripts.{operations_of, operation_count}
+use Rattle.machine_core.proofs.LoadingCounts.{count_more, count_within}
 use Rattle.machine_core.proofs.loading.operation_count.Goals as goal
 
 pub overflow_add-count : goal.overflow_add-count
@@ -18,6 +17,4 @@ overflow_add-count c =
 
 pub returns : goal.returns
 returns c =
-    c.loop-line.invariant
-    ∙ (ap (λ (ls : List Line). sum_by operations_of ls) (take_all c.loop-line.line-index c.args.lines.now c.loop-line-test.false)
-    ∙ sym (count_is_sum c.args.lines.now))
+    c.loop-line.invariant ∙ ap (λ (ls : List Line). sum_by operations_of ls) (take_all c.loop-line.line-index c.args.lines.now c.loop-line-test.false)

@@ -1,9 +1,9 @@
-use Rattle.std.proofs.Common.{◌≡◌, arith, ◌≤◌, ◌++◌, ◌∷◌, [], ℕ, List, length, map, slice_get, sym, ◌∙◌, ap}
+use Rattle.std.proofs.Common.{◌≡◌, arith, ◌≤◌, ◌++◌, ◌∷◌, [], ℕ, List, length, map, slice_get, sym, ◌∙◌, ap, append_assoc}
 use Rattle.std.specs.Vec.Iter.{into_iter_items, into_iter_len}
-use Rattle.std.proofs.Common.{append_assoc}
 use Rattle.script.specs.declared.lists.LineList.{LineList}
 use Rattle.script.specs.ScriptViews.{lists_of}
-use Rattle.net_interface.specs.Scripts.{operation_count, IsAcceptedScript}
+use Rattle.net_interface.specs.Scripts.{IsFollowable}
+use Rattle.script.specs.Scripts.{operation_count}
 use Rattle.machine_core.specs.declared.rows.ProcessorRow.{ProcessorRow}
 use Rattle.machine_core.specs.Wire.{first_processor}
 use Rattle.machine_core.proofs.LoadingRows.{next_lines, none_left, all_taken, lists_push, processors_more, as_many, room_more, each_more}
@@ -11,7 +11,7 @@ use Rattle.machine_core.proofs.loading.processor_rows.Given.{Over}
 use Rattle.machine_core.proofs.loading.processor_rows.Goals as goal
 
 -- the script that comes next is accepted
-accepted : (g : Over) (c : goal.After-rows-1 g) → IsAcceptedScript c.in-Some.script.lines.items × (operation_count c.in-Some.script.lines.items ≤ 4096)
+accepted : (g : Over) (c : goal.After-rows-1 g) → IsFollowable c.in-Some.script.lines.items × (operation_count c.in-Some.script.lines.items ≤ 4096)
 accepted g c =
     c.requires.accepted (length c.loop-script.yielded) c.in-Some.script.lines.items
     (next_lines c.args.scripts.items c.loop-script.yielded (into_iter_items c.loop-script.script-iterator) (into_iter_items c.next.new.self) c.in-Some.script

@@ -2,7 +2,7 @@ use Rattle.std.proofs.Common.{◌≡◌, ℕ, List, [], ◌++◌, length, map, S
 use Rattle.std.specs.Vec.Iter.{into_iter_items, into_iter_len}
 use Rattle.script.specs.declared.line.Line.{Line}
 use Rattle.script.specs.ScriptViews.{lists_of}
-use Rattle.net_interface.specs.Scripts.{operation_count}
+use Rattle.script.specs.Scripts.{operation_count}
 use Rattle.machine_core.specs.declared.rows.ProcessorRow.{ProcessorRow}
 use Rattle.machine_core.specs.Wire.{first_processor}
 use Rattle.machine_core.specs.Rows.{processor_of, HasProcessorRoom}

@@ -1,5 +1,6 @@
 use Rattle.std.proofs.Common.{Some, None, sym, ◌∙◌, ap, arith}
-use Rattle.machine_core.proofs.Kept.{entries_there, vec_at, vec_past}
+use Rattle.machine_core.proofs.Kept.{vec_at}
+use Rattle.machine_core.proofs.Attempts.{entries_there, vec_past}
 use Rattle.machine_core.proofs.machine.Machine.bank.Goals as goal
 
 pub returns-then-at-len : goal.returns-then-at-len

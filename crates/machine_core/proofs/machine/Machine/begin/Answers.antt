@@ -2,14 +2,16 @@ use Rattle.std.proofs.Common.{List, refl, ap}
 use Rattle.torus.specs.Shape.{tiles_of}
 use Rattle.script.specs.declared.lists.LineList.{LineList}
 use Rattle.script.specs.ScriptViews.{lists_of}
+use Rattle.machine_core.proofs.LoadingAccepted.{followable}
 use Rattle.machine_core.proofs.Begins.{Begun, is_machine, is_after_none, banks_as, each_as, room_as}
 use Rattle.machine_core.proofs.ScriptLawsHold.{script_laws}
 use Rattle.machine_core.proofs.machine.Machine.begin.Given.{Over}
 use Rattle.machine_core.proofs.machine.Machine.begin.Goals as goal
 
-begun : (g : Over) (c : goal.In_ok-processors g) → Begun (record { shape = c.args.torus; tags = c.args.tags; opening = c.args.opening.items; scripts = lists_of c.args.lists.items })
+begun : (g : Over) (c : goal.In_ok-processors g) → Begun (record { shape = c.args.torus; depth = c.args.depth; tags = c.args.tags; opening = c.args.opening.items; scripts = lists_of c.args.lists.items })
     (record {
       torus = c.args.torus;
+      depth = c.args.depth;
       tags = c.args.tags;
       opening = c.args.opening;
       processors = c.in_ok-processors.processors;
@@ -24,6 +26,7 @@ begun g c =
     let lists_3 = ap (λ (xs : List (LineList _)). lists_of xs) c.as_slice-3.ensures.value in
     record {
       shape = refl;
+      depth = refl;
       tags = refl;
       opening = refl;
       processors = c.in_ok-processors.ensures.rows;
@@ -42,7 +45,11 @@ begun g c =
     }
 
 pub invariant_of-result : goal.invariant_of-result
-invariant_of-result g c = is_machine script_laws (record { shape = c.args.torus; tags = c.args.tags; opening = c.args.opening.items; scripts = lists_of c.args.lists.items }) _ c.requires (begun g c)
+invariant_of-result g c = is_machine script_laws (record { shape = c.args.torus; depth = c.args.depth; tags = c.args.tags; opening = c.args.opening.items; scripts = lists_of c.args.lists.items }) _ c.requires (begun g c)
 
 pub returns : goal.returns
-returns g c = is_after_none script_laws (record { shape = c.args.torus; tags = c.args.tags; opening = c.args.opening.items; scripts = lists_of c.args.lists.items }) _ c.requires (begun g c)
+returns g c = is_after_none script_laws (record { shape = c.args.torus; depth = c.args.depth; tags = c.args.tags; opening = c.args.opening.items; scripts = lists_of c.args.lists.items }) _ c.requires (begun g c)
+
+pub processor_rows-requires-clause-accepted : goal.processor_rows-requires-clause-accepted
+processor_rows-requires-clause-accepted g c =
+    followable (record { shape = c.args.torus; depth = c.args.depth; tags = c.args.tags; opening = c.args.opening.items; scripts = lists_of c.args.lists.items }) c.requires

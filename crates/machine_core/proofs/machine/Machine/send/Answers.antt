@@ -2,7 +2,8 @@ use Rattle.std.proofs.Common.{◌+◌, ◌∷◌, [], ◌++◌, refl, sym, ◌�
 use Rattle.machine_core.specs.Wire.{Sends}
 use Rattle.machine_core.specs.Rows.{processor_of}
 use Rattle.machine_core.specs.Inside.{state_of}
-use Rattle.machine_core.proofs.Kept.{map_at, Made, with_sent, sent, sends_is, steps_of}
+use Rattle.machine_core.proofs.Kept.{map_at, Made, with_sent, sent, sends_is}
+use Rattle.machine_core.proofs.Attempts.{steps_of}
 use Rattle.machine_core.proofs.Moving.{send_here, send_fits, number_fits}
 use Rattle.machine_core.proofs.ScriptLawsHold.{script_laws}
 use Rattle.machine_core.proofs.machine.Machine.send.Given.{Over}

@@ -1,11 +1,12 @@
 use Rattle.std.proofs.Common.{◌+◌, ◌==◌, ◌∷◌, [], ◌++◌, refl, sym, ◌∙◌, ap, arith}
+use Rattle.torus.specs.Shape.{tiles_of}
 use Rattle.packet.specs.declared.kinds.Request.{Request}
 use Rattle.packet.specs.declared.kinds.Response.{Response}
 use Rattle.machine_core.specs.declared.rows.BankRow.{BankRow}
-use Rattle.machine_core.specs.Wire.{Serves}
-use Rattle.machine_core.specs.Rows.{bank_of}
+use Rattle.machine_core.specs.Wire.{Serves, bank_of}
 use Rattle.machine_core.specs.Inside.{state_of}
-use Rattle.machine_core.proofs.Kept.{map_at, vec_at, Made, with_served, served, serves_is, serves_none, steps_of, idle_steps}
+use Rattle.machine_core.proofs.Kept.{map_at, vec_at, Made, with_served, served, serves_is}
+use Rattle.machine_core.proofs.Attempts.{serves_none, steps_of, idle_steps}
 use Rattle.machine_core.proofs.Moving.{serve_here, serve_source, asked_here, found_in, none_in, row_is, response_is, number_fits}
 use Rattle.machine_core.proofs.ScriptLawsHold.{script_laws}
 use Rattle.machine_core.proofs.machine.Machine.serve.Given.{Over}
@@ -72,7 +73,7 @@ made g c =
     c.serve_row-response.ensures.bank
     (c.serve_row-response.ensures.positions ∙ ap (λ n. c.index_mut.result.now.positions.items ++ n ∷ []) c.len-position.ensures) c.serve_row-response.ensures.capacity
     c.take_out.ensures.items c.take_out.ensures.capacity
-    (c.serve_row-response.ensures.response ∙ response_is c.index_mut.result.now.bank c.in-Some.request fits.asked.here)
+    (c.serve_row-response.ensures.response ∙ response_is (tiles_of c.self.inside.torus) c.index_mut.result.now.bank c.in-Some.request fits.asked.here)
     c.push_within.ensures.items c.push_within.ensures.capacity
     (row_is c.self.inside c.args.tile c.serve_row-response.result.place c.in-Some.request c.index_mut.result.now c.index-source.result.now c.holder-index.result c.index-issued.result.now (c.self.inside.events + 1)
     source c.holder-index.ensures (omega (arith, holder, c.holder-index.ensures)) c.index-issued.ensures refl

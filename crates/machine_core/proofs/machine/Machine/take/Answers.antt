@@ -3,7 +3,8 @@ use Rattle.packet.specs.declared.kinds.Response.{Response}
 use Rattle.machine_core.specs.Wire.{Takes}
 use Rattle.machine_core.specs.Rows.{processor_of}
 use Rattle.machine_core.specs.Inside.{state_of}
-use Rattle.machine_core.proofs.Kept.{map_at, vec_at, Made, with_taken, taken, takes_is, takes_none, steps_of, idle_steps}
+use Rattle.machine_core.proofs.Kept.{map_at, vec_at, Made, with_taken, taken, takes_is}
+use Rattle.machine_core.proofs.Attempts.{takes_none, steps_of, idle_steps}
 use Rattle.machine_core.proofs.Moving.{take_here, take_source, found_in, none_in, number_fits}
 use Rattle.machine_core.proofs.ScriptLawsHold.{script_laws}
 use Rattle.machine_core.proofs.machine.Machine.take.Given.{Over}

@@ -18,11 +18,11 @@ use Rattle.runs.proofs.History.{shorter, account}
 use Rattle.runs.proofs.Numbers.{count_next, count_none, size}
 use Rattle.runs.proofs.Naming.{one_point}
 use Rattle.runs.proofs.OrderRows.{rows_none, rows_nothing, rows_issued, rows_served, rows_answered, issue_numbers_issued, issue_numbers_kept, issue_numbers_none}
-use Rattle.machine_core.specs.Ledger.{Ledger, noted_issue, noted_service, noted_answer, new_row, row_at, no_row, answered_row}
-use Rattle.machine_core.specs.Core.{first_ledger}
+use Rattle.machine_core.specs.EventBook.{EventBook, noted_issue, noted_service, noted_answer, new_row, row_at, no_row, answered_row}
+use Rattle.machine_core.specs.Core.{first_book}
 
 -- the book says of the first n steps of a run what happened in them: the count of events, the numbers of the issues, and where the row of each service stands (this project's own format)
-pub record IsLedgerOf (run : Run) (n : ℕ) (l : Ledger) : Type 0 where
+pub record IsBookOf (run : Run) (n : ℕ) (l : EventBook) : Type 0 where
   pub events : l.events ≡ event_count (run n)
   pub issues : AreIssueNumbers run n l.issues
   pub banks : length l.positions ≡ length (run n).entries
@@ -31,11 +31,11 @@ pub record IsLedgerOf (run : Run) (n : ℕ) (l : Ledger) : Type 0 where
       (row : Ordered) × (slice_get l.rows k ≡ Some row) × (row.bank ≡ b) × (row.place ≡ place)
 
 -- the rows and the book, after n steps
-pub record Kept (tiles : ℕ) (run : Run) (event : ℕ → Event) (n : ℕ) (l : Ledger) : Type 0 where
+pub record Kept (tiles : ℕ) (run : Run) (event : ℕ → Event) (n : ℕ) (l : EventBook) : Type 0 where
   pub rows : AreRowsOf tiles run n (order_after event n) l.rows
-  pub book : IsLedgerOf run n l
+  pub book : IsBookOf run n l
 
-pub kept_nothing : (tiles tags : ℕ) (opening : List ℕ) (run : Run) (event : ℕ → Event) (n : ℕ) (l : Ledger) → IsHistory tiles tags opening run event (suc n)
+pub kept_nothing : (tiles tags : ℕ) (opening : List ℕ) (run : Run) (event : ℕ → Event) (n : ℕ) (l : EventBook) → IsHistory tiles tags opening run event (suc n)
     → event n ≡ Nothing → Kept tiles run event n l → Kept tiles run event (suc n) l
 kept_nothing tiles tags opening run event n l h is k =
     let next : run (suc n) ≡ run n = h.each n (omega arith) ∙ ap (happens tiles (run n)) is in
@@ -50,7 +50,7 @@ kept_nothing tiles tags opening run event n l h is k =
       };
     }
 
-counted : (tiles tags : ℕ) (opening : List ℕ) (run : Run) (event : ℕ → Event) (n : ℕ) (l : Ledger) (e : Event) → IsHistory tiles tags opening run event (suc n)
+counted : (tiles tags : ℕ) (opening : List ℕ) (run : Run) (event : ℕ → Event) (n : ℕ) (l : EventBook) (e : Event) → IsHistory tiles tags opening run event (suc n)
     → event n ≡ e → size e ≡ 1 → Kept tiles run event n l → l.events + 1 ≡ event_count (run (suc n))
 counted tiles tags opening run event n l e h is one k =
     let c = count_next tiles tags opening run event n h in
@@ -58,7 +58,7 @@ counted tiles tags opening run event n l e h is one k =
     let old = k.book.events in
     omega arith
 
-pub kept_issued : (tiles tags : ℕ) (opening : List ℕ) (run : Run) (event : ℕ → Event) (n : ℕ) (l : Ledger) (p : ℕ) (o : Operation) → IsHistory tiles tags opening run event (suc n)
+pub kept_issued : (tiles tags : ℕ) (opening : List ℕ) (run : Run) (event : ℕ → Event) (n : ℕ) (l : EventBook) (p : ℕ) (o : Operation) → IsHistory tiles tags opening run event (suc n)
     → event n ≡ Issued p o → Kept tiles run event n l → Kept tiles run event (suc n) (noted_issue p l)
 kept_issued tiles tags opening run event n l p o h is k =
     let next : run (suc n) ≡ happens tiles (run n) (Issued p o) = h.each n (omega arith) ∙ ap (happens tiles (run n)) is in
@@ -74,7 +74,7 @@ kept_issued tiles tags opening run event n l p o h is k =
       };
     }
 
-pub kept_served : (tiles tags : ℕ) (opening : List ℕ) (run : Run) (event : ℕ → Event) (n : ℕ) (l : Ledger) (p i : ℕ) (tag : Tag) (o : Operation) → IsHistory tiles tags opening run event (suc n)
+pub kept_served : (tiles tags : ℕ) (opening : List ℕ) (run : Run) (event : ℕ → Event) (n : ℕ) (l : EventBook) (p i : ℕ) (tag : Tag) (o : Operation) → IsHistory tiles tags opening run event (suc n)
     → event n ≡ Served p i tag o → Kept tiles run event n l → Kept tiles run event (suc n) (noted_service (home tiles o) p i l)
 kept_served tiles tags opening run event n l p i tag o h is k =
     let b : ℕ = home tiles o in
@@ -109,7 +109,7 @@ kept_served tiles tags opening run event n l p i tag o h is k =
       };
     }
 
-pub kept_answered : (tiles tags : ℕ) (opening : List ℕ) (run : Run) (event : ℕ → Event) (n : ℕ) (l : Ledger) (p : ℕ) (a : Answer) → IsHistory tiles tags opening run event (suc n)
+pub kept_answered : (tiles tags : ℕ) (opening : List ℕ) (run : Run) (event : ℕ → Event) (n : ℕ) (l : EventBook) (p : ℕ) (a : Answer) → IsHistory tiles tags opening run event (suc n)
     → event n ≡ Answered p a → Kept tiles run event n l → Kept tiles run event (suc n) (noted_answer a.bank a.place l)
 kept_answered tiles tags opening run event n l p a h is k =
     let s : Observed = run n in
@@ -119,7 +119,7 @@ kept_answered tiles tags opening run event n l p a h is k =
     let next : run (suc n) ≡ happens tiles s (Answered p a) = h.each n (omega arith) ∙ ap (happens tiles s) is in
     let count = counted tiles tags opening run event n l (Answered p a) h is refl k in
     let tells = may.tells in
-    -- the service stands in the bank's history
+    -- the service stands in the bank's list
     let entry = acc.entries tells.k tells.point tells.there in
     let place_is : count_at tiles (home tiles tells.point.operation) (take tells.k order) ≡ a.place = sym (tells.place ∙ ap (λ c. count_at tiles c (take tells.k order)) tells.bank) in
     let in_entries : a.place < length (list_at s.entries a.bank) =
@@ -169,7 +169,7 @@ kept_answered tiles tags opening run event n l p a h is k =
     }
 
 -- before the first step the book is empty
-pub kept_none : (tiles tags : ℕ) (opening : List ℕ) (run : Run) (event : ℕ → Event) → IsHistory tiles tags opening run event 0 → Kept tiles run event 0 (first_ledger tiles)
+pub kept_none : (tiles tags : ℕ) (opening : List ℕ) (run : Run) (event : ℕ → Event) → IsHistory tiles tags opening run event 0 → Kept tiles run event 0 (first_book tiles)
 kept_none tiles tags opening run event h = record {
   rows = rows_none tiles run event;
   book = record {

@@ -1,22 +1,24 @@
--- The book that a machine keeps of its events.
+-- The book of events that a machine keeps.
 use Rattle.std.specs.Prelude.{ℕ, ◌+◌, List, [], ◌∷◌, ◌++◌, Some, None, length, slice_index, slice_index_or, slice_set}
 use Rattle.runs.specs.declared.ordered.Ordered.{Ordered}
 use Rattle.runs.specs.Events.{push_at}
 use Rattle.runs.specs.Observed.{list_at}
 
--- how many events have happened; of each processor's operations, the number of the issue; of each bank's services, where its row stands; and the rows of the order
-pub record Ledger : Type 0 where
+-- how many events have happened; of each processor's operations, the number of the issue; of each bank's services,
+-- where its row stands; and the rows of the order
+pub record EventBook : Type 0 where
   pub events : ℕ
   pub issues : List (List ℕ)
   pub positions : List (List ℕ)
   pub rows : List Ordered
 
 -- the book after an issue of processor p
-abbrev pub noted_issue : ℕ → Ledger → Ledger
-noted_issue p l = record { events = l.events + 1; issues = push_at l.issues p (l.events + 1); positions = l.positions; rows = l.rows }
+abbrev pub noted_issue : ℕ → EventBook → EventBook
+noted_issue p l =
+    record { events = l.events + 1; issues = push_at l.issues p (l.events + 1); positions = l.positions; rows = l.rows }
 
 -- the row of a service of bank b, of operation i of processor p
-abbrev pub new_row : ℕ → ℕ → ℕ → Ledger → Ordered
+abbrev pub new_row : ℕ → ℕ → ℕ → EventBook → Ordered
 new_row b p i l = record {
   bank = b;
   place = length (list_at l.positions b);
@@ -28,7 +30,7 @@ new_row b p i l = record {
 }
 
 -- the book after that service
-abbrev pub noted_service : ℕ → ℕ → ℕ → Ledger → Ledger
+abbrev pub noted_service : ℕ → ℕ → ℕ → EventBook → EventBook
 noted_service b p i l = record {
   events = l.events + 1;
   issues = l.issues;
@@ -37,7 +39,7 @@ noted_service b p i l = record {
 }
 
 -- the row of the service of a place of bank b
-abbrev pub row_at : ℕ → ℕ → Ledger → ℕ
+abbrev pub row_at : ℕ → ℕ → EventBook → ℕ
 row_at b place l = slice_index (list_at l.positions b) place
 
 abbrev pub no_row : Ordered
@@ -45,10 +47,18 @@ no_row = record { bank = 0; place = 0; source = 0; index = 0; issued = 0; served
 
 -- a row with the number of its answer
 abbrev pub answered_row : Ordered → ℕ → Ordered
-answered_row row m = record { bank = row.bank; place = row.place; source = row.source; index = row.index; issued = row.issued; served = row.served; answered = Some m }
+answered_row row m = record {
+  bank = row.bank;
+  place = row.place;
+  source = row.source;
+  index = row.index;
+  issued = row.issued;
+  served = row.served;
+  answered = Some m;
+}
 
 -- the book after an answer that names the service of a place of bank b
-abbrev pub noted_answer : ℕ → ℕ → Ledger → Ledger
+abbrev pub noted_answer : ℕ → ℕ → EventBook → EventBook
 noted_answer b place l = record {
   events = l.events + 1;
   issues = l.issues;
