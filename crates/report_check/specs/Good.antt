@@ -73,7 +73,7 @@ pub record AllowedEntry (s : Seen) (e : EntryLine) : Type 0 where
   pub reply : e.reply ≡ reply_of_one (operation_of e) s.memory
 
 -- the answer is that of an entry that has none yet
-pub record NamesEntry (s : Seen) (a : AnswerLine) : Type 0 where
+pub record NamesUnansweredEntry (s : Seen) (a : AnswerLine) : Type 0 where
   pub entry : EntryLine
   pub there : slice_get (entries_at s.entries a.bank) a.place ≡ Some entry
   pub source : entry.source ≡ a.processor
@@ -85,7 +85,7 @@ pub record AllowedAnswer (s : Seen) (a : AnswerLine) : Type 0 where
   pub section : BehindEntries s 5
   pub index : a.index < 4096
   pub rises : above_last (map key_of s.answers) ≤ key_of a
-  pub names : NamesEntry s a
+  pub names : NamesUnansweredEntry s a
 
 -- each word from the last one told on, below an address, is 0
 abbrev pub ToldBelow : List ℕ → List ℕ → ℕ → Type 0

@@ -9,7 +9,7 @@ use std::alloc::{Allocator, Global};
 pub const EVENTS: u32 = 196608;
 
 /// What is kept of an entry.
-#[derive(Clone, Copy, Debug, PartialEq, Eq)]
+#[derive(Clone, Copy)]
 pub struct Served {
     pub source: u32,
     pub reply: Reply,

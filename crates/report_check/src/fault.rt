@@ -2,19 +2,29 @@ ghost use Rattle.std.specs.Prelude.{◌≡◌};
 ghost use Rattle.report_check.specs.declared.fault.CheckFault.TheVariants.{Memory};
 
 use std::alloc::AllocError;
-use thiserror::Error;
+use std::error::Error;
+use std::fmt::{self, Display};
 
 /// Why a report is not said to be good.
-#[derive(Clone, Copy, Debug, PartialEq, Eq, Error)]
+#[derive(Clone, Copy, Debug, PartialEq, Eq)]
 pub enum CheckFault {
     /// The first line, counted from 1, that breaks a rule given the lines before it, or where
     /// another line had to come.
-    #[error("bad report at line {line}")]
     BadReport { line: u64 },
     /// A request for memory was refused.
-    #[error("out of memory")]
     Memory,
 }
+
+impl Display for CheckFault {
+    fn fmt<W: fmt::Write>(&self, f: &mut fmt::Formatter<W>) -> fmt::Result {
+        match self {
+            Self::BadReport { line } => write!(f, "bad report at line {line}"),
+            Self::Memory => f.write_str("out of memory"),
+        }
+    }
+}
+
+impl Error for CheckFault {}
 
 impl From<AllocError> for CheckFault {
     ghost from_gives = { λ _ e. e ≡ Memory };

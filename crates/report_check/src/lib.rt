@@ -12,6 +12,3 @@ mod taking;
 
 pub use check::check_report;
 pub use fault::CheckFault;
-
-#[cfg(test)]
-mod tests;

@@ -4,7 +4,7 @@ ghost use Rattle.std.specs.Prelude.{◌≡◌, ◌≢◌, ℕ, ◌↔◌, ◌+�
 ghost use Rattle.std.specs.List.{list_any};
 ghost use Rattle.report_lines.specs.Contents.{is_newer};
 ghost use Rattle.report_check.specs.Seen.{Seen, events_in, key_of as key};
-ghost use Rattle.report_check.specs.Good.{HasNewEvents, IsHome, IsNewEvent, IsNext, NamesEntry, OrdersNext};
+ghost use Rattle.report_check.specs.Good.{HasNewEvents, IsHome, IsNewEvent, IsNext, NamesUnansweredEntry, OrdersNext};
 ghost use Rattle.report_check.specs.Shows.{Shows, Checks, bank_of, marked};
 
 use crate::checker::{Checker, EVENTS, Served};
@@ -81,7 +81,7 @@ impl<A: Allocator> Checker<A> {
 
     /// Whether the answer names an entry that has none yet.
     fn names_entry(&self, answer: &AnswerLine) -> bool
-        ensures named { (s : Seen) → Shows s self.now → IsTrue result ↔ NamesEntry s answer.now }
+        ensures named { (s : Seen) → Shows s self.now → IsTrue result ↔ NamesUnansweredEntry s answer.now }
         ensures inside { IsTrue result → answer.now.place < length (bank_of self.now.banks.items answer.now.bank) }
     {
         match self.kept_at(answer.bank, answer.place) {

@@ -4,7 +4,7 @@ use Rattle.std.specs.List.{AllByRecursion, enumerate_from, range_with_len}
 use Rattle.std.specs.Option.{option_to_list}
 use Rattle.std.proofs.lemmas.Bool.{cases_eq, eq-eqb, ne_eqb}
 use Rattle.std.proofs.lemmas.List.{map-append}
-use Rattle.report_lines.specs.Contents.{answer_line, answer_of, by_index, index_count}
+use Rattle.report_lines.specs.Contents.{answer_line, answer_row_of, by_index, index_count}
 use Rattle.report_lines.specs.declared.parts.AnswerRow.{AnswerRow}
 use Rattle.report_lines.specs.declared.line.AnswerLine.{AnswerLine}
 use Rattle.report_lines.specs.declared.line.ReportLine.{ReportLine}
@@ -22,7 +22,7 @@ answer_list p (ans ∷ ass) = map (answer_at p) (by_index ans) ++ answer_list (p
 
 -- the answers of so many indexes from an index on
 abbrev pub indexed : List AnswerRow → ℕ → ℕ → List AnswerRow
-indexed ans i n = flat_map (λ k. option_to_list (answer_of ans k)) (range_with_len i n)
+indexed ans i n = flat_map (λ k. option_to_list (answer_row_of ans k)) (range_with_len i n)
 
 lines_of_one : (p : ℕ) (ans : List AnswerRow) → map (answer_line p) ans ≡ map Answer (map (answer_at p) ans)
 lines_of_one p [] = refl
@@ -36,35 +36,35 @@ answer_lines_are p (ans ∷ ass) =
     ∙ sym (map-append Answer (map (answer_at p) (by_index ans)) (answer_list (p + 1) ass))
 
 -- the answer that is found of an index is there, and is of it
-pub found_there : (ans : List AnswerRow) (i : ℕ) (a : AnswerRow) → answer_of ans i ≡ Some a → (k : ℕ) × (slice_get ans k ≡ Some a) × (a.index ≡ i)
+pub found_there : (ans : List AnswerRow) (i : ℕ) (a : AnswerRow) → answer_row_of ans i ≡ Some a → (k : ℕ) × (slice_get ans k ≡ Some a) × (a.index ≡ i)
 found_there [] i a found = absurd (cc)
 found_there (x ∷ ans) i a found =
     ⊎_elim
     (λ (same : x.index ≡ i).
     let test : (x.index == i) ≡ true = eq-eqb x.index i same in
-    let is : Some x ≡ Some a = sym (ap (λ b. cond b (Some x) (answer_of ans i)) test) ∙ found in
+    let is : Some x ≡ Some a = sym (ap (λ b. cond b (Some x) (answer_row_of ans i)) test) ∙ found in
     let here : x ≡ a = cc in
     (0, is, sym (ap (λ (y : AnswerRow). y.index) here) ∙ same))
     (λ other.
     let test : (x.index == i) ≡ false = ne_eqb x.index i other in
-    let is : answer_of ans i ≡ Some a = sym (ap (λ b. cond b (Some x) (answer_of ans i)) test) ∙ found in
+    let is : answer_row_of ans i ≡ Some a = sym (ap (λ b. cond b (Some x) (answer_row_of ans i)) test) ∙ found in
     let more = found_there ans i a is in
     (suc more.0, more.1, more.2))
     (cases_eq x.index i)
 
 -- of an index that is there an answer is found
-pub there_found : (ans : List AnswerRow) (k : ℕ) (a : AnswerRow) → slice_get ans k ≡ Some a → (c : AnswerRow) × (answer_of ans a.index ≡ Some c)
+pub there_found : (ans : List AnswerRow) (k : ℕ) (a : AnswerRow) → slice_get ans k ≡ Some a → (c : AnswerRow) × (answer_row_of ans a.index ≡ Some c)
 there_found [] k a there = absurd (cc)
 there_found (x ∷ ans) zero a there =
     let same : x ≡ a = cc in
-    (x, ap (λ b. cond b (Some x) (answer_of ans a.index)) (eq-eqb x.index a.index (ap (λ (y : AnswerRow). y.index) same)))
+    (x, ap (λ b. cond b (Some x) (answer_row_of ans a.index)) (eq-eqb x.index a.index (ap (λ (y : AnswerRow). y.index) same)))
 there_found (x ∷ ans) (suc k) a there =
     ⊎_elim
-    (λ (same : x.index ≡ a.index). (x, ap (λ b. cond b (Some x) (answer_of ans a.index)) (eq-eqb x.index a.index same)))
+    (λ (same : x.index ≡ a.index). (x, ap (λ b. cond b (Some x) (answer_row_of ans a.index)) (eq-eqb x.index a.index same)))
     (λ other.
     let test : (x.index == a.index) ≡ false = ne_eqb x.index a.index other in
     let more = there_found ans k a there in
-    (more.0, ap (λ b. cond b (Some x) (answer_of ans a.index)) test ∙ more.1))
+    (more.0, ap (λ b. cond b (Some x) (answer_row_of ans a.index)) test ∙ more.1))
     (cases_eq x.index a.index)
 
 -- what holds of each row holds of its line
@@ -75,9 +75,9 @@ all_option P p (Some a) each = (each a refl, tt)
 all_indexed : (P : AnswerLine → Type 0) (p i n : ℕ) (ans : List AnswerRow) → ((k : ℕ) (a : AnswerRow) → slice_get ans k ≡ Some a → P (answer_at p a)) → AllByRecursion P (map (answer_at p) (indexed ans i n))
 all_indexed P p i zero ans each = tt
 all_indexed P p i (suc n) ans each =
-    subst (AllByRecursion P) (sym (map-append (answer_at p) (option_to_list (answer_of ans i)) (indexed ans (i + 1) n)))
-    (both_all P (map (answer_at p) (option_to_list (answer_of ans i))) (map (answer_at p) (indexed ans (i + 1) n))
-    (all_option P p (answer_of ans i) (λ a found. let t = found_there ans i a found in each t.0 a t.1))
+    subst (AllByRecursion P) (sym (map-append (answer_at p) (option_to_list (answer_row_of ans i)) (indexed ans (i + 1) n)))
+    (both_all P (map (answer_at p) (option_to_list (answer_row_of ans i))) (map (answer_at p) (indexed ans (i + 1) n))
+    (all_option P p (answer_row_of ans i) (λ a found. let t = found_there ans i a found in each t.0 a t.1))
     (all_indexed P p (i + 1) n ans each))
 
 pub all_answers : (P : AnswerLine → Type 0) (p : ℕ) (ass : List (List AnswerRow)) → ((q i k : ℕ) (a : AnswerRow) → slice_get (rows_at ass i) k ≡ Some a → P (answer_at q a)) → AllByRecursion P (answer_list p ass)

@@ -4,7 +4,7 @@ use Rattle.std.specs.List.{AllByRecursion}
 use Rattle.std.specs.Option.{option_to_list}
 use Rattle.std.proofs.lemmas.Bool.{cases_eq, eq-eqb, ne_eqb}
 use Rattle.std.proofs.lemmas.List.{map-append}
-use Rattle.report_lines.specs.Contents.{answer_of, index_count}
+use Rattle.report_lines.specs.Contents.{answer_row_of, index_count}
 use Rattle.report_lines.specs.declared.parts.EntryRow.{EntryRow}
 use Rattle.report_lines.specs.declared.parts.AnswerRow.{AnswerRow}
 use Rattle.report_lines.specs.declared.line.EntryLine.{EntryLine}
@@ -106,12 +106,12 @@ processor_next : (entries : List (List EntryRow)) (answers : List (List AnswerRo
 processor_next entries answers are p i zero ans done rest same d on =
     on done (done_below answers (4096 * p + i) (4096 * p + (i + 0)) done (omega arith) d)
 processor_next entries answers are p i (suc n) ans done rest same d on =
-    let first : List AnswerLine = map (answer_at p) (option_to_list (answer_of ans i)) in
+    let first : List AnswerLine = map (answer_at p) (option_to_list (answer_row_of ans i)) in
     let more : List AnswerLine = map (answer_at p) (indexed ans (i + 1) n) in
-    let split : first ++ (more ++ rest) ≡ map (answer_at p) (indexed ans i (suc n)) ++ rest = sym (append_assoc first more rest) ∙ ap (λ (ls : List AnswerLine). ls ++ rest) (sym (map-append (answer_at p) (option_to_list (answer_of ans i)) (indexed ans (i + 1) n))) in
+    let split : first ++ (more ++ rest) ≡ map (answer_at p) (indexed ans i (suc n)) ++ rest = sym (append_assoc first more rest) ∙ ap (λ (ls : List AnswerLine). ls ++ rest) (sym (map-append (answer_at p) (option_to_list (answer_row_of ans i)) (indexed ans (i + 1) n))) in
     let count : i + suc n ≡ i + 1 + n = omega arith in
     subst (AllAnswerNext (entry_list 0 entries) done) split
-    (one_next entries answers are p i (answer_of ans i) done (more ++ rest) (λ a found. let t = found_there ans i a found in (t.0, same t.0 a t.1, t.2)) d
+    (one_next entries answers are p i (answer_row_of ans i) done (more ++ rest) (λ a found. let t = found_there ans i a found in (t.0, same t.0 a t.1, t.2)) d
     (λ all e. processor_next entries answers are p (i + 1) n ans all rest same e (subst (λ j. Behind entries answers (4096 * p + j) rest) count on)))
 
 processors_next : (entries : List (List EntryRow)) (answers : List (List AnswerRow)) → AreAnswers entries answers → (p : ℕ) (ass : List (List AnswerRow)) (done : List AnswerLine) → ((i c k : ℕ) (a : AnswerRow) → c ≡ p + i → slice_get (rows_at ass i) k ≡ Some a → slice_get (rows_at answers c) k ≡ Some a) → AreDone answers (4096 * p) done

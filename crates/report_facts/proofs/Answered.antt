@@ -5,7 +5,7 @@ use Rattle.std.specs.Option.{option_to_list}
 use Rattle.std.proofs.lemmas.Bool.{and_parts, cases_eq, eq-eqb, eqb-true}
 use Rattle.std.proofs.lemmas.List.Folds.{list_any-append}
 use Rattle.std.proofs.lemmas.Option.{slice_get_within, get_or_from_slice_get}
-use Rattle.report_lines.specs.Contents.{answer_of, by_index, index_count}
+use Rattle.report_lines.specs.Contents.{answer_row_of, by_index, index_count}
 use Rattle.report_lines.specs.declared.parts.AnswerRow.{AnswerRow}
 use Rattle.report_lines.specs.declared.line.AnswerLine.{AnswerLine}
 use Rattle.report_lines.proofs.Indexes.{index_below}
@@ -75,7 +75,7 @@ same_there : {X : Type 0} (xs : List X) (j k : ℕ) (x y : X) → j ≡ k → sl
 same_there xs j k x y same h i = let at = ap (slice_get xs) same in cc
 
 -- the answer that is found of an answer's index is that answer
-found_same : (entries : List (List EntryRow)) (answers : List (List AnswerRow)) → AreAnswers entries answers → (p i : ℕ) (a : AnswerRow) → slice_get (rows_at answers p) i ≡ Some a → answer_of (rows_at answers p) a.index ≡ Some a
+found_same : (entries : List (List EntryRow)) (answers : List (List AnswerRow)) → AreAnswers entries answers → (p i : ℕ) (a : AnswerRow) → slice_get (rows_at answers p) i ≡ Some a → answer_row_of (rows_at answers p) a.index ≡ Some a
 found_same entries answers are p i a there =
     let f = there_found (rows_at answers p) i a there in
     let t = found_there (rows_at answers p) a.index f.0 f.1 in
@@ -93,6 +93,6 @@ has_told entries answers are bank place (p, i, a, there, same_bank, same_place) 
     let read : get_or ans i a ≡ a = get_or_from_slice_get ans i a a there in
     let below : (get_or ans i a).index < index_count ans = index_below ans i a (slice_get_within ans i a there) in
     let index : (get_or ans i a).index ≡ a.index = ap (λ (x : AnswerRow). x.index) read in
-    let one : (q : ℕ) → list_any (λ x. test (answer_at q x)) (option_to_list (answer_of ans a.index)) ≡ true = λ q. ap (λ o. list_any (λ x. test (answer_at q x)) (option_to_list o)) (found_same entries answers are p i a there) ∙ ap (λ b. b || false) here in
+    let one : (q : ℕ) → list_any (λ x. test (answer_at q x)) (option_to_list (answer_row_of ans a.index)) ≡ true = λ q. ap (λ o. list_any (λ x. test (answer_at q x)) (option_to_list o)) (found_same entries answers are p i a there) ∙ ap (λ b. b || false) here in
     any_list test 0 p answers (rows_within answers p i a there)
-    (λ q. any_map test (answer_at q) (by_index ans) (any_range (λ x. test (answer_at q x)) (λ k. option_to_list (answer_of ans k)) 0 (index_count ans) a.index (omega arith) (omega (arith, below, index)) (one q)))
+    (λ q. any_map test (answer_at q) (by_index ans) (any_range (λ x. test (answer_at q x)) (λ k. option_to_list (answer_row_of ans k)) 0 (index_count ans) a.index (omega arith) (omega (arith, below, index)) (one q)))

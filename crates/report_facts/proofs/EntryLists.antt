@@ -11,7 +11,7 @@ use Rattle.report_lines.specs.declared.line.EntryLine.{EntryLine}
 use Rattle.report_lines.specs.declared.line.ReportLine.{ReportLine}
 use Rattle.report_lines.specs.declared.line.ReportLine.TheVariants.{Entry}
 use Rattle.report_check.specs.Seen.{entries_at, has_newer}
-use Rattle.report_facts.specs.Facts.{rows_at, bank_by_bank}
+use Rattle.report_facts.specs.Facts.{rows_at}
 
 -- the line of an entry, of a bank's entries from a place on, and of those of the banks from a bank on
 abbrev pub entry_of : ℕ → ℕ → EntryRow → EntryLine
@@ -41,23 +41,23 @@ map_bank : {X : Type 0} (f : EntryLine → X) (g : EntryRow → X) → ((b k : �
 map_bank f g same b k [] = refl
 map_bank {X} f g same b k (e ∷ es) = ap (λ (xs : List X). f (entry_of b k e) ∷ xs) (map_bank f g same b (k + 1) es) ∙ ap (λ x. x ∷ map g es) (same b k e)
 
-pub map_entries : {X : Type 0} (f : EntryLine → X) (g : EntryRow → X) → ((b k : ℕ) (e : EntryRow) → f (entry_of b k e) ≡ g e) → (b : ℕ) (ess : List (List EntryRow)) → map f (entry_list b ess) ≡ map g (bank_by_bank ess)
+pub map_entries : {X : Type 0} (f : EntryLine → X) (g : EntryRow → X) → ((b k : ℕ) (e : EntryRow) → f (entry_of b k e) ≡ g e) → (b : ℕ) (ess : List (List EntryRow)) → map f (entry_list b ess) ≡ map g (flat_map (λ es. es) ess)
 map_entries f g same b [] = refl
 map_entries {X} f g same b (es ∷ ess) =
     map-append f (bank_list b 0 es) (entry_list (b + 1) ess)
     ∙ ap (λ (xs : List X). xs ++ map f (entry_list (b + 1) ess)) (map_bank f g same b 0 es)
     ∙ ap (λ (xs : List X). map g es ++ xs) (map_entries f g same (b + 1) ess)
-    ∙ sym (map-append g es (bank_by_bank ess))
+    ∙ sym (map-append g es (flat_map (λ es. es) ess))
 
 pub length-bank_list : (b k : ℕ) (es : List EntryRow) → length (bank_list b k es) ≡ length es
 length-bank_list b k [] = refl
 length-bank_list b k (e ∷ es) = ap suc (length-bank_list b (k + 1) es)
 
-pub length-entry_list : (b : ℕ) (ess : List (List EntryRow)) → length (entry_list b ess) ≡ length (bank_by_bank ess)
+pub length-entry_list : (b : ℕ) (ess : List (List EntryRow)) → length (entry_list b ess) ≡ length (flat_map (λ es. es) ess)
 length-entry_list b ess =
     sym (length-map (entry_list b ess) (λ (e : EntryLine). e.reply))
     ∙ ap length (map_entries (λ e. e.reply) (λ e. e.reply) (λ c k e. refl) b ess)
-    ∙ length-map (bank_by_bank ess) (λ (e : EntryRow). e.reply)
+    ∙ length-map (flat_map (λ es. es) ess) (λ (e : EntryRow). e.reply)
 
 -- some line is of a newer operation where some row is
 abbrev newer_row : EntryRow → Bool

@@ -1,5 +1,5 @@
 -- The report of good contents is a good one.
-use Rattle.std.proofs.Common.{◌≡◌, ℕ, ◌+◌, ◌<◌, All, Bool, Some, slice_get, List, [], ◌∷◌, ◌++◌, length, map, replicate, refl, sym, ap, subst, ◌∙◌, arith, append_assoc}
+use Rattle.std.proofs.Common.{◌≡◌, ℕ, ◌+◌, ◌<◌, All, Bool, Some, slice_get, List, [], ◌∷◌, ◌++◌, length, map, flat_map, replicate, refl, sym, ap, subst, ◌∙◌, arith, append_assoc}
 use Rattle.std.proofs.lemmas.List.Elements.{recursion_from_All}
 use Rattle.torus.specs.Shape.{Shape, tiles_of}
 use Rattle.packet.specs.declared.kinds.Operation.{Operation}
@@ -16,7 +16,7 @@ use Rattle.report_lines.specs.declared.line.ReportLine.TheVariants.{End, Header,
 use Rattle.report_check.specs.Fits.{FitsLine}
 use Rattle.report_check.specs.Seen.{nothing_seen, operation_of}
 use Rattle.report_check.specs.Good.{AreGood}
-use Rattle.report_facts.specs.Facts.{bank_by_bank, operation_in, rows_at, AreContents}
+use Rattle.report_facts.specs.Facts.{operation_in, rows_at, AreContents}
 use Rattle.report_facts.proofs.Going.{GoesOn, going_good, seen_at}
 use Rattle.report_facts.proofs.Inits.{BehindInits, inits_on}
 use Rattle.report_facts.proofs.Entries.{BehindEntryLines, Enters, Stands, entries_on, reply_in}
@@ -82,7 +82,7 @@ module _ (shape : Shape) (opening : List ℕ) (entries : List (List EntryRow)) (
       (all_on entries answers order [] order are.answered are.ordered are.numbered are.told refl) refl ends
 
   sized : length last ≡ w
-  sized = ap length (sym are.entered.left) ∙ length-memory_after (map operation_in (bank_by_bank entries)) opening
+  sized = ap length (sym are.entered.left) ∙ length-memory_after (map operation_in (flat_map (λ es. es) entries)) opening
 
   behind_answers : (ins : List ℕ) → BehindAnswers v t w last ins es ans words_from
   behind_answers ins n low high =
@@ -108,7 +108,7 @@ module _ (shape : Shape) (opening : List ℕ) (entries : List (List EntryRow)) (
         version = newer_version entries i place e there;
       }
 
-  operations : map operation_of es ≡ map operation_in (bank_by_bank entries)
+  operations : map operation_of es ≡ map operation_in (flat_map (λ es. es) entries)
   operations = map_entries operation_of operation_in (λ b k e. refl) 0 entries
 
   enters : Enters v t w opening last [] es es

@@ -16,10 +16,6 @@ rows_at xss n = slice_index_or xss n []
 abbrev pub operation_in : EntryRow → Operation
 operation_in e = record { address = e.address; op = e.op }
 
--- the entries of all banks: bank by bank, and within a bank by place (this project's own format)
-abbrev pub bank_by_bank : List (List EntryRow) → List EntryRow
-bank_by_bank entries = flat_map (λ es. es) entries
-
 -- an entry of bank b is of a processor and a tag of the machine, and of an address at home in b (this project's own format)
 pub record StandsIn (tiles words b : ℕ) (e : EntryRow) : Type 0 where
   pub bank : b < tiles
@@ -31,9 +27,9 @@ pub record StandsIn (tiles words b : ℕ) (e : EntryRow) : Type 0 where
 -- the entries stand in the home banks of their addresses, and replay, bank by bank, on one memory from the opening words to the last (Herlihy and Wing, TOPLAS 12(3), 1990: a legal sequential history)
 pub record AreEntries (tiles : ℕ) (opening : List ℕ) (entries : List (List EntryRow)) (last : List ℕ) : Type 0 where
   pub stand : (b place : ℕ) (e : EntryRow) → slice_get (rows_at entries b) place ≡ Some e → StandsIn tiles (length opening) b e
-  pub few : length (bank_by_bank entries) ≤ 65536
-  pub told : replies (map operation_in (bank_by_bank entries)) opening ≡ map (λ e. e.reply) (bank_by_bank entries)
-  pub left : memory_after (map operation_in (bank_by_bank entries)) opening ≡ last
+  pub few : length (flat_map (λ es. es) entries) ≤ 65536
+  pub told : replies (map operation_in (flat_map (λ es. es) entries)) opening ≡ map (λ e. e.reply) (flat_map (λ es. es) entries)
+  pub left : memory_after (map operation_in (flat_map (λ es. es) entries)) opening ≡ last
 
 -- an answer of processor p names an entry of p, with its reply (this project's own format)
 pub record NamesRow (entries : List (List EntryRow)) (p : ℕ) (a : AnswerRow) : Type 0 where

@@ -76,12 +76,12 @@ abbrev pub index_count : List AnswerRow → ℕ
 index_count answers = fold (λ n a. max n (a.index + 1)) 0 answers
 
 -- the answer of an index, where there is one
-abbrev pub answer_of : List AnswerRow → ℕ → Option AnswerRow
-answer_of answers index = find (λ a. a.index == index) answers
+abbrev pub answer_row_of : List AnswerRow → ℕ → Option AnswerRow
+answer_row_of answers index = find (λ a. a.index == index) answers
 
 -- the answers of a processor, indexes rising
 abbrev pub by_index : List AnswerRow → List AnswerRow
-by_index answers = flat_map (λ i. option_to_list (answer_of answers i)) (range_with_len 0 (index_count answers))
+by_index answers = flat_map (λ i. option_to_list (answer_row_of answers i)) (range_with_len 0 (index_count answers))
 
 -- a line for each answer, processors rising, and those of a processor by their indexes
 abbrev pub answer_lines : List (List AnswerRow) → List ReportLine

@@ -15,6 +15,3 @@ pub use parts::{AnswerRow, EntryRow, Parts};
 pub use report::{Report, write_report};
 pub use sections::is_newer;
 pub use text::{LineText, line_of};
-
-#[cfg(test)]
-mod tests;

@@ -2,15 +2,15 @@ use packet::{Op, Reply};
 use torus::Torus;
 
 /// The radix of each dimension, dimension 0 first.
-#[derive(Clone, Copy, Debug, PartialEq, Eq)]
+#[derive(Clone, Copy)]
 pub enum Radices {
     One(u32),
     Two(u32, u32),
     Three(u32, u32, u32),
 }
 
-/// A service in a bank's history.
-#[derive(Clone, Copy, Debug, PartialEq, Eq)]
+/// An entry of a bank: an operation that it has served.
+#[derive(Clone, Copy)]
 pub struct EntryLine {
     pub bank: u32,
     /// The number of the service in its bank, from 0.
@@ -25,7 +25,7 @@ pub struct EntryLine {
 }
 
 /// An operation that is answered.
-#[derive(Clone, Copy, Debug, PartialEq, Eq)]
+#[derive(Clone, Copy)]
 pub struct AnswerLine {
     pub processor: u32,
     /// The number of the operation among those of its processor, from 0.
@@ -36,7 +36,7 @@ pub struct AnswerLine {
 }
 
 /// The event numbers of an entry.
-#[derive(Clone, Copy, Debug, PartialEq, Eq)]
+#[derive(Clone, Copy)]
 pub struct OrderLine {
     pub bank: u32,
     pub place: u32,
@@ -47,7 +47,7 @@ pub struct OrderLine {
 }
 
 /// What a line of a report says.
-#[derive(Clone, Copy, Debug, PartialEq, Eq)]
+#[derive(Clone, Copy)]
 pub enum ReportLine {
     /// The version of the report.
     Header(u32),

@@ -2,8 +2,9 @@ ghost use Rattle.std.specs.Prelude.{◌≡◌, ℕ, ◌≤◌, List, length, tak
 ghost use Rattle.std.specs.Io.KnownBytes.{Appends};
 ghost use Rattle.report_lines.specs.Taken.{failures_after, Rose, AppendsFront};
 
+use std::error::Error;
+use std::fmt::{self, Display};
 use std::io::Write;
-use thiserror::Error;
 
 /// Takes bytes, perhaps not all of them at once.
 pub trait Out {
@@ -21,7 +22,7 @@ pub trait Out {
 }
 
 /// An output over any writer. An error takes no byte, and the write is not tried again.
-#[derive(Debug, Drop)]
+#[derive(Drop)]
 pub struct Piped<W> {
     writer: W,
     failures: u64,
@@ -55,9 +56,16 @@ impl<W: Write> Out for Piped<W> {
 }
 
 /// The output took none of some bytes that it was given.
-#[derive(Clone, Copy, Debug, PartialEq, Eq, Error)]
-#[error("output failed")]
+#[derive(Clone, Copy, Debug, PartialEq, Eq)]
 pub struct OutputFailed;
+
+impl Display for OutputFailed {
+    fn fmt<W: fmt::Write>(&self, f: &mut fmt::Formatter<W>) -> fmt::Result {
+        f.write_str("output failed")
+    }
+}
+
+impl Error for OutputFailed {}
 
 /// Puts all of the bytes, in as many puts as it takes.
 pub fn put_all<W: Out>(out: &mut W, bytes: &[u8]) -> Result<(), OutputFailed>

@@ -3,8 +3,8 @@ use packet::{Op, Reply};
 use std::alloc::{Allocator, Global};
 use torus::Torus;
 
-/// An entry of a bank's history; its bank and its place are told by where it stands.
-#[derive(Clone, Copy, Debug, PartialEq, Eq)]
+/// An entry of a bank; its bank and its place are told by where it stands.
+#[derive(Clone, Copy)]
 pub struct EntryRow {
     /// The processor that asked.
     pub source: u32,
@@ -16,7 +16,7 @@ pub struct EntryRow {
 }
 
 /// An answer of a processor, which is told by where it stands.
-#[derive(Clone, Copy, Debug, PartialEq, Eq)]
+#[derive(Clone, Copy)]
 pub struct AnswerRow {
     /// The number of the operation among those of its processor, below 4096.
     pub index: u32,

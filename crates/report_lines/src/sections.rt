@@ -106,7 +106,12 @@ pub fn push_entries<A: Allocator>(
 fn has_newer(entries: &[EntryRow]) -> bool
     ensures { result ≡ list_any (λ e. is_newer e.op) entries.now }
 {
-    entries.iter().any(|entry| is_newer(entry.op))
+    for entry in entries {
+        if is_newer(entry.op) {
+            return true;
+        }
+    }
+    false
 }
 
 /// Whether some entry of some bank is one of the newer operations.

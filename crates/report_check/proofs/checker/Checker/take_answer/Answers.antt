@@ -1,5 +1,5 @@
 use Rattle.std.proofs.Common.{◌+◌, ◌∙◌, arith, sym, ap, refl}
-use Rattle.report_check.specs.Good.{BehindEntries, NamesEntry}
+use Rattle.report_check.specs.Good.{BehindEntries, NamesUnansweredEntry}
 use Rattle.report_check.proofs.Banks.{answer_shown}
 use Rattle.report_check.proofs.Pushes.{above_map_push}
 use Rattle.report_check.specs.Seen.{key_of}
@@ -8,7 +8,7 @@ use Rattle.report_check.proofs.checker.Checker.take_answer.Goals as goal
 pub returns : goal.returns
 returns g c s shows =
     let behind : BehindEntries s 5 = (c.is_behind_entries.ensures.behind s shows).0 c.if-not-is_behind_entries.false in
-    let names : NamesEntry s c.args.answer.now = (c.names_entry.ensures.named s shows).0 c.if-not-names_entry.false in
+    let names : NamesUnansweredEntry s c.args.answer.now = (c.names_entry.ensures.named s shows).0 c.if-not-names_entry.false in
     let inside = c.names_entry.ensures.inside c.if-not-names_entry.false in (
       record {
         section = behind;

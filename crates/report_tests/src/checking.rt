@@ -1,6 +1,7 @@
-use super::*;
 use linked_list_allocator::LocalHeap;
+use report_check::{CheckFault, check_report};
 use std::alloc::{AllocError, Allocator, Global};
+use std::process::Abort;
 use std::test::Fail;
 
 const ROW: &str =
@@ -19,7 +20,7 @@ fn verdict<A: Allocator + Copy>(alloc: A, text: &[u8]) -> u64 {
 }
 
 /// Texts and their verdicts.
-const TEXTS: [(&str, u64); 51] = [
+const TEXTS: [(&str, u64); 52] = [
     (ROW, 0),
     // A reply that is not the word.
     (
@@ -139,13 +140,23 @@ const TEXTS: [(&str, u64); 51] = [
         "torusmem 2\nshape 2 1 8\nentry 0 0 0 0 load 0 0\nend incomplete\n",
         4,
     ),
+    // Issued against the order of the indexes, answered against the order of service.
+    (
+        "torusmem 1\nshape 2 1 8\nentry 0 0 0 0 load 0 0\nentry 0 1 0 1 load 0 0\nanswer 0 7 0 1 0\nanswer 0 9 0 0 0\norder 0 0 1 3 6\norder 0 1 2 4 5\nend complete\n",
+        0,
+    ),
 ];
+
+/// Compares the verdicts of texts.
+fn judge<R: Abort>(rt: &R, alloc: Global, texts: &[(&str, u64)]) {
+    for &(text, want) in texts {
+        assert_eq!(rt; verdict(alloc, text.as_bytes()), want, "{text}");
+    }
+}
 
 #[test]
 fn texts(rt: HostRuntime) {
-    for (text, want) in TEXTS {
-        assert_eq!(rt; verdict(rt.alloc(), text.as_bytes()), want, "{text}");
-    }
+    judge(&rt, rt.alloc(), &TEXTS);
 }
 
 /// How many texts are good that have another byte at one place.
@@ -186,11 +197,39 @@ fn cut_texts(rt: HostRuntime) {
     }
 }
 
-/// The first report with two of its lines exchanged, and the first bad line: an answer may stand
-/// where an entry or another answer is missing, and a `word` line where an answer is.
+/// The lines of the first report.
+const LINES: [&str; 10] = [
+    "torusmem 1\n",
+    "shape 2 1 8\n",
+    "entry 1 0 0 0 store 5 17 ok\n",
+    "entry 1 1 0 0 load 5 17\n",
+    "answer 0 0 1 0 ok\n",
+    "answer 0 1 1 1 17\n",
+    "word 5 17\n",
+    "order 1 0 1 2 3\n",
+    "order 1 1 4 5 6\n",
+    "end complete\n",
+];
+
+/// The first report with two of its lines exchanged.
+fn exchanged(alloc: Global, first: usize, second: usize) -> Result<String, AllocError> {
+    let mut lines = LINES;
+    if first < 10 && second < 10 {
+        lines.swap(first, second);
+    }
+    let mut text = String::new(alloc);
+    for line in &lines {
+        text.push_str(line)?;
+    }
+    Ok(text)
+}
+
+/// An answer may stand where an entry or another answer is missing, and a `word` line where an
+/// answer is.
 #[test]
 fn exchanged_lines(rt: HostRuntime) -> Result<(), Fail> {
-    for (first, second, want) in [
+    for &(first, second, want) in &[
+        (0, 0, 0),
         (0, 1, 1),
         (1, 2, 2),
         (2, 3, 3),
@@ -204,18 +243,7 @@ fn exchanged_lines(rt: HostRuntime) -> Result<(), Fail> {
         (7, 8, 8),
         (8, 9, 9),
     ] {
-        let mut text = String::new(rt.alloc());
-        for (at, line) in ROW.lines().enumerate() {
-            let there = if at == first {
-                ROW.lines().nth(second).ok_or("no line")?
-            } else if at == second {
-                ROW.lines().nth(first).ok_or("no line")?
-            } else {
-                line
-            };
-            text.push_str(there)?;
-            text.push_str("\n")?;
-        }
+        let text = exchanged(rt.alloc(), first, second)?;
         assert_eq!(rt;
             verdict(rt.alloc(), text.as_bytes()),
             want,
@@ -226,35 +254,46 @@ fn exchanged_lines(rt: HostRuntime) -> Result<(), Fail> {
 }
 
 /// A report of so many loads of word 0 by one processor, that no machine writes.
-fn long_report(alloc: Global, version: u32, count: u32) -> Result<String, AllocError> {
+fn long_report(alloc: Global, version: u32, count: u32, end: &str) -> Result<String, AllocError> {
     let mut text = format!(in alloc; "torusmem {version}\nshape 8 2 64\n")?;
     for place in 0..count {
         text.push_str(format!(in alloc; "entry 0 {place} 3 15 load 0 0\n")?.as_str())?;
     }
+    text.push_str(end)?;
     Ok(text)
 }
 
 #[test]
 fn more_than_a_machine_writes(rt: HostRuntime) -> Result<(), AllocError> {
-    // More entries of a processor than a script has operations.
-    let mut text = long_report(rt.alloc(), 1, 4097)?;
-    text.push_str("end incomplete\n")?;
-    assert_eq!(rt; verdict(rt.alloc(), text.as_bytes()), 0);
-    // The greatest number of entries, and one more.
-    let mut text = long_report(rt.alloc(), 1, 65536)?;
-    text.push_str("end incomplete\n")?;
-    assert_eq!(rt; verdict(rt.alloc(), text.as_bytes()), 0);
-    let text = long_report(rt.alloc(), 1, 65537)?;
-    assert_eq!(rt; verdict(rt.alloc(), text.as_bytes()), 65539);
-    // No place is left for the operation that the version wants: the line behind is bad.
-    let mut text = long_report(rt.alloc(), 2, 65536)?;
-    text.push_str("end incomplete\n")?;
-    assert_eq!(rt; verdict(rt.alloc(), text.as_bytes()), 65539);
-    // Issued against the order of the indexes, answered against the order of service.
-    let text =
-        "torusmem 1\nshape 2 1 8\nentry 0 0 0 0 load 0 0\nentry 0 1 0 1 load 0 0\nanswer 0 7 0 1 0\nanswer 0 9 0 0 0\norder 0 0 1 3 6\norder 0 1 2 4 5\nend complete\n";
-    assert_eq!(rt; verdict(rt.alloc(), text.as_bytes()), 0);
+    for (version, count, end, want) in [
+        // More entries of a processor than a script has operations.
+        (1, 4097, "end incomplete\n", 0),
+        // The greatest number of entries, and one more.
+        (1, 65536, "end incomplete\n", 0),
+        (1, 65537, "", 65539),
+        // No place is left for the operation that the version wants: the line behind is bad.
+        (2, 65536, "end incomplete\n", 65539),
+    ] {
+        let text = long_report(rt.alloc(), version, count, end)?;
+        assert_eq!(rt;
+            verdict(rt.alloc(), text.as_bytes()),
+            want,
+            "{version} {count}"
+        );
+    }
     Ok(())
+}
+
+/// Whether the report is found good within so many bytes of memory; None where it is found bad,
+/// or where memory is kept.
+fn good_within(alloc: Global, bytes: usize) -> Result<Option<bool>, AllocError> {
+    let heap = LocalHeap::new(alloc, bytes)?;
+    let found = verdict(&heap, ROW.as_bytes());
+    Ok(if heap.used() == 0 && (found == 0 || found == REFUSED) {
+        Some(found == 0)
+    } else {
+        None
+    })
 }
 
 /// Budgets of memory round each request: refused or good, and nothing is kept.
@@ -263,11 +302,7 @@ fn budgets(rt: HostRuntime) -> Result<(), Fail> {
     let mut good = false;
     for base in [0, 196_608, 393_216] {
         for step in 0..128usize {
-            let heap = LocalHeap::new(rt.alloc(), base + 16 * step)?;
-            let found = verdict(&heap, ROW.as_bytes());
-            assert!(rt; found == 0 || found == REFUSED);
-            assert_eq!(rt; heap.used(), 0);
-            good = found == 0;
+            good = good_within(rt.alloc(), base + 16 * step)?.ok_or("wrong")?;
         }
     }
     assert!(rt; good);

@@ -1,0 +1,489 @@
+ghost use Rattle.std.specs.Prelude.{◌≤◌, All, IfOk, None, vec_len};
+
+use arrayvec::ArrayVec;
+use linked_list_allocator::LocalHeap;
+use packet::{Op, Reply};
+use report_lines::{AnswerRow, EntryRow, OrderLine, Out, Parts, Piped, Report, write_report};
+use std::alloc::{AllocError, Allocator, Global};
+use std::io::{ErrorKind, Write};
+use std::process::Abort;
+use std::test::Fail;
+use torus::Torus;
+
+/// Takes at most so many bytes a put, and none at the put of one number.
+#[derive(Drop)]
+struct Sink {
+    bytes: ArrayVec<u8, 1024>,
+    most: usize,
+    failing: usize,
+    puts: usize,
+    failures: u64,
+}
+
+impl Sink {
+    fn new(most: usize, failing: usize) -> Self {
+        Sink {
+            bytes: ArrayVec::new(),
+            most,
+            failing,
+            puts: 0,
+            failures: 0,
+        }
+    }
+}
+
+impl Out for Sink {
+    ghost taken = { λ _. None };
+
+    ghost failures = { λ s. s.failures };
+
+    fn put(&mut self, bytes: &[u8]) -> usize {
+        self.puts = self.puts.saturating_add(1);
+        let mut taken = bytes.len().min(self.most);
+        if self.puts == self.failing || self.bytes.try_extend_from_slice(&bytes[..taken]).is_err() {
+            taken = 0;
+        }
+        if !bytes.is_empty() && taken == 0 {
+            self.failures = self.failures.saturating_add(1);
+        }
+        taken
+    }
+}
+
+/// What a report tells of a machine with 8 words and two banks.
+#[derive(Clone, Copy)]
+struct Told {
+    radices: &'static [u32],
+    datelines: &'static [u32],
+    opening: [u64; 8],
+    banks: [&'static [EntryRow]; 2],
+    /// The answers of processor 0.
+    answers: &'static [AnswerRow],
+    last: [u64; 8],
+    order: &'static [OrderLine],
+    finished: bool,
+    text: &'static str,
+}
+
+/// A store and a load of word 5, both answered; the answer of the load is listed first.
+const FIRST: Told = Told {
+    radices: &[2],
+    datelines: &[1],
+    opening: [0; 8],
+    banks: [
+        &[],
+        &[
+            EntryRow {
+                source: 0,
+                tag: 0,
+                address: 5,
+                op: Op::Store(17),
+                reply: Reply::Ok,
+            },
+            EntryRow {
+                source: 0,
+                tag: 0,
+                address: 5,
+                op: Op::Load,
+                reply: Reply::Old(17),
+            },
+        ],
+    ],
+    answers: &[
+        AnswerRow {
+            index: 1,
+            bank: 1,
+            place: 1,
+            reply: Reply::Old(17),
+        },
+        AnswerRow {
+            index: 0,
+            bank: 1,
+            place: 0,
+            reply: Reply::Ok,
+        },
+    ],
+    last: [0, 0, 0, 0, 0, 17, 0, 0],
+    order: &[
+        OrderLine {
+            bank: 1,
+            place: 0,
+            issued: 1,
+            served: 2,
+            answered: Some(3),
+        },
+        OrderLine {
+            bank: 1,
+            place: 1,
+            issued: 4,
+            served: 5,
+            answered: Some(6),
+        },
+    ],
+    finished: true,
+    text: "torusmem 1\nshape 2 1 8\nentry 1 0 0 0 store 5 17 ok\nentry 1 1 0 0 load 5 17\nanswer 0 0 1 0 ok\nanswer 0 1 1 1 17\nword 5 17\norder 1 0 1 2 3\norder 1 1 4 5 6\nend complete\n",
+};
+
+/// A store that is not answered.
+const NOT_ANSWERED: Told = Told {
+    radices: &[2],
+    datelines: &[1],
+    opening: [0; 8],
+    banks: [
+        &[],
+        &[EntryRow {
+            source: 0,
+            tag: 0,
+            address: 1,
+            op: Op::Store(7),
+            reply: Reply::Ok,
+        }],
+    ],
+    answers: &[],
+    last: [0, 7, 0, 0, 0, 0, 0, 0],
+    order: &[OrderLine {
+        bank: 1,
+        place: 0,
+        issued: 1,
+        served: 2,
+        answered: None,
+    }],
+    finished: false,
+    text: "torusmem 1\nshape 2 1 8\nentry 1 0 0 0 store 1 7 ok\nword 1 7\norder 1 0 1 2 -\nend incomplete\n",
+};
+
+/// The operations of version 2, one after the other on word 0.
+const NEWER: Told = Told {
+    radices: &[2],
+    datelines: &[1],
+    opening: [12, 0, 0, 0, 0, 0, 0, 0],
+    banks: [
+        &[
+            EntryRow {
+                source: 0,
+                tag: 0,
+                address: 0,
+                op: Op::And(10),
+                reply: Reply::Old(12),
+            },
+            EntryRow {
+                source: 0,
+                tag: 0,
+                address: 0,
+                op: Op::Or(3),
+                reply: Reply::Old(8),
+            },
+            EntryRow {
+                source: 0,
+                tag: 0,
+                address: 0,
+                op: Op::Xor(6),
+                reply: Reply::Old(11),
+            },
+            EntryRow {
+                source: 0,
+                tag: 0,
+                address: 0,
+                op: Op::Max(20),
+                reply: Reply::Old(13),
+            },
+            EntryRow {
+                source: 0,
+                tag: 0,
+                address: 0,
+                op: Op::Min(5),
+                reply: Reply::Old(20),
+            },
+        ],
+        &[],
+    ],
+    answers: &[
+        AnswerRow {
+            index: 0,
+            bank: 0,
+            place: 0,
+            reply: Reply::Old(12),
+        },
+        AnswerRow {
+            index: 1,
+            bank: 0,
+            place: 1,
+            reply: Reply::Old(8),
+        },
+        AnswerRow {
+            index: 2,
+            bank: 0,
+            place: 2,
+            reply: Reply::Old(11),
+        },
+        AnswerRow {
+            index: 3,
+            bank: 0,
+            place: 3,
+            reply: Reply::Old(13),
+        },
+        AnswerRow {
+            index: 4,
+            bank: 0,
+            place: 4,
+            reply: Reply::Old(20),
+        },
+    ],
+    last: [5, 0, 0, 0, 0, 0, 0, 0],
+    order: &[
+        OrderLine {
+            bank: 0,
+            place: 0,
+            issued: 1,
+            served: 2,
+            answered: Some(3),
+        },
+        OrderLine {
+            bank: 0,
+            place: 1,
+            issued: 4,
+            served: 5,
+            answered: Some(6),
+        },
+        OrderLine {
+            bank: 0,
+            place: 2,
+            issued: 7,
+            served: 8,
+            answered: Some(9),
+        },
+        OrderLine {
+            bank: 0,
+            place: 3,
+            issued: 10,
+            served: 11,
+            answered: Some(12),
+        },
+        OrderLine {
+            bank: 0,
+            place: 4,
+            issued: 13,
+            served: 14,
+            answered: Some(15),
+        },
+    ],
+    finished: true,
+    text: "torusmem 2\nshape 2 1 8\ninit 0 12\nentry 0 0 0 0 and 0 10 12\nentry 0 1 0 0 or 0 3 8\nentry 0 2 0 0 xor 0 6 11\nentry 0 3 0 0 max 0 20 13\nentry 0 4 0 0 min 0 5 20\nanswer 0 0 0 0 12\nanswer 0 1 0 1 8\nanswer 0 2 0 2 11\nanswer 0 3 0 3 13\nanswer 0 4 0 4 20\nword 0 5\norder 0 0 1 2 3\norder 0 1 4 5 6\norder 0 2 7 8 9\norder 0 3 10 11 12\norder 0 4 13 14 15\nend complete\n",
+};
+
+/// Nothing was done on a ring of two tiles.
+const NOTHING: Told = Told {
+    radices: &[2],
+    datelines: &[1],
+    opening: [0; 8],
+    banks: [&[], &[]],
+    answers: &[],
+    last: [0; 8],
+    order: &[],
+    finished: true,
+    text: "torusmem 1\nshape 2 1 8\nend complete\n",
+};
+
+/// Nothing was done on a torus with a radix for each dimension.
+const NOTHING_MIXED: Told = Told {
+    radices: &[2, 4],
+    datelines: &[1, 3],
+    text: "torusmem 1\nshape 2x4 2 8\nend complete\n",
+    ..NOTHING
+};
+
+/// Nothing was done on a torus of three equal dimensions.
+const NOTHING_CUBIC: Told = Told {
+    radices: &[4, 4, 4],
+    datelines: &[3, 3, 3],
+    text: "torusmem 1\nshape 4 3 8\nend complete\n",
+    ..NOTHING
+};
+
+const REPORTS: [Told; 6] = [
+    FIRST,
+    NOT_ANSWERED,
+    NEWER,
+    NOTHING,
+    NOTHING_MIXED,
+    NOTHING_CUBIC,
+];
+
+/// So many rows at most.
+const ROWS: usize = 8;
+
+/// The entries of both banks; no bank where nothing was done.
+fn banks_of<A: Allocator + Copy>(
+    alloc: A,
+    told: &Told,
+) -> Result<Vec<Vec<EntryRow, A>, A>, AllocError>
+    ensures banks { IfOk result (λ banks. vec_len banks ≤ 64) }
+    ensures places { IfOk result (λ banks. All (λ v. vec_len v ≤ 65536) banks.items) }
+{
+    let mut banks = Vec::new(alloc);
+    if told.order.is_empty() {
+        return Ok(banks);
+    }
+    let [first, second] = told.banks;
+    banks.push(Vec::from_slice(alloc, &first[..first.len().min(ROWS)])?)?;
+    banks.push(Vec::from_slice(alloc, &second[..second.len().min(ROWS)])?)?;
+    Ok(banks)
+}
+
+/// The answers of processor 0; no processor where nothing was done.
+fn answers_of<A: Allocator + Copy>(
+    alloc: A,
+    told: &Told,
+) -> Result<Vec<Vec<AnswerRow, A>, A>, AllocError>
+    ensures { IfOk result (λ answers. vec_len answers ≤ 64) }
+{
+    let mut answers = Vec::new(alloc);
+    if told.order.is_empty() {
+        return Ok(answers);
+    }
+    answers.push(Vec::from_slice(alloc, told.answers)?)?;
+    Ok(answers)
+}
+
+/// The report of what is told.
+fn report_of<A: Allocator + Copy>(
+    alloc: A,
+    torus: &Torus,
+    told: &Told,
+) -> Result<Report<A>, AllocError> {
+    let parts = Parts {
+        torus: *torus,
+        opening: Vec::from_slice(alloc, &told.opening)?,
+        entries: banks_of(alloc, told)?,
+        answers: answers_of(alloc, told)?,
+        last: Vec::from_slice(alloc, &told.last)?,
+        order: Vec::from_slice(alloc, told.order)?,
+        finished: told.finished,
+    };
+    Report::of_parts(alloc, &parts)
+}
+
+/// Whether an output that takes so many bytes a put takes this text.
+fn is_written<A: Allocator>(report: &Report<A>, most: usize, text: &str) -> bool {
+    let mut sink = Sink::new(most, 0);
+    write_report(&mut sink, report).is_ok() && sink.bytes.as_slice() == text.as_bytes()
+}
+
+/// Compares the texts of reports, by an output that takes each put whole and by one that takes one
+/// byte a put.
+fn tell<R: Abort>(rt: &R, alloc: Global, reports: &[Told]) -> Result<(), Fail> {
+    for told in reports {
+        let torus = Torus::mixed(told.radices, told.datelines)?;
+        let report = report_of(alloc, &torus, told)?;
+        let whole = is_written(&report, 1024, told.text) && is_written(&report, 1, told.text);
+        assert!(rt; whole, "{}", told.text);
+    }
+    Ok(())
+}
+
+#[test]
+fn texts(rt: HostRuntime) -> Result<(), Fail> {
+    tell(&rt, rt.alloc(), &REPORTS)
+}
+
+/// How many bytes are taken of a text that is not taken whole, where they are its first ones and
+/// one put fails.
+fn taken_before<A: Allocator>(
+    report: &Report<A>,
+    most: usize,
+    failing: usize,
+    text: &str,
+) -> Option<usize> {
+    let mut sink = Sink::new(most, failing);
+    if write_report(&mut sink, report).is_err()
+        && sink.failures == 1
+        && text.as_bytes().starts_with(sink.bytes.as_slice())
+    {
+        Some(sink.bytes.len())
+    } else {
+        None
+    }
+}
+
+/// The put of a line fails, for each line, and that of a byte.
+#[test]
+fn failing_puts(rt: HostRuntime) -> Result<(), Fail> {
+    let torus = Torus::new(2, 1)?;
+    let report = report_of(rt.alloc(), &torus, &FIRST)?;
+    for (most, failing, taken) in [
+        (1024, 1, 0),
+        (1024, 2, 11),
+        (1024, 3, 23),
+        (1024, 4, 51),
+        (1024, 5, 75),
+        (1024, 6, 93),
+        (1024, 7, 111),
+        (1024, 8, 121),
+        (1024, 9, 137),
+        (1024, 10, 153),
+        (1, 30, 29),
+        (0, 0, 0),
+    ] {
+        assert_eq!(rt;
+            taken_before(&report, most, failing, FIRST.text),
+            Some(taken),
+            "put {failing}"
+        );
+    }
+    Ok(())
+}
+
+/// Whether the report is made within so many bytes of memory; None where it is another one, or
+/// where memory is kept.
+fn made_within(alloc: Global, torus: &Torus, bytes: usize) -> Result<Option<bool>, AllocError> {
+    let heap = LocalHeap::new(alloc, bytes)?;
+    let made = match report_of(&heap, torus, &FIRST) {
+        Ok(report) => {
+            if !is_written(&report, 1024, FIRST.text) {
+                return Ok(None);
+            }
+            true
+        }
+        Err(AllocError) => false,
+    };
+    Ok(if heap.used() == 0 { Some(made) } else { None })
+}
+
+/// Every budget of memory from none up: refused, or the whole report; and nothing is kept.
+#[test]
+fn budgets(rt: HostRuntime) -> Result<(), Fail> {
+    let torus = Torus::new(2, 1)?;
+    let mut made = false;
+    for step in 0..512usize {
+        made = made_within(rt.alloc(), &torus, 16 * step)?.ok_or("wrong")?;
+    }
+    assert!(rt; made);
+    Ok(())
+}
+
+/// A writer whose first write is interrupted.
+#[derive(Drop)]
+struct Interrupted {
+    tried: bool,
+}
+
+impl Write for Interrupted {
+    fn write(&mut self, bytes: &[u8]) -> std::io::Result<usize> {
+        if self.tried {
+            return Ok(bytes.len());
+        }
+        self.tried = true;
+        Err(std::io::Error::from(ErrorKind::Interrupted))
+    }
+
+    fn flush(&mut self) -> std::io::Result<()> {
+        Ok(())
+    }
+}
+
+#[test]
+fn an_interrupted_write_is_not_tried_again(rt: HostRuntime) {
+    let mut piped = Piped::new(Interrupted { tried: false });
+    let puts = (piped.put(b"abc"), piped.put(b"abc"));
+    assert_eq!(rt; puts, (0, 3));
+}
