@@ -6,13 +6,13 @@ use Rattle.script.specs.declared.fault.LineFault.{LineFault}
 use Rattle.script.specs.Machine.{machine_of}
 use Rattle.script.specs.Scripts.{scripts_of}
 use Rattle.script.specs.Steps.{steps_of}
-use Rattle.machine_core.specs.Wire.{Load, after, run_of}
-use Rattle.machine_core.specs.Core.{Core, IsAfter, IsLawful, all_finished, ledger_after}
+use Rattle.machine_core.specs.Wire.{Load, run_of}
+use Rattle.machine_core.specs.Core.{Core, IsAfter, IsLawful, all_finished, core_after_load}
 use Rattle.machine_core.specs.Loaded.{load_of}
 use Rattle.machine_core.specs.Scripts.{AreFinished}
 use Rattle.report_lines.specs.Line.{text_of}
 use Rattle.report_check.specs.Good.{GoodReport}
-use Rattle.history.specs.Report.{report_of}
+use Rattle.history.specs.Report.{machine_report}
 use Rattle.commands.specs.declared.fault.ProgramFault.{ProgramFault}
 use Rattle.commands.specs.declared.fault.ProgramFault.TheVariants as program
 use Rattle.commands.specs.Done.{Does, Output}
@@ -34,21 +34,16 @@ asked_of machine scripts steps =
     machine_of machine then λ m. scripts_of m scripts then λ s. steps_of m steps then λ list.
     Ok (record { load = load_of m s; steps = list })
 
--- the machine after the steps: its agents, its packets, and its book
+-- the machine after the steps
 abbrev pub core_of : Asked → Core
-core_of a = record {
-  shape = a.load.shape;
-  tags = a.load.tags;
-  opening = a.load.opening;
-  state = after a.load a.steps;
-  ledger = ledger_after a.load a.steps;
-}
+core_of a = core_after_load a.load a.steps
 
--- a machine has made the steps that were asked for
+-- a machine has made the steps that were asked for, from the load: it is the one that they lead to
 pub record HasRun (asked : Result Asked LineFault) (c : Core) : Type 0 where
   pub run : Asked
   pub read : asked ≡ Ok run
   pub after : IsAfter run.load c run.steps
+  pub reached : c ≡ core_of run
 
 -- a fault of a text, or want of memory
 abbrev pub IsReadFault : Result Asked LineFault → ProgramFault → Type 0
@@ -62,7 +57,7 @@ IsNoFault f = ⊥
 
 -- a text is the report of a machine's run, a good one, and the answer says whether every script is finished
 pub record IsOfMachine (c : Core) (finished : Bool) (text : List ℕ) : Type 0 where
-  pub is : text ≡ text_of (report_of c)
+  pub is : text ≡ text_of (machine_report c)
   pub good : GoodReport text
   pub value : finished ≡ all_finished c.state
   pub law : (l : Load) (steps : List Step) → IsAfter l c steps → IsTrue finished ↔ AreFinished (run_of l steps) (length steps) l.scripts
@@ -71,10 +66,10 @@ pub record IsOfMachine (c : Core) (finished : Bool) (text : List ℕ) : Type 0 w
 pub record IsRunText (asked : Result Asked LineFault) (finished : Bool) (text : List ℕ) : Type 0 where
   pub run : Asked
   pub read : asked ≡ Ok run
-  pub is : text ≡ text_of (report_of (core_of run))
+  pub is : text ≡ text_of (machine_report (core_of run))
   pub good : GoodReport text
-  pub lawful : IsLawful run.load run.steps (ledger_after run.load run.steps).rows
-  pub value : finished ≡ all_finished (after run.load run.steps)
+  pub lawful : IsLawful run.load run.steps (core_of run).book.rows
+  pub value : finished ≡ all_finished (core_of run).state
   pub ended : IsTrue finished ↔ AreFinished (run_of run.load run.steps) (length run.steps) run.load.scripts
 
 -- this is the first fault of the texts

@@ -5,12 +5,12 @@ use crate::message::fault_text;
 use report_check::CheckFault;
 use report_lines::OutputFailed;
 use script::LineFault;
+use std::error::Error;
 use std::fmt;
-use thiserror::Error;
 use torus::Fault;
 
 /// Why a command failed. It prints as `fault_text` says.
-#[derive(Clone, Copy, Debug, PartialEq, Eq, Error)]
+#[derive(Clone, Copy, Debug, PartialEq, Eq)]
 pub enum ProgramFault {
     /// The first fault of a text.
     Line(LineFault),
@@ -25,10 +25,17 @@ pub enum ProgramFault {
 }
 
 impl fmt::Display for ProgramFault {
+    ghost use Rattle.std.specs.Prelude.{Some};
+    ghost use Rattle.commands.specs.Message.{fault_text_of};
+
+    ghost output = { λ fault. Some (fault_text_of fault) };
+
     fn fmt<W: fmt::Write>(&self, f: &mut fmt::Formatter<W>) -> fmt::Result {
         f.write_str(fault_text(self).as_str())
     }
 }
+
+impl Error for ProgramFault {}
 
 impl From<LineFault> for ProgramFault {
     ghost use Rattle.commands.specs.Outcome.{of_line};

@@ -9,8 +9,6 @@ mod line;
 pub mod message;
 pub mod route;
 pub mod steps;
-#[cfg(test)]
-mod tests;
 
 pub use channels::channels_text;
 pub use check::check_text;

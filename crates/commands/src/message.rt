@@ -1,6 +1,7 @@
 ghost use Rattle.std.specs.Prelude.{◌≡◌, ◌≤◌, ◌+◌, ◌++◌, codes, decimal, length};
 ghost use Rattle.arrayvec.specs.ArrayString.{array_string_len};
-ghost use Rattle.commands.specs.Message.{code_of, fault_text_of, line_text_of};
+ghost use Rattle.torus.specs.FaultCode.{fault_code};
+ghost use Rattle.commands.specs.Message.{fault_text_of, line_text_of};
 
 use crate::ProgramFault;
 use arrayvec::ArrayString;
@@ -11,37 +12,14 @@ use torus::Fault;
 /// A line that the program prints for a fault, without its line feed.
 pub type FaultText = ArrayString<64>;
 
-/// The code of a fault.
-fn code_of(fault: Fault) -> &'static str
-    ensures code { result.now ≡ code_of fault }
-    ensures short { length result.now ≤ 3 }
-{
-    match fault {
-        Fault::Radix => "F1",
-        Fault::Dimensions => "F2",
-        Fault::Tiles => "F3",
-        Fault::Line => "F4",
-        Fault::Setting => "F5",
-        Fault::Range => "F6",
-        Fault::Address => "F7",
-        Fault::Processor => "F8",
-        Fault::Length => "F9",
-        Fault::Last => "F10",
-        Fault::Step => "F11",
-        Fault::Memory => "F12",
-        Fault::Count => "F13",
-        Fault::Dateline => "F14",
-    }
-}
-
 /// `fault` and the code.
 fn coded(fault: Fault) -> FaultText
-    ensures text { result.bytes ≡ codes "fault " ++ code_of fault }
+    ensures text { result.bytes ≡ codes "fault " ++ fault_code fault }
     ensures len { array_string_len result ≤ 9 }
 {
     let mut text = ArrayString::new();
     text.push_str("fault ");
-    text.push_str(code_of(fault));
+    text.push_str(fault.code());
     text
 }
 

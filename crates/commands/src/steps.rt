@@ -6,6 +6,7 @@ ghost use Rattle.commands.specs.Run.{HasRun, IsOfMachine, IsReadFault, IsNoFault
 use crate::ProgramFault;
 use history::{of_run, write_report};
 use machine_core::Machine;
+use machine_core::laws::steps_decide_the_machine;
 use report_lines::Out;
 use script::{read_machine, read_scripts, read_steps};
 use std::alloc::Allocator;
@@ -43,6 +44,7 @@ fn ran<A: Allocator + Copy>(
     let steps = read_steps(alloc, steps, &machine)?;
     let mut machine = Machine::load(alloc, machine, scripts)?;
     machine.run(&steps);
+    steps_decide_the_machine();
     Ok(machine)
 }
 

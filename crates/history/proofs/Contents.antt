@@ -1,6 +1,7 @@
 -- What a machine shows are the contents of a good report.
 use Rattle.std.proofs.Common.{◌≡◌, ℕ, ◌<◌, ◌≤◌, ◌==◌, List, length, map, take, Option, Some, None, slice_get, refl, sym, ap, subst, ◌∙◌, arith, inr, ⊎_elim}
 use Rattle.std.specs.Prelude.{count_by}
+use Rattle.std.specs.List.{flat_map}
 use Rattle.std.proofs.lemmas.List.{length-map}
 use Rattle.std.proofs.lemmas.Option.{slice_get_within}
 use Rattle.packet.specs.declared.kinds.Operation.{Operation}
@@ -9,12 +10,12 @@ use Rattle.home_bank.specs.declared.entry.Entry.{Entry}
 use Rattle.runs.specs.declared.answer.Answer.{Answer}
 use Rattle.runs.specs.declared.ordered.Ordered.{Ordered}
 use Rattle.runs.specs.Observed.{Observed, list_at, total, HasIssued}
-use Rattle.runs.specs.Consequences.{AnswersAreNumbered, AnswersNameEntries, AreEventNumbers, EntryStands, EventKind, Issue, NameEntries, ReplaysByBank, Response, Service, number_of, operation_of, bank_by_bank as entries_by_bank}
+use Rattle.runs.specs.Consequences.{AnswersAreNumbered, AnswersNameEntries, AreEventNumbers, EntryStands, EventKind, Issue, NameEntries, ReplaysByBank, Response, Service, event_number, operation_of}
 use Rattle.runs.proofs.Lists.{within_length}
 use Rattle.report_lines.specs.declared.line.OrderLine.{OrderLine}
 use Rattle.report_lines.specs.declared.parts.EntryRow.{EntryRow}
 use Rattle.report_lines.specs.declared.parts.AnswerRow.{AnswerRow}
-use Rattle.report_facts.specs.Facts.{bank_by_bank, operation_in, rows_at, AnswersAreTold, AreAnswers, AreEntries, AreNumbered, AreOrdered, HasAnswer, HasNumber, NamesRow, StandsIn}
+use Rattle.report_facts.specs.Facts.{operation_in, rows_at, AnswersAreTold, AreAnswers, AreEntries, AreNumbered, AreOrdered, HasAnswer, HasNumber, NamesRow, StandsIn}
 use Rattle.history.specs.Report.{answer_row, entry_row, order_line}
 use Rattle.history.proofs.Mapped.{all_count, all_rows, count_rows, element_at, element_of, map_twice, row_at, row_count, row_of}
 
@@ -24,11 +25,11 @@ entry_rows s = map (map entry_row) s.entries
 abbrev answer_rows : Observed → List (List AnswerRow)
 answer_rows s = map (map answer_row) s.answers
 
-operations_are : (s : Observed) → map operation_in (bank_by_bank (entry_rows s)) ≡ map operation_of (entries_by_bank s.entries)
-operations_are s = ap (map operation_in) (all_rows entry_row s.entries) ∙ map_twice entry_row operation_in operation_of (λ e. refl) (entries_by_bank s.entries)
+operations_are : (s : Observed) → map operation_in (flat_map (λ es. es) (entry_rows s)) ≡ map operation_of (flat_map (λ es. es) s.entries)
+operations_are s = ap (map operation_in) (all_rows entry_row s.entries) ∙ map_twice entry_row operation_in operation_of (λ e. refl) (flat_map (λ es. es) s.entries)
 
-replies_are : (s : Observed) → map (λ (e : EntryRow). e.reply) (bank_by_bank (entry_rows s)) ≡ map (λ (e : Entry). e.reply) (entries_by_bank s.entries)
-replies_are s = ap (map (λ (e : EntryRow). e.reply)) (all_rows entry_row s.entries) ∙ map_twice entry_row (λ (e : EntryRow). e.reply) (λ (e : Entry). e.reply) (λ e. refl) (entries_by_bank s.entries)
+replies_are : (s : Observed) → map (λ (e : EntryRow). e.reply) (flat_map (λ es. es) (entry_rows s)) ≡ map (λ (e : Entry). e.reply) (flat_map (λ es. es) s.entries)
+replies_are s = ap (map (λ (e : EntryRow). e.reply)) (all_rows entry_row s.entries) ∙ map_twice entry_row (λ (e : EntryRow). e.reply) (λ (e : Entry). e.reply) (λ e. refl) (flat_map (λ es. es) s.entries)
 
 pub entered : (tiles tags : ℕ) (opening : List ℕ) (s : Observed) → tags ≤ 16 → total s.entries ≤ 65536
     → ((b place : ℕ) (e : Entry) → slice_get (list_at s.entries b) place ≡ Some e → EntryStands tiles tags (length opening) b e) → ReplaysByBank opening s
@@ -41,7 +42,7 @@ entered tiles tags opening s few_tags few stands replay =
           subst (StandsIn tiles (length opening) b) e.2 (record { bank = h.bank; source = h.source; tag = omega (arith, h.tagged, few_tags); address = h.address; home = h.home });
       few =
           let rows = ap length (all_rows entry_row s.entries) in
-          let same = length-map (entries_by_bank s.entries) entry_row in
+          let same = length-map (flat_map (λ es. es) s.entries) entry_row in
           let count = all_count s.entries in
           omega (arith, few, rows, same, count);
       told = ap (λ (os : List Operation). replies os opening) (operations_are s) ∙ replay.told ∙ sym (replies_are s);
@@ -111,7 +112,7 @@ ordered s rows n names numbers =
     }
 
 -- the number of an order line is that of an event of its row
-event_of : (r : Ordered) (o : OrderLine) (event : ℕ) → order_line r ≡ o → HasNumber o event → (kind : EventKind) × (number_of r kind ≡ Some event)
+event_of : (r : Ordered) (o : OrderLine) (event : ℕ) → order_line r ≡ o → HasNumber o event → (kind : EventKind) × (event_number r kind ≡ Some event)
 event_of r o event is has =
     let P : OrderLine → Type 0 = λ x. HasNumber x event in
     let here : HasNumber (order_line r) event = subst P (sym is) has in

@@ -1,5 +1,5 @@
 -- The report of a machine that is reached is a good one.
-use Rattle.std.proofs.Common.{◌≡◌, ℕ, ◌≤◌, All, Bool, List, map, refl, sym, subst, arith}
+use Rattle.std.proofs.Common.{◌≡◌, ℕ, All, Bool, List, map, refl, sym, subst, arith}
 use Rattle.torus.specs.Shape.{Shape, tiles_of}
 use Rattle.runs.specs.Observed.{event_count}
 use Rattle.report_lines.specs.Line.{text_of}
@@ -13,22 +13,22 @@ use Rattle.report_check.specs.Good.{AreGood, GoodReport}
 use Rattle.report_facts.specs.Facts.{AreContents}
 use Rattle.machine_core.specs.Core.{Core, all_finished, shown}
 use Rattle.machine_core.specs.Reported.{ReportsWell}
-use Rattle.history.specs.Report.{answer_row, entry_row, order_line, report_of}
+use Rattle.history.specs.Report.{answer_row, entry_row, order_line, machine_report}
 use Rattle.history.proofs.Contents.{answered, complete, entered, numbered, ordered, told}
 
 -- what it shows are the contents of a good report
-contents : (c : Core) → ReportsWell c → event_count (shown c) ≤ 196608 → AreContents c.shape c.opening (map (map entry_row) (shown c).entries) (map (map answer_row) (shown c).answers) (shown c).memory (map order_line c.ledger.rows) (all_finished c.state)
-contents c well few =
+contents : (c : Core) → ReportsWell c → AreContents c.shape c.opening (map (map entry_row) (shown c).entries) (map (map answer_row) (shown c).answers) (shown c).memory (map order_line c.book.rows) (all_finished c.state)
+contents c well =
     record {
       accepted = well.shape;
       words_low = well.words_low;
       words_high = well.words_high;
       entered = entered (tiles_of c.shape) c.tags c.opening (shown c) well.tags (let rows = well.entries.count in omega (arith, rows, well.few)) well.stands well.replay;
       answered = answered (shown c) well.answers well.indexes;
-      ordered = ordered (shown c) c.ledger.rows (event_count (shown c)) well.entries well.numbers;
-      numbered = numbered c.ledger.rows (event_count (shown c)) few well.numbers;
-      told = told (shown c) c.ledger.rows well.answered;
-      complete = λ done. complete (shown c) c.ledger.rows well.entries well.answered (well.complete_rows done);
+      ordered = ordered (shown c) c.book.rows (event_count (shown c)) well.entries well.numbers;
+      numbered = numbered c.book.rows (event_count (shown c)) well.events well.numbers;
+      told = told (shown c) c.book.rows well.answered;
+      complete = λ done. complete (shown c) c.book.rows well.entries well.answered (well.complete_rows done);
     }
 
 -- the law of good contents
@@ -39,7 +39,7 @@ ContentsAreGood =
     → All FitsLine (report_lines_of shape opening entries answers last order finished)
     → AreGood (report_lines_of shape opening entries answers last order finished)
 
-pub good_report : (c : Core) (lines : List ReportLine) → ContentsAreGood → ReportsWell c → event_count (shown c) ≤ 196608 → lines ≡ report_of c → All FitsLine lines → GoodReport (text_of lines)
-good_report c lines law well few is fits =
-    let good : AreGood (report_of c) = law c.shape c.opening (map (map entry_row) (shown c).entries) (map (map answer_row) (shown c).answers) (shown c).memory (map order_line c.ledger.rows) (all_finished c.state) (contents c well few) (subst (All FitsLine) is fits) in
+pub good_report : (c : Core) (lines : List ReportLine) → ContentsAreGood → ReportsWell c → lines ≡ machine_report c → All FitsLine lines → GoodReport (text_of lines)
+good_report c lines law well is fits =
+    let good : AreGood (machine_report c) = law c.shape c.opening (map (map entry_row) (shown c).entries) (map (map answer_row) (shown c).answers) (shown c).memory (map order_line c.book.rows) (all_finished c.state) (contents c well) (subst (All FitsLine) is fits) in
     record { lines = lines; printed = refl; good = subst AreGood (sym is) good }

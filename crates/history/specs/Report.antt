@@ -1,6 +1,6 @@
--- What the report of a machine says (this project's own format).
-use Rattle.std.specs.Prelude.{◌≡◌, ◌≤◌, All, List, length, map}
-use Rattle.torus.specs.Shape.{tiles_of}
+-- What the report of a run says (this project's own format).
+use Rattle.std.specs.Prelude.{◌≡◌, ◌≤◌, ℕ, All, Bool, List, length, map}
+use Rattle.torus.specs.Shape.{Shape, tiles_of}
 use Rattle.home_bank.specs.declared.entry.Entry.{Entry}
 use Rattle.runs.specs.declared.answer.Answer.{Answer}
 use Rattle.runs.specs.declared.ordered.Ordered.{Ordered}
@@ -10,7 +10,7 @@ use Rattle.report_lines.specs.declared.parts.EntryRow.{EntryRow}
 use Rattle.report_lines.specs.declared.parts.AnswerRow.{AnswerRow}
 use Rattle.report_lines.specs.declared.parts.Parts.{Parts}
 use Rattle.report_lines.specs.Contents.{items_of, report_lines_of}
-use Rattle.runs.specs.Observed.{event_count}
+use Rattle.runs.specs.Observed.{Observed, event_count}
 use Rattle.machine_core.specs.Core.{Core, shown, all_finished}
 
 -- what is reported of a service
@@ -25,9 +25,13 @@ answer_row a = record { index = a.index; bank = a.bank; place = a.place; reply =
 abbrev pub order_line : Ordered → OrderLine
 order_line r = record { bank = r.bank; place = r.place; issued = r.issued; served = r.served; answered = r.answered }
 
--- the report of a machine: its shape, opening words, histories, answers, words, one order, and whether every script is finished
-abbrev pub report_of : Core → List ReportLine
-report_of c = report_lines_of c.shape c.opening (map (map entry_row) (shown c).entries) (map (map answer_row) (shown c).answers) (shown c).memory (map order_line c.ledger.rows) (all_finished c.state)
+-- the report of a run: the torus, the opening words, the entries, answers and words that are shown, the rows of the one order, if they are told, and whether every script is finished
+abbrev pub report_of : Shape → List ℕ → Observed → List Ordered → Bool → List ReportLine
+report_of shape opening seen rows finished = report_lines_of shape opening (map (map entry_row) seen.entries) (map (map answer_row) seen.answers) seen.memory (map order_line rows) finished
+
+-- the report of a machine
+abbrev pub machine_report : Core → List ReportLine
+machine_report c = report_of c.shape c.opening (shown c) c.book.rows (all_finished c.state)
 
 -- these are the parts of the report of a machine
 pub record IsMadeOf {A : Type 0} (c : Core) (parts : Parts A) : Type 0 where
@@ -36,7 +40,7 @@ pub record IsMadeOf {A : Type 0} (c : Core) (parts : Parts A) : Type 0 where
   pub entries : items_of parts.entries.items ≡ map (map entry_row) (shown c).entries
   pub answers : items_of parts.answers.items ≡ map (map answer_row) (shown c).answers
   pub last : parts.last.items ≡ (shown c).memory
-  pub order : parts.order.items ≡ map order_line c.ledger.rows
+  pub order : parts.order.items ≡ map order_line c.book.rows
   pub finished : parts.finished ≡ all_finished c.state
 
 -- a machine has a bank and a processor for each of at most 64 tiles, a word for each of at most 65536 addresses, at most 65536 entries in each bank, and at most 196608 events (this project's own format)

@@ -10,6 +10,3 @@ pub use report_lines::{
     Piped, Radices, Report, ReportLine, line_of, write_report,
 };
 pub use run::of_run;
-
-#[cfg(test)]
-mod tests;

@@ -57,7 +57,7 @@ fn entry_row(entry: Entry) -> EntryRow
     }
 }
 
-/// What is reported of a bank's history.
+/// What is reported of a bank's services.
 fn entry_rows<A: Allocator + Copy>(
     alloc: A,
     entries: &[Entry],
@@ -71,7 +71,7 @@ fn entry_rows<A: Allocator + Copy>(
     Ok(rows)
 }
 
-/// What is reported of each bank's history.
+/// What is reported of each bank's services.
 pub fn bank_rows<A: Allocator + Copy, B: Allocator>(
     alloc: A,
     machine: &Machine<B>,

@@ -3,7 +3,7 @@
 ghost use Rattle.std.specs.Prelude.{◌≡◌, IfErr, IfOk};
 ghost use Rattle.report_lines.specs.Line.{text_of};
 ghost use Rattle.report_check.specs.Good.{GoodReport};
-ghost use Rattle.history.specs.Report.{IsMadeOf, IsWithinLimits, report_of};
+ghost use Rattle.history.specs.Report.{IsMadeOf, IsWithinLimits, machine_report};
 
 use crate::rows::{bank_rows, last_words, opening_words, order_lines, processor_rows};
 use machine_core::Machine;
@@ -19,6 +19,7 @@ fn limits<B: Allocator>(machine: &Machine<B>)
     ensures { IsWithinLimits machine.now }
 {
     machine.reached();
+    reached_machines_report_well();
 }
 
 /// The parts of a machine's report.
@@ -52,8 +53,7 @@ fn parts_of<A: Allocator + Copy, B: Allocator>(
 
 /// The report of a machine is a good one.
 fn goodness<A: Allocator + Copy, B: Allocator>(machine: &Machine<B>, report: &Report<A>)
-    requires limits { IsWithinLimits machine.now }
-    requires report { report.now ≡ report_of machine.now }
+    requires { report.now ≡ machine_report machine.now }
     ensures { GoodReport (text_of report.now) }
 {
     machine.reached();
@@ -67,7 +67,7 @@ fn lines_of_run<A: Allocator + Copy, B: Allocator>(
     alloc: A,
     machine: &Machine<B>,
 ) -> Result<Report<A>, AllocError>
-    ensures report { IfOk result (λ report. report ≡ report_of machine.now) }
+    ensures report { IfOk result (λ report. report ≡ machine_report machine.now) }
     ensures good { IfOk result (λ report. GoodReport (text_of report)) }
 {
     limits(machine);
@@ -77,7 +77,7 @@ fn lines_of_run<A: Allocator + Copy, B: Allocator>(
     Ok(report)
 }
 
-/// The report of a machine's run: its shape, opening words, histories, answers, words, one order,
+/// The report of a machine's run: its shape, opening words, entries, answers, words, one order,
 /// and whether every script is finished.
 ///
 /// Errors: `Fault::Memory` alone.
@@ -86,7 +86,7 @@ pub fn of_run<A: Allocator + Copy, B: Allocator>(
     machine: &Machine<B>,
 ) -> Result<Report<A>, Fault>
     // The report says what the machine shows.
-    ensures report { IfOk result (λ report. report ≡ report_of machine.now) }
+    ensures report { IfOk result (λ report. report ≡ machine_report machine.now) }
     // It is a good one: the checker accepts its text.
     ensures good { IfOk result (λ report. GoodReport (text_of report)) }
     ensures fault { IfErr result (λ fault. fault ≡ Fault.Memory) }

@@ -13,9 +13,9 @@ needed id = record (new_rule id) { required = true }
 abbrev pub tile : Text → Rule
 tile id = record (new_rule id) { required = true; parser = Some (vp.Signed (pos 0) (pos 4294967295)) }
 
--- the option `--reply`
-abbrev pub reply_flag : Rule
-reply_flag = record (new_rule (codes "reply")) { long = Some (codes "reply"); action = Some SetTrue }
+-- an option of this name, which has no value
+abbrev pub flag : Text → Rule
+flag name = record (new_rule name) { long = Some name; action = Some SetTrue }
 
 -- `steps MACHINE SCRIPT STEPS`
 abbrev pub steps_app : App
@@ -25,7 +25,7 @@ steps_app = with_rule (with_rule (with_rule (new_app (codes "steps"))
 -- `route MACHINE SRC DST [--reply]`
 abbrev pub route_app : App
 route_app = with_rule (with_rule (with_rule (with_rule (new_app (codes "route"))
-    (needed (codes "MACHINE"))) (tile (codes "SRC"))) (tile (codes "DST"))) reply_flag
+    (needed (codes "MACHINE"))) (tile (codes "SRC"))) (tile (codes "DST"))) (flag (codes "reply"))
 
 -- `channels MACHINE`
 abbrev pub channels_app : App

@@ -1,7 +1,7 @@
 ghost use Rattle.std.specs.Prelude.{◌≡◌, IfOk, IfSome, Some, map, codes, false, option_map};
-ghost use Rattle.clap.specs.Words.{app_of, found_of, first_of, one_of, rows_of, rule_of, subcommand_name_of, subcommand_rows_of};
+ghost use Rattle.clap.specs.Words.{app_of, found_of, first_of, new_app, one_of, rows_of, subcommand_name_of, subcommand_rows_of, with_rule};
 ghost use Rattle.clap.specs.declared.builder.command.Command.TheViews.{out-Command as fields_of};
-ghost use Rattle.torusmem.specs.CommandLine.{steps_app, route_app, channels_app, check_app, running_app, routing_app, torusmem_app, needed, tile, reply_flag, name_by, rows_by};
+ghost use Rattle.torusmem.specs.CommandLine.{steps_app, route_app, channels_app, check_app, running_app, routing_app, torusmem_app, needed, tile, flag, name_by, rows_by};
 ghost use Rattle.torusmem.specs.Job.{AreOf, class_word, name_of, number_in, rows_in};
 
 use clap::error::ErrorKind;
@@ -133,65 +133,100 @@ fn running_command<'a>(alloc: Global) -> Result<Command<'a>, AllocError>
 fn steps_command<'a>(alloc: Global) -> Result<Command<'a>, AllocError>
     ensures { IfOk result (λ c. (app_of c ≡ steps_app) × ((fields_of c).has_globals ≡ false)) }
 {
-    Command::new(alloc, "steps")
-        .about("Runs the listed steps and prints the report")
-        .arg(needed(alloc, "MACHINE", "The file of the machine"))?
-        .arg(needed(alloc, "SCRIPT", "The file of the scripts"))?
-        .arg(needed(alloc, "STEPS", "The file of the steps"))
+    let command = named(
+        alloc,
+        "steps",
+        "Runs the listed steps and prints the report",
+    );
+    let command = with_file(alloc, command, "MACHINE", "The file of the machine")?;
+    let command = with_file(alloc, command, "SCRIPT", "The file of the scripts")?;
+    with_file(alloc, command, "STEPS", "The file of the steps")
 }
 
 fn route_command<'a>(alloc: Global) -> Result<Command<'a>, AllocError>
     ensures { IfOk result (λ c. (app_of c ≡ route_app) × ((fields_of c).has_globals ≡ false)) }
 {
-    Command::new(alloc, "route")
-        .about("Prints the channels of a route and their numbers")
-        .arg(needed(alloc, "MACHINE", "The file of the machine"))?
-        .arg(tile(alloc, "SRC", "The tile that sends"))?
-        .arg(tile(alloc, "DST", "The tile that receives"))?
-        .arg(reply_flag(alloc))
+    let command = named(
+        alloc,
+        "route",
+        "Prints the channels of a route and their numbers",
+    );
+    let command = with_file(alloc, command, "MACHINE", "The file of the machine")?;
+    let command = with_tile(alloc, command, "SRC", "The tile that sends")?;
+    let command = with_tile(alloc, command, "DST", "The tile that receives")?;
+    let help = "The route of a reply, and not of a request";
+    with_flag(alloc, command, "reply", help)
 }
 
 fn channels_command<'a>(alloc: Global) -> Result<Command<'a>, AllocError>
     ensures { IfOk result (λ c. (app_of c ≡ channels_app) × ((fields_of c).has_globals ≡ false)) }
 {
-    Command::new(alloc, "channels")
-        .about("Prints the number of each channel, and checks that they rise along every route")
-        .arg(needed(alloc, "MACHINE", "The file of the machine"))
+    let command = named(
+        alloc,
+        "channels",
+        "Prints the number of each channel, and checks that they rise along every route",
+    );
+    with_file(alloc, command, "MACHINE", "The file of the machine")
 }
 
 fn check_command<'a>(alloc: Global) -> Result<Command<'a>, AllocError>
     ensures { IfOk result (λ c. (app_of c ≡ check_app) × ((fields_of c).has_globals ≡ false)) }
 {
-    Command::new(alloc, "check")
-        .about("Checks a report")
-        .arg(needed(alloc, "REPORT", "The file of the report"))
+    let command = named(alloc, "check", "Checks a report");
+    with_file(alloc, command, "REPORT", "The file of the report")
 }
 
-/// A word that has to stand there.
-fn needed<'a>(alloc: Global, id: &'a str, help: &'a str) -> Arg<'a>
-    ensures rule { rule_of result ≡ needed id.entry.now }
-    ensures local { result.global ≡ false }
+/// A command of this name that takes no words as yet.
+fn named<'a>(alloc: Global, name: &'a str, about: &'a str) -> Command<'a>
+    ensures app { app_of result ≡ new_app name.entry.now }
+    ensures local { (fields_of result).has_globals ≡ false }
 {
-    Arg::new(alloc, id).required(true).help(help)
+    Command::new(alloc, name).about(about)
 }
 
-/// A tile that has to be named: any number of 32 bits.
-fn tile<'a>(alloc: Global, id: &'a str, help: &'a str) -> Arg<'a>
-    ensures rule { rule_of result ≡ tile id.entry.now }
-    ensures local { result.global ≡ false }
+/// The command with one more word, a file's name, that has to stand there.
+fn with_file<'a>(
+    alloc: Global,
+    command: Command<'a>,
+    id: &'a str,
+    help: &'a str,
+) -> Result<Command<'a>, AllocError>
+    requires { (fields_of command).has_globals ≡ false }
+    ensures { IfOk result (λ c. (app_of c ≡ with_rule (app_of command.entry) (needed id.entry.now)) × ((fields_of c).has_globals ≡ false)) }
 {
-    Arg::new(alloc, id)
+    command.arg(Arg::new(alloc, id).required(true).help(help))
+}
+
+/// The command with one more word, a tile, that has to stand there: any number of 32 bits.
+fn with_tile<'a>(
+    alloc: Global,
+    command: Command<'a>,
+    id: &'a str,
+    help: &'a str,
+) -> Result<Command<'a>, AllocError>
+    requires { (fields_of command).has_globals ≡ false }
+    ensures { IfOk result (λ c. (app_of c ≡ with_rule (app_of command.entry) (tile id.entry.now)) × ((fields_of c).has_globals ≡ false)) }
+{
+    let number = Arg::new(alloc, id)
         .required(true)
         .value_parser(value_parser!(u32))
-        .help(help)
+        .help(help);
+    command.arg(number)
 }
 
-fn reply_flag<'a>(alloc: Global) -> Arg<'a>
-    ensures rule { rule_of result ≡ reply_flag }
-    ensures local { result.global ≡ false }
+/// The command with one more option, a flag of this name.
+fn with_flag<'a>(
+    alloc: Global,
+    command: Command<'a>,
+    name: &'a str,
+    help: &'a str,
+) -> Result<Command<'a>, AllocError>
+    requires { (fields_of command).has_globals ≡ false }
+    ensures { IfOk result (λ c. (app_of c ≡ with_rule (app_of command.entry) (flag name.entry.now)) × ((fields_of c).has_globals ≡ false)) }
 {
-    Arg::new(alloc, "reply")
-        .long("reply")
+    let option = Arg::new(alloc, name)
+        .long(name)
         .action(ArgAction::SetTrue)
-        .help("The route of a reply, and not of a request")
+        .help(help);
+    command.arg(option)
 }

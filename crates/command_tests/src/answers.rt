@@ -1,0 +1,765 @@
+ghost use Rattle.std.specs.Prelude.{None};
+
+use arrayvec::{ArrayString, ArrayVec};
+use commands::{
+    ProgramFault, channels_text, check_text, fault_text, finished, route_text, status_of,
+    steps_text,
+};
+use linked_list_allocator::LocalHeap;
+use report_lines::{Out, Piped};
+use script::LineFault;
+use std::alloc::{AllocError, Allocator};
+use std::test::Fail;
+use torus::{Class, Fault};
+
+/// Takes at most so many bytes a put, and none at the put of one number, counted from 1.
+#[derive(Drop)]
+struct Sink {
+    bytes: ArrayVec<u8, 4096>,
+    most: usize,
+    failing: usize,
+    puts: usize,
+    failures: u64,
+}
+
+impl Sink {
+    fn new(most: usize, failing: usize) -> Self {
+        Sink {
+            bytes: ArrayVec::new(),
+            most,
+            failing,
+            puts: 0,
+            failures: 0,
+        }
+    }
+
+    /// Takes all bytes.
+    fn whole() -> Self {
+        Sink::new(4096, 0)
+    }
+}
+
+impl Out for Sink {
+    ghost taken = { λ _. None };
+
+    ghost failures = { λ s. s.failures };
+
+    fn put(&mut self, bytes: &[u8]) -> usize {
+        self.puts = self.puts.saturating_add(1);
+        let mut taken = bytes.len().min(self.most);
+        if self.puts == self.failing || self.bytes.try_extend_from_slice(&bytes[..taken]).is_err() {
+            taken = 0;
+        }
+        if !bytes.is_empty() && taken == 0 {
+            self.failures = self.failures.saturating_add(1);
+        }
+        taken
+    }
+}
+
+/// Two tiles.
+const PAIR: &str = "radix 2\ndims 1\ndepth 4\ntags 4\nwords 8\n";
+
+/// A square of sixteen tiles.
+const SQUARE: &str = "radix 4\ndims 2\ndepth 4\ntags 4\nwords 8\n";
+
+/// Eight tiles of two radices.
+const OBLONG: &str = "radix 2 4\ndims 2\ndepth 4\ntags 4\nwords 8\n";
+
+/// A ring of eight tiles, whose dateline stands behind digit 2.
+const DATED: &str = "radix 8\ndims 1\ndateline 2\ndepth 4\ntags 4\nwords 8\n";
+
+const REPORT: &str =
+    "torusmem 1\nshape 2 1 8\nentry 1 0 0 0 store 5 17 ok\nentry 1 1 0 0 load 5 17\nanswer 0 0 1 0 ok\nanswer 0 1 1 1 17\nword 5 17\norder 1 0 1 2 3\norder 1 1 4 5 6\nend complete\n";
+
+const CHANNELS: &str =
+    "channel 0 0 1\nchannel 0 1 4\nchannel 0 2 7\nchannel 0 3 10\nchannel 0 4 2\nchannel 0 5 3\nchannel 0 6 8\nchannel 0 7 9\nchannel 0 8 0\nchannel 0 9 6\nchannel 0 10 5\nchannel 0 11 11\nchannel 1 0 2\nchannel 1 1 3\nchannel 1 2 8\nchannel 1 3 9\nchannel 1 4 1\nchannel 1 5 4\nchannel 1 6 7\nchannel 1 7 10\nchannel 1 8 0\nchannel 1 9 6\nchannel 1 10 5\nchannel 1 11 11\nrising\n";
+
+/// A good run of two operations.
+const SCRIPT: &str = "0 store 5 17\n0 load 5\n";
+
+const STEPS: &str = "0 send\n5 serve\n0 take\n0 send\n5 serve\n0 take\n";
+
+const NEWER: &str =
+    "torusmem 2\nshape 2 1 8\ninit 0 12\nentry 0 0 0 0 and 0 10 12\nentry 0 1 0 0 or 0 3 8\nentry 0 2 0 0 xor 0 6 11\nentry 0 3 0 0 max 0 20 13\nentry 0 4 0 0 min 0 5 20\nanswer 0 0 0 0 12\nanswer 0 1 0 1 8\nanswer 0 2 0 2 11\nanswer 0 3 0 3 13\nanswer 0 4 0 4 20\nword 0 5\norder 0 0 1 2 3\norder 0 1 4 5 6\norder 0 2 7 8 9\norder 0 3 10 11 12\norder 0 4 13 14 15\nend complete\n";
+
+/// What is asked for.
+#[derive(Drop)]
+enum Job<'a> {
+    /// A run of the steps of a text, of a machine and its scripts.
+    Steps(&'a str, &'a str, &'a str),
+    /// A route in a machine, of a packet of a class from a tile to a tile.
+    Route(&'a str, u32, u32, Class),
+    /// The channels of a machine.
+    Channels(&'a str),
+    /// The verdict on a report.
+    Check(&'a str),
+}
+
+/// Does a job.
+fn done<A: Allocator + Copy>(
+    alloc: A,
+    job: &Job<'_>,
+    out: &mut Sink,
+) -> Result<bool, ProgramFault> {
+    match *job {
+        Job::Steps(machine, scripts, steps) => steps_text(
+            alloc,
+            machine.as_bytes(),
+            scripts.as_bytes(),
+            steps.as_bytes(),
+            out,
+        ),
+        Job::Route(machine, src, dst, class) => {
+            finished(route_text(alloc, machine.as_bytes(), src, dst, class, out))
+        }
+        Job::Channels(machine) => finished(channels_text(alloc, machine.as_bytes(), out)),
+        Job::Check(report) => finished(check_text(alloc, report.as_bytes(), out)),
+    }
+}
+
+/// Whether a job answers that all is finished, or that not all is, and writes this text.
+fn writes<A: Allocator + Copy>(alloc: A, job: &Job<'_>, is_finished: bool, text: &str) -> bool {
+    let mut sink = Sink::whole();
+    done(alloc, job, &mut sink) == Ok(is_finished) && sink.bytes.as_slice() == text.as_bytes()
+}
+
+/// Whether a job is refused with this fault, and nothing is written.
+fn refuses<A: Allocator + Copy>(alloc: A, job: &Job<'_>, fault: ProgramFault) -> bool {
+    let mut sink = Sink::whole();
+    done(alloc, job, &mut sink) == Err(fault) && sink.puts == 0
+}
+
+/// Commands that write a text and end well; the routes of requests and replies, with and without a
+/// hop over the dateline, whose place may be stated.
+const WRITTEN: [(Job<'static>, &str); 12] = [
+    (Job::Channels(PAIR), CHANNELS),
+    (Job::Check(REPORT), "good report\n"),
+    (
+        Job::Route(SQUARE, 0, 10, Class::Request),
+        "inject 0 0\nhop 0 0 plus 0 1\nhop 1 0 plus 0 2\nhop 2 1 plus 0 9\nhop 6 1 plus 0 10\neject 10 17\n",
+    ),
+    (
+        Job::Route(
+            "radix 8\ndims 1\ndepth 1\ntags 1\nwords 1\n",
+            6,
+            1,
+            Class::Request,
+        ),
+        "inject 6 0\nhop 6 0 plus 0 7\nhop 7 0 plus 1 9\nhop 0 0 plus 1 10\neject 1 17\n",
+    ),
+    (
+        Job::Route(
+            "radix 5\ndims 1\ndepth 1\ntags 1\nwords 1\n",
+            0,
+            3,
+            Class::Request,
+        ),
+        "inject 0 0\nhop 0 0 minus 1 6\nhop 4 0 minus 1 7\neject 3 11\n",
+    ),
+    (
+        Job::Route(
+            "radix 4\ndims 1\ndepth 1\ntags 1\nwords 1\n",
+            2,
+            2,
+            Class::Request,
+        ),
+        "inject 2 0\neject 2 9\n",
+    ),
+    (
+        Job::Route(SQUARE, 10, 0, Class::Reply),
+        "inject 10 18\nhop 10 0 plus 0 21\nhop 11 0 plus 1 23\nhop 8 1 plus 0 29\nhop 12 1 plus 1 31\neject 0 35\n",
+    ),
+    (
+        Job::Route(PAIR, 1, 0, Class::Reply),
+        "inject 1 6\nhop 1 0 plus 1 9\neject 0 11\n",
+    ),
+    (
+        Job::Route(OBLONG, 1, 6, Class::Reply),
+        "inject 1 14\nhop 1 0 plus 1 17\nhop 0 1 minus 1 23\neject 6 27\n",
+    ),
+    (
+        Job::Route(DATED, 6, 1, Class::Request),
+        "inject 6 0\nhop 6 0 plus 0 4\nhop 7 0 plus 0 5\nhop 0 0 plus 0 6\neject 1 17\n",
+    ),
+    (
+        Job::Route(DATED, 1, 4, Class::Request),
+        "inject 1 0\nhop 1 0 plus 0 7\nhop 2 0 plus 1 9\nhop 3 0 plus 1 10\neject 4 17\n",
+    ),
+    (
+        Job::Route(OBLONG, 1, 6, Class::Request),
+        "inject 1 0\nhop 1 0 plus 1 3\nhop 0 1 minus 1 9\neject 6 13\n",
+    ),
+];
+
+#[test]
+fn commands_write_their_texts(rt: HostRuntime) {
+    for (job, text) in &WRITTEN {
+        assert!(rt; writes(rt.alloc(), job, true, text), "{text}");
+    }
+}
+
+/// Runs, whether all their scripts are finished, and their reports.
+const RUNS: [(Job<'static>, bool, &str); 17] = [
+    (Job::Steps(PAIR, SCRIPT, STEPS), true, REPORT),
+    // Lines that end with CR LF, comments and empty lines are read alike.
+    (
+        Job::Steps(
+            PAIR,
+            "# two operations\r\n\r\n0 store 5 17\r\n\t0  load 005 \r\n",
+            STEPS,
+        ),
+        true,
+        REPORT,
+    ),
+    // There is nothing to do.
+    (
+        Job::Steps(PAIR, "", ""),
+        true,
+        "torusmem 1\nshape 2 1 8\nend complete\n",
+    ),
+    (
+        Job::Steps(OBLONG, "", "0 send\n2 serve\n"),
+        true,
+        "torusmem 1\nshape 2x4 2 8\nend complete\n",
+    ),
+    // No step is made.
+    (
+        Job::Steps(
+            "radix 2\ndims 1\ndepth 4\ntags 4\nwords 64\n",
+            "0 load 63\n",
+            "",
+        ),
+        false,
+        "torusmem 1\nshape 2 1 64\nend incomplete\n",
+    ),
+    // No tag is free for the second operation.
+    (
+        Job::Steps(
+            "radix 2\ndims 1\ndepth 4\ntags 1\nwords 8\n",
+            "0 load 0\n0 load 1\n",
+            "0 send\n0 send\n2 serve\n",
+        ),
+        false,
+        "torusmem 1\nshape 2 1 8\nentry 0 0 0 0 load 0 0\norder 0 0 1 2 -\nend incomplete\n",
+    ),
+    // A sum wraps.
+    (
+        Job::Steps(
+            "radix 2\ndims 1\ndepth 4\ntags 4\nwords 8\ninit 0 18446744073709551615\n",
+            "0 add 0 1\n",
+            "0 send\n2 serve\n0 take\n",
+        ),
+        true,
+        "torusmem 1\nshape 2 1 8\ninit 0 18446744073709551615\nentry 0 0 0 0 add 0 1 18446744073709551615\nanswer 0 0 0 0 18446744073709551615\norder 0 0 1 2 3\nend complete\n",
+    ),
+    // A word is exchanged where it is the one that is expected.
+    (
+        Job::Steps(
+            "radix 2\ndims 1\ndepth 4\ntags 4\nwords 8\ninit 2 7\n",
+            "0 cas 2 7 9\n0 fence\n0 cas 2 7 8\n",
+            "0 send\n2 serve\n0 send\n0 take\n0 send\n2 serve\n0 take\n",
+        ),
+        true,
+        "torusmem 1\nshape 2 1 8\ninit 2 7\nentry 0 0 0 0 cas 2 7 9 7\nentry 0 1 0 0 cas 2 7 8 9\nanswer 0 0 0 0 7\nanswer 0 1 0 1 9\nword 2 9\norder 0 0 1 2 3\norder 0 1 4 5 6\nend complete\n",
+    ),
+    (
+        Job::Steps(PAIR, "0 swap 7 3\n0 fence\n0 swap 7 3\n", STEPS),
+        true,
+        "torusmem 1\nshape 2 1 8\nentry 1 0 0 0 swap 7 3 0\nentry 1 1 0 0 swap 7 3 3\nanswer 0 0 1 0 0\nanswer 0 1 1 1 3\nword 7 3\norder 1 0 1 2 3\norder 1 1 4 5 6\nend complete\n",
+    ),
+    // The last reply is stored.
+    (
+        Job::Steps(
+            "radix 2\ndims 1\ndepth 4\ntags 4\nwords 8\ninit 4 9\n",
+            "0 load 4\n0 store 5 last\n",
+            "0 send\n0 send\n2 serve\n0 take\n0 send\n5 serve\n0 take\n",
+        ),
+        true,
+        "torusmem 1\nshape 2 1 8\ninit 4 9\nentry 0 0 0 0 load 4 9\nentry 1 0 0 0 store 5 9 ok\nanswer 0 0 0 0 9\nanswer 0 1 1 0 ok\nword 4 9\nword 5 9\norder 0 0 1 2 3\norder 1 0 4 5 6\nend complete\n",
+    ),
+    // A spin gives up after three loads.
+    (
+        Job::Steps(
+            PAIR,
+            "0 spin 0 1 3\n",
+            "0 send\n2 serve\n0 take\n0 send\n2 serve\n0 take\n0 send\n2 serve\n0 take\n0 send\n",
+        ),
+        true,
+        "torusmem 1\nshape 2 1 8\nentry 0 0 0 0 load 0 0\nentry 0 1 0 0 load 0 0\nentry 0 2 0 0 load 0 0\nanswer 0 0 0 0 0\nanswer 0 1 0 1 0\nanswer 0 2 0 2 0\norder 0 0 1 2 3\norder 0 1 4 5 6\norder 0 2 7 8 9\nend complete\n",
+    ),
+    // The newer operations.
+    (
+        Job::Steps(
+            "radix 2\ndims 1\ndepth 4\ntags 4\nwords 8\ninit 0 12\n",
+            "0 and 0 10\n0 fence\n0 or 0 3\n0 fence\n0 xor 0 6\n0 fence\n0 max 0 20\n0 fence\n0 min 0 5\n",
+            "0 send\n2 serve\n0 take\n0 send\n2 serve\n0 take\n0 send\n2 serve\n0 take\n0 send\n2 serve\n0 take\n0 send\n2 serve\n0 take\n",
+        ),
+        true,
+        NEWER,
+    ),
+    // Radices that differ.
+    (
+        Job::Steps(
+            "radix 2 4\ndims 2\ndepth 4\ntags 4\nwords 8\ninit 3 9\n",
+            "",
+            "",
+        ),
+        true,
+        "torusmem 1\nshape 2x4 2 8\ninit 3 9\nword 3 9\nend complete\n",
+    ),
+    // With one tag the second `send` is idle, and the store is served but not answered.
+    (
+        Job::Steps(
+            "radix 2\ndims 1\ndepth 4\ntags 1\nwords 8\n",
+            SCRIPT,
+            "0 send\n0 send\n5 serve\n",
+        ),
+        false,
+        "torusmem 1\nshape 2 1 8\nentry 1 0 0 0 store 5 17 ok\nword 5 17\norder 1 0 1 2 -\nend incomplete\n",
+    ),
+    // Two processors and both banks; the second answer of processor 0 comes before the first.
+    (
+        Job::Steps(
+            PAIR,
+            "0 add 4 1\n0 load 1\n1 store 1 7\n",
+            "3 send\n5 serve\n0 send\n0 send\n5 serve\n0 take\n2 serve\n0 take\n3 take\n",
+        ),
+        true,
+        "torusmem 1\nshape 2 1 8\nentry 0 0 0 0 add 4 1 0\nentry 1 0 1 0 store 1 7 ok\nentry 1 1 0 1 load 1 7\nanswer 0 0 0 0 0\nanswer 0 1 1 1 7\nanswer 1 0 1 0 ok\nword 1 7\nword 4 1\norder 1 0 1 2 9\norder 1 1 4 5 6\norder 0 0 3 7 8\nend complete\n",
+    ),
+    // The newer operations with no fences between them.
+    (
+        Job::Steps(
+            "radix 2\ndims 1\ndepth 4\ntags 4\nwords 8\ninit 0 12\n",
+            "0 and 0 10\n0 or 0 3\n0 xor 0 6\n0 max 0 20\n0 min 0 5\n",
+            "0 send\n2 serve\n0 take\n0 send\n2 serve\n0 take\n0 send\n2 serve\n0 take\n0 send\n2 serve\n0 take\n0 send\n2 serve\n0 take\n",
+        ),
+        true,
+        NEWER,
+    ),
+    // Two operations are served in the other order than they were issued.
+    (
+        Job::Steps(
+            PAIR,
+            "0 load 0\n1 load 1\n",
+            "0 send\n3 send\n5 serve\n2 serve\n3 take\n0 take\n",
+        ),
+        true,
+        "torusmem 1\nshape 2 1 8\nentry 0 0 0 0 load 0 0\nentry 1 0 1 0 load 1 0\nanswer 0 0 0 0 0\nanswer 1 0 1 0 0\norder 1 0 2 3 5\norder 0 0 1 4 6\nend complete\n",
+    ),
+];
+
+#[test]
+fn runs_write_good_reports(rt: HostRuntime) {
+    for (job, is_finished, report) in &RUNS {
+        let is_written = writes(rt.alloc(), job, *is_finished, report);
+        let is_good = writes(rt.alloc(), &Job::Check(report), true, "good report\n");
+        assert!(rt; is_written && is_good, "{report}");
+    }
+}
+
+/// Texts of which one has a first fault: the machine, the scripts and the steps; the fault, at which
+/// line, and what is printed of it; and what is wrong. A fault of the machine comes before one of the
+/// scripts, and that before one of the steps.
+const FAULTS: [(Job<'static>, Fault, u64, &str, &str); 21] = [
+    (
+        Job::Steps(
+            "radix 99999999999999999999999999\n",
+            "9 load 9\n",
+            "9 jump\n",
+        ),
+        Fault::Radix,
+        1,
+        "fault F1 at line 1",
+        "a radix is not 2 to 8",
+    ),
+    (
+        Job::Steps("radix 2\ndims 4\n", "9 load 9\n", "9 jump\n"),
+        Fault::Dimensions,
+        2,
+        "fault F2 at line 2",
+        "the number of dimensions is not 1 to 3",
+    ),
+    (
+        Job::Steps("radix 5\ndims 3\n", "9 load 9\n", "9 jump\n"),
+        Fault::Tiles,
+        2,
+        "fault F3 at line 2",
+        "there are more than 64 tiles",
+    ),
+    (
+        Job::Steps("radix 2\n", "9 load 9\n", "9 jump\n"),
+        Fault::Setting,
+        2,
+        "fault F5 at line 2",
+        "a setting is missing",
+    ),
+    (
+        Job::Steps("words 8\ninit 0 1\n", "9 load 9\n", "9 jump\n"),
+        Fault::Setting,
+        2,
+        "fault F5 at line 2",
+        "a setting comes too late",
+    ),
+    (
+        Job::Steps("radix 2\ndims 1\ndepth 0\n", "9 load 9\n", "9 jump\n"),
+        Fault::Range,
+        3,
+        "fault F6 at line 3",
+        "a setting is out of its range",
+    ),
+    (
+        Job::Steps("radix 2 4\ndims 3\n", "9 load 9\n", "9 jump\n"),
+        Fault::Count,
+        2,
+        "fault F13 at line 2",
+        "there is not one radix for each dimension",
+    ),
+    (
+        Job::Steps("radix 4\ndims 1\ndateline 4\n", "9 load 9\n", "9 jump\n"),
+        Fault::Dateline,
+        3,
+        "fault F14 at line 3",
+        "a dateline is not below its radix",
+    ),
+    (
+        Job::Steps(PAIR, "0 load 8\n", "9 jump\n"),
+        Fault::Address,
+        1,
+        "fault F7 at line 1",
+        "an address is not below the number of words",
+    ),
+    (
+        Job::Steps(PAIR, "0 add 0 last\n", "9 jump\n"),
+        Fault::Last,
+        1,
+        "fault F10 at line 1",
+        "`last` stands in the first operation of a script",
+    ),
+    (
+        Job::Steps(PAIR, "0 store 8 99999999999999999999\n", "9 jump\n"),
+        Fault::Address,
+        1,
+        "fault F7 at line 1",
+        "an address is out of range, and so is a value behind it",
+    ),
+    (
+        Job::Steps(PAIR, "0 store 1 18446744073709551616\n", "9 jump\n"),
+        Fault::Range,
+        1,
+        "fault F6 at line 1",
+        "a value is not below 2^64",
+    ),
+    (
+        Job::Steps(PAIR, "0 spin 0 1 0\n", "9 jump\n"),
+        Fault::Range,
+        1,
+        "fault F6 at line 1",
+        "a spin makes no load",
+    ),
+    (
+        Job::Steps(PAIR, "0 spin 0 last 3\n", "9 jump\n"),
+        Fault::Line,
+        1,
+        "fault F4 at line 1",
+        "`last` stands where it may not",
+    ),
+    (
+        Job::Steps(PAIR, "0 load 0\n0 loa", "9 jump\n"),
+        Fault::Line,
+        2,
+        "fault F4 at line 2",
+        "a line is not understood",
+    ),
+    (
+        Job::Steps(PAIR, "2 load 0\n", "9 jump\n"),
+        Fault::Processor,
+        1,
+        "fault F8 at line 1",
+        "a processor is not below the number of tiles",
+    ),
+    (
+        Job::Steps(PAIR, "0 spin 0 1 4096\n0 spin 0 1 4096\n", "9 jump\n"),
+        Fault::Length,
+        2,
+        "fault F9 at line 2",
+        "a script is too long",
+    ),
+    (
+        Job::Steps(PAIR, "0 load 0\n", "6 send\n"),
+        Fault::Step,
+        1,
+        "fault F11 at line 1",
+        "an agent is not there",
+    ),
+    (
+        Job::Steps(PAIR, "0 load 0\n", "1 take 10\n"),
+        Fault::Step,
+        1,
+        "fault F11 at line 1",
+        "a channel is not there",
+    ),
+    (
+        Job::Steps(PAIR, "0 load 0\n", "\n0 serve\n"),
+        Fault::Step,
+        2,
+        "fault F11 at line 2",
+        "an agent does not have the choice",
+    ),
+    (
+        Job::Steps(PAIR, "0 load 0\n", "0 jump\n"),
+        Fault::Line,
+        1,
+        "fault F4 at line 1",
+        "a choice is not understood",
+    ),
+];
+
+/// Each fault that a text can have is told as its own, with its line, and prints its own code.
+#[test]
+fn texts_have_faults(rt: HostRuntime) {
+    for &(ref job, fault, line, printed, meaning) in &FAULTS {
+        let found = ProgramFault::Line(LineFault { fault, line });
+        let is_printed = fault_text(&found).as_str() == printed;
+        assert!(rt; refuses(rt.alloc(), job, found) && is_printed, "{meaning}");
+    }
+}
+
+/// What is refused for another reason than a fault of a run's texts.
+const REFUSALS: [(Job<'static>, ProgramFault); 10] = [
+    (Job::Route(PAIR, 2, 0, Class::Request), ProgramFault::Tile),
+    (Job::Route(PAIR, 0, 2, Class::Request), ProgramFault::Tile),
+    (
+        Job::Route(PAIR, u32::MAX, u32::MAX, Class::Request),
+        ProgramFault::Tile,
+    ),
+    (
+        Job::Route("radix 2\n", 0, 1, Class::Request),
+        ProgramFault::Line(LineFault {
+            fault: Fault::Setting,
+            line: 2,
+        }),
+    ),
+    (
+        Job::Route("radix 9\n", 9, 9, Class::Request),
+        ProgramFault::Line(LineFault {
+            fault: Fault::Radix,
+            line: 1,
+        }),
+    ),
+    (
+        Job::Channels("dims 1\nradix 9\n"),
+        ProgramFault::Line(LineFault {
+            fault: Fault::Radix,
+            line: 2,
+        }),
+    ),
+    (Job::Check(""), ProgramFault::Bad(1)),
+    (
+        Job::Check("torusmem 1\nshape 2 1 8\nend complete\n\n"),
+        ProgramFault::Bad(4),
+    ),
+    (
+        Job::Check("torusmem 1\nshape 8 3 8\nend complete\n"),
+        ProgramFault::Bad(2),
+    ),
+    (
+        Job::Check(
+            "torusmem 1\nshape 2 1 8\nentry 1 0 0 0 store 5 17 ok\nentry 1 1 0 0 load 5 18\n",
+        ),
+        ProgramFault::Bad(4),
+    ),
+];
+
+#[test]
+fn commands_refuse(rt: HostRuntime) {
+    for &(ref job, fault) in &REFUSALS {
+        assert!(rt; refuses(rt.alloc(), job, fault), "{}", fault_text(&fault));
+    }
+}
+
+/// Answers, their statuses and what is printed of their faults.
+const ANSWERS: [(Result<bool, ProgramFault>, u8, &str); 8] = [
+    (Ok(true), 0, ""),
+    (Ok(false), 3, ""),
+    (
+        Err(ProgramFault::Line(LineFault {
+            fault: Fault::Address,
+            line: 1,
+        })),
+        1,
+        "fault F7 at line 1",
+    ),
+    (
+        Err(ProgramFault::Line(LineFault {
+            fault: Fault::Step,
+            line: u64::MAX,
+        })),
+        1,
+        "fault F11 at line 18446744073709551615",
+    ),
+    (Err(ProgramFault::Fault(Fault::Memory)), 1, "fault F12"),
+    (Err(ProgramFault::Output), 4, "output failed"),
+    (Err(ProgramFault::Tile), 2, "tile out of range"),
+    (Err(ProgramFault::Bad(4)), 1, "bad report at line 4"),
+];
+
+/// What is printed of an answer's fault, if it is one.
+fn printed(answer: &Result<bool, ProgramFault>) -> ArrayString<64> {
+    match answer {
+        Ok(_) => ArrayString::new(),
+        Err(fault) => fault_text(fault),
+    }
+}
+
+#[test]
+fn answers_have_statuses(rt: HostRuntime) {
+    for (answer, status, text) in &ANSWERS {
+        let is_printed = printed(answer).as_str() == *text;
+        assert!(rt; status_of(answer) == *status && is_printed, "{text}");
+    }
+    let unread = LineFault {
+        fault: Fault::Memory,
+        line: 0,
+    };
+    assert!(rt; ProgramFault::from(unread) == ProgramFault::Fault(Fault::Memory));
+}
+
+/// Jobs with the texts that they write, and in how many puts; and budgets of memory for them, of
+/// which the last suffices: how many, and by how many bytes they grow.
+const WHOLE: [(Job<'static>, &str, usize, usize, usize); 4] = [
+    (Job::Steps(PAIR, SCRIPT, STEPS), REPORT, 10, 512, 16),
+    (
+        Job::Route(PAIR, 1, 0, Class::Request),
+        "inject 1 0\nhop 1 0 plus 1 3\neject 0 5\n",
+        3,
+        128,
+        16,
+    ),
+    (Job::Channels(PAIR), CHANNELS, 25, 128, 16),
+    (Job::Check(REPORT), "good report\n", 1, 512, 4096),
+];
+
+/// What comes of a job, in some memory.
+#[derive(Drop, PartialEq, Eq)]
+enum Outcome {
+    /// It wrote this text.
+    Whole,
+    /// Memory was refused, and nothing was written.
+    Refused,
+    /// It wrote another text, or had another fault.
+    Wrong,
+}
+
+/// What comes of a job that writes this text.
+fn tried<A: Allocator + Copy>(alloc: A, job: &Job<'_>, text: &str) -> Outcome {
+    let mut sink = Sink::whole();
+    match done(alloc, job, &mut sink) {
+        Ok(true) if sink.bytes.as_slice() == text.as_bytes() => Outcome::Whole,
+        Err(ProgramFault::Fault(Fault::Memory)) if sink.puts == 0 => Outcome::Refused,
+        _ => Outcome::Wrong,
+    }
+}
+
+/// Every budget of memory from none up: refused and nothing written, or the whole text; and nothing
+/// is kept.
+#[test]
+fn budgets(rt: HostRuntime) -> Result<(), Fail> {
+    for &(ref job, text, _, budgets, bytes) in &WHOLE {
+        let mut least = Outcome::Refused;
+        for step in 0..budgets {
+            let heap = LocalHeap::new(rt.alloc(), bytes * step)?;
+            let made = tried(&heap, job, text);
+            let fits = made == Outcome::Whole || made == least;
+            assert!(rt; fits && heap.used() == 0, "at {step}");
+            least = made;
+        }
+        assert!(rt; least == Outcome::Whole, "{text}");
+    }
+    Ok(())
+}
+
+/// Each put of the output fails in turn: a beginning of the text is written. And an output that takes
+/// one byte a put gets the whole text.
+#[test]
+fn outputs(rt: HostRuntime) {
+    for &(ref job, text, puts, _, _) in &WHOLE {
+        for failing in 1..=puts {
+            let mut sink = Sink::new(4096, failing);
+            let answer = done(rt.alloc(), job, &mut sink);
+            let has_failed = answer == Err(ProgramFault::Output) && sink.failures == 1;
+            let is_front = text.as_bytes().starts_with(sink.bytes.as_slice());
+            assert!(rt; has_failed && is_front, "{text}");
+        }
+        let mut sink = Sink::new(1, 0);
+        let answer = done(rt.alloc(), job, &mut sink);
+        let is_whole = sink.bytes.as_slice() == text.as_bytes();
+        assert!(rt; answer == Ok(true) && is_whole, "{text}");
+    }
+}
+
+/// Adds the script of a processor: a store to each of 1024 addresses.
+fn add_script(text: &mut String, processor: u32) -> Result<(), AllocError> {
+    for place in 0..1024u32 {
+        let address = 1024 * u64::from(processor) + u64::from(place);
+        writeln!(text, "{processor} store {address} {}", address + 1)?;
+    }
+    Ok(())
+}
+
+/// Adds the steps by which the next sixteen operations of a processor, to the banks of sixteen
+/// tiles from one on, are issued, served and answered.
+fn add_steps(text: &mut String, processor: u32, tile: u32) -> Result<(), AllocError> {
+    let agent = 3 * u64::from(processor);
+    for _ in 0..16 {
+        writeln!(text, "{agent} send")?;
+    }
+    for place in 0..16u64 {
+        let bank = 3 * (u64::from(tile) + place) + 2;
+        writeln!(text, "{bank} serve")?;
+    }
+    for _ in 0..16 {
+        writeln!(text, "{agent} take")?;
+    }
+    Ok(())
+}
+
+/// How many lines a text has.
+fn line_count(text: &[u8]) -> usize {
+    let mut count = 0usize;
+    for byte in text {
+        if *byte == b'\n' {
+            count = count.saturating_add(1);
+        }
+    }
+    count
+}
+
+/// The greatest machine, with the most operations, each of which stores at an address of its own:
+/// 64 tiles, 65536 words, 16 tags that are all in use at once, 65536 operations. Its report has a
+/// line for each entry, answer, word and place in the order, and three more.
+#[test]
+fn greatest_sizes(rt: HostRuntime) -> Result<(), Fail> {
+    let machine = b"radix 8\ndims 2\ndepth 8\ntags 16\nwords 65536\n";
+    let mut scripts = String::new(rt.alloc());
+    let mut steps = String::new(rt.alloc());
+    for processor in 0..64 {
+        add_script(&mut scripts, processor)?;
+        for group in 0..64 {
+            add_steps(&mut steps, processor, group % 4 * 16)?;
+        }
+    }
+    let mut report: Vec<u8> = Vec::new(rt.alloc());
+    let mut out = Piped::new(&mut report);
+    let answer = steps_text(
+        rt.alloc(),
+        machine,
+        scripts.as_bytes(),
+        steps.as_bytes(),
+        &mut out,
+    );
+    let verdict = check_text(rt.alloc(), &report, &mut Sink::whole());
+    assert!(rt; answer == Ok(true) && verdict == Ok(()) && line_count(&report) == 262147);
+    Ok(())
+}

@@ -1,0 +1,6 @@
+//! Tests of the program's commands over texts and outputs, as tables. They stand in a crate of their
+//! own, since a crate with tests is proved twice.
+#![tactic(auto)]
+
+#[cfg(test)]
+mod answers;
