@@ -1,0 +1,12 @@
+pub mod Places
+pub mod Transport
+pub mod Transported
+pub mod Parts
+pub mod FirstPlaces
+pub mod Counts
+pub mod Telling
+pub mod Whole
+pub mod Follows
+pub mod FollowsMoves
+pub mod First
+pub mod Courses

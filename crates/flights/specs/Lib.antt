@@ -1,0 +1,4 @@
+pub mod ProcessorRecord
+pub mod Flight
+pub mod Courses
+pub mod Scripts
