@@ -1,0 +1,48 @@
+-- Lists of requests and responses, and the flits that begin them.
+use Rattle.std.proofs.Common.{◌≡◌, ℕ, zero, suc, ◌+◌, Bool, true, false, cond, List, [], ◌∷◌, ◌++◌, length, Some, refl, sym, ◌∙◌, ap, ap₂, arith, slice_get, eq-eqb}
+use Rattle.std.specs.Prelude.{filter, remove, ◌&&◌}
+use Rattle.std.proofs.lemmas.Option.{same_Some}
+use Rattle.packet.specs.declared.kinds.Packet.{Packet}
+use Rattle.packet.specs.declared.kinds.Response.{Response as Telling}
+use Rattle.packet.specs.Flit.{field}
+use Rattle.packet.specs.Spelling.{Spells}
+use Rattle.packet.proofs.Shapes.{TellsPacket-spelled, length-spelled}
+use Rattle.home_bank.specs.declared.entry.Entry.{Entry}
+use Rattle.packet.specs.Flits.{flits_of}
+use Rattle.core_laws.specs.Heads.{is_head}
+use Rattle.core_laws.proofs.Projection.{first_flit}
+use Rattle.core_laws.proofs.Stands.{response_of_entry, responses_from, last_of}
+
+-- one response more
+pub responses_push : (b k : ℕ) (es : List Entry) (e : Entry) → responses_from b k (es ++ e ∷ []) ≡ responses_from b k es ++ response_of_entry b (k + length es) e ∷ []
+responses_push b k [] e = ap (λ (n : ℕ). response_of_entry b n e ∷ []) (let z : k ≡ k + 0 = omega arith in z)
+responses_push b k (x ∷ es) e = ap (λ rs. response_of_entry b k x ∷ rs)
+    (responses_push b (k + 1) es e ∙ ap (λ (n : ℕ). responses_from b (k + 1) es ++ response_of_entry b n e ∷ []) (let z : k + 1 + length es ≡ k + length (x ∷ es) = omega arith in z))
+
+pub last_push : (rs : List Telling) (q : Telling) → last_of (rs ++ q ∷ []) ≡ q ∷ []
+last_push [] q = refl
+last_push (r ∷ []) q = refl
+last_push (r ∷ p ∷ rs) q = last_push (p ∷ rs) q
+
+-- an element removed that doesn't pass
+pub filter_removed : {A : Type 0} (test : A → Bool) (xs : List A) (k : ℕ) (x : A) → slice_get xs k ≡ Some x → test x ≡ false → filter test (remove xs k) ≡ filter test xs
+filter_removed test [] k x h fails = cc
+filter_removed test (y ∷ xs) zero x h fails = ap (λ (b : Bool). cond b (y ∷ filter test xs) (filter test xs)) (sym (ap test (same_Some y x h) ∙ fails))
+filter_removed test (y ∷ xs) (suc k) x h fails = ap (λ zs. cond (test y) (y ∷ zs) zs) (filter_removed test xs k x h fails)
+
+-- no packet is begun by an empty place
+pub no_head : is_head 0 ≡ false
+unfolding field
+no_head = refl
+
+pub first_is_head : (p : Packet) → Spells p (flits_of p) → is_head (first_flit (flits_of p)) ≡ true
+first_is_head p h = at (flits_of p) h
+  where
+    at : (xs : List ℕ) → Spells p xs → is_head (first_flit xs) ≡ true
+    at [] h = absurd (none p h)
+      where
+        none : (p : Packet) → Spells p [] → ⊥
+        none p h = let len = length-spelled p [] h in omega (arith, len)
+    at (x ∷ xs) h =
+        let tells = TellsPacket-spelled p x xs h in
+        ap₂ (λ (a b : Bool). a && b) (eq-eqb (field x 63 1) 1 tells.head_bit) (eq-eqb (field x 61 1) 1 tells.flit_bit)

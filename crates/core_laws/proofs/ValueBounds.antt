@@ -1,0 +1,139 @@
+-- Operations of 64-bit values at words of the memory.
+use Rattle.std.proofs.Common.{◌≡◌, ℕ, ◌+◌, ◌^◌, ◌<◌, Bool, true, false, List, [], ◌∷◌, Option, Some, None, refl, subst, arith}
+use Rattle.std.specs.Prelude.{All, ◌==◌, if◌then◌else◌, option_map, option_and_then}
+use Rattle.std.proofs.lemmas.Nat.{mod_below, or_lt, xor_lt, and_le_l}
+use Rattle.std.proofs.lemmas.List.Elements.{All-nil, All-cons, All-head}
+use Rattle.packet.specs.declared.kinds.Op.{Op}
+use Rattle.packet.specs.declared.kinds.Op.TheVariants.{Load, Store, Swap, Cas, Add, And, Or, Xor, Max, Min}
+use Rattle.packet.specs.declared.kinds.Reply.{Reply}
+use Rattle.packet.specs.declared.kinds.Operation.{Operation}
+use Rattle.packet.specs.Kinds.{code_of, IsReplyOf}
+use Rattle.packet.specs.Memory.{new_word, reply_to}
+use Rattle.packet.specs.Spelling.{values_of_op, values_of_reply}
+use Rattle.script.specs.declared.line.Line.{Line}
+use Rattle.script.specs.declared.line.Line.TheVariants as line
+use Rattle.script.specs.declared.line.Value.{Value}
+use Rattle.script.specs.declared.line.Value.TheVariants.{Number, Last}
+use Rattle.script.specs.Scripts.{IsWord, IsAcceptedLine}
+use Rattle.net_interface.specs.declared.spin.OpenSpin.{OpenSpin}
+use Rattle.net_interface.specs.Scripts.{reply_number}
+use Rattle.net_interface.specs.Following.{ready, operation_of, asked, operand_of}
+use Rattle.net_interface.proofs.Places.{Each}
+
+-- values of 64 bits
+abbrev pub Below : List ℕ → Type 0
+Below vs = All (λ v. v < 2 ^ 64) vs
+
+none_below : Below []
+none_below = All-nil (λ v. v < 2 ^ 64)
+
+one_below : (v : ℕ) → v < 2 ^ 64 → Below (v ∷ [])
+one_below v h = All-cons (λ v. v < 2 ^ 64) v [] h none_below
+
+first_below : (v : ℕ) (vs : List ℕ) → Below (v ∷ vs) → v < 2 ^ 64
+first_below v vs h = All-head (λ v. v < 2 ^ 64) v vs h
+
+second_below : (v w : ℕ) (vs : List ℕ) → Below (v ∷ w ∷ vs) → w < 2 ^ 64
+second_below v w vs h = h 1 w (omega arith)
+
+either : (b : Bool) (n w k : ℕ) → n < k → w < k → (if b then n else w) < k
+either true n w k a c = a
+either false n w k a c = c
+
+-- an operation of 64-bit values leaves a 64-bit word
+pub word_stays : (op : Op) (w : ℕ) → w < 2 ^ 64 → Below (values_of_op op) → new_word op w < 2 ^ 64
+word_stays Load w h b = h
+word_stays (Store v) w h b = first_below v [] b
+word_stays (Swap v) w h b = first_below v [] b
+word_stays (Cas e n) w h b = either (w == e) n w (2 ^ 64) (second_below e n [] b) h
+word_stays (Add v) w h b = mod_below (w + v) (2 ^ 64) (omega arith)
+word_stays (And v) w h b = let l = and_le_l w v in omega (arith, l, h)
+word_stays (Or v) w h b = or_lt 64 w v h (first_below v [] b)
+word_stays (Xor v) w h b = xor_lt 64 w v h (first_below v [] b)
+word_stays (Max v) w h b = let l = first_below v [] b in omega (arith, l, h)
+word_stays (Min v) w h b = let l = first_below v [] b in omega (arith, l, h)
+
+-- and replies one
+pub reply_stays : (op : Op) (w : ℕ) → w < 2 ^ 64 → Below (values_of_reply (reply_to op w))
+reply_stays Load w h = one_below w h
+reply_stays (Store v) w h = none_below
+reply_stays (Swap v) w h = one_below w h
+reply_stays (Cas e n) w h = one_below w h
+reply_stays (Add v) w h = one_below w h
+reply_stays (And v) w h = one_below w h
+reply_stays (Or v) w h = one_below w h
+reply_stays (Xor v) w h = one_below w h
+reply_stays (Max v) w h = one_below w h
+reply_stays (Min v) w h = one_below w h
+
+-- what an operation replies is a reply of its kind
+pub reply_fits : (op : Op) (w : ℕ) → IsReplyOf (code_of op) (reply_to op w)
+reply_fits Load w = refl
+reply_fits (Store v) w = refl
+reply_fits (Swap v) w = refl
+reply_fits (Cas e n) w = refl
+reply_fits (Add v) w = refl
+reply_fits (And v) w = refl
+reply_fits (Or v) w = refl
+reply_fits (Xor v) w = refl
+reply_fits (Max v) w = refl
+reply_fits (Min v) w = refl
+
+-- the number of a reply that is there is of 64 bits
+abbrev pub Known : Option Reply → Type 0
+Known None = Unit {0}
+Known (Some reply) = reply_number reply < 2 ^ 64
+
+-- an operation at a word of the memory, of 64-bit values
+abbrev pub IsInside : ℕ → Operation → Type 0
+IsInside words o = (o.address < words) × Below (values_of_op o.op)
+
+-- the address of an open spin is that of a word
+abbrev pub IsSpinInside : ℕ → Option OpenSpin → Type 0
+IsSpinInside words None = Unit {0}
+IsSpinInside words (Some s) = s.address < words
+
+operand_below : (v : Value) (last : Option Reply) (x : ℕ) → IsWord v → Known last → operand_of v last ≡ Some x → x < 2 ^ 64
+operand_below (Number n) last x word known e = let same : n ≡ x = cc in subst (λ m. m < 2 ^ 64) same word
+operand_below Last None x word known e = cc
+operand_below Last (Some reply) x word known e = let same : reply_number reply ≡ x = cc in subst (λ m. m < 2 ^ 64) same known
+
+asked_inside : (words : ℕ) (kind : ℕ → Op) → ((x : ℕ) → x < 2 ^ 64 → Below (values_of_op (kind x))) → (a : ℕ) (v : Value) (last : Option Reply) (o : Operation) → a < words → IsWord v → Known last
+    → (found : Option ℕ) → operand_of v last ≡ found → option_map (λ x. record { address = a; op = kind x }) found ≡ Some o → IsInside words o
+asked_inside words kind below a v last o a_in word known None is e = cc
+asked_inside words kind below a v last o a_in word known (Some x) is e =
+    let same : record { address = a; op = kind x } ≡ o = cc in
+    subst (λ (p : Operation). IsInside words p) same (a_in, below x (operand_below v last x word known is))
+
+cas_inside : (words a : ℕ) (e n : Value) (last : Option Reply) (o : Operation) → a < words → IsWord e → IsWord n → Known last
+    → (found : Option ℕ) → operand_of e last ≡ found → option_and_then (λ x. asked (Cas x) a n last) found ≡ Some o → IsInside words o
+cas_inside words a e n last o a_in we wn known None is h = cc
+cas_inside words a e n last o a_in we wn known (Some x) is h =
+    asked_inside words (Cas x) (λ y small. All-cons (λ v. v < 2 ^ 64) x (y ∷ []) (operand_below e last x we known is) (one_below y small)) a n last o a_in wn known (operand_of n last) refl h
+
+loads_inside : (words a : ℕ) (o : Operation) → a < words → Some (record { address = a; op = Load }) ≡ Some o → IsInside words o
+loads_inside words a o a_in h =
+    let same : record { address = a; op = Load } ≡ o = cc in
+    subst (λ (p : Operation). IsInside words p) same (a_in, none_below)
+
+line_inside : (words : ℕ) (first : Line) (last : Option Reply) (o : Operation) → IsAcceptedLine words first → Known last → operation_of first last ≡ Some o → IsInside words o
+line_inside words (line.Load a) last o ok known h = loads_inside words a o ok h
+line_inside words (line.Store a v) last o ok known h = asked_inside words Store one_below a v last o ok.0 ok.1 known (operand_of v last) refl h
+line_inside words (line.Swap a v) last o ok known h = asked_inside words Swap one_below a v last o ok.0 ok.1 known (operand_of v last) refl h
+line_inside words (line.Cas a e n) last o ok known h = cas_inside words a e n last o ok.0 ok.1 ok.2 known (operand_of e last) refl h
+line_inside words (line.Add a v) last o ok known h = asked_inside words Add one_below a v last o ok.0 ok.1 known (operand_of v last) refl h
+line_inside words (line.And a v) last o ok known h = asked_inside words And one_below a v last o ok.0 ok.1 known (operand_of v last) refl h
+line_inside words (line.Or a v) last o ok known h = asked_inside words Or one_below a v last o ok.0 ok.1 known (operand_of v last) refl h
+line_inside words (line.Xor a v) last o ok known h = asked_inside words Xor one_below a v last o ok.0 ok.1 known (operand_of v last) refl h
+line_inside words (line.Max a v) last o ok known h = asked_inside words Max one_below a v last o ok.0 ok.1 known (operand_of v last) refl h
+line_inside words (line.Min a v) last o ok known h = asked_inside words Min one_below a v last o ok.0 ok.1 known (operand_of v last) refl h
+line_inside words line.Fence last o ok known h = cc
+line_inside words (line.Spin a v m) last o ok known h = loads_inside words a o ok.0 h
+
+-- the operation that is ready is at a word, and of 64-bit values
+pub ready_inside : (words : ℕ) (spin : Option OpenSpin) (ahead : List Line) (last : Option Reply) (o : Operation) → Each (IsAcceptedLine words) ahead → IsSpinInside words spin → Known last
+    → ready spin ahead last ≡ Some o → IsInside words o
+ready_inside words None [] last o each inside known h = cc
+ready_inside words None (first ∷ lines) last o each inside known h = line_inside words first last o each.0 known h
+ready_inside words (Some s) ahead None o each inside known h = cc
+ready_inside words (Some s) ahead (Some reply) o each inside known h = loads_inside words s.address o inside h

@@ -1,0 +1,121 @@
+-- The core: all tiles and what they share, its steps, runs and rounds.
+use Rattle.std.specs.Prelude.{ℕ, zero, suc, ◌+◌, ◌*◌, ◌/◌, ◌%◌, false, List, [], ◌∷◌, ◌++◌, length, map, take}
+use Rattle.std.specs.Prelude.{replicate, Option, Some, None, option_map, option_and_then, slice_get, slice_set}
+use Rattle.std.specs.List.{flat_map, range_with_len}
+use Rattle.torus.specs.Shape.{Shape, tiles_of, dims_of}
+use Rattle.torus.specs.declared.step.Step.{Step}
+use Rattle.torus.specs.declared.step.Choice.{Choice}
+use Rattle.torus.specs.declared.step.Choice.TheVariants.{Send, Take, TakeFrom, Put, Credit, CreditOf, Serve, Done, Look}
+use Rattle.script.specs.declared.line.Line.{Line}
+use Rattle.flit_buffer.specs.Places.{empty_ring}
+use Rattle.flit_buffer.specs.Surroundings.{Surroundings}
+use Rattle.channel_number.specs.Order.{channel_count}
+use Rattle.net_interface.specs.Following.{first_of}
+use Rattle.runs.specs.Observed.{Observed, Run}
+use Rattle.flights.specs.ProcessorRecord.{ProcessorRecord}
+use Rattle.channel_number.specs.Ports.{port_count}
+use Rattle.core_laws.specs.Tile.{Design, TileState, Agent, Processor, Router, Bank, tile_step}
+
+-- the state of a machine: its tiles, and what they share, that is the channels, and the words of the memory with the
+-- done word behind them
+pub record State : Type 0 where
+  pub tiles : List TileState
+  pub around : Surroundings
+
+-- which agent of its tile an agent is: tile t has the agents 3t, 3t + 1 and 3t + 2 (this project's own format)
+abbrev pub agent_numbered : ℕ → Agent
+agent_numbered zero = Processor
+agent_numbered (suc zero) = Router
+agent_numbered (suc (suc k)) = Bank
+
+-- the core's step: one choice of one agent; None where it isn't enabled (Dally and Towles, chapters 13 and 16)
+abbrev pub step : Design → State → Step → Option State
+step d s attempt = option_and_then (λ tile.
+    option_map (λ p. record { tiles = slice_set s.tiles (attempt.agent / 3) p.0; around = p.1 })
+    (tile_step d (attempt.agent / 3) tile s.around (agent_numbered (attempt.agent % 3)) attempt.choice))
+    (slice_get s.tiles (attempt.agent / 3))
+
+-- the next state where there is one, and else the same
+abbrev pub or_same : State → Option State → State
+or_same s None = s
+or_same s (Some next) = next
+
+-- the state after an attempt: one that isn't enabled changes nothing
+abbrev pub next : Design → State → Step → State
+next d s attempt = or_same s (step d s attempt)
+
+-- the state after a list of attempts
+abbrev pub after_from : Design → State → List Step → State
+after_from d s [] = s
+after_from d s (attempt ∷ attempts) = after_from d (next d s attempt) attempts
+
+-- what is loaded: the torus, the depth of a channel, the number of tags of a processor, the opening words by address,
+-- and each processor's script (this project's own format)
+pub record Load : Type 0 where
+  pub shape : Shape
+  pub depth : ℕ
+  pub tags : ℕ
+  pub opening : List ℕ
+  pub scripts : List (List Line)
+
+-- the design of the machine that a load is for
+abbrev pub design_of : Load → Design
+design_of l = record { shape = l.shape; depth = l.depth; words = length l.opening }
+
+-- a tile before any step, of a torus of so many dimensions, with so many tags and the script of its processor
+abbrev pub first_tile : ℕ → ℕ → List Line → TileState
+first_tile dims tags lines = record {
+  processor = record {
+    operations = record { following = first_of lines; tags = replicate tags None; issued = []; answers = [] };
+    to_put = [];
+    so_far = [];
+    reported = false;
+    seen = false;
+  };
+  router = record { latches = replicate (port_count dims) None; owned = replicate (port_count dims) None };
+  bank = record { entries = []; so_far = []; waiting = None; to_put = [] };
+}
+
+-- the state before any step: nothing is issued, no tag is out, every channel is empty, and no processor has reported
+abbrev pub first_state : Load → State
+first_state l = record {
+  tiles = map (first_tile (dims_of l.shape) l.tags) l.scripts;
+  around = record { rings = replicate (channel_count l.shape) (empty_ring l.depth); words = l.opening ++ 0 ∷ [] };
+}
+
+-- the state after a list of attempts from a load
+abbrev pub after : Load → List Step → State
+after l attempts = after_from (design_of l) (first_state l) attempts
+
+-- the processors' records
+abbrev pub records_of : State → List ProcessorRecord
+records_of s = map (λ t. t.processor.operations) s.tiles
+
+-- what a state shows: what is issued and answered by processor, the entries by bank, and the memory by address
+abbrev pub show : ℕ → State → Observed
+show words s = record {
+  issued = map (λ b. b.issued) (records_of s);
+  answers = map (λ b. b.answers) (records_of s);
+  entries = map (λ t. t.bank.entries) s.tiles;
+  memory = take words s.around.words;
+}
+
+-- the run of a list of attempts from a load
+abbrev pub run_of : Load → List Step → Run
+run_of l attempts = λ k. show (length l.opening) (after l (take k attempts))
+
+-- the attempts of these choices by an agent
+abbrev pub attempts_of : ℕ → List Choice → List Step
+attempts_of agent choices = map (λ c. record { agent = agent; choice = c }) choices
+
+-- the attempts of a round at one tile, of so many ports of its router: each choice of each agent once
+abbrev pub round_at : ℕ → ℕ → List Step
+round_at ports t =
+    attempts_of (3 * t) (Send ∷ Take ∷ Credit ∷ Done ∷ Look ∷ [])
+    ++ attempts_of (3 * t + 1) (map (λ i. TakeFrom i) (range_with_len 0 ports)
+    ++ map (λ i. Put i) (range_with_len 0 ports) ++ map (λ o. CreditOf o) (range_with_len 0 ports))
+    ++ attempts_of (3 * t + 2) (Take ∷ Serve ∷ Send ∷ Credit ∷ [])
+
+-- a round: the agents in order (this project's own format)
+abbrev pub round : Shape → List Step
+round s = flat_map (round_at (port_count (dims_of s))) (range_with_len 0 (tiles_of s))

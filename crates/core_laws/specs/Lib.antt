@@ -1,0 +1,12 @@
+pub mod ProcessorTable
+pub mod BankTable
+pub mod Heads
+pub mod Wiring
+pub mod Tile
+pub mod Core
+pub mod Moves
+pub mod Runs
+pub mod Delivery
+pub mod Reports
+pub mod Choices
+pub mod Touches
