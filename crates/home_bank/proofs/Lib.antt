@@ -1,1 +1,6 @@
 pub mod Replay
+pub mod FlitsToPut
+pub mod RequestWords
+pub mod WantedPorts
+pub mod EmptyChannels
+pub mod MemoryReplays

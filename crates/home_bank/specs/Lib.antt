@@ -1,3 +1,8 @@
 pub mod ServiceList
 pub mod Bank
 pub mod Inside
+pub mod BankTable
+pub mod Beginning
+pub mod BankAgent
+pub mod Reach
+pub mod MemoryReplay

@@ -1,5 +1,5 @@
 ghost use Rattle.std.specs.Prelude.{◌≡◌, ◌<◌, ◌≤◌, [], ◌∷◌, ◌++◌, ◌↔◌, length, vec_len, vec_capacity, IfOk, IsTrue};
-ghost use Rattle.home_bank.specs.ServiceList.{response_of, recorded, IsServiceList};
+ghost use Rattle.home_bank.specs.ServiceList.{address_of, response_of, recorded, IsServiceList};
 
 use crate::Entry;
 use packet::{Reply, Request, Response};
@@ -56,7 +56,7 @@ impl<A: Allocator> ServiceList<A> {
         let entry = Entry {
             source: request.source,
             tag: request.tag,
-            address: self.tile + request.word * self.tiles,
+            address: self.address_of(request.word),
             op: request.op,
             reply,
         };
@@ -69,6 +69,14 @@ impl<A: Allocator> ServiceList<A> {
             code: request.op.code(),
             reply,
         }
+    }
+
+    /// The address of one of the bank's words.
+    pub fn address_of(&self, word: u32) -> u32
+        requires { word < 65536 }
+        ensures { result ≡ address_of self.now.tile self.now.tiles word }
+    {
+        word * self.tiles + self.tile
     }
 
     /// The tile whose bank's services they are.

@@ -1,0 +1,280 @@
+//! The bank of a tile, as an agent.
+
+ghost use Rattle.std.specs.Prelude.{◌≡◌, ◌<◌, ◌≤◌, ◌↔◌, ◌*◌, length, IsTrue, IfOk, IfSome, IsSome, MatchOption, vec_len, slice_index, Some};
+ghost use Rattle.torus.specs.Shape.{tiles_of};
+ghost use Rattle.torus.specs.declared.step.Choice.TheVariants as choice;
+ghost use Rattle.torus.specs.declared.step.Stepped.TheVariants as stepped;
+ghost use Rattle.flit_buffer.specs.Agent.{next_op, absorbed, attempted};
+ghost use Rattle.flit_buffer.specs.Tries.{performed_by};
+ghost use Rattle.flit_buffer.specs.Words.{word_of};
+ghost use Rattle.flit_buffer.specs.Wants.{HasPort};
+ghost use Rattle.flit_buffer.specs.declared.want.Want.{Want};
+ghost use Rattle.flit_buffer.specs.declared.want.Want.TheVariants as wants_to;
+ghost use Rattle.dateline_route.specs.Walk.{IsChannel};
+ghost use Rattle.channel_number.specs.Order.{channel_index};
+ghost use Rattle.home_bank.specs.BankTable.{bank_wants, bank_after, served};
+ghost use Rattle.home_bank.specs.BankAgent.{NamesWord, IsAcceptable, HasRoom, with_agent};
+ghost use Rattle.home_bank.specs.Beginning.{empty_bank, new_ports};
+
+use crate::flits_left::FlitsLeft;
+use crate::{Entry, ServiceList};
+use channel_number::{channel_count, channel_index};
+use dateline_route::{Channel, Kind};
+use flit_buffer::{Ports, Receiver, Sender, Want, WordOp};
+use packet::{Assembler, Head, Offered, Packet, Request, apply, flits, head};
+use std::alloc::{AllocError, Allocator, Global};
+use std::marker::Model;
+use torus::{Choice, Class, Stepped, Torus};
+
+/// The bank of a tile: the list of its services, the request that comes in or waits, what is left of
+/// the reply in course, and the ends of the channels at its input and its output. Its words stand in
+/// the row: word w has the address `tile + w * tiles`.
+#[derive(Drop)]
+pub struct BankAgent<A: Allocator = Global> {
+    services: ServiceList<A>,
+    assembler: Assembler,
+    waiting: Option<Request>,
+    to_put: FlitsLeft,
+    ports: Ports<A>,
+}
+
+impl<A: Allocator> Model for BankAgent<A> {
+    ghost use Rattle.home_bank.specs.BankAgent.{BankPlace};
+
+    ghost Value = { BankPlace };
+
+    ghost use Rattle.home_bank.specs.Inside.{bank_place_of, IsBankAgent};
+
+    ghost view = { bank_place_of };
+
+    ghost invariant = { IsBankAgent };
+}
+
+/// The position in the row of the first place of a tile's channel, over channels of this depth.
+fn base_of(torus: &Torus, depth: u32, channel: Channel) -> usize
+    requires channel { IsChannel torus.now channel }
+    requires few { depth ≤ 8 }
+    ensures base { result ≡ channel_index torus.now channel * depth }
+    ensures low { result ≤ 14336 }
+{
+    let _count = channel_count(torus);
+    (channel_index(torus, channel) * depth) as usize
+}
+
+/// The ports of a tile's bank, whose channels are empty: the places of each channel stand in the row
+/// by its place among the channels, and the words behind those of all channels.
+fn new_ports<A: Allocator + Copy>(
+    alloc: A,
+    torus: &Torus,
+    tile: u32,
+    depth: u32,
+) -> Result<Ports<A>, AllocError>
+    requires tile { tile < tiles_of torus.now }
+    requires some { 0 < depth }
+    requires few { depth ≤ 8 }
+    ensures { IfOk result (λ p. p ≡ new_ports torus.now tile depth) }
+{
+    let requests = Channel {
+        tile,
+        class: Class::Request,
+        kind: Kind::Ejection,
+    };
+    let replies = Channel {
+        tile,
+        class: Class::Reply,
+        kind: Kind::Injection,
+    };
+    let mut inputs = Vec::with_capacity(alloc, 1)?;
+    inputs.push(Receiver::new(base_of(torus, depth, requests), depth as usize))?;
+    let mut outputs = Vec::with_capacity(alloc, 1)?;
+    outputs.push(Sender::new(base_of(torus, depth, replies), depth as usize))?;
+    let words = channel_count(torus) * depth;
+    Ok(Ports::new(inputs, outputs, words as usize))
+}
+
+/// Whether a flit can be taken: it is no head flit of a request, or names a word below 65536. No
+/// memory has more words.
+#[tactic(auto, unfolding(packet::specs::Flit::field))]
+pub fn is_acceptable(flit: u64) -> bool
+    ensures { IsTrue result ↔ NamesWord flit }
+{
+    match head(flit) {
+        Some(
+            Head {
+                class: Class::Request,
+                ..
+            },
+        ) => flit % (1 << 32) < 65536,
+        _ => true,
+    }
+}
+
+impl<A: Allocator + Copy> BankAgent<A> {
+    /// The bank of a tile that has served nothing, over channels of this depth that are all empty.
+    /// The depth is 1 to 8. The places of each channel stand in the row from its place among the
+    /// channels times the depth on. There is room for this many entries, at most 65536.
+    ///
+    /// Errors: `AllocError` where there is no memory; the steps take none.
+    pub fn new(
+        alloc: A,
+        torus: &Torus,
+        tile: u32,
+        depth: u32,
+        room: usize,
+    ) -> Result<BankAgent<A>, AllocError>
+        requires tile { tile < tiles_of torus.now }
+        requires some { 0 < depth }
+        requires few { depth ≤ 8 }
+        requires room { room ≤ 65536 }
+        ensures { IfOk result (λ b. b ≡ record { tiles = tiles_of torus.now; tile = tile; room = room; agent = record { state = empty_bank; ports = new_ports torus.now tile depth } }) }
+    {
+        let services = ServiceList::new(alloc, tile, torus.tiles(), room)?;
+        let ports = new_ports(alloc, torus, tile, depth)?;
+        Ok(BankAgent {
+            services,
+            assembler: Assembler::new(),
+            waiting: None,
+            to_put: FlitsLeft::none(),
+            ports,
+        })
+    }
+}
+
+impl<A: Allocator> BankAgent<A> {
+    /// What a choice wants.
+    #[inline(always)]
+    fn wants(&self, choice: Choice) -> Option<Want>
+        ensures value { result ≡ bank_wants self.now.tiles self.now.tile self.now.agent.state choice }
+        ensures port { IfSome result (HasPort self.now.agent.ports) }
+    {
+        match choice {
+            Choice::Take => {
+                if self.waiting.is_none() && self.to_put.is_empty() {
+                    Some(Want::Take(0))
+                } else {
+                    None
+                }
+            }
+            Choice::Serve => {
+                let request = self.waiting?;
+                Some(Want::Access(self.services.address_of(request.word), request.op))
+            }
+            Choice::Send => {
+                let flit = self.to_put.first()?;
+                Some(Want::Put(0, flit))
+            }
+            Choice::Credit => Some(Want::Credit(0)),
+            _ => None,
+        }
+    }
+
+    /// The operation of a choice; None exactly when the bank hasn't that choice or its condition
+    /// fails.
+    pub fn next_op(&self, choice: Choice) -> Option<WordOp>
+        ensures { result ≡ next_op (bank_wants self.now.tiles self.now.tile) self.now.agent choice }
+    {
+        let want = self.wants(choice)?;
+        self.ports.op(want)
+    }
+
+    /// Takes the word that the operation of a choice found. A head flit of a request that is taken
+    /// names a word below 65536 (`is_acceptable`), and a service has room for its entry (`is_full`).
+    pub fn absorb(&mut self, choice: Choice, got: u64) -> Stepped
+        requires tried { IsSome (next_op (bank_wants self.old.tiles self.old.tile) self.old.agent choice) }
+        requires flit { IsAcceptable choice got }
+        requires entries { HasRoom self.old choice }
+        ensures { MatchOption (absorbed (bank_wants self.old.tiles self.old.tile) (bank_after self.old.tiles self.old.tile) self.old.agent choice got) ((result ≡ stepped.Idle) × (self.new ≡ self.old)) (λ a. (result ≡ stepped.Moved) × (self.new ≡ with_agent self.old a)) }
+    {
+        let Some(want) = self.wants(choice) else {
+            return Stepped::Idle;
+        };
+        let Some(learned) = self.ports.absorb(want, got) else {
+            return Stepped::Idle;
+        };
+        self.note(choice, learned);
+        Stepped::Moved
+    }
+
+    /// Tries a choice over a row, at once: performs its operation, if it has one, and takes the word
+    /// found.
+    #[inline(always)]
+    pub fn attempt<B: Allocator>(&mut self, choice: Choice, row: &mut Vec<u64, B>) -> Stepped
+        requires room { IfSome (next_op (bank_wants self.old.tiles self.old.tile) self.old.agent choice) (λ o. word_of o < vec_len row.old) }
+        requires flit { IfSome (next_op (bank_wants self.old.tiles self.old.tile) self.old.agent choice) (λ o. IsAcceptable choice (slice_index row.old.items (word_of o))) }
+        requires entries { HasRoom self.old choice }
+        ensures row { row.new.items ≡ performed_by row.old.items (next_op (bank_wants self.old.tiles self.old.tile) self.old.agent choice) }
+        ensures step { MatchOption (attempted (bank_wants self.old.tiles self.old.tile) (bank_after self.old.tiles self.old.tile) self.old.agent choice row.old.items) ((result ≡ stepped.Idle) × (self.new ≡ self.old)) (λ a. (result ≡ stepped.Moved) × (self.new ≡ with_agent self.old a)) }
+    {
+        let Some(want) = self.wants(choice) else {
+            return Stepped::Idle;
+        };
+        let Some(learned) = self.ports.attempt(want, row) else {
+            return Stepped::Idle;
+        };
+        self.note(choice, learned);
+        Stepped::Moved
+    }
+
+    /// What follows in the bank once a want of a choice is granted.
+    fn note(&mut self, choice: Choice, learned: u64)
+        requires flit { IsAcceptable choice learned }
+        requires entries { HasRoom self.old choice }
+        ensures { (want : Want) → self.new ≡ with_agent self.old (record { state = bank_after self.old.tiles self.old.tile self.old.agent.state choice want learned; ports = self.old.agent.ports }) }
+    {
+        match choice {
+            Choice::Take => self.take_in(learned),
+            Choice::Serve => self.serve(learned),
+            Choice::Send => self.to_put.pass(),
+            _ => {}
+        }
+    }
+
+    /// Takes a flit of a request; the last one makes the request wait.
+    #[inline(never)]
+    fn take_in(&mut self, flit: u64)
+        requires { NamesWord flit }
+        ensures { self.new ≡ with_agent self.old (record { state = bank_after self.old.tiles self.old.tile self.old.agent.state choice.Take (wants_to.Take 0) flit; ports = self.old.agent.ports }) }
+    {
+        if let Offered::Whole(Packet::Request(request)) = self.assembler.offer(flit) {
+            self.waiting = Some(request);
+        }
+    }
+
+    /// Serves the request that waits, whose operation found a word: adds its entry, and begins its
+    /// reply.
+    #[inline(never)]
+    fn serve(&mut self, found: u64)
+        requires { length self.old.agent.state.entries < self.old.room }
+        ensures { self.new ≡ with_agent self.old (record { state = served self.old.tiles self.old.tile self.old.agent.state self.old.agent.state.waiting found; ports = self.old.agent.ports }) }
+    {
+        let Some(request) = self.waiting else {
+            return;
+        };
+        let (_, reply) = apply(request.op, found);
+        let response = self.services.record(request, reply);
+        self.waiting = None;
+        self.to_put = FlitsLeft::all_of(flits(&Packet::Response(response)));
+    }
+
+    /// The tile whose bank it is.
+    pub fn tile(&self) -> u32
+        ensures { result ≡ self.now.tile }
+    {
+        self.services.tile()
+    }
+
+    /// The entries of its service list, in the order of the services.
+    pub fn entries(&self) -> &[Entry]
+        ensures { result.now ≡ self.now.agent.state.entries }
+    {
+        self.services.entries()
+    }
+
+    /// Whether there is room for no further entry.
+    pub fn is_full(&self) -> bool
+        ensures full { IsTrue result ↔ (length self.now.agent.state.entries ≡ self.now.room) }
+        ensures within { length self.now.agent.state.entries ≤ self.now.room }
+    {
+        self.services.is_full()
+    }
+}
