@@ -1,0 +1,6 @@
+pub mod Recorded
+pub mod Counted
+pub mod Course
+pub mod Arriving
+pub mod EmptyChannels
+pub mod WantedPorts

@@ -1,0 +1,4 @@
+pub mod Place
+pub mod Beginning
+pub mod Inside
+pub mod Reach

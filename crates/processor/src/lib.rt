@@ -1,0 +1,12 @@
+//! The processor of a tile, as an agent.
+#![tactic(auto)]
+
+pub mod laws;
+pub mod processor;
+mod record;
+mod start;
+#[cfg(test)]
+mod tests;
+
+pub use processor::Processor;
+pub use runs::Answer;
