@@ -29,12 +29,12 @@ module _ (s : Shape) (is : IsAccepted s) (t : ℕ) (low : t < tiles_of s) where
   output_below : (o : ℕ) → o < port_count (dims_of s) → output_channel s t o < channel_count s
   output_below o h = let at = is_output s t o low h in at.below
 
-  input_at : (i : ℕ) → i < length (router_wiring s t).inputs → (i < port_count (dims_of s)) × (get_or (router_wiring s t).inputs i 0 ≡ input_channel s t i)
+  pub input_at : (i : ℕ) → i < length (router_wiring s t).inputs → (i < port_count (dims_of s)) × (get_or (router_wiring s t).inputs i 0 ≡ input_channel s t i)
   input_at i h =
       let small : i < port_count (dims_of s) = omega (arith, length-map-range_with_len (input_channel s t) 0 (port_count (dims_of s))) in
       (small, get_or-map-range_with_len (input_channel s t) 0 (port_count (dims_of s)) i i 0 small (omega arith))
 
-  output_at : (o : ℕ) → o < length (router_wiring s t).outputs → (o < port_count (dims_of s)) × (get_or (router_wiring s t).outputs o 0 ≡ output_channel s t o)
+  pub output_at : (o : ℕ) → o < length (router_wiring s t).outputs → (o < port_count (dims_of s)) × (get_or (router_wiring s t).outputs o 0 ≡ output_channel s t o)
   output_at o h =
       let small : o < port_count (dims_of s) = omega (arith, length-map-range_with_len (output_channel s t) 0 (port_count (dims_of s))) in
       (small, get_or-map-range_with_len (output_channel s t) 0 (port_count (dims_of s)) o o 0 small (omega arith))

@@ -1,0 +1,4 @@
+//! A tile: its three agents at their channels.
+#![tactic(auto)]
+
+pub mod laws;
