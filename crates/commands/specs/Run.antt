@@ -6,10 +6,11 @@ use Rattle.script.specs.declared.fault.LineFault.{LineFault}
 use Rattle.script.specs.Machine.{machine_of}
 use Rattle.script.specs.Scripts.{scripts_of}
 use Rattle.script.specs.Steps.{steps_of}
-use Rattle.machine_core.specs.Wire.{Load, run_of}
-use Rattle.machine_core.specs.Core.{Core, IsAfter, IsLawful, all_finished, core_after_load}
-use Rattle.machine_core.specs.Loaded.{load_of}
-use Rattle.machine_core.specs.Scripts.{AreFinished}
+use Rattle.flights.specs.Load.{Load, load_of}
+use Rattle.machine_core.specs.Wire.{run_of}
+use Rattle.flights.specs.Flight.{all_finished}
+use Rattle.machine_core.specs.Core.{Core, IsAfter, IsLawful, core_after_load}
+use Rattle.flights.specs.Scripts.{AreFinished}
 use Rattle.report_lines.specs.Line.{text_of}
 use Rattle.report_check.specs.Good.{GoodReport}
 use Rattle.history.specs.Report.{machine_report}

@@ -21,7 +21,7 @@ use Rattle.flights.proofs.First.{first_shown, first_whole, first_following}
 
 module _ (tiles tags : ℕ) (opening : List ℕ) (scripts : List (List Line)) (flight : ℕ → Flight) (move : ℕ → Option Move) where
   -- fewer steps of a course are one
-  shorter : (n : ℕ) → IsCourse tiles tags opening scripts flight move (suc n) → IsCourse tiles tags opening scripts flight move n
+  pub shorter : (n : ℕ) → IsCourse tiles tags opening scripts flight move (suc n) → IsCourse tiles tags opening scripts flight move n
   shorter n c = record {
     processors = c.processors;
     start = c.start;

@@ -14,7 +14,7 @@ use Rattle.runs.specs.Observed.{Observed, list_at}
 use Rattle.runs.specs.Events.{nothing_yet}
 use Rattle.runs.proofs.Lists.{list_at_none, total_none}
 use Rattle.runs.proofs.Account.{account_none}
-use Rattle.flights.specs.ProcessorRecord.{ProcessorRecord, no_processor}
+use Rattle.net_interface.specs.ProcessorRecord.{ProcessorRecord, no_processor}
 use Rattle.flights.specs.Flight.{show}
 use Rattle.flights.specs.Courses.{first_record, first_flight}
 use Rattle.flights.proofs.Counts.{home_total_none}

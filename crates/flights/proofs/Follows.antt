@@ -14,7 +14,7 @@ use Rattle.runs.specs.declared.answer.Answer.{Answer}
 use Rattle.runs.specs.Observed.{Observed, Run, list_at, HasAnswered, IsIssuedAt, IsAnsweredAt}
 use Rattle.runs.proofs.Lists.{get_push_cases, get_append_left, get_push, within_length}
 use Rattle.flights.specs.Scripts.{AreInvocationsOf}
-use Rattle.flights.proofs.Places.{get_set_same, get_set_other}
+use Rattle.runs.proofs.Lists.{get_set_same, get_set_other}
 
 -- the follower of p shows the operations that p issued in the first n steps of a run
 pub record Follows (run : Run) (n p : ℕ) (lines : List Line) (f : Following) : Type 0 where

@@ -11,7 +11,7 @@ use Rattle.runs.specs.Order.{LinearizationPoint}
 use Rattle.runs.specs.Events.{Event, Nothing, Issued, Served, Answered, push_at, happens, IsHistory, MayHappen}
 use Rattle.runs.proofs.Lists.{list_at_push_same, list_at_push_other, list_within, length_list_at_push_grows}
 use Rattle.runs.proofs.History.{answered_monotone, shorter}
-use Rattle.flights.specs.ProcessorRecord.{ProcessorRecord, no_processor, issued_by, answered_by, answer_of}
+use Rattle.net_interface.specs.ProcessorRecord.{ProcessorRecord, no_processor, issued_by, answered_by, answer_of}
 use Rattle.flights.specs.Flight.{Flight, Move, Sends, Serves, Takes, processor_at, told_place, IsFound, moved}
 use Rattle.flights.specs.Flight.{moved_by, show, event, event_by}
 use Rattle.flights.proofs.Follows.{Follows, follows_kept, follows_issued, follows_answered}

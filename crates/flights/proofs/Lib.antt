@@ -10,3 +10,10 @@ pub mod Follows
 pub mod FollowsMoves
 pub mod First
 pub mod Courses
+pub mod EventBooks
+pub mod BoundsScripts
+pub mod Balances
+pub mod Bounds
+pub mod Finished
+pub mod Reports
+pub mod LoadingAccepted

@@ -5,7 +5,7 @@ use Rattle.packet.specs.declared.kinds.Operation.{Operation}
 use Rattle.home_bank.specs.declared.entry.Entry.{Entry}
 use Rattle.runs.specs.declared.answer.Answer.{Answer}
 use Rattle.runs.specs.Observed.{Observed, list_at}
-use Rattle.flights.specs.ProcessorRecord.{ProcessorRecord, no_processor}
+use Rattle.net_interface.specs.ProcessorRecord.{ProcessorRecord, no_processor}
 use Rattle.flights.specs.Flight.{Flight, processor_at, show}
 use Rattle.flights.proofs.Transport.{Tags}
 

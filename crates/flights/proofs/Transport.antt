@@ -15,7 +15,7 @@ use Rattle.runs.specs.Events.{Issued, push_at, happens, TellsService}
 use Rattle.runs.proofs.Lists.{push_at_cases, push_at_keeps, push_at_new, length_list_at_push}
 use Rattle.runs.proofs.Lists.{length_list_at_push_grows, get_push_cases, get_append_left, get_push}
 use Rattle.runs.proofs.Account.{Account}
-use Rattle.flights.proofs.Places.{put, put_new, put_other, put_cases}
+use Rattle.runs.proofs.Words.{put, put_new, put_other, put_cases}
 
 abbrev pub Tags : Type 0
 Tags = List (List (Option OpId))

@@ -17,7 +17,8 @@ use Rattle.runs.specs.Events.{Served, Answered, happens, points_of}
 use Rattle.runs.proofs.Lists.{push_at_cases, get_push_cases, get_append_left, get_push}
 use Rattle.runs.proofs.Folds.{reply_new}
 use Rattle.runs.proofs.Account.{Account, tells_more}
-use Rattle.flights.proofs.Places.{stood, removed_is, stood_apart, stood_other, stood_rises, still_there, put, put_other, put_cases}
+use Rattle.runs.proofs.Words.{put, put_other, put_cases}
+use Rattle.flights.proofs.Places.{stood, removed_is, stood_apart, stood_other, stood_rises, still_there}
 use Rattle.flights.proofs.Transport.{Tags, Holds, RequestIs, ResponseIs, answer_in, IsAsked, Sound, one_holder}
 
 -- where a request is the oldest of its source to its bank, its operation is the earliest of its processor with that home

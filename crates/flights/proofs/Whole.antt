@@ -25,12 +25,12 @@ use Rattle.runs.specs.Events.{Event, Issued, Served, Answered, push_at, entry_of
 use Rattle.runs.specs.Events.{MayServe, MayAnswer, MayHappen}
 use Rattle.runs.proofs.Lists.{length_list_at_push, total_push, list_within}
 use Rattle.runs.proofs.Account.{Account, keeps, home_within}
-use Rattle.flights.specs.ProcessorRecord.{ProcessorRecord, no_processor, index_in, index_of, operation_of, issued_by}
-use Rattle.flights.specs.ProcessorRecord.{answered_by, request_of, answer_of}
+use Rattle.net_interface.specs.ProcessorRecord.{ProcessorRecord, no_processor, index_in, index_of, operation_of, issued_by}
+use Rattle.net_interface.specs.ProcessorRecord.{answered_by, request_of, answer_of}
 use Rattle.flights.specs.Flight.{Flight, Move, Sends, Serves, Takes, processor_at, is_asked_alike, is_told_alike, asked_place}
 use Rattle.flights.specs.Flight.{told_place, word_asked, reply_given, IsFound, moved, moved_by, show, event, event_by}
 use Rattle.flights.proofs.Counts.{Counted, length-remove, home_total_push, asked_of, asked_push, asked_remove}
-use Rattle.flights.proofs.Places.{put, length_list_at_put}
+use Rattle.runs.proofs.Words.{put, length_list_at_put}
 use Rattle.flights.proofs.Transport.{Holds, answer_in, Sound, sends_sound}
 use Rattle.flights.proofs.Transported.{served_in_turn, serves_sound, takes_sound}
 use Rattle.flights.proofs.Telling.{Telling, answered_in_turn, telling_sends, telling_serves, telling_takes}

@@ -4,7 +4,7 @@ use Rattle.script.specs.declared.line.Line.{Line}
 use Rattle.net_interface.specs.Following.{first_of}
 use Rattle.runs.specs.Observed.{Run}
 use Rattle.runs.specs.Events.{Event}
-use Rattle.flights.specs.ProcessorRecord.{ProcessorRecord}
+use Rattle.net_interface.specs.ProcessorRecord.{ProcessorRecord}
 use Rattle.flights.specs.Flight.{Flight, Move, IsFound, moved_by, show, event_by}
 
 -- the record of a processor before any step, with so many tags

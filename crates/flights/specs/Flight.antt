@@ -1,6 +1,7 @@
 -- A machine without its network: its processors' records, its banks' entries, the memory, and the packets in flight.
 use Rattle.std.specs.Prelude.{◌≡◌, ℕ, suc, ◌<◌, ◌==◌, ◌&&◌, if◌then◌else◌, Bool, List, [], ◌∷◌, ◌++◌, map, length, remove}
 use Rattle.std.specs.Prelude.{Some, None, Option, slice_get, slice_set, slice_index, slice_index_or}
+use Rattle.std.specs.List.{list_all}
 use Rattle.packet.specs.declared.kinds.Operation.{Operation}
 use Rattle.packet.specs.declared.kinds.Request.{Request}
 use Rattle.packet.specs.declared.kinds.Response.{Response}
@@ -8,11 +9,11 @@ use Rattle.packet.specs.declared.kinds.Reply.{Reply}
 use Rattle.packet.specs.Memory.{new_word, reply_to}
 use Rattle.home_bank.specs.declared.entry.Entry.{Entry}
 use Rattle.home_bank.specs.ServiceList.{address_of, entry_of, response_of}
-use Rattle.net_interface.specs.Following.{next_operation_of}
+use Rattle.net_interface.specs.Following.{next_operation_of, is_finished}
 use Rattle.runs.specs.Observed.{Observed, list_at}
 use Rattle.runs.specs.Events.{Event, Nothing, Issued, Served, Answered, push_at}
-use Rattle.flights.specs.ProcessorRecord.{ProcessorRecord, no_processor, index_of, operation_of, issued_by}
-use Rattle.flights.specs.ProcessorRecord.{answered_by, request_of, answer_of}
+use Rattle.net_interface.specs.ProcessorRecord.{ProcessorRecord, no_processor, index_of, operation_of, issued_by}
+use Rattle.net_interface.specs.ProcessorRecord.{answered_by, request_of, answer_of}
 
 -- what stands of the operations: in processors, in banks, in memory, and in flight between them
 pub record Flight : Type 0 where
@@ -127,3 +128,7 @@ event f (Takes r) = Answered r.destination (answer_of (processor_at f r.destinat
 abbrev pub event_by : Flight → Option Move → Event
 event_by f None = Nothing
 event_by f (Some m) = event f m
+
+-- whether each processor's follower has come to the end of its script
+abbrev pub all_finished : Flight → Bool
+all_finished f = list_all (λ b. is_finished b.following) f.processors

@@ -1,4 +1,7 @@
-pub mod ProcessorRecord
+pub mod Load
 pub mod Flight
 pub mod Courses
 pub mod Scripts
+pub mod EventBook
+pub mod Room
+pub mod Reported

@@ -1,16 +1,20 @@
 //! Laws of flights, each the contract of a function that does nothing.
 
-ghost use Rattle.std.specs.Prelude.{◌≡◌, ◌<◌, ℕ, List, Option, length};
+ghost use Rattle.std.specs.Prelude.{◌≡◌, ◌<◌, ◌↔◌, ℕ, true, List, Option, length};
 ghost use Rattle.script.specs.declared.line.Line.{Line};
+ghost use Rattle.script.specs.Scripts.{AreAcceptedScripts};
 ghost use Rattle.net_interface.specs.Scripts.{IsFollowable};
 ghost use Rattle.runs.specs.declared.ordered.Ordered.{Ordered};
-ghost use Rattle.runs.specs.Observed.{list_at};
-ghost use Rattle.runs.specs.Events.{IsHistory, order_after};
+ghost use Rattle.runs.specs.Observed.{Run, list_at};
+ghost use Rattle.runs.specs.Events.{Event, IsHistory, order_after};
 ghost use Rattle.runs.specs.Rows.{AreRowsOf};
 ghost use Rattle.runs.specs.OneOrder.{HasOneOrder};
-ghost use Rattle.flights.specs.Flight.{Flight, Move};
+ghost use Rattle.flights.specs.Flight.{Flight, Move, IsFound, show, all_finished};
 ghost use Rattle.flights.specs.Courses.{IsCourse, run_of, events_of};
-ghost use Rattle.flights.specs.Scripts.{FollowScripts};
+ghost use Rattle.flights.specs.Scripts.{FollowScripts, AreFinished};
+ghost use Rattle.flights.specs.EventBook.{book_of};
+ghost use Rattle.flights.specs.Room.{IsWithin, IsBookWithin, HasRoomFor};
+ghost use Rattle.flights.specs.Reported.{ShowsWell};
 ghost use Rattle.runs.specs.Consequences.{AnswersInTurn};
 
 /// Any sequence of found moves and nothings goes from where nothing has happened by issues, services
@@ -47,4 +51,47 @@ pub fn answers_come_in_turn()
     ensures { (tiles tags : ℕ) (opening : List ℕ) (scripts : List (List Line)) (flight : ℕ → Flight) (move : ℕ → Option Move)
         → (n : ℕ) → IsCourse tiles tags opening scripts flight move n
         → (b p : ℕ) → AnswersInTurn (run_of flight n) b p }
+{}
+
+/// Of any history the book of its events tells the one legal order, and so it does of a course.
+pub fn books_tell_the_one_order()
+    ensures histories { (tiles tags : ℕ) (opening : List ℕ) (run : Run) (event : ℕ → Event) (n : ℕ) → IsHistory tiles tags opening run event n
+        → HasOneOrder tiles tags opening run n (book_of tiles event n).rows }
+    ensures courses { (tiles tags : ℕ) (opening : List ℕ) (scripts : List (List Line)) (flight : ℕ → Flight) (move : ℕ → Option Move)
+        → (n : ℕ) → IsCourse tiles tags opening scripts flight move n
+        → HasOneOrder tiles tags opening (run_of flight) n (book_of tiles (events_of flight move) n).rows }
+{}
+
+/// A course stays within the room of its scripts, if they can be followed: of each bank's
+/// operations, and of all together. Its book goes with it, and every move that is found has room.
+pub fn courses_have_room()
+    ensures flight { (tiles tags : ℕ) (opening : List ℕ) (scripts : List (List Line)) (flight : ℕ → Flight) (move : ℕ → Option Move)
+        → (n : ℕ) → IsCourse tiles tags opening scripts flight move n
+        → ((p : ℕ) → p < length scripts → IsFollowable (list_at scripts p))
+        → IsWithin tiles scripts (flight n) }
+    ensures book { (tiles tags : ℕ) (opening : List ℕ) (scripts : List (List Line)) (flight : ℕ → Flight) (move : ℕ → Option Move)
+        → (n : ℕ) → IsCourse tiles tags opening scripts flight move n
+        → ((p : ℕ) → p < length scripts → IsFollowable (list_at scripts p))
+        → IsBookWithin scripts (flight n) (book_of tiles (events_of flight move) n) }
+    ensures moves { (tiles tags : ℕ) (opening : List ℕ) (scripts : List (List Line)) (flight : ℕ → Flight) (move : ℕ → Option Move)
+        → (n : ℕ) → IsCourse tiles tags opening scripts flight move n
+        → ((p : ℕ) → p < length scripts → IsFollowable (list_at scripts p))
+        → (m : Move) → IsFound (length opening) (flight n) m → HasRoomFor tiles (length opening) scripts (flight n) m }
+{}
+
+/// Every follower of a course has come to its end exactly where every script is finished.
+pub fn ended_followers_finish_scripts()
+    ensures { (tiles tags : ℕ) (opening : List ℕ) (scripts : List (List Line)) (flight : ℕ → Flight) (move : ℕ → Option Move)
+        → (n : ℕ) → IsCourse tiles tags opening scripts flight move n
+        → ((p : ℕ) → p < length scripts → IsFollowable (list_at scripts p))
+        → (all_finished (flight n) ≡ true) ↔ AreFinished (run_of flight) n scripts }
+{}
+
+/// What a course shows goes with the rows of its book, if its scripts are accepted: its report is a
+/// good one.
+pub fn courses_show_well()
+    ensures { (tiles tags : ℕ) (opening : List ℕ) (scripts : List (List Line)) (flight : ℕ → Flight) (move : ℕ → Option Move)
+        → (n : ℕ) → IsCourse tiles tags opening scripts flight move n
+        → AreAcceptedScripts (record { words = length opening; lists = scripts })
+        → ShowsWell tiles tags opening (show (flight n)) (all_finished (flight n)) (book_of tiles (events_of flight move) n).rows }
 {}

@@ -11,7 +11,8 @@ use Rattle.report_lines.specs.declared.parts.AnswerRow.{AnswerRow}
 use Rattle.report_check.specs.Fits.{FitsLine}
 use Rattle.report_check.specs.Good.{AreGood, GoodReport}
 use Rattle.report_facts.specs.Facts.{AreContents}
-use Rattle.machine_core.specs.Core.{Core, all_finished, shown}
+use Rattle.flights.specs.Flight.{all_finished}
+use Rattle.machine_core.specs.Core.{Core, shown}
 use Rattle.machine_core.specs.Reported.{ReportsWell}
 use Rattle.history.specs.Report.{answer_row, entry_row, order_line, machine_report}
 use Rattle.history.proofs.Contents.{answered, complete, entered, numbered, ordered, told}
@@ -23,12 +24,12 @@ contents c well =
       accepted = well.shape;
       words_low = well.words_low;
       words_high = well.words_high;
-      entered = entered (tiles_of c.shape) c.tags c.opening (shown c) well.tags (let rows = well.entries.count in omega (arith, rows, well.few)) well.stands well.replay;
-      answered = answered (shown c) well.answers well.indexes;
-      ordered = ordered (shown c) c.book.rows (event_count (shown c)) well.entries well.numbers;
-      numbered = numbered c.book.rows (event_count (shown c)) well.events well.numbers;
-      told = told (shown c) c.book.rows well.answered;
-      complete = λ done. complete (shown c) c.book.rows well.entries well.answered (well.complete_rows done);
+      entered = entered (tiles_of c.shape) c.tags c.opening (shown c) well.tags (let rows = well.shows.entries.count in omega (arith, rows, well.shows.few)) well.shows.stands well.shows.replay;
+      answered = answered (shown c) well.shows.answers well.shows.indexes;
+      ordered = ordered (shown c) c.book.rows (event_count (shown c)) well.shows.entries well.shows.numbers;
+      numbered = numbered c.book.rows (event_count (shown c)) well.shows.events well.shows.numbers;
+      told = told (shown c) c.book.rows well.shows.answered;
+      complete = λ done. complete (shown c) c.book.rows well.shows.entries well.shows.answered (well.shows.complete_rows done);
     }
 
 -- the law of good contents

@@ -1,5 +1,5 @@
 -- What a machine shows is within the limits of a report.
-use Rattle.std.proofs.Common.{◌≡◌, ℕ, zero, suc, ◌<◌, ◌≤◌, List, [], ◌∷◌, length, arith, slice_index_or}
+use Rattle.std.proofs.Common.{ℕ, zero, suc, ◌<◌, ◌≤◌, List, [], ◌∷◌, length, arith, slice_index_or}
 use Rattle.runs.specs.Observed.{total}
 use Rattle.machine_core.specs.Core.{Core}
 use Rattle.machine_core.specs.Reported.{ReportsWell}
@@ -14,10 +14,10 @@ all_within (xs ∷ xss) n few (suc k) d below = all_within xss n (omega (arith, 
 pub within_limits : (c : Core) → ReportsWell c → IsWithinLimits c
 within_limits c well = record {
   tiles = well.shape.tiles;
-  banks = well.sizes.banks;
-  processors = well.sizes.answerers;
+  banks = well.shows.sizes.banks;
+  processors = well.shows.sizes.answerers;
   words = well.words_high;
-  memory = well.sizes.size;
-  places = all_within _ 65536 (let count = well.entries.count in omega (arith, count, well.few));
-  events = well.events;
+  memory = well.shows.sizes.size;
+  places = all_within _ 65536 (let count = well.shows.entries.count in omega (arith, count, well.shows.few));
+  events = well.shows.events;
 }

@@ -5,10 +5,12 @@ use Rattle.torus.specs.declared.step.Step.{Step}
 use Rattle.runs.specs.Rows.{BeginRows}
 use Rattle.runs.proofs.Agreement.{one_order_agree}
 use Rattle.runs.proofs.Beginnings.{rows_go_on}
-use Rattle.machine_core.specs.Wire.{Load, show, after, run_of}
-use Rattle.machine_core.specs.Core.{IsAccepted, book_after}
-use Rattle.machine_core.proofs.ScriptLawsHold.{script_laws}
-use Rattle.machine_core.proofs.Law.{held, event_at}
+use Rattle.flights.specs.Flight.{show}
+use Rattle.flights.proofs.Courses.{holds_at}
+use Rattle.flights.specs.Load.{Load, IsAccepted}
+use Rattle.machine_core.specs.Wire.{after, run_of}
+use Rattle.machine_core.specs.Core.{book_after}
+use Rattle.machine_core.proofs.Courses.{state_at, moves_of, course, event_at}
 use Rattle.machine_core.proofs.Reach.{lawful}
 
 -- the first steps of a longer list
@@ -18,13 +20,13 @@ first_steps [] more (suc k) l = absurd (omega arith)
 first_steps (x ∷ steps) more (suc k) l = ap (λ (xs : List Step). x ∷ xs) (first_steps steps more k (omega arith))
 
 pub run_begins : (l : Load) (steps more : List Step) (k : ℕ) → k ≤ length steps → run_of l (steps ++ more) k ≡ run_of l steps k
-run_begins l steps more k le = ap (λ (xs : List Step). show (tiles_of l.shape) (length l.opening) (after l xs)) (first_steps steps more k le)
+run_begins l steps more k le = ap (λ (xs : List Step). show (after l xs)) (first_steps steps more k le)
 
 -- the rows of a longer list of steps begin with those of its first steps
 pub rows_begin : (l : Load) (steps more : List Step) → IsAccepted l → BeginRows (book_after l steps).rows (book_after l (steps ++ more)).rows
 rows_begin l steps more ok =
     let tiles : ℕ = tiles_of l.shape in
     let all : List Step = steps ++ more in
-    let one = one_order_agree tiles l.tags l.opening (run_of l steps) (run_of l all) (length steps) (book_after l steps).rows (λ k le. sym (run_begins l steps more k le)) (lawful script_laws l ok steps).order in
-    rows_go_on tiles l.tags l.opening (run_of l all) (event_at l all) (length steps) (length all) (book_after l steps).rows (book_after l all).rows (omega (arith, length-append steps more))
-    (held script_laws l ok all (length all)).history one (lawful script_laws l ok all).order
+    let one = one_order_agree tiles l.tags l.opening (run_of l steps) (run_of l all) (length steps) (book_after l steps).rows (λ k le. sym (run_begins l steps more k le)) (lawful l ok steps).order in
+    rows_go_on tiles l.tags l.opening (run_of l all) (event_at l ok all) (length steps) (length all) (book_after l steps).rows (book_after l all).rows (omega (arith, length-append steps more))
+    (holds_at tiles l.tags l.opening l.scripts (state_at l all) (moves_of l all) (length all) (course l ok all (length all))).history one (lawful l ok all).order

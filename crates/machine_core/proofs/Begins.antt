@@ -1,24 +1,32 @@
 -- The fields that `load` makes are those of a machine that has made no step.
-use Rattle.std.proofs.Common.{◌≡◌, ℕ, suc, ◌≤◌, List, [], ◌∷◌, length, map, replicate, Some, refl, sym, ◌∙◌, ap, subst, slice_get, vec_capacity, arith}
+use Rattle.std.proofs.Common.{◌≡◌, ℕ, suc, ◌<◌, ◌≤◌, List, [], ◌∷◌, length, map, replicate, Some, refl, sym, ◌∙◌, ap, subst, slice_get, vec_capacity, arith}
 use Rattle.std.proofs.lemmas.List.{length-map}
+use Rattle.std.proofs.lemmas.Simd.{map-map}
 use Rattle.torus.specs.Shape.{Shape, tiles_of}
 use Rattle.script.specs.Machine.{MachineSpec, IsAcceptedMachine}
 use Rattle.script.specs.Scripts.{ScriptsSpec, AreAcceptedScripts, Fit, operation_count, total_count}
 use Rattle.script.specs.declared.line.Line.{Line}
 use Rattle.runs.specs.Observed.{tabulate}
 use Rattle.runs.proofs.Words.{length-tabulate}
+use Rattle.flights.specs.Load.{Load, IsAccepted, load_of}
 use Rattle.machine_core.specs.declared.rows.ProcessorRow.{ProcessorRow}
 use Rattle.machine_core.specs.declared.rows.BankRow.{BankRow}
 use Rattle.machine_core.specs.declared.machine.Machine.TheInside.{Inside}
-use Rattle.machine_core.specs.Wire.{Load, State, first_processor, first_bank, first_state, bank_of}
-use Rattle.machine_core.specs.EventBook.{EventBook}
-use Rattle.machine_core.specs.Room.{home_room}
+use Rattle.torus.proofs.MixedRadix.{product_positive}
+use Rattle.torus.proofs.Hops.{positive}
+use Rattle.runs.specs.Observed.{words_by_address}
+use Rattle.flights.specs.Flight.{Flight}
+use Rattle.flights.specs.Courses.{first_record}
+use Rattle.flights.specs.EventBook.{EventBook, first_book}
+use Rattle.flights.specs.Room.{home_room}
+use Rattle.machine_core.specs.Wire.{first_state}
 use Rattle.machine_core.specs.Rows.{processor_of, HasProcessorRoom}
-use Rattle.machine_core.specs.Core.{Core, IsAccepted, IsAfter, IsLawful, first_book}
+use Rattle.machine_core.specs.Core.{Core, IsAfter, IsLawful}
 use Rattle.machine_core.specs.Inside.{state_of, book_of, core_of, IsMachine}
-use Rattle.machine_core.specs.Loaded.{IsFirstBankRow, load_of}
-use Rattle.machine_core.proofs.LoadingAccepted.{accepted_load}
-use Rattle.machine_core.proofs.ScriptLaws.{ScriptLaws}
+use Rattle.machine_core.specs.Loaded.{Bank, first_words, first_bank, bank_of, IsFirstBankRow}
+use Rattle.machine_core.proofs.Words.{first_memory}
+use Rattle.flights.proofs.LoadingAccepted.{accepted_load}
+use Rattle.machine_core.proofs.Kept.{same_book}
 use Rattle.machine_core.proofs.Reach.{lawful}
 
 pub record Begun {A : Type 0} (l : Load) (a : Inside A) : Type 0 where
@@ -26,7 +34,7 @@ pub record Begun {A : Type 0} (l : Load) (a : Inside A) : Type 0 where
   pub depth : a.depth ≡ l.depth
   pub tags : a.tags ≡ l.tags
   pub opening : a.opening.items ≡ l.opening
-  pub processors : map processor_of a.processors.items ≡ map (first_processor l.tags) l.scripts
+  pub processors : map processor_of a.processors.items ≡ map (first_record l.tags) l.scripts
   pub numbers : (p : ℕ) (row : ProcessorRow A) → slice_get a.processors.items p ≡ Some row → row.numbers.items ≡ []
   pub room : (p : ℕ) (row : ProcessorRow A) (lines : List Line) → slice_get a.processors.items p ≡ Some row → slice_get l.scripts p ≡ Some lines → HasProcessorRoom (operation_count lines) row
   pub banks : map (λ (row : BankRow A). bank_of row.bank) a.banks.items ≡ tabulate (first_bank (tiles_of l.shape) l.opening) (tiles_of l.shape)
@@ -43,25 +51,28 @@ all_empty : {A B : Type 0} (f : A → List B) (xs : List A) (n : ℕ) → length
 all_empty f [] n e h = ap (λ k. replicate k []) e
 all_empty f (x ∷ xs) n e h = ap (λ (y : List _). y ∷ map f xs) (h 0 x refl) ∙ (ap (λ ys. [] ∷ ys) (all_empty f xs (length xs) refl (λ k. h (suc k))) ∙ ap (λ k. replicate k []) e)
 
-same_state : (p q : State) → p.processors ≡ q.processors → p.banks ≡ q.banks → p.requests ≡ q.requests → p.responses ≡ q.responses → p ≡ q
-same_state p q hp hb hr hs =
-    ap (λ z. record { processors = z; banks = p.banks; requests = p.requests; responses = p.responses }) hp
-    ∙ (ap (λ z. record { processors = q.processors; banks = z; requests = p.requests; responses = p.responses }) hb
-    ∙ (ap (λ z. record { processors = q.processors; banks = q.banks; requests = z; responses = p.responses }) hr
-    ∙ ap (λ z. record { processors = q.processors; banks = q.banks; requests = q.requests; responses = z }) hs))
+same_state : (p q : Flight) → p.processors ≡ q.processors → p.entries ≡ q.entries → p.memory ≡ q.memory → p.asked ≡ q.asked → p.told ≡ q.told → p ≡ q
+same_state p q hp he hm ha ht =
+    ap (λ z. record { processors = z; entries = p.entries; memory = p.memory; asked = p.asked; told = p.told }) hp
+    ∙ (ap (λ z. record { processors = q.processors; entries = z; memory = p.memory; asked = p.asked; told = p.told }) he
+    ∙ (ap (λ z. record { processors = q.processors; entries = q.entries; memory = z; asked = p.asked; told = p.told }) hm
+    ∙ (ap (λ z. record { processors = q.processors; entries = q.entries; memory = q.memory; asked = z; told = p.told }) ha
+    ∙ ap (λ z. record { processors = q.processors; entries = q.entries; memory = q.memory; asked = q.asked; told = z }) ht)))
 
-same_book : (p q : EventBook) → p.events ≡ q.events → p.issues ≡ q.issues → p.positions ≡ q.positions → p.rows ≡ q.rows → p ≡ q
-same_book p q he hi hp hr =
-    ap (λ z. record { events = z; issues = p.issues; positions = p.positions; rows = p.rows }) he
-    ∙ (ap (λ z. record { events = q.events; issues = z; positions = p.positions; rows = p.rows }) hi
-    ∙ (ap (λ z. record { events = q.events; issues = q.issues; positions = z; rows = p.rows }) hp
-    ∙ ap (λ z. record { events = q.events; issues = q.issues; positions = q.positions; rows = z }) hr))
+-- the words of all banks are the opening words
+memory_first : {A : Type 0} (n : ℕ) (opening now : List ℕ) (rows : List (BankRow A)) → 0 < n → now ≡ opening
+    → map (λ (row : BankRow A). bank_of row.bank) rows ≡ tabulate (first_bank n opening) n
+    → words_by_address n (length now) (map (λ (row : BankRow A). row.bank.words) rows) ≡ opening
+memory_first {A = A} n opening now rows some same banks =
+    ap (λ (xs : List ℕ). words_by_address n (length xs) (map (λ (row : BankRow A). row.bank.words) rows)) same
+    ∙ (ap (words_by_address n (length opening)) (sym (map-map (λ (x : Bank). x.words) (λ (row : BankRow A). bank_of row.bank) rows) ∙ ap (map (λ (x : Bank). x.words)) banks)
+    ∙ first_memory n opening some)
 
-pub is_after_none : {A : Type 0} (laws : ScriptLaws) (l : Load) (a : Inside A) → IsAccepted l → Begun l a → IsAfter l (core_of a) []
-is_after_none {A = A} laws l a ok b =
+pub is_after_none : {A : Type 0} (l : Load) (a : Inside A) → IsAccepted l → Begun l a → IsAfter l (core_of a) []
+is_after_none {A = A} l a ok b =
     let tiles : ℕ = tiles_of l.shape in
     let processors : length a.processors.items ≡ tiles =
-    sym (length-map a.processors.items processor_of) ∙ (ap (λ xs. length xs) b.processors ∙ (length-map l.scripts (first_processor l.tags) ∙ ok.processors)) in
+    sym (length-map a.processors.items processor_of) ∙ (ap (λ xs. length xs) b.processors ∙ (length-map l.scripts (first_record l.tags) ∙ ok.processors)) in
     let banks : length a.banks.items ≡ tiles =
     sym (length-map a.banks.items (λ (row : BankRow A). bank_of row.bank)) ∙ (ap (λ xs. length xs) b.banks ∙ length-tabulate (first_bank tiles l.opening) tiles) in
     let book : book_of a ≡ first_book tiles = same_book (book_of a) (first_book tiles) b.events
@@ -74,16 +85,20 @@ is_after_none {A = A} laws l a ok b =
       depth = b.depth;
       tags = b.tags;
       opening = b.opening;
-      state = same_state (state_of a) (first_state l) b.processors b.banks b.requests b.responses;
+      state = same_state (state_of a) (first_state l) b.processors
+          (all_empty (λ (row : BankRow A). row.bank.entries) a.banks.items tiles banks (λ k row h. ap (λ (x : Bank). x.entries) (b.each k row h).bank))
+          (ap (λ sh. words_by_address (tiles_of sh) (length a.opening.items) (map (λ (row : BankRow A). row.bank.words) a.banks.items)) b.shape
+          ∙ memory_first tiles l.opening a.opening.items a.banks.items (product_positive l.shape.radices (positive l.shape ok.shape)) b.opening b.banks)
+          b.requests b.responses;
       book = book;
-      lawful = subst (λ (g : EventBook). IsLawful l [] g.rows) (sym book) (lawful laws l ok []);
+      lawful = subst (λ (g : EventBook). IsLawful l [] g.rows) (sym book) (lawful l ok []);
     }
 
-pub is_machine : {A : Type 0} (laws : ScriptLaws) (l : Load) (a : Inside A) → IsAccepted l → Begun l a → IsMachine a
-is_machine laws l a ok b = record {
+pub is_machine : {A : Type 0} (l : Load) (a : Inside A) → IsAccepted l → Begun l a → IsMachine a
+is_machine l a ok b = record {
   load = l;
   steps = [];
-  after = is_after_none laws l a ok b;
+  after = is_after_none l a ok b;
   room = record {
     processors = λ t lines row script there. b.room t row lines there script;
     banks = λ k row there. (b.each k row there).room;
@@ -91,7 +106,14 @@ is_machine laws l a ok b = record {
     responses = b.response_room;
     order = b.order_room;
   };
-  banks = λ k row there. ((b.each k row there).tile, (b.each k row there).among ∙ sym (ap tiles_of b.shape));
+  banks = λ k row there.
+      let first = b.each k row there in
+      record {
+        tile = first.tile;
+        among = first.among ∙ sym (ap tiles_of b.shape);
+        words = ap (λ (x : Bank). length x.words) first.bank
+            ∙ (ap (λ (xs : List ℕ). length (first_words (tiles_of l.shape) xs k)) (sym b.opening) ∙ ap (λ sh. length (first_words (tiles_of sh) a.opening.items k)) (sym b.shape));
+      };
 }
 
 -- the rows of the banks, said of what they were made from

@@ -10,7 +10,7 @@ use Rattle.script.specs.declared.lists.LineList.{LineList}
 use Rattle.script.specs.Scripts.{operations_of, operation_count, total_count}
 use Rattle.script.specs.ScriptViews.{lists_of}
 use Rattle.net_interface.specs.Scripts.{address_of}
-use Rattle.machine_core.specs.Room.{home_room}
+use Rattle.flights.specs.Room.{home_room}
 use Rattle.net_interface.specs.Homes.{is_home, line_home_count, script_home_count}
 
 -- one line more

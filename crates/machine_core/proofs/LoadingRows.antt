@@ -11,7 +11,9 @@ use Rattle.runs.specs.Observed.{tabulate}
 use Rattle.runs.proofs.Lists.{get_push_cases}
 use Rattle.machine_core.specs.declared.rows.ProcessorRow.{ProcessorRow}
 use Rattle.machine_core.specs.declared.rows.BankRow.{BankRow}
-use Rattle.machine_core.specs.Wire.{Processor, Bank, first_processor, bank_of}
+use Rattle.net_interface.specs.ProcessorRecord.{ProcessorRecord}
+use Rattle.flights.specs.Courses.{first_record}
+use Rattle.machine_core.specs.Loaded.{Bank, bank_of}
 use Rattle.machine_core.specs.Rows.{processor_of, HasProcessorRoom}
 
 get_middle : {A : Type 0} (xs rest : List A) (x : A) → slice_get (xs ++ x ∷ rest) (length xs) ≡ Some x
@@ -38,18 +40,18 @@ lists_push xs x = map_push (λ list. list.lines.items) xs x
 
 -- one processor more
 pub processors_more : {A : Type 0} (tags : ℕ) (rows new : List (ProcessorRow A)) (row : ProcessorRow A) (xs : List (LineList A)) (x : LineList A) →
-    new ≡ rows ++ row ∷ [] → map processor_of rows ≡ map (first_processor tags) (lists_of xs) → processor_of row ≡ first_processor tags x.lines.items →
-    map processor_of new ≡ map (first_processor tags) (lists_of (xs ++ x ∷ []))
+    new ≡ rows ++ row ∷ [] → map processor_of rows ≡ map (first_record tags) (lists_of xs) → processor_of row ≡ first_record tags x.lines.items →
+    map processor_of new ≡ map (first_record tags) (lists_of (xs ++ x ∷ []))
 processors_more tags rows new row xs x h e first =
     ap (map processor_of) h ∙ (map_push processor_of rows row
-    ∙ (ap (λ (ps : List Processor). ps ++ processor_of row ∷ []) e
-    ∙ (ap (λ (p : Processor). map (first_processor tags) (lists_of xs) ++ p ∷ []) first
-    ∙ (sym (map_push (first_processor tags) (lists_of xs) x.lines.items)
-    ∙ ap (map (first_processor tags)) (sym (lists_push xs x))))))
+    ∙ (ap (λ (ps : List ProcessorRecord). ps ++ processor_of row ∷ []) e
+    ∙ (ap (λ (p : ProcessorRecord). map (first_record tags) (lists_of xs) ++ p ∷ []) first
+    ∙ (sym (map_push (first_record tags) (lists_of xs) x.lines.items)
+    ∙ ap (map (first_record tags)) (sym (lists_push xs x))))))
 
 -- as many rows as scripts
-pub as_many : {A : Type 0} (tags : ℕ) (rows : List (ProcessorRow A)) (lists : List (List Line)) → map processor_of rows ≡ map (first_processor tags) lists → length rows ≡ length lists
-as_many tags rows lists e = sym (length-map rows processor_of) ∙ (ap length e ∙ length-map lists (first_processor tags))
+pub as_many : {A : Type 0} (tags : ℕ) (rows : List (ProcessorRow A)) (lists : List (List Line)) → map processor_of rows ≡ map (first_record tags) lists → length rows ≡ length lists
+as_many tags rows lists e = sym (length-map rows processor_of) ∙ (ap length e ∙ length-map lists (first_record tags))
 
 -- each row has room for its script, and so has the new one
 pub room_more : {A : Type 0} (rows : List (ProcessorRow A)) (row : ProcessorRow A) (lists : List (List Line)) (new : List Line) → length rows ≡ length lists →

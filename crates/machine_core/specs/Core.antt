@@ -1,18 +1,17 @@
 -- What contracts see of a machine, and the headline: every run has one legal order.
-use Rattle.std.specs.Prelude.{◌≡◌, ℕ, ◌<◌, ◌≤◌, ◌^◌, Bool, List, [], ◌∷◌, Option, Some, None, length, replicate, slice_index}
-use Rattle.std.specs.List.{list_all}
-use Rattle.torus.specs.Shape.{Shape, tiles_of, IsAccepted as IsAcceptedShape}
+use Rattle.std.specs.Prelude.{◌≡◌, ℕ, List, [], ◌∷◌, Option, Some, None, length}
+use Rattle.torus.specs.Shape.{Shape, tiles_of}
 use Rattle.torus.specs.declared.step.Step.{Step}
 use Rattle.torus.specs.declared.step.Stepped.{Stepped}
 use Rattle.torus.specs.declared.step.Stepped.TheVariants.{Moved, Idle}
-use Rattle.script.specs.Scripts.{AreAcceptedScripts}
 use Rattle.runs.specs.declared.ordered.Ordered.{Ordered}
-use Rattle.net_interface.specs.Following.{is_finished}
 use Rattle.runs.specs.Observed.{Observed}
 use Rattle.runs.specs.OneOrder.{HasOneOrder}
-use Rattle.machine_core.specs.Scripts.{FollowScripts}
-use Rattle.machine_core.specs.EventBook.{EventBook, noted_issue, noted_service, noted_answer}
-use Rattle.machine_core.specs.Wire.{Load, State, Move, Sends, Serves, Takes, move_of, moved, next, first_state, after, run_of, show, processor_at, index_of}
+use Rattle.flights.specs.Flight.{Flight, Move, moved, show, event, event_by}
+use Rattle.flights.specs.Scripts.{FollowScripts}
+use Rattle.flights.specs.EventBook.{EventBook, first_book, noted_event}
+use Rattle.flights.specs.Load.{Load, IsAccepted}
+use Rattle.machine_core.specs.Wire.{move_of, next, first_state, after, run_of}
 
 -- a machine: what was loaded of shape, depth, tags and words, the state of its agents and packets, and its book of
 -- events
@@ -21,19 +20,8 @@ pub record Core : Type 0 where
   pub depth : ℕ
   pub tags : ℕ
   pub opening : List ℕ
-  pub state : State
+  pub state : Flight
   pub book : EventBook
-
--- what is accepted of a load: the limits of the machine's text, a script for each processor, and the scripts as
--- their reader accepts them (this project's own format)
-pub record IsAccepted (l : Load) : Type 0 where
-  pub shape : IsAcceptedShape l.shape
-  pub depth : (1 ≤ l.depth) × (l.depth ≤ 8)
-  pub tags : (1 ≤ l.tags) × (l.tags ≤ 16)
-  pub size : (1 ≤ length l.opening) × (length l.opening ≤ 65536)
-  pub words : (a : ℕ) → a < length l.opening → slice_index l.opening a < 2 ^ 64
-  pub processors : length l.scripts ≡ tiles_of l.shape
-  pub scripts : AreAcceptedScripts (record { words = length l.opening; lists = l.scripts })
 
 -- The headline, of the run of a list of steps from a load: the operations that took effect have one legal order,
 -- which is the order of the banks' services, with these rows; and every processor has followed its script (Herlihy
@@ -42,24 +30,11 @@ pub record IsLawful (l : Load) (steps : List Step) (rows : List Ordered) : Type 
   pub order : HasOneOrder (tiles_of l.shape) l.tags l.opening (run_of l steps) (length steps) rows
   pub scripts : FollowScripts (run_of l steps) (length steps) l.scripts
 
--- what a move makes of the book of events: an issue, a service or an answer
-abbrev pub noted : State → EventBook → Move → EventBook
-noted s l (Sends t tag o) = noted_issue t l
-noted s l (Serves b place r) = noted_service b r.source (index_of (processor_at s r.source) r.tag.0) l
-noted s l (Takes p place r) = noted_answer r.source r.place l
-
-abbrev pub noted_by : State → EventBook → Option Move → EventBook
-noted_by s l None = l
-noted_by s l (Some m) = noted s l m
-
 -- the book after a list of steps
-abbrev pub book_from : ℕ → State → EventBook → List Step → EventBook
+abbrev pub book_from : ℕ → Flight → EventBook → List Step → EventBook
 book_from tiles s l [] = l
-book_from tiles s l (step ∷ steps) = book_from tiles (next tiles s step) (noted_by s l (move_of s step)) steps
-
--- before any step nothing is noted
-abbrev pub first_book : ℕ → EventBook
-first_book tiles = record { events = 0; issues = replicate tiles []; positions = replicate tiles []; rows = [] }
+book_from tiles s l (step ∷ steps) =
+    book_from tiles (next tiles s step) (noted_event tiles l (event_by s (move_of s step))) steps
 
 abbrev pub book_after : Load → List Step → EventBook
 book_after l steps = book_from (tiles_of l.shape) (first_state l) (first_book (tiles_of l.shape)) steps
@@ -100,7 +75,7 @@ core_moved c m = record {
   tags = c.tags;
   opening = c.opening;
   state = moved (tiles_of c.shape) c.state m;
-  book = noted c.state c.book m;
+  book = noted_event (tiles_of c.shape) c.book (event c.state m);
 }
 
 -- the machine after a step that attempts a move: one that is not enabled changes nothing
@@ -120,8 +95,4 @@ core_after c (step ∷ steps) = core_after (core_next c (move_of c.state step)) 
 
 -- what a machine shows: operations issued, answers, entries of the banks, and the words by address
 abbrev pub shown : Core → Observed
-shown c = show (tiles_of c.shape) (length c.opening) c.state
-
--- whether each processor's follower has come to the end of its script
-abbrev pub all_finished : State → Bool
-all_finished s = list_all (λ p. is_finished p.following) s.processors
+shown c = show c.state

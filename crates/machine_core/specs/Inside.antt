@@ -1,24 +1,28 @@
 -- What a machine's fields stand for, and what is true of every machine.
-use Rattle.std.specs.Prelude.{◌≡◌, ℕ, ◌≤◌, List, map, Some, slice_get, vec_capacity}
+use Rattle.std.specs.Prelude.{◌≡◌, ℕ, ◌≤◌, List, length, map, Some, slice_get, vec_capacity}
 use Rattle.torus.specs.Shape.{tiles_of}
 use Rattle.torus.specs.declared.step.Step.{Step}
 use Rattle.script.specs.declared.line.Line.{Line}
 use Rattle.script.specs.Scripts.{operation_count, total_count}
+use Rattle.runs.specs.Observed.{words_by_address}
+use Rattle.flights.specs.Flight.{Flight}
+use Rattle.flights.specs.EventBook.{EventBook}
+use Rattle.flights.specs.Room.{home_room}
+use Rattle.flights.specs.Load.{Load}
 use Rattle.machine_core.specs.declared.rows.ProcessorRow.{ProcessorRow}
 use Rattle.machine_core.specs.declared.rows.BankRow.{BankRow}
 use Rattle.machine_core.specs.declared.machine.Machine.TheInside.{Inside}
-use Rattle.machine_core.specs.Wire.{Load, State, bank_of}
-use Rattle.machine_core.specs.EventBook.{EventBook}
-use Rattle.machine_core.specs.Room.{home_room}
+use Rattle.machine_core.specs.Loaded.{first_words}
 use Rattle.machine_core.specs.Rows.{processor_of, HasProcessorRoom, HasBankRoom}
 use Rattle.machine_core.specs.Core.{Core, IsAfter}
 
-abbrev pub state_of : {A : Type 0} → Inside A → State
+abbrev pub state_of : {A : Type 0} → Inside A → Flight
 state_of a = record {
   processors = map processor_of a.processors.items;
-  banks = map (λ row. bank_of row.bank) a.banks.items;
-  requests = a.requests.items;
-  responses = a.responses.items;
+  entries = map (λ row. row.bank.entries) a.banks.items;
+  memory = words_by_address (tiles_of a.torus) (length a.opening.items) (map (λ row. row.bank.words) a.banks.items);
+  asked = a.requests.items;
+  told = a.responses.items;
 }
 
 abbrev pub book_of : {A : Type 0} → Inside A → EventBook
@@ -49,6 +53,12 @@ pub record HasRoom {A : Type 0} (l : Load) (a : Inside A) : Type 0 where
   pub responses : total_count l.scripts ≤ vec_capacity a.responses
   pub order : total_count l.scripts ≤ vec_capacity a.order
 
+-- a row is that of bank b of so many tiles, and has the words that are at home there
+pub record IsBankRow {A : Type 0} (tiles b : ℕ) (opening : List ℕ) (row : BankRow A) : Type 0 where
+  pub tile : row.bank.tile ≡ b
+  pub among : row.bank.tiles ≡ tiles
+  pub words : length row.bank.words ≡ length (first_words tiles opening b)
+
 -- every machine stands where some list of steps leads from an accepted load
 pub record IsMachine {A : Type 0} (a : Inside A) : Type 0 where
   pub load : Load
@@ -56,4 +66,4 @@ pub record IsMachine {A : Type 0} (a : Inside A) : Type 0 where
   pub after : IsAfter load (core_of a) steps
   pub room : HasRoom load a
   pub banks : (b : ℕ) (row : BankRow A) → slice_get a.banks.items b ≡ Some row
-      → (row.bank.tile ≡ b) × (row.bank.tiles ≡ tiles_of a.torus)
+      → IsBankRow (tiles_of a.torus) b a.opening.items row

@@ -1,9 +1,6 @@
 pub mod Wire
-pub mod Scripts
-pub mod EventBook
 pub mod Core
 pub mod Rows
-pub mod Room
-pub mod Inside
 pub mod Loaded
+pub mod Inside
 pub mod Reported

@@ -2,9 +2,9 @@
 use Rattle.std.specs.Prelude.{◌≡◌, ℕ, ◌≤◌, vec_capacity}
 use Rattle.machine_core.specs.declared.rows.ProcessorRow.{ProcessorRow}
 use Rattle.machine_core.specs.declared.rows.BankRow.{BankRow}
-use Rattle.machine_core.specs.Wire.{Processor}
+use Rattle.net_interface.specs.ProcessorRecord.{ProcessorRecord}
 
-abbrev pub processor_of : {A : Type 0} → ProcessorRow A → Processor
+abbrev pub processor_of : {A : Type 0} → ProcessorRow A → ProcessorRecord
 processor_of row =
     record { following = row.follower; tags = row.tags; issued = row.issued.items; answers = row.answers.items }
 

@@ -8,9 +8,9 @@ ghost use Rattle.runs.specs.declared.ordered.Ordered.{Ordered};
 ghost use Rattle.runs.specs.Order.{LinearizationPoint, IsLegalOrder, StandsBefore};
 ghost use Rattle.runs.specs.Rows.{BeginRows};
 ghost use Rattle.runs.specs.Consequences.{Precedes};
-ghost use Rattle.machine_core.specs.Wire.{Load, run_of};
-ghost use Rattle.machine_core.specs.Core.{Core, IsAccepted, IsAfter, IsLawful, book_after, core_after_load};
-ghost use Rattle.machine_core.specs.Loaded.{load_of};
+ghost use Rattle.flights.specs.Load.{Load, IsAccepted, load_of};
+ghost use Rattle.machine_core.specs.Wire.{run_of};
+ghost use Rattle.machine_core.specs.Core.{Core, IsAfter, IsLawful, book_after, core_after_load};
 ghost use Rattle.machine_core.specs.Reported.{ReportsWell};
 
 /// Of every machine that is reached, what it shows goes with its rows: its report is a good one.

@@ -1,12 +1,13 @@
 ghost use Rattle.std.specs.Prelude.{◌≡◌, ◌<◌, ◌≤◌, ◌↔◌, List, [], ◌∷◌, ◌++◌, IsTrue, IfOk, IfErr, length, slice_get};
 ghost use Rattle.std.specs.Option.{option_copied};
 ghost use Rattle.torus.specs.declared.step.Step.{Step};
-ghost use Rattle.machine_core.specs.Wire.{Load, sends, serves, takes, move_of, run_of};
+ghost use Rattle.flights.specs.Load.{Load, IsAccepted, load_of};
+ghost use Rattle.machine_core.specs.Wire.{sends, serves, takes, move_of, run_of};
 ghost use Rattle.script.specs.Scripts.{Fit};
 ghost use Rattle.script.specs.ScriptViews.{lists_of};
-ghost use Rattle.machine_core.specs.Scripts.{AreFinished};
-ghost use Rattle.machine_core.specs.Loaded.{load_of};
-ghost use Rattle.machine_core.specs.Core.{IsAccepted, Steps, IsAfter, core_after, shown, all_finished};
+ghost use Rattle.flights.specs.Flight.{all_finished};
+ghost use Rattle.flights.specs.Scripts.{AreFinished};
+ghost use Rattle.machine_core.specs.Core.{Steps, IsAfter, core_after, shown};
 
 use crate::loading::{all_room, bank_rows, processor_rows};
 use crate::moves::{

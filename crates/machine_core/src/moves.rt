@@ -8,9 +8,10 @@ ghost use Rattle.packet.specs.declared.kinds.Request.{Request};
 ghost use Rattle.packet.specs.declared.kinds.Response.{Response};
 ghost use Rattle.packet.specs.declared.kinds.Packet.TheVariants as packet;
 ghost use Rattle.home_bank.specs.Bank.{IsFor, bank_after, response_to};
-ghost use Rattle.machine_core.specs.Wire.{oldest, ready, request_of, issued_by, answered_by, index_of, operation_of};
+ghost use Rattle.net_interface.specs.ProcessorRecord.{ready, request_of, issued_by, answered_by, index_of, operation_of};
+ghost use Rattle.machine_core.specs.Wire.{oldest};
 ghost use Rattle.torus.specs.Shape.{tiles_of};
-ghost use Rattle.machine_core.specs.EventBook.{answered_row, no_row};
+ghost use Rattle.flights.specs.EventBook.{answered_row, no_row};
 ghost use Rattle.machine_core.specs.Rows.{processor_of, KeepsProcessorRoom};
 
 use crate::rows::{BankRow, ProcessorRow};

@@ -2,9 +2,8 @@
 use Rattle.std.proofs.Common.{List, [], subst}
 use Rattle.std.specs.Str.Lines.{lines}
 use Rattle.torus.specs.declared.step.Step.{Step}
-use Rattle.machine_core.specs.Wire.{Load}
+use Rattle.flights.specs.Load.{Load, load_of}
 use Rattle.machine_core.specs.Core.{IsAfter}
-use Rattle.machine_core.specs.Loaded.{load_of}
 use Rattle.commands.proofs.Asked.{all_read}
 use Rattle.commands.proofs.steps.ran.Goals as goal
 

@@ -1,4 +1,4 @@
-use Rattle.machine_core.proofs.LoadingAccepted.{accepted_load}
+use Rattle.flights.proofs.LoadingAccepted.{accepted_load}
 use Rattle.machine_core.proofs.laws.readers_give_accepted_loads.Goals as goal
 
 pub returns : goal.returns

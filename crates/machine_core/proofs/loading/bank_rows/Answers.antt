@@ -2,10 +2,9 @@ use Rattle.std.proofs.Common.{◌≡◌, ◌≤◌, ℕ, arith, length, slice_ge
 use Rattle.std.proofs.lemmas.List.{length-map}
 use Rattle.script.specs.ScriptViews.{lists_of}
 use Rattle.machine_core.specs.declared.rows.BankRow.{BankRow}
-use Rattle.machine_core.specs.Room.{home_room}
+use Rattle.flights.specs.Room.{home_room}
 use Rattle.script.specs.Scripts.{total_count}
-use Rattle.machine_core.specs.Wire.{bank_of, first_bank}
-use Rattle.machine_core.specs.Loaded.{IsFirstBankRow}
+use Rattle.machine_core.specs.Loaded.{first_bank, bank_of, IsFirstBankRow}
 use Rattle.machine_core.proofs.LoadingCounts.{home_within}
 use Rattle.runs.proofs.Words.{length-tabulate}
 use Rattle.machine_core.proofs.LoadingRows.{banks_more, each_more}

@@ -2,9 +2,8 @@ use Rattle.std.proofs.Common.{◌≡◌, ℕ, map, Some, slice_get}
 use Rattle.script.specs.ScriptViews.{lists_of}
 use Rattle.runs.specs.Observed.{tabulate}
 use Rattle.machine_core.specs.declared.rows.BankRow.{BankRow}
-use Rattle.machine_core.specs.Wire.{first_bank, bank_of}
-use Rattle.machine_core.specs.Room.{home_room}
-use Rattle.machine_core.specs.Loaded.{IsFirstBankRow}
+use Rattle.flights.specs.Room.{home_room}
+use Rattle.machine_core.specs.Loaded.{first_bank, bank_of, IsFirstBankRow}
 use Rattle.machine_core.proofs.loading.bank_rows.Given as goal
 
 abbrev pub invariant-loop-bank : goal.invariant-loop-bank

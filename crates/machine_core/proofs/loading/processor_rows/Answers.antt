@@ -5,7 +5,7 @@ use Rattle.script.specs.ScriptViews.{lists_of}
 use Rattle.net_interface.specs.Scripts.{IsFollowable}
 use Rattle.script.specs.Scripts.{operation_count}
 use Rattle.machine_core.specs.declared.rows.ProcessorRow.{ProcessorRow}
-use Rattle.machine_core.specs.Wire.{first_processor}
+use Rattle.flights.specs.Courses.{first_record}
 use Rattle.machine_core.proofs.LoadingRows.{next_lines, none_left, all_taken, lists_push, processors_more, as_many, room_more, each_more}
 use Rattle.machine_core.proofs.loading.processor_rows.Given.{Over}
 use Rattle.machine_core.proofs.loading.processor_rows.Goals as goal
@@ -53,7 +53,7 @@ taken g c = all_taken c.args.scripts.items c.loop-script.yielded (into_iter_item
     (none_left (into_iter_items c.loop-script.script-iterator) (sym c.loop-script.invariant.left ∙ c.in-None.ensures.steps.0))
 
 pub returns-clause-rows : goal.returns-clause-rows
-returns-clause-rows g c = c.loop-script.invariant.rows ∙ ap (λ (xs : List (LineList g.row.A.Denot)). map (first_processor c.args.tags) (lists_of xs)) (sym (taken g c))
+returns-clause-rows g c = c.loop-script.invariant.rows ∙ ap (λ (xs : List (LineList g.row.A.Denot)). map (first_record c.args.tags) (lists_of xs)) (sym (taken g c))
 
 pub returns-clause-room : goal.returns-clause-room
 returns-clause-room g c = λ p row lines h l.

@@ -2,9 +2,8 @@ use Rattle.std.proofs.Common.{List, refl, ap}
 use Rattle.torus.specs.Shape.{tiles_of}
 use Rattle.script.specs.declared.lists.LineList.{LineList}
 use Rattle.script.specs.ScriptViews.{lists_of}
-use Rattle.machine_core.proofs.LoadingAccepted.{followable}
+use Rattle.flights.proofs.LoadingAccepted.{followable}
 use Rattle.machine_core.proofs.Begins.{Begun, is_machine, is_after_none, banks_as, each_as, room_as}
-use Rattle.machine_core.proofs.ScriptLawsHold.{script_laws}
 use Rattle.machine_core.proofs.machine.Machine.begin.Given.{Over}
 use Rattle.machine_core.proofs.machine.Machine.begin.Goals as goal
 
@@ -45,10 +44,10 @@ begun g c =
     }
 
 pub invariant_of-result : goal.invariant_of-result
-invariant_of-result g c = is_machine script_laws (record { shape = c.args.torus; depth = c.args.depth; tags = c.args.tags; opening = c.args.opening.items; scripts = lists_of c.args.lists.items }) _ c.requires (begun g c)
+invariant_of-result g c = is_machine (record { shape = c.args.torus; depth = c.args.depth; tags = c.args.tags; opening = c.args.opening.items; scripts = lists_of c.args.lists.items }) _ c.requires (begun g c)
 
 pub returns : goal.returns
-returns g c = is_after_none script_laws (record { shape = c.args.torus; depth = c.args.depth; tags = c.args.tags; opening = c.args.opening.items; scripts = lists_of c.args.lists.items }) _ c.requires (begun g c)
+returns g c = is_after_none (record { shape = c.args.torus; depth = c.args.depth; tags = c.args.tags; opening = c.args.opening.items; scripts = lists_of c.args.lists.items }) _ c.requires (begun g c)
 
 pub processor_rows-requires-clause-accepted : goal.processor_rows-requires-clause-accepted
 processor_rows-requires-clause-accepted g c =

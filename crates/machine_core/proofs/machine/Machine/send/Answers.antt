@@ -1,36 +1,35 @@
 use Rattle.std.proofs.Common.{◌+◌, ◌∷◌, [], ◌++◌, refl, sym, ◌∙◌, ap, arith}
-use Rattle.machine_core.specs.Wire.{Sends}
+use Rattle.flights.specs.Flight.{Sends}
 use Rattle.machine_core.specs.Rows.{processor_of}
 use Rattle.machine_core.specs.Inside.{state_of}
 use Rattle.machine_core.proofs.Kept.{map_at, Made, with_sent, sent, sends_is}
 use Rattle.machine_core.proofs.Attempts.{steps_of}
 use Rattle.machine_core.proofs.Moving.{send_here, send_fits, number_fits}
-use Rattle.machine_core.proofs.ScriptLawsHold.{script_laws}
 use Rattle.machine_core.proofs.machine.Machine.send.Given.{Over}
 use Rattle.machine_core.proofs.machine.Machine.send.Goals as goal
 
 pub overflow_add-number : goal.overflow_add-number
-overflow_add-number g c = omega (arith, number_fits script_laws c.self.inside c.self.invariant)
+overflow_add-number g c = omega (arith, number_fits c.self.inside c.self.invariant)
 
 pub issue-requires-clause-issued : goal.issue-requires-clause-issued
 issue-requires-clause-issued g c =
     let here = send_here c.self.inside c.args.tile c.index.result.now c.index_mut.result.now c.in-Some.tag c.in-Some.operation (omega arith) c.index.ensures c.index_mut.ensures.value (sym c.in-Some.is ∙ c.ready.ensures) in
-    (send_fits script_laws c.self.inside c.self.invariant c.args.tile c.in-Some.tag.0 c.in-Some.operation c.index_mut.result.now here.0 here.1).issued
+    (send_fits c.self.inside c.self.invariant c.args.tile c.in-Some.tag.0 c.in-Some.operation c.index_mut.result.now here.0 here.1).issued
 
 pub issue-requires-clause-numbers : goal.issue-requires-clause-numbers
 issue-requires-clause-numbers g c =
     let here = send_here c.self.inside c.args.tile c.index.result.now c.index_mut.result.now c.in-Some.tag c.in-Some.operation (omega arith) c.index.ensures c.index_mut.ensures.value (sym c.in-Some.is ∙ c.ready.ensures) in
-    (send_fits script_laws c.self.inside c.self.invariant c.args.tile c.in-Some.tag.0 c.in-Some.operation c.index_mut.result.now here.0 here.1).numbers
+    (send_fits c.self.inside c.self.invariant c.args.tile c.in-Some.tag.0 c.in-Some.operation c.index_mut.result.now here.0 here.1).numbers
 
 pub push_within-requires : goal.push_within-requires
 push_within-requires g c =
     let here = send_here c.self.inside c.args.tile c.index.result.now c.index_mut.result.now c.in-Some.tag c.in-Some.operation (omega arith) c.index.ensures c.index_mut.ensures.value (sym c.in-Some.is ∙ c.ready.ensures) in
-    (send_fits script_laws c.self.inside c.self.invariant c.args.tile c.in-Some.tag.0 c.in-Some.operation c.index_mut.result.now here.0 here.1).requests
+    (send_fits c.self.inside c.self.invariant c.args.tile c.in-Some.tag.0 c.in-Some.operation c.index_mut.result.now here.0 here.1).requests
 
 made : (g : Over) (c : goal.After-self-2-1 g) → Made c.self.inside (with_sent c.self.inside c.args.tile c.issue.new.row c.push_within.new.items (c.self.inside.events + 1)) (Sends c.args.tile c.in-Some.tag.0 c.in-Some.operation)
 made g c =
     let here = send_here c.self.inside c.args.tile c.index.result.now c.index_mut.result.now c.in-Some.tag c.in-Some.operation (omega arith) c.index.ensures c.index_mut.ensures.value (sym c.in-Some.is ∙ c.ready.ensures) in
-    sent script_laws c.self.inside c.self.invariant c.args.tile c.in-Some.tag.0 (c.self.inside.events + 1) c.in-Some.operation c.index_mut.result.now c.issue.new.row c.push_within.new.items
+    sent c.self.inside c.self.invariant c.args.tile c.in-Some.tag.0 (c.self.inside.events + 1) c.in-Some.operation c.index_mut.result.now c.issue.new.row c.push_within.new.items
     here.0 here.1 refl c.issue.ensures.row c.issue.ensures.numbers c.issue.ensures.room
     (c.push_within.ensures.items ∙ ap (λ r. c.self.inside.requests.items ++ r ∷ []) c.request_of-request.ensures) c.push_within.ensures.capacity
 

@@ -8,10 +8,10 @@ use Rattle.script.specs.declared.line.Line.{Line}
 use Rattle.net_interface.specs.Scripts.{Invocation, FollowsScript}
 use Rattle.script.specs.Scripts.{operation_count, total_count}
 use Rattle.runs.specs.Observed.{list_at, total}
-use Rattle.machine_core.specs.Room.{home_room}
+use Rattle.flights.specs.Room.{home_room}
 use Rattle.net_interface.specs.Homes.{script_home_count}
 use Rattle.net_interface.proofs.Homes.{invoked, allowed_homes}
-use Rattle.machine_core.proofs.Counts.{home_count, home_total}
+use Rattle.flights.proofs.Counts.{home_count, home_total}
 
 -- how many operations have an address that passes
 abbrev pub passing : (ℕ → Bool) → List Operation → ℕ

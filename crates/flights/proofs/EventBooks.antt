@@ -1,5 +1,5 @@
 -- The book after each event.
-use Rattle.std.proofs.Common.{◌≡◌, ◌≢◌, ⊎_elim, ℕ, suc, ◌+◌, ◌<◌, ◌==◌, cond, List, [], ◌∷◌, ◌++◌, length, take, Option, Some, None, refl, sym, ◌∙◌, ap, subst, arith, slice_get, slice_set, slice_index, slice_index_or}
+use Rattle.std.proofs.Common.{◌≡◌, ◌≢◌, ⊎_elim, ℕ, zero, suc, ◌+◌, ◌<◌, ◌==◌, cond, List, [], ◌∷◌, ◌++◌, length, take, Option, Some, None, refl, sym, ◌∙◌, ap, subst, arith, slice_get, slice_set, slice_index, slice_index_or}
 use Rattle.std.proofs.lemmas.Bool.{cases_eq}
 use Rattle.std.proofs.lemmas.List.{length-replicate}
 use Rattle.std.proofs.lemmas.Option.{slice_get_within, same_Some, get_or_from_slice_get}
@@ -17,9 +17,9 @@ use Rattle.runs.proofs.Account.{home_within}
 use Rattle.runs.proofs.History.{shorter, account}
 use Rattle.runs.proofs.Numbers.{count_next, count_none, size}
 use Rattle.runs.proofs.Naming.{one_point}
-use Rattle.runs.proofs.OrderRows.{rows_none, rows_nothing, rows_issued, rows_served, rows_answered, issue_numbers_issued, issue_numbers_kept, issue_numbers_none}
-use Rattle.machine_core.specs.EventBook.{EventBook, noted_issue, noted_service, noted_answer, new_row, row_at, no_row, answered_row}
-use Rattle.machine_core.specs.Core.{first_book}
+use Rattle.runs.proofs.OrderRows.{rows_none, rows_nothing, rows_issued, rows_served, rows_answered, issue_numbers_issued, issue_numbers_kept, issue_numbers_none, one_order}
+use Rattle.runs.specs.OneOrder.{HasOneOrder}
+use Rattle.flights.specs.EventBook.{EventBook, noted_issue, noted_service, noted_answer, new_row, row_at, no_row, answered_row, first_book, noted_event, book_of}
 
 -- the book says of the first n steps of a run what happened in them: the count of events, the numbers of the issues, and where the row of each service stands (this project's own format)
 pub record IsBookOf (run : Run) (n : ℕ) (l : EventBook) : Type 0 where
@@ -180,3 +180,21 @@ kept_none tiles tags opening run event h = record {
     positions = λ b place k h. let e : ◌≡◌ {A = Option ℕ} None (Some k) = sym (ap (λ xs. slice_get xs place) (list_at_none {A = ℕ} tiles b)) ∙ h in cc;
   };
 }
+
+kept_event : (tiles tags : ℕ) (opening : List ℕ) (run : Run) (event : ℕ → Event) (n : ℕ) (l : EventBook) (e : Event) → IsHistory tiles tags opening run event (suc n)
+    → event n ≡ e → Kept tiles run event n l → Kept tiles run event (suc n) (noted_event tiles l e)
+kept_event tiles tags opening run event n l Nothing h is k = kept_nothing tiles tags opening run event n l h is k
+kept_event tiles tags opening run event n l (Issued p o) h is k = kept_issued tiles tags opening run event n l p o h is k
+kept_event tiles tags opening run event n l (Served p i tag o) h is k = kept_served tiles tags opening run event n l p i tag o h is k
+kept_event tiles tags opening run event n l (Answered p a) h is k = kept_answered tiles tags opening run event n l p a h is k
+
+-- the book of a history
+pub kept : (tiles tags : ℕ) (opening : List ℕ) (run : Run) (event : ℕ → Event) (n : ℕ) → IsHistory tiles tags opening run event n → Kept tiles run event n (book_of tiles event n)
+kept tiles tags opening run event zero h = kept_none tiles tags opening run event h
+kept tiles tags opening run event (suc n) h =
+    kept_event tiles tags opening run event n (book_of tiles event n) (event n) h refl (kept tiles tags opening run event n (shorter tiles tags opening run event n h))
+
+-- and its rows tell the one legal order
+pub order_of_book : (tiles tags : ℕ) (opening : List ℕ) (run : Run) (event : ℕ → Event) (n : ℕ) → IsHistory tiles tags opening run event n
+    → HasOneOrder tiles tags opening run n (book_of tiles event n).rows
+order_of_book tiles tags opening run event n h = one_order tiles tags opening run event n (book_of tiles event n).rows h (kept tiles tags opening run event n h).rows

@@ -7,9 +7,7 @@ use Rattle.script.specs.Machine.{MachineSpec, IsAcceptedMachine}
 use Rattle.script.specs.Scripts.{ScriptsSpec, AreAcceptedScripts, IsAcceptedScript, IsAcceptedLine, Fit, operation_count}
 use Rattle.net_interface.specs.Scripts.{address_of, IsAddressIn, IsFollowable}
 use Rattle.net_interface.proofs.Followable.{accepted_followable}
-use Rattle.machine_core.specs.Wire.{Load}
-use Rattle.machine_core.specs.Core.{IsAccepted}
-use Rattle.machine_core.specs.Loaded.{load_of}
+use Rattle.flights.specs.Load.{Load, IsAccepted, load_of}
 
 -- the script of a processor is as its reader accepts it
 read : (l : Load) → IsAccepted l → (p : ℕ) (lines : List Line) → slice_get l.scripts p ≡ Some lines → IsAcceptedScript (length l.opening) lines

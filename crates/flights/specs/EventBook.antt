@@ -1,8 +1,10 @@
--- The book of events that a machine keeps.
-use Rattle.std.specs.Prelude.{ℕ, ◌+◌, List, [], ◌∷◌, ◌++◌, Some, None, length, slice_index, slice_index_or, slice_set}
+-- The book of events that a machine keeps while it steps, so that it can give the rows of its one legal order.
+use Rattle.std.specs.Prelude.{ℕ, zero, suc, ◌+◌, List, [], ◌∷◌, ◌++◌, Some, None, length, replicate, slice_index}
+use Rattle.std.specs.Prelude.{slice_index_or, slice_set}
 use Rattle.runs.specs.declared.ordered.Ordered.{Ordered}
-use Rattle.runs.specs.Events.{push_at}
 use Rattle.runs.specs.Observed.{list_at}
+use Rattle.runs.specs.Order.{home}
+use Rattle.runs.specs.Events.{Event, Nothing, Issued, Served, Answered, push_at}
 
 -- how many events have happened; of each processor's operations, the number of the issue; of each bank's services,
 -- where its row stands; and the rows of the order
@@ -65,3 +67,19 @@ noted_answer b place l = record {
   positions = l.positions;
   rows = slice_set l.rows (row_at b place l) (answered_row (slice_index_or l.rows (row_at b place l) no_row) (l.events + 1));
 }
+
+-- before any event nothing is noted
+abbrev pub first_book : ℕ → EventBook
+first_book tiles = record { events = 0; issues = replicate tiles []; positions = replicate tiles []; rows = [] }
+
+-- the book after an event
+abbrev pub noted_event : ℕ → EventBook → Event → EventBook
+noted_event tiles l Nothing = l
+noted_event tiles l (Issued p o) = noted_issue p l
+noted_event tiles l (Served p i tag o) = noted_service (home tiles o) p i l
+noted_event tiles l (Answered p a) = noted_answer a.bank a.place l
+
+-- the book of the events of the first n steps
+abbrev pub book_of : ℕ → (ℕ → Event) → ℕ → EventBook
+book_of tiles event zero = first_book tiles
+book_of tiles event (suc n) = noted_event tiles (book_of tiles event n) (event n)
