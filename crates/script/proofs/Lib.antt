@@ -5,3 +5,4 @@ pub mod Checks
 pub mod LineLists
 pub mod Counted
 pub mod SixWords
+pub mod AgentChoices

@@ -5,6 +5,7 @@ mod attempt;
 pub mod fault;
 mod few;
 mod form;
+pub mod laws;
 pub mod line;
 pub mod lists;
 pub mod machine;

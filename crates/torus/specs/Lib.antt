@@ -4,3 +4,4 @@ pub mod Digits
 pub mod Inside
 pub mod FaultCode
 pub mod Filled
+pub mod Choices

@@ -1,3 +1,6 @@
+ghost use Rattle.std.specs.Prelude.{◌≡◌};
+ghost use Rattle.torus.specs.Choices.{has_choice, is_of_processor, is_of_router, is_of_bank};
+
 /// A tag of a processor, 0 to 15: a request and its reply carry it.
 #[derive(Clone, Copy, Debug, PartialEq, Eq)]
 pub struct Tag(pub u32);
@@ -27,6 +30,52 @@ pub enum Choice {
     Done,
     /// A processor looks whether all scripts are reported.
     Look,
+}
+
+impl Choice {
+    /// Whether agent `kind` of a tile has this choice: 0 is its processor, 1 its router, with so many
+    /// inputs and as many outputs, 2 its bank.
+    pub fn is_of(self, kind: u32, ports: u32) -> bool
+        ensures { result ≡ has_choice ports kind self }
+    {
+        match kind {
+            0 => self.is_of_processor(),
+            1 => self.is_of_router(ports),
+            _ => self.is_of_bank(),
+        }
+    }
+
+    /// Whether a processor has it.
+    fn is_of_processor(self) -> bool
+        ensures { result ≡ is_of_processor self }
+    {
+        match self {
+            Choice::Send | Choice::Take | Choice::Credit | Choice::Done | Choice::Look => true,
+            _ => false,
+        }
+    }
+
+    /// Whether a router with so many inputs and as many outputs has it.
+    fn is_of_router(self, ports: u32) -> bool
+        ensures { result ≡ is_of_router ports self }
+    {
+        match self {
+            Choice::TakeFrom(input) => input < ports,
+            Choice::Put(input) => input < ports,
+            Choice::CreditOf(output) => output < ports,
+            _ => false,
+        }
+    }
+
+    /// Whether a bank has it.
+    fn is_of_bank(self) -> bool
+        ensures { result ≡ is_of_bank self }
+    {
+        match self {
+            Choice::Take | Choice::Serve | Choice::Send | Choice::Credit => true,
+            _ => false,
+        }
+    }
 }
 
 /// An attempt: one choice of one agent. Tile t has the agents 3t (processor), 3t + 1 (router) and

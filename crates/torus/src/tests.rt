@@ -168,3 +168,33 @@ fn faults_print_their_codes(rt: HostRuntime) -> Result<(), Fail> {
     }
     Ok(())
 }
+
+/// Compares which choices agent `kind` of a tile has, its router with ten inputs and outputs, with these answers.
+fn compare_choices<R: Abort>(rt: &R, kind: u32, has: &[(Choice, bool)]) {
+    for &(choice, is_there) in has {
+        assert_eq!(rt; choice.is_of(kind, 10), is_there, "of agent {kind}");
+    }
+}
+
+#[test]
+fn agents_have_their_own_choices(rt: HostRuntime) {
+    let own = [
+        (Choice::Send, true, false, true),
+        (Choice::Take, true, false, true),
+        (Choice::TakeFrom(9), false, true, false),
+        (Choice::TakeFrom(10), false, false, false),
+        (Choice::Put(0), false, true, false),
+        (Choice::Put(10), false, false, false),
+        (Choice::Credit, true, false, true),
+        (Choice::CreditOf(9), false, true, false),
+        (Choice::CreditOf(10), false, false, false),
+        (Choice::Serve, false, false, true),
+        (Choice::Done, true, false, false),
+        (Choice::Look, true, false, false),
+    ];
+    for &(choice, processor, router, bank) in &own {
+        compare_choices(&rt, 0, &[(choice, processor)]);
+        compare_choices(&rt, 1, &[(choice, router)]);
+        compare_choices(&rt, 2, &[(choice, bank)]);
+    }
+}
