@@ -3,6 +3,7 @@ use Rattle.std.proofs.Common.{◌≡◌, ℕ, zero, suc, ◌%◌, ◌/◌, Bool,
 use Rattle.std.specs.Prelude.{nat_lt, slice_set}
 use Rattle.std.proofs.lemmas.Option.{option_and_then_some}
 use Rattle.torus.specs.Shape.{Shape, tiles_of, dims_of}
+use Rattle.torus.specs.Choices.{has_choice as numbered_has}
 use Rattle.torus.specs.declared.step.Step.{Step}
 use Rattle.torus.specs.declared.step.Choice.{Choice}
 use Rattle.torus.specs.declared.step.Choice.TheVariants as choice
@@ -12,10 +13,10 @@ use Rattle.flit_buffer.specs.Surroundings.{Surroundings}
 use Rattle.channel_number.specs.Ports.{port_count}
 use Rattle.router.specs.Table.{RouterState, latch_of, wants_to_take, wants_to_put, router_wants, router_after}
 use Rattle.router.specs.Beginning.{router_wiring}
-use Rattle.core_laws.specs.ProcessorTable.{ProcessorState, processor_wants, processor_after}
-use Rattle.core_laws.specs.BankTable.{BankState, bank_wants, bank_after}
-use Rattle.core_laws.specs.Wiring.{processor_wiring, bank_wiring}
-use Rattle.core_laws.specs.Tile.{Design, TileState, Processor, Router, Bank, tile_step}
+use Rattle.net_interface.specs.ProcessorTable.{ProcessorState, processor_wants, processor_after}
+use Rattle.home_bank.specs.BankTable.{BankState, bank_wants, bank_after}
+use Rattle.tile.specs.Wiring.{processor_wiring, bank_wiring}
+use Rattle.tile.specs.Tile.{Design, TileState, Processor, Router, Bank, tile_step}
 use Rattle.core_laws.specs.Choices.{has_choice}
 use Rattle.core_laws.specs.Core.{State, agent_numbered, step}
 use Rattle.core_laws.proofs.AgentSteps.{did, option_map_some}
@@ -84,3 +85,9 @@ none_where (Some next) b has lacks = let z : ◌≡◌ {A = Bool} true false = s
 pub other_choice : (d : Design) (s : State) (attempt : Step)
     → has_choice (port_count (dims_of d.shape)) (agent_numbered (attempt.agent % 3)) attempt.choice ≡ false → step d s attempt ≡ None
 other_choice d s attempt lacks = none_where (step d s attempt) _ (own_choice d s attempt) lacks
+
+-- the agent of a number has the choices of that number
+pub numbered : (ports kind : ℕ) (c : Choice) → has_choice ports (agent_numbered kind) c ≡ numbered_has ports kind c
+numbered ports zero c = refl
+numbered ports (suc zero) c = refl
+numbered ports (suc (suc k)) c = refl

@@ -28,16 +28,16 @@ use Rattle.wormhole.specs.State.{Line as Lane, Note}
 use Rattle.wormhole.specs.Events.{accepted, after}
 use Rattle.wormhole.specs.Delivery.{whole, whole_of}
 use Rattle.wormhole.proofs.Changes.{update_same, update_other}
-use Rattle.flights.specs.ProcessorRecord.{ProcessorRecord, answered_by, answer_of}
+use Rattle.net_interface.specs.ProcessorRecord.{ProcessorRecord, answered_by, answer_of}
 use Rattle.flights.specs.Flight.{Flight, Takes, event, is_told_alike, told_place, IsFound}
 use Rattle.flights.proofs.Whole.{Whole, any_steps}
 use Rattle.flights.proofs.FirstPlaces.{first_removed}
 use Rattle.packet.specs.Flits.{offered}
 use Rattle.core_laws.specs.Heads.{is_head}
-use Rattle.core_laws.specs.BankTable.{BankState}
+use Rattle.home_bank.specs.BankTable.{BankState}
 use Rattle.router.specs.Table.{RouterState, output_owned}
 use Rattle.channel_number.specs.Ports.{injection_channel, ejection_channel}
-use Rattle.core_laws.specs.Tile.{Design, TileState}
+use Rattle.tile.specs.Tile.{Design, TileState}
 use Rattle.core_laws.specs.Core.{State}
 use Rattle.core_laws.proofs.Projection.{net_of, response_parcel}
 use Rattle.core_laws.proofs.ChannelFacts.{ejection_is, ejection_in, ejection_tile, is_tail_of}
@@ -77,7 +77,7 @@ module _ (d : Design) (net : IsNet (net_of d)) (tags : ℕ) (opening : List ℕ)
     taken = push_at g.taken p r;
   }
 
-  found : IsFound (length opening) (flight_of d.words s g) (Takes r) × (r.destination ≡ p)
+  pub found : IsFound (length opening) (flight_of d.words s g) (Takes r) × (r.destination ≡ p)
   found = takes_found d net tags opening s g order st p p_in flit more first r is_whole
 
   here : r.destination ≡ p

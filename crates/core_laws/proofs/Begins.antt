@@ -24,7 +24,7 @@ use Rattle.flit_buffer.specs.Surroundings.{ring, no_ring}
 use Rattle.wormhole.specs.Net.{Parcel}
 use Rattle.wormhole.specs.State.{empty, empty_line}
 use Rattle.wormhole.proofs.Reached.{words_empty, routes_empty}
-use Rattle.flights.specs.ProcessorRecord.{ProcessorRecord, no_processor}
+use Rattle.net_interface.specs.ProcessorRecord.{ProcessorRecord, no_processor}
 use Rattle.flights.proofs.Whole.{Whole}
 use Rattle.flights.proofs.Parts.{tags_of, same_shown}
 use Rattle.flights.proofs.Counts.{home_total_none}
@@ -32,7 +32,7 @@ use Rattle.flights.proofs.Telling.{telling_none}
 use Rattle.flights.proofs.Transport.{Holds, sound_none}
 use Rattle.channel_number.specs.Ports.{port_count, input_channel}
 use Rattle.router.specs.Table.{latch_of, output_owned}
-use Rattle.core_laws.specs.Tile.{Design, TileState}
+use Rattle.tile.specs.Tile.{Design, TileState}
 use Rattle.core_laws.specs.Core.{Load, design_of, first_state, first_tile, show}
 use Rattle.core_laws.proofs.Projection.{net_of, request_parcel, response_parcel}
 use Rattle.core_laws.proofs.ResponseLists.{no_head}

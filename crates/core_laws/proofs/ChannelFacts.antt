@@ -14,7 +14,7 @@ use Rattle.channel_number.specs.Order.{channel_count, channels_at_tile, class_pl
 use Rattle.packet.specs.Flits.{is_tail}
 use Rattle.core_laws.specs.Heads.{is_head}
 use Rattle.channel_number.specs.Ports.{injection_channel, ejection_channel, is_injection, is_ejection}
-use Rattle.core_laws.specs.Tile.{Design}
+use Rattle.tile.specs.Tile.{Design}
 use Rattle.core_laws.proofs.Projection.{net_of}
 use Rattle.torus_net.specs.TorusNet.{same_class as is_same_class, joins_in}
 use Rattle.channel_number.proofs.Decoding.{kind_by, class_by}

@@ -6,7 +6,7 @@ use Rattle.wormhole.specs.State.{Note, State, update}
 use Rattle.wormhole.specs.Events.{Event, AcceptHead, AcceptRest, CanAccept, after, popped}
 use Rattle.wormhole.specs.Words.{Words}
 use Rattle.wormhole.specs.Routes.{Routes, IsBegunHere}
-use Rattle.wormhole.specs.Delivery.{without_last, whole_of, whole}
+use Rattle.wormhole.specs.Delivery.{accept, without_last, whole_of, whole}
 use Rattle.wormhole.proofs.Changes.{update_same, update_other}
 use Rattle.wormhole.proofs.Channels.{pop_rest}
 use Rattle.wormhole.proofs.Receivers.{moved, ejected, nothing_so_far}
@@ -16,8 +16,7 @@ use Rattle.wormhole.proofs.Arrivals.{was_sent, begun_was_sent}
 
 -- the event of a flit taken by a receiver
 abbrev pub accepts : ℕ → ℕ → List ℕ → Bool → Event
-accepts x flit more true = AcceptHead x flit more
-accepts x flit more false = AcceptRest x flit more
+accepts x flit more bit = accept bit x flit more
 
 -- the packet that is whole with a flit
 pub record Completes (n : Net) (s t : State) (x flit : ℕ) : Type 0 where

@@ -9,24 +9,24 @@ use Rattle.torus.specs.Shape.{tiles_of}
 use Rattle.torus.specs.declared.shape.Class.TheVariants.{Reply}
 use Rattle.packet.specs.declared.kinds.Request.{Request as Asking}
 use Rattle.packet.specs.declared.kinds.Response.{Response as Telling}
-use Rattle.home_bank.specs.declared.entry.Entry.{Entry}
 use Rattle.runs.specs.Observed.{list_at}
 use Rattle.runs.specs.Order.{LinearizationPoint}
 use Rattle.wormhole.specs.Net.{IsNet, Parcel}
 use Rattle.wormhole.specs.Routes.{between}
 use Rattle.wormhole.specs.Delivery.{Begins, without_last}
 use Rattle.wormhole.proofs.Arrivals.{delivered}
-use Rattle.flights.specs.ProcessorRecord.{ProcessorRecord, no_processor}
+use Rattle.net_interface.specs.ProcessorRecord.{ProcessorRecord, no_processor}
 use Rattle.core_laws.specs.Heads.{is_head}
-use Rattle.core_laws.specs.BankTable.{BankState}
+use Rattle.home_bank.specs.BankTable.{BankState}
 use Rattle.channel_number.specs.Ports.{injection_channel, ejection_channel}
-use Rattle.core_laws.specs.Tile.{Design, TileState}
+use Rattle.tile.specs.Tile.{Design, TileState}
 use Rattle.core_laws.specs.Core.{State}
-use Rattle.core_laws.specs.Delivery.{notice_by, requests_between, responses_between, requests_whole, response_made, responses_made, responses_sent, next_flit, DeliversPackets}
+use Rattle.core_laws.specs.Delivery.{notice_by, requests_between, responses_between, requests_whole, responses_sent, next_flit, DeliversPackets}
 use Rattle.core_laws.proofs.Projection.{net_of, response_parcel, first_flit}
 use Rattle.core_laws.proofs.FlightSteps.{record_in}
 use Rattle.core_laws.proofs.Parcels.{between_responses}
 use Rattle.core_laws.proofs.ChannelFacts.{joined}
+use Rattle.core_laws.proofs.ResponseLists.{made_from}
 use Rattle.core_laws.proofs.ServesFound.{waiting_first}
 use Rattle.core_laws.proofs.Stands.{Ghost, Stands, IsProperRequest, tile_at, no_tile, asked_between, told_between, served_requests, responses_from, last_of}
 
@@ -44,14 +44,6 @@ made_last : (rs : List Telling) → without_last rs ++ last_of rs ≡ rs
 made_last [] = refl
 made_last (r ∷ []) = refl
 made_last (r ∷ q ∷ rs) = ap (λ (xs : List Telling). r ∷ xs) (made_last (q ∷ rs))
-
-made_from : (b place : ℕ) (entries : List Entry) → responses_made b place entries ≡ responses_from b place entries
-made_from b place [] = refl
-made_from b place (e ∷ entries) = ap (λ (rs : List Telling). response_made b place e ∷ rs) (made_from b (place + 1) entries)
-
-next_is_first : (flits : List ℕ) → next_flit flits ≡ first_flit flits
-next_is_first [] = refl
-next_is_first (flit ∷ flits) = refl
 
 map_map : {A B C : Type 0} (f : B → C) (g : A → B) (xs : List A) → map f (map g xs) ≡ map (λ a. f (g a)) xs
 map_map f g [] = refl
@@ -132,14 +124,12 @@ module _ (d : Design) (tags : ℕ) (opening : List ℕ) (s : State) (g : Ghost) 
     responses_begin b p b_in p_in =
         let bank : BankState = (tile_at s b).bank in
         let same : responses_sent b bank ≡ cond (is_head (first_flit bank.to_put)) (without_last (responses_from b 0 bank.entries)) (responses_from b 0 bank.entries) =
-        ap₂ (λ (flit : ℕ) (rs : List Telling). cond (is_head flit) (without_last rs) rs) (next_is_first bank.to_put) (made_from b 0 bank.entries) in
+        ap (λ (rs : List Telling). cond (is_head (next_flit bank.to_put)) (without_last rs) rs) (made_from b 0 bank.entries) in
         subst (λ (rs : List Telling). Begins (told_between b p (list_at g.taken p)) (told_between b p rs)) (sym same) (sent_begins b p b_in p_in (is_head (first_flit bank.to_put)) refl)
 
     -- Packets are delivered in order.
-    pub delivers : DeliversPackets d d.words s
+    pub delivers : DeliversPackets d d.words s g.requests g.taken
     delivers = record {
-      requests = g.requests;
-      taken = g.taken;
       issued = λ p. st.carries.issued p ∙ sym (shown_at (λ (x : ProcessorRecord). x.issued) refl s.tiles p);
       proper = λ p. all_so (λ (r : Asking). IsProperRequest d r × (r.source ≡ p)) (λ (r : Asking). (r.source ≡ p) × (r.destination < tiles_of d.shape)) (λ r h. (h.1, h.0.destination)) (list_at g.requests p) (st.carries.requests_proper p);
       answered = λ p. ap (map (notice_by p)) (shown_at (λ (x : ProcessorRecord). x.answers) refl s.tiles p) ∙ st.carries.answered p;

@@ -10,9 +10,10 @@ use Rattle.runs.proofs.OrderRows.{rows_of, one_order}
 use Rattle.runs.proofs.InTurn.{serves_in_turn}
 use Rattle.runs.proofs.AnswersInTurn.{answers_in_turn}
 use Rattle.flights.specs.Scripts.{FollowScripts}
-use Rattle.core_laws.specs.Tile.{Design}
+use Rattle.tile.specs.Tile.{Design}
 use Rattle.core_laws.specs.Core.{Load, design_of, run_of}
 use Rattle.core_laws.specs.Delivery.{DeliversPackets}
+use Rattle.core_laws.specs.Noted.{noted}
 use Rattle.core_laws.proofs.Histories.{state_at, event_at}
 use Rattle.core_laws.proofs.Networks.{network}
 use Rattle.core_laws.proofs.Delivered.{delivers}
@@ -27,7 +28,7 @@ are_quiet d accepted tags opening s g order st values attempt none =
     agents_quiet d accepted tags opening s g order st (λ t t_in choice. router_steps d accepted tags opening s g order st t t_in choice) attempt none
 
 module _ (l : Load) (ok : IsAccepted l) where
-  quiet : runs.AreQuiet (design_of l) l.tags l.opening
+  pub quiet : runs.AreQuiet (design_of l) l.tags l.opening
   quiet = are_quiet (design_of l) ok.shape l.tags l.opening
 
   -- What holds after any number of steps.
@@ -56,10 +57,10 @@ module _ (l : Load) (ok : IsAccepted l) where
       serves_in_turn (tiles_of l.shape) l.tags l.opening (run_of l steps) n order.0 order.1 b p
 
   -- Packets are delivered in order, between all tiles and of both classes.
-  pub packets_delivered : (steps : List Step) (n : ℕ) → DeliversPackets (design_of l) (length l.opening) (state_at l steps n)
+  pub packets_delivered : (steps : List Step) (n : ℕ) → DeliversPackets (design_of l) (length l.opening) (state_at l steps n) (noted l steps n).requests (noted l steps n).taken
   packets_delivered steps n =
       let h = holds_in steps n in
-      delivers (design_of l) l.tags l.opening (state_at l steps n) h.ghost (order_after (event_at l steps) n) h.stands (network (design_of l) ok.shape)
+      delivers (design_of l) l.tags l.opening (state_at l steps n) (noted l steps n) (order_after (event_at l steps) n) h.stands (network (design_of l) ok.shape)
 
   -- Each processor's answers of a bank are of a beginning of its entries there.
   pub answers_come : (steps : List Step) (n b p : ℕ) → AnswersInTurn (run_of l steps n) b p

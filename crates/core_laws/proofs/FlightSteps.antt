@@ -13,13 +13,13 @@ use Rattle.home_bank.specs.declared.entry.Entry.{Entry}
 use Rattle.home_bank.specs.ServiceList.{address_of, entry_of}
 use Rattle.runs.specs.Events.{push_at}
 use Rattle.flit_buffer.specs.Surroundings.{Surroundings}
-use Rattle.flights.specs.ProcessorRecord.{ProcessorRecord, no_processor, issued_by, answered_by}
+use Rattle.net_interface.specs.ProcessorRecord.{ProcessorRecord, no_processor, issued_by, answered_by}
 use Rattle.flights.specs.Flight as flight
 use Rattle.flights.specs.Flight.{Flight, Move, Sends, Serves, Takes, moved, moved_by, processor_at}
-use Rattle.core_laws.specs.ProcessorTable.{ProcessorState, processor_wants, processor_after}
-use Rattle.core_laws.specs.BankTable.{BankState, bank_wants, bank_after}
-use Rattle.core_laws.specs.Wiring.{processor_wiring, bank_wiring}
-use Rattle.core_laws.specs.Tile.{Design, TileState, Agent, Processor, Router, Bank, tile_step}
+use Rattle.net_interface.specs.ProcessorTable.{ProcessorState, processor_wants, processor_after}
+use Rattle.home_bank.specs.BankTable.{BankState, bank_wants, bank_after}
+use Rattle.tile.specs.Wiring.{processor_wiring, bank_wiring}
+use Rattle.tile.specs.Tile.{Design, TileState, Agent, Processor, Router, Bank, tile_step}
 use Rattle.core_laws.specs.Core.{State, next, or_same, agent_numbered, records_of, show}
 use Rattle.core_laws.specs.Moves.{tile_move, move_of, processor_move, bank_move}
 use Rattle.core_laws.proofs.AgentSteps.{refused, option_map_none}
@@ -95,7 +95,7 @@ module _ (d : Design) (s : State) (asked : List Request) (told : List Response) 
       (part_stays entries_in [] s.tiles t tile after there h.entries) h.memory
       ∙ ap F (sym (here (Takes r) refl))
 
-  refused_tile : (t : ℕ) (tile : TileState) (agent : Agent) (choice : Choice) → tile_step d t tile s.around agent choice ≡ None → tile_move d t tile s.around agent choice ≡ None
+  pub refused_tile : (t : ℕ) (tile : TileState) (agent : Agent) (choice : Choice) → tile_step d t tile s.around agent choice ≡ None → tile_move d t tile s.around agent choice ≡ None
   refused_tile t tile Processor choice h = ap (option_and_then (processor_move t tile.processor choice))
       (refused (processor_wants tiles d.words t) (processor_after tiles d.words t) d.depth (processor_wiring d.shape t) tile.processor s.around choice
       (option_map_none (λ (p : ProcessorState × Surroundings). (record tile { processor = p.0 }, p.1)) _ h))

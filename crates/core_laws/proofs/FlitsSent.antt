@@ -29,7 +29,7 @@ use Rattle.wormhole.proofs.FlitsHold.{HoldsOfNoted, line_holds}
 use Rattle.wormhole.proofs.Lists.{all_on, on_left}
 use Rattle.wormhole.proofs.Arrivals.{was_sent, begun_was_sent}
 use Rattle.packet.specs.Flits.{flits_of}
-use Rattle.core_laws.specs.Tile.{Design}
+use Rattle.tile.specs.Tile.{Design}
 use Rattle.core_laws.specs.Core.{State}
 use Rattle.core_laws.proofs.Projection.{net_of, request_parcel, response_parcel, parcel_of}
 use Rattle.core_laws.proofs.Parcels.{parcel_flits}

@@ -1,6 +1,6 @@
 -- The steps that are issues, services and answers lead to the states that keep what holds; the rest is assumed.
 use Rattle.std.proofs.Common.{◌≡◌, ℕ, ◌/◌, ◌%◌, ◌<◌, Bool, true, false, cond, List, [], ◌∷◌, ◌++◌, length, Option, Some, None, refl, sym, ◌∙◌, ap, ap₂, subst, slice_get, slice_index, slice_set}
-use Rattle.std.specs.Prelude.{option_and_then, option_map, nat_lt}
+use Rattle.std.specs.Prelude.{option_and_then, option_map, nat_lt, IfSome}
 use Rattle.std.proofs.lemmas.Bool.{ltb-true}
 use Rattle.std.proofs.lemmas.List.{append-nil}
 use Rattle.std.proofs.lemmas.Option.{same_Some, slice_get_within, get_or_from_slice_get, option_and_then_some}
@@ -19,24 +19,24 @@ use Rattle.packet.specs.declared.assembler.Offered.TheVariants.{Whole as Complet
 use Rattle.packet.specs.Answer.{flits_left}
 use Rattle.packet.specs.Memory.{reply_to}
 use Rattle.home_bank.specs.ServiceList.{address_of, entry_of, response_of}
-use Rattle.net_interface.specs.Following.{next_operation_of}
 use Rattle.runs.specs.Order.{LinearizationPoint}
-use Rattle.runs.specs.Events.{points_of, IsHistory}
+use Rattle.runs.specs.Events.{points_of, push_at}
 use Rattle.flit_buffer.specs.Channel.{first_of, rest}
 use Rattle.flit_buffer.specs.declared.want.Want.{Want}
 use Rattle.flit_buffer.specs.declared.want.Want.TheVariants as want
 use Rattle.flit_buffer.specs.Wants.{told_by}
 use Rattle.flit_buffer.specs.Surroundings.{Surroundings, Wiring, ring, granted, surroundings_after, agent_step, step_with}
 use Rattle.wormhole.specs.Net.{IsNet}
-use Rattle.flights.specs.ProcessorRecord.{ProcessorRecord, ready, request_of}
+use Rattle.net_interface.specs.ProcessorRecord.{ProcessorRecord, ready, request_of}
 use Rattle.flights.specs.Flight.{Move, Sends, Serves, Takes, event_by}
 use Rattle.packet.specs.Flits.{offered, flits_of}
-use Rattle.core_laws.specs.ProcessorTable.{ProcessorState, processor_wants, processor_after, flits_due, record_sent, record_offered, issued_of}
-use Rattle.core_laws.specs.BankTable.{BankState, bank_wants, bank_after, served}
+use Rattle.net_interface.specs.ProcessorTable.{ProcessorState, processor_wants, processor_after, flits_due, record_sent, record_offered, issued_of}
+use Rattle.home_bank.specs.BankTable.{BankState, bank_wants, bank_after, served}
 use Rattle.channel_number.specs.Ports.{injection_channel, ejection_channel}
-use Rattle.core_laws.specs.Wiring.{processor_wiring, bank_wiring}
-use Rattle.core_laws.specs.Tile.{Design, TileState, Agent, Processor, Router, Bank, tile_step}
-use Rattle.core_laws.specs.Core.{Load, State, next, or_same, agent_numbered, design_of, run_of}
+use Rattle.tile.specs.Wiring.{processor_wiring, bank_wiring}
+use Rattle.tile.specs.Tile.{Design, TileState, Agent, Processor, Router, Bank, tile_step}
+use Rattle.core_laws.specs.Heads.{is_head}
+use Rattle.core_laws.specs.Core.{State, next, or_same, agent_numbered}
 use Rattle.core_laws.specs.Moves.{learned_by, issue_of, processor_move, bank_move, tile_move, move_of}
 use Rattle.core_laws.proofs.AgentSteps.{option_map_some}
 use Rattle.core_laws.proofs.Projection.{net_of, first_flit}
@@ -44,11 +44,15 @@ use Rattle.core_laws.proofs.ChannelFacts.{injection_in}
 use Rattle.core_laws.proofs.PacketFacts.{is_parcel}
 use Rattle.core_laws.proofs.TileMoves.{reply_learned}
 use Rattle.core_laws.proofs.StepEvents.{issue_told, answer_told, first_there}
-use Rattle.core_laws.proofs.Sends.{sent_state, sent_ghost, sent_stands}
-use Rattle.core_laws.proofs.Services.{served_state, served_ghost, served_stands}
-use Rattle.core_laws.proofs.Answers.{taken_state, taken_ghost, taken_stands}
-use Rattle.core_laws.proofs.Begins.{begins, first_shown, first_ghost}
-use Rattle.core_laws.proofs.Histories.{holds_at, event_at, state_at}
+use Rattle.core_laws.proofs.Sends.{sent_state, sent_ghost, can_inject, sent_stands}
+use Rattle.core_laws.proofs.Services.{served_state, served_ghost, told_same, served_stands}
+use Rattle.core_laws.proofs.Answers.{taken_state, taken_ghost, found, taken_stands}
+use Rattle.wormhole.specs.Events.{Event, InjectHead, CanHappen}
+use Rattle.core_laws.specs.Network.{request_parcel, request_event, processor_event, bank_event, tile_event, network_event}
+use Rattle.core_laws.specs.Noted.{noted_by}
+use Rattle.core_laws.proofs.QuietSteps.{Stays}
+use Rattle.core_laws.proofs.Completes.{accepts}
+use Rattle.core_laws.proofs.Accepting.{may_happen}
 use Rattle.core_laws.proofs.Stands.{Ghost, Stands, IsProperRequest, IsProperResponse, tile_at, no_tile, flight_of}
 
 -- an agent's step that is granted
@@ -58,29 +62,22 @@ stepped {S} wants after depth wiring state around choice w learned is grants =
     ap (λ (o : Option Want). option_and_then (λ want. step_with wants after depth wiring state around choice want (granted around wiring want)) o) is
     ∙ ap (λ (g : Option ℕ). step_with wants after depth wiring state around choice w g) grants
 
--- what is assumed: of the machine's values, and of the steps that are no issue, service or answer
-pub record IsRest (d : Design) (tags : ℕ) (opening : List ℕ) : Type 0 where
-  pub requests : (s : State) (g : Ghost) (order : List LinearizationPoint) → Stands d tags opening s g order → (t tag : ℕ) (o : Operation) → t < tiles_of d.shape → ready (tile_at s t).processor.operations ≡ Some (tag, o)
-      → IsProperRequest d (request_of (tiles_of d.shape) t tag o) × (o.address < length opening)
-  pub responses : (s : State) (g : Ghost) (order : List LinearizationPoint) → Stands d tags opening s g order → (t : ℕ) (r : Asking) → t < tiles_of d.shape → (tile_at s t).bank.waiting ≡ Some r
-      → IsProperResponse d (response_of t (length (tile_at s t).bank.entries) r (reply_to r.op (slice_index s.around.words (address_of t (tiles_of d.shape) r.word))))
-  pub quiet : (s : State) (g : Ghost) (order : List LinearizationPoint) → Stands d tags opening s g order → (attempt : Step) → move_of d s attempt ≡ None → (h : Ghost) × Stands d tags opening (next d s attempt) h order
-
--- the same of one state
-pub record IsRestAt (d : Design) (tags : ℕ) (opening : List ℕ) (s : State) (order : List LinearizationPoint) : Type 0 where
+-- what is given: of the machine's values, and of the steps that are no issue, service or answer
+pub record IsRestAt (d : Design) (tags : ℕ) (opening : List ℕ) (s : State) (g : Ghost) (order : List LinearizationPoint) : Type 0 where
   pub requests : (t tag : ℕ) (o : Operation) → t < tiles_of d.shape → ready (tile_at s t).processor.operations ≡ Some (tag, o)
       → IsProperRequest d (request_of (tiles_of d.shape) t tag o) × (o.address < length opening)
   pub responses : (t : ℕ) (r : Asking) → t < tiles_of d.shape → (tile_at s t).bank.waiting ≡ Some r
       → IsProperResponse d (response_of t (length (tile_at s t).bank.entries) r (reply_to r.op (slice_index s.around.words (address_of t (tiles_of d.shape) r.word))))
-  pub quiet : (attempt : Step) → move_of d s attempt ≡ None → (h : Ghost) × Stands d tags opening (next d s attempt) h order
+  pub quiet : (attempt : Step) → move_of d s attempt ≡ None → Stays d tags opening g order (next d s attempt) (network_event d s attempt)
 
-rest_at : (d : Design) (tags : ℕ) (opening : List ℕ) → IsRest d tags opening → (s : State) (g : Ghost) (order : List LinearizationPoint) → Stands d tags opening s g order → IsRestAt d tags opening s order
-rest_at d tags opening rest_is s g order st = record { requests = rest_is.requests s g order st; responses = rest_is.responses s g order st; quiet = rest_is.quiet s g order st }
+module _ (d : Design) (net : IsNet (net_of d)) (tags : ℕ) (opening : List ℕ) (s : State) (g : Ghost) (order : List LinearizationPoint) (st : Stands d tags opening s g order) (rest_is : IsRestAt d tags opening s g order) (n : ℕ) where
+  -- what stands after a move, or none, that is this event of the network, or none
+  pub record Goes (after : State) (m : Option Move) (e : Option Event) : Type 0 where
+    pub stands : Stands d tags opening after (noted_by d s g m e) (order ++ points_of (event_by (flight_of d.words s g) m) n)
+    pub may : IfSome e (CanHappen (net_of d) g.net.lines)
 
-module _ (d : Design) (net : IsNet (net_of d)) (tags : ℕ) (opening : List ℕ) (s : State) (g : Ghost) (order : List LinearizationPoint) (st : Stands d tags opening s g order) (rest_is : IsRestAt d tags opening s order) (n : ℕ) where
-  -- what stands after a move
-  abbrev Then : State → Move → Type 0
-  Then after m = (h : Ghost) × Stands d tags opening after h (order ++ points_of (event_by (flight_of d.words s g) (Some m)) n)
+  abbrev Then : State → Move → Option Event → Type 0
+  Then after m e = Goes after (Some m) e
 
   abbrev with_tile : ℕ → Option (TileState × Surroundings) → State
   with_tile t p = or_same s (option_map (λ p. record { tiles = slice_set s.tiles t p.0; around = p.1 }) p)
@@ -107,6 +104,7 @@ module _ (d : Design) (net : IsNet (net_of d)) (tags : ℕ) (opening : List ℕ)
   then_send : (t : ℕ) → t < tiles_of d.shape → (w : Want) (learned : ℕ) (f : ℕ × Operation) → (tile_at s t).processor.to_put ≡ [] → ready (tile_at s t).processor.operations ≡ Some f
       → processor_wants (tiles_of d.shape) d.words t (tile_at s t).processor Send ≡ Some w → granted s.around (processor_wiring d.shape t) w ≡ Some learned
       → Then (processor_then t (processor_after (tiles_of d.shape) d.words t (tile_at s t).processor Send w learned) w) (Sends t f.0 f.1)
+      (Some (InjectHead (injection_channel d.shape t Request) (request_parcel d.shape (request_of (tiles_of d.shape) t f.0 f.1))))
   then_send t t_in w learned f idle is_ready is grants =
       let p : ProcessorState = (tile_at s t).processor in
       let r : Asking = request_of (tiles_of d.shape) t f.0 f.1 in
@@ -124,15 +122,17 @@ module _ (d : Design) (net : IsNet (net_of d)) (tags : ℕ) (opening : List ℕ)
       ap (λ (xs : List ℕ). record_sent (tiles_of d.shape) d.words t xs p.operations) idle ∙ ap (λ (o : Option (ℕ × Operation)). issued_of (tiles_of d.shape) d.words t o p.operations) is_ready in
       let same : sent_state d net tags opening s g order st t t_in f.0 f.1 ≡ processor_then t (processor_after (tiles_of d.shape) d.words t p Send w learned) w =
       ap₂ (λ (b : ProcessorRecord) (xs : List ℕ). processor_then t (record p { operations = b; to_put = xs }) (want.Put 0 (first_flit flits))) (sym operations) (ap rest (sym due))
-      ∙ ap (λ (v : Want). processor_then t (processor_after (tiles_of d.shape) d.words t p Send v learned) v) (sym w_is) in (
-        sent_ghost d net tags opening s g order st t t_in f.0 f.1,
-        subst (λ (xs : List LinearizationPoint). Stands d tags opening (processor_then t (processor_after (tiles_of d.shape) d.words t p Send w learned) w) (sent_ghost d net tags opening s g order st t t_in f.0 f.1) xs) (sym (append-nil order))
-            (subst (λ (x : State). Stands d tags opening x (sent_ghost d net tags opening s g order st t t_in f.0 f.1) order) same new),
-      )
+      ∙ ap (λ (v : Want). processor_then t (processor_after (tiles_of d.shape) d.words t p Send v learned) v) (sym w_is) in
+      record {
+        stands = subst (λ (xs : List LinearizationPoint). Stands d tags opening (processor_then t (processor_after (tiles_of d.shape) d.words t p Send w learned) w) (sent_ghost d net tags opening s g order st t t_in f.0 f.1) xs) (sym (append-nil order))
+            (subst (λ (x : State). Stands d tags opening x (sent_ghost d net tags opening s g order st t t_in f.0 f.1) order) same new);
+        may = can_inject d net tags opening s g order st t t_in f.0 f.1 proper.0 (injection_in d.shape t Request t_in) parcel idle held;
+      }
 
   then_take : (t : ℕ) → t < tiles_of d.shape → (w : Want) (learned : ℕ) (r : Telling) → offered (tile_at s t).processor.so_far learned ≡ Complete (packet.Response r)
       → processor_wants (tiles_of d.shape) d.words t (tile_at s t).processor Take ≡ Some w → granted s.around (processor_wiring d.shape t) w ≡ Some learned
       → Then (processor_then t (processor_after (tiles_of d.shape) d.words t (tile_at s t).processor Take w learned) w) (Takes r)
+      (Some (accepts (ejection_channel d.shape t Reply) learned (rest (ring s.around.rings (ejection_channel d.shape t Reply)).channel.flits) (is_head learned)))
   then_take t t_in w learned r is_whole is grants =
       let p : ProcessorState = (tile_at s t).processor in
       let w_is : want.Take 0 ≡ w = same_Some _ _ is in
@@ -141,14 +141,20 @@ module _ (d : Design) (net : IsNet (net_of d)) (tags : ℕ) (opening : List ℕ)
       let new = taken_stands d net tags opening s g order st t t_in learned (rest flits) first r is_whole n in
       let same : taken_state d net tags opening s g order st t t_in learned (rest flits) first r is_whole ≡ processor_then t (processor_after (tiles_of d.shape) d.words t p Take w learned) w =
       ap (λ (o : Offered). processor_then t (record p { operations = record_offered (tiles_of d.shape) d.words t p.operations o; so_far = flits_left o p.so_far learned }) (want.Take 0)) (sym is_whole)
-      ∙ ap (λ (v : Want). processor_then t (processor_after (tiles_of d.shape) d.words t p Take v learned) v) w_is in (
-        taken_ghost d net tags opening s g order st t t_in learned (rest flits) first r is_whole,
-        subst (λ (x : State). Stands d tags opening x (taken_ghost d net tags opening s g order st t t_in learned (rest flits) first r is_whole) (order ++ points_of (event_by (flight_of d.words s g) (Some (Takes r))) n)) same new,
-      )
+      ∙ ap (λ (v : Want). processor_then t (processor_after (tiles_of d.shape) d.words t p Take v learned) v) w_is in
+      let to = found d net tags opening s g order st t t_in learned (rest flits) first r is_whole in
+      let noted : taken_ghost d net tags opening s g order st t t_in learned (rest flits) first r is_whole
+      ≡ noted_by d s g (Some (Takes r)) (Some (accepts (ejection_channel d.shape t Reply) learned (rest flits) (is_head learned))) =
+      ap (λ (k : ℕ). record (taken_ghost d net tags opening s g order st t t_in learned (rest flits) first r is_whole) { taken = push_at g.taken k r }) (sym to.1) in
+      record {
+        stands = subst (λ (h : Ghost). Stands d tags opening (processor_then t (processor_after (tiles_of d.shape) d.words t p Take w learned) w) h (order ++ points_of (event_by (flight_of d.words s g) (Some (Takes r))) n)) noted
+            (subst (λ (x : State). Stands d tags opening x (taken_ghost d net tags opening s g order st t t_in learned (rest flits) first r is_whole) (order ++ points_of (event_by (flight_of d.words s g) (Some (Takes r))) n)) same new);
+        may = may_happen d net tags opening s g order st t t_in Reply learned (rest flits) first;
+      }
 
   then_serve : (t : ℕ) → t < tiles_of d.shape → (w : Want) (learned : ℕ) (r : Asking) → (tile_at s t).bank.waiting ≡ Some r
       → bank_wants (tiles_of d.shape) t (tile_at s t).bank Serve ≡ Some w → granted s.around (bank_wiring d.shape t) w ≡ Some learned
-      → Then (bank_then t (bank_after (tiles_of d.shape) t (tile_at s t).bank Serve w learned) w) (Serves r)
+      → Then (bank_then t (bank_after (tiles_of d.shape) t (tile_at s t).bank Serve w learned) w) (Serves r) None
   then_serve t t_in w learned r waits is grants =
       let b : BankState = (tile_at s t).bank in
       let a : ℕ = address_of t (tiles_of d.shape) r.word in
@@ -164,24 +170,32 @@ module _ (d : Design) (net : IsNet (net_of d)) (tags : ℕ) (opening : List ℕ)
         to_put = flits_of (packet.Response (response_of t (length b.entries) r v));
       }) (want.Access a r.op)) reply
       ∙ (ap (λ (o : Option Asking). bank_then t (served (tiles_of d.shape) t b o learned) (want.Access a r.op)) (sym waits)
-      ∙ ap (λ (v : Want). bank_then t (bank_after (tiles_of d.shape) t b Serve v learned) v) w_is) in (
-        served_ghost d net tags opening s g order st t t_in r waits,
-        subst (λ (x : State). Stands d tags opening x (served_ghost d net tags opening s g order st t t_in r waits) (order ++ points_of (event_by (flight_of d.words s g) (Some (Serves r))) n)) same new,
-      )
+      ∙ ap (λ (v : Want). bank_then t (bank_after (tiles_of d.shape) t b Serve v learned) v) w_is) in
+      let noted : served_ghost d net tags opening s g order st t t_in r waits ≡ noted_by d s g (Some (Serves r)) None =
+      ap (λ (xs : List Telling). record (served_ghost d net tags opening s g order st t t_in r waits) { told = xs }) (sym (told_same d net tags opening s g order st t t_in r waits (rest_is.responses t r t_in waits))) in
+      record {
+        stands = subst (λ (h : Ghost). Stands d tags opening (bank_then t (bank_after (tiles_of d.shape) t b Serve w learned) w) h (order ++ points_of (event_by (flight_of d.words s g) (Some (Serves r))) n)) noted
+            (subst (λ (x : State). Stands d tags opening x (served_ghost d net tags opening s g order st t t_in r waits) (order ++ points_of (event_by (flight_of d.words s g) (Some (Serves r))) n)) same new);
+        may = tt;
+      }
 
   then_processor : (t : ℕ) → t < tiles_of d.shape → (choice : Choice) (w : Want) (learned : ℕ) (m : Move)
       → processor_wants (tiles_of d.shape) d.words t (tile_at s t).processor choice ≡ Some w → granted s.around (processor_wiring d.shape t) w ≡ Some learned
       → processor_move t (tile_at s t).processor choice learned ≡ Some m
-      → Then (processor_then t (processor_after (tiles_of d.shape) d.words t (tile_at s t).processor choice w learned) w) m
+      → Then (processor_then t (processor_after (tiles_of d.shape) d.words t (tile_at s t).processor choice w learned) w) m (processor_event d t (tile_at s t).processor s.around choice learned)
   then_processor t t_in Send w learned m is grants e =
       let p : ProcessorState = (tile_at s t).processor in
       let f = issue_told t p.to_put (ready p.operations) m e in
-      subst (Then (processor_then t (processor_after (tiles_of d.shape) d.words t p Send w learned) w)) f.2
-      (then_send t t_in w learned f.0 (head_sent t p.to_put (ready p.operations) m e) f.1 is grants)
+      let idle = head_sent t p.to_put (ready p.operations) m e in
+      let event : Some (InjectHead (injection_channel d.shape t Request) (request_parcel d.shape (request_of (tiles_of d.shape) t (f.0).0 (f.0).1))) ≡ request_event d t p.to_put (ready p.operations) =
+      ap₂ (request_event d t) (sym idle) (sym f.1) in
+      subst (λ (x : Move). Then (processor_then t (processor_after (tiles_of d.shape) d.words t p Send w learned) w) x (request_event d t p.to_put (ready p.operations))) f.2
+      (subst (λ (x : Option Event). Then (processor_then t (processor_after (tiles_of d.shape) d.words t p Send w learned) w) (Sends t (f.0).0 (f.0).1) x) event
+      (then_send t t_in w learned f.0 idle f.1 is grants))
   then_processor t t_in Take w learned m is grants e =
       let p : ProcessorState = (tile_at s t).processor in
       let a = answer_told (offered p.so_far learned) m e in
-      subst (Then (processor_then t (processor_after (tiles_of d.shape) d.words t p Take w learned) w)) a.2 (then_take t t_in w learned a.0 a.1 is grants)
+      subst (λ (x : Move). Then (processor_then t (processor_after (tiles_of d.shape) d.words t p Take w learned) w) x (processor_event d t p s.around Take learned)) a.2 (then_take t t_in w learned a.0 a.1 is grants)
   then_processor t t_in Credit w learned m is grants e = absurd (cc)
   then_processor t t_in Done w learned m is grants e = absurd (cc)
   then_processor t t_in Look w learned m is grants e = absurd (cc)
@@ -193,11 +207,11 @@ module _ (d : Design) (net : IsNet (net_of d)) (tags : ℕ) (opening : List ℕ)
   then_bank : (t : ℕ) → t < tiles_of d.shape → (choice : Choice) (w : Want) (learned : ℕ) (m : Move)
       → bank_wants (tiles_of d.shape) t (tile_at s t).bank choice ≡ Some w → granted s.around (bank_wiring d.shape t) w ≡ Some learned
       → bank_move (tile_at s t).bank choice learned ≡ Some m
-      → Then (bank_then t (bank_after (tiles_of d.shape) t (tile_at s t).bank choice w learned) w) m
+      → Then (bank_then t (bank_after (tiles_of d.shape) t (tile_at s t).bank choice w learned) w) m (bank_event d t (tile_at s t).bank s.around choice learned)
   then_bank t t_in Serve w learned m is grants e =
       let b : BankState = (tile_at s t).bank in
       let f = option_map_some (λ (r : Asking). Serves r) b.waiting m e in
-      subst (Then (bank_then t (bank_after (tiles_of d.shape) t b Serve w learned) w)) f.2 (then_serve t t_in w learned f.0 f.1 is grants)
+      subst (λ (x : Move). Then (bank_then t (bank_after (tiles_of d.shape) t b Serve w learned) w) x None) f.2 (then_serve t t_in w learned f.0 f.1 is grants)
   then_bank t t_in Send w learned m is grants e = absurd (cc)
   then_bank t t_in Take w learned m is grants e = absurd (cc)
   then_bank t t_in Credit w learned m is grants e = absurd (cc)
@@ -208,7 +222,7 @@ module _ (d : Design) (net : IsNet (net_of d)) (tags : ℕ) (opening : List ℕ)
   then_bank t t_in (CreditOf i) w learned m is grants e = absurd (cc)
 
   then_tile : (t : ℕ) → t < tiles_of d.shape → (agent : Agent) (choice : Choice) (m : Move) → tile_move d t (tile_at s t) s.around agent choice ≡ Some m
-      → Then (with_tile t (tile_step d t (tile_at s t) s.around agent choice)) m
+      → Then (with_tile t (tile_step d t (tile_at s t) s.around agent choice)) m (tile_event d t (tile_at s t) s.around agent choice)
   then_tile t t_in Processor choice m h =
       let p : ProcessorState = (tile_at s t).processor in
       let W : ProcessorState → Choice → Option Want = processor_wants (tiles_of d.shape) d.words t in
@@ -216,8 +230,9 @@ module _ (d : Design) (net : IsNet (net_of d)) (tags : ℕ) (opening : List ℕ)
       option_and_then_some (processor_move t p choice) (learned_by W (processor_wiring d.shape t) p s.around choice) m h (λ learned is e.
       option_and_then_some (granted s.around (processor_wiring d.shape t)) (W p choice) learned is (λ w wanted grants.
       let go = stepped W A d.depth (processor_wiring d.shape t) p s.around choice w learned wanted grants in
-      subst (λ (o : Option (ProcessorState × Surroundings)). Then (with_tile t (option_map (λ q. (record (tile_at s t) { processor = q.0 }, q.1)) o)) m) (sym go)
-      (then_processor t t_in choice w learned m wanted grants e)))
+      subst (λ (o : Option (ProcessorState × Surroundings)). Then (with_tile t (option_map (λ q. (record (tile_at s t) { processor = q.0 }, q.1)) o)) m (option_and_then (processor_event d t p s.around choice) (learned_by W (processor_wiring d.shape t) p s.around choice))) (sym go)
+      (subst (λ (o : Option ℕ). Then (processor_then t (A p choice w learned) w) m (option_and_then (processor_event d t p s.around choice) o)) (sym is)
+      (then_processor t t_in choice w learned m wanted grants e))))
   then_tile t t_in Router choice m h = absurd (cc)
   then_tile t t_in Bank choice m h =
       let b : BankState = (tile_at s t).bank in
@@ -226,39 +241,31 @@ module _ (d : Design) (net : IsNet (net_of d)) (tags : ℕ) (opening : List ℕ)
       option_and_then_some (bank_move b choice) (learned_by W (bank_wiring d.shape t) b s.around choice) m h (λ learned is e.
       option_and_then_some (granted s.around (bank_wiring d.shape t)) (W b choice) learned is (λ w wanted grants.
       let go = stepped W A d.depth (bank_wiring d.shape t) b s.around choice w learned wanted grants in
-      subst (λ (o : Option (BankState × Surroundings)). Then (with_tile t (option_map (λ q. (record (tile_at s t) { bank = q.0 }, q.1)) o)) m) (sym go)
-      (then_bank t t_in choice w learned m wanted grants e)))
+      subst (λ (o : Option (BankState × Surroundings)). Then (with_tile t (option_map (λ q. (record (tile_at s t) { bank = q.0 }, q.1)) o)) m (option_and_then (bank_event d t b s.around choice) (learned_by W (bank_wiring d.shape t) b s.around choice))) (sym go)
+      (subst (λ (o : Option ℕ). Then (bank_then t (A b choice w learned) w) m (option_and_then (bank_event d t b s.around choice) o)) (sym is)
+      (then_bank t t_in choice w learned m wanted grants e))))
 
-  then_move : (attempt : Step) (m : Move) → move_of d s attempt ≡ Some m → Then (next d s attempt) m
+  then_move : (attempt : Step) (m : Move) → move_of d s attempt ≡ Some m → Then (next d s attempt) m (network_event d s attempt)
   then_move attempt m h =
       let t : ℕ = attempt.agent / 3 in
       let agent : Agent = agent_numbered (attempt.agent % 3) in
       option_and_then_some (λ tile. tile_move d t tile s.around agent attempt.choice) (slice_get s.tiles t) m h (λ tile there e.
       let is : tile_at s t ≡ tile = get_or_from_slice_get s.tiles t tile no_tile there in
       let within : t < tiles_of d.shape = subst (λ (k : ℕ). t < k) st.tiles (slice_get_within s.tiles t tile there) in
-      subst (λ (o : Option TileState). Then (or_same s (option_and_then (λ x. option_map (λ p. record { tiles = slice_set s.tiles t p.0; around = p.1 }) (tile_step d t x s.around agent attempt.choice)) o)) m) (sym there)
-      (subst (λ (x : TileState). Then (with_tile t (tile_step d t x s.around agent attempt.choice)) m) is
+      subst (λ (o : Option TileState). Then (or_same s (option_and_then (λ x. option_map (λ p. record { tiles = slice_set s.tiles t p.0; around = p.1 }) (tile_step d t x s.around agent attempt.choice)) o)) m
+      (option_and_then (λ x. tile_event d t x s.around agent attempt.choice) o)) (sym there)
+      (subst (λ (x : TileState). Then (with_tile t (tile_step d t x s.around agent attempt.choice)) m (tile_event d t x s.around agent attempt.choice)) is
       (then_tile t within agent attempt.choice m (ap (λ (x : TileState). tile_move d t x s.around agent attempt.choice) is ∙ e))))
 
-  -- each step keeps what holds
-  pub keeps_step : (attempt : Step) → (h : Ghost) × Stands d tags opening (next d s attempt) h (order ++ points_of (event_by (flight_of d.words s g) (move_of d s attempt)) n)
+  -- each step keeps what holds, with what is noted by its move and its event
+  pub keeps_step : (attempt : Step) → Goes (next d s attempt) (move_of d s attempt) (network_event d s attempt)
   keeps_step attempt = by_move (move_of d s attempt) refl
     where
-      by_move : (m : Option Move) → move_of d s attempt ≡ m → (h : Ghost) × Stands d tags opening (next d s attempt) h (order ++ points_of (event_by (flight_of d.words s g) m) n)
+      by_move : (m : Option Move) → move_of d s attempt ≡ m → Goes (next d s attempt) m (network_event d s attempt)
       by_move None is =
           let q = rest_is.quiet attempt is in
-          (q.0, subst (λ (xs : List LinearizationPoint). Stands d tags opening (next d s attempt) q.0 xs) (sym (append-nil order)) q.1)
+          record {
+            stands = subst (λ (xs : List LinearizationPoint). Stands d tags opening (next d s attempt) (noted_by d s g None (network_event d s attempt)) xs) (sym (append-nil order)) q.stands;
+            may = q.may;
+          }
       by_move (Some m) is = then_move attempt m is
-
--- Every run of the core is a history, where the rest holds.
-pub history : (l : Load) → IsNet (net_of (design_of l)) → 0 < l.depth → length l.scripts ≡ tiles_of l.shape → IsRest (design_of l) l.tags l.opening
-    → ((steps : List Step) (k t : ℕ) (o : Operation) → next_operation_of (tile_at (state_at l steps k) t).processor.operations.following ≡ Some o → o.address < length l.opening)
-    → (steps : List Step) (n : ℕ) → IsHistory (tiles_of l.shape) l.tags l.opening (run_of l steps) (event_at l steps) n
-history l net some count rest_is addressed steps n =
-    (holds_at l (record {
-      net = net;
-      begins = (first_ghost l some count, begins l some count);
-      shown = first_shown l some count;
-      addressed = addressed;
-      keeps = λ s g order attempt k st. keeps_step (design_of l) net l.tags l.opening s g order st (rest_at (design_of l) l.tags l.opening rest_is s g order st) k attempt;
-    }) steps n).history

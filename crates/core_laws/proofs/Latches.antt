@@ -14,7 +14,7 @@ use Rattle.wormhole.specs.Events.{Latch, CanLatch, taken}
 use Rattle.wormhole.proofs.Changes.{update_same, update_other}
 use Rattle.router.specs.Table.{RouterState, latch_of}
 use Rattle.channel_number.specs.Ports.{port_count, input_channel, output_channel}
-use Rattle.core_laws.specs.Tile.{Design}
+use Rattle.tile.specs.Tile.{Design}
 use Rattle.core_laws.specs.Core.{State}
 use Rattle.core_laws.proofs.Projection.{net_of}
 use Rattle.core_laws.proofs.ChannelFacts.{channels_of}
@@ -58,7 +58,7 @@ module _ (d : Design) (net : IsNet (net_of d)) (wired : IsWiredUp d) (tags : ℕ
     first = (st.mirrors.rings x x_in).flits ∙ first;
   }
 
-  latch_quiet : IsQuietStep d net tags opening s g order st t t_in (router_tile d net wired tags opening s g order st t t_in i i_in (Some flit) r.owned x x_in (take_from_ring d.depth) (Latch x flit more)) x x_in (take_from_ring d.depth) (Latch x flit more)
+  pub latch_quiet : IsQuietStep d net tags opening s g order st t t_in (router_tile d net wired tags opening s g order st t t_in i i_in (Some flit) r.owned x x_in (take_from_ring d.depth) (Latch x flit more)) x x_in (take_from_ring d.depth) (Latch x flit more)
   latch_quiet =
       let old = st.mirrors.rings x x_in in
       let here : update g.net.lines x filled x ≡ filled = update_same g.net.lines x filled in

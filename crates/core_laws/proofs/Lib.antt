@@ -38,7 +38,6 @@ pub mod ValuesProper
 pub mod ValuesParts
 pub mod ValuesKept
 pub mod Runs
-pub mod AcceptedLoads
 pub mod RouterFrame
 pub mod Latches
 pub mod RestPuts
@@ -61,3 +60,11 @@ pub mod Reached
 pub mod AgentChoices
 pub mod OwnParts
 pub mod OneAgent
+pub mod Asking
+pub mod HeadWords
+pub mod Rooms
+pub mod AskedFor
+pub mod CourseRuns
+pub mod TagsPending
+pub mod OnTheWay
+pub mod SameEnds

@@ -2,7 +2,7 @@
 use Rattle.torus.specs.Shape.{IsAccepted}
 use Rattle.wormhole.specs.Net.{IsNet}
 use Rattle.torus_net.proofs.Facts.{is_net}
-use Rattle.core_laws.specs.Tile.{Design}
+use Rattle.tile.specs.Tile.{Design}
 use Rattle.core_laws.proofs.Projection.{net_of}
 
 pub network : (d : Design) → IsAccepted d.shape → IsNet (net_of d)

@@ -9,10 +9,10 @@ use Rattle.flit_buffer.specs.OwnPart.{SameWhereWanted}
 use Rattle.flit_buffer.proofs.OwnParts.{same_steps}
 use Rattle.router.specs.Table.{RouterState, router_wants, router_after}
 use Rattle.router.specs.Beginning.{router_wiring}
-use Rattle.core_laws.specs.ProcessorTable.{ProcessorState, processor_wants, processor_after}
-use Rattle.core_laws.specs.BankTable.{BankState, bank_wants, bank_after}
-use Rattle.core_laws.specs.Wiring.{processor_wiring, bank_wiring}
-use Rattle.core_laws.specs.Tile.{Design, TileState, Processor, Router, Bank, tile_step}
+use Rattle.net_interface.specs.ProcessorTable.{ProcessorState, processor_wants, processor_after}
+use Rattle.home_bank.specs.BankTable.{BankState, bank_wants, bank_after}
+use Rattle.tile.specs.Wiring.{processor_wiring, bank_wiring}
+use Rattle.tile.specs.Tile.{Design, TileState, Processor, Router, Bank, tile_step}
 
 map_twice : {A B C : Type 0} (f : B → C) (g : A → B) (h : A → C) → ((x : A) → f (g x) ≡ h x) → (o : Option A) → option_map f (option_map g o) ≡ option_map h o
 map_twice f g h same None = refl

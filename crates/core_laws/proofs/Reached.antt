@@ -9,10 +9,15 @@ use Rattle.channel_number.specs.Order.{channel_count}
 use Rattle.flit_buffer.specs.Channel.{IsChannelState}
 use Rattle.flit_buffer.specs.Surroundings.{ring}
 use Rattle.runs.specs.Events.{order_after}
-use Rattle.core_laws.specs.Tile.{TileState}
+use Rattle.tile.specs.Tile.{TileState}
 use Rattle.core_laws.specs.Core.{Load, State, design_of}
 use Rattle.core_laws.specs.Runs.{IsAccepted}
 use Rattle.core_laws.specs.Reports.{CountsReports}
+use Rattle.wormhole.specs.Words.{Words}
+use Rattle.wormhole.specs.Routes.{Routes}
+use Rattle.core_laws.specs.Mirrors.{Mirrors}
+use Rattle.core_laws.specs.Network.{net_of}
+use Rattle.core_laws.specs.Noted.{noted}
 use Rattle.core_laws.proofs.Histories.{state_at, event_at}
 use Rattle.core_laws.proofs.EveryRun.{holds_in}
 use Rattle.core_laws.proofs.Stands.{Stands, tile_at, no_tile}
@@ -35,7 +40,7 @@ module _ (l : Load) (ok : IsAccepted l) (steps : List Step) (n : ℕ) where
   abbrev s : State
   s = state_at l steps n
 
-  st : Stands (design_of l) l.tags l.opening s (holds_in l ok steps n).ghost (order_after (event_at l steps) n)
+  st : Stands (design_of l) l.tags l.opening s (noted l steps n) (order_after (event_at l steps) n)
   st = (holds_in l ok steps n).stands
 
   -- each channel of the torus is there
@@ -68,3 +73,13 @@ module _ (l : Load) (ok : IsAccepted l) (steps : List Step) (n : ℕ) where
   -- The done word counts the processors that have reported.
   pub reports_counted : CountsReports (design_of l) s
   reports_counted = record { counts = st.reported.counts; finished = finished_only; seen = all_reported }
+
+  -- The network that is noted mirrors the machine, and no two packets mix or lose their way in it.
+  pub mirrors : Mirrors (design_of l) s (noted l steps n).net.lines
+  mirrors = st.mirrors
+
+  pub words : Words (net_of (design_of l)) (noted l steps n).net
+  words = st.lines
+
+  pub routes : Routes (net_of (design_of l)) (noted l steps n).net
+  routes = st.routes

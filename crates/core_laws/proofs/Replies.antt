@@ -21,15 +21,15 @@ use Rattle.wormhole.specs.Delivery.{whole, whole_of}
 use Rattle.wormhole.proofs.Changes.{update_same, update_other}
 use Rattle.wormhole.proofs.Reached.{words_kept, routes_kept}
 use Rattle.wormhole.proofs.Lists.{all_on}
-use Rattle.flights.specs.ProcessorRecord.{no_processor}
+use Rattle.net_interface.specs.ProcessorRecord.{no_processor}
 use Rattle.flights.specs.Flight.{Flight}
 use Rattle.flights.proofs.Whole.{Whole}
 use Rattle.packet.specs.Flits.{flits_of}
 use Rattle.core_laws.specs.Heads.{is_head}
-use Rattle.core_laws.specs.ProcessorTable.{ProcessorState}
+use Rattle.net_interface.specs.ProcessorTable.{ProcessorState}
 use Rattle.router.specs.Table.{RouterState, output_owned}
 use Rattle.channel_number.specs.Ports.{injection_channel}
-use Rattle.core_laws.specs.Tile.{Design, TileState}
+use Rattle.tile.specs.Tile.{Design, TileState}
 use Rattle.core_laws.specs.Core.{State}
 use Rattle.core_laws.proofs.Projection.{net_of, parcel_of, response_parcel, first_flit}
 use Rattle.core_laws.proofs.ChannelFacts.{channels_of, injects_at, injection_in, is_head_of}
@@ -68,25 +68,23 @@ module _ (d : Design) (net : IsNet (net_of d)) (tags : ℕ) (opening : List ℕ)
   abbrev responses : List Telling
   responses = responses_from t 0 (tile_at s t).bank.entries
 
-  fresh : (q : Telling) × (last_of responses ≡ q ∷ []) × (flits_of (packet.Response q) ≡ (tile_at s t).bank.to_put)
+  pub fresh : (q : Telling) × (last_of responses ≡ q ∷ []) × (flits_of (packet.Response q) ≡ (tile_at s t).bank.to_put)
   fresh = one_of_map (λ r. flits_of (packet.Response r)) (last_of responses) (tile_at s t).bank.to_put ((st.phases t).fresh starts)
 
   proper : IsProperResponse d fresh.0 × (fresh.0.source ≡ t)
   proper = all_on (λ r. IsProperResponse d r × (r.source ≡ t)) responses fresh.0 (st.carries.replies_proper t t_in) (last_on responses fresh.0 fresh.1)
 
-  parcel : Parcel
+  abbrev pub parcel : Parcel
   parcel = response_parcel d.shape fresh.0
 
   parcel_is : (parcel.head ≡ first_flit (flits_of (packet.Response fresh.0))) × (parcel.tail ≡ rest (flits_of (packet.Response fresh.0)))
-  unfolding parcel_of parcel
+  unfolding parcel_of
   parcel_is = (refl, refl)
 
   parcel_same : parcel ≡ response_parcel d.shape fresh.0
-  unfolding parcel
   parcel_same = refl
 
   of_net : IsParcel n parcel
-  unfolding parcel
   of_net = is_parcel d (packet.Response fresh.0) proper.0.spelled proper.0.source proper.0.destination
 
   abbrev flit : ℕ
@@ -107,7 +105,7 @@ module _ (d : Design) (net : IsNet (net_of d)) (tags : ℕ) (opening : List ℕ)
   abbrev pub reply_state : State
   reply_state = record { tiles = slice_set s.tiles t sent_tile; around = changed s.around lane (put_in_ring flit) }
 
-  abbrev reply_ghost : Ghost
+  abbrev pub reply_ghost : Ghost
   reply_ghost = record g { net = after n g.net (InjectHead lane parcel) }
 
   tile_in : t < length s.tiles
@@ -155,7 +153,7 @@ module _ (d : Design) (net : IsNet (net_of d)) (tags : ℕ) (opening : List ℕ)
   lane_here : lane < length s.around.rings
   lane_here = subst (λ (k : ℕ). lane < k) (sym st.mirrors.count) lane_in
 
-  can : CanInjectHead n (g.net.lines lane) lane parcel
+  pub can : CanInjectHead n (g.net.lines lane) lane parcel
   can = record {
     here = subst (λ (k : ℕ). lane < k) (sym (channels_of d)) lane_in;
     injects = injects_at d t Reply;
@@ -268,24 +266,22 @@ module _ (d : Design) (net : IsNet (net_of d)) (tags : ℕ) (opening : List ℕ)
       (cases_eq x lane)
 
   -- What holds of every reached state is kept by the send of a reply's head flit.
-  pub reply_stands : (h : Ghost) × Stands d tags opening reply_state h order
-  reply_stands = (
-    reply_ghost,
-    record {
-      tiles = length-set s.tiles t sent_tile ∙ st.tiles;
-      size = st.size;
-      words = st.words;
-      rings = reply_rings;
-      lines = words_kept n g.net (InjectHead lane parcel) net st.lines st.routes can;
-      routes = routes_kept n g.net (InjectHead lane parcel) net st.lines st.routes can;
-      mirrors = reply_mirrors;
-      flight = subst (λ (f : Flight). Whole (tiles_of d.shape) tags opening f order) (sym reply_flight) st.flight;
-      carries = reply_carries;
-      phases = reply_phases;
-      reported = record {
-        counts = st.reported.counts ∙ sym (count_set (λ (x : TileState). x.processor.reported) s.tiles t sent_tile no_tile refl);
-        finished = λ u h. let k = part_kept (λ (x : TileState). x.processor) refl u in rw k (st.reported.finished u (ap (λ (p : ProcessorState). p.reported) (sym k) ∙ h));
-        seen = λ u h. st.reported.seen u (sym (part_kept (λ (x : TileState). x.processor.seen) refl u) ∙ h);
-      };
-    },
-  )
+  pub reply_stands : Stands d tags opening reply_state reply_ghost order
+  reply_stands =
+      record {
+        tiles = length-set s.tiles t sent_tile ∙ st.tiles;
+        size = st.size;
+        words = st.words;
+        rings = reply_rings;
+        lines = words_kept n g.net (InjectHead lane parcel) net st.lines st.routes can;
+        routes = routes_kept n g.net (InjectHead lane parcel) net st.lines st.routes can;
+        mirrors = reply_mirrors;
+        flight = subst (λ (f : Flight). Whole (tiles_of d.shape) tags opening f order) (sym reply_flight) st.flight;
+        carries = reply_carries;
+        phases = reply_phases;
+        reported = record {
+          counts = st.reported.counts ∙ sym (count_set (λ (x : TileState). x.processor.reported) s.tiles t sent_tile no_tile refl);
+          finished = λ u h. let k = part_kept (λ (x : TileState). x.processor) refl u in rw k (st.reported.finished u (ap (λ (p : ProcessorState). p.reported) (sym k) ∙ h));
+          seen = λ u h. st.reported.seen u (sym (part_kept (λ (x : TileState). x.processor.seen) refl u) ∙ h);
+        };
+      }

@@ -16,7 +16,7 @@ use Rattle.wormhole.specs.Delivery.{whole_of}
 use Rattle.wormhole.proofs.Changes.{update_same, update_other}
 use Rattle.core_laws.specs.Heads.{is_head}
 use Rattle.channel_number.specs.Ports.{injection_channel}
-use Rattle.core_laws.specs.Tile.{Design, TileState}
+use Rattle.tile.specs.Tile.{Design, TileState}
 use Rattle.core_laws.specs.Core.{State}
 use Rattle.core_laws.proofs.Projection.{net_of, first_flit}
 use Rattle.core_laws.proofs.ChannelFacts.{channels_of, injects_at, injection_in}
@@ -67,7 +67,7 @@ module _ (d : Design) (net : IsNet (net_of d)) (tags : ℕ) (opening : List ℕ)
   some_left : (tile_at s t).bank.to_put ≢ []
   some_left e = let no : ◌≡◌ {A = List ℕ} (flit ∷ more) [] = sym course ∙ e in cc
 
-  rest_quiet : IsQuietStep d net tags opening s g order st t t_in new_tile lane lane_in (put_in_ring flit) (InjectRest lane flit more)
+  pub rest_quiet : IsQuietStep d net tags opening s g order st t t_in new_tile lane lane_in (put_in_ring flit) (InjectRest lane flit more)
   rest_quiet =
       let old = st.mirrors.rings lane lane_in in
       let here : update g.net.lines lane new_line lane ≡ new_line = update_same g.net.lines lane new_line in
@@ -118,18 +118,16 @@ module _ (d : Design) (net : IsNet (net_of d)) (tags : ℕ) (opening : List ℕ)
   tile_part h same u = quiet_part d net tags opening s g order st t t_in new_tile lane lane_in (put_in_ring flit) (InjectRest lane flit more) h same u
 
   -- What holds of every reached state is kept.
-  pub rest_stands : (h : Ghost) × Stands d tags opening rest_state h order
-  rest_stands = (
-    quiet_ghost d net tags opening s g order st t t_in new_tile lane lane_in (put_in_ring flit) (InjectRest lane flit more),
-    quiet_stands d net tags opening s g order st t t_in new_tile lane lane_in (put_in_ring flit) (InjectRest lane flit more) rest_quiet
-        (end_mirrors d net tags opening s g order st t t_in new_tile lane lane_in (put_in_ring flit) (InjectRest lane flit more) rest_quiet (record {
-          router = refl;
-          latches = line_part (λ (l : Lane). l.latch) refl;
-          owners = line_part (λ (l : Lane). l.owner) refl;
-          requests = λ u h. ap (λ (l : Lane). l.rest) (update_other g.net.lines lane new_line (injection_channel d.shape u Request) (λ e. let no : ◌≡◌ {A = Class} Request Reply = injection_class d.shape u t Request Reply e in cc))
-              ∙ (st.mirrors.sends_requests u h ∙ sym (tile_part (λ (w : TileState). w.processor.to_put) refl u));
-          replies = replies_rest;
-          replies_in = λ u h. line_part (λ (l : Lane). l.so_far) refl _ ∙ (st.mirrors.takes_replies u h ∙ sym (tile_part (λ (w : TileState). w.processor.so_far) refl u));
-          requests_in = λ u h. line_part (λ (l : Lane). l.so_far) refl _ ∙ (st.mirrors.takes_requests u h ∙ sym (tile_part (λ (w : TileState). w.bank.so_far) refl u));
-        })),
-  )
+  pub rest_stands : Stands d tags opening rest_state (quiet_ghost d net tags opening s g order st t t_in new_tile lane lane_in (put_in_ring flit) (InjectRest lane flit more)) order
+  rest_stands =
+      quiet_stands d net tags opening s g order st t t_in new_tile lane lane_in (put_in_ring flit) (InjectRest lane flit more) rest_quiet
+      (end_mirrors d net tags opening s g order st t t_in new_tile lane lane_in (put_in_ring flit) (InjectRest lane flit more) rest_quiet (record {
+        router = refl;
+        latches = line_part (λ (l : Lane). l.latch) refl;
+        owners = line_part (λ (l : Lane). l.owner) refl;
+        requests = λ u h. ap (λ (l : Lane). l.rest) (update_other g.net.lines lane new_line (injection_channel d.shape u Request) (λ e. let no : ◌≡◌ {A = Class} Request Reply = injection_class d.shape u t Request Reply e in cc))
+            ∙ (st.mirrors.sends_requests u h ∙ sym (tile_part (λ (w : TileState). w.processor.to_put) refl u));
+        replies = replies_rest;
+        replies_in = λ u h. line_part (λ (l : Lane). l.so_far) refl _ ∙ (st.mirrors.takes_replies u h ∙ sym (tile_part (λ (w : TileState). w.processor.so_far) refl u));
+        requests_in = λ u h. line_part (λ (l : Lane). l.so_far) refl _ ∙ (st.mirrors.takes_requests u h ∙ sym (tile_part (λ (w : TileState). w.bank.so_far) refl u));
+      }))

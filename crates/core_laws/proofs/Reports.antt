@@ -13,12 +13,12 @@ use Rattle.net_interface.specs.Following.{is_finished}
 use Rattle.runs.specs.Order.{LinearizationPoint}
 use Rattle.runs.proofs.Counting.{count_cons}
 use Rattle.wormhole.specs.Net.{IsNet}
-use Rattle.flights.specs.ProcessorRecord.{ProcessorRecord, no_processor}
+use Rattle.net_interface.specs.ProcessorRecord.{ProcessorRecord, no_processor}
 use Rattle.flights.specs.Flight.{Flight}
 use Rattle.flights.proofs.Whole.{Whole}
-use Rattle.core_laws.specs.BankTable.{BankState}
+use Rattle.home_bank.specs.BankTable.{BankState}
 use Rattle.router.specs.Table.{RouterState, output_owned}
-use Rattle.core_laws.specs.Tile.{Design, TileState}
+use Rattle.tile.specs.Tile.{Design, TileState}
 use Rattle.core_laws.specs.Core.{State}
 use Rattle.core_laws.proofs.Projection.{net_of}
 use Rattle.core_laws.proofs.FlightSteps.{record_in, entries_in, same_flight, part_stays}

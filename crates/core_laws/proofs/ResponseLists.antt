@@ -11,6 +11,8 @@ use Rattle.home_bank.specs.declared.entry.Entry.{Entry}
 use Rattle.packet.specs.Flits.{flits_of}
 use Rattle.core_laws.specs.Heads.{is_head}
 use Rattle.core_laws.proofs.Projection.{first_flit}
+use Rattle.core_laws.specs.Delivery.{response_made, responses_made}
+use Rattle.core_laws.specs.Network.{last_response}
 use Rattle.core_laws.proofs.Stands.{response_of_entry, responses_from, last_of}
 
 -- one response more
@@ -46,3 +48,14 @@ first_is_head p h = at (flits_of p) h
     at (x ∷ xs) h =
         let tells = TellsPacket-spelled p x xs h in
         ap₂ (λ (a b : Bool). a && b) (eq-eqb (field x 63 1) 1 tells.head_bit) (eq-eqb (field x 61 1) 1 tells.flit_bit)
+
+-- the responses to entries, as they are said of deliveries
+pub made_from : (b place : ℕ) (entries : List Entry) → responses_made b place entries ≡ responses_from b place entries
+made_from b place [] = refl
+made_from b place (e ∷ entries) = ap (λ (rs : List Telling). response_made b place e ∷ rs) (made_from b (place + 1) entries)
+
+-- the last of some responses
+pub last_is : (rs : List Telling) (q : Telling) → last_of rs ≡ q ∷ [] → last_response rs ≡ Some q
+last_is [] q h = absurd (cc)
+last_is (r ∷ []) q h = ap Some (cc)
+last_is (r ∷ p ∷ rs) q h = last_is (p ∷ rs) q h

@@ -18,7 +18,7 @@ use Rattle.packet.specs.Flits.{is_tail}
 use Rattle.core_laws.specs.Heads.{is_head}
 use Rattle.router.specs.Table.{RouterState, latch_of, output_owned}
 use Rattle.channel_number.specs.Ports.{port_count, input_channel, output_channel}
-use Rattle.core_laws.specs.Tile.{Design}
+use Rattle.tile.specs.Tile.{Design}
 use Rattle.core_laws.specs.Core.{State}
 use Rattle.core_laws.proofs.Projection.{net_of}
 use Rattle.core_laws.proofs.ChannelFacts.{channels_of, is_head_of, is_tail_of}
@@ -138,7 +138,7 @@ module _ (d : Design) (net : IsNet (net_of d)) (wired : IsWiredUp d) (tags : ℕ
       let other : z ≢ x = λ e. let no : ◌≡◌ {A = Bool} true false = sym ejects ∙ (ap n.ejects e ∙ can_forward.input) in cc in
       ap₂ whole_of (note_other (λ (k : Note). k.awaited) refl z other) (note_other (λ (k : Note). k.begun) refl z other)
 
-  rest_quiet : IsQuietStep d net tags opening s g order st t t_in (router_tile d net wired tags opening s g order st t t_in i i_in None left y y_in (put_in_ring flit) (ForwardRest x y flit)) y y_in (put_in_ring flit) (ForwardRest x y flit)
+  pub rest_quiet : IsQuietStep d net tags opening s g order st t t_in (router_tile d net wired tags opening s g order st t t_in i i_in None left y y_in (put_in_ring flit) (ForwardRest x y flit)) y y_in (put_in_ring flit) (ForwardRest x y flit)
   rest_quiet =
       let old = st.mirrors.rings y y_in in
       record {

@@ -17,13 +17,13 @@ use Rattle.flit_buffer.specs.Surroundings.{ring, granted, surroundings_after, ch
 use Rattle.wormhole.specs.Net.{Net}
 use Rattle.wormhole.proofs.Receivers.{moved}
 use Rattle.wormhole.proofs.Routers.{latched}
-use Rattle.wormhole.specs.Events.{Return}
+use Rattle.wormhole.specs.Events.{Event, ForwardRest, Return}
 use Rattle.packet.specs.Flits.{head_of, is_tail}
 use Rattle.core_laws.specs.Heads.{is_head}
 use Rattle.router.specs.Table.{RouterState, latch_of, output_owned, output_for, wants_to_take, wants_to_put, router_wants, router_after}
 use Rattle.channel_number.specs.Ports.{port_count, input_channel, output_channel}
 use Rattle.router.specs.Beginning.{router_wiring}
-use Rattle.core_laws.specs.Tile.{Design}
+use Rattle.tile.specs.Tile.{Design}
 use Rattle.core_laws.specs.Core.{State}
 use Rattle.core_laws.proofs.Projection.{net_of}
 use Rattle.core_laws.proofs.AgentSteps.{option_map_some}
@@ -32,10 +32,12 @@ use Rattle.core_laws.proofs.Networks.{network}
 use Rattle.core_laws.proofs.StepEvents.{first_there}
 use Rattle.core_laws.proofs.Wired.{is_wired_up}
 use Rattle.core_laws.proofs.ChannelWants.{if_what}
-use Rattle.core_laws.proofs.Quiet.{quiet_state, quiet_ghost, back_stands}
+use Rattle.core_laws.proofs.Quiet.{quiet_state, quiet_ghost, back_quiet, back_stands}
+use Rattle.core_laws.specs.Network.{put_event, forwarded, router_event}
+use Rattle.core_laws.proofs.QuietSteps.{Stays}
 use Rattle.core_laws.proofs.RouterSteps.{output_at, held_of, then_put}
-use Rattle.core_laws.proofs.Latches.{latched_state, latched_ghost, latched_stands}
-use Rattle.core_laws.proofs.RestPuts.{rest_state, rest_ghost, rest_stands}
+use Rattle.core_laws.proofs.Latches.{latched_state, latched_ghost, can_latch, latched_stands}
+use Rattle.core_laws.proofs.RestPuts.{rest_state, rest_ghost, can_forward as can_rest, rest_stands}
 use Rattle.core_laws.proofs.Stands.{Ghost, Stands, tile_at}
 
 -- the channel at an input
@@ -72,10 +74,10 @@ module _ (d : Design) (accepted : IsAccepted d.shape) (tags : ℕ) (opening : Li
   abbrev pub router_then : Choice → Want → ℕ → State
   router_then choice w learned = record { tiles = slice_set s.tiles t (record (tile_at s t) { router = router_after r choice w learned }); around = surroundings_after d.depth s.around (router_wiring d.shape t) w }
 
-  abbrev Keeps : State → Type 0
-  Keeps after = (h : Ghost) × Stands d tags opening after h order
+  abbrev Keeps : State → Option Event → Type 0
+  Keeps after e = Stays d tags opening g order after e
 
-  then_latch : (i : ℕ) (w : Want) (learned : ℕ) → router_wants d.shape t r (TakeFrom i) ≡ Some w → granted s.around (router_wiring d.shape t) w ≡ Some learned → Keeps (router_then (TakeFrom i) w learned)
+  then_latch : (i : ℕ) (w : Want) (learned : ℕ) → router_wants d.shape t r (TakeFrom i) ≡ Some w → granted s.around (router_wiring d.shape t) w ≡ Some learned → Keeps (router_then (TakeFrom i) w learned) (router_event d t r s.around (TakeFrom i) learned)
   then_latch i w learned is grants =
       let wired = is_wired_up d accepted in
       let net = network d accepted in
@@ -93,12 +95,13 @@ module _ (d : Design) (accepted : IsAccepted d.shape) (tags : ℕ) (opening : Li
         tiles = slice_set s.tiles t (record (tile_at s t) { router = record { latches = slice_set r.latches i (Some learned); owned = r.owned } });
         around = changed s.around z (take_from_ring d.depth);
       }) (sym at)
-      ∙ ap (λ (v : Want). router_then (TakeFrom i) v learned) told.1 in (
-        latched_ghost d net wired tags opening s g order st t t_in i i_in learned (rest flits) told.0 first,
-        subst (λ (z : State). Stands d tags opening z (latched_ghost d net wired tags opening s g order st t t_in i i_in learned (rest flits) told.0 first) order) same new,
-      )
+      ∙ ap (λ (v : Want). router_then (TakeFrom i) v learned) told.1 in
+      record {
+        stands = subst (λ (z : State). Stands d tags opening z (latched_ghost d net wired tags opening s g order st t t_in i i_in learned (rest flits) told.0 first) order) same new;
+        may = can_latch d net wired tags opening s g order st t t_in i i_in learned (rest flits) told.0 first;
+      }
 
-  then_credit : (o : ℕ) (w : Want) (learned : ℕ) → router_wants d.shape t r (CreditOf o) ≡ Some w → granted s.around (router_wiring d.shape t) w ≡ Some learned → Keeps (router_then (CreditOf o) w learned)
+  then_credit : (o : ℕ) (w : Want) (learned : ℕ) → router_wants d.shape t r (CreditOf o) ≡ Some w → granted s.around (router_wiring d.shape t) w ≡ Some learned → Keeps (router_then (CreditOf o) w learned) (router_event d t r s.around (CreditOf o) learned)
   then_credit o w learned is grants =
       let wired = is_wired_up d accepted in
       let net = network d accepted in
@@ -113,10 +116,11 @@ module _ (d : Design) (accepted : IsAccepted d.shape) (tags : ℕ) (opening : Li
       let new = back_stands d net tags opening s g order st t t_in y y_in returns in
       let same : quiet_state d net tags opening s g order st t t_in (tile_at s t) y y_in credit_of_ring (Return y) ≡ router_then (CreditOf o) w learned =
       ap (λ (z : ℕ). record { tiles = slice_set s.tiles t (tile_at s t); around = changed s.around z credit_of_ring }) (sym at)
-      ∙ ap (λ (v : Want). router_then (CreditOf o) v learned) w_is in (
-        quiet_ghost d net tags opening s g order st t t_in (tile_at s t) y y_in credit_of_ring (Return y),
-        subst (λ (z : State). Stands d tags opening z (quiet_ghost d net tags opening s g order st t t_in (tile_at s t) y y_in credit_of_ring (Return y)) order) same new,
-      )
+      ∙ ap (λ (v : Want). router_then (CreditOf o) v learned) w_is in
+      record {
+        stands = subst (λ (z : State). Stands d tags opening z (quiet_ghost d net tags opening s g order st t t_in (tile_at s t) y y_in credit_of_ring (Return y)) order) same new;
+        may = (back_quiet d net tags opening s g order st t t_in y y_in returns).can;
+      }
 
   -- an input that owns an output has no head flit in its latch
   no_head_owns : (i o flit : ℕ) → i < ports → latch_of r i ≡ Some flit → output_owned r i ≡ Some o → is_head flit ≡ true → ⊥
@@ -128,7 +132,7 @@ module _ (d : Design) (accepted : IsAccepted d.shape) (tags : ℕ) (opening : Li
       (st.lines.held x (output_channel d.shape t o) owner).more m.none
 
   then_rest : (i : ℕ) (w : Want) (learned : ℕ) → router_wants d.shape t r (Put i) ≡ Some w → granted s.around (router_wiring d.shape t) w ≡ Some learned
-      → i < ports → (flit : ℕ) → latch_of r i ≡ Some flit → head_of flit ≡ None → flit ≢ 0 → Keeps (router_then (Put i) w learned)
+      → i < ports → (flit : ℕ) → latch_of r i ≡ Some flit → head_of flit ≡ None → flit ≢ 0 → Keeps (router_then (Put i) w learned) (put_event d t r i (latch_of r i))
   then_rest i w learned is grants i_in flit full tells some =
       let wired = is_wired_up d accepted in
       let net = network d accepted in
@@ -147,14 +151,21 @@ module _ (d : Design) (accepted : IsAccepted d.shape) (tags : ℕ) (opening : Li
         tiles = slice_set s.tiles t (record (tile_at s t) { router = record { latches = slice_set r.latches i None; owned = slice_set r.owned i (if is_tail flit then None else Some o) } });
         around = changed s.around z (put_in_ring flit);
       }) (sym at)
-      ∙ ap (λ (v : Want). router_then (Put i) v learned) k.2 in (
-        rest_ghost d net wired tags opening s g order st t t_in i i_in flit o full body k.1 held some,
-        subst (λ (z : State). Stands d tags opening z (rest_ghost d net wired tags opening s g order st t t_in i i_in flit o full body k.1 held some) order) same new,
-      )
+      ∙ ap (λ (v : Want). router_then (Put i) v learned) k.2 in
+      let x : ℕ = input_channel d.shape t i in
+      let event : Some (ForwardRest x (output_channel d.shape t o) flit) ≡ put_event d t r i (latch_of r i) =
+      ap (option_map (λ (p : ℕ). ForwardRest x (output_channel d.shape t p) flit)) (sym k.1)
+      ∙ (ap (λ (z : Option Head). option_map (λ (p : ℕ). forwarded z x (output_channel d.shape t p) flit) (output_for d.shape t r i z)) (sym tells)
+      ∙ ap (put_event d t r i) (sym full)) in
+      subst (λ (e : Option Event). Keeps (router_then (Put i) w learned) e) event
+      (record {
+        stands = subst (λ (z : State). Stands d tags opening z (rest_ghost d net wired tags opening s g order st t t_in i i_in flit o full body k.1 held some) order) same new;
+        may = can_rest d net wired tags opening s g order st t t_in i i_in flit o full body k.1 held some;
+      })
 
   -- What a granted want of the router leaves stands, where no latched flit is 0.
   pub then_router : ((i flit : ℕ) → i < ports → latch_of r i ≡ Some flit → flit ≢ 0)
-      → (choice : Choice) (w : Want) (learned : ℕ) → router_wants d.shape t r choice ≡ Some w → granted s.around (router_wiring d.shape t) w ≡ Some learned → Keeps (router_then choice w learned)
+      → (choice : Choice) (w : Want) (learned : ℕ) → router_wants d.shape t r choice ≡ Some w → granted s.around (router_wiring d.shape t) w ≡ Some learned → Keeps (router_then choice w learned) (router_event d t r s.around choice learned)
   then_router some (TakeFrom i) w learned is grants = then_latch i w learned is grants
   then_router some (CreditOf o) w learned is grants = then_credit o w learned is grants
   then_router some (Put i) w learned is grants =
@@ -162,7 +173,7 @@ module _ (d : Design) (accepted : IsAccepted d.shape) (tags : ℕ) (opening : Li
       let told = put_told d.shape t r i (latch_of r i) w (if_what (nat_lt i ports) (wants_to_put d.shape t r i (latch_of r i)) w is) in
       by_head i_in told.0 told.1 (head_of told.0) refl
     where
-      by_head : i < ports → (flit : ℕ) → latch_of r i ≡ Some flit → (head : Option Head) → head_of flit ≡ head → Keeps (router_then (Put i) w learned)
+      by_head : i < ports → (flit : ℕ) → latch_of r i ≡ Some flit → (head : Option Head) → head_of flit ≡ head → Keeps (router_then (Put i) w learned) (put_event d t r i (latch_of r i))
       by_head i_in flit full None tells = then_rest i w learned is grants i_in flit full tells (some i flit i_in full)
       by_head i_in flit full (Some head) tells = then_put d accepted tags opening s g order st t t_in i w learned is grants i_in flit full head tells (some i flit i_in full)
   then_router some Send w learned is grants = absurd (cc)

@@ -16,13 +16,16 @@ use Rattle.packet.specs.Flits.{head_of, is_tail}
 use Rattle.router.specs.Table.{RouterState, latch_of, output_for, way_of, is_owned, wants_to_put, router_wants, router_after}
 use Rattle.channel_number.specs.Ports.{port_count, input_channel, output_channel}
 use Rattle.router.specs.Beginning.{router_wiring}
-use Rattle.core_laws.specs.Tile.{Design}
+use Rattle.tile.specs.Tile.{Design}
 use Rattle.core_laws.specs.Core.{State}
 use Rattle.core_laws.proofs.AgentSteps.{option_map_some}
 use Rattle.core_laws.proofs.ChannelFacts.{is_head_of}
 use Rattle.core_laws.proofs.Networks.{network}
 use Rattle.core_laws.proofs.WiredUp.{head_told}
-use Rattle.core_laws.proofs.Puts.{put_state, put_ghost, put_stands}
+use Rattle.core_laws.proofs.Puts.{put_state, put_ghost, put_stands, can_forward}
+use Rattle.core_laws.specs.Network.{put_event, forwarded}
+use Rattle.wormhole.specs.Events.{Event, ForwardHead}
+use Rattle.core_laws.proofs.QuietSteps.{Stays}
 use Rattle.core_laws.proofs.Wired.{is_wired_up, head_there}
 use Rattle.core_laws.proofs.ChannelWants.{if_what}
 use Rattle.core_laws.proofs.Stands.{Ghost, Stands, tile_at}
@@ -50,7 +53,7 @@ module _ (d : Design) (accepted : IsAccepted d.shape) (tags : ℕ) (opening : Li
   router_then = record { tiles = slice_set s.tiles t (record (tile_at s t) { router = router_after r (Put i) w learned }); around = surroundings_after d.depth s.around (router_wiring d.shape t) w }
 
   -- What the table makes of the put of a head flit keeps what holds.
-  pub then_put : (h : Ghost) × Stands d tags opening router_then h order
+  pub then_put : Stays d tags opening g order router_then (put_event d t r i (latch_of r i))
   then_put =
       let wired = is_wired_up d accepted in
       let net = network d accepted in
@@ -72,7 +75,15 @@ module _ (d : Design) (accepted : IsAccepted d.shape) (tags : ℕ) (opening : Li
         tiles = slice_set s.tiles t (record (tile_at s t) { router = record { latches = slice_set r.latches i None; owned = slice_set r.owned i (if is_tail flit then None else Some o) } });
         around = changed s.around x (put_in_ring flit);
       }) (sym at)
-      ∙ ap (λ (v : Want). record { tiles = slice_set s.tiles t (record (tile_at s t) { router = router_after r (Put i) v learned }); around = surroundings_after d.depth s.around (router_wiring d.shape t) v }) w_is in (
-        put_ghost d net wired tags opening s g order st t t_in i i_in flit head full tells there.0 there.1 free.0 held,
-        subst (λ (x : State). Stands d tags opening x (put_ghost d net wired tags opening s g order st t t_in i i_in flit head full tells there.0 there.1 free.0 held) order) same new,
-      )
+      ∙ ap (λ (v : Want). record { tiles = slice_set s.tiles t (record (tile_at s t) { router = router_after r (Put i) v learned }); around = surroundings_after d.depth s.around (router_wiring d.shape t) v }) w_is in
+      let x : ℕ = input_channel d.shape t i in
+      let event : Some (ForwardHead x (output_channel d.shape t o) flit) ≡ put_event d t r i (latch_of r i) =
+      ap (λ (p : ℕ). Some (ForwardHead x (output_channel d.shape t p) flit)) free.1
+      ∙ (ap (option_map (λ (p : ℕ). ForwardHead x (output_channel d.shape t p) flit)) (sym k.1)
+      ∙ (ap (λ (z : Option Head). option_map (λ (p : ℕ). forwarded z x (output_channel d.shape t p) flit) (output_for d.shape t r i z)) (sym tells)
+      ∙ ap (put_event d t r i) (sym full))) in
+      subst (λ (e : Option Event). Stays d tags opening g order router_then e) event
+      (record {
+        stands = subst (λ (x : State). Stands d tags opening x (put_ghost d net wired tags opening s g order st t t_in i i_in flit head full tells there.0 there.1 free.0 held) order) same new;
+        may = can_forward d net wired tags opening s g order st t t_in i i_in flit head full tells there.0 there.1 free.0 held;
+      })

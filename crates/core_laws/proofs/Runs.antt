@@ -1,5 +1,5 @@
 -- Every run from an accepted load is a history of events, in which the processors follow their scripts: what is left is that the steps that are no issue, service or answer keep what holds.
-use Rattle.std.proofs.Common.{◌≡◌, ⊎_elim, ℕ, zero, suc, ◌<◌, ◌≤◌, List, [], ◌∷◌, ◌++◌, map, length, slice_index_or, Option, Some, None, refl, sym, ◌∙◌, ap, subst, arith, slice_get}
+use Rattle.std.proofs.Common.{◌≡◌, ⊎_elim, ℕ, zero, suc, ◌<◌, ◌≤◌, List, [], ◌∷◌, ◌++◌, map, length, slice_index_or, Option, Some, None, IfSome, refl, sym, ◌∙◌, ap, subst, arith, slice_get}
 use Rattle.std.proofs.lemmas.Bool.{cases_lt}
 use Rattle.std.proofs.lemmas.List.{append-nil}
 use Rattle.std.proofs.lemmas.Option.{same_Some, get_or_from_slice_get}
@@ -15,24 +15,28 @@ use Rattle.runs.proofs.Lists.{list_at_none, within_length}
 use Rattle.runs.specs.Order.{LinearizationPoint}
 use Rattle.runs.specs.Events.{Event, happens, points_of, order_after, MayHappen, IsHistory}
 use Rattle.wormhole.specs.Net.{IsNet}
-use Rattle.flights.specs.ProcessorRecord.{ProcessorRecord, no_processor}
+use Rattle.net_interface.specs.ProcessorRecord.{ProcessorRecord, no_processor}
 use Rattle.flights.specs.Flight.{Flight, Move, Sends, Serves, Takes, moved_by, event_by, IsFound}
 use Rattle.flights.specs.Scripts.{HasFollowed, FollowScripts}
 use Rattle.flights.proofs.Follows.{Follows, follows_first}
 use Rattle.flights.proofs.FollowsMoves.{follows_any}
-use Rattle.core_laws.specs.Tile.{Design}
+use Rattle.tile.specs.Tile.{Design}
 use Rattle.core_laws.specs.Core.{Load, State, design_of, first_tile, first_state, next, records_of, show, run_of}
 use Rattle.core_laws.specs.Moves.{move_of}
 use Rattle.core_laws.proofs.Projection.{net_of}
 use Rattle.core_laws.proofs.Networks.{network}
 use Rattle.core_laws.proofs.FlightSteps.{record_in, flight_with, flight_step}
 use Rattle.core_laws.proofs.StepEvents.{found, is_event}
-use Rattle.core_laws.proofs.Begins.{begins, first_shown, first_ghost}
+use Rattle.core_laws.proofs.Begins.{begins, first_shown}
 use Rattle.core_laws.proofs.Histories.{move_at, next_at, state_at, event_at, after_more}
 use Rattle.core_laws.proofs.Keeps.{keeps_step}
 use Rattle.core_laws.proofs.Followed.{next_inside}
 use Rattle.net_interface.proofs.Followable.{accepted_followable}
 use Rattle.core_laws.specs.Runs.{IsAccepted}
+use Rattle.wormhole.specs.Events.{CanHappen}
+use Rattle.core_laws.specs.Network.{network_event}
+use Rattle.core_laws.specs.Noted.{noted_by, noted, event_by as network_by}
+use Rattle.core_laws.proofs.QuietSteps.{Stays}
 use Rattle.core_laws.proofs.Values.{HasValues, limited, values_first}
 use Rattle.core_laws.proofs.ValuesProper.{ready_proper, reply_proper}
 use Rattle.core_laws.proofs.ValuesKept.{values_kept}
@@ -41,7 +45,7 @@ use Rattle.core_laws.proofs.Stands.{Ghost, Stands, tile_at, flight_of}
 -- what is left to be proved: a step that is no issue, service or answer keeps what holds
 abbrev pub AreQuiet : Design → ℕ → List ℕ → Type 0
 AreQuiet d tags opening = (s : State) (g : Ghost) (order : List LinearizationPoint) → Stands d tags opening s g order → HasValues d s
-    → (attempt : Step) → move_of d s attempt ≡ None → (h : Ghost) × Stands d tags opening (next d s attempt) h order
+    → (attempt : Step) → move_of d s attempt ≡ None → Stays d tags opening g order (next d s attempt) (network_event d s attempt)
 
 -- which event a move is depends on the records alone
 event_same : (words : ℕ) (s : State) (g : Ghost) (m : Option Move) → event_by (flight_of words s g) m ≡ event_by (flight_with words s [] []) m
@@ -62,21 +66,20 @@ first_following dims tags (x ∷ scripts) (suc p) lines h = first_following dims
 
 -- what holds after n steps
 pub record HoldsIn (l : Load) (steps : List Step) (n : ℕ) : Type 0 where
-  pub ghost : Ghost
-  pub stands : Stands (design_of l) l.tags l.opening (state_at l steps n) ghost (order_after (event_at l steps) n)
+  pub stands : Stands (design_of l) l.tags l.opening (state_at l steps n) (noted l steps n) (order_after (event_at l steps) n)
   pub values : HasValues (design_of l) (state_at l steps n)
   pub history : IsHistory (tiles_of l.shape) l.tags l.opening (run_of l steps) (event_at l steps) n
   pub follows : (p : ℕ) (lines : List Line) → slice_get l.scripts p ≡ Some lines → Follows (run_of l steps) n p lines (following_in (state_at l steps n) p)
 
 -- one step more: of an attempt that is there, and of none
-record Goes (l : Load) (n : ℕ) (s : State) (g : Ghost) (order : List LinearizationPoint) (attempt : Option Step) : Type 0 where
-  pub ghost : Ghost
-  pub stands : Stands (design_of l) l.tags l.opening (next_at (design_of l) s attempt) ghost (order ++ points_of (event_by (flight_with (length l.opening) s [] []) (move_at (design_of l) s attempt)) (suc n))
+pub record Goes (l : Load) (n : ℕ) (s : State) (g : Ghost) (order : List LinearizationPoint) (attempt : Option Step) : Type 0 where
+  pub stands : Stands (design_of l) l.tags l.opening (next_at (design_of l) s attempt) (noted_by (design_of l) s g (move_at (design_of l) s attempt) (network_by l s attempt)) (order ++ points_of (event_by (flight_with (length l.opening) s [] []) (move_at (design_of l) s attempt)) (suc n))
   pub values : HasValues (design_of l) (next_at (design_of l) s attempt)
   pub shown : show (length l.opening) (next_at (design_of l) s attempt) ≡ happens (tiles_of l.shape) (show (length l.opening) s) (event_by (flight_with (length l.opening) s [] []) (move_at (design_of l) s attempt))
   pub may : MayHappen (tiles_of l.shape) l.tags l.opening (show (length l.opening) s) order (event_by (flight_with (length l.opening) s [] []) (move_at (design_of l) s attempt))
+  pub can : IfSome (network_by l s attempt) (CanHappen (net_of (design_of l)) g.net.lines)
   pub finds : (m : Move) → move_at (design_of l) s attempt ≡ Some m → IsFound (length l.opening) (flight_of (length l.opening) s g) m
-  pub records : records_of (next_at (design_of l) s attempt) ≡ (moved_by (tiles_of l.shape) (flight_of (length l.opening) s g) (move_at (design_of l) s attempt)).processors
+  pub flight : flight_of (length l.opening) (next_at (design_of l) s attempt) (noted_by (design_of l) s g (move_at (design_of l) s attempt) (network_by l s attempt)) ≡ moved_by (tiles_of l.shape) (flight_of (length l.opening) s g) (move_at (design_of l) s attempt)
 
 module _ (l : Load) (ok : IsAccepted l) (quiet : AreQuiet (design_of l) l.tags l.opening) where
   abbrev d : Design
@@ -85,15 +88,15 @@ module _ (l : Load) (ok : IsAccepted l) (quiet : AreQuiet (design_of l) l.tags l
   net_is : IsNet (net_of d)
   net_is = network d ok.shape
 
-  goes : (n : ℕ) (s : State) (g : Ghost) (order : List LinearizationPoint) → Stands d l.tags l.opening s g order → HasValues d s → (attempt : Option Step) → Goes l n s g order attempt
+  pub goes : (n : ℕ) (s : State) (g : Ghost) (order : List LinearizationPoint) → Stands d l.tags l.opening s g order → HasValues d s → (attempt : Option Step) → Goes l n s g order attempt
   goes n s g order st v None = record {
-    ghost = g;
     stands = subst (λ (xs : List LinearizationPoint). Stands d l.tags l.opening s g xs) (sym (append-nil order)) st;
     values = v;
     shown = refl;
     may = tt;
+    can = tt;
     finds = λ m h. absurd (cc);
-    records = refl;
+    flight = refl;
   }
   goes n s g order st v (Some attempt) =
       let more = keeps_step d net_is l.tags l.opening s g order st (record {
@@ -106,19 +109,18 @@ module _ (l : Load) (ok : IsAccepted l) (quiet : AreQuiet (design_of l) l.tags l
       let e = is_event d net_is l.tags l.opening s g order st addressed attempt (suc n) in
       let same = event_same (length l.opening) s g (move_of d s attempt) in
       record {
-        ghost = more.0;
-        stands = subst (λ (x : Event). Stands d l.tags l.opening (next d s attempt) more.0 (order ++ points_of x (suc n))) same more.1;
+        stands = subst (λ (x : Event). Stands d l.tags l.opening (next d s attempt) (noted_by d s g (move_of d s attempt) (network_event d s attempt)) (order ++ points_of x (suc n))) same more.stands;
+        can = more.may;
         values = values_kept d l.tags (limited l ok) l.opening s g order st v attempt;
         shown = e.shown ∙ ap (happens (tiles_of l.shape) (show (length l.opening) s)) same;
         may = subst (MayHappen (tiles_of l.shape) l.tags l.opening (show (length l.opening) s) order) same e.may;
         finds = λ m h. (found d net_is l.tags l.opening s g order st addressed attempt m h).0;
-        records = ap (λ (f : Flight). f.processors) (flight_step d s g.asked g.told attempt (λ m h. (found d net_is l.tags l.opening s g order st addressed attempt m h).1));
+        flight = flight_step d s g.asked g.told attempt (λ m h. (found d net_is l.tags l.opening s g order st addressed attempt m h).1);
       }
 
   -- What holds at first and is kept by each step holds after any number of steps.
   pub holds_in : (steps : List Step) (n : ℕ) → HoldsIn l steps n
   holds_in steps zero = record {
-    ghost = first_ghost l ok.depth.0 ok.processors;
     stands = begins l ok.depth.0 ok.processors;
     values = values_first l ok;
     history = record { start = first_shown l ok.depth.0 ok.processors; each = λ j h. absurd (omega arith); may = λ j h. absurd (omega arith) };
@@ -129,11 +131,10 @@ module _ (l : Load) (ok : IsAccepted l) (quiet : AreQuiet (design_of l) l.tags l
       let before = holds_in steps n in
       let s : State = state_at l steps n in
       let order = order_after (event_at l steps) n in
-      let go = goes n s before.ghost order before.stands before.values (slice_get steps n) in
+      let go = goes n s (noted l steps n) order before.stands before.values (slice_get steps n) in
       let now : state_at l steps (suc n) ≡ next_at d s (slice_get steps n) = after_more d steps (first_state l) n in
       record {
-        ghost = go.ghost;
-        stands = subst (λ (x : State). Stands d l.tags l.opening x go.ghost (order_after (event_at l steps) (suc n))) (sym now) go.stands;
+        stands = subst (λ (x : State). Stands d l.tags l.opening x (noted l steps (suc n)) (order_after (event_at l steps) (suc n))) (sym now) go.stands;
         values = subst (HasValues d) (sym now) go.values;
         history = record {
           start = before.history.start;
@@ -149,15 +150,15 @@ module _ (l : Load) (ok : IsAccepted l) (quiet : AreQuiet (design_of l) l.tags l
               (cases_lt j n);
         };
         follows = λ p lines there.
-            let f : Flight = flight_of (length l.opening) s before.ghost in
+            let f : Flight = flight_of (length l.opening) s (noted l steps n) in
             let m : Option Move = move_at d s (slice_get steps n) in
-            let same : event_by f m ≡ event_at l steps n = event_same (length l.opening) s before.ghost m in
+            let same : event_by f m ≡ event_at l steps n = event_same (length l.opening) s (noted l steps n) m in
             let happened : run_of l steps (suc n) ≡ happens (tiles_of l.shape) (run_of l steps n) (event_by f m) =
             (ap (show (length l.opening)) now ∙ go.shown) ∙ ap (happens (tiles_of l.shape) (run_of l steps n)) (sym same) in
             let may : MayHappen (tiles_of l.shape) l.tags l.opening (run_of l steps n) order (event_by f m) = subst (MayHappen (tiles_of l.shape) l.tags l.opening (run_of l steps n) order) (sym same) go.may in
             let new = follows_any (tiles_of l.shape) l.tags l.opening (run_of l steps) n f order refl before.stands.flight (event_at l steps) before.history m go.finds happened may p lines (before.follows p lines there) in
             subst (λ (x : State). Follows (run_of l steps) (suc n) p lines (following_in x p)) (sym now)
-            (subst (λ (bs : List ProcessorRecord). Follows (run_of l steps) (suc n) p lines (slice_index_or bs p no_processor).following) (sym go.records) new);
+            (subst (λ (bs : List ProcessorRecord). Follows (run_of l steps) (suc n) p lines (slice_index_or bs p no_processor).following) (sym (ap (λ (x : Flight). x.processors) go.flight)) new);
       }
 
   -- Every run from an accepted load is a history, where the quiet steps keep what holds.

@@ -16,7 +16,7 @@ use Rattle.net_interface.specs.declared.spin.OpenSpin.{OpenSpin}
 use Rattle.tag_table.specs.Tags.{free_tag}
 use Rattle.dateline_route.specs.declared.channel.Channel.{Channel}
 use Rattle.net_interface.specs.Following.{Following, is_finished, next_operation_of, is_empty, ready as next_of}
-use Rattle.flights.specs.ProcessorRecord.{ProcessorRecord, ready}
+use Rattle.net_interface.specs.ProcessorRecord.{ProcessorRecord, ready}
 use Rattle.packet.specs.Flits.{flits_of}
 use Rattle.channel_number.specs.Ports.{injection_channel}
 use Rattle.core_laws.proofs.Projection.{first_flit}

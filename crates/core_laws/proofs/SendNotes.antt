@@ -9,8 +9,8 @@ use Rattle.packet.specs.declared.kinds.Request.{Request as Asking}
 use Rattle.runs.specs.Observed.{list_at}
 use Rattle.runs.specs.Events.{push_at}
 use Rattle.runs.proofs.Lists.{list_at_push_same, list_at_push_other}
-use Rattle.flights.specs.ProcessorRecord.{request_of}
-use Rattle.core_laws.specs.Tile.{Design}
+use Rattle.net_interface.specs.ProcessorRecord.{request_of}
+use Rattle.tile.specs.Tile.{Design}
 use Rattle.core_laws.specs.Core.{State}
 use Rattle.core_laws.proofs.Stands.{Ghost, Carries, IsProperRequest, tile_at, asked_between, served_requests}
 

@@ -26,14 +26,14 @@ use Rattle.wormhole.specs.Events.{InjectHead, CanInjectHead, after, put}
 use Rattle.wormhole.specs.Delivery.{whole, whole_of}
 use Rattle.wormhole.proofs.Changes.{update_same, update_other}
 use Rattle.wormhole.proofs.Reached.{words_kept, routes_kept}
-use Rattle.flights.specs.ProcessorRecord.{ProcessorRecord, no_processor, ready, issued_by, request_of}
+use Rattle.net_interface.specs.ProcessorRecord.{ProcessorRecord, no_processor, ready, issued_by, request_of}
 use Rattle.flights.specs.Flight.{Flight, Sends, moved, IsFound}
 use Rattle.flights.proofs.Whole.{Whole, sends_steps, address_is}
 use Rattle.packet.specs.Flits.{flits_of}
 use Rattle.router.specs.Table.{RouterState, output_owned}
-use Rattle.core_laws.specs.BankTable.{BankState}
+use Rattle.home_bank.specs.BankTable.{BankState}
 use Rattle.channel_number.specs.Ports.{injection_channel}
-use Rattle.core_laws.specs.Tile.{Design, TileState}
+use Rattle.tile.specs.Tile.{Design, TileState}
 use Rattle.core_laws.specs.Core.{State, records_of}
 use Rattle.core_laws.proofs.Projection.{net_of, parcel_of, request_parcel, first_flit}
 use Rattle.core_laws.proofs.Parcels.{request_ends}

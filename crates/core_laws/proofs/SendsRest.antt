@@ -15,7 +15,7 @@ use Rattle.wormhole.specs.Events.{InjectRest, put}
 use Rattle.wormhole.specs.Delivery.{whole_of}
 use Rattle.wormhole.proofs.Changes.{update_same, update_other}
 use Rattle.channel_number.specs.Ports.{injection_channel}
-use Rattle.core_laws.specs.Tile.{Design, TileState}
+use Rattle.tile.specs.Tile.{Design, TileState}
 use Rattle.core_laws.specs.Core.{State}
 use Rattle.core_laws.proofs.Projection.{net_of}
 use Rattle.core_laws.proofs.ChannelFacts.{channels_of, injects_at, injection_in}
@@ -53,7 +53,7 @@ module _ (d : Design) (net : IsNet (net_of d)) (tags : ℕ) (opening : List ℕ)
       (λ (other : z ≢ lane). ap h (update_other g.net.notes lane new_note z other))
       (cases_eq z lane)
 
-  rest_quiet : IsQuietStep d net tags opening s g order st t t_in new_tile lane lane_in (put_in_ring flit) (InjectRest lane flit more)
+  pub rest_quiet : IsQuietStep d net tags opening s g order st t t_in new_tile lane lane_in (put_in_ring flit) (InjectRest lane flit more)
   rest_quiet =
       let old = st.mirrors.rings lane lane_in in
       let here : update g.net.lines lane new_line lane ≡ new_line = update_same g.net.lines lane new_line in

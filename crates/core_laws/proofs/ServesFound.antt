@@ -18,7 +18,7 @@ use Rattle.flights.specs.Flight.{Serves, is_asked_alike, asked_place, IsFound}
 use Rattle.flights.proofs.FirstPlaces.{first_there}
 use Rattle.flights.proofs.Whole.{address_is}
 use Rattle.channel_number.specs.Ports.{injection_channel, ejection_channel}
-use Rattle.core_laws.specs.Tile.{Design}
+use Rattle.tile.specs.Tile.{Design}
 use Rattle.core_laws.specs.Core.{State}
 use Rattle.core_laws.proofs.Projection.{net_of, request_parcel}
 use Rattle.core_laws.proofs.Parcels.{between_requests, one_request}

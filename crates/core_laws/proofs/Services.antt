@@ -26,11 +26,11 @@ use Rattle.flights.proofs.Whole.{Whole, any_steps}
 use Rattle.flights.proofs.FirstPlaces.{first_removed}
 use Rattle.packet.specs.Flits.{flits_of}
 use Rattle.core_laws.specs.Heads.{is_head}
-use Rattle.core_laws.specs.BankTable.{BankState}
-use Rattle.core_laws.specs.ProcessorTable.{ProcessorState}
+use Rattle.home_bank.specs.BankTable.{BankState}
+use Rattle.net_interface.specs.ProcessorTable.{ProcessorState}
 use Rattle.router.specs.Table.{RouterState, output_owned}
 use Rattle.channel_number.specs.Ports.{injection_channel, ejection_channel}
-use Rattle.core_laws.specs.Tile.{Design, TileState}
+use Rattle.tile.specs.Tile.{Design, TileState}
 use Rattle.core_laws.specs.Core.{State, records_of, show}
 use Rattle.core_laws.proofs.Projection.{net_of, request_parcel, response_parcel, first_flit}
 use Rattle.core_laws.proofs.TileMoves.{IsHere, TileMoved}
@@ -257,7 +257,7 @@ module _ (d : Design) (net : IsNet (net_of d)) (tags : ℕ) (opening : List ℕ)
         ap (λ (k : ℕ). reply_to r.op (slice_index (take d.words m) k)) address ∙ ap (reply_to r.op) (get_or-take d.words m a 0 below)
 
     -- what the moved flight says of the packets is what is noted
-    told_same : (moved tiles (flight_of d.words s g) (Serves r)).told ≡ served_ghost.told
+    pub told_same : (moved tiles (flight_of d.words s g) (Serves r)).told ≡ served_ghost.told
     told_same =
         let entries : list_at (show d.words s).entries t ≡ b.entries = part_at entries_in [] s.tiles t (tile_at s t) tile_there in
         ap (λ (k : ℕ). g.told ++ response_of k (length (list_at (show d.words s).entries k)) r (reply_given tiles (flight_of d.words s g) r) ∷ []) here

@@ -1,6 +1,6 @@
 -- What holds of every state that a run reaches.
-use Rattle.std.specs.Prelude.{◌≡◌, ◌≢◌, ◌↔◌, ℕ, ◌+◌, ◌/◌, ◌<◌, ◌==◌, ◌&&◌, true, false, if◌then◌else◌, List, [], ◌∷◌, ◌++◌, length, map, filter, All, Some, None, option_to_list, slice_index, slice_index_or, count_by}
-use Rattle.torus.specs.Shape.{tiles_of, dims_of}
+use Rattle.std.specs.Prelude.{◌≡◌, ◌≢◌, ℕ, ◌+◌, ◌/◌, ◌<◌, ◌==◌, ◌&&◌, true, if◌then◌else◌, List, [], ◌∷◌, ◌++◌, length, map, filter, All, Some, option_to_list, slice_index, count_by}
+use Rattle.torus.specs.Shape.{tiles_of}
 use Rattle.torus.specs.declared.shape.Class.TheVariants.{Request, Reply}
 use Rattle.packet.specs.declared.kinds.Packet.TheVariants as packet
 use Rattle.packet.specs.declared.kinds.Request.{Request as Asking}
@@ -11,72 +11,21 @@ use Rattle.home_bank.specs.declared.entry.Entry.{Entry}
 use Rattle.net_interface.specs.Following.{is_finished}
 use Rattle.runs.specs.Observed.{list_at}
 use Rattle.runs.specs.Order.{LinearizationPoint}
-use Rattle.channel_number.specs.Order.{channel_count}
-use Rattle.flit_buffer.specs.Channel as channel
-use Rattle.flit_buffer.specs.Surroundings.{ring, AreRings}
-use Rattle.wormhole.specs.State.{Line as Lane, State as NetState}
+use Rattle.flit_buffer.specs.Surroundings.{AreRings}
 use Rattle.wormhole.specs.Words.{Words}
 use Rattle.wormhole.specs.Routes.{Routes}
 use Rattle.wormhole.specs.Delivery.{whole}
-use Rattle.flights.specs.ProcessorRecord.{no_processor}
-use Rattle.flights.specs.Flight.{Flight}
 use Rattle.flights.proofs.Whole.{Whole}
 use Rattle.packet.specs.Flits.{flits_of}
 use Rattle.core_laws.specs.Heads.{is_head}
-use Rattle.router.specs.Table.{latch_of, output_owned}
-use Rattle.channel_number.specs.Ports.{port_count, injection_channel, ejection_channel, input_channel, output_channel}
-use Rattle.core_laws.specs.BankTable.{BankState}
-use Rattle.core_laws.specs.Tile.{Design, TileState}
-use Rattle.core_laws.specs.Core.{State, records_of, show}
+use Rattle.channel_number.specs.Ports.{injection_channel, ejection_channel}
+use Rattle.home_bank.specs.BankTable.{BankState}
+use Rattle.tile.specs.Tile.{Design}
+use Rattle.core_laws.specs.Core.{State}
 use Rattle.core_laws.specs.Delivery.{operation_asked, notice_of, notice_by}
 use Rattle.core_laws.proofs.Projection.{net_of, request_parcel, response_parcel, first_flit}
-
-abbrev pub no_tile : TileState
-no_tile = record {
-  processor = record { operations = no_processor; to_put = []; so_far = []; reported = false; seen = false };
-  router = record { latches = []; owned = [] };
-  bank = record { entries = []; so_far = []; waiting = None; to_put = [] };
-}
-
-abbrev pub tile_at : State → ℕ → TileState
-tile_at s t = slice_index_or s.tiles t no_tile
-
--- what is noted beside a machine's state: the network with its notes; the requests issued and not served, and the responses made and not taken, each in the order in which they were sent; and of each processor the requests issued, and the responses taken
-pub record Ghost : Type 0 where
-  pub net : NetState
-  pub asked : List Asking
-  pub told : List Telling
-  pub requests : List (List Asking)
-  pub taken : List (List Telling)
-
--- the machine without its network
-abbrev pub flight_of : ℕ → State → Ghost → Flight
-flight_of words s g = record { processors = records_of s; entries = (show words s).entries; memory = (show words s).memory; asked = g.asked; told = g.told }
-
--- the network's line of a channel is that of the machine
-pub record IsLane (ch : channel.ChannelState) (l : Lane) : Type 0 where
-  pub flits : l.flits ≡ ch.flits
-  pub held : l.held ≡ ch.held
-  pub returning : l.returning ≡ ch.returning
-
--- the flits left of a packet of which the head is put: none where the next flit is a head
-abbrev pub in_course : List ℕ → List ℕ
-in_course flits = if is_head (first_flit flits) then [] else flits
-
--- the network's lines mirror the machine's channels and agents
-pub record Mirrors (d : Design) (s : State) (lines : ℕ → Lane) : Type 0 where
-  pub count : length s.around.rings ≡ channel_count d.shape
-  pub rings : (x : ℕ) → x < channel_count d.shape → IsLane (ring s.around.rings x).channel (lines x)
-  pub ports : (t : ℕ) → t < tiles_of d.shape → (length (tile_at s t).router.latches ≡ port_count (dims_of d.shape)) × (length (tile_at s t).router.owned ≡ port_count (dims_of d.shape))
-  pub latches : (t i : ℕ) → t < tiles_of d.shape → i < port_count (dims_of d.shape) → (lines (input_channel d.shape t i)).latch ≡ latch_of (tile_at s t).router i
-  pub owners : (t i o : ℕ) → t < tiles_of d.shape → i < port_count (dims_of d.shape) → o < port_count (dims_of d.shape)
-      → ((lines (output_channel d.shape t o)).owner ≡ Some (input_channel d.shape t i)) ↔ (output_owned (tile_at s t).router i ≡ Some o)
-  pub unowned : (t o : ℕ) → t < tiles_of d.shape → o < port_count (dims_of d.shape) → ((i : ℕ) → output_owned (tile_at s t).router i ≡ Some o → ⊥) → (lines (output_channel d.shape t o)).owner ≡ None
-  pub outputs : (t i o : ℕ) → t < tiles_of d.shape → output_owned (tile_at s t).router i ≡ Some o → o < port_count (dims_of d.shape)
-  pub sends_requests : (t : ℕ) → t < tiles_of d.shape → (lines (injection_channel d.shape t Request)).rest ≡ (tile_at s t).processor.to_put
-  pub sends_replies : (t : ℕ) → t < tiles_of d.shape → (lines (injection_channel d.shape t Reply)).rest ≡ in_course (tile_at s t).bank.to_put
-  pub takes_replies : (t : ℕ) → t < tiles_of d.shape → (lines (ejection_channel d.shape t Reply)).so_far ≡ (tile_at s t).processor.so_far
-  pub takes_requests : (t : ℕ) → t < tiles_of d.shape → (lines (ejection_channel d.shape t Request)).so_far ≡ (tile_at s t).bank.so_far
+pub use Rattle.core_laws.specs.Noted.{Noted as Ghost, flight_of}
+pub use Rattle.core_laws.specs.Mirrors.{no_tile, tile_at, IsLane, in_course, Mirrors}
 
 -- the request that an entry of a bank answered, and the response that it was sent: the place is the entry's
 abbrev pub request_of_entry : ℕ → ℕ → Entry → Asking

@@ -19,15 +19,15 @@ use Rattle.runs.specs.Events.{Event, happens, points_of, MayHappen}
 use Rattle.flit_buffer.specs.Channel.{first_of, rest}
 use Rattle.flit_buffer.specs.Surroundings.{ring}
 use Rattle.wormhole.specs.Net.{IsNet}
-use Rattle.flights.specs.ProcessorRecord.{ProcessorRecord, no_processor, ready}
+use Rattle.net_interface.specs.ProcessorRecord.{ProcessorRecord, no_processor, ready}
 use Rattle.flights.specs.Flight as flight
 use Rattle.flights.specs.Flight.{Flight, Move, Sends, Serves, Takes, moved_by, event_by, IsFound}
 use Rattle.flights.proofs.Whole.{Whole, any_steps}
 use Rattle.packet.specs.Flits.{offered}
-use Rattle.core_laws.specs.ProcessorTable.{processor_wants}
+use Rattle.net_interface.specs.ProcessorTable.{processor_wants}
 use Rattle.channel_number.specs.Ports.{ejection_channel}
-use Rattle.core_laws.specs.Wiring.{processor_wiring}
-use Rattle.core_laws.specs.Tile.{Design, TileState, Agent, Processor, Router, Bank}
+use Rattle.tile.specs.Wiring.{processor_wiring}
+use Rattle.tile.specs.Tile.{Design, TileState, Agent, Processor, Router, Bank}
 use Rattle.core_laws.specs.Core.{State, next, agent_numbered, show}
 use Rattle.core_laws.specs.Moves.{learned_by, issue_of, answer_by, processor_move, bank_move, tile_move, move_of}
 use Rattle.core_laws.proofs.AgentSteps.{option_map_some}

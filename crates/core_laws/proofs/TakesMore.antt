@@ -14,9 +14,9 @@ use Rattle.wormhole.specs.State.{Line as Lane}
 use Rattle.wormhole.specs.Events.{Event}
 use Rattle.packet.specs.Flits.{is_tail}
 use Rattle.core_laws.specs.Heads.{is_head}
-use Rattle.core_laws.specs.BankTable.{BankState}
+use Rattle.home_bank.specs.BankTable.{BankState}
 use Rattle.channel_number.specs.Ports.{ejection_channel}
-use Rattle.core_laws.specs.Tile.{Design, TileState}
+use Rattle.tile.specs.Tile.{Design, TileState}
 use Rattle.core_laws.specs.Core.{State}
 use Rattle.core_laws.proofs.Projection.{net_of, first_flit}
 use Rattle.core_laws.proofs.ChannelFacts.{ejection_tile}

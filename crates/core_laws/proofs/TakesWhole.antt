@@ -21,15 +21,15 @@ use Rattle.wormhole.specs.Net.{IsNet, Parcel, IsOn, flits_of as flits_in}
 use Rattle.wormhole.specs.State.{Line as Lane, Note, State as NetState}
 use Rattle.wormhole.specs.Delivery.{whole, whole_of}
 use Rattle.wormhole.proofs.Lists.{all_on}
-use Rattle.flights.specs.ProcessorRecord.{no_processor}
+use Rattle.net_interface.specs.ProcessorRecord.{no_processor}
 use Rattle.flights.specs.Flight.{Flight}
 use Rattle.flights.proofs.Whole.{Whole}
 use Rattle.packet.specs.Flits.{is_tail, offered, flits_of}
 use Rattle.core_laws.specs.Heads.{is_head}
-use Rattle.core_laws.specs.ProcessorTable.{ProcessorState}
+use Rattle.net_interface.specs.ProcessorTable.{ProcessorState}
 use Rattle.router.specs.Table.{RouterState, output_owned}
 use Rattle.channel_number.specs.Ports.{injection_channel, ejection_channel}
-use Rattle.core_laws.specs.Tile.{Design, TileState}
+use Rattle.tile.specs.Tile.{Design, TileState}
 use Rattle.core_laws.specs.Core.{State}
 use Rattle.core_laws.proofs.Projection.{net_of, request_parcel, first_flit}
 use Rattle.core_laws.proofs.Parcels.{parcel_flits, request_ends}
@@ -100,7 +100,7 @@ module _ (d : Design) (net : IsNet (net_of d)) (tags : ℕ) (opening : List ℕ)
   tile_in : t < length s.tiles
   tile_in = subst (λ (k : ℕ). t < k) (sym st.tiles) t_in
 
-  tile_new : tile_at whole_state t ≡ whole_tile
+  pub tile_new : tile_at whole_state t ≡ whole_tile
   tile_new = get_or-set_same s.tiles t whole_tile no_tile tile_in
 
   tile_other : (u : ℕ) → u ≢ t → tile_at whole_state u ≡ tile_at s u

@@ -24,15 +24,15 @@ use Rattle.flit_buffer.specs.declared.want.Want.{Want}
 use Rattle.flit_buffer.specs.declared.want.Want.TheVariants as want
 use Rattle.flit_buffer.specs.Wants.{told_by}
 use Rattle.flit_buffer.specs.Surroundings.{Surroundings, Wiring, granted, surroundings_after}
-use Rattle.flights.specs.ProcessorRecord.{ProcessorRecord, ready, issued_by, answered_by}
+use Rattle.net_interface.specs.ProcessorRecord.{ProcessorRecord, ready, issued_by, answered_by}
 use Rattle.flights.specs.Flight.{Move, Sends, Serves, Takes}
 use Rattle.packet.specs.Flits.{offered}
 use Rattle.router.specs.Table.{RouterState, router_wants, router_after}
-use Rattle.core_laws.specs.ProcessorTable.{ProcessorState, processor_wants, processor_after, flits_due, record_sent, record_offered, issued_of}
-use Rattle.core_laws.specs.BankTable.{BankState, bank_wants, bank_after, is_nil, served}
-use Rattle.core_laws.specs.Wiring.{processor_wiring, bank_wiring}
+use Rattle.net_interface.specs.ProcessorTable.{ProcessorState, processor_wants, processor_after, flits_due, record_sent, record_offered, issued_of}
+use Rattle.home_bank.specs.BankTable.{BankState, bank_wants, bank_after, is_nil, served}
+use Rattle.tile.specs.Wiring.{processor_wiring, bank_wiring}
 use Rattle.router.specs.Beginning.{router_wiring}
-use Rattle.core_laws.specs.Tile.{Design, TileState, Agent, Processor, Router, Bank, tile_step}
+use Rattle.tile.specs.Tile.{Design, TileState, Agent, Processor, Router, Bank, tile_step}
 use Rattle.core_laws.specs.Moves.{issue_of, answer_by, processor_move, bank_move, tile_move}
 use Rattle.core_laws.proofs.AgentSteps.{Did, did, did_learn, option_map_some}
 use Rattle.core_laws.proofs.ChannelWants.{channel_words, router_of_channel}

@@ -22,14 +22,14 @@ use Rattle.flit_buffer.specs.Wants.{told_by}
 use Rattle.flit_buffer.specs.declared.want.Want.{Want}
 use Rattle.flit_buffer.specs.declared.want.Want.TheVariants as want
 use Rattle.flit_buffer.specs.Surroundings.{Surroundings, ring, no_ring, granted}
-use Rattle.flights.specs.ProcessorRecord.{ready, request_of}
+use Rattle.net_interface.specs.ProcessorRecord.{ready, request_of}
 use Rattle.packet.specs.Flits.{flits_of}
 use Rattle.router.specs.Table.{RouterState, latch_of, router_wants, router_after}
-use Rattle.core_laws.specs.ProcessorTable.{ProcessorState, processor_wants, processor_after}
-use Rattle.core_laws.specs.BankTable.{BankState, bank_wants, bank_after}
-use Rattle.core_laws.specs.Wiring.{processor_wiring, bank_wiring}
+use Rattle.net_interface.specs.ProcessorTable.{ProcessorState, processor_wants, processor_after}
+use Rattle.home_bank.specs.BankTable.{BankState, bank_wants, bank_after}
+use Rattle.tile.specs.Wiring.{processor_wiring, bank_wiring}
 use Rattle.router.specs.Beginning.{router_wiring}
-use Rattle.core_laws.specs.Tile.{Design, TileState, Agent, Processor, Router, Bank, tile_step}
+use Rattle.tile.specs.Tile.{Design, TileState, Agent, Processor, Router, Bank, tile_step}
 use Rattle.core_laws.specs.Core.{State, next, or_same, agent_numbered}
 use Rattle.core_laws.proofs.AgentSteps.{did, option_map_some}
 use Rattle.core_laws.proofs.TileMoves.{reply_learned}

@@ -13,12 +13,12 @@ use Rattle.packet.proofs.Spelled.{IsSpellable-spelled, IsOfWords-spelled}
 use Rattle.home_bank.specs.ServiceList.{address_of, response_of}
 use Rattle.runs.specs.Observed.{list_at, total}
 use Rattle.runs.specs.Order.{LinearizationPoint}
-use Rattle.flights.specs.ProcessorRecord.{ProcessorRecord, no_processor, ready, request_of}
+use Rattle.net_interface.specs.ProcessorRecord.{ProcessorRecord, no_processor, ready, request_of}
 use Rattle.flights.specs.Flight.{Flight, show}
 use Rattle.flights.proofs.Counts.{total_within}
 use Rattle.flights.proofs.Parts.{list_at_map, issued_at, tags_at}
 use Rattle.packet.specs.Flits.{flits_of}
-use Rattle.core_laws.specs.Tile.{Design, TileState}
+use Rattle.tile.specs.Tile.{Design, TileState}
 use Rattle.core_laws.specs.Core.{State}
 use Rattle.core_laws.proofs.FlightSteps.{record_in, entries_in}
 use Rattle.core_laws.proofs.Parcels.{spells}
@@ -28,7 +28,7 @@ use Rattle.core_laws.proofs.Followed.{next_inside}
 use Rattle.core_laws.proofs.Values.{IsLimited, HasValues}
 use Rattle.core_laws.proofs.Stands.{Ghost, Stands, IsProperRequest, IsProperResponse, tile_at, no_tile, flight_of}
 
-record_here : (xs : List TileState) (p : ℕ) → slice_index_or (map record_in xs) p no_processor ≡ (slice_index_or xs p no_tile).processor.operations
+pub record_here : (xs : List TileState) (p : ℕ) → slice_index_or (map record_in xs) p no_processor ≡ (slice_index_or xs p no_tile).processor.operations
 record_here [] p = refl
 record_here (x ∷ xs) zero = refl
 record_here (x ∷ xs) (suc p) = record_here xs p

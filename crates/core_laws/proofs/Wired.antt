@@ -13,7 +13,7 @@ use Rattle.dateline_route.proofs.First.{chosen_inside}
 use Rattle.channel_number.proofs.Leading.{output_within}
 use Rattle.torus_net.proofs.Heads.{chosen_is, head_tells}
 use Rattle.channel_number.specs.Ports.{input_numbered}
-use Rattle.core_laws.specs.Tile.{Design}
+use Rattle.tile.specs.Tile.{Design}
 use Rattle.core_laws.proofs.Projection.{net_of}
 use Rattle.channel_number.specs.Order.{channel_at}
 use Rattle.core_laws.proofs.WiredUp.{IsWiredUp, IsHeadOf}

@@ -1,5 +1,6 @@
 -- The core: all tiles and what they share, its steps, runs and rounds.
-use Rattle.std.specs.Prelude.{ℕ, zero, suc, ◌+◌, ◌*◌, ◌/◌, ◌%◌, false, List, [], ◌∷◌, ◌++◌, length, map, take}
+pub use Rattle.tile.specs.Agents.{agent_numbered}
+use Rattle.std.specs.Prelude.{ℕ, ◌+◌, ◌*◌, ◌/◌, ◌%◌, false, List, [], ◌∷◌, ◌++◌, length, map, take}
 use Rattle.std.specs.Prelude.{replicate, Option, Some, None, option_map, option_and_then, slice_get, slice_set}
 use Rattle.std.specs.List.{flat_map, range_with_len}
 use Rattle.torus.specs.Shape.{Shape, tiles_of, dims_of}
@@ -12,21 +13,16 @@ use Rattle.flit_buffer.specs.Surroundings.{Surroundings}
 use Rattle.channel_number.specs.Order.{channel_count}
 use Rattle.net_interface.specs.Following.{first_of}
 use Rattle.runs.specs.Observed.{Observed, Run}
-use Rattle.flights.specs.ProcessorRecord.{ProcessorRecord}
+use Rattle.net_interface.specs.ProcessorRecord.{ProcessorRecord}
 use Rattle.channel_number.specs.Ports.{port_count}
-use Rattle.core_laws.specs.Tile.{Design, TileState, Agent, Processor, Router, Bank, tile_step}
+pub use Rattle.flights.specs.Load.{Load}
+use Rattle.tile.specs.Tile.{Design, TileState, tile_step}
 
 -- the state of a machine: its tiles, and what they share, that is the channels, and the words of the memory with the
 -- done word behind them
 pub record State : Type 0 where
   pub tiles : List TileState
   pub around : Surroundings
-
--- which agent of its tile an agent is: tile t has the agents 3t, 3t + 1 and 3t + 2 (this project's own format)
-abbrev pub agent_numbered : ℕ → Agent
-agent_numbered zero = Processor
-agent_numbered (suc zero) = Router
-agent_numbered (suc (suc k)) = Bank
 
 -- the core's step: one choice of one agent; None where it isn't enabled (Dally and Towles, chapters 13 and 16)
 abbrev pub step : Design → State → Step → Option State
@@ -48,15 +44,6 @@ next d s attempt = or_same s (step d s attempt)
 abbrev pub after_from : Design → State → List Step → State
 after_from d s [] = s
 after_from d s (attempt ∷ attempts) = after_from d (next d s attempt) attempts
-
--- what is loaded: the torus, the depth of a channel, the number of tags of a processor, the opening words by address,
--- and each processor's script (this project's own format)
-pub record Load : Type 0 where
-  pub shape : Shape
-  pub depth : ℕ
-  pub tags : ℕ
-  pub opening : List ℕ
-  pub scripts : List (List Line)
 
 -- the design of the machine that a load is for
 abbrev pub design_of : Load → Design

@@ -13,8 +13,8 @@ use Rattle.runs.specs.declared.answer.Answer.{Answer}
 use Rattle.runs.specs.Observed.{list_at}
 use Rattle.wormhole.specs.Delivery.{Begins, without_last}
 use Rattle.core_laws.specs.Heads.{is_head}
-use Rattle.core_laws.specs.BankTable.{BankState}
-use Rattle.core_laws.specs.Tile.{Design, TileState}
+use Rattle.home_bank.specs.BankTable.{BankState}
+use Rattle.tile.specs.Tile.{Design, TileState}
 use Rattle.core_laws.specs.Core.{State, show}
 
 -- the operation that a request asks for
@@ -87,11 +87,9 @@ responses_sent b bank =
 
 -- The packets of each class between two tiles that the receiver has whole are a beginning of those whose heads the
 -- sender has put, in that order: none is invented, doubled, mixed or overtaken (Dally and Towles, chapter 13).
-pub record DeliversPackets (d : Design) (words : ℕ) (s : State) : Type 0 where
-  -- what each processor has sent: a request for each operation that it has issued; and what it has whole: a response
-  -- for each of its answers
-  pub requests : List (List Request)
-  pub taken : List (List Response)
+-- Of each processor these are the requests that it has sent, one for each operation that it has issued, and the responses
+-- that it has whole, one for each of its answers, in their order.
+pub record DeliversPackets (d : Design) (words : ℕ) (s : State) (requests : List (List Request)) (taken : List (List Response)) : Type 0 where
   pub issued : (p : ℕ)
       → map (operation_asked (tiles_of d.shape)) (list_at requests p) ≡ list_at (show words s).issued p
   pub proper : (p : ℕ)

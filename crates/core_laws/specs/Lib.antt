@@ -1,8 +1,4 @@
-pub mod ProcessorTable
-pub mod BankTable
 pub mod Heads
-pub mod Wiring
-pub mod Tile
 pub mod Core
 pub mod Moves
 pub mod Runs
@@ -10,3 +6,8 @@ pub mod Delivery
 pub mod Reports
 pub mod Choices
 pub mod Touches
+pub mod Asks
+pub mod Mirrors
+pub mod Pending
+pub mod Network
+pub mod Noted

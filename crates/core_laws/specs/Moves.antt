@@ -10,13 +10,13 @@ use Rattle.packet.specs.declared.assembler.Offered.{Offered}
 use Rattle.packet.specs.declared.assembler.Offered.TheVariants.{Whole}
 use Rattle.flit_buffer.specs.declared.want.Want.{Want}
 use Rattle.flit_buffer.specs.Surroundings.{Surroundings, Wiring, granted}
-use Rattle.flights.specs.ProcessorRecord.{ready}
+use Rattle.net_interface.specs.ProcessorRecord.{ready}
 use Rattle.flights.specs.Flight.{Move, Sends, Serves, Takes}
 use Rattle.packet.specs.Flits.{offered}
-use Rattle.core_laws.specs.ProcessorTable.{ProcessorState, processor_wants}
-use Rattle.core_laws.specs.BankTable.{BankState, bank_wants}
-use Rattle.core_laws.specs.Wiring.{processor_wiring, bank_wiring}
-use Rattle.core_laws.specs.Tile.{Design, TileState, Agent, Processor, Router, Bank}
+use Rattle.net_interface.specs.ProcessorTable.{ProcessorState, processor_wants}
+use Rattle.home_bank.specs.BankTable.{BankState, bank_wants}
+use Rattle.tile.specs.Wiring.{processor_wiring, bank_wiring}
+use Rattle.tile.specs.Tile.{Design, TileState, Agent, Processor, Router, Bank}
 use Rattle.core_laws.specs.Core.{State, agent_numbered}
 
 -- what an agent learns by a choice; None where it isn't enabled

@@ -1,23 +1,11 @@
 -- Accepted loads, and the events of their runs.
-use Rattle.std.specs.Prelude.{◌≡◌, ℕ, ◌^◌, ◌<◌, ◌≤◌, List, [], length, take, Option, Some, None, slice_get, slice_index}
-use Rattle.torus.specs.Shape.{tiles_of, IsAccepted as IsAcceptedShape}
+use Rattle.std.specs.Prelude.{ℕ, List, [], length, take, Option, Some, None, slice_get}
 use Rattle.torus.specs.declared.step.Step.{Step}
-use Rattle.script.specs.Scripts.{AreAcceptedScripts}
 use Rattle.runs.specs.Events.{Event}
+pub use Rattle.flights.specs.Load.{IsAccepted}
 use Rattle.flights.specs.Flight.{Flight, Move, event_by}
 use Rattle.core_laws.specs.Core.{Load, State, design_of, after, records_of, show}
 use Rattle.core_laws.specs.Moves.{move_of}
-
--- what is accepted of a load: the limits of the machine's text, and the scripts as their reader accepts them (this
--- project's own format)
-pub record IsAccepted (l : Load) : Type 0 where
-  pub shape : IsAcceptedShape l.shape
-  pub depth : (1 ≤ l.depth) × (l.depth ≤ 8)
-  pub tags : (1 ≤ l.tags) × (l.tags ≤ 16)
-  pub size : (1 ≤ length l.opening) × (length l.opening ≤ 65536)
-  pub words : (a : ℕ) → a < length l.opening → slice_index l.opening a < 2 ^ 64
-  pub processors : length l.scripts ≡ tiles_of l.shape
-  pub scripts : AreAcceptedScripts (record { words = length l.opening; lists = l.scripts })
 
 -- the state after the first k steps
 abbrev pub state_after : Load → List Step → ℕ → State

@@ -1,11 +1,12 @@
 //! Laws of every run of the core, each the contract of a function that does nothing.
 
-ghost use Rattle.std.specs.Prelude.{◌≡◌, ◌≢◌, ◌≤◌, ◌<◌, ◌/◌, ◌%◌, ℕ, List, [], take, length, Some, None, true, false, option_map, slice_get};
+ghost use Rattle.std.specs.Prelude.{◌≡◌, ◌≢◌, ◌≤◌, ◌<◌, ◌/◌, ◌%◌, ℕ, List, [], take, length, Some, None, true, false, option_map, slice_get, IfSome};
 ghost use Rattle.torus.specs.Shape.{tiles_of, dims_of};
+ghost use Rattle.torus.specs.Choices.{has_choice as numbered_has};
 ghost use Rattle.torus.specs.declared.step.Step.{Step};
 ghost use Rattle.torus.specs.declared.step.Choice.{Choice};
 ghost use Rattle.script.specs.Machine.{MachineSpec, IsAcceptedMachine};
-ghost use Rattle.script.specs.Scripts.{ScriptsSpec, AreAcceptedScripts, Fit};
+ghost use Rattle.script.specs.Scripts.{ScriptsSpec, AreAcceptedScripts, Fit, script_of};
 ghost use Rattle.runs.specs.declared.ordered.Ordered.{Ordered};
 ghost use Rattle.runs.specs.Events.{IsHistory};
 ghost use Rattle.runs.specs.OneOrder.{HasOneOrder};
@@ -19,16 +20,27 @@ ghost use Rattle.flit_buffer.specs.OwnPart.{SameWhereWanted};
 ghost use Rattle.router.specs.Table.{router_wants};
 ghost use Rattle.router.specs.Beginning.{router_wiring};
 ghost use Rattle.flights.specs.Scripts.{FollowScripts};
-ghost use Rattle.core_laws.specs.ProcessorTable.{processor_wants};
-ghost use Rattle.core_laws.specs.BankTable.{bank_wants};
-ghost use Rattle.core_laws.specs.Wiring.{processor_wiring, bank_wiring};
-ghost use Rattle.core_laws.specs.Tile.{Design, TileState, Processor, Router, Bank, tile_step};
+ghost use Rattle.net_interface.specs.ProcessorTable.{processor_wants};
+ghost use Rattle.home_bank.specs.BankTable.{bank_wants};
+ghost use Rattle.tile.specs.Wiring.{processor_wiring, bank_wiring};
+ghost use Rattle.tile.specs.Tile.{Design, TileState, Processor, Router, Bank, tile_step};
 ghost use Rattle.core_laws.specs.Core.{Load, State, design_of, agent_numbered, step, after_from, run_of};
 ghost use Rattle.core_laws.specs.Runs.{IsAccepted, state_after, event_of};
 ghost use Rattle.core_laws.specs.Delivery.{DeliversPackets};
 ghost use Rattle.core_laws.specs.Choices.{has_choice};
 ghost use Rattle.core_laws.specs.Touches.{ProcessorAlone, RouterAlone, BankAlone};
 ghost use Rattle.core_laws.specs.Reports.{CountsReports};
+ghost use Rattle.script.specs.declared.line.Line.{Line};
+ghost use Rattle.flights.specs.Flight.{processor_at};
+ghost use Rattle.flights.specs.Courses.{IsCourse};
+ghost use Rattle.wormhole.specs.Events.{CanHappen};
+ghost use Rattle.wormhole.specs.Words.{Words};
+ghost use Rattle.wormhole.specs.Routes.{Routes};
+ghost use Rattle.core_laws.specs.Mirrors.{Mirrors};
+ghost use Rattle.core_laws.specs.Network.{net_of};
+ghost use Rattle.core_laws.specs.Noted.{noted, event_by, flight_after, move_after};
+ghost use Rattle.core_laws.specs.Pending.{HavePackets, ShowsOperations};
+ghost use Rattle.core_laws.specs.Asks.{RouterAsks, ProcessorAsks, BankAsks};
 
 /// The load of an accepted machine and of accepted scripts that fit it is accepted.
 pub fn readers_give_accepted_loads()
@@ -65,9 +77,10 @@ pub fn banks_serve_in_turn()
 {}
 
 /// Of each two tiles and both classes, the packets that the receiver has whole are a beginning of
-/// those whose heads the sender has put: none is invented, doubled, mixed or overtaken.
+/// those whose heads the sender has put: none is invented, doubled, mixed or overtaken. The requests
+/// are those noted at the issues, each under the tag under which its operation was issued.
 pub fn packets_are_delivered_in_order()
-    ensures { (l : Load) → IsAccepted l → (steps : List Step) (n : ℕ) → DeliversPackets (design_of l) (length l.opening) (state_after l steps n) }
+    ensures { (l : Load) → IsAccepted l → (steps : List Step) (n : ℕ) → DeliversPackets (design_of l) (length l.opening) (state_after l steps n) (noted l steps n).requests (noted l steps n).taken }
 {}
 
 /// Of each processor and bank, the answers in the order of answering are a beginning of the bank's
@@ -95,6 +108,7 @@ pub fn enabled_choices_are_the_agents()
         → has_choice (port_count (dims_of d.shape)) (agent_numbered (attempt.agent % 3)) attempt.choice ≡ true }
     ensures other { (d : Design) (s : State) (attempt : Step)
         → has_choice (port_count (dims_of d.shape)) (agent_numbered (attempt.agent % 3)) attempt.choice ≡ false → step d s attempt ≡ None }
+    ensures numbered { (ports kind : ℕ) (choice : Choice) → has_choice ports (agent_numbered kind) choice ≡ numbered_has ports kind choice }
 {}
 
 /// A choice of an agent is enabled in both of two states or in neither, with the same effect on the
@@ -114,6 +128,20 @@ pub fn choices_look_at_their_own_part()
         ≡ option_map (λ (p : TileState × Surroundings). p.0.bank) (tile_step d t w b Bank choice) }
 {}
 
+/// A choice that is enabled in two states leaves them the same at the end of the channel, or in the
+/// word, that it wants, where they were the same there and so was the agent.
+pub fn choices_change_their_own_part_alike()
+    ensures processor { (d : Design) (t : ℕ) (v w : TileState) (a b : Surroundings) (choice : Choice) (p q : TileState × Surroundings) (want : Want) → v.processor ≡ w.processor → length a.words ≡ length b.words
+        → tile_step d t v a Processor choice ≡ Some p → tile_step d t w b Processor choice ≡ Some q
+        → processor_wants (tiles_of d.shape) d.words t v.processor choice ≡ Some want → SameWhereWanted a b (processor_wiring d.shape t) want → SameWhereWanted p.1 q.1 (processor_wiring d.shape t) want }
+    ensures router { (d : Design) (t : ℕ) (v w : TileState) (a b : Surroundings) (choice : Choice) (p q : TileState × Surroundings) (want : Want) → v.router ≡ w.router → length a.words ≡ length b.words
+        → tile_step d t v a Router choice ≡ Some p → tile_step d t w b Router choice ≡ Some q
+        → router_wants d.shape t v.router choice ≡ Some want → SameWhereWanted a b (router_wiring d.shape t) want → SameWhereWanted p.1 q.1 (router_wiring d.shape t) want }
+    ensures bank { (d : Design) (t : ℕ) (v w : TileState) (a b : Surroundings) (choice : Choice) (p q : TileState × Surroundings) (want : Want) → v.bank ≡ w.bank → length a.words ≡ length b.words
+        → tile_step d t v a Bank choice ≡ Some p → tile_step d t w b Bank choice ≡ Some q
+        → bank_wants (tiles_of d.shape) t v.bank choice ≡ Some want → SameWhereWanted a b (bank_wiring d.shape t) want → SameWhereWanted p.1 q.1 (bank_wiring d.shape t) want }
+{}
+
 /// A step touches one agent: the other tiles stay, and so do the other agents of its tile; of the
 /// channels and words it changes what the agent wanted, which is one end of a channel or one word.
 pub fn steps_touch_one_agent()
@@ -125,4 +153,42 @@ pub fn steps_touch_one_agent()
         → tile_step d t tile around Router choice ≡ Some (left, after) → RouterAlone d t tile around choice left after }
     ensures bank { (d : Design) (t : ℕ) (tile : TileState) (around : Surroundings) (choice : Choice) (left : TileState) (after : Surroundings)
         → tile_step d t tile around Bank choice ≡ Some (left, after) → BankAlone d t tile around choice left after }
+{}
+
+/// In every state that a run reaches each agent finds what it asks for: a router flits that name
+/// tiles, a processor and a bank the next flits of packets to them, and room for what they note.
+pub fn agents_find_what_they_ask()
+    ensures router { (l : Load) → IsAccepted l → (steps : List Step) (n t : ℕ) (tile : TileState) → slice_get (state_after l steps n).tiles t ≡ Some tile
+        → RouterAsks (design_of l) t (state_after l steps n).around }
+    ensures processor { (l : Load) → IsAccepted l → (steps : List Step) (n t : ℕ) (tile : TileState) → slice_get (state_after l steps n).tiles t ≡ Some tile
+        → ProcessorAsks (design_of l) (script_of l.scripts t) t tile.processor (state_after l steps n).around }
+    ensures bank { (l : Load) → IsAccepted l → (steps : List Step) (n t : ℕ) (tile : TileState) → slice_get (state_after l steps n).tiles t ≡ Some tile
+        → BankAsks (design_of l) l.scripts t tile.bank (state_after l steps n).around }
+{}
+
+/// The flights of every run, that is the machine without its network and the packets on their way, go
+/// from where nothing has happened by found moves: so each law of such courses holds of the run.
+pub fn runs_are_courses()
+    ensures { (l : Load) → IsAccepted l → (steps : List Step) (n : ℕ) → IsCourse (tiles_of l.shape) l.tags l.opening l.scripts (flight_after l steps) (move_after l steps) n }
+{}
+
+/// Each step is an event of the network that may happen, or none; the network after these events
+/// mirrors the machine's channels and agents, and no two packets mix or lose their way in it.
+pub fn steps_are_events_of_the_network()
+    ensures may { (l : Load) → IsAccepted l → (steps : List Step) (n : ℕ) → IfSome (event_by l (state_after l steps n) (slice_get steps n)) (CanHappen (net_of (design_of l)) (noted l steps n).net.lines) }
+    ensures mirrors { (l : Load) → IsAccepted l → (steps : List Step) (n : ℕ) → Mirrors (design_of l) (state_after l steps n) (noted l steps n).net.lines }
+    ensures words { (l : Load) → IsAccepted l → (steps : List Step) (n : ℕ) → Words (net_of (design_of l)) (noted l steps n).net }
+    ensures routes { (l : Load) → IsAccepted l → (steps : List Step) (n : ℕ) → Routes (net_of (design_of l)) (noted l steps n).net }
+{}
+
+/// Who holds a tag has its request or the response to it on the way, and as many tags of a processor
+/// are out as of its operations await an answer.
+pub fn held_tags_have_packets_on_the_way()
+    ensures { (l : Load) → IsAccepted l → (steps : List Step) (n : ℕ) → HavePackets (flight_after l steps n) }
+{}
+
+/// Each processor's follower shows the operations that the processor has issued in the run.
+pub fn followers_show_what_was_issued()
+    ensures { (l : Load) → IsAccepted l → (steps : List Step) (n p : ℕ) (lines : List Line) → slice_get l.scripts p ≡ Some lines
+        → ShowsOperations (run_of l steps) n p lines (processor_at (flight_after l steps n) p).following }
 {}

@@ -1,4 +1,4 @@
-use Rattle.core_laws.proofs.AcceptedLoads.{accepted_load}
+use Rattle.flights.proofs.LoadingAccepted.{accepted_load}
 use Rattle.core_laws.proofs.laws.readers_give_accepted_loads.Goals as goal
 
 pub returns : goal.returns
