@@ -1,0 +1,5 @@
+pub mod Books
+pub mod Moments
+pub mod Lawful
+pub mod Machines
+pub mod Beginnings

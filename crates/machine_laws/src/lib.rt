@@ -1,0 +1,4 @@
+//! Laws of every machine on the wormhole network.
+#![tactic(auto)]
+
+pub mod laws;
