@@ -5,3 +5,4 @@ pub mod Spelled
 pub mod Reading
 pub mod Shows
 pub mod Meaning
+pub mod Message

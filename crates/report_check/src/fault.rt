@@ -16,6 +16,11 @@ pub enum CheckFault {
 }
 
 impl Display for CheckFault {
+    ghost use Rattle.std.specs.Prelude.{Some};
+    ghost use Rattle.report_check.specs.Message.{check_fault_text};
+
+    ghost output = { λ fault. Some (check_fault_text fault) };
+
     fn fmt<W: fmt::Write>(&self, f: &mut fmt::Formatter<W>) -> fmt::Result {
         match self {
             Self::BadReport { line } => write!(f, "bad report at line {line}"),

@@ -60,6 +60,10 @@ impl<W: Write> Out for Piped<W> {
 pub struct OutputFailed;
 
 impl Display for OutputFailed {
+    ghost use Rattle.std.specs.Prelude.{Some, codes};
+
+    ghost output = { λ _. Some (codes "output failed") };
+
     fn fmt<W: fmt::Write>(&self, f: &mut fmt::Formatter<W>) -> fmt::Result {
         f.write_str("output failed")
     }
