@@ -1,0 +1,165 @@
+"""What the tools of this folder share: their command lines, files, streams and statuses, and calls of torusmem.
+
+Every tool prints to standard output only when all of its work is done. On a fault it prints one line on
+standard error. Its status is 0, or 1 (a text can't be read or is refused), 2 (the words of the command line
+are wrong), 4 (standard output failed), or 130 (interrupted).
+"""
+from __future__ import annotations
+
+import argparse
+import os
+import subprocess
+import tempfile
+from contextlib import contextmanager
+from typing import IO, Callable, Iterable, Iterator, NoReturn, Optional
+
+ROOT = os.path.dirname(os.path.dirname(os.path.realpath(__file__)))
+# No report is longer: five sections of at most 65,536 lines and three lines more, of at most 128 bytes each.
+MOST_BYTES = (5 * 65536 + 3) * 128
+
+
+class Refusal(Exception):
+    """A text can't be read, or is not what it must be: the line that says so."""
+
+
+class WrongWords(Exception):
+    """The words of the command line are wrong: the line that says so."""
+
+
+class HelpAsked(Exception):
+    """`--help` was given: its text."""
+
+
+class Parser(argparse.ArgumentParser):
+    """A parser of command lines that prints nothing, and tells by an exception what is to be printed."""
+
+    def error(self, message: str) -> NoReturn:
+        """What argparse calls when the words are wrong."""
+        raise WrongWords(f"{message} (--help says more)")
+
+    def print_help(self, file: Optional[IO[str]] = None) -> NoReturn:
+        """What argparse calls at `--help`."""
+        raise HelpAsked(self.format_help())
+
+
+def parser(tool: str, text: str) -> Parser:
+    """A parser for a tool, whose help begins with the text."""
+    return Parser(prog=tool, description=text, formatter_class=argparse.RawDescriptionHelpFormatter, allow_abbrev=False)
+
+
+def whole(least: int, most: int) -> Callable[[str], int]:
+    """The reader of a word of the command line that is a number between `least` and `most`."""
+
+    def read(word: str) -> int:
+        if word.isascii() and word.isdigit() and len(word) <= 20 and least <= int(word) <= most:
+            return int(word)
+        raise bad_word(f"'{word}' is no number from {least} to {most}")
+
+    return read
+
+
+def bad_word(why: str) -> Exception:
+    """What the reader of a word of the command line raises."""
+    return argparse.ArgumentTypeError(why)
+
+
+def run(tool: str, work: Callable[[], str]) -> NoReturn:
+    """Does a tool's work, prints the text that it answers, and ends the process with its status."""
+    try:
+        text = work()
+    except HelpAsked as asked:
+        text = str(asked)
+    except WrongWords as wrong:
+        leave(tool, 2, str(wrong))
+    except Refusal as refused:
+        leave(tool, 1, str(refused))
+    except OSError as fault:
+        leave(tool, 1, str(fault))
+    except MemoryError:
+        leave(tool, 1, "there is no memory left")
+    except KeyboardInterrupt:
+        leave(tool, 130, "interrupted")
+    put(tool, text)
+    leave(tool, 0)
+
+
+def put(tool: str, text: str) -> None:
+    """Prints a text on standard output, to its last byte."""
+    try:
+        rest = memoryview(text.encode("utf-8"))
+        while rest:
+            rest = rest[os.write(1, rest) :]
+    except OSError:
+        leave(tool, 4, "output failed")
+    except KeyboardInterrupt:
+        leave(tool, 130, "interrupted")
+
+
+def say(tool: str, text: str) -> None:
+    """Prints a line on standard error."""
+    try:
+        os.write(2, f"{tool}: {printable(text)}\n".encode("utf-8"))
+    except OSError:
+        pass
+
+
+def leave(tool: str, status: int, why: str = "") -> NoReturn:
+    """Ends the process; nothing is left to be printed."""
+    if why:
+        say(tool, why)
+    os._exit(status)
+
+
+def printable(text: str) -> str:
+    """The text in one line, with what can't be printed written as `?`."""
+    return "".join(it if it.isprintable() else "?" for it in text)
+
+
+def contents(path: str, most: int = MOST_BYTES) -> bytes:
+    """The bytes of a file, or of standard input for `-`. Refused if there are more than `most`."""
+    try:
+        with open(0 if path == "-" else path, "rb", closefd=path != "-") as file:
+            found = file.read(most + 1)
+    except OSError as fault:
+        raise Refusal(f"cannot read {path}: {fault.strerror or fault}") from None
+    if len(found) > most:
+        raise Refusal(f"{path} has more than {most} bytes")
+    return found
+
+
+def torusmem(*words: str) -> str:
+    """What the program prints on the words. Where its status is not 0, its line is the reason of an exception."""
+    program = os.environ.get("TORUSMEM") or os.path.join(ROOT, "torusmem")
+    with tempfile.TemporaryFile() as printed:
+        try:
+            null, pipe = subprocess.DEVNULL, subprocess.PIPE
+            asked = subprocess.Popen([program, *words], stdin=null, stdout=printed, stderr=pipe)
+        except OSError as fault:
+            raise Refusal(f"cannot run {program}: {fault.strerror or fault}") from None
+        with asked:
+            last = last_line(asked.stderr or [])
+        if asked.returncode:
+            why = last or f"{program} ended with status {asked.returncode}"
+            raise WrongWords(why) if asked.returncode == 2 else Refusal(why)
+        printed.seek(0)
+        return printed.read().decode("utf-8", "replace")
+
+
+def last_line(lines: Iterable[bytes]) -> str:
+    """The last of the lines. Those before it, as those of a first build, go to standard error at once."""
+    last = b""
+    for line in lines:
+        if last:
+            os.write(2, last)
+        last = line
+    return last.decode("utf-8", "replace").strip()
+
+
+@contextmanager
+def kept(text: bytes) -> Iterator[str]:
+    """A file of the text, for as long as the program reads it: it reads what the tool has read, also of a pipe."""
+    with tempfile.TemporaryDirectory(prefix="torusmem-") as room:
+        path = os.path.join(room, "text")
+        with open(path, "wb") as file:
+            file.write(text)
+        yield path
