@@ -11,8 +11,9 @@ use std::marker::Model;
 #[derive(Drop, Debug)]
 pub struct Sender {
     base: usize,
-    depth: usize,
     next: usize,
+    // stands between the two that steps change: loaded as one, they wait for the store of either
+    depth: usize,
     credits: usize,
 }
 

@@ -5,8 +5,6 @@ pub mod laws;
 pub mod processor;
 mod record;
 mod start;
-#[cfg(test)]
-mod tests;
 
 pub use processor::Processor;
 pub use runs::Answer;

@@ -199,6 +199,7 @@ impl<A: Allocator> Processor<A> {
 
     /// The operation of a choice; None exactly when the processor hasn't that choice or its condition
     /// fails.
+    #[inline(always)]
     pub fn next_op(&self, choice: Choice) -> Option<WordOp>
         ensures { result ≡ next_op (processor_wants self.now.tiles self.now.words self.now.tile) self.now.agent choice }
     {

@@ -5,7 +5,5 @@ pub mod laws;
 mod owners;
 pub mod router;
 mod start;
-#[cfg(test)]
-mod tests;
 
 pub use router::Router;

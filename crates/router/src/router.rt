@@ -192,6 +192,7 @@ impl<A: Allocator> Router<A> {
 
     /// The operation of a choice; None exactly when the router hasn't that choice or its condition
     /// fails.
+    #[inline(always)]
     pub fn next_op(&self, choice: Choice) -> Option<WordOp>
         ensures { result ≡ next_op (router_wants self.now.torus self.now.tile) self.now.agent choice }
     {

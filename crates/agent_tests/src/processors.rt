@@ -1,127 +1,77 @@
-ghost use Rattle.std.specs.Prelude.{◌≤◌};
+ghost use Rattle.std.specs.Prelude.{◌<◌, ◌≤◌};
 ghost use Rattle.script.specs.Scripts.{operation_count};
 ghost use Rattle.net_interface.specs.Scripts.{IsFollowable};
 
-use super::*;
+use crate::bench::{Agent, Bench, Event, IDLE, MOVED, ring_of};
 use flit_buffer::perform;
 use packet::{Op, Reply};
+use processor::{Answer, Processor};
 use script::{Line, Value};
-use std::alloc::Global;
-use std::process::Abort;
+use std::alloc::{AllocError, Global};
 use std::test::Fail;
-use torus::{Choice, Stepped, Torus};
+use torus::{Choice, Stepped};
 
-/// What is tried, or seen and changed in the row. The processor is that of tile 1 of a ring of four
-/// tiles, its channels have one place, and there are eight words: the place of its output is word 20 of
-/// the row, that of its input word 23, and word 56 counts who has reported.
-#[derive(Clone, Copy)]
-enum Event {
-    /// A choice, and what it comes to: None where it has no operation.
-    Tries(Choice, Option<Stepped>),
-    /// A flit is put, and taken by the router; the credit comes back.
-    Sends(u64),
-    /// A flit comes, and is taken.
-    Takes(u64),
-    /// A word of the row, what it holds, and what it is made.
-    Word(usize, u64, u64),
-}
-
-const MOVED: Option<Stepped> = Some(Stepped::Moved);
-
-const IDLE: Option<Stepped> = Some(Stepped::Idle);
-
-/// A processor and its row.
-#[derive(Drop)]
-struct Bench {
-    processor: Processor,
-    row: Vec<u64>,
-    at_once: bool,
-}
-
-impl Bench {
-    /// Tries a choice by its operation, or at once; None where it has no operation, or the word found
-    /// may not be taken.
-    fn tried(&mut self, choice: Choice) -> Option<Stepped> {
-        let op = self.processor.next_op(choice)?;
-        if op.word() >= self.row.len()
-            || !self.processor.is_acceptable(choice, self.row[op.word()])
-        {
+impl Agent for Processor {
+    fn tried(&mut self, choice: Choice, row: &mut Vec<u64>, at_once: bool) -> Option<Stepped> {
+        let op = self.next_op(choice)?;
+        if op.word() >= row.len() || !self.is_acceptable(choice, row[op.word()]) {
             return None;
         }
-        if self.at_once {
-            return Some(self.processor.attempt(choice, &mut self.row));
+        if at_once {
+            return Some(self.attempt(choice, row));
         }
-        let got = perform(op, &mut self.row);
-        Some(self.processor.absorb(choice, got))
-    }
-
-    /// Changes a word of the row, and answers what it held.
-    fn made(&mut self, place: usize, word: u64) -> Option<u64> {
-        if place >= self.row.len() {
-            return None;
-        }
-        let held = self.row[place];
-        self.row[place] = word;
-        Some(held)
-    }
-
-    /// Whether an event comes to what it says.
-    fn happens(&mut self, event: Event) -> bool {
-        match event {
-            Event::Tries(choice, stepped) => self.tried(choice) == stepped,
-            Event::Sends(flit) => {
-                let sent = self.tried(Choice::Send) == MOVED && self.made(20, 0) == Some(flit);
-                sent && self.tried(Choice::Credit) == MOVED
-            }
-            Event::Takes(flit) => {
-                self.made(23, flit) == Some(0) && self.tried(Choice::Take) == MOVED
-            }
-            Event::Word(place, held, word) => self.made(place, word) == Some(held),
-        }
+        let got = perform(op, row);
+        Some(self.absorb(choice, got))
     }
 }
 
-/// Plays events with a processor of so many tags and this script, by operations or at once; then it
-/// has given these answers, and has reported and seen as is said.
-fn plays<R: Abort>(
-    rt: &R,
+/// Whether a processor is finished, has reported, and has seen that all have; and how many of its tags
+/// are out.
+type Ends = (bool, bool, bool, u32);
+
+/// Plays events with a processor of so many tags and this script, by operations or at once; then it is
+/// to have given these answers, and to stand so. Answers the first event that goes otherwise, or their
+/// number where it stands otherwise at the end. The processor is that of tile 1 of a ring of four tiles
+/// with eight words; at depth 1 the place of its output is word 20 of the row, that of its input word
+/// 23, and word 56 counts who has reported.
+fn plays(
     alloc: Global,
     at_once: bool,
+    depth: u32,
     tags: u32,
     lines: &[Line],
     events: &[Event],
     answers: &[Answer],
-    ends: (bool, bool, bool, u32),
-) -> Result<(), Fail>
+    ends: Ends,
+) -> Result<Option<usize>, AllocError>
+    requires deep { 0 < depth }
+    requires shallow { depth ≤ 8 }
     requires some { 1 ≤ tags }
     requires few { tags ≤ 16 }
     requires followable { IsFollowable lines.now }
     requires count { operation_count lines.now ≤ 4096 }
 {
-    let torus = Torus::new(4, 1)?;
-    if torus.tiles() < 2 {
-        return Ok(());
-    }
+    let torus = ring_of(4, 1)?;
     let script = Vec::from_slice(alloc, lines)?;
-    let processor = Processor::new(alloc, &torus, 8, 1, 1, tags, script)?;
-    let row = vec![in alloc; 0u64; 57]?;
+    let agent = Processor::new(alloc, &torus, 8, 1, depth, tags, script)?;
+    let row = vec![in alloc; 0u64; 393]?;
     let mut bench = Bench {
-        processor,
+        agent,
         row,
+        input: 23,
+        output: 20,
         at_once,
     };
-    for (at, &event) in events.iter().enumerate() {
-        assert!(rt; bench.happens(event), "at {at}");
-    }
-    let processor = &bench.processor;
+    let unlike = bench.first_unlike(events);
+    let agent = &bench.agent;
     let ended = (
-        processor.is_finished(),
-        processor.has_reported(),
-        processor.has_seen(),
-        processor.outstanding(),
+        agent.is_finished(),
+        agent.has_reported(),
+        agent.has_seen(),
+        agent.outstanding(),
     );
-    assert!(rt; processor.answers() == answers && ended == ends);
-    Ok(())
+    let ends_so = ended == ends && agent.answers() == answers;
+    Ok(if ends_so { unlike } else { Some(events.len()) })
 }
 
 fn answer(index: u32, op: Op, reply: Reply, bank: u32, place: u32) -> Answer {
@@ -185,8 +135,11 @@ fn each_choice_moves_where_it_may(rt: HostRuntime) -> Result<(), Fail> {
         answer(1, Op::Store(17), Reply::Ok, 1, 1),
     ];
     let ends = (true, true, true, 0);
-    plays(&rt, rt.alloc(), false, 1, &lines, &events, &answers, ends)?;
-    plays(&rt, rt.alloc(), true, 1, &lines, &events, &answers, ends)
+    for at_once in [false, true] {
+        let unlike = plays(rt.alloc(), at_once, 1, 1, &lines, &events, &answers, ends)?;
+        assert_eq!(rt; unlike, None, "at once: {at_once}");
+    }
+    Ok(())
 }
 
 #[test]
@@ -237,8 +190,18 @@ fn each_operation_has_its_flits(rt: HostRuntime) -> Result<(), Fail> {
         Event::Sends(0x6000_0000_0000_000A),
         Event::Tries(Choice::Send, None),
     ];
-    let ends = (false, false, false, 10);
-    plays(&rt, rt.alloc(), true, 16, &lines, &events, &[], ends)
+    let unlike = plays(
+        rt.alloc(),
+        true,
+        1,
+        16,
+        &lines,
+        &events,
+        &[],
+        (false, false, false, 10),
+    )?;
+    assert_eq!(rt; unlike, None);
+    Ok(())
 }
 
 /// A store, a fence, and a spin of address 0 for a 7, whose home is bank 0; then a load.
@@ -275,8 +238,18 @@ fn fences_and_spins_hold_back(rt: HostRuntime) -> Result<(), Fail> {
         answer(1, Op::Load, Reply::Old(5), 0, 1),
         answer(2, Op::Load, Reply::Old(7), 0, 2),
     ];
-    let ends = (false, false, false, 1);
-    plays(&rt, rt.alloc(), false, 4, &lines, &events, &answers, ends)
+    let unlike = plays(
+        rt.alloc(),
+        false,
+        1,
+        4,
+        &lines,
+        &events,
+        &answers,
+        (false, false, false, 1),
+    )?;
+    assert_eq!(rt; unlike, None);
+    Ok(())
 }
 
 /// Two loads of address 0 under two tags: the second is answered first, a second reply to it may not be
@@ -304,41 +277,50 @@ fn replies_go_by_their_tags(rt: HostRuntime) -> Result<(), Fail> {
         answer(1, Op::Load, Reply::Old(5), 0, 0),
         answer(0, Op::Load, Reply::Old(7), 0, 1),
     ];
-    let ends = (true, false, false, 0);
-    plays(&rt, rt.alloc(), true, 2, &lines, &events, &answers, ends)
+    let unlike = plays(
+        rt.alloc(),
+        true,
+        1,
+        2,
+        &lines,
+        &events,
+        &answers,
+        (true, false, false, 0),
+    )?;
+    assert_eq!(rt; unlike, None);
+    Ok(())
 }
 
 /// Over channels of four places a store's flits and a load's are put without a credit coming back.
 #[test]
 #[tactic(auto, using(net_interface::proofs::Followable::followable_by))]
 fn flits_fill_the_places_of_the_output(rt: HostRuntime) -> Result<(), Fail> {
-    let torus = Torus::new(4, 1)?;
-    if torus.tiles() < 2 {
-        return Ok(());
-    }
-    let alloc = rt.alloc();
-    let lines = vec![in alloc;
+    let lines = [
         Line::Store(5, Value::Number(17)),
         Line::Load(5),
         Line::Load(5),
-    ]?;
-    let processor = Processor::new(alloc, &torus, 8, 1, 4, 3, lines)?;
-    let row = vec![in alloc; 0u64; 201]?;
-    let mut bench = Bench {
-        processor,
-        row,
-        at_once: false,
-    };
-    for at in 0..4 {
-        assert_eq!(rt; bench.tried(Choice::Send), MOVED, "at {at}");
-    }
-    assert_eq!(rt; bench.tried(Choice::Send), None);
-    let flits = [
-        0xA408_2000_0000_0001,
-        0x2000_0000_0000_0000,
-        0x6000_0000_0000_0011,
-        0xE008_2200_0000_0001,
     ];
-    assert_eq!(rt; bench.row.get(80..84), Some(flits.as_slice()));
+    let events = [
+        Event::Tries(Choice::Send, MOVED),
+        Event::Tries(Choice::Send, MOVED),
+        Event::Tries(Choice::Send, MOVED),
+        Event::Tries(Choice::Send, MOVED),
+        Event::Tries(Choice::Send, None),
+        Event::Word(80, 0xA408_2000_0000_0001, 0),
+        Event::Word(81, 0x2000_0000_0000_0000, 0),
+        Event::Word(82, 0x6000_0000_0000_0011, 0),
+        Event::Word(83, 0xE008_2200_0000_0001, 0),
+    ];
+    let unlike = plays(
+        rt.alloc(),
+        false,
+        4,
+        3,
+        &lines,
+        &events,
+        &[],
+        (false, false, false, 2),
+    )?;
+    assert_eq!(rt; unlike, None);
     Ok(())
 }
