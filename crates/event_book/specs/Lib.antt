@@ -1,0 +1,2 @@
+pub mod RoomyBook
+pub mod Inside
