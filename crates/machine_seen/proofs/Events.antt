@@ -36,14 +36,14 @@ use Rattle.machine_laws.proofs.Moments.{moment, points}
 use Rattle.machine_seen.specs.Seen.{IsToldByCounts}
 
 -- a list that stayed has nothing behind its end
-no_more : {A : Type 0} (xs ys : List A) (a : A) → ys ≡ xs → slice_get ys (length xs) ≡ Some a → ⊥
+pub no_more : {A : Type 0} (xs ys : List A) (a : A) → ys ≡ xs → slice_get ys (length xs) ≡ Some a → ⊥
 no_more xs ys a same h =
     let within = slice_get_within ys (length xs) a h in
     let count = ap length same in
     omega (arith, within, count)
 
 -- the last element of a list with one more
-last_pushed : {A : Type 0} (xs ys : List A) (x a : A) → ys ≡ xs ++ x ∷ [] → slice_get ys (length xs) ≡ Some a → x ≡ a
+pub last_pushed : {A : Type 0} (xs ys : List A) (x a : A) → ys ≡ xs ++ x ∷ [] → slice_get ys (length xs) ≡ Some a → x ≡ a
 last_pushed xs ys x a same h = same_Some x a (sym (get_push xs x) ∙ (sym (ap (λ zs. slice_get zs (length xs)) same) ∙ h))
 
 -- a list with one more is longer
@@ -102,20 +102,20 @@ module _ (l : Load) (ok : IsAccepted l) (steps : List Step) (n : ℕ) (attempt :
   abbrev with_tile : TileState × Surroundings → State
   with_tile p = record { tiles = slice_set s.tiles t p.0; around = p.1 }
 
-  stepped : (p : TileState × Surroundings) × (tile_step d t before s.around agent attempt.choice ≡ Some p) × (with_tile p ≡ next)
+  pub stepped : (p : TileState × Surroundings) × (tile_step d t before s.around agent attempt.choice ≡ Some p) × (with_tile p ≡ next)
   stepped = option_map_some with_tile (tile_step d t before s.around agent attempt.choice) next
       (sym (ap (λ (o : Option TileState). option_and_then (λ (v : TileState). option_map with_tile (tile_step d t v s.around agent attempt.choice)) o) there) ∙ is)
 
-  left_is : stepped.0.0 ≡ after
+  pub left_is : stepped.0.0 ≡ after
   left_is = same_Some _ _ (sym (get_set_same s.tiles t stepped.0.0 (slice_get_within s.tiles t before there)) ∙ (ap (λ (x : State). slice_get x.tiles t) stepped.2 ∙ later))
 
   move_is : move_of d s attempt ≡ tile_move d t before s.around agent attempt.choice
   move_is = ap (λ (o : Option TileState). option_and_then (λ (v : TileState). tile_move d t v s.around agent attempt.choice) o) there
 
-  addressed : (u : ℕ) (o : Operation) → u < tiles_of d.shape → next_operation_of (tile_at s u).processor.operations.following ≡ Some o → o.address < length l.opening
+  pub addressed : (u : ℕ) (o : Operation) → u < tiles_of d.shape → next_operation_of (tile_at s u).processor.operations.following ≡ Some o → o.address < length l.opening
   addressed u o u_in e = (next_inside d.words 4096 (tile_at s u).processor.operations.following o ((holds_in l ok steps n).values.tiles u).followed e).0
 
-  moves : TileMoved (tiles_of d.shape) d.words t before s.around after stepped.0.1 (move_of d s attempt)
+  pub moves : TileMoved (tiles_of d.shape) d.words t before s.around after stepped.0.1 (move_of d s attempt)
   moves =
       subst (λ (k : Option Move). TileMoved (tiles_of d.shape) d.words t before s.around after stepped.0.1 k) (sym move_is)
       (subst (λ (v : TileState). TileMoved (tiles_of d.shape) d.words t before s.around v stepped.0.1 (tile_move d t before s.around agent attempt.choice)) left_is
