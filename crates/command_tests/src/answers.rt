@@ -2,8 +2,8 @@ ghost use Rattle.std.specs.Prelude.{None};
 
 use arrayvec::{ArrayString, ArrayVec};
 use commands::{
-    ProgramFault, channels_text, check_text, fault_text, finished, route_text, status_of,
-    steps_text,
+    ProgramFault, channels_text, check_text, fault_text, finished, round_text, route_text,
+    status_of, steps_text,
 };
 use linked_list_allocator::LocalHeap;
 use report_lines::{Out, Piped};
@@ -76,9 +76,10 @@ const CHANNELS: &str =
     "channel 0 0 1\nchannel 0 1 4\nchannel 0 2 7\nchannel 0 3 10\nchannel 0 4 2\nchannel 0 5 3\nchannel 0 6 8\nchannel 0 7 9\nchannel 0 8 0\nchannel 0 9 6\nchannel 0 10 5\nchannel 0 11 11\nchannel 1 0 2\nchannel 1 1 3\nchannel 1 2 8\nchannel 1 3 9\nchannel 1 4 1\nchannel 1 5 4\nchannel 1 6 7\nchannel 1 7 10\nchannel 1 8 0\nchannel 1 9 6\nchannel 1 10 5\nchannel 1 11 11\nrising\n";
 
 /// A good run of two operations.
-const SCRIPT: &str = "0 store 5 17\n0 load 5\n";
+const SCRIPT: &str = "0 store 5 17\n0 fence\n0 load 5\n";
 
-const STEPS: &str = "0 send\n5 serve\n0 take\n0 send\n5 serve\n0 take\n";
+const STEPS: &str =
+    "0 send\n1 take 8\n1 put 8\n4 take 0\n4 put 0\n5 take\n0 send\n1 take 8\n1 put 8\n4 take 0\n4 put 0\n5 take\n0 send\n1 take 8\n1 put 8\n4 take 0\n4 put 0\n5 take\n5 serve\n5 send\n4 take 9\n4 put 9\n1 take 3\n1 put 3\n0 take\n0 send\n1 take 8\n1 put 8\n4 take 0\n4 put 0\n5 take\n5 serve\n5 send\n4 take 9\n4 put 9\n1 take 3\n1 put 3\n0 take\n5 send\n4 take 9\n4 put 9\n1 take 3\n1 put 3\n0 take\n5 send\n4 take 9\n4 put 9\n1 take 3\n1 put 3\n0 take\n";
 
 const NEWER: &str =
     "torusmem 2\nshape 2 1 8\ninit 0 12\nentry 0 0 0 0 and 0 10 12\nentry 0 1 0 0 or 0 3 8\nentry 0 2 0 0 xor 0 6 11\nentry 0 3 0 0 max 0 20 13\nentry 0 4 0 0 min 0 5 20\nanswer 0 0 0 0 12\nanswer 0 1 0 1 8\nanswer 0 2 0 2 11\nanswer 0 3 0 3 13\nanswer 0 4 0 4 20\nword 0 5\norder 0 0 1 2 3\norder 0 1 4 5 6\norder 0 2 7 8 9\norder 0 3 10 11 12\norder 0 4 13 14 15\nend complete\n";
@@ -88,6 +89,8 @@ const NEWER: &str =
 enum Job<'a> {
     /// A run of the steps of a text, of a machine and its scripts.
     Steps(&'a str, &'a str, &'a str),
+    /// A run in rounds, at most so many, of a machine and its scripts.
+    Round(&'a str, &'a str, u64),
     /// A route in a machine, of a packet of a class from a tile to a tile.
     Route(&'a str, u32, u32, Class),
     /// The channels of a machine.
@@ -108,6 +111,13 @@ fn done<A: Allocator + Copy>(
             machine.as_bytes(),
             scripts.as_bytes(),
             steps.as_bytes(),
+            out,
+        ),
+        Job::Round(machine, scripts, rounds) => round_text(
+            alloc,
+            machine.as_bytes(),
+            scripts.as_bytes(),
+            rounds,
             out,
         ),
         Job::Route(machine, src, dst, class) => {
@@ -200,7 +210,7 @@ fn commands_write_their_texts(rt: HostRuntime) {
 }
 
 /// Runs, whether all their scripts are finished, and their reports.
-const RUNS: [(Job<'static>, bool, &str); 17] = [
+const RUNS: [(Job<'static>, bool, &str); 22] = [
     (Job::Steps(PAIR, SCRIPT, STEPS), true, REPORT),
     // Lines that end with CR LF, comments and empty lines are read alike.
     (
@@ -238,7 +248,7 @@ const RUNS: [(Job<'static>, bool, &str); 17] = [
         Job::Steps(
             "radix 2\ndims 1\ndepth 4\ntags 1\nwords 8\n",
             "0 load 0\n0 load 1\n",
-            "0 send\n0 send\n2 serve\n",
+            "0 send\n0 send\n1 take 8\n1 put 8\n2 take\n2 serve\n",
         ),
         false,
         "torusmem 1\nshape 2 1 8\nentry 0 0 0 0 load 0 0\norder 0 0 1 2 -\nend incomplete\n",
@@ -248,7 +258,7 @@ const RUNS: [(Job<'static>, bool, &str); 17] = [
         Job::Steps(
             "radix 2\ndims 1\ndepth 4\ntags 4\nwords 8\ninit 0 18446744073709551615\n",
             "0 add 0 1\n",
-            "0 send\n2 serve\n0 take\n",
+            "0 send\n0 send\n1 take 8\n1 put 8\n2 take\n0 send\n1 take 8\n1 put 8\n2 take\n1 take 8\n1 put 8\n2 take\n2 serve\n2 send\n1 take 9\n1 put 9\n2 send\n1 take 9\n1 put 9\n2 send\n1 take 9\n1 put 9\n0 take\n0 take\n0 take\n",
         ),
         true,
         "torusmem 1\nshape 2 1 8\ninit 0 18446744073709551615\nentry 0 0 0 0 add 0 1 18446744073709551615\nanswer 0 0 0 0 18446744073709551615\norder 0 0 1 2 3\nend complete\n",
@@ -258,13 +268,17 @@ const RUNS: [(Job<'static>, bool, &str); 17] = [
         Job::Steps(
             "radix 2\ndims 1\ndepth 4\ntags 4\nwords 8\ninit 2 7\n",
             "0 cas 2 7 9\n0 fence\n0 cas 2 7 8\n",
-            "0 send\n2 serve\n0 send\n0 take\n0 send\n2 serve\n0 take\n",
+            "0 send\n0 send\n1 take 8\n1 put 8\n2 take\n0 send\n1 take 8\n1 put 8\n2 take\n0 send\n1 take 8\n1 put 8\n2 take\n0 credit\n0 send\n1 take 8\n1 put 8\n2 take\n1 take 8\n1 credit 8\n1 put 8\n2 take\n2 serve\n0 send\n2 send\n1 take 9\n1 put 9\n2 send\n1 take 9\n1 put 9\n2 send\n1 take 9\n1 put 9\n0 take\n0 take\n0 take\n0 credit\n0 send\n0 credit\n0 send\n1 take 8\n1 credit 8\n1 put 8\n2 take\n0 credit\n0 send\n1 take 8\n1 credit 8\n1 put 8\n2 take\n0 credit\n0 send\n1 take 8\n1 credit 8\n1 put 8\n2 take\n0 credit\n0 send\n1 take 8\n1 credit 8\n1 put 8\n2 take\n1 take 8\n1 credit 8\n1 put 8\n2 take\n2 serve\n2 send\n1 take 9\n1 put 9\n2 credit\n2 send\n1 take 9\n1 credit 9\n1 put 9\n2 credit\n2 send\n1 take 9\n1 credit 9\n1 put 9\n0 take\n0 take\n0 take\n",
         ),
         true,
         "torusmem 1\nshape 2 1 8\ninit 2 7\nentry 0 0 0 0 cas 2 7 9 7\nentry 0 1 0 0 cas 2 7 8 9\nanswer 0 0 0 0 7\nanswer 0 1 0 1 9\nword 2 9\norder 0 0 1 2 3\norder 0 1 4 5 6\nend complete\n",
     ),
     (
-        Job::Steps(PAIR, "0 swap 7 3\n0 fence\n0 swap 7 3\n", STEPS),
+        Job::Steps(
+            PAIR,
+            "0 swap 7 3\n0 fence\n0 swap 7 3\n",
+            "0 send\n0 send\n1 take 8\n1 put 8\n4 take 0\n4 put 0\n5 take\n0 send\n1 take 8\n1 put 8\n4 take 0\n4 put 0\n5 take\n1 take 8\n1 put 8\n4 take 0\n4 put 0\n5 take\n5 serve\n5 send\n4 take 9\n4 put 9\n5 send\n1 take 3\n1 put 3\n4 take 9\n4 put 9\n5 send\n1 take 3\n1 put 3\n4 take 9\n4 put 9\n1 take 3\n1 put 3\n0 take\n0 take\n0 take\n0 send\n0 credit\n0 send\n1 take 8\n1 put 8\n4 take 0\n4 put 0\n5 take\n0 credit\n0 send\n1 take 8\n1 credit 0\n1 put 8\n4 take 0\n4 credit 8\n4 put 0\n5 take\n1 take 8\n1 credit 0\n1 put 8\n4 take 0\n4 credit 8\n4 put 0\n5 take\n5 serve\n5 send\n4 take 9\n4 put 9\n5 credit\n5 send\n1 take 3\n1 put 3\n4 take 9\n4 credit 3\n4 put 9\n5 credit\n5 send\n1 take 3\n1 credit 9\n1 put 3\n4 take 9\n4 credit 3\n4 put 9\n1 take 3\n1 credit 9\n1 put 3\n0 take\n0 take\n0 take\n",
+        ),
         true,
         "torusmem 1\nshape 2 1 8\nentry 1 0 0 0 swap 7 3 0\nentry 1 1 0 0 swap 7 3 3\nanswer 0 0 1 0 0\nanswer 0 1 1 1 3\nword 7 3\norder 1 0 1 2 3\norder 1 1 4 5 6\nend complete\n",
     ),
@@ -273,7 +287,7 @@ const RUNS: [(Job<'static>, bool, &str); 17] = [
         Job::Steps(
             "radix 2\ndims 1\ndepth 4\ntags 4\nwords 8\ninit 4 9\n",
             "0 load 4\n0 store 5 last\n",
-            "0 send\n0 send\n2 serve\n0 take\n0 send\n5 serve\n0 take\n",
+            "0 send\n0 send\n1 take 8\n1 put 8\n2 take\n2 serve\n2 send\n1 take 9\n1 put 9\n2 send\n1 take 9\n1 put 9\n2 send\n1 take 9\n1 put 9\n0 take\n0 take\n0 take\n0 send\n0 send\n1 take 8\n1 put 8\n4 take 0\n4 put 0\n5 take\n0 send\n1 take 8\n1 put 8\n4 take 0\n4 put 0\n5 take\n1 take 8\n1 put 8\n4 take 0\n4 put 0\n5 take\n5 serve\n5 send\n4 take 9\n4 put 9\n1 take 3\n1 put 3\n0 take\n",
         ),
         true,
         "torusmem 1\nshape 2 1 8\ninit 4 9\nentry 0 0 0 0 load 4 9\nentry 1 0 0 0 store 5 9 ok\nanswer 0 0 0 0 9\nanswer 0 1 1 0 ok\nword 4 9\nword 5 9\norder 0 0 1 2 3\norder 1 0 4 5 6\nend complete\n",
@@ -283,7 +297,7 @@ const RUNS: [(Job<'static>, bool, &str); 17] = [
         Job::Steps(
             PAIR,
             "0 spin 0 1 3\n",
-            "0 send\n2 serve\n0 take\n0 send\n2 serve\n0 take\n0 send\n2 serve\n0 take\n0 send\n",
+            "0 send\n1 take 8\n1 put 8\n2 take\n2 serve\n2 send\n1 take 9\n1 put 9\n2 send\n1 take 9\n1 put 9\n2 send\n1 take 9\n1 put 9\n0 take\n0 take\n0 take\n0 send\n1 take 8\n1 put 8\n2 take\n2 serve\n2 send\n1 take 9\n1 put 9\n2 credit\n2 send\n1 take 9\n1 credit 9\n1 put 9\n2 credit\n2 send\n1 take 9\n1 credit 9\n1 put 9\n0 take\n0 take\n0 take\n0 send\n1 take 8\n1 put 8\n2 take\n2 serve\n2 credit\n2 send\n1 take 9\n1 credit 9\n1 put 9\n2 credit\n2 send\n1 take 9\n1 credit 9\n1 put 9\n2 credit\n2 send\n1 take 9\n1 credit 9\n1 put 9\n0 take\n0 take\n0 take\n0 send\n",
         ),
         true,
         "torusmem 1\nshape 2 1 8\nentry 0 0 0 0 load 0 0\nentry 0 1 0 0 load 0 0\nentry 0 2 0 0 load 0 0\nanswer 0 0 0 0 0\nanswer 0 1 0 1 0\nanswer 0 2 0 2 0\norder 0 0 1 2 3\norder 0 1 4 5 6\norder 0 2 7 8 9\nend complete\n",
@@ -293,7 +307,7 @@ const RUNS: [(Job<'static>, bool, &str); 17] = [
         Job::Steps(
             "radix 2\ndims 1\ndepth 4\ntags 4\nwords 8\ninit 0 12\n",
             "0 and 0 10\n0 fence\n0 or 0 3\n0 fence\n0 xor 0 6\n0 fence\n0 max 0 20\n0 fence\n0 min 0 5\n",
-            "0 send\n2 serve\n0 take\n0 send\n2 serve\n0 take\n0 send\n2 serve\n0 take\n0 send\n2 serve\n0 take\n0 send\n2 serve\n0 take\n",
+            "0 send\n0 send\n1 take 8\n1 put 8\n2 take\n0 send\n1 take 8\n1 put 8\n2 take\n1 take 8\n1 put 8\n2 take\n2 serve\n2 send\n1 take 9\n1 put 9\n2 send\n1 take 9\n1 put 9\n2 send\n1 take 9\n1 put 9\n0 take\n0 take\n0 take\n0 send\n0 credit\n0 send\n1 take 8\n1 put 8\n2 take\n0 credit\n0 send\n1 take 8\n1 credit 8\n1 put 8\n2 take\n1 take 8\n1 credit 8\n1 put 8\n2 take\n2 serve\n2 send\n1 take 9\n1 put 9\n2 credit\n2 send\n1 take 9\n1 credit 9\n1 put 9\n2 credit\n2 send\n1 take 9\n1 credit 9\n1 put 9\n0 take\n0 take\n0 take\n0 credit\n0 send\n0 credit\n0 send\n1 take 8\n1 credit 8\n1 put 8\n2 take\n0 credit\n0 send\n1 take 8\n1 credit 8\n1 put 8\n2 take\n1 take 8\n1 credit 8\n1 put 8\n2 take\n2 serve\n2 credit\n2 send\n1 take 9\n1 credit 9\n1 put 9\n2 credit\n2 send\n1 take 9\n1 credit 9\n1 put 9\n2 credit\n2 send\n1 take 9\n1 credit 9\n1 put 9\n0 take\n0 take\n0 take\n0 credit\n0 send\n0 credit\n0 send\n1 take 8\n1 credit 8\n1 put 8\n2 take\n0 credit\n0 send\n1 take 8\n1 credit 8\n1 put 8\n2 take\n1 take 8\n1 credit 8\n1 put 8\n2 take\n2 serve\n2 credit\n2 send\n1 take 9\n1 credit 9\n1 put 9\n2 credit\n2 send\n1 take 9\n1 credit 9\n1 put 9\n2 credit\n2 send\n1 take 9\n1 credit 9\n1 put 9\n0 take\n0 take\n0 take\n0 credit\n0 send\n0 credit\n0 send\n1 take 8\n1 credit 8\n1 put 8\n2 take\n0 credit\n0 send\n1 take 8\n1 credit 8\n1 put 8\n2 take\n1 take 8\n1 credit 8\n1 put 8\n2 take\n2 serve\n2 credit\n2 send\n1 take 9\n1 credit 9\n1 put 9\n2 credit\n2 send\n1 take 9\n1 credit 9\n1 put 9\n2 credit\n2 send\n1 take 9\n1 credit 9\n1 put 9\n0 take\n0 take\n0 take\n",
         ),
         true,
         NEWER,
@@ -313,7 +327,7 @@ const RUNS: [(Job<'static>, bool, &str); 17] = [
         Job::Steps(
             "radix 2\ndims 1\ndepth 4\ntags 1\nwords 8\n",
             SCRIPT,
-            "0 send\n0 send\n5 serve\n",
+            "0 send\n0 send\n0 send\n1 take 8\n1 put 8\n4 take 0\n4 put 0\n5 take\n0 send\n1 take 8\n1 put 8\n4 take 0\n4 put 0\n5 take\n1 take 8\n1 put 8\n4 take 0\n4 put 0\n5 take\n5 serve\n",
         ),
         false,
         "torusmem 1\nshape 2 1 8\nentry 1 0 0 0 store 5 17 ok\nword 5 17\norder 1 0 1 2 -\nend incomplete\n",
@@ -323,7 +337,7 @@ const RUNS: [(Job<'static>, bool, &str); 17] = [
         Job::Steps(
             PAIR,
             "0 add 4 1\n0 load 1\n1 store 1 7\n",
-            "3 send\n5 serve\n0 send\n0 send\n5 serve\n0 take\n2 serve\n0 take\n3 take\n",
+            "3 send\n3 send\n4 take 8\n4 put 8\n5 take\n3 send\n4 take 8\n4 put 8\n5 take\n4 take 8\n4 put 8\n5 take\n5 serve\n5 send\n4 take 9\n4 put 9\n0 send\n0 send\n1 take 8\n1 put 8\n2 take\n0 send\n1 take 8\n1 put 8\n2 take\n1 take 8\n1 put 8\n2 take\n0 send\n1 take 8\n1 put 8\n4 take 0\n4 put 0\n5 take\n5 serve\n5 send\n4 take 9\n4 put 9\n5 send\n1 take 3\n1 put 3\n4 take 9\n4 put 9\n5 send\n1 take 3\n1 put 3\n4 take 9\n4 put 9\n1 take 3\n1 put 3\n0 take\n0 take\n0 take\n2 serve\n2 send\n1 take 9\n1 put 9\n2 send\n1 take 9\n1 credit 9\n1 put 9\n2 send\n1 take 9\n1 credit 9\n1 put 9\n0 take\n0 take\n0 take\n3 take\n",
         ),
         true,
         "torusmem 1\nshape 2 1 8\nentry 0 0 0 0 add 4 1 0\nentry 1 0 1 0 store 1 7 ok\nentry 1 1 0 1 load 1 7\nanswer 0 0 0 0 0\nanswer 0 1 1 1 7\nanswer 1 0 1 0 ok\nword 1 7\nword 4 1\norder 1 0 1 2 9\norder 1 1 4 5 6\norder 0 0 3 7 8\nend complete\n",
@@ -333,7 +347,7 @@ const RUNS: [(Job<'static>, bool, &str); 17] = [
         Job::Steps(
             "radix 2\ndims 1\ndepth 4\ntags 4\nwords 8\ninit 0 12\n",
             "0 and 0 10\n0 or 0 3\n0 xor 0 6\n0 max 0 20\n0 min 0 5\n",
-            "0 send\n2 serve\n0 take\n0 send\n2 serve\n0 take\n0 send\n2 serve\n0 take\n0 send\n2 serve\n0 take\n0 send\n2 serve\n0 take\n",
+            "0 send\n0 send\n1 take 8\n1 put 8\n2 take\n0 send\n1 take 8\n1 put 8\n2 take\n1 take 8\n1 put 8\n2 take\n2 serve\n2 send\n1 take 9\n1 put 9\n2 send\n1 take 9\n1 put 9\n2 send\n1 take 9\n1 put 9\n0 take\n0 take\n0 take\n0 send\n0 credit\n0 send\n1 take 8\n1 put 8\n2 take\n0 credit\n0 send\n1 take 8\n1 credit 8\n1 put 8\n2 take\n1 take 8\n1 credit 8\n1 put 8\n2 take\n2 serve\n2 send\n1 take 9\n1 put 9\n2 credit\n2 send\n1 take 9\n1 credit 9\n1 put 9\n2 credit\n2 send\n1 take 9\n1 credit 9\n1 put 9\n0 take\n0 take\n0 take\n0 credit\n0 send\n0 credit\n0 send\n1 take 8\n1 credit 8\n1 put 8\n2 take\n0 credit\n0 send\n1 take 8\n1 credit 8\n1 put 8\n2 take\n1 take 8\n1 credit 8\n1 put 8\n2 take\n2 serve\n2 credit\n2 send\n1 take 9\n1 credit 9\n1 put 9\n2 credit\n2 send\n1 take 9\n1 credit 9\n1 put 9\n2 credit\n2 send\n1 take 9\n1 credit 9\n1 put 9\n0 take\n0 take\n0 take\n0 credit\n0 send\n0 credit\n0 send\n1 take 8\n1 credit 8\n1 put 8\n2 take\n0 credit\n0 send\n1 take 8\n1 credit 8\n1 put 8\n2 take\n1 take 8\n1 credit 8\n1 put 8\n2 take\n2 serve\n2 credit\n2 send\n1 take 9\n1 credit 9\n1 put 9\n2 credit\n2 send\n1 take 9\n1 credit 9\n1 put 9\n2 credit\n2 send\n1 take 9\n1 credit 9\n1 put 9\n0 take\n0 take\n0 take\n0 credit\n0 send\n0 credit\n0 send\n1 take 8\n1 credit 8\n1 put 8\n2 take\n0 credit\n0 send\n1 take 8\n1 credit 8\n1 put 8\n2 take\n1 take 8\n1 credit 8\n1 put 8\n2 take\n2 serve\n2 credit\n2 send\n1 take 9\n1 credit 9\n1 put 9\n2 credit\n2 send\n1 take 9\n1 credit 9\n1 put 9\n2 credit\n2 send\n1 take 9\n1 credit 9\n1 put 9\n0 take\n0 take\n0 take\n",
         ),
         true,
         NEWER,
@@ -343,10 +357,29 @@ const RUNS: [(Job<'static>, bool, &str); 17] = [
         Job::Steps(
             PAIR,
             "0 load 0\n1 load 1\n",
-            "0 send\n3 send\n5 serve\n2 serve\n3 take\n0 take\n",
+            "0 send\n1 take 8\n1 put 8\n2 take\n3 send\n4 take 8\n4 put 8\n5 take\n5 serve\n5 send\n4 take 9\n4 put 9\n5 send\n4 take 9\n4 put 9\n5 send\n4 take 9\n4 put 9\n2 serve\n2 send\n1 take 9\n1 put 9\n2 send\n1 take 9\n1 put 9\n2 send\n1 take 9\n1 put 9\n3 take\n3 take\n3 take\n0 take\n0 take\n0 take\n",
         ),
         true,
         "torusmem 1\nshape 2 1 8\nentry 0 0 0 0 load 0 0\nentry 1 0 1 0 load 1 0\nanswer 0 0 0 0 0\nanswer 1 0 1 0 0\norder 1 0 2 3 5\norder 0 0 1 4 6\nend complete\n",
+    ),
+    // In rounds twelve finish both operations; no more are made, and fewer don't suffice.
+    (Job::Round(PAIR, SCRIPT, 1000000), true, REPORT),
+    (Job::Round(PAIR, SCRIPT, 12), true, REPORT),
+    (
+        Job::Round(PAIR, SCRIPT, 11),
+        false,
+        "torusmem 1\nshape 2 1 8\nentry 1 0 0 0 store 5 17 ok\nentry 1 1 0 0 load 5 17\nanswer 0 0 1 0 ok\nword 5 17\norder 1 0 1 2 3\norder 1 1 4 5 -\nend incomplete\n",
+    ),
+    (
+        Job::Round(PAIR, "", 1),
+        true,
+        "torusmem 1\nshape 2 1 8\nend complete\n",
+    ),
+    // Two processors and both banks, in rounds.
+    (
+        Job::Round(PAIR, "0 add 4 1\n0 load 1\n1 store 1 7\n", 10),
+        true,
+        "torusmem 1\nshape 2 1 8\nentry 0 0 0 0 add 4 1 0\nentry 1 0 1 0 store 1 7 ok\nentry 1 1 0 1 load 1 7\nanswer 0 0 0 0 0\nanswer 0 1 1 1 7\nanswer 1 0 1 0 ok\nword 1 7\nword 4 1\norder 0 0 1 3 8\norder 1 0 2 4 7\norder 1 1 5 6 9\nend complete\n",
     ),
 ];
 
@@ -362,7 +395,7 @@ fn runs_write_good_reports(rt: HostRuntime) {
 /// Texts of which one has a first fault: the machine, the scripts and the steps; the fault, at which
 /// line, and what is printed of it; and what is wrong. A fault of the machine comes before one of the
 /// scripts, and that before one of the steps.
-const FAULTS: [(Job<'static>, Fault, u64, &str, &str); 21] = [
+const FAULTS: [(Job<'static>, Fault, u64, &str, &str); 23] = [
     (
         Job::Steps(
             "radix 99999999999999999999999999\n",
@@ -514,6 +547,20 @@ const FAULTS: [(Job<'static>, Fault, u64, &str, &str); 21] = [
         "fault F4 at line 1",
         "a choice is not understood",
     ),
+    (
+        Job::Round("radix 9\n", "9 load 9\n", 1),
+        Fault::Radix,
+        1,
+        "fault F1 at line 1",
+        "a radix is not 2 to 8, and a script is wrong",
+    ),
+    (
+        Job::Round(PAIR, "0 load 8\n", 1),
+        Fault::Address,
+        1,
+        "fault F7 at line 1",
+        "an address is not below the number of words, of a run in rounds",
+    ),
 ];
 
 /// Each fault that a text can have is told as its own, with its line, and prints its own code.
@@ -628,8 +675,9 @@ fn answers_have_statuses(rt: HostRuntime) {
 
 /// Jobs with the texts that they write, and in how many puts; and budgets of memory for them, of
 /// which the last suffices: how many, and by how many bytes they grow.
-const WHOLE: [(Job<'static>, &str, usize, usize, usize); 4] = [
-    (Job::Steps(PAIR, SCRIPT, STEPS), REPORT, 10, 512, 16),
+const WHOLE: [(Job<'static>, &str, usize, usize, usize); 5] = [
+    (Job::Steps(PAIR, SCRIPT, STEPS), REPORT, 10, 1024, 32),
+    (Job::Round(PAIR, SCRIPT, 12), REPORT, 10, 1024, 32),
     (
         Job::Route(PAIR, 1, 0, Class::Request),
         "inject 1 0\nhop 1 0 plus 1 3\neject 0 5\n",
@@ -699,28 +747,13 @@ fn outputs(rt: HostRuntime) {
     }
 }
 
-/// Adds the script of a processor: a store to each of 1024 addresses.
+/// Adds the script of a processor: a store to each of 1024 addresses, at home in one bank after the
+/// other, in each processor from another bank on.
 fn add_script(text: &mut String, processor: u32) -> Result<(), AllocError> {
     for place in 0..1024u32 {
-        let address = 1024 * u64::from(processor) + u64::from(place);
+        let bank = (u64::from(processor) + u64::from(place)) % 64;
+        let address = 64 * u64::from(place) + bank;
         writeln!(text, "{processor} store {address} {}", address + 1)?;
-    }
-    Ok(())
-}
-
-/// Adds the steps by which the next sixteen operations of a processor, to the banks of sixteen
-/// tiles from one on, are issued, served and answered.
-fn add_steps(text: &mut String, processor: u32, tile: u32) -> Result<(), AllocError> {
-    let agent = 3 * u64::from(processor);
-    for _ in 0..16 {
-        writeln!(text, "{agent} send")?;
-    }
-    for place in 0..16u64 {
-        let bank = 3 * (u64::from(tile) + place) + 2;
-        writeln!(text, "{bank} serve")?;
-    }
-    for _ in 0..16 {
-        writeln!(text, "{agent} take")?;
     }
     Ok(())
 }
@@ -737,28 +770,18 @@ fn line_count(text: &[u8]) -> usize {
 }
 
 /// The greatest machine, with the most operations, each of which stores at an address of its own:
-/// 64 tiles, 65536 words, 16 tags that are all in use at once, 65536 operations. Its report has a
-/// line for each entry, answer, word and place in the order, and three more.
+/// 64 tiles, 65536 words, 16 tags, 65536 operations; run in rounds. Its report has a line for each
+/// entry, answer, word and place in the order, and three more.
 #[test]
 fn greatest_sizes(rt: HostRuntime) -> Result<(), Fail> {
     let machine = b"radix 8\ndims 2\ndepth 8\ntags 16\nwords 65536\n";
     let mut scripts = String::new(rt.alloc());
-    let mut steps = String::new(rt.alloc());
     for processor in 0..64 {
         add_script(&mut scripts, processor)?;
-        for group in 0..64 {
-            add_steps(&mut steps, processor, group % 4 * 16)?;
-        }
     }
     let mut report: Vec<u8> = Vec::new(rt.alloc());
     let mut out = Piped::new(&mut report);
-    let answer = steps_text(
-        rt.alloc(),
-        machine,
-        scripts.as_bytes(),
-        steps.as_bytes(),
-        &mut out,
-    );
+    let answer = round_text(rt.alloc(), machine, scripts.as_bytes(), 1000000, &mut out);
     let verdict = check_text(rt.alloc(), &report, &mut Sink::whole());
     assert!(rt; answer == Ok(true) && verdict == Ok(()) && line_count(&report) == 262147);
     Ok(())

@@ -3,3 +3,4 @@ pub mod Message
 pub mod Lines
 pub mod Done
 pub mod Run
+pub mod Rounds

@@ -7,9 +7,8 @@ use Rattle.script.specs.Machine.{machine_of}
 use Rattle.script.specs.Scripts.{scripts_of}
 use Rattle.script.specs.Steps.{steps_of}
 use Rattle.flights.specs.Load.{Load, load_of}
-use Rattle.machine_core.specs.Wire.{run_of}
-use Rattle.flights.specs.Flight.{all_finished}
-use Rattle.machine_core.specs.Core.{Core, IsAfter, IsLawful, core_after_load}
+use Rattle.core_laws.specs.Core.{run_of}
+use Rattle.machine_laws.specs.Core.{Core, IsAfter, IsLawful, core_after_load, all_finished}
 use Rattle.flights.specs.Scripts.{AreFinished}
 use Rattle.report_lines.specs.Line.{text_of}
 use Rattle.report_check.specs.Good.{GoodReport}
@@ -47,7 +46,7 @@ pub record HasRun (asked : Result Asked LineFault) (c : Core) : Type 0 where
   pub reached : c ≡ core_of run
 
 -- a fault of a text, or want of memory
-abbrev pub IsReadFault : Result Asked LineFault → ProgramFault → Type 0
+abbrev pub IsReadFault : {A : Type 0} → Result A LineFault → ProgramFault → Type 0
 IsReadFault asked (program.Line found) = asked ≡ Err found
 IsReadFault asked (program.Fault which) = which ≡ fault.Memory
 IsReadFault asked _ = ⊥
@@ -74,7 +73,7 @@ pub record IsRunText (asked : Result Asked LineFault) (finished : Bool) (text : 
   pub ended : IsTrue finished ↔ AreFinished (run_of run.load run.steps) (length run.steps) run.load.scripts
 
 -- this is the first fault of the texts
-abbrev pub IsTextsFault : Result Asked LineFault → ProgramFault → Type 0
+abbrev pub IsTextsFault : {A : Type 0} → Result A LineFault → ProgramFault → Type 0
 IsTextsFault asked (program.Line found) = asked ≡ Err found
 IsTextsFault asked _ = ⊥
 

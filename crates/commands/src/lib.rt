@@ -5,6 +5,7 @@
 pub mod channels;
 pub mod check;
 pub mod fault;
+pub mod in_rounds;
 mod line;
 pub mod message;
 pub mod route;
@@ -13,6 +14,7 @@ pub mod steps;
 pub use channels::channels_text;
 pub use check::check_text;
 pub use fault::{ProgramFault, finished, status_of};
+pub use in_rounds::round_text;
 pub use message::fault_text;
 pub use route::route_text;
 pub use steps::steps_text;

@@ -6,7 +6,7 @@ ghost use Rattle.commands.specs.Run.{HasRun, IsOfMachine, IsReadFault, IsNoFault
 use crate::ProgramFault;
 use history::{of_run, write_report};
 use machine_core::Machine;
-use machine_core::laws::steps_decide_the_machine;
+use machine_laws::laws::steps_decide_the_machine;
 use report_lines::Out;
 use script::{read_machine, read_scripts, read_steps};
 use std::alloc::Allocator;
@@ -49,7 +49,7 @@ fn ran<A: Allocator + Copy>(
 }
 
 /// Prints the report of the machine's run. Answers whether every script is finished.
-fn print_run<A: Allocator + Copy, W: Out>(
+pub(crate) fn print_run<A: Allocator + Copy, W: Out>(
     alloc: A,
     machine: &Machine<A>,
     out: &mut W,

@@ -4,7 +4,7 @@ use Rattle.std.proofs.lemmas.List.{length-map, get_or-map}
 use Rattle.report_lines.specs.declared.parts.Parts.{Parts}
 use Rattle.report_lines.specs.declared.parts.EntryRow.{EntryRow}
 use Rattle.report_lines.specs.Contents.{items_of}
-use Rattle.machine_core.specs.Core.{Core, shown}
+use Rattle.machine_laws.specs.Core.{Core, shown}
 use Rattle.history.specs.Report.{IsMadeOf, IsWithinLimits, entry_row, answer_row}
 
 -- vectors with the lists of a list of lists, each mapped, are as many

@@ -11,9 +11,8 @@ use Rattle.report_lines.specs.declared.parts.AnswerRow.{AnswerRow}
 use Rattle.report_check.specs.Fits.{FitsLine}
 use Rattle.report_check.specs.Good.{AreGood, GoodReport}
 use Rattle.report_facts.specs.Facts.{AreContents}
-use Rattle.flights.specs.Flight.{all_finished}
-use Rattle.machine_core.specs.Core.{Core, shown}
-use Rattle.machine_core.specs.Reported.{ReportsWell}
+use Rattle.machine_laws.specs.Core.{Core, shown, all_finished}
+use Rattle.machine_laws.specs.Reported.{ReportsWell}
 use Rattle.history.specs.Report.{answer_row, entry_row, order_line, machine_report}
 use Rattle.history.proofs.Contents.{answered, complete, entered, numbered, ordered, told}
 

@@ -11,8 +11,7 @@ use Rattle.report_lines.specs.declared.parts.AnswerRow.{AnswerRow}
 use Rattle.report_lines.specs.declared.parts.Parts.{Parts}
 use Rattle.report_lines.specs.Contents.{items_of, report_lines_of}
 use Rattle.runs.specs.Observed.{Observed, event_count}
-use Rattle.flights.specs.Flight.{all_finished}
-use Rattle.machine_core.specs.Core.{Core, shown}
+use Rattle.machine_laws.specs.Core.{Core, shown, all_finished}
 
 -- what is reported of a service
 abbrev pub entry_row : Entry → EntryRow

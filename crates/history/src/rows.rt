@@ -2,7 +2,7 @@
 
 ghost use Rattle.std.specs.Prelude.{◌≡◌, IfOk, length, map};
 ghost use Rattle.report_lines.specs.Contents.{items_of};
-ghost use Rattle.machine_core.specs.Core.{shown};
+ghost use Rattle.machine_laws.specs.Core.{shown};
 ghost use Rattle.history.specs.Report.{answer_row, entry_row, order_line};
 
 use home_bank::Entry;

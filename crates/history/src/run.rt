@@ -7,7 +7,7 @@ ghost use Rattle.history.specs.Report.{IsMadeOf, IsWithinLimits, machine_report}
 
 use crate::rows::{bank_rows, last_words, opening_words, order_lines, processor_rows};
 use machine_core::Machine;
-use machine_core::laws::reached_machines_report_well;
+use machine_laws::laws::reached_machines_report_well;
 use report_facts::laws::contents_are_good;
 use report_facts::numbers_fit;
 use report_lines::{Parts, Report};

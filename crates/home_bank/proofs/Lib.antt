@@ -1,4 +1,4 @@
-pub mod Replay
+pub mod Homes
 pub mod FlitsToPut
 pub mod RequestWords
 pub mod WantedPorts

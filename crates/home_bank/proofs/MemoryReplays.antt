@@ -23,7 +23,7 @@ use Rattle.home_bank.specs.declared.entry.Entry.{Entry}
 use Rattle.home_bank.specs.ServiceList.{address_of, entry_of}
 use Rattle.home_bank.specs.BankTable.{BankState, is_nil, served, bank_wants, bank_after}
 use Rattle.home_bank.specs.MemoryReplay.{operation_of, ReplayInMemory}
-use Rattle.home_bank.proofs.Replay.{home_tile}
+use Rattle.home_bank.proofs.Homes.{home_tile}
 use Rattle.home_bank.proofs.WantedPorts.{if_wanted}
 
 pub at_start : (tiles tile : ℕ) (opening more : List ℕ) → ReplayInMemory tiles tile opening (opening ++ more) []

@@ -1,5 +1,4 @@
 pub mod ServiceList
-pub mod Bank
 pub mod Inside
 pub mod BankTable
 pub mod Beginning

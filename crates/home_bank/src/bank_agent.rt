@@ -170,6 +170,7 @@ impl<A: Allocator> BankAgent<A> {
 
     /// The operation of a choice; None exactly when the bank hasn't that choice or its condition
     /// fails.
+    #[inline(always)]
     pub fn next_op(&self, choice: Choice) -> Option<WordOp>
         ensures { result ≡ next_op (bank_wants self.now.tiles self.now.tile) self.now.agent choice }
     {

@@ -1,6 +1,6 @@
 //! Laws of banks, each the contract of a function that does nothing.
 
-ghost use Rattle.std.specs.Prelude.{◌≡◌, ◌≢◌, ◌<◌, ◌≤◌, ◌+◌, ◌%◌, ◌++◌, [], ◌∷◌, ℕ, List, Some, IfSome, length, replicate, slice_index};
+ghost use Rattle.std.specs.Prelude.{◌≡◌, ◌<◌, ◌≤◌, ◌%◌, ◌++◌, [], ◌∷◌, ℕ, List, Some, IfSome, length, replicate, slice_index};
 ghost use Rattle.torus.specs.Shape.{Shape, tiles_of, home_of};
 ghost use Rattle.torus.specs.declared.step.Choice.{Choice};
 ghost use Rattle.torus.specs.declared.step.Choice.TheVariants as choices;
@@ -15,7 +15,6 @@ ghost use Rattle.flit_buffer.specs.Surroundings.{Surroundings, Wiring, IsPossibl
 ghost use Rattle.flit_buffer.specs.declared.want.Want.{Want};
 ghost use Rattle.home_bank.specs.declared.entry.Entry.{Entry};
 ghost use Rattle.home_bank.specs.ServiceList.{address_of};
-ghost use Rattle.home_bank.specs.Bank.{BankState, IsBank, bank_after, Replays};
 ghost use Rattle.home_bank.specs.BankTable.{BankState as State, bank_wants, bank_after as state_after};
 ghost use Rattle.home_bank.specs.BankAgent.{NamesWord};
 ghost use Rattle.home_bank.specs.Beginning.{bank_wiring, empty_bank, new_ports};
@@ -25,20 +24,6 @@ ghost use Rattle.home_bank.specs.MemoryReplay.{ReplayInMemory};
 /// The address of a word of a tile's bank is at home there.
 pub fn words_are_at_home()
     ensures { (s : Shape) (tile w : ℕ) → tile < tiles_of s → home_of s (address_of tile (tiles_of s) w) ≡ (tile, w) }
-{}
-
-/// A service list that replays does so after each further service.
-pub fn services_replay()
-    ensures { (opening : List ℕ) (b : BankState) (r : Request) → IsBank b → Replays opening b
-        → Replays opening (bank_after b r) }
-{}
-
-/// A service changes no other word, and the service list grows by one entry.
-pub fn services_change_one_word()
-    ensures others { (b : BankState) (r : Request) (w : ℕ) → w ≢ r.word
-        → slice_index (bank_after b r).words w ≡ slice_index b.words w }
-    ensures words { (b : BankState) (r : Request) → length (bank_after b r).words ≡ length b.words }
-    ensures entries { (b : BankState) (r : Request) → length (bank_after b r).entries ≡ length b.entries + 1 }
 {}
 
 /// A bank wants no port that isn't there, only words of the memory that are there, and to put no 0: in

@@ -1,137 +1,164 @@
 -- The fields that `load` makes are those of a machine that has made no step.
-use Rattle.std.proofs.Common.{◌≡◌, ℕ, suc, ◌<◌, ◌≤◌, List, [], ◌∷◌, length, map, replicate, Some, refl, sym, ◌∙◌, ap, subst, slice_get, vec_capacity, arith}
-use Rattle.std.proofs.lemmas.List.{length-map}
-use Rattle.std.proofs.lemmas.Simd.{map-map}
-use Rattle.torus.specs.Shape.{Shape, tiles_of}
+use Rattle.std.proofs.Common.{◌≡◌, ℕ, ◌*◌, ◌<◌, ◌≤◌, List, [], ◌∷◌, ◌++◌, length, map, replicate, Option, Some, None, refl, sym, ◌∙◌, ap, subst, arith, slice_get, take, get_or, get_or-take}
+use Rattle.std.specs.Prelude.{option_map}
+use Rattle.std.proofs.lemmas.Option.{slice_get-map, slice_get_within, slice_get-get_or, get_or_from_slice_get}
+use Rattle.std.proofs.lemmas.List.{length-take}
+use Rattle.script_rooms.proofs.Counts.{home_within}
+use Rattle.event_book.specs.RoomyBook.{RoomyBook}
+use Rattle.torus.specs.Shape.{Shape, tiles_of, dims_of}
 use Rattle.script.specs.Machine.{MachineSpec, IsAcceptedMachine}
-use Rattle.script.specs.Scripts.{ScriptsSpec, AreAcceptedScripts, Fit, operation_count, total_count}
+use Rattle.script.specs.Scripts.{ScriptsSpec, AreAcceptedScripts, Fit, operation_count, script_of, total_count}
 use Rattle.script.specs.declared.line.Line.{Line}
-use Rattle.runs.specs.Observed.{tabulate}
-use Rattle.runs.proofs.Words.{length-tabulate}
-use Rattle.flights.specs.Load.{Load, IsAccepted, load_of}
-use Rattle.machine_core.specs.declared.rows.ProcessorRow.{ProcessorRow}
-use Rattle.machine_core.specs.declared.rows.BankRow.{BankRow}
-use Rattle.machine_core.specs.declared.machine.Machine.TheInside.{Inside}
-use Rattle.torus.proofs.MixedRadix.{product_positive}
-use Rattle.torus.proofs.Hops.{positive}
-use Rattle.runs.specs.Observed.{words_by_address}
-use Rattle.flights.specs.Flight.{Flight}
-use Rattle.flights.specs.Courses.{first_record}
-use Rattle.flights.specs.EventBook.{EventBook, first_book}
+use Rattle.channel_number.specs.Order.{channel_count}
+use Rattle.flights.specs.Load.{load_of}
 use Rattle.flights.specs.Room.{home_room}
-use Rattle.machine_core.specs.Wire.{first_state}
-use Rattle.machine_core.specs.Rows.{processor_of, HasProcessorRoom}
-use Rattle.machine_core.specs.Core.{Core, IsAfter, IsLawful}
-use Rattle.machine_core.specs.Inside.{state_of, book_of, core_of, IsMachine}
-use Rattle.machine_core.specs.Loaded.{Bank, first_words, first_bank, bank_of, IsFirstBankRow}
-use Rattle.machine_core.proofs.Words.{first_memory}
+use Rattle.flights.specs.EventBook.{EventBook, first_book}
 use Rattle.flights.proofs.LoadingAccepted.{accepted_load}
-use Rattle.machine_core.proofs.Kept.{same_book}
-use Rattle.machine_core.proofs.Reach.{lawful}
+use Rattle.tile.specs.Tile.{TileState}
+use Rattle.tile.specs.Agents.{tile_placed}
+use Rattle.tile_agents.specs.Placed.{PlacedTile, first_tile}
+use Rattle.core_laws.specs.Core.{Load, design_of, first_state, first_tile as first_tile_state}
+use Rattle.core_laws.specs.Runs.{IsAccepted}
+use Rattle.core_row.specs.Attempts.{tile_in}
+use Rattle.core_row.proofs.First.{first_row, first_tiles as first_places}
+use Rattle.machine_laws.specs.Core.{IsAfter, IsLawful}
+use Rattle.machine_laws.proofs.Lawful.{lawful}
+use Rattle.machine_seen.specs.Seen.{IsShown}
+use Rattle.machine_seen.proofs.Reached.{seen_state}
+use Rattle.machine_core.specs.declared.machine.Machine.TheInside.{Inside}
+use Rattle.machine_core.specs.Inside.{design_in, places_in, core_of, HaveRoom, HasRoomFor, IsMachine}
+use Rattle.machine_core.specs.Loaded.{first_tiles}
+use Rattle.machine_core.proofs.BeginsTiles.{at}
 
-pub record Begun {A : Type 0} (l : Load) (a : Inside A) : Type 0 where
-  pub shape : a.torus ≡ l.shape
-  pub depth : a.depth ≡ l.depth
-  pub tags : a.tags ≡ l.tags
-  pub opening : a.opening.items ≡ l.opening
-  pub processors : map processor_of a.processors.items ≡ map (first_record l.tags) l.scripts
-  pub numbers : (p : ℕ) (row : ProcessorRow A) → slice_get a.processors.items p ≡ Some row → row.numbers.items ≡ []
-  pub room : (p : ℕ) (row : ProcessorRow A) (lines : List Line) → slice_get a.processors.items p ≡ Some row → slice_get l.scripts p ≡ Some lines → HasProcessorRoom (operation_count lines) row
-  pub banks : map (λ (row : BankRow A). bank_of row.bank) a.banks.items ≡ tabulate (first_bank (tiles_of l.shape) l.opening) (tiles_of l.shape)
-  pub each : (b : ℕ) (row : BankRow A) → slice_get a.banks.items b ≡ Some row → IsFirstBankRow (tiles_of l.shape) b l.opening (home_room (tiles_of l.shape) b l.scripts) row
-  pub requests : a.requests.items ≡ []
-  pub responses : a.responses.items ≡ []
-  pub order : a.order.items ≡ []
-  pub events : a.events ≡ 0
-  pub request_room : total_count l.scripts ≤ vec_capacity a.requests
-  pub response_room : total_count l.scripts ≤ vec_capacity a.responses
-  pub order_room : total_count l.scripts ≤ vec_capacity a.order
+-- the load of which these are the fields
+abbrev pub load_in : {A : Type 0} → Inside A → List (List Line) → Load
+load_in a scripts = record { shape = a.torus; depth = a.depth; tags = a.tags; opening = a.opening.items; scripts = scripts }
 
-all_empty : {A B : Type 0} (f : A → List B) (xs : List A) (n : ℕ) → length xs ≡ n → ((k : ℕ) (x : A) → slice_get xs k ≡ Some x → f x ≡ []) → map f xs ≡ replicate n []
-all_empty f [] n e h = ap (λ k. replicate k []) e
-all_empty f (x ∷ xs) n e h = ap (λ (y : List _). y ∷ map f xs) (h 0 x refl) ∙ (ap (λ ys. [] ∷ ys) (all_empty f xs (length xs) refl (λ k. h (suc k))) ∙ ap (λ k. replicate k []) e)
+-- the fields are made from a load of these scripts: the tiles, the row and the book are those before any step, each bank has
+-- the room that the scripts can ask of it, and the book the room for all that they can ask
+pub record Begun {A : Type 0} (a : Inside A) (scripts : List (List Line)) : Type 0 where
+  pub rooms : ℕ → ℕ
+  pub tiles : a.tiles.items ≡ first_tiles (design_in a) a.tags rooms scripts
+  pub homes : (b : ℕ) → b < tiles_of a.torus → rooms b ≡ home_room (tiles_of a.torus) b scripts
+  pub row : a.row.items ≡ replicate (channel_count a.torus * a.depth) 0 ++ (a.opening.items ++ 0 ∷ [])
+  pub book : a.book.book ≡ first_book (tiles_of a.torus)
+  pub room : HasRoomFor (load_in a scripts) a.book
 
-same_state : (p q : Flight) → p.processors ≡ q.processors → p.entries ≡ q.entries → p.memory ≡ q.memory → p.asked ≡ q.asked → p.told ≡ q.told → p ≡ q
-same_state p q hp he hm ha ht =
-    ap (λ z. record { processors = z; entries = p.entries; memory = p.memory; asked = p.asked; told = p.told }) hp
-    ∙ (ap (λ z. record { processors = q.processors; entries = z; memory = p.memory; asked = p.asked; told = p.told }) he
-    ∙ (ap (λ z. record { processors = q.processors; entries = q.entries; memory = z; asked = p.asked; told = p.told }) hm
-    ∙ (ap (λ z. record { processors = q.processors; entries = q.entries; memory = q.memory; asked = z; told = p.told }) ha
-    ∙ ap (λ z. record { processors = q.processors; entries = q.entries; memory = q.memory; asked = q.asked; told = z }) ht)))
+module _ (l : Load) (ok : IsAccepted l) (rooms : ℕ → ℕ) where
+  abbrev first_at : ℕ → List Line → PlacedTile
+  first_at t lines = first_tile (design_of l) t l.tags lines (rooms t)
 
--- the words of all banks are the opening words
-memory_first : {A : Type 0} (n : ℕ) (opening now : List ℕ) (rows : List (BankRow A)) → 0 < n → now ≡ opening
-    → map (λ (row : BankRow A). bank_of row.bank) rows ≡ tabulate (first_bank n opening) n
-    → words_by_address n (length now) (map (λ (row : BankRow A). row.bank.words) rows) ≡ opening
-memory_first {A = A} n opening now rows some same banks =
-    ap (λ (xs : List ℕ). words_by_address n (length xs) (map (λ (row : BankRow A). row.bank.words) rows)) same
-    ∙ (ap (words_by_address n (length opening)) (sym (map-map (λ (x : Bank). x.words) (λ (row : BankRow A). bank_of row.bank) rows) ∙ ap (map (λ (x : Bank). x.words)) banks)
-    ∙ first_memory n opening some)
+  -- each tile in its place, as the state before any step has it
+  place_of : (t : ℕ) (o : Option (List Line)) → slice_get l.scripts t ≡ o → option_map (λ v. v.place) (option_map (first_at t) o) ≡ tile_in (design_of l) (first_state l) t
+  place_of t (Some lines) e = sym (first_places l ok t lines e)
+  place_of t None e =
+      sym (ap (option_map (λ (tile : TileState). tile_placed (design_of l) t tile (first_state l).around))
+      (slice_get-map (first_tile_state (dims_of l.shape) l.tags) l.scripts t ∙ ap (option_map (first_tile_state (dims_of l.shape) l.tags)) e))
 
-pub is_after_none : {A : Type 0} (l : Load) (a : Inside A) → IsAccepted l → Begun l a → IsAfter l (core_of a) []
-is_after_none {A = A} l a ok b =
-    let tiles : ℕ = tiles_of l.shape in
-    let processors : length a.processors.items ≡ tiles =
-    sym (length-map a.processors.items processor_of) ∙ (ap (λ xs. length xs) b.processors ∙ (length-map l.scripts (first_record l.tags) ∙ ok.processors)) in
-    let banks : length a.banks.items ≡ tiles =
-    sym (length-map a.banks.items (λ (row : BankRow A). bank_of row.bank)) ∙ (ap (λ xs. length xs) b.banks ∙ length-tabulate (first_bank tiles l.opening) tiles) in
-    let book : book_of a ≡ first_book tiles = same_book (book_of a) (first_book tiles) b.events
-    (all_empty (λ (row : ProcessorRow A). row.numbers.items) a.processors.items tiles processors b.numbers)
-    (all_empty (λ (row : BankRow A). row.positions.items) a.banks.items tiles banks (λ k row h. (b.each k row h).positions))
-    b.order in
-    record {
-      accepted = ok;
-      shape = b.shape;
-      depth = b.depth;
-      tags = b.tags;
-      opening = b.opening;
-      state = same_state (state_of a) (first_state l) b.processors
-          (all_empty (λ (row : BankRow A). row.bank.entries) a.banks.items tiles banks (λ k row h. ap (λ (x : Bank). x.entries) (b.each k row h).bank))
-          (ap (λ sh. words_by_address (tiles_of sh) (length a.opening.items) (map (λ (row : BankRow A). row.bank.words) a.banks.items)) b.shape
-          ∙ memory_first tiles l.opening a.opening.items a.banks.items (product_positive l.shape.radices (positive l.shape ok.shape)) b.opening b.banks)
-          b.requests b.responses;
-      book = book;
-      lawful = subst (λ (g : EventBook). IsLawful l [] g.rows) (sym book) (lawful l ok []);
-    }
+  pub first_place : (t : ℕ) → slice_get (map (λ v. v.place) (first_tiles (design_of l) l.tags rooms l.scripts)) t ≡ tile_in (design_of l) (first_state l) t
+  first_place t =
+      slice_get-map (λ v. v.place) (first_tiles (design_of l) l.tags rooms l.scripts) t
+      ∙ (ap (option_map (λ v. v.place)) (at (design_of l) l.tags rooms t l.scripts) ∙ place_of t (slice_get l.scripts t) refl)
 
-pub is_machine : {A : Type 0} (l : Load) (a : Inside A) → IsAccepted l → Begun l a → IsMachine a
-is_machine l a ok b = record {
-  load = l;
-  steps = [];
-  after = is_after_none l a ok b;
-  room = record {
-    processors = λ t lines row script there. b.room t row lines there script;
-    banks = λ k row there. (b.each k row there).room;
-    requests = b.request_room;
-    responses = b.response_room;
-    order = b.order_room;
-  };
-  banks = λ k row there.
-      let first = b.each k row there in
-      record {
-        tile = first.tile;
-        among = first.among ∙ sym (ap tiles_of b.shape);
-        words = ap (λ (x : Bank). length x.words) first.bank
-            ∙ (ap (λ (xs : List ℕ). length (first_words (tiles_of l.shape) xs k)) (sym b.opening) ∙ ap (λ sh. length (first_words (tiles_of sh) a.opening.items k)) (sym b.shape));
-      };
+  -- and with its room
+  room_of : (t : ℕ) (v : PlacedTile) (o : Option (List Line)) → slice_get l.scripts t ≡ o → option_map (first_at t) o ≡ Some v → (t < tiles_of l.shape) × (v.room ≡ rooms t)
+  room_of t v None e h = absurd (cc)
+  room_of t v (Some lines) e h =
+      let same : first_at t lines ≡ v = cc in
+      (subst (λ (k : ℕ). t < k) ok.processors (slice_get_within l.scripts t lines e), sym (ap (λ (x : PlacedTile). x.room) same))
+
+  pub first_room : (t : ℕ) (v : PlacedTile) → slice_get (first_tiles (design_of l) l.tags rooms l.scripts) t ≡ Some v → (t < tiles_of l.shape) × (v.room ≡ rooms t)
+  first_room t v h = room_of t v (slice_get l.scripts t) refl (sym (at (design_of l) l.tags rooms t l.scripts) ∙ h)
+
+module _ {A : Type 0} (a : Inside A) (scripts : List (List Line)) (ok : IsAccepted (load_in a scripts)) (b : Begun a scripts) where
+  shown : IsShown (design_in a) (first_state (load_in a scripts)) (places_in a) a.row.items
+  shown = record {
+    tiles = λ t. ap (λ (vs : List PlacedTile). slice_get (map (λ v. v.place) vs) t) b.tiles ∙ first_place (load_in a scripts) ok b.rooms t;
+    row_is = b.row ∙ sym (first_row (load_in a scripts) ok);
+  }
+
+  pub is_after_none : IsAfter (load_in a scripts) (core_of a) []
+  is_after_none = record {
+    accepted = ok;
+    shape = refl;
+    depth = refl;
+    tags = refl;
+    opening = refl;
+    state = seen_state (load_in a scripts) ok [] 0 (places_in a) a.row.items shown;
+    book = b.book;
+    lawful = subst (λ (g : EventBook). IsLawful (load_in a scripts) [] g.rows) (sym b.book) (lawful (load_in a scripts) ok []);
+  }
+
+  have_room : HaveRoom (load_in a scripts) a.tiles.items
+  have_room t v there =
+      let is = first_room (load_in a scripts) ok b.rooms t v (ap (λ (vs : List PlacedTile). slice_get vs t) (sym b.tiles) ∙ there) in
+      is.1 ∙ b.homes t is.0
+
+  pub is_machine : IsMachine a
+  is_machine = record { load = load_in a scripts; steps = []; after = is_after_none; seen = shown; banks = have_room; room = b.room }
+
+-- a part of a list is its first elements
+part_at : (n : ℕ) (xs : List ℕ) (k x : ℕ) → slice_get (take n xs) k ≡ Some x → (k < n) × (get_or xs k 0 ≡ x)
+part_at n xs k x there =
+    let within = slice_get_within (take n xs) k x there in
+    let size = length-take n xs in
+    let low : k < n = omega arith in
+    (low, sym (get_or-take n xs k 0 low) ∙ get_or_from_slice_get (take n xs) k x 0 there)
+
+at_part : (n : ℕ) (xs : List ℕ) (k : ℕ) → k < n → n ≤ length xs → slice_get (take n xs) k ≡ Some (get_or xs k 0)
+at_part n xs k low enough =
+    let size = length-take n xs in
+    slice_get-get_or (take n xs) k 0 (omega arith) ∙ ap (λ x. Some x) (get_or-take n xs k 0 low)
+
+part_count : (n : ℕ) (xs : List ℕ) → n ≤ length xs → length (take n xs) ≡ n
+part_count n xs enough = let size = length-take n xs in omega arith
+
+-- tiles, row and book, said of what they were made from
+pub tiles_as : (shape : Shape) (depth tags k words : ℕ) (rooms : ℕ → ℕ) (scripts : List (List Line)) (tiles : List PlacedTile) → k ≡ words
+    → tiles ≡ first_tiles (record { shape = shape; depth = depth; words = k }) tags rooms scripts → tiles ≡ first_tiles (record { shape = shape; depth = depth; words = words }) tags rooms scripts
+tiles_as shape depth tags k words rooms scripts tiles same is = is ∙ ap (λ (n : ℕ). first_tiles (record { shape = shape; depth = depth; words = n }) tags rooms scripts) same
+
+pub row_as : (shape : Shape) (depth channels : ℕ) (opening words row : List ℕ) → channels ≡ channel_count shape → words ≡ opening
+    → row ≡ replicate (channels * depth) 0 ++ (words ++ 0 ∷ []) → row ≡ replicate (channel_count shape * depth) 0 ++ (opening ++ 0 ∷ [])
+row_as shape depth channels opening words row same same_words is =
+    is ∙ (ap (λ (k : ℕ). replicate (k * depth) 0 ++ (words ++ 0 ∷ [])) same ∙ ap (λ (xs : List ℕ). replicate (channel_count shape * depth) 0 ++ (xs ++ 0 ∷ [])) same_words)
+
+pub book_as : (tiles n : ℕ) (issues : List ℕ) (g : EventBook) → n ≡ tiles → n ≤ length issues → g ≡ first_book (length (take n issues)) → g ≡ first_book tiles
+book_as tiles n issues g same there is = is ∙ ap first_book (part_count n issues there ∙ same)
+
+-- the room of each bank, said of what it was counted from
+pub homes_as : (tiles n : ℕ) (entries : List ℕ) (scripts lists : List (List Line)) → n ≡ tiles → lists ≡ scripts
+    → ((b : ℕ) → b < n → get_or entries b 0 ≡ home_room n b lists) → (b : ℕ) → b < tiles → get_or entries b 0 ≡ home_room tiles b scripts
+homes_as tiles n entries scripts lists same same_lists homes b low =
+    subst (λ (xs : List (List Line)). get_or entries b 0 ≡ home_room tiles b xs) same_lists
+    (subst (λ (k : ℕ). get_or entries b 0 ≡ home_room k b lists) same (homes b (subst (λ (k : ℕ). b < k) (sym same) low)))
+
+-- and is at most that of all operations
+pub home_small : (l : Load) → IsAccepted l → (entries : List ℕ) → ((b : ℕ) → b < tiles_of l.shape → get_or entries b 0 ≡ home_room (tiles_of l.shape) b l.scripts)
+    → (b : ℕ) → b < tiles_of l.shape → get_or entries b 0 ≤ 65536
+home_small l ok entries homes b low =
+    let all = ok.scripts.total in
+    omega (arith, homes b low, home_within (tiles_of l.shape) b l.scripts)
+
+pub part_small : (n : ℕ) (entries : List ℕ) → ((b : ℕ) → b < n → get_or entries b 0 ≤ 65536) → (b room : ℕ) → slice_get (take n entries) b ≡ Some room → room ≤ 65536
+part_small n entries small b room there = let is = part_at n entries b room there in omega (arith, is.1, small b is.0)
+
+-- a book that was made with the rooms that the scripts can ask has room for them
+pub has_room : (l : Load) → IsAccepted l → (n rows : ℕ) (issues entries : List ℕ) (g : RoomyBook) → n ≡ tiles_of l.shape → n ≤ length issues → n ≤ length entries
+    → ((p : ℕ) → get_or issues p 0 ≡ operation_count (script_of l.scripts p)) → ((b : ℕ) → b < tiles_of l.shape → get_or entries b 0 ≡ home_room (tiles_of l.shape) b l.scripts) → rows ≡ total_count l.scripts
+    → ((p room : ℕ) → slice_get (take n issues) p ≡ Some room → room ≤ get_or g.issues p 0) → ((b room : ℕ) → slice_get (take n entries) b ≡ Some room → room ≤ get_or g.positions b 0) → rows ≤ g.rows
+    → HasRoomFor l g
+has_room l ok n rows issues entries g same enough_issues enough_entries issues_are homes all issues_kept entries_kept rows_kept = record {
+  issues = λ p lines there.
+      let processors = ok.processors in
+      let low : p < n = omega (arith, slice_get_within l.scripts p lines there) in
+      let count : operation_count (script_of l.scripts p) ≡ operation_count lines = ap operation_count (get_or_from_slice_get l.scripts p lines [] there) in
+      omega (arith, issues_are p, issues_kept p (get_or issues p 0) (at_part n issues p low enough_issues));
+  positions = λ b low.
+      let below_n : b < n = omega arith in
+      omega (arith, homes b low, entries_kept b (get_or entries b 0) (at_part n entries b below_n enough_entries));
+  rows = omega (arith, all, rows_kept);
 }
-
--- the rows of the banks, said of what they were made from
-pub banks_as : {A : Type 0} (tiles n : ℕ) (opening o : List ℕ) (rows : List (BankRow A)) → n ≡ tiles → o ≡ opening
-    → map (λ (row : BankRow A). bank_of row.bank) rows ≡ tabulate (first_bank n o) n → map (λ (row : BankRow A). bank_of row.bank) rows ≡ tabulate (first_bank tiles opening) tiles
-banks_as tiles n opening o rows ht ho h = h ∙ (ap (λ (xs : List ℕ). tabulate (first_bank n xs) n) ho ∙ ap (λ (k : ℕ). tabulate (first_bank k opening) k) ht)
-
-pub each_as : {A : Type 0} (tiles n : ℕ) (opening o : List ℕ) (scripts lists : List (List Line)) (rows : List (BankRow A)) → n ≡ tiles → o ≡ opening → lists ≡ scripts
-    → ((b : ℕ) (row : BankRow A) → slice_get rows b ≡ Some row → IsFirstBankRow n b o (home_room n b lists) row)
-    → (b : ℕ) (row : BankRow A) → slice_get rows b ≡ Some row → IsFirstBankRow tiles b opening (home_room tiles b scripts) row
-each_as {A = A} tiles n opening o scripts lists rows ht ho hs h b row at =
-    subst (λ (xs : List (List Line)). IsFirstBankRow tiles b opening (home_room tiles b xs) row) hs
-    (subst (λ (xs : List ℕ). IsFirstBankRow tiles b xs (home_room tiles b lists) row) ho
-    (subst (λ (k : ℕ). IsFirstBankRow k b o (home_room k b lists) row) ht (h b row at)))
-
--- the room that was taken
-pub room_as : (scripts lists : List (List Line)) (room capacity : ℕ) → lists ≡ scripts → room ≡ total_count lists → room ≤ capacity → total_count scripts ≤ capacity
-room_as scripts lists room capacity same is h = let e = ap total_count same in omega (arith, e, is, h)
 
 same_load : (m : MachineSpec) (s : ScriptsSpec) (shape : Shape) (depth tags : ℕ) (opening : List ℕ) (scripts : List (List Line)) → shape ≡ m.shape → depth ≡ m.depth → tags ≡ m.tags → opening ≡ m.opening → scripts ≡ s.lists
     → ◌≡◌ {A = Load} (record { shape = shape; depth = depth; tags = tags; opening = opening; scripts = scripts }) (load_of m s)
@@ -146,7 +173,3 @@ same_load m s shape depth tags opening scripts hs hd ht ho hl =
 pub accepted_as : (m : MachineSpec) (s : ScriptsSpec) (shape : Shape) (depth tags : ℕ) (opening : List ℕ) (scripts : List (List Line)) → IsAcceptedMachine m → AreAcceptedScripts s → Fit s m
     → shape ≡ m.shape → depth ≡ m.depth → tags ≡ m.tags → opening ≡ m.opening → scripts ≡ s.lists → IsAccepted (record { shape = shape; depth = depth; tags = tags; opening = opening; scripts = scripts })
 accepted_as m s shape depth tags opening scripts machine script fit hs hd ht ho hl = subst IsAccepted (sym (same_load m s shape depth tags opening scripts hs hd ht ho hl)) (accepted_load m s machine script fit)
-
-pub after_as : (m : MachineSpec) (s : ScriptsSpec) (shape : Shape) (depth tags : ℕ) (opening : List ℕ) (scripts : List (List Line)) (c : Core)
-    → shape ≡ m.shape → depth ≡ m.depth → tags ≡ m.tags → opening ≡ m.opening → scripts ≡ s.lists → IsAfter (record { shape = shape; depth = depth; tags = tags; opening = opening; scripts = scripts }) c [] → IsAfter (load_of m s) c []
-after_as m s shape depth tags opening scripts c hs hd ht ho hl h = subst (λ (l : Load). IsAfter l c []) (same_load m s shape depth tags opening scripts hs hd ht ho hl) h

@@ -1,14 +1,8 @@
-pub mod Choices
-pub mod LoadingCounts
-pub mod LoadingRows
-pub mod Courses
-pub mod Reach
-pub mod Stands
-pub mod Words
-pub mod Kept
-pub mod Attempts
+pub mod NotedBooks
 pub mod Moving
-pub mod Readers
+pub mod Rounds
+pub mod Views
+pub mod ShownRows
+pub mod Finishing
+mod BeginsTiles
 pub mod Begins
-pub mod Reports
-pub mod Beginnings

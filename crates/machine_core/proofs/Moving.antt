@@ -1,284 +1,414 @@
--- What a move finds of a machine's fields: they have room for what it adds.
-use Rattle.std.proofs.Common.{◌≡◌, ℕ, zero, suc, ◌+◌, ◌*◌, ◌%◌, ◌^◌, ◌<◌, ◌==◌, Bool, List, [], ◌∷◌, length, Option, Some, None, refl, sym, ◌∙◌, ap, subst}
-use Rattle.std.proofs.Common.{arith, slice_get, slice_index, slice_index_or, get_or, vec_len, vec_capacity, eqb-true}
-use Rattle.std.proofs.lemmas.List.{length-map}
-use Rattle.std.specs.Prelude.{Vec}
-use Rattle.std.specs.Option.{option_map}
-use Rattle.std.proofs.lemmas.Option.{same_Some, slice_get_within, slice_get-get_or, get_or_from_slice_get}
+-- A machine's fields after an attempt at a tile: they are those of the machine that the attempt makes.
+use Rattle.std.proofs.Common.{◌≡◌, ◌≢◌, ⊎_elim, ℕ, zero, suc, ◌/◌, ◌%◌, ◌<◌, ◌≤◌, List, [], ◌∷◌, ◌++◌, length, map, take, Option, Some, None, refl, sym, ◌∙◌, ap, subst, arith}
+use Rattle.std.proofs.Common.{slice_get, slice_set, slice_index, slice_index_or, vec_len}
+use Rattle.std.specs.Prelude.{Vec, MatchOption}
+use Rattle.std.specs.Option.{option_map, IfSome}
+use Rattle.std.proofs.lemmas.Bool.{cases_eq}
+use Rattle.std.proofs.lemmas.List.{map-set, length-map, length-set, take_all}
+use Rattle.std.proofs.lemmas.Option.{slice_get_within, slice_get_past, slice_get-map, same_Some}
 use Rattle.torus.specs.Shape.{Shape, tiles_of}
-use Rattle.torus.proofs.MixedRadix.{product_positive}
-use Rattle.torus.proofs.Hops.{positive}
 use Rattle.torus.specs.declared.step.Step.{Step}
-use Rattle.torus.specs.declared.step.Choice.TheVariants.{Send, Take, Serve}
-use Rattle.torus.specs.declared.step.Tag.{Tag}
-use Rattle.packet.specs.declared.kinds.Operation.{Operation}
-use Rattle.packet.specs.declared.kinds.Request.{Request}
-use Rattle.packet.specs.declared.kinds.Response.{Response}
-use Rattle.script.specs.declared.line.Line.{Line}
+use Rattle.torus.specs.declared.step.Stepped.{Stepped}
+use Rattle.torus.specs.declared.step.Stepped.TheVariants.{Moved, Idle}
+use Rattle.script.specs.Scripts.{operation_count}
 use Rattle.home_bank.specs.declared.entry.Entry.{Entry}
-use Rattle.home_bank.specs.Bank.{IsFor}
-use Rattle.net_interface.specs.ProcessorRecord.{ProcessorRecord, ready, index_of}
-use Rattle.runs.specs.declared.ordered.Ordered.{Ordered}
+use Rattle.runs.specs.declared.answer.Answer.{Answer}
+use Rattle.runs.specs.Events.{Event}
 use Rattle.runs.specs.Observed.{list_at}
-use Rattle.flights.specs.Flight.{Move, Sends, Serves, Takes, processor_at, word_asked}
-use Rattle.flights.specs.EventBook.{new_row, row_at}
-use Rattle.flights.specs.Room.{home_room, IsWithin, IsBookWithin, RoomToSend, RoomToServe, RoomToTake, HasRoomFor}
-use Rattle.machine_core.specs.declared.rows.ProcessorRow.{ProcessorRow}
-use Rattle.machine_core.specs.declared.rows.BankRow.{BankRow}
+use Rattle.runs.proofs.Lists.{get_set_same, get_set_other}
+use Rattle.net_interface.specs.ProcessorRecord.{ProcessorRecord}
+use Rattle.flights.specs.EventBook.{EventBook, noted_event}
+use Rattle.flights.specs.Room.{home_room}
+use Rattle.flit_buffer.specs.Surroundings.{Surroundings}
+use Rattle.flit_buffer.specs.Tries.{performed_by}
+use Rattle.flit_buffer.specs.Words.{word_of}
+use Rattle.event_book.specs.RoomyBook.{RoomyBook, KeepsRoom}
+use Rattle.tile.specs.Tile.{Design, TileState}
+use Rattle.tile.specs.Agents.{TilePlace, agent_numbered, state_of, tile_placed, tile_next_op}
+use Rattle.tile_agents.specs.Placed.{PlacedTile, IsAcceptableTo, with_place, tile_attempted}
+use Rattle.core_laws.specs.Core.{Load, State, design_of, step, or_same, first_state, after, records_of}
+use Rattle.core_laws.specs.Runs.{state_after}
+use Rattle.core_laws.proofs.EveryRun.{holds_in}
+use Rattle.machine_seen.specs.Seen.{IsShown, LeadsOn, state_seen}
+use Rattle.machine_seen.proofs.Reached.{seen_state}
+use Rattle.machine_seen.proofs.Attempts.{leads_on}
+use Rattle.machine_laws.specs.Core.{Core, IsAfter, Steps, built_to, told, event_in, core_with, core_next, book_after}
+use Rattle.machine_laws.proofs.Books.{after_append}
+use Rattle.machine_laws.proofs.Machines.{after_step}
+use Rattle.machine_seen.proofs.Tries.{word_there, word_asked}
+use Rattle.machine_seen.proofs.Room.{full_shown}
+use Rattle.machine_seen.specs.Notes.{FitsLoad, RoomToNoteService, RoomToNoteAnswer, book_noted, index_served}
+use Rattle.machine_seen.proofs.Notes.{book_fits, noted_is, room_to_issue, room_to_serve, room_to_answer}
+use Rattle.machine_core.proofs.NotedBooks.{seen_at}
+use Rattle.machine_core.specs.declared.noting.Counts.{Counts}
 use Rattle.machine_core.specs.declared.machine.Machine.TheInside.{Inside}
-use Rattle.machine_core.specs.Wire.{oldest, move_of}
-use Rattle.machine_core.specs.Loaded.{first_words}
-use Rattle.machine_core.specs.Rows.{processor_of, HasBankRoom}
-use Rattle.machine_core.specs.Core.{Core}
-use Rattle.machine_core.specs.Inside.{state_of, book_of, core_of, IsMachine}
-use Rattle.machine_core.proofs.Choices.{oldest_found}
-use Rattle.machine_core.proofs.Words.{first_within}
-use Rattle.machine_core.proofs.Kept.{vec_at, map_at, processor_there, entries_at, numbers_there, positions_there, sends_step, takes_step, serves_step, sends_is, serves_is, takes_is, asked_bank, asked_word}
-use Rattle.machine_core.proofs.Attempts.{ready_is}
-use Rattle.machine_core.proofs.Stands.{within, book, room, finds, so_has}
+use Rattle.machine_core.specs.Noted.{HasRoomForIssue, HasRoomForService, HasRoomToNote, IsOfFullBank, counts_of, records_in}
+use Rattle.machine_core.specs.Inside.{design_in, places_in, core_of, HaveRoom, HasRoomFor as HasRoomForScripts, IsMachine}
 
--- where a machine stands it is within its room
-stands : {A : Type 0} (a : Inside A) (is : IsMachine a) → IsWithin (tiles_of a.torus) is.load.scripts (state_of a)
-stands a is = so_has (λ (c : Core). IsWithin (tiles_of c.shape) is.load.scripts c.state) is.load (core_of a) is.steps is.after (within is.load is.after.accepted is.steps)
+-- a step from where some steps led leads on
+pub follows : (old new : Core) (stepped : Stepped) (attempt : Step) → Steps old new stepped attempt
+    → (l : Load) (steps : List Step) → IsAfter l old steps → IsAfter l new (steps ++ attempt ∷ [])
+follows old new stepped attempt h l steps is =
+    subst (λ (x : Core). IsAfter l x (steps ++ attempt ∷ [])) (sym h.change) (after_step l old steps attempt is)
 
-book_stands : {A : Type 0} (a : Inside A) (is : IsMachine a) → IsBookWithin is.load.scripts (state_of a) (book_of a)
-book_stands a is = so_has (λ (c : Core). IsBookWithin is.load.scripts c.state c.book) is.load (core_of a) is.steps is.after (book is.load is.after.accepted is.steps)
+-- an attempt that isn't enabled changes nothing
+pub stays : (c : Core) (attempt : Step) → step (built_to c) c.state attempt ≡ None → Steps c c Idle attempt
+stays c attempt none = record {
+  result = sym (ap told none);
+  change = sym (ap (core_with c (event_in (built_to c) c.state attempt)) none);
+}
 
--- and an enabled step has room
-room_there : {A : Type 0} (a : Inside A) (is : IsMachine a) (step : Step) (m : Move) → move_of (state_of a) step ≡ Some m → HasRoomFor (tiles_of a.torus) (length a.opening.items) is.load.scripts (state_of a) m
-room_there a is step m = so_has (λ (c : Core). move_of c.state step ≡ Some m → HasRoomFor (tiles_of c.shape) (length c.opening) is.load.scripts c.state m) is.load (core_of a) is.steps is.after
-    (λ h. room is.load is.after.accepted is.steps m (finds is.load is.after.accepted is.steps step m h))
+-- an element that is written over itself
+set_there : {A : Type 0} (xs : List A) (k : ℕ) (x : A) → slice_get xs k ≡ Some x → slice_set xs k x ≡ xs
+set_there [] k x h = refl
+set_there (y ∷ xs) zero x h = ap (λ z. z ∷ xs) (same_Some _ _ (sym h))
+set_there (y ∷ xs) (suc k) x h = ap (λ zs. y ∷ zs) (set_there xs k x h)
 
-pub some_tiles : {A : Type 0} (a : Inside A) → IsMachine a → 0 < tiles_of a.torus
-some_tiles a is = subst (λ (sh : Shape). 0 < tiles_of sh) (sym is.after.shape) (product_positive is.load.shape.radices (positive is.load.shape is.after.accepted.shape))
+-- the tile of a state that stands in a place
+tile_of_place : (d : Design) (t : ℕ) (around : Surroundings) (o : Option TileState) (p : TilePlace)
+    → option_map (λ tile. tile_placed d t tile around) o ≡ Some p → o ≡ Some (state_of p)
+tile_of_place d t around None p h = absurd (cc)
+tile_of_place d t around (Some tile) p h = ap (λ (q : TilePlace). Some (state_of q)) (same_Some _ _ h)
 
--- there are as many processors as scripts
-scripts_counted : {A : Type 0} (a : Inside A) (is : IsMachine a) → length is.load.scripts ≡ tiles_of a.torus
-scripts_counted a is = is.after.accepted.processors ∙ sym (ap tiles_of is.after.shape)
+state_at : (d : Design) (s : State) (places : List TilePlace) (row : List ℕ) → IsShown d s places row
+    → (t : ℕ) (p : TilePlace) → slice_get places t ≡ Some p → slice_get s.tiles t ≡ Some (state_of p)
+state_at d s places row shown t p there = tile_of_place d t s.around (slice_get s.tiles t) p (sym (shown.tiles t) ∙ there)
 
--- the number of the next event
-pub number_fits : {A : Type 0} (a : Inside A) (is : IsMachine a) → a.events + 1 < 2 ^ 32
-number_fits a is = let e = (book_stands a is).events in let most = is.after.accepted.scripts.total in omega (arith, e, most)
+-- the processors' records of a state that tiles show
+records_shown : (tiles : List PlacedTile) → records_in tiles ≡ map (λ t. t.processor.operations) (map state_of (map (λ v. v.place) tiles))
+records_shown [] = refl
+records_shown (v ∷ tiles) = ap (λ (bs : List ProcessorRecord). v.place.processor.state.operations ∷ bs) (records_shown tiles)
 
-pub record FitsSend {A : Type 0} (a : Inside A) (row : ProcessorRow A) : Type 0 where
-  pub issued : vec_len row.issued < vec_capacity row.issued
-  pub numbers : vec_len row.numbers < vec_capacity row.numbers
-  pub requests : vec_len a.requests < vec_capacity a.requests
+-- a tile that has moved, and one that has not
+pub moved_tile : (o : Option TilePlace) (stepped : Stepped) (old new : PlacedTile)
+    → MatchOption o ((stepped ≡ Idle) × (new ≡ old)) (λ p. (stepped ≡ Moved) × (new ≡ with_place old p)) → stepped ≡ Moved
+    → (q : TilePlace) × (o ≡ Some q) × (new ≡ with_place old q)
+moved_tile None stepped old new h is = absurd (cc)
+moved_tile (Some q) stepped old new h is = (q, refl, h.1)
 
-pub send_fits : {A : Type 0} (a : Inside A) (is : IsMachine a) (t tag : ℕ) (o : Operation) (row : ProcessorRow A)
-    → slice_get a.processors.items t ≡ Some row → ready (processor_of row) ≡ Some (tag, o) → FitsSend a row
-send_fits {A = A} a is t tag o row there is_ready =
-    let scripts : List (List Line) = is.load.scripts in
-    let room : RoomToSend scripts (state_of a) t = room_there a is (record { agent = t * 3 + 0; choice = Send }) (Sends t tag o)
-    (sends_step (state_of a) t ∙ sends_is (state_of a) t tag o (processor_of row) (map_at processor_of a.processors.items t row there) is_ready) in
-    let lines : List Line = get_or scripts t [] in
-    let in_rows = slice_get_within a.processors.items t row there in
-    let counted = length-map a.processors.items (λ (x : ProcessorRow A). processor_of x) in
-    let script : slice_get scripts t ≡ Some lines = slice_get-get_or scripts t [] (omega (arith, in_rows, counted, (stands a is).processors, scripts_counted a is)) in
-    let reserved = is.room.processors t lines row script there in
-    let issued = room.issued lines script in
-    let here = ap (λ (p : ProcessorRecord). length p.issued) (processor_there a t row there) in
-    record {
-      issued = omega (arith, issued, here, row.issued.ok.0, reserved.issued);
-      numbers = omega (arith, issued, (book_stands a is).issues t, ap (λ (xs : List ℕ). length xs) (numbers_there a t row there), row.numbers.ok.0, reserved.numbers);
-      requests = omega (arith, room.asked, a.requests.ok.0, is.room.requests);
-    }
+pub idle_tile : (o : Option TilePlace) (stepped : Stepped) (old new : PlacedTile)
+    → MatchOption o ((stepped ≡ Idle) × (new ≡ old)) (λ p. (stepped ≡ Moved) × (new ≡ with_place old p)) → stepped ≡ Idle
+    → (o ≡ None) × (new ≡ old)
+idle_tile None stepped old new h is = (refl, h.1)
+idle_tile (Some q) stepped old new h is = absurd (cc)
 
-pub record FitsServe {A : Type 0} (a : Inside A) (scripts : List (List Line)) (b : ℕ) (r : Request) (row : BankRow A) : Type 0 where
-  pub room : RoomToServe (tiles_of a.torus) (length a.opening.items) scripts (state_of a) r
-  pub source : r.source < vec_len a.processors
-  pub holder : (of : ProcessorRow A) → slice_get a.processors.items r.source ≡ Some of → index_of (processor_of of) r.tag.0 < vec_len of.numbers
-  pub asked : IsFor row.bank r
-  pub entries : length row.bank.entries < row.bank.room
-  pub positions : vec_len row.positions < vec_capacity row.positions
-  pub responses : vec_len a.responses < vec_capacity a.responses
-  pub order : vec_len a.order < vec_capacity a.order
-  pub position : vec_len a.order < 65536
-  pub place : length (list_at (book_of a).positions b) ≡ length row.bank.entries
+-- an element of a vector
+pub vec_at : {A B : Type 0} (v : Vec A B) (k : ℕ) (x : A) → k < vec_len v → x ≡ slice_index_or v.items k x → slice_get v.items k ≡ Some x
+vec_at v k x h e = seen_at v.items k x (let n = v.ok.0 in omega arith) e
 
--- a request that is served goes to the bank that serves it
-pub asked_here : (b place : ℕ) (r : Request) (requests : List Request) → oldest (λ r. r.destination == b) requests ≡ Some (place, r) → r.destination ≡ b
-asked_here b place r requests h = eqb-true r.destination b (oldest_found (λ (r : Request). r.destination == b) requests place r h).1
+-- what is noted, said of equal tiles and counts
+pub noted_same : (xs ys : List PlacedTile) (b c : Counts) (t : ℕ) (g h : EventBook) → xs ≡ ys → b ≡ c
+    → ((x : PlacedTile) → slice_get xs t ≡ Some x → g ≡ book_noted t (records_in xs) b.issued b.answers b.entries (state_of x.place) h)
+    → (x : PlacedTile) → slice_get ys t ≡ Some x → g ≡ book_noted t (records_in ys) c.issued c.answers c.entries (state_of x.place) h
+noted_same xs ys b c t g h e f k =
+    subst (λ (zs : List PlacedTile). (x : PlacedTile) → slice_get zs t ≡ Some x → g ≡ book_noted t (records_in zs) c.issued c.answers c.entries (state_of x.place) h) e
+    (subst (λ (d : Counts). (x : PlacedTile) → slice_get xs t ≡ Some x → g ≡ book_noted t (records_in xs) d.issued d.answers d.entries (state_of x.place) h) f k)
 
-fits_serve : {A : Type 0} (a : Inside A) (is : IsMachine a) (place : ℕ) (r : Request) (row : BankRow A)
-    → slice_get a.banks.items r.destination ≡ Some row → oldest (λ q. q.destination == r.destination) a.requests.items ≡ Some (place, r)
-    → FitsServe a is.load.scripts r.destination r row
-fits_serve {A = A} a is place r row there is_oldest =
-    let n : ℕ = tiles_of a.torus in
-    let b : ℕ = r.destination in
-    let room : RoomToServe n (length a.opening.items) is.load.scripts (state_of a) r = room_there a is (record { agent = b * 3 + 2; choice = Serve }) (Serves r)
-    (serves_step (state_of a) b ∙ serves_is (state_of a) b place r row.bank.entries (map_at (λ (y : BankRow A). y.bank.entries) a.banks.items b row there) is_oldest) in
-    let w = stands a is in
-    let g = book_stands a is in
-    let reserved = subst (λ (k : ℕ). HasBankRoom (home_room k b is.load.scripts) row) (sym (ap tiles_of is.after.shape)) (is.room.banks b row there) in
-    let home = is.banks b row there in
-    let entries : length (list_at (state_of a).entries b) ≡ length row.bank.entries = ap (λ (xs : List Entry). length xs) (entries_at a b row there) in
-    let positions : length (list_at (book_of a).positions b) ≡ length row.positions.items = ap (λ (xs : List ℕ). length xs) (positions_there a b row there) in
-    let counted : length a.processors.items ≡ n = sym (length-map a.processors.items (λ (x : ProcessorRow A). processor_of x)) ∙ w.processors in
-    let has = first_within n a.opening.items (word_asked n r) (some_tiles a is) room.word in
-    let same : length (first_words n a.opening.items (word_asked n r % n)) ≡ length (first_words n a.opening.items b) =
-    ap (λ c. length (first_words n a.opening.items c)) (asked_bank n r room.bank) in
-    record {
-      room = room;
-      source = omega (arith, room.source, counted, a.processors.ok.0);
-      holder = λ of at. omega (arith, room.holder, g.issues r.source, ap (λ (p : ProcessorRecord). index_of p r.tag.0) (processor_there a r.source of at), ap (λ (xs : List ℕ). length xs) (numbers_there a r.source of at), of.numbers.ok.0);
-      asked = record {
-        here = sym home.tile;
-        word = omega (arith, has, same, asked_word n r room.bank, home.words);
-      };
-      entries = omega (arith, room.entries, entries, reserved.entries);
-      positions = omega (arith, room.entries, g.positions b, positions, row.positions.ok.0, reserved.positions);
-      responses = omega (arith, room.all, w.told, a.responses.ok.0, is.room.responses);
-      order = omega (arith, room.all, g.rows, a.order.ok.0, is.room.order);
-      position = omega (arith, room.all, g.rows, a.order.ok.0, is.after.accepted.scripts.total);
-      place = g.positions b ∙ entries;
-    }
+-- a machine's fields with other tiles, another row and another book
+abbrev pub with_parts : {A : Type 0} → Inside A → Vec PlacedTile A → Vec ℕ A → RoomyBook → Inside A
+with_parts a tiles row book = record {
+  torus = a.torus;
+  depth = a.depth;
+  tags = a.tags;
+  opening = a.opening;
+  tiles = tiles;
+  row = row;
+  book = book;
+}
 
-pub serve_fits : {A : Type 0} (a : Inside A) (is : IsMachine a) (b place : ℕ) (r : Request) (row : BankRow A)
-    → slice_get a.banks.items b ≡ Some row → oldest (λ q. q.destination == b) a.requests.items ≡ Some (place, r) → FitsServe a is.load.scripts b r row
-serve_fits a is b place r row there is_oldest =
-    let here = asked_here b place r a.requests.items is_oldest in
-    subst (λ (c : ℕ). FitsServe a is.load.scripts c r row) here (fits_serve a is place r row (ap (slice_get a.banks.items) here ∙ there)
-    (subst (λ (c : ℕ). oldest (λ (q : Request). q.destination == c) a.requests.items ≡ Some (place, r)) (sym here) is_oldest))
+-- what they make, by the lists alone
+abbrev core_by : {A : Type 0} → Inside A → State → EventBook → Core
+core_by a s g = record {
+  shape = a.torus;
+  depth = a.depth;
+  tags = a.tags;
+  opening = a.opening.items;
+  state = s;
+  book = g;
+}
 
--- the row that a service adds to the book
-pub row_is : {A : Type 0} (a : Inside A) (b place : ℕ) (r : Request) (row : BankRow A) (of : ProcessorRow A) (index issued number : ℕ)
-    → slice_get a.processors.items r.source ≡ Some of → index ≡ index_of (processor_of of) r.tag.0 → index < vec_len of.numbers → issued ≡ slice_index_or of.numbers.items index issued
-    → number ≡ a.events + 1 → place ≡ length (list_at (book_of a).positions b)
-    → ◌≡◌ {A = Ordered} (record { bank = b; place = place; source = r.source; index = index; issued = issued; served = number; answered = None })
-    (new_row b r.source (index_of (processor_at (state_of a) r.source) r.tag.0) (book_of a))
-row_is a b place r row of index issued number at is_index within_numbers is_issued count is_place =
-    let same : index ≡ index_of (processor_at (state_of a) r.source) r.tag.0 = is_index ∙ sym (ap (λ (p : ProcessorRecord). index_of p r.tag.0) (processor_there a r.source of at)) in
-    let length_is = of.numbers.ok.0 in
-    let found_at : slice_get of.numbers.items index ≡ Some issued = slice_get-get_or of.numbers.items index issued (omega (arith, within_numbers, length_is)) ∙ ap Some (sym is_issued) in
-    let value : issued ≡ slice_index (list_at (book_of a).issues r.source) (index_of (processor_at (state_of a) r.source) r.tag.0) =
-    sym (get_or_from_slice_get of.numbers.items index issued 0 found_at)
-    ∙ (ap (λ (xs : List ℕ). slice_index xs index) (sym (numbers_there a r.source of at)) ∙ ap (slice_index (list_at (book_of a).issues r.source)) same) in
-    ap (λ (n : ℕ). record { bank = b; place = n; source = r.source; index = index; issued = issued; served = number; answered = None }) is_place
-    ∙ (ap (λ (n : ℕ). record { bank = b; place = length (list_at (book_of a).positions b); source = r.source; index = n; issued = issued; served = number; answered = None }) same
-    ∙ (ap (λ (n : ℕ). record { bank = b; place = length (list_at (book_of a).positions b); source = r.source; index = index_of (processor_at (state_of a) r.source) r.tag.0; issued = n; served = number; answered = None }) value
-    ∙ ap (λ (n : ℕ). record { bank = b; place = length (list_at (book_of a).positions b); source = r.source; index = index_of (processor_at (state_of a) r.source) r.tag.0; issued = slice_index (list_at (book_of a).issues r.source) (index_of (processor_at (state_of a) r.source) r.tag.0); served = n; answered = None }) count))
+-- the fields of a machine, with what they make of it
+pub record Led {A : Type 0} (old new : Inside A) (stepped : Stepped) (attempt : Step) : Type 0 where
+  pub machine : IsMachine new
+  pub steps : Steps (core_of old) (core_of new) stepped attempt
 
--- a bank for each tile
-pub banks_counted : {A : Type 0} (a : Inside A) (is : IsMachine a) → length a.banks.items ≡ tiles_of a.torus
-banks_counted {A = A} a is = sym (length-map a.banks.items (λ (y : BankRow A). y.bank.entries)) ∙ (stands a is).banks
+module _ {A : Type 0} (a : Inside A) (is : IsMachine a) where
+  abbrev l : Load
+  l = is.load
 
-pub record FitsTake {A : Type 0} (a : Inside A) (r : Response) (row : ProcessorRow A) : Type 0 where
-  pub source : r.source < vec_len a.banks
-  pub place : (of : BankRow A) → slice_get a.banks.items r.source ≡ Some of → r.place < vec_len of.positions
-  pub held : (i : ℕ) × (slice_get row.tags r.tag.0 ≡ Some (Some (record { 0 = i }))) × (i < vec_len row.issued)
-  pub answers : vec_len row.answers < vec_capacity row.answers
-  pub order : row_at r.source r.place (book_of a) < vec_len a.order
+  abbrev s : State
+  s = after l is.steps
 
-fits_take : {A : Type 0} (a : Inside A) (is : IsMachine a) (place : ℕ) (r : Response) (row : ProcessorRow A)
-    → slice_get a.processors.items r.destination ≡ Some row → oldest (λ q. q.destination == r.destination) a.responses.items ≡ Some (place, r) → FitsTake a r row
-fits_take {A = A} a is place r row there is_oldest =
-    let p : ℕ = r.destination in
-    let scripts : List (List Line) = is.load.scripts in
-    let room : RoomToTake (tiles_of a.torus) scripts (state_of a) r = room_there a is (record { agent = p * 3 + 0; choice = Take }) (Takes r)
-    (takes_step (state_of a) p ∙ takes_is (state_of a) p place r (processor_of row) (map_at processor_of a.processors.items p row there) is_oldest) in
-    let g = book_stands a is in
-    let lines : List Line = get_or scripts p [] in
-    let script : slice_get scripts p ≡ Some lines = slice_get-get_or scripts p [] (omega (arith, room.processor, scripts_counted a is)) in
-    let reserved = is.room.processors p lines row script there in
-    let is_row = processor_there a p row there in
-    record {
-      source = omega (arith, room.source, banks_counted a is, a.banks.ok.0);
-      place = λ of at. omega (arith, room.place, g.positions r.source, ap (λ (xs : List ℕ). length xs) (positions_there a r.source of at), of.positions.ok.0);
-      held = (
-        room.held.0,
-        ap (λ (q : ProcessorRecord). slice_get q.tags r.tag.0) (sym is_row) ∙ room.held.1,
-        omega (arith, room.held.2, ap (λ (q : ProcessorRecord). length q.issued) is_row, row.issued.ok.0),
-      );
-      answers = omega (arith, room.answers lines script, ap (λ (q : ProcessorRecord). length q.answers) is_row, row.answers.ok.0, reserved.answers);
-      order = omega (arith, g.row r.source r.place room.place, g.rows, a.order.ok.0);
-    }
+  all_steps : take (length is.steps) is.steps ≡ is.steps
+  all_steps = take_all (length is.steps) is.steps (omega arith)
 
--- a response that is taken goes to the processor that takes it
-pub told_here : (p place : ℕ) (r : Response) (responses : List Response) → oldest (λ r. r.destination == p) responses ≡ Some (place, r) → r.destination ≡ p
-told_here p place r responses h = eqb-true r.destination p (oldest_found (λ (r : Response). r.destination == p) responses place r h).1
+  shown_now : IsShown (design_of l) (state_after l is.steps (length is.steps)) (places_in a) a.row.items
+  shown_now = subst (λ (xs : List Step). IsShown (design_of l) (after l xs) (places_in a) a.row.items) (sym all_steps) is.seen
 
-pub take_fits : {A : Type 0} (a : Inside A) (is : IsMachine a) (p place : ℕ) (r : Response) (row : ProcessorRow A)
-    → slice_get a.processors.items p ≡ Some row → oldest (λ q. q.destination == p) a.responses.items ≡ Some (place, r) → FitsTake a r row
-take_fits a is p place r row there is_oldest =
-    let here = told_here p place r a.responses.items is_oldest in
-    fits_take a is place r row (ap (slice_get a.processors.items) here ∙ there)
-    (subst (λ (c : ℕ). oldest (λ (q : Response). q.destination == c) a.responses.items ≡ Some (place, r)) (sym here) is_oldest)
+  -- what the machine is built to
+  pub design_is : design_in a ≡ design_of l
+  design_is =
+      ap (λ (x : Shape). record { shape = x; depth = a.depth; words = length a.opening.items }) is.after.shape
+      ∙ (ap (λ (x : ℕ). record { shape = l.shape; depth = x; words = length a.opening.items }) is.after.depth
+      ∙ ap (λ (xs : List ℕ). record { shape = l.shape; depth = l.depth; words = length xs }) is.after.opening)
 
--- where the row of a response stands
-pub position_is : {A : Type 0} (a : Inside A) (r : Response) (of : BankRow A) (position : ℕ) → slice_get a.banks.items r.source ≡ Some of → r.place < vec_len of.positions
-    → position ≡ slice_index_or of.positions.items r.place position → position ≡ row_at r.source r.place (book_of a)
-position_is a r of position at short is =
-    let length_is = of.positions.ok.0 in
-    let found_at : slice_get of.positions.items r.place ≡ Some position = slice_get-get_or of.positions.items r.place position (omega (arith, short, length_is)) ∙ ap Some (sym is) in
-    sym (get_or_from_slice_get of.positions.items r.place position 0 found_at) ∙ ap (λ (xs : List ℕ). slice_index xs r.place) (sym (positions_there a r.source of at))
+  pub state_is : (core_of a).state ≡ s
+  state_is = is.after.state
 
--- the processor that is ready, read twice
-pub send_here : {A : Type 0} (a : Inside A) (t : ℕ) (x y : ProcessorRow A) (tag : Tag) (o : Operation) → t < vec_len a.processors
-    → x ≡ slice_index_or a.processors.items t x → y ≡ slice_index_or a.processors.items t y
-    → ◌≡◌ {A = Option (Tag × Operation)} (Some (tag, o)) (option_map (λ (f : ℕ × Operation). (record { 0 = f.0 }, f.1)) (ready (processor_of x)))
-    → (slice_get a.processors.items t ≡ Some y) × (ready (processor_of y) ≡ Some (tag.0, o))
-send_here {A = A} a t x y tag o short is_x is_y h =
-    let at_x = vec_at a.processors t x short is_x in
-    let at_y = vec_at a.processors t y short is_y in
-    (at_y, ap (λ (row : ProcessorRow A). ready (processor_of row)) (sym (same_Some x y (sym at_x ∙ at_y))) ∙ ready_is x tag o h)
+  pub book_is : a.book.book ≡ book_after l is.steps
+  book_is = is.after.book
 
--- what was found in a slice of the packets in flight is found among them
-pub found_in : {A : Type 0} (test : A → Bool) (xs ys : List A) (result : Option (ℕ × A)) (k : ℕ) (x : A) → ys ≡ xs → result ≡ oldest test ys → result ≡ Some (k, x) → oldest test xs ≡ Some (k, x)
-found_in test xs ys result k x same is some = ap (oldest test) (sym same) ∙ (sym is ∙ some)
+  -- as many tiles as the torus has
+  pub tiles_counted : length a.tiles.items ≡ tiles_of l.shape
+  tiles_counted =
+      sym (length-map a.tiles.items (λ (v : PlacedTile). v.place))
+      ∙ (sym (length-map (places_in a) state_of)
+      ∙ (ap (λ (x : State). length x.tiles) state_is ∙ counted))
+    where
+      counted : length s.tiles ≡ tiles_of l.shape
+      counted = subst (λ (xs : List Step). length (after l xs).tiles ≡ tiles_of l.shape) all_steps (holds_in l is.after.accepted is.steps (length is.steps)).stands.tiles
 
-pub none_in : {A : Type 0} (test : A → Bool) (xs ys : List A) (result : Option (ℕ × A)) → ys ≡ xs → result ≡ oldest test ys → result ≡ None → oldest test xs ≡ None
-none_in test xs ys result same is none = ap (oldest test) (sym same) ∙ (sym is ∙ none)
+  pub few_tiles : length a.tiles.items ≤ 64
+  few_tiles = let h = is.after.accepted.shape.tiles in let e = tiles_counted in omega arith
 
-list_there : {A : Type 0} (xs : List A) (k : ℕ) → k < length xs → (x : A) × (slice_get xs k ≡ Some x)
-list_there [] k h = absurd (omega arith)
-list_there (x ∷ xs) zero h = (x, refl)
-list_there (x ∷ xs) (suc k) h = list_there xs k (omega arith)
+  -- there is no attempt of a tile that isn't there
+  pub none_past : (attempt : Step) → length a.tiles.items ≤ attempt.agent / 3 → step (built_to (core_of a)) (core_of a).state attempt ≡ None
+  none_past attempt h =
+      let past : slice_get (map state_of (places_in a)) (attempt.agent / 3) ≡ None = slice_get_past (map state_of (places_in a)) (attempt.agent / 3)
+      (omega (arith, length-map (places_in a) state_of, length-map a.tiles.items (λ (v : PlacedTile). v.place))) in
+      rw past refl
 
--- there is an element at each place of a vector
-vec_there : {A B : Type 0} (v : Vec A B) (k : ℕ) → k < vec_len v → (x : A) × (slice_get v.items k ≡ Some x)
-vec_there v k h = list_there v.items k (let n = v.ok.0 in omega arith)
+  module _ (attempt : Step) where
+    abbrev t : ℕ
+    t = attempt.agent / 3
 
--- what a bank finds that has a request
-pub serve_here : {A : Type 0} (a : Inside A) (is : IsMachine a) (b place : ℕ) (r : Request) (row : BankRow A) (xs : List Request) (result : Option (ℕ × Request))
-    → b < vec_len a.banks → row ≡ slice_index_or a.banks.items b row → xs ≡ a.requests.items → result ≡ oldest (λ r. r.destination == b) xs → result ≡ Some (place, r) → FitsServe a is.load.scripts b r row
-serve_here a is b place r row xs result short is_row same is_oldest some =
-    serve_fits a is b place r row (vec_at a.banks b row short is_row) (found_in (λ (r : Request). r.destination == b) a.requests.items xs result place r same is_oldest some)
+    abbrev event : Event
+    event = event_in (design_of l) s attempt
 
-pub record FitsSource {A : Type 0} (a : Inside A) (r : Request) : Type 0 where
-  pub source : r.source < vec_len a.processors
-  pub holder : (of : ProcessorRow A) → of ≡ slice_index_or a.processors.items r.source of → index_of (processor_of of) r.tag.0 < vec_len of.numbers
-  pub position : vec_len a.order < 65536
+    step_is : step (built_to (core_of a)) (core_of a).state attempt ≡ step (design_of l) s attempt
+    step_is = ap (λ (d : Design). step d (core_of a).state attempt) design_is ∙ ap (λ (x : State). step (design_of l) x attempt) state_is
 
-pub serve_source : {A : Type 0} (a : Inside A) (is : IsMachine a) (b place : ℕ) (r : Request) (xs : List Request) (result : Option (ℕ × Request))
-    → b < vec_len a.banks → xs ≡ a.requests.items → result ≡ oldest (λ r. r.destination == b) xs → result ≡ Some (place, r) → FitsSource a r
-serve_source a is b place r xs result short same is_oldest some =
-    let row = vec_there a.banks b short in
-    let fits = serve_fits a is b place r row.0 row.1 (found_in (λ (r : Request). r.destination == b) a.requests.items xs result place r same is_oldest some) in
-    record { source = fits.source; holder = λ of is_of. fits.holder of (vec_at a.processors r.source of fits.source is_of); position = fits.position }
+    event_is : event_in (built_to (core_of a)) (core_of a).state attempt ≡ event
+    event_is = ap (λ (d : Design). event_in d (core_of a).state attempt) design_is ∙ ap (λ (x : State). event_in (design_of l) x attempt) state_is
 
--- what a processor finds that has a response
-pub take_here : {A : Type 0} (a : Inside A) (is : IsMachine a) (p place : ℕ) (r : Response) (row : ProcessorRow A) (xs : List Response) (result : Option (ℕ × Response))
-    → p < vec_len a.processors → row ≡ slice_index_or a.processors.items p row → xs ≡ a.responses.items → result ≡ oldest (λ r. r.destination == p) xs → result ≡ Some (place, r) → FitsTake a r row
-take_here a is p place r row xs result short is_row same is_oldest some =
-    take_fits a is p place r row (vec_at a.processors p row short is_row) (found_in (λ (r : Response). r.destination == p) a.responses.items xs result place r same is_oldest some)
+    module _ (v : PlacedTile) (there : slice_get a.tiles.items t ≡ Some v) where
+      place_there : slice_get (places_in a) t ≡ Some v.place
+      place_there = slice_get-map (λ (w : PlacedTile). w.place) a.tiles.items t ∙ ap (option_map (λ (w : PlacedTile). w.place)) there
 
-pub record FitsBank {A : Type 0} (a : Inside A) (r : Response) : Type 0 where
-  pub source : r.source < vec_len a.banks
-  pub place : (of : BankRow A) → of ≡ slice_index_or a.banks.items r.source of → r.place < vec_len of.positions
-  pub order : (of : BankRow A) (position : ℕ) → of ≡ slice_index_or a.banks.items r.source of → position ≡ slice_index_or of.positions.items r.place position
-      → (position ≡ row_at r.source r.place (book_of a)) × (position < vec_len a.order)
+      -- what the agent asks
+      pub word_in : IfSome (tile_next_op v.place attempt) (λ o. word_of o < vec_len a.row)
+      word_in = subst (λ (n : ℕ). IfSome (tile_next_op v.place attempt) (λ o. word_of o < n)) (sym a.row.ok.0)
+          (word_there l is.after.accepted is.steps (length is.steps) (places_in a) a.row.items shown_now attempt v.place place_there)
 
-pub take_source : {A : Type 0} (a : Inside A) (is : IsMachine a) (p place : ℕ) (r : Response) (xs : List Response) (result : Option (ℕ × Response))
-    → p < vec_len a.processors → xs ≡ a.responses.items → result ≡ oldest (λ r. r.destination == p) xs → result ≡ Some (place, r) → FitsBank a r
-take_source a is p place r xs result short same is_oldest some =
-    let row = vec_there a.processors p short in
-    let fits = take_fits a is p place r row.0 row.1 (found_in (λ (r : Response). r.destination == p) a.responses.items xs result place r same is_oldest some) in
-    record {
-      source = fits.source;
-      place = λ of is_of. fits.place of (vec_at a.banks r.source of fits.source is_of);
-      order = λ of position is_of is_position.
-          let at = vec_at a.banks r.source of fits.source is_of in
-          let e = position_is a r of position at (fits.place of at) is_position in
-          (e, omega (arith, e, fits.order));
-    }
+      pub word_fits : IfSome (tile_next_op v.place attempt) (λ o. IsAcceptableTo v.place (agent_numbered (attempt.agent % 3)) attempt.choice (slice_index a.row.items (word_of o)))
+      word_fits = word_asked l is.after.accepted is.steps (length is.steps) (places_in a) a.row.items shown_now attempt v.place place_there
+
+      -- a full bank serves nothing
+      pub full_stays : IsOfFullBank v attempt → Steps (core_of a) (core_of a) Idle attempt
+      full_stays full =
+          let none = full_shown l is.after.accepted is.steps (length is.steps) (places_in a) a.row.items shown_now attempt v.place place_there
+          (full.full ∙ is.banks t v there) full.bank full.service in
+          stays (core_of a) attempt (step_is ∙ subst (λ (xs : List Step). step (design_of l) (after l xs) attempt ≡ None) all_steps none)
+
+      leads : LeadsOn (design_of l) s (places_in a) a.row.items attempt v.place
+      leads = subst (λ (xs : List Step). LeadsOn (design_of l) (after l xs) (places_in a) a.row.items attempt v.place) all_steps
+          (leads_on l is.after.accepted is.steps (length is.steps) (places_in a) a.row.items shown_now attempt v.place place_there)
+
+      idles : (o : Option TilePlace) → o ≡ None
+          → MatchOption o ((step (design_of l) s attempt ≡ None) × (performed_by a.row.items (tile_next_op v.place attempt) ≡ a.row.items))
+          (λ q. (next : State) × (step (design_of l) s attempt ≡ Some next) × IsShown (design_of l) next (slice_set (places_in a) t q) (performed_by a.row.items (tile_next_op v.place attempt)))
+          → (step (design_of l) s attempt ≡ None) × (performed_by a.row.items (tile_next_op v.place attempt) ≡ a.row.items)
+      idles None e h = h
+      idles (Some q) e h = absurd (cc)
+
+      -- the fields after an attempt that isn't enabled
+      pub idle : (tiles : Vec PlacedTile A) (row : Vec ℕ A) → tile_attempted v.place attempt a.row.items ≡ None
+          → (w : PlacedTile) → w ≡ v → tiles.items ≡ slice_set a.tiles.items t w → row.items ≡ performed_by a.row.items (tile_next_op v.place attempt)
+          → Led a (with_parts a tiles row a.book) Idle attempt
+      idle tiles row none w same tiles_are row_is =
+          let k = idles (tile_attempted v.place attempt a.row.items) none leads in
+          let tiles_stay : tiles.items ≡ a.tiles.items = tiles_are ∙ (ap (slice_set a.tiles.items t) same ∙ set_there a.tiles.items t v there) in
+          let row_stays : row.items ≡ a.row.items = row_is ∙ k.1 in
+          let core_stays : core_of (with_parts a tiles row a.book) ≡ core_of a =
+          ap (λ (vs : List PlacedTile). core_by a (state_seen (design_in a) (map (λ v. v.place) vs) row.items) a.book.book) tiles_stay
+          ∙ ap (λ (ws : List ℕ). core_by a (state_seen (design_in a) (places_in a) ws) a.book.book) row_stays in
+          record {
+            machine = record {
+              load = l;
+              steps = is.steps;
+              after = subst (λ (c : Core). IsAfter l c is.steps) (sym core_stays) is.after;
+              seen = subst (λ (vs : List PlacedTile). IsShown (design_of l) s (map (λ v. v.place) vs) row.items) (sym tiles_stay)
+                  (subst (λ (ws : List ℕ). IsShown (design_of l) s (places_in a) ws) (sym row_stays) is.seen);
+              banks = subst (HaveRoom l) (sym tiles_stay) is.banks;
+              room = is.room;
+            };
+            steps = subst (λ (c : Core). Steps (core_of a) c Idle attempt) (sym core_stays) (stays (core_of a) attempt (step_is ∙ k.0));
+          }
+
+      moves : (o : Option TilePlace) (q : TilePlace) → o ≡ Some q
+          → MatchOption o ((step (design_of l) s attempt ≡ None) × (performed_by a.row.items (tile_next_op v.place attempt) ≡ a.row.items))
+          (λ q. (next : State) × (step (design_of l) s attempt ≡ Some next) × IsShown (design_of l) next (slice_set (places_in a) t q) (performed_by a.row.items (tile_next_op v.place attempt)))
+          → (next : State) × (step (design_of l) s attempt ≡ Some next) × IsShown (design_of l) next (slice_set (places_in a) t q) (performed_by a.row.items (tile_next_op v.place attempt))
+      moves None q e h = absurd (cc)
+      moves (Some p) q e h = (h.0, h.1, subst (λ (x : TilePlace). IsShown (design_of l) h.0 (slice_set (places_in a) t x) (performed_by a.row.items (tile_next_op v.place attempt))) (same_Some _ _ e) h.2)
+
+      module _ (q : TilePlace) (attempted : tile_attempted v.place attempt a.row.items ≡ Some q) (w : PlacedTile) (new_tile : w ≡ with_place v q)
+          (tiles : List PlacedTile) (tiles_are : tiles ≡ slice_set a.tiles.items t w)
+          (row : List ℕ) (row_is : row ≡ performed_by a.row.items (tile_next_op v.place attempt)) where
+        led : (next : State) × (step (design_of l) s attempt ≡ Some next) × IsShown (design_of l) next (slice_set (places_in a) t q) (performed_by a.row.items (tile_next_op v.place attempt))
+        led = moves (tile_attempted v.place attempt a.row.items) q attempted leads
+
+        abbrev next : State
+        next = led.0
+
+        places_are : map (λ (x : PlacedTile). x.place) tiles ≡ slice_set (places_in a) t q
+        places_are =
+            ap (map (λ (x : PlacedTile). x.place)) (tiles_are ∙ ap (slice_set a.tiles.items t) new_tile)
+            ∙ map-set (λ (x : PlacedTile). x.place) a.tiles.items t (with_place v q)
+
+        next_after : after l (is.steps ++ attempt ∷ []) ≡ next
+        next_after = after_append (design_of l) (first_state l) is.steps (attempt ∷ []) ∙ ap (or_same s) led.1
+
+        shown_after : IsShown (design_of l) (after l (is.steps ++ attempt ∷ [])) (map (λ (x : PlacedTile). x.place) tiles) row
+        shown_after =
+            subst (λ (x : State). IsShown (design_of l) x (map (λ (x : PlacedTile). x.place) tiles) row) (sym next_after)
+            (subst (λ (ps : List TilePlace). IsShown (design_of l) next ps row) (sym places_are)
+            (subst (λ (ws : List ℕ). IsShown (design_of l) next (slice_set (places_in a) t q) ws) (sym row_is) led.2))
+
+        -- the tiles and the row show the next state
+        next_seen : state_seen (design_of l) (map (λ (x : PlacedTile). x.place) tiles) row ≡ next
+        next_seen =
+            let more : List Step = is.steps ++ attempt ∷ [] in
+            let all : take (length more) more ≡ more = take_all (length more) more (omega arith) in
+            seen_state l is.after.accepted more (length more) (map (λ (x : PlacedTile). x.place) tiles) row
+            (subst (λ (xs : List Step). IsShown (design_of l) (after l xs) (map (λ (x : PlacedTile). x.place) tiles) row) (sym all) shown_after)
+            ∙ (ap (after l) all ∙ next_after)
+
+        new_there : slice_get tiles t ≡ Some (with_place v q)
+        new_there = ap (λ (vs : List PlacedTile). slice_get vs t) (tiles_are ∙ ap (slice_set a.tiles.items t) new_tile)
+            ∙ get_set_same a.tiles.items t (with_place v q) (slice_get_within a.tiles.items t v there)
+
+        old_state : slice_get s.tiles t ≡ Some (state_of v.place)
+        old_state = state_at (design_of l) s (places_in a) a.row.items is.seen t v.place place_there
+
+        new_state : slice_get next.tiles t ≡ Some (state_of q)
+        new_state = state_at (design_of l) next (slice_set (places_in a) t q) (performed_by a.row.items (tile_next_op v.place attempt)) led.2 t q
+            (get_set_same (places_in a) t q (slice_get_within (places_in a) t v.place place_there))
+
+        records_are : records_in tiles ≡ records_of next
+        records_are = records_shown tiles ∙ ap records_of next_seen
+
+        book_fits_now : FitsLoad l a.book.book
+        book_fits_now = subst (FitsLoad l) (sym book_is) (book_fits l is.after.accepted is.steps)
+
+        tiles_long : length tiles ≡ tiles_of l.shape
+        tiles_long = ap (λ (vs : List PlacedTile). length vs) tiles_are ∙ (length-set a.tiles.items t w ∙ tiles_counted)
+
+        can_issue : length v.place.processor.state.operations.issued < length q.processor.state.operations.issued → HasRoomForIssue a.book t
+        can_issue more =
+            let k = room_to_issue l is.after.accepted is.steps attempt next led.1 (state_of v.place) (state_of q) old_state new_state more in
+            let reserved = is.room.issues t k.lines k.script in
+            let short = subst (λ (g : EventBook). length (list_at g.issues t) < operation_count k.lines) (sym book_is) k.issues in
+            record {
+              processor = subst (λ (g : EventBook). t < length g.issues) (sym book_is) k.processor;
+              room = omega (arith, short, reserved);
+            }
+
+        can_serve : (e : Entry) → slice_get q.bank.state.entries (length v.place.bank.state.entries) ≡ Some e
+            → (e.source < length tiles) × HasRoomForService a.book t e.source (index_served (records_in tiles) e)
+        can_serve e new =
+            let k = subst (λ (g : EventBook). RoomToNoteService l g t e.source (index_served (records_of next) e)) (sym book_is)
+            (room_to_serve l is.after.accepted is.steps attempt next led.1 (state_of v.place) (state_of q) old_state new_state e new) in
+            let fits = book_fits_now in
+            let long = tiles_long in
+            let total = is.room.rows in
+            let short : t < tiles_of l.shape = omega (arith, k.bank, fits.positions) in
+            let reserved = is.room.positions t short in (
+              omega (arith, k.source_in, fits.issues, long),
+              record {
+                bank = k.bank;
+                source = k.source_in;
+                index = subst (λ (bs : List ProcessorRecord). index_served bs e < length (list_at a.book.book.issues e.source)) (sym records_are) k.index_in;
+                place = omega (arith, k.positions, reserved);
+                services = omega (arith, k.services, fits.operations);
+                room = omega (arith, k.rows, total);
+                rows = omega (arith, k.rows, fits.operations);
+              },
+            )
+
+        can_answer : (x : Answer) → slice_get q.processor.state.operations.answers (length v.place.processor.state.operations.answers) ≡ Some x
+            → RoomToNoteAnswer a.book.book x.bank x.place
+        can_answer x new = subst (λ (g : EventBook). RoomToNoteAnswer g x.bank x.place) (sym book_is)
+            (room_to_answer l is.after.accepted is.steps attempt next led.1 (state_of v.place) (state_of q) old_state new_state x new)
+
+        -- the book has room for what is noted
+        pub can_note : HasRoomToNote tiles t (counts_of v) a.book
+        can_note = record {
+          issue = λ x at more. can_issue (subst (λ (y : PlacedTile). length v.place.processor.state.operations.issued < length y.place.processor.state.operations.issued) (at_new x at) more);
+          answer = λ x at e new. can_answer e (ap (λ (y : PlacedTile). slice_get y.place.processor.state.operations.answers (length v.place.processor.state.operations.answers)) (sym (at_new x at)) ∙ new);
+          service = λ x at e new. can_serve e (ap (λ (y : PlacedTile). slice_get y.place.bank.state.entries (length v.place.bank.state.entries)) (sym (at_new x at)) ∙ new);
+          events = let fits = book_fits_now in omega (arith, fits.events, fits.operations);
+        }
+          where
+            at_new : (x : PlacedTile) → slice_get tiles t ≡ Some x → x ≡ with_place v q
+            at_new x at = same_Some _ _ (sym at ∙ new_there)
+
+        -- the book with what is noted is that of the event
+        book_led : (g : RoomyBook)
+            → ((x : PlacedTile) → slice_get tiles t ≡ Some x → g.book ≡ book_noted t (records_in tiles) (length v.place.processor.state.operations.issued) (length v.place.processor.state.operations.answers) (length v.place.bank.state.entries) (state_of x.place) a.book.book)
+            → g.book ≡ noted_event (tiles_of l.shape) a.book.book event
+        book_led g noted =
+            noted (with_place v q) new_there
+            ∙ (ap (λ (bs : List ProcessorRecord). book_noted t bs (length v.place.processor.state.operations.issued) (length v.place.processor.state.operations.answers) (length v.place.bank.state.entries) (state_of q) a.book.book) records_are
+            ∙ noted_is l is.after.accepted is.steps attempt next led.1 (state_of v.place) (state_of q) old_state new_state a.book.book)
+
+        next_is : step (built_to (core_of a)) (core_of a).state attempt ≡ Some next
+        next_is = step_is ∙ led.1
+
+        core_led : (g : EventBook) → g ≡ noted_event (tiles_of l.shape) a.book.book event
+            → core_by a (state_seen (design_in a) (map (λ (x : PlacedTile). x.place) tiles) row) g ≡ core_next (core_of a) attempt
+        core_led g noted =
+            ap (λ (x : State). core_by a x g) (ap (λ (d : Design). state_seen d (map (λ (x : PlacedTile). x.place) tiles) row) design_is ∙ next_seen)
+            ∙ (ap (core_by a next) (noted ∙ (ap (λ (x : Shape). noted_event (tiles_of x) a.book.book event) (sym is.after.shape)
+            ∙ ap (noted_event (tiles_of a.torus) a.book.book) (sym event_is)))
+            ∙ sym (ap (core_with (core_of a) (event_in (built_to (core_of a)) (core_of a).state attempt)) next_is))
+
+        banks_led : HaveRoom l tiles
+        banks_led b x at = ⊎_elim
+            (λ (same : b ≡ t).
+            let new : x ≡ with_place v q = same_Some _ _ (sym at ∙ (ap (slice_get tiles) same ∙ new_there)) in
+            ap (λ (y : PlacedTile). y.room) new ∙ (is.banks t v there ∙ ap (λ (k : ℕ). home_room (tiles_of l.shape) k l.scripts) (sym same)))
+            (λ (other : b ≢ t). is.banks b x (sym (ap (λ (vs : List PlacedTile). slice_get vs b) tiles_are ∙ get_set_other a.tiles.items t b w other) ∙ at))
+            (cases_eq b t)
+
+        room_led : (g : RoomyBook) → KeepsRoom a.book g → HasRoomForScripts l g
+        room_led g keeps = record {
+          issues = λ p lines script. omega (arith, is.room.issues p lines script, keeps.issues p);
+          positions = λ b short. omega (arith, is.room.positions b short, keeps.positions b);
+          rows = omega (arith, is.room.rows, keeps.rows);
+        }
+
+      -- the fields after an attempt that is enabled
+      pub moved : (q : TilePlace) → tile_attempted v.place attempt a.row.items ≡ Some q → (w : PlacedTile) → w ≡ with_place v q
+          → (tiles : Vec PlacedTile A) → tiles.items ≡ slice_set a.tiles.items t w
+          → (row : Vec ℕ A) → row.items ≡ performed_by a.row.items (tile_next_op v.place attempt)
+          → (g : RoomyBook) → KeepsRoom a.book g
+          → ((x : PlacedTile) → slice_get tiles.items t ≡ Some x → g.book ≡ book_noted t (records_in tiles.items) (length v.place.processor.state.operations.issued) (length v.place.processor.state.operations.answers) (length v.place.bank.state.entries) (state_of x.place) a.book.book)
+          → Led a (with_parts a tiles row g) Moved attempt
+      moved q attempted w new_tile tiles tiles_are row row_is g keeps noted =
+          let change : core_of (with_parts a tiles row g) ≡ core_next (core_of a) attempt =
+          core_led q attempted w new_tile tiles.items tiles_are row.items row_is g.book (book_led q attempted w new_tile tiles.items tiles_are row.items row_is g noted) in
+          record {
+            machine = record {
+              load = l;
+              steps = is.steps ++ attempt ∷ [];
+              after = subst (λ (c : Core). IsAfter l c (is.steps ++ attempt ∷ [])) (sym change) (after_step l (core_of a) is.steps attempt is.after);
+              seen = shown_after q attempted w new_tile tiles.items tiles_are row.items row_is;
+              banks = banks_led q attempted w new_tile tiles.items tiles_are row.items row_is;
+              room = room_led q attempted w new_tile tiles.items tiles_are row.items row_is g keeps;
+            };
+            steps = record {
+              result = sym (ap told (next_is q attempted w new_tile tiles.items tiles_are row.items row_is));
+              change = change;
+            };
+          }

@@ -1,37 +1,26 @@
 -- What a machine's fields stand for, and what is true of every machine.
-use Rattle.std.specs.Prelude.{◌≡◌, ℕ, ◌≤◌, List, length, map, Some, slice_get, vec_capacity}
+use Rattle.std.specs.Prelude.{◌≡◌, ℕ, ◌<◌, ◌≤◌, List, length, map, Some, slice_get, slice_index}
 use Rattle.torus.specs.Shape.{tiles_of}
 use Rattle.torus.specs.declared.step.Step.{Step}
 use Rattle.script.specs.declared.line.Line.{Line}
 use Rattle.script.specs.Scripts.{operation_count, total_count}
-use Rattle.runs.specs.Observed.{words_by_address}
-use Rattle.flights.specs.Flight.{Flight}
-use Rattle.flights.specs.EventBook.{EventBook}
 use Rattle.flights.specs.Room.{home_room}
-use Rattle.flights.specs.Load.{Load}
-use Rattle.machine_core.specs.declared.rows.ProcessorRow.{ProcessorRow}
-use Rattle.machine_core.specs.declared.rows.BankRow.{BankRow}
+use Rattle.event_book.specs.RoomyBook.{RoomyBook}
+use Rattle.tile.specs.Tile.{Design}
+use Rattle.tile.specs.Agents.{TilePlace}
+use Rattle.tile_agents.specs.Placed.{PlacedTile}
+use Rattle.core_laws.specs.Core.{Load, design_of, after as state_after_steps}
+use Rattle.machine_seen.specs.Seen.{IsShown, state_seen}
+use Rattle.machine_laws.specs.Core.{Core, IsAfter}
 use Rattle.machine_core.specs.declared.machine.Machine.TheInside.{Inside}
-use Rattle.machine_core.specs.Loaded.{first_words}
-use Rattle.machine_core.specs.Rows.{processor_of, HasProcessorRoom, HasBankRoom}
-use Rattle.machine_core.specs.Core.{Core, IsAfter}
 
-abbrev pub state_of : {A : Type 0} → Inside A → Flight
-state_of a = record {
-  processors = map processor_of a.processors.items;
-  entries = map (λ row. row.bank.entries) a.banks.items;
-  memory = words_by_address (tiles_of a.torus) (length a.opening.items) (map (λ row. row.bank.words) a.banks.items);
-  asked = a.requests.items;
-  told = a.responses.items;
-}
+-- what the machine is built to
+abbrev pub design_in : {A : Type 0} → Inside A → Design
+design_in a = record { shape = a.torus; depth = a.depth; words = length a.opening.items }
 
-abbrev pub book_of : {A : Type 0} → Inside A → EventBook
-book_of a = record {
-  events = a.events;
-  issues = map (λ row. row.numbers.items) a.processors.items;
-  positions = map (λ row. row.positions.items) a.banks.items;
-  rows = a.order.items;
-}
+-- the tiles in their places
+abbrev pub places_in : {A : Type 0} → Inside A → List TilePlace
+places_in a = map (λ v. v.place) a.tiles.items
 
 abbrev pub core_of : {A : Type 0} → Inside A → Core
 core_of a = record {
@@ -39,31 +28,25 @@ core_of a = record {
   depth = a.depth;
   tags = a.tags;
   opening = a.opening.items;
-  state = state_of a;
-  book = book_of a;
+  state = state_seen (design_in a) (places_in a) a.row.items;
+  book = a.book.book;
 }
 
--- the room that was reserved for a load is there
-pub record HasRoom {A : Type 0} (l : Load) (a : Inside A) : Type 0 where
-  pub processors : (t : ℕ) (lines : List Line) (row : ProcessorRow A) → slice_get l.scripts t ≡ Some lines
-      → slice_get a.processors.items t ≡ Some row → HasProcessorRoom (operation_count lines) row
-  pub banks : (b : ℕ) (row : BankRow A) → slice_get a.banks.items b ≡ Some row
-      → HasBankRoom (home_room (tiles_of l.shape) b l.scripts) row
-  pub requests : total_count l.scripts ≤ vec_capacity a.requests
-  pub responses : total_count l.scripts ≤ vec_capacity a.responses
-  pub order : total_count l.scripts ≤ vec_capacity a.order
+-- each bank has room for the operations of all scripts that can come to it, and no more
+abbrev pub HaveRoom : Load → List PlacedTile → Type 0
+HaveRoom l tiles = (b : ℕ) (v : PlacedTile) → slice_get tiles b ≡ Some v → v.room ≡ home_room (tiles_of l.shape) b l.scripts
 
--- a row is that of bank b of so many tiles, and has the words that are at home there
-pub record IsBankRow {A : Type 0} (tiles b : ℕ) (opening : List ℕ) (row : BankRow A) : Type 0 where
-  pub tile : row.bank.tile ≡ b
-  pub among : row.bank.tiles ≡ tiles
-  pub words : length row.bank.words ≡ length (first_words tiles opening b)
+-- the book has room for all that the scripts can ask
+pub record HasRoomFor (l : Load) (g : RoomyBook) : Type 0 where
+  pub issues : (p : ℕ) (lines : List Line) → slice_get l.scripts p ≡ Some lines → operation_count lines ≤ slice_index g.issues p
+  pub positions : (b : ℕ) → b < tiles_of l.shape → home_room (tiles_of l.shape) b l.scripts ≤ slice_index g.positions b
+  pub rows : total_count l.scripts ≤ g.rows
 
--- every machine stands where some list of steps leads from an accepted load
+-- every machine stands where some list of steps leads from an accepted load; its tiles and its row show the state there
 pub record IsMachine {A : Type 0} (a : Inside A) : Type 0 where
   pub load : Load
   pub steps : List Step
   pub after : IsAfter load (core_of a) steps
-  pub room : HasRoom load a
-  pub banks : (b : ℕ) (row : BankRow A) → slice_get a.banks.items b ≡ Some row
-      → IsBankRow (tiles_of a.torus) b a.opening.items row
+  pub seen : IsShown (design_of load) (state_after_steps load steps) (places_in a) a.row.items
+  pub banks : HaveRoom load a.tiles.items
+  pub room : HasRoomFor load a.book

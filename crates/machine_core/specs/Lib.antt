@@ -1,6 +1,5 @@
-pub mod Wire
-pub mod Core
-pub mod Rows
-pub mod Loaded
 pub mod Inside
-pub mod Reported
+pub mod Loaded
+pub mod Rounds
+pub mod Shown
+pub mod Noted

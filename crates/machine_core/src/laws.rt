@@ -1,66 +1,13 @@
-//! Laws of every run of an accepted load, and of every machine that one reaches, each the contract of a function that does nothing.
+//! Laws of what a machine's row shows, each the contract of a function that does nothing.
 
-ghost use Rattle.std.specs.Prelude.{◌≡◌, ◌<◌, ◌≤◌, ◌++◌, ℕ, List, Some, length, slice_get};
+ghost use Rattle.std.specs.Prelude.{List};
 ghost use Rattle.torus.specs.declared.step.Step.{Step};
-ghost use Rattle.script.specs.Machine.{MachineSpec, IsAcceptedMachine};
-ghost use Rattle.script.specs.Scripts.{ScriptsSpec, AreAcceptedScripts, Fit};
-ghost use Rattle.runs.specs.declared.ordered.Ordered.{Ordered};
-ghost use Rattle.runs.specs.Order.{LinearizationPoint, IsLegalOrder, StandsBefore};
-ghost use Rattle.runs.specs.Rows.{BeginRows};
-ghost use Rattle.runs.specs.Consequences.{Precedes};
-ghost use Rattle.flights.specs.Load.{Load, IsAccepted, load_of};
-ghost use Rattle.machine_core.specs.Wire.{run_of};
-ghost use Rattle.machine_core.specs.Core.{Core, IsAfter, IsLawful, book_after, core_after_load};
-ghost use Rattle.machine_core.specs.Reported.{ReportsWell};
+ghost use Rattle.core_laws.specs.Core.{Load};
+ghost use Rattle.machine_laws.specs.Core.{Core, IsAfter};
+ghost use Rattle.machine_core.specs.Shown.{ShowsRow};
 
-/// Of every machine that is reached, what it shows goes with its rows: its report is a good one.
-pub fn reached_machines_report_well()
-    ensures { (l : Load) (c : Core) (steps : List Step) → IsAfter l c steps → ReportsWell c }
-{}
-
-/// An operation that is answered before another is issued comes before it in the order: said of the
-/// steps of the run, in any legal order of it, and of the numbers in the rows.
-pub fn order_respects_real_time()
-    ensures steps { (l : Load) (c : Core) (steps : List Step) → IsAfter l c steps
-        → (order : List LinearizationPoint) → IsLegalOrder l.opening (run_of l steps) (length steps) order
-        → (p i k : ℕ) (y : LinearizationPoint) → slice_get order k ≡ Some y → Precedes (run_of l steps) p i y.source y.index
-        → StandsBefore order k p i }
-    ensures rows { (l : Load) (c : Core) (steps : List Step) → IsAfter l c steps
-        → (j k m : ℕ) (x y : Ordered) → slice_get c.book.rows j ≡ Some x → slice_get c.book.rows k ≡ Some y
-        → x.answered ≡ Some m → m < y.issued → j < k }
-{}
-
-/// Two machines that the same steps reach from the same load are the same: the machine that these
-/// steps lead to.
-pub fn steps_decide_the_machine()
-    ensures same { (l : Load) (c d : Core) (steps : List Step) → IsAfter l c steps → IsAfter l d steps → c ≡ d }
-    ensures named { (l : Load) (c : Core) (steps : List Step) → IsAfter l c steps → c ≡ core_after_load l steps }
-{}
-
-/// What the readers give is an accepted load.
-pub fn readers_give_accepted_loads()
-    ensures { (machine : MachineSpec) (scripts : ScriptsSpec) → IsAcceptedMachine machine → AreAcceptedScripts scripts → Fit scripts machine → IsAccepted (load_of machine scripts) }
-{}
-
-/// The run of any list of steps from any accepted load is lawful.
-pub fn every_run_is_lawful()
-    ensures { (l : Load) (steps : List Step) → IsAccepted l → IsLawful l steps (book_after l steps).rows }
-{}
-
-/// From any accepted load any steps lead to a machine that stands after them, and reports well.
-pub fn steps_lead_to_a_machine()
-    ensures after { (l : Load) (steps : List Step) → IsAccepted l → IsAfter l (core_after_load l steps) steps }
-    ensures reports { (l : Load) (steps : List Step) → IsAccepted l → ReportsWell (core_after_load l steps) }
-{}
-
-/// What a longer list of steps shows at its first steps is what these show by themselves.
-pub fn first_steps_begin_the_run()
-    ensures { (l : Load) (steps more : List Step) (k : ℕ) → k ≤ length steps → run_of l (steps ++ more) k ≡ run_of l steps k }
-{}
-
-/// The order of the first steps is a beginning of the order of a longer list of steps: the rows
-/// stand where they stood, with the numbers that they had, and with answers' numbers that have come
-/// since.
-pub fn orders_go_on()
-    ensures { (l : Load) (steps more : List Step) → IsAccepted l → BeginRows (book_after l steps).rows (book_after l (steps ++ more)).rows }
+/// The row of every machine that is reached, in full: where each flit of each channel stands, that 0
+/// stands at all other places of the channels, the words of the memory behind them, and the done word.
+pub fn rows_show_machines()
+    ensures { (l : Load) (c : Core) (steps : List Step) → IsAfter l c steps → ShowsRow l steps c }
 {}

@@ -1,13 +1,10 @@
-//! The machine: its agents, its steps, and the one legal order of its runs.
+//! The machine: its tiles on the wormhole network, its steps and rounds, and the one legal order of its runs.
 #![tactic(auto)]
 
 pub mod laws;
 mod loading;
 pub mod machine;
-mod moves;
-mod rows;
-#[cfg(test)]
-mod tests;
+mod noting;
 
 pub use home_bank::Entry;
 pub use machine::Machine;

@@ -1,46 +1,46 @@
 ghost use Rattle.std.specs.Prelude.{◌≡◌, ◌<◌, ◌≤◌, ◌↔◌, List, [], ◌∷◌, ◌++◌, IsTrue, IfOk, IfErr, length, slice_get};
 ghost use Rattle.std.specs.Option.{option_copied};
 ghost use Rattle.torus.specs.declared.step.Step.{Step};
-ghost use Rattle.flights.specs.Load.{Load, IsAccepted, load_of};
-ghost use Rattle.machine_core.specs.Wire.{sends, serves, takes, move_of, run_of};
 ghost use Rattle.script.specs.Scripts.{Fit};
 ghost use Rattle.script.specs.ScriptViews.{lists_of};
-ghost use Rattle.flights.specs.Flight.{all_finished};
+ghost use Rattle.net_interface.specs.Following.{is_finished};
+ghost use Rattle.flights.specs.Load.{load_of};
 ghost use Rattle.flights.specs.Scripts.{AreFinished};
-ghost use Rattle.machine_core.specs.Core.{Steps, IsAfter, core_after, shown};
+ghost use Rattle.core_laws.specs.Core.{Load, run_of, attempts_of, round_at, round};
+ghost use Rattle.core_laws.specs.Runs.{IsAccepted};
+ghost use Rattle.core_row.specs.Row.{row_of};
+ghost use Rattle.machine_laws.specs.Core.{IsAfter, Steps, core_after, shown, built_to, all_finished};
+ghost use Rattle.core_progress.specs.Moves.{moves_left};
+ghost use Rattle.machine_core.specs.Rounds.{processor_choices, bank_choices, takes_of_all, puts_of_all, credits_of_all, rounds_of, NeedsRounds};
 
-use crate::loading::{all_room, bank_rows, processor_rows};
-use crate::moves::{
-    answer, holder, issue, note_answer, oldest_request, oldest_response, push_within, ready,
-    request_of, serve_row, take_out,
-};
-use crate::rows::{BankRow, ProcessorRow};
+use crate::loading::{first_row, first_tiles};
+use crate::noting::{Counts, lacks_room, note};
+use channel_number::channel_count;
+use event_book::EventBook;
 use home_bank::Entry;
-use packet::{Request, Response};
 use runs::{Answer, Ordered};
 use script::{LineList, MachineText, Scripts};
+use script_rooms::{all_room, home_rooms, processor_rooms};
 use std::alloc::{AllocError, Allocator, Global};
 use std::marker::Model;
+use tile_agents::TileAgents;
 use torus::{Choice, Fault, Step, Stepped, Torus};
 
-/// A machine of the first core, which has no routers: processors that follow their scripts, banks,
-/// and a list of packets in flight.
+/// A machine: the agents of all tiles, the row of words that they share (the places of the
+/// channels, the memory, and the done word), and the book of the events so far.
 #[derive(Drop)]
 pub struct Machine<A: Allocator = Global> {
     torus: Torus,
     depth: u32,
     tags: u32,
     opening: Vec<u64, A>,
-    processors: Vec<ProcessorRow<A>, A>,
-    banks: Vec<BankRow<A>, A>,
-    requests: Vec<Request, A>,
-    responses: Vec<Response, A>,
-    events: u32,
-    order: Vec<Ordered, A>,
+    tiles: Vec<TileAgents<A>, A>,
+    row: Vec<u64, A>,
+    book: EventBook<A>,
 }
 
 impl<A: Allocator> Model for Machine<A> {
-    ghost use Rattle.machine_core.specs.Core.{Core};
+    ghost use Rattle.machine_laws.specs.Core.{Core};
 
     ghost Value = { Core };
 
@@ -64,23 +64,23 @@ impl<A: Allocator + Copy> Machine<A> {
         requires { IsAccepted (record { shape = torus; depth = depth; tags = tags; opening = opening.items; scripts = lists_of lists.items }) }
         ensures { IfOk result (λ m. IsAfter (record { shape = torus; depth = depth; tags = tags; opening = opening.items; scripts = lists_of lists.items }) m []) }
     {
-        let room = all_room(lists.as_slice());
-        let requests = Vec::with_capacity(alloc, room)?;
-        let responses = Vec::with_capacity(alloc, room)?;
-        let order = Vec::with_capacity(alloc, room)?;
-        let banks = bank_rows(alloc, torus.tiles(), opening.as_slice(), lists.as_slice())?;
-        let processors = processor_rows(alloc, tags, lists)?;
+        let tiles = torus.tiles() as usize;
+        let issues = processor_rooms(lists.as_slice());
+        let entries = home_rooms(torus.tiles(), lists.as_slice());
+        let rows = all_room(lists.as_slice());
+        let book = EventBook::new(alloc, &issues[..tiles], &entries[..tiles], rows)?;
+        let places = channel_count(&torus) as usize * depth as usize;
+        let row = first_row(alloc, places, opening.as_slice())?;
+        let words = opening.len() as u32;
+        let tiles = first_tiles(alloc, torus, words, depth, tags, &entries, lists)?;
         Ok(Machine {
             torus,
             depth,
             tags,
             opening,
-            processors,
-            banks,
-            requests,
-            responses,
-            events: 0,
-            order,
+            tiles,
+            row,
+            book,
         })
     }
 
@@ -105,102 +105,27 @@ impl<A: Allocator + Copy> Machine<A> {
 }
 
 impl<A: Allocator> Machine<A> {
-    /// A processor issues the operation that is ready, if there is one and a tag is free.
-    fn send(&mut self, tile: u32) -> Stepped
-        ensures { Steps self.old self.new result (sends self.old.state tile) }
-    {
-        let at = tile as usize;
-        if at >= self.processors.len() {
-            return Stepped::Idle;
-        }
-        let Some((tag, operation)) = ready(&self.processors[at]) else {
-            return Stepped::Idle;
-        };
-        let number = self.events + 1;
-        issue(&mut self.processors[at], tag, operation, number);
-        let request = request_of(&self.torus, tile, tag, operation);
-        push_within(&mut self.requests, request);
-        self.events = number;
-        Stepped::Moved
-    }
-
-    /// A bank serves the oldest request in flight to it, if there is one, and sends the reply.
-    fn serve(&mut self, tile: u32) -> Stepped
-        ensures { Steps self.old self.new result (serves self.old.state tile) }
-    {
-        let at = tile as usize;
-        if at >= self.banks.len() {
-            return Stepped::Idle;
-        }
-        let Some((place, request)) = oldest_request(self.requests.as_slice(), tile) else {
-            return Stepped::Idle;
-        };
-        let source = &self.processors[request.source as usize];
-        let index = holder(source, request.tag);
-        let issued = source.numbers[index as usize];
-        let number = self.events + 1;
-        let position = self.order.len() as u32;
-        take_out(&mut self.requests, place);
-        let response = serve_row(&mut self.banks[at], request, position);
-        push_within(&mut self.responses, response);
-        let row = Ordered {
-            bank: tile,
-            place: response.place,
-            source: request.source,
-            index,
-            issued,
-            served: number,
-            answered: None,
-        };
-        push_within(&mut self.order, row);
-        self.events = number;
-        Stepped::Moved
-    }
-
-    /// A processor takes the oldest response in flight to it, if there is one: the operation is
-    /// answered, and its tag is free again.
-    fn take(&mut self, tile: u32) -> Stepped
-        ensures { Steps self.old self.new result (takes self.old.state tile) }
-    {
-        let at = tile as usize;
-        if at >= self.processors.len() {
-            return Stepped::Idle;
-        }
-        let Some((place, response)) = oldest_response(self.responses.as_slice(), tile) else {
-            return Stepped::Idle;
-        };
-        let number = self.events + 1;
-        let bank = &self.banks[response.source as usize];
-        let position = bank.positions[response.place as usize] as usize;
-        take_out(&mut self.responses, place);
-        answer(&mut self.processors[at], response);
-        note_answer(&mut self.order, position, number);
-        self.events = number;
-        Stepped::Moved
-    }
-
-    /// Attempts one choice of one agent. `Moved` exactly when it is enabled, with the stated change;
-    /// a step that names no agent, or a choice that the agent doesn't have, is `Idle`.
+    /// Attempts one choice of one agent: at most one operation on one word of the row. `Moved`
+    /// exactly when it is enabled, with the stated change; a step that names no agent, or a choice
+    /// that the agent doesn't have, is `Idle`.
     pub fn step(&mut self, step: Step) -> Stepped
-        ensures step { Steps self.old self.new result (move_of self.old.state step) }
+        ensures step { Steps self.old self.new result step }
         ensures after { (l : Load) (steps : List Step) → IsAfter l self.old steps → IsAfter l self.new (steps ++ step ∷ []) }
     {
-        self.attempt(step)
-    }
-
-    /// What a step does.
-    fn attempt(&mut self, step: Step) -> Stepped
-        ensures { Steps self.old self.new result (move_of self.old.state step) }
-    {
-        let tile = step.agent / 3;
-        let kind = step.agent % 3;
-        match step.choice {
-            Choice::Send if kind == 0 => self.send(tile),
-            Choice::Take if kind == 0 => self.take(tile),
-            Choice::Serve if kind == 2 => self.serve(tile),
-            Choice::Send | Choice::Take | Choice::Serve => Stepped::Idle,
-            Choice::TakeFrom(_) | Choice::Put(_) | Choice::CreditOf(_) => Stepped::Idle,
-            Choice::Credit | Choice::Done | Choice::Look => Stepped::Idle,
+        let tile = (step.agent / 3) as usize;
+        if tile >= self.tiles.len() {
+            return Stepped::Idle;
+        }
+        if lacks_room(&self.tiles[tile], step) {
+            return Stepped::Idle;
+        }
+        let before = Counts::of(&self.tiles[tile]);
+        match self.tiles[tile].attempt(step, &mut self.row) {
+            Stepped::Moved => {
+                note(self.tiles.as_slice(), &mut self.book, tile, before);
+                Stepped::Moved
+            }
+            Stepped::Idle => Stepped::Idle,
         }
     }
 
@@ -213,6 +138,133 @@ impl<A: Allocator> Machine<A> {
         for step in steps {
             let _ = self.step(*step);
         }
+    }
+
+    /// Makes one round: attempts each choice of each agent once, the agents in their order.
+    pub fn round(&mut self)
+        ensures state { self.new ≡ core_after self.old (round self.old.shape) }
+        ensures law { (l : Load) (before : List Step) → IsAfter l self.old before → IsAfter l self.new (before ++ round self.old.shape) }
+    {
+        let ports = 8 * self.torus.dims() + 2;
+        for tile in 0..self.torus.tiles() {
+            self.round_at(ports, tile);
+        }
+    }
+
+    /// Makes rounds until every script is finished, and answers how many: the least number that does,
+    /// which is at most the moves that were left.
+    pub fn finish(&mut self) -> u64
+        ensures state { self.new ≡ core_after self.old (rounds_of self.old.shape result) }
+        ensures needed { NeedsRounds self.old result }
+        ensures few { (l : Load) (steps : List Step) → IsAfter l self.old steps → result ≤ moves_left l steps (length steps) }
+        ensures law { (l : Load) (before : List Step) → IsAfter l self.old before → IsAfter l self.new (before ++ rounds_of self.old.shape result) }
+        ensures scripts { (l : Load) (before : List Step) → IsAfter l self.old before
+            → AreFinished (run_of l (before ++ rounds_of self.old.shape result)) (length (before ++ rounds_of self.old.shape result)) l.scripts }
+    {
+        self.reached();
+        let mut rounds = 0;
+        while !self.finished() {
+            self.round();
+            rounds += 1;
+        }
+        rounds
+    }
+
+    /// The part of a round at one tile, of so many ports of its router.
+    fn round_at(&mut self, ports: u32, tile: u32)
+        requires tile { tile < 64 }
+        ensures { self.new ≡ core_after self.old (round_at ports tile) }
+    {
+        let processor = 3 * tile;
+        self.attempt_processor(processor);
+        self.attempt_takes(processor + 1, ports);
+        self.attempt_puts(processor + 1, ports);
+        self.attempt_credits(processor + 1, ports);
+        self.attempt_bank(processor + 2);
+    }
+
+    /// Attempts each choice of a processor.
+    fn attempt_processor(&mut self, agent: u32)
+        ensures { self.new ≡ core_after self.old (attempts_of agent processor_choices) }
+    {
+        let _ = self.step(Step {
+            agent,
+            choice: Choice::Send,
+        });
+        let _ = self.step(Step {
+            agent,
+            choice: Choice::Take,
+        });
+        let _ = self.step(Step {
+            agent,
+            choice: Choice::Credit,
+        });
+        let _ = self.step(Step {
+            agent,
+            choice: Choice::Done,
+        });
+        let _ = self.step(Step {
+            agent,
+            choice: Choice::Look,
+        });
+    }
+
+    /// Attempts to take a flit of each input of a router, in order.
+    fn attempt_takes(&mut self, agent: u32, ports: u32)
+        ensures { self.new ≡ core_after self.old (attempts_of agent (takes_of_all ports)) }
+    {
+        for input in 0..ports {
+            let _ = self.step(Step {
+                agent,
+                choice: Choice::TakeFrom(input),
+            });
+        }
+    }
+
+    /// Attempts to put the flit that a router took of each input, in order.
+    fn attempt_puts(&mut self, agent: u32, ports: u32)
+        ensures { self.new ≡ core_after self.old (attempts_of agent (puts_of_all ports)) }
+    {
+        for input in 0..ports {
+            let _ = self.step(Step {
+                agent,
+                choice: Choice::Put(input),
+            });
+        }
+    }
+
+    /// Attempts to find a credit of each output of a router, in order.
+    fn attempt_credits(&mut self, agent: u32, ports: u32)
+        ensures { self.new ≡ core_after self.old (attempts_of agent (credits_of_all ports)) }
+    {
+        for output in 0..ports {
+            let _ = self.step(Step {
+                agent,
+                choice: Choice::CreditOf(output),
+            });
+        }
+    }
+
+    /// Attempts each choice of a bank.
+    fn attempt_bank(&mut self, agent: u32)
+        ensures { self.new ≡ core_after self.old (attempts_of agent bank_choices) }
+    {
+        let _ = self.step(Step {
+            agent,
+            choice: Choice::Take,
+        });
+        let _ = self.step(Step {
+            agent,
+            choice: Choice::Serve,
+        });
+        let _ = self.step(Step {
+            agent,
+            choice: Choice::Send,
+        });
+        let _ = self.step(Step {
+            agent,
+            choice: Choice::Credit,
+        });
     }
 
     /// The machine stands where some steps lead from a load that was accepted.
@@ -249,8 +301,8 @@ impl<A: Allocator> Machine<A> {
         ensures { option_copied result ≡ slice_get (shown self.now).answers processor }
     {
         let at = processor as usize;
-        if at < self.processors.len() {
-            Some(self.processors[at].answers.as_slice())
+        if at < self.tiles.len() {
+            Some(self.tiles[at].answers())
         } else {
             None
         }
@@ -261,8 +313,8 @@ impl<A: Allocator> Machine<A> {
         ensures { option_copied result ≡ slice_get (shown self.now).entries bank }
     {
         let at = bank as usize;
-        if at < self.banks.len() {
-            Some(self.banks[at].bank.entries())
+        if at < self.tiles.len() {
+            Some(self.tiles[at].entries())
         } else {
             None
         }
@@ -272,11 +324,21 @@ impl<A: Allocator> Machine<A> {
     pub fn word(&self, address: u32) -> Option<u64>
         ensures { result ≡ slice_get (shown self.now).memory address }
     {
-        if address as usize >= self.opening.len() {
+        let words = self.opening.len();
+        if address as usize >= words {
             return None;
         }
-        let (bank, word) = self.torus.home(address);
-        self.banks[bank as usize].bank.word(word)
+        let base = self.row.len() - words - 1;
+        Some(self.row[base + address as usize])
+    }
+
+    /// The word at this place of the row: first the places of each channel, in the order of the
+    /// channels, then the memory, then the done word (`laws::rows_show_machines` has it in full).
+    /// `None` exactly behind the row's end.
+    pub fn row(&self, at: u32) -> Option<u64>
+        ensures value { result ≡ slice_get (row_of (built_to self.now) self.now.state) at }
+    {
+        self.row.get(at as usize).copied()
     }
 
     /// Whether every script is finished: all its operations are issued and answered, and no spin
@@ -285,7 +347,11 @@ impl<A: Allocator> Machine<A> {
         ensures value { result ≡ all_finished self.now.state }
         ensures law { (l : Load) (steps : List Step) → IsAfter l self.now steps → IsTrue result ↔ AreFinished (run_of l steps) (length steps) l.scripts }
     {
-        self.processors.iter().all(|row| row.follower.finished())
+        self.tiles.iter().all(
+            |agents|
+                ensures { result ≡ is_finished agents.now.place.processor.state.operations.following }
+            { agents.is_finished() },
+        )
     }
 
     /// The one legal order of the operations so far, by the services, with the numbers of the events.
@@ -295,7 +361,7 @@ impl<A: Allocator> Machine<A> {
         ensures rows { IfOk result (λ rows. rows.items ≡ self.now.book.rows) }
         ensures fault { IfErr result (λ fault. fault ≡ Fault.Memory) }
     {
-        match Vec::from_slice(alloc, self.order.as_slice()) {
+        match Vec::from_slice(alloc, self.book.rows()) {
             Ok(rows) => Ok(rows),
             Err(_) => Err(Fault::Memory),
         }

@@ -13,6 +13,14 @@ needed id = record (new_rule id) { required = true }
 abbrev pub tile : Text → Rule
 tile id = record (new_rule id) { required = true; parser = Some (vp.Signed (pos 0) (pos 4294967295)) }
 
+-- the option for the most rounds, a number from 1 to 1000000, which it is where it isn't given
+abbrev pub rounds : Rule
+rounds = record (new_rule (codes "rounds")) {
+  long = Some (codes "rounds");
+  parser = Some (vp.Signed (pos 1) (pos 1000000));
+  defaults = codes "1000000" ∷ [];
+}
+
 -- an option of this name, which has no value
 abbrev pub flag : Text → Rule
 flag name = record (new_rule name) { long = Some name; action = Some SetTrue }
@@ -21,6 +29,11 @@ flag name = record (new_rule name) { long = Some name; action = Some SetTrue }
 abbrev pub steps_app : App
 steps_app = with_rule (with_rule (with_rule (new_app (codes "steps"))
     (needed (codes "MACHINE"))) (needed (codes "SCRIPT"))) (needed (codes "STEPS"))
+
+-- `round MACHINE SCRIPT [--rounds R]`
+abbrev pub round_app : App
+round_app = with_rule (with_rule (with_rule (new_app (codes "round"))
+    (needed (codes "MACHINE"))) (needed (codes "SCRIPT"))) rounds
 
 -- `route MACHINE SRC DST [--reply]`
 abbrev pub route_app : App
@@ -41,7 +54,7 @@ top_app = let app = new_app (codes "torusmem") in record app { top = record app.
 
 -- the program with the subcommands that run scripts
 abbrev pub running_app : App
-running_app = with_subcommand top_app steps_app.top
+running_app = with_subcommand (with_subcommand top_app steps_app.top) round_app.top
 
 -- and with those on routes
 abbrev pub routing_app : App

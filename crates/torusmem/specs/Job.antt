@@ -6,7 +6,7 @@ use Rattle.clap.specs.Words.{Row, Text, first_of, one_of}
 use Rattle.torus.specs.declared.shape.Class.{Class}
 use Rattle.torus.specs.declared.shape.Class.TheVariants.{Request, Reply}
 use Rattle.torusmem.specs.declared.command.Job.{Job}
-use Rattle.torusmem.specs.declared.command.Job.TheVariants.{Steps, Route, Channels, Check}
+use Rattle.torusmem.specs.declared.command.Job.TheVariants.{Steps, Round, Route, Channels, Check}
 
 -- the values of a subcommand's arguments
 abbrev pub rows_in : Option (Text × List Row) → Option (List Row)
@@ -29,6 +29,7 @@ class_word Reply = flag_text true
 -- the subcommand of a job
 abbrev pub name_of : Job → Text
 name_of (Steps machine script steps) = codes "steps"
+name_of (Round machine script rounds) = codes "round"
 name_of (Route machine src dst class) = codes "route"
 name_of (Channels machine) = codes "channels"
 name_of (Check report) = codes "check"
@@ -37,6 +38,8 @@ name_of (Check report) = codes "check"
 abbrev pub AreOf : Job → List Row → Type 0
 AreOf (Steps machine script steps) rows = (first_of (codes "MACHINE") rows ≡ Some machine.now)
     × (first_of (codes "SCRIPT") rows ≡ Some script.now) × (first_of (codes "STEPS") rows ≡ Some steps.now)
+AreOf (Round machine script rounds) rows = (first_of (codes "MACHINE") rows ≡ Some machine.now)
+    × (first_of (codes "SCRIPT") rows ≡ Some script.now) × (number_in (codes "rounds") rows ≡ Some rounds)
 AreOf (Route machine src dst class) rows = (first_of (codes "MACHINE") rows ≡ Some machine.now)
     × (number_in (codes "SRC") rows ≡ Some src) × (number_in (codes "DST") rows ≡ Some dst)
     × (one_of (codes "reply") rows ≡ Some (class_word class))

@@ -1,7 +1,7 @@
 ghost use Rattle.std.specs.Prelude.{◌≡◌, IfOk, IfSome, Some, map, codes, false, option_map};
 ghost use Rattle.clap.specs.Words.{app_of, found_of, first_of, new_app, one_of, rows_of, subcommand_name_of, subcommand_rows_of, with_rule};
 ghost use Rattle.clap.specs.declared.builder.command.Command.TheViews.{out-Command as fields_of};
-ghost use Rattle.torusmem.specs.CommandLine.{steps_app, route_app, channels_app, check_app, running_app, routing_app, torusmem_app, needed, tile, flag, name_by, rows_by};
+ghost use Rattle.torusmem.specs.CommandLine.{steps_app, round_app, route_app, channels_app, check_app, running_app, routing_app, torusmem_app, needed, tile, rounds, flag, name_by, rows_by};
 ghost use Rattle.torusmem.specs.Job.{AreOf, class_word, name_of, number_in, rows_in};
 
 use clap::error::ErrorKind;
@@ -18,6 +18,12 @@ pub enum Job<'a> {
         machine: &'a str,
         script: &'a str,
         steps: &'a str,
+    },
+    /// Run in rounds, at most so many, until every script is finished, and print the report.
+    Round {
+        machine: &'a str,
+        script: &'a str,
+        rounds: u32,
     },
     /// Print a route.
     Route {
@@ -61,6 +67,11 @@ fn job_of<'a>(matches: &ArgMatches<'a>) -> Option<Job<'a>>
             machine: word(given, "MACHINE")?,
             script: word(given, "SCRIPT")?,
             steps: word(given, "STEPS")?,
+        }),
+        ("round", given) => Some(Job::Round {
+            machine: word(given, "MACHINE")?,
+            script: word(given, "SCRIPT")?,
+            rounds: number(given, "rounds")?,
         }),
         ("route", given) => Some(Job::Route {
             machine: word(given, "MACHINE")?,
@@ -127,7 +138,8 @@ fn running_command<'a>(alloc: Global) -> Result<Command<'a>, AllocError>
     Command::new(alloc, "torusmem")
         .about("A shared memory spread over a torus of tiles")
         .subcommand_required(true)
-        .subcommand(steps_command(alloc)?)
+        .subcommand(steps_command(alloc)?)?
+        .subcommand(round_command(alloc)?)
 }
 
 fn steps_command<'a>(alloc: Global) -> Result<Command<'a>, AllocError>
@@ -141,6 +153,19 @@ fn steps_command<'a>(alloc: Global) -> Result<Command<'a>, AllocError>
     let command = with_file(alloc, command, "MACHINE", "The file of the machine")?;
     let command = with_file(alloc, command, "SCRIPT", "The file of the scripts")?;
     with_file(alloc, command, "STEPS", "The file of the steps")
+}
+
+fn round_command<'a>(alloc: Global) -> Result<Command<'a>, AllocError>
+    ensures { IfOk result (λ c. (app_of c ≡ round_app) × ((fields_of c).has_globals ≡ false)) }
+{
+    let command = named(
+        alloc,
+        "round",
+        "Runs in rounds until every script is finished, and prints the report",
+    );
+    let command = with_file(alloc, command, "MACHINE", "The file of the machine")?;
+    let command = with_file(alloc, command, "SCRIPT", "The file of the scripts")?;
+    with_rounds(alloc, command)
 }
 
 fn route_command<'a>(alloc: Global) -> Result<Command<'a>, AllocError>
@@ -212,6 +237,19 @@ fn with_tile<'a>(
         .value_parser(value_parser!(u32))
         .help(help);
     command.arg(number)
+}
+
+/// The command with one more option, the most rounds to make: 1 to 1000000.
+fn with_rounds<'a>(alloc: Global, command: Command<'a>) -> Result<Command<'a>, AllocError>
+    requires { (fields_of command).has_globals ≡ false }
+    ensures { IfOk result (λ c. (app_of c ≡ with_rule (app_of command.entry) rounds) × ((fields_of c).has_globals ≡ false)) }
+{
+    let option = Arg::new(alloc, "rounds")
+        .long("rounds")
+        .value_parser(value_parser!(u32).range(1..=1000000))
+        .default_value("1000000")
+        .help("The most rounds, 1 to 1000000");
+    command.arg(option)
 }
 
 /// The command with one more option, a flag of this name.

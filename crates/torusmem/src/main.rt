@@ -5,8 +5,8 @@ mod command;
 
 use command::{Job, read_command};
 use commands::{
-    ProgramFault, channels_text, check_text, fault_text, finished, route_text, status_of,
-    steps_text,
+    ProgramFault, channels_text, check_text, fault_text, finished, round_text, route_text,
+    status_of, steps_text,
 };
 use report_lines::{Out, Piped};
 use std::io::{BufWriter, ErrorKind, Write};
@@ -97,6 +97,16 @@ fn answer<'a, R: Files + AllocGlobal, W: Out>(
             let script = text(rt, script)?;
             let steps = text(rt, steps)?;
             Ok(steps_text(alloc, &machine, &script, &steps, out)?)
+        }
+        Job::Round {
+            machine,
+            script,
+            rounds,
+        } => {
+            let machine = text(rt, machine)?;
+            let script = text(rt, script)?;
+            let rounds = u64::from(rounds);
+            Ok(round_text(alloc, &machine, &script, rounds, out)?)
         }
         Job::Route {
             machine,

@@ -1,6 +1,6 @@
 use Rattle.std.proofs.Common.{sym, ◌∙◌, ap, arith}
 use Rattle.std.specs.Option.{option_copied}
-use Rattle.machine_core.specs.Core.{shown}
+use Rattle.machine_laws.specs.Core.{shown}
 use Rattle.history.specs.Report.{entry_row}
 use Rattle.history.proofs.RowMore.{row_more, none_past}
 use Rattle.history.proofs.rows.bank_rows.Goals.{in-Some+in_ok-entry_rows+in_ok-push, in_default}

@@ -1,5 +1,5 @@
 use Rattle.std.proofs.Common.{sym, ◌∙◌, ap, arith}
-use Rattle.machine_core.specs.Core.{shown}
+use Rattle.machine_laws.specs.Core.{shown}
 use Rattle.history.proofs.RowMore.{word_more, none_past}
 use Rattle.history.proofs.rows.last_words.Goals.{in-Some+in_ok-push, in_default}
 use Rattle.history.proofs.rows.last_words.Goals as goal

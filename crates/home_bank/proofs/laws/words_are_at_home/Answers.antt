@@ -1,6 +1,6 @@
 use Rattle.std.proofs.Common.{◌≡◌, ◌%◌, ◌/◌}
 use Rattle.torus.specs.Shape.{tiles_of}
-use Rattle.home_bank.proofs.Replay.{home_tile, home_word}
+use Rattle.home_bank.proofs.Homes.{home_tile, home_word}
 use Rattle.home_bank.specs.ServiceList.{address_of}
 use Rattle.home_bank.proofs.laws.words_are_at_home.Goals as goal
 

@@ -1,10 +1,10 @@
 use Rattle.std.proofs.Common.{Some, None, sym, ◌∙◌, ap, arith}
-use Rattle.machine_core.proofs.Kept.{vec_at}
-use Rattle.machine_core.proofs.Attempts.{answers_there, vec_past}
+use Rattle.machine_core.proofs.Moving.{vec_at}
+use Rattle.machine_core.proofs.Views.{answers_there, vec_past}
 use Rattle.machine_core.proofs.machine.Machine.answers.Goals as goal
 
 pub returns-then-at-len : goal.returns-then-at-len
-returns-then-at-len g c = rw (← c.self.view_is) (ap Some c.as_slice.ensures.value ∙ sym (answers_there c.self.inside c.args.processor (Some c.index.result.now) (vec_at c.self.inside.processors c.args.processor c.index.result.now (omega arith) c.index.ensures)))
+returns-then-at-len g c = rw (← c.self.view_is) (ap Some c.answers.ensures ∙ sym (answers_there c.self.inside c.args.processor (Some c.index.result.now) (vec_at c.self.inside.tiles c.args.processor c.index.result.now (omega arith) c.index.ensures)))
 
 pub returns-else-at-len : goal.returns-else-at-len
-returns-else-at-len g c = rw (← c.self.view_is) (sym (answers_there c.self.inside c.args.processor None (vec_past c.self.inside.processors c.args.processor (omega arith))))
+returns-else-at-len g c = rw (← c.self.view_is) (sym (answers_there c.self.inside c.args.processor None (vec_past c.self.inside.tiles c.args.processor (omega arith))))

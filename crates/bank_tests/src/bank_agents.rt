@@ -1,0 +1,313 @@
+ghost use Rattle.std.specs.Prelude.{◌<◌, IfOk};
+ghost use Rattle.torus.specs.Shape.{tiles_of};
+
+use flit_buffer::perform;
+use home_bank::{BankAgent, Entry, is_acceptable};
+use packet::{Op, Reply};
+use std::alloc::{AllocError, Global};
+use std::test::Fail;
+use torus::{Choice, Stepped, Tag, Torus};
+
+/// The first places of the bank's input and of its output, over two tiles and channels of depth 1.
+const INPUT: usize = 22;
+
+const OUTPUT: usize = 21;
+
+const MOVED: Option<Stepped> = Some(Stepped::Moved);
+
+const IDLE: Option<Stepped> = Some(Stepped::Idle);
+
+/// What is tried, or seen and changed in the row.
+#[derive(Clone, Copy)]
+enum Event {
+    /// A choice, and what it comes to.
+    Tries(Choice, Option<Stepped>),
+    /// A flit is put, and taken at the other end; the credit comes back.
+    Sends(u64),
+    /// A flit comes, and is taken.
+    Takes(u64),
+    /// A word of the row, what it holds, and what it is made.
+    Word(usize, u64, u64),
+}
+
+/// The bank of tile 1 of two tiles, and its row: its words are words 25, 27, 29 and 31.
+#[derive(Drop)]
+struct Bench {
+    bank: BankAgent,
+    row: Vec<u64>,
+    at_once: bool,
+}
+
+impl Bench {
+    /// Tries a choice by its operation, or at once; None where it has no operation, or the word found
+    /// may not be taken.
+    fn tried(&mut self, choice: Choice) -> Option<Stepped> {
+        let op = self.bank.next_op(choice)?;
+        if op.word() >= self.row.len()
+            || self.bank.is_full()
+            || !is_acceptable(self.row[op.word()])
+        {
+            return None;
+        }
+        if self.at_once {
+            return Some(self.bank.attempt(choice, &mut self.row));
+        }
+        let got = perform(op, &mut self.row);
+        Some(self.bank.absorb(choice, got))
+    }
+
+    /// Changes a word of the row, and answers what it held.
+    fn made(&mut self, place: usize, word: u64) -> Option<u64> {
+        if place >= self.row.len() {
+            return None;
+        }
+        let held = self.row[place];
+        self.row[place] = word;
+        Some(held)
+    }
+
+    /// Whether an event comes to what it says.
+    fn happens(&mut self, event: Event) -> bool {
+        match event {
+            Event::Tries(choice, stepped) => self.tried(choice) == stepped,
+            Event::Sends(flit) => {
+                let sent = self.tried(Choice::Send) == MOVED && self.made(OUTPUT, 0) == Some(flit);
+                sent && self.tried(Choice::Credit) == MOVED
+            }
+            Event::Takes(flit) => {
+                self.made(INPUT, flit) == Some(0) && self.tried(Choice::Take) == MOVED
+            }
+            Event::Word(place, held, word) => self.made(place, word) == Some(held),
+        }
+    }
+}
+
+/// Two tiles, where tile 1 is there.
+fn two_tiles() -> Result<Torus, AllocError>
+    ensures { IfOk result (λ t. 1 < tiles_of t) }
+{
+    match Torus::new(2, 1) {
+        Ok(torus) if torus.tiles() > 1 => Ok(torus),
+        _ => Err(AllocError),
+    }
+}
+
+/// Plays events with a new bank, by operations or at once; then it is to have these entries. Answers the
+/// first event that goes otherwise, or their number where the entries are others.
+fn plays(
+    alloc: Global,
+    at_once: bool,
+    events: &[Event],
+    entries: &[Entry],
+) -> Result<Option<usize>, AllocError> {
+    let bank = BankAgent::new(alloc, &two_tiles()?, 1, 1, 12)?;
+    let row = vec![in alloc; 0u64; 33]?;
+    let mut bench = Bench { bank, row, at_once };
+    for (at, &event) in events.iter().enumerate() {
+        if !bench.happens(event) {
+            return Ok(Some(at));
+        }
+    }
+    let ends_so = bench.bank.entries() == entries && bench.bank.tile() == 1;
+    Ok(if ends_so { None } else { Some(events.len()) })
+}
+
+fn entry(source: u32, tag: u32, address: u32, op: Op, reply: Reply) -> Entry {
+    Entry {
+        source,
+        tag: Tag(tag),
+        address,
+        op,
+        reply,
+    }
+}
+
+/// A swap of the bank's word 3 comes in and is served, a load of it waits meanwhile.
+#[test]
+fn each_choice_enabled_and_not(rt: HostRuntime) -> Result<(), Fail> {
+    let events = [
+        Event::Word(31, 0, 5),
+        Event::Tries(Choice::Take, IDLE),
+        Event::Tries(Choice::Serve, None),
+        Event::Tries(Choice::Send, None),
+        Event::Tries(Choice::Credit, None),
+        Event::Tries(Choice::TakeFrom(0), None),
+        Event::Tries(Choice::CreditOf(0), None),
+        Event::Tries(Choice::Done, None),
+        Event::Takes(0xA808_0400_0000_0003),
+        Event::Tries(Choice::Serve, None),
+        Event::Tries(Choice::Take, IDLE),
+        Event::Takes(0x2000_0000_0000_0000),
+        Event::Takes(0x6000_0000_0000_0009),
+        Event::Word(22, 0, 0xE008_0600_0000_0003),
+        Event::Tries(Choice::Take, None),
+        Event::Tries(Choice::Send, None),
+        Event::Word(31, 5, 5),
+        Event::Tries(Choice::Serve, MOVED),
+        Event::Word(31, 9, 9),
+        Event::Tries(Choice::Serve, None),
+        Event::Tries(Choice::Take, None),
+        Event::Tries(Choice::Credit, None),
+        Event::Word(21, 0, 0),
+        Event::Tries(Choice::Send, MOVED),
+        Event::Tries(Choice::Send, None),
+        Event::Tries(Choice::Take, None),
+        Event::Tries(Choice::Serve, None),
+        Event::Tries(Choice::Credit, IDLE),
+        Event::Word(21, 0xAA00_2400_0000_0000, 0),
+        Event::Tries(Choice::Credit, MOVED),
+        Event::Tries(Choice::Send, MOVED),
+        Event::Word(21, 0x2000_0000_0000_0000, 0),
+        Event::Tries(Choice::Send, None),
+        Event::Tries(Choice::Credit, MOVED),
+        Event::Tries(Choice::Send, MOVED),
+        Event::Tries(Choice::Send, None),
+        Event::Tries(Choice::Take, MOVED),
+        Event::Tries(Choice::Serve, MOVED),
+        Event::Word(21, 0x6000_0000_0000_0005, 0),
+        Event::Tries(Choice::Credit, MOVED),
+        Event::Tries(Choice::Send, MOVED),
+        Event::Word(21, 0xA200_2600_0000_0001, 0),
+        Event::Word(31, 9, 9),
+    ];
+    let entries = [
+        entry(0, 2, 7, Op::Swap(9), Reply::Old(5)),
+        entry(0, 3, 7, Op::Load, Reply::Old(9)),
+    ];
+    for at_once in [false, true] {
+        let unlike = plays(rt.alloc(), at_once, &events, &entries)?;
+        assert_eq!(rt; unlike, None, "at once: {at_once}");
+    }
+    Ok(())
+}
+
+/// Operations of processor 0 under tag 5 on the bank's words 0 to 3: what a word holds afterwards, and
+/// the reply to each.
+#[test]
+fn an_agent_does_all_ten_operations(rt: HostRuntime) -> Result<(), Fail> {
+    let events = [
+        Event::Word(25, 0, 12),
+        Event::Takes(0xB408_0A00_0000_0000),
+        Event::Takes(0x2000_0000_0000_0000),
+        Event::Takes(0x6000_0000_0000_000A),
+        Event::Tries(Choice::Serve, MOVED),
+        Event::Sends(0xB600_2A00_0000_0000),
+        Event::Sends(0x2000_0000_0000_0000),
+        Event::Sends(0x6000_0000_0000_000C),
+        Event::Word(25, 8, 8),
+        Event::Takes(0xB808_0A00_0000_0000),
+        Event::Takes(0x2000_0000_0000_0000),
+        Event::Takes(0x6000_0000_0000_0003),
+        Event::Tries(Choice::Serve, MOVED),
+        Event::Sends(0xBA00_2A00_0000_0001),
+        Event::Sends(0x2000_0000_0000_0000),
+        Event::Sends(0x6000_0000_0000_0008),
+        Event::Word(25, 11, 11),
+        Event::Takes(0xBC08_0A00_0000_0000),
+        Event::Takes(0x2000_0000_0000_0000),
+        Event::Takes(0x6000_0000_0000_0006),
+        Event::Tries(Choice::Serve, MOVED),
+        Event::Sends(0xBE00_2A00_0000_0002),
+        Event::Sends(0x2000_0000_0000_0000),
+        Event::Sends(0x6000_0000_0000_000B),
+        Event::Word(25, 13, 13),
+        Event::Takes(0xA008_0B00_0000_0000),
+        Event::Takes(0x2000_0000_0000_0000),
+        Event::Takes(0x6000_0000_0000_0014),
+        Event::Tries(Choice::Serve, MOVED),
+        Event::Sends(0xA200_2B00_0000_0003),
+        Event::Sends(0x2000_0000_0000_0000),
+        Event::Sends(0x6000_0000_0000_000D),
+        Event::Word(25, 20, 20),
+        Event::Takes(0xA408_0B00_0000_0000),
+        Event::Takes(0x2000_0000_0000_0000),
+        Event::Takes(0x6000_0000_0000_0005),
+        Event::Tries(Choice::Serve, MOVED),
+        Event::Sends(0xA600_2B00_0000_0004),
+        Event::Sends(0x2000_0000_0000_0000),
+        Event::Sends(0x6000_0000_0000_0014),
+        Event::Word(25, 5, 5),
+        Event::Word(27, 0, 7),
+        Event::Takes(0xAC08_0A00_0000_0001),
+        Event::Takes(0x2000_0000_0000_0000),
+        Event::Takes(0x2000_0000_0000_0007),
+        Event::Takes(0x2000_0000_0000_0000),
+        Event::Takes(0x6000_0000_0000_0009),
+        Event::Tries(Choice::Serve, MOVED),
+        Event::Sends(0xAE00_2A00_0000_0005),
+        Event::Sends(0x2000_0000_0000_0000),
+        Event::Sends(0x6000_0000_0000_0007),
+        Event::Word(27, 9, 9),
+        Event::Takes(0xAC08_0A00_0000_0001),
+        Event::Takes(0x2000_0000_0000_0000),
+        Event::Takes(0x2000_0000_0000_0007),
+        Event::Takes(0x2000_0000_0000_0000),
+        Event::Takes(0x6000_0000_0000_0008),
+        Event::Tries(Choice::Serve, MOVED),
+        Event::Sends(0xAE00_2A00_0000_0006),
+        Event::Sends(0x2000_0000_0000_0000),
+        Event::Sends(0x6000_0000_0000_0009),
+        Event::Word(27, 9, 9),
+        Event::Takes(0xA808_0A00_0000_0002),
+        Event::Takes(0x2000_0000_0000_0000),
+        Event::Takes(0x6000_0000_0000_0003),
+        Event::Tries(Choice::Serve, MOVED),
+        Event::Sends(0xAA00_2A00_0000_0007),
+        Event::Sends(0x2000_0000_0000_0000),
+        Event::Sends(0x6000_0000_0000_0000),
+        Event::Word(29, 3, 3),
+        Event::Word(31, 0, u64::MAX),
+        Event::Takes(0xB008_0A00_0000_0003),
+        Event::Takes(0x2000_0000_0000_0000),
+        Event::Takes(0x6000_0000_0000_0001),
+        Event::Tries(Choice::Serve, MOVED),
+        Event::Sends(0xB200_2A00_0000_0008),
+        Event::Sends(0x2000_0000_FFFF_FFFF),
+        Event::Sends(0x6000_0000_FFFF_FFFF),
+        Event::Word(31, 0, 0),
+        Event::Takes(0xA408_0A00_0000_0003),
+        Event::Takes(0x2000_0000_0000_0000),
+        Event::Takes(0x6000_0000_0000_0011),
+        Event::Tries(Choice::Serve, MOVED),
+        Event::Sends(0xE600_2A00_0000_0009),
+        Event::Word(31, 17, 17),
+        Event::Takes(0xE008_0A00_0000_0003),
+        Event::Tries(Choice::Serve, MOVED),
+        Event::Sends(0xA200_2A00_0000_000A),
+        Event::Sends(0x2000_0000_0000_0000),
+        Event::Sends(0x6000_0000_0000_0011),
+        Event::Word(31, 17, 17),
+    ];
+    let entries = [
+        entry(0, 5, 1, Op::And(10), Reply::Old(12)),
+        entry(0, 5, 1, Op::Or(3), Reply::Old(8)),
+        entry(0, 5, 1, Op::Xor(6), Reply::Old(11)),
+        entry(0, 5, 1, Op::Max(20), Reply::Old(13)),
+        entry(0, 5, 1, Op::Min(5), Reply::Old(20)),
+        entry(0, 5, 3, Op::Cas(7, 9), Reply::Old(7)),
+        entry(0, 5, 3, Op::Cas(7, 8), Reply::Old(9)),
+        entry(0, 5, 5, Op::Swap(3), Reply::Old(0)),
+        entry(0, 5, 7, Op::Add(1), Reply::Old(u64::MAX)),
+        entry(0, 5, 7, Op::Store(17), Reply::Ok),
+        entry(0, 5, 7, Op::Load, Reply::Old(17)),
+    ];
+    let unlike = plays(rt.alloc(), true, &events, &entries)?;
+    assert_eq!(rt; unlike, None);
+    Ok(())
+}
+
+#[test]
+fn words_that_may_be(rt: HostRuntime) -> Result<(), Fail> {
+    // a load request for word 65535, for word 65536, a reply of place 65536, and a body flit
+    let flits = [
+        (0xE008_0000_0000_FFFF, true),
+        (0xE008_0000_0001_0000, false),
+        (0xE600_2000_0001_0000, true),
+        (0x2000_0000_0001_0000, true),
+        (0, true),
+    ];
+    for &(flit, acceptable) in flits.iter() {
+        assert_eq!(rt; is_acceptable(flit), acceptable, "at {flit}");
+    }
+    Ok(())
+}

@@ -1,0 +1,72 @@
+use home_bank::{BankAgent, ServiceList};
+use linked_list_allocator::LocalHeap;
+use packet::{Code, Op, Reply, Request};
+use std::alloc::{AllocError, Allocator, Global};
+use std::test::Fail;
+use torus::{Tag, Torus};
+
+#[test]
+fn a_service_list_by_itself(rt: HostRuntime) -> Result<(), Fail> {
+    let mut services = ServiceList::new(rt.alloc(), 1, 3, 1)?;
+    assert_eq!(rt; (services.tile(), services.is_full()), (1, false));
+    let request = Request {
+        destination: 1,
+        source: 0,
+        tag: Tag(0),
+        word: 2,
+        op: Op::Store(7),
+    };
+    let response = services.record(request, Reply::Ok);
+    let told = (
+        response.place,
+        response.code,
+        services.is_full(),
+        services.entries().len(),
+    );
+    assert_eq!(rt; told, (0, Code::Store, true, 1));
+    Ok(())
+}
+
+/// How many entries a new bank has on an allocator.
+fn used<A: Allocator + Copy>(alloc: A) -> Result<usize, AllocError> {
+    let torus = match Torus::new(2, 1) {
+        Ok(torus) if torus.tiles() > 1 => torus,
+        _ => return Err(AllocError),
+    };
+    let bank = BankAgent::new(alloc, &torus, 1, 4, 3)?;
+    Ok(bank.entries().len())
+}
+
+/// The same within a budget of bytes, or None where memory was refused.
+fn within(alloc: Global, budget: usize) -> Result<Option<usize>, AllocError> {
+    let heap = LocalHeap::new(alloc, budget)?;
+    let answer = match used(&heap) {
+        Ok(count) => Some(count),
+        Err(_) => None,
+    };
+    if heap.used() != 0 {
+        return Err(AllocError);
+    }
+    Ok(answer)
+}
+
+#[test]
+fn memory_refused_at_every_budget(rt: HostRuntime) -> Result<(), Fail> {
+    let mut refused = 0;
+    let mut suffices = false;
+    for steps in 0..64 {
+        let expected_now = match within(rt.alloc(), steps * 16)? {
+            None => {
+                refused = steps;
+                !suffices
+            }
+            Some(count) => {
+                suffices = true;
+                count == 0
+            }
+        };
+        assert!(rt; expected_now, "at {steps} steps");
+    }
+    assert!(rt; suffices && refused >= 1);
+    Ok(())
+}

@@ -1,0 +1,82 @@
+-- A machine that makes rounds until every script is finished.
+use Rattle.std.proofs.Common.{◌≡◌, ℕ, zero, suc, ◌+◌, ◌<◌, ◌++◌, List, [], Bool, true, false, Result, Ok, refl, sym, ap, subst, ◌∙◌, arith, ⊎_elim, append_assoc, append-nil}
+use Rattle.std.proofs.lemmas.Bool.{cases_lt}
+use Rattle.torus.specs.Shape.{Shape}
+use Rattle.torus.specs.declared.step.Step.{Step}
+use Rattle.script.specs.declared.fault.LineFault.{LineFault}
+use Rattle.script.specs.Machine.{MachineSpec, machine_of}
+use Rattle.script.specs.Scripts.{ScriptsSpec, scripts_of}
+use Rattle.flights.specs.Load.{Load, load_of}
+use Rattle.core_laws.specs.Core.{round}
+use Rattle.machine_laws.specs.Core.{Core, IsAfter, all_finished, core_after_load}
+use Rattle.machine_core.specs.Rounds.{rounds_of}
+use Rattle.commands.specs.Run.{IsOfMachine}
+use Rattle.commands.specs.Rounds.{HasLoaded, HasMadeRounds, IsRoundText, asked_rounds, is_finished_after, load_by}
+use Rattle.commands.proofs.Asked.{run_printed}
+
+-- so many rounds are made, and before each of them not every script was finished
+pub record HasMade (l : Load) (k : ℕ) (c : Core) : Type 0 where
+  pub after : IsAfter l c (rounds_of l.shape k)
+  pub unfinished : (j : ℕ) → j < k → is_finished_after l j ≡ false
+
+-- both texts are read
+pub load_read : (a b : List (List ℕ)) (m : MachineSpec) (s : ScriptsSpec) → machine_of a ≡ Ok m → scripts_of m b ≡ Ok s → load_by a b ≡ Ok (load_of m s)
+load_read a b m s read scripts = rw (read, scripts) refl
+
+-- whether every script is finished after the rounds
+finished_now : (l : Load) (k : ℕ) (c : Core) (b : Bool) → IsAfter l c (rounds_of l.shape k) → b ≡ all_finished c.state → is_finished_after l k ≡ b
+finished_now l k c b after is = ap all_finished (sym after.state) ∙ sym is
+
+pub none_made : (l : Load) (c : Core) → IsAfter l c [] → HasMade l 0 c
+none_made l c after = record { after = after; unfinished = λ j below. absurd (omega (arith, below)) }
+
+-- rounds and one round behind them
+rounds_then_round : (s : Shape) (k : ℕ) → rounds_of s k ++ round s ≡ rounds_of s (suc k)
+rounds_then_round s zero = sym (append-nil (round s))
+rounds_then_round s (suc k) = append_assoc (round s) (rounds_of s k) (round s) ∙ ap (λ (steps : List Step). round s ++ steps) (rounds_then_round s k)
+
+-- the attempts of one round more
+round_more : (s : Shape) (k : ℕ) → rounds_of s k ++ round s ≡ rounds_of s (k + 1)
+round_more s k = let one : suc k ≡ k + 1 = omega arith in rounds_then_round s k ∙ ap (rounds_of s) one
+
+-- one round more, where not every script is finished
+pub one_more : (l : Load) (k : ℕ) (c d : Core) → HasMade l k c → false ≡ all_finished c.state
+    → ((steps : List Step) → IsAfter l c steps → IsAfter l d (steps ++ round c.shape)) → HasMade l (k + 1) d
+one_more l k c d made unfinished law = record {
+  after = subst (IsAfter l d) (ap (λ (s : Shape). rounds_of l.shape k ++ round s) made.after.shape ∙ round_more l.shape k) (law (rounds_of l.shape k) made.after);
+  unfinished = λ j below. ⊎_elim (made.unfinished j)
+      (λ last. let same : j ≡ k = omega (arith, below, last) in
+      ap (is_finished_after l) same ∙ finished_now l k c false made.after unfinished)
+      (cases_lt j k);
+}
+
+-- every script is finished
+pub made_enough : (l : Load) (most k : ℕ) (c : Core) → HasMade l k c → k < most → true ≡ all_finished c.state → HasMadeRounds l most c
+made_enough l most k c made below finished = record {
+  rounds = k;
+  fewest = record { allowed = omega (arith, below); unfinished = made.unfinished; finished = λ under. finished_now l k c true made.after finished };
+  after = made.after;
+}
+
+-- as many as are allowed
+pub made_most : (l : Load) (most : ℕ) (c : Core) → HasMade l most c → HasMadeRounds l most c
+made_most l most c made = record {
+  rounds = most;
+  fewest = record { allowed = omega arith; unfinished = made.unfinished; finished = λ under. absurd (omega (arith, under)) };
+  after = made.after;
+}
+
+-- the report of a machine that has made the rounds is the report of the run in rounds
+pub rounds_printed : (asked : Result Load LineFault) (most : ℕ) (start c : Core) (finished : Bool) (text : List ℕ) (loaded : HasLoaded asked start)
+    → HasMadeRounds loaded.load most c
+    → ((l : Load) (d : Core) (steps : List Step) → IsAfter l d steps → d ≡ core_after_load l steps)
+    → IsOfMachine c finished text → IsRoundText asked most finished text
+rounds_printed asked most start c finished text loaded made named printed = record {
+  load = loaded.load;
+  read = loaded.read;
+  rounds = made.rounds;
+  fewest = made.fewest;
+  report = run_printed (Ok (asked_rounds loaded.load made.rounds)) c finished text
+      (record { run = asked_rounds loaded.load made.rounds; read = refl; after = made.after; reached = named loaded.load c (rounds_of loaded.load.shape made.rounds) made.after })
+      printed;
+}

@@ -1,0 +1,9 @@
+use Rattle.std.proofs.Common.{[]}
+use Rattle.flights.specs.Load.{Load}
+use Rattle.machine_laws.specs.Core.{IsAfter}
+use Rattle.commands.proofs.InRounds.{HasMade}
+use Rattle.commands.proofs.in_rounds.make_rounds.Given as goal
+
+-- the rounds so far are made, and before each not every script was finished
+abbrev pub invariant-loop : goal.invariant-loop
+invariant-loop g l = (load : Load) → IsAfter load l.fn.machine [] → HasMade load l.counter l.machine

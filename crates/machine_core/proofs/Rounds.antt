@@ -1,0 +1,81 @@
+-- A round, made part by part: what is made so far leads where the attempts so far lead.
+use Rattle.std.proofs.Common.{◌≡◌, ℕ, ◌+◌, ◌*◌, List, [], ◌∷◌, ◌++◌, map, refl, sym, ◌∙◌, ap, arith}
+use Rattle.std.specs.List.{flat_map, range_with_len}
+use Rattle.std.proofs.lemmas.List.{map-append, flat_map_more}
+use Rattle.std.proofs.lemmas.List.FromFn.{map-range_with_len_more}
+use Rattle.std.proofs.lemmas.List.Folds.{flat_map-map}
+use Rattle.torus.specs.Shape.{Shape, dims_of, tiles_of}
+use Rattle.torus.specs.declared.step.Step.{Step}
+use Rattle.torus.specs.declared.step.Choice.{Choice}
+use Rattle.channel_number.specs.Ports.{port_count}
+use Rattle.core_laws.specs.Core.{attempts_of, round_at, round}
+use Rattle.machine_laws.specs.Core.{Core, core_next, core_after}
+use Rattle.machine_core.specs.Rounds.{processor_choices, bank_choices, takes_of_all, puts_of_all, credits_of_all}
+
+-- attempts, one after the other
+pub core_append : (c : Core) (xs ys : List Step) → core_after c (xs ++ ys) ≡ core_after (core_after c xs) ys
+core_append c [] ys = refl
+core_append c (x ∷ xs) ys = core_append (core_next c x) xs ys
+
+-- one attempt more
+pub attempt_more : (start now after : Core) (xs : List Step) (x : Step) → now ≡ core_after start xs → after ≡ core_next now x → after ≡ core_after start (xs ++ x ∷ [])
+attempt_more start now after xs x so_far is = is ∙ (ap (λ (v : Core). core_next v x) so_far ∙ sym (core_append start xs (x ∷ [])))
+
+-- one attempt more of a choice for each port
+pub port_more : (f : ℕ → Choice) (agent n : ℕ) (c now after : Core) → now ≡ core_after c (attempts_of agent (map f (range_with_len 0 n)))
+    → after ≡ core_next now (record { agent = agent; choice = f n })
+    → after ≡ core_after c (attempts_of agent (map f (range_with_len 0 (n + 1))))
+port_more f agent n c now after so_far is =
+    attempt_more c now after (attempts_of agent (map f (range_with_len 0 n))) (record { agent = agent; choice = f n }) so_far is
+    ∙ ap (core_after c)
+    (sym (map-append (λ (choice : Choice). record { agent = agent; choice = choice }) (map f (range_with_len 0 n)) (f n ∷ []))
+    ∙ ap (attempts_of agent) (sym (map-range_with_len_more f 0 n n (omega arith))))
+
+-- a part for each of n numbers, and then that of n
+parts_more : (f : ℕ → List Step) (n : ℕ) → flat_map f (range_with_len 0 (n + 1)) ≡ flat_map f (range_with_len 0 n) ++ f n
+parts_more f n =
+    sym (flat_map-map f (λ (k : ℕ). k) (range_with_len 0 (n + 1)))
+    ∙ (ap (flat_map f) (map-range_with_len_more (λ (k : ℕ). k) 0 n n (omega arith))
+    ∙ (sym (flat_map_more f [] (map (λ (k : ℕ). k) (range_with_len 0 n)) n)
+    ∙ ap (λ (xs : List Step). xs ++ f n) (flat_map-map f (λ (k : ℕ). k) (range_with_len 0 n))))
+
+-- one tile more
+pub part_more : (f : ℕ → List Step) (n : ℕ) (c now after : Core) → now ≡ core_after c (flat_map f (range_with_len 0 n)) → after ≡ core_after now (f n)
+    → after ≡ core_after c (flat_map f (range_with_len 0 (n + 1)))
+part_more f n c now after so_far is =
+    is
+    ∙ (ap (λ (x : Core). core_after x (f n)) so_far
+    ∙ (sym (core_append c (flat_map f (range_with_len 0 n)) (f n)) ∙ ap (core_after c) (sym (parts_more f n))))
+
+-- the parts of a round at a tile, one after the other
+pub tile_parts : (ports t : ℕ) (start first takes puts credits last : Core)
+    → first ≡ core_after start (attempts_of (3 * t) processor_choices)
+    → takes ≡ core_after first (attempts_of (3 * t + 1) (takes_of_all ports))
+    → puts ≡ core_after takes (attempts_of (3 * t + 1) (puts_of_all ports))
+    → credits ≡ core_after puts (attempts_of (3 * t + 1) (credits_of_all ports))
+    → last ≡ core_after credits (attempts_of (3 * t + 2) bank_choices)
+    → last ≡ core_after start (round_at ports t)
+tile_parts ports t start first takes puts credits last a b c d e =
+    let own : List Step = attempts_of (3 * t) processor_choices in
+    let bank : List Step = attempts_of (3 * t + 2) bank_choices in
+    let x : List Choice = takes_of_all ports in
+    let y : List Choice = puts_of_all ports in
+    let z : List Choice = credits_of_all ports in
+    let routed : (choices more : List Choice) (from to : Core) → to ≡ core_after from (attempts_of (3 * t + 1) choices)
+    → core_after from (attempts_of (3 * t + 1) (choices ++ more)) ≡ core_after to (attempts_of (3 * t + 1) more)
+    = λ choices more from to is.
+    ap (core_after from) (map-append (λ (choice : Choice). record { agent = 3 * t + 1; choice = choice }) choices more)
+    ∙ (core_append from (attempts_of (3 * t + 1) choices) (attempts_of (3 * t + 1) more)
+    ∙ ap (λ (v : Core). core_after v (attempts_of (3 * t + 1) more)) (sym is)) in
+    let two : puts ≡ core_after first (attempts_of (3 * t + 1) (x ++ y)) = c ∙ sym (routed x y first takes b) in
+    let router : credits ≡ core_after first (attempts_of (3 * t + 1) (x ++ y ++ z)) = d ∙ sym (routed (x ++ y) z first puts two) in
+    let before : credits ≡ core_after start (own ++ attempts_of (3 * t + 1) (x ++ y ++ z))
+    = router ∙ (ap (λ (v : Core). core_after v (attempts_of (3 * t + 1) (x ++ y ++ z))) a
+    ∙ sym (core_append start own (attempts_of (3 * t + 1) (x ++ y ++ z)))) in
+    e ∙ (ap (λ (v : Core). core_after v bank) before ∙ sym (core_append start (own ++ attempts_of (3 * t + 1) (x ++ y ++ z)) bank))
+
+-- the parts of all tiles
+pub all_parts : (s : Shape) (dims tiles : ℕ) → dims ≡ dims_of s → tiles ≡ tiles_of s → flat_map (round_at (8 * dims + 2)) (range_with_len 0 tiles) ≡ round s
+all_parts s dims tiles d t =
+    ap (λ (n : ℕ). flat_map (round_at (8 * n + 2)) (range_with_len 0 tiles)) d
+    ∙ ap (λ (n : ℕ). flat_map (round_at (port_count (dims_of s))) (range_with_len 0 n)) t
