@@ -1,0 +1,4 @@
+pub mod Waking
+pub mod Sleep
+pub mod Watch
+pub mod Operations
