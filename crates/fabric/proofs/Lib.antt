@@ -1,0 +1,5 @@
+pub mod Keeps
+pub mod Turning
+pub mod Seating
+pub mod Sharing
+pub mod Learning

@@ -1,0 +1,4 @@
+pub mod Key
+pub mod Table
+pub mod Turns
+pub mod Seats

@@ -1,0 +1,55 @@
+-- What a turn makes of a view.
+use Rattle.std.specs.Prelude.{◌≡◌, ◌≢◌, ℕ, ◌%◌, nat_lt, Bool, true, false, List, [], ◌∷◌, ◌++◌, MatchBool, is_some, option_and_then}
+use Rattle.torus.specs.Shape.{Shape, dims_of}
+use Rattle.torus.specs.declared.step.Step.{Step}
+use Rattle.torus.specs.declared.step.Choice.{Choice}
+use Rattle.torus.specs.declared.step.Choice.TheVariants as choice
+use Rattle.channel_number.specs.Ports.{port_count}
+use Rattle.tile.specs.Tile.{Agent, Processor, Router, Bank}
+use Rattle.tile.specs.Agents.{agent_numbered}
+use Rattle.core_laws.specs.Core.{Load}
+use Rattle.fabric_laws.specs.Known.{tile_of, known, enabled, op_of}
+use Rattle.fabric_laws.specs.View.{View}
+use Rattle.fabric_laws.specs.Groups.{In, Others, Begins, knowing}
+
+-- whether an agent of a tile has a choice at all, by the number of the router's ports (this project's own format)
+abbrev pub agent_has : ℕ → Agent → Choice → Bool
+agent_has ports Processor choice.Send = true
+agent_has ports Processor choice.Take = true
+agent_has ports Processor choice.Credit = true
+agent_has ports Processor choice.Done = true
+agent_has ports Processor choice.Look = true
+agent_has ports Router (choice.TakeFrom i) = nat_lt i ports
+agent_has ports Router (choice.Put i) = nat_lt i ports
+agent_has ports Router (choice.CreditOf i) = nat_lt i ports
+agent_has ports Bank choice.Take = true
+agent_has ports Bank choice.Serve = true
+agent_has ports Bank choice.Send = true
+agent_has ports Bank choice.Credit = true
+agent_has ports _ _ = false
+
+-- whether the step's agent has its choice
+abbrev pub has_choice : Shape → Step → Bool
+has_choice s attempt = agent_has (port_count (dims_of s)) (agent_numbered (attempt.agent % 3)) attempt.choice
+
+-- whether the agent's own condition for the step holds after a run
+unfoldable pub ready : Load → List Step → Step → Bool
+ready load run c = is_some (option_and_then (λ p. op_of p c) (known load run (tile_of c)))
+
+-- after steps of others the step was made, enabled there
+abbrev pub StepMoves : View → Step → View → Type 0
+StepMoves v c w = (between : List Step) × Others v.groups between × (enabled v.load (v.run ++ between) c ≡ true) × (w ≡ knowing v ((v.run ++ between) ++ c ∷ []))
+
+-- steps of others were seen, after which the step is not enabled
+abbrev pub SeesIdle : View → Step → View → Type 0
+SeesIdle v c w = (between : List Step) × Others v.groups between × (enabled v.load (v.run ++ between) c ≡ false) × (w ≡ knowing v (v.run ++ between))
+
+-- where the agent's own condition failed, nothing changed
+abbrev pub StepIdles : View → Step → View → Type 0
+StepIdles v c w = MatchBool (ready v.load v.run c) (SeesIdle v c w) (w ≡ v)
+
+-- but for the tile t, the seat's tiles stand as they did
+pub record OnlyTile (v : View) (t : ℕ) (w : View) : Type 0 where
+  pub same : w ≡ knowing v w.run
+  pub later : Begins w.run v.run
+  pub rest : (u : ℕ) → t ≢ u → In v.groups u → known w.load w.run u ≡ known v.load v.run u

@@ -1,0 +1,218 @@
+//! Seats, and the calls that step by them.
+ghost use Rattle.std.specs.Prelude.{◌≡◌, ◌≤◌, ◌↔◌, ◌⊎◌, ℕ, IsNone, IfSome, length, slice_get};
+ghost use Rattle.fabric_laws.specs.Known.{word_after};
+ghost use Rattle.fabric_laws.specs.Groups.{Begins};
+ghost use Rattle.fabric.specs.Seats.{Moves, Idles, Grows, IsNotMine, IsOf, Learns, JoinsTo, mix_at, with_run};
+ghost use Rattle.fabric.specs.declared.steps.Turned.TheVariants.{Moved, Idle, NotMine};
+
+use crate::choices::has_choice;
+use crate::steps::{Both, Halves, Learn, Look, Merge, Note, OneRun, Turned, turn_tile};
+use crate::view::{Dealing, Knowledge};
+use atomic_table::{Seat, Table};
+use std::alloc::{Allocator, Global};
+use std::marker::Model;
+use tile_agents::TileAgents;
+use torus::Step;
+
+/// A row of words that threads share, and the rule that it keeps.
+#[derive(Drop)]
+pub struct Fabric<A: Allocator = Global> {
+    pub(crate) table: Table<(), Knowledge, Dealing, OneRun, A>,
+    // The position in the row of the word of address 0, how many words the memory has, and how many
+    // ports a router.
+    pub(crate) base: usize,
+    pub(crate) words: usize,
+    pub(crate) ports: u32,
+}
+
+impl<A: Allocator> Model for Fabric<A> {
+    ghost use Rattle.std.specs.Prelude.{◌≡◌, ◌+◌, ◌*◌, ◌<◌, ◌^◌, length};
+    ghost use Rattle.torus.specs.Shape.{dims_of};
+    ghost use Rattle.channel_number.specs.Order.{channel_count};
+    ghost use Rattle.channel_number.specs.Ports.{port_count};
+    ghost use Rattle.fabric_laws.specs.Known.{row_length};
+    ghost use Rattle.fabric.specs.Seats.{Origin};
+
+    ghost Value = { Origin };
+
+    ghost view = { λ f. record { table = f.table.shared.table_id; load = f.table.shared.key.load } };
+
+    ghost invariant = { λ f. (f.base ≡ channel_count f.table.shared.key.load.shape * f.table.shared.key.load.depth) × (f.words ≡ length f.table.shared.key.load.opening) × (f.table.shared.table_id.words ≡ row_length f.table.shared.key.load) × (f.table.shared.table_id.slots ≡ 0) × (f.base + f.words < 2 ^ 32) × (f.ports ≡ port_count (dims_of f.table.shared.key.load.shape)) };
+}
+
+/// Some tiles, and what is known of the row. Contracts see what it knows.
+#[derive(Drop)]
+pub struct TileSeat<A: Allocator = Global> {
+    pub(crate) slots: Vec<Option<TileAgents<A>>, A>,
+    pub(crate) seat: Seat<(), Knowledge>,
+}
+
+impl<A: Allocator> Model for TileSeat<A> {
+    ghost use Rattle.fabric.specs.Seats.{Knowing, seat_knows, Seated};
+
+    ghost Value = { Knowing };
+
+    ghost view = { λ s. seat_knows s.seat };
+
+    ghost invariant = { λ s. Seated s.slots.items s.seat };
+}
+
+/// A seat with no tile, which only looks.
+#[derive(Drop)]
+pub struct ProbeSeat {
+    pub(crate) seat: Seat<(), Knowledge>,
+}
+
+impl Model for ProbeSeat {
+    ghost use Rattle.fabric.specs.Seats.{Knowing, seat_knows, Looking};
+
+    ghost Value = { Knowing };
+
+    ghost view = { λ s. seat_knows s.seat };
+
+    ghost invariant = { λ s. Looking s.seat };
+}
+
+impl<A: Allocator> Fabric<A> {
+    /// Attempts a step: performs its operation on the row, if its agent has one, and takes the word
+    /// found. `NotMine` exactly where the step is of no tile of the seat, or its agent hasn't the choice.
+    pub fn turn(&self, seat: &mut TileSeat<A>, step: Step) -> Turned
+        requires { IsOf self.now seat.old }
+        ensures moved { result ≡ Moved → Moves seat.old step seat.new }
+        ensures idle { result ≡ Idle → Idles seat.old step seat.new }
+        ensures not_mine { (result ≡ NotMine) ↔ IsNotMine seat.old step }
+        ensures unchanged { result ≡ NotMine → seat.new ≡ seat.old }
+        ensures same { seat.new ≡ with_run seat.old seat.new.run }
+        ensures later { Begins seat.new.run seat.old.run }
+    {
+        let number = (step.agent / 3) as usize;
+        if number >= seat.slots.len() {
+            return Turned::NotMine;
+        }
+        let Some(tile) = &mut seat.slots[number] else {
+            return Turned::NotMine;
+        };
+        if !has_choice(self.ports, step) {
+            return Turned::NotMine;
+        }
+        turn_tile(&self.table.shared, &mut seat.seat, tile, step)
+    }
+
+    /// The memory word at an address, after the run that the seat knows then; None exactly where the
+    /// address isn't below the number of words.
+    pub fn probe(&self, seat: &mut ProbeSeat, address: usize) -> Option<u64>
+        requires { IsOf self.now seat.old }
+        ensures none { IsNone result ↔ (length self.now.load.opening ≤ address) }
+        ensures word { IfSome result (λ n. n ≡ word_after seat.new.load seat.new.run address) }
+        ensures later { Grows seat.old seat.new }
+    {
+        if address >= self.words {
+            return None;
+        }
+        Some(
+            self.table
+                .shared
+                .load::<Look>(&mut seat.seat, self.base + address),
+        )
+    }
+
+    /// The same, by a seat that has tiles.
+    pub fn probe_as(&self, seat: &mut TileSeat<A>, address: usize) -> Option<u64>
+        requires { IsOf self.now seat.old }
+        ensures none { IsNone result ↔ (length self.now.load.opening ≤ address) }
+        ensures word { IfSome result (λ n. n ≡ word_after seat.new.load seat.new.run address) }
+        ensures later { Grows seat.old seat.new }
+    {
+        if address >= self.words {
+            return None;
+        }
+        Some(
+            self.table
+                .shared
+                .load::<Look>(&mut seat.seat, self.base + address),
+        )
+    }
+}
+
+impl<A: Allocator> Fabric<A> {
+    /// Each of the seats comes to know what either knew.
+    pub fn meet(&self, one: TileSeat<A>, other: TileSeat<A>) -> (TileSeat<A>, TileSeat<A>)
+        requires { IsOf self.now one × IsOf self.now other }
+        ensures one { Learns one other result.0 }
+        ensures other { Learns other one result.1 }
+    {
+        let TileSeat { slots, mut seat } = one;
+        let TileSeat {
+            slots: other_slots,
+            seat: other_seat,
+        } = other;
+        let row = &self.table.shared;
+        row.join_seat::<Both>(&mut seat, other_seat);
+        row.load::<Learn>(&mut seat, self.base + self.words);
+        let other_seat = row.split_seat::<Halves>(&mut seat);
+        let one = TileSeat { slots, seat };
+        let other = TileSeat {
+            slots: other_slots,
+            seat: other_seat,
+        };
+        (one, other)
+    }
+
+    /// The probe seat comes to know what either knew.
+    pub fn hear(&self, probe: ProbeSeat, other: TileSeat<A>) -> (ProbeSeat, TileSeat<A>)
+        requires { IsOf self.now probe × IsOf self.now other }
+        ensures probe { Learns probe other result.0 }
+        ensures other { result.1 ≡ other }
+    {
+        let ProbeSeat { mut seat } = probe;
+        let TileSeat {
+            slots,
+            seat: mut teller,
+        } = other;
+        let row = &self.table.shared;
+        let told = row.split_seat::<Note>(&mut teller);
+        row.join_seat::<Both>(&mut seat, told);
+        row.load::<Learn>(&mut seat, self.base + self.words);
+        let probe = ProbeSeat { seat };
+        let other = TileSeat {
+            slots,
+            seat: teller,
+        };
+        (probe, other)
+    }
+
+    /// One seat with the tiles of both.
+    pub fn join(&self, one: TileSeat<A>, other: TileSeat<A>) -> TileSeat<A>
+        requires { IsOf self.now one × IsOf self.now other }
+        ensures both { JoinsTo one other result }
+        ensures ordered { Begins one.run other.run ⊎ Begins other.run one.run }
+    {
+        let TileSeat { slots, mut seat } = one;
+        let TileSeat {
+            slots: other_slots,
+            seat: other_seat,
+        } = other;
+        let row = &self.table.shared;
+        row.join_seat::<Both>(&mut seat, other_seat);
+        row.load::<Merge>(&mut seat, self.base + self.words);
+        let slots = mix(slots, other_slots);
+        TileSeat { slots, seat }
+    }
+}
+
+// The second's tiles go to the first's places.
+fn mix<T: Drop, A: Allocator>(
+    mut left: Vec<Option<T>, A>,
+    mut right: Vec<Option<T>, A>,
+) -> Vec<Option<T>, A>
+    requires { length left.items ≡ length right.items }
+    ensures len { length result.items ≡ length left.items }
+    ensures slots { (k : ℕ) → slice_get result.items k ≡ mix_at (slice_get left.items k) (slice_get right.items k) }
+{
+    for i in 0..left.len() {
+        if let Some(tile) = right[i].take() {
+            left[i] = Some(tile);
+        }
+    }
+    left
+}

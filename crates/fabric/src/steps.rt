@@ -1,0 +1,195 @@
+//! The atomic operations on the row.
+ghost use Rattle.std.specs.Prelude.{◌≡◌, ◌≢◌, ℕ, ◌<◌, true, Some, [], length};
+ghost use Rattle.flit_buffer.specs.Words.{word_of};
+ghost use Rattle.core_laws.specs.Runs.{IsAccepted};
+ghost use Rattle.fabric_laws.specs.Known.{tile_of, known, op_of, row_length};
+ghost use Rattle.fabric_laws.specs.Groups.{In};
+ghost use Rattle.fabric_laws.specs.Rule.{Attempted};
+ghost use Rattle.fabric.specs.Seats.{StandsAt};
+ghost use Rattle.fabric.specs.Turns.{StepMoves, StepIdles, OnlyTile};
+ghost use Rattle.fabric.specs.declared.steps.Turned.TheVariants.{Moved, Idle, NotMine};
+
+use crate::view::{Dealing, Knowledge};
+use atomic_table::{Join, Play, Seat, Shared, Split, TableRule};
+use flit_buffer::WordOp;
+use std::alloc::Allocator;
+use std::marker::{Brand, PhantomData};
+use tile_agents::TileAgents;
+use torus::{Step, Stepped};
+
+/// The rule of the shared row.
+pub struct OneRun;
+
+impl TableRule<(), Knowledge, Dealing> for OneRun {
+    ghost use Rattle.fabric.specs.Table.{Holds};
+    ghost use Rattle.fabric.specs.Key.{first_view};
+
+    ghost holds = { λ key. Holds key.load };
+
+    ghost first = { first_view };
+}
+
+/// The shared row.
+pub type Row = Shared<(), Knowledge, Dealing, OneRun>;
+
+/// The step that is attempted, and its tile in its place. Each call picks them.
+pub trait Attempting {
+    ghost use Rattle.torus.specs.declared.step.Step.{Step};
+    ghost use Rattle.tile.specs.Agents.{TilePlace};
+
+    ghost step: { Step };
+
+    ghost place: { TilePlace };
+}
+
+impl Attempting for Brand {
+    ghost use Rattle.fabric.specs.Key.{no_step, no_place};
+
+    ghost step = { no_step };
+
+    ghost place = { no_place };
+}
+
+struct Attempt<B> {
+    of: PhantomData<B>,
+}
+
+impl<B: Attempting> Play<(), Knowledge> for Attempt<B> {
+    ghost use Rattle.fabric.specs.Table.{attempted};
+
+    ghost then = { attempted B.step B.place };
+}
+
+// Makes the operation. At a store the answer is what was stored.
+fn perform<A: Allocator, B: Attempting>(
+    row: &Row,
+    seat: &mut Seat<(), Knowledge>,
+    step: Step,
+    tile: &TileAgents<A>,
+    op: WordOp,
+) -> u64
+    requires picked { (B.step ≡ step) × (B.place ≡ tile.now.place) }
+    requires table { (seat.old.table_id ≡ row.now.table_id) × (word_of op < row.now.table_id.words) }
+    requires load { IsAccepted seat.old.me.0.load }
+    requires seat { (seat.old.me.0.live ≡ true) × (seat.old.me.0.told ≡ []) × In seat.old.me.0.groups (tile_of B.step) }
+    requires place { known seat.old.me.0.load seat.old.me.0.run (tile_of B.step) ≡ Some B.place }
+    requires op { op_of B.place B.step ≡ Some op }
+    ensures seat { (seat.new.table_id ≡ seat.old.table_id) × (seat.new.id ≡ seat.old.id) × (seat.new.me.1 ≡ seat.old.me.1) }
+    ensures told { Attempted B.step B.place seat.old.me.0 result seat.new.me.0 }
+{
+    let _ = step;
+    let _ = tile;
+    match op {
+        WordOp::Load(word) => row.load::<Attempt<B>>(seat, word),
+        WordOp::Store(word, value) => {
+            row.store::<Attempt<B>>(seat, word, value);
+            value
+        }
+        WordOp::Swap(word, value) => row.swap::<Attempt<B>>(seat, word, value),
+        WordOp::Cas(word, expected, new) => {
+            row.compare_exchange::<Attempt<B>>(seat, word, expected, new)
+        }
+        WordOp::Add(word, value) => row.fetch_add::<Attempt<B>>(seat, word, value),
+        WordOp::And(word, value) => row.fetch_and::<Attempt<B>>(seat, word, value),
+        WordOp::Or(word, value) => row.fetch_or::<Attempt<B>>(seat, word, value),
+        WordOp::Xor(word, value) => row.fetch_xor::<Attempt<B>>(seat, word, value),
+        WordOp::Max(word, value) => row.fetch_max::<Attempt<B>>(seat, word, value),
+        WordOp::Min(word, value) => row.fetch_min::<Attempt<B>>(seat, word, value),
+    }
+}
+
+/// What a turn came to.
+#[derive(Clone, Copy, PartialEq, Eq)]
+pub enum Turned {
+    /// The step was enabled and was made.
+    Moved,
+    /// The step was not enabled.
+    Idle,
+    /// The step is of no agent of the seat, or of one without that choice.
+    NotMine,
+}
+
+// Attempts the step of the tile.
+pub(crate) fn turn_tile<A: Allocator>(
+    row: &Row,
+    seat: &mut Seat<(), Knowledge>,
+    tile: &mut TileAgents<A>,
+    step: Step,
+) -> Turned
+    requires table { (seat.old.table_id ≡ row.now.table_id) × (row.now.table_id.words ≡ row_length seat.old.me.0.load) }
+    requires load { IsAccepted seat.old.me.0.load }
+    requires seat { (seat.old.me.0.live ≡ true) × (seat.old.me.0.told ≡ []) × In seat.old.me.0.groups (tile_of step) }
+    requires tile { StandsAt seat.old.me.0.load seat.old.me.0.run (tile_of step) tile.old }
+    ensures seat { (seat.new.table_id ≡ seat.old.table_id) × (seat.new.id ≡ seat.old.id) × (seat.new.me.1 ≡ seat.old.me.1) }
+    ensures tile { StandsAt seat.new.me.0.load seat.new.me.0.run (tile_of step) tile.new }
+    ensures moved { result ≡ Moved → StepMoves seat.old.me.0 step seat.new.me.0 }
+    ensures idle { result ≡ Idle → StepIdles seat.old.me.0 step seat.new.me.0 }
+    ensures mine { result ≢ NotMine }
+    ensures rest { OnlyTile seat.old.me.0 (tile_of step) seat.new.me.0 }
+{
+    let Some(op) = tile.next_op(step) else {
+        return Turned::Idle;
+    };
+    let found = perform::<A, Brand>(row, seat, step, tile, op);
+    match tile.absorb(step, found) {
+        Stepped::Moved => Turned::Moved,
+        Stepped::Idle => Turned::Idle,
+    }
+}
+
+pub(crate) struct Look;
+
+impl Play<(), Knowledge> for Look {
+    ghost use Rattle.fabric.specs.Table.{looked};
+
+    ghost then = { looked };
+}
+
+// The seat learns of all runs that it was told of.
+pub(crate) struct Learn;
+
+impl Play<(), Knowledge> for Learn {
+    ghost use Rattle.fabric.specs.Table.{learned};
+
+    ghost then = { learned };
+}
+
+// The same, and its groups become one.
+pub(crate) struct Merge;
+
+impl Play<(), Knowledge> for Merge {
+    ghost use Rattle.fabric.specs.Table.{merged};
+
+    ghost then = { merged };
+}
+
+pub(crate) struct Halves;
+
+impl Split<Knowledge> for Halves {
+    ghost use Rattle.fabric_laws.specs.Groups.{first_half, second_half};
+
+    ghost left = { first_half };
+
+    ghost right = { second_half };
+}
+
+pub(crate) struct Note;
+
+impl Split<Knowledge> for Note {
+    ghost use Rattle.fabric_laws.specs.Groups.{with_groups, note};
+
+    ghost left = { λ v. with_groups v v.groups };
+
+    ghost right = { note };
+}
+
+pub(crate) struct Both;
+
+impl Join<Knowledge> for Both {
+    ghost use Rattle.fabric_laws.specs.Groups.{both};
+    ghost use Rattle.fabric_laws.specs.View.{blank};
+
+    ghost both = { both };
+
+    ghost spent = { blank };
+}

@@ -1,0 +1,8 @@
+pub mod Runs
+pub mod Stores
+pub mod Groups
+pub mod Growing
+pub mod Attempts
+pub mod Joining
+pub mod Cutting
+pub mod Ending

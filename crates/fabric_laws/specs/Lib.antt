@@ -1,0 +1,5 @@
+pub mod Known
+pub mod Told
+pub mod View
+pub mod Groups
+pub mod Rule
