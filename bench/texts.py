@@ -3,8 +3,8 @@
 
     machine.txt  64 tiles (radix 8, 2 dimensions), 65,536 words, 16 tags
     script.txt   for each of the 64 processors 1,024 operations of all ten kinds
-    steps.txt    a schedule that finishes every script: each processor sends four operations, the
-                 banks serve them, and the processors take the replies; and so on
+    steps.txt    196,608 steps of processors and banks, for the reader of steps alone: without the
+                 routers' steps they don't bring an operation to its bank
     cas.txt      a script of 65,536 `cas` lines, each processor's 1,024 in turn
 
 The same texts on every machine: the numbers come from the generator below, and from no library.
@@ -69,7 +69,7 @@ def scripts(numbers):
 
 
 def steps(asked):
-    """Rounds of TOGETHER operations of each processor; the banks serve in turn, tile by tile."""
+    """For TOGETHER operations of each processor in turn a send, a serve and a take."""
     for first in range(0, EACH, TOGETHER):
         waiting = [0] * TILES
         for processor, script in enumerate(asked):

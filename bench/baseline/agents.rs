@@ -1,4 +1,5 @@
-//! Choices of routers in plain Rust, of the same design as the crates `flit_buffer` and `router`:
+//! Choices of routers, processors and banks in plain Rust, of the same design as the crates
+//! `flit_buffer`, `router`, `processor` and `home_bank`, and those on which these stand:
 //!
 //!     agents ROUNDS
 //!
@@ -38,7 +39,12 @@ enum Output {
 #[derive(Clone, Copy)]
 #[allow(dead_code)]
 enum Choice {
+    Take,
+    Serve,
     Send,
+    Credit,
+    Done,
+    Look,
     TakeFrom(u32),
     Put(u32),
     CreditOf(u32),
@@ -65,14 +71,83 @@ enum WordOp {
     Min(usize, u64),
 }
 
+#[derive(Clone, Copy, PartialEq, Eq)]
+#[allow(dead_code)]
+enum Op {
+    Load,
+    Store(u64),
+    Swap(u64),
+    Cas(u64, u64),
+    Add(u64),
+    And(u64),
+    Or(u64),
+    Xor(u64),
+    Max(u64),
+    Min(u64),
+}
+
+#[derive(Clone, Copy, PartialEq, Eq)]
+enum Code {
+    Load,
+    Store,
+    Swap,
+    Cas,
+    Add,
+    And,
+    Or,
+    Xor,
+    Max,
+    Min,
+}
+
+impl Op {
+    fn code(self) -> Code {
+        match self {
+            Op::Load => Code::Load,
+            Op::Store(_) => Code::Store,
+            Op::Swap(_) => Code::Swap,
+            Op::Cas(_, _) => Code::Cas,
+            Op::Add(_) => Code::Add,
+            Op::And(_) => Code::And,
+            Op::Or(_) => Code::Or,
+            Op::Xor(_) => Code::Xor,
+            Op::Max(_) => Code::Max,
+            Op::Min(_) => Code::Min,
+        }
+    }
+
+    /// What is replied where a word is found.
+    fn reply(self, word: u64) -> Reply {
+        if let Op::Store(_) = self { Reply::Ok } else { Reply::Old(word) }
+    }
+}
+
 #[derive(Clone, Copy)]
 enum Want {
     Take(u32),
     Put(u32, u64),
     Credit(u32),
+    Access(u32, Op),
+    Await(u32, u64),
 }
 
 impl WordOp {
+    fn at(word: usize, op: Op) -> WordOp {
+        match op {
+            Op::Load => WordOp::Load(word),
+            Op::Store(value) => WordOp::Store(word, value),
+            Op::Swap(value) => WordOp::Swap(word, value),
+            Op::Cas(expected, new) => WordOp::Cas(word, expected, new),
+            Op::Add(value) => WordOp::Add(word, value),
+            Op::And(value) => WordOp::And(word, value),
+            Op::Or(value) => WordOp::Or(word, value),
+            Op::Xor(value) => WordOp::Xor(word, value),
+            Op::Max(value) => WordOp::Max(word, value),
+            Op::Min(value) => WordOp::Min(word, value),
+        }
+    }
+
+    #[inline(always)]
     fn word(self) -> usize {
         match self {
             WordOp::Load(word)
@@ -88,6 +163,7 @@ impl WordOp {
         }
     }
 
+    #[inline(always)]
     fn apply(self, word: u64) -> u64 {
         match self {
             WordOp::Load(_) => word,
@@ -103,6 +179,7 @@ impl WordOp {
     }
 }
 
+#[inline(always)]
 fn perform(op: WordOp, row: &mut [u64]) -> u64 {
     let before = row[op.word()];
     row[op.word()] = op.apply(before);
@@ -174,14 +251,18 @@ impl Sender {
 struct Ports {
     inputs: Vec<Receiver>,
     outputs: Vec<Sender>,
+    words: usize,
 }
 
 impl Ports {
+    #[inline(always)]
     fn op(&self, want: Want) -> Option<WordOp> {
         match want {
             Want::Take(input) => Some(self.inputs[input as usize].take_op()),
             Want::Put(output, flit) => self.outputs[output as usize].put_op(flit),
             Want::Credit(output) => self.outputs[output as usize].credit_op(),
+            Want::Access(word, op) => Some(WordOp::at(self.words + word as usize, op)),
+            Want::Await(word, _) => Some(WordOp::Load(self.words + word as usize)),
         }
     }
 
@@ -193,6 +274,9 @@ impl Ports {
                 Some(0)
             }
             Want::Credit(output) => self.outputs[output as usize].credit_got(got).then_some(0),
+            Want::Access(_, Op::Store(_)) => Some(0),
+            Want::Access(_, _) => Some(got),
+            Want::Await(_, value) => (got == value).then_some(value),
         }
     }
 }
@@ -255,6 +339,7 @@ impl Router {
         if self.owner[output as usize].is_some() { None } else { Some(output) }
     }
 
+    #[inline(always)]
     fn wants(&self, choice: Choice) -> Option<Want> {
         match choice {
             Choice::TakeFrom(input) if (input as usize) < self.latches.len() => {
@@ -270,6 +355,7 @@ impl Router {
         }
     }
 
+    #[inline(always)]
     fn next_op(&self, choice: Choice) -> Option<WordOp> {
         self.ports.op(self.wants(choice)?)
     }
@@ -314,6 +400,715 @@ impl Router {
     }
 }
 
+#[derive(Clone, Copy, PartialEq, Eq)]
+enum Reply {
+    Ok,
+    Old(u64),
+}
+
+#[derive(Clone, Copy)]
+struct Operation {
+    address: u32,
+    op: Op,
+}
+
+#[derive(Clone, Copy)]
+struct Request {
+    destination: u32,
+    source: u32,
+    tag: u32,
+    word: u32,
+    op: Op,
+}
+
+#[derive(Clone, Copy)]
+#[allow(dead_code)]
+struct Response {
+    destination: u32,
+    source: u32,
+    tag: u32,
+    place: u32,
+    code: Code,
+    reply: Reply,
+}
+
+#[derive(Clone, Copy)]
+enum Packet {
+    Request(Request),
+    Response(Response),
+}
+
+const HEAD: u64 = 1 << 63;
+const TAIL: u64 = 1 << 62;
+const FLIT: u64 = 1 << 61;
+
+/// The flits of a packet, five at most.
+#[derive(Clone, Copy, Default)]
+struct Flits {
+    flits: [u64; 5],
+    len: usize,
+}
+
+impl Flits {
+    fn push(&mut self, flit: u64) {
+        self.flits[self.len] = flit;
+        self.len += 1;
+    }
+
+    fn as_slice(&self) -> &[u64] {
+        &self.flits[..self.len]
+    }
+}
+
+fn head_flit(class: Class, code: Code, destination: u32, source: u32, tag: u32, place: u32) -> u64 {
+    let operation = code as u64;
+    HEAD + FLIT
+        + ((operation % 8) << 58)
+        + ((class as u64) << 57)
+        + (u64::from(destination) << 51)
+        + (u64::from(source) << 45)
+        + (u64::from(tag) << 41)
+        + ((operation / 8) << 40)
+        + u64::from(place)
+}
+
+fn push_value(flits: &mut Flits, value: u64, last: bool) {
+    flits.push(FLIT + (value >> 32));
+    flits.push(if last { TAIL } else { 0 } + FLIT + (value & 0xFFFF_FFFF));
+}
+
+fn flits_of(packet: &Packet) -> Flits {
+    let (head, values) = match *packet {
+        Packet::Request(asked) => {
+            let values = match asked.op {
+                Op::Load => [None, None],
+                Op::Cas(expected, new) => [Some(expected), Some(new)],
+                Op::Store(value)
+                | Op::Swap(value)
+                | Op::Add(value)
+                | Op::And(value)
+                | Op::Or(value)
+                | Op::Xor(value)
+                | Op::Max(value)
+                | Op::Min(value) => [Some(value), None],
+            };
+            let code = asked.op.code();
+            (head_flit(Class::Request, code, asked.destination, asked.source, asked.tag, asked.word), values)
+        }
+        Packet::Response(told) => {
+            let value = if let Reply::Old(word) = told.reply { Some(word) } else { None };
+            let head = head_flit(Class::Reply, told.code, told.destination, told.source, told.tag, told.place);
+            (head, [value, None])
+        }
+    };
+    let mut flits = Flits::default();
+    match values {
+        [None, _] => flits.push(TAIL + head),
+        [Some(value), None] => {
+            flits.push(head);
+            push_value(&mut flits, value, true);
+        }
+        [Some(first), Some(second)] => {
+            flits.push(head);
+            push_value(&mut flits, first, false);
+            push_value(&mut flits, second, true);
+        }
+    }
+    flits
+}
+
+/// The flits so far of the packet that comes in.
+#[derive(Default)]
+struct Assembler {
+    flits: Flits,
+}
+
+enum Offered {
+    More,
+    Whole(Packet),
+    Refused,
+}
+
+fn operation_told(flit: u64) -> u64 {
+    field(flit, 40, 1) * 8 + field(flit, 58, 3)
+}
+
+fn flits_told(head: u64) -> usize {
+    match (field(head, 57, 1), operation_told(head)) {
+        (0, 0) => 1,
+        (0, 3) => 5,
+        (0, _) => 3,
+        (_, 1) => 1,
+        (_, _) => 3,
+    }
+}
+
+fn tail_wanted(head: u64, before: usize) -> u64 {
+    u64::from(flits_told(head) - 1 == before)
+}
+
+fn half_at(flits: &[u64], at: usize) -> u64 {
+    field(flits.get(at).copied().unwrap_or(0), 0, 32)
+}
+
+fn value_at(flits: &[u64], at: usize) -> u64 {
+    (half_at(flits, at) << 32) + half_at(flits, at + 1)
+}
+
+fn code_numbered(number: u64) -> Code {
+    match number {
+        0 => Code::Load,
+        1 => Code::Store,
+        2 => Code::Swap,
+        3 => Code::Cas,
+        4 => Code::Add,
+        5 => Code::And,
+        6 => Code::Or,
+        7 => Code::Xor,
+        8 => Code::Max,
+        _ => Code::Min,
+    }
+}
+
+fn op_with(code: Code, first: u64, second: u64) -> Op {
+    match code {
+        Code::Load => Op::Load,
+        Code::Store => Op::Store(first),
+        Code::Swap => Op::Swap(first),
+        Code::Cas => Op::Cas(first, second),
+        Code::Add => Op::Add(first),
+        Code::And => Op::And(first),
+        Code::Or => Op::Or(first),
+        Code::Xor => Op::Xor(first),
+        Code::Max => Op::Max(first),
+        Code::Min => Op::Min(first),
+    }
+}
+
+fn packet_told(flits: &[u64]) -> Packet {
+    let head = flits[0];
+    let destination = field(head, 51, 6) as u32;
+    let source = field(head, 45, 6) as u32;
+    let tag = field(head, 41, 4) as u32;
+    let place = field(head, 0, 32) as u32;
+    let code = code_numbered(operation_told(head));
+    let value = value_at(flits, 1);
+    if field(head, 57, 1) == 0 {
+        let op = op_with(code, value, value_at(flits, 3));
+        Packet::Request(Request { destination, source, tag, word: place, op })
+    } else {
+        let reply = if code == Code::Store { Reply::Ok } else { Reply::Old(value) };
+        Packet::Response(Response { destination, source, tag, place, code, reply })
+    }
+}
+
+impl Assembler {
+    fn refuses(&self, flit: u64) -> bool {
+        match *self.flits.as_slice() {
+            [] => {
+                field(flit, 61, 1) == 0
+                    || field(flit, 63, 1) == 0
+                    || operation_told(flit) > 9
+                    || field(flit, 32, 8) > 0
+                    || field(flit, 62, 1) != tail_wanted(flit, 0)
+            }
+            [head, ..] => {
+                field(flit, 61, 1) == 0
+                    || field(flit, 63, 1) == 1
+                    || field(flit, 32, 29) > 0
+                    || field(flit, 62, 1) != tail_wanted(head, self.flits.len)
+            }
+        }
+    }
+
+    fn offer(&mut self, flit: u64) -> Offered {
+        if self.refuses(flit) {
+            return Offered::Refused;
+        }
+        self.flits.push(flit);
+        if !is_tail(flit) {
+            return Offered::More;
+        }
+        let packet = packet_told(self.flits.as_slice());
+        self.flits.len = 0;
+        Offered::Whole(packet)
+    }
+}
+
+#[derive(Clone, Copy)]
+#[allow(dead_code)]
+enum Value {
+    Number(u64),
+    Last,
+}
+
+#[derive(Clone, Copy)]
+#[allow(dead_code)]
+enum Line {
+    Load(u32),
+    Store(u32, Value),
+    Swap(u32, Value),
+    Cas(u32, Value, Value),
+    Add(u32, Value),
+    And(u32, Value),
+    Or(u32, Value),
+    Xor(u32, Value),
+    Max(u32, Value),
+    Min(u32, Value),
+    Fence,
+    Spin(u32, u64, u32),
+}
+
+#[derive(Clone, Copy)]
+struct OpenSpin {
+    address: u32,
+    sought: u64,
+    left: u32,
+}
+
+struct Follower {
+    lines: Vec<Line>,
+    at: usize,
+    spin: Option<OpenSpin>,
+    issued: u32,
+    waiting: u32,
+    last: Option<Reply>,
+}
+
+fn reply_number(reply: Reply) -> u64 {
+    match reply {
+        Reply::Ok => 0,
+        Reply::Old(word) => word,
+    }
+}
+
+fn operand_of(value: Value, last: Option<Reply>) -> Option<u64> {
+    match value {
+        Value::Number(number) => Some(number),
+        Value::Last => last.map(reply_number),
+    }
+}
+
+fn operation_of(line: Line, last: Option<Reply>) -> Option<Operation> {
+    let (address, op) = match line {
+        Line::Load(address) => (address, Op::Load),
+        Line::Store(address, value) => (address, Op::Store(operand_of(value, last)?)),
+        Line::Swap(address, value) => (address, Op::Swap(operand_of(value, last)?)),
+        Line::Cas(address, expected, new) => {
+            (address, Op::Cas(operand_of(expected, last)?, operand_of(new, last)?))
+        }
+        Line::Add(address, value) => (address, Op::Add(operand_of(value, last)?)),
+        Line::And(address, value) => (address, Op::And(operand_of(value, last)?)),
+        Line::Or(address, value) => (address, Op::Or(operand_of(value, last)?)),
+        Line::Xor(address, value) => (address, Op::Xor(operand_of(value, last)?)),
+        Line::Max(address, value) => (address, Op::Max(operand_of(value, last)?)),
+        Line::Min(address, value) => (address, Op::Min(operand_of(value, last)?)),
+        Line::Fence => return None,
+        Line::Spin(address, _, _) => (address, Op::Load),
+    };
+    Some(Operation { address, op })
+}
+
+impl Follower {
+    fn new(lines: Vec<Line>) -> Follower {
+        let mut follower = Follower { lines, at: 0, spin: None, issued: 0, waiting: 0, last: None };
+        follower.pass_fences();
+        follower
+    }
+
+    fn pass_fences(&mut self) {
+        while matches!(self.lines.get(self.at), Some(Line::Fence)) {
+            self.at += 1;
+        }
+    }
+
+    fn next_operation(&self) -> Option<Operation> {
+        match self.spin {
+            Some(open) => self.last.map(|_| Operation { address: open.address, op: Op::Load }),
+            None => operation_of(*self.lines.get(self.at)?, self.last),
+        }
+    }
+
+    fn issue(&mut self) -> u32 {
+        let index = self.issued;
+        match &mut self.spin {
+            Some(open) => open.left -= 1,
+            None => {
+                if let Line::Spin(address, sought, most) = self.lines[self.at] {
+                    self.spin = Some(OpenSpin { address, sought, left: most - 1 });
+                }
+                self.at += 1;
+            }
+        }
+        self.issued += 1;
+        self.waiting += 1;
+        self.last = None;
+        index
+    }
+
+    fn answer(&mut self, index: u32, reply: Reply) {
+        self.waiting = self.waiting.saturating_sub(1);
+        if u64::from(index) + 1 == u64::from(self.issued) {
+            self.spin = self.spin.filter(|open| reply_number(reply) != open.sought && open.left != 0);
+            self.last = Some(reply);
+        }
+        if self.waiting == 0 && self.spin.is_none() {
+            self.pass_fences();
+        }
+    }
+
+    fn finished(&self) -> bool {
+        self.at == self.lines.len() && self.spin.is_none() && self.waiting == 0
+    }
+}
+
+/// By tag the operation that holds it.
+struct TagTable {
+    holders: [Option<u32>; 16],
+    tags: usize,
+}
+
+impl TagTable {
+    fn next_free(&self) -> Option<u32> {
+        self.holders[..self.tags].iter().position(|holder| holder.is_none()).map(|tag| tag as u32)
+    }
+
+    fn holder(&self, tag: u32) -> Option<u32> {
+        self.holders[..self.tags].get(tag as usize).copied().flatten()
+    }
+
+    fn take(&mut self, index: u32) -> Option<u32> {
+        let tag = self.next_free()?;
+        self.holders[tag as usize] = Some(index);
+        Some(tag)
+    }
+
+    fn give(&mut self, tag: u32) -> Option<u32> {
+        let index = self.holder(tag)?;
+        self.holders[tag as usize] = None;
+        Some(index)
+    }
+}
+
+#[allow(dead_code)]
+struct Answer {
+    index: u32,
+    op: Op,
+    reply: Reply,
+    bank: u32,
+    place: u32,
+}
+
+struct Record {
+    follower: Follower,
+    tags: TagTable,
+    issued: Vec<Operation>,
+    answers: Vec<Answer>,
+}
+
+impl Record {
+    fn new(tags: usize, lines: Vec<Line>) -> Record {
+        let room = lines
+            .iter()
+            .map(|line| match line {
+                Line::Fence => 0,
+                Line::Spin(_, _, most) => *most as usize,
+                _ => 1,
+            })
+            .sum();
+        Record {
+            follower: Follower::new(lines),
+            tags: TagTable { holders: [None; 16], tags },
+            issued: Vec::with_capacity(room),
+            answers: Vec::with_capacity(room),
+        }
+    }
+
+    fn ready(&self) -> Option<(u32, Operation)> {
+        let operation = self.follower.next_operation()?;
+        let tag = self.tags.next_free()?;
+        Some((tag, operation))
+    }
+
+    fn issue(&mut self, operation: Operation) {
+        let index = self.follower.issue();
+        self.tags.take(index);
+        self.issued.push(operation);
+    }
+
+    fn answer(&mut self, response: Response) {
+        let Some(index) = self.tags.give(response.tag) else {
+            return;
+        };
+        let answer = Answer {
+            index,
+            op: self.issued[index as usize].op,
+            reply: response.reply,
+            bank: response.source,
+            place: response.place,
+        };
+        self.follower.answer(index, response.reply);
+        self.answers.push(answer);
+    }
+}
+
+fn request_flits(tiles: u32, tile: u32, next: Option<(u32, Operation)>) -> Flits {
+    let Some((tag, operation)) = next else {
+        return Flits::default();
+    };
+    flits_of(&Packet::Request(Request {
+        destination: operation.address % tiles,
+        source: tile,
+        tag,
+        word: operation.address / tiles,
+        op: operation.op,
+    }))
+}
+
+struct Processor {
+    tiles: u32,
+    words: u32,
+    tile: u32,
+    operations: Record,
+    next: Option<(u32, Operation)>,
+    flits: Flits,
+    put: usize,
+    assembler: Assembler,
+    begun: Option<u64>,
+    reported: bool,
+    seen: bool,
+    ports: Ports,
+}
+
+impl Processor {
+    fn new(tile: u32, depth: usize, lines: &[Line]) -> Processor {
+        let operations = Record::new(1, lines.to_vec());
+        let next = operations.ready();
+        Processor {
+            tiles: 64,
+            words: 64,
+            tile,
+            operations,
+            next,
+            flits: request_flits(64, tile, next),
+            put: 0,
+            assembler: Assembler::default(),
+            begun: None,
+            reported: false,
+            seen: false,
+            ports: end_ports(tile, depth, TOLD, ASKED),
+        }
+    }
+
+    #[inline(always)]
+    fn wants(&self, choice: Choice) -> Option<Want> {
+        match choice {
+            Choice::Send => Some(Want::Put(0, *self.flits.as_slice().get(self.put)?)),
+            Choice::Take => Some(Want::Take(0)),
+            Choice::Credit => Some(Want::Credit(0)),
+            Choice::Done if self.operations.follower.finished() && !self.reported => {
+                Some(Want::Access(self.words, Op::Add(1)))
+            }
+            Choice::Look if self.reported && !self.seen => Some(Want::Await(self.words, u64::from(self.tiles))),
+            _ => None,
+        }
+    }
+
+    #[inline(always)]
+    fn next_op(&self, choice: Choice) -> Option<WordOp> {
+        self.ports.op(self.wants(choice)?)
+    }
+
+    fn is_acceptable(&self, choice: Choice, got: u64) -> bool {
+        match choice {
+            Choice::Take => {
+                let head = self.begun.unwrap_or(got);
+                got == 0 || self.operations.tags.holder(((head >> 41) % 16) as u32).is_some()
+            }
+            _ => true,
+        }
+    }
+
+    fn absorb(&mut self, choice: Choice, got: u64) -> Stepped {
+        let Some(want) = self.wants(choice) else {
+            return Stepped::Idle;
+        };
+        let Some(learned) = self.ports.absorb(want, got) else {
+            return Stepped::Idle;
+        };
+        match choice {
+            Choice::Send => self.sent(),
+            Choice::Take => self.taken(learned),
+            Choice::Done => self.reported = true,
+            Choice::Look => self.seen = true,
+            _ => {}
+        }
+        Stepped::Moved
+    }
+
+    fn look_ahead(&mut self) {
+        self.next = self.operations.ready();
+        self.flits = request_flits(self.tiles, self.tile, self.next);
+    }
+
+    #[inline(never)]
+    fn sent(&mut self) {
+        if self.put == 0 {
+            if let Some((_, operation)) = self.next {
+                self.operations.issue(operation);
+            }
+        }
+        if self.put + 1 < self.flits.len {
+            self.put += 1;
+        } else {
+            self.put = 0;
+            self.look_ahead();
+        }
+    }
+
+    #[inline(never)]
+    fn taken(&mut self, flit: u64) {
+        match self.assembler.offer(flit) {
+            Offered::More => self.begun = Some(self.begun.unwrap_or(flit)),
+            Offered::Whole(packet) => {
+                self.begun = None;
+                if let Packet::Response(response) = packet {
+                    self.operations.answer(response);
+                    if self.put == 0 {
+                        self.look_ahead();
+                    }
+                }
+            }
+            Offered::Refused => {}
+        }
+    }
+}
+
+#[allow(dead_code)]
+struct Entry {
+    source: u32,
+    tag: u32,
+    address: u32,
+    op: Op,
+    reply: Reply,
+}
+
+struct Bank {
+    tiles: u32,
+    tile: u32,
+    entries: Vec<Entry>,
+    room: usize,
+    assembler: Assembler,
+    waiting: Option<Request>,
+    to_put: Flits,
+    put: usize,
+    ports: Ports,
+}
+
+/// Whether a flit is no head flit of a request, or names a word below 65536.
+fn is_acceptable(flit: u64) -> bool {
+    match head(flit) {
+        Some(Head { class: Class::Request, .. }) => flit % (1 << 32) < 65536,
+        _ => true,
+    }
+}
+
+impl Bank {
+    fn new(tile: u32, depth: usize, room: usize) -> Bank {
+        Bank {
+            tiles: 64,
+            tile,
+            entries: Vec::with_capacity(room),
+            room,
+            assembler: Assembler::default(),
+            waiting: None,
+            to_put: Flits::default(),
+            put: 0,
+            ports: end_ports(tile, depth, REQUESTED, REPLIED),
+        }
+    }
+
+    #[inline(always)]
+    fn wants(&self, choice: Choice) -> Option<Want> {
+        match choice {
+            Choice::Take if self.waiting.is_none() && self.put == self.to_put.len => Some(Want::Take(0)),
+            Choice::Serve => {
+                let request = self.waiting?;
+                Some(Want::Access(request.word * self.tiles + self.tile, request.op))
+            }
+            Choice::Send => Some(Want::Put(0, *self.to_put.as_slice().get(self.put)?)),
+            Choice::Credit => Some(Want::Credit(0)),
+            _ => None,
+        }
+    }
+
+    #[inline(always)]
+    fn next_op(&self, choice: Choice) -> Option<WordOp> {
+        self.ports.op(self.wants(choice)?)
+    }
+
+    fn absorb(&mut self, choice: Choice, got: u64) -> Stepped {
+        let Some(want) = self.wants(choice) else {
+            return Stepped::Idle;
+        };
+        let Some(learned) = self.ports.absorb(want, got) else {
+            return Stepped::Idle;
+        };
+        match choice {
+            Choice::Take => self.take_in(learned),
+            Choice::Serve => self.serve(learned),
+            Choice::Send => {
+                if self.put < self.to_put.len {
+                    self.put += 1;
+                }
+            }
+            _ => {}
+        }
+        Stepped::Moved
+    }
+
+    #[inline(never)]
+    fn take_in(&mut self, flit: u64) {
+        if let Offered::Whole(Packet::Request(request)) = self.assembler.offer(flit) {
+            self.waiting = Some(request);
+        }
+    }
+
+    #[inline(never)]
+    fn serve(&mut self, found: u64) {
+        let Some(request) = self.waiting.take() else {
+            return;
+        };
+        let reply = request.op.reply(found);
+        let place = self.entries.len() as u32;
+        let address = request.word * self.tiles + self.tile;
+        self.entries.push(Entry { source: request.source, tag: request.tag, address, op: request.op, reply });
+        self.to_put = flits_of(&Packet::Response(Response {
+            destination: request.source,
+            source: self.tile,
+            tag: request.tag,
+            place,
+            code: request.op.code(),
+            reply,
+        }));
+        self.put = 0;
+    }
+
+    fn is_full(&self) -> bool {
+        self.entries.len() == self.room
+    }
+}
+
+/// The ports of an agent at the end of the network.
+fn end_ports(tile: u32, depth: usize, input: usize, output: usize) -> Ports {
+    let base = |channel: usize| (tile as usize * CHANNELS + channel) * depth;
+    Ports {
+        inputs: vec![Receiver { base: base(input), depth, next: 0 }],
+        outputs: vec![Sender { base: base(output), depth, next: 0, credits: depth }],
+        words: 1792 * depth,
+    }
+}
+
 /// The output for a packet that is injected at a tile of a torus of four by four by four.
 fn way(tile: u32, destination: u32) -> Output {
     for dim in 0..3 {
@@ -350,6 +1145,7 @@ fn router_at(tile: u32, depth: usize) -> Router {
         ports: Ports {
             inputs: (0..PORTS).map(|i| Receiver { base: base(input(i)), depth, next: 0 }).collect(),
             outputs: (0..PORTS).map(|o| Sender { base: base(output(o)), depth, next: 0, credits: depth }).collect(),
+            words: 1792 * depth,
         },
     }
 }
@@ -467,11 +1263,195 @@ fn stream(packets: u32) {
     assert!(moves == u64::from(packets) * 18, "a flit didn't move");
 }
 
+const LOADED: [u64; 3] = [0xA200_0000_0000_0000, 0x2000_0000_0000_0000, 0x6000_0000_0000_0007];
+const STORED: [u64; 1] = [0xE600_0000_0000_0000];
+const LOAD: [u64; 1] = [0xE000_0000_0000_0000];
+const STORE: [u64; 3] = [0xA400_0000_0000_0000, 0x2000_0000_0000_0000, 0x6000_0000_0000_0007];
+
+const CHANNELS: usize = 28;
+const ASKED: usize = 24;
+const TOLD: usize = 27;
+const REPLIED: usize = 25;
+const REQUESTED: usize = 26;
+
+/// An agent at one end of the network.
+trait End {
+    /// Tries a choice by its operation on a word of the row: 1 if it moved, else 0.
+    fn tried(&mut self, row: &mut Vec<u64>, choice: Choice) -> u64;
+}
+
+impl End for Processor {
+    #[inline(always)]
+    fn tried(&mut self, row: &mut Vec<u64>, choice: Choice) -> u64 {
+        let Some(op) = self.next_op(choice) else {
+            return 0;
+        };
+        if op.word() >= row.len() {
+            return 0;
+        }
+        let got = perform(op, row);
+        if !self.is_acceptable(choice, got) {
+            return 0;
+        }
+        u64::from(self.absorb(choice, got) == Stepped::Moved)
+    }
+}
+
+impl End for Bank {
+    #[inline(always)]
+    fn tried(&mut self, row: &mut Vec<u64>, choice: Choice) -> u64 {
+        let Some(op) = self.next_op(choice) else {
+            return 0;
+        };
+        if op.word() >= row.len() || self.is_full() {
+            return 0;
+        }
+        let got = perform(op, row);
+        if !is_acceptable(got) {
+            return 0;
+        }
+        u64::from(self.absorb(choice, got) == Stepped::Moved)
+    }
+}
+
+fn processors(depth: usize, lines: &[Line]) -> Vec<Processor> {
+    (0..64).map(|tile| Processor::new(tile, depth, lines)).collect()
+}
+
+fn banks(depth: usize, room: usize) -> Vec<Bank> {
+    (0..64).map(|tile| Bank::new(tile, depth, room)).collect()
+}
+
+#[inline(never)]
+fn each<T: End>(agents: &mut [T], row: &mut Vec<u64>, choice: Choice) -> u64 {
+    let mut moves = 0;
+    for agent in agents {
+        moves += agent.tried(row, choice);
+    }
+    moves
+}
+
+/// Puts a flit that is to be sent, takes it from its place, and has the credit back.
+fn send<T: End>(agent: &mut T, row: &mut Vec<u64>, place: usize) -> u64 {
+    let put = agent.tried(row, Choice::Send);
+    row[place] = 0;
+    put + agent.tried(row, Choice::Credit)
+}
+
+/// Has flits come in one after the other.
+fn take<T: End>(agent: &mut T, row: &mut Vec<u64>, place: usize, flits: &[u64]) -> u64 {
+    let mut moves = 0;
+    for &flit in flits {
+        row[place] = flit;
+        moves += agent.tried(row, Choice::Take);
+    }
+    moves
+}
+
+#[inline(never)]
+fn ask(processors: &mut [Processor], row: &mut Vec<u64>, sent: u32, reply: &[u64]) -> u64 {
+    let mut moves = 0;
+    for (tile, processor) in processors.iter_mut().enumerate() {
+        for _ in 0..16 {
+            for _ in 0..sent {
+                moves += send(processor, row, tile * CHANNELS + ASKED);
+            }
+            moves += take(processor, row, tile * CHANNELS + TOLD, reply);
+        }
+    }
+    moves
+}
+
+#[inline(never)]
+fn serve(banks: &mut [Bank], row: &mut Vec<u64>, request: &[u64], sent: u32) -> u64 {
+    let mut moves = 0;
+    for (tile, bank) in banks.iter_mut().enumerate() {
+        for _ in 0..16 {
+            moves += take(bank, row, tile * CHANNELS + REQUESTED, request);
+            moves += bank.tried(row, Choice::Serve);
+            for _ in 0..sent {
+                moves += send(bank, row, tile * CHANNELS + REPLIED);
+            }
+        }
+    }
+    moves
+}
+
+fn waiting(times: u32) {
+    let mut row = vec![0u64; 7233];
+    let mut all = processors(4, &[Line::Store(0, Value::Number(7)), Line::Fence, Line::Load(0)]);
+    let sent: u64 = (0..3).map(|_| each(&mut all, &mut row, Choice::Send)).sum();
+    assert!(sent == 192, "a store wasn't sent");
+    let mut finished = processors(4, &[]);
+    assert!(each(&mut finished, &mut row, Choice::Done) == 64, "a processor didn't report");
+    row[7232] = 0;
+    let mut try_all = |name: &str, all: &mut [Processor], choice: Choice| {
+        timed(name, || (0..times).map(|_| each(all, &mut row, choice)).sum())
+    };
+    let mut moves = try_all("processor-send", &mut all, Choice::Send);
+    moves += try_all("processor-done", &mut all, Choice::Done);
+    moves += try_all("processor-credit", &mut all, Choice::Credit);
+    moves += try_all("processor-take", &mut all, Choice::Take);
+    moves += try_all("processor-look", &mut finished, Choice::Look);
+    assert!(moves == 0, "a processor moved that waits");
+}
+
+fn unasked(times: u32) {
+    let mut row = vec![0u64; 7233];
+    let mut all = banks(4, 16);
+    let mut try_all = |name: &str, choice: Choice| {
+        timed(name, || (0..times).map(|_| each(&mut all, &mut row, choice)).sum())
+    };
+    let mut moves = try_all("bank-serve", Choice::Serve);
+    moves += try_all("bank-send", Choice::Send);
+    moves += try_all("bank-credit", Choice::Credit);
+    moves += try_all("bank-take", Choice::Take);
+    assert!(moves == 0, "a bank moved that nobody asked");
+}
+
+fn asking(rounds: u32) {
+    let mut row = vec![0u64; 1857];
+    let (mut loads, mut stores, mut moves) = (0, 0, 0);
+    for _ in 0..rounds {
+        let mut all = processors(1, &[Line::Load(0); 16]);
+        let start = Instant::now();
+        moves += ask(&mut all, &mut row, 1, &LOADED);
+        loads += start.elapsed().as_nanos();
+        let mut all = processors(1, &[Line::Store(0, Value::Number(7)); 16]);
+        let start = Instant::now();
+        moves += ask(&mut all, &mut row, 3, &STORED);
+        stores += start.elapsed().as_nanos();
+    }
+    println!("processor-load {loads}\nprocessor-store {stores}");
+    assert!(moves == u64::from(rounds) * 12288, "a processor didn't move");
+}
+
+fn serving(rounds: u32) {
+    let mut row = vec![0u64; 1857];
+    let (mut loads, mut stores, mut moves) = (0, 0, 0);
+    for _ in 0..rounds {
+        let mut all = banks(1, 17);
+        let start = Instant::now();
+        moves += serve(&mut all, &mut row, &LOAD, 3);
+        loads += start.elapsed().as_nanos();
+        let mut all = banks(1, 17);
+        let start = Instant::now();
+        moves += serve(&mut all, &mut row, &STORE, 1);
+        stores += start.elapsed().as_nanos();
+    }
+    println!("bank-load {loads}\nbank-store {stores}");
+    assert!(moves == u64::from(rounds) * 14336, "a bank didn't move");
+}
+
 fn main() {
     let rounds: u32 = env::args().nth(1).and_then(|word| word.parse().ok()).expect("give the number of rounds");
     for _ in 0..5 {
         idle(rounds);
         stuck(rounds * 1664);
         stream(rounds * 64);
+        waiting(rounds * 26);
+        unasked(rounds * 26);
+        asking(rounds);
+        serving(rounds);
     }
 }

@@ -1,0 +1,600 @@
+//! The processor, the router and the bank of a tile in plain Rust, of the same design as the crates
+//! `flit_buffer`, `router`, `tag_table`, `net_interface`, `processor`, `home_bank` and `tile_agents`.
+use crate::packets::{flits, head, is_tail, Assembler, Class, Flits, Offered, Op, Packet, Reply, Request, Response};
+use crate::torus::{Dir, Torus, Way};
+
+#[derive(Clone, Copy, PartialEq, Eq)]
+pub enum Choice {
+    Send,
+    Take,
+    TakeFrom(u32),
+    Put(u32),
+    Credit,
+    CreditOf(u32),
+    Serve,
+    Done,
+    Look,
+}
+
+/// What a move was: an event that the book notes, or none.
+#[derive(Clone, Copy)]
+pub enum Moved {
+    Quietly,
+    Issued,
+    Served { source: u32, tag: u32 },
+    Answered { bank: u32, place: u32 },
+}
+
+/// The place behind another one of a ring, by so many.
+fn place_after(place: usize, count: usize, depth: usize) -> usize {
+    let sum = place + count;
+    if sum < depth { sum } else { sum - depth }
+}
+
+struct Receiver {
+    base: usize,
+    depth: usize,
+    next: usize,
+}
+
+struct Sender {
+    base: usize,
+    depth: usize,
+    next: usize,
+    credits: usize,
+}
+
+impl Receiver {
+    fn new(channel: usize, depth: usize) -> Receiver {
+        Receiver { base: channel * depth, depth, next: 0 }
+    }
+
+    #[inline]
+    fn take(&mut self, row: &mut [u64]) -> Option<u64> {
+        let place = &mut row[self.base + self.next];
+        if *place == 0 {
+            return None;
+        }
+        let flit = std::mem::take(place);
+        self.next = place_after(self.next, 1, self.depth);
+        Some(flit)
+    }
+}
+
+impl Sender {
+    fn new(channel: usize, depth: usize) -> Sender {
+        Sender { base: channel * depth, depth, next: 0, credits: depth }
+    }
+
+    #[inline]
+    fn put(&mut self, flit: u64, row: &mut [u64]) -> bool {
+        if self.credits == 0 {
+            return false;
+        }
+        row[self.base + self.next] = flit;
+        self.next = place_after(self.next, 1, self.depth);
+        self.credits -= 1;
+        true
+    }
+
+    #[inline]
+    fn credit(&mut self, row: &[u64]) -> bool {
+        if self.credits == self.depth {
+            return false;
+        }
+        let is_back = row[self.base + place_after(self.next, self.credits, self.depth)] == 0;
+        self.credits += usize::from(is_back);
+        is_back
+    }
+}
+
+/// A value in a script: a number, or the number that the operation just before was answered.
+#[derive(Clone, Copy)]
+#[allow(dead_code)]
+pub enum Value {
+    Number(u64),
+    Last,
+}
+
+#[derive(Clone, Copy)]
+#[allow(dead_code)]
+pub enum Line {
+    Load(u32),
+    Store(u32, Value),
+    Swap(u32, Value),
+    Cas(u32, Value, Value),
+    Add(u32, Value),
+    And(u32, Value),
+    Or(u32, Value),
+    Xor(u32, Value),
+    Max(u32, Value),
+    Min(u32, Value),
+    Fence,
+    Spin(u32, u64, u32),
+}
+
+impl Line {
+    /// The address and the most operations there.
+    pub fn operations(self) -> (u32, usize) {
+        match self {
+            Line::Fence => (0, 0),
+            Line::Spin(address, _, most) => (address, most as usize),
+            Line::Load(address)
+            | Line::Store(address, _)
+            | Line::Swap(address, _)
+            | Line::Cas(address, _, _)
+            | Line::Add(address, _)
+            | Line::And(address, _)
+            | Line::Or(address, _)
+            | Line::Xor(address, _)
+            | Line::Max(address, _)
+            | Line::Min(address, _) => (address, 1),
+        }
+    }
+}
+
+#[derive(Clone, Copy)]
+struct OpenSpin {
+    address: u32,
+    sought: u64,
+    left: u32,
+}
+
+#[derive(Clone, Copy)]
+struct Operation {
+    address: u32,
+    op: Op,
+}
+
+fn reply_number(reply: Reply) -> u64 {
+    match reply {
+        Reply::Ok => 0,
+        Reply::Old(word) => word,
+    }
+}
+
+/// Follows one processor's script.
+struct Follower {
+    lines: Vec<Line>,
+    at: usize,
+    spin: Option<OpenSpin>,
+    issued: u32,
+    waiting: u32,
+    last: Option<Reply>,
+}
+
+impl Follower {
+    fn new(lines: Vec<Line>) -> Follower {
+        let mut follower = Follower { lines, at: 0, spin: None, issued: 0, waiting: 0, last: None };
+        follower.pass_fences();
+        follower
+    }
+
+    fn value(&self, value: Value) -> Option<u64> {
+        match value {
+            Value::Number(number) => Some(number),
+            Value::Last => self.last.map(reply_number),
+        }
+    }
+
+    fn next_operation(&self) -> Option<Operation> {
+        if let Some(open) = self.spin {
+            return self.last.map(|_| Operation { address: open.address, op: Op::Load });
+        }
+        let (address, op) = match *self.lines.get(self.at)? {
+            Line::Load(address) | Line::Spin(address, _, _) => (address, Op::Load),
+            Line::Store(address, value) => (address, Op::Store(self.value(value)?)),
+            Line::Swap(address, value) => (address, Op::Swap(self.value(value)?)),
+            Line::Cas(address, expected, new) => (address, Op::Cas(self.value(expected)?, self.value(new)?)),
+            Line::Add(address, value) => (address, Op::Add(self.value(value)?)),
+            Line::And(address, value) => (address, Op::And(self.value(value)?)),
+            Line::Or(address, value) => (address, Op::Or(self.value(value)?)),
+            Line::Xor(address, value) => (address, Op::Xor(self.value(value)?)),
+            Line::Max(address, value) => (address, Op::Max(self.value(value)?)),
+            Line::Min(address, value) => (address, Op::Min(self.value(value)?)),
+            Line::Fence => return None,
+        };
+        Some(Operation { address, op })
+    }
+
+    fn issue(&mut self) -> u32 {
+        if let Some(open) = &mut self.spin {
+            open.left -= 1;
+        } else {
+            if let Line::Spin(address, sought, most) = self.lines[self.at] {
+                self.spin = Some(OpenSpin { address, sought, left: most - 1 });
+            }
+            self.at += 1;
+        }
+        self.issued += 1;
+        self.waiting += 1;
+        self.last = None;
+        self.issued - 1
+    }
+
+    fn answer(&mut self, index: u32, reply: Reply) {
+        self.waiting -= 1;
+        if index + 1 == self.issued {
+            self.spin = self.spin.filter(|open| reply_number(reply) != open.sought && open.left != 0);
+            self.last = Some(reply);
+        }
+        if self.waiting == 0 && self.spin.is_none() {
+            self.pass_fences();
+        }
+    }
+
+    fn pass_fences(&mut self) {
+        while matches!(self.lines.get(self.at), Some(Line::Fence)) {
+            self.at += 1;
+        }
+    }
+
+    fn is_finished(&self) -> bool {
+        self.at == self.lines.len() && self.spin.is_none() && self.waiting == 0
+    }
+}
+
+#[derive(Clone, Copy)]
+#[allow(dead_code)]
+pub struct Answer {
+    pub index: u32,
+    pub op: Op,
+    pub reply: Reply,
+    pub bank: u32,
+    pub place: u32,
+}
+
+pub struct Processor {
+    tiles: u32,
+    done: usize,
+    tile: u32,
+    follower: Follower,
+    tags: Vec<Option<u32>>,
+    issued: Vec<Operation>,
+    answers: Vec<Answer>,
+    /// With no request in course: the operation that is ready, and the tag that it would take.
+    next: Option<(u32, Operation)>,
+    flits: Flits,
+    put: usize,
+    assembler: Assembler,
+    reported: bool,
+    seen: bool,
+    input: Receiver,
+    output: Sender,
+}
+
+impl Processor {
+    fn new(torus: &Torus, done: usize, tile: u32, depth: usize, tags: usize, lines: Vec<Line>) -> Processor {
+        let room = lines.iter().map(|line| line.operations().1).sum();
+        let channels = torus.channels_of(tile);
+        let hops = torus.hops();
+        let mut processor = Processor {
+            tiles: torus.tiles(),
+            done,
+            tile,
+            follower: Follower::new(lines),
+            tags: vec![None; tags],
+            issued: Vec::with_capacity(room),
+            answers: Vec::with_capacity(room),
+            next: None,
+            flits: Flits::none(),
+            put: 0,
+            assembler: Assembler::new(),
+            reported: false,
+            seen: false,
+            input: Receiver::new(channels + hops + 3, depth),
+            output: Sender::new(channels + hops, depth),
+        };
+        processor.prepare();
+        processor
+    }
+
+    /// Makes the flits of the operation that is ready.
+    fn prepare(&mut self) {
+        let free = self.tags.iter().position(|holder| holder.is_none());
+        self.next = free.zip(self.follower.next_operation()).map(|(tag, operation)| (tag as u32, operation));
+        self.flits = match self.next {
+            None => Flits::none(),
+            Some((tag, Operation { address, op })) => flits(&Packet::Request(Request {
+                destination: address % self.tiles,
+                source: self.tile,
+                tag,
+                word: address / self.tiles,
+                op,
+            })),
+        };
+    }
+
+    #[inline]
+    pub fn attempt(&mut self, choice: Choice, row: &mut [u64]) -> Option<Moved> {
+        match choice {
+            Choice::Send => {
+                let flit = self.flits.get(self.put)?;
+                if self.output.put(flit, row) { Some(self.sent()) } else { None }
+            }
+            Choice::Take => {
+                let flit = self.input.take(row)?;
+                Some(self.taken(flit))
+            }
+            Choice::Credit => self.output.credit(row).then_some(Moved::Quietly),
+            Choice::Done => {
+                if !self.follower.is_finished() || self.reported {
+                    return None;
+                }
+                row[self.done] += 1;
+                self.reported = true;
+                Some(Moved::Quietly)
+            }
+            Choice::Look => {
+                if !self.reported || self.seen || row[self.done] != u64::from(self.tiles) {
+                    return None;
+                }
+                self.seen = true;
+                Some(Moved::Quietly)
+            }
+            _ => None,
+        }
+    }
+
+    fn sent(&mut self) -> Moved {
+        let mut moved = Moved::Quietly;
+        if let (0, Some((tag, operation))) = (self.put, self.next) {
+            self.tags[tag as usize] = Some(self.follower.issue());
+            self.issued.push(operation);
+            moved = Moved::Issued;
+        }
+        self.put += 1;
+        if self.put == self.flits.len() {
+            self.put = 0;
+            self.prepare();
+        }
+        moved
+    }
+
+    fn taken(&mut self, flit: u64) -> Moved {
+        let Offered::Whole(Packet::Response(response)) = self.assembler.offer(flit) else {
+            return Moved::Quietly;
+        };
+        let Some(index) = self.tags[response.tag as usize].take() else {
+            return Moved::Quietly;
+        };
+        let Response { source: bank, place, reply, .. } = response;
+        self.answers.push(Answer { index, op: self.issued[index as usize].op, reply, bank, place });
+        self.follower.answer(index, reply);
+        if self.put == 0 {
+            self.prepare();
+        }
+        Moved::Answered { bank, place }
+    }
+
+    pub fn answers(&self) -> &[Answer] {
+        &self.answers
+    }
+
+    /// The operation that holds a tag.
+    pub fn holder(&self, tag: u32) -> Option<u32> {
+        self.tags[tag as usize]
+    }
+
+    pub fn is_finished(&self) -> bool {
+        self.follower.is_finished()
+    }
+}
+
+pub struct Router {
+    dims: u32,
+    latches: Vec<Option<u64>>,
+    owned: Vec<Option<u32>>,
+    owner: Vec<Option<u32>>,
+    ways: Vec<Way>,
+    inputs: Vec<Receiver>,
+    outputs: Vec<Sender>,
+}
+
+/// The number of an output of a class.
+fn output_number(dims: u32, class: Class, way: Way) -> u32 {
+    match way {
+        Way::Eject => 8 * dims + class as u32,
+        Way::Hop { dim, dir, bit } => 8 * dim + 4 * dir as u32 + 2 * class as u32 + bit as u32,
+    }
+}
+
+/// The way of a packet that came by an input, by that of one injected.
+fn onward(input: u32, way: Way) -> Way {
+    match way {
+        Way::Eject => Way::Eject,
+        Way::Hop { dim, dir, bit } => Way::Hop { dim, dir, bit: bit || (input / 8 == dim && input % 2 == 1) },
+    }
+}
+
+impl Router {
+    fn new(torus: &Torus, tile: u32, depth: usize) -> Router {
+        let hops = torus.hops();
+        let ports = hops + 2;
+        let source = |input: usize| {
+            let back = if input / 4 % 2 == 0 { Dir::Minus } else { Dir::Plus };
+            if input < hops { torus.neighbour(tile, input as u32 / 8, back) } else { tile }
+        };
+        let output = |output: usize| torus.channels_of(tile) + if output < hops { output } else { output + 2 };
+        Router {
+            dims: torus.dims,
+            latches: vec![None; ports],
+            owned: vec![None; ports],
+            owner: vec![None; ports],
+            ways: (0..torus.tiles()).map(|destination| torus.way(tile, destination)).collect(),
+            inputs: (0..ports).map(|i| Receiver::new(torus.channels_of(source(i)) + i, depth)).collect(),
+            outputs: (0..ports).map(|o| Sender::new(output(o), depth)).collect(),
+        }
+    }
+
+    fn output_for(&self, input: u32, flit: u64) -> Option<u32> {
+        let Some(head) = head(flit) else {
+            return self.owned[input as usize];
+        };
+        let way = onward(input, self.ways[head.destination as usize]);
+        let output = output_number(self.dims, head.class, way);
+        if self.owner[output as usize].is_some() { None } else { Some(output) }
+    }
+
+    #[inline]
+    pub fn attempt(&mut self, choice: Choice, row: &mut [u64]) -> bool {
+        match choice {
+            Choice::TakeFrom(input) => self.take(input, row),
+            Choice::Put(input) => self.put(input, row),
+            Choice::CreditOf(output) => self.outputs.get_mut(output as usize).is_some_and(|end| end.credit(row)),
+            _ => false,
+        }
+    }
+
+    #[inline]
+    fn take(&mut self, input: u32, row: &mut [u64]) -> bool {
+        let Some(latch @ None) = self.latches.get_mut(input as usize) else {
+            return false;
+        };
+        *latch = self.inputs[input as usize].take(row);
+        latch.is_some()
+    }
+
+    #[inline]
+    fn put(&mut self, input: u32, row: &mut [u64]) -> bool {
+        let Some(&Some(flit)) = self.latches.get(input as usize) else {
+            return false;
+        };
+        let Some(output) = self.output_for(input, flit) else {
+            return false;
+        };
+        if !self.outputs[output as usize].put(flit, row) {
+            return false;
+        }
+        self.latches[input as usize] = None;
+        self.pass(input, output, is_tail(flit));
+        true
+    }
+
+    /// A tail frees the output of its input, any other flit makes the input its owner.
+    fn pass(&mut self, input: u32, output: u32, is_last: bool) {
+        if is_last {
+            self.free(input);
+        } else if self.owned[input as usize] != Some(output) {
+            self.free(input);
+            self.owner[output as usize] = Some(input);
+            self.owned[input as usize] = Some(output);
+        }
+    }
+
+    fn free(&mut self, input: u32) {
+        if let Some(output) = self.owned[input as usize].take() {
+            self.owner[output as usize] = None;
+        }
+    }
+}
+
+#[allow(dead_code)]
+struct Entry {
+    source: u32,
+    tag: u32,
+    address: u32,
+    op: Op,
+    reply: Reply,
+}
+
+pub struct Bank {
+    tile: u32,
+    tiles: u32,
+    words: usize,
+    entries: Vec<Entry>,
+    assembler: Assembler,
+    waiting: Option<Request>,
+    flits: Flits,
+    put: usize,
+    input: Receiver,
+    output: Sender,
+}
+
+impl Bank {
+    fn new(torus: &Torus, words: usize, tile: u32, depth: usize, room: usize) -> Bank {
+        let channels = torus.channels_of(tile);
+        let hops = torus.hops();
+        Bank {
+            tile,
+            tiles: torus.tiles(),
+            words,
+            entries: Vec::with_capacity(room),
+            assembler: Assembler::new(),
+            waiting: None,
+            flits: Flits::none(),
+            put: 0,
+            input: Receiver::new(channels + hops + 2, depth),
+            output: Sender::new(channels + hops + 1, depth),
+        }
+    }
+
+    #[inline]
+    pub fn attempt(&mut self, choice: Choice, row: &mut [u64]) -> Option<Moved> {
+        match choice {
+            Choice::Take => {
+                if self.waiting.is_some() || self.put < self.flits.len() {
+                    return None;
+                }
+                let flit = self.input.take(row)?;
+                if let Offered::Whole(Packet::Request(request)) = self.assembler.offer(flit) {
+                    self.waiting = Some(request);
+                }
+                Some(Moved::Quietly)
+            }
+            Choice::Serve => {
+                let request = self.waiting.take()?;
+                Some(self.serve(request, row))
+            }
+            Choice::Send => {
+                let flit = self.flits.get(self.put)?;
+                let is_put = self.output.put(flit, row);
+                self.put += usize::from(is_put);
+                is_put.then_some(Moved::Quietly)
+            }
+            Choice::Credit => self.output.credit(row).then_some(Moved::Quietly),
+            _ => None,
+        }
+    }
+
+    fn serve(&mut self, request: Request, row: &mut [u64]) -> Moved {
+        let Request { source, tag, op, .. } = request;
+        let address = request.word * self.tiles + self.tile;
+        let word = &mut row[self.words + address as usize];
+        let reply = op.reply(*word);
+        *word = op.apply(*word);
+        let place = self.entries.len() as u32;
+        self.entries.push(Entry { source, tag, address, op, reply });
+        let code = op.code();
+        let response = Response { destination: source, source: self.tile, tag, place, code, reply };
+        self.flits = flits(&Packet::Response(response));
+        self.put = 0;
+        Moved::Served { source, tag }
+    }
+}
+
+pub struct Tile {
+    pub processor: Processor,
+    pub router: Router,
+    pub bank: Bank,
+}
+
+impl Tile {
+    /// A tile with so many words in the memory, and room for so many entries in its bank.
+    pub fn new(
+        torus: &Torus,
+        words: usize,
+        tile: u32,
+        depth: usize,
+        tags: usize,
+        lines: Vec<Line>,
+        room: usize,
+    ) -> Tile {
+        let first = torus.channels() * depth;
+        Tile {
+            processor: Processor::new(torus, first + words, tile, depth, tags, lines),
+            router: Router::new(torus, tile, depth),
+            bank: Bank::new(torus, first, tile, depth, room),
+        }
+    }
+}
