@@ -4,8 +4,17 @@
 //!     agents ROUNDS
 //!
 //! prints a line `NAME NANOSECONDS` for each time.
+#[allow(dead_code)]
+mod packets;
+mod script;
+#[allow(dead_code)]
+mod torus;
+
+use packets::{flits, head, is_tail, Assembler, Class, Flits, Head, Offered, Op, Packet, Reply, Request, Response};
+use script::{Follower, Line, Operation, Value};
 use std::env;
 use std::time::Instant;
+use torus::{Choice, Dir, Torus, Way};
 
 const SHORT: u64 = 0xE008_0000_0000_0000;
 const LONG: [u64; 5] = [
@@ -15,40 +24,9 @@ const LONG: [u64; 5] = [
     0x2000_0000_0000_0000,
     0x6000_0000_0000_0007,
 ];
+const TORUS: Torus = Torus { radix: 4, dims: 3 };
 const PORTS: u32 = 26;
 const INJECTION: u32 = 24;
-
-#[derive(Clone, Copy, PartialEq, Eq)]
-enum Class {
-    Request,
-    Reply,
-}
-
-#[derive(Clone, Copy, PartialEq, Eq)]
-enum Dir {
-    Plus,
-    Minus,
-}
-
-#[derive(Clone, Copy, PartialEq, Eq)]
-enum Output {
-    Eject,
-    Hop { dim: u32, dir: Dir, bit: bool },
-}
-
-#[derive(Clone, Copy)]
-#[allow(dead_code)]
-enum Choice {
-    Take,
-    Serve,
-    Send,
-    Credit,
-    Done,
-    Look,
-    TakeFrom(u32),
-    Put(u32),
-    CreditOf(u32),
-}
 
 #[derive(Clone, Copy, PartialEq, Eq)]
 enum Stepped {
@@ -69,57 +47,6 @@ enum WordOp {
     Xor(usize, u64),
     Max(usize, u64),
     Min(usize, u64),
-}
-
-#[derive(Clone, Copy, PartialEq, Eq)]
-#[allow(dead_code)]
-enum Op {
-    Load,
-    Store(u64),
-    Swap(u64),
-    Cas(u64, u64),
-    Add(u64),
-    And(u64),
-    Or(u64),
-    Xor(u64),
-    Max(u64),
-    Min(u64),
-}
-
-#[derive(Clone, Copy, PartialEq, Eq)]
-enum Code {
-    Load,
-    Store,
-    Swap,
-    Cas,
-    Add,
-    And,
-    Or,
-    Xor,
-    Max,
-    Min,
-}
-
-impl Op {
-    fn code(self) -> Code {
-        match self {
-            Op::Load => Code::Load,
-            Op::Store(_) => Code::Store,
-            Op::Swap(_) => Code::Swap,
-            Op::Cas(_, _) => Code::Cas,
-            Op::Add(_) => Code::Add,
-            Op::And(_) => Code::And,
-            Op::Or(_) => Code::Or,
-            Op::Xor(_) => Code::Xor,
-            Op::Max(_) => Code::Max,
-            Op::Min(_) => Code::Min,
-        }
-    }
-
-    /// What is replied where a word is found.
-    fn reply(self, word: u64) -> Reply {
-        if let Op::Store(_) = self { Reply::Ok } else { Reply::Old(word) }
-    }
 }
 
 #[derive(Clone, Copy)]
@@ -281,51 +208,12 @@ impl Ports {
     }
 }
 
-struct Head {
-    destination: u32,
-    class: Class,
-}
-
-fn field(flit: u64, low: u32, width: u32) -> u64 {
-    (flit >> low) % (1 << width)
-}
-
-fn head(flit: u64) -> Option<Head> {
-    if field(flit, 63, 1) == 0 || field(flit, 61, 1) == 0 {
-        return None;
-    }
-    let class = if field(flit, 57, 1) == 0 { Class::Request } else { Class::Reply };
-    Some(Head { destination: field(flit, 51, 6) as u32, class })
-}
-
-fn is_tail(flit: u64) -> bool {
-    field(flit, 62, 1) == 1
-}
-
-/// The number of an output of a class.
-fn output_number(dims: u32, class: Class, output: Output) -> u32 {
-    match output {
-        Output::Eject => 8 * dims + class as u32,
-        Output::Hop { dim, dir, bit } => 8 * dim + 4 * dir as u32 + 2 * class as u32 + bit as u32,
-    }
-}
-
-/// The way of a packet that came by an input, by that of one injected.
-fn onward(input: u32, output: Output) -> Output {
-    match output {
-        Output::Eject => Output::Eject,
-        Output::Hop { dim, dir, bit } => {
-            Output::Hop { dim, dir, bit: bit || (input / 8 == dim && input % 2 == 1) }
-        }
-    }
-}
-
 struct Router {
     dims: u32,
     latches: Vec<Option<u64>>,
     owned: Vec<Option<u32>>,
     owner: Vec<Option<u32>>,
-    ways: Vec<Output>,
+    ways: Vec<Way>,
     ports: Ports,
 }
 
@@ -334,8 +222,8 @@ impl Router {
         let Some(head) = head(flit) else {
             return self.owned[input as usize];
         };
-        let output = onward(input, self.ways[head.destination as usize]);
-        let output = output_number(self.dims, head.class, output);
+        let way = self.ways[head.destination as usize].onward(input);
+        let output = way.output(self.dims, head.class);
         if self.owner[output as usize].is_some() { None } else { Some(output) }
     }
 
@@ -400,368 +288,6 @@ impl Router {
     }
 }
 
-#[derive(Clone, Copy, PartialEq, Eq)]
-enum Reply {
-    Ok,
-    Old(u64),
-}
-
-#[derive(Clone, Copy)]
-struct Operation {
-    address: u32,
-    op: Op,
-}
-
-#[derive(Clone, Copy)]
-struct Request {
-    destination: u32,
-    source: u32,
-    tag: u32,
-    word: u32,
-    op: Op,
-}
-
-#[derive(Clone, Copy)]
-#[allow(dead_code)]
-struct Response {
-    destination: u32,
-    source: u32,
-    tag: u32,
-    place: u32,
-    code: Code,
-    reply: Reply,
-}
-
-#[derive(Clone, Copy)]
-enum Packet {
-    Request(Request),
-    Response(Response),
-}
-
-const HEAD: u64 = 1 << 63;
-const TAIL: u64 = 1 << 62;
-const FLIT: u64 = 1 << 61;
-
-/// The flits of a packet, five at most.
-#[derive(Clone, Copy, Default)]
-struct Flits {
-    flits: [u64; 5],
-    len: usize,
-}
-
-impl Flits {
-    fn push(&mut self, flit: u64) {
-        self.flits[self.len] = flit;
-        self.len += 1;
-    }
-
-    fn as_slice(&self) -> &[u64] {
-        &self.flits[..self.len]
-    }
-}
-
-fn head_flit(class: Class, code: Code, destination: u32, source: u32, tag: u32, place: u32) -> u64 {
-    let operation = code as u64;
-    HEAD + FLIT
-        + ((operation % 8) << 58)
-        + ((class as u64) << 57)
-        + (u64::from(destination) << 51)
-        + (u64::from(source) << 45)
-        + (u64::from(tag) << 41)
-        + ((operation / 8) << 40)
-        + u64::from(place)
-}
-
-fn push_value(flits: &mut Flits, value: u64, last: bool) {
-    flits.push(FLIT + (value >> 32));
-    flits.push(if last { TAIL } else { 0 } + FLIT + (value & 0xFFFF_FFFF));
-}
-
-fn flits_of(packet: &Packet) -> Flits {
-    let (head, values) = match *packet {
-        Packet::Request(asked) => {
-            let values = match asked.op {
-                Op::Load => [None, None],
-                Op::Cas(expected, new) => [Some(expected), Some(new)],
-                Op::Store(value)
-                | Op::Swap(value)
-                | Op::Add(value)
-                | Op::And(value)
-                | Op::Or(value)
-                | Op::Xor(value)
-                | Op::Max(value)
-                | Op::Min(value) => [Some(value), None],
-            };
-            let code = asked.op.code();
-            (head_flit(Class::Request, code, asked.destination, asked.source, asked.tag, asked.word), values)
-        }
-        Packet::Response(told) => {
-            let value = if let Reply::Old(word) = told.reply { Some(word) } else { None };
-            let head = head_flit(Class::Reply, told.code, told.destination, told.source, told.tag, told.place);
-            (head, [value, None])
-        }
-    };
-    let mut flits = Flits::default();
-    match values {
-        [None, _] => flits.push(TAIL + head),
-        [Some(value), None] => {
-            flits.push(head);
-            push_value(&mut flits, value, true);
-        }
-        [Some(first), Some(second)] => {
-            flits.push(head);
-            push_value(&mut flits, first, false);
-            push_value(&mut flits, second, true);
-        }
-    }
-    flits
-}
-
-/// The flits so far of the packet that comes in.
-#[derive(Default)]
-struct Assembler {
-    flits: Flits,
-}
-
-enum Offered {
-    More,
-    Whole(Packet),
-    Refused,
-}
-
-fn operation_told(flit: u64) -> u64 {
-    field(flit, 40, 1) * 8 + field(flit, 58, 3)
-}
-
-fn flits_told(head: u64) -> usize {
-    match (field(head, 57, 1), operation_told(head)) {
-        (0, 0) => 1,
-        (0, 3) => 5,
-        (0, _) => 3,
-        (_, 1) => 1,
-        (_, _) => 3,
-    }
-}
-
-fn tail_wanted(head: u64, before: usize) -> u64 {
-    u64::from(flits_told(head) - 1 == before)
-}
-
-fn half_at(flits: &[u64], at: usize) -> u64 {
-    field(flits.get(at).copied().unwrap_or(0), 0, 32)
-}
-
-fn value_at(flits: &[u64], at: usize) -> u64 {
-    (half_at(flits, at) << 32) + half_at(flits, at + 1)
-}
-
-fn code_numbered(number: u64) -> Code {
-    match number {
-        0 => Code::Load,
-        1 => Code::Store,
-        2 => Code::Swap,
-        3 => Code::Cas,
-        4 => Code::Add,
-        5 => Code::And,
-        6 => Code::Or,
-        7 => Code::Xor,
-        8 => Code::Max,
-        _ => Code::Min,
-    }
-}
-
-fn op_with(code: Code, first: u64, second: u64) -> Op {
-    match code {
-        Code::Load => Op::Load,
-        Code::Store => Op::Store(first),
-        Code::Swap => Op::Swap(first),
-        Code::Cas => Op::Cas(first, second),
-        Code::Add => Op::Add(first),
-        Code::And => Op::And(first),
-        Code::Or => Op::Or(first),
-        Code::Xor => Op::Xor(first),
-        Code::Max => Op::Max(first),
-        Code::Min => Op::Min(first),
-    }
-}
-
-fn packet_told(flits: &[u64]) -> Packet {
-    let head = flits[0];
-    let destination = field(head, 51, 6) as u32;
-    let source = field(head, 45, 6) as u32;
-    let tag = field(head, 41, 4) as u32;
-    let place = field(head, 0, 32) as u32;
-    let code = code_numbered(operation_told(head));
-    let value = value_at(flits, 1);
-    if field(head, 57, 1) == 0 {
-        let op = op_with(code, value, value_at(flits, 3));
-        Packet::Request(Request { destination, source, tag, word: place, op })
-    } else {
-        let reply = if code == Code::Store { Reply::Ok } else { Reply::Old(value) };
-        Packet::Response(Response { destination, source, tag, place, code, reply })
-    }
-}
-
-impl Assembler {
-    fn refuses(&self, flit: u64) -> bool {
-        match *self.flits.as_slice() {
-            [] => {
-                field(flit, 61, 1) == 0
-                    || field(flit, 63, 1) == 0
-                    || operation_told(flit) > 9
-                    || field(flit, 32, 8) > 0
-                    || field(flit, 62, 1) != tail_wanted(flit, 0)
-            }
-            [head, ..] => {
-                field(flit, 61, 1) == 0
-                    || field(flit, 63, 1) == 1
-                    || field(flit, 32, 29) > 0
-                    || field(flit, 62, 1) != tail_wanted(head, self.flits.len)
-            }
-        }
-    }
-
-    fn offer(&mut self, flit: u64) -> Offered {
-        if self.refuses(flit) {
-            return Offered::Refused;
-        }
-        self.flits.push(flit);
-        if !is_tail(flit) {
-            return Offered::More;
-        }
-        let packet = packet_told(self.flits.as_slice());
-        self.flits.len = 0;
-        Offered::Whole(packet)
-    }
-}
-
-#[derive(Clone, Copy)]
-#[allow(dead_code)]
-enum Value {
-    Number(u64),
-    Last,
-}
-
-#[derive(Clone, Copy)]
-#[allow(dead_code)]
-enum Line {
-    Load(u32),
-    Store(u32, Value),
-    Swap(u32, Value),
-    Cas(u32, Value, Value),
-    Add(u32, Value),
-    And(u32, Value),
-    Or(u32, Value),
-    Xor(u32, Value),
-    Max(u32, Value),
-    Min(u32, Value),
-    Fence,
-    Spin(u32, u64, u32),
-}
-
-#[derive(Clone, Copy)]
-struct OpenSpin {
-    address: u32,
-    sought: u64,
-    left: u32,
-}
-
-struct Follower {
-    lines: Vec<Line>,
-    at: usize,
-    spin: Option<OpenSpin>,
-    issued: u32,
-    waiting: u32,
-    last: Option<Reply>,
-}
-
-fn reply_number(reply: Reply) -> u64 {
-    match reply {
-        Reply::Ok => 0,
-        Reply::Old(word) => word,
-    }
-}
-
-fn operand_of(value: Value, last: Option<Reply>) -> Option<u64> {
-    match value {
-        Value::Number(number) => Some(number),
-        Value::Last => last.map(reply_number),
-    }
-}
-
-fn operation_of(line: Line, last: Option<Reply>) -> Option<Operation> {
-    let (address, op) = match line {
-        Line::Load(address) => (address, Op::Load),
-        Line::Store(address, value) => (address, Op::Store(operand_of(value, last)?)),
-        Line::Swap(address, value) => (address, Op::Swap(operand_of(value, last)?)),
-        Line::Cas(address, expected, new) => {
-            (address, Op::Cas(operand_of(expected, last)?, operand_of(new, last)?))
-        }
-        Line::Add(address, value) => (address, Op::Add(operand_of(value, last)?)),
-        Line::And(address, value) => (address, Op::And(operand_of(value, last)?)),
-        Line::Or(address, value) => (address, Op::Or(operand_of(value, last)?)),
-        Line::Xor(address, value) => (address, Op::Xor(operand_of(value, last)?)),
-        Line::Max(address, value) => (address, Op::Max(operand_of(value, last)?)),
-        Line::Min(address, value) => (address, Op::Min(operand_of(value, last)?)),
-        Line::Fence => return None,
-        Line::Spin(address, _, _) => (address, Op::Load),
-    };
-    Some(Operation { address, op })
-}
-
-impl Follower {
-    fn new(lines: Vec<Line>) -> Follower {
-        let mut follower = Follower { lines, at: 0, spin: None, issued: 0, waiting: 0, last: None };
-        follower.pass_fences();
-        follower
-    }
-
-    fn pass_fences(&mut self) {
-        while matches!(self.lines.get(self.at), Some(Line::Fence)) {
-            self.at += 1;
-        }
-    }
-
-    fn next_operation(&self) -> Option<Operation> {
-        match self.spin {
-            Some(open) => self.last.map(|_| Operation { address: open.address, op: Op::Load }),
-            None => operation_of(*self.lines.get(self.at)?, self.last),
-        }
-    }
-
-    fn issue(&mut self) -> u32 {
-        let index = self.issued;
-        match &mut self.spin {
-            Some(open) => open.left -= 1,
-            None => {
-                if let Line::Spin(address, sought, most) = self.lines[self.at] {
-                    self.spin = Some(OpenSpin { address, sought, left: most - 1 });
-                }
-                self.at += 1;
-            }
-        }
-        self.issued += 1;
-        self.waiting += 1;
-        self.last = None;
-        index
-    }
-
-    fn answer(&mut self, index: u32, reply: Reply) {
-        self.waiting = self.waiting.saturating_sub(1);
-        if u64::from(index) + 1 == u64::from(self.issued) {
-            self.spin = self.spin.filter(|open| reply_number(reply) != open.sought && open.left != 0);
-            self.last = Some(reply);
-        }
-        if self.waiting == 0 && self.spin.is_none() {
-            self.pass_fences();
-        }
-    }
-
-    fn finished(&self) -> bool {
-        self.at == self.lines.len() && self.spin.is_none() && self.waiting == 0
-    }
-}
-
 /// By tag the operation that holds it.
 struct TagTable {
     holders: [Option<u32>; 16],
@@ -808,14 +334,7 @@ struct Record {
 
 impl Record {
     fn new(tags: usize, lines: Vec<Line>) -> Record {
-        let room = lines
-            .iter()
-            .map(|line| match line {
-                Line::Fence => 0,
-                Line::Spin(_, _, most) => *most as usize,
-                _ => 1,
-            })
-            .sum();
+        let room = lines.iter().map(|line| line.operations().1).sum();
         Record {
             follower: Follower::new(lines),
             tags: TagTable { holders: [None; 16], tags },
@@ -854,9 +373,9 @@ impl Record {
 
 fn request_flits(tiles: u32, tile: u32, next: Option<(u32, Operation)>) -> Flits {
     let Some((tag, operation)) = next else {
-        return Flits::default();
+        return Flits::none();
     };
-    flits_of(&Packet::Request(Request {
+    flits(&Packet::Request(Request {
         destination: operation.address % tiles,
         source: tile,
         tag,
@@ -892,7 +411,7 @@ impl Processor {
             next,
             flits: request_flits(64, tile, next),
             put: 0,
-            assembler: Assembler::default(),
+            assembler: Assembler::new(),
             begun: None,
             reported: false,
             seen: false,
@@ -903,10 +422,10 @@ impl Processor {
     #[inline(always)]
     fn wants(&self, choice: Choice) -> Option<Want> {
         match choice {
-            Choice::Send => Some(Want::Put(0, *self.flits.as_slice().get(self.put)?)),
+            Choice::Send => Some(Want::Put(0, self.flits.get(self.put)?)),
             Choice::Take => Some(Want::Take(0)),
             Choice::Credit => Some(Want::Credit(0)),
-            Choice::Done if self.operations.follower.finished() && !self.reported => {
+            Choice::Done if self.operations.follower.is_finished() && !self.reported => {
                 Some(Want::Access(self.words, Op::Add(1)))
             }
             Choice::Look if self.reported && !self.seen => Some(Want::Await(self.words, u64::from(self.tiles))),
@@ -958,7 +477,7 @@ impl Processor {
                 self.operations.issue(operation);
             }
         }
-        if self.put + 1 < self.flits.len {
+        if self.put + 1 < self.flits.len() {
             self.put += 1;
         } else {
             self.put = 0;
@@ -1020,9 +539,9 @@ impl Bank {
             tile,
             entries: Vec::with_capacity(room),
             room,
-            assembler: Assembler::default(),
+            assembler: Assembler::new(),
             waiting: None,
-            to_put: Flits::default(),
+            to_put: Flits::none(),
             put: 0,
             ports: end_ports(tile, depth, REQUESTED, REPLIED),
         }
@@ -1031,12 +550,12 @@ impl Bank {
     #[inline(always)]
     fn wants(&self, choice: Choice) -> Option<Want> {
         match choice {
-            Choice::Take if self.waiting.is_none() && self.put == self.to_put.len => Some(Want::Take(0)),
+            Choice::Take if self.waiting.is_none() && self.put == self.to_put.len() => Some(Want::Take(0)),
             Choice::Serve => {
                 let request = self.waiting?;
                 Some(Want::Access(request.word * self.tiles + self.tile, request.op))
             }
-            Choice::Send => Some(Want::Put(0, *self.to_put.as_slice().get(self.put)?)),
+            Choice::Send => Some(Want::Put(0, self.to_put.get(self.put)?)),
             Choice::Credit => Some(Want::Credit(0)),
             _ => None,
         }
@@ -1058,7 +577,7 @@ impl Bank {
             Choice::Take => self.take_in(learned),
             Choice::Serve => self.serve(learned),
             Choice::Send => {
-                if self.put < self.to_put.len {
+                if self.put < self.to_put.len() {
                     self.put += 1;
                 }
             }
@@ -1083,7 +602,7 @@ impl Bank {
         let place = self.entries.len() as u32;
         let address = request.word * self.tiles + self.tile;
         self.entries.push(Entry { source: request.source, tag: request.tag, address, op: request.op, reply });
-        self.to_put = flits_of(&Packet::Response(Response {
+        self.to_put = flits(&Packet::Response(Response {
             destination: request.source,
             source: self.tile,
             tag: request.tag,
@@ -1109,39 +628,17 @@ fn end_ports(tile: u32, depth: usize, input: usize, output: usize) -> Ports {
     }
 }
 
-/// The output for a packet that is injected at a tile of a torus of four by four by four.
-fn way(tile: u32, destination: u32) -> Output {
-    for dim in 0..3 {
-        let digit = |tile: u32| tile / 4u32.pow(dim) % 4;
-        let forth = (digit(destination) + 4 - digit(tile)) % 4;
-        if forth == 1 || forth == 2 {
-            return Output::Hop { dim, dir: Dir::Plus, bit: digit(tile) == 3 };
-        }
-        if forth == 3 {
-            return Output::Hop { dim, dir: Dir::Minus, bit: digit(tile) == 0 };
-        }
-    }
-    Output::Eject
-}
-
-/// The tile one hop away against a direction: where the hops of an input come from.
-fn hop_source(tile: u32, input: u32) -> u32 {
-    let unit = 4u32.pow(input / 8);
-    let digit = tile / unit % 4;
-    let from = if input / 4 % 2 == 0 { (digit + 3) % 4 } else { (digit + 1) % 4 };
-    tile - digit * unit + from * unit
-}
-
 fn router_at(tile: u32, depth: usize) -> Router {
     let base = |channel: u32| channel as usize * depth;
-    let input = |i: u32| if i < 24 { hop_source(tile, i) * 28 + i } else { tile * 28 + i };
+    let back = |i: u32| if i / 4 % 2 == 0 { Dir::Minus } else { Dir::Plus };
+    let input = |i: u32| if i < 24 { TORUS.neighbour(tile, i / 8, back(i)) * 28 + i } else { tile * 28 + i };
     let output = |o: u32| if o < 24 { tile * 28 + o } else { tile * 28 + o + 2 };
     Router {
         dims: 3,
         latches: vec![None; PORTS as usize],
         owned: vec![None; PORTS as usize],
         owner: vec![None; PORTS as usize],
-        ways: (0..64).map(|destination| way(tile, destination)).collect(),
+        ways: (0..64).map(|destination| TORUS.way(tile, destination)).collect(),
         ports: Ports {
             inputs: (0..PORTS).map(|i| Receiver { base: base(input(i)), depth, next: 0 }).collect(),
             outputs: (0..PORTS).map(|o| Sender { base: base(output(o)), depth, next: 0, credits: depth }).collect(),

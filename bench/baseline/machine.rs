@@ -5,14 +5,16 @@
 //!
 //! prints lines `NAME NUMBER`: what a piece of work took in nanoseconds, and what came of it.
 mod packets;
+mod script;
 mod tile;
 mod torus;
 
 use packets::Reply;
+use script::{Line, Value};
 use std::env;
 use std::time::Instant;
-use tile::{Answer, Choice, Line, Moved, Tile, Value};
-use torus::Torus;
+use tile::{Answer, Moved, Tile};
+use torus::{Choice, Torus};
 
 const PORTS: u32 = 18;
 const KEPT: usize = 1048576;

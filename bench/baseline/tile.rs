@@ -1,20 +1,8 @@
 //! The processor, the router and the bank of a tile in plain Rust, of the same design as the crates
-//! `flit_buffer`, `router`, `tag_table`, `net_interface`, `processor`, `home_bank` and `tile_agents`.
-use crate::packets::{flits, head, is_tail, Assembler, Class, Flits, Offered, Op, Packet, Reply, Request, Response};
-use crate::torus::{Dir, Torus, Way};
-
-#[derive(Clone, Copy, PartialEq, Eq)]
-pub enum Choice {
-    Send,
-    Take,
-    TakeFrom(u32),
-    Put(u32),
-    Credit,
-    CreditOf(u32),
-    Serve,
-    Done,
-    Look,
-}
+//! `flit_buffer`, `router`, `tag_table`, `processor`, `home_bank` and `tile_agents`.
+use crate::packets::{flits, head, is_tail, Assembler, Flits, Offered, Op, Packet, Reply, Request, Response};
+use crate::script::{Follower, Line, Operation};
+use crate::torus::{Choice, Dir, Torus, Way};
 
 /// What a move was: an event that the book notes, or none.
 #[derive(Clone, Copy)]
@@ -85,152 +73,6 @@ impl Sender {
         let is_back = row[self.base + place_after(self.next, self.credits, self.depth)] == 0;
         self.credits += usize::from(is_back);
         is_back
-    }
-}
-
-/// A value in a script: a number, or the number that the operation just before was answered.
-#[derive(Clone, Copy)]
-#[allow(dead_code)]
-pub enum Value {
-    Number(u64),
-    Last,
-}
-
-#[derive(Clone, Copy)]
-#[allow(dead_code)]
-pub enum Line {
-    Load(u32),
-    Store(u32, Value),
-    Swap(u32, Value),
-    Cas(u32, Value, Value),
-    Add(u32, Value),
-    And(u32, Value),
-    Or(u32, Value),
-    Xor(u32, Value),
-    Max(u32, Value),
-    Min(u32, Value),
-    Fence,
-    Spin(u32, u64, u32),
-}
-
-impl Line {
-    /// The address and the most operations there.
-    pub fn operations(self) -> (u32, usize) {
-        match self {
-            Line::Fence => (0, 0),
-            Line::Spin(address, _, most) => (address, most as usize),
-            Line::Load(address)
-            | Line::Store(address, _)
-            | Line::Swap(address, _)
-            | Line::Cas(address, _, _)
-            | Line::Add(address, _)
-            | Line::And(address, _)
-            | Line::Or(address, _)
-            | Line::Xor(address, _)
-            | Line::Max(address, _)
-            | Line::Min(address, _) => (address, 1),
-        }
-    }
-}
-
-#[derive(Clone, Copy)]
-struct OpenSpin {
-    address: u32,
-    sought: u64,
-    left: u32,
-}
-
-#[derive(Clone, Copy)]
-struct Operation {
-    address: u32,
-    op: Op,
-}
-
-fn reply_number(reply: Reply) -> u64 {
-    match reply {
-        Reply::Ok => 0,
-        Reply::Old(word) => word,
-    }
-}
-
-/// Follows one processor's script.
-struct Follower {
-    lines: Vec<Line>,
-    at: usize,
-    spin: Option<OpenSpin>,
-    issued: u32,
-    waiting: u32,
-    last: Option<Reply>,
-}
-
-impl Follower {
-    fn new(lines: Vec<Line>) -> Follower {
-        let mut follower = Follower { lines, at: 0, spin: None, issued: 0, waiting: 0, last: None };
-        follower.pass_fences();
-        follower
-    }
-
-    fn value(&self, value: Value) -> Option<u64> {
-        match value {
-            Value::Number(number) => Some(number),
-            Value::Last => self.last.map(reply_number),
-        }
-    }
-
-    fn next_operation(&self) -> Option<Operation> {
-        if let Some(open) = self.spin {
-            return self.last.map(|_| Operation { address: open.address, op: Op::Load });
-        }
-        let (address, op) = match *self.lines.get(self.at)? {
-            Line::Load(address) | Line::Spin(address, _, _) => (address, Op::Load),
-            Line::Store(address, value) => (address, Op::Store(self.value(value)?)),
-            Line::Swap(address, value) => (address, Op::Swap(self.value(value)?)),
-            Line::Cas(address, expected, new) => (address, Op::Cas(self.value(expected)?, self.value(new)?)),
-            Line::Add(address, value) => (address, Op::Add(self.value(value)?)),
-            Line::And(address, value) => (address, Op::And(self.value(value)?)),
-            Line::Or(address, value) => (address, Op::Or(self.value(value)?)),
-            Line::Xor(address, value) => (address, Op::Xor(self.value(value)?)),
-            Line::Max(address, value) => (address, Op::Max(self.value(value)?)),
-            Line::Min(address, value) => (address, Op::Min(self.value(value)?)),
-            Line::Fence => return None,
-        };
-        Some(Operation { address, op })
-    }
-
-    fn issue(&mut self) -> u32 {
-        if let Some(open) = &mut self.spin {
-            open.left -= 1;
-        } else {
-            if let Line::Spin(address, sought, most) = self.lines[self.at] {
-                self.spin = Some(OpenSpin { address, sought, left: most - 1 });
-            }
-            self.at += 1;
-        }
-        self.issued += 1;
-        self.waiting += 1;
-        self.last = None;
-        self.issued - 1
-    }
-
-    fn answer(&mut self, index: u32, reply: Reply) {
-        self.waiting -= 1;
-        if index + 1 == self.issued {
-            self.spin = self.spin.filter(|open| reply_number(reply) != open.sought && open.left != 0);
-            self.last = Some(reply);
-        }
-        if self.waiting == 0 && self.spin.is_none() {
-            self.pass_fences();
-        }
-    }
-
-    fn pass_fences(&mut self) {
-        while matches!(self.lines.get(self.at), Some(Line::Fence)) {
-            self.at += 1;
-        }
-    }
-
-    fn is_finished(&self) -> bool {
-        self.at == self.lines.len() && self.spin.is_none() && self.waiting == 0
     }
 }
 
@@ -391,22 +233,6 @@ pub struct Router {
     outputs: Vec<Sender>,
 }
 
-/// The number of an output of a class.
-fn output_number(dims: u32, class: Class, way: Way) -> u32 {
-    match way {
-        Way::Eject => 8 * dims + class as u32,
-        Way::Hop { dim, dir, bit } => 8 * dim + 4 * dir as u32 + 2 * class as u32 + bit as u32,
-    }
-}
-
-/// The way of a packet that came by an input, by that of one injected.
-fn onward(input: u32, way: Way) -> Way {
-    match way {
-        Way::Eject => Way::Eject,
-        Way::Hop { dim, dir, bit } => Way::Hop { dim, dir, bit: bit || (input / 8 == dim && input % 2 == 1) },
-    }
-}
-
 impl Router {
     fn new(torus: &Torus, tile: u32, depth: usize) -> Router {
         let hops = torus.hops();
@@ -431,8 +257,8 @@ impl Router {
         let Some(head) = head(flit) else {
             return self.owned[input as usize];
         };
-        let way = onward(input, self.ways[head.destination as usize]);
-        let output = output_number(self.dims, head.class, way);
+        let way = self.ways[head.destination as usize].onward(input);
+        let output = way.output(self.dims, head.class);
         if self.owner[output as usize].is_some() { None } else { Some(output) }
     }
 

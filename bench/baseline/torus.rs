@@ -1,5 +1,6 @@
 //! A torus of one radix in plain Rust, of the same design as the crates `torus`, `dateline_route` and
-//! `channel_number`.
+//! `channel_number`; and the choices of agents.
+use crate::packets::Class;
 
 #[derive(Clone, Copy, PartialEq, Eq)]
 pub enum Dir {
@@ -12,6 +13,39 @@ pub enum Dir {
 pub enum Way {
     Eject,
     Hop { dim: u32, dir: Dir, bit: bool },
+}
+
+/// What an agent can be asked for.
+#[derive(Clone, Copy, PartialEq, Eq)]
+#[allow(dead_code)]
+pub enum Choice {
+    Send,
+    Take,
+    TakeFrom(u32),
+    Put(u32),
+    Credit,
+    CreditOf(u32),
+    Serve,
+    Done,
+    Look,
+}
+
+impl Way {
+    /// The number of the output of this way for a class.
+    pub fn output(self, dims: u32, class: Class) -> u32 {
+        match self {
+            Way::Eject => 8 * dims + class as u32,
+            Way::Hop { dim, dir, bit } => 8 * dim + 4 * dir as u32 + 2 * class as u32 + bit as u32,
+        }
+    }
+
+    /// The way of a packet that came by an input, by this one of a packet that is injected.
+    pub fn onward(self, input: u32) -> Way {
+        match self {
+            Way::Eject => Way::Eject,
+            Way::Hop { dim, dir, bit } => Way::Hop { dim, dir, bit: bit || (input / 8 == dim && input % 2 == 1) },
+        }
+    }
 }
 
 pub struct Torus {
