@@ -58,6 +58,20 @@ impl<A: Allocator> Ports<A> {
         }
     }
 
+    /// Whether a try of a want over a row would be granted: it has an operation, and the word that this
+    /// finds grants it. Nothing changes.
+    #[inline(always)]
+    pub fn would_grant<B: Allocator>(&self, want: Want, row: &Vec<u64, B>) -> bool
+        requires port { HasPort self.now want }
+        requires room { IfSome (want_op self.now want) (λ o. word_of o < vec_len row.now) }
+        ensures { result ≡ is_some (tried self.now row.now.items want) }
+    {
+        match self.op(want) {
+            Some(op) => want.outcome(row[op.word()]).is_some(),
+            None => false,
+        }
+    }
+
     /// Takes the word that the operation of a want found, and answers what the agent learns; None
     /// exactly where the word doesn't grant the want, and then nothing changes. A store learns
     /// nothing, which is 0, and so does a put or a credit.

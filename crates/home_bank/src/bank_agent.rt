@@ -1,6 +1,6 @@
 //! The bank of a tile, as an agent.
 
-ghost use Rattle.std.specs.Prelude.{◌≡◌, ◌<◌, ◌≤◌, ◌↔◌, ◌*◌, length, IsTrue, IfOk, IfSome, IsSome, MatchOption, vec_len, slice_index, Some};
+ghost use Rattle.std.specs.Prelude.{◌≡◌, ◌<◌, ◌≤◌, ◌↔◌, ◌*◌, length, IsTrue, IfOk, IfSome, IsSome, MatchOption, vec_len, slice_index, Some, is_some};
 ghost use Rattle.torus.specs.Shape.{tiles_of};
 ghost use Rattle.torus.specs.declared.step.Choice.TheVariants as choice;
 ghost use Rattle.torus.specs.declared.step.Stepped.TheVariants as stepped;
@@ -201,7 +201,8 @@ impl<A: Allocator> BankAgent<A> {
     #[inline(always)]
     pub fn attempt<B: Allocator>(&mut self, choice: Choice, row: &mut Vec<u64, B>) -> Stepped
         requires room { IfSome (next_op (bank_wants self.old.tiles self.old.tile) self.old.agent choice) (λ o. word_of o < vec_len row.old) }
-        requires flit { IfSome (next_op (bank_wants self.old.tiles self.old.tile) self.old.agent choice) (λ o. IsAcceptable choice (slice_index row.old.items (word_of o))) }
+        requires flit { IfSome (next_op (bank_wants self.old.tiles self.old.tile) self.old.agent choice)
+            (λ o. IsAcceptable choice (slice_index row.old.items (word_of o))) }
         requires entries { HasRoom self.old choice }
         ensures row { row.new.items ≡ performed_by row.old.items (next_op (bank_wants self.old.tiles self.old.tile) self.old.agent choice) }
         ensures step { MatchOption (attempted (bank_wants self.old.tiles self.old.tile) (bank_after self.old.tiles self.old.tile) self.old.agent choice row.old.items) ((result ≡ stepped.Idle) × (self.new ≡ self.old)) (λ a. (result ≡ stepped.Moved) × (self.new ≡ with_agent self.old a)) }
@@ -216,11 +217,24 @@ impl<A: Allocator> BankAgent<A> {
         Stepped::Moved
     }
 
+    /// Whether an attempt of a choice over a row would move. Nothing changes.
+    #[inline(always)]
+    pub fn would_move<B: Allocator>(&self, choice: Choice, row: &Vec<u64, B>) -> bool
+        requires room { IfSome (next_op (bank_wants self.now.tiles self.now.tile) self.now.agent choice) (λ o. word_of o < vec_len row.now) }
+        ensures { result ≡ is_some (attempted (bank_wants self.now.tiles self.now.tile) (bank_after self.now.tiles self.now.tile) self.now.agent choice row.now.items) }
+    {
+        match self.wants(choice) {
+            Some(want) => self.ports.would_grant(want, row),
+            None => false,
+        }
+    }
+
     /// What follows in the bank once a want of a choice is granted.
     fn note(&mut self, choice: Choice, learned: u64)
         requires flit { IsAcceptable choice learned }
         requires entries { HasRoom self.old choice }
-        ensures { (want : Want) → self.new ≡ with_agent self.old (record { state = bank_after self.old.tiles self.old.tile self.old.agent.state choice want learned; ports = self.old.agent.ports }) }
+        ensures { (want : Want)
+            → self.new ≡ with_agent self.old (record { state = bank_after self.old.tiles self.old.tile self.old.agent.state choice want learned; ports = self.old.agent.ports }) }
     {
         match choice {
             Choice::Take => self.take_in(learned),

@@ -30,7 +30,8 @@ pub fn words_are_at_home()
 /// the state in which it begins, and in each that follows by granted wants, where each request that
 /// it takes is for a word that is there.
 pub fn wanted_ports_are_there()
-    ensures possible { (tiles tile words : ℕ) (b : State) (choice : Choice) (want : Want) (around : Surroundings) (wiring : Wiring) → IsBankState tiles tile words b
+    ensures possible { (tiles tile words : ℕ) (b : State) (choice : Choice) (want : Want) (around : Surroundings) (wiring : Wiring)
+        → IsBankState tiles tile words b
         → length wiring.inputs ≡ 1 → length wiring.outputs ≡ 1 → words ≤ length around.words
         → bank_wants tiles tile b choice ≡ Some want → IsPossible around wiring want }
     ensures start { (tiles tile words : ℕ) → IsBankState tiles tile words empty_bank }
@@ -61,6 +62,7 @@ pub fn entries_replay_in_memory()
         → IfSome b.waiting (λ r. address_of tile tiles r.word < length opening) → ReplayInMemory tiles tile opening around.words b.entries
         → agent_step (bank_wants tiles tile) (state_after tiles tile) depth wiring b around choice ≡ Some (next, left)
         → ReplayInMemory tiles tile opening left.words next.entries }
-    ensures others { (tiles tile : ℕ) (opening words left : List ℕ) (entries : List Entry) → ReplayInMemory tiles tile opening words entries → length words ≤ length left
+    ensures others { (tiles tile : ℕ) (opening words left : List ℕ) (entries : List Entry)
+        → ReplayInMemory tiles tile opening words entries → length words ≤ length left
         → ((a : ℕ) → a < length opening → a % tiles ≡ tile → slice_index left a ≡ slice_index words a) → ReplayInMemory tiles tile opening left entries }
 {}

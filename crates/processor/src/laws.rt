@@ -15,7 +15,8 @@ ghost use Rattle.processor.specs.Reach.{IsProcessorState};
 /// A processor wants no port that isn't there, no word but the one behind those of the memory, and to
 /// put no 0: in the state in which it begins, and in each that follows by granted wants.
 pub fn wanted_ports_are_there()
-    ensures possible { (tiles words tile : ℕ) (p : ProcessorState) (choice : Choice) (want : Want) (around : Surroundings) (wiring : Wiring) → IsProcessorState p
+    ensures possible { (tiles words tile : ℕ) (p : ProcessorState) (choice : Choice) (want : Want) (around : Surroundings) (wiring : Wiring)
+        → IsProcessorState p
         → length wiring.inputs ≡ 1 → length wiring.outputs ≡ 1 → words < length around.words
         → processor_wants tiles words tile p choice ≡ Some want → IsPossible around wiring want }
     ensures start { (tags : ℕ) (lines : List Line) → IsProcessorState (first_processor tags lines) }

@@ -96,7 +96,8 @@ fn tag_told(head: u64) -> Tag
 /// With no flit put yet, the operation that is ready is issued: this is it, with the tag.
 fn begin<A: Allocator>(operations: &mut Record<A>, put: usize, next: Option<(Tag, Operation)>)
     requires { put ≡ 0 → next ≡ with_tag (ready operations.old) }
-    ensures { (tiles words tile : ℕ) → operations.new ≡ (if put == 0 then issued_of tiles words tile (ready operations.old) operations.old else operations.old) }
+    ensures { (tiles words tile : ℕ)
+        → operations.new ≡ (if put == 0 then issued_of tiles words tile (ready operations.old) operations.old else operations.old) }
 {
     if put == 0 {
         if let Some((tag, operation)) = next {
@@ -263,6 +264,18 @@ impl<A: Allocator> Processor<A> {
         };
         self.note(choice, want, learned);
         Stepped::Moved
+    }
+
+    /// Whether an attempt of a choice over a row would move. Nothing changes.
+    #[inline(always)]
+    pub fn would_move<B: Allocator>(&self, choice: Choice, row: &Vec<u64, B>) -> bool
+        requires room { IfSome (next_op (processor_wants self.now.tiles self.now.words self.now.tile) self.now.agent choice) (λ o. word_of o < vec_len row.now) }
+        ensures { result ≡ is_some (attempted (processor_wants self.now.tiles self.now.words self.now.tile) (processor_after self.now.tiles self.now.words self.now.tile) self.now.agent choice row.now.items) }
+    {
+        match self.wants(choice) {
+            Some(want) => self.ports.would_grant(want, row),
+            None => false,
+        }
     }
 
     /// What follows in the processor once a want of a choice is granted.

@@ -72,7 +72,10 @@ module _ (s : Shape) (tile : ℕ) where
 -- the router after a granted want: a head makes its input the owner of the output, a tail frees it (Dally and Towles, chapter 16)
 abbrev pub router_after : RouterState → Choice → Want → ℕ → RouterState
 router_after r (choice.TakeFrom i) want learned = record { latches = slice_set r.latches i (Some learned); owned = r.owned }
-router_after r (choice.Put i) (Put o flit) learned = record { latches = slice_set r.latches i None; owned = slice_set r.owned i (if is_tail flit then None else Some o) }
+router_after r (choice.Put i) (Put o flit) learned = record {
+  latches = slice_set r.latches i None;
+  owned = slice_set r.owned i (if is_tail flit then None else Some o);
+}
 router_after r _ want learned = r
 
 -- a head flit names a tile that is there (this project's own format)

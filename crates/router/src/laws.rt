@@ -15,7 +15,8 @@ ghost use Rattle.router.specs.Reach.{IsRouterState};
 /// A router wants no port that isn't there, no word, and to put no 0: in the state in which it begins,
 /// and in each that follows by granted wants, where no flit that it takes is 0.
 pub fn wanted_ports_are_there()
-    ensures possible { (s : Shape) (tile : ℕ) (r : RouterState) (choice : Choice) (want : Want) (around : Surroundings) (wiring : Wiring) → IsRouterState (port_count (dims_of s)) r
+    ensures possible { (s : Shape) (tile : ℕ) (r : RouterState) (choice : Choice) (want : Want) (around : Surroundings) (wiring : Wiring)
+        → IsRouterState (port_count (dims_of s)) r
         → length wiring.inputs ≡ port_count (dims_of s) → length wiring.outputs ≡ port_count (dims_of s)
         → router_wants s tile r choice ≡ Some want → IsPossible around wiring want }
     ensures start { (ports : ℕ) → IsRouterState ports (empty_router ports) }

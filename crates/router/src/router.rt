@@ -1,4 +1,4 @@
-ghost use Rattle.std.specs.Prelude.{◌≡◌, ℕ, ◌<◌, ◌≤◌, length, IsTrue, ◌↔◌, vec_len, slice_index, slice_index_or, Some, IfOk, IfSome, IsSome, MatchOption};
+ghost use Rattle.std.specs.Prelude.{◌≡◌, ℕ, ◌<◌, ◌≤◌, length, IsTrue, ◌↔◌, vec_len, slice_index, slice_index_or, Some, IfOk, IfSome, IsSome, MatchOption, is_some};
 ghost use Rattle.torus.specs.Shape.{tiles_of, dims_of};
 ghost use Rattle.torus.specs.declared.step.Stepped.TheVariants as stepped;
 ghost use Rattle.flit_buffer.specs.Agent.{next_op, absorbed, attempted};
@@ -231,7 +231,8 @@ impl<A: Allocator> Router<A> {
     #[inline(always)]
     pub fn attempt<B: Allocator>(&mut self, choice: Choice, row: &mut Vec<u64, B>) -> Stepped
         requires room { IfSome (next_op (router_wants self.old.torus self.old.tile) self.old.agent choice) (λ o. word_of o < vec_len row.old) }
-        requires flit { IfSome (next_op (router_wants self.old.torus self.old.tile) self.old.agent choice) (λ o. IsRoutable self.old.torus choice (slice_index row.old.items (word_of o))) }
+        requires flit { IfSome (next_op (router_wants self.old.torus self.old.tile) self.old.agent choice)
+            (λ o. IsRoutable self.old.torus choice (slice_index row.old.items (word_of o))) }
         ensures row { row.new.items ≡ performed_by row.old.items (next_op (router_wants self.old.torus self.old.tile) self.old.agent choice) }
         ensures step { MatchOption (attempted (router_wants self.old.torus self.old.tile) router_after self.old.agent choice row.old.items) ((result ≡ stepped.Idle) × (self.new ≡ self.old)) (λ a. (result ≡ stepped.Moved) × (self.new ≡ with_agent self.old a)) }
     {
@@ -243,6 +244,18 @@ impl<A: Allocator> Router<A> {
         };
         self.note(choice, want, learned);
         Stepped::Moved
+    }
+
+    /// Whether an attempt of a choice over a row would move. Nothing changes.
+    #[inline(always)]
+    pub fn would_move<B: Allocator>(&self, choice: Choice, row: &Vec<u64, B>) -> bool
+        requires room { IfSome (next_op (router_wants self.now.torus self.now.tile) self.now.agent choice) (λ o. word_of o < vec_len row.now) }
+        ensures { result ≡ is_some (attempted (router_wants self.now.torus self.now.tile) router_after self.now.agent choice row.now.items) }
+    {
+        match self.wants(choice) {
+            Some(want) => self.ports.would_grant(want, row),
+            None => false,
+        }
     }
 
     /// What follows in the router once a want of a choice is granted.

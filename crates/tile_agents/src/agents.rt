@@ -1,4 +1,4 @@
-ghost use Rattle.std.specs.Prelude.{◌≡◌, ◌<◌, ◌≤◌, ◌↔◌, ◌%◌, length, IsTrue, IfOk, IfSome, IsSome, MatchOption, vec_len, slice_index};
+ghost use Rattle.std.specs.Prelude.{◌≡◌, ◌<◌, ◌≤◌, ◌↔◌, ◌%◌, length, IsTrue, IfOk, IfSome, IsSome, MatchOption, vec_len, slice_index, is_some};
 ghost use Rattle.torus.specs.Shape.{tiles_of};
 ghost use Rattle.torus.specs.declared.step.Stepped.TheVariants as stepped;
 ghost use Rattle.script.specs.Scripts.{operation_count};
@@ -108,7 +108,8 @@ impl<A: Allocator> TileAgents<A> {
         requires tried { IsSome (tile_next_op self.old.place step) }
         requires flit { IsAcceptableTo self.old.place (agent_numbered (step.agent % 3)) step.choice got }
         requires entries { HasRoomFor self.old (agent_numbered (step.agent % 3)) step.choice }
-        ensures { MatchOption (tile_absorbed self.old.place step got) ((result ≡ stepped.Idle) × (self.new ≡ self.old)) (λ p. (result ≡ stepped.Moved) × (self.new ≡ with_place self.old p)) }
+        ensures { MatchOption (tile_absorbed self.old.place step got)
+            ((result ≡ stepped.Idle) × (self.new ≡ self.old)) (λ p. (result ≡ stepped.Moved) × (self.new ≡ with_place self.old p)) }
     {
         if step.agent / 3 != self.tile {
             return Stepped::Idle;
@@ -129,9 +130,11 @@ impl<A: Allocator> TileAgents<A> {
         row: &mut Vec<u64, B>,
     ) -> Stepped
         requires room { IfSome (agent_op self.old.place ProcessorAgent choice) (λ o. word_of o < vec_len row.old) }
-        requires flit { IfSome (agent_op self.old.place ProcessorAgent choice) (λ o. IsAcceptableTo self.old.place ProcessorAgent choice (slice_index row.old.items (word_of o))) }
+        requires flit { IfSome (agent_op self.old.place ProcessorAgent choice)
+            (λ o. IsAcceptableTo self.old.place ProcessorAgent choice (slice_index row.old.items (word_of o))) }
         ensures row { row.new.items ≡ performed_by row.old.items (agent_op self.old.place ProcessorAgent choice) }
-        ensures step { MatchOption (agent_attempted self.old.place ProcessorAgent choice row.old.items) ((result ≡ stepped.Idle) × (self.new ≡ self.old)) (λ p. (result ≡ stepped.Moved) × (self.new ≡ with_place self.old p)) }
+        ensures step { MatchOption (agent_attempted self.old.place ProcessorAgent choice row.old.items)
+            ((result ≡ stepped.Idle) × (self.new ≡ self.old)) (λ p. (result ≡ stepped.Moved) × (self.new ≡ with_place self.old p)) }
     {
         self.processor.attempt(choice, row)
     }
@@ -140,9 +143,11 @@ impl<A: Allocator> TileAgents<A> {
     #[inline(always)]
     pub fn attempt_router<B: Allocator>(&mut self, choice: Choice, row: &mut Vec<u64, B>) -> Stepped
         requires room { IfSome (agent_op self.old.place RouterAgent choice) (λ o. word_of o < vec_len row.old) }
-        requires flit { IfSome (agent_op self.old.place RouterAgent choice) (λ o. IsAcceptableTo self.old.place RouterAgent choice (slice_index row.old.items (word_of o))) }
+        requires flit { IfSome (agent_op self.old.place RouterAgent choice)
+            (λ o. IsAcceptableTo self.old.place RouterAgent choice (slice_index row.old.items (word_of o))) }
         ensures row { row.new.items ≡ performed_by row.old.items (agent_op self.old.place RouterAgent choice) }
-        ensures step { MatchOption (agent_attempted self.old.place RouterAgent choice row.old.items) ((result ≡ stepped.Idle) × (self.new ≡ self.old)) (λ p. (result ≡ stepped.Moved) × (self.new ≡ with_place self.old p)) }
+        ensures step { MatchOption (agent_attempted self.old.place RouterAgent choice row.old.items)
+            ((result ≡ stepped.Idle) × (self.new ≡ self.old)) (λ p. (result ≡ stepped.Moved) × (self.new ≡ with_place self.old p)) }
     {
         self.router.attempt(choice, row)
     }
@@ -151,10 +156,12 @@ impl<A: Allocator> TileAgents<A> {
     #[inline(always)]
     pub fn attempt_bank<B: Allocator>(&mut self, choice: Choice, row: &mut Vec<u64, B>) -> Stepped
         requires room { IfSome (agent_op self.old.place BankOfTile choice) (λ o. word_of o < vec_len row.old) }
-        requires flit { IfSome (agent_op self.old.place BankOfTile choice) (λ o. IsAcceptableTo self.old.place BankOfTile choice (slice_index row.old.items (word_of o))) }
+        requires flit { IfSome (agent_op self.old.place BankOfTile choice)
+            (λ o. IsAcceptableTo self.old.place BankOfTile choice (slice_index row.old.items (word_of o))) }
         requires entries { HasRoomFor self.old BankOfTile choice }
         ensures row { row.new.items ≡ performed_by row.old.items (agent_op self.old.place BankOfTile choice) }
-        ensures step { MatchOption (agent_attempted self.old.place BankOfTile choice row.old.items) ((result ≡ stepped.Idle) × (self.new ≡ self.old)) (λ p. (result ≡ stepped.Moved) × (self.new ≡ with_place self.old p)) }
+        ensures step { MatchOption (agent_attempted self.old.place BankOfTile choice row.old.items)
+            ((result ≡ stepped.Idle) × (self.new ≡ self.old)) (λ p. (result ≡ stepped.Moved) × (self.new ≡ with_place self.old p)) }
     {
         self.bank.attempt(choice, row)
     }
@@ -163,10 +170,12 @@ impl<A: Allocator> TileAgents<A> {
     /// found. A step of another tile is idle.
     pub fn attempt<B: Allocator>(&mut self, step: Step, row: &mut Vec<u64, B>) -> Stepped
         requires room { IfSome (tile_next_op self.old.place step) (λ o. word_of o < vec_len row.old) }
-        requires flit { IfSome (tile_next_op self.old.place step) (λ o. IsAcceptableTo self.old.place (agent_numbered (step.agent % 3)) step.choice (slice_index row.old.items (word_of o))) }
+        requires flit { IfSome (tile_next_op self.old.place step)
+            (λ o. IsAcceptableTo self.old.place (agent_numbered (step.agent % 3)) step.choice (slice_index row.old.items (word_of o))) }
         requires entries { HasRoomFor self.old (agent_numbered (step.agent % 3)) step.choice }
         ensures row { row.new.items ≡ performed_by row.old.items (tile_next_op self.old.place step) }
-        ensures step { MatchOption (tile_attempted self.old.place step row.old.items) ((result ≡ stepped.Idle) × (self.new ≡ self.old)) (λ p. (result ≡ stepped.Moved) × (self.new ≡ with_place self.old p)) }
+        ensures step { MatchOption (tile_attempted self.old.place step row.old.items)
+            ((result ≡ stepped.Idle) × (self.new ≡ self.old)) (λ p. (result ≡ stepped.Moved) × (self.new ≡ with_place self.old p)) }
     {
         if step.agent / 3 != self.tile {
             return Stepped::Idle;
@@ -178,6 +187,25 @@ impl<A: Allocator> TileAgents<A> {
             self.attempt_router(step.choice, row)
         } else {
             self.attempt_bank(step.choice, row)
+        }
+    }
+
+    /// Whether an attempt of a step over a row would move; a step of another tile would not. Nothing
+    /// changes.
+    pub fn would_move<B: Allocator>(&self, step: Step, row: &Vec<u64, B>) -> bool
+        requires room { IfSome (tile_next_op self.now.place step) (λ o. word_of o < vec_len row.now) }
+        ensures { result ≡ is_some (tile_attempted self.now.place step row.now.items) }
+    {
+        if step.agent / 3 != self.tile {
+            return false;
+        }
+        let agent: u32 = step.agent % 3;
+        if agent == 0 {
+            self.processor.would_move(step.choice, row)
+        } else if agent == 1 {
+            self.router.would_move(step.choice, row)
+        } else {
+            self.bank.would_move(step.choice, row)
         }
     }
 
@@ -221,6 +249,13 @@ impl<A: Allocator> TileAgents<A> {
         ensures { result ≡ is_finished self.now.place.processor.state.operations.following }
     {
         self.processor.is_finished()
+    }
+
+    /// Whether the processor has seen that all processors have reported.
+    pub fn has_seen(&self) -> bool
+        ensures { result ≡ self.now.place.processor.state.seen }
+    {
+        self.processor.has_seen()
     }
 
     /// The entries of the bank, in the order of the services.
