@@ -1,5 +1,5 @@
 -- The fields that `load` makes are those of a machine that has made no step.
-use Rattle.std.proofs.Common.{◌≡◌, ℕ, ◌*◌, ◌<◌, ◌≤◌, List, [], ◌∷◌, ◌++◌, length, map, replicate, Option, Some, None, refl, sym, ◌∙◌, ap, subst, arith, slice_get, take, get_or, get_or-take}
+use Rattle.std.proofs.Common.{◌≡◌, ℕ, ◌-◌, ◌*◌, ◌<◌, ◌≤◌, List, [], ◌∷◌, ◌++◌, length, map, replicate, Option, Some, None, refl, sym, ◌∙◌, ap, subst, arith, slice_get, take, get_or, get_or-take}
 use Rattle.std.specs.Prelude.{option_map}
 use Rattle.std.proofs.lemmas.Option.{slice_get-map, slice_get_within, slice_get-get_or, get_or_from_slice_get}
 use Rattle.std.proofs.lemmas.List.{length-take}
@@ -21,6 +21,7 @@ use Rattle.core_laws.specs.Core.{Load, design_of, first_state, first_tile as fir
 use Rattle.core_laws.specs.Runs.{IsAccepted}
 use Rattle.core_row.specs.Attempts.{tile_in}
 use Rattle.core_row.proofs.First.{first_row, first_tiles as first_places}
+use Rattle.core_progress.specs.Moves.{most_moves}
 use Rattle.machine_laws.specs.Core.{IsAfter, IsLawful}
 use Rattle.machine_laws.proofs.Lawful.{lawful}
 use Rattle.machine_seen.specs.Seen.{IsShown}
@@ -35,7 +36,7 @@ abbrev pub load_in : {A : Type 0} → Inside A → List (List Line) → Load
 load_in a scripts = record { shape = a.torus; depth = a.depth; tags = a.tags; opening = a.opening.items; scripts = scripts }
 
 -- the fields are made from a load of these scripts: the tiles, the row and the book are those before any step, each bank has
--- the room that the scripts can ask of it, and the book the room for all that they can ask
+-- the room that the scripts can ask of it, and the book the room for all that they can ask; all moves are left
 pub record Begun {A : Type 0} (a : Inside A) (scripts : List (List Line)) : Type 0 where
   pub rooms : ℕ → ℕ
   pub tiles : a.tiles.items ≡ first_tiles (design_in a) a.tags rooms scripts
@@ -43,6 +44,7 @@ pub record Begun {A : Type 0} (a : Inside A) (scripts : List (List Line)) : Type
   pub row : a.row.items ≡ replicate (channel_count a.torus * a.depth) 0 ++ (a.opening.items ++ 0 ∷ [])
   pub book : a.book.book ≡ first_book (tiles_of a.torus)
   pub room : HasRoomFor (load_in a scripts) a.book
+  pub left : a.left ≡ most_moves (load_in a scripts)
 
 module _ (l : Load) (ok : IsAccepted l) (rooms : ℕ → ℕ) where
   abbrev first_at : ℕ → List Line → PlacedTile
@@ -86,6 +88,7 @@ module _ {A : Type 0} (a : Inside A) (scripts : List (List Line)) (ok : IsAccept
     opening = refl;
     state = seen_state (load_in a scripts) ok [] 0 (places_in a) a.row.items shown;
     book = b.book;
+    moves = let none : most_moves (load_in a scripts) ≡ most_moves (load_in a scripts) - 0 = omega arith in b.left ∙ none;
     lawful = subst (λ (g : EventBook). IsLawful (load_in a scripts) [] g.rows) (sym b.book) (lawful (load_in a scripts) ok []);
   }
 

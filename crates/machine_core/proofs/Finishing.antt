@@ -1,23 +1,21 @@
 -- Rounds finish every script of a machine that is reached.
-use Rattle.std.proofs.Common.{◌≡◌, inl, inr, ℕ, zero, suc, ◌+◌, ◌<◌, ◌≤◌, Bool, true, false, List, [], ◌∷◌, ◌++◌, length, Option, Some, None, refl, sym, ◌∙◌, ap, arith, append_assoc}
+use Rattle.std.proofs.Common.{◌≡◌, inl, inr, ℕ, zero, suc, ◌+◌, ◌<◌, ◌≤◌, Bool, true, false, List, [], ◌∷◌, ◌++◌, length, Option, Some, None, refl, sym, ◌∙◌, ap, subst, arith, append_assoc}
 use Rattle.std.proofs.lemmas.List.{append-nil}
-use Rattle.std.proofs.lemmas.List.Folds.{list_all-map}
 use Rattle.std.proofs.lemmas.Bool.{cases_lt, false≢true}
 use Rattle.torus.specs.Shape.{Shape}
 use Rattle.torus.specs.declared.step.Step.{Step}
 use Rattle.runs.specs.Events.{Event}
-use Rattle.net_interface.specs.Following.{is_finished}
-use Rattle.net_interface.specs.ProcessorRecord.{ProcessorRecord}
 use Rattle.flights.specs.Scripts.{AreFinished}
 use Rattle.rounds.specs.Rounds.{or_same, after_attempts, after_rounds, Finishes}
-use Rattle.tile.specs.Tile.{Design, TileState}
+use Rattle.tile.specs.Tile.{Design}
 use Rattle.core_laws.specs.Core.{Load, State, design_of, step, round, run_of}
 use Rattle.core_laws.specs.Runs.{state_after}
 use Rattle.core_row.proofs.Reached.{all_steps}
 use Rattle.core_progress.specs.Moves.{all_finished as tiles_finished, moves_left}
 use Rattle.core_progress.proofs.Finish.{run_finishes}
 use Rattle.machine_laws.specs.Core.{Core, IsAfter, built_to, event_in, core_with, core_next, core_after, all_finished}
-use Rattle.machine_laws.proofs.Machines.{named_machine, after_steps, finished_of_machine}
+use Rattle.machine_laws.proofs.Machines.{after_steps, finished_of_machine}
+use Rattle.machine_laws.proofs.Moves.{built, same_finished}
 use Rattle.machine_core.specs.Rounds.{rounds_of}
 use Rattle.machine_core.proofs.Rounds.{core_append}
 
@@ -55,9 +53,6 @@ rounds_state d (suc k) c e =
     ∙ (rounds_state d k (core_after c (round d.shape)) (after_built c (round d.shape) ∙ e)
     ∙ ap (after_rounds (step d) (round d.shape) k) (after_state d c (round d.shape) e))
 
-same_finished : (s : State) → all_finished s ≡ tiles_finished s
-same_finished s = list_all-map (λ (b : ProcessorRecord). is_finished b.following) (λ (t : TileState). t.processor.operations) s.tiles
-
 -- whether the scripts are finished after so many rounds
 abbrev pub finished_after : Core → ℕ → Bool
 finished_after c k = all_finished (core_after c (rounds_of c.shape k)).state
@@ -92,9 +87,6 @@ has_more start now next k made is e = record {
 
 -- there is a number of rounds after which they are, at most the moves left
 module _ (l : Load) (c : Core) (steps : List Step) (h : IsAfter l c steps) where
-  built : built_to c ≡ design_of l
-  built = ap built_to (named_machine l c steps h)
-
   finishes : Finishes (step (design_of l)) (round l.shape) tiles_finished (λ s. moves_left l steps (length steps)) (state_after l steps (length steps))
   finishes = run_finishes l h.accepted steps (length steps)
 
@@ -105,7 +97,7 @@ module _ (l : Load) (c : Core) (steps : List Step) (h : IsAfter l c steps) where
   shown_after k =
       ap (λ (s : Shape). all_finished (core_after c (rounds_of s k)).state) h.shape
       ∙ (same_finished (core_after c (rounds_of l.shape k)).state
-      ∙ ap tiles_finished (rounds_state (design_of l) k c built
+      ∙ ap tiles_finished (rounds_state (design_of l) k c (built l c steps h)
       ∙ ap (after_rounds (step (design_of l)) (round l.shape) k) (h.state ∙ sym (all_steps l steps))))
 
   done : finished_after c most ≡ true
@@ -117,6 +109,9 @@ module _ (l : Load) (c : Core) (steps : List Step) (h : IsAfter l c steps) where
     | inl low ↦ absurd (false≢true (sym (busy most low) ∙ done))
     | inr high ↦ (let few = finishes.few in omega (arith, few, high))
   ]
+
+  pub few_now : (k : ℕ) → ((j : ℕ) → j < k → finished_after c j ≡ false) → k ≤ c.moves_left
+  few_now k busy = subst (λ (n : ℕ). k ≤ n) (sym h.moves) (few_rounds k busy)
 
   pub few_left : moves_left l steps (length steps) ≤ 15794304
   few_left = let total = h.accepted.scripts.total in let tiles = h.accepted.shape.tiles in omega (arith, total, tiles)

@@ -1,8 +1,13 @@
 pub mod NotedBooks
 pub mod Moving
+pub mod Agents
 pub mod Rounds
 pub mod Views
 pub mod ShownRows
 pub mod Finishing
 mod BeginsTiles
 pub mod Begins
+pub mod FreshLoads
+pub mod FreshMachines
+pub mod FirstEnabled
+pub mod AskedSteps

@@ -1,5 +1,5 @@
 -- A machine's fields after an attempt at a tile: they are those of the machine that the attempt makes.
-use Rattle.std.proofs.Common.{◌≡◌, ◌≢◌, ⊎_elim, ℕ, zero, suc, ◌/◌, ◌%◌, ◌<◌, ◌≤◌, List, [], ◌∷◌, ◌++◌, length, map, take, Option, Some, None, refl, sym, ◌∙◌, ap, subst, arith}
+use Rattle.std.proofs.Common.{◌≡◌, ◌≢◌, ⊎_elim, ℕ, zero, suc, ◌-◌, ◌/◌, ◌%◌, ◌<◌, ◌≤◌, List, [], ◌∷◌, ◌++◌, length, map, take, Option, Some, None, refl, sym, ◌∙◌, ap, subst, arith}
 use Rattle.std.proofs.Common.{slice_get, slice_set, slice_index, slice_index_or, vec_len}
 use Rattle.std.specs.Prelude.{Vec, MatchOption}
 use Rattle.std.specs.Option.{option_map, IfSome}
@@ -23,6 +23,7 @@ use Rattle.flit_buffer.specs.Surroundings.{Surroundings}
 use Rattle.flit_buffer.specs.Tries.{performed_by}
 use Rattle.flit_buffer.specs.Words.{word_of}
 use Rattle.event_book.specs.RoomyBook.{RoomyBook, KeepsRoom}
+use Rattle.rounds.specs.Rounds.{moves_in, one_if_moved}
 use Rattle.tile.specs.Tile.{Design, TileState}
 use Rattle.tile.specs.Agents.{TilePlace, agent_numbered, state_of, tile_placed, tile_next_op}
 use Rattle.tile_agents.specs.Placed.{PlacedTile, IsAcceptableTo, with_place, tile_attempted}
@@ -35,6 +36,7 @@ use Rattle.machine_seen.proofs.Attempts.{leads_on}
 use Rattle.machine_laws.specs.Core.{Core, IsAfter, Steps, built_to, told, event_in, core_with, core_next, book_after}
 use Rattle.machine_laws.proofs.Books.{after_append}
 use Rattle.machine_laws.proofs.Machines.{after_step}
+use Rattle.machine_laws.proofs.Moves.{most_left}
 use Rattle.machine_seen.proofs.Tries.{word_there, word_asked}
 use Rattle.machine_seen.proofs.Room.{full_shown}
 use Rattle.machine_seen.specs.Notes.{FitsLoad, RoomToNoteService, RoomToNoteAnswer, book_noted, index_served}
@@ -104,9 +106,9 @@ noted_same xs ys b c t g h e f k =
     subst (λ (zs : List PlacedTile). (x : PlacedTile) → slice_get zs t ≡ Some x → g ≡ book_noted t (records_in zs) c.issued c.answers c.entries (state_of x.place) h) e
     (subst (λ (d : Counts). (x : PlacedTile) → slice_get xs t ≡ Some x → g ≡ book_noted t (records_in xs) d.issued d.answers d.entries (state_of x.place) h) f k)
 
--- a machine's fields with other tiles, another row and another book
-abbrev pub with_parts : {A : Type 0} → Inside A → Vec PlacedTile A → Vec ℕ A → RoomyBook → Inside A
-with_parts a tiles row book = record {
+-- a machine's fields with other tiles, another row and another book, and with so many moves left
+abbrev pub with_parts : {A : Type 0} → Inside A → Vec PlacedTile A → Vec ℕ A → RoomyBook → ℕ → Inside A
+with_parts a tiles row book left = record {
   torus = a.torus;
   depth = a.depth;
   tags = a.tags;
@@ -114,17 +116,19 @@ with_parts a tiles row book = record {
   tiles = tiles;
   row = row;
   book = book;
+  left = left;
 }
 
 -- what they make, by the lists alone
-abbrev core_by : {A : Type 0} → Inside A → State → EventBook → Core
-core_by a s g = record {
+abbrev core_by : {A : Type 0} → Inside A → State → EventBook → ℕ → Core
+core_by a s g left = record {
   shape = a.torus;
   depth = a.depth;
   tags = a.tags;
   opening = a.opening.items;
   state = s;
   book = g;
+  moves_left = left;
 }
 
 -- the fields of a machine, with what they make of it
@@ -185,7 +189,7 @@ module _ {A : Type 0} (a : Inside A) (is : IsMachine a) where
     abbrev event : Event
     event = event_in (design_of l) s attempt
 
-    step_is : step (built_to (core_of a)) (core_of a).state attempt ≡ step (design_of l) s attempt
+    pub step_is : step (built_to (core_of a)) (core_of a).state attempt ≡ step (design_of l) s attempt
     step_is = ap (λ (d : Design). step d (core_of a).state attempt) design_is ∙ ap (λ (x : State). step (design_of l) x attempt) state_is
 
     event_is : event_in (built_to (core_of a)) (core_of a).state attempt ≡ event
@@ -204,13 +208,13 @@ module _ {A : Type 0} (a : Inside A) (is : IsMachine a) where
       word_fits = word_asked l is.after.accepted is.steps (length is.steps) (places_in a) a.row.items shown_now attempt v.place place_there
 
       -- a full bank serves nothing
-      pub full_stays : IsOfFullBank v attempt → Steps (core_of a) (core_of a) Idle attempt
-      full_stays full =
+      pub full_stays : attempt.agent % 3 ≡ 2 → IsOfFullBank v attempt.choice → Steps (core_of a) (core_of a) Idle attempt
+      full_stays bank full =
           let none = full_shown l is.after.accepted is.steps (length is.steps) (places_in a) a.row.items shown_now attempt v.place place_there
-          (full.full ∙ is.banks t v there) full.bank full.service in
+          (full.full ∙ is.banks t v there) bank full.service in
           stays (core_of a) attempt (step_is ∙ subst (λ (xs : List Step). step (design_of l) (after l xs) attempt ≡ None) all_steps none)
 
-      leads : LeadsOn (design_of l) s (places_in a) a.row.items attempt v.place
+      pub leads : LeadsOn (design_of l) s (places_in a) a.row.items attempt v.place
       leads = subst (λ (xs : List Step). LeadsOn (design_of l) (after l xs) (places_in a) a.row.items attempt v.place) all_steps
           (leads_on l is.after.accepted is.steps (length is.steps) (places_in a) a.row.items shown_now attempt v.place place_there)
 
@@ -224,14 +228,14 @@ module _ {A : Type 0} (a : Inside A) (is : IsMachine a) where
       -- the fields after an attempt that isn't enabled
       pub idle : (tiles : Vec PlacedTile A) (row : Vec ℕ A) → tile_attempted v.place attempt a.row.items ≡ None
           → (w : PlacedTile) → w ≡ v → tiles.items ≡ slice_set a.tiles.items t w → row.items ≡ performed_by a.row.items (tile_next_op v.place attempt)
-          → Led a (with_parts a tiles row a.book) Idle attempt
+          → Led a (with_parts a tiles row a.book a.left) Idle attempt
       idle tiles row none w same tiles_are row_is =
           let k = idles (tile_attempted v.place attempt a.row.items) none leads in
           let tiles_stay : tiles.items ≡ a.tiles.items = tiles_are ∙ (ap (slice_set a.tiles.items t) same ∙ set_there a.tiles.items t v there) in
           let row_stays : row.items ≡ a.row.items = row_is ∙ k.1 in
-          let core_stays : core_of (with_parts a tiles row a.book) ≡ core_of a =
-          ap (λ (vs : List PlacedTile). core_by a (state_seen (design_in a) (map (λ v. v.place) vs) row.items) a.book.book) tiles_stay
-          ∙ ap (λ (ws : List ℕ). core_by a (state_seen (design_in a) (places_in a) ws) a.book.book) row_stays in
+          let core_stays : core_of (with_parts a tiles row a.book a.left) ≡ core_of a =
+          ap (λ (vs : List PlacedTile). core_by a (state_seen (design_in a) (map (λ v. v.place) vs) row.items) a.book.book a.left) tiles_stay
+          ∙ ap (λ (ws : List ℕ). core_by a (state_seen (design_in a) (places_in a) ws) a.book.book a.left) row_stays in
           record {
             machine = record {
               load = l;
@@ -365,11 +369,18 @@ module _ {A : Type 0} (a : Inside A) (is : IsMachine a) where
         next_is : step (built_to (core_of a)) (core_of a).state attempt ≡ Some next
         next_is = step_is ∙ led.1
 
+        -- a move is left
+        pub one_left : 0 < a.left
+        one_left =
+            let most : moves_in (step (built_to (core_of a))) (core_of a).state (attempt ∷ []) ≤ a.left = most_left l (core_of a) is.steps is.after (attempt ∷ []) in
+            let one : one_if_moved (step (built_to (core_of a)) (core_of a).state attempt) ≡ 1 = ap one_if_moved next_is in
+            omega (arith, most, one)
+
         core_led : (g : EventBook) → g ≡ noted_event (tiles_of l.shape) a.book.book event
-            → core_by a (state_seen (design_in a) (map (λ (x : PlacedTile). x.place) tiles) row) g ≡ core_next (core_of a) attempt
+            → core_by a (state_seen (design_in a) (map (λ (x : PlacedTile). x.place) tiles) row) g (a.left - 1) ≡ core_next (core_of a) attempt
         core_led g noted =
-            ap (λ (x : State). core_by a x g) (ap (λ (d : Design). state_seen d (map (λ (x : PlacedTile). x.place) tiles) row) design_is ∙ next_seen)
-            ∙ (ap (core_by a next) (noted ∙ (ap (λ (x : Shape). noted_event (tiles_of x) a.book.book event) (sym is.after.shape)
+            ap (λ (x : State). core_by a x g (a.left - 1)) (ap (λ (d : Design). state_seen d (map (λ (x : PlacedTile). x.place) tiles) row) design_is ∙ next_seen)
+            ∙ (ap (λ (b : EventBook). core_by a next b (a.left - 1)) (noted ∙ (ap (λ (x : Shape). noted_event (tiles_of x) a.book.book event) (sym is.after.shape)
             ∙ ap (noted_event (tiles_of a.torus) a.book.book) (sym event_is)))
             ∙ sym (ap (core_with (core_of a) (event_in (built_to (core_of a)) (core_of a).state attempt)) next_is))
 
@@ -394,9 +405,9 @@ module _ {A : Type 0} (a : Inside A) (is : IsMachine a) where
           → (row : Vec ℕ A) → row.items ≡ performed_by a.row.items (tile_next_op v.place attempt)
           → (g : RoomyBook) → KeepsRoom a.book g
           → ((x : PlacedTile) → slice_get tiles.items t ≡ Some x → g.book ≡ book_noted t (records_in tiles.items) (length v.place.processor.state.operations.issued) (length v.place.processor.state.operations.answers) (length v.place.bank.state.entries) (state_of x.place) a.book.book)
-          → Led a (with_parts a tiles row g) Moved attempt
+          → Led a (with_parts a tiles row g (a.left - 1)) Moved attempt
       moved q attempted w new_tile tiles tiles_are row row_is g keeps noted =
-          let change : core_of (with_parts a tiles row g) ≡ core_next (core_of a) attempt =
+          let change : core_of (with_parts a tiles row g (a.left - 1)) ≡ core_next (core_of a) attempt =
           core_led q attempted w new_tile tiles.items tiles_are row.items row_is g.book (book_led q attempted w new_tile tiles.items tiles_are row.items row_is g noted) in
           record {
             machine = record {

@@ -1,5 +1,5 @@
 -- A round, made part by part: what is made so far leads where the attempts so far lead.
-use Rattle.std.proofs.Common.{◌≡◌, ℕ, ◌+◌, ◌*◌, List, [], ◌∷◌, ◌++◌, map, refl, sym, ◌∙◌, ap, arith}
+use Rattle.std.proofs.Common.{◌≡◌, ℕ, ◌+◌, ◌*◌, ◌<◌, List, [], ◌∷◌, ◌++◌, map, Option, Some, None, refl, sym, ◌∙◌, ap, subst, arith}
 use Rattle.std.specs.List.{flat_map, range_with_len}
 use Rattle.std.proofs.lemmas.List.{map-append, flat_map_more}
 use Rattle.std.proofs.lemmas.List.FromFn.{map-range_with_len_more}
@@ -8,14 +8,31 @@ use Rattle.torus.specs.Shape.{Shape, dims_of, tiles_of}
 use Rattle.torus.specs.declared.step.Step.{Step}
 use Rattle.torus.specs.declared.step.Choice.{Choice}
 use Rattle.channel_number.specs.Ports.{port_count}
-use Rattle.core_laws.specs.Core.{attempts_of, round_at, round}
-use Rattle.machine_laws.specs.Core.{Core, core_next, core_after}
+use Rattle.runs.specs.Events.{Event}
+use Rattle.core_laws.specs.Core.{State, step, attempts_of, round_at, round}
+use Rattle.machine_laws.specs.Core.{Core, built_to, event_in, core_with, core_next, core_after}
 use Rattle.machine_core.specs.Rounds.{processor_choices, bank_choices, takes_of_all, puts_of_all, credits_of_all}
 
 -- attempts, one after the other
 pub core_append : (c : Core) (xs ys : List Step) → core_after c (xs ++ ys) ≡ core_after (core_after c xs) ys
 core_append c [] ys = refl
 core_append c (x ∷ xs) ys = core_append (core_next c x) xs ys
+
+-- attempts keep the shape
+next_shape : (c : Core) (e : Event) (o : Option State) → (core_with c e o).shape ≡ c.shape
+next_shape c e None = refl
+next_shape c e (Some s) = refl
+
+pub same_shape : (c : Core) (xs : List Step) → (core_after c xs).shape ≡ c.shape
+same_shape c [] = refl
+same_shape c (x ∷ xs) = same_shape (core_next c x) xs ∙ next_shape c (event_in (built_to c) c.state x) (step (built_to c) c.state x)
+
+-- a tile that is there before attempts is there after them
+pub tile_stays : (t : ℕ) (c now : Core) (xs : List Step) → now ≡ core_after c xs → t < tiles_of c.shape → t < tiles_of now.shape
+tile_stays t c now xs is h = subst (λ (s : Shape). t < tiles_of s) (sym (ap (λ (x : Core). x.shape) is ∙ same_shape c xs)) h
+
+pub tile_stays_once : (t : ℕ) (c now : Core) (x : Step) → now ≡ core_next c x → t < tiles_of c.shape → t < tiles_of now.shape
+tile_stays_once t c now x is h = tile_stays t c now (x ∷ []) is h
 
 -- one attempt more
 pub attempt_more : (start now after : Core) (xs : List Step) (x : Step) → now ≡ core_after start xs → after ≡ core_next now x → after ≡ core_after start (xs ++ x ∷ [])

@@ -30,6 +30,7 @@ core_of a = record {
   opening = a.opening.items;
   state = state_seen (design_in a) (places_in a) a.row.items;
   book = a.book.book;
+  moves_left = a.left;
 }
 
 -- each bank has room for the operations of all scripts that can come to it, and no more

@@ -3,3 +3,4 @@ pub mod Loaded
 pub mod Rounds
 pub mod Shown
 pub mod Noted
+pub mod Fresh

@@ -1,7 +1,7 @@
 -- What a step's code asks of its tile before, and the room that the book of events has for what it notes of the step.
-use Rattle.std.specs.Prelude.{◌≡◌, ℕ, ◌%◌, ◌<◌, List, length, map, Some, slice_get, slice_index}
+use Rattle.std.specs.Prelude.{◌≡◌, ℕ, ◌<◌, List, length, map, Some, slice_get, slice_index}
 use Rattle.torus.specs.declared.step.Choice.TheVariants.{Serve}
-use Rattle.torus.specs.declared.step.Step.{Step}
+use Rattle.torus.specs.declared.step.Choice.{Choice}
 use Rattle.home_bank.specs.declared.entry.Entry.{Entry}
 use Rattle.runs.specs.declared.answer.Answer.{Answer}
 use Rattle.runs.specs.Observed.{list_at}
@@ -15,10 +15,9 @@ use Rattle.machine_core.specs.declared.noting.Counts.{Counts}
 abbrev pub records_in : List PlacedTile → List ProcessorRecord
 records_in tiles = map (λ v. v.place.processor.state.operations) tiles
 
--- a step is a service of a bank that has no room for its entry
-pub record IsOfFullBank (v : PlacedTile) (attempt : Step) : Type 0 where
-  pub bank : attempt.agent % 3 ≡ 2
-  pub service : attempt.choice ≡ Serve
+-- a choice of a tile's bank is a service, and the bank has no room for its entry
+pub record IsOfFullBank (v : PlacedTile) (choice : Choice) : Type 0 where
+  pub service : choice ≡ Serve
   pub full : length v.place.bank.state.entries ≡ v.room
 
 -- how many operations a tile's processor has issued and had answered, and how many requests its bank has served

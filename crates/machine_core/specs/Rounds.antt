@@ -1,12 +1,13 @@
 -- The parts of a round, that is the choices that an agent is asked for, in order; and rounds, one after the other.
-use Rattle.std.specs.Prelude.{◌≡◌, ℕ, zero, suc, ◌<◌, true, false, List, [], ◌∷◌, ◌++◌, map}
+use Rattle.std.specs.Prelude.{◌≡◌, ℕ, zero, suc, ◌<◌, true, false, List, [], ◌∷◌, ◌++◌, map, Option}
 use Rattle.std.specs.List.{range_with_len}
 use Rattle.torus.specs.Shape.{Shape}
 use Rattle.torus.specs.declared.step.Step.{Step}
 use Rattle.torus.specs.declared.step.Choice.{Choice}
 use Rattle.torus.specs.declared.step.Choice.TheVariants.{Send, Take, TakeFrom, Put, Credit, CreditOf, Serve, Done, Look}
-use Rattle.core_laws.specs.Core.{round}
-use Rattle.machine_laws.specs.Core.{Core, core_after, all_finished}
+use Rattle.rounds.specs.Rounds.{first_enabled}
+use Rattle.core_laws.specs.Core.{step, round}
+use Rattle.machine_laws.specs.Core.{Core, built_to, core_after, all_finished}
 
 -- a processor's choices, and a bank's (this project's own format)
 abbrev pub processor_choices : List Choice
@@ -25,6 +26,10 @@ puts_of_all ports = map (λ i. Put i) (range_with_len 0 ports)
 
 abbrev pub credits_of_all : ℕ → List Choice
 credits_of_all ports = map (λ o. CreditOf o) (range_with_len 0 ports)
+
+-- the first of some attempts that is enabled in a machine now (this project's own format)
+abbrev pub first_in : Core → List Step → Option Step
+first_in c attempts = first_enabled (step (built_to c)) c.state attempts
 
 -- the attempts of so many rounds of a torus, one after the other (this project's own format)
 abbrev pub rounds_of : Shape → ℕ → List Step

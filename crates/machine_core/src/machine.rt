@@ -1,4 +1,4 @@
-ghost use Rattle.std.specs.Prelude.{◌≡◌, ◌<◌, ◌≤◌, ◌↔◌, List, [], ◌∷◌, ◌++◌, IsTrue, IfOk, IfErr, length, slice_get};
+ghost use Rattle.std.specs.Prelude.{◌≡◌, ◌+◌, ◌<◌, ◌≤◌, ◌↔◌, false, List, [], ◌∷◌, ◌++◌, IsTrue, IfOk, IfErr, length, slice_get};
 ghost use Rattle.std.specs.Option.{option_copied};
 ghost use Rattle.torus.specs.declared.step.Step.{Step};
 ghost use Rattle.script.specs.Scripts.{Fit};
@@ -6,15 +6,15 @@ ghost use Rattle.script.specs.ScriptViews.{lists_of};
 ghost use Rattle.net_interface.specs.Following.{is_finished};
 ghost use Rattle.flights.specs.Load.{load_of};
 ghost use Rattle.flights.specs.Scripts.{AreFinished};
-ghost use Rattle.core_laws.specs.Core.{Load, run_of, attempts_of, round_at, round};
+ghost use Rattle.rounds.specs.Rounds.{moves_in};
+ghost use Rattle.core_laws.specs.Core.{Load, run_of, step};
 ghost use Rattle.core_laws.specs.Runs.{IsAccepted};
 ghost use Rattle.core_row.specs.Row.{row_of};
 ghost use Rattle.machine_laws.specs.Core.{IsAfter, Steps, core_after, shown, built_to, all_finished};
-ghost use Rattle.core_progress.specs.Moves.{moves_left};
-ghost use Rattle.machine_core.specs.Rounds.{processor_choices, bank_choices, takes_of_all, puts_of_all, credits_of_all, rounds_of, NeedsRounds};
+ghost use Rattle.core_progress.specs.Moves.{IsLive, moves_left};
+ghost use Rattle.machine_core.specs.Rounds.{rounds_of, NeedsRounds};
 
-use crate::loading::{first_row, first_tiles};
-use crate::noting::{Counts, lacks_room, note};
+use crate::loading::{first_row, first_tiles, most_moves};
 use channel_number::channel_count;
 use event_book::EventBook;
 use home_bank::Entry;
@@ -24,19 +24,21 @@ use script_rooms::{all_room, home_rooms, processor_rooms};
 use std::alloc::{AllocError, Allocator, Global};
 use std::marker::Model;
 use tile_agents::TileAgents;
-use torus::{Choice, Fault, Step, Stepped, Torus};
+use torus::{Fault, Step, Stepped, Torus};
 
 /// A machine: the agents of all tiles, the row of words that they share (the places of the
-/// channels, the memory, and the done word), and the book of the events so far.
+/// channels, the memory, and the done word), the book of the events so far, and how many moves its
+/// scripts still allow.
 #[derive(Drop)]
 pub struct Machine<A: Allocator = Global> {
-    torus: Torus,
-    depth: u32,
-    tags: u32,
-    opening: Vec<u64, A>,
-    tiles: Vec<TileAgents<A>, A>,
-    row: Vec<u64, A>,
-    book: EventBook<A>,
+    pub(crate) torus: Torus,
+    pub(crate) depth: u32,
+    pub(crate) tags: u32,
+    pub(crate) opening: Vec<u64, A>,
+    pub(crate) tiles: Vec<TileAgents<A>, A>,
+    pub(crate) row: Vec<u64, A>,
+    pub(crate) book: EventBook<A>,
+    pub(crate) left: u64,
 }
 
 impl<A: Allocator> Model for Machine<A> {
@@ -73,6 +75,7 @@ impl<A: Allocator + Copy> Machine<A> {
         let row = first_row(alloc, places, opening.as_slice())?;
         let words = opening.len() as u32;
         let tiles = first_tiles(alloc, torus, words, depth, tags, &entries, lists)?;
+        let left = most_moves(rows, torus.tiles());
         Ok(Machine {
             torus,
             depth,
@@ -81,6 +84,7 @@ impl<A: Allocator + Copy> Machine<A> {
             tiles,
             row,
             book,
+            left,
         })
     }
 
@@ -116,16 +120,10 @@ impl<A: Allocator> Machine<A> {
         if tile >= self.tiles.len() {
             return Stepped::Idle;
         }
-        if lacks_room(&self.tiles[tile], step) {
-            return Stepped::Idle;
-        }
-        let before = Counts::of(&self.tiles[tile]);
-        match self.tiles[tile].attempt(step, &mut self.row) {
-            Stepped::Moved => {
-                note(self.tiles.as_slice(), &mut self.book, tile, before);
-                Stepped::Moved
-            }
-            Stepped::Idle => Stepped::Idle,
+        match step.agent % 3 {
+            0 => self.step_processor(tile, step.choice),
+            1 => self.step_router(tile, step.choice),
+            _ => self.step_bank(tile, step.choice),
         }
     }
 
@@ -140,23 +138,13 @@ impl<A: Allocator> Machine<A> {
         }
     }
 
-    /// Makes one round: attempts each choice of each agent once, the agents in their order.
-    pub fn round(&mut self)
-        ensures state { self.new ≡ core_after self.old (round self.old.shape) }
-        ensures law { (l : Load) (before : List Step) → IsAfter l self.old before → IsAfter l self.new (before ++ round self.old.shape) }
-    {
-        let ports = 8 * self.torus.dims() + 2;
-        for tile in 0..self.torus.tiles() {
-            self.round_at(ports, tile);
-        }
-    }
-
     /// Makes rounds until every script is finished, and answers how many: the least number that does,
     /// which is at most the moves that were left.
     pub fn finish(&mut self) -> u64
         ensures state { self.new ≡ core_after self.old (rounds_of self.old.shape result) }
         ensures needed { NeedsRounds self.old result }
         ensures few { (l : Load) (steps : List Step) → IsAfter l self.old steps → result ≤ moves_left l steps (length steps) }
+        ensures left { result ≤ self.old.moves_left }
         ensures law { (l : Load) (before : List Step) → IsAfter l self.old before → IsAfter l self.new (before ++ rounds_of self.old.shape result) }
         ensures scripts { (l : Load) (before : List Step) → IsAfter l self.old before
             → AreFinished (run_of l (before ++ rounds_of self.old.shape result)) (length (before ++ rounds_of self.old.shape result)) l.scripts }
@@ -168,103 +156,6 @@ impl<A: Allocator> Machine<A> {
             rounds += 1;
         }
         rounds
-    }
-
-    /// The part of a round at one tile, of so many ports of its router.
-    fn round_at(&mut self, ports: u32, tile: u32)
-        requires tile { tile < 64 }
-        ensures { self.new ≡ core_after self.old (round_at ports tile) }
-    {
-        let processor = 3 * tile;
-        self.attempt_processor(processor);
-        self.attempt_takes(processor + 1, ports);
-        self.attempt_puts(processor + 1, ports);
-        self.attempt_credits(processor + 1, ports);
-        self.attempt_bank(processor + 2);
-    }
-
-    /// Attempts each choice of a processor.
-    fn attempt_processor(&mut self, agent: u32)
-        ensures { self.new ≡ core_after self.old (attempts_of agent processor_choices) }
-    {
-        let _ = self.step(Step {
-            agent,
-            choice: Choice::Send,
-        });
-        let _ = self.step(Step {
-            agent,
-            choice: Choice::Take,
-        });
-        let _ = self.step(Step {
-            agent,
-            choice: Choice::Credit,
-        });
-        let _ = self.step(Step {
-            agent,
-            choice: Choice::Done,
-        });
-        let _ = self.step(Step {
-            agent,
-            choice: Choice::Look,
-        });
-    }
-
-    /// Attempts to take a flit of each input of a router, in order.
-    fn attempt_takes(&mut self, agent: u32, ports: u32)
-        ensures { self.new ≡ core_after self.old (attempts_of agent (takes_of_all ports)) }
-    {
-        for input in 0..ports {
-            let _ = self.step(Step {
-                agent,
-                choice: Choice::TakeFrom(input),
-            });
-        }
-    }
-
-    /// Attempts to put the flit that a router took of each input, in order.
-    fn attempt_puts(&mut self, agent: u32, ports: u32)
-        ensures { self.new ≡ core_after self.old (attempts_of agent (puts_of_all ports)) }
-    {
-        for input in 0..ports {
-            let _ = self.step(Step {
-                agent,
-                choice: Choice::Put(input),
-            });
-        }
-    }
-
-    /// Attempts to find a credit of each output of a router, in order.
-    fn attempt_credits(&mut self, agent: u32, ports: u32)
-        ensures { self.new ≡ core_after self.old (attempts_of agent (credits_of_all ports)) }
-    {
-        for output in 0..ports {
-            let _ = self.step(Step {
-                agent,
-                choice: Choice::CreditOf(output),
-            });
-        }
-    }
-
-    /// Attempts each choice of a bank.
-    fn attempt_bank(&mut self, agent: u32)
-        ensures { self.new ≡ core_after self.old (attempts_of agent bank_choices) }
-    {
-        let _ = self.step(Step {
-            agent,
-            choice: Choice::Take,
-        });
-        let _ = self.step(Step {
-            agent,
-            choice: Choice::Serve,
-        });
-        let _ = self.step(Step {
-            agent,
-            choice: Choice::Send,
-        });
-        let _ = self.step(Step {
-            agent,
-            choice: Choice::Credit,
-        });
     }
 
     /// The machine stands where some steps lead from a load that was accepted.
@@ -341,10 +232,21 @@ impl<A: Allocator> Machine<A> {
         self.row.get(at as usize).copied()
     }
 
+    /// How many moves the scripts still allow: 241 for each operation that they allow, and 2 for each
+    /// tile, less the moves made. No list of steps makes more.
+    pub fn moves_left(&self) -> u64
+        ensures value { result ≡ self.now.moves_left }
+        ensures law { (l : Load) (steps : List Step) → IsAfter l self.now steps → result ≡ moves_left l steps (length steps) }
+        ensures exact { (more : List Step) → moves_in (step (built_to self.now)) self.now.state more ≤ result }
+    {
+        self.left
+    }
+
     /// Whether every script is finished: all its operations are issued and answered, and no spin
-    /// wants another load.
+    /// wants another load. Until then some step of a round is enabled.
     pub fn finished(&self) -> bool
         ensures value { result ≡ all_finished self.now.state }
+        ensures live { result ≡ false → IsLive (built_to self.now) self.now.state }
         ensures law { (l : Load) (steps : List Step) → IsAfter l self.now steps → IsTrue result ↔ AreFinished (run_of l steps) (length steps) l.scripts }
     {
         self.tiles.iter().all(

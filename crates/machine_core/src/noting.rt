@@ -1,9 +1,10 @@
 //! What is asked before a step, and what is noted of it: told by how many operations, answers and
 //! entries its tile had before it.
 
-ghost use Rattle.std.specs.Prelude.{◌≡◌, ◌%◌, ◌<◌, length, false, IsTrue, Some, slice_get};
+ghost use Rattle.std.specs.Prelude.{◌≡◌, ◌<◌, length, false, IsTrue, Some, slice_get};
 ghost use Rattle.net_interface.specs.ProcessorRecord.{index_of};
-ghost use Rattle.tile.specs.Agents.{agent_numbered, state_of};
+ghost use Rattle.tile.specs.Tile.{Bank};
+ghost use Rattle.tile.specs.Agents.{state_of};
 ghost use Rattle.event_book.specs.RoomyBook.{KeepsRoom};
 ghost use Rattle.tile_agents.specs.Placed.{HasRoomFor, PlacedTile};
 ghost use Rattle.machine_seen.specs.Notes.{book_noted};
@@ -13,17 +14,15 @@ use event_book::EventBook;
 use std::alloc::Allocator;
 use tag_table::{OpId, Tag};
 use tile_agents::TileAgents;
-use torus::{Choice, Step};
+use torus::Choice;
 
-/// Whether a step is a service of a bank that has no room for its entry.
-pub fn lacks_room<A: Allocator>(agents: &TileAgents<A>, step: Step) -> bool
-    ensures full { IsTrue result → IsOfFullBank agents.now step }
-    ensures room { result ≡ false → HasRoomFor agents.now (agent_numbered (step.agent % 3)) step.choice }
+/// Whether a choice of a bank is a service for the entry of which it has no room.
+#[inline(always)]
+pub fn lacks_room<A: Allocator>(agents: &TileAgents<A>, choice: Choice) -> bool
+    ensures full { IsTrue result → IsOfFullBank agents.now choice }
+    ensures room { result ≡ false → HasRoomFor agents.now Bank choice }
 {
-    if step.agent % 3 != 2 {
-        return false;
-    }
-    match step.choice {
+    match choice {
         Choice::Serve => agents.is_full(),
         _ => false,
     }

@@ -1,5 +1,5 @@
 -- Where steps lead from a load: the machine there, and further steps.
-use Rattle.std.proofs.Common.{◌≡◌, ◌↔◌, ℕ, ◌/◌, ◌%◌, ◌<◌, true, List, [], ◌∷◌, ◌++◌, length, Option, Some, None, refl, sym, ◌∙◌, ap, subst, slice_get, append_assoc}
+use Rattle.std.proofs.Common.{◌≡◌, ◌↔◌, ℕ, ◌-◌, ◌/◌, ◌%◌, ◌<◌, true, List, [], ◌∷◌, ◌++◌, length, Option, Some, None, refl, sym, ◌∙◌, ap, subst, arith, slice_get, append_assoc}
 use Rattle.std.specs.Prelude.{option_and_then, option_map, slice_set}
 use Rattle.std.proofs.lemmas.List.{append-nil}
 use Rattle.torus.specs.Shape.{Shape, tiles_of}
@@ -8,6 +8,7 @@ use Rattle.torus.specs.declared.step.Choice.{Choice}
 use Rattle.runs.specs.declared.ordered.Ordered.{Ordered}
 use Rattle.runs.specs.Order.{LinearizationPoint, IsLegalOrder, StandsBefore}
 use Rattle.runs.specs.Consequences.{Precedes}
+use Rattle.runs.specs.Events.{Event}
 use Rattle.runs.proofs.EventNumbers.{real_time, real_time_of_rows}
 use Rattle.flit_buffer.specs.Surroundings.{Surroundings}
 use Rattle.flights.specs.Flight.{Move, event_by}
@@ -19,23 +20,27 @@ use Rattle.core_laws.specs.Moves.{move_of, tile_move}
 use Rattle.core_laws.specs.Runs.{IsAccepted, without_packets}
 use Rattle.core_laws.proofs.AgentSteps.{option_map_none}
 use Rattle.core_laws.proofs.FlightSteps.{refused_tile}
+use Rattle.rounds.specs.Rounds.{one_if_moved}
+use Rattle.core_progress.specs.Moves.{moves_left}
 use Rattle.machine_laws.specs.Core.{Core, IsAfter, event_in, book_after, core_after_load, core_with, core_next, core_after, all_finished}
 use Rattle.machine_laws.specs.Reported.{ReportsWell}
 use Rattle.machine_laws.proofs.Books.{after_append, book_append}
+use Rattle.machine_laws.proofs.Counted.{left_push}
 use Rattle.machine_laws.proofs.Lawful.{lawful, shows, finishes}
 
-abbrev core : Shape → ℕ → ℕ → List ℕ → State → EventBook → Core
-core shape depth tags opening state book = record { shape = shape; depth = depth; tags = tags; opening = opening; state = state; book = book }
+abbrev core : Shape → ℕ → ℕ → List ℕ → State → EventBook → ℕ → Core
+core shape depth tags opening state book left = record { shape = shape; depth = depth; tags = tags; opening = opening; state = state; book = book; moves_left = left }
 
 -- what the steps reach from the load is the machine that they lead to
 pub named_machine : (l : Load) (c : Core) (steps : List Step) → IsAfter l c steps → c ≡ core_after_load l steps
 named_machine l c steps f =
-    ap (λ (x : Shape). core x c.depth c.tags c.opening c.state c.book) f.shape
-    ∙ (ap (λ (x : ℕ). core l.shape x c.tags c.opening c.state c.book) f.depth
-    ∙ (ap (λ (x : ℕ). core l.shape l.depth x c.opening c.state c.book) f.tags
-    ∙ (ap (λ (x : List ℕ). core l.shape l.depth l.tags x c.state c.book) f.opening
-    ∙ (ap (λ (x : State). core l.shape l.depth l.tags l.opening x c.book) f.state
-    ∙ ap (λ (x : EventBook). core l.shape l.depth l.tags l.opening (after l steps) x) f.book))))
+    ap (λ (x : Shape). core x c.depth c.tags c.opening c.state c.book c.moves_left) f.shape
+    ∙ (ap (λ (x : ℕ). core l.shape x c.tags c.opening c.state c.book c.moves_left) f.depth
+    ∙ (ap (λ (x : ℕ). core l.shape l.depth x c.opening c.state c.book c.moves_left) f.tags
+    ∙ (ap (λ (x : List ℕ). core l.shape l.depth l.tags x c.state c.book c.moves_left) f.opening
+    ∙ (ap (λ (x : State). core l.shape l.depth l.tags l.opening x c.book c.moves_left) f.state
+    ∙ (ap (λ (x : EventBook). core l.shape l.depth l.tags l.opening (after l steps) x c.moves_left) f.book
+    ∙ ap (core l.shape l.depth l.tags l.opening (after l steps) (book_after l steps)) f.moves)))))
 
 -- and it stands after them
 pub stands_after : (l : Load) (steps : List Step) → IsAccepted l → IsAfter l (core_after_load l steps) steps
@@ -47,6 +52,7 @@ stands_after l steps ok = record {
   opening = refl;
   state = refl;
   book = refl;
+  moves = refl;
   lawful = lawful l ok steps;
 }
 
@@ -89,22 +95,40 @@ refused_at d s agent t choice (Some tile) h = refused_tile d s [] [] t tile agen
 refused_step : (d : Design) (s : State) (attempt : Step) → step d s attempt ≡ None → move_of d s attempt ≡ None
 refused_step d s attempt h = refused_at d s (agent_numbered (attempt.agent % 3)) (attempt.agent / 3) attempt.choice (slice_get s.tiles (attempt.agent / 3)) h
 
--- the machine that steps lead to, after a further attempt
-led_next : (l : Load) (steps : List Step) (attempt : Step) (o : Option State) → step (design_of l) (after l steps) attempt ≡ o
-    → core_with (core_after_load l steps) (event_in (design_of l) (after l steps) attempt) o
-    ≡ core l.shape l.depth l.tags l.opening (or_same (after l steps) o) (noted_event (tiles_of l.shape) (book_after l steps) (event_in (design_of l) (after l steps) attempt))
-led_next l steps attempt None h =
-    ap (λ (m : Option Move). core l.shape l.depth l.tags l.opening (after l steps) (noted_event (tiles_of l.shape) (book_after l steps) (event_by (without_packets (length l.opening) (after l steps)) m)))
-    (sym (refused_step (design_of l) (after l steps) attempt h))
-led_next l steps attempt (Some s) h = refl
+module _ (l : Load) (steps : List Step) (attempt : Step) where
+  abbrev s : State
+  s = after l steps
 
-led_more : (l : Load) (steps : List Step) (attempt : Step) → core_next (core_after_load l steps) attempt ≡ core_after_load l (steps ++ attempt ∷ [])
-led_more l steps attempt =
-    led_next l steps attempt (step (design_of l) (after l steps) attempt) refl
-    ∙ (ap (λ (s : State). core l.shape l.depth l.tags l.opening s (noted_event (tiles_of l.shape) (book_after l steps) (event_in (design_of l) (after l steps) attempt)))
-    (sym (after_append (design_of l) (first_state l) steps (attempt ∷ [])))
-    ∙ ap (λ (g : EventBook). core l.shape l.depth l.tags l.opening (after l (steps ++ attempt ∷ [])) g)
-    (sym (book_append (design_of l) (first_state l) (first_book (tiles_of l.shape)) steps (attempt ∷ []))))
+  abbrev event : Event
+  event = event_in (design_of l) s attempt
+
+  abbrev left : ℕ
+  left = moves_left l steps (length steps)
+
+  -- the machine of the load in a state, with a book, and with so many moves left
+  abbrev of_load : State → EventBook → ℕ → Core
+  of_load = core l.shape l.depth l.tags l.opening
+
+  -- the machine that steps lead to, after a further attempt
+  led_next : (o : Option State) → step (design_of l) s attempt ≡ o
+      → core_with (core_after_load l steps) event o ≡ of_load (or_same s o) (noted_event (tiles_of l.shape) (book_after l steps) event) (left - one_if_moved o)
+  led_next None h =
+      let stays : left ≡ left - 0 = omega arith in
+      ap (λ (m : Option Move). of_load s (noted_event (tiles_of l.shape) (book_after l steps) (event_by (without_packets (length l.opening) s) m)) left)
+      (sym (refused_step (design_of l) s attempt h))
+      ∙ ap (of_load s (noted_event (tiles_of l.shape) (book_after l steps) event)) stays
+  led_next (Some t) h = refl
+
+  pub led_more : core_next (core_after_load l steps) attempt ≡ core_after_load l (steps ++ attempt ∷ [])
+  led_more =
+      let o : Option State = step (design_of l) s attempt in
+      let more : List Step = steps ++ attempt ∷ [] in
+      led_next o refl
+      ∙ (ap (λ (t : State). of_load t (noted_event (tiles_of l.shape) (book_after l steps) event) (left - one_if_moved o))
+      (sym (after_append (design_of l) (first_state l) steps (attempt ∷ [])))
+      ∙ (ap (λ (g : EventBook). of_load (after l more) g (left - one_if_moved o))
+      (sym (book_append (design_of l) (first_state l) (first_book (tiles_of l.shape)) steps (attempt ∷ [])))
+      ∙ ap (of_load (after l more) (book_after l more)) (sym (left_push l steps attempt))))
 
 -- one step more
 pub after_step : (l : Load) (c : Core) (steps : List Step) (attempt : Step) → IsAfter l c steps → IsAfter l (core_next c attempt) (steps ++ attempt ∷ [])

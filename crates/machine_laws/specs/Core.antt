@@ -1,5 +1,5 @@
 -- What contracts see of a machine, and the headline: every run has one legal order.
-use Rattle.std.specs.Prelude.{◌≡◌, ℕ, Bool, List, [], ◌∷◌, Option, Some, None, length}
+use Rattle.std.specs.Prelude.{◌≡◌, ℕ, ◌-◌, Bool, List, [], ◌∷◌, ◌++◌, Option, Some, None, length}
 use Rattle.std.specs.List.{list_all}
 use Rattle.torus.specs.Shape.{Shape, tiles_of}
 use Rattle.torus.specs.declared.step.Step.{Step}
@@ -17,9 +17,11 @@ use Rattle.tile.specs.Tile.{Design}
 use Rattle.core_laws.specs.Core.{Load, State, design_of, step, next, first_state, after, run_of, records_of, show}
 use Rattle.core_laws.specs.Moves.{move_of}
 use Rattle.core_laws.specs.Runs.{IsAccepted, without_packets}
+use Rattle.rounds.specs.Rounds.{IsEnabled}
+use Rattle.core_progress.specs.Moves.{moves_left}
 
--- a machine: what was loaded of shape, depth, tags and words, the state of its tiles, channels and words, and its book
--- of events
+-- a machine: what was loaded of shape, depth, tags and words, the state of its tiles, channels and words, its book of
+-- events, and how many moves its scripts still allow
 pub record Core : Type 0 where
   pub shape : Shape
   pub depth : ℕ
@@ -27,6 +29,7 @@ pub record Core : Type 0 where
   pub opening : List ℕ
   pub state : State
   pub book : EventBook
+  pub moves_left : ℕ
 
 -- what a machine is built to
 abbrev pub built_to : Core → Design
@@ -52,8 +55,8 @@ book_from d s g (attempt ∷ attempts) =
 abbrev pub book_after : Load → List Step → EventBook
 book_after l steps = book_from (design_of l) (first_state l) (first_book (tiles_of l.shape)) steps
 
--- The machine stands where these steps lead from an accepted load: its state and its book of events are what they
--- make; and the headline holds of the run, with the rows of the book.
+-- The machine stands where these steps lead from an accepted load: its state, its book of events and the moves that are
+-- left are what they make; and the headline holds of the run, with the rows of the book.
 pub record IsAfter (l : Load) (c : Core) (steps : List Step) : Type 0 where
   pub accepted : IsAccepted l
   pub shape : c.shape ≡ l.shape
@@ -62,6 +65,7 @@ pub record IsAfter (l : Load) (c : Core) (steps : List Step) : Type 0 where
   pub opening : c.opening ≡ l.opening
   pub state : c.state ≡ after l steps
   pub book : c.book ≡ book_after l steps
+  pub moves : c.moves_left ≡ moves_left l steps (length steps)
   pub lawful : IsLawful l steps c.book.rows
 
 -- the machine that a list of steps leads to from a load
@@ -73,6 +77,7 @@ core_after_load l steps = record {
   opening = l.opening;
   state = after l steps;
   book = book_after l steps;
+  moves_left = moves_left l steps (length steps);
 }
 
 -- what a step tells: Moved exactly when it is enabled
@@ -80,7 +85,7 @@ abbrev pub told : Option State → Stepped
 told None = Idle
 told (Some s) = Moved
 
--- the machine in another state, after an event
+-- the machine in another state, after a move with an event
 abbrev pub core_moved : Core → State → Event → Core
 core_moved c s e = record {
   shape = c.shape;
@@ -89,6 +94,7 @@ core_moved c s e = record {
   opening = c.opening;
   state = s;
   book = noted_event (tiles_of c.shape) c.book e;
+  moves_left = c.moves_left - 1;
 }
 
 -- the machine after an attempt that leaves this state: one that is not enabled changes nothing
@@ -109,6 +115,14 @@ pub record Steps (old new : Core) (stepped : Stepped) (attempt : Step) : Type 0 
 abbrev pub core_after : Core → List Step → Core
 core_after c [] = c
 core_after c (attempt ∷ attempts) = core_after (core_next c attempt) attempts
+
+-- one of these attempts is enabled where it comes: the machine makes a move
+pub record MakesMove (c : Core) (attempts : List Step) : Type 0 where
+  pub before : List Step
+  pub attempt : Step
+  pub behind : List Step
+  pub of : attempts ≡ before ++ attempt ∷ behind
+  pub enabled : IsEnabled (step (built_to c)) (core_after c before).state attempt
 
 -- what a machine shows: operations issued, answers, entries of the banks, and the words by address
 abbrev pub shown : Core → Observed

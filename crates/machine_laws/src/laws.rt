@@ -1,6 +1,6 @@
 //! Laws of every run of an accepted load, and of every machine that one reaches, each the contract of a function that does nothing.
 
-ghost use Rattle.std.specs.Prelude.{◌≡◌, ◌<◌, ◌≤◌, ◌++◌, ◌∷◌, [], ◌↔◌, ℕ, List, Some, None, true, length, slice_get};
+ghost use Rattle.std.specs.Prelude.{◌≡◌, ◌+◌, ◌<◌, ◌≤◌, ◌++◌, ◌∷◌, [], ◌↔◌, ℕ, List, Some, None, true, false, length, slice_get};
 ghost use Rattle.torus.specs.declared.step.Step.{Step};
 ghost use Rattle.script.specs.Machine.{MachineSpec, IsAcceptedMachine};
 ghost use Rattle.script.specs.Scripts.{ScriptsSpec, AreAcceptedScripts, Fit};
@@ -10,9 +10,11 @@ ghost use Rattle.runs.specs.Rows.{BeginRows};
 ghost use Rattle.runs.specs.Consequences.{Precedes};
 ghost use Rattle.flights.specs.Load.{load_of};
 ghost use Rattle.flights.specs.Scripts.{AreFinished};
-ghost use Rattle.core_laws.specs.Core.{Load, run_of};
+ghost use Rattle.rounds.specs.Rounds.{moves_in};
+ghost use Rattle.core_laws.specs.Core.{Load, run_of, step, round};
 ghost use Rattle.core_laws.specs.Runs.{IsAccepted};
-ghost use Rattle.machine_laws.specs.Core.{Core, IsAfter, IsLawful, book_after, core_after_load, core_next, core_after, all_finished};
+ghost use Rattle.core_progress.specs.Moves.{IsLive, moves_made, most_moves};
+ghost use Rattle.machine_laws.specs.Core.{Core, IsAfter, IsLawful, MakesMove, built_to, book_after, core_after_load, core_next, core_after, all_finished};
 ghost use Rattle.machine_laws.specs.Reported.{ReportsWell};
 
 /// Of every machine that is reached, what it shows goes with its rows: its report is a good one.
@@ -76,4 +78,19 @@ pub fn first_steps_begin_the_run()
 /// since.
 pub fn orders_go_on()
     ensures { (l : Load) (steps more : List Step) → IsAccepted l → BeginRows (book_after l steps).rows (book_after l (steps ++ more)).rows }
+{}
+
+/// The moves left and the moves made are together the most that the load allows; no list of steps
+/// makes more than are left; and each move of a list leaves one less.
+pub fn moves_are_counted()
+    ensures all { (l : Load) (c : Core) (steps : List Step) → IsAfter l c steps → moves_made l steps + c.moves_left ≡ most_moves l }
+    ensures most { (l : Load) (c : Core) (steps more : List Step) → IsAfter l c steps → moves_in (step (built_to c)) c.state more ≤ c.moves_left }
+    ensures after { (l : Load) (c : Core) (steps more : List Step) → IsAfter l c steps → (core_after c more).moves_left + moves_in (step (built_to c)) c.state more ≡ c.moves_left }
+{}
+
+/// No dead state: while some script isn't finished, some step of a round is enabled; and a round
+/// makes a move.
+pub fn unfinished_machines_move()
+    ensures live { (l : Load) (c : Core) (steps : List Step) → IsAfter l c steps → all_finished c.state ≡ false → IsLive (built_to c) c.state }
+    ensures round { (l : Load) (c : Core) (steps : List Step) → IsAfter l c steps → all_finished c.state ≡ false → MakesMove c (round c.shape) }
 {}

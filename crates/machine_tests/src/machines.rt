@@ -52,6 +52,26 @@ fn made(machine: &mut Machine, agent: u32, choice: Choice) -> bool {
     machine.step(Step { agent, choice }) == Stepped::Moved
 }
 
+fn is_first(machine: &Machine, agent: u32, choice: Choice) -> bool {
+    machine.enabled_step() == Some(Step { agent, choice })
+}
+
+/// Makes rounds until every script is finished, at most so many; and tells whether before each
+/// hundredth of them some step was enabled.
+fn is_live_in_rounds<A: Allocator>(machine: &mut Machine<A>, most: u32) -> bool {
+    let mut is_live = true;
+    for count in 0..most {
+        if machine.finished() {
+            break;
+        }
+        if count % 100 == 0 {
+            is_live = is_live && machine.enabled_step().is_some();
+        }
+        machine.round();
+    }
+    is_live
+}
+
 /// Makes rounds until every script is finished, at most so many; and tells how many.
 fn rounds<A: Allocator>(machine: &mut Machine<A>, most: u32) -> u32 {
     for count in 0..most {
@@ -171,6 +191,52 @@ fn a_store_goes_through_the_row(rt: HostRuntime) -> Result<(), Fail> {
         machine.bank(1) == Some(&[entry]) && machine.bank(0) == Some(&[]),
         "the entry"
     );
+    Ok(())
+}
+
+/// What is enabled on two tiles, and how many moves are left: a store allows 241, and each tile 2. The
+/// three flits of its request take eighteen, its service one; an attempt that isn't enabled takes none.
+#[test]
+fn enabled_steps_are_counted_down(rt: HostRuntime) -> Result<(), Fail> {
+    let alloc = rt.alloc();
+    let loads = machine_of(alloc, PAIR, b"0 store 5 17\n0 fence\n0 load 5\n")?;
+    let mut machine = machine_of(alloc, PAIR, b"0 store 1 7\n")?;
+    let begins = (is_first(&loads, 0, Choice::Send), machine.moves_left());
+    let mut comes = true;
+    for _ in 0..3 {
+        for &(agent, choice, _, _) in &FIRST_FLIT {
+            let is_enabled = machine.enabled(Step { agent, choice });
+            comes = comes && is_enabled && made(&mut machine, agent, choice);
+        }
+    }
+    let came = (comes, machine.moves_left());
+    let is_served = made(&mut machine, 5, Choice::Serve);
+    let is_served_again = made(&mut machine, 5, Choice::Serve);
+    let served = (is_served, is_served_again, machine.moves_left());
+    let sends = machine.enabled(Step {
+        agent: 5,
+        choice: Choice::Send,
+    });
+    let next = (is_first(&machine, 0, Choice::Credit), sends);
+    assert!(rt; (begins, came) == ((true, 245), (true, 227)), "to the bank");
+    assert!(rt;
+        (served, next) == ((true, false, 226), (true, true)),
+        "at the bank"
+    );
+    Ok(())
+}
+
+/// Two tiles without operations are finished, though their processors may report that and look.
+#[test]
+fn empty_scripts_need_no_round(rt: HostRuntime) -> Result<(), Fail> {
+    let mut machine = machine_of(rt.alloc(), PAIR, b"")?;
+    let before = (is_first(&machine, 0, Choice::Done), machine.moves_left());
+    let finished = (machine.finish(), machine.moves_left());
+    for _ in 0..2 {
+        machine.round();
+    }
+    let after = (machine.enabled_step().is_none(), machine.moves_left());
+    assert!(rt; (before, finished, after) == ((true, 4), (0, 4), (true, 0)));
     Ok(())
 }
 
@@ -305,7 +371,7 @@ fn far_loads(rt: HostRuntime) -> Result<(), Fail> {
         script.extend_from_slice(b"0 load 36\n")?;
     }
     let mut machine = machine_of(alloc, SQUARE, script.as_slice())?;
-    rounds(&mut machine, 1000000);
+    let is_live = is_live_in_rounds(&mut machine, 1000000);
     let order = machine.order(alloc)?;
     let last = order.last();
     let is_last = last.is_some_and(|row| is_row(
@@ -314,7 +380,8 @@ fn far_loads(rt: HostRuntime) -> Result<(), Fail> {
     ));
     let answers = machine.answers(0).unwrap_or(&[]);
     let is_long = order.len() == 4096 && answers.len() == 4096;
-    assert!(rt; machine.finished() && is_long && is_last, "the last row");
+    assert!(rt; is_live && machine.finished(), "some step was enabled");
+    assert!(rt; is_long && is_last, "the last row");
     for (index, answer) in answers.iter().enumerate() {
         let wanted = Answer {
             index: index as u32,
@@ -356,7 +423,11 @@ const NO_CHOICES: [(u32, Choice); 20] = [
 fn choices_that_no_agent_has_are_idle(rt: HostRuntime) -> Result<(), Fail> {
     let mut machine = machine_of(rt.alloc(), PAIR, b"0 load 0\n")?;
     for &(agent, choice) in &NO_CHOICES {
-        assert!(rt; !made(&mut machine, agent, choice), "agent {agent}");
+        let is_enabled = machine.enabled(Step { agent, choice });
+        assert!(rt;
+            !is_enabled && !made(&mut machine, agent, choice),
+            "agent {agent}"
+        );
     }
     Ok(())
 }

@@ -1,4 +1,4 @@
-use Rattle.std.proofs.Common.{◌≡◌}
+use Rattle.std.proofs.Common.{◌≡◌, ◌+◌, ◌*◌}
 use Rattle.core_laws.specs.Core.{attempts_of}
 use Rattle.machine_laws.specs.Core.{core_after}
 use Rattle.machine_core.specs.Rounds.{credits_of_all}
@@ -6,4 +6,4 @@ use Rattle.machine_core.proofs.machine.Machine.attempt_credits.Given as goal
 
 -- the ports so far are attempted
 abbrev pub invariant-loop-output : goal.invariant-loop-output
-invariant-loop-output g l = l.self ≡ core_after l.fn.self (attempts_of l.agent (credits_of_all l.output))
+invariant-loop-output g l = l.self ≡ core_after l.fn.self (attempts_of (3 * l.tile + 1) (credits_of_all l.output))

@@ -1,4 +1,4 @@
-use Rattle.std.proofs.Common.{◌≡◌}
+use Rattle.std.proofs.Common.{◌≡◌, ◌+◌, ◌*◌}
 use Rattle.core_laws.specs.Core.{attempts_of}
 use Rattle.machine_laws.specs.Core.{core_after}
 use Rattle.machine_core.specs.Rounds.{takes_of_all}
@@ -6,4 +6,4 @@ use Rattle.machine_core.proofs.machine.Machine.attempt_takes.Given as goal
 
 -- the ports so far are attempted
 abbrev pub invariant-loop-input : goal.invariant-loop-input
-invariant-loop-input g l = l.self ≡ core_after l.fn.self (attempts_of l.agent (takes_of_all l.input))
+invariant-loop-input g l = l.self ≡ core_after l.fn.self (attempts_of (3 * l.tile + 1) (takes_of_all l.input))

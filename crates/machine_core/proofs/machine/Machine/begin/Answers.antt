@@ -11,8 +11,8 @@ use Rattle.machine_core.proofs.Begins.{Begun, is_machine, is_after_none, has_roo
 use Rattle.machine_core.proofs.machine.Machine.begin.Given.{Over}
 use Rattle.machine_core.proofs.machine.Machine.begin.Goals as goal
 
-begun : (g : Over) (c : goal.In_ok-tiles g) → Begun
-    (record { torus = c.args.torus; depth = c.args.depth; tags = c.args.tags; opening = c.args.opening; tiles = c.in_ok-tiles.tiles; row = c.in_ok-row.row; book = c.in_ok-book.book })
+begun : (g : Over) (c : goal.After-most_moves-left g) → Begun
+    (record { torus = c.args.torus; depth = c.args.depth; tags = c.args.tags; opening = c.args.opening; tiles = c.in_ok-tiles.tiles; row = c.in_ok-row.row; book = c.in_ok-book.book; left = c.most_moves-left.result })
     (lists_of c.args.lists.items)
 begun g c =
     let l : Load = record { shape = c.args.torus; depth = c.args.depth; tags = c.args.tags; opening = c.args.opening.items; scripts = lists_of c.args.lists.items } in
@@ -38,7 +38,17 @@ begun g c =
           (λ p. c.processor_rooms-issues.ensures p ∙ ap (λ (xs : List (List Line)). operation_count (script_of xs p)) lists)
           homes (c.all_room-rows.ensures ∙ ap total_count lists_3)
           c.in_ok-book.ensures.issues c.in_ok-book.ensures.positions c.in_ok-book.ensures.rows;
+      left =
+          let all : c.all_room-rows.result ≡ total_count (lists_of c.args.lists.items) = c.all_room-rows.ensures ∙ ap total_count lists_3 in
+          omega (arith, c.most_moves-left.ensures, all, c.tiles-2.ensures.value);
     }
+
+pub most_moves-left-requires : goal.most_moves-left-requires
+most_moves-left-requires g c =
+    let lists_3 = ap (λ (xs : List (LineList _)). lists_of xs) c.as_slice-3.ensures.value in
+    let all : c.all_room-rows.result ≡ total_count (lists_of c.args.lists.items) = c.all_room-rows.ensures ∙ ap total_count lists_3 in
+    let total = c.requires.scripts.total in
+    omega (arith, all, total)
 
 pub new-requires-clause-positions : goal.new-requires-clause-positions
 new-requires-clause-positions g c =

@@ -2,7 +2,7 @@ use Rattle.std.proofs.Common.{◌≡◌, ◌++◌, true, sym, ◌∙◌, ap, sub
 use Rattle.machine_laws.specs.Core.{Core, IsAfter, all_finished}
 use Rattle.machine_laws.proofs.Machines.{after_steps}
 use Rattle.machine_core.specs.Rounds.{rounds_of}
-use Rattle.machine_core.proofs.Finishing.{finished_after, has_none, has_more, few_rounds, still_few, finished_run}
+use Rattle.machine_core.proofs.Finishing.{finished_after, has_none, has_more, few_rounds, few_now, still_few, finished_run}
 use Rattle.machine_core.proofs.machine.Machine.finish.Goals as goal
 
 pub loop-self-init : goal.loop-self-init
@@ -32,6 +32,7 @@ returns g c =
       state = made.so_far;
       needed = record { done = done; least = made.busy };
       few = λ l steps h. few_rounds l start steps h c.loop-self.rounds made.busy;
+      left = few_now c.reached.ensures.0 start c.reached.ensures.1 c.reached.ensures.2 c.loop-self.rounds made.busy;
       law = λ l before h. subst (λ (x : Core). IsAfter l x (before ++ rounds_of start.shape c.loop-self.rounds)) (sym made.so_far)
           (after_steps l start before (rounds_of start.shape c.loop-self.rounds) h);
       scripts = λ l before h. finished_run l start before h c.loop-self.rounds done;

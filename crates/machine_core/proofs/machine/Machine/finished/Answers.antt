@@ -1,12 +1,15 @@
-use Rattle.std.proofs.Common.{rules, ◌≡◌, ◌↔◌, Bool, true, length, sym, ◌∙◌, subst}
+use Rattle.std.proofs.Common.{rules, ◌≡◌, ◌↔◌, Bool, true, length, sym, ◌∙◌, ap, subst}
 use Rattle.std.proofs.lemmas.Iterator.{YieldsList-from_slice}
 use Rattle.std.proofs.lemmas.Iterator.Search.{all_from_yields_List}
 use Rattle.net_interface.specs.Following.{is_finished}
 use Rattle.flights.specs.Scripts.{AreFinished}
 use Rattle.tile_agents.specs.Placed.{PlacedTile}
 use Rattle.core_laws.specs.Core.{run_of}
-use Rattle.machine_laws.specs.Core.{all_finished}
+use Rattle.core_progress.specs.Moves.{IsLive}
+use Rattle.machine_laws.specs.Core.{Core, built_to, all_finished}
 use Rattle.machine_laws.proofs.Machines.{finished_of_machine}
+use Rattle.machine_laws.proofs.Moves.{lives}
+use Rattle.machine_core.specs.Inside.{core_of}
 use Rattle.machine_core.proofs.Views.{finished_tiles}
 use Rattle.machine_core.proofs.machine.Machine.finished.Goals as goal
 
@@ -14,6 +17,13 @@ pub returns-clause-value : goal.returns-clause-value
 returns-clause-value g c =
     let all = all_from_yields_List (λ (v : PlacedTile). is_finished v.place.processor.state.operations.following) _ _ c.all.result c.all.ensures.ran (YieldsList-from_slice c.self.inside.tiles.items (c.iter.ensures.rest ∙ c.deref.ensures.value)) (λ x b q k. search rules) in
     rw (← c.self.view_is) (all ∙ sym (finished_tiles c.self.inside))
+
+pub returns-clause-live : goal.returns-clause-live
+returns-clause-live g c = λ busy.
+    let is = c.self.invariant in
+    let value : c.all.result ≡ all_finished c.args.self.now.state = returns-clause-value g c in
+    subst (λ (x : Core). IsLive (built_to x) x.state) c.self.view_is
+    (lives is.load (core_of c.self.inside) is.steps is.after (ap (λ (x : Core). all_finished x.state) c.self.view_is ∙ (sym value ∙ busy)))
 
 pub returns-clause-law : goal.returns-clause-law
 returns-clause-law g c = λ l steps h.

@@ -1,0 +1,21 @@
+use Rattle.std.proofs.Common.{◌≡◌, ◌/◌, Some, sym, ◌∙◌, ap, arith, slice_get}
+use Rattle.tile_agents.specs.Placed.{PlacedTile}
+use Rattle.machine_core.proofs.Moving.{vec_at, word_in}
+use Rattle.machine_core.proofs.AskedSteps.{past_asked, tile_asked}
+use Rattle.machine_core.proofs.machine.Machine.enabled.Goals as goal
+
+pub returns-then-tile-len : goal.returns-then-tile-len
+returns-then-tile-len g c =
+    let past = c.self.inside.tiles.ok.0 in
+    rw (← c.self.view_is) (past_asked c.self.inside c.self.invariant c.args.attempt (omega arith))
+
+pub would_move-requires : goal.would_move-requires
+would_move-requires g c = record {
+  room = word_in c.self.inside c.self.invariant c.args.attempt c.index.result.now
+      (vec_at c.self.inside.tiles (c.args.attempt.agent / 3) c.index.result.now (omega arith) c.index.ensures);
+}
+
+pub returns : goal.returns
+returns g c =
+    rw (← c.self.view_is) (c.would_move.ensures ∙ tile_asked c.self.inside c.self.invariant c.args.attempt c.index.result.now
+    (vec_at c.self.inside.tiles (c.args.attempt.agent / 3) c.index.result.now (omega arith) c.index.ensures))

@@ -1,0 +1,11 @@
+use Rattle.std.proofs.Common.{◌≡◌, ℕ}
+use Rattle.torus.specs.declared.step.Choice.TheVariants.{Put}
+use Rattle.core_laws.specs.Core.{attempts_of}
+use Rattle.machine_core.specs.Rounds.{puts_of_all, first_in}
+use Rattle.machine_core.proofs.FirstEnabled.{from_port}
+use Rattle.machine_core.proofs.machine.Machine.enabled_put.Given as goal
+
+-- the puts that are left have the first that all of them have
+abbrev pub invariant-loop-input : goal.invariant-loop-input
+invariant-loop-input g l =
+    first_in l.self (from_port (λ (k : ℕ). Put k) l.agent l.ports l.input) ≡ first_in l.self (attempts_of l.agent (puts_of_all l.ports))

@@ -1,0 +1,17 @@
+use Rattle.std.proofs.Common.{◌≤◌, ap, ◌∙◌, subst}
+use Rattle.rounds.specs.Rounds.{moves_in}
+use Rattle.core_laws.specs.Core.{step}
+use Rattle.machine_laws.specs.Core.{Core, built_to}
+use Rattle.machine_laws.proofs.Moves.{most_left}
+use Rattle.machine_core.specs.Inside.{core_of}
+use Rattle.machine_core.proofs.machine.Machine.moves_left.Goals as goal
+
+pub returns : goal.returns
+returns g c =
+    let value = ap (λ (x : Core). x.moves_left) c.self.view_is in
+    record {
+      value = value;
+      law = λ l steps h. value ∙ h.moves;
+      exact = λ more. subst (λ (x : Core). moves_in (step (built_to x)) x.state more ≤ c.self.inside.left) c.self.view_is
+          (most_left c.self.invariant.load (core_of c.self.inside) c.self.invariant.steps c.self.invariant.after more);
+    }
