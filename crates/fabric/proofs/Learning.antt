@@ -1,28 +1,19 @@
 -- Seats that were put together, learned of both runs, and were cut again.
-use Rattle.std.proofs.Common.{◌≡◌, ◌⊎◌, ⊎_elim, zero, suc, arith, ◌+◌, get_or, false, true≢false, is_some, ◌<◌, None, ℕ, true, List, [], ◌∷◌, ◌++◌, length, Option, Some, refl, sym, ap, ◌∙◌, subst, inl, inr}
+use Rattle.std.proofs.Common.{◌≡◌, ◌⊎◌, ⊎_elim, ◌+◌, None, ℕ, List, [], ◌∷◌, ◌++◌, length, Option, Some, refl, sym, ap, ◌∙◌, subst, inl, inr}
 use Rattle.std.specs.Prelude.{slice_get}
 use Rattle.std.proofs.lemmas.List.{append-nil}
-use Rattle.std.proofs.lemmas.Option.{slice_get_read}
-use mathlib.Core.Option.{some, some-ne-none, some-injective}
-use mathlib.Core.Logic.{dite}
-use native.Mathlib.Decide.{ℕ_discrete}
-use lib.ListN.{get_elem?}
 use Rattle.atomic_table.specs.declared.shared.Seat.{Seat}
-use Rattle.atomic_table.specs.Table.{State}
-use Rattle.torus.specs.Shape.{tiles_of}
 use Rattle.torus.specs.declared.step.Step.{Step}
 use Rattle.tile_agents.specs.Placed.{PlacedTile}
 use Rattle.core_laws.specs.Core.{Load}
 use Rattle.core_laws.specs.Runs.{IsAccepted}
-use Rattle.fabric_laws.specs.Known.{tile_of, known, Shows, row_length}
+use Rattle.fabric_laws.specs.Known.{tile_of, known, row_length}
 use Rattle.fabric_laws.specs.View.{View}
 use Rattle.fabric_laws.specs.Groups.{Owns, In, Others, GoesOn, Begins, flat, first_group, other_groups, with_groups, first_half, second_half, both, knowing}
 use Rattle.fabric_laws.specs.Rule.{Learned}
 use Rattle.fabric_laws.proofs.Groups.{away, owns_append, owns_left, owns_right}
 use Rattle.fabric_laws.proofs.Runs.{known_away}
-use Rattle.fabric.specs.Table.{Holds}
-use Rattle.fabric.specs.Seats.{Knowing, seat_knows, with_run, Tied, Placed, Seated, Looking, Learns, JoinsTo, IsWhole, StandsAt, mix_at}
-use Rattle.fabric.proofs.Sharing.{ends}
+use Rattle.fabric.specs.Seats.{Knowing, seat_knows, with_run, Tied, Placed, Seated, Looking, Learns, JoinsTo, mix_at}
 use Rattle.fabric.proofs.Seating.{tied_grow, in_group}
 
 abbrev S : Type 0
@@ -176,48 +167,3 @@ joins_said s o z v u e f g h l table = subst (λ (k : Knowing). JoinsTo k u (sea
   (let a = from_one s.me.0 o.me.0 z.me.0 _ l in (a.0, a.1, subst (λ (gs : List (List ℕ)). Others gs a.0) g a.2)),
   (let a = from_other s.me.0 o.me.0 z.me.0 _ l in (a.0, a.1, subst (λ (gs : List (List ℕ)). Others gs a.0) h a.2)),
 ))
-
--- the end, where the seat has every tile
-pub closed_row : (load : Load) (s : S) (v : Knowing) (st : State (Unit {0}) View) → seat_knows s ≡ v → v.load ≡ load → s.me.0.groups ≡ first_group s.me.0.groups ∷ [] → IsWhole v → Holds load st → get_elem? st.views s.id ≡ some s.me.0 → Shows v.load st.words v.run
-closed_row load s v st e same one whole h at =
-    let P : Knowing → Type 0 = λ k. k.load ≡ load → IsWhole k → Shows k.load st.words k.run in
-    subst P e (λ p w. subst (λ (l : Load). Shows l st.words s.me.0.run) (sym p) (ends load s.id s.me.0 st h at (λ t lt. in_group s.me.0.groups t one (w t (subst (λ (l : Load). t < tiles_of l.shape) (sym p) lt))))) same whole
-
-pub closed_tiles : (slots : List (Option PlacedTile)) (s : S) (v : Knowing) → seat_knows s ≡ v → Seated slots s → IsWhole v → (t : ℕ) → t < tiles_of v.load.shape → (x : PlacedTile) × (slice_get slots t ≡ Some (Some x)) × StandsAt v.load v.run t x
-closed_tiles slots s v e k whole =
-    let P : Knowing → Type 0 = λ u. IsWhole u → (t : ℕ) → t < tiles_of u.load.shape → (x : PlacedTile) × (slice_get slots t ≡ Some (Some x)) × StandsAt u.load u.run t x in
-    subst P e (λ w t lt. let y = k.tied.all t (w t lt) in (y.0, y.1, (k.tied.own t y.0 y.1).1)) whole
-
-some_there : (slots : List (Option PlacedTile)) (t : ℕ) → t < length slots → (o : Option PlacedTile) × (slice_get slots t ≡ Some o)
-some_there [] t h = absurd (omega arith)
-some_there (x ∷ xs) zero h = (x, refl)
-some_there (x ∷ xs) (suc t) h = some_there xs t (omega arith)
-
--- a seat is whole where each slot has a tile
-pub whole_all : (slots : List (Option PlacedTile)) (s : S) (v : Knowing) → seat_knows s ≡ v → Seated slots s → ((k : ℕ) → k < length slots → (x : PlacedTile) × (slice_get slots k ≡ Some (Some x))) → IsWhole v
-whole_all slots s v e k all = subst IsWhole e (λ t lt. let p = all t (subst (λ (n : ℕ). t < n) (sym k.tied.room) lt) in (k.tied.own t p.0 p.1).0)
-
-pub not_whole : (slots : List (Option PlacedTile)) (s : S) (v : Knowing) (t : ℕ) → seat_knows s ≡ v → Seated slots s → t < length slots → slice_get slots t ≡ Some None → IsWhole v → ⊥
-not_whole slots s v t e k lt none whole =
-    let w : IsWhole (seat_knows s) = subst IsWhole (sym e) whole in
-    let p = k.tied.all t (w t (subst (λ (n : ℕ). t < n) k.tied.room lt)) in
-    clash (sym none ∙ p.1)
-  where
-    clash : {x : PlacedTile} → Some None ≡ Some (Some x) → ⊥
-    clash e = cc
-
-pub slot_none : (slots : List (Option PlacedTile)) (i : ℕ) (o : Option PlacedTile) → i < length slots → o ≡ get_or slots i o → is_some o ≡ false → slice_get slots i ≡ Some None
-slot_none slots i None lt e f = slice_get_read slots (length slots) i None refl lt e
-slot_none slots i (Some x) lt e f = absurd (true≢false f)
-
-pub slot_some : (slots : List (Option PlacedTile)) (i : ℕ) (o : Option PlacedTile) → i < length slots → o ≡ get_or slots i o → is_some o ≡ true → (x : PlacedTile) × (slice_get slots i ≡ Some (Some x))
-slot_some slots i None lt e f = absurd (true≢false (sym f))
-slot_some slots i (Some x) lt e f = (x, slice_get_read slots (length slots) i (Some x) refl lt e)
-
-pub some_more : (slots : List (Option PlacedTile)) (i : ℕ) → ((k : ℕ) → k < i → (x : PlacedTile) × (slice_get slots k ≡ Some (Some x))) → ((x : PlacedTile) × (slice_get slots i ≡ Some (Some x))) → (k : ℕ) → k < i + 1 → (x : PlacedTile) × (slice_get slots k ≡ Some (Some x))
-some_more slots i below here k lt = dite (ℕ_discrete k i) (λ e. (here.0, ap (slice_get slots) e ∙ here.1)) (λ n. below k (omega arith))
-
-pub elem_index : (l : List ℕ) (i a : ℕ) → get_elem? l i ≡ some a → a ≡ get_or l i 0
-elem_index [] i a e = absurd (some-ne-none a (sym e))
-elem_index (x ∷ l) zero a e = sym (some-injective x a e)
-elem_index (x ∷ l) (suc i) a e = elem_index l i a e

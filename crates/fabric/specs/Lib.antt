@@ -2,3 +2,8 @@ pub mod Key
 pub mod Table
 pub mod Turns
 pub mod Seats
+pub mod Ending
+pub mod Lawful
+pub mod Asking
+pub mod Opening
+pub mod Naming

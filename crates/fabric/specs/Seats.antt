@@ -1,5 +1,5 @@
 -- What callers see of a seat and of the fabric.
-use Rattle.std.specs.Prelude.{◌≡◌, ◌⊎◌, ℕ, ◌+◌, ◌*◌, ◌<◌, true, false, List, [], ◌∷◌, ◌++◌, length, slice_get, Option, None, Some, MatchBool}
+use Rattle.std.specs.Prelude.{◌≡◌, ◌⊎◌, ℕ, ◌+◌, ◌<◌, true, false, List, [], ◌∷◌, ◌++◌, length, slice_get, Option, None, Some, MatchBool}
 use Rattle.atomic_table.specs.Seated.{TableId}
 use Rattle.atomic_table.specs.declared.shared.Seat.{Seat}
 use Rattle.torus.specs.Shape.{tiles_of}
@@ -98,10 +98,3 @@ abbrev pub mix_at : {T : Type 0} → Option (Option T) → Option (Option T) →
 mix_at p None = p
 mix_at p (Some None) = p
 mix_at p (Some (Some y)) = Some (Some y)
-
--- what stands at the end: the tiles by number, the row, where its words of the memory begin, and how many these are
-pub record Ending : Type 0 where
-  pub slots : List (Option PlacedTile)
-  pub row : List ℕ
-  pub base : ℕ
-  pub words : ℕ

@@ -1,36 +1,17 @@
 -- What a turn makes of a view.
-use Rattle.std.specs.Prelude.{◌≡◌, ◌≢◌, ℕ, ◌%◌, nat_lt, Bool, true, false, List, [], ◌∷◌, ◌++◌, MatchBool, is_some, option_and_then}
+use Rattle.std.specs.Prelude.{◌≡◌, ◌≢◌, ℕ, ◌%◌, Bool, true, false, List, [], ◌∷◌, ◌++◌, MatchBool, is_some, option_and_then}
 use Rattle.torus.specs.Shape.{Shape, dims_of}
 use Rattle.torus.specs.declared.step.Step.{Step}
-use Rattle.torus.specs.declared.step.Choice.{Choice}
-use Rattle.torus.specs.declared.step.Choice.TheVariants as choice
+use Rattle.torus.specs.Choices.{has_choice as numbered_has}
 use Rattle.channel_number.specs.Ports.{port_count}
-use Rattle.tile.specs.Tile.{Agent, Processor, Router, Bank}
-use Rattle.tile.specs.Agents.{agent_numbered}
 use Rattle.core_laws.specs.Core.{Load}
 use Rattle.fabric_laws.specs.Known.{tile_of, known, enabled, op_of}
 use Rattle.fabric_laws.specs.View.{View}
 use Rattle.fabric_laws.specs.Groups.{In, Others, Begins, knowing}
 
--- whether an agent of a tile has a choice at all, by the number of the router's ports (this project's own format)
-abbrev pub agent_has : ℕ → Agent → Choice → Bool
-agent_has ports Processor choice.Send = true
-agent_has ports Processor choice.Take = true
-agent_has ports Processor choice.Credit = true
-agent_has ports Processor choice.Done = true
-agent_has ports Processor choice.Look = true
-agent_has ports Router (choice.TakeFrom i) = nat_lt i ports
-agent_has ports Router (choice.Put i) = nat_lt i ports
-agent_has ports Router (choice.CreditOf i) = nat_lt i ports
-agent_has ports Bank choice.Take = true
-agent_has ports Bank choice.Serve = true
-agent_has ports Bank choice.Send = true
-agent_has ports Bank choice.Credit = true
-agent_has ports _ _ = false
-
--- whether the step's agent has its choice
+-- whether the step's agent has its choice, by the number of the router's ports (this project's own format)
 abbrev pub has_choice : Shape → Step → Bool
-has_choice s attempt = agent_has (port_count (dims_of s)) (agent_numbered (attempt.agent % 3)) attempt.choice
+has_choice s attempt = numbered_has (port_count (dims_of s)) (attempt.agent % 3) attempt.choice
 
 -- whether the agent's own condition for the step holds after a run
 unfoldable pub ready : Load → List Step → Step → Bool

@@ -1,7 +1,12 @@
 //! Tiles run as threads over one shared row. Each seat knows a run of the core.
 #![tactic(auto)]
 
-mod choices;
+pub mod asking;
+mod dealing;
+pub mod ending;
+pub mod laws;
+mod opening;
 pub mod seats;
 pub mod steps;
+mod taking;
 pub mod view;

@@ -5,14 +5,13 @@ ghost use Rattle.fabric_laws.specs.Groups.{Begins};
 ghost use Rattle.fabric.specs.Seats.{Moves, Idles, Grows, IsNotMine, IsOf, Learns, JoinsTo, mix_at, with_run};
 ghost use Rattle.fabric.specs.declared.steps.Turned.TheVariants.{Moved, Idle, NotMine};
 
-use crate::choices::has_choice;
 use crate::steps::{Both, Halves, Learn, Look, Merge, Note, OneRun, Turned, turn_tile};
 use crate::view::{Dealing, Knowledge};
 use atomic_table::{Seat, Table};
 use std::alloc::{Allocator, Global};
 use std::marker::Model;
 use tile_agents::TileAgents;
-use torus::Step;
+use torus::{Step, Torus};
 
 /// A row of words that threads share, and the rule that it keeps.
 #[derive(Drop)]
@@ -23,6 +22,9 @@ pub struct Fabric<A: Allocator = Global> {
     pub(crate) base: usize,
     pub(crate) words: usize,
     pub(crate) ports: u32,
+    // What was loaded of shape and words.
+    pub(crate) torus: Torus,
+    pub(crate) opening: Vec<u64, A>,
 }
 
 impl<A: Allocator> Model for Fabric<A> {
@@ -37,7 +39,7 @@ impl<A: Allocator> Model for Fabric<A> {
 
     ghost view = { λ f. record { table = f.table.shared.table_id; load = f.table.shared.key.load } };
 
-    ghost invariant = { λ f. (f.base ≡ channel_count f.table.shared.key.load.shape * f.table.shared.key.load.depth) × (f.words ≡ length f.table.shared.key.load.opening) × (f.table.shared.table_id.words ≡ row_length f.table.shared.key.load) × (f.table.shared.table_id.slots ≡ 0) × (f.base + f.words < 2 ^ 32) × (f.ports ≡ port_count (dims_of f.table.shared.key.load.shape)) };
+    ghost invariant = { λ f. (f.base ≡ channel_count f.table.shared.key.load.shape * f.table.shared.key.load.depth) × (f.words ≡ length f.table.shared.key.load.opening) × (f.table.shared.table_id.words ≡ row_length f.table.shared.key.load) × (f.table.shared.table_id.slots ≡ 0) × (f.base + f.words < 2 ^ 32) × (f.ports ≡ port_count (dims_of f.table.shared.key.load.shape)) × (f.torus ≡ f.table.shared.key.load.shape) × (f.opening.items ≡ f.table.shared.key.load.opening) };
 }
 
 /// Some tiles, and what is known of the row. Contracts see what it knows.
@@ -92,7 +94,7 @@ impl<A: Allocator> Fabric<A> {
         let Some(tile) = &mut seat.slots[number] else {
             return Turned::NotMine;
         };
-        if !has_choice(self.ports, step) {
+        if !step.choice.is_of(step.agent % 3, self.ports) {
             return Turned::NotMine;
         }
         turn_tile(&self.table.shared, &mut seat.seat, tile, step)

@@ -6,3 +6,4 @@ pub mod Attempts
 pub mod Joining
 pub mod Cutting
 pub mod Ending
+pub mod Ends

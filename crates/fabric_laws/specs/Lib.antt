@@ -3,3 +3,4 @@ pub mod Told
 pub mod View
 pub mod Groups
 pub mod Rule
+pub mod Ended

@@ -1,10 +1,8 @@
-use Rattle.std.proofs.Common.{◌≡◌, Some, ◌/◌, arith, rules, sym, ap, ◌∙◌, subst, true}
+use Rattle.std.proofs.Common.{◌≡◌, Some, ◌/◌, arith}
 use Rattle.std.specs.Prelude.{slice_get}
 use Rattle.std.proofs.lemmas.Grind.{common_steps}
 use Rattle.std.proofs.lemmas.Option.{gets}
-use Rattle.fabric.specs.Turns.{has_choice}
-use Rattle.fabric.specs.Seats.{Knowing, seat_knows, IsNotMine}
-use Rattle.fabric.proofs.Seating.{seated_turn, not_not_mine}
+use Rattle.fabric.proofs.Seating.{seated_turn}
 use Rattle.fabric.proofs.seats.Fabric.turn.Goals as goal
 
 pub turn_tile-requires-clause-tile : goal.turn_tile-requires-clause-tile

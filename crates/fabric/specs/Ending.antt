@@ -1,0 +1,47 @@
+-- What a run shows at its end, and what callers see of it.
+use Rattle.std.specs.Prelude.{◌≡◌, ℕ, ◌*◌, ◌<◌, List, length, Option, Some, None, Bool, true, slice_get}
+use Rattle.torus.specs.Shape.{Shape, tiles_of}
+use Rattle.torus.specs.declared.step.Step.{Step}
+use Rattle.channel_number.specs.Order.{channel_count}
+use Rattle.runs.specs.Observed.{Observed}
+use Rattle.tile_agents.specs.Placed.{PlacedTile}
+use Rattle.net_interface.specs.Following.{is_finished}
+use Rattle.core_laws.specs.Core.{Load, after, show}
+use Rattle.core_laws.specs.Runs.{IsAccepted}
+use Rattle.fabric_laws.specs.Known.{Shows}
+use Rattle.fabric_laws.specs.View.{View}
+use Rattle.fabric.specs.Seats.{StandsAt}
+
+-- what was loaded, and the run that has ended (this project's own format)
+pub record Ended : Type 0 where
+  pub load : Load
+  pub run : List Step
+
+-- of a view, what was loaded and the run
+abbrev pub ended : View → Ended
+ended v = record { load = v.load; run = v.run }
+
+-- what is shown after a run: operations issued, answers, entries of the banks, and the words by address
+abbrev pub shown_after : Load → List Step → Observed
+shown_after load run = show (length load.opening) (after load run)
+
+-- each slot has its tile, as it stands after the run (this project's own format)
+pub record HasAll (slots : List (Option PlacedTile)) (load : Load) (run : List Step) : Type 0 where
+  pub room : length slots ≡ tiles_of load.shape
+  pub each : (t : ℕ) → t < tiles_of load.shape
+      → (x : PlacedTile) × (slice_get slots t ≡ Some (Some x)) × StandsAt load run t x
+
+-- whether the script of a slot's tile is finished; an empty slot has none that isn't
+abbrev pub slot_finished : Option PlacedTile → Bool
+slot_finished None = true
+slot_finished (Some x) = is_finished x.place.processor.state.operations.following
+
+-- what is kept at the end: all tiles, the row, where the words of the memory begin in it, the torus, and the opening
+-- words (this project's own format)
+pub record IsEnd (last : Ended) (slots : List (Option PlacedTile)) (words : List ℕ) (start : ℕ) (shape : Shape) (first : List ℕ) : Type 0 where
+  pub accepted : IsAccepted last.load
+  pub tiles : HasAll slots last.load last.run
+  pub row : Shows last.load words last.run
+  pub base : start ≡ channel_count last.load.shape * last.load.depth
+  pub torus : shape ≡ last.load.shape
+  pub opening : first ≡ last.load.opening

@@ -1,0 +1,61 @@
+//! What a seat says of its tiles, and a fabric of its routers, without a look at the row.
+ghost use Rattle.std.specs.Prelude.{◌≡◌, ◌≤◌, ◌<◌, ◌↔◌, ℕ, IsTrue, IfNone, IfSome};
+ghost use Rattle.torus.specs.Shape.{dims_of, tiles_of};
+ghost use Rattle.channel_number.specs.Ports.{port_count};
+ghost use Rattle.core_laws.specs.Runs.{IsAccepted};
+ghost use Rattle.fabric_laws.specs.Groups.{Owns};
+ghost use Rattle.fabric_laws.specs.Ended.{AreAllFinished};
+ghost use Rattle.fabric.specs.Asking.{HasSeen, IsNextTile};
+
+use crate::seats::{Fabric, TileSeat};
+use std::alloc::Allocator;
+
+impl<A: Allocator> Fabric<A> {
+    /// How many ports a router of the torus has.
+    pub fn ports(&self) -> u32
+        ensures { result ≡ port_count (dims_of self.now.load.shape) }
+    {
+        self.ports
+    }
+}
+
+impl<A: Allocator> TileSeat<A> {
+    /// What was loaded was accepted.
+    pub fn accepted(&self)
+        ensures { IsAccepted self.now.load }
+    {
+        let _ = &self.slots;
+    }
+
+    /// The least tile of the seat's that is this one or a later one; `None` exactly where there is none.
+    pub fn next_tile(&self, from: usize) -> Option<usize>
+        ensures some { IfSome result (IsNextTile self.now.tiles from) }
+        ensures within { IfSome result (λ t. t < tiles_of self.now.load.shape) }
+        ensures none { IfNone result ((t : ℕ) → from ≤ t → Owns self.now.tiles t → ⊥) }
+    {
+        for number in from..self.slots.len() {
+            if self.slots[number].is_some() {
+                return Some(number);
+            }
+        }
+        None
+    }
+
+    /// Whether the seat has a tile, and all its processors have seen the end. If so, every script is
+    /// finished in the run that the seat knows.
+    pub fn has_seen(&self) -> bool
+        ensures seen { IsTrue result ↔ HasSeen self.now }
+        ensures ended { IsTrue result → AreAllFinished self.now.load self.now.run }
+    {
+        let mut some = false;
+        for number in 0..self.slots.len() {
+            if let Some(tile) = &self.slots[number] {
+                if !tile.has_seen() {
+                    return false;
+                }
+                some = true;
+            }
+        }
+        some
+    }
+}
