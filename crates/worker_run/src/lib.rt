@@ -1,0 +1,11 @@
+//! Workers: each steps the tiles of a seat in a thread of its own, round after round.
+#![tactic(auto)]
+
+pub mod gate;
+pub mod place;
+pub mod worker;
+pub mod working;
+
+pub use gate::Gate;
+pub use worker::{End, Worker};
+pub use working::run_workers;
