@@ -2,8 +2,8 @@ ghost use Rattle.std.specs.Prelude.{None};
 
 use arrayvec::{ArrayString, ArrayVec};
 use commands::{
-    ProgramFault, channels_text, check_text, fault_text, finished, round_text, route_text,
-    status_of, steps_text,
+    ProgramFault, Progress, channels_text, check_text, fault_text, finished, round_text,
+    round_text_with, route_text, status_of, steps_text,
 };
 use linked_list_allocator::LocalHeap;
 use report_lines::{Out, Piped};
@@ -785,4 +785,115 @@ fn greatest_sizes(rt: HostRuntime) -> Result<(), Fail> {
     let verdict = check_text(rt.alloc(), &report, &mut Sink::whole());
     assert!(rt; answer == Ok(true) && verdict == Ok(()) && line_count(&report) == 262147);
     Ok(())
+}
+
+/// Counts what a run in rounds tells. It wants to be told after each so many rounds, and never for 0.
+#[derive(Drop)]
+struct Watch {
+    every: u64,
+    asked: u64,
+    told: u64,
+    rounds: u64,
+    answered: u64,
+    ended: u64,
+}
+
+impl Watch {
+    fn new(every: u64) -> Self {
+        Watch {
+            every,
+            asked: 0,
+            told: 0,
+            rounds: 0,
+            answered: 0,
+            ended: 0,
+        }
+    }
+
+    /// Whether it was told so often, of so many rounds and answers at last, and of the end so often.
+    fn saw(&self, told: u64, rounds: u64, answered: u64, ended: u64) -> bool {
+        self.told == told
+            && self.rounds == rounds
+            && self.answered == answered
+            && self.ended == ended
+    }
+}
+
+impl Progress for Watch {
+    fn wants(&mut self) -> bool {
+        self.asked = self.asked.saturating_add(1);
+        self.every != 0 && self.asked % self.every == 0
+    }
+
+    /// Notes what it is told, where that comes before the end, of more rounds and no fewer answers.
+    fn made(&mut self, rounds: u64, answered: u64) {
+        if self.ended == 0 && rounds > self.rounds && answered >= self.answered {
+            self.told = self.told.saturating_add(1);
+            self.rounds = rounds;
+            self.answered = answered;
+        }
+    }
+
+    fn ended(&mut self) {
+        self.ended = self.ended.saturating_add(1);
+    }
+}
+
+/// Runs in rounds that are watched: the scripts of two tiles, the most rounds, after how many it wants
+/// to be told; how often it is told, and of how many rounds and answers at last.
+const WATCHED: [(&str, u64, u64, u64, u64, u64); 8] = [
+    (SCRIPT, 1000000, 1, 12, 12, 2),
+    (SCRIPT, 1000000, 5, 2, 10, 1),
+    (SCRIPT, 1000000, 0, 0, 0, 0),
+    (SCRIPT, 3, 1, 3, 3, 0),
+    (SCRIPT, 0, 1, 0, 0, 0),
+    ("0 load 0\n1 load 1\n", 1000000, 1, 5, 5, 2),
+    ("0 load 0\n1 load 1\n", 1000000, 6, 0, 0, 0),
+    ("", 1000000, 1, 0, 0, 0),
+];
+
+/// However often a run is watched, it answers and writes the same; and it tells what was made.
+#[test]
+fn watched_runs_are_the_same(rt: HostRuntime) {
+    for &(script, rounds, every, told, made, answered) in &WATCHED {
+        let (machine, scripts) = (PAIR.as_bytes(), script.as_bytes());
+        let mut alone = Sink::whole();
+        let answer = round_text(rt.alloc(), machine, scripts, rounds, &mut alone);
+        let mut watch = Watch::new(every);
+        let mut sink = Sink::whole();
+        let seen = round_text_with(rt.alloc(), machine, scripts, rounds, &mut sink, &mut watch);
+        let is_same = seen == answer && sink.bytes.as_slice() == alone.bytes.as_slice();
+        assert!(rt;
+            is_same && watch.saw(told, made, answered, 1),
+            "{script}, {rounds}, {every}"
+        );
+    }
+}
+
+/// A fault of the texts comes before anything is told; an output that fails, after the end is.
+#[test]
+fn watched_runs_have_faults(rt: HostRuntime) {
+    let mut watch = Watch::new(1);
+    let (machine, scripts) = (PAIR.as_bytes(), b"0 load 8\n");
+    let faulty = round_text_with(
+        rt.alloc(),
+        machine,
+        scripts,
+        12,
+        &mut Sink::whole(),
+        &mut watch,
+    );
+    assert!(rt;
+        matches!(faulty, Err(ProgramFault::Line(_))) && watch.asked == 0 && watch.ended == 0
+    );
+    let mut sink = Sink::new(4096, 1);
+    let failed = round_text_with(
+        rt.alloc(),
+        machine,
+        SCRIPT.as_bytes(),
+        12,
+        &mut sink,
+        &mut watch,
+    );
+    assert!(rt; failed == Err(ProgramFault::Output) && watch.saw(12, 12, 2, 1));
 }

@@ -1,3 +1,4 @@
 pub mod Pieces
 pub mod Asked
 pub mod InRounds
+pub mod Counted

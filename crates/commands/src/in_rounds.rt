@@ -1,7 +1,9 @@
-ghost use Rattle.std.specs.Prelude.{IfErr, IfOk, []};
+ghost use Rattle.std.specs.Prelude.{◌≡◌, IfErr, IfOk, [], length};
+ghost use Rattle.std.specs.Io.Iter.{u64_saturate};
+ghost use Rattle.std.specs.List.{sum_by};
 ghost use Rattle.std.specs.Str.Lines.{lines};
 ghost use Rattle.flights.specs.Load.{Load};
-ghost use Rattle.machine_laws.specs.Core.{IsAfter};
+ghost use Rattle.machine_laws.specs.Core.{IsAfter, shown};
 ghost use Rattle.commands.specs.Done.{output};
 ghost use Rattle.commands.specs.Run.{IsReadFault};
 ghost use Rattle.commands.specs.Rounds.{HasLoaded, HasMadeRounds, PrintsRounds, load_by};
@@ -9,10 +11,37 @@ ghost use Rattle.commands.specs.Rounds.{HasLoaded, HasMadeRounds, PrintsRounds, 
 use crate::ProgramFault;
 use crate::steps::print_run;
 use machine_core::Machine;
-use machine_laws::laws::steps_decide_the_machine;
+use machine_laws::laws::{reached_machines_report_well, steps_decide_the_machine};
 use report_lines::Out;
 use script::{read_machine, read_scripts};
 use std::alloc::Allocator;
+
+/// Watches a run in rounds. Whatever it does, the run and its report are the same.
+pub trait Progress {
+    /// Whether it wants to be told how far the run is. Asked once after each round, so it is to cost
+    /// little.
+    fn wants(&mut self) -> bool;
+
+    /// So many rounds are made, and so many operations are answered.
+    fn made(&mut self, rounds: u64, answered: u64);
+
+    /// No more rounds are made, and the report is written next.
+    fn ended(&mut self);
+}
+
+/// Watches nothing.
+#[derive(Clone, Copy, Debug)]
+pub struct Silent;
+
+impl Progress for Silent {
+    fn wants(&mut self) -> bool {
+        false
+    }
+
+    fn made(&mut self, _rounds: u64, _answered: u64) {}
+
+    fn ended(&mut self) {}
+}
 
 /// Runs the machine of a text, whose processors follow the scripts of a text, in rounds: until every
 /// script is finished, and at most so many rounds. Prints the report of the run. Answers whether
@@ -29,8 +58,26 @@ pub fn round_text<A: Allocator + Copy, W: Out>(
 ) -> Result<bool, ProgramFault>
     ensures { PrintsRounds (load_by (lines machine.now) (lines scripts.now)) rounds (output (W.taken out.old) (W.failures out.old)) (output (W.taken out.new) (W.failures out.new)) result }
 {
+    round_text_with(alloc, machine, scripts, rounds, out, &mut Silent)
+}
+
+/// Does what `round_text` does, and tells `progress` how far the run is, as often as it wants. A fault
+/// of the texts, and want of memory for the machine, come before it is told anything.
+///
+/// Errors: as `round_text`.
+pub fn round_text_with<A: Allocator + Copy, W: Out, P: Progress>(
+    alloc: A,
+    machine: &[u8],
+    scripts: &[u8],
+    rounds: u64,
+    out: &mut W,
+    progress: &mut P,
+) -> Result<bool, ProgramFault>
+    ensures { PrintsRounds (load_by (lines machine.now) (lines scripts.now)) rounds (output (W.taken out.old) (W.failures out.old)) (output (W.taken out.new) (W.failures out.new)) result }
+{
     let mut machine = loaded(alloc, machine, scripts)?;
-    make_rounds(&mut machine, rounds);
+    make_rounds(&mut machine, rounds, progress);
+    progress.ended();
     steps_decide_the_machine();
     print_run(alloc, &machine, out)
 }
@@ -49,14 +96,33 @@ fn loaded<A: Allocator + Copy>(
     Ok(Machine::load(alloc, machine, scripts)?)
 }
 
-/// Makes rounds until every script is finished, and at most so many.
-fn make_rounds<A: Allocator>(machine: &mut Machine<A>, rounds: u64)
+/// Makes rounds until every script is finished, and at most so many. Operations are counted only where
+/// `progress` wants to be told of them.
+fn make_rounds<A: Allocator, P: Progress>(machine: &mut Machine<A>, rounds: u64, progress: &mut P)
     ensures { (l : Load) → IsAfter l machine.old [] → HasMadeRounds l rounds machine.new }
 {
-    for _ in 0..rounds {
+    for before in 0..rounds {
         if machine.finished() {
             return;
         }
         machine.round();
+        if progress.wants() {
+            progress.made(before + 1, answered(machine));
+        }
     }
+}
+
+/// How many operations are answered; at most `u64::MAX`.
+fn answered<A: Allocator>(machine: &Machine<A>) -> u64
+    ensures { result ≡ u64_saturate (sum_by length (shown machine.now).answers) }
+{
+    machine.reached();
+    reached_machines_report_well();
+    let mut count: u64 = 0;
+    for processor in 0..machine.torus().tiles() {
+        if let Some(answers) = machine.answers(processor) {
+            count = count.saturating_add(answers.len() as u64);
+        }
+    }
+    count
 }

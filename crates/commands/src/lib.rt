@@ -14,7 +14,7 @@ pub mod steps;
 pub use channels::channels_text;
 pub use check::check_text;
 pub use fault::{ProgramFault, finished, status_of};
-pub use in_rounds::round_text;
+pub use in_rounds::{Progress, Silent, round_text, round_text_with};
 pub use message::fault_text;
 pub use route::route_text;
 pub use steps::steps_text;

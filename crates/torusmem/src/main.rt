@@ -2,16 +2,18 @@
 #![tactic(auto)]
 
 mod command;
+mod progress_line;
 
 use command::{Job, read_command};
 use commands::{
-    ProgramFault, channels_text, check_text, fault_text, finished, round_text, route_text,
+    ProgramFault, channels_text, check_text, fault_text, finished, round_text_with, route_text,
     status_of, steps_text,
 };
+use progress_line::ProgressLine;
 use report_lines::{Out, Piped};
-use std::io::{BufWriter, ErrorKind, Write};
+use std::io::{BufWriter, ErrorKind, IsTerminal, Write};
 use std::process::ExitCode;
-use std::rt::{Env, Files};
+use std::rt::{Clock, Env, Files};
 use std::{env, fs, io};
 use torus::Fault;
 
@@ -30,17 +32,19 @@ impl From<ProgramFault> for Failure<'_> {
 }
 
 fn main(rt: HostRuntime) -> ExitCode {
-    ExitCode::from(run(&rt))
+    let is_seen = rt.stderr().is_terminal();
+    ExitCode::from(run(&rt, is_seen))
 }
 
-/// Does what the command line asks for, and answers the exit status.
-fn run<R: Env + Files + Print + Eprint + AllocGlobal>(rt: &R) -> u8 {
+/// Does what the command line asks for, and answers the exit status. Where standard error `is_seen`,
+/// a long run says there how far it is.
+fn run<R: Env + Files + Print + Eprint + Clock + AllocGlobal>(rt: &R, is_seen: bool) -> u8 {
     let Ok(words) = words(rt) else {
         let _ = eprintln!(rt; "the command line can't be read");
         return 2;
     };
     match read_command(rt.alloc(), words.as_slice()) {
-        Ok(job) => done(rt, &job),
+        Ok(job) => done(rt, &job, is_seen),
         Err(error) => {
             let _ = eprint!(rt; "{error}");
             2
@@ -53,8 +57,8 @@ fn words<R: Env + AllocGlobal>(rt: &R) -> io::Result<Vec<String>> {
 }
 
 /// Does the job: results go to standard output, and a fault goes to standard error.
-fn done<R: Files + Print + Eprint + AllocGlobal>(rt: &R, job: &Job) -> u8 {
-    match printed(rt, job) {
+fn done<R: Files + Print + Eprint + Clock + AllocGlobal>(rt: &R, job: &Job, is_seen: bool) -> u8 {
+    match printed(rt, job, is_seen) {
         Ok(finished) => status_of(&Ok(finished)),
         Err(Failure::Unread(name)) => {
             let _ = eprintln!(rt; "cannot read {name}");
@@ -69,11 +73,15 @@ fn done<R: Files + Print + Eprint + AllocGlobal>(rt: &R, job: &Job) -> u8 {
 }
 
 /// The answer of the job, whose output was written to its last byte.
-fn printed<'a, R: Files + Print + AllocGlobal>(rt: &R, job: &Job<'a>) -> Result<bool, Failure<'a>> {
+fn printed<'a, R: Files + Print + Eprint + Clock + AllocGlobal>(
+    rt: &R,
+    job: &Job<'a>,
+    is_seen: bool,
+) -> Result<bool, Failure<'a>> {
     let Ok(mut writer) = BufWriter::new(rt.alloc(), io::writer(rt)) else {
         return Err(Failure::Fault(ProgramFault::Fault(Fault::Memory)));
     };
-    let answer = answer(rt, job, &mut Piped::new(&mut writer))?;
+    let answer = answer(rt, job, is_seen, &mut Piped::new(&mut writer))?;
     if writer.flush().is_err() {
         return Err(Failure::Fault(ProgramFault::Output));
     }
@@ -81,9 +89,10 @@ fn printed<'a, R: Files + Print + AllocGlobal>(rt: &R, job: &Job<'a>) -> Result<
 }
 
 /// The answer of the job: whether every script is finished.
-fn answer<'a, R: Files + AllocGlobal, W: Out>(
+fn answer<'a, R: Files + Eprint + Clock + AllocGlobal, W: Out>(
     rt: &R,
     job: &Job<'a>,
+    is_seen: bool,
     out: &mut W,
 ) -> Result<bool, Failure<'a>> {
     let alloc = rt.alloc();
@@ -106,7 +115,8 @@ fn answer<'a, R: Files + AllocGlobal, W: Out>(
             let machine = text(rt, machine)?;
             let script = text(rt, script)?;
             let rounds = u64::from(rounds);
-            Ok(round_text(alloc, &machine, &script, rounds, out)?)
+            let mut line = ProgressLine::new(rt, is_seen);
+            Ok(round_text_with(alloc, &machine, &script, rounds, out, &mut line)?)
         }
         Job::Route {
             machine,

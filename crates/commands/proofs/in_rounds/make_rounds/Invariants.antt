@@ -5,5 +5,5 @@ use Rattle.commands.proofs.InRounds.{HasMade}
 use Rattle.commands.proofs.in_rounds.make_rounds.Given as goal
 
 -- the rounds so far are made, and before each not every script was finished
-abbrev pub invariant-loop : goal.invariant-loop
-invariant-loop g l = (load : Load) → IsAfter load l.fn.machine [] → HasMade load l.counter l.machine
+abbrev pub invariant-loop-before : goal.invariant-loop-before
+invariant-loop-before g l = (load : Load) → IsAfter load l.fn.machine [] → HasMade load l.before l.machine

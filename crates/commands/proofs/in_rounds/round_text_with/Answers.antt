@@ -7,7 +7,7 @@ use Rattle.commands.specs.Run.{IsNoFault, IsOfMachine, IsTextsFault}
 use Rattle.commands.specs.Rounds.{HasLoaded, HasMadeRounds, IsRoundText, load_by}
 use Rattle.commands.proofs.Asked.{does_more}
 use Rattle.commands.proofs.InRounds.{rounds_printed}
-use Rattle.commands.proofs.in_rounds.round_text.Goals as goal
+use Rattle.commands.proofs.in_rounds.round_text_with.Goals as goal
 
 pub returns : goal.returns
 returns g c =

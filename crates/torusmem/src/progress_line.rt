@@ -1,0 +1,72 @@
+use commands::Progress;
+use std::rt::Clock;
+use std::time::Instant;
+
+/// How many rounds are made between two looks at the clock.
+const ROUNDS_A_LOOK: u32 = 1024;
+
+/// How many seconds a line stands at least before it is written anew.
+const SECONDS_A_LINE: u64 = 1;
+
+/// A line on standard error that tells how far a run in rounds is, and rewrites itself: first after
+/// `ROUNDS_A_LOOK` rounds, and then about once in `SECONDS_A_LINE`.
+#[derive(Drop)]
+pub(crate) struct ProgressLine<'a, R> {
+    rt: &'a R,
+    is_wanted: bool,
+    /// How many rounds were made since the last look at the clock.
+    rounds: u32,
+    /// When the line that stands there was written.
+    written: Option<Instant>,
+}
+
+impl<'a, R: Eprint + Clock> ProgressLine<'a, R> {
+    /// The line of a run that begins. Nothing is ever written where it isn't wanted.
+    pub(crate) fn new(rt: &'a R, is_wanted: bool) -> Self {
+        ProgressLine {
+            rt,
+            is_wanted,
+            rounds: 0,
+            written: None,
+        }
+    }
+
+    /// Whether the line is to be written, at a look at the clock; not where there is none.
+    fn is_due(&mut self) -> bool {
+        let Ok(now) = Instant::now(self.rt) else {
+            return false;
+        };
+        if let Some(written) = self.written {
+            if now.duration_since(written).as_secs() < SECONDS_A_LINE {
+                return false;
+            }
+        }
+        self.written = Some(now);
+        true
+    }
+}
+
+impl<R: Eprint + Clock> Progress for ProgressLine<'_, R> {
+    fn wants(&mut self) -> bool {
+        if !self.is_wanted {
+            return false;
+        }
+        self.rounds = self.rounds.saturating_add(1);
+        if self.rounds < ROUNDS_A_LOOK {
+            return false;
+        }
+        self.rounds = 0;
+        self.is_due()
+    }
+
+    fn made(&mut self, rounds: u64, answered: u64) {
+        let _ = eprint!(self.rt; "\r\x1b[Krounds made {rounds}, operations answered {answered}");
+    }
+
+    fn ended(&mut self) {
+        if self.written.is_some() {
+            self.written = None;
+            let _ = eprint!(self.rt; "\r\x1b[K");
+        }
+    }
+}
