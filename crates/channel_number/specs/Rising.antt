@@ -26,7 +26,8 @@ pub record Fails (s : Shape) (numbers : List ℕ) (e : NotRising) : Type 0 where
 -- the first such case, in the order of class, source, destination and hop: at each earlier one the numbers rise (this project's own format)
 pub record IsFirstFailing (s : Shape) (numbers : List ℕ) (e : NotRising) : Type 0 where
   pub fails : Fails s numbers e
-  pub hops_before : (hop : ℕ) → hop < e.hop → slice_index (along s numbers e.class e.src e.dst) hop < slice_index (along s numbers e.class e.src e.dst) (hop + 1)
+  pub hops_before : (hop : ℕ) → hop < e.hop
+      → slice_index (along s numbers e.class e.src e.dst) hop < slice_index (along s numbers e.class e.src e.dst) (hop + 1)
   pub destinations_before : (dst : ℕ) → dst < e.dst → IsStrictlyIncreasing (along s numbers e.class e.src dst)
   pub sources_before : (src dst : ℕ) → src < e.src → dst < tiles_of s → IsStrictlyIncreasing (along s numbers e.class src dst)
   pub classes_before : e.class ≡ Reply → (src dst : ℕ) → src < tiles_of s → dst < tiles_of s → IsStrictlyIncreasing (along s numbers Request src dst)

@@ -67,7 +67,8 @@ pub fn first_steps_begin_the_run()
 
 /// Every run from an accepted load has one legal order, that of its services.
 pub fn runs_have_one_order()
-    ensures { (l : Load) → IsAccepted l → (steps : List Step) (n : ℕ) → (rows : List Ordered) × HasOneOrder (tiles_of l.shape) l.tags l.opening (run_of l steps) n rows }
+    ensures { (l : Load) → IsAccepted l → (steps : List Step) (n : ℕ) → (rows : List Ordered)
+        × HasOneOrder (tiles_of l.shape) l.tags l.opening (run_of l steps) n rows }
 {}
 
 /// Of each bank and processor, the bank's entries of the processor are a beginning of the operations
@@ -80,7 +81,8 @@ pub fn banks_serve_in_turn()
 /// those whose heads the sender has put: none is invented, doubled, mixed or overtaken. The requests
 /// are those noted at the issues, each under the tag under which its operation was issued.
 pub fn packets_are_delivered_in_order()
-    ensures { (l : Load) → IsAccepted l → (steps : List Step) (n : ℕ) → DeliversPackets (design_of l) (length l.opening) (state_after l steps n) (noted l steps n).requests (noted l steps n).taken }
+    ensures { (l : Load) → IsAccepted l → (steps : List Step) (n : ℕ)
+        → DeliversPackets (design_of l) (length l.opening) (state_after l steps n) (noted l steps n).requests (noted l steps n).taken }
 {}
 
 /// Of each processor and bank, the answers in the order of answering are a beginning of the bank's
@@ -93,7 +95,8 @@ pub fn answers_come_in_turn()
 /// credits held and the credits returning add up to the depth.
 pub fn credits_add_up()
     ensures count { (l : Load) → IsAccepted l → (steps : List Step) (n : ℕ) → length (state_after l steps n).around.rings ≡ channel_count l.shape }
-    ensures depth { (l : Load) → IsAccepted l → (steps : List Step) (n x : ℕ) → x < channel_count l.shape → IsChannelState l.depth (ring (state_after l steps n).around.rings x).channel }
+    ensures depth { (l : Load) → IsAccepted l → (steps : List Step) (n x : ℕ) → x < channel_count l.shape
+        → IsChannelState l.depth (ring (state_after l steps n).around.rings x).channel }
 {}
 
 /// In every state that a run reaches the done word counts the processors that have reported; only
@@ -131,15 +134,21 @@ pub fn choices_look_at_their_own_part()
 /// A choice that is enabled in two states leaves them the same at the end of the channel, or in the
 /// word, that it wants, where they were the same there and so was the agent.
 pub fn choices_change_their_own_part_alike()
-    ensures processor { (d : Design) (t : ℕ) (v w : TileState) (a b : Surroundings) (choice : Choice) (p q : TileState × Surroundings) (want : Want) → v.processor ≡ w.processor → length a.words ≡ length b.words
+    ensures processor { (d : Design) (t : ℕ) (v w : TileState) (a b : Surroundings) (choice : Choice) (p q : TileState × Surroundings) (want : Want)
+        → v.processor ≡ w.processor → length a.words ≡ length b.words
         → tile_step d t v a Processor choice ≡ Some p → tile_step d t w b Processor choice ≡ Some q
-        → processor_wants (tiles_of d.shape) d.words t v.processor choice ≡ Some want → SameWhereWanted a b (processor_wiring d.shape t) want → SameWhereWanted p.1 q.1 (processor_wiring d.shape t) want }
-    ensures router { (d : Design) (t : ℕ) (v w : TileState) (a b : Surroundings) (choice : Choice) (p q : TileState × Surroundings) (want : Want) → v.router ≡ w.router → length a.words ≡ length b.words
+        → processor_wants (tiles_of d.shape) d.words t v.processor choice ≡ Some want
+        → SameWhereWanted a b (processor_wiring d.shape t) want → SameWhereWanted p.1 q.1 (processor_wiring d.shape t) want }
+    ensures router { (d : Design) (t : ℕ) (v w : TileState) (a b : Surroundings) (choice : Choice) (p q : TileState × Surroundings) (want : Want)
+        → v.router ≡ w.router → length a.words ≡ length b.words
         → tile_step d t v a Router choice ≡ Some p → tile_step d t w b Router choice ≡ Some q
-        → router_wants d.shape t v.router choice ≡ Some want → SameWhereWanted a b (router_wiring d.shape t) want → SameWhereWanted p.1 q.1 (router_wiring d.shape t) want }
-    ensures bank { (d : Design) (t : ℕ) (v w : TileState) (a b : Surroundings) (choice : Choice) (p q : TileState × Surroundings) (want : Want) → v.bank ≡ w.bank → length a.words ≡ length b.words
+        → router_wants d.shape t v.router choice ≡ Some want → SameWhereWanted a b (router_wiring d.shape t) want
+        → SameWhereWanted p.1 q.1 (router_wiring d.shape t) want }
+    ensures bank { (d : Design) (t : ℕ) (v w : TileState) (a b : Surroundings) (choice : Choice) (p q : TileState × Surroundings) (want : Want)
+        → v.bank ≡ w.bank → length a.words ≡ length b.words
         → tile_step d t v a Bank choice ≡ Some p → tile_step d t w b Bank choice ≡ Some q
-        → bank_wants (tiles_of d.shape) t v.bank choice ≡ Some want → SameWhereWanted a b (bank_wiring d.shape t) want → SameWhereWanted p.1 q.1 (bank_wiring d.shape t) want }
+        → bank_wants (tiles_of d.shape) t v.bank choice ≡ Some want → SameWhereWanted a b (bank_wiring d.shape t) want
+        → SameWhereWanted p.1 q.1 (bank_wiring d.shape t) want }
 {}
 
 /// A step touches one agent: the other tiles stay, and so do the other agents of its tile; of the
@@ -169,13 +178,15 @@ pub fn agents_find_what_they_ask()
 /// The flights of every run, that is the machine without its network and the packets on their way, go
 /// from where nothing has happened by found moves: so each law of such courses holds of the run.
 pub fn runs_are_courses()
-    ensures { (l : Load) → IsAccepted l → (steps : List Step) (n : ℕ) → IsCourse (tiles_of l.shape) l.tags l.opening l.scripts (flight_after l steps) (move_after l steps) n }
+    ensures { (l : Load) → IsAccepted l → (steps : List Step) (n : ℕ)
+        → IsCourse (tiles_of l.shape) l.tags l.opening l.scripts (flight_after l steps) (move_after l steps) n }
 {}
 
 /// Each step is an event of the network that may happen, or none; the network after these events
 /// mirrors the machine's channels and agents, and no two packets mix or lose their way in it.
 pub fn steps_are_events_of_the_network()
-    ensures may { (l : Load) → IsAccepted l → (steps : List Step) (n : ℕ) → IfSome (event_by l (state_after l steps n) (slice_get steps n)) (CanHappen (net_of (design_of l)) (noted l steps n).net.lines) }
+    ensures may { (l : Load) → IsAccepted l → (steps : List Step) (n : ℕ)
+        → IfSome (event_by l (state_after l steps n) (slice_get steps n)) (CanHappen (net_of (design_of l)) (noted l steps n).net.lines) }
     ensures mirrors { (l : Load) → IsAccepted l → (steps : List Step) (n : ℕ) → Mirrors (design_of l) (state_after l steps n) (noted l steps n).net.lines }
     ensures words { (l : Load) → IsAccepted l → (steps : List Step) (n : ℕ) → Words (net_of (design_of l)) (noted l steps n).net }
     ensures routes { (l : Load) → IsAccepted l → (steps : List Step) (n : ℕ) → Routes (net_of (design_of l)) (noted l steps n).net }

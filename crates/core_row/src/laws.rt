@@ -68,7 +68,8 @@ pub fn attempts_are_word_operations()
     ensures possible { (l : Load) → IsAccepted l → (steps : List Step) (n : ℕ) (attempt : Step) (tile : TileState)
         → slice_get (state_after l steps n).tiles (attempt.agent / 3) ≡ Some tile
         → IsPossibleChoice (design_of l) (attempt.agent / 3) tile (state_after l steps n).around (agent_numbered (attempt.agent % 3)) attempt.choice }
-    ensures operations { (l : Load) → IsAccepted l → (steps : List Step) (n : ℕ) (attempt : Step) → IsWordOperation (design_of l) (state_after l steps n) attempt }
+    ensures operations { (l : Load) → IsAccepted l → (steps : List Step) (n : ℕ) (attempt : Step)
+        → IsWordOperation (design_of l) (state_after l steps n) attempt }
 {}
 
 /// A step leaves the states and the ports of all other agents of all tiles, its own tile's included;

@@ -27,7 +27,8 @@ order_line r = record { bank = r.bank; place = r.place; issued = r.issued; serve
 
 -- the report of a run: the torus, the opening words, the entries, answers and words that are shown, the rows of the one order, if they are told, and whether every script is finished
 abbrev pub report_of : Shape → List ℕ → Observed → List Ordered → Bool → List ReportLine
-report_of shape opening seen rows finished = report_lines_of shape opening (map (map entry_row) seen.entries) (map (map answer_row) seen.answers) seen.memory (map order_line rows) finished
+report_of shape opening seen rows finished = report_lines_of shape opening (map (map entry_row) seen.entries)
+    (map (map answer_row) seen.answers) seen.memory (map order_line rows) finished
 
 -- the report of a machine
 abbrev pub machine_report : Core → List ReportLine

@@ -29,8 +29,10 @@ pub fn attempts_lead_on()
 /// Which event an enabled attempt is, and what is noted of it, is told by its tile: by how many
 /// operations are issued and answered there, and how many entries its bank has, before and after it.
 pub fn events_are_told_by_counts()
-    ensures { (l : Load) → IsAccepted l → (steps : List Step) (n : ℕ) (attempt : Step) (next : State) → step (design_of l) (state_after l steps n) attempt ≡ Some next
-        → (before after : TileState) → slice_get (state_after l steps n).tiles (attempt.agent / 3) ≡ Some before → slice_get next.tiles (attempt.agent / 3) ≡ Some after
+    ensures { (l : Load) → IsAccepted l → (steps : List Step) (n : ℕ) (attempt : Step) (next : State)
+        → step (design_of l) (state_after l steps n) attempt ≡ Some next
+        → (before after : TileState) → slice_get (state_after l steps n).tiles (attempt.agent / 3) ≡ Some before
+        → slice_get next.tiles (attempt.agent / 3) ≡ Some after
         → (g : EventBook) → IsToldByCounts (state_after l steps n) (attempt.agent / 3) before after g
         (noted_event (tiles_of l.shape) g (event_in (design_of l) (state_after l steps n) attempt)) }
 {}

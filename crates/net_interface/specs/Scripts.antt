@@ -61,7 +61,8 @@ IsOf (line.Spin a v m) past o = ⊥
 
 -- what may follow a load of a spin, the last of `past`: nothing yet; or, issued after its answer, what comes
 -- after the spin where the answer is the number sought, and the spin again where it is another
-abbrev pub AfterLoad : ℕ → (List Invocation → List Invocation → Type 0) → (List Invocation → List Invocation → Type 0) → List Invocation → List Invocation → Type 0
+abbrev pub AfterLoad : ℕ → (List Invocation → List Invocation → Type 0) → (List Invocation → List Invocation → Type 0)
+    → List Invocation → List Invocation → Type 0
 AfterLoad sought over again past [] = Unit {0}
 AfterLoad sought over again past (o ∷ ops) =
     (reply : Reply) × IsLastReply past o.issue reply × MatchBool (reply_number reply == sought) (over past (o ∷ ops)) (again past (o ∷ ops))

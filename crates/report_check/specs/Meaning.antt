@@ -42,7 +42,8 @@ told_words lines = flat_map word_in lines
 -- the entries replay on one memory from the opening words, in the order of the report and in each bank by itself, and the `word` lines tell the words that are not 0 of the memory that they leave (Herlihy and Wing, TOPLAS 12(3), 1990: a legal sequential history)
 pub record EntriesReplay (lines : List ReportLine) : Type 0 where
   pub whole : map (λ e. e.reply) (seen_of lines).entries ≡ replies (map operation_of (seen_of lines).entries) (opening_of lines)
-  pub banks : (bank : ℕ) → map (λ e. e.reply) (entries_at (seen_of lines).entries bank) ≡ replies (map operation_of (entries_at (seen_of lines).entries bank)) (opening_of lines)
+  pub banks : (bank : ℕ) → map (λ e. e.reply) (entries_at (seen_of lines).entries bank)
+      ≡ replies (map operation_of (entries_at (seen_of lines).entries bank)) (opening_of lines)
   pub last : told_words lines ≡ set_words (memory_after (map operation_of (seen_of lines).entries) (opening_of lines))
 
 -- an entry is issued, then served, then answered

@@ -28,7 +28,8 @@ marked (k ∷ ks) zero = record k { answered = true } ∷ ks
 marked (k ∷ ks) (suc place) = k ∷ marked ks place
 
 -- the entries and their answers
-pub record EntriesShown {A : Type 0} (entries : List EntryLine) (answers : List AnswerLine) (last count : ℕ) (newer : Bool) (banks : List (Vec Served A)) : Type 0 where
+pub record EntriesShown {A : Type 0} (entries : List EntryLine) (answers : List AnswerLine) (last count : ℕ)
+    (newer : Bool) (banks : List (Vec Served A)) : Type 0 where
   pub last_bank : last ≡ last_bank entries
   pub count_is : count ≡ length entries
   pub newer_is : newer ≡ has_newer entries

@@ -196,7 +196,8 @@ fn is_radix(k: u32) -> bool
 
 /// The number of tiles, where the radices are in range and there are at most 64 tiles.
 fn tiles_of(radices: Radices) -> Option<u32>
-    ensures { MatchOption result (AreRadices (radix_list radices) → ⊥) (λ tiles. AreRadices (radix_list radices) × (tiles ≡ product (radix_list radices)) × (tiles ≤ 64)) }
+    ensures { MatchOption result (AreRadices (radix_list radices) → ⊥)
+        (λ tiles. AreRadices (radix_list radices) × (tiles ≡ product (radix_list radices)) × (tiles ≤ 64)) }
 {
     let tiles = match radices {
         Radices::One(k) => {

@@ -229,7 +229,8 @@ fn mark_events<A: Allocator>(used: &mut Vec<bool, A>, order: &OrderLine)
     requires served { order.now.served ≤ 196608 }
     requires answered { IfSome order.now.answered (λ n. n ≤ 196608) }
     ensures sized { vec_len used.new ≡ vec_len used.old }
-    ensures named { (other : ℕ) → slice_index_or used.new.items other false ≡ (slice_index_or used.old.items other false || list_any (λ n. n == other) (events_in order.now)) }
+    ensures named { (other : ℕ)
+        → slice_index_or used.new.items other false ≡ (slice_index_or used.old.items other false || list_any (λ n. n == other) (events_in order.now)) }
 {
     mark_event(used, order.issued);
     mark_event(used, order.served);

@@ -80,7 +80,8 @@ pub record AnswersAreTold (answers : List (List AnswerRow)) (order : List OrderL
   pub unanswered : (k : ℕ) (o : OrderLine) → slice_get order k ≡ Some o → o.answered ≡ None → HasAnswer answers o.bank o.place → ⊥
 
 -- These are the contents of a report that is good: a shape and a number of words within the limits; entries that replay from the opening words to the last; answers of theirs; their order; and where all is finished, an answer for each entry (this project's own format).
-pub record AreContents (shape : Shape) (opening : List ℕ) (entries : List (List EntryRow)) (answers : List (List AnswerRow)) (last : List ℕ) (order : List OrderLine) (finished : Bool) : Type 0 where
+pub record AreContents (shape : Shape) (opening : List ℕ) (entries : List (List EntryRow))
+    (answers : List (List AnswerRow)) (last : List ℕ) (order : List OrderLine) (finished : Bool) : Type 0 where
   pub accepted : IsAccepted shape
   pub words_low : 1 ≤ length opening
   pub words_high : length opening ≤ 65536

@@ -13,7 +13,8 @@ ghost use Rattle.report_facts.specs.Facts.{AreContents};
 /// The lines of the report of such contents are those of a good report, where their numbers fit
 /// the types that they are kept in.
 pub fn contents_are_good()
-    ensures { (shape : Shape) (opening : List ℕ) (entries : List (List EntryRow)) (answers : List (List AnswerRow)) (last : List ℕ) (order : List OrderLine) (finished : Bool)
+    ensures { (shape : Shape) (opening : List ℕ) (entries : List (List EntryRow)) (answers : List (List AnswerRow))
+        (last : List ℕ) (order : List OrderLine) (finished : Bool)
         → AreContents shape opening entries answers last order finished
         → All FitsLine (report_lines_of shape opening entries answers last order finished)
         → AreGood (report_lines_of shape opening entries answers last order finished) }

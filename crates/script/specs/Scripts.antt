@@ -90,7 +90,8 @@ after_words words lists (processor ∷ rest) = if begins_comment processor then 
 -- the scripts of these lines, of which the first has this number, after those read; or the fault of the first bad line
 abbrev pub scripts_from : ℕ → List (List Line) → ℕ → List (List ℕ) → Result ScriptsSpec LineFault
 scripts_from words lists number [] = Ok (record { words = words; lists = lists })
-scripts_from words lists number (line ∷ lines) = then_lines number (after_words words lists (words_of line)) (λ next. scripts_from words next (number + 1) lines)
+scripts_from words lists number (line ∷ lines) = then_lines number (after_words words lists (words_of line))
+    (λ next. scripts_from words next (number + 1) lines)
 
 -- the scripts of a text for a machine, given as the list of its lines; a processor without lines has the empty script
 abbrev pub scripts_of : MachineSpec → List (List ℕ) → Result ScriptsSpec LineFault

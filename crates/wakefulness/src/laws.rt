@@ -82,5 +82,6 @@ pub fn rounds_may_skip_sleepers()
     ensures state { (l : Load) → IsAccepted l → (steps : List Step) (awake : ℕ → Bool) → OthersSleep (design_of l) (after l steps) awake
         → (round_awake (design_of l) (record { state = after l steps; awake = awake })).state ≡ after_from (design_of l) (after l steps) (round l.shape) }
     ensures awake { (l : Load) → IsAccepted l → (steps : List Step) (awake : ℕ → Bool) → OthersSleep (design_of l) (after l steps) awake
-        → OthersSleep (design_of l) (after_from (design_of l) (after l steps) (round l.shape)) (round_awake (design_of l) (record { state = after l steps; awake = awake })).awake }
+        → OthersSleep (design_of l) (after_from (design_of l) (after l steps) (round l.shape))
+        (round_awake (design_of l) (record { state = after l steps; awake = awake })).awake }
 {}
