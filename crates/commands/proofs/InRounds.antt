@@ -6,8 +6,8 @@ use Rattle.torus.specs.declared.step.Step.{Step}
 use Rattle.script.specs.declared.fault.LineFault.{LineFault}
 use Rattle.script.specs.Machine.{MachineSpec, machine_of}
 use Rattle.script.specs.Scripts.{ScriptsSpec, scripts_of}
-use Rattle.flights.specs.Load.{Load, load_of}
-use Rattle.core_laws.specs.Core.{round}
+use Rattle.machine_core.specs.flights.specs.Load.{Load, load_of}
+use Rattle.machine_core.specs.core_laws.specs.Core.{round}
 use Rattle.machine_laws.specs.Core.{Core, IsAfter, all_finished, core_after_load}
 use Rattle.machine_core.specs.Rounds.{rounds_of}
 use Rattle.commands.specs.Run.{IsOfMachine}

@@ -3,7 +3,7 @@ use Rattle.std.specs.Prelude.{◌≡◌, ℕ, ◌<◌, ◌≤◌, List, [], Bool
 use Rattle.script.specs.declared.fault.LineFault.{LineFault}
 use Rattle.script.specs.Machine.{machine_of}
 use Rattle.script.specs.Scripts.{scripts_of}
-use Rattle.flights.specs.Load.{Load, load_of}
+use Rattle.machine_core.specs.flights.specs.Load.{Load, load_of}
 use Rattle.machine_laws.specs.Core.{Core, IsAfter, all_finished}
 use Rattle.machine_core.specs.Rounds.{rounds_of}
 use Rattle.commands.specs.declared.fault.ProgramFault.{ProgramFault}

@@ -6,10 +6,10 @@ use Rattle.script.specs.declared.fault.LineFault.{LineFault}
 use Rattle.script.specs.Machine.{machine_of}
 use Rattle.script.specs.Scripts.{scripts_of}
 use Rattle.script.specs.Steps.{steps_of}
-use Rattle.flights.specs.Load.{Load, load_of}
-use Rattle.core_laws.specs.Core.{run_of}
+use Rattle.machine_core.specs.flights.specs.Load.{Load, load_of}
+use Rattle.machine_core.specs.core_laws.specs.Core.{run_of}
 use Rattle.machine_laws.specs.Core.{Core, IsAfter, IsLawful, core_after_load, all_finished}
-use Rattle.flights.specs.Scripts.{AreFinished}
+use Rattle.machine_core.specs.flights.specs.Scripts.{AreFinished}
 use Rattle.report_lines.specs.Line.{text_of}
 use Rattle.report_check.specs.Good.{GoodReport}
 use Rattle.history.specs.Report.{machine_report}

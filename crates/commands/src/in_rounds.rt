@@ -2,7 +2,7 @@ ghost use Rattle.std.specs.Prelude.{◌≡◌, IfErr, IfOk, [], length};
 ghost use Rattle.std.specs.Io.Iter.{u64_saturate};
 ghost use Rattle.std.specs.List.{sum_by};
 ghost use Rattle.std.specs.Str.Lines.{lines};
-ghost use Rattle.flights.specs.Load.{Load};
+ghost use Rattle.machine_core.specs.flights.specs.Load.{Load};
 ghost use Rattle.machine_laws.specs.Core.{IsAfter, shown};
 ghost use Rattle.commands.specs.Done.{output};
 ghost use Rattle.commands.specs.Run.{IsReadFault};

@@ -1,3 +1,6 @@
+pub use Rattle.flights
+pub use Rattle.net_interface
+pub use Rattle.tile
 pub mod Heads
 pub mod Core
 pub mod Moves

@@ -5,11 +5,11 @@ use Rattle.torus.specs.declared.step.OpId.{OpId}
 use Rattle.packet.specs.declared.kinds.Operation.{Operation}
 use Rattle.packet.specs.declared.kinds.Response.{Response}
 use Rattle.tag_table.specs.Tags.{out_count}
-use Rattle.net_interface.specs.ProcessorRecord.{ProcessorRecord, issued_by, answered_by, index_of, answer_of}
+use Rattle.core_laws.specs.net_interface.specs.ProcessorRecord.{ProcessorRecord, issued_by, answered_by, index_of, answer_of}
 use Rattle.runs.specs.Order.{LinearizationPoint}
-use Rattle.flights.specs.Flight.{Flight, Move, Sends, Serves, Takes, IsFound, processor_at, moved, moved_by}
-use Rattle.flights.proofs.Whole.{Whole}
-use Rattle.flights.proofs.Parts.{tags_at, processor_set}
+use Rattle.core_laws.specs.flights.specs.Flight.{Flight, Move, Sends, Serves, Takes, IsFound, processor_at, moved, moved_by}
+use Rattle.core_laws.specs.flights.proofs.Whole.{Whole}
+use Rattle.core_laws.specs.flights.proofs.Parts.{tags_at, processor_set}
 use Rattle.core_progress.proofs.Out.{AreOut, issue_out, answer_out, issue_waits, answer_waits, out_some}
 
 -- who awaits an answer holds a tag, and the others are answered

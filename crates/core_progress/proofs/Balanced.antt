@@ -8,12 +8,12 @@ use Rattle.torus.specs.declared.step.OpId.{OpId}
 use Rattle.torus.specs.declared.step.Step.{Step}
 use Rattle.packet.specs.declared.kinds.Operation.{Operation}
 use Rattle.script.specs.declared.line.Line.{Line}
-use Rattle.net_interface.specs.Following.{next_operation_of, first_of}
-use Rattle.net_interface.specs.ProcessorRecord.{ProcessorRecord, no_processor}
+use Rattle.core_laws.specs.net_interface.specs.Following.{next_operation_of, first_of}
+use Rattle.core_laws.specs.net_interface.specs.ProcessorRecord.{ProcessorRecord, no_processor}
 use Rattle.tag_table.specs.Tags.{out_count}
 use Rattle.runs.specs.Events.{order_after}
-use Rattle.flights.specs.Flight.{Flight, moved_by}
-use Rattle.tile.specs.Tile.{Design, TileState}
+use Rattle.core_laws.specs.flights.specs.Flight.{Flight, moved_by}
+use Rattle.core_laws.specs.tile.specs.Tile.{Design, TileState}
 use Rattle.core_laws.specs.Core.{Load, State, design_of, first_state, first_tile, records_of, next}
 use Rattle.core_laws.specs.Moves.{move_of}
 use Rattle.core_laws.specs.Noted.{Noted, noted}

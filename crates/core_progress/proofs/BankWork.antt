@@ -30,8 +30,8 @@ use Rattle.packet.specs.Flits.{flits_of}
 use Rattle.core_laws.specs.Heads.{is_head}
 use Rattle.home_bank.specs.BankTable.{bank_wants, bank_after, is_nil}
 use Rattle.channel_number.specs.Ports.{injection_channel, ejection_channel}
-use Rattle.tile.specs.Wiring.{bank_wiring}
-use Rattle.tile.specs.Tile.{Design}
+use Rattle.core_laws.specs.tile.specs.Wiring.{bank_wiring}
+use Rattle.core_laws.specs.tile.specs.Tile.{Design}
 use Rattle.core_laws.specs.Core.{State}
 use Rattle.core_laws.proofs.AgentSteps.{option_map_some}
 use Rattle.core_laws.proofs.Projection.{net_of, response_parcel, first_flit}

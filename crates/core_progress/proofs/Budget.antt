@@ -5,8 +5,8 @@ use Rattle.torus.specs.Shape.{tiles_of, dims_of}
 use Rattle.torus.specs.declared.step.Step.{Step}
 use Rattle.script.specs.declared.line.Line.{Line}
 use Rattle.script.specs.Scripts.{operation_count, total_count}
-use Rattle.net_interface.specs.Following.{first_of, left_of}
-use Rattle.net_interface.proofs.Followable.{accepted_followable}
+use Rattle.core_laws.specs.net_interface.specs.Following.{first_of, left_of}
+use Rattle.core_laws.specs.net_interface.proofs.Followable.{accepted_followable}
 use Rattle.runs.specs.Events.{order_after}
 use Rattle.wormhole.specs.State.{State as NetState}
 use Rattle.wormhole.specs.Events.{Event}
@@ -16,10 +16,10 @@ use Rattle.progress.specs.Work as progress
 use Rattle.rounds.specs.Rounds.{one_if_moved}
 use Rattle.progress.proofs.Sums.{sum_same}
 use Rattle.progress.proofs.Bounded.{ends_owe, empty_owes}
-use Rattle.tile.specs.Tile.{Design, TileState}
+use Rattle.core_laws.specs.tile.specs.Tile.{Design, TileState}
 use Rattle.core_laws.specs.Core.{Load, State, design_of, first_state, first_tile, or_same, step}
 use Rattle.core_laws.specs.Runs.{IsAccepted, state_after}
-use Rattle.flights.specs.Room.{home_room}
+use Rattle.core_laws.specs.flights.specs.Room.{home_room}
 use Rattle.core_laws.specs.Network.{net_of, network_event, network_after}
 use Rattle.core_laws.specs.Noted.{noted, event_by}
 use Rattle.core_laws.proofs.Histories.{event_at, next_at, after_more}

@@ -5,11 +5,11 @@ use Rattle.std.proofs.lemmas.Bool.{cases_eq, ne_eqb}
 use Rattle.std.proofs.lemmas.List.Sums.{sum_by-cons}
 use Rattle.script.specs.declared.line.Line.{Line}
 use Rattle.script.specs.Scripts.{operations_of, operation_count, total_count}
-use Rattle.net_interface.specs.Scripts.{IsFollowable, address_of}
-use Rattle.net_interface.specs.Homes.{is_home, line_home_count, script_home_count}
-use Rattle.net_interface.specs.Following.{first_of, left_of, starts}
-use Rattle.net_interface.proofs.Shown.{left_within}
-use Rattle.flights.specs.Room.{home_room}
+use Rattle.core_laws.specs.net_interface.specs.Scripts.{IsFollowable, address_of}
+use Rattle.core_laws.specs.net_interface.specs.Homes.{is_home, line_home_count, script_home_count}
+use Rattle.core_laws.specs.net_interface.specs.Following.{first_of, left_of, starts}
+use Rattle.core_laws.specs.net_interface.proofs.Shown.{left_within}
+use Rattle.core_laws.specs.flights.specs.Room.{home_room}
 use Rattle.progress.specs.Weight.{sum_below}
 
 -- the sum of two counts

@@ -24,17 +24,17 @@ use Rattle.wormhole.specs.Routes.{Routes}
 use Rattle.wormhole.specs.Events.{Event, InjectHead, InjectRest, Latch, ForwardHead, ForwardRest, AcceptHead, AcceptRest, Return, CanHappen}
 use Rattle.progress.specs.Ends.{IsOwed, Goes}
 use Rattle.progress.proofs.Heads.{Heads, heads, leads, in_line_is}
-use Rattle.net_interface.specs.ProcessorRecord.{ready}
+use Rattle.core_laws.specs.net_interface.specs.ProcessorRecord.{ready}
 use Rattle.packet.specs.Flits.{head_of}
 use Rattle.core_laws.specs.Heads.{is_head}
 use Rattle.router.specs.Table.{RouterState, latch_of, output_owned, is_owned, is_output, output_for, wants_to_take, wants_to_put, way_of}
 use Rattle.channel_number.specs.Ports.{port_count}
-use Rattle.net_interface.specs.ProcessorTable.{flits_due}
+use Rattle.core_laws.specs.net_interface.specs.ProcessorTable.{flits_due}
 use Rattle.home_bank.specs.BankTable.{is_nil}
 use Rattle.channel_number.specs.Ports.{injection_channel, ejection_channel, input_channel, output_channel}
-use Rattle.tile.specs.Wiring.{processor_wiring, bank_wiring}
+use Rattle.core_laws.specs.tile.specs.Wiring.{processor_wiring, bank_wiring}
 use Rattle.router.specs.Beginning.{router_wiring}
-use Rattle.tile.specs.Tile.{Design}
+use Rattle.core_laws.specs.tile.specs.Tile.{Design}
 use Rattle.core_laws.specs.Core.{State, step, round}
 use Rattle.core_laws.proofs.WiredUp.{not_owned as no_owner}
 use Rattle.core_laws.proofs.Projection.{net_of, first_flit}

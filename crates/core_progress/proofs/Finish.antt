@@ -4,7 +4,7 @@ use Rattle.torus.specs.declared.step.Step.{Step}
 use Rattle.rounds.specs.Rounds.{first_enabled, one_if_moved, Finishes}
 use Rattle.rounds.proofs.Rounds.{rounds_finish}
 use Rattle.rounds.proofs.Simulates.{first_shown, finishes_shown}
-use Rattle.tile.specs.Tile.{Design}
+use Rattle.core_laws.specs.tile.specs.Tile.{Design}
 use Rattle.core_laws.specs.Core.{Load, State, design_of, first_state, step, or_same, after, round}
 use Rattle.core_laws.specs.Runs.{IsAccepted, state_after}
 use Rattle.core_laws.proofs.AgentSteps.{option_map_some}

@@ -4,11 +4,11 @@ use Rattle.std.specs.List.{list_all}
 use Rattle.std.proofs.lemmas.Bool.{and_parts, cases_lt}
 use Rattle.packet.specs.declared.kinds.Reply.{Reply}
 use Rattle.packet.specs.declared.kinds.Operation.{Operation}
-use Rattle.net_interface.specs.Scripts.{Invocation}
+use Rattle.core_laws.specs.net_interface.specs.Scripts.{Invocation}
 use Rattle.runs.specs.declared.answer.Answer.{Answer}
 use Rattle.runs.specs.Observed.{Run, IsFirst, list_at, HasAnswered, IsAnsweredAt}
 use Rattle.runs.proofs.Lists.{same_get}
-use Rattle.flights.specs.Scripts.{AreInvocationsOf}
+use Rattle.core_laws.specs.flights.specs.Scripts.{AreInvocationsOf}
 
 -- two lists with the same elements are one
 same_list : {A : Type 0} (xs ys : List A) → length xs ≡ length ys → ((k : ℕ) (x y : A) → slice_get xs k ≡ Some x → slice_get ys k ≡ Some y → x ≡ y) → xs ≡ ys

@@ -8,20 +8,20 @@ use Rattle.torus.specs.declared.step.Step.{Step}
 use Rattle.packet.specs.declared.kinds.Operation.{Operation}
 use Rattle.script.specs.declared.line.Line.{Line}
 use Rattle.script.specs.Scripts.{IsAcceptedScript}
-use Rattle.net_interface.specs.Scripts.{IsFollowable, HasFinished}
-use Rattle.net_interface.specs.Following.{Following, is_finished}
-use Rattle.net_interface.specs.ProcessorRecord.{ProcessorRecord}
-use Rattle.net_interface.proofs.Followable.{accepted_followable}
-use Rattle.net_interface.proofs.Shown.{finished_is, finished_from}
+use Rattle.core_laws.specs.net_interface.specs.Scripts.{IsFollowable, HasFinished}
+use Rattle.core_laws.specs.net_interface.specs.Following.{Following, is_finished}
+use Rattle.core_laws.specs.net_interface.specs.ProcessorRecord.{ProcessorRecord}
+use Rattle.core_laws.specs.net_interface.proofs.Followable.{accepted_followable}
+use Rattle.core_laws.specs.net_interface.proofs.Shown.{finished_is, finished_from}
 use Rattle.runs.specs.Observed.{list_at, HasAnswered}
 use Rattle.runs.specs.Events.{order_after}
 use Rattle.runs.proofs.Lists.{within_length, list_within}
 use Rattle.std.proofs.lemmas.List.{length-map}
-use Rattle.flights.specs.Scripts.{HasFinishedIn, AreFinished}
-use Rattle.flights.proofs.Follows.{Follows}
+use Rattle.core_laws.specs.flights.specs.Scripts.{HasFinishedIn, AreFinished}
+use Rattle.core_laws.specs.flights.proofs.Follows.{Follows}
 use Rattle.rounds.specs.Rounds.{moves_in}
 use Rattle.rounds.proofs.Rounds.{round_moves}
-use Rattle.tile.specs.Tile.{Design, TileState}
+use Rattle.core_laws.specs.tile.specs.Tile.{Design, TileState}
 use Rattle.core_laws.specs.Core.{Load, State, design_of, records_of, step, round, run_of}
 use Rattle.core_laws.specs.Runs.{IsAccepted, state_after}
 use Rattle.core_laws.specs.Noted.{noted}

@@ -10,7 +10,7 @@ use Rattle.packet.specs.declared.kinds.Operation.{Operation}
 use Rattle.packet.specs.declared.kinds.Request.{Request as Asking}
 use Rattle.packet.specs.declared.kinds.Response.{Response as Telling}
 use Rattle.tag_table.specs.Tags.{free_tag}
-use Rattle.net_interface.specs.Following.{next_operation_of, is_finished}
+use Rattle.core_laws.specs.net_interface.specs.Following.{next_operation_of, is_finished}
 use Rattle.runs.specs.Observed.{list_at}
 use Rattle.flit_buffer.specs.declared.want.Want.TheVariants as want
 use Rattle.flit_buffer.specs.Channel as channel
@@ -21,7 +21,7 @@ use Rattle.wormhole.specs.Delivery.{whole, whole_of}
 use Rattle.progress.specs.Ends.{AreTiles, IsQuiet}
 use Rattle.progress.proofs.Quiet.{goes_or_quiet, or_all}
 use Rattle.progress.proofs.Come.{all_come}
-use Rattle.net_interface.specs.ProcessorRecord.{ProcessorRecord, ready, request_of}
+use Rattle.core_laws.specs.net_interface.specs.ProcessorRecord.{ProcessorRecord, ready, request_of}
 use Rattle.packet.specs.Flit.{field}
 use Rattle.packet.specs.Spelling.{heading_of, values_of}
 use Rattle.packet.specs.Written.{head_flit, flits_for}
@@ -29,10 +29,10 @@ use Rattle.packet.specs.declared.kinds.Packet.{Packet}
 use Rattle.packet.specs.declared.kinds.Packet.TheVariants as packet
 use Rattle.core_laws.specs.Heads.{is_head}
 use Rattle.packet.specs.Flits.{flits_of}
-use Rattle.net_interface.specs.ProcessorTable.{flits_due, request_flits}
+use Rattle.core_laws.specs.net_interface.specs.ProcessorTable.{flits_due, request_flits}
 use Rattle.channel_number.specs.Ports.{injection_channel, ejection_channel}
-use Rattle.tile.specs.Wiring.{processor_wiring}
-use Rattle.tile.specs.Tile.{Design}
+use Rattle.core_laws.specs.tile.specs.Wiring.{processor_wiring}
+use Rattle.core_laws.specs.tile.specs.Tile.{Design}
 use Rattle.core_laws.specs.Core.{State, step, round}
 use Rattle.core_laws.proofs.Projection.{net_of, request_parcel, response_parcel}
 use Rattle.core_laws.proofs.Stands.{tile_at, Ghost, Mirrors, Carries, served_requests, responses_from, unsent, last_of, asked_between, told_between}

@@ -8,16 +8,16 @@ use Rattle.torus.specs.declared.step.Choice.{Choice}
 use Rattle.packet.specs.declared.kinds.Operation.{Operation}
 use Rattle.packet.specs.declared.kinds.Request.{Request as Asking}
 use Rattle.flit_buffer.specs.Surroundings.{Surroundings, agent_step}
-use Rattle.net_interface.specs.ProcessorRecord.{ready, request_of}
+use Rattle.core_laws.specs.net_interface.specs.ProcessorRecord.{ready, request_of}
 use Rattle.runs.specs.Order.{LinearizationPoint}
 use Rattle.progress.specs.Work.{End, IsChange, IsStep, network_after, work}
 use Rattle.progress.proofs.Working.{work_falls}
 use Rattle.router.specs.Table.{router_wants, router_after}
-use Rattle.net_interface.specs.ProcessorTable.{processor_wants, processor_after}
+use Rattle.core_laws.specs.net_interface.specs.ProcessorTable.{processor_wants, processor_after}
 use Rattle.home_bank.specs.BankTable.{bank_wants, bank_after}
-use Rattle.tile.specs.Wiring.{processor_wiring, bank_wiring}
+use Rattle.core_laws.specs.tile.specs.Wiring.{processor_wiring, bank_wiring}
 use Rattle.router.specs.Beginning.{router_wiring}
-use Rattle.tile.specs.Tile.{Design, TileState, Agent, Processor, Router, Bank, tile_step}
+use Rattle.core_laws.specs.tile.specs.Tile.{Design, TileState, Agent, Processor, Router, Bank, tile_step}
 use Rattle.core_laws.specs.Core.{State, step, agent_numbered}
 use Rattle.core_laws.proofs.AgentSteps.{Did, did, option_map_some}
 use Rattle.core_laws.proofs.Projection.{net_of}
@@ -31,7 +31,7 @@ use Rattle.flit_buffer.specs.declared.want.Want.{Want}
 use Rattle.flit_buffer.specs.Surroundings.{Wiring, granted}
 use Rattle.router.specs.Table.{RouterState}
 use Rattle.home_bank.specs.BankTable.{BankState}
-use Rattle.net_interface.specs.ProcessorTable.{ProcessorState}
+use Rattle.core_laws.specs.net_interface.specs.ProcessorTable.{ProcessorState}
 use Rattle.core_laws.specs.Moves.{learned_by}
 use Rattle.core_laws.specs.Network as network
 use Rattle.core_progress.proofs.ProcessorWork.{IsTileEvent, processor_event}

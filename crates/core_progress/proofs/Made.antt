@@ -7,10 +7,10 @@ use Rattle.torus.specs.declared.step.Choice.{Choice}
 use Rattle.flit_buffer.specs.Surroundings.{Surroundings}
 use Rattle.router.specs.Table.{RouterState, router_wants, router_after}
 use Rattle.router.specs.Beginning.{router_wiring}
-use Rattle.net_interface.specs.ProcessorTable.{ProcessorState, processor_wants, processor_after}
+use Rattle.core_laws.specs.net_interface.specs.ProcessorTable.{ProcessorState, processor_wants, processor_after}
 use Rattle.home_bank.specs.BankTable.{BankState, bank_wants, bank_after}
-use Rattle.tile.specs.Wiring.{processor_wiring, bank_wiring}
-use Rattle.tile.specs.Tile.{Design, TileState, Agent, Processor, Router, Bank, tile_step}
+use Rattle.core_laws.specs.tile.specs.Wiring.{processor_wiring, bank_wiring}
+use Rattle.core_laws.specs.tile.specs.Tile.{Design, TileState, Agent, Processor, Router, Bank, tile_step}
 use Rattle.rounds.specs.Rounds as rounds
 use Rattle.rounds.specs.Rounds.{moves_in, one_if_moved}
 use Rattle.core_laws.specs.Core.{State, step, next, or_same, after_from, agent_numbered}

@@ -12,7 +12,7 @@ use Rattle.channel_number.specs.Ports.{port_count}
 use Rattle.rounds.specs.Rounds.{IsEnabled}
 use Rattle.rounds.proofs.Rounds.{found_enabled, none_enabled}
 use Rattle.wormhole.specs.Net.{IsOn}
-use Rattle.tile.specs.Tile.{Design, TileState, Processor, Router, Bank, tile_step}
+use Rattle.core_laws.specs.tile.specs.Tile.{Design, TileState, Processor, Router, Bank, tile_step}
 use Rattle.core_laws.specs.Core.{Load, State, design_of, agent_numbered, step, round}
 use Rattle.core_laws.specs.Runs.{IsAccepted, state_after}
 use Rattle.core_laws.specs.Choices.{has_choice}

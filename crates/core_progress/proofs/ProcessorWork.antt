@@ -13,22 +13,22 @@ use Rattle.packet.specs.declared.kinds.Packet.TheVariants as packet
 use Rattle.packet.specs.declared.kinds.Request.{Request as Asking}
 use Rattle.packet.specs.Spelling.{Spells}
 use Rattle.packet.proofs.Shapes.{at_most_five}
-use Rattle.net_interface.specs.Following.{left_of, after_issue}
-use Rattle.net_interface.proofs.Shown.{left_after_issue}
+use Rattle.core_laws.specs.net_interface.specs.Following.{left_of, after_issue}
+use Rattle.core_laws.specs.net_interface.proofs.Shown.{left_after_issue}
 use Rattle.flit_buffer.specs.declared.want.Want.{Want}
 use Rattle.flit_buffer.specs.declared.want.Want.TheVariants as want
 use Rattle.flit_buffer.specs.Channel as channel
 use Rattle.flit_buffer.specs.Surroundings.{Wiring, granted, ring}
-use Rattle.net_interface.specs.ProcessorRecord.{ready, request_of}
+use Rattle.core_laws.specs.net_interface.specs.ProcessorRecord.{ready, request_of}
 use Rattle.wormhole.specs.Net.{IsParcel, Parcel, flits_of as flits_in}
 use Rattle.wormhole.specs.State.{State as NetState}
 use Rattle.wormhole.specs.Events.{Event, InjectHead, InjectRest}
 use Rattle.torus_net.proofs.Ends.{ends_are, few_channels}
 use Rattle.progress.specs.Work.{End, IsChange, MayHappen, Stays}
-use Rattle.net_interface.specs.ProcessorTable.{processor_wants, processor_after, flits_due, request_flits}
+use Rattle.core_laws.specs.net_interface.specs.ProcessorTable.{processor_wants, processor_after, flits_due, request_flits}
 use Rattle.channel_number.specs.Ports.{injection_channel, ejection_channel}
-use Rattle.tile.specs.Wiring.{processor_wiring}
-use Rattle.tile.specs.Tile.{Design}
+use Rattle.core_laws.specs.tile.specs.Wiring.{processor_wiring}
+use Rattle.core_laws.specs.tile.specs.Tile.{Design}
 use Rattle.core_laws.specs.Core.{State}
 use Rattle.core_laws.proofs.AgentSteps.{option_map_some}
 use Rattle.core_laws.proofs.Projection.{net_of, request_parcel}

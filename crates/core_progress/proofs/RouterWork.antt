@@ -22,7 +22,7 @@ use Rattle.channel_number.specs.Ports.{port_count}
 use Rattle.router.specs.Table.{latch_of, output_owned, is_owned, output_for, wants_to_take, wants_to_put, router_wants, way_of}
 use Rattle.channel_number.specs.Ports.{input_channel, output_channel}
 use Rattle.router.specs.Beginning.{router_wiring}
-use Rattle.tile.specs.Tile.{Design}
+use Rattle.core_laws.specs.tile.specs.Tile.{Design}
 use Rattle.core_laws.specs.Core.{State}
 use Rattle.core_laws.proofs.AgentSteps.{option_map_some}
 use Rattle.core_laws.proofs.WiredUp.{not_owned as no_owner}

@@ -10,16 +10,16 @@ use Rattle.packet.specs.declared.assembler.Offered.{Offered}
 use Rattle.packet.specs.declared.assembler.Offered.TheVariants.{More, Whole, Refused}
 use Rattle.packet.specs.Memory.{reply_to}
 use Rattle.home_bank.specs.ServiceList.{entry_of, response_of}
-use Rattle.net_interface.specs.Following.{left_of, is_finished, after_issue}
-use Rattle.net_interface.proofs.Shown.{left_after_answer}
+use Rattle.core_laws.specs.net_interface.specs.Following.{left_of, is_finished, after_issue}
+use Rattle.core_laws.specs.net_interface.proofs.Shown.{left_after_answer}
 use Rattle.flit_buffer.specs.declared.want.Want.{Want}
 use Rattle.flit_buffer.specs.Channel.{rest}
-use Rattle.net_interface.specs.ProcessorRecord.{ProcessorRecord, ready, issued_by, index_of}
+use Rattle.core_laws.specs.net_interface.specs.ProcessorRecord.{ProcessorRecord, ready, issued_by, index_of}
 use Rattle.wormhole.specs.Net.{Net, Parcel, flits_of as parcel_flits}
 use Rattle.progress.specs.Work.{End, Issues, Replies, Serves, Reports, Stays}
 use Rattle.packet.specs.Flits.{offered, flits_of}
 use Rattle.core_laws.specs.Heads.{is_head}
-use Rattle.net_interface.specs.ProcessorTable.{ProcessorState, processor_wants, processor_after, record_sent, record_offered, issued_of}
+use Rattle.core_laws.specs.net_interface.specs.ProcessorTable.{ProcessorState, processor_wants, processor_after, record_sent, record_offered, issued_of}
 use Rattle.home_bank.specs.BankTable.{BankState, bank_after, served}
 use Rattle.core_laws.proofs.Projection.{first_flit}
 

@@ -9,15 +9,15 @@ use Rattle.packet.specs.declared.kinds.Operation.{Operation}
 use Rattle.packet.specs.declared.kinds.Request.{Request as Asking}
 use Rattle.packet.specs.declared.kinds.Response.{Response as Telling}
 use Rattle.tag_table.specs.Tags.{holder_of, free_tag}
-use Rattle.net_interface.specs.Following.{next_operation_of, is_finished}
-use Rattle.net_interface.specs.ProcessorRecord.{ProcessorRecord, no_processor}
+use Rattle.core_laws.specs.net_interface.specs.Following.{next_operation_of, is_finished}
+use Rattle.core_laws.specs.net_interface.specs.ProcessorRecord.{ProcessorRecord, no_processor}
 use Rattle.runs.specs.Observed.{total}
 use Rattle.runs.specs.Order.{LinearizationPoint}
 use Rattle.runs.proofs.Lists.{list_within}
-use Rattle.flights.specs.Flight.{Flight, processor_at}
-use Rattle.flights.proofs.Whole.{Whole}
-use Rattle.flights.proofs.Parts.{tags_at, tags_of}
-use Rattle.tile.specs.Tile.{Design, TileState}
+use Rattle.core_laws.specs.flights.specs.Flight.{Flight, processor_at}
+use Rattle.core_laws.specs.flights.proofs.Whole.{Whole}
+use Rattle.core_laws.specs.flights.proofs.Parts.{tags_at, tags_of}
+use Rattle.core_laws.specs.tile.specs.Tile.{Design, TileState}
 use Rattle.core_laws.specs.Core.{State}
 use Rattle.core_laws.proofs.Stands.{Ghost, tile_at, no_tile, flight_of}
 use Rattle.core_progress.proofs.Lives.{IsInFlight, TagsTell}

@@ -10,7 +10,7 @@ use Rattle.torus_net.proofs.Ends.{is_injection_at, is_ejection_at, ends_are, rep
 use Rattle.torus_net.proofs.Facts.{is_net}
 use Rattle.progress.specs.Ends.{AreTiles}
 use Rattle.channel_number.specs.Ports.{ejection_channel, input_router, input_port, output_router, output_port}
-use Rattle.tile.specs.Tile.{Design}
+use Rattle.core_laws.specs.tile.specs.Tile.{Design}
 use Rattle.core_laws.proofs.Projection.{net_of}
 use Rattle.core_laws.proofs.ChannelFacts.{joined, injects_at}
 use Rattle.core_progress.proofs.Wires.{AreWires, ends_of}

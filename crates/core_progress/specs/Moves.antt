@@ -4,8 +4,8 @@ use Rattle.std.specs.List.{list_all}
 use Rattle.torus.specs.Shape.{tiles_of}
 use Rattle.torus.specs.declared.step.Step.{Step}
 use Rattle.script.specs.Scripts.{total_count}
-use Rattle.net_interface.specs.Following.{is_finished}
-use Rattle.tile.specs.Tile.{Design}
+use Rattle.core_laws.specs.net_interface.specs.Following.{is_finished}
+use Rattle.core_laws.specs.tile.specs.Tile.{Design}
 use Rattle.core_laws.specs.Core.{Load, State, design_of, first_state, step, round}
 use Rattle.rounds.specs.Rounds.{first_enabled, moves_in}
 

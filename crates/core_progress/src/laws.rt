@@ -3,11 +3,11 @@
 ghost use Rattle.std.specs.Prelude.{◌≡◌, ◌↔◌, ◌<◌, ◌≤◌, ◌+◌, ℕ, List, take, Some, None, true, false, slice_get};
 ghost use Rattle.torus.specs.declared.step.Step.{Step};
 ghost use Rattle.packet.specs.declared.kinds.Operation.{Operation};
-ghost use Rattle.net_interface.specs.Following.{is_finished};
+ghost use Rattle.core_laws.specs.net_interface.specs.Following.{is_finished};
 ghost use Rattle.runs.specs.Observed.{list_at, HasAnswered};
-ghost use Rattle.flights.specs.Scripts.{AreFinished};
+ghost use Rattle.core_laws.specs.flights.specs.Scripts.{AreFinished};
 ghost use Rattle.rounds.specs.Rounds.{IsOn, IsEnabled, moves_in, Finishes};
-ghost use Rattle.tile.specs.Tile.{TileState};
+ghost use Rattle.core_laws.specs.tile.specs.Tile.{TileState};
 ghost use Rattle.core_laws.specs.Core.{Load, design_of, step, round, run_of};
 ghost use Rattle.core_laws.specs.Runs.{IsAccepted, state_after};
 ghost use Rattle.core_progress.specs.Moves.{enabled_step, IsLive, all_finished, moves_made, most_moves, moves_left};

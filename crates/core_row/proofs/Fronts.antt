@@ -12,13 +12,13 @@ use Rattle.flit_buffer.specs.Surroundings.{Surroundings, Wiring, ring, no_ring, 
 use Rattle.flit_buffer.specs.declared.want.Want.{Want}
 use Rattle.flit_buffer.proofs.AgentSteps.{front_counts}
 use Rattle.flit_buffer.proofs.RingArithmetic.{place_from}
-use Rattle.net_interface.specs.ProcessorTable.{processor_wants, processor_after}
+use Rattle.core_laws.specs.net_interface.specs.ProcessorTable.{processor_wants, processor_after}
 use Rattle.home_bank.specs.BankTable.{bank_wants, bank_after}
 use Rattle.router.specs.Table.{router_wants, router_after}
-use Rattle.tile.specs.Tile.{Design, TileState, Agent, Processor, Router, Bank, tile_step}
-use Rattle.tile.specs.Agents.{agent_numbered, wiring_of, tile_wants}
-use Rattle.tile.specs.Refinement.{IsSurrounded, IsPossibleChoice}
-use Rattle.tile.proofs.Channels.{wired}
+use Rattle.core_laws.specs.tile.specs.Tile.{Design, TileState, Agent, Processor, Router, Bank, tile_step}
+use Rattle.core_laws.specs.tile.specs.Agents.{agent_numbered, wiring_of, tile_wants}
+use Rattle.core_laws.specs.tile.specs.Refinement.{IsSurrounded, IsPossibleChoice}
+use Rattle.core_laws.specs.tile.proofs.Channels.{wired}
 use Rattle.core_laws.specs.Core.{Load, State, design_of, first_state, after, after_from, next, or_same}
 use Rattle.core_laws.specs.Runs.{IsAccepted, state_after}
 use Rattle.core_row.specs.Row.{row_of}

@@ -22,16 +22,16 @@ use Rattle.flit_buffer.specs.declared.want.Want.TheVariants as want
 use Rattle.flit_buffer.proofs.PortLaws.{some_if}
 use Rattle.channel_number.specs.Ports.{port_count, input_channel, output_channel, injection_channel, ejection_channel}
 use Rattle.home_bank.specs.ServiceList.{address_of}
-use Rattle.net_interface.specs.Following.{is_finished}
-use Rattle.net_interface.specs.ProcessorRecord.{ready, request_of}
-use Rattle.net_interface.specs.ProcessorTable.{ProcessorState, processor_wants, request_flits, flits_due}
+use Rattle.core_laws.specs.net_interface.specs.Following.{is_finished}
+use Rattle.core_laws.specs.net_interface.specs.ProcessorRecord.{ready, request_of}
+use Rattle.core_laws.specs.net_interface.specs.ProcessorTable.{ProcessorState, processor_wants, request_flits, flits_due}
 use Rattle.home_bank.specs.BankTable.{BankState, bank_wants, is_nil}
 use Rattle.router.specs.Beginning.{router_wiring}
 use Rattle.router.specs.Reach.{IsRouterState}
 use Rattle.router.proofs.WantedPorts as router
-use Rattle.tile.specs.Wiring.{processor_wiring, bank_wiring}
-use Rattle.tile.specs.Tile.{Design, Agent, Processor, Router, Bank}
-use Rattle.tile.specs.Refinement.{IsSurrounded, IsPossibleChoice}
+use Rattle.core_laws.specs.tile.specs.Wiring.{processor_wiring, bank_wiring}
+use Rattle.core_laws.specs.tile.specs.Tile.{Design, Agent, Processor, Router, Bank}
+use Rattle.core_laws.specs.tile.specs.Refinement.{IsSurrounded, IsPossibleChoice}
 use Rattle.core_laws.specs.Core.{State}
 use Rattle.core_laws.proofs.AgentSteps.{option_map_some}
 use Rattle.core_laws.proofs.Networks.{network}

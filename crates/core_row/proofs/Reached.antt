@@ -10,9 +10,9 @@ use Rattle.torus.specs.declared.step.Step.{Step}
 use Rattle.runs.specs.Events.{order_after}
 use Rattle.channel_number.specs.Order.{channel_count, channels_at_tile}
 use Rattle.flit_buffer.specs.Surroundings.{ring, ShowsAll}
-use Rattle.tile.specs.Tile.{TileState, Agent}
-use Rattle.tile.specs.Agents.{TilePlace, agent_numbered}
-use Rattle.tile.specs.Refinement.{IsSurrounded, IsPossibleChoice, KeepsOthers, OnlyAgent}
+use Rattle.core_laws.specs.tile.specs.Tile.{TileState, Agent}
+use Rattle.core_laws.specs.tile.specs.Agents.{TilePlace, agent_numbered}
+use Rattle.core_laws.specs.tile.specs.Refinement.{IsSurrounded, IsPossibleChoice, KeepsOthers, OnlyAgent}
 use Rattle.core_laws.specs.Core.{Load, State, design_of, first_state, after, after_from, next, or_same, step, show}
 use Rattle.core_laws.specs.Runs.{IsAccepted, state_after}
 use Rattle.core_laws.specs.Noted.{noted}

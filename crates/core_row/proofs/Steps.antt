@@ -8,10 +8,10 @@ use Rattle.torus.specs.declared.step.Step.{Step}
 use Rattle.flit_buffer.specs.Words.{word_of, performed}
 use Rattle.flit_buffer.specs.Surroundings.{Surroundings}
 use Rattle.flit_buffer.specs.declared.word_op.WordOp.{WordOp}
-use Rattle.tile.specs.Tile.{Design, TileState, Agent, Processor, Router, Bank, tile_step}
-use Rattle.tile.specs.Agents.{TilePlace, agent_numbered, tile_placed, agent_op, agent_absorbed, tile_next_op, tile_absorbed}
-use Rattle.tile.specs.Refinement.{IsSurrounded, IsPossibleChoice, TileStays, TileMoves, TileRefines, KeepsOthers, OnlyAgent}
-use Rattle.tile.proofs.Tiles.{tile_refines, tile_keeps}
+use Rattle.core_laws.specs.tile.specs.Tile.{Design, TileState, Agent, Processor, Router, Bank, tile_step}
+use Rattle.core_laws.specs.tile.specs.Agents.{TilePlace, agent_numbered, tile_placed, agent_op, agent_absorbed, tile_next_op, tile_absorbed}
+use Rattle.core_laws.specs.tile.specs.Refinement.{IsSurrounded, IsPossibleChoice, TileStays, TileMoves, TileRefines, KeepsOthers, OnlyAgent}
+use Rattle.core_laws.specs.tile.proofs.Tiles.{tile_refines, tile_keeps}
 use Rattle.core_laws.specs.Core.{State, step}
 use Rattle.core_laws.proofs.AgentSteps.{option_map_some}
 use Rattle.core_laws.proofs.OneAgent.{processor_alone, router_alone, bank_alone}

@@ -3,8 +3,8 @@ use Rattle.std.specs.Prelude.{ℕ, ◌+◌, ◌/◌, ◌%◌, is_some, if◌then
 use Rattle.torus.specs.declared.step.Step.{Step}
 use Rattle.flit_buffer.specs.Surroundings.{Surroundings, Wiring, granted, taken_from}
 use Rattle.flit_buffer.specs.declared.want.Want.{Want}
-use Rattle.tile.specs.Tile.{Design, TileState}
-use Rattle.tile.specs.Agents.{agent_numbered, wiring_of, tile_wants}
+use Rattle.core_laws.specs.tile.specs.Tile.{Design, TileState}
+use Rattle.core_laws.specs.tile.specs.Agents.{agent_numbered, wiring_of, tile_wants}
 use Rattle.core_laws.specs.Core.{State, Load, design_of, first_state, next}
 
 -- how many flits a choice takes from channel x, by what it wants: one where that is the channel's next flit and there

@@ -12,9 +12,9 @@ use Rattle.torus.specs.declared.step.Step.{Step}
 use Rattle.channel_number.specs.Order.{channel_count}
 use Rattle.runs.specs.Observed.{Observed}
 use Rattle.tile_agents.specs.Placed.{PlacedTile}
-use Rattle.core_laws.specs.Core.{Load, after, show}
-use Rattle.core_laws.specs.Runs.{IsAccepted}
-use Rattle.machine_laws.proofs.Lawful.{lawful}
+use Rattle.fabric_laws.specs.core_laws.specs.Core.{Load, after, show}
+use Rattle.fabric_laws.specs.core_laws.specs.Runs.{IsAccepted}
+use Rattle.fabric_laws.specs.machine_laws.proofs.Lawful.{lawful}
 use Rattle.fabric_laws.specs.Known.{Shows, word_after, row_length}
 use Rattle.fabric_laws.specs.View.{View}
 use Rattle.fabric_laws.specs.Groups.{In, with_groups, note}

@@ -7,15 +7,15 @@ use Rattle.std.proofs.lemmas.Option.{same_Some, slice_get-map, slice_get_past, s
 use Rattle.atomic_table.specs.declared.shared.Seat.{Seat}
 use Rattle.torus.specs.Shape.{tiles_of}
 use Rattle.torus.specs.declared.step.Step.{Step}
-use Rattle.net_interface.specs.Following.{is_finished}
-use Rattle.net_interface.specs.ProcessorRecord.{ProcessorRecord}
-use Rattle.tile.specs.Tile.{TileState}
-use Rattle.tile.specs.Agents.{TilePlace, tile_placed}
+use Rattle.fabric_laws.specs.net_interface.specs.Following.{is_finished}
+use Rattle.fabric_laws.specs.net_interface.specs.ProcessorRecord.{ProcessorRecord}
+use Rattle.fabric_laws.specs.tile.specs.Tile.{TileState}
+use Rattle.fabric_laws.specs.tile.specs.Agents.{TilePlace, tile_placed}
 use Rattle.tile_agents.specs.Placed.{PlacedTile}
-use Rattle.core_laws.specs.Core.{Load, design_of, after, records_of}
-use Rattle.core_laws.specs.Runs.{IsAccepted}
-use Rattle.core_row.proofs.Reached.{tiles_there, all_steps}
-use Rattle.machine_laws.specs.Core.{all_finished}
+use Rattle.fabric_laws.specs.core_laws.specs.Core.{Load, design_of, after, records_of}
+use Rattle.fabric_laws.specs.core_laws.specs.Runs.{IsAccepted}
+use Rattle.fabric_laws.specs.core_row.proofs.Reached.{tiles_there, all_steps}
+use Rattle.fabric_laws.specs.machine_laws.specs.Core.{all_finished}
 use Rattle.fabric_laws.specs.Known.{known}
 use Rattle.fabric_laws.specs.View.{View}
 use Rattle.fabric_laws.specs.Groups.{Owns}

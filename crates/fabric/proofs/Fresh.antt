@@ -10,13 +10,13 @@ use Rattle.atomic_table.specs.declared.shared.Seat.{Seat}
 use Rattle.torus.specs.Shape.{tiles_of}
 use Rattle.torus.specs.declared.step.Step.{Step}
 use Rattle.channel_number.specs.Order.{channel_count}
-use Rattle.tile.specs.Agents.{TilePlace}
+use Rattle.fabric_laws.specs.tile.specs.Agents.{TilePlace}
 use Rattle.tile_agents.specs.Placed.{PlacedTile}
-use Rattle.core_laws.specs.Core.{Load, design_of, after}
-use Rattle.core_laws.specs.Runs.{IsAccepted}
-use Rattle.core_row.proofs.Reached.{at_most}
-use Rattle.machine_laws.specs.Core.{Core, IsAfter}
-use Rattle.machine_seen.specs.Seen.{IsShown}
+use Rattle.fabric_laws.specs.core_laws.specs.Core.{Load, design_of, after}
+use Rattle.fabric_laws.specs.core_laws.specs.Runs.{IsAccepted}
+use Rattle.fabric_laws.specs.core_row.proofs.Reached.{at_most}
+use Rattle.fabric_laws.specs.machine_laws.specs.Core.{Core, IsAfter}
+use Rattle.fabric_laws.specs.machine_seen.specs.Seen.{IsShown}
 use Rattle.machine_core.specs.Inside.{HaveRoom}
 use Rattle.fabric_laws.specs.Known.{Shows, known, row_length}
 use Rattle.fabric_laws.specs.View.{View}

@@ -10,9 +10,9 @@ use Rattle.packet.specs.Memory.{new_word}
 use Rattle.flit_buffer.specs.Words.{word_of, effect_of}
 use Rattle.flit_buffer.specs.declared.word_op.WordOp.{WordOp}
 use Rattle.flit_buffer.specs.declared.word_op.WordOp.TheVariants.{Load as Read, Store, Swap, Cas, Add, And, Or, Xor, Max, Min}
-use Rattle.tile.specs.Agents.{TilePlace}
-use Rattle.core_laws.specs.Core.{Load}
-use Rattle.core_laws.specs.Runs.{IsAccepted}
+use Rattle.fabric_laws.specs.tile.specs.Agents.{TilePlace}
+use Rattle.fabric_laws.specs.core_laws.specs.Core.{Load}
+use Rattle.fabric_laws.specs.core_laws.specs.Runs.{IsAccepted}
 use Rattle.fabric_laws.specs.Known.{tile_of, known, Shows, op_of, moves}
 use Rattle.fabric_laws.specs.Told.{grown, made}
 use Rattle.fabric_laws.specs.View.{View}

@@ -5,8 +5,8 @@ use Rattle.std.proofs.lemmas.List.{append-nil}
 use Rattle.atomic_table.specs.declared.shared.Seat.{Seat}
 use Rattle.torus.specs.declared.step.Step.{Step}
 use Rattle.tile_agents.specs.Placed.{PlacedTile}
-use Rattle.core_laws.specs.Core.{Load}
-use Rattle.core_laws.specs.Runs.{IsAccepted}
+use Rattle.fabric_laws.specs.core_laws.specs.Core.{Load}
+use Rattle.fabric_laws.specs.core_laws.specs.Runs.{IsAccepted}
 use Rattle.fabric_laws.specs.Known.{tile_of, known, row_length}
 use Rattle.fabric_laws.specs.View.{View}
 use Rattle.fabric_laws.specs.Groups.{Owns, In, Others, GoesOn, Begins, flat, first_group, other_groups, with_groups, first_half, second_half, both, knowing}

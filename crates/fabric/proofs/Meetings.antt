@@ -9,9 +9,9 @@ use Rattle.runs.specs.Order.{LinearizationPoint, IsLegalOrder, StandsBefore}
 use Rattle.runs.specs.Growth.{OnlyGrows}
 use Rattle.runs.proofs.Growth.{kept_along, length_kept}
 use Rattle.runs.proofs.EventNumbers.{real_time}
-use Rattle.core_laws.specs.Core.{Load, after, show, run_of}
-use Rattle.core_laws.specs.Runs.{IsAccepted}
-use Rattle.machine_laws.proofs.Lawful.{lawful}
+use Rattle.fabric_laws.specs.core_laws.specs.Core.{Load, after, show, run_of}
+use Rattle.fabric_laws.specs.core_laws.specs.Runs.{IsAccepted}
+use Rattle.fabric_laws.specs.machine_laws.proofs.Lawful.{lawful}
 use Rattle.fabric_laws.specs.Groups.{Begins}
 use Rattle.fabric.specs.Seats.{Knowing, Learns, JoinsTo}
 use Rattle.fabric.specs.Ending.{shown_after}

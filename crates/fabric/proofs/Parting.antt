@@ -6,8 +6,8 @@ use Rattle.torus.specs.Shape.{Shape, dims_of}
 use Rattle.tile_agents.specs.Placed.{PlacedTile}
 use Rattle.channel_number.specs.Order.{channel_count}
 use Rattle.channel_number.specs.Ports.{port_count}
-use Rattle.core_laws.specs.Core.{Load}
-use Rattle.machine_laws.specs.Core.{Core, IsAfter}
+use Rattle.fabric_laws.specs.core_laws.specs.Core.{Load}
+use Rattle.fabric_laws.specs.machine_laws.specs.Core.{Core, IsAfter}
 use Rattle.fabric_laws.specs.Known.{Shows, row_length}
 use Rattle.fabric_laws.proofs.Runs.{row_size}
 use Rattle.fabric.specs.Key.{Opening, count_up, ranges}

@@ -8,7 +8,7 @@ use Rattle.atomic_table.specs.Table.{State, Me, step, keeps, Allows, Splits, Joi
 use Rattle.atomic_table.proofs.Lists.{at_set}
 use Rattle.torus.specs.Shape.{tiles_of}
 use Rattle.torus.specs.declared.step.Step.{Step}
-use Rattle.core_laws.specs.Core.{Load}
+use Rattle.fabric_laws.specs.core_laws.specs.Core.{Load}
 use Rattle.fabric_laws.specs.Known.{Shows}
 use Rattle.fabric_laws.specs.View.{View, blank}
 use Rattle.fabric_laws.specs.Groups.{Owns, In, Apart, Told, GoesOn, flat, with_groups, first_half, second_half, first_group, other_groups, note, both, knowing}

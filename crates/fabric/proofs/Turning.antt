@@ -6,13 +6,13 @@ use Rattle.torus.specs.Shape.{tiles_of}
 use Rattle.torus.specs.declared.step.Step.{Step}
 use Rattle.torus.specs.declared.step.Stepped.{Stepped}
 use Rattle.torus.specs.declared.step.Stepped.TheVariants.{Moved, Idle}
-use Rattle.flights.specs.Room.{home_room}
+use Rattle.fabric_laws.specs.flights.specs.Room.{home_room}
 use Rattle.flit_buffer.specs.declared.word_op.WordOp.{WordOp}
 use Rattle.flit_buffer.specs.Words.{word_of}
-use Rattle.tile.specs.Agents.{TilePlace, agent_numbered, tile_next_op, tile_absorbed}
+use Rattle.fabric_laws.specs.tile.specs.Agents.{TilePlace, agent_numbered, tile_next_op, tile_absorbed}
 use Rattle.tile_agents.specs.Placed.{PlacedTile, with_place, IsAcceptableTo, HasRoomFor}
-use Rattle.core_laws.specs.Core.{Load}
-use Rattle.core_laws.specs.Runs.{IsAccepted}
+use Rattle.fabric_laws.specs.core_laws.specs.Core.{Load}
+use Rattle.fabric_laws.specs.core_laws.specs.Runs.{IsAccepted}
 use Rattle.fabric_laws.specs.Known.{tile_of, known, op_of, moves, left_by, Suits, row_length}
 use Rattle.fabric_laws.specs.Told.{Away, grown}
 use Rattle.fabric_laws.specs.View.{View}

@@ -1,6 +1,6 @@
 -- What a seat says of its tiles.
 use Rattle.std.specs.Prelude.{◌≡◌, ℕ, ◌<◌, ◌≤◌, List, Some, true}
-use Rattle.tile.specs.Agents.{TilePlace}
+use Rattle.fabric_laws.specs.tile.specs.Agents.{TilePlace}
 use Rattle.fabric_laws.specs.Known.{known}
 use Rattle.fabric_laws.specs.Groups.{Owns}
 use Rattle.fabric.specs.Seats.{Knowing}

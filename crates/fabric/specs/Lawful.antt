@@ -3,9 +3,9 @@ use Rattle.std.specs.Prelude.{◌≡◌, ℕ, List, length, Some, slice_get}
 use Rattle.torus.specs.declared.step.Step.{Step}
 use Rattle.runs.specs.Observed.{HasIssued, HasAnswered}
 use Rattle.runs.specs.Order.{LinearizationPoint, IsLegalOrder, StandsBefore}
-use Rattle.core_laws.specs.Core.{Load, run_of}
-use Rattle.core_laws.specs.Runs.{IsAccepted}
-use Rattle.machine_laws.specs.Core.{IsLawful, book_after}
+use Rattle.fabric_laws.specs.core_laws.specs.Core.{Load, run_of}
+use Rattle.fabric_laws.specs.core_laws.specs.Runs.{IsAccepted}
+use Rattle.fabric_laws.specs.machine_laws.specs.Core.{IsLawful, book_after}
 use Rattle.fabric_laws.specs.Groups.{Begins}
 use Rattle.fabric.specs.Ending.{shown_after}
 

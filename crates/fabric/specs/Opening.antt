@@ -4,8 +4,8 @@ use Rattle.atomic_table.specs.Seated.{TableId}
 use Rattle.atomic_table.specs.declared.shared.Seat.{Seat}
 use Rattle.torus.specs.Shape.{tiles_of}
 use Rattle.tile_agents.specs.Placed.{PlacedTile}
-use Rattle.core_laws.specs.Core.{Load}
-use Rattle.core_laws.specs.Runs.{IsAccepted}
+use Rattle.fabric_laws.specs.core_laws.specs.Core.{Load}
+use Rattle.fabric_laws.specs.core_laws.specs.Runs.{IsAccepted}
 use Rattle.fabric_laws.specs.Known.{Shows}
 use Rattle.fabric_laws.specs.View.{View}
 use Rattle.fabric.specs.Key.{Rises}

@@ -4,10 +4,10 @@ use Rattle.atomic_table.specs.Seated.{TableId}
 use Rattle.atomic_table.specs.declared.shared.Seat.{Seat}
 use Rattle.torus.specs.Shape.{tiles_of}
 use Rattle.torus.specs.declared.step.Step.{Step}
-use Rattle.flights.specs.Room.{home_room}
+use Rattle.fabric_laws.specs.flights.specs.Room.{home_room}
 use Rattle.tile_agents.specs.Placed.{PlacedTile}
-use Rattle.core_laws.specs.Core.{Load}
-use Rattle.core_laws.specs.Runs.{IsAccepted}
+use Rattle.fabric_laws.specs.core_laws.specs.Core.{Load}
+use Rattle.fabric_laws.specs.core_laws.specs.Runs.{IsAccepted}
 use Rattle.fabric_laws.specs.Known.{tile_of, known, enabled, row_length}
 use Rattle.fabric_laws.specs.View.{View}
 use Rattle.fabric_laws.specs.Groups.{Owns, Others, GoesOn, Begins, first_group}

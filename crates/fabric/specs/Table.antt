@@ -2,8 +2,8 @@
 use Rattle.std.specs.Prelude.{◌≡◌, ℕ, List, [], ◌∷◌}
 use Rattle.atomic_table.specs.Table as table
 use Rattle.torus.specs.declared.step.Step.{Step}
-use Rattle.tile.specs.Agents.{TilePlace}
-use Rattle.core_laws.specs.Core.{Load}
+use Rattle.fabric_laws.specs.tile.specs.Agents.{TilePlace}
+use Rattle.fabric_laws.specs.core_laws.specs.Core.{Load}
 use Rattle.fabric_laws.specs.View.{View}
 use Rattle.fabric_laws.specs.Groups.{flat}
 use Rattle.fabric_laws.specs.Rule.{Kept, Attempted, Looked, Learned}

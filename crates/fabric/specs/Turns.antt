@@ -4,7 +4,7 @@ use Rattle.torus.specs.Shape.{Shape, dims_of}
 use Rattle.torus.specs.declared.step.Step.{Step}
 use Rattle.torus.specs.Choices.{has_choice as numbered_has}
 use Rattle.channel_number.specs.Ports.{port_count}
-use Rattle.core_laws.specs.Core.{Load}
+use Rattle.fabric_laws.specs.core_laws.specs.Core.{Load}
 use Rattle.fabric_laws.specs.Known.{tile_of, known, enabled, op_of}
 use Rattle.fabric_laws.specs.View.{View}
 use Rattle.fabric_laws.specs.Groups.{In, Others, Begins, knowing}

@@ -2,10 +2,10 @@
 ghost use Rattle.std.specs.Prelude.{◌≡◌, ◌↔◌, ◌≤◌, true, IsNone, IsTrue, IfSome, Some, length, slice_get, is_some};
 ghost use Rattle.std.specs.Option.{option_copied};
 ghost use Rattle.torus.specs.Shape.{tiles_of};
-ghost use Rattle.flights.specs.Scripts.{AreFinished};
-ghost use Rattle.core_laws.specs.Core.{after, run_of};
-ghost use Rattle.core_laws.specs.Runs.{IsAccepted};
-ghost use Rattle.machine_laws.specs.Core.{all_finished};
+ghost use Rattle.fabric_laws.specs.flights.specs.Scripts.{AreFinished};
+ghost use Rattle.fabric_laws.specs.core_laws.specs.Core.{after, run_of};
+ghost use Rattle.fabric_laws.specs.core_laws.specs.Runs.{IsAccepted};
+ghost use Rattle.fabric_laws.specs.machine_laws.specs.Core.{all_finished};
 ghost use Rattle.fabric_laws.specs.Groups.{Owns};
 ghost use Rattle.fabric.specs.Seats.{IsOf, IsWhole, StandsAt};
 ghost use Rattle.fabric.specs.Ending.{shown_after, slot_finished};

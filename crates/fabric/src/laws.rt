@@ -2,8 +2,8 @@
 
 ghost use Rattle.std.specs.Prelude.{◌≡◌, ◌⊎◌, ℕ, List};
 ghost use Rattle.torus.specs.declared.step.Step.{Step};
-ghost use Rattle.core_laws.specs.Core.{Load};
-ghost use Rattle.core_laws.specs.Runs.{IsAccepted};
+ghost use Rattle.fabric_laws.specs.core_laws.specs.Core.{Load};
+ghost use Rattle.fabric_laws.specs.core_laws.specs.Runs.{IsAccepted};
 ghost use Rattle.fabric.specs.Seats.{Knowing, Learns, JoinsTo};
 ghost use Rattle.fabric.specs.Lawful.{HasLawfulRun, IsAnsweredIn, KeepsAnswersFirst};
 

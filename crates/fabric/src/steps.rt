@@ -1,7 +1,7 @@
 //! The atomic operations on the row.
 ghost use Rattle.std.specs.Prelude.{◌≡◌, ◌≢◌, ℕ, ◌<◌, true, Some, [], length};
 ghost use Rattle.flit_buffer.specs.Words.{word_of};
-ghost use Rattle.core_laws.specs.Runs.{IsAccepted};
+ghost use Rattle.fabric_laws.specs.core_laws.specs.Runs.{IsAccepted};
 ghost use Rattle.fabric_laws.specs.Known.{tile_of, known, op_of, row_length};
 ghost use Rattle.fabric_laws.specs.Groups.{In};
 ghost use Rattle.fabric_laws.specs.Rule.{Attempted};
@@ -35,7 +35,7 @@ pub type Row = Shared<(), Knowledge, Dealing, OneRun>;
 /// The step that is attempted, and its tile in its place. Each call picks them.
 pub trait Attempting {
     ghost use Rattle.torus.specs.declared.step.Step.{Step};
-    ghost use Rattle.tile.specs.Agents.{TilePlace};
+    ghost use Rattle.fabric_laws.specs.tile.specs.Agents.{TilePlace};
 
     ghost step: { Step };
 

@@ -8,9 +8,9 @@ use Rattle.torus.specs.Shape.{tiles_of}
 use Rattle.torus.specs.declared.step.Step.{Step}
 use Rattle.flit_buffer.specs.Words.{word_of, performed}
 use Rattle.flit_buffer.specs.declared.word_op.WordOp.{WordOp}
-use Rattle.tile.specs.Agents.{TilePlace}
-use Rattle.core_laws.specs.Core.{Load}
-use Rattle.core_laws.specs.Runs.{IsAccepted}
+use Rattle.machine_seen.specs.tile.specs.Agents.{TilePlace}
+use Rattle.machine_seen.specs.core_laws.specs.Core.{Load}
+use Rattle.machine_seen.specs.core_laws.specs.Runs.{IsAccepted}
 use Rattle.fabric_laws.specs.Known.{tile_of, known, Shows, op_of, moves}
 use Rattle.fabric_laws.specs.Told.{grown, made, Tells}
 use Rattle.fabric_laws.specs.View.{View}

@@ -6,7 +6,7 @@ use native.Mathlib.Decide.{ℕ_discrete}
 use lib.ListN.{get_elem?}
 use Rattle.atomic_table.proofs.Lists.{at_set, set_here, set_else, at_longer}
 use Rattle.torus.specs.declared.step.Step.{Step}
-use Rattle.core_laws.specs.Core.{Load}
+use Rattle.machine_seen.specs.core_laws.specs.Core.{Load}
 use Rattle.fabric_laws.specs.View.{View}
 use Rattle.fabric_laws.specs.Groups.{In, Apart, with_groups}
 use Rattle.fabric_laws.specs.Rule.{Fits, Kept}

@@ -5,7 +5,7 @@ use mathlib.Core.Option.{some, some-injective, some-ne-none}
 use lib.ListN.{get_elem?}
 use Rattle.torus.specs.Shape.{tiles_of}
 use Rattle.torus.specs.declared.step.Step.{Step}
-use Rattle.core_laws.specs.Core.{Load}
+use Rattle.machine_seen.specs.core_laws.specs.Core.{Load}
 use Rattle.fabric_laws.specs.Known.{tile_of, Shows}
 use Rattle.fabric_laws.specs.View.{View}
 use Rattle.fabric_laws.specs.Groups.{In, Apart, Others, Named, Told}

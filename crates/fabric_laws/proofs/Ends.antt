@@ -5,15 +5,15 @@ use Rattle.std.specs.List.{list_all}
 use Rattle.std.proofs.lemmas.List.Folds.{list_all-map}
 use Rattle.std.proofs.lemmas.Option.{same_Some}
 use Rattle.torus.specs.declared.step.Step.{Step}
-use Rattle.net_interface.specs.Following.{is_finished}
-use Rattle.net_interface.specs.ProcessorRecord.{ProcessorRecord}
-use Rattle.tile.specs.Tile.{TileState}
-use Rattle.tile.specs.Agents.{TilePlace, tile_placed}
-use Rattle.core_laws.specs.Core.{Load, State, design_of, after}
-use Rattle.core_laws.specs.Runs.{IsAccepted}
-use Rattle.core_laws.specs.Reports.{CountsReports}
-use Rattle.core_laws.proofs.Reached.{reports_counted}
-use Rattle.core_row.proofs.Reached.{all_steps}
+use Rattle.machine_seen.specs.net_interface.specs.Following.{is_finished}
+use Rattle.machine_seen.specs.net_interface.specs.ProcessorRecord.{ProcessorRecord}
+use Rattle.machine_seen.specs.tile.specs.Tile.{TileState}
+use Rattle.machine_seen.specs.tile.specs.Agents.{TilePlace, tile_placed}
+use Rattle.machine_seen.specs.core_laws.specs.Core.{Load, State, design_of, after}
+use Rattle.machine_seen.specs.core_laws.specs.Runs.{IsAccepted}
+use Rattle.machine_seen.specs.core_laws.specs.Reports.{CountsReports}
+use Rattle.machine_seen.specs.core_laws.proofs.Reached.{reports_counted}
+use Rattle.machine_seen.specs.core_row.proofs.Reached.{all_steps}
 use Rattle.fabric_laws.specs.Known.{known}
 use Rattle.fabric_laws.specs.Ended.{AreAllFinished}
 

@@ -6,7 +6,7 @@ use native.Mathlib.Decide.{ℕ_discrete}
 use lib.ListN.{get_elem?}
 use Rattle.atomic_table.proofs.Lists.{at_set, set_here, set_else}
 use Rattle.torus.specs.declared.step.Step.{Step}
-use Rattle.core_laws.specs.Core.{Load}
+use Rattle.machine_seen.specs.core_laws.specs.Core.{Load}
 use Rattle.fabric_laws.specs.View.{View, blank}
 use Rattle.fabric_laws.specs.Groups.{In, both, longer}
 use Rattle.fabric_laws.specs.Rule.{Fits, Kept}

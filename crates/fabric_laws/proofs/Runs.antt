@@ -11,17 +11,17 @@ use Rattle.packet.specs.declared.kinds.Request.{Request}
 use Rattle.flit_buffer.specs.Words.{word_of, performed}
 use Rattle.flit_buffer.specs.declared.word_op.WordOp.{WordOp}
 use Rattle.channel_number.specs.Order.{channel_count}
-use Rattle.flights.specs.Room.{home_room}
-use Rattle.tile.specs.Tile.{Design, TileState, Agent, Processor, Router, Bank}
-use Rattle.tile.specs.Agents.{TilePlace, agent_numbered, tile_placed, agent_op, tile_next_op, tile_absorbed}
-use Rattle.tile_agents.specs.Placed.{IsAcceptableTo, HasRoomFor}
-use Rattle.core_laws.specs.Core.{Load, State, design_of, first_state, after, next, or_same, step}
-use Rattle.core_laws.specs.Runs.{IsAccepted, state_after}
-use Rattle.core_laws.proofs.AskedFor.{bank_asked}
-use Rattle.core_row.specs.Row.{row_of}
-use Rattle.core_row.specs.Attempts.{tile_in, LeavesRow, MovesRow, IsWordOperation}
-use Rattle.core_row.proofs.Reached.{is_operation, run_leaves, all_steps, run_append, size, tiles_there, surrounded}
-use Rattle.core_row.proofs.Rows.{row_word}
+use Rattle.machine_seen.specs.flights.specs.Room.{home_room}
+use Rattle.machine_seen.specs.tile.specs.Tile.{Design, TileState, Agent, Processor, Router, Bank}
+use Rattle.machine_seen.specs.tile.specs.Agents.{TilePlace, agent_numbered, tile_placed, agent_op, tile_next_op, tile_absorbed}
+use Rattle.machine_seen.specs.tile_agents.specs.Placed.{IsAcceptableTo, HasRoomFor}
+use Rattle.machine_seen.specs.core_laws.specs.Core.{Load, State, design_of, first_state, after, next, or_same, step}
+use Rattle.machine_seen.specs.core_laws.specs.Runs.{IsAccepted, state_after}
+use Rattle.machine_seen.specs.core_laws.proofs.AskedFor.{bank_asked}
+use Rattle.machine_seen.specs.core_row.specs.Row.{row_of}
+use Rattle.machine_seen.specs.core_row.specs.Attempts.{tile_in, LeavesRow, MovesRow, IsWordOperation}
+use Rattle.machine_seen.specs.core_row.proofs.Reached.{is_operation, run_leaves, all_steps, run_append, size, tiles_there, surrounded}
+use Rattle.machine_seen.specs.core_row.proofs.Rows.{row_word}
 use Rattle.machine_seen.proofs.Tries.{may_try}
 use Rattle.fabric_laws.specs.Known.{tile_of, known, enabled, Shows, word_after, row_length, op_of, moves, left_by, Suits}
 use Rattle.fabric_laws.specs.Told.{Away, grown, Tells}

@@ -11,11 +11,11 @@ use Rattle.flit_buffer.specs.declared.word_op.WordOp.TheVariants.{Store}
 use Rattle.channel_number.specs.Ports.{port_count}
 use Rattle.home_bank.specs.BankTable.{is_nil}
 use Rattle.router.specs.Table.{latch_of, wants_to_take}
-use Rattle.tile.specs.Tile.{Agent, Processor, Router, Bank}
-use Rattle.tile.specs.Agents.{TilePlace, agent_numbered, agent_op}
-use Rattle.tile.proofs.OwnSteps.{blind}
-use Rattle.tile_agents.specs.Placed.{IsAcceptableTo}
-use Rattle.core_laws.specs.Core.{Load}
+use Rattle.machine_seen.specs.tile.specs.Tile.{Agent, Processor, Router, Bank}
+use Rattle.machine_seen.specs.tile.specs.Agents.{TilePlace, agent_numbered, agent_op}
+use Rattle.machine_seen.specs.tile.proofs.OwnSteps.{blind}
+use Rattle.machine_seen.specs.tile_agents.specs.Placed.{IsAcceptableTo}
+use Rattle.machine_seen.specs.core_laws.specs.Core.{Load}
 use Rattle.fabric_laws.specs.Known.{op_of, moves, left_by, Suits}
 use Rattle.fabric_laws.proofs.Runs.{own_op}
 

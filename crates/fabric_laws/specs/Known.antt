@@ -3,13 +3,13 @@ use Rattle.std.specs.Prelude.{◌≡◌, ℕ, ◌+◌, ◌*◌, ◌/◌, ◌%◌
 use Rattle.torus.specs.Shape.{tiles_of}
 use Rattle.torus.specs.declared.step.Step.{Step}
 use Rattle.channel_number.specs.Order.{channel_count}
-use Rattle.flights.specs.Room.{home_room}
+use Rattle.machine_seen.specs.flights.specs.Room.{home_room}
 use Rattle.flit_buffer.specs.declared.word_op.WordOp.{WordOp}
-use Rattle.tile.specs.Agents.{TilePlace, agent_numbered, tile_next_op, tile_absorbed}
-use Rattle.tile_agents.specs.Placed.{IsAcceptableTo, HasRoomFor}
-use Rattle.core_laws.specs.Core.{Load, design_of, after, step}
-use Rattle.core_row.specs.Row.{row_of}
-use Rattle.core_row.specs.Attempts.{tile_in}
+use Rattle.machine_seen.specs.tile.specs.Agents.{TilePlace, agent_numbered, tile_next_op, tile_absorbed}
+use Rattle.machine_seen.specs.tile_agents.specs.Placed.{IsAcceptableTo, HasRoomFor}
+use Rattle.machine_seen.specs.core_laws.specs.Core.{Load, design_of, after, step}
+use Rattle.machine_seen.specs.core_row.specs.Row.{row_of}
+use Rattle.machine_seen.specs.core_row.specs.Attempts.{tile_in}
 
 -- the tile of an attempt: tile t has the agents 3t, 3t + 1 and 3t + 2 (this project's own format)
 abbrev pub tile_of : Step → ℕ

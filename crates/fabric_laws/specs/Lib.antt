@@ -1,3 +1,10 @@
+pub use Rattle.machine_seen.specs.core_laws
+pub use Rattle.machine_seen.specs.core_row
+pub use Rattle.machine_seen.specs.flights
+pub use Rattle.machine_seen.specs.machine_laws
+pub use Rattle.machine_seen
+pub use Rattle.machine_seen.specs.net_interface
+pub use Rattle.machine_seen.specs.tile
 pub mod Known
 pub mod Told
 pub mod View

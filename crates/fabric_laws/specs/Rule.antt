@@ -4,8 +4,8 @@ use mathlib.Core.Option.{some}
 use lib.ListN.{get_elem?}
 use Rattle.torus.specs.Shape.{tiles_of}
 use Rattle.torus.specs.declared.step.Step.{Step}
-use Rattle.tile.specs.Agents.{TilePlace}
-use Rattle.core_laws.specs.Core.{Load}
+use Rattle.machine_seen.specs.tile.specs.Agents.{TilePlace}
+use Rattle.machine_seen.specs.core_laws.specs.Core.{Load}
 use Rattle.fabric_laws.specs.Known.{tile_of, known, enabled, Shows, moves, left_by, Suits}
 use Rattle.fabric_laws.specs.Told.{grown}
 use Rattle.fabric_laws.specs.View.{View}

@@ -3,8 +3,8 @@ use Rattle.std.specs.Prelude.{◌≡◌, ◌≢◌, ℕ, ◌<◌, Bool, if◌the
 use Rattle.torus.specs.declared.step.Step.{Step}
 use Rattle.flit_buffer.specs.Words.{word_of, performed}
 use Rattle.flit_buffer.specs.declared.word_op.WordOp.{WordOp}
-use Rattle.tile.specs.Agents.{TilePlace}
-use Rattle.core_laws.specs.Core.{Load}
+use Rattle.machine_seen.specs.tile.specs.Agents.{TilePlace}
+use Rattle.machine_seen.specs.core_laws.specs.Core.{Load}
 use Rattle.fabric_laws.specs.Known.{tile_of, known, enabled, Shows, moves, left_by, Suits}
 
 -- no attempt of tile t among these

@@ -2,10 +2,10 @@
 
 ghost use Rattle.std.specs.Prelude.{◌≡◌, ℕ, true, List, length, Some};
 ghost use Rattle.torus.specs.declared.step.Step.{Step};
-ghost use Rattle.flights.specs.Scripts.{AreFinished};
-ghost use Rattle.tile.specs.Agents.{TilePlace};
-ghost use Rattle.core_laws.specs.Core.{Load, run_of};
-ghost use Rattle.core_laws.specs.Runs.{IsAccepted};
+ghost use Rattle.machine_seen.specs.flights.specs.Scripts.{AreFinished};
+ghost use Rattle.machine_seen.specs.tile.specs.Agents.{TilePlace};
+ghost use Rattle.machine_seen.specs.core_laws.specs.Core.{Load, run_of};
+ghost use Rattle.machine_seen.specs.core_laws.specs.Runs.{IsAccepted};
 ghost use Rattle.fabric_laws.specs.Known.{known};
 ghost use Rattle.fabric_laws.specs.Ended.{AreAllFinished};
 

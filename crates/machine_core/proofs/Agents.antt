@@ -17,19 +17,19 @@ use Rattle.flit_buffer.specs.Surroundings.{Surroundings}
 use Rattle.flit_buffer.specs.Tries.{performed_by}
 use Rattle.flit_buffer.specs.Words.{word_of}
 use Rattle.flit_buffer.specs.declared.word_op.WordOp.{WordOp}
-use Rattle.flights.specs.EventBook.{EventBook}
-use Rattle.net_interface.specs.ProcessorRecord.{ProcessorRecord}
-use Rattle.net_interface.specs.ProcessorTable.{ProcessorState}
+use Rattle.machine_seen.specs.flights.specs.EventBook.{EventBook}
+use Rattle.machine_seen.specs.net_interface.specs.ProcessorRecord.{ProcessorRecord}
+use Rattle.machine_seen.specs.net_interface.specs.ProcessorTable.{ProcessorState}
 use Rattle.home_bank.specs.BankTable.{BankState}
 use Rattle.router.specs.Table.{RouterState, router_wants, router_after}
 use Rattle.event_book.specs.RoomyBook.{RoomyBook, KeepsRoom}
-use Rattle.tile.specs.Tile.{Design, TileState, Agent, Router}
-use Rattle.tile.specs.Agents.{TilePlace, agent_numbered, state_of, tile_placed, tile_next_op, agent_op, agent_absorbed}
+use Rattle.machine_seen.specs.tile.specs.Tile.{Design, TileState, Agent, Router}
+use Rattle.machine_seen.specs.tile.specs.Agents.{TilePlace, agent_numbered, state_of, tile_placed, tile_next_op, agent_op, agent_absorbed}
 use Rattle.tile_agents.specs.Placed.{PlacedTile, IsAcceptableTo, with_place, agent_attempted, tile_attempted}
 use Rattle.tile_agents.proofs.OwnAttempts.{own_attempt}
-use Rattle.core_laws.specs.Core.{design_of, after}
+use Rattle.machine_seen.specs.core_laws.specs.Core.{design_of, after}
 use Rattle.machine_seen.specs.Notes.{book_noted}
-use Rattle.machine_laws.specs.Core.{Core, Steps}
+use Rattle.machine_seen.specs.machine_laws.specs.Core.{Core, Steps}
 use Rattle.machine_core.specs.declared.machine.Machine.TheInside.{Inside}
 use Rattle.machine_core.specs.Noted.{HasRoomToNote, IsOfFullBank, counts_of, records_in}
 use Rattle.machine_core.specs.Inside.{core_of, IsMachine}

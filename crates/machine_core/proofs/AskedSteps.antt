@@ -6,21 +6,21 @@ use Rattle.std.specs.Option.{IsSome}
 use Rattle.torus.specs.declared.step.Step.{Step}
 use Rattle.flit_buffer.specs.Tries.{performed_by}
 use Rattle.rounds.specs.Rounds.{IsEnabled}
-use Rattle.tile.specs.Tile.{Design}
-use Rattle.tile.specs.Agents.{TilePlace, tile_next_op}
+use Rattle.machine_seen.specs.tile.specs.Tile.{Design}
+use Rattle.machine_seen.specs.tile.specs.Agents.{TilePlace, tile_next_op}
 use Rattle.tile_agents.specs.Placed.{PlacedTile, tile_attempted}
-use Rattle.core_laws.specs.Core.{Load, State, design_of, step, after}
-use Rattle.core_laws.specs.Runs.{state_after}
-use Rattle.core_row.proofs.Reached.{all_steps}
-use Rattle.core_progress.specs.Moves.{enabled_step, IsLive}
-use Rattle.core_progress.proofs.Live.{is_live}
-use Rattle.core_progress.proofs.OfRound.{found_is, none_is}
+use Rattle.machine_seen.specs.core_laws.specs.Core.{Load, State, design_of, step, after}
+use Rattle.machine_seen.specs.core_laws.specs.Runs.{state_after}
+use Rattle.machine_seen.specs.core_row.proofs.Reached.{all_steps}
+use Rattle.machine_seen.specs.core_progress.specs.Moves.{enabled_step, IsLive}
+use Rattle.machine_seen.specs.core_progress.proofs.Live.{is_live}
+use Rattle.machine_seen.specs.core_progress.proofs.OfRound.{found_is, none_is}
 use Rattle.machine_seen.specs.Seen.{IsShown}
-use Rattle.machine_laws.specs.Core.{Core, IsAfter, built_to, all_finished}
+use Rattle.machine_seen.specs.machine_laws.specs.Core.{Core, IsAfter, built_to, all_finished}
 use Rattle.machine_core.specs.declared.machine.Machine.TheInside.{Inside}
 use Rattle.machine_core.specs.Inside.{core_of, places_in, IsMachine}
 use Rattle.machine_core.proofs.Moving.{leads, step_is, none_past}
-use Rattle.machine_laws.proofs.Moves.{built, same_finished}
+use Rattle.machine_seen.specs.machine_laws.proofs.Moves.{built, same_finished}
 
 module _ {A : Type 0} (a : Inside A) (is : IsMachine a) (attempt : Step) where
   -- a tile that isn't there makes no step

@@ -10,20 +10,20 @@ use Rattle.script.specs.Machine.{MachineSpec, IsAcceptedMachine}
 use Rattle.script.specs.Scripts.{ScriptsSpec, AreAcceptedScripts, Fit, operation_count, script_of, total_count}
 use Rattle.script.specs.declared.line.Line.{Line}
 use Rattle.channel_number.specs.Order.{channel_count}
-use Rattle.flights.specs.Load.{load_of}
-use Rattle.flights.specs.Room.{home_room}
-use Rattle.flights.specs.EventBook.{EventBook, first_book}
-use Rattle.flights.proofs.LoadingAccepted.{accepted_load}
-use Rattle.tile.specs.Tile.{TileState}
-use Rattle.tile.specs.Agents.{tile_placed}
+use Rattle.machine_seen.specs.flights.specs.Load.{load_of}
+use Rattle.machine_seen.specs.flights.specs.Room.{home_room}
+use Rattle.machine_seen.specs.flights.specs.EventBook.{EventBook, first_book}
+use Rattle.machine_seen.specs.flights.proofs.LoadingAccepted.{accepted_load}
+use Rattle.machine_seen.specs.tile.specs.Tile.{TileState}
+use Rattle.machine_seen.specs.tile.specs.Agents.{tile_placed}
 use Rattle.tile_agents.specs.Placed.{PlacedTile, first_tile}
-use Rattle.core_laws.specs.Core.{Load, design_of, first_state, first_tile as first_tile_state}
-use Rattle.core_laws.specs.Runs.{IsAccepted}
-use Rattle.core_row.specs.Attempts.{tile_in}
-use Rattle.core_row.proofs.First.{first_row, first_tiles as first_places}
-use Rattle.core_progress.specs.Moves.{most_moves}
-use Rattle.machine_laws.specs.Core.{IsAfter, IsLawful}
-use Rattle.machine_laws.proofs.Lawful.{lawful}
+use Rattle.machine_seen.specs.core_laws.specs.Core.{Load, design_of, first_state, first_tile as first_tile_state}
+use Rattle.machine_seen.specs.core_laws.specs.Runs.{IsAccepted}
+use Rattle.machine_seen.specs.core_row.specs.Attempts.{tile_in}
+use Rattle.machine_seen.specs.core_row.proofs.First.{first_row, first_tiles as first_places}
+use Rattle.machine_seen.specs.core_progress.specs.Moves.{most_moves}
+use Rattle.machine_seen.specs.machine_laws.specs.Core.{IsAfter, IsLawful}
+use Rattle.machine_seen.specs.machine_laws.proofs.Lawful.{lawful}
 use Rattle.machine_seen.specs.Seen.{IsShown}
 use Rattle.machine_seen.proofs.Reached.{seen_state}
 use Rattle.machine_core.specs.declared.machine.Machine.TheInside.{Inside}

@@ -7,13 +7,13 @@ use Rattle.torus.specs.Shape.{dims_of, tiles_of}
 use Rattle.script.specs.declared.line.Line.{Line}
 use Rattle.script.specs.declared.line.Line.TheVariants as line
 use Rattle.script.specs.Scripts.{operations_of, operation_count, script_of, total_count, mentions_last, IsAcceptedScript, AreAcceptedScripts}
-use Rattle.net_interface.specs.Following.{past_fences, first_of}
-use Rattle.net_interface.specs.Homes.{line_home_count, script_home_count}
-use Rattle.net_interface.proofs.Places.{count_past_fences}
-use Rattle.flights.specs.Room.{home_room}
-use Rattle.tile.specs.Tile.{TileState}
-use Rattle.core_laws.specs.Core.{Load, State, first_state, first_tile}
-use Rattle.core_laws.specs.Runs.{IsAccepted}
+use Rattle.machine_seen.specs.net_interface.specs.Following.{past_fences, first_of}
+use Rattle.machine_seen.specs.net_interface.specs.Homes.{line_home_count, script_home_count}
+use Rattle.machine_seen.specs.net_interface.proofs.Places.{count_past_fences}
+use Rattle.machine_seen.specs.flights.specs.Room.{home_room}
+use Rattle.machine_seen.specs.tile.specs.Tile.{TileState}
+use Rattle.machine_seen.specs.core_laws.specs.Core.{Load, State, first_state, first_tile}
+use Rattle.machine_seen.specs.core_laws.specs.Runs.{IsAccepted}
 
 -- the load without the fences in front of its scripts
 abbrev pub bare : Load → Load

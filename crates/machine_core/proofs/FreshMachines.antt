@@ -5,20 +5,20 @@ use Rattle.std.proofs.lemmas.Option.{slice_get_within}
 use Rattle.torus.specs.Shape.{tiles_of, dims_of}
 use Rattle.torus.specs.declared.step.Step.{Step}
 use Rattle.script.specs.declared.line.Line.{Line}
-use Rattle.net_interface.specs.Scripts.{Invocation}
-use Rattle.net_interface.specs.Following.{Following, ShowsPast, starts, issues, answers, first_of, past_fences}
-use Rattle.net_interface.specs.ProcessorRecord.{ProcessorRecord, no_processor}
+use Rattle.machine_seen.specs.net_interface.specs.Scripts.{Invocation}
+use Rattle.machine_seen.specs.net_interface.specs.Following.{Following, ShowsPast, starts, issues, answers, first_of, past_fences}
+use Rattle.machine_seen.specs.net_interface.specs.ProcessorRecord.{ProcessorRecord, no_processor}
 use Rattle.runs.specs.Observed.{list_at}
-use Rattle.flights.specs.EventBook.{EventBook}
-use Rattle.flights.specs.Room.{home_room}
-use Rattle.tile.specs.Tile.{Design, TileState}
+use Rattle.machine_seen.specs.flights.specs.EventBook.{EventBook}
+use Rattle.machine_seen.specs.flights.specs.Room.{home_room}
+use Rattle.machine_seen.specs.tile.specs.Tile.{Design, TileState}
 use Rattle.tile_agents.specs.Placed.{PlacedTile}
-use Rattle.core_laws.specs.Core.{Load, State, design_of, first_state, first_tile, after, after_from, records_of}
-use Rattle.core_laws.specs.Runs.{IsAccepted, state_after}
-use Rattle.core_laws.proofs.OnTheWay.{shows_operations}
-use Rattle.core_row.proofs.Reached.{all_steps}
-use Rattle.machine_laws.specs.Core.{Core, IsAfter, IsLawful}
-use Rattle.machine_laws.proofs.Lawful.{lawful}
+use Rattle.machine_seen.specs.core_laws.specs.Core.{Load, State, design_of, first_state, first_tile, after, after_from, records_of}
+use Rattle.machine_seen.specs.core_laws.specs.Runs.{IsAccepted, state_after}
+use Rattle.machine_seen.specs.core_laws.proofs.OnTheWay.{shows_operations}
+use Rattle.machine_seen.specs.core_row.proofs.Reached.{all_steps}
+use Rattle.machine_seen.specs.machine_laws.specs.Core.{Core, IsAfter, IsLawful}
+use Rattle.machine_seen.specs.machine_laws.proofs.Lawful.{lawful}
 use Rattle.machine_seen.specs.Seen.{IsShown}
 use Rattle.machine_core.specs.declared.machine.Machine.TheInside.{Inside}
 use Rattle.machine_core.specs.Inside.{core_of, places_in, HaveRoom, IsMachine}

@@ -16,27 +16,27 @@ use Rattle.runs.specs.declared.answer.Answer.{Answer}
 use Rattle.runs.specs.Events.{Event}
 use Rattle.runs.specs.Observed.{list_at}
 use Rattle.runs.proofs.Lists.{get_set_same, get_set_other}
-use Rattle.net_interface.specs.ProcessorRecord.{ProcessorRecord}
-use Rattle.flights.specs.EventBook.{EventBook, noted_event}
-use Rattle.flights.specs.Room.{home_room}
+use Rattle.machine_seen.specs.net_interface.specs.ProcessorRecord.{ProcessorRecord}
+use Rattle.machine_seen.specs.flights.specs.EventBook.{EventBook, noted_event}
+use Rattle.machine_seen.specs.flights.specs.Room.{home_room}
 use Rattle.flit_buffer.specs.Surroundings.{Surroundings}
 use Rattle.flit_buffer.specs.Tries.{performed_by}
 use Rattle.flit_buffer.specs.Words.{word_of}
 use Rattle.event_book.specs.RoomyBook.{RoomyBook, KeepsRoom}
 use Rattle.rounds.specs.Rounds.{moves_in, one_if_moved}
-use Rattle.tile.specs.Tile.{Design, TileState}
-use Rattle.tile.specs.Agents.{TilePlace, agent_numbered, state_of, tile_placed, tile_next_op}
+use Rattle.machine_seen.specs.tile.specs.Tile.{Design, TileState}
+use Rattle.machine_seen.specs.tile.specs.Agents.{TilePlace, agent_numbered, state_of, tile_placed, tile_next_op}
 use Rattle.tile_agents.specs.Placed.{PlacedTile, IsAcceptableTo, with_place, tile_attempted}
-use Rattle.core_laws.specs.Core.{Load, State, design_of, step, or_same, first_state, after, records_of}
-use Rattle.core_laws.specs.Runs.{state_after}
-use Rattle.core_laws.proofs.EveryRun.{holds_in}
+use Rattle.machine_seen.specs.core_laws.specs.Core.{Load, State, design_of, step, or_same, first_state, after, records_of}
+use Rattle.machine_seen.specs.core_laws.specs.Runs.{state_after}
+use Rattle.machine_seen.specs.core_laws.proofs.EveryRun.{holds_in}
 use Rattle.machine_seen.specs.Seen.{IsShown, LeadsOn, state_seen}
 use Rattle.machine_seen.proofs.Reached.{seen_state}
 use Rattle.machine_seen.proofs.Attempts.{leads_on}
-use Rattle.machine_laws.specs.Core.{Core, IsAfter, Steps, built_to, told, event_in, core_with, core_next, book_after}
-use Rattle.machine_laws.proofs.Books.{after_append}
-use Rattle.machine_laws.proofs.Machines.{after_step}
-use Rattle.machine_laws.proofs.Moves.{most_left}
+use Rattle.machine_seen.specs.machine_laws.specs.Core.{Core, IsAfter, Steps, built_to, told, event_in, core_with, core_next, book_after}
+use Rattle.machine_seen.specs.machine_laws.proofs.Books.{after_append}
+use Rattle.machine_seen.specs.machine_laws.proofs.Machines.{after_step}
+use Rattle.machine_seen.specs.machine_laws.proofs.Moves.{most_left}
 use Rattle.machine_seen.proofs.Tries.{word_there, word_asked}
 use Rattle.machine_seen.proofs.Room.{full_shown}
 use Rattle.machine_seen.specs.Notes.{FitsLoad, RoomToNoteService, RoomToNoteAnswer, book_noted, index_served}

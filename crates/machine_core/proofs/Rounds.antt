@@ -9,8 +9,8 @@ use Rattle.torus.specs.declared.step.Step.{Step}
 use Rattle.torus.specs.declared.step.Choice.{Choice}
 use Rattle.channel_number.specs.Ports.{port_count}
 use Rattle.runs.specs.Events.{Event}
-use Rattle.core_laws.specs.Core.{State, step, attempts_of, round_at, round}
-use Rattle.machine_laws.specs.Core.{Core, built_to, event_in, core_with, core_next, core_after}
+use Rattle.machine_seen.specs.core_laws.specs.Core.{State, step, attempts_of, round_at, round}
+use Rattle.machine_seen.specs.machine_laws.specs.Core.{Core, built_to, event_in, core_with, core_next, core_after}
 use Rattle.machine_core.specs.Rounds.{processor_choices, bank_choices, takes_of_all, puts_of_all, credits_of_all}
 
 -- attempts, one after the other

@@ -4,14 +4,14 @@ use Rattle.torus.specs.Shape.{tiles_of}
 use Rattle.torus.specs.declared.step.Step.{Step}
 use Rattle.script.specs.declared.line.Line.{Line}
 use Rattle.script.specs.Scripts.{operation_count, total_count}
-use Rattle.flights.specs.Room.{home_room}
+use Rattle.machine_seen.specs.flights.specs.Room.{home_room}
 use Rattle.event_book.specs.RoomyBook.{RoomyBook}
-use Rattle.tile.specs.Tile.{Design}
-use Rattle.tile.specs.Agents.{TilePlace}
+use Rattle.machine_seen.specs.tile.specs.Tile.{Design}
+use Rattle.machine_seen.specs.tile.specs.Agents.{TilePlace}
 use Rattle.tile_agents.specs.Placed.{PlacedTile}
-use Rattle.core_laws.specs.Core.{Load, design_of, after as state_after_steps}
+use Rattle.machine_seen.specs.core_laws.specs.Core.{Load, design_of, after as state_after_steps}
 use Rattle.machine_seen.specs.Seen.{IsShown, state_seen}
-use Rattle.machine_laws.specs.Core.{Core, IsAfter}
+use Rattle.machine_seen.specs.machine_laws.specs.Core.{Core, IsAfter}
 use Rattle.machine_core.specs.declared.machine.Machine.TheInside.{Inside}
 
 -- what the machine is built to

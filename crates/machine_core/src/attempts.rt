@@ -4,8 +4,8 @@ ghost use Rattle.std.specs.Prelude.{◌≡◌, ◌<◌, ◌+◌, ◌*◌, ◌++�
 ghost use Rattle.torus.specs.Shape.{tiles_of};
 ghost use Rattle.torus.specs.declared.step.Step.{Step};
 ghost use Rattle.rounds.specs.Rounds.{moves_in};
-ghost use Rattle.core_laws.specs.Core.{Load, step, attempts_of, round_at, round};
-ghost use Rattle.machine_laws.specs.Core.{IsAfter, MakesMove, Steps, core_after, built_to, all_finished};
+ghost use Rattle.machine_seen.specs.core_laws.specs.Core.{Load, step, attempts_of, round_at, round};
+ghost use Rattle.machine_seen.specs.machine_laws.specs.Core.{IsAfter, MakesMove, Steps, core_after, built_to, all_finished};
 ghost use Rattle.machine_core.specs.Rounds.{processor_choices, bank_choices, takes_of_all, puts_of_all, credits_of_all};
 
 use crate::machine::Machine;

@@ -3,15 +3,15 @@ ghost use Rattle.std.specs.Option.{option_copied};
 ghost use Rattle.torus.specs.declared.step.Step.{Step};
 ghost use Rattle.script.specs.Scripts.{Fit};
 ghost use Rattle.script.specs.ScriptViews.{lists_of};
-ghost use Rattle.net_interface.specs.Following.{is_finished};
-ghost use Rattle.flights.specs.Load.{load_of};
-ghost use Rattle.flights.specs.Scripts.{AreFinished};
+ghost use Rattle.machine_seen.specs.net_interface.specs.Following.{is_finished};
+ghost use Rattle.machine_seen.specs.flights.specs.Load.{load_of};
+ghost use Rattle.machine_seen.specs.flights.specs.Scripts.{AreFinished};
 ghost use Rattle.rounds.specs.Rounds.{moves_in};
-ghost use Rattle.core_laws.specs.Core.{Load, run_of, step};
-ghost use Rattle.core_laws.specs.Runs.{IsAccepted};
-ghost use Rattle.core_row.specs.Row.{row_of};
-ghost use Rattle.machine_laws.specs.Core.{IsAfter, Steps, core_after, shown, built_to, all_finished};
-ghost use Rattle.core_progress.specs.Moves.{IsLive, moves_left};
+ghost use Rattle.machine_seen.specs.core_laws.specs.Core.{Load, run_of, step};
+ghost use Rattle.machine_seen.specs.core_laws.specs.Runs.{IsAccepted};
+ghost use Rattle.machine_seen.specs.core_row.specs.Row.{row_of};
+ghost use Rattle.machine_seen.specs.machine_laws.specs.Core.{IsAfter, Steps, core_after, shown, built_to, all_finished};
+ghost use Rattle.machine_seen.specs.core_progress.specs.Moves.{IsLive, moves_left};
 ghost use Rattle.machine_core.specs.Rounds.{rounds_of, NeedsRounds};
 
 use crate::loading::{first_row, first_tiles, most_moves};
@@ -42,7 +42,7 @@ pub struct Machine<A: Allocator = Global> {
 }
 
 impl<A: Allocator> Model for Machine<A> {
-    ghost use Rattle.machine_laws.specs.Core.{Core};
+    ghost use Rattle.machine_seen.specs.machine_laws.specs.Core.{Core};
 
     ghost Value = { Core };
 

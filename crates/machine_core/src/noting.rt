@@ -2,9 +2,9 @@
 //! entries its tile had before it.
 
 ghost use Rattle.std.specs.Prelude.{◌≡◌, ◌<◌, length, false, IsTrue, Some, slice_get};
-ghost use Rattle.net_interface.specs.ProcessorRecord.{index_of};
-ghost use Rattle.tile.specs.Tile.{Bank};
-ghost use Rattle.tile.specs.Agents.{state_of};
+ghost use Rattle.machine_seen.specs.net_interface.specs.ProcessorRecord.{index_of};
+ghost use Rattle.machine_seen.specs.tile.specs.Tile.{Bank};
+ghost use Rattle.machine_seen.specs.tile.specs.Agents.{state_of};
 ghost use Rattle.event_book.specs.RoomyBook.{KeepsRoom};
 ghost use Rattle.tile_agents.specs.Placed.{HasRoomFor, PlacedTile};
 ghost use Rattle.machine_seen.specs.Notes.{book_noted};

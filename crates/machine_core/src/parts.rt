@@ -2,8 +2,8 @@
 ghost use Rattle.std.specs.Prelude.{◌≡◌, List, [], length, map};
 ghost use Rattle.torus.specs.Shape.{tiles_of};
 ghost use Rattle.torus.specs.declared.step.Step.{Step};
-ghost use Rattle.core_laws.specs.Core.{Load, design_of, after};
-ghost use Rattle.machine_laws.specs.Core.{IsAfter};
+ghost use Rattle.machine_seen.specs.core_laws.specs.Core.{Load, design_of, after};
+ghost use Rattle.machine_seen.specs.machine_laws.specs.Core.{IsAfter};
 ghost use Rattle.machine_seen.specs.Seen.{IsShown};
 ghost use Rattle.machine_core.specs.Inside.{HaveRoom};
 

@@ -5,10 +5,10 @@ use Rattle.torus.specs.declared.step.Step.{Step}
 use Rattle.runs.specs.Rows.{BeginRows}
 use Rattle.runs.proofs.Agreement.{one_order_agree}
 use Rattle.runs.proofs.Beginnings.{rows_go_on}
-use Rattle.core_laws.specs.Core.{Load, show, after, run_of}
-use Rattle.core_laws.specs.Runs.{IsAccepted}
-use Rattle.core_laws.proofs.Histories.{event_at}
-use Rattle.core_laws.proofs.EveryRun.{run_is_history}
+use Rattle.core_progress.specs.core_laws.specs.Core.{Load, show, after, run_of}
+use Rattle.core_progress.specs.core_laws.specs.Runs.{IsAccepted}
+use Rattle.core_progress.specs.core_laws.proofs.Histories.{event_at}
+use Rattle.core_progress.specs.core_laws.proofs.EveryRun.{run_is_history}
 use Rattle.machine_laws.specs.Core.{book_after}
 use Rattle.machine_laws.proofs.Lawful.{one_order}
 

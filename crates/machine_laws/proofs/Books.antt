@@ -4,12 +4,12 @@ use Rattle.std.proofs.lemmas.List.{take_all}
 use Rattle.torus.specs.Shape.{tiles_of}
 use Rattle.torus.specs.declared.step.Step.{Step}
 use Rattle.runs.specs.Events.{Event}
-use Rattle.flights.specs.Flight.{event_by}
-use Rattle.flights.specs.EventBook.{EventBook, first_book, noted_event, book_of}
-use Rattle.tile.specs.Tile.{Design}
-use Rattle.core_laws.specs.Core.{Load, State, design_of, first_state, next, after_from}
-use Rattle.core_laws.proofs.FlightSteps.{flight_with}
-use Rattle.core_laws.proofs.Histories.{move_at, event_at}
+use Rattle.core_progress.specs.flights.specs.Flight.{event_by}
+use Rattle.core_progress.specs.flights.specs.EventBook.{EventBook, first_book, noted_event, book_of}
+use Rattle.core_progress.specs.tile.specs.Tile.{Design}
+use Rattle.core_progress.specs.core_laws.specs.Core.{Load, State, design_of, first_state, next, after_from}
+use Rattle.core_progress.specs.core_laws.proofs.FlightSteps.{flight_with}
+use Rattle.core_progress.specs.core_laws.proofs.Histories.{move_at, event_at}
 use Rattle.machine_laws.specs.Core.{event_in, book_from, book_after}
 
 pub after_append : (d : Design) (s : State) (a b : List Step) → after_from d s (a ++ b) ≡ after_from d (after_from d s a) b

@@ -3,8 +3,8 @@ use Rattle.std.proofs.Common.{◌≡◌, ◌+◌, ◌-◌, List, [], ◌∷◌, 
 use Rattle.torus.specs.declared.step.Step.{Step}
 use Rattle.rounds.specs.Rounds.{moves_in, one_if_moved}
 use Rattle.rounds.specs.Rounds as rounds
-use Rattle.tile.specs.Tile.{Design}
-use Rattle.core_laws.specs.Core.{Load, State, design_of, first_state, step, next, after, after_from}
+use Rattle.core_progress.specs.tile.specs.Tile.{Design}
+use Rattle.core_progress.specs.core_laws.specs.Core.{Load, State, design_of, first_state, step, next, after, after_from}
 use Rattle.core_progress.specs.Moves.{moves_made, most_moves, moves_left}
 use Rattle.core_progress.proofs.Made.{or_is, take_all, made_push}
 

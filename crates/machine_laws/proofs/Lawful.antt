@@ -4,17 +4,17 @@ use Rattle.std.proofs.lemmas.List.{take_all}
 use Rattle.torus.specs.Shape.{tiles_of}
 use Rattle.torus.specs.declared.step.Step.{Step}
 use Rattle.runs.specs.OneOrder.{HasOneOrder}
-use Rattle.flights.specs.EventBook.{EventBook}
-use Rattle.flights.specs.Scripts.{AreFinished}
-use Rattle.flights.specs.Reported.{ShowsWell}
-use Rattle.flights.proofs.EventBooks.{order_of_book}
-use Rattle.flights.proofs.Finished.{finished_law}
-use Rattle.flights.proofs.Reports.{shows_well}
-use Rattle.core_laws.specs.Core.{Load, State, run_of, after, show}
-use Rattle.core_laws.specs.Runs.{IsAccepted}
-use Rattle.core_laws.specs.Noted.{flight_after}
-use Rattle.core_laws.proofs.Histories.{state_at, event_at}
-use Rattle.core_laws.proofs.EveryRun.{run_is_history, scripts_are_followed}
+use Rattle.core_progress.specs.flights.specs.EventBook.{EventBook}
+use Rattle.core_progress.specs.flights.specs.Scripts.{AreFinished}
+use Rattle.core_progress.specs.flights.specs.Reported.{ShowsWell}
+use Rattle.core_progress.specs.flights.proofs.EventBooks.{order_of_book}
+use Rattle.core_progress.specs.flights.proofs.Finished.{finished_law}
+use Rattle.core_progress.specs.flights.proofs.Reports.{shows_well}
+use Rattle.core_progress.specs.core_laws.specs.Core.{Load, State, run_of, after, show}
+use Rattle.core_progress.specs.core_laws.specs.Runs.{IsAccepted}
+use Rattle.core_progress.specs.core_laws.specs.Noted.{flight_after}
+use Rattle.core_progress.specs.core_laws.proofs.Histories.{state_at, event_at}
+use Rattle.core_progress.specs.core_laws.proofs.EveryRun.{run_is_history, scripts_are_followed}
 use Rattle.machine_laws.specs.Core.{IsLawful, book_after, all_finished}
 use Rattle.machine_laws.proofs.Books.{book_is}
 use Rattle.machine_laws.proofs.Moments.{points, moment}

@@ -11,15 +11,15 @@ use Rattle.runs.specs.Consequences.{Precedes}
 use Rattle.runs.specs.Events.{Event}
 use Rattle.runs.proofs.EventNumbers.{real_time, real_time_of_rows}
 use Rattle.flit_buffer.specs.Surroundings.{Surroundings}
-use Rattle.flights.specs.Flight.{Move, event_by}
-use Rattle.flights.specs.Scripts.{AreFinished}
-use Rattle.flights.specs.EventBook.{EventBook, first_book, noted_event}
-use Rattle.tile.specs.Tile.{Design, TileState, Agent, tile_step}
-use Rattle.core_laws.specs.Core.{Load, State, design_of, step, or_same, first_state, after, run_of, agent_numbered}
-use Rattle.core_laws.specs.Moves.{move_of, tile_move}
-use Rattle.core_laws.specs.Runs.{IsAccepted, without_packets}
-use Rattle.core_laws.proofs.AgentSteps.{option_map_none}
-use Rattle.core_laws.proofs.FlightSteps.{refused_tile}
+use Rattle.core_progress.specs.flights.specs.Flight.{Move, event_by}
+use Rattle.core_progress.specs.flights.specs.Scripts.{AreFinished}
+use Rattle.core_progress.specs.flights.specs.EventBook.{EventBook, first_book, noted_event}
+use Rattle.core_progress.specs.tile.specs.Tile.{Design, TileState, Agent, tile_step}
+use Rattle.core_progress.specs.core_laws.specs.Core.{Load, State, design_of, step, or_same, first_state, after, run_of, agent_numbered}
+use Rattle.core_progress.specs.core_laws.specs.Moves.{move_of, tile_move}
+use Rattle.core_progress.specs.core_laws.specs.Runs.{IsAccepted, without_packets}
+use Rattle.core_progress.specs.core_laws.proofs.AgentSteps.{option_map_none}
+use Rattle.core_progress.specs.core_laws.proofs.FlightSteps.{refused_tile}
 use Rattle.rounds.specs.Rounds.{one_if_moved}
 use Rattle.core_progress.specs.Moves.{moves_left}
 use Rattle.machine_laws.specs.Core.{Core, IsAfter, event_in, book_after, core_after_load, core_with, core_next, core_after, all_finished}

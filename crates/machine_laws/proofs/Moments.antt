@@ -4,13 +4,13 @@ use Rattle.torus.specs.Shape.{tiles_of}
 use Rattle.torus.specs.declared.step.Step.{Step}
 use Rattle.runs.specs.Order.{LinearizationPoint}
 use Rattle.runs.specs.Events.{order_after}
-use Rattle.flights.specs.Courses.{events_of}
-use Rattle.flights.proofs.Bounds.{Moment}
-use Rattle.flights.proofs.Reports as reports
-use Rattle.core_laws.specs.Core.{Load, run_of}
-use Rattle.core_laws.specs.Runs.{IsAccepted}
-use Rattle.core_laws.specs.Noted.{flight_after, move_after}
-use Rattle.core_laws.proofs.CourseRuns.{is_course}
+use Rattle.core_progress.specs.flights.specs.Courses.{events_of}
+use Rattle.core_progress.specs.flights.proofs.Bounds.{Moment}
+use Rattle.core_progress.specs.flights.proofs.Reports as reports
+use Rattle.core_progress.specs.core_laws.specs.Core.{Load, run_of}
+use Rattle.core_progress.specs.core_laws.specs.Runs.{IsAccepted}
+use Rattle.core_progress.specs.core_laws.specs.Noted.{flight_after, move_after}
+use Rattle.core_progress.specs.core_laws.proofs.CourseRuns.{is_course}
 
 module _ (l : Load) (steps : List Step) where
   -- the operations in the order of their services, after n steps

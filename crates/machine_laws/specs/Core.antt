@@ -5,18 +5,18 @@ use Rattle.torus.specs.Shape.{Shape, tiles_of}
 use Rattle.torus.specs.declared.step.Step.{Step}
 use Rattle.torus.specs.declared.step.Stepped.{Stepped}
 use Rattle.torus.specs.declared.step.Stepped.TheVariants.{Moved, Idle}
-use Rattle.net_interface.specs.Following.{is_finished}
+use Rattle.core_progress.specs.net_interface.specs.Following.{is_finished}
 use Rattle.runs.specs.declared.ordered.Ordered.{Ordered}
 use Rattle.runs.specs.Observed.{Observed}
 use Rattle.runs.specs.Events.{Event}
 use Rattle.runs.specs.OneOrder.{HasOneOrder}
-use Rattle.flights.specs.Flight.{event_by}
-use Rattle.flights.specs.Scripts.{FollowScripts}
-use Rattle.flights.specs.EventBook.{EventBook, first_book, noted_event}
-use Rattle.tile.specs.Tile.{Design}
-use Rattle.core_laws.specs.Core.{Load, State, design_of, step, next, first_state, after, run_of, records_of, show}
-use Rattle.core_laws.specs.Moves.{move_of}
-use Rattle.core_laws.specs.Runs.{IsAccepted, without_packets}
+use Rattle.core_progress.specs.flights.specs.Flight.{event_by}
+use Rattle.core_progress.specs.flights.specs.Scripts.{FollowScripts}
+use Rattle.core_progress.specs.flights.specs.EventBook.{EventBook, first_book, noted_event}
+use Rattle.core_progress.specs.tile.specs.Tile.{Design}
+use Rattle.core_progress.specs.core_laws.specs.Core.{Load, State, design_of, step, next, first_state, after, run_of, records_of, show}
+use Rattle.core_progress.specs.core_laws.specs.Moves.{move_of}
+use Rattle.core_progress.specs.core_laws.specs.Runs.{IsAccepted, without_packets}
 use Rattle.rounds.specs.Rounds.{IsEnabled}
 use Rattle.core_progress.specs.Moves.{moves_left}
 

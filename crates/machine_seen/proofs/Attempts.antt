@@ -8,10 +8,10 @@ use Rattle.runs.proofs.Lists.{get_set_same, get_set_other}
 use Rattle.flit_buffer.specs.Words.{word_of, performed}
 use Rattle.flit_buffer.specs.Tries.{performed_by}
 use Rattle.flit_buffer.specs.declared.word_op.WordOp.{WordOp}
-use Rattle.tile.specs.Tile.{Design}
-use Rattle.tile.specs.Agents.{TilePlace, tile_next_op, tile_absorbed}
-use Rattle.core_laws.specs.Core.{Load, State, design_of, step}
-use Rattle.core_laws.specs.Runs.{IsAccepted, state_after}
+use Rattle.machine_laws.specs.tile.specs.Tile.{Design}
+use Rattle.machine_laws.specs.tile.specs.Agents.{TilePlace, tile_next_op, tile_absorbed}
+use Rattle.machine_laws.specs.core_laws.specs.Core.{Load, State, design_of, step}
+use Rattle.machine_laws.specs.core_laws.specs.Runs.{IsAccepted, state_after}
 use Rattle.core_row.specs.Row.{row_of}
 use Rattle.core_row.specs.Attempts.{tile_in, step_absorbed, found_by, LeavesRow, MovesRow}
 use Rattle.core_row.proofs.Reached.{is_operation, tile_stays}

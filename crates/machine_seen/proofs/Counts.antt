@@ -3,10 +3,10 @@ use Rattle.std.proofs.Common.{◌≡◌, ℕ, ◌≤◌, List, [], ◌∷◌, �
 use Rattle.std.proofs.lemmas.List.{length_push}
 use Rattle.home_bank.specs.declared.entry.Entry.{Entry}
 use Rattle.runs.proofs.Lists.{get_push}
-use Rattle.net_interface.specs.ProcessorRecord.{ProcessorRecord, answer_of}
-use Rattle.flights.specs.Flight.{Move, Sends, Serves, Takes}
-use Rattle.tile.specs.Tile.{TileState}
-use Rattle.core_laws.proofs.TileMoves.{RecordMoved, EntriesMoved}
+use Rattle.machine_laws.specs.net_interface.specs.ProcessorRecord.{ProcessorRecord, answer_of}
+use Rattle.machine_laws.specs.flights.specs.Flight.{Move, Sends, Serves, Takes}
+use Rattle.machine_laws.specs.tile.specs.Tile.{TileState}
+use Rattle.machine_laws.specs.core_laws.proofs.TileMoves.{RecordMoved, EntriesMoved}
 use Rattle.machine_seen.proofs.Events.{no_more}
 use Rattle.machine_seen.specs.Notes.{IsLevel, RisesByOne}
 

@@ -8,8 +8,8 @@ use Rattle.channel_number.specs.Order.{channel_count, channel_at}
 use Rattle.channel_number.specs.Ports.{port_count, injection_channel, ejection_channel, input_channel, output_channel, is_injection, is_ejection, input_router, input_port, output_router, output_port}
 use Rattle.channel_number.proofs.Ports.{has_input, has_output}
 use Rattle.torus_net.proofs.Ends.{is_ejection_at, is_injection_at}
-use Rattle.tile.specs.Tile.{Agent, Processor, Router, Bank}
-use Rattle.tile.specs.Agents.{wiring_of}
+use Rattle.machine_laws.specs.tile.specs.Tile.{Agent, Processor, Router, Bank}
+use Rattle.machine_laws.specs.tile.specs.Agents.{wiring_of}
 
 -- a number stands in a list
 abbrev pub Stands : ℕ → List ℕ → Type 0

@@ -12,25 +12,25 @@ use Rattle.runs.specs.declared.answer.Answer.{Answer}
 use Rattle.runs.specs.Order.{home}
 use Rattle.runs.specs.Events.{order_after}
 use Rattle.runs.proofs.Lists.{get_push, get_set_same}
-use Rattle.net_interface.specs.Following.{next_operation_of}
-use Rattle.net_interface.specs.ProcessorRecord.{ProcessorRecord, index_of, operation_of, answer_of}
-use Rattle.flights.specs.Flight.{Flight, Move, Sends, Serves, Takes, processor_at, event_by}
-use Rattle.flights.specs.EventBook.{EventBook, noted_event, noted_issue, noted_service, noted_answer}
-use Rattle.flights.proofs.Bounds.{room_for}
+use Rattle.machine_laws.specs.net_interface.specs.Following.{next_operation_of}
+use Rattle.machine_laws.specs.net_interface.specs.ProcessorRecord.{ProcessorRecord, index_of, operation_of, answer_of}
+use Rattle.machine_laws.specs.flights.specs.Flight.{Flight, Move, Sends, Serves, Takes, processor_at, event_by}
+use Rattle.machine_laws.specs.flights.specs.EventBook.{EventBook, noted_event, noted_issue, noted_service, noted_answer}
+use Rattle.machine_laws.specs.flights.proofs.Bounds.{room_for}
 use Rattle.flit_buffer.specs.Surroundings.{Surroundings}
-use Rattle.tile.specs.Tile.{Design, TileState, Agent, tile_step}
-use Rattle.core_laws.specs.Core.{Load, State, design_of, step, agent_numbered}
-use Rattle.core_laws.specs.Moves.{tile_move, move_of}
-use Rattle.core_laws.specs.Runs.{IsAccepted, state_after, without_packets}
-use Rattle.core_laws.specs.Noted.{noted, flight_after}
-use Rattle.core_laws.proofs.AgentSteps.{option_map_some}
-use Rattle.core_laws.proofs.TileMoves.{RecordMoved, EntriesMoved, TileMoved, tile_moves}
-use Rattle.core_laws.proofs.StepEvents.{found}
-use Rattle.core_laws.proofs.Networks.{network}
-use Rattle.core_laws.proofs.Followed.{next_inside}
-use Rattle.core_laws.proofs.Histories.{event_at}
-use Rattle.core_laws.proofs.EveryRun.{holds_in}
-use Rattle.core_laws.proofs.Stands.{tile_at}
+use Rattle.machine_laws.specs.tile.specs.Tile.{Design, TileState, Agent, tile_step}
+use Rattle.machine_laws.specs.core_laws.specs.Core.{Load, State, design_of, step, agent_numbered}
+use Rattle.machine_laws.specs.core_laws.specs.Moves.{tile_move, move_of}
+use Rattle.machine_laws.specs.core_laws.specs.Runs.{IsAccepted, state_after, without_packets}
+use Rattle.machine_laws.specs.core_laws.specs.Noted.{noted, flight_after}
+use Rattle.machine_laws.specs.core_laws.proofs.AgentSteps.{option_map_some}
+use Rattle.machine_laws.specs.core_laws.proofs.TileMoves.{RecordMoved, EntriesMoved, TileMoved, tile_moves}
+use Rattle.machine_laws.specs.core_laws.proofs.StepEvents.{found}
+use Rattle.machine_laws.specs.core_laws.proofs.Networks.{network}
+use Rattle.machine_laws.specs.core_laws.proofs.Followed.{next_inside}
+use Rattle.machine_laws.specs.core_laws.proofs.Histories.{event_at}
+use Rattle.machine_laws.specs.core_laws.proofs.EveryRun.{holds_in}
+use Rattle.machine_laws.specs.core_laws.proofs.Stands.{tile_at}
 use Rattle.machine_laws.specs.Core.{event_in}
 use Rattle.machine_laws.proofs.Moments.{moment, points}
 use Rattle.machine_seen.specs.Seen.{IsToldByCounts}

@@ -6,8 +6,8 @@ use Rattle.flit_buffer.specs.Places.{receiving}
 use Rattle.flit_buffer.specs.Surroundings.{Surroundings, Wiring, ring, ports_of, AreRings, ShowsAll, IsWired}
 use Rattle.flit_buffer.specs.Tries.{take_place}
 use Rattle.flit_buffer.specs.Wants.{input, no_input}
-use Rattle.core_laws.specs.Asks.{flit_found}
-use Rattle.core_laws.specs.Delivery.{next_flit}
+use Rattle.machine_laws.specs.core_laws.specs.Asks.{flit_found}
+use Rattle.machine_laws.specs.core_laws.specs.Delivery.{next_flit}
 
 -- the first of a list's flits; 0 where there is none
 first_flit : (flits : List ℕ) → get_or flits 0 0 ≡ next_flit flits

@@ -5,10 +5,10 @@ use Rattle.torus.specs.Shape.{tiles_of}
 use Rattle.torus.specs.declared.step.Step.{Step}
 use Rattle.home_bank.specs.declared.entry.Entry.{Entry}
 use Rattle.runs.specs.declared.answer.Answer.{Answer}
-use Rattle.flights.specs.EventBook.{EventBook, noted_event}
-use Rattle.tile.specs.Tile.{TileState}
-use Rattle.core_laws.specs.Core.{Load, State, design_of, step, after, records_of}
-use Rattle.core_laws.specs.Runs.{IsAccepted}
+use Rattle.machine_laws.specs.flights.specs.EventBook.{EventBook, noted_event}
+use Rattle.machine_laws.specs.tile.specs.Tile.{TileState}
+use Rattle.machine_laws.specs.core_laws.specs.Core.{Load, State, design_of, step, after, records_of}
+use Rattle.machine_laws.specs.core_laws.specs.Runs.{IsAccepted}
 use Rattle.machine_laws.specs.Core.{book_after, event_in}
 use Rattle.machine_seen.specs.Notes.{FitsLoad, RoomToNoteIssue, RoomToNoteService, RoomToNoteAnswer, IsLevel, RisesByOne, index_served, book_noted}
 use Rattle.machine_seen.proofs.NotesReached as reached

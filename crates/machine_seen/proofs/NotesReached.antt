@@ -8,23 +8,23 @@ use Rattle.home_bank.specs.declared.entry.Entry.{Entry}
 use Rattle.runs.specs.declared.answer.Answer.{Answer}
 use Rattle.runs.specs.Observed.{Observed}
 use Rattle.runs.specs.Events.{order_after}
-use Rattle.net_interface.specs.ProcessorRecord.{ProcessorRecord, no_processor}
-use Rattle.flights.specs.Flight.{Move, Serves}
-use Rattle.flights.specs.EventBook.{EventBook, noted_issue, noted_event, book_of}
-use Rattle.flights.specs.Room.{IsBookWithin, HasRoomFor}
-use Rattle.flights.proofs.Bounds.{within, book_within, room_for}
-use Rattle.flights.proofs.EventBooks.{IsBookOf, kept, order_of_book}
-use Rattle.tile.specs.Tile.{Design, TileState}
-use Rattle.core_laws.specs.Core.{Load, State, design_of, step, records_of, run_of}
-use Rattle.core_laws.specs.Moves.{move_of}
-use Rattle.core_laws.specs.Runs.{IsAccepted, state_after}
-use Rattle.core_laws.specs.Noted.{noted, flight_after}
-use Rattle.core_laws.proofs.FlightSteps.{record_in, part_stays}
-use Rattle.core_laws.proofs.Histories.{event_at}
-use Rattle.core_laws.proofs.EveryRun.{holds_in, run_is_history}
-use Rattle.core_laws.proofs.Networks.{network}
-use Rattle.core_laws.proofs.StepEvents.{found}
-use Rattle.core_laws.proofs.TileMoves.{IsHere, TileMoved}
+use Rattle.machine_laws.specs.net_interface.specs.ProcessorRecord.{ProcessorRecord, no_processor}
+use Rattle.machine_laws.specs.flights.specs.Flight.{Move, Serves}
+use Rattle.machine_laws.specs.flights.specs.EventBook.{EventBook, noted_issue, noted_event, book_of}
+use Rattle.machine_laws.specs.flights.specs.Room.{IsBookWithin, HasRoomFor}
+use Rattle.machine_laws.specs.flights.proofs.Bounds.{within, book_within, room_for}
+use Rattle.machine_laws.specs.flights.proofs.EventBooks.{IsBookOf, kept, order_of_book}
+use Rattle.machine_laws.specs.tile.specs.Tile.{Design, TileState}
+use Rattle.machine_laws.specs.core_laws.specs.Core.{Load, State, design_of, step, records_of, run_of}
+use Rattle.machine_laws.specs.core_laws.specs.Moves.{move_of}
+use Rattle.machine_laws.specs.core_laws.specs.Runs.{IsAccepted, state_after}
+use Rattle.machine_laws.specs.core_laws.specs.Noted.{noted, flight_after}
+use Rattle.machine_laws.specs.core_laws.proofs.FlightSteps.{record_in, part_stays}
+use Rattle.machine_laws.specs.core_laws.proofs.Histories.{event_at}
+use Rattle.machine_laws.specs.core_laws.proofs.EveryRun.{holds_in, run_is_history}
+use Rattle.machine_laws.specs.core_laws.proofs.Networks.{network}
+use Rattle.machine_laws.specs.core_laws.proofs.StepEvents.{found}
+use Rattle.machine_laws.specs.core_laws.proofs.TileMoves.{IsHere, TileMoved}
 use Rattle.machine_laws.specs.Core.{book_after, event_in}
 use Rattle.machine_laws.proofs.Books.{book_at}
 use Rattle.machine_laws.proofs.Moments.{moment, points}

@@ -1,10 +1,10 @@
 -- The states that runs reach, as tiles and row show them.
 use Rattle.std.proofs.Common.{◌≡◌, ℕ, List}
 use Rattle.torus.specs.declared.step.Step.{Step}
-use Rattle.tile.specs.Agents.{TilePlace}
-use Rattle.core_laws.specs.Core.{Load, design_of}
-use Rattle.core_laws.specs.Runs.{IsAccepted, state_after}
-use Rattle.core_laws.proofs.EveryRun.{holds_in}
+use Rattle.machine_laws.specs.tile.specs.Agents.{TilePlace}
+use Rattle.machine_laws.specs.core_laws.specs.Core.{Load, design_of}
+use Rattle.machine_laws.specs.core_laws.specs.Runs.{IsAccepted, state_after}
+use Rattle.machine_laws.specs.core_laws.proofs.EveryRun.{holds_in}
 use Rattle.core_row.proofs.Reached.{surrounded}
 use Rattle.machine_seen.specs.Seen.{IsShown, state_seen}
 use Rattle.machine_seen.proofs.SeenStates.{seen}

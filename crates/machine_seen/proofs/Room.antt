@@ -12,18 +12,18 @@ use Rattle.flit_buffer.specs.declared.want.Want.TheVariants.{Access}
 use Rattle.home_bank.specs.Beginning.{bank_wiring}
 use Rattle.home_bank.specs.BankTable.{BankState, bank_wants, bank_after}
 use Rattle.home_bank.specs.ServiceList.{address_of}
-use Rattle.flights.specs.Room.{home_room}
-use Rattle.flights.proofs.Parts.{list_at_map}
-use Rattle.flights.proofs.Reports.{all_followable, course_within}
-use Rattle.tile.specs.Tile.{Design, TileState, Bank, tile_step}
-use Rattle.tile.specs.Agents.{TilePlace, agent_numbered}
-use Rattle.core_laws.specs.Core.{Load, State, design_of, step}
-use Rattle.core_laws.specs.Noted.{flight_after, move_after}
-use Rattle.core_laws.specs.Runs.{IsAccepted, state_after}
-use Rattle.core_laws.proofs.AskedFor.{bank_asked}
-use Rattle.core_laws.proofs.CourseRuns.{is_course}
-use Rattle.core_laws.proofs.FlightSteps.{entries_in}
-use Rattle.core_laws.proofs.Stands.{no_tile}
+use Rattle.machine_laws.specs.flights.specs.Room.{home_room}
+use Rattle.machine_laws.specs.flights.proofs.Parts.{list_at_map}
+use Rattle.machine_laws.specs.flights.proofs.Reports.{all_followable, course_within}
+use Rattle.machine_laws.specs.tile.specs.Tile.{Design, TileState, Bank, tile_step}
+use Rattle.machine_laws.specs.tile.specs.Agents.{TilePlace, agent_numbered}
+use Rattle.machine_laws.specs.core_laws.specs.Core.{Load, State, design_of, step}
+use Rattle.machine_laws.specs.core_laws.specs.Noted.{flight_after, move_after}
+use Rattle.machine_laws.specs.core_laws.specs.Runs.{IsAccepted, state_after}
+use Rattle.machine_laws.specs.core_laws.proofs.AskedFor.{bank_asked}
+use Rattle.machine_laws.specs.core_laws.proofs.CourseRuns.{is_course}
+use Rattle.machine_laws.specs.core_laws.proofs.FlightSteps.{entries_in}
+use Rattle.machine_laws.specs.core_laws.proofs.Stands.{no_tile}
 use Rattle.core_row.proofs.Steps.{step_of_tile}
 use Rattle.machine_seen.specs.Seen.{IsShown}
 use Rattle.machine_seen.proofs.Tries.{tile_shown}

@@ -8,12 +8,12 @@ use Rattle.runs.specs.declared.answer.Answer.{Answer}
 use Rattle.runs.specs.Observed.{list_at}
 use Rattle.runs.proofs.Growth.{total_within}
 use Rattle.runs.proofs.Lists.{within_length}
-use Rattle.net_interface.specs.ProcessorRecord.{ProcessorRecord, index_of, answer_of}
-use Rattle.flights.specs.Load.{Load}
-use Rattle.flights.specs.Flight.{Flight, Move, Sends, Serves, Takes, processor_at}
-use Rattle.flights.specs.EventBook.{EventBook}
-use Rattle.flights.specs.Room.{IsBookWithin, HasRoomFor, RoomToSend, home_room}
-use Rattle.core_laws.proofs.TileMoves.{RecordMoved, EntriesMoved}
+use Rattle.machine_laws.specs.net_interface.specs.ProcessorRecord.{ProcessorRecord, index_of, answer_of}
+use Rattle.machine_laws.specs.flights.specs.Load.{Load}
+use Rattle.machine_laws.specs.flights.specs.Flight.{Flight, Move, Sends, Serves, Takes, processor_at}
+use Rattle.machine_laws.specs.flights.specs.EventBook.{EventBook}
+use Rattle.machine_laws.specs.flights.specs.Room.{IsBookWithin, HasRoomFor, RoomToSend, home_room}
+use Rattle.machine_laws.specs.core_laws.proofs.TileMoves.{RecordMoved, EntriesMoved}
 use Rattle.machine_seen.proofs.Events.{no_more, last_pushed}
 use Rattle.machine_seen.specs.Notes.{FitsLoad, RoomToNoteIssue, RoomToNoteService, RoomToNoteAnswer}
 

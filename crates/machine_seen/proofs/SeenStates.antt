@@ -10,10 +10,10 @@ use Rattle.flit_buffer.specs.Ends.{SendingEnd, ReceivingEnd}
 use Rattle.flit_buffer.specs.Places.{receiving, sending}
 use Rattle.flit_buffer.specs.Surroundings.{Surroundings, ring}
 use Rattle.flit_buffer.proofs.SeenLaws.{surroundings_seen}
-use Rattle.tile.specs.Tile.{Design, TileState, Agent, Processor, Router, Bank}
-use Rattle.tile.specs.Agents.{TilePlace, wiring_of, state_of, tile_placed}
-use Rattle.tile.specs.Refinement.{IsSurrounded}
-use Rattle.core_laws.specs.Core.{State}
+use Rattle.machine_laws.specs.tile.specs.Tile.{Design, TileState, Agent, Processor, Router, Bank}
+use Rattle.machine_laws.specs.tile.specs.Agents.{TilePlace, wiring_of, state_of, tile_placed}
+use Rattle.machine_laws.specs.tile.specs.Refinement.{IsSurrounded}
+use Rattle.machine_laws.specs.core_laws.specs.Core.{State}
 use Rattle.core_row.proofs.Rows.{row_shows}
 use Rattle.runs.proofs.Lists.{within_length}
 use Rattle.flit_buffer.proofs.ManyRings.{apart}

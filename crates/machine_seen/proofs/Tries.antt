@@ -21,17 +21,17 @@ use Rattle.flit_buffer.specs.declared.word_op.WordOp.{WordOp}
 use Rattle.channel_number.specs.Ports.{port_count, input_channel}
 use Rattle.home_bank.specs.BankAgent.{NamesWord}
 use Rattle.home_bank.specs.BankTable.{is_nil}
-use Rattle.net_interface.specs.ProcessorRecord.{ProcessorRecord}
+use Rattle.machine_laws.specs.net_interface.specs.ProcessorRecord.{ProcessorRecord}
 use Rattle.processor.specs.Place.{IsForProcessor}
 use Rattle.router.specs.Table.{NamesTile, latch_of, wants_to_take}
-use Rattle.tile.specs.Tile.{Design, TileState, Agent, Processor, Router, Bank}
-use Rattle.tile.specs.Agents.{TilePlace, agent_numbered, wiring_of, tile_placed, agent_op, tile_next_op}
-use Rattle.tile.proofs.Channels.{wired}
+use Rattle.machine_laws.specs.tile.specs.Tile.{Design, TileState, Agent, Processor, Router, Bank}
+use Rattle.machine_laws.specs.tile.specs.Agents.{TilePlace, agent_numbered, wiring_of, tile_placed, agent_op, tile_next_op}
+use Rattle.machine_laws.specs.tile.proofs.Channels.{wired}
 use Rattle.tile_agents.specs.Placed.{IsAcceptableTo}
-use Rattle.core_laws.specs.Asks.{flit_found, IsNextFlit, IsResponseTo}
-use Rattle.core_laws.specs.Core.{Load, State, design_of, step}
-use Rattle.core_laws.specs.Runs.{IsAccepted, state_after}
-use Rattle.core_laws.proofs.AskedFor.{router_asked, processor_asked, bank_asked}
+use Rattle.machine_laws.specs.core_laws.specs.Asks.{flit_found, IsNextFlit, IsResponseTo}
+use Rattle.machine_laws.specs.core_laws.specs.Core.{Load, State, design_of, step}
+use Rattle.machine_laws.specs.core_laws.specs.Runs.{IsAccepted, state_after}
+use Rattle.machine_laws.specs.core_laws.proofs.AskedFor.{router_asked, processor_asked, bank_asked}
 use Rattle.core_row.specs.Row.{row_of}
 use Rattle.core_row.specs.Attempts.{tile_in, LeavesRow, MovesRow}
 use Rattle.core_row.proofs.Reached.{surrounded, tiles_there, is_operation}

@@ -1,2 +1,10 @@
+pub use Rattle.machine_laws.specs.core_laws
+pub use Rattle.machine_laws.specs.core_progress
+pub use Rattle.core_row
+pub use Rattle.machine_laws.specs.flights
+pub use Rattle.machine_laws
+pub use Rattle.machine_laws.specs.net_interface
+pub use Rattle.machine_laws.specs.tile
+pub use Rattle.tile_agents
 pub mod Seen
 pub mod Notes

@@ -7,11 +7,11 @@ use Rattle.script.specs.Scripts.{operation_count, total_count}
 use Rattle.home_bank.specs.declared.entry.Entry.{Entry}
 use Rattle.runs.specs.declared.answer.Answer.{Answer}
 use Rattle.runs.specs.Observed.{list_at}
-use Rattle.net_interface.specs.ProcessorRecord.{ProcessorRecord, no_processor, index_of}
-use Rattle.flights.specs.Load.{Load}
-use Rattle.flights.specs.EventBook.{EventBook, noted_issue, noted_service, noted_answer, row_at}
-use Rattle.flights.specs.Room.{home_room}
-use Rattle.tile.specs.Tile.{TileState}
+use Rattle.machine_laws.specs.net_interface.specs.ProcessorRecord.{ProcessorRecord, no_processor, index_of}
+use Rattle.machine_laws.specs.flights.specs.Load.{Load}
+use Rattle.machine_laws.specs.flights.specs.EventBook.{EventBook, noted_issue, noted_service, noted_answer, row_at}
+use Rattle.machine_laws.specs.flights.specs.Room.{home_room}
+use Rattle.machine_laws.specs.tile.specs.Tile.{TileState}
 
 -- the index of the operation that an entry serves: the one that holds its tag, by the processors' records
 abbrev pub index_served : List ProcessorRecord → Entry → ℕ

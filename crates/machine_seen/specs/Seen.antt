@@ -10,12 +10,12 @@ use Rattle.flit_buffer.specs.Ends.{SendingEnd, ReceivingEnd}
 use Rattle.flit_buffer.specs.Surroundings.{Surroundings}
 use Rattle.flit_buffer.specs.Seen.{surroundings_from}
 use Rattle.flit_buffer.specs.Tries.{performed_by}
-use Rattle.net_interface.specs.ProcessorRecord.{no_processor, index_of}
-use Rattle.flights.specs.EventBook.{EventBook, noted_issue, noted_service, noted_answer}
-use Rattle.tile.specs.Tile.{Design, TileState}
-use Rattle.tile.specs.Agents.{TilePlace, state_of, tile_next_op}
+use Rattle.machine_laws.specs.net_interface.specs.ProcessorRecord.{no_processor, index_of}
+use Rattle.machine_laws.specs.flights.specs.EventBook.{EventBook, noted_issue, noted_service, noted_answer}
+use Rattle.machine_laws.specs.tile.specs.Tile.{Design, TileState}
+use Rattle.machine_laws.specs.tile.specs.Agents.{TilePlace, state_of, tile_next_op}
 use Rattle.tile_agents.specs.Placed.{tile_attempted}
-use Rattle.core_laws.specs.Core.{State, records_of, step}
+use Rattle.machine_laws.specs.core_laws.specs.Core.{State, records_of, step}
 use Rattle.core_row.specs.Row.{row_of}
 use Rattle.core_row.specs.Attempts.{tile_in}
 

@@ -5,12 +5,12 @@ ghost use Rattle.torus.specs.Shape.{tiles_of};
 ghost use Rattle.torus.specs.declared.step.Step.{Step};
 ghost use Rattle.torus.specs.declared.step.Choice.TheVariants as choice;
 ghost use Rattle.flit_buffer.specs.Words.{word_of};
-ghost use Rattle.flights.specs.Room.{home_room};
-ghost use Rattle.tile.specs.Tile.{TileState};
-ghost use Rattle.tile.specs.Agents.{TilePlace, agent_numbered, tile_next_op};
+ghost use Rattle.machine_laws.specs.flights.specs.Room.{home_room};
+ghost use Rattle.machine_laws.specs.tile.specs.Tile.{TileState};
+ghost use Rattle.machine_laws.specs.tile.specs.Agents.{TilePlace, agent_numbered, tile_next_op};
 ghost use Rattle.tile_agents.specs.Placed.{IsAcceptableTo};
-ghost use Rattle.core_laws.specs.Core.{Load, design_of, step};
-ghost use Rattle.core_laws.specs.Runs.{IsAccepted, state_after};
+ghost use Rattle.machine_laws.specs.core_laws.specs.Core.{Load, design_of, step};
+ghost use Rattle.machine_laws.specs.core_laws.specs.Runs.{IsAccepted, state_after};
 ghost use Rattle.machine_seen.specs.Seen.{IsShown};
 
 /// Where tiles and a row show a state that a run reaches, each attempt may be tried over the row at its

@@ -3,11 +3,11 @@
 ghost use Rattle.std.specs.Prelude.{◌≡◌, ◌/◌, ℕ, List, Some, slice_get};
 ghost use Rattle.torus.specs.declared.step.Step.{Step};
 ghost use Rattle.torus.specs.Shape.{tiles_of};
-ghost use Rattle.flights.specs.EventBook.{EventBook, noted_event};
-ghost use Rattle.tile.specs.Tile.{TileState};
-ghost use Rattle.tile.specs.Agents.{TilePlace};
-ghost use Rattle.core_laws.specs.Core.{Load, State, design_of, step};
-ghost use Rattle.core_laws.specs.Runs.{IsAccepted, state_after};
+ghost use Rattle.machine_laws.specs.flights.specs.EventBook.{EventBook, noted_event};
+ghost use Rattle.machine_laws.specs.tile.specs.Tile.{TileState};
+ghost use Rattle.machine_laws.specs.tile.specs.Agents.{TilePlace};
+ghost use Rattle.machine_laws.specs.core_laws.specs.Core.{Load, State, design_of, step};
+ghost use Rattle.machine_laws.specs.core_laws.specs.Runs.{IsAccepted, state_after};
 ghost use Rattle.machine_seen.specs.Seen.{IsShown, LeadsOn, IsToldByCounts, state_seen};
 ghost use Rattle.machine_laws.specs.Core.{event_in};
 

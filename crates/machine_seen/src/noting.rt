@@ -5,10 +5,10 @@ ghost use Rattle.torus.specs.declared.step.Step.{Step};
 ghost use Rattle.torus.specs.Shape.{tiles_of};
 ghost use Rattle.home_bank.specs.declared.entry.Entry.{Entry};
 ghost use Rattle.runs.specs.declared.answer.Answer.{Answer};
-ghost use Rattle.flights.specs.EventBook.{EventBook, noted_event};
-ghost use Rattle.tile.specs.Tile.{TileState};
-ghost use Rattle.core_laws.specs.Core.{Load, State, design_of, step, after, records_of};
-ghost use Rattle.core_laws.specs.Runs.{IsAccepted};
+ghost use Rattle.machine_laws.specs.flights.specs.EventBook.{EventBook, noted_event};
+ghost use Rattle.machine_laws.specs.tile.specs.Tile.{TileState};
+ghost use Rattle.machine_laws.specs.core_laws.specs.Core.{Load, State, design_of, step, after, records_of};
+ghost use Rattle.machine_laws.specs.core_laws.specs.Runs.{IsAccepted};
 ghost use Rattle.machine_laws.specs.Core.{book_after, event_in};
 ghost use Rattle.machine_seen.specs.Notes.{FitsLoad, RoomToNoteIssue, RoomToNoteService, RoomToNoteAnswer, book_noted, index_served, IsLevel, RisesByOne};
 

@@ -4,8 +4,8 @@ use Rattle.std.proofs.lemmas.List.{append-nil, length-append}
 use Rattle.torus.specs.Shape.{dims_of}
 use Rattle.torus.specs.declared.step.Step.{Step}
 use Rattle.channel_number.specs.Ports.{port_count}
-use Rattle.fabric_laws.specs.Groups.{Begins}
-use Rattle.core_laws.specs.Core.{Load}
+use Rattle.fabric.specs.fabric_laws.specs.Groups.{Begins}
+use Rattle.fabric.specs.core_laws.specs.Core.{Load}
 use Rattle.fabric.specs.Seats.{Knowing, Origin, IsOf, Moves, Idles, IsNotMine, with_run}
 use Rattle.fabric.specs.Asking.{HasSeen}
 use Rattle.fabric.specs.declared.steps.Turned.{Turned}

@@ -3,7 +3,7 @@ use Rattle.std.specs.Prelude.{◌≡◌, ◌⊎◌, ℕ, ◌+◌, ◌*◌, ◌<�
 use Rattle.std.specs.List.{range_with_len}
 use Rattle.torus.specs.declared.step.Choice.{Choice}
 use Rattle.torus.specs.declared.step.Choice.TheVariants.{Send, Take, TakeFrom, Put, Credit, CreditOf, Serve, Done, Look}
-use Rattle.fabric_laws.specs.Groups.{Owns}
+use Rattle.fabric.specs.fabric_laws.specs.Groups.{Owns}
 use Rattle.fabric.specs.Asking.{IsNextTile}
 use Rattle.worker_run.specs.declared.place.Place.{Place}
 

@@ -3,9 +3,9 @@ use Rattle.std.specs.Prelude.{◌≡◌, ◌⊎◌, ℕ, ◌≤◌, List, [], �
 use Rattle.torus.specs.Shape.{dims_of}
 use Rattle.torus.specs.declared.step.Step.{Step}
 use Rattle.channel_number.specs.Ports.{port_count}
-use Rattle.core_laws.specs.Core.{round_at}
-use Rattle.fabric_laws.specs.Groups.{Begins}
-use Rattle.fabric_laws.specs.Ended.{AreAllFinished}
+use Rattle.fabric.specs.core_laws.specs.Core.{round_at}
+use Rattle.fabric.specs.fabric_laws.specs.Groups.{Begins}
+use Rattle.fabric.specs.fabric_laws.specs.Ended.{AreAllFinished}
 use Rattle.fabric.specs.Seats.{Knowing, Moves, Idles, IsNotMine, with_run}
 use Rattle.fabric.specs.Asking.{HasSeen}
 use Rattle.worker_run.specs.Places.{IsFirst, Follows}

@@ -1,7 +1,7 @@
 ghost use Rattle.std.specs.Prelude.{◌≡◌, ◌<◌, ◌≤◌, ◌+◌, ◌*◌, Some, slice_get};
 ghost use Rattle.torus.specs.Shape.{dims_of};
 ghost use Rattle.channel_number.specs.Ports.{port_count};
-ghost use Rattle.core_laws.specs.Core.{round_at};
+ghost use Rattle.fabric.specs.core_laws.specs.Core.{round_at};
 ghost use Rattle.worker_run.specs.Places.{IsWithin, Follows, IsFirst, processor_choices, router_choices, bank_choices};
 
 use fabric::seats::TileSeat;

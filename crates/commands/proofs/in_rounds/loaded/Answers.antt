@@ -1,6 +1,6 @@
 -- Both texts were read, and what they ask for was loaded.
 use Rattle.std.specs.Str.Lines.{lines}
-use Rattle.flights.specs.Load.{load_of}
+use Rattle.machine_core.specs.flights.specs.Load.{load_of}
 use Rattle.commands.proofs.InRounds.{load_read}
 use Rattle.commands.proofs.in_rounds.loaded.Goals as goal
 

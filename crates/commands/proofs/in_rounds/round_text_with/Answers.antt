@@ -2,7 +2,7 @@
 use Rattle.std.proofs.Common.{Result}
 use Rattle.std.specs.Str.Lines.{lines}
 use Rattle.script.specs.declared.fault.LineFault.{LineFault}
-use Rattle.flights.specs.Load.{Load}
+use Rattle.machine_core.specs.flights.specs.Load.{Load}
 use Rattle.commands.specs.Run.{IsNoFault, IsOfMachine, IsTextsFault}
 use Rattle.commands.specs.Rounds.{HasLoaded, HasMadeRounds, IsRoundText, load_by}
 use Rattle.commands.proofs.Asked.{does_more}

@@ -1,7 +1,7 @@
 use Rattle.std.proofs.Common.{rules, arith, refl, ◌≡◌, ℕ, List, [], ◌∷◌, ◌++◌, drop, length, sym, ap, ◌∙◌, subst}
 use Rattle.std.proofs.lemmas.List.{drop_more}
 use Rattle.torus.specs.Shape.{tiles_of}
-use Rattle.core_laws.specs.Core.{Load}
+use Rattle.fabric_laws.specs.core_laws.specs.Core.{Load}
 use Rattle.fabric_laws.specs.Groups.{other_groups}
 use Rattle.fabric.specs.Key.{ranges, Rises}
 use Rattle.fabric.specs.Opening.{fresh, HasRest}

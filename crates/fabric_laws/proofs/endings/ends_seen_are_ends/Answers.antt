@@ -1,4 +1,4 @@
-use Rattle.machine_laws.proofs.Lawful.{finishes}
+use Rattle.machine_seen.specs.machine_laws.proofs.Lawful.{finishes}
 use Rattle.fabric_laws.proofs.Ends.{all_ended}
 use Rattle.fabric_laws.proofs.endings.ends_seen_are_ends.Goals as goal
 

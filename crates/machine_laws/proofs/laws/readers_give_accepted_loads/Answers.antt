@@ -1,4 +1,4 @@
-use Rattle.flights.proofs.LoadingAccepted.{accepted_load}
+use Rattle.core_progress.specs.flights.proofs.LoadingAccepted.{accepted_load}
 use Rattle.machine_laws.proofs.laws.readers_give_accepted_loads.Goals as goal
 
 pub returns : goal.returns

@@ -1,11 +1,11 @@
 use Rattle.std.proofs.Common.{rules, ◌≡◌, ◌↔◌, Bool, true, length, sym, ◌∙◌, subst}
 use Rattle.std.proofs.lemmas.Iterator.{YieldsList-from_slice}
 use Rattle.std.proofs.lemmas.Iterator.Search.{all_from_yields_List}
-use Rattle.flights.specs.Scripts.{AreFinished}
-use Rattle.core_laws.specs.Core.{run_of, after}
-use Rattle.core_laws.specs.Runs.{IsAccepted}
-use Rattle.machine_laws.specs.Core.{all_finished}
-use Rattle.machine_laws.proofs.Lawful.{finishes}
+use Rattle.fabric_laws.specs.flights.specs.Scripts.{AreFinished}
+use Rattle.fabric_laws.specs.core_laws.specs.Core.{run_of, after}
+use Rattle.fabric_laws.specs.core_laws.specs.Runs.{IsAccepted}
+use Rattle.fabric_laws.specs.machine_laws.specs.Core.{all_finished}
+use Rattle.fabric_laws.specs.machine_laws.proofs.Lawful.{finishes}
 use Rattle.fabric.specs.Ending.{Ended, slot_finished}
 use Rattle.fabric.proofs.EndsShown.{finished_slots}
 use Rattle.fabric.proofs.ending.Final.finished.Goals as goal

@@ -1,6 +1,6 @@
 use Rattle.std.proofs.Common.{◌≤◌, Some, None, true≢false, arith, refl, subst}
 use Rattle.torus.specs.Shape.{tiles_of}
-use Rattle.core_laws.specs.Runs.{IsAccepted}
+use Rattle.fabric_laws.specs.core_laws.specs.Runs.{IsAccepted}
 use Rattle.fabric.specs.Ending.{Ended}
 use Rattle.fabric.proofs.EndsShown.{slot_at}
 use Rattle.fabric.proofs.Closing.{tile_there, tile_stands, tile_missing}

@@ -2,8 +2,8 @@ use Rattle.std.proofs.Common.{◌≡◌, ◌+◌, ◌*◌, ◌<◌, ◌≤◌, �
 use Rattle.std.specs.Prelude.{is_some}
 use Rattle.torus.specs.Shape.{Shape, dims_of, tiles_of}
 use Rattle.torus.specs.declared.step.Step.{Step}
-use Rattle.core_progress.specs.Moves.{enabled_step}
-use Rattle.machine_laws.specs.Core.{Core, IsAfter, built_to}
+use Rattle.machine_seen.specs.core_progress.specs.Moves.{enabled_step}
+use Rattle.machine_seen.specs.machine_laws.specs.Core.{Core, IsAfter, built_to}
 use Rattle.machine_core.specs.Rounds.{first_in}
 use Rattle.machine_core.proofs.Rounds.{all_parts}
 use Rattle.machine_core.proofs.FirstEnabled.{picks, passes, tile_next, tile_past, tile_start}

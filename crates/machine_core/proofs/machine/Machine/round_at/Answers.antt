@@ -1,5 +1,5 @@
 use Rattle.std.proofs.Common.{◌+◌, ◌*◌}
-use Rattle.core_laws.specs.Core.{attempts_of}
+use Rattle.machine_seen.specs.core_laws.specs.Core.{attempts_of}
 use Rattle.machine_core.specs.Rounds.{processor_choices, takes_of_all, puts_of_all, credits_of_all}
 use Rattle.machine_core.proofs.Rounds.{tile_parts, tile_stays}
 use Rattle.machine_core.proofs.machine.Machine.round_at.Goals as goal

@@ -3,7 +3,7 @@ use Rattle.std.specs.Vec.{with_item}
 use Rattle.std.proofs.lemmas.List.{length-set}
 use Rattle.std.proofs.lemmas.Option.{same_Some}
 use Rattle.torus.specs.declared.step.Stepped.TheVariants.{Moved}
-use Rattle.tile.specs.Tile.{Bank}
+use Rattle.machine_seen.specs.tile.specs.Tile.{Bank}
 use Rattle.tile_agents.specs.Placed.{PlacedTile, agent_attempted}
 use Rattle.machine_core.specs.declared.noting.Counts.{Counts}
 use Rattle.machine_core.specs.Noted.{HasRoomToNote, counts_of}

@@ -1,7 +1,7 @@
 use Rattle.std.proofs.Common.{◌≡◌, ◌+◌, ◌-◌, ◌*◌, Some, refl, arith, slice_get, slice_set}
 use Rattle.std.specs.Vec.{with_item}
 use Rattle.torus.specs.declared.step.Stepped.TheVariants.{Moved}
-use Rattle.tile.specs.Tile.{Router}
+use Rattle.machine_seen.specs.tile.specs.Tile.{Router}
 use Rattle.tile_agents.specs.Placed.{PlacedTile, agent_attempted}
 use Rattle.machine_core.proofs.Moving.{Led, vec_at, with_parts, moved_tile, idle_tile}
 use Rattle.machine_core.proofs.Agents.{of_tile, of_kind, tile_within, agent_word, agent_fits, agent_idle, agent_left, router_moved}
