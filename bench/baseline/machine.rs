@@ -4,13 +4,15 @@
 //!     machine TIMES LOADS EACH
 //!
 //! prints lines `NAME NUMBER`: what a piece of work took in nanoseconds, and what came of it.
+mod dense;
 mod packets;
+mod row;
 mod script;
 mod tile;
 mod torus;
 
 use packets::Reply;
-use script::{Line, Value};
+use script::Line;
 use std::env;
 use std::time::Instant;
 use tile::{Answer, Moved, Tile};
@@ -127,7 +129,7 @@ impl Machine {
 
     #[inline]
     fn attempt_processor(&mut self, tile: usize, choice: Choice) -> bool {
-        let moved = self.tiles[tile].processor.attempt(choice, &mut self.row);
+        let moved = self.tiles[tile].processor.attempt(choice, self.row.as_mut_slice());
         if let Some(moved) = moved {
             self.note(tile, moved);
         }
@@ -136,7 +138,7 @@ impl Machine {
 
     #[inline]
     fn attempt_bank(&mut self, tile: usize, choice: Choice) -> bool {
-        let moved = self.tiles[tile].bank.attempt(choice, &mut self.row);
+        let moved = self.tiles[tile].bank.attempt(choice, self.row.as_mut_slice());
         if let Some(moved) = moved {
             self.note(tile, moved);
         }
@@ -151,7 +153,7 @@ impl Machine {
         }
         match step.agent % 3 {
             0 => self.attempt_processor(tile, step.choice),
-            1 => self.tiles[tile].router.attempt(step.choice, &mut self.row),
+            1 => self.tiles[tile].router.attempt(step.choice, self.row.as_mut_slice()),
             _ => self.attempt_bank(tile, step.choice),
         }
     }
@@ -171,13 +173,13 @@ impl Machine {
             }
             let router = &mut self.tiles[tile].router;
             for input in 0..PORTS {
-                router.attempt(Choice::TakeFrom(input), &mut self.row);
+                router.attempt(Choice::TakeFrom(input), self.row.as_mut_slice());
             }
             for input in 0..PORTS {
-                router.attempt(Choice::Put(input), &mut self.row);
+                router.attempt(Choice::Put(input), self.row.as_mut_slice());
             }
             for output in 0..PORTS {
-                router.attempt(Choice::CreditOf(output), &mut self.row);
+                router.attempt(Choice::CreditOf(output), self.row.as_mut_slice());
             }
             for choice in [Choice::Take, Choice::Serve, Choice::Send, Choice::Credit] {
                 self.attempt_bank(tile, choice);
@@ -218,23 +220,9 @@ fn sparse(loads: usize) -> Work {
     Work { name: "sparse", depth: 1, tags: 1, opening, scripts }
 }
 
-/// Kinds, addresses and values come from a product with an odd number.
-fn dense_line(number: u32) -> Line {
-    let mixed = number.wrapping_mul(2654435761);
-    let address = mixed / 256 % 4096;
-    let value = Value::Number(u64::from(mixed));
-    match mixed / 1048576 % 5 {
-        0 => Line::Load(address),
-        1 => Line::Store(address, value),
-        2 => Line::Add(address, value),
-        3 => Line::Swap(address, value),
-        _ => Line::Cas(address, Value::Number(0), value),
-    }
-}
-
 fn dense(each: u32) -> Work {
-    let script = |processor: u32| (0..each).map(|at| dense_line(processor * each + at)).collect();
-    Work { name: "dense", depth: 4, tags: 8, opening: vec![0; 4096], scripts: (0..64).map(script).collect() }
+    let opening = vec![0; dense::WORDS];
+    Work { name: "dense", depth: dense::DEPTH, tags: dense::TAGS, opening, scripts: dense::scripts(each) }
 }
 
 /// The attempts of a round of 64 tiles.

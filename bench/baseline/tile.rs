@@ -1,8 +1,12 @@
 //! The processor, the router and the bank of a tile in plain Rust, of the same design as the crates
 //! `flit_buffer`, `router`, `tag_table`, `processor`, `home_bank` and `tile_agents`.
 use crate::packets::{flits, head, is_tail, Assembler, Flits, Offered, Op, Packet, Reply, Request, Response};
+use crate::row::Row;
 use crate::script::{Follower, Line, Operation};
 use crate::torus::{Choice, Dir, Torus, Way};
+
+#[allow(dead_code)]
+pub mod turns;
 
 /// What a move was: an event that the book notes, or none.
 #[derive(Clone, Copy)]
@@ -38,12 +42,11 @@ impl Receiver {
     }
 
     #[inline]
-    fn take(&mut self, row: &mut [u64]) -> Option<u64> {
-        let place = &mut row[self.base + self.next];
-        if *place == 0 {
+    fn take<R: Row + ?Sized>(&mut self, row: &mut R) -> Option<u64> {
+        let flit = row.take(self.base + self.next);
+        if flit == 0 {
             return None;
         }
-        let flit = std::mem::take(place);
         self.next = place_after(self.next, 1, self.depth);
         Some(flit)
     }
@@ -55,22 +58,22 @@ impl Sender {
     }
 
     #[inline]
-    fn put(&mut self, flit: u64, row: &mut [u64]) -> bool {
+    fn put<R: Row + ?Sized>(&mut self, flit: u64, row: &mut R) -> bool {
         if self.credits == 0 {
             return false;
         }
-        row[self.base + self.next] = flit;
+        row.store(self.base + self.next, flit);
         self.next = place_after(self.next, 1, self.depth);
         self.credits -= 1;
         true
     }
 
     #[inline]
-    fn credit(&mut self, row: &[u64]) -> bool {
+    fn credit<R: Row + ?Sized>(&mut self, row: &R) -> bool {
         if self.credits == self.depth {
             return false;
         }
-        let is_back = row[self.base + place_after(self.next, self.credits, self.depth)] == 0;
+        let is_back = row.load(self.base + place_after(self.next, self.credits, self.depth)) == 0;
         self.credits += usize::from(is_back);
         is_back
     }
@@ -148,7 +151,7 @@ impl Processor {
     }
 
     #[inline]
-    pub fn attempt(&mut self, choice: Choice, row: &mut [u64]) -> Option<Moved> {
+    pub fn attempt<R: Row + ?Sized>(&mut self, choice: Choice, row: &mut R) -> Option<Moved> {
         match choice {
             Choice::Send => {
                 let flit = self.flits.get(self.put)?;
@@ -163,12 +166,12 @@ impl Processor {
                 if !self.follower.is_finished() || self.reported {
                     return None;
                 }
-                row[self.done] += 1;
+                row.perform(self.done, Op::Add(1));
                 self.reported = true;
                 Some(Moved::Quietly)
             }
             Choice::Look => {
-                if !self.reported || self.seen || row[self.done] != u64::from(self.tiles) {
+                if !self.reported || self.seen || row.load(self.done) != u64::from(self.tiles) {
                     return None;
                 }
                 self.seen = true;
@@ -263,7 +266,7 @@ impl Router {
     }
 
     #[inline]
-    pub fn attempt(&mut self, choice: Choice, row: &mut [u64]) -> bool {
+    pub fn attempt<R: Row + ?Sized>(&mut self, choice: Choice, row: &mut R) -> bool {
         match choice {
             Choice::TakeFrom(input) => self.take(input, row),
             Choice::Put(input) => self.put(input, row),
@@ -273,7 +276,7 @@ impl Router {
     }
 
     #[inline]
-    fn take(&mut self, input: u32, row: &mut [u64]) -> bool {
+    fn take<R: Row + ?Sized>(&mut self, input: u32, row: &mut R) -> bool {
         let Some(latch @ None) = self.latches.get_mut(input as usize) else {
             return false;
         };
@@ -282,7 +285,7 @@ impl Router {
     }
 
     #[inline]
-    fn put(&mut self, input: u32, row: &mut [u64]) -> bool {
+    fn put<R: Row + ?Sized>(&mut self, input: u32, row: &mut R) -> bool {
         let Some(&Some(flit)) = self.latches.get(input as usize) else {
             return false;
         };
@@ -356,21 +359,20 @@ impl Bank {
     }
 
     #[inline]
-    pub fn attempt(&mut self, choice: Choice, row: &mut [u64]) -> Option<Moved> {
+    pub fn attempt<R: Row + ?Sized>(&mut self, choice: Choice, row: &mut R) -> Option<Moved> {
         match choice {
             Choice::Take => {
                 if self.waiting.is_some() || self.put < self.flits.len() {
                     return None;
                 }
                 let flit = self.input.take(row)?;
-                if let Offered::Whole(Packet::Request(request)) = self.assembler.offer(flit) {
-                    self.waiting = Some(request);
-                }
+                self.taken(flit);
                 Some(Moved::Quietly)
             }
             Choice::Serve => {
                 let request = self.waiting.take()?;
-                Some(self.serve(request, row))
+                let found = row.perform(self.word_of(&request), request.op);
+                Some(self.served(request, found))
             }
             Choice::Send => {
                 let flit = self.flits.get(self.put)?;
@@ -383,12 +385,25 @@ impl Bank {
         }
     }
 
-    fn serve(&mut self, request: Request, row: &mut [u64]) -> Moved {
+    fn taken(&mut self, flit: u64) {
+        if let Offered::Whole(Packet::Request(request)) = self.assembler.offer(flit) {
+            self.waiting = Some(request);
+        }
+    }
+
+    fn address_of(&self, request: &Request) -> u32 {
+        request.word * self.tiles + self.tile
+    }
+
+    /// The place in the row of the word that a request is for.
+    fn word_of(&self, request: &Request) -> usize {
+        self.words + self.address_of(request) as usize
+    }
+
+    fn served(&mut self, request: Request, found: u64) -> Moved {
         let Request { source, tag, op, .. } = request;
-        let address = request.word * self.tiles + self.tile;
-        let word = &mut row[self.words + address as usize];
-        let reply = op.reply(*word);
-        *word = op.apply(*word);
+        let address = self.address_of(&request);
+        let reply = op.reply(found);
         let place = self.entries.len() as u32;
         self.entries.push(Entry { source, tag, address, op, reply });
         let code = op.code();

@@ -1,7 +1,7 @@
 -- An attempt of one of the three agents of a tile, by the part of the tile that it is.
 use Rattle.std.proofs.Common.{◌≡◌, ℕ, ◌+◌, ◌-◌, ◌*◌, ◌/◌, ◌%◌, ◌<◌, List, length, Option, Some, None, refl, sym, ◌∙◌, ap, subst, arith, eq-eqb}
 use Rattle.std.proofs.Common.{slice_get, slice_set, slice_index, vec_len}
-use Rattle.std.specs.Prelude.{Vec, MatchOption, option_map, option_and_then}
+use Rattle.std.specs.Prelude.{Vec, option_map, option_and_then}
 use Rattle.std.specs.Option.{IfSome}
 use Rattle.std.proofs.lemmas.Bool.{cond-true}
 use Rattle.std.proofs.lemmas.Nat.{div-mul-add, mod-mul-add}
@@ -17,23 +17,26 @@ use Rattle.flit_buffer.specs.Surroundings.{Surroundings}
 use Rattle.flit_buffer.specs.Tries.{performed_by}
 use Rattle.flit_buffer.specs.Words.{word_of}
 use Rattle.flit_buffer.specs.declared.word_op.WordOp.{WordOp}
-use Rattle.machine_seen.specs.flights.specs.EventBook.{EventBook}
-use Rattle.machine_seen.specs.net_interface.specs.ProcessorRecord.{ProcessorRecord}
-use Rattle.machine_seen.specs.net_interface.specs.ProcessorTable.{ProcessorState}
+use Rattle.wake_flags.specs.flights.specs.EventBook.{EventBook}
+use Rattle.wake_flags.specs.net_interface.specs.ProcessorRecord.{ProcessorRecord}
+use Rattle.wake_flags.specs.net_interface.specs.ProcessorTable.{ProcessorState}
 use Rattle.home_bank.specs.BankTable.{BankState}
 use Rattle.router.specs.Table.{RouterState, router_wants, router_after}
 use Rattle.event_book.specs.RoomyBook.{RoomyBook, KeepsRoom}
-use Rattle.machine_seen.specs.tile.specs.Tile.{Design, TileState, Agent, Router}
-use Rattle.machine_seen.specs.tile.specs.Agents.{TilePlace, agent_numbered, state_of, tile_placed, tile_next_op, agent_op, agent_absorbed}
+use Rattle.wake_flags.specs.tile.specs.Tile.{Design, TileState, Agent, Router}
+use Rattle.wake_flags.specs.tile.specs.Agents.{TilePlace, agent_numbered, state_of, tile_placed, tile_next_op, agent_op, agent_absorbed}
 use Rattle.tile_agents.specs.Placed.{PlacedTile, IsAcceptableTo, with_place, agent_attempted, tile_attempted}
 use Rattle.tile_agents.proofs.OwnAttempts.{own_attempt}
-use Rattle.machine_seen.specs.core_laws.specs.Core.{design_of, after}
-use Rattle.machine_seen.specs.Notes.{book_noted}
-use Rattle.machine_seen.specs.machine_laws.specs.Core.{Core, Steps}
+use Rattle.wake_flags.specs.core_laws.specs.Core.{design_of, after}
+use Rattle.wake_flags.specs.machine_seen.specs.Notes.{book_noted}
+use Rattle.wake_flags.specs.machine_laws.specs.Core.{Core, Steps}
+use Rattle.wake_flags.specs.Awake.{Awake, woken}
 use Rattle.machine_core.specs.declared.machine.Machine.TheInside.{Inside}
 use Rattle.machine_core.specs.Noted.{HasRoomToNote, IsOfFullBank, counts_of, records_in}
 use Rattle.machine_core.specs.Inside.{core_of, IsMachine}
-use Rattle.machine_core.proofs.Moving.{Led, with_parts, tiles_counted, word_in, word_fits, full_stays, idle, can_note, one_left, moved}
+use Rattle.machine_core.proofs.Fields.{Led, with_parts}
+use Rattle.machine_core.proofs.Standing.{tiles_counted}
+use Rattle.machine_core.proofs.Moving.{word_in, word_fits, full_stays, without_op, idle, can_note, one_left, moved}
 use Rattle.machine_core.proofs.NotedBooks.{noted_as_nothing}
 
 -- agent k of a tile
@@ -114,10 +117,14 @@ module _ {A : Type 0} (a : Inside A) (is : IsMachine a) (attempt : Step) (tile k
         subst (λ (n : ℕ). IfSome (agent_op v.place (agent_numbered n) attempt.choice) (λ o. IsAcceptableTo v.place (agent_numbered n) attempt.choice (slice_index a.row.items (word_of o)))) which
         (subst (λ (x : Option WordOp). IfSome x (λ o. IsAcceptableTo v.place (agent_numbered (attempt.agent % 3)) attempt.choice (slice_index a.row.items (word_of o)))) own_op (word_fits a is attempt v here))
 
+    -- an attempt without an operation isn't enabled
+    pub agent_without_op : agent_op v.place agent attempt.choice ≡ None → Steps (core_of a) (core_of a) Idle attempt
+    agent_without_op none = without_op a is attempt v here (op_is ∙ none)
+
     -- the fields after an attempt that isn't enabled
     pub agent_idle : (tiles : Vec PlacedTile A) (row : Vec ℕ A) → agent_attempted v.place agent attempt.choice a.row.items ≡ None
         → (w : PlacedTile) → w ≡ v → tiles.items ≡ slice_set a.tiles.items tile w → row.items ≡ performed_by a.row.items (agent_op v.place agent attempt.choice)
-        → Led a (with_parts a tiles row a.book a.left) Idle attempt
+        → Led a (with_parts a tiles row a.book a.awake a.left) Idle attempt
     agent_idle tiles row none w same tiles_are row_is =
         idle a is attempt v here tiles row (attempted_is ∙ none) w same
         (tiles_are ∙ ap (λ (n : ℕ). slice_set a.tiles.items n w) (sym at)) (row_is ∙ ap (performed_by a.row.items) (sym op_is))
@@ -143,11 +150,13 @@ module _ {A : Type 0} (a : Inside A) (is : IsMachine a) (attempt : Step) (tile k
           → (row : Vec ℕ A) → row.items ≡ performed_by a.row.items (agent_op v.place agent attempt.choice)
           → (g : RoomyBook) → KeepsRoom a.book g
           → ((x : PlacedTile) → slice_get tiles.items tile ≡ Some x → g.book ≡ book_noted tile (records_in tiles.items) (length v.place.processor.state.operations.issued) (length v.place.processor.state.operations.answers) (length v.place.bank.state.entries) (state_of x.place) a.book.book)
-          → Led a (with_parts a tiles row g (a.left - 1)) Moved attempt
-      agent_moved tiles tiles_are row row_is g keeps noted =
+          → (op : WordOp) → agent_op v.place agent attempt.choice ≡ Some op → (awake : Awake) → awake ≡ woken a.awake op
+          → Led a (with_parts a tiles row g awake (a.left - 1)) Moved attempt
+      agent_moved tiles tiles_are row row_is g keeps noted op asked awake awake_is =
           moved a is attempt v here q (attempted_is ∙ attempted) w new_tile tiles
           (tiles_are ∙ ap (λ (n : ℕ). slice_set a.tiles.items n w) (sym at)) row (row_is ∙ ap (performed_by a.row.items) (sym op_is)) g keeps
           (subst (λ (n : ℕ). (x : PlacedTile) → slice_get tiles.items n ≡ Some x → g.book ≡ book_noted n (records_in tiles.items) (length v.place.processor.state.operations.issued) (length v.place.processor.state.operations.answers) (length v.place.bank.state.entries) (state_of x.place) a.book.book) (sym at) noted)
+          op (op_is ∙ asked) awake awake_is
 
 -- the fields after a router's move: the book stays
 module _ {A : Type 0} (a : Inside A) (is : IsMachine a) (attempt : Step) (tile : ℕ) (at : attempt.agent / 3 ≡ tile) (which : attempt.agent % 3 ≡ 1) where
@@ -155,13 +164,15 @@ module _ {A : Type 0} (a : Inside A) (is : IsMachine a) (attempt : Step) (tile :
       → (q : TilePlace) → agent_attempted v.place Router attempt.choice a.row.items ≡ Some q → (w : PlacedTile) → w ≡ with_place v q
       → (tiles : Vec PlacedTile A) → tiles.items ≡ slice_set a.tiles.items tile w
       → (row : Vec ℕ A) → row.items ≡ performed_by a.row.items (agent_op v.place Router attempt.choice)
-      → Led a (with_parts a tiles row a.book (a.left - 1)) Moved attempt
-  router_moved v there q attempted w new_tile tiles tiles_are row row_is =
+      → (op : WordOp) → agent_op v.place Router attempt.choice ≡ Some op → (awake : Awake) → awake ≡ woken a.awake op
+      → Led a (with_parts a tiles row a.book awake (a.left - 1)) Moved attempt
+  router_moved v there q attempted w new_tile tiles tiles_are row row_is op asked awake awake_is =
       let new_there : slice_get tiles.items tile ≡ Some (with_place v q) = ap (λ (vs : List PlacedTile). slice_get vs tile) (tiles_are ∙ ap (slice_set a.tiles.items tile) new_tile)
       ∙ get_set_same a.tiles.items tile (with_place v q) (slice_get_within a.tiles.items tile v there) in
       agent_moved a is attempt tile 1 at which v there q attempted w new_tile tiles tiles_are row row_is a.book (keeps_room a.book)
       (λ x at_x. subst (λ (y : PlacedTile). a.book.book ≡ book_noted tile (records_in tiles.items) (length v.place.processor.state.operations.issued) (length v.place.processor.state.operations.answers) (length v.place.bank.state.entries) (state_of y.place) a.book.book)
       (same_Some _ _ (sym new_there ∙ at_x)) (nothing_noted tile (records_in tiles.items) v q a.book.book (router_alone v.place q attempt.choice a.row.items attempted)))
+      op asked awake awake_is
 
 -- a bank that has no room serves nothing
 pub bank_stays : {A : Type 0} (a : Inside A) (is : IsMachine a) (attempt : Step) (tile : ℕ) → attempt.agent / 3 ≡ tile → attempt.agent % 3 ≡ 2

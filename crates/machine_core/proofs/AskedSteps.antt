@@ -1,26 +1,26 @@
 -- What a machine is asked of its next step: a tile's answer over the row is whether the step is enabled, and the first
 -- step of a round that is enabled tells whether there is any.
-use Rattle.std.proofs.Common.{◌≡◌, ℕ, ◌/◌, ◌≤◌, true, false, List, length, Option, Some, None, refl, sym, ◌∙◌, ap, subst, slice_get, slice_set}
-use Rattle.std.specs.Prelude.{MatchOption, is_some, ◌↔◌}
+use Rattle.std.proofs.Common.{◌≡◌, ◌/◌, ◌≤◌, false, List, length, Option, Some, None, refl, sym, ◌∙◌, ap, slice_get, slice_set}
+use Rattle.std.specs.Prelude.{MatchOption, is_some}
 use Rattle.std.specs.Option.{IsSome}
 use Rattle.torus.specs.declared.step.Step.{Step}
 use Rattle.flit_buffer.specs.Tries.{performed_by}
-use Rattle.rounds.specs.Rounds.{IsEnabled}
-use Rattle.machine_seen.specs.tile.specs.Tile.{Design}
-use Rattle.machine_seen.specs.tile.specs.Agents.{TilePlace, tile_next_op}
+use Rattle.wake_flags.specs.tile.specs.Tile.{Design}
+use Rattle.wake_flags.specs.tile.specs.Agents.{TilePlace, tile_next_op}
 use Rattle.tile_agents.specs.Placed.{PlacedTile, tile_attempted}
-use Rattle.machine_seen.specs.core_laws.specs.Core.{Load, State, design_of, step, after}
-use Rattle.machine_seen.specs.core_laws.specs.Runs.{state_after}
-use Rattle.machine_seen.specs.core_row.proofs.Reached.{all_steps}
-use Rattle.machine_seen.specs.core_progress.specs.Moves.{enabled_step, IsLive}
-use Rattle.machine_seen.specs.core_progress.proofs.Live.{is_live}
-use Rattle.machine_seen.specs.core_progress.proofs.OfRound.{found_is, none_is}
-use Rattle.machine_seen.specs.Seen.{IsShown}
-use Rattle.machine_seen.specs.machine_laws.specs.Core.{Core, IsAfter, built_to, all_finished}
+use Rattle.wake_flags.specs.core_laws.specs.Core.{Load, State, design_of, step, after}
+use Rattle.wake_flags.specs.core_laws.specs.Runs.{state_after}
+use Rattle.wake_flags.specs.core_row.proofs.Reached.{all_steps}
+use Rattle.wake_flags.specs.core_progress.specs.Moves.{enabled_step, IsLive}
+use Rattle.wake_flags.specs.core_progress.proofs.Live.{is_live}
+use Rattle.wake_flags.specs.core_progress.proofs.OfRound.{found_is, none_is}
+use Rattle.wake_flags.specs.machine_seen.specs.Seen.{IsShown}
+use Rattle.wake_flags.specs.machine_laws.specs.Core.{Core, IsAfter, built_to, all_finished}
 use Rattle.machine_core.specs.declared.machine.Machine.TheInside.{Inside}
 use Rattle.machine_core.specs.Inside.{core_of, places_in, IsMachine}
-use Rattle.machine_core.proofs.Moving.{leads, step_is, none_past}
-use Rattle.machine_seen.specs.machine_laws.proofs.Moves.{built, same_finished}
+use Rattle.machine_core.proofs.Standing.{none_past}
+use Rattle.machine_core.proofs.Moving.{leads, step_is}
+use Rattle.wake_flags.specs.machine_laws.proofs.Moves.{built, same_finished}
 
 module _ {A : Type 0} (a : Inside A) (is : IsMachine a) (attempt : Step) where
   -- a tile that isn't there makes no step

@@ -1,5 +1,5 @@
 -- The fields that `load` makes are those of a machine that has made no step.
-use Rattle.std.proofs.Common.{◌≡◌, ℕ, ◌-◌, ◌*◌, ◌<◌, ◌≤◌, List, [], ◌∷◌, ◌++◌, length, map, replicate, Option, Some, None, refl, sym, ◌∙◌, ap, subst, arith, slice_get, take, get_or, get_or-take}
+use Rattle.std.proofs.Common.{◌≡◌, ℕ, ◌-◌, ◌*◌, ◌<◌, ◌≤◌, List, [], ◌∷◌, ◌++◌, length, map, replicate, true, Option, Some, None, refl, sym, ◌∙◌, ap, subst, arith, slice_get, take, get_or, get_or-take}
 use Rattle.std.specs.Prelude.{option_map}
 use Rattle.std.proofs.lemmas.Option.{slice_get-map, slice_get_within, slice_get-get_or, get_or_from_slice_get}
 use Rattle.std.proofs.lemmas.List.{length-take}
@@ -10,22 +10,25 @@ use Rattle.script.specs.Machine.{MachineSpec, IsAcceptedMachine}
 use Rattle.script.specs.Scripts.{ScriptsSpec, AreAcceptedScripts, Fit, operation_count, script_of, total_count}
 use Rattle.script.specs.declared.line.Line.{Line}
 use Rattle.channel_number.specs.Order.{channel_count}
-use Rattle.machine_seen.specs.flights.specs.Load.{load_of}
-use Rattle.machine_seen.specs.flights.specs.Room.{home_room}
-use Rattle.machine_seen.specs.flights.specs.EventBook.{EventBook, first_book}
-use Rattle.machine_seen.specs.flights.proofs.LoadingAccepted.{accepted_load}
-use Rattle.machine_seen.specs.tile.specs.Tile.{TileState}
-use Rattle.machine_seen.specs.tile.specs.Agents.{tile_placed}
+use Rattle.wake_flags.specs.flights.specs.Load.{load_of}
+use Rattle.wake_flags.specs.flights.specs.Room.{home_room}
+use Rattle.wake_flags.specs.flights.specs.EventBook.{EventBook, first_book}
+use Rattle.wake_flags.specs.flights.proofs.LoadingAccepted.{accepted_load}
+use Rattle.wake_flags.specs.tile.specs.Tile.{TileState}
+use Rattle.wake_flags.specs.tile.specs.Agents.{tile_placed}
 use Rattle.tile_agents.specs.Placed.{PlacedTile, first_tile}
-use Rattle.machine_seen.specs.core_laws.specs.Core.{Load, design_of, first_state, first_tile as first_tile_state}
-use Rattle.machine_seen.specs.core_laws.specs.Runs.{IsAccepted}
-use Rattle.machine_seen.specs.core_row.specs.Attempts.{tile_in}
-use Rattle.machine_seen.specs.core_row.proofs.First.{first_row, first_tiles as first_places}
-use Rattle.machine_seen.specs.core_progress.specs.Moves.{most_moves}
-use Rattle.machine_seen.specs.machine_laws.specs.Core.{IsAfter, IsLawful}
-use Rattle.machine_seen.specs.machine_laws.proofs.Lawful.{lawful}
-use Rattle.machine_seen.specs.Seen.{IsShown}
-use Rattle.machine_seen.proofs.Reached.{seen_state}
+use Rattle.wake_flags.specs.core_laws.specs.Core.{Load, design_of, first_state, first_tile as first_tile_state}
+use Rattle.wake_flags.specs.core_laws.specs.Runs.{IsAccepted}
+use Rattle.wake_flags.specs.core_row.specs.Attempts.{tile_in}
+use Rattle.wake_flags.specs.core_row.proofs.First.{first_row, first_tiles as first_places}
+use Rattle.wake_flags.specs.core_progress.specs.Moves.{most_moves}
+use Rattle.wake_flags.specs.machine_laws.specs.Core.{IsAfter, IsLawful}
+use Rattle.wake_flags.specs.machine_laws.proofs.Lawful.{lawful}
+use Rattle.wake_flags.specs.machine_seen.specs.Seen.{IsShown}
+use Rattle.wake_flags.specs.machine_seen.proofs.Reached.{seen_state}
+use Rattle.wake_flags.specs.Awake.{Awake, is_awake}
+use Rattle.wake_flags.specs.wakefulness.specs.Sleep.{OthersSleep}
+use Rattle.wake_flags.proofs.KeptSleepers.{fresh}
 use Rattle.machine_core.specs.declared.machine.Machine.TheInside.{Inside}
 use Rattle.machine_core.specs.Inside.{design_in, places_in, core_of, HaveRoom, HasRoomFor, IsMachine}
 use Rattle.machine_core.specs.Loaded.{first_tiles}
@@ -36,7 +39,8 @@ abbrev pub load_in : {A : Type 0} → Inside A → List (List Line) → Load
 load_in a scripts = record { shape = a.torus; depth = a.depth; tags = a.tags; opening = a.opening.items; scripts = scripts }
 
 -- the fields are made from a load of these scripts: the tiles, the row and the book are those before any step, each bank has
--- the room that the scripts can ask of it, and the book the room for all that they can ask; all moves are left
+-- the room that the scripts can ask of it, and the book the room for all that they can ask; all moves are left, and all
+-- agents are awake
 pub record Begun {A : Type 0} (a : Inside A) (scripts : List (List Line)) : Type 0 where
   pub rooms : ℕ → ℕ
   pub tiles : a.tiles.items ≡ first_tiles (design_in a) a.tags rooms scripts
@@ -45,6 +49,7 @@ pub record Begun {A : Type 0} (a : Inside A) (scripts : List (List Line)) : Type
   pub book : a.book.book ≡ first_book (tiles_of a.torus)
   pub room : HasRoomFor (load_in a scripts) a.book
   pub left : a.left ≡ most_moves (load_in a scripts)
+  pub awake : a.awake ≡ record { design = design_in a; flags = replicate 192 true }
 
 module _ (l : Load) (ok : IsAccepted l) (rooms : ℕ → ℕ) where
   abbrev first_at : ℕ → List Line → PlacedTile
@@ -98,7 +103,16 @@ module _ {A : Type 0} (a : Inside A) (scripts : List (List Line)) (ok : IsAccept
       is.1 ∙ b.homes t is.0
 
   pub is_machine : IsMachine a
-  is_machine = record { load = load_in a scripts; steps = []; after = is_after_none; seen = shown; banks = have_room; room = b.room }
+  is_machine = record {
+    load = load_in a scripts;
+    steps = [];
+    after = is_after_none;
+    seen = shown;
+    banks = have_room;
+    room = b.room;
+    built = ap (λ (w : Awake). w.design) b.awake;
+    sleepers = subst (λ (w : Awake). OthersSleep (design_in a) (first_state (load_in a scripts)) (is_awake w)) (sym b.awake) (fresh (design_in a) (first_state (load_in a scripts)));
+  }
 
 -- a part of a list is its first elements
 part_at : (n : ℕ) (xs : List ℕ) (k x : ℕ) → slice_get (take n xs) k ≡ Some x → (k < n) × (get_or xs k 0 ≡ x)

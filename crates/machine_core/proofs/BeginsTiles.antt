@@ -6,7 +6,7 @@ use Rattle.std.proofs.lemmas.Option.{slice_get-map, slice_get_within}
 use Rattle.script.specs.declared.line.Line.{Line}
 use Rattle.script.specs.declared.lists.LineList.{LineList}
 use Rattle.script.specs.ScriptViews.{lists_of}
-use Rattle.machine_seen.specs.tile.specs.Tile.{Design}
+use Rattle.wake_flags.specs.tile.specs.Tile.{Design}
 use Rattle.tile_agents.specs.Placed.{PlacedTile, first_tile}
 use Rattle.machine_core.specs.Loaded.{tiles_from, first_tiles}
 

@@ -5,17 +5,17 @@ use Rattle.std.proofs.lemmas.Bool.{cases_lt, false≢true}
 use Rattle.torus.specs.Shape.{Shape}
 use Rattle.torus.specs.declared.step.Step.{Step}
 use Rattle.runs.specs.Events.{Event}
-use Rattle.machine_seen.specs.flights.specs.Scripts.{AreFinished}
+use Rattle.wake_flags.specs.flights.specs.Scripts.{AreFinished}
 use Rattle.rounds.specs.Rounds.{or_same, after_attempts, after_rounds, Finishes}
-use Rattle.machine_seen.specs.tile.specs.Tile.{Design}
-use Rattle.machine_seen.specs.core_laws.specs.Core.{Load, State, design_of, step, round, run_of}
-use Rattle.machine_seen.specs.core_laws.specs.Runs.{state_after}
-use Rattle.machine_seen.specs.core_row.proofs.Reached.{all_steps}
-use Rattle.machine_seen.specs.core_progress.specs.Moves.{all_finished as tiles_finished, moves_left}
-use Rattle.machine_seen.specs.core_progress.proofs.Finish.{run_finishes}
-use Rattle.machine_seen.specs.machine_laws.specs.Core.{Core, IsAfter, built_to, event_in, core_with, core_next, core_after, all_finished}
-use Rattle.machine_seen.specs.machine_laws.proofs.Machines.{after_steps, finished_of_machine}
-use Rattle.machine_seen.specs.machine_laws.proofs.Moves.{built, same_finished}
+use Rattle.wake_flags.specs.tile.specs.Tile.{Design}
+use Rattle.wake_flags.specs.core_laws.specs.Core.{Load, State, design_of, step, round, run_of}
+use Rattle.wake_flags.specs.core_laws.specs.Runs.{state_after}
+use Rattle.wake_flags.specs.core_row.proofs.Reached.{all_steps}
+use Rattle.wake_flags.specs.core_progress.specs.Moves.{all_finished as tiles_finished, moves_left}
+use Rattle.wake_flags.specs.core_progress.proofs.Finish.{run_finishes}
+use Rattle.wake_flags.specs.machine_laws.specs.Core.{Core, IsAfter, built_to, event_in, core_with, core_next, core_after, all_finished}
+use Rattle.wake_flags.specs.machine_laws.proofs.Machines.{after_steps, finished_of_machine}
+use Rattle.wake_flags.specs.machine_laws.proofs.Moves.{built, same_finished}
 use Rattle.machine_core.specs.Rounds.{rounds_of}
 use Rattle.machine_core.proofs.Rounds.{core_append}
 

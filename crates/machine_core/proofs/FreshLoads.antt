@@ -1,19 +1,18 @@
 -- A load without the fences in front of its scripts is accepted where the load is, and a machine begins from both alike.
-use Rattle.std.proofs.Common.{◌≡◌, ℕ, zero, suc, ◌+◌, ◌<◌, List, [], ◌∷◌, map, length, take, refl, sym, ◌∙◌, ap, subst, arith, slice_get, Some}
-use Rattle.std.specs.Prelude.{sum_by}
+use Rattle.std.proofs.Common.{◌≡◌, ℕ, zero, suc, ◌<◌, List, [], ◌∷◌, map, length, take, refl, sym, ◌∙◌, ap, subst, arith, slice_get, Some}
 use Rattle.std.proofs.lemmas.List.{length-map}
 use Rattle.std.proofs.lemmas.List.Sums.{sum_by-cons}
-use Rattle.torus.specs.Shape.{dims_of, tiles_of}
+use Rattle.torus.specs.Shape.{dims_of}
 use Rattle.script.specs.declared.line.Line.{Line}
 use Rattle.script.specs.declared.line.Line.TheVariants as line
-use Rattle.script.specs.Scripts.{operations_of, operation_count, script_of, total_count, mentions_last, IsAcceptedScript, AreAcceptedScripts}
-use Rattle.machine_seen.specs.net_interface.specs.Following.{past_fences, first_of}
-use Rattle.machine_seen.specs.net_interface.specs.Homes.{line_home_count, script_home_count}
-use Rattle.machine_seen.specs.net_interface.proofs.Places.{count_past_fences}
-use Rattle.machine_seen.specs.flights.specs.Room.{home_room}
-use Rattle.machine_seen.specs.tile.specs.Tile.{TileState}
-use Rattle.machine_seen.specs.core_laws.specs.Core.{Load, State, first_state, first_tile}
-use Rattle.machine_seen.specs.core_laws.specs.Runs.{IsAccepted}
+use Rattle.script.specs.Scripts.{operations_of, operation_count, script_of, total_count, IsAcceptedScript}
+use Rattle.wake_flags.specs.net_interface.specs.Following.{past_fences, first_of}
+use Rattle.wake_flags.specs.net_interface.specs.Homes.{line_home_count, script_home_count}
+use Rattle.wake_flags.specs.net_interface.proofs.Places.{count_past_fences}
+use Rattle.wake_flags.specs.flights.specs.Room.{home_room}
+use Rattle.wake_flags.specs.tile.specs.Tile.{TileState}
+use Rattle.wake_flags.specs.core_laws.specs.Core.{Load, first_state, first_tile}
+use Rattle.wake_flags.specs.core_laws.specs.Runs.{IsAccepted}
 
 -- the load without the fences in front of its scripts
 abbrev pub bare : Load → Load

@@ -1,29 +1,28 @@
 -- What a machine tells of each load from which it stands freshly loaded; and what its parts show.
-use Rattle.std.proofs.Common.{◌≡◌, ℕ, zero, suc, ◌+◌, ◌-◌, ◌*◌, ◌<◌, List, [], ◌∷◌, ◌++◌, map, length, Option, Some, None, refl, sym, ◌∙◌, ap, subst, arith, slice_get, slice_set, length-set, slice_index_or}
+use Rattle.std.proofs.Common.{◌≡◌, ℕ, zero, suc, ◌+◌, ◌-◌, ◌*◌, List, [], ◌∷◌, map, length, Some, None, refl, sym, ◌∙◌, ap, subst, arith, slice_get, length-set, slice_index_or}
 use Rattle.std.proofs.lemmas.List.{length_push}
 use Rattle.std.proofs.lemmas.Option.{slice_get_within}
 use Rattle.torus.specs.Shape.{tiles_of, dims_of}
 use Rattle.torus.specs.declared.step.Step.{Step}
 use Rattle.script.specs.declared.line.Line.{Line}
-use Rattle.machine_seen.specs.net_interface.specs.Scripts.{Invocation}
-use Rattle.machine_seen.specs.net_interface.specs.Following.{Following, ShowsPast, starts, issues, answers, first_of, past_fences}
-use Rattle.machine_seen.specs.net_interface.specs.ProcessorRecord.{ProcessorRecord, no_processor}
+use Rattle.wake_flags.specs.net_interface.specs.Scripts.{Invocation}
+use Rattle.wake_flags.specs.net_interface.specs.Following.{Following, ShowsPast, starts, issues, answers, first_of, past_fences}
+use Rattle.wake_flags.specs.net_interface.specs.ProcessorRecord.{ProcessorRecord, no_processor}
 use Rattle.runs.specs.Observed.{list_at}
-use Rattle.machine_seen.specs.flights.specs.EventBook.{EventBook}
-use Rattle.machine_seen.specs.flights.specs.Room.{home_room}
-use Rattle.machine_seen.specs.tile.specs.Tile.{Design, TileState}
-use Rattle.tile_agents.specs.Placed.{PlacedTile}
-use Rattle.machine_seen.specs.core_laws.specs.Core.{Load, State, design_of, first_state, first_tile, after, after_from, records_of}
-use Rattle.machine_seen.specs.core_laws.specs.Runs.{IsAccepted, state_after}
-use Rattle.machine_seen.specs.core_laws.proofs.OnTheWay.{shows_operations}
-use Rattle.machine_seen.specs.core_row.proofs.Reached.{all_steps}
-use Rattle.machine_seen.specs.machine_laws.specs.Core.{Core, IsAfter, IsLawful}
-use Rattle.machine_seen.specs.machine_laws.proofs.Lawful.{lawful}
-use Rattle.machine_seen.specs.Seen.{IsShown}
+use Rattle.wake_flags.specs.flights.specs.EventBook.{EventBook}
+use Rattle.wake_flags.specs.flights.specs.Room.{home_room}
+use Rattle.wake_flags.specs.tile.specs.Tile.{Design, TileState}
+use Rattle.wake_flags.specs.core_laws.specs.Core.{Load, State, design_of, first_state, first_tile, after, after_from, records_of}
+use Rattle.wake_flags.specs.core_laws.specs.Runs.{state_after}
+use Rattle.wake_flags.specs.core_laws.proofs.OnTheWay.{shows_operations}
+use Rattle.wake_flags.specs.core_row.proofs.Reached.{all_steps}
+use Rattle.wake_flags.specs.machine_laws.specs.Core.{Core, IsAfter, IsLawful}
+use Rattle.wake_flags.specs.machine_laws.proofs.Lawful.{lawful}
+use Rattle.wake_flags.specs.machine_seen.specs.Seen.{IsShown}
 use Rattle.machine_core.specs.declared.machine.Machine.TheInside.{Inside}
 use Rattle.machine_core.specs.Inside.{core_of, places_in, HaveRoom, IsMachine}
 use Rattle.machine_core.specs.Fresh.{told_load}
-use Rattle.machine_core.proofs.Moving.{tiles_counted}
+use Rattle.machine_core.proofs.Standing.{tiles_counted}
 use Rattle.machine_core.proofs.FreshLoads.{bare, bare_accepted, first_same, room_same, ahead_first, total_is}
 
 -- a follower that shows no operation is at the start

@@ -1,5 +1,8 @@
 pub mod NotedBooks
+pub mod Fields
+pub mod Standing
 pub mod Moving
+pub mod Sleeping
 pub mod Agents
 pub mod Rounds
 pub mod Views

@@ -1,14 +1,13 @@
 -- A machine's fields after an attempt at a tile: they are those of the machine that the attempt makes.
-use Rattle.std.proofs.Common.{◌≡◌, ◌≢◌, ⊎_elim, ℕ, zero, suc, ◌-◌, ◌/◌, ◌%◌, ◌<◌, ◌≤◌, List, [], ◌∷◌, ◌++◌, length, map, take, Option, Some, None, refl, sym, ◌∙◌, ap, subst, arith}
-use Rattle.std.proofs.Common.{slice_get, slice_set, slice_index, slice_index_or, vec_len}
-use Rattle.std.specs.Prelude.{Vec, MatchOption}
+use Rattle.std.proofs.Common.{◌≡◌, ◌≢◌, ⊎_elim, ℕ, ◌-◌, ◌/◌, ◌%◌, ◌<◌, ◌≤◌, List, [], ◌∷◌, ◌++◌, length, map, take, Option, Some, None, sym, ◌∙◌, ap, subst, arith}
+use Rattle.std.proofs.Common.{slice_get, slice_set, slice_index, vec_len}
+use Rattle.std.specs.Prelude.{Vec, MatchOption, option_and_then}
 use Rattle.std.specs.Option.{option_map, IfSome}
 use Rattle.std.proofs.lemmas.Bool.{cases_eq}
-use Rattle.std.proofs.lemmas.List.{map-set, length-map, length-set, take_all}
-use Rattle.std.proofs.lemmas.Option.{slice_get_within, slice_get_past, slice_get-map, same_Some}
+use Rattle.std.proofs.lemmas.List.{map-set, length-set, take_all}
+use Rattle.std.proofs.lemmas.Option.{slice_get_within, slice_get-map, same_Some}
 use Rattle.torus.specs.Shape.{Shape, tiles_of}
 use Rattle.torus.specs.declared.step.Step.{Step}
-use Rattle.torus.specs.declared.step.Stepped.{Stepped}
 use Rattle.torus.specs.declared.step.Stepped.TheVariants.{Moved, Idle}
 use Rattle.script.specs.Scripts.{operation_count}
 use Rattle.home_bank.specs.declared.entry.Entry.{Entry}
@@ -16,125 +15,38 @@ use Rattle.runs.specs.declared.answer.Answer.{Answer}
 use Rattle.runs.specs.Events.{Event}
 use Rattle.runs.specs.Observed.{list_at}
 use Rattle.runs.proofs.Lists.{get_set_same, get_set_other}
-use Rattle.machine_seen.specs.net_interface.specs.ProcessorRecord.{ProcessorRecord}
-use Rattle.machine_seen.specs.flights.specs.EventBook.{EventBook, noted_event}
-use Rattle.machine_seen.specs.flights.specs.Room.{home_room}
-use Rattle.flit_buffer.specs.Surroundings.{Surroundings}
+use Rattle.wake_flags.specs.net_interface.specs.ProcessorRecord.{ProcessorRecord}
+use Rattle.wake_flags.specs.flights.specs.EventBook.{EventBook, noted_event}
+use Rattle.wake_flags.specs.flights.specs.Room.{home_room}
 use Rattle.flit_buffer.specs.Tries.{performed_by}
 use Rattle.flit_buffer.specs.Words.{word_of}
+use Rattle.flit_buffer.specs.declared.word_op.WordOp.{WordOp}
+use Rattle.wake_flags.specs.core_row.specs.Attempts.{step_op}
 use Rattle.event_book.specs.RoomyBook.{RoomyBook, KeepsRoom}
 use Rattle.rounds.specs.Rounds.{moves_in, one_if_moved}
-use Rattle.machine_seen.specs.tile.specs.Tile.{Design, TileState}
-use Rattle.machine_seen.specs.tile.specs.Agents.{TilePlace, agent_numbered, state_of, tile_placed, tile_next_op}
+use Rattle.wake_flags.specs.tile.specs.Tile.{Design}
+use Rattle.wake_flags.specs.tile.specs.Agents.{TilePlace, agent_numbered, state_of, tile_next_op, tile_absorbed}
 use Rattle.tile_agents.specs.Placed.{PlacedTile, IsAcceptableTo, with_place, tile_attempted}
-use Rattle.machine_seen.specs.core_laws.specs.Core.{Load, State, design_of, step, or_same, first_state, after, records_of}
-use Rattle.machine_seen.specs.core_laws.specs.Runs.{state_after}
-use Rattle.machine_seen.specs.core_laws.proofs.EveryRun.{holds_in}
-use Rattle.machine_seen.specs.Seen.{IsShown, LeadsOn, state_seen}
-use Rattle.machine_seen.proofs.Reached.{seen_state}
-use Rattle.machine_seen.proofs.Attempts.{leads_on}
-use Rattle.machine_seen.specs.machine_laws.specs.Core.{Core, IsAfter, Steps, built_to, told, event_in, core_with, core_next, book_after}
-use Rattle.machine_seen.specs.machine_laws.proofs.Books.{after_append}
-use Rattle.machine_seen.specs.machine_laws.proofs.Machines.{after_step}
-use Rattle.machine_seen.specs.machine_laws.proofs.Moves.{most_left}
-use Rattle.machine_seen.proofs.Tries.{word_there, word_asked}
-use Rattle.machine_seen.proofs.Room.{full_shown}
-use Rattle.machine_seen.specs.Notes.{FitsLoad, RoomToNoteService, RoomToNoteAnswer, book_noted, index_served}
-use Rattle.machine_seen.proofs.Notes.{book_fits, noted_is, room_to_issue, room_to_serve, room_to_answer}
-use Rattle.machine_core.proofs.NotedBooks.{seen_at}
-use Rattle.machine_core.specs.declared.noting.Counts.{Counts}
+use Rattle.wake_flags.specs.core_laws.specs.Core.{Load, State, design_of, step, or_same, first_state, after, records_of}
+use Rattle.wake_flags.specs.machine_seen.specs.Seen.{IsShown, LeadsOn, state_seen}
+use Rattle.wake_flags.specs.machine_seen.proofs.Reached.{seen_state}
+use Rattle.wake_flags.specs.machine_seen.proofs.Attempts.{leads_on}
+use Rattle.wake_flags.specs.machine_laws.specs.Core.{Core, IsAfter, Steps, built_to, told, event_in, core_with, core_next}
+use Rattle.wake_flags.specs.machine_laws.proofs.Books.{after_append}
+use Rattle.wake_flags.specs.machine_laws.proofs.Machines.{after_step}
+use Rattle.wake_flags.specs.machine_laws.proofs.Moves.{most_left}
+use Rattle.wake_flags.specs.machine_seen.proofs.Tries.{word_there, word_asked}
+use Rattle.wake_flags.specs.machine_seen.proofs.Room.{full_shown}
+use Rattle.wake_flags.specs.machine_seen.specs.Notes.{FitsLoad, RoomToNoteService, RoomToNoteAnswer, book_noted, index_served}
+use Rattle.wake_flags.specs.machine_seen.proofs.Notes.{book_fits, noted_is, room_to_issue, room_to_serve, room_to_answer}
 use Rattle.machine_core.specs.declared.machine.Machine.TheInside.{Inside}
 use Rattle.machine_core.specs.Noted.{HasRoomForIssue, HasRoomForService, HasRoomToNote, IsOfFullBank, counts_of, records_in}
 use Rattle.machine_core.specs.Inside.{design_in, places_in, core_of, HaveRoom, HasRoomFor as HasRoomForScripts, IsMachine}
-
--- a step from where some steps led leads on
-pub follows : (old new : Core) (stepped : Stepped) (attempt : Step) → Steps old new stepped attempt
-    → (l : Load) (steps : List Step) → IsAfter l old steps → IsAfter l new (steps ++ attempt ∷ [])
-follows old new stepped attempt h l steps is =
-    subst (λ (x : Core). IsAfter l x (steps ++ attempt ∷ [])) (sym h.change) (after_step l old steps attempt is)
-
--- an attempt that isn't enabled changes nothing
-pub stays : (c : Core) (attempt : Step) → step (built_to c) c.state attempt ≡ None → Steps c c Idle attempt
-stays c attempt none = record {
-  result = sym (ap told none);
-  change = sym (ap (core_with c (event_in (built_to c) c.state attempt)) none);
-}
-
--- an element that is written over itself
-set_there : {A : Type 0} (xs : List A) (k : ℕ) (x : A) → slice_get xs k ≡ Some x → slice_set xs k x ≡ xs
-set_there [] k x h = refl
-set_there (y ∷ xs) zero x h = ap (λ z. z ∷ xs) (same_Some _ _ (sym h))
-set_there (y ∷ xs) (suc k) x h = ap (λ zs. y ∷ zs) (set_there xs k x h)
-
--- the tile of a state that stands in a place
-tile_of_place : (d : Design) (t : ℕ) (around : Surroundings) (o : Option TileState) (p : TilePlace)
-    → option_map (λ tile. tile_placed d t tile around) o ≡ Some p → o ≡ Some (state_of p)
-tile_of_place d t around None p h = absurd (cc)
-tile_of_place d t around (Some tile) p h = ap (λ (q : TilePlace). Some (state_of q)) (same_Some _ _ h)
-
-state_at : (d : Design) (s : State) (places : List TilePlace) (row : List ℕ) → IsShown d s places row
-    → (t : ℕ) (p : TilePlace) → slice_get places t ≡ Some p → slice_get s.tiles t ≡ Some (state_of p)
-state_at d s places row shown t p there = tile_of_place d t s.around (slice_get s.tiles t) p (sym (shown.tiles t) ∙ there)
-
--- the processors' records of a state that tiles show
-records_shown : (tiles : List PlacedTile) → records_in tiles ≡ map (λ t. t.processor.operations) (map state_of (map (λ v. v.place) tiles))
-records_shown [] = refl
-records_shown (v ∷ tiles) = ap (λ (bs : List ProcessorRecord). v.place.processor.state.operations ∷ bs) (records_shown tiles)
-
--- a tile that has moved, and one that has not
-pub moved_tile : (o : Option TilePlace) (stepped : Stepped) (old new : PlacedTile)
-    → MatchOption o ((stepped ≡ Idle) × (new ≡ old)) (λ p. (stepped ≡ Moved) × (new ≡ with_place old p)) → stepped ≡ Moved
-    → (q : TilePlace) × (o ≡ Some q) × (new ≡ with_place old q)
-moved_tile None stepped old new h is = absurd (cc)
-moved_tile (Some q) stepped old new h is = (q, refl, h.1)
-
-pub idle_tile : (o : Option TilePlace) (stepped : Stepped) (old new : PlacedTile)
-    → MatchOption o ((stepped ≡ Idle) × (new ≡ old)) (λ p. (stepped ≡ Moved) × (new ≡ with_place old p)) → stepped ≡ Idle
-    → (o ≡ None) × (new ≡ old)
-idle_tile None stepped old new h is = (refl, h.1)
-idle_tile (Some q) stepped old new h is = absurd (cc)
-
--- an element of a vector
-pub vec_at : {A B : Type 0} (v : Vec A B) (k : ℕ) (x : A) → k < vec_len v → x ≡ slice_index_or v.items k x → slice_get v.items k ≡ Some x
-vec_at v k x h e = seen_at v.items k x (let n = v.ok.0 in omega arith) e
-
--- what is noted, said of equal tiles and counts
-pub noted_same : (xs ys : List PlacedTile) (b c : Counts) (t : ℕ) (g h : EventBook) → xs ≡ ys → b ≡ c
-    → ((x : PlacedTile) → slice_get xs t ≡ Some x → g ≡ book_noted t (records_in xs) b.issued b.answers b.entries (state_of x.place) h)
-    → (x : PlacedTile) → slice_get ys t ≡ Some x → g ≡ book_noted t (records_in ys) c.issued c.answers c.entries (state_of x.place) h
-noted_same xs ys b c t g h e f k =
-    subst (λ (zs : List PlacedTile). (x : PlacedTile) → slice_get zs t ≡ Some x → g ≡ book_noted t (records_in zs) c.issued c.answers c.entries (state_of x.place) h) e
-    (subst (λ (d : Counts). (x : PlacedTile) → slice_get xs t ≡ Some x → g ≡ book_noted t (records_in xs) d.issued d.answers d.entries (state_of x.place) h) f k)
-
--- a machine's fields with other tiles, another row and another book, and with so many moves left
-abbrev pub with_parts : {A : Type 0} → Inside A → Vec PlacedTile A → Vec ℕ A → RoomyBook → ℕ → Inside A
-with_parts a tiles row book left = record {
-  torus = a.torus;
-  depth = a.depth;
-  tags = a.tags;
-  opening = a.opening;
-  tiles = tiles;
-  row = row;
-  book = book;
-  left = left;
-}
-
--- what they make, by the lists alone
-abbrev core_by : {A : Type 0} → Inside A → State → EventBook → ℕ → Core
-core_by a s g left = record {
-  shape = a.torus;
-  depth = a.depth;
-  tags = a.tags;
-  opening = a.opening.items;
-  state = s;
-  book = g;
-  moves_left = left;
-}
-
--- the fields of a machine, with what they make of it
-pub record Led {A : Type 0} (old new : Inside A) (stepped : Stepped) (attempt : Step) : Type 0 where
-  pub machine : IsMachine new
-  pub steps : Steps (core_of old) (core_of new) stepped attempt
+use Rattle.wake_flags.specs.Awake.{Awake, is_awake, woken}
+use Rattle.wake_flags.specs.wakefulness.specs.Sleep.{OthersSleep}
+use Rattle.machine_core.proofs.Fields.{Led, stays, set_there, state_at, records_shown, with_parts, core_by}
+use Rattle.machine_core.proofs.Standing.{all_steps, shown_now, design_is, state_is, book_is, tiles_counted}
+use Rattle.wake_flags.proofs.KeptSleepers as kept
 
 module _ {A : Type 0} (a : Inside A) (is : IsMachine a) where
   abbrev l : Load
@@ -142,45 +54,6 @@ module _ {A : Type 0} (a : Inside A) (is : IsMachine a) where
 
   abbrev s : State
   s = after l is.steps
-
-  all_steps : take (length is.steps) is.steps ≡ is.steps
-  all_steps = take_all (length is.steps) is.steps (omega arith)
-
-  shown_now : IsShown (design_of l) (state_after l is.steps (length is.steps)) (places_in a) a.row.items
-  shown_now = subst (λ (xs : List Step). IsShown (design_of l) (after l xs) (places_in a) a.row.items) (sym all_steps) is.seen
-
-  -- what the machine is built to
-  pub design_is : design_in a ≡ design_of l
-  design_is =
-      ap (λ (x : Shape). record { shape = x; depth = a.depth; words = length a.opening.items }) is.after.shape
-      ∙ (ap (λ (x : ℕ). record { shape = l.shape; depth = x; words = length a.opening.items }) is.after.depth
-      ∙ ap (λ (xs : List ℕ). record { shape = l.shape; depth = l.depth; words = length xs }) is.after.opening)
-
-  pub state_is : (core_of a).state ≡ s
-  state_is = is.after.state
-
-  pub book_is : a.book.book ≡ book_after l is.steps
-  book_is = is.after.book
-
-  -- as many tiles as the torus has
-  pub tiles_counted : length a.tiles.items ≡ tiles_of l.shape
-  tiles_counted =
-      sym (length-map a.tiles.items (λ (v : PlacedTile). v.place))
-      ∙ (sym (length-map (places_in a) state_of)
-      ∙ (ap (λ (x : State). length x.tiles) state_is ∙ counted))
-    where
-      counted : length s.tiles ≡ tiles_of l.shape
-      counted = subst (λ (xs : List Step). length (after l xs).tiles ≡ tiles_of l.shape) all_steps (holds_in l is.after.accepted is.steps (length is.steps)).stands.tiles
-
-  pub few_tiles : length a.tiles.items ≤ 64
-  few_tiles = let h = is.after.accepted.shape.tiles in let e = tiles_counted in omega arith
-
-  -- there is no attempt of a tile that isn't there
-  pub none_past : (attempt : Step) → length a.tiles.items ≤ attempt.agent / 3 → step (built_to (core_of a)) (core_of a).state attempt ≡ None
-  none_past attempt h =
-      let past : slice_get (map state_of (places_in a)) (attempt.agent / 3) ≡ None = slice_get_past (map state_of (places_in a)) (attempt.agent / 3)
-      (omega (arith, length-map (places_in a) state_of, length-map a.tiles.items (λ (v : PlacedTile). v.place))) in
-      rw past refl
 
   module _ (attempt : Step) where
     abbrev t : ℕ
@@ -190,10 +63,10 @@ module _ {A : Type 0} (a : Inside A) (is : IsMachine a) where
     event = event_in (design_of l) s attempt
 
     pub step_is : step (built_to (core_of a)) (core_of a).state attempt ≡ step (design_of l) s attempt
-    step_is = ap (λ (d : Design). step d (core_of a).state attempt) design_is ∙ ap (λ (x : State). step (design_of l) x attempt) state_is
+    step_is = ap (λ (d : Design). step d (core_of a).state attempt) (design_is a is) ∙ ap (λ (x : State). step (design_of l) x attempt) (state_is a is)
 
     event_is : event_in (built_to (core_of a)) (core_of a).state attempt ≡ event
-    event_is = ap (λ (d : Design). event_in d (core_of a).state attempt) design_is ∙ ap (λ (x : State). event_in (design_of l) x attempt) state_is
+    event_is = ap (λ (d : Design). event_in d (core_of a).state attempt) (design_is a is) ∙ ap (λ (x : State). event_in (design_of l) x attempt) (state_is a is)
 
     module _ (v : PlacedTile) (there : slice_get a.tiles.items t ≡ Some v) where
       place_there : slice_get (places_in a) t ≡ Some v.place
@@ -202,21 +75,21 @@ module _ {A : Type 0} (a : Inside A) (is : IsMachine a) where
       -- what the agent asks
       pub word_in : IfSome (tile_next_op v.place attempt) (λ o. word_of o < vec_len a.row)
       word_in = subst (λ (n : ℕ). IfSome (tile_next_op v.place attempt) (λ o. word_of o < n)) (sym a.row.ok.0)
-          (word_there l is.after.accepted is.steps (length is.steps) (places_in a) a.row.items shown_now attempt v.place place_there)
+          (word_there l is.after.accepted is.steps (length is.steps) (places_in a) a.row.items (shown_now a is) attempt v.place place_there)
 
       pub word_fits : IfSome (tile_next_op v.place attempt) (λ o. IsAcceptableTo v.place (agent_numbered (attempt.agent % 3)) attempt.choice (slice_index a.row.items (word_of o)))
-      word_fits = word_asked l is.after.accepted is.steps (length is.steps) (places_in a) a.row.items shown_now attempt v.place place_there
+      word_fits = word_asked l is.after.accepted is.steps (length is.steps) (places_in a) a.row.items (shown_now a is) attempt v.place place_there
 
       -- a full bank serves nothing
       pub full_stays : attempt.agent % 3 ≡ 2 → IsOfFullBank v attempt.choice → Steps (core_of a) (core_of a) Idle attempt
       full_stays bank full =
-          let none = full_shown l is.after.accepted is.steps (length is.steps) (places_in a) a.row.items shown_now attempt v.place place_there
+          let none = full_shown l is.after.accepted is.steps (length is.steps) (places_in a) a.row.items (shown_now a is) attempt v.place place_there
           (full.full ∙ is.banks t v there) bank full.service in
-          stays (core_of a) attempt (step_is ∙ subst (λ (xs : List Step). step (design_of l) (after l xs) attempt ≡ None) all_steps none)
+          stays (core_of a) attempt (step_is ∙ subst (λ (xs : List Step). step (design_of l) (after l xs) attempt ≡ None) (all_steps a is) none)
 
       pub leads : LeadsOn (design_of l) s (places_in a) a.row.items attempt v.place
-      leads = subst (λ (xs : List Step). LeadsOn (design_of l) (after l xs) (places_in a) a.row.items attempt v.place) all_steps
-          (leads_on l is.after.accepted is.steps (length is.steps) (places_in a) a.row.items shown_now attempt v.place place_there)
+      leads = subst (λ (xs : List Step). LeadsOn (design_of l) (after l xs) (places_in a) a.row.items attempt v.place) (all_steps a is)
+          (leads_on l is.after.accepted is.steps (length is.steps) (places_in a) a.row.items (shown_now a is) attempt v.place place_there)
 
       idles : (o : Option TilePlace) → o ≡ None
           → MatchOption o ((step (design_of l) s attempt ≡ None) × (performed_by a.row.items (tile_next_op v.place attempt) ≡ a.row.items))
@@ -225,15 +98,21 @@ module _ {A : Type 0} (a : Inside A) (is : IsMachine a) where
       idles None e h = h
       idles (Some q) e h = absurd (cc)
 
+      -- an attempt without an operation isn't enabled
+      pub without_op : tile_next_op v.place attempt ≡ None → Steps (core_of a) (core_of a) Idle attempt
+      without_op none =
+          let idle : tile_attempted v.place attempt a.row.items ≡ None = ap (option_and_then (λ (o : WordOp). tile_absorbed v.place attempt (slice_index a.row.items (word_of o)))) none in
+          stays (core_of a) attempt (step_is ∙ (idles (tile_attempted v.place attempt a.row.items) idle leads).0)
+
       -- the fields after an attempt that isn't enabled
       pub idle : (tiles : Vec PlacedTile A) (row : Vec ℕ A) → tile_attempted v.place attempt a.row.items ≡ None
           → (w : PlacedTile) → w ≡ v → tiles.items ≡ slice_set a.tiles.items t w → row.items ≡ performed_by a.row.items (tile_next_op v.place attempt)
-          → Led a (with_parts a tiles row a.book a.left) Idle attempt
+          → Led a (with_parts a tiles row a.book a.awake a.left) Idle attempt
       idle tiles row none w same tiles_are row_is =
           let k = idles (tile_attempted v.place attempt a.row.items) none leads in
           let tiles_stay : tiles.items ≡ a.tiles.items = tiles_are ∙ (ap (slice_set a.tiles.items t) same ∙ set_there a.tiles.items t v there) in
           let row_stays : row.items ≡ a.row.items = row_is ∙ k.1 in
-          let core_stays : core_of (with_parts a tiles row a.book a.left) ≡ core_of a =
+          let core_stays : core_of (with_parts a tiles row a.book a.awake a.left) ≡ core_of a =
           ap (λ (vs : List PlacedTile). core_by a (state_seen (design_in a) (map (λ v. v.place) vs) row.items) a.book.book a.left) tiles_stay
           ∙ ap (λ (ws : List ℕ). core_by a (state_seen (design_in a) (places_in a) ws) a.book.book a.left) row_stays in
           record {
@@ -245,6 +124,8 @@ module _ {A : Type 0} (a : Inside A) (is : IsMachine a) where
                   (subst (λ (ws : List ℕ). IsShown (design_of l) s (places_in a) ws) (sym row_stays) is.seen);
               banks = subst (HaveRoom l) (sym tiles_stay) is.banks;
               room = is.room;
+              built = is.built;
+              sleepers = is.sleepers;
             };
             steps = subst (λ (c : Core). Steps (core_of a) c Idle attempt) (sym core_stays) (stays (core_of a) attempt (step_is ∙ k.0));
           }
@@ -303,25 +184,25 @@ module _ {A : Type 0} (a : Inside A) (is : IsMachine a) where
         records_are = records_shown tiles ∙ ap records_of next_seen
 
         book_fits_now : FitsLoad l a.book.book
-        book_fits_now = subst (FitsLoad l) (sym book_is) (book_fits l is.after.accepted is.steps)
+        book_fits_now = subst (FitsLoad l) (sym (book_is a is)) (book_fits l is.after.accepted is.steps)
 
         tiles_long : length tiles ≡ tiles_of l.shape
-        tiles_long = ap (λ (vs : List PlacedTile). length vs) tiles_are ∙ (length-set a.tiles.items t w ∙ tiles_counted)
+        tiles_long = ap (λ (vs : List PlacedTile). length vs) tiles_are ∙ (length-set a.tiles.items t w ∙ (tiles_counted a is))
 
         can_issue : length v.place.processor.state.operations.issued < length q.processor.state.operations.issued → HasRoomForIssue a.book t
         can_issue more =
             let k = room_to_issue l is.after.accepted is.steps attempt next led.1 (state_of v.place) (state_of q) old_state new_state more in
             let reserved = is.room.issues t k.lines k.script in
-            let short = subst (λ (g : EventBook). length (list_at g.issues t) < operation_count k.lines) (sym book_is) k.issues in
+            let short = subst (λ (g : EventBook). length (list_at g.issues t) < operation_count k.lines) (sym (book_is a is)) k.issues in
             record {
-              processor = subst (λ (g : EventBook). t < length g.issues) (sym book_is) k.processor;
+              processor = subst (λ (g : EventBook). t < length g.issues) (sym (book_is a is)) k.processor;
               room = omega (arith, short, reserved);
             }
 
         can_serve : (e : Entry) → slice_get q.bank.state.entries (length v.place.bank.state.entries) ≡ Some e
             → (e.source < length tiles) × HasRoomForService a.book t e.source (index_served (records_in tiles) e)
         can_serve e new =
-            let k = subst (λ (g : EventBook). RoomToNoteService l g t e.source (index_served (records_of next) e)) (sym book_is)
+            let k = subst (λ (g : EventBook). RoomToNoteService l g t e.source (index_served (records_of next) e)) (sym (book_is a is))
             (room_to_serve l is.after.accepted is.steps attempt next led.1 (state_of v.place) (state_of q) old_state new_state e new) in
             let fits = book_fits_now in
             let long = tiles_long in
@@ -342,7 +223,7 @@ module _ {A : Type 0} (a : Inside A) (is : IsMachine a) where
 
         can_answer : (x : Answer) → slice_get q.processor.state.operations.answers (length v.place.processor.state.operations.answers) ≡ Some x
             → RoomToNoteAnswer a.book.book x.bank x.place
-        can_answer x new = subst (λ (g : EventBook). RoomToNoteAnswer g x.bank x.place) (sym book_is)
+        can_answer x new = subst (λ (g : EventBook). RoomToNoteAnswer g x.bank x.place) (sym (book_is a is))
             (room_to_answer l is.after.accepted is.steps attempt next led.1 (state_of v.place) (state_of q) old_state new_state x new)
 
         -- the book has room for what is noted
@@ -379,7 +260,7 @@ module _ {A : Type 0} (a : Inside A) (is : IsMachine a) where
         core_led : (g : EventBook) → g ≡ noted_event (tiles_of l.shape) a.book.book event
             → core_by a (state_seen (design_in a) (map (λ (x : PlacedTile). x.place) tiles) row) g (a.left - 1) ≡ core_next (core_of a) attempt
         core_led g noted =
-            ap (λ (x : State). core_by a x g (a.left - 1)) (ap (λ (d : Design). state_seen d (map (λ (x : PlacedTile). x.place) tiles) row) design_is ∙ next_seen)
+            ap (λ (x : State). core_by a x g (a.left - 1)) (ap (λ (d : Design). state_seen d (map (λ (x : PlacedTile). x.place) tiles) row) (design_is a is) ∙ next_seen)
             ∙ (ap (λ (b : EventBook). core_by a next b (a.left - 1)) (noted ∙ (ap (λ (x : Shape). noted_event (tiles_of x) a.book.book event) (sym is.after.shape)
             ∙ ap (noted_event (tiles_of a.torus) a.book.book) (sym event_is)))
             ∙ sym (ap (core_with (core_of a) (event_in (built_to (core_of a)) (core_of a).state attempt)) next_is))
@@ -399,15 +280,24 @@ module _ {A : Type 0} (a : Inside A) (is : IsMachine a) where
           rows = omega (arith, is.room.rows, keeps.rows);
         }
 
+        -- who doesn't count as awake is asleep
+        sleepers_led : (op : WordOp) → tile_next_op v.place attempt ≡ Some op → (awake : Awake) → awake ≡ woken a.awake op → OthersSleep (design_of l) (after l (is.steps ++ attempt ∷ [])) (is_awake awake)
+        sleepers_led op asked awake awake_is =
+            let by : step_op (design_of l) s attempt ≡ Some op = ap (option_and_then (λ (p : TilePlace). tile_next_op p attempt)) (sym (is.seen.tiles t) ∙ place_there) ∙ asked in
+            subst (λ (x : State). OthersSleep (design_of l) x (is_awake awake)) (sym next_after)
+            (subst (λ (w : Awake). OthersSleep (design_of l) next (is_awake w)) (sym awake_is)
+            (kept.moved l is.after.accepted is.steps attempt op next a.awake is.built is.sleepers by led.1))
+
       -- the fields after an attempt that is enabled
       pub moved : (q : TilePlace) → tile_attempted v.place attempt a.row.items ≡ Some q → (w : PlacedTile) → w ≡ with_place v q
           → (tiles : Vec PlacedTile A) → tiles.items ≡ slice_set a.tiles.items t w
           → (row : Vec ℕ A) → row.items ≡ performed_by a.row.items (tile_next_op v.place attempt)
           → (g : RoomyBook) → KeepsRoom a.book g
           → ((x : PlacedTile) → slice_get tiles.items t ≡ Some x → g.book ≡ book_noted t (records_in tiles.items) (length v.place.processor.state.operations.issued) (length v.place.processor.state.operations.answers) (length v.place.bank.state.entries) (state_of x.place) a.book.book)
-          → Led a (with_parts a tiles row g (a.left - 1)) Moved attempt
-      moved q attempted w new_tile tiles tiles_are row row_is g keeps noted =
-          let change : core_of (with_parts a tiles row g (a.left - 1)) ≡ core_next (core_of a) attempt =
+          → (op : WordOp) → tile_next_op v.place attempt ≡ Some op → (awake : Awake) → awake ≡ woken a.awake op
+          → Led a (with_parts a tiles row g awake (a.left - 1)) Moved attempt
+      moved q attempted w new_tile tiles tiles_are row row_is g keeps noted op asked awake awake_is =
+          let change : core_of (with_parts a tiles row g awake (a.left - 1)) ≡ core_next (core_of a) attempt =
           core_led q attempted w new_tile tiles.items tiles_are row.items row_is g.book (book_led q attempted w new_tile tiles.items tiles_are row.items row_is g noted) in
           record {
             machine = record {
@@ -417,6 +307,8 @@ module _ {A : Type 0} (a : Inside A) (is : IsMachine a) where
               seen = shown_after q attempted w new_tile tiles.items tiles_are row.items row_is;
               banks = banks_led q attempted w new_tile tiles.items tiles_are row.items row_is;
               room = room_led q attempted w new_tile tiles.items tiles_are row.items row_is g keeps;
+              built = ap (λ (x : Awake). x.design) awake_is ∙ is.built;
+              sleepers = sleepers_led q attempted w new_tile tiles.items tiles_are row.items row_is op asked awake awake_is;
             };
             steps = record {
               result = sym (ap told (next_is q attempted w new_tile tiles.items tiles_are row.items row_is));

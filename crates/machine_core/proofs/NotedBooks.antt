@@ -5,11 +5,11 @@ use Rattle.std.proofs.lemmas.Option.{slice_get-get_or, slice_get_past, slice_get
 use Rattle.std.specs.Option.{option_map}
 use Rattle.home_bank.specs.declared.entry.Entry.{Entry}
 use Rattle.runs.specs.declared.answer.Answer.{Answer}
-use Rattle.machine_seen.specs.net_interface.specs.ProcessorRecord.{ProcessorRecord, no_processor, index_of}
-use Rattle.machine_seen.specs.flights.specs.EventBook.{EventBook, noted_issue, noted_service, noted_answer}
-use Rattle.machine_seen.specs.tile.specs.Tile.{TileState}
+use Rattle.wake_flags.specs.net_interface.specs.ProcessorRecord.{ProcessorRecord, no_processor, index_of}
+use Rattle.wake_flags.specs.flights.specs.EventBook.{EventBook, noted_issue, noted_service, noted_answer}
+use Rattle.wake_flags.specs.tile.specs.Tile.{TileState}
 use Rattle.tile_agents.specs.Placed.{PlacedTile}
-use Rattle.machine_seen.specs.Notes.{book_noted, answer_noted, service_noted, index_served}
+use Rattle.wake_flags.specs.machine_seen.specs.Notes.{book_noted, answer_noted, service_noted, index_served}
 use Rattle.machine_core.specs.declared.noting.Counts.{Counts}
 use Rattle.machine_core.specs.Noted.{records_in}
 

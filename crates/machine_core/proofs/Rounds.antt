@@ -9,9 +9,9 @@ use Rattle.torus.specs.declared.step.Step.{Step}
 use Rattle.torus.specs.declared.step.Choice.{Choice}
 use Rattle.channel_number.specs.Ports.{port_count}
 use Rattle.runs.specs.Events.{Event}
-use Rattle.machine_seen.specs.core_laws.specs.Core.{State, step, attempts_of, round_at, round}
-use Rattle.machine_seen.specs.machine_laws.specs.Core.{Core, built_to, event_in, core_with, core_next, core_after}
-use Rattle.machine_core.specs.Rounds.{processor_choices, bank_choices, takes_of_all, puts_of_all, credits_of_all}
+use Rattle.wake_flags.specs.core_laws.specs.Core.{State, step, attempts_of, round_at, round}
+use Rattle.wake_flags.specs.machine_laws.specs.Core.{Core, built_to, event_in, core_with, core_next, core_after}
+use Rattle.machine_core.specs.Rounds.{processor_choices, bank_choices, takes_of_all, puts_of_all, credits_of_all, router_choices}
 
 -- attempts, one after the other
 pub core_append : (c : Core) (xs ys : List Step) → core_after c (xs ++ ys) ≡ core_after (core_after c xs) ys
@@ -64,17 +64,13 @@ part_more f n c now after so_far is =
     ∙ (ap (λ (x : Core). core_after x (f n)) so_far
     ∙ (sym (core_append c (flat_map f (range_with_len 0 n)) (f n)) ∙ ap (core_after c) (sym (parts_more f n))))
 
--- the parts of a round at a tile, one after the other
-pub tile_parts : (ports t : ℕ) (start first takes puts credits last : Core)
-    → first ≡ core_after start (attempts_of (3 * t) processor_choices)
-    → takes ≡ core_after first (attempts_of (3 * t + 1) (takes_of_all ports))
+-- the parts of a router's turn, one after the other
+pub router_parts : (ports t : ℕ) (start takes puts credits : Core)
+    → takes ≡ core_after start (attempts_of (3 * t + 1) (takes_of_all ports))
     → puts ≡ core_after takes (attempts_of (3 * t + 1) (puts_of_all ports))
     → credits ≡ core_after puts (attempts_of (3 * t + 1) (credits_of_all ports))
-    → last ≡ core_after credits (attempts_of (3 * t + 2) bank_choices)
-    → last ≡ core_after start (round_at ports t)
-tile_parts ports t start first takes puts credits last a b c d e =
-    let own : List Step = attempts_of (3 * t) processor_choices in
-    let bank : List Step = attempts_of (3 * t + 2) bank_choices in
+    → credits ≡ core_after start (attempts_of (3 * t + 1) (router_choices ports))
+router_parts ports t start takes puts credits a b c =
     let x : List Choice = takes_of_all ports in
     let y : List Choice = puts_of_all ports in
     let z : List Choice = credits_of_all ports in
@@ -84,12 +80,21 @@ tile_parts ports t start first takes puts credits last a b c d e =
     ap (core_after from) (map-append (λ (choice : Choice). record { agent = 3 * t + 1; choice = choice }) choices more)
     ∙ (core_append from (attempts_of (3 * t + 1) choices) (attempts_of (3 * t + 1) more)
     ∙ ap (λ (v : Core). core_after v (attempts_of (3 * t + 1) more)) (sym is)) in
-    let two : puts ≡ core_after first (attempts_of (3 * t + 1) (x ++ y)) = c ∙ sym (routed x y first takes b) in
-    let router : credits ≡ core_after first (attempts_of (3 * t + 1) (x ++ y ++ z)) = d ∙ sym (routed (x ++ y) z first puts two) in
-    let before : credits ≡ core_after start (own ++ attempts_of (3 * t + 1) (x ++ y ++ z))
-    = router ∙ (ap (λ (v : Core). core_after v (attempts_of (3 * t + 1) (x ++ y ++ z))) a
-    ∙ sym (core_append start own (attempts_of (3 * t + 1) (x ++ y ++ z)))) in
-    e ∙ (ap (λ (v : Core). core_after v bank) before ∙ sym (core_append start (own ++ attempts_of (3 * t + 1) (x ++ y ++ z)) bank))
+    let two : puts ≡ core_after start (attempts_of (3 * t + 1) (x ++ y)) = b ∙ sym (routed x y start takes a) in
+    c ∙ sym (routed (x ++ y) z start puts two)
+
+-- the turns of a tile's agents, one after the other
+pub tile_parts : (ports t : ℕ) (start first second last : Core)
+    → first ≡ core_after start (attempts_of (3 * t) processor_choices)
+    → second ≡ core_after first (attempts_of (3 * t + 1) (router_choices ports))
+    → last ≡ core_after second (attempts_of (3 * t + 2) bank_choices)
+    → last ≡ core_after start (round_at ports t)
+tile_parts ports t start first second last a b c =
+    let own : List Step = attempts_of (3 * t) processor_choices in
+    let router : List Step = attempts_of (3 * t + 1) (router_choices ports) in
+    let bank : List Step = attempts_of (3 * t + 2) bank_choices in
+    let both : second ≡ core_after start (own ++ router) = b ∙ (ap (λ (v : Core). core_after v router) a ∙ sym (core_append start own router)) in
+    c ∙ (ap (λ (v : Core). core_after v bank) both ∙ sym (core_append start (own ++ router) bank))
 
 -- the parts of all tiles
 pub all_parts : (s : Shape) (dims tiles : ℕ) → dims ≡ dims_of s → tiles ≡ tiles_of s → flat_map (round_at (8 * dims + 2)) (range_with_len 0 tiles) ≡ round s

@@ -6,15 +6,15 @@ use Rattle.std.specs.List.{list_all}
 use Rattle.std.proofs.lemmas.List.Folds.{list_all-map}
 use Rattle.std.proofs.lemmas.Option.{slice_get-map, slice_get-get_or, slice_get_past}
 use Rattle.channel_number.specs.Order.{channel_count}
-use Rattle.machine_seen.specs.net_interface.specs.Following.{is_finished}
-use Rattle.machine_seen.specs.net_interface.specs.ProcessorRecord.{ProcessorRecord}
-use Rattle.machine_seen.specs.tile.specs.Tile.{TileState}
-use Rattle.machine_seen.specs.tile.specs.Agents.{TilePlace, state_of}
+use Rattle.wake_flags.specs.net_interface.specs.Following.{is_finished}
+use Rattle.wake_flags.specs.net_interface.specs.ProcessorRecord.{ProcessorRecord}
+use Rattle.wake_flags.specs.tile.specs.Tile.{TileState}
+use Rattle.wake_flags.specs.tile.specs.Agents.{TilePlace, state_of}
 use Rattle.tile_agents.specs.Placed.{PlacedTile}
-use Rattle.machine_seen.specs.core_laws.specs.Core.{Load, State, design_of, records_of}
-use Rattle.machine_seen.specs.core_row.specs.Row.{row_of}
-use Rattle.machine_seen.specs.core_row.proofs.Reached.{all_steps, size}
-use Rattle.machine_seen.specs.machine_laws.specs.Core.{shown, all_finished}
+use Rattle.wake_flags.specs.core_laws.specs.Core.{Load, State, design_of, records_of}
+use Rattle.wake_flags.specs.core_row.specs.Row.{row_of}
+use Rattle.wake_flags.specs.core_row.proofs.Reached.{all_steps, size}
+use Rattle.wake_flags.specs.machine_laws.specs.Core.{shown, all_finished}
 use Rattle.machine_core.specs.declared.machine.Machine.TheInside.{Inside}
 use Rattle.machine_core.specs.Inside.{core_of, places_in, IsMachine}
 

@@ -4,14 +4,16 @@ use Rattle.torus.specs.Shape.{tiles_of}
 use Rattle.torus.specs.declared.step.Step.{Step}
 use Rattle.script.specs.declared.line.Line.{Line}
 use Rattle.script.specs.Scripts.{operation_count, total_count}
-use Rattle.machine_seen.specs.flights.specs.Room.{home_room}
+use Rattle.wake_flags.specs.flights.specs.Room.{home_room}
 use Rattle.event_book.specs.RoomyBook.{RoomyBook}
-use Rattle.machine_seen.specs.tile.specs.Tile.{Design}
-use Rattle.machine_seen.specs.tile.specs.Agents.{TilePlace}
+use Rattle.wake_flags.specs.tile.specs.Tile.{Design}
+use Rattle.wake_flags.specs.tile.specs.Agents.{TilePlace}
 use Rattle.tile_agents.specs.Placed.{PlacedTile}
-use Rattle.machine_seen.specs.core_laws.specs.Core.{Load, design_of, after as state_after_steps}
-use Rattle.machine_seen.specs.Seen.{IsShown, state_seen}
-use Rattle.machine_seen.specs.machine_laws.specs.Core.{Core, IsAfter}
+use Rattle.wake_flags.specs.core_laws.specs.Core.{Load, design_of, after as state_after_steps}
+use Rattle.wake_flags.specs.machine_seen.specs.Seen.{IsShown, state_seen}
+use Rattle.wake_flags.specs.machine_laws.specs.Core.{Core, IsAfter}
+use Rattle.wake_flags.specs.wakefulness.specs.Sleep.{OthersSleep}
+use Rattle.wake_flags.specs.Awake.{is_awake}
 use Rattle.machine_core.specs.declared.machine.Machine.TheInside.{Inside}
 
 -- what the machine is built to
@@ -43,7 +45,8 @@ pub record HasRoomFor (l : Load) (g : RoomyBook) : Type 0 where
   pub positions : (b : ℕ) → b < tiles_of l.shape → home_room (tiles_of l.shape) b l.scripts ≤ slice_index g.positions b
   pub rows : total_count l.scripts ≤ g.rows
 
--- every machine stands where some list of steps leads from an accepted load; its tiles and its row show the state there
+-- every machine stands where some list of steps leads from an accepted load; its tiles and its row show the state
+-- there; and no choice is enabled there of an agent that doesn't count as awake
 pub record IsMachine {A : Type 0} (a : Inside A) : Type 0 where
   pub load : Load
   pub steps : List Step
@@ -51,3 +54,5 @@ pub record IsMachine {A : Type 0} (a : Inside A) : Type 0 where
   pub seen : IsShown (design_of load) (state_after_steps load steps) (places_in a) a.row.items
   pub banks : HaveRoom load a.tiles.items
   pub room : HasRoomFor load a.book
+  pub built : a.awake.design ≡ design_of load
+  pub sleepers : OthersSleep (design_of load) (state_after_steps load steps) (is_awake a.awake)

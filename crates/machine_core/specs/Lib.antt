@@ -1,5 +1,5 @@
-pub use Rattle.machine_seen.specs.core_laws
-pub use Rattle.machine_seen.specs.flights
+pub use Rattle.wake_flags.specs.core_laws
+pub use Rattle.wake_flags.specs.flights
 pub mod Inside
 pub mod Loaded
 pub mod Rounds

@@ -1,7 +1,7 @@
 -- The tiles that a machine begins with.
 use Rattle.std.specs.Prelude.{ℕ, ◌+◌, List, [], ◌∷◌}
 use Rattle.script.specs.declared.line.Line.{Line}
-use Rattle.machine_seen.specs.tile.specs.Tile.{Design}
+use Rattle.wake_flags.specs.tile.specs.Tile.{Design}
 use Rattle.tile_agents.specs.Placed.{PlacedTile, first_tile}
 
 -- the tiles from tile t on, before any step: one for each script, each bank with its room (this project's own format)

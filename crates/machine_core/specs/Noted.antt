@@ -5,10 +5,10 @@ use Rattle.torus.specs.declared.step.Choice.{Choice}
 use Rattle.home_bank.specs.declared.entry.Entry.{Entry}
 use Rattle.runs.specs.declared.answer.Answer.{Answer}
 use Rattle.runs.specs.Observed.{list_at}
-use Rattle.machine_seen.specs.net_interface.specs.ProcessorRecord.{ProcessorRecord}
+use Rattle.wake_flags.specs.net_interface.specs.ProcessorRecord.{ProcessorRecord}
 use Rattle.event_book.specs.RoomyBook.{RoomyBook}
 use Rattle.tile_agents.specs.Placed.{PlacedTile}
-use Rattle.machine_seen.specs.Notes.{RoomToNoteAnswer, index_served}
+use Rattle.wake_flags.specs.machine_seen.specs.Notes.{RoomToNoteAnswer, index_served}
 use Rattle.machine_core.specs.declared.noting.Counts.{Counts}
 
 -- the records of the tiles' processors

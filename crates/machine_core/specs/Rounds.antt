@@ -6,8 +6,8 @@ use Rattle.torus.specs.declared.step.Step.{Step}
 use Rattle.torus.specs.declared.step.Choice.{Choice}
 use Rattle.torus.specs.declared.step.Choice.TheVariants.{Send, Take, TakeFrom, Put, Credit, CreditOf, Serve, Done, Look}
 use Rattle.rounds.specs.Rounds.{first_enabled}
-use Rattle.machine_seen.specs.core_laws.specs.Core.{step, round}
-use Rattle.machine_seen.specs.machine_laws.specs.Core.{Core, built_to, core_after, all_finished}
+use Rattle.wake_flags.specs.core_laws.specs.Core.{step, round}
+use Rattle.wake_flags.specs.machine_laws.specs.Core.{Core, built_to, core_after, all_finished}
 
 -- a processor's choices, and a bank's (this project's own format)
 abbrev pub processor_choices : List Choice
@@ -26,6 +26,10 @@ puts_of_all ports = map (λ i. Put i) (range_with_len 0 ports)
 
 abbrev pub credits_of_all : ℕ → List Choice
 credits_of_all ports = map (λ o. CreditOf o) (range_with_len 0 ports)
+
+-- all of these, in the order of a round
+abbrev pub router_choices : ℕ → List Choice
+router_choices ports = takes_of_all ports ++ puts_of_all ports ++ credits_of_all ports
 
 -- the first of some attempts that is enabled in a machine now (this project's own format)
 abbrev pub first_in : Core → List Step → Option Step

@@ -3,10 +3,10 @@ use Rattle.std.specs.Prelude.{◌≡◌, ◌≢◌, ℕ, ◌+◌, ◌*◌, ◌%�
 use Rattle.torus.specs.declared.step.Step.{Step}
 use Rattle.channel_number.specs.Order.{channel_count}
 use Rattle.flit_buffer.specs.Surroundings.{ring}
-use Rattle.machine_seen.specs.core_laws.specs.Core.{Load}
-use Rattle.machine_seen.specs.core_row.specs.Row.{row_of}
-use Rattle.machine_seen.specs.core_row.specs.Taken.{taken}
-use Rattle.machine_seen.specs.machine_laws.specs.Core.{Core, built_to, shown}
+use Rattle.wake_flags.specs.core_laws.specs.Core.{Load}
+use Rattle.wake_flags.specs.core_row.specs.Row.{row_of}
+use Rattle.wake_flags.specs.core_row.specs.Taken.{taken}
+use Rattle.wake_flags.specs.machine_laws.specs.Core.{Core, built_to, shown}
 
 -- the row of a machine's words (this project's own format)
 abbrev pub row_in : Core → List ℕ

@@ -1,12 +1,14 @@
-//! Attempts of the agents of a tile, each of its kind, and the rounds that they make.
+//! Attempts of the agents of a tile, each of its kind, and the rounds that they make, in which agents that
+//! are asleep are left out.
 
 ghost use Rattle.std.specs.Prelude.{◌≡◌, ◌<◌, ◌+◌, ◌*◌, ◌++◌, false, List};
-ghost use Rattle.torus.specs.Shape.{tiles_of};
+ghost use Rattle.torus.specs.Shape.{tiles_of, dims_of};
 ghost use Rattle.torus.specs.declared.step.Step.{Step};
+ghost use Rattle.channel_number.specs.Ports.{port_count};
 ghost use Rattle.rounds.specs.Rounds.{moves_in};
-ghost use Rattle.machine_seen.specs.core_laws.specs.Core.{Load, step, attempts_of, round_at, round};
-ghost use Rattle.machine_seen.specs.machine_laws.specs.Core.{IsAfter, MakesMove, Steps, core_after, built_to, all_finished};
-ghost use Rattle.machine_core.specs.Rounds.{processor_choices, bank_choices, takes_of_all, puts_of_all, credits_of_all};
+ghost use Rattle.wake_flags.specs.core_laws.specs.Core.{Load, step, attempts_of, round_at, round};
+ghost use Rattle.wake_flags.specs.machine_laws.specs.Core.{IsAfter, MakesMove, Steps, core_after, built_to, all_finished};
+ghost use Rattle.machine_core.specs.Rounds.{processor_choices, bank_choices, takes_of_all, puts_of_all, credits_of_all, router_choices};
 
 use crate::machine::Machine;
 use crate::noting::{Counts, lacks_room, note};
@@ -20,9 +22,13 @@ impl<A: Allocator> Machine<A> {
         requires { tile < tiles_of self.old.shape }
         ensures { Steps self.old self.new result (record { agent = 3 * tile; choice = choice }) }
     {
+        let Some(op) = self.tiles[tile].processor_op(choice) else {
+            return Stepped::Idle;
+        };
         let before = Counts::of(&self.tiles[tile]);
         match self.tiles[tile].attempt_processor(choice, &mut self.row) {
             Stepped::Moved => {
+                self.awake.wake(op);
                 note(self.tiles.as_slice(), &mut self.book, tile, before);
                 self.left -= 1;
                 Stepped::Moved
@@ -37,8 +43,12 @@ impl<A: Allocator> Machine<A> {
         requires { tile < tiles_of self.old.shape }
         ensures { Steps self.old self.new result (record { agent = 3 * tile + 1; choice = choice }) }
     {
+        let Some(op) = self.tiles[tile].router_op(choice) else {
+            return Stepped::Idle;
+        };
         match self.tiles[tile].attempt_router(choice, &mut self.row) {
             Stepped::Moved => {
+                self.awake.wake(op);
                 self.left -= 1;
                 Stepped::Moved
             }
@@ -55,9 +65,13 @@ impl<A: Allocator> Machine<A> {
         if lacks_room(&self.tiles[tile], choice) {
             return Stepped::Idle;
         }
+        let Some(op) = self.tiles[tile].bank_op(choice) else {
+            return Stepped::Idle;
+        };
         let before = Counts::of(&self.tiles[tile]);
         match self.tiles[tile].attempt_bank(choice, &mut self.row) {
             Stepped::Moved => {
+                self.awake.wake(op);
                 note(self.tiles.as_slice(), &mut self.book, tile, before);
                 self.left -= 1;
                 Stepped::Moved
@@ -82,15 +96,63 @@ impl<A: Allocator> Machine<A> {
 
     /// The part of a round at one tile, of so many ports of its router.
     fn round_at(&mut self, ports: u32, tile: u32)
-        requires { tile < tiles_of self.old.shape }
+        requires tile { tile < tiles_of self.old.shape }
+        requires ports { ports ≡ port_count (dims_of self.old.shape) }
         ensures { self.new ≡ core_after self.old (round_at ports tile) }
     {
         let tile = tile as usize;
+        self.turn_processor(tile);
+        self.turn_router(tile, ports);
+        self.turn_bank(tile);
+    }
+
+    /// The turn of a tile's processor. It is left out where it doesn't count as awake; it falls asleep
+    /// where none of its choices moved.
+    fn turn_processor(&mut self, tile: usize)
+        requires { tile < tiles_of self.old.shape }
+        ensures { self.new ≡ core_after self.old (attempts_of (3 * tile) processor_choices) }
+    {
+        if !self.awake.is_awake(3 * tile) {
+            return;
+        }
+        let left = self.left;
         self.attempt_processor(tile);
+        if self.left == left {
+            self.awake.rest(3 * tile);
+        }
+    }
+
+    /// The turn of a tile's router, of so many ports.
+    fn turn_router(&mut self, tile: usize, ports: u32)
+        requires tile { tile < tiles_of self.old.shape }
+        requires ports { ports ≡ port_count (dims_of self.old.shape) }
+        ensures { self.new ≡ core_after self.old (attempts_of (3 * tile + 1) (router_choices ports)) }
+    {
+        if !self.awake.is_awake(3 * tile + 1) {
+            return;
+        }
+        let left = self.left;
         self.attempt_takes(tile, ports);
         self.attempt_puts(tile, ports);
         self.attempt_credits(tile, ports);
+        if self.left == left {
+            self.awake.rest(3 * tile + 1);
+        }
+    }
+
+    /// The turn of a tile's bank.
+    fn turn_bank(&mut self, tile: usize)
+        requires { tile < tiles_of self.old.shape }
+        ensures { self.new ≡ core_after self.old (attempts_of (3 * tile + 2) bank_choices) }
+    {
+        if !self.awake.is_awake(3 * tile + 2) {
+            return;
+        }
+        let left = self.left;
         self.attempt_bank(tile);
+        if self.left == left {
+            self.awake.rest(3 * tile + 2);
+        }
     }
 
     /// Attempts each choice of a tile's processor.

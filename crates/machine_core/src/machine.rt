@@ -3,15 +3,15 @@ ghost use Rattle.std.specs.Option.{option_copied};
 ghost use Rattle.torus.specs.declared.step.Step.{Step};
 ghost use Rattle.script.specs.Scripts.{Fit};
 ghost use Rattle.script.specs.ScriptViews.{lists_of};
-ghost use Rattle.machine_seen.specs.net_interface.specs.Following.{is_finished};
-ghost use Rattle.machine_seen.specs.flights.specs.Load.{load_of};
-ghost use Rattle.machine_seen.specs.flights.specs.Scripts.{AreFinished};
+ghost use Rattle.wake_flags.specs.net_interface.specs.Following.{is_finished};
+ghost use Rattle.wake_flags.specs.flights.specs.Load.{load_of};
+ghost use Rattle.wake_flags.specs.flights.specs.Scripts.{AreFinished};
 ghost use Rattle.rounds.specs.Rounds.{moves_in};
-ghost use Rattle.machine_seen.specs.core_laws.specs.Core.{Load, run_of, step};
-ghost use Rattle.machine_seen.specs.core_laws.specs.Runs.{IsAccepted};
-ghost use Rattle.machine_seen.specs.core_row.specs.Row.{row_of};
-ghost use Rattle.machine_seen.specs.machine_laws.specs.Core.{IsAfter, Steps, core_after, shown, built_to, all_finished};
-ghost use Rattle.machine_seen.specs.core_progress.specs.Moves.{IsLive, moves_left};
+ghost use Rattle.wake_flags.specs.core_laws.specs.Core.{Load, run_of, step};
+ghost use Rattle.wake_flags.specs.core_laws.specs.Runs.{IsAccepted};
+ghost use Rattle.wake_flags.specs.core_row.specs.Row.{row_of};
+ghost use Rattle.wake_flags.specs.machine_laws.specs.Core.{IsAfter, Steps, core_after, shown, built_to, all_finished};
+ghost use Rattle.wake_flags.specs.core_progress.specs.Moves.{IsLive, moves_left};
 ghost use Rattle.machine_core.specs.Rounds.{rounds_of, NeedsRounds};
 
 use crate::loading::{first_row, first_tiles, most_moves};
@@ -25,10 +25,11 @@ use std::alloc::{AllocError, Allocator, Global};
 use std::marker::Model;
 use tile_agents::TileAgents;
 use torus::{Fault, Step, Stepped, Torus};
+use wake_flags::WakeFlags;
 
 /// A machine: the agents of all tiles, the row of words that they share (the places of the
-/// channels, the memory, and the done word), the book of the events so far, and how many moves its
-/// scripts still allow.
+/// channels, the memory, and the done word), the book of the events so far, how many moves its scripts
+/// still allow, and which agents count as awake: all others are asleep, no choice of theirs is enabled.
 #[derive(Drop)]
 pub struct Machine<A: Allocator = Global> {
     pub(crate) torus: Torus,
@@ -39,10 +40,11 @@ pub struct Machine<A: Allocator = Global> {
     pub(crate) row: Vec<u64, A>,
     pub(crate) book: EventBook<A>,
     pub(crate) left: u64,
+    pub(crate) awake: WakeFlags<A>,
 }
 
 impl<A: Allocator> Model for Machine<A> {
-    ghost use Rattle.machine_seen.specs.machine_laws.specs.Core.{Core};
+    ghost use Rattle.wake_flags.specs.machine_laws.specs.Core.{Core};
 
     ghost Value = { Core };
 
@@ -75,6 +77,7 @@ impl<A: Allocator + Copy> Machine<A> {
         let row = first_row(alloc, places, opening.as_slice())?;
         let words = opening.len() as u32;
         let tiles = first_tiles(alloc, torus, words, depth, tags, &entries, lists)?;
+        let awake = WakeFlags::new(alloc, torus, depth, words)?;
         let left = most_moves(rows, torus.tiles());
         Ok(Machine {
             torus,
@@ -85,6 +88,7 @@ impl<A: Allocator + Copy> Machine<A> {
             row,
             book,
             left,
+            awake,
         })
     }
 

@@ -2,12 +2,12 @@
 //! entries its tile had before it.
 
 ghost use Rattle.std.specs.Prelude.{◌≡◌, ◌<◌, length, false, IsTrue, Some, slice_get};
-ghost use Rattle.machine_seen.specs.net_interface.specs.ProcessorRecord.{index_of};
-ghost use Rattle.machine_seen.specs.tile.specs.Tile.{Bank};
-ghost use Rattle.machine_seen.specs.tile.specs.Agents.{state_of};
+ghost use Rattle.wake_flags.specs.net_interface.specs.ProcessorRecord.{index_of};
+ghost use Rattle.wake_flags.specs.tile.specs.Tile.{Bank};
+ghost use Rattle.wake_flags.specs.tile.specs.Agents.{state_of};
 ghost use Rattle.event_book.specs.RoomyBook.{KeepsRoom};
 ghost use Rattle.tile_agents.specs.Placed.{HasRoomFor, PlacedTile};
-ghost use Rattle.machine_seen.specs.Notes.{book_noted};
+ghost use Rattle.wake_flags.specs.machine_seen.specs.Notes.{book_noted};
 ghost use Rattle.machine_core.specs.Noted.{HasRoomToNote, IsOfFullBank, counts_of, records_in};
 
 use event_book::EventBook;

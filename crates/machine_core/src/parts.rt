@@ -2,9 +2,9 @@
 ghost use Rattle.std.specs.Prelude.{◌≡◌, List, [], length, map};
 ghost use Rattle.torus.specs.Shape.{tiles_of};
 ghost use Rattle.torus.specs.declared.step.Step.{Step};
-ghost use Rattle.machine_seen.specs.core_laws.specs.Core.{Load, design_of, after};
-ghost use Rattle.machine_seen.specs.machine_laws.specs.Core.{IsAfter};
-ghost use Rattle.machine_seen.specs.Seen.{IsShown};
+ghost use Rattle.wake_flags.specs.core_laws.specs.Core.{Load, design_of, after};
+ghost use Rattle.wake_flags.specs.machine_laws.specs.Core.{IsAfter};
+ghost use Rattle.wake_flags.specs.machine_seen.specs.Seen.{IsShown};
 ghost use Rattle.machine_core.specs.Inside.{HaveRoom};
 
 use crate::machine::Machine;

@@ -395,6 +395,135 @@ fn far_loads(rt: HostRuntime) -> Result<(), Fail> {
     Ok(())
 }
 
+/// Machines: their texts, how many tiles they have, and how many ports each of their routers.
+const DRAWN: [(&[u8], u8, u8); 4] = [
+    (PAIR, 2, 10),
+    (b"radix 4\ndims 1\ndepth 2\ntags 2\nwords 8\n", 4, 10),
+    (b"radix 2\ndims 3\ndepth 1\ntags 1\nwords 8\n", 8, 26),
+    (
+        b"radix 2 4\ndims 2\ndateline 0 2\ndepth 1\ntags 3\nwords 8\n",
+        8,
+        18,
+    ),
+];
+
+/// The processors' numbers, and the lines of which scripts are drawn.
+const NUMBERS: [&[u8]; 8] = [b"0", b"1", b"2", b"3", b"4", b"5", b"6", b"7"];
+
+const LINES: [&[u8]; 8] = [
+    b" load 1\n",
+    b" store 3 7\n",
+    b" add 0 1\n",
+    b" fence\n",
+    b" swap 2 5\n",
+    b" cas 0 1 9\n",
+    b" spin 3 7 2\n",
+    b" max 6 4\n",
+];
+
+/// The next number that is drawn (Knuth, MMIX: a linear congruential generator).
+fn drawn(seed: u64) -> u64 {
+    seed.wrapping_mul(6364136223846793005)
+        .wrapping_add(1442695040888963407)
+}
+
+/// A script of six drawn lines for each of so many processors.
+fn drawn_script(alloc: Global, processors: u8, seed: u64) -> Result<Vec<u8>, AllocError> {
+    let mut script = Vec::new(alloc);
+    let mut number = seed;
+    for processor in NUMBERS.iter().take(processors as usize) {
+        for _ in 0..6 {
+            number = drawn(number);
+            script.extend_from_slice(processor)?;
+            script.extend_from_slice(LINES[(number >> 40) as usize % 8])?;
+        }
+    }
+    Ok(script)
+}
+
+/// The attempts of a round: each choice of each agent, in order.
+fn round_steps(alloc: Global, tiles: u8, ports: u8) -> Result<Vec<Step>, AllocError> {
+    let mut steps = Vec::new(alloc);
+    for tile in 0..tiles {
+        let agent = 3 * u32::from(tile);
+        for &choice in &[
+            Choice::Send,
+            Choice::Take,
+            Choice::Credit,
+            Choice::Done,
+            Choice::Look,
+        ] {
+            steps.push(Step { agent, choice })?;
+        }
+        let agent = agent + 1;
+        for port in 0..ports {
+            let choice = Choice::TakeFrom(u32::from(port));
+            steps.push(Step { agent, choice })?;
+        }
+        for port in 0..ports {
+            let choice = Choice::Put(u32::from(port));
+            steps.push(Step { agent, choice })?;
+        }
+        for port in 0..ports {
+            let choice = Choice::CreditOf(u32::from(port));
+            steps.push(Step { agent, choice })?;
+        }
+        let agent = agent + 1;
+        for &choice in &[Choice::Take, Choice::Serve, Choice::Send, Choice::Credit] {
+            steps.push(Step { agent, choice })?;
+        }
+    }
+    Ok(steps)
+}
+
+/// Whether two machines of at most eight tiles show the same, word by word.
+fn are_alike(alloc: Global, one: &Machine, other: &Machine) -> Result<bool, Fault> {
+    for at in 0..400 {
+        if one.row(at) != other.row(at) {
+            return Ok(false);
+        }
+    }
+    for tile in 0..8 {
+        if one.answers(tile) != other.answers(tile) || one.bank(tile) != other.bank(tile) {
+            return Ok(false);
+        }
+    }
+    let order = one.order(alloc)?;
+    let same_order = order.as_slice() == other.order(alloc)?.as_slice();
+    Ok(same_order && one.moves_left() == other.moves_left())
+}
+
+/// Rounds, which leave out agents that are asleep, lead where the list of a round's steps leads; also with
+/// single steps between them, by which agents are woken too.
+#[test]
+fn rounds_lead_where_their_steps_lead(rt: HostRuntime) -> Result<(), Fail> {
+    let alloc = rt.alloc();
+    for &(text, tiles, ports) in &DRAWN {
+        let steps = round_steps(alloc, tiles, ports)?;
+        for seed in 1..4 {
+            let script = drawn_script(alloc, tiles, seed)?;
+            let mut rounds = machine_of(alloc, text, script.as_slice())?;
+            let mut lists = machine_of(alloc, text, script.as_slice())?;
+            let mut number = seed;
+            let mut alike = true;
+            for _ in 0..1000 {
+                number = drawn(number);
+                for step in steps.iter().skip((number >> 40) as usize % 400).take(5) {
+                    alike = alike && rounds.step(*step) == lists.step(*step);
+                }
+                rounds.round();
+                lists.run(steps.as_slice());
+                alike = alike && are_alike(alloc, &rounds, &lists)?;
+            }
+            assert!(rt;
+                alike && rounds.finished(),
+                "script {seed} of {tiles} tiles"
+            );
+        }
+    }
+    Ok(())
+}
+
 /// Steps that name no agent, or a choice that the agent hasn't.
 const NO_CHOICES: [(u32, Choice); 20] = [
     (0, Choice::Serve),

@@ -102,6 +102,31 @@ impl<A: Allocator> TileAgents<A> {
         }
     }
 
+    /// The word operation of a choice of the processor; None exactly where it hasn't that choice or the
+    /// choice's condition fails.
+    #[inline(always)]
+    pub fn processor_op(&self, choice: Choice) -> Option<WordOp>
+        ensures { result ≡ agent_op self.now.place ProcessorAgent choice }
+    {
+        self.processor.next_op(choice)
+    }
+
+    /// The word operation of a choice of the router.
+    #[inline(always)]
+    pub fn router_op(&self, choice: Choice) -> Option<WordOp>
+        ensures { result ≡ agent_op self.now.place RouterAgent choice }
+    {
+        self.router.next_op(choice)
+    }
+
+    /// The word operation of a choice of the bank.
+    #[inline(always)]
+    pub fn bank_op(&self, choice: Choice) -> Option<WordOp>
+        ensures { result ≡ agent_op self.now.place BankOfTile choice }
+    {
+        self.bank.next_op(choice)
+    }
+
     /// Takes the word that the operation of a step found. What is taken is as the step's agent asks,
     /// and a service has room for its entry.
     pub fn absorb(&mut self, step: Step, got: u64) -> Stepped

@@ -11,8 +11,8 @@ use Rattle.channel_number.specs.Ports.{injection_channel, ejection_channel, inpu
 use Rattle.channel_number.proofs.Decoding.{encoded}
 use Rattle.channel_number.proofs.Ports.{is_input, is_output}
 use Rattle.router.proofs.EmptyChannels.{input_at, output_at}
-use Rattle.machine_laws.specs.tile.specs.Tile.{Agent, Processor, Router, Bank}
-use Rattle.machine_laws.specs.tile.specs.Agents.{wiring_of}
+use Rattle.machine_seen.specs.tile.specs.Tile.{Agent, Processor, Router, Bank}
+use Rattle.machine_seen.specs.tile.specs.Agents.{wiring_of}
 use Rattle.wakefulness.specs.Waking.{place_of, taker, speaker, receiver_of, sender_of}
 
 only : (x i : ℕ) → i < length (x ∷ []) → get_or (x ∷ []) i 0 ≡ x

@@ -25,23 +25,23 @@ use Rattle.flit_buffer.specs.declared.want.Want.{Want}
 use Rattle.flit_buffer.specs.declared.want.Want.TheVariants.{Take, Put, Credit, Access, Await}
 use Rattle.flit_buffer.proofs.ManyRings.{before}
 use Rattle.flit_buffer.proofs.PortLaws.{some_if, less, is_less}
-use Rattle.machine_laws.specs.net_interface.specs.Following.{is_finished}
-use Rattle.machine_laws.specs.net_interface.specs.ProcessorRecord.{ready}
-use Rattle.machine_laws.specs.net_interface.specs.ProcessorTable.{ProcessorState, processor_wants, flits_due}
+use Rattle.machine_seen.specs.net_interface.specs.Following.{is_finished}
+use Rattle.machine_seen.specs.net_interface.specs.ProcessorRecord.{ready}
+use Rattle.machine_seen.specs.net_interface.specs.ProcessorTable.{ProcessorState, processor_wants, flits_due}
 use Rattle.home_bank.specs.BankTable.{bank_wants, is_nil}
 use Rattle.home_bank.specs.ServiceList.{address_of}
-use Rattle.machine_laws.specs.tile.specs.Tile.{Design, TileState, Agent, Processor, Router, Bank}
-use Rattle.machine_laws.specs.tile.specs.Agents.{wiring_of, tile_wants, tile_placed, agent_numbered, agent_op, tile_next_op}
-use Rattle.machine_laws.specs.tile.specs.Refinement.{IsSurrounded}
-use Rattle.machine_laws.specs.tile.proofs.Channels.{wired}
-use Rattle.machine_laws.specs.core_laws.specs.Core.{Load, State, design_of, after}
-use Rattle.machine_laws.specs.core_laws.specs.Runs.{IsAccepted}
-use Rattle.machine_laws.specs.core_laws.proofs.AgentSteps.{option_map_some}
-use Rattle.machine_laws.specs.core_laws.proofs.AskedFor.{bank_asked}
-use Rattle.machine_laws.specs.core_laws.proofs.ChannelWants.{router_of_channel}
-use Rattle.core_row.specs.Attempts.{step_op}
-use Rattle.core_row.proofs.Reached.{all_steps}
-use Rattle.core_row.proofs.Reached as reached
+use Rattle.machine_seen.specs.tile.specs.Tile.{Design, TileState, Agent, Processor, Router, Bank}
+use Rattle.machine_seen.specs.tile.specs.Agents.{wiring_of, tile_wants, tile_placed, agent_numbered, agent_op, tile_next_op}
+use Rattle.machine_seen.specs.tile.specs.Refinement.{IsSurrounded}
+use Rattle.machine_seen.specs.tile.proofs.Channels.{wired}
+use Rattle.machine_seen.specs.core_laws.specs.Core.{Load, State, design_of, after}
+use Rattle.machine_seen.specs.core_laws.specs.Runs.{IsAccepted}
+use Rattle.machine_seen.specs.core_laws.proofs.AgentSteps.{option_map_some}
+use Rattle.machine_seen.specs.core_laws.proofs.AskedFor.{bank_asked}
+use Rattle.machine_seen.specs.core_laws.proofs.ChannelWants.{router_of_channel}
+use Rattle.machine_seen.specs.core_row.specs.Attempts.{step_op}
+use Rattle.machine_seen.specs.core_row.proofs.Reached.{all_steps}
+use Rattle.machine_seen.specs.core_row.proofs.Reached as reached
 use Rattle.wakefulness.specs.Waking.{receiver_of, sender_of, wiring_at, wanted, processors, woken_by, woken}
 use Rattle.wakefulness.specs.Operations.{places_in, woken_by_operation}
 use Rattle.wakefulness.proofs.Wakes.{IsReady, ready_after, Asks, asks_of, low, possible_of}

@@ -6,10 +6,10 @@ use Rattle.std.proofs.lemmas.Bool.{eqb-true}
 use Rattle.torus.specs.Shape.{tiles_of, dims_of}
 use Rattle.torus.specs.declared.step.Step.{Step}
 use Rattle.channel_number.specs.Ports.{port_count}
-use Rattle.machine_laws.specs.tile.specs.Tile.{Design, Agent, Processor, Router}
-use Rattle.machine_laws.specs.core_laws.specs.Core.{Load, State, design_of, agent_numbered, step, or_same, next, after_from, first_state, after, attempts_of, round_at, round}
-use Rattle.machine_laws.specs.core_laws.specs.Runs.{IsAccepted}
-use Rattle.machine_laws.proofs.Books.{after_append}
+use Rattle.machine_seen.specs.tile.specs.Tile.{Design, Agent, Processor, Router}
+use Rattle.machine_seen.specs.core_laws.specs.Core.{Load, State, design_of, agent_numbered, step, or_same, next, after_from, first_state, after, attempts_of, round_at, round}
+use Rattle.machine_seen.specs.core_laws.specs.Runs.{IsAccepted}
+use Rattle.machine_seen.specs.machine_laws.proofs.Books.{after_append}
 use Rattle.wakefulness.specs.Waking.{is_woken}
 use Rattle.wakefulness.specs.Sleep.{IsAsleep, OthersSleep, choices_of, attempts_at, has_moved}
 use Rattle.wakefulness.specs.Watch.{Watch, watched, after_watching, rested, agent_turn, tile_turn, tile_turns, round_awake}

@@ -8,11 +8,11 @@ use Rattle.torus.specs.declared.step.Step.{Step}
 use Rattle.torus.specs.declared.step.Choice.{Choice}
 use Rattle.torus.specs.declared.step.Choice.TheVariants as choice
 use Rattle.channel_number.specs.Ports.{port_count}
-use Rattle.machine_laws.specs.tile.specs.Tile.{Design, Agent, Processor, Router, Bank}
-use Rattle.machine_laws.specs.core_laws.specs.Core.{State, agent_numbered, step, or_same, after_from, attempts_of}
-use Rattle.machine_laws.specs.core_laws.specs.Choices.{has_choice}
-use Rattle.machine_laws.specs.core_laws.proofs.AgentChoices.{other_choice}
-use Rattle.machine_laws.specs.Core.{Core, built_to, event_in, core_with, core_after}
+use Rattle.machine_seen.specs.tile.specs.Tile.{Design, Agent, Processor, Router, Bank}
+use Rattle.machine_seen.specs.core_laws.specs.Core.{State, agent_numbered, step, or_same, after_from, attempts_of}
+use Rattle.machine_seen.specs.core_laws.specs.Choices.{has_choice}
+use Rattle.machine_seen.specs.core_laws.proofs.AgentChoices.{other_choice}
+use Rattle.machine_seen.specs.machine_laws.specs.Core.{Core, built_to, event_in, core_with, core_after}
 use Rattle.wakefulness.specs.Sleep.{IsAsleep, choices_of, attempts_at, has_moved}
 
 -- what holds of each choice of a list

@@ -12,15 +12,15 @@ use Rattle.flit_buffer.specs.declared.want.Want.{Want}
 use Rattle.flit_buffer.specs.Surroundings.{Surroundings, Wiring, granted, surroundings_after, agent_step, step_with}
 use Rattle.router.specs.Table.{RouterState, router_wants, router_after}
 use Rattle.router.specs.Beginning.{router_wiring}
-use Rattle.machine_laws.specs.net_interface.specs.ProcessorTable.{ProcessorState, processor_wants, processor_after}
+use Rattle.machine_seen.specs.net_interface.specs.ProcessorTable.{ProcessorState, processor_wants, processor_after}
 use Rattle.home_bank.specs.BankTable.{BankState, bank_wants, bank_after}
-use Rattle.machine_laws.specs.tile.specs.Wiring.{processor_wiring, bank_wiring}
-use Rattle.machine_laws.specs.tile.specs.Tile.{Design, TileState, Agent, Processor, Router, Bank, tile_step}
-use Rattle.machine_laws.specs.tile.specs.Agents.{wiring_of, tile_wants, agent_numbered}
-use Rattle.machine_laws.specs.core_laws.specs.Core.{State, step}
-use Rattle.machine_laws.specs.core_laws.proofs.AgentSteps.{option_map_some, option_map_none, refused}
-use Rattle.machine_laws.specs.core_laws.proofs.OneAgent.{processor_alone, router_alone, bank_alone}
-use Rattle.core_row.proofs.Steps.{step_of_tile, step_of_none}
+use Rattle.machine_seen.specs.tile.specs.Wiring.{processor_wiring, bank_wiring}
+use Rattle.machine_seen.specs.tile.specs.Tile.{Design, TileState, Agent, Processor, Router, Bank, tile_step}
+use Rattle.machine_seen.specs.tile.specs.Agents.{wiring_of, tile_wants, agent_numbered}
+use Rattle.machine_seen.specs.core_laws.specs.Core.{State, step}
+use Rattle.machine_seen.specs.core_laws.proofs.AgentSteps.{option_map_some, option_map_none, refused}
+use Rattle.machine_seen.specs.core_laws.proofs.OneAgent.{processor_alone, router_alone, bank_alone}
+use Rattle.machine_seen.specs.core_row.proofs.Steps.{step_of_tile, step_of_none}
 use Rattle.wakefulness.specs.Waking.{place_of, wiring_at, wanted}
 
 map_none : {A B : Type 0} (f : A → B) (o : Option A) → o ≡ None → option_map f o ≡ None

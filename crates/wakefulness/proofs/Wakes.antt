@@ -18,23 +18,23 @@ use Rattle.flit_buffer.specs.Surroundings.{Surroundings, granted, surroundings_a
 use Rattle.flit_buffer.specs.declared.want.Want.{Want}
 use Rattle.flit_buffer.specs.declared.want.Want.TheVariants.{Take, Put, Credit, Access, Await}
 use Rattle.flit_buffer.proofs.PortLaws.{some_if}
-use Rattle.machine_laws.specs.net_interface.specs.Following.{is_finished}
-use Rattle.machine_laws.specs.net_interface.specs.ProcessorRecord.{ready}
-use Rattle.machine_laws.specs.net_interface.specs.ProcessorTable.{ProcessorState, processor_wants, flits_due}
+use Rattle.machine_seen.specs.net_interface.specs.Following.{is_finished}
+use Rattle.machine_seen.specs.net_interface.specs.ProcessorRecord.{ready}
+use Rattle.machine_seen.specs.net_interface.specs.ProcessorTable.{ProcessorState, processor_wants, flits_due}
 use Rattle.home_bank.specs.BankTable.{BankState, bank_wants, is_nil}
 use Rattle.home_bank.specs.ServiceList.{address_of}
-use Rattle.machine_laws.specs.tile.specs.Tile.{Design, TileState, Agent, Processor, Router, Bank}
-use Rattle.machine_laws.specs.tile.specs.Agents.{tile_wants, agent_numbered}
-use Rattle.machine_laws.specs.tile.specs.Refinement.{IsPossibleChoice}
-use Rattle.machine_laws.specs.tile.proofs.Channels.{apart}
-use Rattle.machine_laws.specs.core_laws.specs.Core.{Load, State, design_of, step, after}
-use Rattle.machine_laws.specs.core_laws.specs.Runs.{IsAccepted}
-use Rattle.machine_laws.specs.core_laws.specs.Asks.{BankAsks}
-use Rattle.machine_laws.specs.core_laws.proofs.AgentSteps.{option_map_some}
-use Rattle.machine_laws.specs.core_laws.proofs.AskedFor.{bank_asked}
-use Rattle.machine_laws.specs.core_laws.proofs.ChannelWants.{router_of_channel}
-use Rattle.core_row.proofs.Reached.{all_steps}
-use Rattle.core_row.proofs.Reached as reached
+use Rattle.machine_seen.specs.tile.specs.Tile.{Design, TileState, Agent, Processor, Router, Bank}
+use Rattle.machine_seen.specs.tile.specs.Agents.{tile_wants, agent_numbered}
+use Rattle.machine_seen.specs.tile.specs.Refinement.{IsPossibleChoice}
+use Rattle.machine_seen.specs.tile.proofs.Channels.{apart}
+use Rattle.machine_seen.specs.core_laws.specs.Core.{Load, State, design_of, step, after}
+use Rattle.machine_seen.specs.core_laws.specs.Runs.{IsAccepted}
+use Rattle.machine_seen.specs.core_laws.specs.Asks.{BankAsks}
+use Rattle.machine_seen.specs.core_laws.proofs.AgentSteps.{option_map_some}
+use Rattle.machine_seen.specs.core_laws.proofs.AskedFor.{bank_asked}
+use Rattle.machine_seen.specs.core_laws.proofs.ChannelWants.{router_of_channel}
+use Rattle.machine_seen.specs.core_row.proofs.Reached.{all_steps}
+use Rattle.machine_seen.specs.core_row.proofs.Reached as reached
 use Rattle.wakefulness.specs.Waking.{place_of, receiver_of, sender_of, wiring_at, wanted, Meets, Disturbs, processors, woken_by, woken, is_woken}
 use Rattle.wakefulness.specs.Sleep.{IsAsleep}
 use Rattle.wakefulness.proofs.Ends.{receiver_is, sender_is}

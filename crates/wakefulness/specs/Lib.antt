@@ -1,3 +1,12 @@
+pub use Rattle.machine_seen
+pub use Rattle.machine_seen.specs.core_laws
+pub use Rattle.machine_seen.specs.core_progress
+pub use Rattle.machine_seen.specs.core_row
+pub use Rattle.machine_seen.specs.flights
+pub use Rattle.machine_seen.specs.machine_laws
+pub use Rattle.machine_seen.specs.net_interface
+pub use Rattle.machine_seen.specs.tile
+pub use Rattle.machine_seen.specs.tile_agents
 pub mod Waking
 pub mod Sleep
 pub mod Watch

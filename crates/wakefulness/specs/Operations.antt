@@ -4,7 +4,7 @@ use Rattle.torus.specs.Shape.{tiles_of}
 use Rattle.channel_number.specs.Order.{channel_count}
 use Rattle.flit_buffer.specs.declared.word_op.WordOp.{WordOp}
 use Rattle.flit_buffer.specs.declared.word_op.WordOp.TheVariants.{Store, Swap, Add}
-use Rattle.machine_laws.specs.tile.specs.Tile.{Design}
+use Rattle.machine_seen.specs.tile.specs.Tile.{Design}
 use Rattle.wakefulness.specs.Waking.{receiver_of, sender_of, processors}
 
 -- how many words of the row are places of channels

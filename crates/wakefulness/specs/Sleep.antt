@@ -6,8 +6,8 @@ use Rattle.torus.specs.declared.step.Step.{Step}
 use Rattle.torus.specs.declared.step.Choice.{Choice}
 use Rattle.torus.specs.declared.step.Choice.TheVariants.{Send, Take, TakeFrom, Put, Credit, CreditOf, Serve, Done, Look}
 use Rattle.channel_number.specs.Ports.{port_count}
-use Rattle.machine_laws.specs.tile.specs.Tile.{Design, Agent, Processor, Router, Bank}
-use Rattle.machine_laws.specs.core_laws.specs.Core.{State, step, next, agent_numbered, attempts_of}
+use Rattle.machine_seen.specs.tile.specs.Tile.{Design, Agent, Processor, Router, Bank}
+use Rattle.machine_seen.specs.core_laws.specs.Core.{State, step, next, agent_numbered, attempts_of}
 
 -- no choice of the agent is enabled (this project's own format)
 abbrev pub IsAsleep : Design → State → ℕ → Type 0

@@ -11,9 +11,9 @@ use Rattle.channel_number.specs.Ports.{is_injection, is_ejection, input_router, 
 use Rattle.flit_buffer.specs.Surroundings.{Wiring}
 use Rattle.flit_buffer.specs.declared.want.Want.{Want}
 use Rattle.flit_buffer.specs.declared.want.Want.TheVariants.{Take, Put, Credit, Access, Await}
-use Rattle.machine_laws.specs.tile.specs.Tile.{Design, Agent, Processor, Router, Bank}
-use Rattle.machine_laws.specs.tile.specs.Agents.{wiring_of, tile_wants, agent_numbered}
-use Rattle.machine_laws.specs.core_laws.specs.Core.{State}
+use Rattle.machine_seen.specs.tile.specs.Tile.{Design, Agent, Processor, Router, Bank}
+use Rattle.machine_seen.specs.tile.specs.Agents.{wiring_of, tile_wants, agent_numbered}
+use Rattle.machine_seen.specs.core_laws.specs.Core.{State}
 
 -- the number of an agent among its tile's three (this project's own format)
 abbrev pub place_of : Agent → ℕ

@@ -4,8 +4,8 @@ use Rattle.std.specs.Prelude.{Option, Some, None}
 use Rattle.std.specs.List.{range_with_len}
 use Rattle.torus.specs.Shape.{tiles_of}
 use Rattle.torus.specs.declared.step.Step.{Step}
-use Rattle.machine_laws.specs.tile.specs.Tile.{Design}
-use Rattle.machine_laws.specs.core_laws.specs.Core.{State, step}
+use Rattle.machine_seen.specs.tile.specs.Tile.{Design}
+use Rattle.machine_seen.specs.core_laws.specs.Core.{State, step}
 use Rattle.wakefulness.specs.Waking.{is_woken}
 use Rattle.wakefulness.specs.Sleep.{attempts_at, has_moved}
 

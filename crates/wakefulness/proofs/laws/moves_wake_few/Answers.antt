@@ -1,4 +1,4 @@
-use Rattle.machine_laws.specs.core_laws.specs.Core.{design_of, after}
+use Rattle.machine_seen.specs.core_laws.specs.Core.{design_of, after}
 use Rattle.wakefulness.proofs.Wakes.{ready_after, disturbed_wake, others_sleep, services_wake}
 use Rattle.wakefulness.proofs.laws.moves_wake_few.Goals as goal
 

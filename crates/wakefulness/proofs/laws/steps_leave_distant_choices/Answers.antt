@@ -1,4 +1,4 @@
-use Rattle.machine_laws.specs.core_laws.specs.Core.{design_of, after}
+use Rattle.machine_seen.specs.core_laws.specs.Core.{design_of, after}
 use Rattle.wakefulness.proofs.Wakes.{ready_after, distant}
 use Rattle.wakefulness.proofs.laws.steps_leave_distant_choices.Goals as goal
 

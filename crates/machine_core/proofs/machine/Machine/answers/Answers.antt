@@ -1,5 +1,5 @@
 use Rattle.std.proofs.Common.{Some, None, sym, ◌∙◌, ap, arith}
-use Rattle.machine_core.proofs.Moving.{vec_at}
+use Rattle.machine_core.proofs.Fields.{vec_at}
 use Rattle.machine_core.proofs.Views.{answers_there, vec_past}
 use Rattle.machine_core.proofs.machine.Machine.answers.Goals as goal
 

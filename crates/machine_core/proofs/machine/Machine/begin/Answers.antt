@@ -1,18 +1,18 @@
-use Rattle.std.proofs.Common.{◌≡◌, ◌≤◌, List, length, slice_index, ◌∙◌, ap, arith}
+use Rattle.std.proofs.Common.{◌≡◌, ◌≤◌, ℕ, true, replicate, List, length, slice_index, ◌∙◌, ap, arith}
 use Rattle.std.proofs.Math.Nat.{mul-le-mul}
 use Rattle.torus.specs.Shape.{tiles_of}
 use Rattle.script.specs.declared.lists.LineList.{LineList}
 use Rattle.script.specs.declared.line.Line.{Line}
 use Rattle.script.specs.Scripts.{operation_count, script_of, total_count}
 use Rattle.script.specs.ScriptViews.{lists_of}
-use Rattle.machine_seen.specs.flights.proofs.LoadingAccepted.{followable}
-use Rattle.machine_seen.specs.core_laws.specs.Core.{Load}
+use Rattle.wake_flags.specs.flights.proofs.LoadingAccepted.{followable}
+use Rattle.wake_flags.specs.core_laws.specs.Core.{Load}
 use Rattle.machine_core.proofs.Begins.{Begun, is_machine, is_after_none, has_room, home_small, homes_as, tiles_as, row_as, book_as, part_small}
 use Rattle.machine_core.proofs.machine.Machine.begin.Given.{Over}
 use Rattle.machine_core.proofs.machine.Machine.begin.Goals as goal
 
 begun : (g : Over) (c : goal.After-most_moves-left g) → Begun
-    (record { torus = c.args.torus; depth = c.args.depth; tags = c.args.tags; opening = c.args.opening; tiles = c.in_ok-tiles.tiles; row = c.in_ok-row.row; book = c.in_ok-book.book; left = c.most_moves-left.result })
+    (record { torus = c.args.torus; depth = c.args.depth; tags = c.args.tags; opening = c.args.opening; tiles = c.in_ok-tiles.tiles; row = c.in_ok-row.row; book = c.in_ok-book.book; left = c.most_moves-left.result; awake = c.in_ok-awake.awake })
     (lists_of c.args.lists.items)
 begun g c =
     let l : Load = record { shape = c.args.torus; depth = c.args.depth; tags = c.args.tags; opening = c.args.opening.items; scripts = lists_of c.args.lists.items } in
@@ -41,6 +41,8 @@ begun g c =
       left =
           let all : c.all_room-rows.result ≡ total_count (lists_of c.args.lists.items) = c.all_room-rows.ensures ∙ ap total_count lists_3 in
           omega (arith, c.most_moves-left.ensures, all, c.tiles-2.ensures.value);
+      awake = c.in_ok-awake.ensures
+          ∙ ap (λ (n : ℕ). record { design = record { shape = c.args.torus; depth = c.args.depth; words = n }; flags = replicate 192 true }) words;
     }
 
 pub most_moves-left-requires : goal.most_moves-left-requires
@@ -78,3 +80,9 @@ invariant_of-result g c = is_machine _ (lists_of c.args.lists.items) c.requires 
 
 pub returns : goal.returns
 returns g c = is_after_none _ (lists_of c.args.lists.items) c.requires (begun g c)
+
+pub new-requires-2-clause-words : goal.new-requires-2-clause-words
+new-requires-2-clause-words g c =
+    let counted = c.args.opening.ok.0 in
+    let few = c.requires.size.1 in
+    omega (arith, c.len-words.ensures, counted, few)

@@ -1,6 +1,6 @@
-use Rattle.std.proofs.Common.{◌≡◌, ◌/◌, Some, sym, ◌∙◌, ap, arith, slice_get}
-use Rattle.tile_agents.specs.Placed.{PlacedTile}
-use Rattle.machine_core.proofs.Moving.{vec_at, word_in}
+use Rattle.std.proofs.Common.{◌/◌, ◌∙◌, arith}
+use Rattle.machine_core.proofs.Fields.{vec_at}
+use Rattle.machine_core.proofs.Moving.{word_in}
 use Rattle.machine_core.proofs.AskedSteps.{past_asked, tile_asked}
 use Rattle.machine_core.proofs.machine.Machine.enabled.Goals as goal
 

@@ -1,9 +1,8 @@
-use Rattle.std.proofs.Common.{◌≡◌, ◌+◌, ◌*◌, ◌<◌, ◌≤◌, ℕ, true, false, Option, Some, None, refl, sym, ◌∙◌, ap, subst, arith}
+use Rattle.std.proofs.Common.{◌≡◌, ◌+◌, ◌*◌, ◌<◌, ◌≤◌, None, refl, sym, ◌∙◌, ap, subst, arith}
 use Rattle.std.specs.Prelude.{is_some}
 use Rattle.torus.specs.Shape.{Shape, dims_of, tiles_of}
-use Rattle.torus.specs.declared.step.Step.{Step}
-use Rattle.machine_seen.specs.core_progress.specs.Moves.{enabled_step}
-use Rattle.machine_seen.specs.machine_laws.specs.Core.{Core, IsAfter, built_to}
+use Rattle.wake_flags.specs.core_progress.specs.Moves.{enabled_step}
+use Rattle.wake_flags.specs.machine_laws.specs.Core.{Core, IsAfter, built_to}
 use Rattle.machine_core.specs.Rounds.{first_in}
 use Rattle.machine_core.proofs.Rounds.{all_parts}
 use Rattle.machine_core.proofs.FirstEnabled.{picks, passes, tile_next, tile_past, tile_start}

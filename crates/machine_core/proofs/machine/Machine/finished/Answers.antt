@@ -1,14 +1,14 @@
 use Rattle.std.proofs.Common.{rules, ◌≡◌, ◌↔◌, Bool, true, length, sym, ◌∙◌, ap, subst}
 use Rattle.std.proofs.lemmas.Iterator.{YieldsList-from_slice}
 use Rattle.std.proofs.lemmas.Iterator.Search.{all_from_yields_List}
-use Rattle.machine_seen.specs.net_interface.specs.Following.{is_finished}
-use Rattle.machine_seen.specs.flights.specs.Scripts.{AreFinished}
+use Rattle.wake_flags.specs.net_interface.specs.Following.{is_finished}
+use Rattle.wake_flags.specs.flights.specs.Scripts.{AreFinished}
 use Rattle.tile_agents.specs.Placed.{PlacedTile}
-use Rattle.machine_seen.specs.core_laws.specs.Core.{run_of}
-use Rattle.machine_seen.specs.core_progress.specs.Moves.{IsLive}
-use Rattle.machine_seen.specs.machine_laws.specs.Core.{Core, built_to, all_finished}
-use Rattle.machine_seen.specs.machine_laws.proofs.Machines.{finished_of_machine}
-use Rattle.machine_seen.specs.machine_laws.proofs.Moves.{lives}
+use Rattle.wake_flags.specs.core_laws.specs.Core.{run_of}
+use Rattle.wake_flags.specs.core_progress.specs.Moves.{IsLive}
+use Rattle.wake_flags.specs.machine_laws.specs.Core.{Core, built_to, all_finished}
+use Rattle.wake_flags.specs.machine_laws.proofs.Machines.{finished_of_machine}
+use Rattle.wake_flags.specs.machine_laws.proofs.Moves.{lives}
 use Rattle.machine_core.specs.Inside.{core_of}
 use Rattle.machine_core.proofs.Views.{finished_tiles}
 use Rattle.machine_core.proofs.machine.Machine.finished.Goals as goal

@@ -1,6 +1,7 @@
 use Rattle.std.proofs.Common.{◌/◌, ◌+◌, ◌*◌, arith}
 use Rattle.machine_core.specs.Inside.{core_of}
-use Rattle.machine_core.proofs.Moving.{follows, stays, none_past}
+use Rattle.machine_core.proofs.Fields.{follows, stays}
+use Rattle.machine_core.proofs.Standing.{none_past}
 use Rattle.machine_core.proofs.Agents.{as_attempt}
 use Rattle.machine_core.proofs.machine.Machine.step.Goals as goal
 

@@ -1,0 +1,3 @@
+mod Places
+mod SetFlags
+pub mod KeptSleepers

@@ -1,0 +1,13 @@
+pub use Rattle.wakefulness
+pub use Rattle.wakefulness.specs.core_laws
+pub use Rattle.wakefulness.specs.core_progress
+pub use Rattle.wakefulness.specs.core_row
+pub use Rattle.wakefulness.specs.flights
+pub use Rattle.wakefulness.specs.machine_laws
+pub use Rattle.wakefulness.specs.machine_seen
+pub use Rattle.wakefulness.specs.net_interface
+pub use Rattle.wakefulness.specs.tile
+pub use Rattle.wakefulness.specs.tile_agents
+pub mod Ends
+pub mod Awake
+pub mod Inside
