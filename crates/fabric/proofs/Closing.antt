@@ -1,5 +1,5 @@
 -- The end: what a seat that has every tile leaves when it is closed, and what is read there.
-use Rattle.std.proofs.Common.{◌≡◌, ℕ, zero, suc, ◌+◌, ◌*◌, ◌<◌, ◌≤◌, List, [], ◌∷◌, length, get_or, get_or-take, Option, Some, None, refl, sym, ap, ◌∙◌, subst, arith, vec_len}
+use Rattle.std.proofs.Common.{◌≡◌, ℕ, zero, suc, ◌+◌, ◌*◌, ◌<◌, ◌≤◌, List, [], ◌∷◌, length, get_or, get_or-take, Option, Some, None, refl, sym, ap, ◌∙◌, subst, arith, vec_len, inl}
 use Rattle.std.specs.Prelude.{Vec, slice_get}
 use Rattle.std.proofs.Math.Seq.{take-length}
 use Rattle.std.proofs.lemmas.Option.{same_Some, slice_get_past, slice_get_within, slice_get-get_or}
@@ -18,16 +18,25 @@ use Rattle.fabric_laws.specs.machine_laws.proofs.Lawful.{lawful}
 use Rattle.fabric_laws.specs.Known.{Shows, word_after, row_length}
 use Rattle.fabric_laws.specs.View.{View}
 use Rattle.fabric_laws.specs.Groups.{In, with_groups, note}
+use Rattle.fabric_laws.proofs.Ending as ending
 use Rattle.fabric_laws.proofs.Runs.{word_shown}
 use Rattle.fabric.specs.Table.{Holds}
 use Rattle.fabric.specs.Seats.{Knowing, seat_knows, Seated, IsWhole, StandsAt}
-use Rattle.fabric.specs.Ending.{Ended, ended, shown_after, HasAll, IsEnd}
+use Rattle.fabric.specs.Ending.{Ended, ended, IsLongest, shown_after, HasAll, IsEnd}
 use Rattle.fabric.proofs.Seating.{in_group}
 use Rattle.fabric.proofs.Sharing.{ends}
 use Rattle.fabric.proofs.EndsShown.{closed_tiles, slot_at}
 
 abbrev S : Type 0
 S = Seat (Unit {0}) View
+
+-- no seat's run exceeds that of a seat that has every tile
+pub longest : (k : Knowing) → IsWhole k → IsLongest k
+longest k whole words views r id other v u kept at same tiles there =
+    let all : (t : ℕ) → t < tiles_of k.load.shape → In v.groups t = λ t lt. subst (λ (gs : List (List ℕ)). In gs t) (sym tiles) (inl (whole t lt)) in
+    let fit = kept.fits other u there in
+    let begins = fit.begins in
+    (begins.0, sym same ∙ (ending.ends k.load words views r id v kept at all ∙ begins.1))
 
 -- the row at the end, shown by the table's last state, where the seat has every tile
 whole_row : (load : Load) (slots : List (Option PlacedTile)) (s n : S) (st : State (Unit {0}) View) → Seated slots s → s.me.0.load ≡ load → n.me.0 ≡ with_groups s.me.0 s.me.0.groups → IsWhole (seat_knows s)

@@ -10,7 +10,6 @@ use Rattle.atomic_table.specs.declared.shared.Seat.{Seat}
 use Rattle.torus.specs.Shape.{tiles_of}
 use Rattle.torus.specs.declared.step.Step.{Step}
 use Rattle.channel_number.specs.Order.{channel_count}
-use Rattle.fabric_laws.specs.tile.specs.Agents.{TilePlace}
 use Rattle.tile_agents.specs.Placed.{PlacedTile}
 use Rattle.fabric_laws.specs.core_laws.specs.Core.{Load, design_of, after}
 use Rattle.fabric_laws.specs.core_laws.specs.Runs.{IsAccepted}
@@ -20,7 +19,7 @@ use Rattle.fabric_laws.specs.machine_seen.specs.Seen.{IsShown}
 use Rattle.machine_core.specs.Inside.{HaveRoom}
 use Rattle.fabric_laws.specs.Known.{Shows, known, row_length}
 use Rattle.fabric_laws.specs.View.{View}
-use Rattle.fabric_laws.specs.Groups.{Owns, first_group, first_half, with_groups}
+use Rattle.fabric_laws.specs.Groups.{first_group, first_half, with_groups}
 use Rattle.fabric_laws.proofs.Runs.{row_size}
 use Rattle.fabric.specs.Key.{Opening, first_view, count_up, ranges, Rises}
 use Rattle.fabric.specs.Table.{Holds}

@@ -1,10 +1,10 @@
 -- Each operation on the table keeps the rule.
-use Rattle.std.proofs.Common.{◌≡◌, ℕ, ◌+◌, ◌%◌, ◌^◌, Bool, true, false, List, [], ◌∷◌, ◌++◌, set, Some, refl, sym, ap, ◌∙◌, subst}
+use Rattle.std.proofs.Common.{◌≡◌, ℕ, ◌+◌, ◌%◌, ◌^◌, Bool, true, false, List, [], ◌++◌, set, Some, refl, sym, ap, ◌∙◌, subst}
 use Rattle.std.specs.Prelude.{slice_index, if◌then◌else◌, ◌==◌, bit_and, bit_or, bit_xor, max, min}
 use Rattle.std.proofs.lemmas.List.{append-nil, set-get_or}
 use mathlib.Core.Option.{none}
 use prog.Atomic.{either}
-use Rattle.atomic_table.specs.Table.{State, Me, Step as TableStep, step, keeps, Allows}
+use Rattle.atomic_table.specs.Table.{Me, Step as TableStep, step, keeps, Allows}
 use Rattle.torus.specs.declared.step.Step.{Step}
 use Rattle.packet.specs.Memory.{new_word}
 use Rattle.flit_buffer.specs.Words.{word_of, effect_of}

@@ -1,7 +1,8 @@
 -- What follows what in the order of a run that goes on from a known one.
-use Rattle.std.proofs.Common.{◌≡◌, ◌⊎◌, ⊎_elim, ℕ, ◌<◌, ◌≤◌, List, ◌++◌, length, Some, sym, ap, ◌∙◌, subst, arith, slice_get, length-append}
+use Rattle.std.proofs.Common.{◌≡◌, ◌⊎◌, inl, inr, ⊎_elim, ℕ, ◌<◌, ◌≤◌, List, ◌++◌, length, Some, sym, ap, ◌∙◌, subst, arith, slice_get, length-append}
 use Rattle.std.proofs.Math.Seq.{take-append_seam, take-length}
 use Rattle.std.proofs.lemmas.Bool.{cases_lt}
+use Rattle.atomic_table.specs.declared.shared.Seat.{Seat}
 use Rattle.torus.specs.declared.step.Step.{Step}
 use Rattle.runs.specs.declared.answer.Answer.{Answer}
 use Rattle.runs.specs.Observed.{Observed, Run, list_at, HasIssued, HasAnswered, IsAnsweredAt}
@@ -13,9 +14,10 @@ use Rattle.fabric_laws.specs.core_laws.specs.Core.{Load, after, show, run_of}
 use Rattle.fabric_laws.specs.core_laws.specs.Runs.{IsAccepted}
 use Rattle.fabric_laws.specs.machine_laws.proofs.Lawful.{lawful}
 use Rattle.fabric_laws.specs.Groups.{Begins}
-use Rattle.fabric.specs.Seats.{Knowing, Learns, JoinsTo}
+use Rattle.fabric_laws.specs.View.{View}
+use Rattle.fabric.specs.Seats.{Knowing, seat_knows, Learns, JoinsTo}
 use Rattle.fabric.specs.Ending.{shown_after}
-use Rattle.fabric.specs.Lawful.{HasLawfulRun, IsAnsweredIn, KeepsAnswersFirst}
+use Rattle.fabric.specs.Lawful.{HasLawfulRun, IsAnsweredIn, KeepsAnswersFirst, KeepsBothFirst}
 
 pub every_run : (load : Load) (run : List Step) → IsAccepted load → HasLawfulRun load run
 every_run load run ok = record { accepted = ok; lawful = lawful load ok run }
@@ -83,3 +85,25 @@ met v u w p i ok same learns = told_both v u w p i ok same (ap (λ (k : Knowing)
 
 pub joined : (v u w : Knowing) (p i : ℕ) → IsAccepted v.load → u.load ≡ v.load → JoinsTo v u w → IsAnsweredIn v.load v.run p i ⊎ IsAnsweredIn u.load u.run p i → IsAnsweredIn w.load w.run p i
 joined v u w p i ok same joins = told_both v u w p i ok same joins.1 (joins.3.0, joins.3.1) (joins.4.0, joins.4.1)
+
+-- so the run that a seat knows is lawful, and the one that is known after a view changed
+pub knows_lawful : (s : Seat (Unit {0}) View) (v : Knowing) → seat_knows s ≡ v → IsAccepted s.me.0.load → HasLawfulRun v.load v.run
+knows_lawful s v is ok = subst (λ (k : Knowing). HasLawfulRun k.load k.run) is (every_run s.me.0.load s.me.0.run ok)
+
+pub lawful_view : (v w : View) → IsAccepted v.load → w.load ≡ v.load → HasLawfulRun w.load w.run
+lawful_view v w ok same = every_run w.load w.run (subst IsAccepted (sym same) ok)
+
+-- what isn't issued in the run that is known after a meeting, or by a seat that took another in, stands behind all that
+-- either knew as answered
+pub met_first : (v u w : Knowing) → IsAccepted v.load → u.load ≡ v.load → Learns v u w → KeepsBothFirst v u w
+met_first v u w ok same learns later order begins legal k p i y there new either =
+    known_first w.load w.run (subst IsAccepted (ap (λ (x : Knowing). x.load) (sym learns.0)) ok) later order begins legal k p i y there new (met v u w p i ok same learns either)
+
+pub joined_first : (v u w : Knowing) → IsAccepted v.load → u.load ≡ v.load → JoinsTo v u w → KeepsBothFirst v u w
+joined_first v u w ok same joins later order begins legal k p i y there new either =
+    known_first w.load w.run (subst IsAccepted (sym joins.1) ok) later order begins legal k p i y there new (joined v u w p i ok same joins either)
+
+-- and for the other of two seats that met
+pub swap_first : (v u w : Knowing) → KeepsBothFirst u v w → KeepsBothFirst v u w
+swap_first v u w first later order begins legal k p i y there new either =
+    first later order begins legal k p i y there new (⊎_elim (λ h. inr h) (λ h. inl h) either)

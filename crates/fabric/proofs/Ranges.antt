@@ -1,5 +1,6 @@
 -- The ranges into which cuts part the tiles.
-use Rattle.std.proofs.Common.{◌≡◌, ◌⊎◌, inl, inr, ℕ, zero, suc, ◌+◌, ◌-◌, ◌<◌, ◌≤◌, List, [], ◌∷◌, refl, ap, ◌∙◌, subst, arith}
+use Rattle.std.proofs.Common.{◌≡◌, ⊎_elim, inl, inr, ℕ, zero, suc, ◌+◌, ◌-◌, ◌<◌, ◌≤◌, List, [], ◌∷◌, ap, ◌∙◌, subst, arith}
+use Rattle.std.proofs.lemmas.Bool.{cases_lt}
 use mathlib.Core.Logic.{dite}
 use native.Mathlib.Decide.{ℕ_discrete}
 use Rattle.fabric_laws.specs.Groups.{Owns, In, Apart, first_group}
@@ -30,6 +31,19 @@ ranges_apart a (c ∷ cs) n r = (
   (λ t o i. let p = owns_count a (c - a) t o in let q = ranges_from c cs n t r.1 i in let h = r.0 in let x = p.1 in absurd (omega arith)),
   ranges_apart c cs n r.1,
 )
+
+-- each tile below n is in a range, and no other is
+pub in_ranges : (a : ℕ) (cs : List ℕ) (n t : ℕ) → Rises a cs n → a ≤ t → t < n → In (ranges a cs n) t
+in_ranges a [] n t r lo hi = inl (count_owns a (n - a) t lo (omega arith))
+in_ranges a (c ∷ cs) n t r lo hi =
+    ⊎_elim (λ (below : t < c). inl (count_owns a (c - a) t lo (omega arith))) (λ (past : c ≤ t). inr (in_ranges c cs n t r.1 past hi)) (cases_lt t c)
+
+pub range_within : (a : ℕ) (cs : List ℕ) (n t : ℕ) → Rises a cs n → In (ranges a cs n) t → t < n
+range_within a [] n t r (inl o) = let p = owns_count a (n - a) t o in let x = p.1 in omega (arith, x, r)
+range_within a [] n t r (inr i) = absurd i
+range_within a (c ∷ cs) n t r (inl o) =
+    let p = owns_count a (c - a) t o in let x = p.1 in let y = r.0 in let z = rises_below c cs n r.1 in omega (arith, x, y, z)
+range_within a (c ∷ cs) n t r (inr i) = range_within c cs n t r.1 i
 
 -- the next range
 pub range_here : (a c : ℕ) (rest cs : List ℕ) (n : ℕ) (groups : List (List ℕ)) → rest ≡ c ∷ cs → Rises a rest n → groups ≡ ranges a rest n

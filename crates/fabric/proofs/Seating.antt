@@ -1,7 +1,8 @@
 -- A seat after a step: its tiles stand as after the run that it knows.
-use Rattle.std.proofs.Common.{◌≡◌, ◌≢◌, ◌<◌, ⊎_elim, inl, ℕ, true, false, true≢false, List, [], ◌∷◌, ◌++◌, length, set, length-set, Option, Some, sym, ap, ◌∙◌, subst}
+use Rattle.std.proofs.Common.{◌≡◌, ◌≢◌, ⊎_elim, inl, ℕ, true, false, true≢false, List, [], ◌∷◌, ◌++◌, set, length-set, Option, Some, refl, sym, ap, ◌∙◌, subst}
 use Rattle.std.specs.Prelude.{slice_get, slice_index, ◌+◌, ◌*◌}
 use Rattle.channel_number.specs.Order.{channel_count}
+use Rattle.std.proofs.lemmas.List.{append-nil}
 use Rattle.std.proofs.lemmas.Option.{same_Some, slice_get_within}
 use Rattle.runs.proofs.Lists.{get_set_same, get_set_other}
 use mathlib.Core.Logic.{dite}
@@ -17,8 +18,8 @@ use Rattle.fabric_laws.specs.Groups.{Owns, In, Others, first_group, knowing}
 use Rattle.fabric_laws.specs.Rule.{Looked}
 use Rattle.fabric_laws.proofs.Groups.{away}
 use Rattle.fabric_laws.proofs.Runs.{known_away, word_shown}
-use Rattle.fabric.specs.Turns.{OnlyTile, has_choice}
-use Rattle.fabric.specs.Seats.{Knowing, seat_knows, StandsAt, Tied, Placed, Seated, Looking, Grows, IsNotMine}
+use Rattle.fabric.specs.Turns.{OnlyTile, Sees, has_choice}
+use Rattle.fabric.specs.Seats.{Knowing, seat_knows, with_run, StandsAt, Tied, Placed, Seated, Looking, Grows, IsNotMine}
 
 abbrev S : Type 0
 S = Seat (Unit {0}) View
@@ -80,9 +81,18 @@ seated_turn slots s z t x y k is table held here only =
     }
 
 -- the seat after a look
-module _ (i : ℕ) (s z : S) (n : ℕ) (l : Looked i s.me.0 n z.me.0) (table : z.table_id ≡ s.table_id) (held : z.me.1 ≡ s.me.1) where
+pub saw : (i : ℕ) (s z : S) (n : ℕ) → Looked i s.me.0 n z.me.0 → z.table_id ≡ s.table_id → z.me.1 ≡ s.me.1 → Sees s z
+saw i s z n l table held = record { between = l.between; others = l.others; table = table; held = held; view = l.view }
+
+pub saw_nothing : (s : S) → Sees s s
+saw_nothing s = record { between = []; others = tt; table = refl; held = refl; view = ap (knowing s.me.0) (sym (append-nil s.me.0.run)) }
+
+module _ (s z : S) (l : Sees s z) where
   same_view : z.me.0 ≡ knowing s.me.0 z.me.0.run
   same_view = l.view ∙ ap (λ (u : View). knowing s.me.0 u.run) (sym l.view)
+
+  placed_look : Placed s → Placed z
+  placed_look = placed_after s z l.table l.held same_view
 
   pub seated_look : (slots : List (Option PlacedTile)) → Seated slots s → Seated slots z
   seated_look slots k =
@@ -91,23 +101,27 @@ module _ (i : ℕ) (s z : S) (n : ℕ) (l : Looked i s.me.0 n z.me.0) (table : z
       let start = tied_grow slots s.me.0.load s.me.0.run (s.me.0.run ++ l.between) (first_group s.me.0.groups) k.tied
       (λ u o. known_away s.me.0.load p.accepted s.me.0.run l.between u (away s.me.0.groups u l.between (in_group s.me.0.groups u k.one_group o) l.others)) in
       record {
-        placed = placed_after s z table held same_view k.placed;
+        placed = placed_look k.placed;
         one_group = g ∙ k.one_group ∙ ap (λ (h : List (List ℕ)). first_group h ∷ []) (sym g);
         tied = subst (λ (v : View). Tied slots v.load v.run (first_group v.groups)) (sym l.view) start;
       }
 
   pub looking_look : Looking s → Looking z
-  looking_look k = record { placed = placed_after s z table held same_view k.placed; none_owned = groups_after s z same_view ∙ k.none_owned }
+  looking_look k = record { placed = placed_look k.placed; none_owned = groups_after s z same_view ∙ k.none_owned }
 
-  pub seated_grows : (slots : List (Option PlacedTile)) → Seated slots s → Grows (seat_knows s) (seat_knows z)
-  seated_grows slots k = (l.between, subst (λ (h : List (List ℕ)). Others h l.between) k.one_group l.others, λ j. record { table = table j; load = (l.view j).load; run = (l.view j).run; tiles = first_group (l.view j).groups })
+  knows_look : seat_knows z ≡ with_run (seat_knows s) (s.me.0.run ++ l.between)
+  knows_look = λ j. record { table = l.table j; load = (l.view j).load; run = (l.view j).run; tiles = first_group (l.view j).groups }
+
+  pub seated_grows : (v : Knowing) (slots : List (Option PlacedTile)) → seat_knows s ≡ v → Seated slots s → Grows v (seat_knows z)
+  seated_grows v slots is k = subst (λ (u : Knowing). Grows u (seat_knows z)) is (l.between, subst (λ (h : List (List ℕ)). Others h l.between) k.one_group l.others, knows_look)
 
   no_group : (more : List Step) → Others ([] ∷ []) more
   no_group [] = tt
   no_group (c ∷ more) = ((λ o. ⊎_elim (λ (a : ⊥). a) (λ (a : ⊥). a) o), no_group more)
 
-  pub looking_grows : Looking s → Grows (seat_knows s) (seat_knows z)
-  looking_grows k = (l.between, subst (λ (h : List ℕ). Others (h ∷ []) l.between) (ap first_group (sym k.none_owned)) (no_group l.between), λ j. record { table = table j; load = (l.view j).load; run = (l.view j).run; tiles = first_group (l.view j).groups })
+  pub looking_grows : (v : Knowing) → seat_knows s ≡ v → Looking s → Grows v (seat_knows z)
+  looking_grows v is k = subst (λ (u : Knowing). Grows u (seat_knows z)) is
+      (l.between, subst (λ (h : List ℕ). Others (h ∷ []) l.between) (ap first_group (sym k.none_owned)) (no_group l.between), knows_look)
 
 -- the step is the seat's
 pub not_not_mine : (k : Knowing) (c : Step) → Owns k.tiles (tile_of c) → has_choice k.load.shape c ≡ true → IsNotMine k c → ⊥

@@ -1,6 +1,5 @@
 -- A seat whose processors have seen the end knows a run in which every script is finished.
 use Rattle.std.proofs.Common.{◌≡◌, ℕ, ◌<◌, ◌≤◌, true, List, length, Option, Some, subst, arith}
-use Rattle.std.specs.Prelude.{slice_get}
 use Rattle.std.proofs.lemmas.Option.{slice_get_within}
 use Rattle.atomic_table.specs.declared.shared.Seat.{Seat}
 use Rattle.fabric_laws.specs.tile.specs.Agents.{TilePlace}

@@ -11,7 +11,7 @@ use Rattle.torus.specs.declared.step.Step.{Step}
 use Rattle.fabric_laws.specs.core_laws.specs.Core.{Load}
 use Rattle.fabric_laws.specs.Known.{Shows}
 use Rattle.fabric_laws.specs.View.{View, blank}
-use Rattle.fabric_laws.specs.Groups.{Owns, In, Apart, Told, GoesOn, flat, with_groups, first_half, second_half, first_group, other_groups, note, both, knowing}
+use Rattle.fabric_laws.specs.Groups.{In, Apart, Told, GoesOn, flat, with_groups, first_half, second_half, first_group, other_groups, note, both, knowing}
 use Rattle.fabric_laws.specs.Rule.{Learned}
 use Rattle.fabric_laws.proofs.Groups.{in_flat, in_one, nothing, first_in, others_in, halves_apart, others_apart}
 use Rattle.fabric_laws.proofs.Growing.{kept_grow}

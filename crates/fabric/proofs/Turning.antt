@@ -1,7 +1,7 @@
 -- From what an operation told to what a turn says.
 use Rattle.std.proofs.Common.{◌≡◌, ◌≢◌, ℕ, ◌%◌, append_assoc, ◌<◌, Bool, true, false, List, [], ◌∷◌, ◌++◌, Option, Some, None, refl, sym, ap, ◌∙◌, subst}
 use Rattle.std.proofs.lemmas.List.{append-nil}
-use Rattle.std.specs.Prelude.{if◌then◌else◌, IsSome, MatchBool, MatchOption, is_some, option_and_then, unwrap_or}
+use Rattle.std.specs.Prelude.{IsSome, MatchBool, MatchOption, is_some, option_and_then, unwrap_or}
 use Rattle.torus.specs.Shape.{tiles_of}
 use Rattle.torus.specs.declared.step.Step.{Step}
 use Rattle.torus.specs.declared.step.Stepped.{Stepped}
@@ -16,7 +16,7 @@ use Rattle.fabric_laws.specs.core_laws.specs.Runs.{IsAccepted}
 use Rattle.fabric_laws.specs.Known.{tile_of, known, op_of, moves, left_by, Suits, row_length}
 use Rattle.fabric_laws.specs.Told.{Away, grown}
 use Rattle.fabric_laws.specs.View.{View}
-use Rattle.fabric_laws.specs.Groups.{In, knowing, Begins, Others}
+use Rattle.fabric_laws.specs.Groups.{knowing, Begins, Others}
 use Rattle.fabric_laws.specs.Rule.{Attempted}
 use Rattle.fabric_laws.proofs.Groups.{away}
 use Rattle.fabric_laws.proofs.Runs.{known_away, tells, row_size, shown_row, row_shows}

@@ -1,5 +1,7 @@
 -- What a run shows at its end, and what callers see of it.
-use Rattle.std.specs.Prelude.{◌≡◌, ℕ, ◌*◌, ◌<◌, List, length, Option, Some, None, Bool, true, slice_get}
+use Rattle.std.specs.Prelude.{◌≡◌, ℕ, ◌*◌, ◌<◌, List, [], ◌∷◌, length, Option, Some, None, Bool, true, slice_get}
+use mathlib.Core.Option.{some}
+use lib.ListN.{get_elem?}
 use Rattle.torus.specs.Shape.{Shape, tiles_of}
 use Rattle.torus.specs.declared.step.Step.{Step}
 use Rattle.channel_number.specs.Order.{channel_count}
@@ -10,7 +12,9 @@ use Rattle.fabric_laws.specs.core_laws.specs.Core.{Load, after, show}
 use Rattle.fabric_laws.specs.core_laws.specs.Runs.{IsAccepted}
 use Rattle.fabric_laws.specs.Known.{Shows}
 use Rattle.fabric_laws.specs.View.{View}
-use Rattle.fabric.specs.Seats.{StandsAt}
+use Rattle.fabric_laws.specs.Groups.{Begins}
+use Rattle.fabric_laws.specs.Rule.{Kept}
+use Rattle.fabric.specs.Seats.{Knowing, StandsAt}
 
 -- what was loaded, and the run that has ended (this project's own format)
 pub record Ended : Type 0 where
@@ -20,6 +24,14 @@ pub record Ended : Type 0 where
 -- of a view, what was loaded and the run
 abbrev pub ended : View → Ended
 ended v = record { load = v.load; run = v.run }
+
+-- No seat's run exceeds the one that k knows: wherever the rule of the row is kept, and the view of k is among the views
+-- of all seats, every seat's run is a beginning of it. That the rule is kept between any two operations on the row is
+-- what its table has proved.
+abbrev pub IsLongest : Knowing → Type 0
+IsLongest k = (words : List ℕ) (views : List View) (r : List Step) (id other : ℕ) (v u : View) → Kept k.load words views r
+    → get_elem? views id ≡ some v → v.run ≡ k.run → v.groups ≡ k.tiles ∷ [] → get_elem? views other ≡ some u
+    → Begins k.run u.run
 
 -- what is shown after a run: operations issued, answers, entries of the banks, and the words by address
 abbrev pub shown_after : Load → List Step → Observed

@@ -1,5 +1,5 @@
 -- The headline, of the run that a seat knows, or that is behind the end.
-use Rattle.std.specs.Prelude.{◌≡◌, ℕ, List, length, Some, slice_get}
+use Rattle.std.specs.Prelude.{◌≡◌, ◌⊎◌, ℕ, List, length, Some, slice_get}
 use Rattle.torus.specs.declared.step.Step.{Step}
 use Rattle.runs.specs.Observed.{HasIssued, HasAnswered}
 use Rattle.runs.specs.Order.{LinearizationPoint, IsLegalOrder, StandsBefore}
@@ -7,6 +7,7 @@ use Rattle.fabric_laws.specs.core_laws.specs.Core.{Load, run_of}
 use Rattle.fabric_laws.specs.core_laws.specs.Runs.{IsAccepted}
 use Rattle.fabric_laws.specs.machine_laws.specs.Core.{IsLawful, book_after}
 use Rattle.fabric_laws.specs.Groups.{Begins}
+use Rattle.fabric.specs.Seats.{Knowing}
 use Rattle.fabric.specs.Ending.{shown_after}
 
 -- The load is accepted; and the operations of the run have one legal order, that of the services, in which the place of
@@ -30,3 +31,11 @@ KeepsAnswersFirst load run = (later : List Step) (order : List LinearizationPoin
     → IsLegalOrder load.opening (run_of load later) (length later) order
     → (k p i : ℕ) (y : LinearizationPoint) → slice_get order k ≡ Some y
     → (IsIssuedIn load run y.source y.index → ⊥) → IsAnsweredIn load run p i → StandsBefore order k p i
+
+-- In any legal order of any run that goes on from the one that w knows, what isn't issued in that one stands behind all
+-- that v or u knew as answered (Herlihy and Wing: the order of a history's non-overlapping operations).
+abbrev pub KeepsBothFirst : Knowing → Knowing → Knowing → Type 0
+KeepsBothFirst v u w = (later : List Step) (order : List LinearizationPoint) → Begins later w.run
+    → IsLegalOrder w.load.opening (run_of w.load later) (length later) order
+    → (k p i : ℕ) (y : LinearizationPoint) → slice_get order k ≡ Some y → (IsIssuedIn w.load w.run y.source y.index → ⊥)
+    → IsAnsweredIn v.load v.run p i ⊎ IsAnsweredIn u.load u.run p i → StandsBefore order k p i

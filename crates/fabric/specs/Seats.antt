@@ -1,5 +1,5 @@
 -- What callers see of a seat and of the fabric.
-use Rattle.std.specs.Prelude.{◌≡◌, ◌⊎◌, ℕ, ◌+◌, ◌<◌, true, false, List, [], ◌∷◌, ◌++◌, length, slice_get, Option, None, Some, MatchBool}
+use Rattle.std.specs.Prelude.{◌≡◌, ◌⊎◌, ℕ, ◌<◌, true, false, List, [], ◌∷◌, ◌++◌, length, slice_get, Option, None, Some, MatchBool}
 use Rattle.atomic_table.specs.Seated.{TableId}
 use Rattle.atomic_table.specs.declared.shared.Seat.{Seat}
 use Rattle.torus.specs.Shape.{tiles_of}
@@ -58,7 +58,8 @@ pub record Looking (s : Seat (Unit {0}) View) : Type 0 where
 
 -- after steps of others the step was made, enabled there
 abbrev pub Moves : Knowing → Step → Knowing → Type 0
-Moves v c w = (between : List Step) × Others (v.tiles ∷ []) between × (enabled v.load (v.run ++ between) c ≡ true) × (w ≡ with_run v ((v.run ++ between) ++ c ∷ []))
+Moves v c w = (between : List Step) × Others (v.tiles ∷ []) between × (enabled v.load (v.run ++ between) c ≡ true)
+    × (w ≡ with_run v ((v.run ++ between) ++ c ∷ []))
 
 -- steps of others were seen
 abbrev pub Grows : Knowing → Knowing → Type 0
@@ -87,7 +88,8 @@ Learns v u w = (w ≡ with_run v w.run) × GoesOn (v.tiles ∷ []) w.run v.run �
 
 -- both in one: the tiles of both, and a run that goes on from both
 abbrev pub JoinsTo : Knowing → Knowing → Knowing → Type 0
-JoinsTo v u w = (w.table ≡ v.table) × (w.load ≡ v.load) × (w.tiles ≡ v.tiles ++ u.tiles) × GoesOn (v.tiles ∷ []) w.run v.run × GoesOn (u.tiles ∷ []) w.run u.run
+JoinsTo v u w = (w.table ≡ v.table) × (w.load ≡ v.load) × (w.tiles ≡ v.tiles ++ u.tiles)
+    × GoesOn (v.tiles ∷ []) w.run v.run × GoesOn (u.tiles ∷ []) w.run u.run
 
 -- every tile is the seat's
 abbrev pub IsWhole : Knowing → Type 0

@@ -6,6 +6,7 @@ ghost use Rattle.fabric_laws.specs.core_laws.specs.Runs.{IsAccepted};
 ghost use Rattle.fabric_laws.specs.Groups.{Owns};
 ghost use Rattle.fabric_laws.specs.Ended.{AreAllFinished};
 ghost use Rattle.fabric.specs.Asking.{HasSeen, IsNextTile};
+ghost use Rattle.fabric.specs.Lawful.{HasLawfulRun};
 
 use crate::seats::{Fabric, TileSeat};
 use std::alloc::Allocator;
@@ -20,9 +21,10 @@ impl<A: Allocator> Fabric<A> {
 }
 
 impl<A: Allocator> TileSeat<A> {
-    /// What was loaded was accepted.
+    /// What was loaded was accepted, and the run that the seat knows is lawful.
     pub fn accepted(&self)
-        ensures { IsAccepted self.now.load }
+        ensures accepted { IsAccepted self.now.load }
+        ensures lawful { HasLawfulRun self.now.load self.now.run }
     {
         let _ = &self.slots;
     }

@@ -8,7 +8,8 @@ ghost use Rattle.fabric_laws.specs.core_laws.specs.Runs.{IsAccepted};
 ghost use Rattle.fabric_laws.specs.machine_laws.specs.Core.{all_finished};
 ghost use Rattle.fabric_laws.specs.Groups.{Owns};
 ghost use Rattle.fabric.specs.Seats.{IsOf, IsWhole, StandsAt};
-ghost use Rattle.fabric.specs.Ending.{shown_after, slot_finished};
+ghost use Rattle.fabric.specs.Ending.{IsLongest, shown_after, slot_finished};
+ghost use Rattle.fabric.specs.Lawful.{HasLawfulRun};
 
 use crate::seats::{Fabric, TileSeat};
 use crate::steps::Note;
@@ -43,10 +44,10 @@ impl<A: Allocator> TileSeat<A> {
         if number >= self.slots.len() {
             return None;
         }
-        let Some(tile) = &self.slots[number] else {
+        let Some(own) = &self.slots[number] else {
             return None;
         };
-        Some(tile.answers())
+        Some(own.answers())
     }
 }
 
@@ -54,7 +55,9 @@ impl<A: Allocator> Fabric<A> {
     /// The end. The seat has every tile, so no other seat knows a longer run.
     pub fn close(self, seat: TileSeat<A>) -> Final<A>
         requires { IsOf self seat × IsWhole seat }
-        ensures { result ≡ record { load = seat.load; run = seat.run } }
+        ensures known { result ≡ record { load = seat.load; run = seat.run } }
+        ensures longest { IsLongest seat }
+        ensures lawful { HasLawfulRun result.load result.run }
     {
         let Fabric {
             table,
@@ -122,6 +125,15 @@ impl<A: Allocator> Drop for Final<A> {
 }
 
 impl<A: Allocator> Final<A> {
+    /// What was loaded was accepted, and the run behind the end is lawful: its operations have one
+    /// legal order, that of the services, and every processor has followed its script.
+    pub fn reached(&self)
+        ensures accepted { IsAccepted self.now.load }
+        ensures lawful { HasLawfulRun self.now.load self.now.run }
+    {
+        let _ = &self.slots;
+    }
+
     /// The torus that was loaded.
     pub fn torus(&self) -> &Torus
         ensures { result.now ≡ self.now.load.shape }

@@ -1,11 +1,20 @@
 //! The headline of what seats know, as laws, each the contract of a function that does nothing.
 
-ghost use Rattle.std.specs.Prelude.{◌≡◌, ◌⊎◌, ℕ, List};
+ghost use Rattle.std.specs.Prelude.{◌≡◌, ◌⊎◌, ◌<◌, ℕ, List};
 ghost use Rattle.torus.specs.declared.step.Step.{Step};
 ghost use Rattle.fabric_laws.specs.core_laws.specs.Core.{Load};
 ghost use Rattle.fabric_laws.specs.core_laws.specs.Runs.{IsAccepted};
+ghost use Rattle.fabric_laws.specs.Groups.{In, Apart};
+ghost use Rattle.fabric.specs.Key.{Rises, ranges};
 ghost use Rattle.fabric.specs.Seats.{Knowing, Learns, JoinsTo};
 ghost use Rattle.fabric.specs.Lawful.{HasLawfulRun, IsAnsweredIn, KeepsAnswersFirst};
+
+/// Of the ranges into which cuts part n tiles, each tile is in one, and in no other; and no other tile is.
+pub fn ranges_have_each_tile_once()
+    ensures every { (cuts : List ℕ) (n t : ℕ) → Rises 0 cuts n → t < n → In (ranges 0 cuts n) t }
+    ensures no_others { (cuts : List ℕ) (n t : ℕ) → Rises 0 cuts n → In (ranges 0 cuts n) t → t < n }
+    ensures once { (cuts : List ℕ) (n : ℕ) → Rises 0 cuts n → Apart (ranges 0 cuts n) }
+{}
 
 /// Every run of an accepted load is lawful: so is the run that a seat knows after any call, and the run
 /// behind a `Final`.

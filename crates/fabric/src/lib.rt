@@ -10,3 +10,8 @@ pub mod seats;
 pub mod steps;
 mod taking;
 pub mod view;
+
+pub use ending::Final;
+pub use machine_core::Machine;
+pub use seats::{Fabric, ProbeSeat, TileSeat};
+pub use steps::Turned;

@@ -2,10 +2,12 @@
 ghost use Rattle.std.specs.Prelude.{◌≡◌, ◌≤◌, ◌↔◌, ◌⊎◌, ℕ, IsNone, IfSome, length, slice_get};
 ghost use Rattle.fabric_laws.specs.Known.{word_after};
 ghost use Rattle.fabric_laws.specs.Groups.{Begins};
-ghost use Rattle.fabric.specs.Seats.{Moves, Idles, Grows, IsNotMine, IsOf, Learns, JoinsTo, mix_at, with_run};
+ghost use Rattle.fabric.specs.Turns.{Sees};
+ghost use Rattle.fabric.specs.Seats.{Moves, Idles, Grows, IsNotMine, IsOf, Learns, JoinsTo, Placed, mix_at, seat_knows, with_run};
+ghost use Rattle.fabric.specs.Lawful.{HasLawfulRun, KeepsBothFirst};
 ghost use Rattle.fabric.specs.declared.steps.Turned.TheVariants.{Moved, Idle, NotMine};
 
-use crate::steps::{Both, Halves, Learn, Look, Merge, Note, OneRun, Turned, turn_tile};
+use crate::steps::{Both, Halves, Look, Merge, Note, OneRun, Turned, take_in, turn_tile};
 use crate::view::{Dealing, Knowledge};
 use atomic_table::{Seat, Table};
 use std::alloc::{Allocator, Global};
@@ -39,7 +41,10 @@ impl<A: Allocator> Model for Fabric<A> {
 
     ghost view = { λ f. record { table = f.table.shared.table_id; load = f.table.shared.key.load } };
 
-    ghost invariant = { λ f. (f.base ≡ channel_count f.table.shared.key.load.shape * f.table.shared.key.load.depth) × (f.words ≡ length f.table.shared.key.load.opening) × (f.table.shared.table_id.words ≡ row_length f.table.shared.key.load) × (f.table.shared.table_id.slots ≡ 0) × (f.base + f.words < 2 ^ 32) × (f.ports ≡ port_count (dims_of f.table.shared.key.load.shape)) × (f.torus ≡ f.table.shared.key.load.shape) × (f.opening.items ≡ f.table.shared.key.load.opening) };
+    ghost invariant = { λ f. (f.base ≡ channel_count f.table.shared.key.load.shape * f.table.shared.key.load.depth)
+        × (f.words ≡ length f.table.shared.key.load.opening) × (f.table.shared.table_id.words ≡ row_length f.table.shared.key.load)
+        × (f.table.shared.table_id.slots ≡ 0) × (f.base + f.words < 2 ^ 32) × (f.ports ≡ port_count (dims_of f.table.shared.key.load.shape))
+        × (f.torus ≡ f.table.shared.key.load.shape) × (f.opening.items ≡ f.table.shared.key.load.opening) };
 }
 
 /// Some tiles, and what is known of the row. Contracts see what it knows.
@@ -86,6 +91,7 @@ impl<A: Allocator> Fabric<A> {
         ensures unchanged { result ≡ NotMine → seat.new ≡ seat.old }
         ensures same { seat.new ≡ with_run seat.old seat.new.run }
         ensures later { Begins seat.new.run seat.old.run }
+        ensures lawful { HasLawfulRun seat.new.load seat.new.run }
     {
         let number = (step.agent / 3) as usize;
         if number >= seat.slots.len() {
@@ -100,6 +106,20 @@ impl<A: Allocator> Fabric<A> {
         turn_tile(&self.table.shared, &mut seat.seat, tile, step)
     }
 
+    // The memory word at an address, after the run that the seat knows then.
+    fn look(&self, seat: &mut Seat<(), Knowledge>, address: usize) -> Option<u64>
+        requires own { IsOf self.now (seat_knows seat.old) }
+        requires placed { Placed seat.old }
+        ensures none { IsNone result ↔ (length self.now.load.opening ≤ address) }
+        ensures word { IfSome result (λ n. n ≡ word_after seat.new.me.0.load seat.new.me.0.run address) }
+        ensures sees { Sees seat.old seat.new }
+    {
+        if address >= self.words {
+            return None;
+        }
+        Some(self.table.shared.load::<Look>(seat, self.base + address))
+    }
+
     /// The memory word at an address, after the run that the seat knows then; None exactly where the
     /// address isn't below the number of words.
     pub fn probe(&self, seat: &mut ProbeSeat, address: usize) -> Option<u64>
@@ -108,14 +128,7 @@ impl<A: Allocator> Fabric<A> {
         ensures word { IfSome result (λ n. n ≡ word_after seat.new.load seat.new.run address) }
         ensures later { Grows seat.old seat.new }
     {
-        if address >= self.words {
-            return None;
-        }
-        Some(
-            self.table
-                .shared
-                .load::<Look>(&mut seat.seat, self.base + address),
-        )
+        self.look(&mut seat.seat, address)
     }
 
     /// The same, by a seat that has tiles.
@@ -124,24 +137,21 @@ impl<A: Allocator> Fabric<A> {
         ensures none { IsNone result ↔ (length self.now.load.opening ≤ address) }
         ensures word { IfSome result (λ n. n ≡ word_after seat.new.load seat.new.run address) }
         ensures later { Grows seat.old seat.new }
+        ensures lawful { HasLawfulRun seat.new.load seat.new.run }
     {
-        if address >= self.words {
-            return None;
-        }
-        Some(
-            self.table
-                .shared
-                .load::<Look>(&mut seat.seat, self.base + address),
-        )
+        self.look(&mut seat.seat, address)
     }
 }
 
 impl<A: Allocator> Fabric<A> {
-    /// Each of the seats comes to know what either knew.
+    /// Each of the seats comes to know what either knew. What either then issues stands, once served,
+    /// behind all that either knew as answered.
     pub fn meet(&self, one: TileSeat<A>, other: TileSeat<A>) -> (TileSeat<A>, TileSeat<A>)
         requires { IsOf self.now one × IsOf self.now other }
         ensures one { Learns one other result.0 }
         ensures other { Learns other one result.1 }
+        ensures lawful { HasLawfulRun result.0.load result.0.run × HasLawfulRun result.1.load result.1.run }
+        ensures answers_first { KeepsBothFirst one other result.0 × KeepsBothFirst one other result.1 }
     {
         let TileSeat { slots, mut seat } = one;
         let TileSeat {
@@ -149,8 +159,7 @@ impl<A: Allocator> Fabric<A> {
             seat: other_seat,
         } = other;
         let row = &self.table.shared;
-        row.join_seat::<Both>(&mut seat, other_seat);
-        row.load::<Learn>(&mut seat, self.base + self.words);
+        take_in(row, &mut seat, other_seat, self.base + self.words);
         let other_seat = row.split_seat::<Halves>(&mut seat);
         let one = TileSeat { slots, seat };
         let other = TileSeat {
@@ -173,8 +182,7 @@ impl<A: Allocator> Fabric<A> {
         } = other;
         let row = &self.table.shared;
         let told = row.split_seat::<Note>(&mut teller);
-        row.join_seat::<Both>(&mut seat, told);
-        row.load::<Learn>(&mut seat, self.base + self.words);
+        take_in(row, &mut seat, told, self.base + self.words);
         let probe = ProbeSeat { seat };
         let other = TileSeat {
             slots,
@@ -183,11 +191,13 @@ impl<A: Allocator> Fabric<A> {
         (probe, other)
     }
 
-    /// One seat with the tiles of both.
+    /// One seat with the tiles of both, which knows what either knew.
     pub fn join(&self, one: TileSeat<A>, other: TileSeat<A>) -> TileSeat<A>
         requires { IsOf self.now one × IsOf self.now other }
         ensures both { JoinsTo one other result }
         ensures ordered { Begins one.run other.run ⊎ Begins other.run one.run }
+        ensures lawful { HasLawfulRun result.load result.run }
+        ensures answers_first { KeepsBothFirst one other result }
     {
         let TileSeat { slots, mut seat } = one;
         let TileSeat {

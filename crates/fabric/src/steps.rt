@@ -1,12 +1,12 @@
 //! The atomic operations on the row.
-ghost use Rattle.std.specs.Prelude.{◌≡◌, ◌≢◌, ℕ, ◌<◌, true, Some, [], length};
+ghost use Rattle.std.specs.Prelude.{◌≡◌, ◌≢◌, ◌<◌, true, Some, []};
 ghost use Rattle.flit_buffer.specs.Words.{word_of};
 ghost use Rattle.fabric_laws.specs.core_laws.specs.Runs.{IsAccepted};
 ghost use Rattle.fabric_laws.specs.Known.{tile_of, known, op_of, row_length};
 ghost use Rattle.fabric_laws.specs.Groups.{In};
 ghost use Rattle.fabric_laws.specs.Rule.{Attempted};
 ghost use Rattle.fabric.specs.Seats.{StandsAt};
-ghost use Rattle.fabric.specs.Turns.{StepMoves, StepIdles, OnlyTile};
+ghost use Rattle.fabric.specs.Turns.{StepMoves, StepIdles, OnlyTile, LearnsBoth};
 ghost use Rattle.fabric.specs.declared.steps.Turned.TheVariants.{Moved, Idle, NotMine};
 
 use crate::view::{Dealing, Knowledge};
@@ -192,4 +192,21 @@ impl Join<Knowledge> for Both {
     ghost both = { both };
 
     ghost spent = { blank };
+}
+
+// The first seat takes the other in, and learns at a word of the row of all that either knew.
+pub(crate) fn take_in(
+    row: &Row,
+    seat: &mut Seat<(), Knowledge>,
+    other: Seat<(), Knowledge>,
+    word: usize,
+)
+    requires tables { (seat.old.table_id ≡ row.now.table_id) × (other.table_id ≡ row.now.table_id) }
+    requires none_held { other.me.1 ≡ [] }
+    requires word { word < row.now.table_id.words }
+    ensures seat { (seat.new.table_id ≡ seat.old.table_id) × (seat.new.me.1 ≡ seat.old.me.1) }
+    ensures learned { LearnsBoth seat.old.me.0 other.me.0 seat.new.me.0 }
+{
+    row.join_seat::<Both>(seat, other);
+    row.load::<Learn>(seat, word);
 }

@@ -4,7 +4,6 @@ use Rattle.std.proofs.lemmas.List.{append-nil, length-append}
 use Rattle.torus.specs.Shape.{dims_of}
 use Rattle.torus.specs.declared.step.Step.{Step}
 use Rattle.channel_number.specs.Ports.{port_count}
-use Rattle.fabric.specs.fabric_laws.specs.Groups.{Begins}
 use Rattle.fabric.specs.core_laws.specs.Core.{Load}
 use Rattle.fabric.specs.Seats.{Knowing, Origin, IsOf, Moves, Idles, IsNotMine, with_run}
 use Rattle.fabric.specs.Asking.{HasSeen}

@@ -1,2 +1,3 @@
+pub use Rattle.fabric
 pub mod Working
 pub mod Places

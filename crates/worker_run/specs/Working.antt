@@ -8,6 +8,7 @@ use Rattle.fabric.specs.fabric_laws.specs.Groups.{Begins}
 use Rattle.fabric.specs.fabric_laws.specs.Ended.{AreAllFinished}
 use Rattle.fabric.specs.Seats.{Knowing, Moves, Idles, IsNotMine, with_run}
 use Rattle.fabric.specs.Asking.{HasSeen}
+use Rattle.fabric.specs.Lawful.{HasLawfulRun}
 use Rattle.worker_run.specs.Places.{IsFirst, Follows}
 use Rattle.worker_run.specs.declared.place.Place.{Place}
 use Rattle.worker_run.specs.declared.worker.End.{End}
@@ -59,6 +60,7 @@ EndsAs holds stops turns v (Some Held) w = holds × (w ≡ v)
 EndsAs holds stops turns v (Some Finished) w = HasTurned stops turns v w × HasSeen w × AreAllFinished w.load w.run
 EndsAs holds stops turns v (Some Stopped) w = HasTurned stops turns v w × (HasSeen w → ⊥)
 
--- what a run makes of a worker: its knowledge only grew, and it has an end
+-- what a run makes of a worker: its knowledge only grew, it has an end, and the run that its seat knows is lawful
 abbrev pub HasWorked : Type 0 → (Step → Type 0) → ℕ → Working → Working → Type 0
 HasWorked holds stops turns v w = Grew v.knows w.knows × EndsAs holds stops turns v.knows w.ended w.knows
+    × HasLawfulRun w.knows.load w.knows.run

@@ -6,6 +6,7 @@ pub mod place;
 pub mod worker;
 pub mod working;
 
+pub use fabric::{Fabric, Final, Machine, ProbeSeat, TileSeat, Turned};
 pub use gate::Gate;
 pub use worker::{End, Worker};
 pub use working::run_workers;

@@ -30,7 +30,8 @@ pub fn run_workers<R: Threads + Wait + Sync, A: Allocator + Send + Sync, G: Gate
     requires some { 1 ≤ turns }
     requires most { turns ≤ 1000000000 }
     ensures count { length workers.new ≡ length workers.old }
-    ensures worked { (i : ℕ) (d : Working) → i < length workers.old → HasWorked (G.holds gate.now i) (G.stops gate.now i) turns (slice_index_or workers.old i d) (slice_index_or workers.new i d) }
+    ensures worked { (i : ℕ) (d : Working) → i < length workers.old
+        → HasWorked (G.holds gate.now i) (G.stops gate.now i) turns (slice_index_or workers.old i d) (slice_index_or workers.new i d) }
 {
     thread::for_each_mut(
         rt,
@@ -54,11 +55,13 @@ fn work<A: Allocator, G: Gate>(
     requires { IsOf fabric.now worker.old.knows }
     ensures { HasWorked (G.holds gate.now number) (G.stops gate.now number) turns worker.old worker.new }
 {
+    worker.seat.accepted();
     if !gate.begin(number) {
         worker.ended = Some(End::Held);
         return;
     }
     make_turns(fabric, &mut worker.seat, gate, number, turns);
+    worker.seat.accepted();
     worker.ended = Some(if worker.seat.has_seen() {
         End::Finished
     } else {

@@ -1,4 +1,4 @@
-use Rattle.std.proofs.Common.{rules, arith, refl, ◌≡◌, ℕ, List, [], ◌∷◌, ◌++◌, drop, length, sym, ap, ◌∙◌, subst}
+use Rattle.std.proofs.Common.{rules, arith, refl, ◌≡◌, ℕ, List, [], ◌∷◌, ◌++◌, drop, ap, ◌∙◌, subst}
 use Rattle.std.proofs.lemmas.List.{drop_more}
 use Rattle.torus.specs.Shape.{tiles_of}
 use Rattle.fabric_laws.specs.core_laws.specs.Core.{Load}

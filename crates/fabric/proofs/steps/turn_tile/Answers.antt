@@ -1,9 +1,7 @@
 use Rattle.std.proofs.Common.{◌<◌, ℕ, sym, subst}
 use Rattle.torus.specs.declared.step.Stepped.{Stepped}
-use Rattle.torus.specs.declared.step.Stepped.TheVariants as stepped
 use Rattle.flit_buffer.specs.Words.{word_of}
-use Rattle.fabric.proofs.Turning.{makes, idles, idles_before, Absorbs, op_is, asked, accepts, has_room, moved_is, idle_is, stands_then, word_in_row, only_tile}
-use Rattle.fabric.proofs.steps.turn_tile.Given.{Over}
+use Rattle.fabric.proofs.Turning.{makes, idles, idles_before, Absorbs, op_is, accepts, has_room, moved_is, idle_is, stands_then, word_in_row, only_tile}
 use Rattle.fabric.proofs.steps.turn_tile.Goals as goal
 
 pub returns-in_default-clause-idle : goal.returns-in_default-clause-idle

@@ -1,4 +1,4 @@
-use Rattle.std.proofs.Common.{arith, rules, inl, inr}
+use Rattle.std.proofs.Common.{arith, inl, inr}
 use Rattle.worker_run.proofs.Moving.{turned, turned_none, turned_until, begun, goes_on, ports_are, within_ports, own_on}
 use Rattle.worker_run.proofs.working.make_turns.Goals as goal
 

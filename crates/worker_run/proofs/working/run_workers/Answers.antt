@@ -1,4 +1,4 @@
-use Rattle.std.proofs.Common.{◌≡◌, ℕ, rules, subst}
+use Rattle.std.proofs.Common.{rules, subst}
 use Rattle.std.specs.Prelude.{slice_index_or}
 use Rattle.worker_run.specs.Working.{Working, HasWorked}
 use Rattle.worker_run.proofs.working.run_workers.Goals as goal

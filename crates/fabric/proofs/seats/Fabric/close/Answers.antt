@@ -2,7 +2,8 @@ use Rattle.std.proofs.Common.{arith, List, ℕ, ap, sym, ◌∙◌, subst}
 use Rattle.fabric.specs.Seats.{Knowing, Origin}
 use Rattle.fabric.specs.Ending.{ended, IsEnd}
 use Rattle.fabric.proofs.Sharing.{notes}
-use Rattle.fabric.proofs.Closing.{is_end, same_load}
+use Rattle.fabric.proofs.Closing.{is_end, longest, same_load}
+use Rattle.fabric.proofs.Meetings.{lawful_view}
 use Rattle.fabric.proofs.seats.Fabric.close.Goals as goal
 
 pub split_seat-behind-requires : goal.split_seat-behind-requires
@@ -23,3 +24,9 @@ invariant_of-result g c =
       c.close_with-closed.ensures.values.0,
       c.close_with-closed.ensures.counts.0 ∙ c.self.invariant.2 ∙ sym (same_load c.seat.inside.seat c.split_seat-behind.result c.args.seat c.self.inside.table.shared.key.load c.seat.view_is loaded (ap (λ m. m.0) c.split_seat-behind.ensures.4)),
     )
+
+pub returns-clause-longest : goal.returns-clause-longest
+returns-clause-longest g c = longest c.args.seat c.requires.1
+
+pub returns-clause-lawful : goal.returns-clause-lawful
+returns-clause-lawful g c = lawful_view c.seat.inside.seat.me.0 c.split_seat-behind.result.me.0 c.seat.invariant.placed.accepted (ap (λ m. m.0.load) c.split_seat-behind.ensures.4)

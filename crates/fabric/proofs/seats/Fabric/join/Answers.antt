@@ -2,7 +2,9 @@ use Rattle.std.proofs.Common.{arith, ◌⊎◌, [], ◌∷◌, ◌++◌, sym, ap
 use Rattle.fabric_laws.specs.View.{View}
 use Rattle.fabric_laws.specs.Groups.{both, flat, Begins}
 use Rattle.fabric_laws.specs.Rule.{Learned}
-use Rattle.fabric.specs.Seats.{Knowing, Origin}
+use Rattle.fabric_laws.specs.core_laws.specs.Runs.{IsAccepted}
+use Rattle.fabric.specs.Seats.{Knowing, Origin, JoinsTo, seat_knows}
+use Rattle.fabric.proofs.Meetings.{lawful_view, joined_first}
 use Rattle.fabric.proofs.Sharing.{joins, merges}
 use Rattle.fabric.proofs.Learning.{from_one, from_other, seated_joined, joins_said, two_begins}
 use Rattle.fabric.proofs.seats.Fabric.join.Given.{Over}
@@ -32,8 +34,11 @@ invariant_of-result g c = seated_joined _ _ c.mix-slots.result.items c.one.insid
     (ap (λ (k : Knowing). k.load) c.one.view_is ∙ c.requires.0.1 ∙ sym c.requires.1.1 ∙ sym (ap (λ (k : Knowing). k.load) c.other.view_is))
     (learned_here g c) (c.load.ensures.0 ∙ c.join_seat.ensures.0) (c.load.ensures.2.1 ∙ ap (λ m. m.1) c.join_seat.ensures.2 ∙ c.one.invariant.placed.no_slot) c.mix-slots.ensures.len c.mix-slots.ensures.slots
 
+joined_here : (g : Over) (c : goal.After-mix-slots g) → JoinsTo c.args.one c.args.other (seat_knows c.load.new.seat)
+joined_here g c = joins_said c.one.inside.seat c.other.inside.seat c.load.new.seat _ _ c.one.view_is c.other.view_is c.one.invariant.one_group c.other.invariant.one_group (learned_here g c) (c.load.ensures.0 ∙ c.join_seat.ensures.0)
+
 pub returns-clause-both : goal.returns-clause-both
-returns-clause-both g c = joins_said c.one.inside.seat c.other.inside.seat c.load.new.seat _ _ c.one.view_is c.other.view_is c.one.invariant.one_group c.other.invariant.one_group (learned_here g c) (c.load.ensures.0 ∙ c.join_seat.ensures.0)
+returns-clause-both g c = joined_here g c
 
 pub returns-clause-ordered : goal.returns-clause-ordered
 returns-clause-ordered g c =
@@ -41,3 +46,11 @@ returns-clause-ordered g c =
     let b = from_other c.one.inside.seat.me.0 c.other.inside.seat.me.0 c.load.new.seat.me.0 _ (learned_here g c) in
     subst (λ (k : Knowing). Begins k.run c.args.other.run ⊎ Begins c.args.other.run k.run) c.one.view_is
     (subst (λ (k : Knowing). Begins c.one.inside.seat.me.0.run k.run ⊎ Begins k.run c.one.inside.seat.me.0.run) c.other.view_is (two_begins _ a.0 _ b.0 (sym a.1 ∙ b.1)))
+
+pub returns-clause-lawful : goal.returns-clause-lawful
+returns-clause-lawful g c = lawful_view c.one.inside.seat.me.0 c.load.new.seat.me.0 c.one.invariant.placed.accepted (ap (λ (v : View). v.load) (learned_here g c).view)
+
+pub returns-clause-answers_first : goal.returns-clause-answers_first
+returns-clause-answers_first g c =
+    let one : IsAccepted c.args.one.load = subst IsAccepted (ap (λ (k : Knowing). k.load) c.one.view_is) c.one.invariant.placed.accepted in
+    joined_first c.args.one c.args.other (seat_knows c.load.new.seat) one (c.requires.1.1 ∙ sym c.requires.0.1) (joined_here g c)

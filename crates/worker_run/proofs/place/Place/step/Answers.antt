@@ -1,4 +1,4 @@
-use Rattle.std.proofs.Common.{arith, sym}
+use Rattle.std.proofs.Common.{arith}
 use Rattle.worker_run.proofs.Rounds.{router_step, bank_step}
 use Rattle.worker_run.proofs.place.Place.step.Goals as goal
 
