@@ -1,6 +1,7 @@
 -- What the report of a run says (this project's own format).
-use Rattle.std.specs.Prelude.{◌≡◌, ◌≤◌, ℕ, All, Bool, List, length, map}
+use Rattle.std.specs.Prelude.{◌≡◌, ◌≤◌, ◌⊎◌, ℕ, All, Bool, List, [], length, map}
 use Rattle.torus.specs.Shape.{Shape, tiles_of}
+use Rattle.torus.specs.declared.step.Step.{Step}
 use Rattle.home_bank.specs.declared.entry.Entry.{Entry}
 use Rattle.runs.specs.declared.answer.Answer.{Answer}
 use Rattle.runs.specs.declared.ordered.Ordered.{Ordered}
@@ -11,7 +12,9 @@ use Rattle.report_lines.specs.declared.parts.AnswerRow.{AnswerRow}
 use Rattle.report_lines.specs.declared.parts.Parts.{Parts}
 use Rattle.report_lines.specs.Contents.{items_of, report_lines_of}
 use Rattle.runs.specs.Observed.{Observed, event_count}
+use Rattle.fabric.specs.core_laws.specs.Core.{Load, after}
 use Rattle.machine_laws.specs.Core.{Core, shown, all_finished}
+use Rattle.fabric.specs.Ending.{shown_after}
 
 -- what is reported of a service
 abbrev pub entry_row : Entry → EntryRow
@@ -34,14 +37,27 @@ report_of shape opening seen rows finished = report_lines_of shape opening (map 
 abbrev pub machine_report : Core → List ReportLine
 machine_report c = report_of c.shape c.opening (shown c) c.book.rows (all_finished c.state)
 
--- these are the parts of the report of a machine
-pub record IsMadeOf {A : Type 0} (c : Core) (parts : Parts A) : Type 0 where
+-- the report of the run of a list of steps from a load: what it shows at its end, without order lines
+abbrev pub run_report : Load → List Step → List ReportLine
+run_report load run = report_of load.shape load.opening (shown_after load run) [] (all_finished (after load run))
+
+-- the report of a machine, with these order lines
+abbrev pub report_with : Core → List OrderLine → List ReportLine
+report_with c order = report_lines_of c.shape c.opening (map (map entry_row) (shown c).entries)
+    (map (map answer_row) (shown c).answers) (shown c).memory order (all_finished c.state)
+
+-- the report of a machine, without order lines or with those of its one order
+abbrev pub IsReportOf : Core → List ReportLine → Type 0
+IsReportOf c lines = (lines ≡ report_with c []) ⊎ (lines ≡ machine_report c)
+
+-- these are the parts of the report of a machine, with these order lines
+pub record IsMadeOf {A : Type 0} (c : Core) (lines : List OrderLine) (parts : Parts A) : Type 0 where
   pub torus : parts.torus ≡ c.shape
   pub opening : parts.opening.items ≡ c.opening
   pub entries : items_of parts.entries.items ≡ map (map entry_row) (shown c).entries
   pub answers : items_of parts.answers.items ≡ map (map answer_row) (shown c).answers
   pub last : parts.last.items ≡ (shown c).memory
-  pub order : parts.order.items ≡ map order_line c.book.rows
+  pub order : parts.order.items ≡ lines
   pub finished : parts.finished ≡ all_finished c.state
 
 -- a machine has a bank and a processor for each of at most 64 tiles, a word for each of at most 65536 addresses, at most 65536 entries in each bank, and at most 196608 events (this project's own format)

@@ -1,6 +1,7 @@
-//! The report of a machine's run.
+//! The reports of runs: of a machine, and of a closed fabric.
 #![tactic(auto)]
 
+mod reached;
 mod rows;
 pub mod run;
 
@@ -9,4 +10,4 @@ pub use report_lines::{
     AnswerLine, AnswerRow, EntryLine, EntryRow, LineText, OrderLine, Out, OutputFailed, Parts,
     Piped, Radices, Report, ReportLine, line_of, write_report,
 };
-pub use run::of_run;
+pub use run::{of_final, of_run};

@@ -5,39 +5,39 @@ ghost use Rattle.report_lines.specs.Contents.{items_of};
 ghost use Rattle.machine_laws.specs.Core.{shown};
 ghost use Rattle.history.specs.Report.{answer_row, entry_row, order_line};
 
+use crate::reached::Reached;
 use home_bank::Entry;
-use machine_core::Machine;
 use report_lines::{AnswerRow, EntryRow, OrderLine};
 use runs::{Answer, Ordered};
 use std::alloc::{AllocError, Allocator};
 
-/// The words that a machine held at first, by address.
-pub fn opening_words<A: Allocator + Copy, B: Allocator>(
+/// The words that were held at first, by address.
+pub fn opening_words<A: Allocator + Copy, S: Reached>(
     alloc: A,
-    machine: &Machine<B>,
+    reached: &S,
 ) -> Result<Vec<u64, A>, AllocError>
-    ensures { IfOk result (λ words. words.items ≡ machine.now.opening) }
+    ensures { IfOk result (λ words. words.items ≡ (S.core reached.now).opening) }
 {
     let mut words = Vec::new(alloc);
-    for address in 0..machine.words() {
-        if let Some(word) = machine.opening(address) {
+    for address in 0..reached.words() {
+        if let Some(word) = reached.opening(address) {
             words.push(word)?;
         }
     }
     Ok(words)
 }
 
-/// The words that a machine holds, by address.
-pub fn last_words<A: Allocator + Copy, B: Allocator>(
+/// The words that are held, by address.
+pub fn last_words<A: Allocator + Copy, S: Reached>(
     alloc: A,
-    machine: &Machine<B>,
+    reached: &S,
 ) -> Result<Vec<u64, A>, AllocError>
-    requires { length (shown machine.now).memory ≡ length machine.now.opening }
-    ensures { IfOk result (λ words. words.items ≡ (shown machine.now).memory) }
+    requires { length (shown (S.core reached.now)).memory ≡ length (S.core reached.now).opening }
+    ensures { IfOk result (λ words. words.items ≡ (shown (S.core reached.now)).memory) }
 {
     let mut words = Vec::new(alloc);
-    for address in 0..machine.words() {
-        if let Some(word) = machine.word(address) {
+    for address in 0..reached.words() {
+        if let Some(word) = reached.word(address) {
             words.push(word)?;
         }
     }
@@ -72,17 +72,17 @@ fn entry_rows<A: Allocator + Copy>(
 }
 
 /// What is reported of each bank's services.
-pub fn bank_rows<A: Allocator + Copy, B: Allocator>(
+pub fn bank_rows<A: Allocator + Copy, S: Reached>(
     alloc: A,
-    machine: &Machine<B>,
+    reached: &S,
     banks: u32,
 ) -> Result<Vec<Vec<EntryRow, A>, A>, AllocError>
-    requires { length (shown machine.now).entries ≡ banks }
-    ensures { IfOk result (λ rows. items_of rows.items ≡ map (map entry_row) (shown machine.now).entries) }
+    requires { length (shown (S.core reached.now)).entries ≡ banks }
+    ensures { IfOk result (λ rows. items_of rows.items ≡ map (map entry_row) (shown (S.core reached.now)).entries) }
 {
     let mut rows = Vec::new(alloc);
     for bank in 0..banks {
-        if let Some(entries) = machine.bank(bank) {
+        if let Some(entries) = reached.bank(bank) {
             rows.push(entry_rows(alloc, entries)?)?;
         }
     }
@@ -116,17 +116,17 @@ fn answer_rows<A: Allocator + Copy>(
 }
 
 /// What is reported of each processor's answers.
-pub fn processor_rows<A: Allocator + Copy, B: Allocator>(
+pub fn processor_rows<A: Allocator + Copy, S: Reached>(
     alloc: A,
-    machine: &Machine<B>,
+    reached: &S,
     processors: u32,
 ) -> Result<Vec<Vec<AnswerRow, A>, A>, AllocError>
-    requires { length (shown machine.now).answers ≡ processors }
-    ensures { IfOk result (λ rows. items_of rows.items ≡ map (map answer_row) (shown machine.now).answers) }
+    requires { length (shown (S.core reached.now)).answers ≡ processors }
+    ensures { IfOk result (λ rows. items_of rows.items ≡ map (map answer_row) (shown (S.core reached.now)).answers) }
 {
     let mut rows = Vec::new(alloc);
     for processor in 0..processors {
-        if let Some(answers) = machine.answers(processor) {
+        if let Some(answers) = reached.answers(processor) {
             rows.push(answer_rows(alloc, answers)?)?;
         }
     }

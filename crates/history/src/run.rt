@@ -1,45 +1,41 @@
-//! The report of a machine's run.
+//! The reports of runs: of a machine's, and of the run behind a closed fabric.
 
 ghost use Rattle.std.specs.Prelude.{◌≡◌, IfErr, IfOk};
 ghost use Rattle.report_lines.specs.Line.{text_of};
 ghost use Rattle.report_check.specs.Good.{GoodReport};
-ghost use Rattle.history.specs.Report.{IsMadeOf, IsWithinLimits, machine_report};
+ghost use Rattle.history.specs.Report.{IsMadeOf, IsReportOf, IsWithinLimits, machine_report, report_with, run_report};
 
+use crate::reached::Reached;
 use crate::rows::{bank_rows, last_words, opening_words, order_lines, processor_rows};
-use machine_core::Machine;
-use machine_laws::laws::reached_machines_report_well;
+use fabric::{Final, Machine};
 use report_facts::laws::contents_are_good;
 use report_facts::numbers_fit;
-use report_lines::{Parts, Report};
+use report_lines::{OrderLine, Parts, Report};
 use std::alloc::{AllocError, Allocator};
 use torus::Fault;
 
-/// What a machine shows is within the limits of a report.
-fn limits<B: Allocator>(machine: &Machine<B>)
-    ensures { IsWithinLimits machine.now }
+/// What is shown is within the limits of a report.
+fn limits<S: Reached>(reached: &S)
+    ensures { IsWithinLimits (S.core reached.now) }
 {
-    machine.reached();
-    reached_machines_report_well();
+    reached.reports_well();
 }
 
-/// The parts of a machine's report.
-fn parts_of<A: Allocator + Copy, B: Allocator>(
+/// The parts of a report with these order lines.
+fn parts_of<A: Allocator + Copy, S: Reached>(
     alloc: A,
-    machine: &Machine<B>,
+    reached: &S,
+    order: Vec<OrderLine, A>,
 ) -> Result<Parts<A>, AllocError>
-    requires { IsWithinLimits machine.now }
-    ensures { IfOk result (λ parts. IsMadeOf machine.now parts) }
+    requires { IsWithinLimits (S.core reached.now) }
+    ensures { IfOk result (λ parts. IsMadeOf (S.core reached.now) order.items parts) }
 {
-    let torus = *machine.torus();
-    let opening = opening_words(alloc, machine)?;
-    let entries = bank_rows(alloc, machine, torus.tiles())?;
-    let answers = processor_rows(alloc, machine, torus.tiles())?;
-    let last = last_words(alloc, machine)?;
-    let Ok(rows) = machine.order(alloc) else {
-        return Err(AllocError);
-    };
-    let order = order_lines(alloc, rows.as_slice())?;
-    let finished = machine.finished();
+    let torus = *reached.torus();
+    let opening = opening_words(alloc, reached)?;
+    let entries = bank_rows(alloc, reached, torus.tiles())?;
+    let answers = processor_rows(alloc, reached, torus.tiles())?;
+    let last = last_words(alloc, reached)?;
+    let finished = reached.finished();
     Ok(Parts {
         torus,
         opening,
@@ -51,13 +47,25 @@ fn parts_of<A: Allocator + Copy, B: Allocator>(
     })
 }
 
-/// The report of a machine is a good one.
-fn goodness<A: Allocator + Copy, B: Allocator>(machine: &Machine<B>, report: &Report<A>)
-    requires { report.now ≡ machine_report machine.now }
+/// The report with these order lines.
+fn lines_with<A: Allocator + Copy, S: Reached>(
+    alloc: A,
+    reached: &S,
+    order: Vec<OrderLine, A>,
+) -> Result<Report<A>, AllocError>
+    ensures { IfOk result (λ report. report ≡ report_with (S.core reached.now) order.items) }
+{
+    limits(reached);
+    let parts = parts_of(alloc, reached, order)?;
+    Report::of_parts(alloc, &parts)
+}
+
+/// The report of what is reached, with the one order or without, is a good one.
+fn goodness<A: Allocator + Copy, S: Reached>(reached: &S, report: &Report<A>)
+    requires { IsReportOf (S.core reached.now) report.now }
     ensures { GoodReport (text_of report.now) }
 {
-    machine.reached();
-    reached_machines_report_well();
+    reached.reports_well();
     contents_are_good();
     numbers_fit(report.lines());
 }
@@ -70,9 +78,11 @@ fn lines_of_run<A: Allocator + Copy, B: Allocator>(
     ensures report { IfOk result (λ report. report ≡ machine_report machine.now) }
     ensures good { IfOk result (λ report. GoodReport (text_of report)) }
 {
-    limits(machine);
-    let parts = parts_of(alloc, machine)?;
-    let report = Report::of_parts(alloc, &parts)?;
+    let Ok(rows) = machine.order(alloc) else {
+        return Err(AllocError);
+    };
+    let order = order_lines(alloc, rows.as_slice())?;
+    let report = lines_with(alloc, machine, order)?;
     goodness(machine, &report);
     Ok(report)
 }
@@ -95,4 +105,37 @@ pub fn of_run<A: Allocator + Copy, B: Allocator>(
         Ok(report) => Ok(report),
         Err(_) => Err(Fault::Memory),
     }
+}
+
+/// The report of the run behind a closed fabric.
+fn lines_of_final<A: Allocator + Copy, B: Allocator>(
+    alloc: A,
+    last: &Final<B>,
+) -> Result<Report<A>, AllocError>
+    ensures report { IfOk result (λ report. report ≡ run_report last.now.load last.now.run) }
+    ensures good { IfOk result (λ report. GoodReport (text_of report)) }
+{
+    let report = lines_with(alloc, last, Vec::new(alloc))?;
+    goodness(last, &report);
+    Ok(report)
+}
+
+/// The report of a closed fabric: what the run behind it shows at its end: the shape, opening words,
+/// entries, answers and words, and whether every script is finished. It has no order lines.
+///
+/// Errors: `Fault::Memory` alone.
+pub fn of_final<A: Allocator + Copy, B: Allocator>(
+    alloc: A,
+    last: &Final<B>,
+) -> Result<Report<A>, Fault>
+    // The report says what the run shows at its end.
+    ensures report { IfOk result (λ report. report ≡ run_report last.now.load last.now.run) }
+    // It is a good one: the checker accepts its text.
+    ensures good { IfOk result (λ report. GoodReport (text_of report)) }
+    ensures fault { IfErr result (λ fault. fault ≡ Fault.Memory) }
+{
+    let Ok(report) = lines_of_final(alloc, last) else {
+        return Err(Fault::Memory);
+    };
+    Ok(report)
 }

@@ -11,7 +11,7 @@ loop-bank-preserved g c =
     let test = c.loop-bank-test.true in
     let count = c.requires in
     elim c.match-bank.branch [
-      | in-Some+in_ok-entry_rows+in_ok-push w ↦ row_more entry_row (shown c.args.machine.now).entries c.loop-bank.rows.items _ c.loop-bank.bank w.in-Some.entries.now w.in_ok-entry_rows.field-0
+      | in-Some+in_ok-entry_rows+in_ok-push w ↦ row_more entry_row (shown (g.S.Reached.core c.args.reached.now)).entries c.loop-bank.rows.items _ c.loop-bank.bank w.in-Some.entries.now w.in_ok-entry_rows.field-0
           (ap option_copied (sym w.in-Some.is) ∙ c.bank.ensures) w.in_ok-entry_rows.ensures (ap (λ v. v.items) w.rows-is ∙ w.in_ok-push.ensures.items) c.loop-bank.invariant
-      | in_default w ↦ absurd (none_past (shown c.args.machine.now).entries c.loop-bank.bank (omega (arith, test, count)) (ap option_copied (sym w.in_default.is) ∙ c.bank.ensures))
+      | in_default w ↦ absurd (none_past (shown (g.S.Reached.core c.args.reached.now)).entries c.loop-bank.bank (omega (arith, test, count)) (ap option_copied (sym w.in_default.is) ∙ c.bank.ensures))
     ]

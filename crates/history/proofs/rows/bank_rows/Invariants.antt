@@ -6,4 +6,4 @@ use Rattle.history.proofs.rows.bank_rows.Given as goal
 
 -- the rows of the banks so far are there
 abbrev pub invariant-loop-bank : goal.invariant-loop-bank
-invariant-loop-bank g l = items_of l.rows.items ≡ map (map entry_row) (take l.bank (shown l.machine).entries)
+invariant-loop-bank g l = items_of l.rows.items ≡ map (map entry_row) (take l.bank (shown (g.S.Reached.core l.reached)).entries)

@@ -3,4 +3,4 @@ use Rattle.history.proofs.rows.opening_words.Given as goal
 
 -- the words of the addresses so far are there
 abbrev pub invariant-loop-address : goal.invariant-loop-address
-invariant-loop-address g l = l.words.items ≡ take l.address l.machine.opening
+invariant-loop-address g l = l.words.items ≡ take l.address (g.S.Reached.core l.reached).opening

@@ -6,4 +6,4 @@ use Rattle.history.proofs.rows.processor_rows.Given as goal
 
 -- the rows of the processors so far are there
 abbrev pub invariant-loop-processor : goal.invariant-loop-processor
-invariant-loop-processor g l = items_of l.rows.items ≡ map (map answer_row) (take l.processor (shown l.machine).answers)
+invariant-loop-processor g l = items_of l.rows.items ≡ map (map answer_row) (take l.processor (shown (g.S.Reached.core l.reached)).answers)
