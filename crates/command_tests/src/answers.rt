@@ -14,16 +14,16 @@ use torus::{Class, Fault};
 
 /// Takes at most so many bytes a put, and none at the put of one number, counted from 1.
 #[derive(Drop)]
-struct Sink {
-    bytes: ArrayVec<u8, 4096>,
+pub(crate) struct Sink {
+    pub(crate) bytes: ArrayVec<u8, 4096>,
     most: usize,
     failing: usize,
-    puts: usize,
-    failures: u64,
+    pub(crate) puts: usize,
+    pub(crate) failures: u64,
 }
 
 impl Sink {
-    fn new(most: usize, failing: usize) -> Self {
+    pub(crate) fn new(most: usize, failing: usize) -> Self {
         Sink {
             bytes: ArrayVec::new(),
             most,
@@ -34,7 +34,7 @@ impl Sink {
     }
 
     /// Takes all bytes.
-    fn whole() -> Self {
+    pub(crate) fn whole() -> Self {
         Sink::new(4096, 0)
     }
 }
@@ -58,7 +58,7 @@ impl Out for Sink {
 }
 
 /// Two tiles.
-const PAIR: &str = "radix 2\ndims 1\ndepth 4\ntags 4\nwords 8\n";
+pub(crate) const PAIR: &str = "radix 2\ndims 1\ndepth 4\ntags 4\nwords 8\n";
 
 /// A square of sixteen tiles.
 const SQUARE: &str = "radix 4\ndims 2\ndepth 4\ntags 4\nwords 8\n";
@@ -76,7 +76,7 @@ const CHANNELS: &str =
     "channel 0 0 1\nchannel 0 1 4\nchannel 0 2 7\nchannel 0 3 10\nchannel 0 4 2\nchannel 0 5 3\nchannel 0 6 8\nchannel 0 7 9\nchannel 0 8 0\nchannel 0 9 6\nchannel 0 10 5\nchannel 0 11 11\nchannel 1 0 2\nchannel 1 1 3\nchannel 1 2 8\nchannel 1 3 9\nchannel 1 4 1\nchannel 1 5 4\nchannel 1 6 7\nchannel 1 7 10\nchannel 1 8 0\nchannel 1 9 6\nchannel 1 10 5\nchannel 1 11 11\nrising\n";
 
 /// A good run of two operations.
-const SCRIPT: &str = "0 store 5 17\n0 fence\n0 load 5\n";
+pub(crate) const SCRIPT: &str = "0 store 5 17\n0 fence\n0 load 5\n";
 
 const STEPS: &str =
     "0 send\n1 take 8\n1 put 8\n4 take 0\n4 put 0\n5 take\n0 send\n1 take 8\n1 put 8\n4 take 0\n4 put 0\n5 take\n0 send\n1 take 8\n1 put 8\n4 take 0\n4 put 0\n5 take\n5 serve\n5 send\n4 take 9\n4 put 9\n1 take 3\n1 put 3\n0 take\n0 send\n1 take 8\n1 put 8\n4 take 0\n4 put 0\n5 take\n5 serve\n5 send\n4 take 9\n4 put 9\n1 take 3\n1 put 3\n0 take\n5 send\n4 take 9\n4 put 9\n1 take 3\n1 put 3\n0 take\n5 send\n4 take 9\n4 put 9\n1 take 3\n1 put 3\n0 take\n";

@@ -2,3 +2,6 @@ pub mod Pieces
 pub mod Asked
 pub mod InRounds
 pub mod Counted
+pub mod Shares
+pub mod Joined
+pub mod ByWorkers

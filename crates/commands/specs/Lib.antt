@@ -4,3 +4,4 @@ pub mod Lines
 pub mod Done
 pub mod Run
 pub mod Rounds
+pub mod Workers

@@ -83,7 +83,7 @@ pub fn round_text_with<A: Allocator + Copy, W: Out, P: Progress>(
 }
 
 /// The machine before any step.
-fn loaded<A: Allocator + Copy>(
+pub(crate) fn loaded<A: Allocator + Copy>(
     alloc: A,
     machine: &[u8],
     scripts: &[u8],

@@ -2,6 +2,7 @@
 //! program ends with, and what it prints for a fault.
 #![tactic(auto)]
 
+pub mod by_workers;
 pub mod channels;
 pub mod check;
 pub mod fault;
@@ -11,6 +12,7 @@ pub mod message;
 pub mod route;
 pub mod steps;
 
+pub use by_workers::run_text;
 pub use channels::channels_text;
 pub use check::check_text;
 pub use fault::{ProgramFault, finished, status_of};

@@ -21,6 +21,22 @@ rounds = record (new_rule (codes "rounds")) {
   defaults = codes "1000000" ∷ [];
 }
 
+-- the option for how many workers there are, a number from 1 to 16, which is 1 where it isn't given
+abbrev pub workers : Rule
+workers = record (new_rule (codes "workers")) {
+  long = Some (codes "workers");
+  parser = Some (vp.Signed (pos 1) (pos 16));
+  defaults = codes "1" ∷ [];
+}
+
+-- the option for the most turns of a worker, a number from 1 to 1000000000, which it is where it isn't given
+abbrev pub turns : Rule
+turns = record (new_rule (codes "turns")) {
+  long = Some (codes "turns");
+  parser = Some (vp.Signed (pos 1) (pos 1000000000));
+  defaults = codes "1000000000" ∷ [];
+}
+
 -- an option of this name, which has no value
 abbrev pub flag : Text → Rule
 flag name = record (new_rule name) { long = Some name; action = Some SetTrue }
@@ -34,6 +50,11 @@ steps_app = with_rule (with_rule (with_rule (new_app (codes "steps"))
 abbrev pub round_app : App
 round_app = with_rule (with_rule (with_rule (new_app (codes "round"))
     (needed (codes "MACHINE"))) (needed (codes "SCRIPT"))) rounds
+
+-- `run MACHINE SCRIPT [--workers W] [--turns T]`
+abbrev pub run_app : App
+run_app = with_rule (with_rule (with_rule (with_rule (new_app (codes "run"))
+    (needed (codes "MACHINE"))) (needed (codes "SCRIPT"))) workers) turns
 
 -- `route MACHINE SRC DST [--reply]`
 abbrev pub route_app : App
@@ -52,9 +73,13 @@ check_app = with_rule (new_app (codes "check")) (needed (codes "REPORT"))
 abbrev pub top_app : App
 top_app = let app = new_app (codes "torusmem") in record app { top = record app.top { subcommand_required = true } }
 
--- the program with the subcommands that run scripts
+-- the program with the subcommands that run scripts in one thread
+abbrev pub stepping_app : App
+stepping_app = with_subcommand (with_subcommand top_app steps_app.top) round_app.top
+
+-- and with the one that runs them in more
 abbrev pub running_app : App
-running_app = with_subcommand (with_subcommand top_app steps_app.top) round_app.top
+running_app = with_subcommand stepping_app run_app.top
 
 -- and with those on routes
 abbrev pub routing_app : App

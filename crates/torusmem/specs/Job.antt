@@ -1,12 +1,12 @@
 -- What a job says of the values that the words of its subcommand give (this project's own format).
-use Rattle.std.specs.Prelude.{◌≡◌, ℕ, Bool, true, false, List, Option, Some, codes, option_map}
+use Rattle.std.specs.Prelude.{◌≡◌, ℕ, ◌≤◌, Bool, true, false, List, Option, Some, codes, option_map}
 use Rattle.std.specs.Option.{option_and_then}
 use Rattle.std.specs.Str.Parse.{digits_value, without_leading_plus}
 use Rattle.clap.specs.Words.{Row, Text, first_of, one_of}
 use Rattle.torus.specs.declared.shape.Class.{Class}
 use Rattle.torus.specs.declared.shape.Class.TheVariants.{Request, Reply}
 use Rattle.torusmem.specs.declared.command.Job.{Job}
-use Rattle.torusmem.specs.declared.command.Job.TheVariants.{Steps, Round, Route, Channels, Check}
+use Rattle.torusmem.specs.declared.command.Job.TheVariants.{Steps, Round, Run, Route, Channels, Check}
 
 -- the values of a subcommand's arguments
 abbrev pub rows_in : Option (Text × List Row) → Option (List Row)
@@ -30,6 +30,7 @@ class_word Reply = flag_text true
 abbrev pub name_of : Job → Text
 name_of (Steps machine script steps) = codes "steps"
 name_of (Round machine script rounds) = codes "round"
+name_of (Run machine script workers turns) = codes "run"
 name_of (Route machine src dst class) = codes "route"
 name_of (Channels machine) = codes "channels"
 name_of (Check report) = codes "check"
@@ -40,8 +41,17 @@ AreOf (Steps machine script steps) rows = (first_of (codes "MACHINE") rows ≡ S
     × (first_of (codes "SCRIPT") rows ≡ Some script.now) × (first_of (codes "STEPS") rows ≡ Some steps.now)
 AreOf (Round machine script rounds) rows = (first_of (codes "MACHINE") rows ≡ Some machine.now)
     × (first_of (codes "SCRIPT") rows ≡ Some script.now) × (number_in (codes "rounds") rows ≡ Some rounds)
+AreOf (Run machine script workers turns) rows = (first_of (codes "MACHINE") rows ≡ Some machine.now)
+    × (first_of (codes "SCRIPT") rows ≡ Some script.now) × (number_in (codes "workers") rows ≡ Some workers)
+    × (number_in (codes "turns") rows ≡ Some turns)
 AreOf (Route machine src dst class) rows = (first_of (codes "MACHINE") rows ≡ Some machine.now)
     × (number_in (codes "SRC") rows ≡ Some src) × (number_in (codes "DST") rows ≡ Some dst)
     × (one_of (codes "reply") rows ≡ Some (class_word class))
 AreOf (Channels machine) rows = first_of (codes "MACHINE") rows ≡ Some machine.now
 AreOf (Check report) rows = first_of (codes "REPORT") rows ≡ Some report.now
+
+-- the numbers of a job are within their limits: 1 to 1000000 rounds, 1 to 16 workers, 1 to 1000000000 turns
+abbrev pub IsWithinLimits : Job → Type 0
+IsWithinLimits (Round machine script rounds) = (1 ≤ rounds) × (rounds ≤ 1000000)
+IsWithinLimits (Run machine script workers turns) = ((1 ≤ workers) × (workers ≤ 16)) × ((1 ≤ turns) × (turns ≤ 1000000000))
+IsWithinLimits _ = Unit {0}

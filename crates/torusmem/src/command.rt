@@ -1,8 +1,9 @@
-ghost use Rattle.std.specs.Prelude.{◌≡◌, IfOk, IfSome, Some, map, codes, false, option_map};
+ghost use Rattle.std.specs.Prelude.{◌≡◌, ◌≤◌, IfOk, IfSome, Some, map, codes, false, option_map};
 ghost use Rattle.clap.specs.Words.{app_of, found_of, first_of, new_app, one_of, rows_of, subcommand_name_of, subcommand_rows_of, with_rule};
+ghost use Rattle.clap.specs.Walk.{rule_of};
 ghost use Rattle.clap.specs.declared.builder.command.Command.TheViews.{out-Command as fields_of};
-ghost use Rattle.torusmem.specs.CommandLine.{steps_app, round_app, route_app, channels_app, check_app, running_app, routing_app, torusmem_app, needed, tile, rounds, flag, name_by, rows_by};
-ghost use Rattle.torusmem.specs.Job.{AreOf, class_word, name_of, number_in, rows_in};
+ghost use Rattle.torusmem.specs.CommandLine.{steps_app, round_app, run_app, route_app, channels_app, check_app, stepping_app, running_app, routing_app, torusmem_app, needed, tile, rounds, workers, turns, flag, name_by, rows_by};
+ghost use Rattle.torusmem.specs.Job.{AreOf, IsWithinLimits, class_word, name_of, number_in, rows_in};
 
 use clap::error::ErrorKind;
 use clap::{Arg, ArgAction, ArgMatches, Command, Error, value_parser};
@@ -24,6 +25,13 @@ pub enum Job<'a> {
         machine: &'a str,
         script: &'a str,
         rounds: u32,
+    },
+    /// Run by workers in threads, so many, each with at most so many turns, and print the report.
+    Run {
+        machine: &'a str,
+        script: &'a str,
+        workers: u32,
+        turns: u32,
     },
     /// Print a route.
     Route {
@@ -48,6 +56,7 @@ pub enum Job<'a> {
 pub fn read_command<'a, S: AsStr>(alloc: Global, words: &'a [S]) -> Result<Job<'a>, Error>
     ensures named { IfOk result (λ job. name_by (map S.text words.entry.now) ≡ Some (name_of job)) }
     ensures given { IfOk result (λ job. IfSome (rows_by (map S.text words.entry.now)) (AreOf job)) }
+    ensures limits { IfOk result IsWithinLimits }
 {
     let mut command = command(alloc)?;
     let matches = command.try_get_matches_from_mut(words)?;
@@ -61,6 +70,7 @@ pub fn read_command<'a, S: AsStr>(alloc: Global, words: &'a [S]) -> Result<Job<'
 fn job_of<'a>(matches: &ArgMatches<'a>) -> Option<Job<'a>>
     ensures named { IfSome result (λ job. subcommand_name_of matches.now ≡ Some (name_of job)) }
     ensures given { IfSome result (λ job. IfSome (rows_in (subcommand_rows_of matches.now)) (AreOf job)) }
+    ensures limits { IfSome result IsWithinLimits }
 {
     match matches.subcommand()? {
         ("steps", given) => Some(Job::Steps {
@@ -71,7 +81,13 @@ fn job_of<'a>(matches: &ArgMatches<'a>) -> Option<Job<'a>>
         ("round", given) => Some(Job::Round {
             machine: word(given, "MACHINE")?,
             script: word(given, "SCRIPT")?,
-            rounds: number(given, "rounds")?,
+            rounds: number_within(given, "rounds", 1000000)?,
+        }),
+        ("run", given) => Some(Job::Run {
+            machine: word(given, "MACHINE")?,
+            script: word(given, "SCRIPT")?,
+            workers: number_within(given, "workers", 16)?,
+            turns: number_within(given, "turns", 1000000000)?,
         }),
         ("route", given) => Some(Job::Route {
             machine: word(given, "MACHINE")?,
@@ -102,6 +118,18 @@ fn number(given: &ArgMatches<'_>, id: &str) -> Option<u32>
     ensures { IfSome result (λ n. number_in id.now (rows_of (found_of given.now)) ≡ Some n) }
 {
     given.get_one::<u32>(id)
+}
+
+/// The number that was given for an argument, from 1 to the most that is allowed.
+fn number_within(given: &ArgMatches<'_>, id: &str, most: u32) -> Option<u32>
+    ensures given { IfSome result (λ n. number_in id.now (rows_of (found_of given.now)) ≡ Some n) }
+    ensures within { IfSome result (λ n. (1 ≤ n) × (n ≤ most)) }
+{
+    let number = number(given, id)?;
+    if number < 1 || number > most {
+        return None;
+    }
+    Some(number)
 }
 
 /// The class of the packets of a route: that of replies where the words say so.
@@ -135,6 +163,13 @@ fn routing_command<'a>(alloc: Global) -> Result<Command<'a>, AllocError>
 fn running_command<'a>(alloc: Global) -> Result<Command<'a>, AllocError>
     ensures { IfOk result (λ c. (app_of c ≡ running_app) × ((fields_of c).has_globals ≡ false)) }
 {
+    stepping_command(alloc)?.subcommand(run_command(alloc)?)
+}
+
+/// The program with the subcommands that run scripts in one thread.
+fn stepping_command<'a>(alloc: Global) -> Result<Command<'a>, AllocError>
+    ensures { IfOk result (λ c. (app_of c ≡ stepping_app) × ((fields_of c).has_globals ≡ false)) }
+{
     Command::new(alloc, "torusmem")
         .about("A shared memory spread over a torus of tiles")
         .subcommand_required(true)
@@ -166,6 +201,20 @@ fn round_command<'a>(alloc: Global) -> Result<Command<'a>, AllocError>
     let command = with_file(alloc, command, "MACHINE", "The file of the machine")?;
     let command = with_file(alloc, command, "SCRIPT", "The file of the scripts")?;
     with_rounds(alloc, command)
+}
+
+fn run_command<'a>(alloc: Global) -> Result<Command<'a>, AllocError>
+    ensures { IfOk result (λ c. (app_of c ≡ run_app) × ((fields_of c).has_globals ≡ false)) }
+{
+    let command = named(
+        alloc,
+        "run",
+        "Runs by workers in threads until every script is finished, and prints the report",
+    );
+    let command = with_file(alloc, command, "MACHINE", "The file of the machine")?;
+    let command = with_file(alloc, command, "SCRIPT", "The file of the scripts")?;
+    let command = with_workers(alloc, command)?;
+    with_turns(alloc, command)
 }
 
 fn route_command<'a>(alloc: Global) -> Result<Command<'a>, AllocError>
@@ -250,6 +299,38 @@ fn with_rounds<'a>(alloc: Global, command: Command<'a>) -> Result<Command<'a>, A
         .default_value("1000000")
         .help("The most rounds, 1 to 1000000");
     command.arg(option)
+}
+
+/// The command with one more option, how many workers there are: 1 to 16.
+fn with_workers<'a>(alloc: Global, command: Command<'a>) -> Result<Command<'a>, AllocError>
+    requires { (fields_of command).has_globals ≡ false }
+    ensures { IfOk result (λ c. (app_of c ≡ with_rule (app_of command.entry) workers) × ((fields_of c).has_globals ≡ false)) }
+{
+    let option = Arg::new(alloc, "workers")
+        .long("workers")
+        .value_parser(value_parser!(u32).range(1..=16))
+        .default_value("1")
+        .help("How many workers share the tiles, 1 to 16");
+    command.arg(option)
+}
+
+/// The command with one more option, the most turns of a worker: 1 to 1000000000.
+fn with_turns<'a>(alloc: Global, command: Command<'a>) -> Result<Command<'a>, AllocError>
+    requires { (fields_of command).has_globals ≡ false }
+    ensures { IfOk result (λ c. (app_of c ≡ with_rule (app_of command.entry) turns) × ((fields_of c).has_globals ≡ false)) }
+{
+    command.arg(turns_option(alloc))
+}
+
+fn turns_option<'a>(alloc: Global) -> Arg<'a>
+    ensures rule { rule_of result ≡ turns }
+    ensures local { result.global ≡ false }
+{
+    Arg::new(alloc, "turns")
+        .long("turns")
+        .value_parser(value_parser!(u32).range(1..=1000000000))
+        .default_value("1000000000")
+        .help("The most turns of a worker, 1 to 1000000000")
 }
 
 /// The command with one more option, a flag of this name.

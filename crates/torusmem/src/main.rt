@@ -1,19 +1,23 @@
 //! The command line of torusmem, a shared memory spread over a torus of tiles.
 #![tactic(auto)]
 
+ghost use Rattle.torusmem.specs.Job.{IsWithinLimits};
+
 mod command;
 mod progress_line;
 
 use command::{Job, read_command};
 use commands::{
     ProgramFault, channels_text, check_text, fault_text, finished, round_text_with, route_text,
-    status_of, steps_text,
+    run_text, status_of, steps_text,
 };
 use progress_line::ProgressLine;
 use report_lines::{Out, Piped};
 use std::io::{BufWriter, ErrorKind, IsTerminal, Write};
 use std::process::ExitCode;
 use std::rt::{Clock, Env, Files};
+use std::sync::Wait;
+use std::thread::Threads;
 use std::{env, fs, io};
 use torus::Fault;
 
@@ -38,7 +42,10 @@ fn main(rt: HostRuntime) -> ExitCode {
 
 /// Does what the command line asks for, and answers the exit status. Where standard error `is_seen`,
 /// a long run says there how far it is.
-fn run<R: Env + Files + Print + Eprint + Clock + AllocGlobal>(rt: &R, is_seen: bool) -> u8 {
+fn run<R: Env + Files + Print + Eprint + Clock + AllocGlobal + Threads + Wait + Sync>(
+    rt: &R,
+    is_seen: bool,
+) -> u8 {
     let Ok(words) = words(rt) else {
         let _ = eprintln!(rt; "the command line can't be read");
         return 2;
@@ -57,7 +64,13 @@ fn words<R: Env + AllocGlobal>(rt: &R) -> io::Result<Vec<String>> {
 }
 
 /// Does the job: results go to standard output, and a fault goes to standard error.
-fn done<R: Files + Print + Eprint + Clock + AllocGlobal>(rt: &R, job: &Job, is_seen: bool) -> u8 {
+fn done<R: Files + Print + Eprint + Clock + AllocGlobal + Threads + Wait + Sync>(
+    rt: &R,
+    job: &Job,
+    is_seen: bool,
+) -> u8
+    requires { IsWithinLimits job.now }
+{
     match printed(rt, job, is_seen) {
         Ok(finished) => status_of(&Ok(finished)),
         Err(Failure::Unread(name)) => {
@@ -73,11 +86,13 @@ fn done<R: Files + Print + Eprint + Clock + AllocGlobal>(rt: &R, job: &Job, is_s
 }
 
 /// The answer of the job, whose output was written to its last byte.
-fn printed<'a, R: Files + Print + Eprint + Clock + AllocGlobal>(
+fn printed<'a, R: Files + Print + Eprint + Clock + AllocGlobal + Threads + Wait + Sync>(
     rt: &R,
     job: &Job<'a>,
     is_seen: bool,
-) -> Result<bool, Failure<'a>> {
+) -> Result<bool, Failure<'a>>
+    requires { IsWithinLimits job.now }
+{
     let Ok(mut writer) = BufWriter::new(rt.alloc(), io::writer(rt)) else {
         return Err(Failure::Fault(ProgramFault::Fault(Fault::Memory)));
     };
@@ -89,12 +104,14 @@ fn printed<'a, R: Files + Print + Eprint + Clock + AllocGlobal>(
 }
 
 /// The answer of the job: whether every script is finished.
-fn answer<'a, R: Files + Eprint + Clock + AllocGlobal, W: Out>(
+fn answer<'a, R: Files + Eprint + Clock + AllocGlobal + Threads + Wait + Sync, W: Out>(
     rt: &R,
     job: &Job<'a>,
     is_seen: bool,
     out: &mut W,
-) -> Result<bool, Failure<'a>> {
+) -> Result<bool, Failure<'a>>
+    requires { IsWithinLimits job.now }
+{
     let alloc = rt.alloc();
     match *job {
         Job::Steps {
@@ -117,6 +134,18 @@ fn answer<'a, R: Files + Eprint + Clock + AllocGlobal, W: Out>(
             let rounds = u64::from(rounds);
             let mut line = ProgressLine::new(rt, is_seen);
             Ok(round_text_with(alloc, &machine, &script, rounds, out, &mut line)?)
+        }
+        Job::Run {
+            machine,
+            script,
+            workers,
+            turns,
+        } => {
+            let machine = text(rt, machine)?;
+            let script = text(rt, script)?;
+            let workers = workers as usize;
+            let turns = u64::from(turns);
+            Ok(run_text(rt, alloc, &machine, &script, workers, turns, out)?)
         }
         Job::Route {
             machine,

@@ -1,0 +1,167 @@
+use crate::answers::{PAIR, SCRIPT, Sink};
+use commands::{ProgramFault, check_text, run_text};
+use report_lines::{Out, Piped};
+use script::LineFault;
+use std::alloc::AllocError;
+use std::sync::Wait;
+use std::test::Fail;
+use std::thread::Threads;
+use torus::Fault;
+
+/// Four tiles.
+const BOX: &str = "radix 2\ndims 2\ndepth 4\ntags 4\nwords 8\n";
+
+/// What stands of no operation in the report of two tiles.
+const NOTHING: &str = "torusmem 1\nshape 2 1 8\nend complete\n";
+
+/// The report of the good run, without order lines.
+const UNORDERED: &str =
+    "torusmem 1\nshape 2 1 8\nentry 1 0 0 0 store 5 17 ok\nentry 1 1 0 0 load 5 17\nanswer 0 0 1 0 ok\nanswer 0 1 1 1 17\nword 5 17\nend complete\n";
+
+/// As many turns as can be asked for.
+const MOST: u64 = 1000000000;
+
+/// Runs two texts by so many workers, 1 to 16, with so many turns each, 1 to `MOST`.
+fn ran<R: Threads + Wait + Sync + AllocGlobal, W: Out>(
+    rt: &R,
+    machine: &str,
+    scripts: &str,
+    workers: usize,
+    turns: u64,
+    out: &mut W,
+) -> Result<bool, ProgramFault> {
+    run_text(
+        rt,
+        rt.alloc(),
+        machine.as_bytes(),
+        scripts.as_bytes(),
+        workers.clamp(1, 16),
+        turns.clamp(1, MOST),
+        out,
+    )
+}
+
+/// Runs that have one report: the machine, the scripts, how many workers, how many turns each; whether
+/// all scripts are finished, and the report.
+const RUNS: [(&str, &str, usize, u64, bool, &str); 9] = [
+    (PAIR, "", 1, MOST, true, NOTHING),
+    (PAIR, "", 2, MOST, true, NOTHING),
+    (PAIR, "", 16, MOST, true, NOTHING),
+    (PAIR, SCRIPT, 1, MOST, true, UNORDERED),
+    (PAIR, SCRIPT, 2, MOST, true, UNORDERED),
+    (PAIR, SCRIPT, 16, MOST, true, UNORDERED),
+    (
+        PAIR,
+        "0 load 0\n1 load 1\n",
+        2,
+        1,
+        false,
+        "torusmem 1\nshape 2 1 8\nend incomplete\n",
+    ),
+    (
+        PAIR,
+        "0 spin 0 1 3\n",
+        2,
+        MOST,
+        true,
+        "torusmem 1\nshape 2 1 8\nentry 0 0 0 0 load 0 0\nentry 0 1 0 0 load 0 0\nentry 0 2 0 0 load 0 0\nanswer 0 0 0 0 0\nanswer 0 1 0 1 0\nanswer 0 2 0 2 0\nend complete\n",
+    ),
+    (
+        BOX,
+        "3 store 1 7\n3 fence\n3 add 1 1\n",
+        4,
+        MOST,
+        true,
+        "torusmem 1\nshape 2 2 8\nentry 1 0 3 0 store 1 7 ok\nentry 1 1 3 0 add 1 1 7\nanswer 3 0 1 0 ok\nanswer 3 1 1 1 7\nword 1 8\nend complete\n",
+    ),
+];
+
+#[test]
+fn workers_write_reports(rt: HostRuntime) {
+    for &(machine, scripts, workers, turns, is_finished, text) in &RUNS {
+        let mut sink = Sink::whole();
+        let answer = ran(&rt, machine, scripts, workers, turns, &mut sink);
+        let is_text = sink.bytes.as_slice() == text.as_bytes();
+        assert!(rt;
+            answer == Ok(is_finished) && is_text,
+            "{workers} workers: {text}"
+        );
+    }
+}
+
+/// Texts with a fault, machine and scripts, and the first fault.
+const FAULTS: [(&str, &str, Fault, u64); 3] = [
+    ("radix 9\n", "0 load 8\n", Fault::Radix, 1),
+    ("radix 2\n", "", Fault::Setting, 2),
+    (PAIR, "0 load 7\n0 load 8\n", Fault::Address, 2),
+];
+
+#[test]
+fn workers_refuse_texts(rt: HostRuntime) {
+    for &(machine, scripts, fault, line) in &FAULTS {
+        let mut sink = Sink::whole();
+        let answer = ran(&rt, machine, scripts, 2, MOST, &mut sink);
+        let is_fault = answer == Err(ProgramFault::Line(LineFault { fault, line }));
+        assert!(rt; is_fault && sink.puts == 0, "{scripts}");
+    }
+}
+
+/// Each put of the output fails in turn: a beginning of the report is written. An output that takes a byte
+/// at a time takes all of it.
+#[test]
+fn outputs_of_workers(rt: HostRuntime) {
+    for failing in 1..=8 {
+        let mut sink = Sink::new(4096, failing);
+        let answer = ran(&rt, PAIR, SCRIPT, 2, MOST, &mut sink);
+        let has_failed = answer == Err(ProgramFault::Output) && sink.failures == 1;
+        let is_front = UNORDERED.as_bytes().starts_with(sink.bytes.as_slice());
+        assert!(rt; has_failed && is_front, "{failing}");
+    }
+    let mut sink = Sink::new(1, 0);
+    let answer = ran(&rt, PAIR, SCRIPT, 2, MOST, &mut sink);
+    let is_whole = sink.bytes.as_slice() == UNORDERED.as_bytes();
+    assert!(rt; answer == Ok(true) && is_whole, "a byte at a time");
+}
+
+/// Whether the answers of a report have these replies, from 0 on, each once.
+fn has_each_reply<R: AllocGlobal>(rt: &R, report: &str, count: usize) -> Result<bool, AllocError> {
+    let mut seen = vec![in rt.alloc(); false; count]?;
+    let mut answers = 0usize;
+    for line in report.lines() {
+        if let Some(words) = line.strip_prefix("answer ") {
+            let reply = words
+                .split(' ')
+                .last()
+                .and_then(|word| word.parse::<usize>().ok());
+            let Some(reply) = reply else {
+                return Ok(false);
+            };
+            match seen.get_mut(reply) {
+                Some(is_seen) if !*is_seen => *is_seen = true,
+                _ => return Ok(false),
+            }
+            answers = answers.saturating_add(1);
+        }
+    }
+    Ok(answers == count)
+}
+
+/// Two processors that add 1 to one word a thousand times each: every sum is replied once, whatever the
+/// threads do; and the report is good.
+#[test]
+fn adds_are_replied_once(rt: HostRuntime) -> Result<(), Fail> {
+    let mut scripts = String::new(rt.alloc());
+    for _ in 0..1000 {
+        scripts.push_str("0 add 3 1\n1 add 3 1\n")?;
+    }
+    for _ in 0..100 {
+        let mut report: Vec<u8> = Vec::new(rt.alloc());
+        let answer = ran(&rt, BOX, &scripts, 4, MOST, &mut Piped::new(&mut report));
+        let verdict = check_text(rt.alloc(), &report, &mut Sink::whole());
+        assert!(rt; answer == Ok(true) && verdict == Ok(()));
+        let text = String::from_utf8(report).unwrap_or(String::new(rt.alloc()));
+        let is_each = has_each_reply(&rt, &text, 2000)?;
+        assert!(rt; is_each && text.contains("\nword 3 2000\n"));
+    }
+    Ok(())
+}
