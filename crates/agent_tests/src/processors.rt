@@ -84,64 +84,108 @@ fn answer(index: u32, op: Op, reply: Reply, bank: u32, place: u32) -> Answer {
     }
 }
 
+const EACH_CHOICE: [Event; 39] = [
+    Event::Tries(Choice::Take, IDLE),
+    Event::Tries(Choice::Credit, None),
+    Event::Tries(Choice::Done, None),
+    Event::Tries(Choice::Look, None),
+    Event::Tries(Choice::Serve, None),
+    Event::Tries(Choice::TakeFrom(0), None),
+    Event::Tries(Choice::Put(0), None),
+    Event::Tries(Choice::CreditOf(0), None),
+    Event::Tries(Choice::Send, MOVED),
+    Event::Tries(Choice::Credit, IDLE),
+    Event::Word(20, 0xE008_2000_0000_0001, 0),
+    Event::Tries(Choice::Credit, MOVED),
+    Event::Tries(Choice::Credit, None),
+    Event::Tries(Choice::Send, None),
+    Event::Takes(0xA208_2000_0000_0000),
+    Event::Tries(Choice::Send, None),
+    Event::Takes(0x2000_0000_0000_0000),
+    Event::Tries(Choice::Send, None),
+    Event::Takes(0x6000_0000_0000_0009),
+    Event::Tries(Choice::Done, None),
+    Event::Tries(Choice::Send, MOVED),
+    Event::Tries(Choice::Send, None),
+    Event::Word(20, 0xA408_2000_0000_0001, 0),
+    Event::Tries(Choice::Send, None),
+    Event::Tries(Choice::Credit, MOVED),
+    Event::Sends(0x2000_0000_0000_0000),
+    Event::Sends(0x6000_0000_0000_0011),
+    Event::Tries(Choice::Send, None),
+    Event::Tries(Choice::Done, None),
+    Event::Takes(0xE608_2000_0000_0001),
+    Event::Tries(Choice::Send, None),
+    Event::Tries(Choice::Look, None),
+    Event::Tries(Choice::Done, MOVED),
+    Event::Tries(Choice::Done, None),
+    Event::Word(56, 1, 3),
+    Event::Tries(Choice::Look, IDLE),
+    Event::Word(56, 3, 4),
+    Event::Tries(Choice::Look, MOVED),
+    Event::Tries(Choice::Look, None),
+];
+
 /// A load and a store of address 5, whose home is bank 1, under one tag.
 #[test]
 #[tactic(auto, using(net_interface::proofs::Followable::followable_by))]
 fn each_choice_moves_where_it_may(rt: HostRuntime) -> Result<(), Fail> {
     let lines = [Line::Load(5), Line::Store(5, Value::Number(17))];
-    let events = [
-        Event::Tries(Choice::Take, IDLE),
-        Event::Tries(Choice::Credit, None),
-        Event::Tries(Choice::Done, None),
-        Event::Tries(Choice::Look, None),
-        Event::Tries(Choice::Serve, None),
-        Event::Tries(Choice::TakeFrom(0), None),
-        Event::Tries(Choice::Put(0), None),
-        Event::Tries(Choice::CreditOf(0), None),
-        Event::Tries(Choice::Send, MOVED),
-        Event::Tries(Choice::Credit, IDLE),
-        Event::Word(20, 0xE008_2000_0000_0001, 0),
-        Event::Tries(Choice::Credit, MOVED),
-        Event::Tries(Choice::Credit, None),
-        Event::Tries(Choice::Send, None),
-        Event::Takes(0xA208_2000_0000_0000),
-        Event::Tries(Choice::Send, None),
-        Event::Takes(0x2000_0000_0000_0000),
-        Event::Tries(Choice::Send, None),
-        Event::Takes(0x6000_0000_0000_0009),
-        Event::Tries(Choice::Done, None),
-        Event::Tries(Choice::Send, MOVED),
-        Event::Tries(Choice::Send, None),
-        Event::Word(20, 0xA408_2000_0000_0001, 0),
-        Event::Tries(Choice::Send, None),
-        Event::Tries(Choice::Credit, MOVED),
-        Event::Sends(0x2000_0000_0000_0000),
-        Event::Sends(0x6000_0000_0000_0011),
-        Event::Tries(Choice::Send, None),
-        Event::Tries(Choice::Done, None),
-        Event::Takes(0xE608_2000_0000_0001),
-        Event::Tries(Choice::Send, None),
-        Event::Tries(Choice::Look, None),
-        Event::Tries(Choice::Done, MOVED),
-        Event::Tries(Choice::Done, None),
-        Event::Word(56, 1, 3),
-        Event::Tries(Choice::Look, IDLE),
-        Event::Word(56, 3, 4),
-        Event::Tries(Choice::Look, MOVED),
-        Event::Tries(Choice::Look, None),
-    ];
     let answers = [
         answer(0, Op::Load, Reply::Old(9), 1, 0),
         answer(1, Op::Store(17), Reply::Ok, 1, 1),
     ];
     let ends = (true, true, true, 0);
     let unlike = (
-        plays(rt.alloc(), false, 1, 1, &lines, &events, &answers, ends)?,
-        plays(rt.alloc(), true, 1, 1, &lines, &events, &answers, ends)?,
+        plays(
+            rt.alloc(),
+            false,
+            1,
+            1,
+            &lines,
+            &EACH_CHOICE,
+            &answers,
+            ends,
+        )?,
+        plays(rt.alloc(), true, 1, 1, &lines, &EACH_CHOICE, &answers, ends)?,
     );
     assert_eq!(rt; unlike, (None, None));
     Ok(())
 }
+
+const EACH_OPERATION: [Event; 31] = [
+    Event::Sends(0xE000_2000_0000_0000),
+    Event::Sends(0xA408_2200_0000_0000),
+    Event::Sends(0x2000_0000_0000_0000),
+    Event::Sends(0x6000_0000_0000_0001),
+    Event::Sends(0xA810_2400_0000_0000),
+    Event::Sends(0x2000_0000_0000_0000),
+    Event::Sends(0x6000_0000_0000_0002),
+    Event::Sends(0xAC18_2600_0000_0000),
+    Event::Sends(0x2000_0000_0000_0000),
+    Event::Sends(0x2000_0000_0000_0003),
+    Event::Sends(0x2000_0000_0000_0000),
+    Event::Sends(0x6000_0000_0000_0004),
+    Event::Sends(0xB000_2800_0000_0001),
+    Event::Sends(0x2000_0000_0000_0000),
+    Event::Sends(0x6000_0000_0000_0005),
+    Event::Sends(0xB408_2A00_0000_0001),
+    Event::Sends(0x2000_0000_0000_0000),
+    Event::Sends(0x6000_0000_0000_0006),
+    Event::Sends(0xB810_2C00_0000_0001),
+    Event::Sends(0x2000_0000_0000_0000),
+    Event::Sends(0x6000_0000_0000_0007),
+    Event::Sends(0xBC18_2E00_0000_0001),
+    Event::Sends(0x2000_0000_0000_0000),
+    Event::Sends(0x6000_0000_0000_0008),
+    Event::Sends(0xA000_3100_0000_0002),
+    Event::Sends(0x2000_0000_0000_0000),
+    Event::Sends(0x6000_0000_0000_0009),
+    Event::Sends(0xA408_3300_0000_0002),
+    Event::Sends(0x2000_0000_0000_0010),
+    Event::Sends(0x6000_0000_0000_000A),
+    Event::Tries(Choice::Send, None),
+];
 
 #[test]
 #[tactic(auto, using(net_interface::proofs::Followable::followable_by))]
@@ -158,52 +202,39 @@ fn each_operation_has_its_flits(rt: HostRuntime) -> Result<(), Fail> {
         Line::Max(8, Value::Number(9)),
         Line::Min(9, Value::Number(0x10_0000_000A)),
     ];
-    let events = [
-        Event::Sends(0xE000_2000_0000_0000),
-        Event::Sends(0xA408_2200_0000_0000),
-        Event::Sends(0x2000_0000_0000_0000),
-        Event::Sends(0x6000_0000_0000_0001),
-        Event::Sends(0xA810_2400_0000_0000),
-        Event::Sends(0x2000_0000_0000_0000),
-        Event::Sends(0x6000_0000_0000_0002),
-        Event::Sends(0xAC18_2600_0000_0000),
-        Event::Sends(0x2000_0000_0000_0000),
-        Event::Sends(0x2000_0000_0000_0003),
-        Event::Sends(0x2000_0000_0000_0000),
-        Event::Sends(0x6000_0000_0000_0004),
-        Event::Sends(0xB000_2800_0000_0001),
-        Event::Sends(0x2000_0000_0000_0000),
-        Event::Sends(0x6000_0000_0000_0005),
-        Event::Sends(0xB408_2A00_0000_0001),
-        Event::Sends(0x2000_0000_0000_0000),
-        Event::Sends(0x6000_0000_0000_0006),
-        Event::Sends(0xB810_2C00_0000_0001),
-        Event::Sends(0x2000_0000_0000_0000),
-        Event::Sends(0x6000_0000_0000_0007),
-        Event::Sends(0xBC18_2E00_0000_0001),
-        Event::Sends(0x2000_0000_0000_0000),
-        Event::Sends(0x6000_0000_0000_0008),
-        Event::Sends(0xA000_3100_0000_0002),
-        Event::Sends(0x2000_0000_0000_0000),
-        Event::Sends(0x6000_0000_0000_0009),
-        Event::Sends(0xA408_3300_0000_0002),
-        Event::Sends(0x2000_0000_0000_0010),
-        Event::Sends(0x6000_0000_0000_000A),
-        Event::Tries(Choice::Send, None),
-    ];
     let unlike = plays(
         rt.alloc(),
         true,
         1,
         16,
         &lines,
-        &events,
+        &EACH_OPERATION,
         &[],
         (false, false, false, 10),
     )?;
     assert_eq!(rt; unlike, None);
     Ok(())
 }
+
+const FENCES_AND_SPINS: [Event; 17] = [
+    Event::Sends(0xA400_2000_0000_0000),
+    Event::Sends(0x2000_0000_0000_0000),
+    Event::Sends(0x6000_0000_0000_0001),
+    Event::Tries(Choice::Send, None),
+    Event::Takes(0xE608_0000_0000_0000),
+    Event::Sends(0xE000_2000_0000_0000),
+    Event::Tries(Choice::Send, None),
+    Event::Takes(0xA208_0000_0000_0001),
+    Event::Takes(0x2000_0000_0000_0000),
+    Event::Takes(0x6000_0000_0000_0005),
+    Event::Sends(0xE000_2000_0000_0000),
+    Event::Takes(0xA208_0000_0000_0002),
+    Event::Takes(0x2000_0000_0000_0000),
+    Event::Tries(Choice::Send, None),
+    Event::Takes(0x6000_0000_0000_0007),
+    Event::Sends(0xE000_2000_0000_0000),
+    Event::Tries(Choice::Done, None),
+];
 
 /// A store, a fence, and a spin of address 0 for a 7, whose home is bank 0; then a load.
 #[test]
@@ -214,25 +245,6 @@ fn fences_and_spins_hold_back(rt: HostRuntime) -> Result<(), Fail> {
         Line::Fence,
         Line::Spin(0, 7, 3),
         Line::Load(0),
-    ];
-    let events = [
-        Event::Sends(0xA400_2000_0000_0000),
-        Event::Sends(0x2000_0000_0000_0000),
-        Event::Sends(0x6000_0000_0000_0001),
-        Event::Tries(Choice::Send, None),
-        Event::Takes(0xE608_0000_0000_0000),
-        Event::Sends(0xE000_2000_0000_0000),
-        Event::Tries(Choice::Send, None),
-        Event::Takes(0xA208_0000_0000_0001),
-        Event::Takes(0x2000_0000_0000_0000),
-        Event::Takes(0x6000_0000_0000_0005),
-        Event::Sends(0xE000_2000_0000_0000),
-        Event::Takes(0xA208_0000_0000_0002),
-        Event::Takes(0x2000_0000_0000_0000),
-        Event::Tries(Choice::Send, None),
-        Event::Takes(0x6000_0000_0000_0007),
-        Event::Sends(0xE000_2000_0000_0000),
-        Event::Tries(Choice::Done, None),
     ];
     let answers = [
         answer(0, Op::Store(1), Reply::Ok, 0, 0),
@@ -245,7 +257,7 @@ fn fences_and_spins_hold_back(rt: HostRuntime) -> Result<(), Fail> {
         1,
         4,
         &lines,
-        &events,
+        &FENCES_AND_SPINS,
         &answers,
         (false, false, false, 1),
     )?;
@@ -253,27 +265,28 @@ fn fences_and_spins_hold_back(rt: HostRuntime) -> Result<(), Fail> {
     Ok(())
 }
 
+const REPLIES_BY_TAGS: [Event; 13] = [
+    Event::Sends(0xE000_2000_0000_0000),
+    Event::Sends(0xE000_2200_0000_0000),
+    Event::Takes(0xA208_0200_0000_0000),
+    Event::Takes(0x2000_0000_0000_0000),
+    Event::Takes(0x6000_0000_0000_0005),
+    Event::Word(23, 0, 0xA208_0200_0000_0001),
+    Event::Tries(Choice::Take, None),
+    Event::Word(23, 0xA208_0200_0000_0001, 0xA208_0400_0000_0001),
+    Event::Tries(Choice::Take, None),
+    Event::Word(23, 0xA208_0400_0000_0001, 0xA208_0000_0000_0001),
+    Event::Tries(Choice::Take, MOVED),
+    Event::Takes(0x2000_0000_0000_0000),
+    Event::Takes(0x6000_0000_0000_0007),
+];
+
 /// Two loads of address 0 under two tags: the second is answered first, a second reply to it may not be
 /// taken, nor one under a tag that isn't out.
 #[test]
 #[tactic(auto, using(net_interface::proofs::Followable::followable_by))]
 fn replies_go_by_their_tags(rt: HostRuntime) -> Result<(), Fail> {
     let lines = [Line::Load(0), Line::Load(0)];
-    let events = [
-        Event::Sends(0xE000_2000_0000_0000),
-        Event::Sends(0xE000_2200_0000_0000),
-        Event::Takes(0xA208_0200_0000_0000),
-        Event::Takes(0x2000_0000_0000_0000),
-        Event::Takes(0x6000_0000_0000_0005),
-        Event::Word(23, 0, 0xA208_0200_0000_0001),
-        Event::Tries(Choice::Take, None),
-        Event::Word(23, 0xA208_0200_0000_0001, 0xA208_0400_0000_0001),
-        Event::Tries(Choice::Take, None),
-        Event::Word(23, 0xA208_0400_0000_0001, 0xA208_0000_0000_0001),
-        Event::Tries(Choice::Take, MOVED),
-        Event::Takes(0x2000_0000_0000_0000),
-        Event::Takes(0x6000_0000_0000_0007),
-    ];
     let answers = [
         answer(1, Op::Load, Reply::Old(5), 0, 0),
         answer(0, Op::Load, Reply::Old(7), 0, 1),
@@ -284,13 +297,25 @@ fn replies_go_by_their_tags(rt: HostRuntime) -> Result<(), Fail> {
         1,
         2,
         &lines,
-        &events,
+        &REPLIES_BY_TAGS,
         &answers,
         (true, false, false, 0),
     )?;
     assert_eq!(rt; unlike, None);
     Ok(())
 }
+
+const FILLED_PLACES: [Event; 9] = [
+    Event::Tries(Choice::Send, MOVED),
+    Event::Tries(Choice::Send, MOVED),
+    Event::Tries(Choice::Send, MOVED),
+    Event::Tries(Choice::Send, MOVED),
+    Event::Tries(Choice::Send, None),
+    Event::Word(80, 0xA408_2000_0000_0001, 0),
+    Event::Word(81, 0x2000_0000_0000_0000, 0),
+    Event::Word(82, 0x6000_0000_0000_0011, 0),
+    Event::Word(83, 0xE008_2200_0000_0001, 0),
+];
 
 /// Over channels of four places a store's flits and a load's are put without a credit coming back.
 #[test]
@@ -301,24 +326,13 @@ fn flits_fill_the_places_of_the_output(rt: HostRuntime) -> Result<(), Fail> {
         Line::Load(5),
         Line::Load(5),
     ];
-    let events = [
-        Event::Tries(Choice::Send, MOVED),
-        Event::Tries(Choice::Send, MOVED),
-        Event::Tries(Choice::Send, MOVED),
-        Event::Tries(Choice::Send, MOVED),
-        Event::Tries(Choice::Send, None),
-        Event::Word(80, 0xA408_2000_0000_0001, 0),
-        Event::Word(81, 0x2000_0000_0000_0000, 0),
-        Event::Word(82, 0x6000_0000_0000_0011, 0),
-        Event::Word(83, 0xE008_2200_0000_0001, 0),
-    ];
     let unlike = plays(
         rt.alloc(),
         false,
         4,
         3,
         &lines,
-        &events,
+        &FILLED_PLACES,
         &[],
         (false, false, false, 2),
     )?;

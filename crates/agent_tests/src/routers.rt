@@ -37,46 +37,47 @@ fn first_unlike(
     Ok(bench.first_unlike(events))
 }
 
+const TWO_PACKETS: [Event; 32] = [
+    Event::Word(0, 0, 0xA410_2000_0000_0000),
+    Event::Word(1, 0, 0x2000_0000_0000_0000),
+    Event::Word(2, 0, 0x6000_0000_0000_0007),
+    Event::Word(80, 0, 0xE010_2000_0000_0000),
+    Event::Word(81, 0, 0xE010_2000_0000_0000),
+    Event::Tries(Choice::TakeFrom(0), MOVED),
+    Event::Tries(Choice::TakeFrom(8), MOVED),
+    Event::Tries(Choice::TakeFrom(8), None),
+    Event::Tries(Choice::Put(0), MOVED),
+    Event::Tries(Choice::Put(8), None),
+    Event::Tries(Choice::TakeFrom(0), MOVED),
+    Event::Tries(Choice::Put(0), MOVED),
+    Event::Tries(Choice::TakeFrom(0), MOVED),
+    Event::Tries(Choice::Put(0), MOVED),
+    Event::Tries(Choice::Put(0), None),
+    Event::Tries(Choice::Put(8), MOVED),
+    Event::Tries(Choice::TakeFrom(0), IDLE),
+    Event::Tries(Choice::TakeFrom(8), MOVED),
+    Event::Tries(Choice::Put(8), None),
+    Event::Tries(Choice::CreditOf(0), IDLE),
+    Event::Tries(Choice::CreditOf(1), None),
+    Event::Tries(Choice::CreditOf(10), None),
+    Event::Tries(Choice::Serve, None),
+    Event::Word(0, 0, 0),
+    Event::Word(1, 0, 0),
+    Event::Word(2, 0, 0),
+    Event::Word(80, 0, 0),
+    Event::Word(81, 0, 0),
+    Event::Word(48, 0xA410_2000_0000_0000, 0),
+    Event::Word(49, 0x2000_0000_0000_0000, 0),
+    Event::Word(50, 0x6000_0000_0000_0007, 0),
+    Event::Word(51, 0xE010_2000_0000_0000, 0),
+];
+
 /// A store request to tile 2 waits at input 0, and two load requests at input 8.
 #[test]
 fn two_packets_take_one_output_in_turn(rt: HostRuntime) -> Result<(), Fail> {
-    let events = [
-        Event::Word(0, 0, 0xA410_2000_0000_0000),
-        Event::Word(1, 0, 0x2000_0000_0000_0000),
-        Event::Word(2, 0, 0x6000_0000_0000_0007),
-        Event::Word(80, 0, 0xE010_2000_0000_0000),
-        Event::Word(81, 0, 0xE010_2000_0000_0000),
-        Event::Tries(Choice::TakeFrom(0), MOVED),
-        Event::Tries(Choice::TakeFrom(8), MOVED),
-        Event::Tries(Choice::TakeFrom(8), None),
-        Event::Tries(Choice::Put(0), MOVED),
-        Event::Tries(Choice::Put(8), None),
-        Event::Tries(Choice::TakeFrom(0), MOVED),
-        Event::Tries(Choice::Put(0), MOVED),
-        Event::Tries(Choice::TakeFrom(0), MOVED),
-        Event::Tries(Choice::Put(0), MOVED),
-        Event::Tries(Choice::Put(0), None),
-        Event::Tries(Choice::Put(8), MOVED),
-        Event::Tries(Choice::TakeFrom(0), IDLE),
-        Event::Tries(Choice::TakeFrom(8), MOVED),
-        Event::Tries(Choice::Put(8), None),
-        Event::Tries(Choice::CreditOf(0), IDLE),
-        Event::Tries(Choice::CreditOf(1), None),
-        Event::Tries(Choice::CreditOf(10), None),
-        Event::Tries(Choice::Serve, None),
-        Event::Word(0, 0, 0),
-        Event::Word(1, 0, 0),
-        Event::Word(2, 0, 0),
-        Event::Word(80, 0, 0),
-        Event::Word(81, 0, 0),
-        Event::Word(48, 0xA410_2000_0000_0000, 0),
-        Event::Word(49, 0x2000_0000_0000_0000, 0),
-        Event::Word(50, 0x6000_0000_0000_0007, 0),
-        Event::Word(51, 0xE010_2000_0000_0000, 0),
-    ];
     let unlike = (
-        first_unlike(rt.alloc(), false, &events)?,
-        first_unlike(rt.alloc(), true, &events)?,
+        first_unlike(rt.alloc(), false, &TWO_PACKETS)?,
+        first_unlike(rt.alloc(), true, &TWO_PACKETS)?,
     );
     assert_eq!(rt; unlike, (None, None));
     Ok(())
