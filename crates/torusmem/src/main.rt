@@ -1,12 +1,11 @@
 //! The command line of torusmem, a shared memory spread over a torus of tiles.
 #![tactic(auto)]
 
-ghost use Rattle.torusmem.specs.Job.{IsWithinLimits};
+ghost use Rattle.command_line.specs.Job.{IsWithinLimits};
 
-mod command;
 mod progress_line;
 
-use command::{Job, read_command};
+use command_line::{Job, read_command};
 use commands::{
     ProgramFault, channels_text, check_text, fault_text, finished, round_text_with, route_text,
     run_text, status_of, steps_text,

@@ -5,8 +5,8 @@ use Rattle.std.specs.Str.Parse.{digits_value, without_leading_plus}
 use Rattle.clap.specs.Words.{Row, Text, first_of, one_of}
 use Rattle.torus.specs.declared.shape.Class.{Class}
 use Rattle.torus.specs.declared.shape.Class.TheVariants.{Request, Reply}
-use Rattle.torusmem.specs.declared.command.Job.{Job}
-use Rattle.torusmem.specs.declared.command.Job.TheVariants.{Steps, Round, Run, Route, Channels, Check}
+use Rattle.command_line.specs.declared.command.Job.{Job}
+use Rattle.command_line.specs.declared.command.Job.TheVariants.{Steps, Round, Run, Route, Channels, Check}
 
 -- the values of a subcommand's arguments
 abbrev pub rows_in : Option (Text × List Row) → Option (List Row)

@@ -2,8 +2,8 @@ ghost use Rattle.std.specs.Prelude.{◌≡◌, ◌≤◌, IfOk, IfSome, Some, ma
 ghost use Rattle.clap.specs.Words.{app_of, found_of, first_of, new_app, one_of, rows_of, subcommand_name_of, subcommand_rows_of, with_rule};
 ghost use Rattle.clap.specs.Walk.{rule_of};
 ghost use Rattle.clap.specs.declared.builder.command.Command.TheViews.{out-Command as fields_of};
-ghost use Rattle.torusmem.specs.CommandLine.{steps_app, round_app, run_app, route_app, channels_app, check_app, stepping_app, running_app, routing_app, torusmem_app, needed, tile, rounds, workers, turns, flag, name_by, rows_by};
-ghost use Rattle.torusmem.specs.Job.{AreOf, IsWithinLimits, class_word, name_of, number_in, rows_in};
+ghost use Rattle.command_line.specs.CommandLine.{steps_app, round_app, run_app, route_app, channels_app, check_app, stepping_app, running_app, routing_app, torusmem_app, needed, tile, rounds, workers, turns, flag, name_by, rows_by};
+ghost use Rattle.command_line.specs.Job.{AreOf, IsWithinLimits, class_word, name_of, number_in, rows_in};
 
 use clap::error::ErrorKind;
 use clap::{Arg, ArgAction, ArgMatches, Command, Error, value_parser};

@@ -1,8 +1,8 @@
 -- The getter reads the text of the argument.
 use Rattle.std.specs.Str.Parse.{ExplainsUnsignedError, HasUnsignedDigitsIfOk}
 use Rattle.clap.specs.Words.{found_of}
-use Rattle.torusmem.proofs.Rows.{number_read}
-use Rattle.torusmem.proofs.command.number.Goals as goal
+use Rattle.command_line.proofs.Rows.{number_read}
+use Rattle.command_line.proofs.command.number.Goals as goal
 
 pub returns : goal.returns
 returns c = number_read (λ text read. ExplainsUnsignedError 10 text read) (λ text read. HasUnsignedDigitsIfOk text read)
