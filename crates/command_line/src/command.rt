@@ -12,7 +12,7 @@ use std::convert::AsStr;
 use torus::Class;
 
 /// What the command line asks for. Files are named as they were given.
-#[derive(Clone, Copy, Debug, PartialEq, Eq)]
+#[derive(Clone, Copy)]
 pub enum Job<'a> {
     /// Run the listed steps, and print the report.
     Steps {
