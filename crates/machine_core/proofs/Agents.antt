@@ -36,7 +36,8 @@ use Rattle.machine_core.specs.Noted.{HasRoomToNote, IsOfFullBank, counts_of, rec
 use Rattle.machine_core.specs.Inside.{core_of, IsMachine}
 use Rattle.machine_core.proofs.Fields.{Led, with_parts}
 use Rattle.machine_core.proofs.Standing.{tiles_counted}
-use Rattle.machine_core.proofs.Moving.{word_in, word_fits, full_stays, without_op, idle, can_note, one_left, moved}
+use Rattle.machine_core.proofs.Attempting.{word_in, word_fits, full_stays, without_op, idle}
+use Rattle.machine_core.proofs.Moving.{can_note, one_left, moved}
 use Rattle.machine_core.proofs.NotedBooks.{noted_as_nothing}
 
 -- agent k of a tile

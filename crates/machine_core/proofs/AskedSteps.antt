@@ -19,7 +19,7 @@ use Rattle.wake_flags.specs.machine_laws.specs.Core.{Core, IsAfter, built_to, al
 use Rattle.machine_core.specs.declared.machine.Machine.TheInside.{Inside}
 use Rattle.machine_core.specs.Inside.{core_of, places_in, IsMachine}
 use Rattle.machine_core.proofs.Standing.{none_past}
-use Rattle.machine_core.proofs.Moving.{leads, step_is}
+use Rattle.machine_core.proofs.Attempting.{leads, step_is}
 use Rattle.wake_flags.specs.machine_laws.proofs.Moves.{built, same_finished}
 
 module _ {A : Type 0} (a : Inside A) (is : IsMachine a) (attempt : Step) where

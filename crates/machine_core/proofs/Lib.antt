@@ -1,6 +1,7 @@
 pub mod NotedBooks
 pub mod Fields
 pub mod Standing
+pub mod Attempting
 pub mod Moving
 pub mod Sleeping
 pub mod Agents

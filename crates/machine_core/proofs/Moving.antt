@@ -1,4 +1,4 @@
--- A machine's fields after an attempt at a tile: they are those of the machine that the attempt makes.
+-- A machine's fields after an attempt that is enabled: they are those of the machine that the attempt makes.
 use Rattle.std.proofs.Common.{◌≡◌, ◌≢◌, ⊎_elim, ℕ, ◌-◌, ◌/◌, ◌%◌, ◌<◌, ◌≤◌, List, [], ◌∷◌, ◌++◌, length, map, take, Option, Some, None, sym, ◌∙◌, ap, subst, arith}
 use Rattle.std.proofs.Common.{slice_get, slice_set, slice_index, vec_len}
 use Rattle.std.specs.Prelude.{Vec, MatchOption, option_and_then}
@@ -47,6 +47,7 @@ use Rattle.wake_flags.specs.wakefulness.specs.Sleep.{OthersSleep}
 use Rattle.machine_core.proofs.Fields.{Led, stays, set_there, state_at, records_shown, with_parts, core_by}
 use Rattle.machine_core.proofs.Standing.{all_steps, shown_now, design_is, state_is, book_is, tiles_counted}
 use Rattle.wake_flags.proofs.KeptSleepers as kept
+use Rattle.machine_core.proofs.Attempting.{step_is, event_is, place_there, leads}
 
 module _ {A : Type 0} (a : Inside A) (is : IsMachine a) where
   abbrev l : Load
@@ -62,74 +63,7 @@ module _ {A : Type 0} (a : Inside A) (is : IsMachine a) where
     abbrev event : Event
     event = event_in (design_of l) s attempt
 
-    pub step_is : step (built_to (core_of a)) (core_of a).state attempt ≡ step (design_of l) s attempt
-    step_is = ap (λ (d : Design). step d (core_of a).state attempt) (design_is a is) ∙ ap (λ (x : State). step (design_of l) x attempt) (state_is a is)
-
-    event_is : event_in (built_to (core_of a)) (core_of a).state attempt ≡ event
-    event_is = ap (λ (d : Design). event_in d (core_of a).state attempt) (design_is a is) ∙ ap (λ (x : State). event_in (design_of l) x attempt) (state_is a is)
-
     module _ (v : PlacedTile) (there : slice_get a.tiles.items t ≡ Some v) where
-      place_there : slice_get (places_in a) t ≡ Some v.place
-      place_there = slice_get-map (λ (w : PlacedTile). w.place) a.tiles.items t ∙ ap (option_map (λ (w : PlacedTile). w.place)) there
-
-      -- what the agent asks
-      pub word_in : IfSome (tile_next_op v.place attempt) (λ o. word_of o < vec_len a.row)
-      word_in = subst (λ (n : ℕ). IfSome (tile_next_op v.place attempt) (λ o. word_of o < n)) (sym a.row.ok.0)
-          (word_there l is.after.accepted is.steps (length is.steps) (places_in a) a.row.items (shown_now a is) attempt v.place place_there)
-
-      pub word_fits : IfSome (tile_next_op v.place attempt) (λ o. IsAcceptableTo v.place (agent_numbered (attempt.agent % 3)) attempt.choice (slice_index a.row.items (word_of o)))
-      word_fits = word_asked l is.after.accepted is.steps (length is.steps) (places_in a) a.row.items (shown_now a is) attempt v.place place_there
-
-      -- a full bank serves nothing
-      pub full_stays : attempt.agent % 3 ≡ 2 → IsOfFullBank v attempt.choice → Steps (core_of a) (core_of a) Idle attempt
-      full_stays bank full =
-          let none = full_shown l is.after.accepted is.steps (length is.steps) (places_in a) a.row.items (shown_now a is) attempt v.place place_there
-          (full.full ∙ is.banks t v there) bank full.service in
-          stays (core_of a) attempt (step_is ∙ subst (λ (xs : List Step). step (design_of l) (after l xs) attempt ≡ None) (all_steps a is) none)
-
-      pub leads : LeadsOn (design_of l) s (places_in a) a.row.items attempt v.place
-      leads = subst (λ (xs : List Step). LeadsOn (design_of l) (after l xs) (places_in a) a.row.items attempt v.place) (all_steps a is)
-          (leads_on l is.after.accepted is.steps (length is.steps) (places_in a) a.row.items (shown_now a is) attempt v.place place_there)
-
-      idles : (o : Option TilePlace) → o ≡ None
-          → MatchOption o ((step (design_of l) s attempt ≡ None) × (performed_by a.row.items (tile_next_op v.place attempt) ≡ a.row.items))
-          (λ q. (next : State) × (step (design_of l) s attempt ≡ Some next) × IsShown (design_of l) next (slice_set (places_in a) t q) (performed_by a.row.items (tile_next_op v.place attempt)))
-          → (step (design_of l) s attempt ≡ None) × (performed_by a.row.items (tile_next_op v.place attempt) ≡ a.row.items)
-      idles None e h = h
-      idles (Some q) e h = absurd (cc)
-
-      -- an attempt without an operation isn't enabled
-      pub without_op : tile_next_op v.place attempt ≡ None → Steps (core_of a) (core_of a) Idle attempt
-      without_op none =
-          let idle : tile_attempted v.place attempt a.row.items ≡ None = ap (option_and_then (λ (o : WordOp). tile_absorbed v.place attempt (slice_index a.row.items (word_of o)))) none in
-          stays (core_of a) attempt (step_is ∙ (idles (tile_attempted v.place attempt a.row.items) idle leads).0)
-
-      -- the fields after an attempt that isn't enabled
-      pub idle : (tiles : Vec PlacedTile A) (row : Vec ℕ A) → tile_attempted v.place attempt a.row.items ≡ None
-          → (w : PlacedTile) → w ≡ v → tiles.items ≡ slice_set a.tiles.items t w → row.items ≡ performed_by a.row.items (tile_next_op v.place attempt)
-          → Led a (with_parts a tiles row a.book a.awake a.left) Idle attempt
-      idle tiles row none w same tiles_are row_is =
-          let k = idles (tile_attempted v.place attempt a.row.items) none leads in
-          let tiles_stay : tiles.items ≡ a.tiles.items = tiles_are ∙ (ap (slice_set a.tiles.items t) same ∙ set_there a.tiles.items t v there) in
-          let row_stays : row.items ≡ a.row.items = row_is ∙ k.1 in
-          let core_stays : core_of (with_parts a tiles row a.book a.awake a.left) ≡ core_of a =
-          ap (λ (vs : List PlacedTile). core_by a (state_seen (design_in a) (map (λ v. v.place) vs) row.items) a.book.book a.left) tiles_stay
-          ∙ ap (λ (ws : List ℕ). core_by a (state_seen (design_in a) (places_in a) ws) a.book.book a.left) row_stays in
-          record {
-            machine = record {
-              load = l;
-              steps = is.steps;
-              after = subst (λ (c : Core). IsAfter l c is.steps) (sym core_stays) is.after;
-              seen = subst (λ (vs : List PlacedTile). IsShown (design_of l) s (map (λ v. v.place) vs) row.items) (sym tiles_stay)
-                  (subst (λ (ws : List ℕ). IsShown (design_of l) s (places_in a) ws) (sym row_stays) is.seen);
-              banks = subst (HaveRoom l) (sym tiles_stay) is.banks;
-              room = is.room;
-              built = is.built;
-              sleepers = is.sleepers;
-            };
-            steps = subst (λ (c : Core). Steps (core_of a) c Idle attempt) (sym core_stays) (stays (core_of a) attempt (step_is ∙ k.0));
-          }
-
       moves : (o : Option TilePlace) (q : TilePlace) → o ≡ Some q
           → MatchOption o ((step (design_of l) s attempt ≡ None) × (performed_by a.row.items (tile_next_op v.place attempt) ≡ a.row.items))
           (λ q. (next : State) × (step (design_of l) s attempt ≡ Some next) × IsShown (design_of l) next (slice_set (places_in a) t q) (performed_by a.row.items (tile_next_op v.place attempt)))
@@ -141,7 +75,7 @@ module _ {A : Type 0} (a : Inside A) (is : IsMachine a) where
           (tiles : List PlacedTile) (tiles_are : tiles ≡ slice_set a.tiles.items t w)
           (row : List ℕ) (row_is : row ≡ performed_by a.row.items (tile_next_op v.place attempt)) where
         led : (next : State) × (step (design_of l) s attempt ≡ Some next) × IsShown (design_of l) next (slice_set (places_in a) t q) (performed_by a.row.items (tile_next_op v.place attempt))
-        led = moves (tile_attempted v.place attempt a.row.items) q attempted leads
+        led = moves (tile_attempted v.place attempt a.row.items) q attempted (leads a is attempt v there)
 
         abbrev next : State
         next = led.0
@@ -174,11 +108,11 @@ module _ {A : Type 0} (a : Inside A) (is : IsMachine a) where
             ∙ get_set_same a.tiles.items t (with_place v q) (slice_get_within a.tiles.items t v there)
 
         old_state : slice_get s.tiles t ≡ Some (state_of v.place)
-        old_state = state_at (design_of l) s (places_in a) a.row.items is.seen t v.place place_there
+        old_state = state_at (design_of l) s (places_in a) a.row.items is.seen t v.place (place_there a is attempt v there)
 
         new_state : slice_get next.tiles t ≡ Some (state_of q)
         new_state = state_at (design_of l) next (slice_set (places_in a) t q) (performed_by a.row.items (tile_next_op v.place attempt)) led.2 t q
-            (get_set_same (places_in a) t q (slice_get_within (places_in a) t v.place place_there))
+            (get_set_same (places_in a) t q (slice_get_within (places_in a) t v.place (place_there a is attempt v there)))
 
         records_are : records_in tiles ≡ records_of next
         records_are = records_shown tiles ∙ ap records_of next_seen
@@ -248,7 +182,7 @@ module _ {A : Type 0} (a : Inside A) (is : IsMachine a) where
             ∙ noted_is l is.after.accepted is.steps attempt next led.1 (state_of v.place) (state_of q) old_state new_state a.book.book)
 
         next_is : step (built_to (core_of a)) (core_of a).state attempt ≡ Some next
-        next_is = step_is ∙ led.1
+        next_is = (step_is a is attempt) ∙ led.1
 
         -- a move is left
         pub one_left : 0 < a.left
@@ -262,7 +196,7 @@ module _ {A : Type 0} (a : Inside A) (is : IsMachine a) where
         core_led g noted =
             ap (λ (x : State). core_by a x g (a.left - 1)) (ap (λ (d : Design). state_seen d (map (λ (x : PlacedTile). x.place) tiles) row) (design_is a is) ∙ next_seen)
             ∙ (ap (λ (b : EventBook). core_by a next b (a.left - 1)) (noted ∙ (ap (λ (x : Shape). noted_event (tiles_of x) a.book.book event) (sym is.after.shape)
-            ∙ ap (noted_event (tiles_of a.torus) a.book.book) (sym event_is)))
+            ∙ ap (noted_event (tiles_of a.torus) a.book.book) (sym (event_is a is attempt))))
             ∙ sym (ap (core_with (core_of a) (event_in (built_to (core_of a)) (core_of a).state attempt)) next_is))
 
         banks_led : HaveRoom l tiles
@@ -283,7 +217,7 @@ module _ {A : Type 0} (a : Inside A) (is : IsMachine a) where
         -- who doesn't count as awake is asleep
         sleepers_led : (op : WordOp) → tile_next_op v.place attempt ≡ Some op → (awake : Awake) → awake ≡ woken a.awake op → OthersSleep (design_of l) (after l (is.steps ++ attempt ∷ [])) (is_awake awake)
         sleepers_led op asked awake awake_is =
-            let by : step_op (design_of l) s attempt ≡ Some op = ap (option_and_then (λ (p : TilePlace). tile_next_op p attempt)) (sym (is.seen.tiles t) ∙ place_there) ∙ asked in
+            let by : step_op (design_of l) s attempt ≡ Some op = ap (option_and_then (λ (p : TilePlace). tile_next_op p attempt)) (sym (is.seen.tiles t) ∙ (place_there a is attempt v there)) ∙ asked in
             subst (λ (x : State). OthersSleep (design_of l) x (is_awake awake)) (sym next_after)
             (subst (λ (w : Awake). OthersSleep (design_of l) next (is_awake w)) (sym awake_is)
             (kept.moved l is.after.accepted is.steps attempt op next a.awake is.built is.sleepers by led.1))

@@ -1,6 +1,6 @@
 use Rattle.std.proofs.Common.{◌/◌, ◌∙◌, arith}
 use Rattle.machine_core.proofs.Fields.{vec_at}
-use Rattle.machine_core.proofs.Moving.{word_in}
+use Rattle.machine_core.proofs.Attempting.{word_in}
 use Rattle.machine_core.proofs.AskedSteps.{past_asked, tile_asked}
 use Rattle.machine_core.proofs.machine.Machine.enabled.Goals as goal
 

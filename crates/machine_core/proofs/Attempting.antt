@@ -1,0 +1,131 @@
+-- What an attempt at a tile asks and finds; where it is not enabled, the machine stays as it is.
+use Rattle.std.proofs.Common.{◌≡◌, ◌≢◌, ⊎_elim, ℕ, ◌-◌, ◌/◌, ◌%◌, ◌<◌, ◌≤◌, List, [], ◌∷◌, ◌++◌, length, map, take, Option, Some, None, sym, ◌∙◌, ap, subst, arith}
+use Rattle.std.proofs.Common.{slice_get, slice_set, slice_index, vec_len}
+use Rattle.std.specs.Prelude.{Vec, MatchOption, option_and_then}
+use Rattle.std.specs.Option.{option_map, IfSome}
+use Rattle.std.proofs.lemmas.Bool.{cases_eq}
+use Rattle.std.proofs.lemmas.List.{map-set, length-set, take_all}
+use Rattle.std.proofs.lemmas.Option.{slice_get_within, slice_get-map, same_Some}
+use Rattle.torus.specs.Shape.{Shape, tiles_of}
+use Rattle.torus.specs.declared.step.Step.{Step}
+use Rattle.torus.specs.declared.step.Stepped.TheVariants.{Moved, Idle}
+use Rattle.script.specs.Scripts.{operation_count}
+use Rattle.home_bank.specs.declared.entry.Entry.{Entry}
+use Rattle.runs.specs.declared.answer.Answer.{Answer}
+use Rattle.runs.specs.Events.{Event}
+use Rattle.runs.specs.Observed.{list_at}
+use Rattle.runs.proofs.Lists.{get_set_same, get_set_other}
+use Rattle.wake_flags.specs.net_interface.specs.ProcessorRecord.{ProcessorRecord}
+use Rattle.wake_flags.specs.flights.specs.EventBook.{EventBook, noted_event}
+use Rattle.wake_flags.specs.flights.specs.Room.{home_room}
+use Rattle.flit_buffer.specs.Tries.{performed_by}
+use Rattle.flit_buffer.specs.Words.{word_of}
+use Rattle.flit_buffer.specs.declared.word_op.WordOp.{WordOp}
+use Rattle.wake_flags.specs.core_row.specs.Attempts.{step_op}
+use Rattle.event_book.specs.RoomyBook.{RoomyBook, KeepsRoom}
+use Rattle.rounds.specs.Rounds.{moves_in, one_if_moved}
+use Rattle.wake_flags.specs.tile.specs.Tile.{Design}
+use Rattle.wake_flags.specs.tile.specs.Agents.{TilePlace, agent_numbered, state_of, tile_next_op, tile_absorbed}
+use Rattle.tile_agents.specs.Placed.{PlacedTile, IsAcceptableTo, with_place, tile_attempted}
+use Rattle.wake_flags.specs.core_laws.specs.Core.{Load, State, design_of, step, or_same, first_state, after, records_of}
+use Rattle.wake_flags.specs.machine_seen.specs.Seen.{IsShown, LeadsOn, state_seen}
+use Rattle.wake_flags.specs.machine_seen.proofs.Reached.{seen_state}
+use Rattle.wake_flags.specs.machine_seen.proofs.Attempts.{leads_on}
+use Rattle.wake_flags.specs.machine_laws.specs.Core.{Core, IsAfter, Steps, built_to, told, event_in, core_with, core_next}
+use Rattle.wake_flags.specs.machine_laws.proofs.Books.{after_append}
+use Rattle.wake_flags.specs.machine_laws.proofs.Machines.{after_step}
+use Rattle.wake_flags.specs.machine_laws.proofs.Moves.{most_left}
+use Rattle.wake_flags.specs.machine_seen.proofs.Tries.{word_there, word_asked}
+use Rattle.wake_flags.specs.machine_seen.proofs.Room.{full_shown}
+use Rattle.wake_flags.specs.machine_seen.specs.Notes.{FitsLoad, RoomToNoteService, RoomToNoteAnswer, book_noted, index_served}
+use Rattle.wake_flags.specs.machine_seen.proofs.Notes.{book_fits, noted_is, room_to_issue, room_to_serve, room_to_answer}
+use Rattle.machine_core.specs.declared.machine.Machine.TheInside.{Inside}
+use Rattle.machine_core.specs.Noted.{HasRoomForIssue, HasRoomForService, HasRoomToNote, IsOfFullBank, counts_of, records_in}
+use Rattle.machine_core.specs.Inside.{design_in, places_in, core_of, HaveRoom, HasRoomFor as HasRoomForScripts, IsMachine}
+use Rattle.wake_flags.specs.Awake.{Awake, is_awake, woken}
+use Rattle.wake_flags.specs.wakefulness.specs.Sleep.{OthersSleep}
+use Rattle.machine_core.proofs.Fields.{Led, stays, set_there, state_at, records_shown, with_parts, core_by}
+use Rattle.machine_core.proofs.Standing.{all_steps, shown_now, design_is, state_is, book_is, tiles_counted}
+use Rattle.wake_flags.proofs.KeptSleepers as kept
+
+module _ {A : Type 0} (a : Inside A) (is : IsMachine a) where
+  abbrev l : Load
+  l = is.load
+
+  abbrev s : State
+  s = after l is.steps
+
+  module _ (attempt : Step) where
+    abbrev t : ℕ
+    t = attempt.agent / 3
+
+    abbrev event : Event
+    event = event_in (design_of l) s attempt
+
+    pub step_is : step (built_to (core_of a)) (core_of a).state attempt ≡ step (design_of l) s attempt
+    step_is = ap (λ (d : Design). step d (core_of a).state attempt) (design_is a is) ∙ ap (λ (x : State). step (design_of l) x attempt) (state_is a is)
+
+    pub event_is : event_in (built_to (core_of a)) (core_of a).state attempt ≡ event
+    event_is = ap (λ (d : Design). event_in d (core_of a).state attempt) (design_is a is) ∙ ap (λ (x : State). event_in (design_of l) x attempt) (state_is a is)
+
+    module _ (v : PlacedTile) (there : slice_get a.tiles.items t ≡ Some v) where
+      pub place_there : slice_get (places_in a) t ≡ Some v.place
+      place_there = slice_get-map (λ (w : PlacedTile). w.place) a.tiles.items t ∙ ap (option_map (λ (w : PlacedTile). w.place)) there
+
+      -- what the agent asks
+      pub word_in : IfSome (tile_next_op v.place attempt) (λ o. word_of o < vec_len a.row)
+      word_in = subst (λ (n : ℕ). IfSome (tile_next_op v.place attempt) (λ o. word_of o < n)) (sym a.row.ok.0)
+          (word_there l is.after.accepted is.steps (length is.steps) (places_in a) a.row.items (shown_now a is) attempt v.place place_there)
+
+      pub word_fits : IfSome (tile_next_op v.place attempt) (λ o. IsAcceptableTo v.place (agent_numbered (attempt.agent % 3)) attempt.choice (slice_index a.row.items (word_of o)))
+      word_fits = word_asked l is.after.accepted is.steps (length is.steps) (places_in a) a.row.items (shown_now a is) attempt v.place place_there
+
+      -- a full bank serves nothing
+      pub full_stays : attempt.agent % 3 ≡ 2 → IsOfFullBank v attempt.choice → Steps (core_of a) (core_of a) Idle attempt
+      full_stays bank full =
+          let none = full_shown l is.after.accepted is.steps (length is.steps) (places_in a) a.row.items (shown_now a is) attempt v.place place_there
+          (full.full ∙ is.banks t v there) bank full.service in
+          stays (core_of a) attempt (step_is ∙ subst (λ (xs : List Step). step (design_of l) (after l xs) attempt ≡ None) (all_steps a is) none)
+
+      pub leads : LeadsOn (design_of l) s (places_in a) a.row.items attempt v.place
+      leads = subst (λ (xs : List Step). LeadsOn (design_of l) (after l xs) (places_in a) a.row.items attempt v.place) (all_steps a is)
+          (leads_on l is.after.accepted is.steps (length is.steps) (places_in a) a.row.items (shown_now a is) attempt v.place place_there)
+
+      idles : (o : Option TilePlace) → o ≡ None
+          → MatchOption o ((step (design_of l) s attempt ≡ None) × (performed_by a.row.items (tile_next_op v.place attempt) ≡ a.row.items))
+          (λ q. (next : State) × (step (design_of l) s attempt ≡ Some next) × IsShown (design_of l) next (slice_set (places_in a) t q) (performed_by a.row.items (tile_next_op v.place attempt)))
+          → (step (design_of l) s attempt ≡ None) × (performed_by a.row.items (tile_next_op v.place attempt) ≡ a.row.items)
+      idles None e h = h
+      idles (Some q) e h = absurd (cc)
+
+      -- an attempt without an operation isn't enabled
+      pub without_op : tile_next_op v.place attempt ≡ None → Steps (core_of a) (core_of a) Idle attempt
+      without_op none =
+          let idle : tile_attempted v.place attempt a.row.items ≡ None = ap (option_and_then (λ (o : WordOp). tile_absorbed v.place attempt (slice_index a.row.items (word_of o)))) none in
+          stays (core_of a) attempt (step_is ∙ (idles (tile_attempted v.place attempt a.row.items) idle leads).0)
+
+      -- the fields after an attempt that isn't enabled
+      pub idle : (tiles : Vec PlacedTile A) (row : Vec ℕ A) → tile_attempted v.place attempt a.row.items ≡ None
+          → (w : PlacedTile) → w ≡ v → tiles.items ≡ slice_set a.tiles.items t w → row.items ≡ performed_by a.row.items (tile_next_op v.place attempt)
+          → Led a (with_parts a tiles row a.book a.awake a.left) Idle attempt
+      idle tiles row none w same tiles_are row_is =
+          let k = idles (tile_attempted v.place attempt a.row.items) none leads in
+          let tiles_stay : tiles.items ≡ a.tiles.items = tiles_are ∙ (ap (slice_set a.tiles.items t) same ∙ set_there a.tiles.items t v there) in
+          let row_stays : row.items ≡ a.row.items = row_is ∙ k.1 in
+          let core_stays : core_of (with_parts a tiles row a.book a.awake a.left) ≡ core_of a =
+          ap (λ (vs : List PlacedTile). core_by a (state_seen (design_in a) (map (λ v. v.place) vs) row.items) a.book.book a.left) tiles_stay
+          ∙ ap (λ (ws : List ℕ). core_by a (state_seen (design_in a) (places_in a) ws) a.book.book a.left) row_stays in
+          record {
+            machine = record {
+              load = l;
+              steps = is.steps;
+              after = subst (λ (c : Core). IsAfter l c is.steps) (sym core_stays) is.after;
+              seen = subst (λ (vs : List PlacedTile). IsShown (design_of l) s (map (λ v. v.place) vs) row.items) (sym tiles_stay)
+                  (subst (λ (ws : List ℕ). IsShown (design_of l) s (places_in a) ws) (sym row_stays) is.seen);
+              banks = subst (HaveRoom l) (sym tiles_stay) is.banks;
+              room = is.room;
+              built = is.built;
+              sleepers = is.sleepers;
+            };
+            steps = subst (λ (c : Core). Steps (core_of a) c Idle attempt) (sym core_stays) (stays (core_of a) attempt (step_is ∙ k.0));
+          }
