@@ -1,14 +1,13 @@
 -- A machine's fields after an attempt that is enabled: they are those of the machine that the attempt makes.
-use Rattle.std.proofs.Common.{◌≡◌, ◌≢◌, ⊎_elim, ℕ, ◌-◌, ◌/◌, ◌%◌, ◌<◌, ◌≤◌, List, [], ◌∷◌, ◌++◌, length, map, take, Option, Some, None, sym, ◌∙◌, ap, subst, arith}
-use Rattle.std.proofs.Common.{slice_get, slice_set, slice_index, vec_len}
+use Rattle.std.proofs.Common.{◌≡◌, ◌≢◌, ⊎_elim, ℕ, ◌-◌, ◌/◌, ◌<◌, ◌≤◌, List, [], ◌∷◌, ◌++◌, length, map, take, Option, Some, None, sym, ◌∙◌, ap, subst, arith}
+use Rattle.std.proofs.Common.{slice_get, slice_set}
 use Rattle.std.specs.Prelude.{Vec, MatchOption, option_and_then}
-use Rattle.std.specs.Option.{option_map, IfSome}
 use Rattle.std.proofs.lemmas.Bool.{cases_eq}
 use Rattle.std.proofs.lemmas.List.{map-set, length-set, take_all}
-use Rattle.std.proofs.lemmas.Option.{slice_get_within, slice_get-map, same_Some}
+use Rattle.std.proofs.lemmas.Option.{slice_get_within, same_Some}
 use Rattle.torus.specs.Shape.{Shape, tiles_of}
 use Rattle.torus.specs.declared.step.Step.{Step}
-use Rattle.torus.specs.declared.step.Stepped.TheVariants.{Moved, Idle}
+use Rattle.torus.specs.declared.step.Stepped.TheVariants.{Moved}
 use Rattle.script.specs.Scripts.{operation_count}
 use Rattle.home_bank.specs.declared.entry.Entry.{Entry}
 use Rattle.runs.specs.declared.answer.Answer.{Answer}
@@ -19,33 +18,29 @@ use Rattle.wake_flags.specs.net_interface.specs.ProcessorRecord.{ProcessorRecord
 use Rattle.wake_flags.specs.flights.specs.EventBook.{EventBook, noted_event}
 use Rattle.wake_flags.specs.flights.specs.Room.{home_room}
 use Rattle.flit_buffer.specs.Tries.{performed_by}
-use Rattle.flit_buffer.specs.Words.{word_of}
 use Rattle.flit_buffer.specs.declared.word_op.WordOp.{WordOp}
 use Rattle.wake_flags.specs.core_row.specs.Attempts.{step_op}
 use Rattle.event_book.specs.RoomyBook.{RoomyBook, KeepsRoom}
 use Rattle.rounds.specs.Rounds.{moves_in, one_if_moved}
 use Rattle.wake_flags.specs.tile.specs.Tile.{Design}
-use Rattle.wake_flags.specs.tile.specs.Agents.{TilePlace, agent_numbered, state_of, tile_next_op, tile_absorbed}
-use Rattle.tile_agents.specs.Placed.{PlacedTile, IsAcceptableTo, with_place, tile_attempted}
+use Rattle.wake_flags.specs.tile.specs.Agents.{TilePlace, state_of, tile_next_op}
+use Rattle.tile_agents.specs.Placed.{PlacedTile, with_place, tile_attempted}
 use Rattle.wake_flags.specs.core_laws.specs.Core.{Load, State, design_of, step, or_same, first_state, after, records_of}
-use Rattle.wake_flags.specs.machine_seen.specs.Seen.{IsShown, LeadsOn, state_seen}
+use Rattle.wake_flags.specs.machine_seen.specs.Seen.{IsShown, state_seen}
 use Rattle.wake_flags.specs.machine_seen.proofs.Reached.{seen_state}
-use Rattle.wake_flags.specs.machine_seen.proofs.Attempts.{leads_on}
-use Rattle.wake_flags.specs.machine_laws.specs.Core.{Core, IsAfter, Steps, built_to, told, event_in, core_with, core_next}
+use Rattle.wake_flags.specs.machine_laws.specs.Core.{Core, IsAfter, built_to, told, event_in, core_with, core_next}
 use Rattle.wake_flags.specs.machine_laws.proofs.Books.{after_append}
 use Rattle.wake_flags.specs.machine_laws.proofs.Machines.{after_step}
 use Rattle.wake_flags.specs.machine_laws.proofs.Moves.{most_left}
-use Rattle.wake_flags.specs.machine_seen.proofs.Tries.{word_there, word_asked}
-use Rattle.wake_flags.specs.machine_seen.proofs.Room.{full_shown}
 use Rattle.wake_flags.specs.machine_seen.specs.Notes.{FitsLoad, RoomToNoteService, RoomToNoteAnswer, book_noted, index_served}
 use Rattle.wake_flags.specs.machine_seen.proofs.Notes.{book_fits, noted_is, room_to_issue, room_to_serve, room_to_answer}
 use Rattle.machine_core.specs.declared.machine.Machine.TheInside.{Inside}
-use Rattle.machine_core.specs.Noted.{HasRoomForIssue, HasRoomForService, HasRoomToNote, IsOfFullBank, counts_of, records_in}
+use Rattle.machine_core.specs.Noted.{HasRoomForIssue, HasRoomForService, HasRoomToNote, counts_of, records_in}
 use Rattle.machine_core.specs.Inside.{design_in, places_in, core_of, HaveRoom, HasRoomFor as HasRoomForScripts, IsMachine}
 use Rattle.wake_flags.specs.Awake.{Awake, is_awake, woken}
 use Rattle.wake_flags.specs.wakefulness.specs.Sleep.{OthersSleep}
-use Rattle.machine_core.proofs.Fields.{Led, stays, set_there, state_at, records_shown, with_parts, core_by}
-use Rattle.machine_core.proofs.Standing.{all_steps, shown_now, design_is, state_is, book_is, tiles_counted}
+use Rattle.machine_core.proofs.Fields.{Led, state_at, records_shown, with_parts, core_by}
+use Rattle.machine_core.proofs.Standing.{design_is, book_is, tiles_counted}
 use Rattle.wake_flags.proofs.KeptSleepers as kept
 use Rattle.machine_core.proofs.Attempting.{step_is, event_is, place_there, leads}
 
