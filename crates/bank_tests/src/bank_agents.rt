@@ -1,12 +1,10 @@
-ghost use Rattle.std.specs.Prelude.{◌<◌, IfOk};
-ghost use Rattle.torus.specs.Shape.{tiles_of};
-
+use crate::service_lists::two_tiles;
 use flit_buffer::perform;
 use home_bank::{BankAgent, Entry, is_acceptable};
 use packet::{Op, Reply};
 use std::alloc::{AllocError, Global};
 use std::test::Fail;
-use torus::{Choice, Stepped, Tag, Torus};
+use torus::{Choice, Stepped, Tag};
 
 /// The first places of the bank's input and of its output, over two tiles and channels of depth 1.
 const INPUT: usize = 22;
@@ -26,6 +24,8 @@ enum Event {
     Sends(u64),
     /// A flit comes, and is taken.
     Takes(u64),
+    /// A flit, and whether it may come.
+    MayCome(u64, bool),
     /// A word of the row, what it holds, and what it is made.
     Word(usize, u64, u64),
 }
@@ -77,53 +77,50 @@ impl Bench {
             Event::Takes(flit) => {
                 self.made(INPUT, flit) == Some(0) && self.tried(Choice::Take) == MOVED
             }
+            Event::MayCome(flit, may) => is_acceptable(flit) == may,
             Event::Word(place, held, word) => self.made(place, word) == Some(held),
         }
     }
-}
 
-/// Two tiles, where tile 1 is there.
-fn two_tiles() -> Result<Torus, AllocError>
-    ensures { IfOk result (λ t. 1 < tiles_of t) }
-{
-    match Torus::new(2, 1) {
-        Ok(torus) if torus.tiles() > 1 => Ok(torus),
-        _ => Err(AllocError),
+    /// The first event that comes to something else.
+    fn first_unlike(&mut self, events: &[Event]) -> Option<usize> {
+        for (at, &event) in events.iter().enumerate() {
+            if !self.happens(event) {
+                return Some(at);
+            }
+        }
+        None
     }
 }
 
-/// Plays events with a new bank, by operations or at once; then it is to have these entries. Answers the
-/// first event that goes otherwise, or their number where the entries are others.
-fn plays(
-    alloc: Global,
+/// Events that are played with a new bank, by operations or at once, and the entries that it has then.
+struct Play {
     at_once: bool,
-    events: &[Event],
-    entries: &[Entry],
-) -> Result<Option<usize>, AllocError> {
+    events: &'static [Event],
+    entries: &'static [Entry],
+}
+
+/// The first event of a play that goes otherwise with a new bank, or their number where the entries are
+/// others.
+fn first_unlike(alloc: Global, play: &Play) -> Result<Option<usize>, AllocError> {
     let bank = BankAgent::new(alloc, &two_tiles()?, 1, 1, 12)?;
     let row = vec![in alloc; 0u64; 33]?;
-    let mut bench = Bench { bank, row, at_once };
-    for (at, &event) in events.iter().enumerate() {
-        if !bench.happens(event) {
-            return Ok(Some(at));
-        }
-    }
-    let ends_so = bench.bank.entries() == entries && bench.bank.tile() == 1;
-    Ok(if ends_so { None } else { Some(events.len()) })
-}
-
-fn entry(source: u32, tag: u32, address: u32, op: Op, reply: Reply) -> Entry {
-    Entry {
-        source,
-        tag: Tag(tag),
-        address,
-        op,
-        reply,
-    }
+    let mut bench = Bench {
+        bank,
+        row,
+        at_once: play.at_once,
+    };
+    let unlike = bench.first_unlike(play.events);
+    let ends_so = bench.bank.entries() == play.entries && bench.bank.tile() == 1;
+    Ok(if ends_so {
+        unlike
+    } else {
+        Some(play.events.len())
+    })
 }
 
 /// A swap of the bank's word 3 comes in and is served, a load of it waits meanwhile.
-const SWAP_AND_LOAD: [Event; 43] = [
+const SWAP_AND_LOAD: &[Event] = &[
     Event::Word(31, 0, 5),
     Event::Tries(Choice::Take, IDLE),
     Event::Tries(Choice::Serve, None),
@@ -169,22 +166,25 @@ const SWAP_AND_LOAD: [Event; 43] = [
     Event::Word(31, 9, 9),
 ];
 
-#[test]
-fn each_choice_enabled_and_not(rt: HostRuntime) -> Result<(), Fail> {
-    let entries = [
-        entry(0, 2, 7, Op::Swap(9), Reply::Old(5)),
-        entry(0, 3, 7, Op::Load, Reply::Old(9)),
-    ];
-    let unlike = (
-        plays(rt.alloc(), false, &SWAP_AND_LOAD, &entries)?,
-        plays(rt.alloc(), true, &SWAP_AND_LOAD, &entries)?,
-    );
-    assert_eq!(rt; unlike, (None, None));
-    Ok(())
-}
+const SWAP_AND_LOAD_ENTRIES: &[Entry] = &[
+    Entry {
+        source: 0,
+        tag: Tag(2),
+        address: 7,
+        op: Op::Swap(9),
+        reply: Reply::Old(5),
+    },
+    Entry {
+        source: 0,
+        tag: Tag(3),
+        address: 7,
+        op: Op::Load,
+        reply: Reply::Old(9),
+    },
+];
 
 /// The ten operations.
-const TEN: [Event; 91] = [
+const TEN: &[Event] = &[
     Event::Word(25, 0, 12),
     Event::Takes(0xB408_0A00_0000_0000),
     Event::Takes(0x2000_0000_0000_0000),
@@ -280,42 +280,123 @@ const TEN: [Event; 91] = [
 
 /// Operations of processor 0 under tag 5 on the bank's words 0 to 3: what a word holds afterwards, and
 /// the reply to each.
-#[test]
-fn an_agent_does_all_ten_operations(rt: HostRuntime) -> Result<(), Fail> {
-    let entries = [
-        entry(0, 5, 1, Op::And(10), Reply::Old(12)),
-        entry(0, 5, 1, Op::Or(3), Reply::Old(8)),
-        entry(0, 5, 1, Op::Xor(6), Reply::Old(11)),
-        entry(0, 5, 1, Op::Max(20), Reply::Old(13)),
-        entry(0, 5, 1, Op::Min(5), Reply::Old(20)),
-        entry(0, 5, 3, Op::Cas(7, 9), Reply::Old(7)),
-        entry(0, 5, 3, Op::Cas(7, 8), Reply::Old(9)),
-        entry(0, 5, 5, Op::Swap(3), Reply::Old(0)),
-        entry(0, 5, 7, Op::Add(1), Reply::Old(u64::MAX)),
-        entry(0, 5, 7, Op::Store(17), Reply::Ok),
-        entry(0, 5, 7, Op::Load, Reply::Old(17)),
-    ];
-    let unlike = plays(rt.alloc(), true, &TEN, &entries)?;
-    assert_eq!(rt; unlike, None);
-    Ok(())
-}
+const TEN_ENTRIES: &[Entry] = &[
+    Entry {
+        source: 0,
+        tag: Tag(5),
+        address: 1,
+        op: Op::And(10),
+        reply: Reply::Old(12),
+    },
+    Entry {
+        source: 0,
+        tag: Tag(5),
+        address: 1,
+        op: Op::Or(3),
+        reply: Reply::Old(8),
+    },
+    Entry {
+        source: 0,
+        tag: Tag(5),
+        address: 1,
+        op: Op::Xor(6),
+        reply: Reply::Old(11),
+    },
+    Entry {
+        source: 0,
+        tag: Tag(5),
+        address: 1,
+        op: Op::Max(20),
+        reply: Reply::Old(13),
+    },
+    Entry {
+        source: 0,
+        tag: Tag(5),
+        address: 1,
+        op: Op::Min(5),
+        reply: Reply::Old(20),
+    },
+    Entry {
+        source: 0,
+        tag: Tag(5),
+        address: 3,
+        op: Op::Cas(7, 9),
+        reply: Reply::Old(7),
+    },
+    Entry {
+        source: 0,
+        tag: Tag(5),
+        address: 3,
+        op: Op::Cas(7, 8),
+        reply: Reply::Old(9),
+    },
+    Entry {
+        source: 0,
+        tag: Tag(5),
+        address: 5,
+        op: Op::Swap(3),
+        reply: Reply::Old(0),
+    },
+    Entry {
+        source: 0,
+        tag: Tag(5),
+        address: 7,
+        op: Op::Add(1),
+        reply: Reply::Old(u64::MAX),
+    },
+    Entry {
+        source: 0,
+        tag: Tag(5),
+        address: 7,
+        op: Op::Store(17),
+        reply: Reply::Ok,
+    },
+    Entry {
+        source: 0,
+        tag: Tag(5),
+        address: 7,
+        op: Op::Load,
+        reply: Reply::Old(17),
+    },
+];
+
+/// A load request for word 65535, for word 65536, a reply of place 65536, a body flit, and none.
+const ACCEPTABLE: &[Event] = &[
+    Event::MayCome(0xE008_0000_0000_FFFF, true),
+    Event::MayCome(0xE008_0000_0001_0000, false),
+    Event::MayCome(0xE600_2000_0001_0000, true),
+    Event::MayCome(0x2000_0000_0001_0000, true),
+    Event::MayCome(0, true),
+];
+
+const PLAYS: [Play; 4] = [
+    Play {
+        at_once: false,
+        events: SWAP_AND_LOAD,
+        entries: SWAP_AND_LOAD_ENTRIES,
+    },
+    Play {
+        at_once: true,
+        events: SWAP_AND_LOAD,
+        entries: SWAP_AND_LOAD_ENTRIES,
+    },
+    Play {
+        at_once: true,
+        events: TEN,
+        entries: TEN_ENTRIES,
+    },
+    Play {
+        at_once: true,
+        events: ACCEPTABLE,
+        entries: &[],
+    },
+];
 
 #[test]
-fn words_that_may_be(rt: HostRuntime) -> Result<(), Fail> {
-    // a load request for word 65535, for word 65536, a reply of place 65536, and a body flit
-    let flits = [
-        (0xE008_0000_0000_FFFF, true),
-        (0xE008_0000_0001_0000, false),
-        (0xE600_2000_0001_0000, true),
-        (0x2000_0000_0001_0000, true),
-        (0, true),
-    ];
-    let mut unlike = None;
-    for &(flit, acceptable) in flits.iter() {
-        if is_acceptable(flit) != acceptable {
-            unlike = Some(flit);
-        }
+fn events_go_as_they_say(rt: HostRuntime) -> Result<(), Fail> {
+    for (number, play) in PLAYS.iter().enumerate() {
+        let unlike = first_unlike(rt.alloc(), play)?;
+        assert_eq!(rt; unlike, None, "in play {number}");
     }
-    assert_eq!(rt; unlike, None);
     Ok(())
 }
