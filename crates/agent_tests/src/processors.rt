@@ -74,17 +74,8 @@ fn plays(
     Ok(if ends_so { unlike } else { Some(events.len()) })
 }
 
-fn answer(index: u32, op: Op, reply: Reply, bank: u32, place: u32) -> Answer {
-    Answer {
-        index,
-        op,
-        reply,
-        bank,
-        place,
-    }
-}
-
-const EACH_CHOICE: [Event; 39] = [
+/// A load and a store of address 5, whose home is bank 1, under one tag.
+const EACH_CHOICE: &[Event] = &[
     Event::Tries(Choice::Take, IDLE),
     Event::Tries(Choice::Credit, None),
     Event::Tries(Choice::Done, None),
@@ -126,34 +117,24 @@ const EACH_CHOICE: [Event; 39] = [
     Event::Tries(Choice::Look, None),
 ];
 
-/// A load and a store of address 5, whose home is bank 1, under one tag.
-#[test]
-#[tactic(auto, using(net_interface::proofs::Followable::followable_by))]
-fn each_choice_moves_where_it_may(rt: HostRuntime) -> Result<(), Fail> {
-    let lines = [Line::Load(5), Line::Store(5, Value::Number(17))];
-    let answers = [
-        answer(0, Op::Load, Reply::Old(9), 1, 0),
-        answer(1, Op::Store(17), Reply::Ok, 1, 1),
-    ];
-    let ends = (true, true, true, 0);
-    let unlike = (
-        plays(
-            rt.alloc(),
-            false,
-            1,
-            1,
-            &lines,
-            &EACH_CHOICE,
-            &answers,
-            ends,
-        )?,
-        plays(rt.alloc(), true, 1, 1, &lines, &EACH_CHOICE, &answers, ends)?,
-    );
-    assert_eq!(rt; unlike, (None, None));
-    Ok(())
-}
+const EACH_CHOICE_ANSWERS: &[Answer] = &[
+    Answer {
+        index: 0,
+        op: Op::Load,
+        reply: Reply::Old(9),
+        bank: 1,
+        place: 0,
+    },
+    Answer {
+        index: 1,
+        op: Op::Store(17),
+        reply: Reply::Ok,
+        bank: 1,
+        place: 1,
+    },
+];
 
-const EACH_OPERATION: [Event; 31] = [
+const EACH_OPERATION: &[Event] = &[
     Event::Sends(0xE000_2000_0000_0000),
     Event::Sends(0xA408_2200_0000_0000),
     Event::Sends(0x2000_0000_0000_0000),
@@ -187,36 +168,8 @@ const EACH_OPERATION: [Event; 31] = [
     Event::Tries(Choice::Send, None),
 ];
 
-#[test]
-#[tactic(auto, using(net_interface::proofs::Followable::followable_by))]
-fn each_operation_has_its_flits(rt: HostRuntime) -> Result<(), Fail> {
-    let lines = [
-        Line::Load(0),
-        Line::Store(1, Value::Number(1)),
-        Line::Swap(2, Value::Number(2)),
-        Line::Cas(3, Value::Number(3), Value::Number(4)),
-        Line::Add(4, Value::Number(5)),
-        Line::And(5, Value::Number(6)),
-        Line::Or(6, Value::Number(7)),
-        Line::Xor(7, Value::Number(8)),
-        Line::Max(8, Value::Number(9)),
-        Line::Min(9, Value::Number(0x10_0000_000A)),
-    ];
-    let unlike = plays(
-        rt.alloc(),
-        true,
-        1,
-        16,
-        &lines,
-        &EACH_OPERATION,
-        &[],
-        (false, false, false, 10),
-    )?;
-    assert_eq!(rt; unlike, None);
-    Ok(())
-}
-
-const FENCES_AND_SPINS: [Event; 17] = [
+/// A store, a fence, and a spin of address 0 for a 7, whose home is bank 0; then a load.
+const FENCES_AND_SPINS: &[Event] = &[
     Event::Sends(0xA400_2000_0000_0000),
     Event::Sends(0x2000_0000_0000_0000),
     Event::Sends(0x6000_0000_0000_0001),
@@ -236,36 +189,33 @@ const FENCES_AND_SPINS: [Event; 17] = [
     Event::Tries(Choice::Done, None),
 ];
 
-/// A store, a fence, and a spin of address 0 for a 7, whose home is bank 0; then a load.
-#[test]
-#[tactic(auto, using(net_interface::proofs::Followable::followable_by))]
-fn fences_and_spins_hold_back(rt: HostRuntime) -> Result<(), Fail> {
-    let lines = [
-        Line::Store(0, Value::Number(1)),
-        Line::Fence,
-        Line::Spin(0, 7, 3),
-        Line::Load(0),
-    ];
-    let answers = [
-        answer(0, Op::Store(1), Reply::Ok, 0, 0),
-        answer(1, Op::Load, Reply::Old(5), 0, 1),
-        answer(2, Op::Load, Reply::Old(7), 0, 2),
-    ];
-    let unlike = plays(
-        rt.alloc(),
-        false,
-        1,
-        4,
-        &lines,
-        &FENCES_AND_SPINS,
-        &answers,
-        (false, false, false, 1),
-    )?;
-    assert_eq!(rt; unlike, None);
-    Ok(())
-}
+const FENCES_AND_SPINS_ANSWERS: &[Answer] = &[
+    Answer {
+        index: 0,
+        op: Op::Store(1),
+        reply: Reply::Ok,
+        bank: 0,
+        place: 0,
+    },
+    Answer {
+        index: 1,
+        op: Op::Load,
+        reply: Reply::Old(5),
+        bank: 0,
+        place: 1,
+    },
+    Answer {
+        index: 2,
+        op: Op::Load,
+        reply: Reply::Old(7),
+        bank: 0,
+        place: 2,
+    },
+];
 
-const REPLIES_BY_TAGS: [Event; 13] = [
+/// Two loads of address 0 under two tags: the second is answered first, a second reply to it may not be
+/// taken, nor one under a tag that isn't out.
+const REPLIES_BY_TAGS: &[Event] = &[
     Event::Sends(0xE000_2000_0000_0000),
     Event::Sends(0xE000_2200_0000_0000),
     Event::Takes(0xA208_0200_0000_0000),
@@ -281,31 +231,25 @@ const REPLIES_BY_TAGS: [Event; 13] = [
     Event::Takes(0x6000_0000_0000_0007),
 ];
 
-/// Two loads of address 0 under two tags: the second is answered first, a second reply to it may not be
-/// taken, nor one under a tag that isn't out.
-#[test]
-#[tactic(auto, using(net_interface::proofs::Followable::followable_by))]
-fn replies_go_by_their_tags(rt: HostRuntime) -> Result<(), Fail> {
-    let lines = [Line::Load(0), Line::Load(0)];
-    let answers = [
-        answer(1, Op::Load, Reply::Old(5), 0, 0),
-        answer(0, Op::Load, Reply::Old(7), 0, 1),
-    ];
-    let unlike = plays(
-        rt.alloc(),
-        true,
-        1,
-        2,
-        &lines,
-        &REPLIES_BY_TAGS,
-        &answers,
-        (true, false, false, 0),
-    )?;
-    assert_eq!(rt; unlike, None);
-    Ok(())
-}
+const REPLIES_BY_TAGS_ANSWERS: &[Answer] = &[
+    Answer {
+        index: 1,
+        op: Op::Load,
+        reply: Reply::Old(5),
+        bank: 0,
+        place: 0,
+    },
+    Answer {
+        index: 0,
+        op: Op::Load,
+        reply: Reply::Old(7),
+        bank: 0,
+        place: 1,
+    },
+];
 
-const FILLED_PLACES: [Event; 9] = [
+/// Over channels of four places a store's flits and a load's are put without a credit coming back.
+const FILLED_PLACES: &[Event] = &[
     Event::Tries(Choice::Send, MOVED),
     Event::Tries(Choice::Send, MOVED),
     Event::Tries(Choice::Send, MOVED),
@@ -317,25 +261,97 @@ const FILLED_PLACES: [Event; 9] = [
     Event::Word(83, 0xE008_2200_0000_0001, 0),
 ];
 
-/// Over channels of four places a store's flits and a load's are put without a credit coming back.
 #[test]
 #[tactic(auto, using(net_interface::proofs::Followable::followable_by))]
-fn flits_fill_the_places_of_the_output(rt: HostRuntime) -> Result<(), Fail> {
-    let lines = [
+fn events_go_as_they_say(rt: HostRuntime) -> Result<(), Fail> {
+    let alloc = rt.alloc();
+    let choices = [Line::Load(5), Line::Store(5, Value::Number(17))];
+    let operations = [
+        Line::Load(0),
+        Line::Store(1, Value::Number(1)),
+        Line::Swap(2, Value::Number(2)),
+        Line::Cas(3, Value::Number(3), Value::Number(4)),
+        Line::Add(4, Value::Number(5)),
+        Line::And(5, Value::Number(6)),
+        Line::Or(6, Value::Number(7)),
+        Line::Xor(7, Value::Number(8)),
+        Line::Max(8, Value::Number(9)),
+        Line::Min(9, Value::Number(0x10_0000_000A)),
+    ];
+    let fences = [
+        Line::Store(0, Value::Number(1)),
+        Line::Fence,
+        Line::Spin(0, 7, 3),
+        Line::Load(0),
+    ];
+    let loads = [Line::Load(0), Line::Load(0)];
+    let fills = [
         Line::Store(5, Value::Number(17)),
         Line::Load(5),
         Line::Load(5),
     ];
-    let unlike = plays(
-        rt.alloc(),
-        false,
-        4,
-        3,
-        &lines,
-        &FILLED_PLACES,
-        &[],
-        (false, false, false, 2),
-    )?;
-    assert_eq!(rt; unlike, None);
+    let unlike = [
+        plays(
+            alloc,
+            false,
+            1,
+            1,
+            &choices,
+            EACH_CHOICE,
+            EACH_CHOICE_ANSWERS,
+            (true, true, true, 0),
+        )?,
+        plays(
+            alloc,
+            true,
+            1,
+            1,
+            &choices,
+            EACH_CHOICE,
+            EACH_CHOICE_ANSWERS,
+            (true, true, true, 0),
+        )?,
+        plays(
+            alloc,
+            true,
+            1,
+            16,
+            &operations,
+            EACH_OPERATION,
+            &[],
+            (false, false, false, 10),
+        )?,
+        plays(
+            alloc,
+            false,
+            1,
+            4,
+            &fences,
+            FENCES_AND_SPINS,
+            FENCES_AND_SPINS_ANSWERS,
+            (false, false, false, 1),
+        )?,
+        plays(
+            alloc,
+            true,
+            1,
+            2,
+            &loads,
+            REPLIES_BY_TAGS,
+            REPLIES_BY_TAGS_ANSWERS,
+            (true, false, false, 0),
+        )?,
+        plays(
+            alloc,
+            false,
+            4,
+            3,
+            &fills,
+            FILLED_PLACES,
+            &[],
+            (false, false, false, 2),
+        )?,
+    ];
+    assert!(rt; unlike == [None; 6], "{unlike:?}");
     Ok(())
 }

@@ -37,7 +37,7 @@ fn first_unlike(
     Ok(bench.first_unlike(events))
 }
 
-const TWO_PACKETS: [Event; 32] = [
+const TWO_PACKETS: &[Event] = &[
     Event::Word(0, 0, 0xA410_2000_0000_0000),
     Event::Word(1, 0, 0x2000_0000_0000_0000),
     Event::Word(2, 0, 0x6000_0000_0000_0007),
@@ -72,13 +72,12 @@ const TWO_PACKETS: [Event; 32] = [
     Event::Word(51, 0xE010_2000_0000_0000, 0),
 ];
 
-/// A store request to tile 2 waits at input 0, and two load requests at input 8.
+/// A store request to tile 2 waits at input 0, and two load requests at input 8; by operations, and at once.
 #[test]
 fn two_packets_take_one_output_in_turn(rt: HostRuntime) -> Result<(), Fail> {
-    let unlike = (
-        first_unlike(rt.alloc(), false, &TWO_PACKETS)?,
-        first_unlike(rt.alloc(), true, &TWO_PACKETS)?,
-    );
-    assert_eq!(rt; unlike, (None, None));
+    for at_once in [false, true] {
+        let unlike = first_unlike(rt.alloc(), at_once, TWO_PACKETS)?;
+        assert_eq!(rt; unlike, None, "at once: {at_once}");
+    }
     Ok(())
 }
