@@ -3,7 +3,7 @@
 #![tactic(auto)]
 
 #[cfg(test)]
-mod bench;
+mod fixtures;
 #[cfg(test)]
 mod schedules;
 #[cfg(test)]

@@ -1,213 +1,206 @@
-ghost use Rattle.std.specs.Prelude.{◌≡◌, ◌<◌};
 ghost use Rattle.fabric.specs.Seats.{IsOf};
 
-use crate::bench::{By, Call, PAIR, Pair, are_replies, deal, deal_pair, deal_whole, step_at};
-use fabric::{Fabric, Final, TileSeat, Turned};
+use crate::fixtures::{Call, PAIR, Pair, Whole, deal, deal_pair, deal_whole, hold, make_rounds};
+use fabric::{Fabric, Final, ProbeSeat, TileSeat, Turned};
 use home_bank::Entry;
 use linked_list_allocator::LocalHeap;
 use packet::{Op, Reply};
-use std::alloc::{AllocError, Allocator, Global};
+use runs::Answer;
+use std::alloc::{Allocator, Global};
 use std::test::Fail;
 use std::thread;
-use std::thread::Threads;
-use torus::{Choice, Fault, Tag};
+use torus::{Choice, Fault, Step, Tag};
 
 /// Sixty-four tiles.
 const SQUARE: &[u8] = b"radix 8\ndims 2\ndepth 1\ntags 1\nwords 64\n";
 
-/// Cuts and probes of a machine, and how many tile seats are dealt with them, where the numbers are
-/// within their ranges.
-#[derive(Drop)]
-struct Deal {
-    machine: &'static [u8],
-    cuts: &'static [usize],
-    probes: usize,
-    seats: Option<usize>,
-}
-
-const DEALS: [Deal; 14] = [
-    Deal {
-        machine: PAIR,
-        cuts: &[],
-        probes: 0,
-        seats: Some(1),
-    },
-    Deal {
-        machine: PAIR,
-        cuts: &[1],
-        probes: 16,
-        seats: Some(2),
-    },
-    Deal {
-        machine: PAIR,
-        cuts: &[0],
-        probes: 0,
-        seats: None,
-    },
-    Deal {
-        machine: PAIR,
-        cuts: &[2],
-        probes: 0,
-        seats: None,
-    },
-    Deal {
-        machine: PAIR,
-        cuts: &[1, 1],
-        probes: 0,
-        seats: None,
-    },
-    Deal {
-        machine: PAIR,
-        cuts: &[1],
-        probes: 17,
-        seats: None,
-    },
-    Deal {
-        machine: PAIR,
-        cuts: &[],
-        probes: usize::MAX,
-        seats: None,
-    },
-    Deal {
-        machine: SQUARE,
-        cuts: &[63],
-        probes: 0,
-        seats: Some(2),
-    },
-    Deal {
-        machine: SQUARE,
-        cuts: &[64],
-        probes: 0,
-        seats: None,
-    },
-    Deal {
-        machine: SQUARE,
-        cuts: &[8, 7],
-        probes: 0,
-        seats: None,
-    },
-    Deal {
-        machine: SQUARE,
-        cuts: &[0, 7],
-        probes: 0,
-        seats: None,
-    },
-    Deal {
-        machine: SQUARE,
-        cuts: &[1, usize::MAX],
-        probes: 0,
-        seats: None,
-    },
-    Deal {
-        machine: SQUARE,
-        cuts: &[1, 2, 3, 4, 5, 6, 7, 8, 9, 10, 11, 12, 13, 14, 15],
-        probes: 0,
-        seats: Some(16),
-    },
-    Deal {
-        machine: SQUARE,
-        cuts: &[1, 2, 3, 4, 5, 6, 7, 8, 9, 10, 11, 12, 13, 14, 15, 16],
-        probes: 0,
-        seats: None,
-    },
+/// A machine, cuts and probes, and how many tile seats are dealt with them, where the numbers are within
+/// their ranges.
+const DEALS: [(&[u8], &[usize], usize, Option<usize>); 14] = [
+    (PAIR, &[], 0, Some(1)),
+    (PAIR, &[1], 16, Some(2)),
+    (PAIR, &[0], 0, None),
+    (PAIR, &[2], 0, None),
+    (PAIR, &[1, 1], 0, None),
+    (PAIR, &[1], 17, None),
+    (PAIR, &[], usize::MAX, None),
+    (SQUARE, &[63], 0, Some(2)),
+    (SQUARE, &[64], 0, None),
+    (SQUARE, &[8, 7], 0, None),
+    (SQUARE, &[0, 7], 0, None),
+    (SQUARE, &[1, usize::MAX], 0, None),
+    (
+        SQUARE,
+        &[1, 2, 3, 4, 5, 6, 7, 8, 9, 10, 11, 12, 13, 14, 15],
+        0,
+        Some(16),
+    ),
+    (
+        SQUARE,
+        &[1, 2, 3, 4, 5, 6, 7, 8, 9, 10, 11, 12, 13, 14, 15, 16],
+        0,
+        None,
+    ),
 ];
 
 #[test]
-fn seats_are_dealt_within_ranges(rt: HostRuntime) -> Result<(), Fail> {
-    for (number, row) in DEALS.iter().enumerate() {
-        let is_so = match deal(rt.alloc(), row.machine, b"", row.cuts, row.probes) {
-            Ok(made) => { row.seats == Some(made.seats.len()) && made.probes.len() == row.probes }
-            Err((call, fault)) => {
-                row.seats.is_none() && call == Call::Open && fault == Fault::Range
-            }
+fn seats_are_dealt_within_ranges(rt: HostRuntime) {
+    for (number, &(machine, cuts, probes, seats)) in DEALS.iter().enumerate() {
+        let is_so = match deal(rt.alloc(), machine, b"", cuts, probes) {
+            Ok(made) => seats == Some(made.seats.len()) && made.probes.len() == probes,
+            Err((Call::Open, fault)) => seats.is_none() && fault == Fault::Range,
+            Err(_) => false,
         };
         assert!(rt; is_so, "deal {number}");
     }
-    Ok(())
 }
 
-/// The steps by which a flit of a request of processor 0 comes to bank 1 of two tiles.
-const FLIT: [(By, u32, Choice); 6] = [
-    (By::One, 0, Choice::Send),
-    (By::One, 1, Choice::TakeFrom(8)),
-    (By::One, 1, Choice::Put(8)),
-    (By::Other, 4, Choice::TakeFrom(0)),
-    (By::Other, 4, Choice::Put(0)),
-    (By::Other, 5, Choice::Take),
+/// A step of two seats with one tile each: the agent and its choice, and what comes of it by the first seat
+/// and then by the other.
+type Turn = (u32, Choice, Turned, Turned);
+
+const FLIT_SENT: Turn = (0, Choice::Send, Turned::Moved, Turned::NotMine);
+
+const FLIT_TAKEN: Turn = (1, Choice::TakeFrom(8), Turned::Moved, Turned::NotMine);
+
+const FLIT_PUT: Turn = (1, Choice::Put(8), Turned::Moved, Turned::NotMine);
+
+const FLIT_OVER: Turn = (4, Choice::TakeFrom(0), Turned::NotMine, Turned::Moved);
+
+const FLIT_DOWN: Turn = (4, Choice::Put(0), Turned::NotMine, Turned::Moved);
+
+const FLIT_HOME: Turn = (5, Choice::Take, Turned::NotMine, Turned::Moved);
+
+/// First steps that don't move yet, steps of no agent, and choices that an agent hasn't. Then the steps by
+/// which the three flits of a store of processor 0 come to bank 1.
+const TO_BANK: [Turn; 29] = [
+    (5, Choice::Serve, Turned::NotMine, Turned::Idle),
+    (3, Choice::Send, Turned::NotMine, Turned::Idle),
+    (0, Choice::Take, Turned::Idle, Turned::NotMine),
+    (1, Choice::TakeFrom(10), Turned::NotMine, Turned::NotMine),
+    (1, Choice::Put(10), Turned::NotMine, Turned::NotMine),
+    (
+        1,
+        Choice::CreditOf(u32::MAX),
+        Turned::NotMine,
+        Turned::NotMine,
+    ),
+    (1, Choice::Take, Turned::NotMine, Turned::NotMine),
+    (0, Choice::Serve, Turned::NotMine, Turned::NotMine),
+    (2, Choice::Look, Turned::NotMine, Turned::NotMine),
+    (6, Choice::Send, Turned::NotMine, Turned::NotMine),
+    (u32::MAX, Choice::Send, Turned::NotMine, Turned::NotMine),
+    FLIT_SENT,
+    FLIT_TAKEN,
+    FLIT_PUT,
+    FLIT_OVER,
+    FLIT_DOWN,
+    FLIT_HOME,
+    FLIT_SENT,
+    FLIT_TAKEN,
+    FLIT_PUT,
+    FLIT_OVER,
+    FLIT_DOWN,
+    FLIT_HOME,
+    FLIT_SENT,
+    FLIT_TAKEN,
+    FLIT_PUT,
+    FLIT_OVER,
+    FLIT_DOWN,
+    FLIT_HOME,
 ];
 
-/// Steps of another seat's agents, of no agent, and choices that the seat's agents haven't.
-const NOT_MINE: [(By, u32, Choice); 11] = [
-    (By::One, 5, Choice::Serve),
-    (By::One, 3, Choice::Send),
-    (By::Other, 0, Choice::Send),
-    (By::One, 1, Choice::TakeFrom(10)),
-    (By::One, 1, Choice::Put(10)),
-    (By::One, 1, Choice::CreditOf(u32::MAX)),
-    (By::One, 1, Choice::Take),
-    (By::One, 0, Choice::Serve),
-    (By::One, 2, Choice::Look),
-    (By::Other, 6, Choice::Send),
-    (By::Other, u32::MAX, Choice::Send),
-];
+/// The service.
+const SERVED: [Turn; 1] = [(5, Choice::Serve, Turned::NotMine, Turned::Moved)];
 
-/// Whether each of the turns comes to this.
-fn come_to(pair: &mut Pair, turns: &[(By, u32, Choice)], wanted: Turned) -> bool {
-    for &(by, agent, choice) in turns {
-        if pair.turn(by, agent, choice) != wanted {
+fn is_same(one: Turned, other: Turned) -> bool {
+    one == other
+}
+
+/// Whether each of the turns comes to this, by both seats.
+fn come_to(fabric: &Fabric, one: &mut TileSeat, other: &mut TileSeat, turns: &[Turn]) -> bool
+    requires one { IsOf fabric.now one.old }
+    requires other { IsOf fabric.now other.old }
+    ensures one { IsOf fabric.now one.new }
+    ensures other { IsOf fabric.now other.new }
+{
+    for &(agent, choice, by_one, by_other) in turns {
+        let step = Step { agent, choice };
+        let came_one = fabric.turn(one, step);
+        let came_other = fabric.turn(other, step);
+        if !is_same(came_one, by_one) || !is_same(came_other, by_other) {
             return false;
         }
     }
     true
 }
 
+/// What both probe seats read.
+fn read(
+    fabric: &Fabric,
+    first: &mut ProbeSeat,
+    second: &mut ProbeSeat,
+    address: usize,
+) -> (Option<u64>, Option<u64>)
+    requires first { IsOf fabric.now first.old }
+    requires second { IsOf fabric.now second.old }
+    ensures first { IsOf fabric.now first.new }
+    ensures second { IsOf fabric.now second.new }
+{
+    (fabric.probe(first, address), fabric.probe(second, address))
+}
+
 /// A store of 7 at address 1 goes by the turns of two seats, and all seats come to read it.
 #[test]
 fn a_store_goes_from_seat_to_seat(rt: HostRuntime) -> Result<(), Fail> {
-    let mut seats = deal_pair(rt.alloc(), b"0 store 1 7\n")?;
-    let not_mine = come_to(&mut seats, &NOT_MINE, Turned::NotMine);
-    let idle = come_to(
-        &mut seats,
-        &[(By::Other, 5, Choice::Serve), (By::One, 0, Choice::Take)],
-        Turned::Idle,
+    let Pair {
+        fabric,
+        mut one,
+        mut other,
+        mut first,
+        mut second,
+    } = deal_pair(rt.alloc(), b"0 store 1 7\n")?;
+    let comes = come_to(&fabric, &mut one, &mut other, &TO_BANK);
+    let before = read(&fabric, &mut first, &mut second, 1);
+    let is_served = come_to(&fabric, &mut one, &mut other, &SERVED);
+    let after = read(&fabric, &mut first, &mut second, 1);
+    hold(&rt, comes && is_served, "the turns");
+    hold(
+        &rt,
+        before == (Some(0), Some(0)) && after == (Some(7), Some(7)),
+        "the service",
     );
-    assert!(rt; (not_mine, idle) == (true, true), "what doesn't move");
-    for _ in 0..3 {
-        assert!(rt; come_to(&mut seats, &FLIT, Turned::Moved), "a flit");
-    }
-    let before = seats.read(1);
-    let is_served = come_to(&mut seats, &[(By::Other, 5, Choice::Serve)], Turned::Moved);
-    let after = seats.read(1);
-    assert!(rt;
-        (before, is_served, after) == ((Some(0), Some(0)), true, (Some(7), Some(7))),
-        "the service"
+    let (mut second, other) = fabric.hear(second, other);
+    let heard = (
+        read(&fabric, &mut first, &mut second, 1),
+        read(&fabric, &mut first, &mut second, 7),
+        read(&fabric, &mut first, &mut second, 8),
     );
-    let mut seats = seats.hear();
-    let heard = (seats.read(1), seats.read(7), seats.read(8));
-    assert!(rt;
+    hold(
+        &rt,
         heard == ((Some(7), Some(7)), (Some(0), Some(0)), (None, None)),
-        "after hearing"
+        "after hearing",
     );
-    let mut seats = seats.meet();
+    let (mut one, mut other) = fabric.meet(one, other);
     let met = (
-        seats.read_as(By::One, 1),
-        seats.read_as(By::Other, 1),
-        seats.read_as(By::One, 8),
-        seats.one.is_whole() || seats.other.is_whole(),
+        fabric.probe_as(&mut one, 1),
+        fabric.probe_as(&mut other, 1),
+        fabric.probe_as(&mut one, 8),
+        one.is_whole() || other.is_whole(),
     );
-    assert!(rt; met == (Some(7), Some(7), None, false), "after meeting");
-    let none = are_replies(seats.one.answers(0), &[]) && are_replies(seats.other.answers(1), &[]);
-    let not_there = seats.one.answers(1).is_none()
-        && seats.other.answers(0).is_none()
-        && seats.other.answers(2).is_none();
-    assert!(rt; none && not_there, "the answers of its tiles");
-    let mut whole = seats.join();
-    let joined = (whole.seat.is_whole(), whole.read(1));
-    let last = whole.close().ok_or("a whole seat")?;
-    assert!(rt;
-        joined == (true, Some(7)) && is_end_of_store(&last),
-        "the end"
-    );
+    hold(&rt, met == (Some(7), Some(7), None, false), "after meeting");
+    let own = one.answers(0) == Some(&[]) && other.answers(1) == Some(&[]);
+    let not_there = one.answers(1).is_none()
+        && other.answers(0).is_none()
+        && other.answers(2).is_none();
+    hold(&rt, own && not_there, "the answers of its tiles");
+    let mut seat = fabric.join(one, other);
+    let joined = (seat.is_whole(), fabric.probe_as(&mut seat, 1));
+    let is_end = match (Whole { fabric, seat }).close() {
+        Some(last) => is_end_of_store(&last),
+        None => false,
+    };
+    hold(&rt, joined == (true, Some(7)) && is_end, "the end");
     Ok(())
 }
 
@@ -220,54 +213,50 @@ fn is_end_of_store(last: &Final) -> bool {
         op: Op::Store(7),
         reply: Reply::Ok,
     };
-    let entries = last.bank(0) == Some(&[])
-        && last.bank(1) == Some(&[entry])
-        && last.bank(2).is_none();
-    let answers = are_replies(last.answers(0), &[])
-        && are_replies(last.answers(1), &[])
-        && last.answers(2).is_none();
+    let entries = (last.bank(0), last.bank(1), last.bank(2));
+    let answers = (last.answers(0), last.answers(1), last.answers(2));
     let words = (last.word(1), last.word(0), last.word(8), last.opening(1));
     let shape = (last.torus().tiles(), last.words(), last.finished());
-    entries && answers && words == (Some(7), Some(0), None, Some(0)) && shape == (2, 8, false)
+    entries == (Some(&[]), Some(&[entry]), None)
+        && answers == (Some(&[]), Some(&[]), None)
+        && words == (Some(7), Some(0), None, Some(0))
+        && shape == (2, 8, false)
 }
 
-/// Attempts all choices of two tiles once, of which the seat has those of its own.
-fn make_round(fabric: &Fabric, seat: &mut TileSeat)
-    requires { IsOf fabric.now seat.old }
-    ensures { IsOf fabric.now seat.new }
-{
-    for number in 0..78 {
-        let _ = fabric.turn(seat, step_at(10, number));
-    }
-}
+/// The answers to a store of 17 at address 5 and to the load behind it, which bank 1 serves.
+const ANSWERS: [Answer; 2] = [
+    Answer {
+        index: 0,
+        op: Op::Store(17),
+        reply: Reply::Ok,
+        bank: 1,
+        place: 0,
+    },
+    Answer {
+        index: 1,
+        op: Op::Load,
+        reply: Reply::Old(17),
+        bank: 1,
+        place: 1,
+    },
+];
 
-/// Makes rounds until the seat's processors have seen the end, at most very many.
-fn make_rounds(fabric: &Fabric, mut seat: TileSeat) -> TileSeat
-    requires { IsOf fabric.now seat }
-    ensures { IsOf fabric.now result }
-{
-    for _ in 0..100000000 {
-        if seat.has_seen() {
-            return seat;
-        }
-        make_round(fabric, &mut seat);
-        thread::yield_now();
-    }
-    seat
-}
+/// A store, and the load behind it.
+const SCRIPT: &[u8] = b"0 store 5 17\n0 fence\n0 load 5\n";
 
-/// Makes rounds of each seat in a thread of its own.
-fn in_threads<R: Threads>(rt: &R, seats: Pair) -> Pair {
+/// Each of two seats makes rounds in a thread of its own.
+#[test]
+fn two_threads_finish_a_script(rt: HostRuntime) -> Result<(), Fail> {
     let Pair {
         fabric,
         one,
         other,
-        first,
-        second,
-    } = seats;
+        mut first,
+        mut second,
+    } = deal_pair(rt.alloc(), SCRIPT)?;
     let row = &fabric;
     let (one, other) = thread::join(
-        rt,
+        &rt,
         move || -> TileSeat
             requires { IsOf row.now one }
             ensures { IsOf row.entry.now result }
@@ -277,79 +266,71 @@ fn in_threads<R: Threads>(rt: &R, seats: Pair) -> Pair {
             ensures { IsOf row.entry.now result }
         { make_rounds(row, other) },
     );
-    Pair {
-        fabric,
-        one,
-        other,
-        first,
-        second,
-    }
-}
-
-#[test]
-fn two_threads_finish_a_script(rt: HostRuntime) -> Result<(), Fail> {
-    let seats = deal_pair(rt.alloc(), b"0 store 5 17\n0 fence\n0 load 5\n")?;
-    let mut seats = in_threads(&rt, seats);
-    let seen = (seats.one.has_seen(), seats.other.has_seen());
-    let read = seats.read(5);
-    let last = seats.join().close().ok_or("a whole seat")?;
-    let entries = last.bank(1).unwrap_or(&[]).len();
-    let replies = [(0, Reply::Ok), (1, Reply::Old(17))];
-    let is_answered = are_replies(last.answers(0), &replies) && last.finished();
-    assert!(rt;
+    let seen = (one.has_seen(), other.has_seen());
+    let read = read(&fabric, &mut first, &mut second, 5);
+    hold(
+        &rt,
         seen == (true, true) && read == (Some(17), Some(17)),
-        "the threads"
+        "the threads",
     );
-    assert!(rt;
-        is_answered && entries == 2 && last.word(5) == Some(17),
-        "the end"
-    );
+    let seat = fabric.join(one, other);
+    let is_end = match (Whole { fabric, seat }).close() {
+        Some(last) => is_end_of_script(&last),
+        None => false,
+    };
+    hold(&rt, is_end, "the end");
     Ok(())
 }
 
-/// Opens two tiles with one seat, makes rounds, and tells the word that was stored.
-fn stored<A: Allocator + Copy>(alloc: A) -> Result<Option<u64>, (Call, Fault)> {
-    let mut whole = deal_whole(alloc, PAIR, b"0 store 5 17\n0 fence\n0 load 5\n")?;
-    for _ in 0..100 {
-        for number in 0..78 {
-            let _ = whole.turn(step_at(10, number));
-        }
-    }
-    match whole.close() {
-        Some(last) if last.finished() => Ok(last.word(5)),
-        _ => Ok(None),
-    }
+/// Whether a run ended with the script answered.
+fn is_end_of_script(last: &Final) -> bool {
+    last.answers(0) == Some(&ANSWERS)
+        && last.finished()
+        && last.bank(1).unwrap_or(&[]).len() == 2
+        && last.word(5) == Some(17)
 }
 
-/// The same within a budget of bytes.
-fn within(alloc: Global, budget: usize) -> Result<Result<Option<u64>, (Call, Fault)>, AllocError> {
-    let heap = LocalHeap::new(alloc, budget)?;
-    let made = stored(&heap);
+/// Opens two tiles with one seat within a budget of bytes, makes rounds, and tells the word that was stored.
+/// `None` where something is kept of the memory.
+fn stored(alloc: Global, budget: usize) -> Option<Result<Option<u64>, (Call, Fault)>> {
+    let heap = LocalHeap::new(alloc, budget).ok()?;
+    let made = match deal_whole(&heap, PAIR, SCRIPT) {
+        Ok(Whole { fabric, seat }) => {
+            let seat = make_rounds(&fabric, seat);
+            let last = Whole { fabric, seat }.close()?;
+            Ok(if last.finished() { last.word(5) } else { None })
+        }
+        Err(refused) => Err(refused),
+    };
     if heap.used() != 0 {
-        return Err(AllocError);
+        return None;
     }
-    Ok(made)
+    Some(made)
 }
 
 /// With budgets of memory from none up, it is refused up to some budget, also where a fabric is opened,
 /// and never from it on.
 #[test]
-fn memory_is_refused(rt: HostRuntime) -> Result<(), Fail> {
+fn memory_is_refused(rt: HostRuntime) {
     let mut is_refused = false;
     let mut suffices = false;
+    let mut is_so = true;
     for budget in 0..1024 {
-        let good = match within(rt.alloc(), budget * 64)? {
-            Ok(word) => {
+        match stored(rt.alloc(), budget * 64) {
+            Some(Ok(word)) => {
                 suffices = true;
-                word == Some(17)
+                is_so = is_so && word == Some(17);
             }
-            Err((call, fault)) => {
-                is_refused = is_refused || call == Call::Open;
-                !suffices && fault == Fault::Memory
+            Some(Err((call, fault))) => {
+                is_refused = is_refused || matches!(call, Call::Open);
+                is_so = is_so && !suffices && fault == Fault::Memory;
             }
-        };
-        assert!(rt; good, "at {budget}");
+            None => is_so = false,
+        }
     }
-    assert!(rt; is_refused && suffices, "refused, and enough in the end");
-    Ok(())
+    hold(
+        &rt,
+        is_so && is_refused && suffices,
+        "refused, and enough in the end",
+    );
 }
