@@ -1,0 +1,137 @@
+//! The C interface of torusmem, as include/torusmem.h declares it and says what each call does. The crate `torusmem`
+//! is the one to use.
+#![no_std]
+#![allow(non_camel_case_types)]
+
+use core::ffi::c_void;
+
+/// A machine: `TORUSMEM_MACHINE_INIT` before the first call, then changed by calls alone. It may be moved.
+#[repr(C)]
+pub struct torusmem_machine {
+    pub full: bool,
+    pub at: *mut c_void,
+}
+
+pub const TORUSMEM_MACHINE_INIT: torusmem_machine = torusmem_machine { full: false, at: core::ptr::null_mut() };
+
+/// What a call answers: a code, and a number whose meaning each call states.
+#[repr(C)]
+#[derive(Clone, Copy, Debug, PartialEq, Eq)]
+pub struct torusmem_outcome {
+    pub code: u32,
+    pub value: u64,
+}
+
+pub const TORUSMEM_OK: u32 = 0;
+pub const TORUSMEM_FAULT_MEMORY: u32 = 12;
+pub const TORUSMEM_BAD_REPORT: u32 = 15;
+pub const TORUSMEM_EMPTY: u32 = 16;
+pub const TORUSMEM_FULL: u32 = 17;
+pub const TORUSMEM_NONE: u32 = 18;
+pub const TORUSMEM_SHORT: u32 = 19;
+
+pub const TORUSMEM_SEND: u32 = 0;
+pub const TORUSMEM_TAKE: u32 = 1;
+pub const TORUSMEM_TAKE_FROM: u32 = 2;
+pub const TORUSMEM_PUT: u32 = 3;
+pub const TORUSMEM_CREDIT: u32 = 4;
+pub const TORUSMEM_CREDIT_OF: u32 = 5;
+pub const TORUSMEM_SERVE: u32 = 6;
+pub const TORUSMEM_DONE: u32 = 7;
+pub const TORUSMEM_LOOK: u32 = 8;
+
+pub const TORUSMEM_LOAD: u32 = 0;
+pub const TORUSMEM_STORE: u32 = 1;
+pub const TORUSMEM_SWAP: u32 = 2;
+pub const TORUSMEM_CAS: u32 = 3;
+pub const TORUSMEM_ADD: u32 = 4;
+pub const TORUSMEM_AND: u32 = 5;
+pub const TORUSMEM_OR: u32 = 6;
+pub const TORUSMEM_XOR: u32 = 7;
+pub const TORUSMEM_MAX: u32 = 8;
+pub const TORUSMEM_MIN: u32 = 9;
+
+pub const TORUSMEM_INJECTION: u32 = 0;
+pub const TORUSMEM_HOP: u32 = 1;
+pub const TORUSMEM_EJECTION: u32 = 2;
+
+pub const TORUSMEM_REQUEST: u32 = 0;
+pub const TORUSMEM_REPLY: u32 = 1;
+
+/// An answer of a processor.
+#[repr(C)]
+#[derive(Clone, Copy, Debug)]
+pub struct torusmem_answer {
+    pub code: u32,
+    pub index: u32,
+    pub operation: u32,
+    pub bank: u32,
+    pub place: u32,
+    pub has_old: u32,
+    pub first: u64,
+    pub second: u64,
+    pub old: u64,
+}
+
+/// An entry of a bank.
+#[repr(C)]
+#[derive(Clone, Copy, Debug)]
+pub struct torusmem_entry {
+    pub code: u32,
+    pub source: u32,
+    pub tag: u32,
+    pub address: u32,
+    pub operation: u32,
+    pub has_old: u32,
+    pub first: u64,
+    pub second: u64,
+    pub old: u64,
+}
+
+/// A channel of a route.
+#[repr(C)]
+#[derive(Clone, Copy, Debug, Default)]
+pub struct torusmem_channel {
+    pub kind: u32,
+    pub tile: u32,
+    pub dim: u32,
+    pub minus: u32,
+    pub bit: u32,
+    pub number: u32,
+}
+
+extern "C" {
+    pub fn torusmem_load(
+        m: *mut torusmem_machine,
+        machine: *const u8,
+        machine_length: usize,
+        scripts: *const u8,
+        scripts_length: usize,
+    ) -> torusmem_outcome;
+    pub fn torusmem_free(m: *mut torusmem_machine);
+    pub fn torusmem_step(m: *mut torusmem_machine, agent: u32, choice: u32, number: u32) -> torusmem_outcome;
+    pub fn torusmem_enabled(m: *mut torusmem_machine, agent: u32, choice: u32, number: u32) -> torusmem_outcome;
+    pub fn torusmem_round(m: *mut torusmem_machine) -> torusmem_outcome;
+    pub fn torusmem_finish(m: *mut torusmem_machine) -> torusmem_outcome;
+    pub fn torusmem_finished(m: *mut torusmem_machine) -> torusmem_outcome;
+    pub fn torusmem_moves_left(m: *mut torusmem_machine) -> torusmem_outcome;
+    pub fn torusmem_tiles(m: *mut torusmem_machine) -> torusmem_outcome;
+    pub fn torusmem_words(m: *mut torusmem_machine) -> torusmem_outcome;
+    pub fn torusmem_word(m: *mut torusmem_machine, address: u32) -> torusmem_outcome;
+    pub fn torusmem_row(m: *mut torusmem_machine, at: u32) -> torusmem_outcome;
+    pub fn torusmem_answers(m: *mut torusmem_machine, processor: u32) -> torusmem_outcome;
+    pub fn torusmem_answer_at(m: *mut torusmem_machine, processor: u32, i: u32) -> torusmem_answer;
+    pub fn torusmem_entries(m: *mut torusmem_machine, bank: u32) -> torusmem_outcome;
+    pub fn torusmem_entry_at(m: *mut torusmem_machine, bank: u32, i: u32) -> torusmem_entry;
+    pub fn torusmem_report(m: *mut torusmem_machine, out: *mut u8, out_length: usize) -> torusmem_outcome;
+    pub fn torusmem_check(report: *const u8, report_length: usize) -> torusmem_outcome;
+    pub fn torusmem_route(
+        m: *mut torusmem_machine,
+        src: u32,
+        dst: u32,
+        reply: u32,
+        out: *mut torusmem_channel,
+        out_length: usize,
+    ) -> torusmem_outcome;
+    pub fn torusmem_next(m: *mut torusmem_machine, at: u32, input: u32, dst: u32) -> torusmem_outcome;
+}

@@ -1,0 +1,352 @@
+//! torusmem from Rust: a shared memory over a wormhole torus, proved to behave like one sequential memory.
+//!
+//! A [`Machine`] is made from a machine text and a script text, then stepped, looked at, and dropped. Texts, agents,
+//! choices, ports and reports are those of docs/FORMATS.md.
+//!
+//! ```
+//! use torusmem::{check, Choice, Machine};
+//!
+//! let machine = b"radix 2\ndims 1\ndepth 4\ntags 4\nwords 8\n";
+//! let mut machine = Machine::load(machine, b"0 store 5 17\n0 fence\n0 load 5\n")?;
+//! assert!(machine.step(0, Choice::Send));
+//! machine.finish();
+//! assert_eq!(machine.word(5), Some(17));
+//! check(&machine.report()?)?;
+//! # Ok::<(), torusmem::Fault>(())
+//! ```
+//!
+//! The library beneath is proved; these bindings are not. They add nothing but types.
+#![deny(unsafe_code)]
+
+#[allow(unsafe_code)]
+mod raw;
+
+use raw::Raw;
+use std::error::Error;
+use std::fmt;
+use torusmem_sys as sys;
+
+/// Why a text was refused.
+#[derive(Clone, Copy, Debug, PartialEq, Eq)]
+pub enum Fault {
+    /// The first fault of a text, 1 for F1 and so on, and its line, from 1.
+    Text { fault: u32, line: u64 },
+    /// A request for memory was refused (F12).
+    Memory,
+    /// A report isn't good: its first bad line, from 1.
+    Report { line: u64 },
+}
+
+impl fmt::Display for Fault {
+    fn fmt(&self, f: &mut fmt::Formatter) -> fmt::Result {
+        match self {
+            Fault::Text { fault, line } => write!(f, "fault F{fault} at line {line}"),
+            Fault::Memory => write!(f, "fault F12 at line 0"),
+            Fault::Report { line } => write!(f, "bad report at line {line}"),
+        }
+    }
+}
+
+impl Error for Fault {}
+
+/// What an agent attempts. An input or output that isn't there makes it idle.
+#[derive(Clone, Copy, Debug, PartialEq, Eq, Hash)]
+pub enum Choice {
+    Send,
+    Take,
+    TakeFrom(u32),
+    Put(u32),
+    Credit,
+    CreditOf(u32),
+    Serve,
+    Done,
+    Look,
+}
+
+/// An operation on one word, with its values.
+#[derive(Clone, Copy, Debug, PartialEq, Eq, Hash)]
+pub enum Operation {
+    Load,
+    Store(u64),
+    Swap(u64),
+    Cas { expected: u64, new: u64 },
+    Add(u64),
+    And(u64),
+    Or(u64),
+    Xor(u64),
+    Max(u64),
+    Min(u64),
+}
+
+/// What an operation is answered: a store by `Ok`, any other by the old word.
+#[derive(Clone, Copy, Debug, PartialEq, Eq, Hash)]
+pub enum Reply {
+    Ok,
+    Old(u64),
+}
+
+/// An operation of a processor that is answered.
+#[derive(Clone, Copy, Debug, PartialEq, Eq, Hash)]
+pub struct Answer {
+    /// Among the operations of its processor.
+    pub index: u32,
+    pub operation: Operation,
+    /// The tile of the bank that served it.
+    pub bank: u32,
+    /// Among the services of that bank.
+    pub place: u32,
+    pub reply: Reply,
+}
+
+/// A service of a bank.
+#[derive(Clone, Copy, Debug, PartialEq, Eq, Hash)]
+pub struct Entry {
+    /// The processor that asked.
+    pub source: u32,
+    pub tag: u32,
+    pub address: u32,
+    pub operation: Operation,
+    pub reply: Reply,
+}
+
+/// The class of a packet.
+#[derive(Clone, Copy, Debug, PartialEq, Eq, Hash)]
+pub enum Class {
+    Request,
+    Reply,
+}
+
+/// The direction of a hop.
+#[derive(Clone, Copy, Debug, PartialEq, Eq, Hash)]
+pub enum Dir {
+    Plus,
+    Minus,
+}
+
+/// What a channel of a route is.
+#[derive(Clone, Copy, Debug, PartialEq, Eq, Hash)]
+pub enum Kind {
+    Injection,
+    Hop { dim: u32, dir: Dir, bit: bool },
+    Ejection,
+}
+
+/// A channel of a route: out of which tile, what it is, and its number, which rises along every route.
+#[derive(Clone, Copy, Debug, PartialEq, Eq, Hash)]
+pub struct Channel {
+    pub tile: u32,
+    pub kind: Kind,
+    pub number: u32,
+}
+
+/// A machine: its tiles, their channels, and the memory. It may go from thread to thread, and isn't shared:
+///
+/// ```compile_fail,E0277
+/// fn shared<T: Sync>() {}
+/// shared::<torusmem::Machine>();
+/// ```
+pub struct Machine {
+    raw: Raw,
+}
+
+impl fmt::Debug for Machine {
+    fn fmt(&self, f: &mut fmt::Formatter) -> fmt::Result {
+        f.debug_struct("Machine").finish_non_exhaustive()
+    }
+}
+
+/// No route has more channels, as include/torusmem.h says.
+const LONGEST_ROUTE: usize = 14;
+
+impl Machine {
+    /// The machine of these texts, or the first fault of the first bad one.
+    pub fn load(machine: &[u8], scripts: &[u8]) -> Result<Machine, Fault> {
+        let mut raw = Raw::empty();
+        granted(raw.load(machine, scripts))?;
+        Ok(Machine { raw })
+    }
+
+    /// Attempts one choice of one agent, and answers whether it moved. Tile t has the agents 3t (its processor),
+    /// 3t + 1 (its router) and 3t + 2 (its bank).
+    pub fn step(&mut self, agent: u32, choice: Choice) -> bool {
+        let (choice, number) = numbered(choice);
+        self.raw.step(agent, choice, number).value == 1
+    }
+
+    /// Whether such an attempt would move now.
+    pub fn enabled(&mut self, agent: u32, choice: Choice) -> bool {
+        let (choice, number) = numbered(choice);
+        self.raw.enabled(agent, choice, number).value == 1
+    }
+
+    /// Attempts each choice of each agent once.
+    pub fn round(&mut self) {
+        self.raw.round();
+    }
+
+    /// Makes rounds until every script is finished, and answers how many.
+    pub fn finish(&mut self) -> u64 {
+        self.raw.finish().value
+    }
+
+    /// Whether every script is finished.
+    pub fn finished(&mut self) -> bool {
+        self.raw.finished().value == 1
+    }
+
+    /// How many moves any schedule can still make.
+    pub fn moves_left(&mut self) -> u64 {
+        self.raw.moves_left().value
+    }
+
+    /// How many tiles there are.
+    pub fn tiles(&mut self) -> u32 {
+        self.raw.tiles().value as u32
+    }
+
+    /// How many words the memory has.
+    pub fn words(&mut self) -> u32 {
+        self.raw.words().value as u32
+    }
+
+    /// The word at an address.
+    pub fn word(&mut self, address: u32) -> Option<u64> {
+        found(self.raw.word(address))
+    }
+
+    /// The word at a place of the row: the places of all channels in channel order, then the memory, then the count of
+    /// the processors that have reported.
+    pub fn row(&mut self, at: u32) -> Option<u64> {
+        found(self.raw.row(at))
+    }
+
+    /// The answers that a processor has, by index.
+    pub fn answers(&mut self, processor: u32) -> Option<Vec<Answer>> {
+        let count = found(self.raw.answers(processor))? as u32;
+        let answer = |i| answer_of(&self.raw.answer_at(processor, i));
+        Some((0..count).map(answer).collect())
+    }
+
+    /// The services of a bank, in their order.
+    pub fn entries(&mut self, bank: u32) -> Option<Vec<Entry>> {
+        let count = found(self.raw.entries(bank))? as u32;
+        let entry = |i| entry_of(&self.raw.entry_at(bank, i));
+        Some((0..count).map(entry).collect())
+    }
+
+    /// The report of the run so far. The only fault is want of memory.
+    pub fn report(&mut self) -> Result<Vec<u8>, Fault> {
+        let asked = self.raw.report(&mut []);
+        if asked.code != sys::TORUSMEM_SHORT {
+            granted(asked)?;
+        }
+        let mut report = vec![0; asked.value as usize];
+        granted(self.raw.report(&mut report))?;
+        Ok(report)
+    }
+
+    /// The channels of a packet's route, or None where a tile isn't there.
+    pub fn route(&mut self, from: u32, to: u32, class: Class) -> Option<Vec<Channel>> {
+        let mut channels = [sys::torusmem_channel::default(); LONGEST_ROUTE];
+        let class = match class {
+            Class::Request => sys::TORUSMEM_REQUEST,
+            Class::Reply => sys::TORUSMEM_REPLY,
+        };
+        let count = found(self.raw.route(from, to, class, &mut channels))? as usize;
+        Some(channels[..count].iter().map(channel_of).collect())
+    }
+
+    /// The output by which a packet to a tile leaves the router of tile `at`, where it came by this input; None where
+    /// a tile or the input isn't there.
+    pub fn next(&mut self, at: u32, input: u32, to: u32) -> Option<u32> {
+        found(self.raw.next(at, input, to)).map(|output| output as u32)
+    }
+}
+
+/// Whether a text is a good report. A good one replays on one memory, whichever machine wrote it.
+pub fn check(report: &[u8]) -> Result<(), Fault> {
+    granted(raw::check(report)).map(|_| ())
+}
+
+fn granted(said: sys::torusmem_outcome) -> Result<u64, Fault> {
+    match said.code {
+        sys::TORUSMEM_OK => Ok(said.value),
+        sys::TORUSMEM_FAULT_MEMORY => Err(Fault::Memory),
+        sys::TORUSMEM_BAD_REPORT => Err(Fault::Report { line: said.value }),
+        fault => Err(Fault::Text { fault, line: said.value }),
+    }
+}
+
+fn found(said: sys::torusmem_outcome) -> Option<u64> {
+    (said.code == sys::TORUSMEM_OK).then_some(said.value)
+}
+
+fn numbered(choice: Choice) -> (u32, u32) {
+    match choice {
+        Choice::Send => (sys::TORUSMEM_SEND, 0),
+        Choice::Take => (sys::TORUSMEM_TAKE, 0),
+        Choice::TakeFrom(input) => (sys::TORUSMEM_TAKE_FROM, input),
+        Choice::Put(input) => (sys::TORUSMEM_PUT, input),
+        Choice::Credit => (sys::TORUSMEM_CREDIT, 0),
+        Choice::CreditOf(output) => (sys::TORUSMEM_CREDIT_OF, output),
+        Choice::Serve => (sys::TORUSMEM_SERVE, 0),
+        Choice::Done => (sys::TORUSMEM_DONE, 0),
+        Choice::Look => (sys::TORUSMEM_LOOK, 0),
+    }
+}
+
+fn operation_of(operation: u32, first: u64, second: u64) -> Operation {
+    match operation {
+        sys::TORUSMEM_LOAD => Operation::Load,
+        sys::TORUSMEM_STORE => Operation::Store(first),
+        sys::TORUSMEM_SWAP => Operation::Swap(first),
+        sys::TORUSMEM_CAS => Operation::Cas { expected: first, new: second },
+        sys::TORUSMEM_ADD => Operation::Add(first),
+        sys::TORUSMEM_AND => Operation::And(first),
+        sys::TORUSMEM_OR => Operation::Or(first),
+        sys::TORUSMEM_XOR => Operation::Xor(first),
+        sys::TORUSMEM_MAX => Operation::Max(first),
+        _ => Operation::Min(first),
+    }
+}
+
+fn reply_of(has_old: u32, old: u64) -> Reply {
+    if has_old == 0 {
+        Reply::Ok
+    } else {
+        Reply::Old(old)
+    }
+}
+
+fn answer_of(answer: &sys::torusmem_answer) -> Answer {
+    Answer {
+        index: answer.index,
+        operation: operation_of(answer.operation, answer.first, answer.second),
+        bank: answer.bank,
+        place: answer.place,
+        reply: reply_of(answer.has_old, answer.old),
+    }
+}
+
+fn entry_of(entry: &sys::torusmem_entry) -> Entry {
+    Entry {
+        source: entry.source,
+        tag: entry.tag,
+        address: entry.address,
+        operation: operation_of(entry.operation, entry.first, entry.second),
+        reply: reply_of(entry.has_old, entry.old),
+    }
+}
+
+fn channel_of(channel: &sys::torusmem_channel) -> Channel {
+    let kind = match channel.kind {
+        sys::TORUSMEM_INJECTION => Kind::Injection,
+        sys::TORUSMEM_HOP => Kind::Hop {
+            dim: channel.dim,
+            dir: if channel.minus == 0 { Dir::Plus } else { Dir::Minus },
+            bit: channel.bit == 1,
+        },
+        _ => Kind::Ejection,
+    };
+    Channel { tile: channel.tile, kind, number: channel.number }
+}

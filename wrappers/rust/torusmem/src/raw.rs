@@ -1,0 +1,73 @@
+//! The calls of the C library, one method each. All that is unsafe stands here.
+//!
+//! What each call needs is what include/torusmem.h says: a machine that began as zeros, was changed by calls alone,
+//! isn't doubled and goes to one call at a time; and for each pointer as many bytes behind it as the length says. The
+//! machine is a private field behind a `&mut`, and pointers with their lengths come from slices.
+use torusmem_sys::*;
+
+pub struct Raw(torusmem_machine);
+
+// SAFETY: a machine stays on no thread: it is plain memory of its own, from malloc, which any thread may free. It
+// isn't `Sync`, and each call takes it by `&mut`, so it goes to one call at a time.
+unsafe impl Send for Raw {}
+
+impl Drop for Raw {
+    fn drop(&mut self) {
+        // SAFETY: the machine is this one's alone, and nobody has it afterwards.
+        unsafe { torusmem_free(&mut self.0) }
+    }
+}
+
+/// A method for a call that takes the machine and numbers.
+macro_rules! calls {
+    ($($name:ident = $call:ident($($number:ident),*) -> $answer:ty;)*) => {
+        $(pub fn $name(&mut self, $($number: u32),*) -> $answer {
+            // SAFETY: the machine is this one's alone, for as long as the call takes. Numbers may be any.
+            unsafe { $call(&mut self.0, $($number),*) }
+        })*
+    };
+}
+
+impl Raw {
+    pub fn empty() -> Raw {
+        Raw(TORUSMEM_MACHINE_INIT)
+    }
+
+    pub fn load(&mut self, machine: &[u8], scripts: &[u8]) -> torusmem_outcome {
+        // SAFETY: the machine is this one's alone; each slice has as many bytes as it says, also where it is empty.
+        unsafe { torusmem_load(&mut self.0, machine.as_ptr(), machine.len(), scripts.as_ptr(), scripts.len()) }
+    }
+
+    calls! {
+        step = torusmem_step(agent, choice, number) -> torusmem_outcome;
+        enabled = torusmem_enabled(agent, choice, number) -> torusmem_outcome;
+        round = torusmem_round() -> torusmem_outcome;
+        finish = torusmem_finish() -> torusmem_outcome;
+        finished = torusmem_finished() -> torusmem_outcome;
+        moves_left = torusmem_moves_left() -> torusmem_outcome;
+        tiles = torusmem_tiles() -> torusmem_outcome;
+        words = torusmem_words() -> torusmem_outcome;
+        word = torusmem_word(address) -> torusmem_outcome;
+        row = torusmem_row(at) -> torusmem_outcome;
+        answers = torusmem_answers(processor) -> torusmem_outcome;
+        answer_at = torusmem_answer_at(processor, i) -> torusmem_answer;
+        entries = torusmem_entries(bank) -> torusmem_outcome;
+        entry_at = torusmem_entry_at(bank, i) -> torusmem_entry;
+        next = torusmem_next(at, input, dst) -> torusmem_outcome;
+    }
+
+    pub fn report(&mut self, out: &mut [u8]) -> torusmem_outcome {
+        // SAFETY: the machine is this one's alone, and so is the slice, which has as many bytes as it says.
+        unsafe { torusmem_report(&mut self.0, out.as_mut_ptr(), out.len()) }
+    }
+
+    pub fn route(&mut self, src: u32, dst: u32, reply: u32, out: &mut [torusmem_channel]) -> torusmem_outcome {
+        // SAFETY: the machine is this one's alone, and so is the slice, which has as many channels as it says.
+        unsafe { torusmem_route(&mut self.0, src, dst, reply, out.as_mut_ptr(), out.len()) }
+    }
+}
+
+pub fn check(report: &[u8]) -> torusmem_outcome {
+    // SAFETY: the slice has as many bytes as it says. There is no machine.
+    unsafe { torusmem_check(report.as_ptr(), report.len()) }
+}

@@ -1,0 +1,226 @@
+//! The examples of the repository, with what README.md, docs/FORMATS.md and the files beside them say comes of them.
+use std::fs;
+use std::path::{Path, PathBuf};
+use std::thread;
+use torusmem::{check, Answer, Channel, Choice, Class, Dir, Entry, Fault, Kind, Machine, Operation, Reply};
+
+fn path(name: &str) -> PathBuf {
+    Path::new(env!("CARGO_MANIFEST_DIR")).join("../../..").join(name)
+}
+
+fn read(name: &str) -> Vec<u8> {
+    fs::read(path(name)).unwrap_or_else(|error| panic!("{name}: {error}"))
+}
+
+fn loaded(machine: &str, scripts: &str) -> Machine {
+    Machine::load(&read(machine), &read(scripts)).expect("the example is loaded")
+}
+
+fn first() -> Machine {
+    loaded("examples/machine.txt", "examples/script.txt")
+}
+
+/// The attempts of a steps text.
+fn steps(name: &str) -> Vec<(u32, Choice)> {
+    let text = String::from_utf8(read(name)).expect("a text");
+    let lines = text.lines().filter(|line| !line.is_empty() && !line.starts_with('#'));
+    lines.map(|line| step(&line.split_whitespace().collect::<Vec<_>>())).collect()
+}
+
+fn step(words: &[&str]) -> (u32, Choice) {
+    let number = |at: usize| words[at].parse().expect("a number");
+    let choice = match (words[1], words.len()) {
+        ("send", 2) => Choice::Send,
+        ("take", 2) => Choice::Take,
+        ("take", 3) => Choice::TakeFrom(number(2)),
+        ("put", 3) => Choice::Put(number(2)),
+        ("credit", 2) => Choice::Credit,
+        ("credit", 3) => Choice::CreditOf(number(2)),
+        ("serve", 2) => Choice::Serve,
+        ("done", 2) => Choice::Done,
+        ("look", 2) => Choice::Look,
+        _ => panic!("{words:?}"),
+    };
+    (number(0), choice)
+}
+
+#[test]
+fn the_first_run_in_rounds() {
+    let mut machine = first();
+    assert_eq!((machine.tiles(), machine.words(), machine.finished()), (2, 8, false));
+    assert_eq!(machine.finish(), 12);
+    assert!(machine.finished());
+    assert_eq!(machine.report().unwrap(), read("examples/report.txt"));
+    assert_eq!(machine.report().unwrap(), read("crates/torusmem/stdout"));
+    assert_eq!((machine.word(5), machine.word(4), machine.word(8)), (Some(17), Some(0), None));
+    assert_eq!(machine.finish(), 0);
+}
+
+#[test]
+fn the_first_run_round_by_round() {
+    let mut machine = first();
+    (0..11).for_each(|_| machine.round());
+    assert!(!machine.finished());
+    machine.round();
+    assert!(machine.finished());
+}
+
+#[test]
+fn the_first_run_by_its_steps() {
+    let mut machine = first();
+    let mut left = machine.moves_left();
+    for (agent, choice) in steps("examples/steps.txt") {
+        assert!(machine.enabled(agent, choice), "{agent} {choice:?}");
+        assert!(machine.step(agent, choice), "{agent} {choice:?}");
+        assert!(machine.moves_left() < left, "{agent} {choice:?}");
+        left = machine.moves_left();
+    }
+    assert_eq!(machine.report().unwrap(), read("examples/report.txt"));
+}
+
+#[test]
+fn the_run_of_the_flag_by_its_steps() {
+    let mut machine = loaded("examples/flag/machine.txt", "examples/flag/script.txt");
+    let steps = steps("examples/flag/steps.txt");
+    for (at, (agent, choice)) in steps.into_iter().enumerate() {
+        if at == 425 {
+            assert_eq!(machine.report().unwrap(), read("examples/flag/unfinished.txt"));
+        }
+        machine.step(agent, choice);
+    }
+    assert_eq!(machine.report().unwrap(), read("examples/flag/report.txt"));
+}
+
+#[test]
+fn answers_and_entries_are_the_lines_of_the_report() {
+    let mut machine = first();
+    assert_eq!((machine.answers(0), machine.entries(1)), (Some(vec![]), Some(vec![])));
+    machine.finish();
+    let store = Operation::Store(17);
+    let answers = vec![
+        Answer { index: 0, operation: store, bank: 1, place: 0, reply: Reply::Ok },
+        Answer { index: 1, operation: Operation::Load, bank: 1, place: 1, reply: Reply::Old(17) },
+    ];
+    let entries = vec![
+        Entry { source: 0, tag: 0, address: 5, operation: store, reply: Reply::Ok },
+        Entry { source: 0, tag: 0, address: 5, operation: Operation::Load, reply: Reply::Old(17) },
+    ];
+    assert_eq!((machine.answers(0), machine.answers(1), machine.answers(2)), (Some(answers), Some(vec![]), None));
+    assert_eq!((machine.entries(1), machine.entries(0), machine.entries(2)), (Some(entries), Some(vec![]), None));
+}
+
+#[test]
+fn every_operation_comes_back_as_it_was_asked() {
+    let script = "1 store 3 5\n1 fence\n1 swap 3 9\n1 fence\n1 cas 3 9 6\n1 fence\n1 add 3 1\n1 fence\n1 and 3 5\n\
+                  1 fence\n1 or 3 8\n1 fence\n1 xor 3 1\n1 fence\n1 max 3 20\n1 fence\n1 min 3 4\n1 fence\n1 load 3\n";
+    let mut machine = Machine::load(&read("examples/machine.txt"), script.as_bytes()).unwrap();
+    machine.finish();
+    let rows = [
+        (Operation::Store(5), Reply::Ok),
+        (Operation::Swap(9), Reply::Old(5)),
+        (Operation::Cas { expected: 9, new: 6 }, Reply::Old(9)),
+        (Operation::Add(1), Reply::Old(6)),
+        (Operation::And(5), Reply::Old(7)),
+        (Operation::Or(8), Reply::Old(5)),
+        (Operation::Xor(1), Reply::Old(13)),
+        (Operation::Max(20), Reply::Old(12)),
+        (Operation::Min(4), Reply::Old(20)),
+        (Operation::Load, Reply::Old(4)),
+    ];
+    let answered: Vec<_> = machine.answers(1).unwrap().iter().map(|it| (it.operation, it.reply)).collect();
+    let served: Vec<_> = machine.entries(1).unwrap().iter().map(|it| (it.operation, it.reply)).collect();
+    assert_eq!((answered, served), (rows.to_vec(), rows.to_vec()));
+}
+
+#[test]
+fn a_flit_on_its_way() {
+    let mut machine = first();
+    // The request injection of tile 0 is channel 8, of four places. The first flit is a store's head: tile 1, word 2.
+    assert_eq!(machine.row(32), Some(0));
+    assert!(machine.step(0, Choice::Send));
+    assert_eq!(machine.row(32), Some(0xA408000000000002));
+    assert!(machine.step(1, Choice::TakeFrom(8)) && !machine.step(1, Choice::TakeFrom(8)));
+    assert_eq!(machine.row(32), Some(0));
+    // It goes on the hop to tile 1, channel 0.
+    assert!(machine.step(1, Choice::Put(8)));
+    assert_eq!(machine.row(0), Some(0xA408000000000002));
+    // 24 channels, eight words, and the count of those that have reported.
+    assert_eq!((machine.row(24 * 4 + 8), machine.row(24 * 4 + 9)), (Some(0), None));
+}
+
+#[test]
+fn what_is_not_there_is_idle() {
+    let mut machine = first();
+    let left = machine.moves_left();
+    for (agent, choice) in [(6, Choice::Send), (u32::MAX, Choice::Take), (0, Choice::Serve), (1, Choice::Send)] {
+        assert!(!machine.enabled(agent, choice) && !machine.step(agent, choice));
+    }
+    for port in [10, u32::MAX] {
+        for choice in [Choice::TakeFrom(port), Choice::Put(port), Choice::CreditOf(port)] {
+            assert!(!machine.enabled(1, choice) && !machine.step(1, choice));
+        }
+    }
+    assert_eq!((machine.moves_left(), machine.row(u32::MAX), machine.word(u32::MAX)), (left, None, None));
+}
+
+#[test]
+fn a_route_over_the_dateline() {
+    let mut ring = Machine::load(&read("examples/dateline.txt"), b"").unwrap();
+    let hop = |tile, dir, bit, number| Channel { tile, kind: Kind::Hop { dim: 0, dir, bit }, number };
+    let ends = |tile, kind, number| Channel { tile, kind, number };
+    let there = vec![
+        ends(1, Kind::Injection, 0),
+        hop(1, Dir::Plus, false, 7),
+        hop(2, Dir::Plus, true, 9),
+        hop(3, Dir::Plus, true, 10),
+        ends(4, Kind::Ejection, 17),
+    ];
+    let back = vec![
+        ends(4, Kind::Injection, 18),
+        hop(4, Dir::Minus, false, 25),
+        hop(3, Dir::Minus, true, 27),
+        hop(2, Dir::Minus, true, 28),
+        ends(1, Kind::Ejection, 35),
+    ];
+    assert_eq!((ring.route(1, 4, Class::Request), ring.route(4, 1, Class::Reply)), (Some(there), Some(back)));
+    assert_eq!((ring.route(1, 8, Class::Request), ring.route(8, 1, Class::Reply)), (None, None));
+    // The same way hop by hop: outputs 0 and 1 are hops plus of requests on bit 0 and 1, and 8 is the ejection.
+    let hops = [(1, 8, 0), (2, 0, 1), (3, 1, 1), (4, 1, 8)];
+    assert!(hops.iter().all(|&(at, input, output)| ring.next(at, input, 4) == Some(output)));
+    assert_eq!((ring.next(8, 0, 4), ring.next(1, 10, 4), ring.next(1, 0, 8)), (None, None, None));
+}
+
+#[test]
+fn faults_of_texts() {
+    let machine = read("examples/machine.txt");
+    let refused = |machine: &[u8], scripts: &[u8]| Machine::load(machine, scripts).expect_err("a fault");
+    assert_eq!(refused(b"radix 9\n", b"0 load 8\n"), Fault::Text { fault: 1, line: 1 });
+    assert_eq!(refused(b"", b""), Fault::Text { fault: 5, line: 1 });
+    assert_eq!(refused(b"radix 2\n", b""), Fault::Text { fault: 5, line: 2 });
+    assert_eq!(refused(&machine, b"0 load 8\n"), Fault::Text { fault: 7, line: 1 });
+    assert_eq!(refused(&machine, b"\n0 jump 1\n").to_string(), "fault F4 at line 2");
+    assert!(Machine::load(&machine, b"").is_ok_and(|mut machine| machine.finished()));
+}
+
+#[test]
+fn reports_are_judged() {
+    for name in
+        ["examples/report.txt", "examples/flag/report.txt", "examples/flag/unfinished.txt", "examples/trace.txt"]
+    {
+        assert_eq!(check(&read(name)), Ok(()), "{name}");
+    }
+    assert_eq!(check(&read("examples/stale.txt")), Err(Fault::Report { line: 8 }));
+    assert_eq!(check(b""), Err(Fault::Report { line: 1 }));
+}
+
+#[test]
+fn machines_go_from_thread_to_thread() {
+    let mut machine = first();
+    machine.round();
+    let moved = thread::spawn(move || {
+        machine.finish();
+        machine
+    });
+    let mut machine = moved.join().expect("the thread ends");
+    assert_eq!(machine.report().unwrap(), read("examples/report.txt"));
+}
