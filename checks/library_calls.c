@@ -1,0 +1,302 @@
+/* Calls the C library as `checks/library` asks, and prints a line for each thing that is wrong:
+
+     library_calls finish MACHINE SCRIPT           prints the report of a finished run, and nothing else
+     library_calls codes MACHINE SCRIPT REPORT     what calls answer of a machine that is empty or full, of what isn't
+                                                   there and of short buffers; the texts are those of examples/
+     library_calls memory MACHINE SCRIPT REPORT    the same run with the n-th request for memory refused, for each n
+
+   REPORT is the report of the finished run. It is linked with -Wl,--wrap=malloc,--wrap=realloc,--wrap=free. */
+#include <inttypes.h>
+#include <stdio.h>
+#include <stdlib.h>
+#include <string.h>
+#include "torusmem.h"
+
+enum { MOST_BYTES = 1 << 20 };
+
+typedef struct text {
+  uint8_t bytes[MOST_BYTES];
+  size_t length;
+} text;
+
+static text machine_text, script_text, report_text, written;
+static int wrongs;
+
+/* Requests for memory: how many were made, which is refused (0: none; `and_later`: with all behind it), and how many
+   blocks are live. */
+static uint64_t requests, refused;
+static bool and_later;
+static int64_t live;
+
+void *__real_malloc(size_t size);
+void *__real_realloc(void *block, size_t size);
+void __real_free(void *block);
+void *__wrap_malloc(size_t size);
+void *__wrap_realloc(void *block, size_t size);
+void __wrap_free(void *block);
+
+static bool is_refused(void) {
+  requests++;
+  return refused != 0 && (requests == refused || (and_later && requests > refused));
+}
+
+void *__wrap_malloc(size_t size) {
+  void *block = is_refused() ? NULL : __real_malloc(size);
+  if (block) live++;
+  return block;
+}
+
+void *__wrap_realloc(void *block, size_t size) {
+  void *moved = is_refused() ? NULL : __real_realloc(block, size);
+  if (moved && !block) live++;
+  return moved;
+}
+
+void __wrap_free(void *block) {
+  if (block) live--;
+  __real_free(block);
+}
+
+static void must(bool is_so, const char *what, int line) {
+  if (is_so) return;
+  if (wrongs++ < 10) printf("line %d, request %" PRIu64 ": not so: %s\n", line, refused, what);
+}
+#define MUST(is_so) must(is_so, #is_so, __LINE__)
+
+static bool says(torusmem_outcome said, uint32_t code, uint64_t value) {
+  return said.code == code && said.value == value;
+}
+
+static void read_text(const char *name, text *read) {
+  FILE *file = fopen(name, "rb");
+  if (!file) {
+    fprintf(stderr, "cannot read %s\n", name);
+    exit(2);
+  }
+  read->length = fread(read->bytes, 1, MOST_BYTES, file);
+  fclose(file);
+}
+
+static torusmem_outcome load(torusmem_machine *m) {
+  return torusmem_load(m, machine_text.bytes, machine_text.length, script_text.bytes, script_text.length);
+}
+
+static torusmem_outcome load_texts(torusmem_machine *m, const char *machine, const char *scripts) {
+  return torusmem_load(m, (const uint8_t *)machine, strlen(machine), (const uint8_t *)scripts, strlen(scripts));
+}
+
+/* Whether the bytes are those of a text. */
+static bool is_text(const uint8_t *bytes, size_t length, const text *wanted) {
+  return length == wanted->length && memcmp(bytes, wanted->bytes, length) == 0;
+}
+
+static bool reports_well(torusmem_machine *m) {
+  torusmem_outcome said = torusmem_report(m, written.bytes, MOST_BYTES);
+  return said.code == TORUSMEM_OK && is_text(written.bytes, (size_t)said.value, &report_text);
+}
+
+static bool is_zeros(const torusmem_machine *m) {
+  return !m->full && m->at == NULL;
+}
+
+static void every_call_says_empty(torusmem_machine *m) {
+  uint8_t byte = 7;
+  torusmem_channel channel = { 7, 7, 7, 7, 7, 7 };
+  torusmem_answer answer = torusmem_answer_at(m, 0, 0);
+  torusmem_entry entry = torusmem_entry_at(m, 0, 0);
+  MUST(says(torusmem_step(m, 0, TORUSMEM_SEND, 0), TORUSMEM_EMPTY, 0));
+  MUST(says(torusmem_enabled(m, 0, TORUSMEM_SEND, 0), TORUSMEM_EMPTY, 0));
+  MUST(says(torusmem_round(m), TORUSMEM_EMPTY, 0));
+  MUST(says(torusmem_finish(m), TORUSMEM_EMPTY, 0));
+  MUST(says(torusmem_finished(m), TORUSMEM_EMPTY, 0));
+  MUST(says(torusmem_moves_left(m), TORUSMEM_EMPTY, 0));
+  MUST(says(torusmem_tiles(m), TORUSMEM_EMPTY, 0));
+  MUST(says(torusmem_words(m), TORUSMEM_EMPTY, 0));
+  MUST(says(torusmem_word(m, 99), TORUSMEM_EMPTY, 0));
+  MUST(says(torusmem_row(m, 0), TORUSMEM_EMPTY, 0));
+  MUST(says(torusmem_answers(m, 0), TORUSMEM_EMPTY, 0));
+  MUST(says(torusmem_entries(m, 0), TORUSMEM_EMPTY, 0));
+  MUST(says(torusmem_report(m, &byte, 1), TORUSMEM_EMPTY, 0) && byte == 7);
+  MUST(says(torusmem_route(m, 0, 1, 0, &channel, 1), TORUSMEM_EMPTY, 0) && channel.kind == 7);
+  MUST(says(torusmem_next(m, 0, 0, 0), TORUSMEM_EMPTY, 0));
+  MUST(answer.code == TORUSMEM_EMPTY && answer.index + answer.operation + answer.bank + answer.place == 0);
+  MUST(answer.has_old == 0 && answer.first + answer.second + answer.old == 0);
+  MUST(entry.code == TORUSMEM_EMPTY && entry.source + entry.tag + entry.address + entry.operation == 0);
+  MUST(entry.has_old == 0 && entry.first + entry.second + entry.old == 0);
+  torusmem_free(m);
+  MUST(is_zeros(m));
+}
+
+static void faults_keep_nothing(torusmem_machine *m) {
+  const char *two_tiles = "radix 2\ndims 1\ndepth 4\ntags 4\nwords 8\n";
+  MUST(says(load_texts(m, "radix 9\n", "0 load 8\n"), 1, 1) && is_zeros(m));
+  MUST(says(load_texts(m, "dims 4\n", ""), 2, 1) && is_zeros(m));
+  MUST(says(load_texts(m, "radix 8\ndims 3\n", ""), 3, 2) && is_zeros(m));
+  MUST(says(load_texts(m, "\nradius 2\n", ""), 4, 2) && is_zeros(m));
+  MUST(says(load_texts(m, "", ""), 5, 1) && is_zeros(m));
+  MUST(says(load_texts(m, two_tiles, "0 load 7\n0 store 7 18446744073709551616\n"), 6, 2) && is_zeros(m));
+  MUST(says(load_texts(m, two_tiles, "0 load 8\n"), 7, 1) && is_zeros(m));
+  MUST(says(load_texts(m, two_tiles, "2 load 0\n"), 8, 1) && is_zeros(m));
+  MUST(says(load_texts(m, two_tiles, "0 spin 0 1 4096\n0 load 0\n"), 9, 2) && is_zeros(m));
+  MUST(says(load_texts(m, two_tiles, "0 store 0 last\n"), 10, 1) && is_zeros(m));
+  MUST(says(load_texts(m, "radix 2 2\ndims 3\n", ""), 13, 2) && is_zeros(m));
+  MUST(says(load_texts(m, "radix 2\ndims 1\ndateline 2\n", ""), 14, 3) && is_zeros(m));
+  every_call_says_empty(m);
+  MUST(says(load_texts(m, two_tiles, ""), TORUSMEM_OK, 0) && says(torusmem_finished(m), TORUSMEM_OK, 1));
+  torusmem_free(m);
+}
+
+/* Of two tiles, eight words, channels of four flits: see docs/FORMATS.md. */
+static void what_is_not_there(torusmem_machine *m) {
+  torusmem_channel route[14];
+  MUST(says(torusmem_tiles(m), TORUSMEM_OK, 2) && says(torusmem_words(m), TORUSMEM_OK, 8));
+  MUST(says(torusmem_word(m, 7), TORUSMEM_OK, 0) && says(torusmem_word(m, 8), TORUSMEM_NONE, 0));
+  MUST(says(torusmem_word(m, UINT32_MAX), TORUSMEM_NONE, 0));
+  MUST(says(torusmem_row(m, 104), TORUSMEM_OK, 0) && says(torusmem_row(m, 105), TORUSMEM_NONE, 0));
+  MUST(says(torusmem_row(m, UINT32_MAX), TORUSMEM_NONE, 0));
+  MUST(says(torusmem_answers(m, 1), TORUSMEM_OK, 0) && says(torusmem_answers(m, 2), TORUSMEM_NONE, 0));
+  MUST(says(torusmem_entries(m, 1), TORUSMEM_OK, 0) && says(torusmem_entries(m, 2), TORUSMEM_NONE, 0));
+  MUST(torusmem_answer_at(m, 0, 0).code == TORUSMEM_NONE && torusmem_answer_at(m, 2, 0).code == TORUSMEM_NONE);
+  MUST(torusmem_entry_at(m, 1, 0).code == TORUSMEM_NONE && torusmem_entry_at(m, 2, 0).code == TORUSMEM_NONE);
+  MUST(says(torusmem_route(m, 2, 0, TORUSMEM_REQUEST, route, 14), TORUSMEM_NONE, 0));
+  MUST(says(torusmem_route(m, 0, 2, TORUSMEM_REQUEST, route, 14), TORUSMEM_NONE, 0));
+  MUST(says(torusmem_route(m, 0, 1, 2, route, 14), TORUSMEM_NONE, 0));
+  MUST(says(torusmem_next(m, 0, 9, 1), TORUSMEM_OK, 2) && says(torusmem_next(m, 0, 10, 1), TORUSMEM_NONE, 0));
+  MUST(says(torusmem_next(m, 2, 0, 0), TORUSMEM_NONE, 0) && says(torusmem_next(m, 0, 0, 2), TORUSMEM_NONE, 0));
+  MUST(says(torusmem_step(m, 6, TORUSMEM_SEND, 0), TORUSMEM_OK, 0));
+  MUST(says(torusmem_step(m, 0, TORUSMEM_LOOK + 1, 0), TORUSMEM_OK, 0));
+  MUST(says(torusmem_step(m, 0, UINT32_MAX, 0), TORUSMEM_OK, 0));
+  MUST(says(torusmem_step(m, 1, TORUSMEM_TAKE_FROM, UINT32_MAX), TORUSMEM_OK, 0));
+  MUST(says(torusmem_enabled(m, 0, UINT32_MAX, 0), TORUSMEM_OK, 0));
+  MUST(says(torusmem_enabled(m, 0, TORUSMEM_SEND, 99), TORUSMEM_OK, 1));
+}
+
+/* The route of a reply from tile 1 to tile 0, by README's commands: inject 1 6, hop 1 0 plus 1 9, eject 0 11. */
+static void short_buffers(torusmem_machine *m) {
+  torusmem_channel route[4], before[4];
+  size_t length = report_text.length;
+  memset(before, 0xAA, sizeof before);
+  memset(route, 0xAA, sizeof route);
+  MUST(says(torusmem_route(m, 1, 0, TORUSMEM_REPLY, route, 2), TORUSMEM_SHORT, 3));
+  MUST(memcmp(route, before, sizeof route) == 0);
+  MUST(says(torusmem_route(m, 1, 0, TORUSMEM_REPLY, route, 3), TORUSMEM_OK, 3));
+  MUST(memcmp(&route[3], &before[3], sizeof route[3]) == 0);
+  MUST(route[0].kind == TORUSMEM_INJECTION && route[0].tile == 1 && route[0].number == 6);
+  MUST(route[1].kind == TORUSMEM_HOP && route[1].tile == 1 && route[1].dim == 0 && route[1].minus == 0);
+  MUST(route[1].bit == 1 && route[1].number == 9);
+  MUST(route[2].kind == TORUSMEM_EJECTION && route[2].tile == 0 && route[2].number == 11);
+  memset(written.bytes, 0xAA, length + 8);
+  MUST(says(torusmem_report(m, written.bytes, 0), TORUSMEM_SHORT, length) && written.bytes[0] == 0xAA);
+  MUST(says(torusmem_report(m, written.bytes, length - 1), TORUSMEM_SHORT, length) && written.bytes[0] == 0xAA);
+  MUST(says(torusmem_report(m, written.bytes, length), TORUSMEM_OK, length) && written.bytes[length] == 0xAA);
+  MUST(is_text(written.bytes, length, &report_text));
+  MUST(says(torusmem_check(written.bytes, length), TORUSMEM_OK, 0));
+  MUST(says(torusmem_check(written.bytes, length - 1), TORUSMEM_BAD_REPORT, 10));
+  written.bytes[length - 5] ^= 1;
+  MUST(says(torusmem_check(written.bytes, length), TORUSMEM_BAD_REPORT, 10));
+  MUST(says(torusmem_check(written.bytes, 0), TORUSMEM_BAD_REPORT, 1));
+}
+
+/* `answer 0 1 1 1 17` and `entry 1 0 0 0 store 5 17 ok`. */
+static void answers_and_entries(torusmem_machine *m) {
+  torusmem_answer answer = torusmem_answer_at(m, 0, 1);
+  torusmem_entry entry = torusmem_entry_at(m, 1, 0);
+  MUST(says(torusmem_answers(m, 0), TORUSMEM_OK, 2) && says(torusmem_entries(m, 1), TORUSMEM_OK, 2));
+  MUST(answer.code == TORUSMEM_OK && answer.index == 1 && answer.operation == TORUSMEM_LOAD && answer.bank == 1);
+  MUST(answer.place == 1 && answer.has_old == 1 && answer.old == 17 && answer.first == 0 && answer.second == 0);
+  MUST(entry.code == TORUSMEM_OK && entry.source == 0 && entry.tag == 0 && entry.address == 5);
+  MUST(entry.operation == TORUSMEM_STORE && entry.first == 17 && entry.has_old == 0 && entry.old == 0);
+  MUST(torusmem_answer_at(m, 0, 2).code == TORUSMEM_NONE && torusmem_entry_at(m, 1, 2).code == TORUSMEM_NONE);
+}
+
+static void codes(void) {
+  torusmem_machine m = TORUSMEM_MACHINE_INIT, moved = TORUSMEM_MACHINE_INIT;
+  every_call_says_empty(&m);
+  faults_keep_nothing(&m);
+  MUST(says(load(&m), TORUSMEM_OK, 0) && m.full);
+  what_is_not_there(&m);
+  MUST(says(torusmem_step(&m, 0, TORUSMEM_SEND, 99), TORUSMEM_OK, 1));
+  MUST(says(load(&m), TORUSMEM_FULL, 0));
+  MUST(says(load_texts(&m, "radix 9\n", ""), TORUSMEM_FULL, 0));
+  MUST(says(torusmem_step(&m, 1, TORUSMEM_TAKE_FROM, 8), TORUSMEM_OK, 1));
+  moved = m;
+  m = (torusmem_machine)TORUSMEM_MACHINE_INIT;
+  MUST(says(torusmem_finished(&moved), TORUSMEM_OK, 0));
+  MUST(torusmem_finish(&moved).code == TORUSMEM_OK && says(torusmem_finished(&moved), TORUSMEM_OK, 1));
+  MUST(says(torusmem_word(&moved, 5), TORUSMEM_OK, 17) && reports_well(&moved));
+  every_call_says_empty(&m);
+  short_buffers(&moved);
+  answers_and_entries(&moved);
+  torusmem_free(&moved);
+  MUST(is_zeros(&moved));
+  every_call_says_empty(&moved);
+  MUST(says(load(&moved), TORUSMEM_OK, 0) && says(torusmem_finish(&moved), TORUSMEM_OK, 12));
+  MUST(reports_well(&moved) && live > 0);
+  torusmem_free(&moved);
+  MUST(live == 0);
+}
+
+/* A run in which a request for memory may be refused: each call works or says so, and what is asked again once there
+   is memory is as it has to be. */
+static void run_with_little_memory(void) {
+  torusmem_machine m = TORUSMEM_MACHINE_INIT;
+  torusmem_channel route[14];
+  torusmem_outcome said = load(&m);
+  if (said.code != TORUSMEM_OK) {
+    MUST(says(said, TORUSMEM_FAULT_MEMORY, 0) && is_zeros(&m) && live == 0);
+    return;
+  }
+  MUST(says(torusmem_enabled(&m, 0, TORUSMEM_SEND, 0), TORUSMEM_OK, 1));
+  MUST(torusmem_finish(&m).code == TORUSMEM_OK && says(torusmem_finished(&m), TORUSMEM_OK, 1));
+  said = torusmem_report(&m, written.bytes, MOST_BYTES);
+  if (said.code == TORUSMEM_OK) MUST(is_text(written.bytes, (size_t)said.value, &report_text));
+  else MUST(says(said, TORUSMEM_FAULT_MEMORY, 0));
+  said = torusmem_check(report_text.bytes, report_text.length);
+  MUST(says(said, TORUSMEM_OK, 0) || says(said, TORUSMEM_FAULT_MEMORY, 0));
+  said = torusmem_route(&m, 0, 1, 0, route, 14);
+  MUST(says(said, TORUSMEM_OK, 3) || says(said, TORUSMEM_FAULT_MEMORY, 0));
+  uint64_t kept = refused;
+  refused = 0;
+  MUST(reports_well(&m) && says(torusmem_check(written.bytes, report_text.length), TORUSMEM_OK, 0));
+  refused = kept;
+  torusmem_free(&m);
+  MUST(is_zeros(&m) && live == 0);
+}
+
+static void memory(void) {
+  uint64_t needed;
+  run_with_little_memory();
+  needed = requests;
+  MUST(needed > 0);
+  for (uint64_t n = 1; n <= needed; n++) {
+    for (int all = 0; all < 2; all++) {
+      requests = 0;
+      refused = n;
+      and_later = all;
+      run_with_little_memory();
+    }
+  }
+  fprintf(stderr, "%" PRIu64 " requests for memory, each refused alone and with all behind it\n", needed);
+}
+
+static void finish(void) {
+  torusmem_machine m = TORUSMEM_MACHINE_INIT;
+  MUST(says(load(&m), TORUSMEM_OK, 0) && torusmem_finish(&m).code == TORUSMEM_OK);
+  torusmem_outcome said = torusmem_report(&m, written.bytes, MOST_BYTES);
+  MUST(said.code == TORUSMEM_OK && fwrite(written.bytes, 1, (size_t)said.value, stdout) == said.value);
+  torusmem_free(&m);
+}
+
+int main(int count, char **words) {
+  if (count < 4) return 2;
+  read_text(words[2], &machine_text);
+  read_text(words[3], &script_text);
+  if (count > 4) read_text(words[4], &report_text);
+  requests = 0;
+  live = 0;
+  if (strcmp(words[1], "finish") == 0) finish();
+  else if (strcmp(words[1], "codes") == 0) codes();
+  else if (strcmp(words[1], "memory") == 0) memory();
+  else return 2;
+  return wrongs == 0 ? 0 : 1;
+}
