@@ -220,7 +220,7 @@ impl Machine {
         found(self.raw.row(at))
     }
 
-    /// The answers that a processor has, by index.
+    /// The answers that a processor has, in the order of answering.
     pub fn answers(&mut self, processor: u32) -> Option<Vec<Answer>> {
         let count = found(self.raw.answers(processor))? as u32;
         let answer = |i| answer_of(&self.raw.answer_at(processor, i));
