@@ -139,7 +139,12 @@ pub struct Channel {
     pub number: u32,
 }
 
-/// A machine: its tiles, their channels, and the memory. It may go from thread to thread, and isn't shared:
+/// A machine: its tiles, their channels, and the memory. It stays on its thread, and isn't shared:
+///
+/// ```compile_fail,E0277
+/// fn sent<T: Send>() {}
+/// sent::<torusmem::Machine>();
+/// ```
 ///
 /// ```compile_fail,E0277
 /// fn shared<T: Sync>() {}
@@ -156,7 +161,7 @@ impl fmt::Debug for Machine {
 }
 
 /// No route has more channels, as include/torusmem.h says.
-const LONGEST_ROUTE: usize = 14;
+const LONGEST_ROUTE: usize = 10;
 
 impl Machine {
     /// The machine of these texts, or the first fault of the first bad one.

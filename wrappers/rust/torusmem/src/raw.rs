@@ -1,15 +1,13 @@
 //! The calls of the C library, one method each. All that is unsafe stands here.
 //!
-//! What each call needs is what include/torusmem.h says: a machine that began as zeros, was changed by calls alone,
-//! isn't doubled and goes to one call at a time; and for each pointer as many bytes behind it as the length says. The
-//! machine is a private field behind a `&mut`, and pointers with their lengths come from slices.
+//! What a caller owes is what include/torusmem.h says: a machine that began as zeros, was changed by calls alone, isn't
+//! doubled, goes to one call at a time, and stays on one thread; and for each pointer, which isn't null, as much behind
+//! it as the length says, and nothing that the same call gets by another one. The machine is a private field behind a
+//! `&mut`, and has a raw pointer, so that it is neither `Send` nor `Sync`; pointers with their lengths come from slices,
+//! whose pointers are never null.
 use torusmem_sys::*;
 
 pub struct Raw(torusmem_machine);
-
-// SAFETY: a machine stays on no thread: it is plain memory of its own, from malloc, which any thread may free. It
-// isn't `Sync`, and each call takes it by `&mut`, so it goes to one call at a time.
-unsafe impl Send for Raw {}
 
 impl Drop for Raw {
     fn drop(&mut self) {

@@ -214,13 +214,16 @@ fn reports_are_judged() {
 }
 
 #[test]
-fn machines_go_from_thread_to_thread() {
-    let mut machine = first();
-    machine.round();
-    let moved = thread::spawn(move || {
-        machine.finish();
-        machine
-    });
-    let mut machine = moved.join().expect("the thread ends");
-    assert_eq!(machine.report().unwrap(), read("examples/report.txt"));
+fn machines_of_many_threads_share_nothing() {
+    let run = || {
+        let mut machines = [first(), loaded("examples/flag/machine.txt", "examples/flag/script.txt")];
+        while !machines.iter_mut().all(Machine::finished) {
+            machines.iter_mut().for_each(Machine::round);
+        }
+        machines.map(|mut machine| machine.report().unwrap())
+    };
+    let threads: Vec<_> = (0..4).map(|_| thread::spawn(run)).collect();
+    let reports: Vec<_> = threads.into_iter().map(|it| it.join().expect("the thread ends")).collect();
+    assert!(reports.iter().all(|it| it[0] == read("examples/report.txt") && it[1] == reports[0][1]));
+    assert_eq!(check(&reports[0][1]), Ok(()));
 }
