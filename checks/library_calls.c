@@ -95,7 +95,8 @@ static bool reports_well(torusmem_machine *m) {
   return said.code == TORUSMEM_OK && is_text(written.bytes, (size_t)said.value, &report_text);
 }
 
-static bool is_zeros(const torusmem_machine *m) {
+/* Whether a machine is as it was begun. */
+static bool is_new(const torusmem_machine *m) {
   return !m->full && m->at == NULL;
 }
 
@@ -124,23 +125,23 @@ static void every_call_says_empty(torusmem_machine *m) {
   MUST(entry.code == TORUSMEM_EMPTY && entry.source + entry.tag + entry.address + entry.operation == 0);
   MUST(entry.has_old == 0 && entry.first + entry.second + entry.old == 0);
   torusmem_free(m);
-  MUST(is_zeros(m));
+  MUST(!m->full);
 }
 
 static void faults_keep_nothing(torusmem_machine *m) {
   const char *two_tiles = "radix 2\ndims 1\ndepth 4\ntags 4\nwords 8\n";
-  MUST(says(load_texts(m, "radix 9\n", "0 load 8\n"), 1, 1) && is_zeros(m));
-  MUST(says(load_texts(m, "dims 4\n", ""), 2, 1) && is_zeros(m));
-  MUST(says(load_texts(m, "radix 8\ndims 3\n", ""), 3, 2) && is_zeros(m));
-  MUST(says(load_texts(m, "\nradius 2\n", ""), 4, 2) && is_zeros(m));
-  MUST(says(load_texts(m, "", ""), 5, 1) && is_zeros(m));
-  MUST(says(load_texts(m, two_tiles, "0 load 7\n0 store 7 18446744073709551616\n"), 6, 2) && is_zeros(m));
-  MUST(says(load_texts(m, two_tiles, "0 load 8\n"), 7, 1) && is_zeros(m));
-  MUST(says(load_texts(m, two_tiles, "2 load 0\n"), 8, 1) && is_zeros(m));
-  MUST(says(load_texts(m, two_tiles, "0 spin 0 1 4096\n0 load 0\n"), 9, 2) && is_zeros(m));
-  MUST(says(load_texts(m, two_tiles, "0 store 0 last\n"), 10, 1) && is_zeros(m));
-  MUST(says(load_texts(m, "radix 2 2\ndims 3\n", ""), 13, 2) && is_zeros(m));
-  MUST(says(load_texts(m, "radix 2\ndims 1\ndateline 2\n", ""), 14, 3) && is_zeros(m));
+  MUST(says(load_texts(m, "radix 9\n", "0 load 8\n"), 1, 1) && is_new(m));
+  MUST(says(load_texts(m, "dims 4\n", ""), 2, 1) && is_new(m));
+  MUST(says(load_texts(m, "radix 8\ndims 3\n", ""), 3, 2) && is_new(m));
+  MUST(says(load_texts(m, "\nradius 2\n", ""), 4, 2) && is_new(m));
+  MUST(says(load_texts(m, "", ""), 5, 1) && is_new(m));
+  MUST(says(load_texts(m, two_tiles, "0 load 7\n0 store 7 18446744073709551616\n"), 6, 2) && is_new(m));
+  MUST(says(load_texts(m, two_tiles, "0 load 8\n"), 7, 1) && is_new(m));
+  MUST(says(load_texts(m, two_tiles, "2 load 0\n"), 8, 1) && is_new(m));
+  MUST(says(load_texts(m, two_tiles, "0 spin 0 1 4096\n0 load 0\n"), 9, 2) && is_new(m));
+  MUST(says(load_texts(m, two_tiles, "0 store 0 last\n"), 10, 1) && is_new(m));
+  MUST(says(load_texts(m, "radix 2 2\ndims 3\n", ""), 13, 2) && is_new(m));
+  MUST(says(load_texts(m, "radix 2\ndims 1\ndateline 2\n", ""), 14, 3) && is_new(m));
   every_call_says_empty(m);
   MUST(says(load_texts(m, two_tiles, ""), TORUSMEM_OK, 0) && says(torusmem_finished(m), TORUSMEM_OK, 1));
   torusmem_free(m);
@@ -228,7 +229,7 @@ static void codes(void) {
   short_buffers(&moved);
   answers_and_entries(&moved);
   torusmem_free(&moved);
-  MUST(is_zeros(&moved));
+  MUST(!moved.full);
   every_call_says_empty(&moved);
   MUST(says(load(&moved), TORUSMEM_OK, 0) && says(torusmem_finish(&moved), TORUSMEM_OK, 12));
   MUST(reports_well(&moved) && live > 0);
@@ -243,7 +244,7 @@ static void run_with_little_memory(void) {
   torusmem_channel route[14];
   torusmem_outcome said = load(&m);
   if (said.code != TORUSMEM_OK) {
-    MUST(says(said, TORUSMEM_FAULT_MEMORY, 0) && is_zeros(&m) && live == 0);
+    MUST(says(said, TORUSMEM_FAULT_MEMORY, 0) && is_new(&m) && live == 0);
     return;
   }
   MUST(says(torusmem_enabled(&m, 0, TORUSMEM_SEND, 0), TORUSMEM_OK, 1));
@@ -260,7 +261,7 @@ static void run_with_little_memory(void) {
   MUST(reports_well(&m) && says(torusmem_check(written.bytes, report_text.length), TORUSMEM_OK, 0));
   refused = kept;
   torusmem_free(&m);
-  MUST(is_zeros(&m) && live == 0);
+  MUST(!m.full && live == 0);
 }
 
 static void memory(void) {
