@@ -13,7 +13,7 @@ const PAIR: &[u8] = b"radix 2\ndims 1\ndepth 4\ntags 4\nwords 8\n";
 const SQUARE: &[u8] = b"radix 8\ndims 2\ndepth 1\ntags 1\nwords 64\ninit 36 5\n";
 
 /// What was asked for when a call failed.
-#[derive(Clone, Copy, PartialEq, Eq)]
+#[derive(Clone, Copy)]
 enum Call {
     Read,
     Load,
@@ -40,56 +40,59 @@ fn loaded<A: Allocator + Copy>(
     }
 }
 
-/// The machine of these texts, or the fault.
-fn machine_of(alloc: Global, machine: &[u8], scripts: &[u8]) -> Result<Machine, Fault> {
-    match loaded(alloc, machine, scripts) {
+/// The machine of a text and of scripts, which are a text that stands so many times, or the fault.
+fn machine_of(alloc: Global, machine: &[u8], scripts: &[u8], times: u32) -> Result<Machine, Fault> {
+    let mut text = Vec::new(alloc);
+    for _ in 0..times {
+        if text.extend_from_slice(scripts).is_err() {
+            return Err(Fault::Memory);
+        }
+    }
+    match loaded(alloc, machine, text.as_slice()) {
         Ok(machine) => Ok(machine),
         Err((_, fault)) => Err(fault),
     }
 }
 
-fn made(machine: &mut Machine, agent: u32, choice: Choice) -> bool {
-    machine.step(Step { agent, choice }) == Stepped::Moved
+/// Whether a step is enabled and made; where it isn't enabled, it may not be made either.
+fn made(machine: &mut Machine, agent: u32, choice: Choice) -> Option<bool> {
+    let step = Step { agent, choice };
+    let is_enabled = machine.enabled(step);
+    if (machine.step(step) == Stepped::Moved) == is_enabled {
+        Some(is_enabled)
+    } else {
+        None
+    }
 }
 
 fn is_first(machine: &Machine, agent: u32, choice: Choice) -> bool {
     machine.enabled_step() == Some(Step { agent, choice })
 }
 
-/// Makes rounds until every script is finished, at most so many; and tells whether before each
-/// hundredth of them some step was enabled.
-fn is_live_in_rounds<A: Allocator>(machine: &mut Machine<A>, most: u32) -> bool {
-    let mut is_live = true;
+/// Makes rounds until every script is finished, at most so many, and tells how many; or None where
+/// before some hundredth of them no step was enabled.
+fn rounds<A: Allocator>(machine: &mut Machine<A>, most: u32) -> Option<u32> {
     for count in 0..most {
         if machine.finished() {
-            break;
+            return Some(count);
         }
-        if count % 100 == 0 {
-            is_live = is_live && machine.enabled_step().is_some();
+        if count % 100 == 0 && machine.enabled_step().is_none() {
+            return None;
         }
         machine.round();
     }
-    is_live
-}
-
-/// Makes rounds until every script is finished, at most so many; and tells how many.
-fn rounds<A: Allocator>(machine: &mut Machine<A>, most: u32) -> u32 {
-    for count in 0..most {
-        if machine.finished() {
-            return count;
-        }
-        machine.round();
-    }
-    most
+    Some(most)
 }
 
 /// A row of the order: bank and place, processor and index, the numbers of issue, service and answer.
 type Row = (u32, u32, u32, u32, u32, u32, Option<u32>);
 
-fn is_row(found: &Ordered, row: &Row) -> bool {
-    let &(bank, place, source, index, issued, served, answered) = row;
-    *found
-        == Ordered {
+fn are_rows(found: &[Ordered], rows: &[Row]) -> bool {
+    if found.len() != rows.len() {
+        return false;
+    }
+    for (found, &(bank, place, source, index, issued, served, answered)) in found.iter().zip(rows) {
+        let row = Ordered {
             bank,
             place,
             source,
@@ -97,21 +100,20 @@ fn is_row(found: &Ordered, row: &Row) -> bool {
             issued,
             served,
             answered,
+        };
+        if *found != row {
+            return false;
         }
+    }
+    true
 }
 
-/// Whether these are all rows of the order.
-fn has_order(alloc: Global, machine: &Machine, rows: &[Row]) -> Result<bool, Fault> {
-    let order = machine.order(alloc)?;
-    if order.len() != rows.len() {
-        return Ok(false);
+/// Whether these are all rows of the order from some place on.
+fn has_order(alloc: Global, machine: &Machine, from: usize, rows: &[Row]) -> bool {
+    match machine.order(alloc) {
+        Ok(order) => are_rows(order.as_slice().get(from..).unwrap_or(&[]), rows),
+        Err(_) => false,
     }
-    for (found, row) in order.iter().zip(rows) {
-        if !is_row(found, row) {
-            return Ok(false);
-        }
-    }
-    Ok(true)
 }
 
 /// Whether the answers of a processor have these indexes and replies.
@@ -151,246 +153,376 @@ const FIRST_FLIT: [(u32, Choice, u32, u64); 6] = [
     (5, Choice::Take, 88, 0),
 ];
 
-/// A store of 7 at address 1 goes flit by flit to its bank, which serves it.
-#[test]
-fn a_store_goes_through_the_row(rt: HostRuntime) -> Result<(), Fail> {
-    let alloc = rt.alloc();
-    let mut machine = machine_of(alloc, PAIR, b"0 store 1 7\n")?;
-    for &(agent, choice, place, word) in &FIRST_FLIT {
-        let has_moved = made(&mut machine, agent, choice);
-        assert!(rt;
-            has_moved && machine.row(place) == Some(word),
-            "word {place}"
-        );
-    }
-    for _ in 0..2 {
+/// Makes the steps of a flit so many times; tells whether each was enabled.
+fn pass(machine: &mut Machine, times: u32) -> bool {
+    for _ in 0..times {
         for &(agent, choice, _, _) in &FIRST_FLIT {
-            assert!(rt;
-                made(&mut machine, agent, choice),
-                "a step of agent {agent}"
-            );
+            if made(machine, agent, choice) != Some(true) {
+                return false;
+            }
         }
     }
-    assert!(rt; made(&mut machine, 5, Choice::Serve), "the service");
-    let words = [machine.row(97), machine.row(104), machine.row(105)];
-    assert!(rt;
-        words == [Some(7), Some(0), None],
-        "the memory, the done word, and the end"
-    );
-    let shown = has_replies(&machine, 0, &[]) && has_words(&machine, &[(1, 7)]);
-    let is_ordered = has_order(alloc, &machine, &[(1, 0, 0, 0, 1, 2, None)])?;
-    assert!(rt; shown && is_ordered && !machine.finished(), "what is shown");
-    let entry = Entry {
-        source: 0,
-        tag: Tag(0),
-        address: 1,
-        op: Op::Store(7),
-        reply: Reply::Ok,
-    };
-    assert!(rt;
-        machine.bank(1) == Some(&[entry]) && machine.bank(0) == Some(&[]),
-        "the entry"
-    );
-    Ok(())
+    true
 }
 
-/// What is enabled on two tiles, and how many moves are left: a store allows 241, and each tile 2. The
-/// three flits of its request take eighteen, its service one; an attempt that isn't enabled takes none.
-#[test]
-fn enabled_steps_are_counted_down(rt: HostRuntime) -> Result<(), Fail> {
-    let alloc = rt.alloc();
-    let loads = machine_of(alloc, PAIR, b"0 store 5 17\n0 fence\n0 load 5\n")?;
-    let mut machine = machine_of(alloc, PAIR, b"0 store 1 7\n")?;
-    let begins = (is_first(&loads, 0, Choice::Send), machine.moves_left());
-    let mut comes = true;
-    for _ in 0..3 {
-        for &(agent, choice, _, _) in &FIRST_FLIT {
-            let is_enabled = machine.enabled(Step { agent, choice });
-            comes = comes && is_enabled && made(&mut machine, agent, choice);
+/// A store of 7 at address 1 goes flit by flit to its bank, which serves it.
+fn store_goes_through_the_row(alloc: Global, machine: &mut Machine) -> bool {
+    for &(agent, choice, place, word) in &FIRST_FLIT {
+        if made(machine, agent, choice) != Some(true) || machine.row(place) != Some(word) {
+            return false;
         }
     }
-    let came = (comes, machine.moves_left());
-    let is_served = made(&mut machine, 5, Choice::Serve);
-    let is_served_again = made(&mut machine, 5, Choice::Serve);
-    let served = (is_served, is_served_again, machine.moves_left());
+    if !pass(machine, 2) || made(machine, 5, Choice::Serve) != Some(true) || machine.finished() {
+        return false;
+    }
+    // the memory, the done word, and the end
+    if machine.row(97) != Some(7) || machine.row(104) != Some(0) || machine.row(105).is_some() {
+        return false;
+    }
+    has_replies(machine, 0, &[])
+        && has_words(machine, &[(1, 7)])
+        && has_order(alloc, machine, 0, &[(1, 0, 0, 0, 1, 2, None)])
+        && machine.bank(1) == Some(STORED)
+        && machine.bank(0) == Some(&[])
+}
+
+/// What bank 1 has done then.
+const STORED: &[Entry] = &[Entry {
+    source: 0,
+    tag: Tag(0),
+    address: 1,
+    op: Op::Store(7),
+    reply: Reply::Ok,
+}];
+
+/// How many moves are left: a store allows 241, and each of two tiles 2. The three flits of its request
+/// take eighteen, its service one; an attempt that isn't enabled takes none.
+fn moves_are_counted_down(machine: &mut Machine) -> bool {
+    if machine.moves_left() != 245 || !pass(machine, 3) || machine.moves_left() != 227 {
+        return false;
+    }
+    let is_served = made(machine, 5, Choice::Serve) == Some(true);
+    let is_served_once = made(machine, 5, Choice::Serve) == Some(false);
     let sends = machine.enabled(Step {
         agent: 5,
         choice: Choice::Send,
     });
-    let next = (is_first(&machine, 0, Choice::Credit), sends);
-    assert!(rt; (begins, came) == ((true, 245), (true, 227)), "to the bank");
-    assert!(rt;
-        (served, next) == ((true, false, 226), (true, true)),
-        "at the bank"
-    );
-    Ok(())
+    is_served
+        && is_served_once
+        && sends
+        && machine.moves_left() == 226
+        && is_first(machine, 0, Choice::Credit)
 }
 
 /// Two tiles without operations are finished, though their processors may report that and look.
-#[test]
-fn empty_scripts_need_no_round(rt: HostRuntime) -> Result<(), Fail> {
-    let mut machine = machine_of(rt.alloc(), PAIR, b"")?;
-    let before = (is_first(&machine, 0, Choice::Done), machine.moves_left());
-    let finished = (machine.finish(), machine.moves_left());
+fn no_round_is_needed(machine: &mut Machine) -> bool {
+    let begins = is_first(machine, 0, Choice::Done) && machine.moves_left() == 4;
+    let finishes = machine.finish() == 0 && machine.moves_left() == 4;
     for _ in 0..2 {
         machine.round();
     }
-    let after = (machine.enabled_step().is_none(), machine.moves_left());
-    assert!(rt; (before, finished, after) == ((true, 4), (0, 4), (true, 0)));
-    Ok(())
+    begins && finishes && machine.enabled_step().is_none() && machine.moves_left() == 0
 }
 
-/// What rounds make of a machine and its scripts: the order, the replies to processor 0, and words.
-#[derive(Drop)]
-struct Run {
-    machine: &'static [u8],
-    scripts: &'static [u8],
+/// What rounds make of scripts that begin with an operation of processor 0: how many are made, where it
+/// is told, the order, the replies to processor 0, and words.
+#[derive(Clone, Copy)]
+struct Outcome {
+    count: Option<u32>,
     order: &'static [Row],
     replies: &'static [(u32, Reply)],
     words: &'static [(u32, u64)],
 }
 
-const RUNS: [Run; 9] = [
-    Run {
+fn rounds_finish_scripts(alloc: Global, machine: &mut Machine, wanted: Outcome) -> bool {
+    if !is_first(machine, 0, Choice::Send) {
+        return false;
+    }
+    let made = rounds(machine, 1000);
+    (wanted.count.is_none() || made == wanted.count)
+        && machine.finished()
+        && has_order(alloc, machine, 0, wanted.order)
+        && has_replies(machine, 0, wanted.replies)
+        && has_words(machine, wanted.words)
+}
+
+/// One processor loads the farthest word 4096 times.
+fn far_loads_come_in_order(alloc: Global, machine: &mut Machine) -> bool {
+    if rounds(machine, 1000000).is_none() || !machine.finished() {
+        return false;
+    }
+    let answers = machine.answers(0).unwrap_or(&[]);
+    if answers.len() != 4096 {
+        return false;
+    }
+    for (at, answer) in answers.iter().enumerate() {
+        let wanted = Answer {
+            index: at as u32,
+            op: Op::Load,
+            reply: Reply::Old(5),
+            bank: 36,
+            place: at as u32,
+        };
+        if *answer != wanted {
+            return false;
+        }
+    }
+    let last = (36, 4095, 0, 4095, 12286, 12287, Some(12288));
+    has_order(alloc, machine, 4095, &[last])
+}
+
+/// Steps that name no agent, or a choice that the agent hasn't.
+const NO_CHOICES: [(u32, Choice); 20] = [
+    (0, Choice::Serve),
+    (0, Choice::TakeFrom(0)),
+    (0, Choice::Put(0)),
+    (0, Choice::CreditOf(0)),
+    (1, Choice::Send),
+    (1, Choice::Take),
+    (1, Choice::Serve),
+    (1, Choice::Credit),
+    (1, Choice::Done),
+    (1, Choice::Look),
+    (1, Choice::TakeFrom(10)),
+    (1, Choice::Put(10)),
+    (1, Choice::CreditOf(10)),
+    (1, Choice::TakeFrom(u32::MAX)),
+    (2, Choice::Done),
+    (2, Choice::Look),
+    (2, Choice::TakeFrom(0)),
+    (6, Choice::Send),
+    (8, Choice::Serve),
+    (u32::MAX, Choice::Send),
+];
+
+fn choices_that_no_agent_has_are_idle(machine: &mut Machine) -> bool {
+    for &(agent, choice) in &NO_CHOICES {
+        if made(machine, agent, choice) != Some(false) {
+            return false;
+        }
+    }
+    true
+}
+
+fn nothing_is_out_of_range(machine: &Machine) -> bool {
+    for &(at, address) in &[(2, 8), (3, 9), (u32::MAX, u32::MAX)] {
+        if machine.answers(at).is_some() || machine.bank(at).is_some() {
+            return false;
+        }
+        if machine.word(address).is_some() || machine.opening(address).is_some() {
+            return false;
+        }
+    }
+    machine.torus().tiles() == 2
+        && machine.words() == 8
+        && machine.opening(7) == Some(0)
+        && has_words(machine, &[(7, 0)])
+        && machine.finished()
+}
+
+/// What is tested of a machine.
+#[derive(Clone, Copy)]
+enum Part {
+    Store,
+    Moves,
+    Empty,
+    Rounds(Outcome),
+    FarLoads,
+    NoChoices,
+    Range,
+}
+
+/// A machine's text, scripts' text and how many times it stands, and what is tested of this machine.
+struct Case {
+    machine: &'static [u8],
+    scripts: &'static [u8],
+    times: u32,
+    part: Part,
+}
+
+fn tested(alloc: Global, machine: &mut Machine, part: Part) -> bool {
+    match part {
+        Part::Store => store_goes_through_the_row(alloc, machine),
+        Part::Moves => moves_are_counted_down(machine),
+        Part::Empty => no_round_is_needed(machine),
+        Part::Rounds(wanted) => rounds_finish_scripts(alloc, machine, wanted),
+        Part::FarLoads => far_loads_come_in_order(alloc, machine),
+        Part::NoChoices => choices_that_no_agent_has_are_idle(machine),
+        Part::Range => nothing_is_out_of_range(machine),
+    }
+}
+
+fn holds(alloc: Global, case: &Case) -> Result<bool, Fault> {
+    let mut machine = machine_of(alloc, case.machine, case.scripts, case.times)?;
+    Ok(tested(alloc, &mut machine, case.part))
+}
+
+const CASES: [Case; 15] = [
+    Case {
         machine: PAIR,
         scripts: b"0 store 5 17\n0 fence\n0 load 5\n",
-        order: &[(1, 0, 0, 0, 1, 2, Some(3)), (1, 1, 0, 1, 4, 5, Some(6))],
-        replies: &[(0, Reply::Ok), (1, Reply::Old(17))],
-        words: &[(5, 17)],
+        times: 1,
+        part: Part::Rounds(Outcome {
+            count: None,
+            order: &[(1, 0, 0, 0, 1, 2, Some(3)), (1, 1, 0, 1, 4, 5, Some(6))],
+            replies: &[(0, Reply::Ok), (1, Reply::Old(17))],
+            words: &[(5, 17)],
+        }),
     },
     // A sum wraps.
-    Run {
+    Case {
         machine: b"radix 2\ndims 1\ndepth 4\ntags 4\nwords 8\ninit 0 18446744073709551615\n",
         scripts: b"0 add 0 1\n",
-        order: &[(0, 0, 0, 0, 1, 2, Some(3))],
-        replies: &[(0, Reply::Old(18446744073709551615))],
-        words: &[(0, 0)],
+        times: 1,
+        part: Part::Rounds(Outcome {
+            count: None,
+            order: &[(0, 0, 0, 0, 1, 2, Some(3))],
+            replies: &[(0, Reply::Old(18446744073709551615))],
+            words: &[(0, 0)],
+        }),
     },
     // A word is exchanged where it is the one that is expected.
-    Run {
+    Case {
         machine: b"radix 2\ndims 1\ndepth 4\ntags 4\nwords 8\ninit 2 7\n",
         scripts: b"0 cas 2 7 9\n0 fence\n0 cas 2 7 8\n",
-        order: &[(0, 0, 0, 0, 1, 2, Some(3)), (0, 1, 0, 1, 4, 5, Some(6))],
-        replies: &[(0, Reply::Old(7)), (1, Reply::Old(9))],
-        words: &[(2, 9)],
+        times: 1,
+        part: Part::Rounds(Outcome {
+            count: None,
+            order: &[(0, 0, 0, 0, 1, 2, Some(3)), (0, 1, 0, 1, 4, 5, Some(6))],
+            replies: &[(0, Reply::Old(7)), (1, Reply::Old(9))],
+            words: &[(2, 9)],
+        }),
     },
     // A spin gives up after three loads.
-    Run {
+    Case {
         machine: PAIR,
         scripts: b"0 spin 0 1 3\n",
-        order: &[
-            (0, 0, 0, 0, 1, 2, Some(3)),
-            (0, 1, 0, 1, 4, 5, Some(6)),
-            (0, 2, 0, 2, 7, 8, Some(9)),
-        ],
-        replies: &[(0, Reply::Old(0)), (1, Reply::Old(0)), (2, Reply::Old(0))],
-        words: &[],
+        times: 1,
+        part: Part::Rounds(Outcome {
+            count: None,
+            order: &[
+                (0, 0, 0, 0, 1, 2, Some(3)),
+                (0, 1, 0, 1, 4, 5, Some(6)),
+                (0, 2, 0, 2, 7, 8, Some(9)),
+            ],
+            replies: &[(0, Reply::Old(0)), (1, Reply::Old(0)), (2, Reply::Old(0))],
+            words: &[],
+        }),
     },
     // The last reply is stored.
-    Run {
+    Case {
         machine: b"radix 2\ndims 1\ndepth 4\ntags 4\nwords 8\ninit 4 9\n",
         scripts: b"0 load 4\n0 store 5 last\n",
-        order: &[(0, 0, 0, 0, 1, 2, Some(3)), (1, 0, 0, 1, 4, 5, Some(6))],
-        replies: &[(0, Reply::Old(9)), (1, Reply::Ok)],
-        words: &[(4, 9), (5, 9)],
+        times: 1,
+        part: Part::Rounds(Outcome {
+            count: None,
+            order: &[(0, 0, 0, 0, 1, 2, Some(3)), (1, 0, 0, 1, 4, 5, Some(6))],
+            replies: &[(0, Reply::Old(9)), (1, Reply::Ok)],
+            words: &[(4, 9), (5, 9)],
+        }),
     },
-    Run {
+    Case {
         machine: PAIR,
         scripts: b"0 swap 7 3\n0 fence\n0 swap 7 3\n",
-        order: &[(1, 0, 0, 0, 1, 2, Some(3)), (1, 1, 0, 1, 4, 5, Some(6))],
-        replies: &[(0, Reply::Old(0)), (1, Reply::Old(3))],
-        words: &[(7, 3)],
+        times: 1,
+        part: Part::Rounds(Outcome {
+            count: None,
+            order: &[(1, 0, 0, 0, 1, 2, Some(3)), (1, 1, 0, 1, 4, 5, Some(6))],
+            replies: &[(0, Reply::Old(0)), (1, Reply::Old(3))],
+            words: &[(7, 3)],
+        }),
     },
     // The newer operations.
-    Run {
+    Case {
         machine: b"radix 2\ndims 1\ndepth 4\ntags 4\nwords 8\ninit 0 12\n",
         scripts: b"0 and 0 10\n0 fence\n0 or 0 3\n0 fence\n0 xor 0 6\n0 fence\n0 max 0 20\n0 fence\n0 min 0 5\n",
-        order: &[
-            (0, 0, 0, 0, 1, 2, Some(3)),
-            (0, 1, 0, 1, 4, 5, Some(6)),
-            (0, 2, 0, 2, 7, 8, Some(9)),
-            (0, 3, 0, 3, 10, 11, Some(12)),
-            (0, 4, 0, 4, 13, 14, Some(15)),
-        ],
-        replies: &[
-            (0, Reply::Old(12)),
-            (1, Reply::Old(8)),
-            (2, Reply::Old(11)),
-            (3, Reply::Old(13)),
-            (4, Reply::Old(20)),
-        ],
-        words: &[(0, 5)],
+        times: 1,
+        part: Part::Rounds(Outcome {
+            count: None,
+            order: &[
+                (0, 0, 0, 0, 1, 2, Some(3)),
+                (0, 1, 0, 1, 4, 5, Some(6)),
+                (0, 2, 0, 2, 7, 8, Some(9)),
+                (0, 3, 0, 3, 10, 11, Some(12)),
+                (0, 4, 0, 4, 13, 14, Some(15)),
+            ],
+            replies: &[
+                (0, Reply::Old(12)),
+                (1, Reply::Old(8)),
+                (2, Reply::Old(11)),
+                (3, Reply::Old(13)),
+                (4, Reply::Old(20)),
+            ],
+            words: &[(0, 5)],
+        }),
     },
     // Two processors.
-    Run {
+    Case {
         machine: PAIR,
         scripts: b"0 load 0\n1 load 1\n",
-        order: &[(0, 0, 0, 0, 1, 2, Some(5)), (1, 0, 1, 0, 3, 4, Some(6))],
-        replies: &[(0, Reply::Old(0))],
-        words: &[],
+        times: 1,
+        part: Part::Rounds(Outcome {
+            count: Some(5),
+            order: &[(0, 0, 0, 0, 1, 2, Some(5)), (1, 0, 1, 0, 3, 4, Some(6))],
+            replies: &[(0, Reply::Old(0))],
+            words: &[],
+        }),
     },
     // Radices that differ, a dateline that is stated, and the least channels and tags.
-    Run {
+    Case {
         machine: b"radix 2 4\ndims 2\ndateline 0 2\ndepth 1\ntags 1\nwords 8\ninit 5 3\n",
         scripts: b"0 add 5 1\n0 fence\n0 load 5\n",
-        order: &[(5, 0, 0, 0, 1, 2, Some(3)), (5, 1, 0, 1, 4, 5, Some(6))],
-        replies: &[(0, Reply::Old(3)), (1, Reply::Old(4))],
-        words: &[(5, 4)],
+        times: 1,
+        part: Part::Rounds(Outcome {
+            count: None,
+            order: &[(5, 0, 0, 0, 1, 2, Some(3)), (5, 1, 0, 1, 4, 5, Some(6))],
+            replies: &[(0, Reply::Old(3)), (1, Reply::Old(4))],
+            words: &[(5, 4)],
+        }),
+    },
+    Case {
+        machine: PAIR,
+        scripts: b"0 store 1 7\n",
+        times: 1,
+        part: Part::Store,
+    },
+    Case {
+        machine: PAIR,
+        scripts: b"0 store 1 7\n",
+        times: 1,
+        part: Part::Moves,
+    },
+    Case {
+        machine: PAIR,
+        scripts: b"",
+        times: 1,
+        part: Part::Empty,
+    },
+    Case {
+        machine: SQUARE,
+        scripts: b"0 load 36\n",
+        times: 4096,
+        part: Part::FarLoads,
+    },
+    Case {
+        machine: PAIR,
+        scripts: b"0 load 0\n",
+        times: 1,
+        part: Part::NoChoices,
+    },
+    Case {
+        machine: PAIR,
+        scripts: b"",
+        times: 1,
+        part: Part::Range,
     },
 ];
 
 #[test]
-fn rounds_finish_scripts(rt: HostRuntime) -> Result<(), Fail> {
-    let alloc = rt.alloc();
-    for (number, run) in RUNS.iter().enumerate() {
-        let mut machine = machine_of(alloc, run.machine, run.scripts)?;
-        rounds(&mut machine, 1000);
-        let is_ordered = has_order(alloc, &machine, run.order)?;
-        let is_shown = has_replies(&machine, 0, run.replies) && has_words(&machine, run.words);
-        assert!(rt;
-            machine.finished() && is_ordered && is_shown,
-            "run {number}"
-        );
-    }
-    Ok(())
-}
-
-#[test]
-fn two_loads_take_five_rounds(rt: HostRuntime) -> Result<(), Fail> {
-    let mut machine = machine_of(rt.alloc(), PAIR, b"0 load 0\n1 load 1\n")?;
-    assert!(rt; rounds(&mut machine, 1000) == 5, "how many rounds");
-    Ok(())
-}
-
-/// One processor loads the farthest word 4096 times.
-#[test]
-fn far_loads(rt: HostRuntime) -> Result<(), Fail> {
-    let alloc = rt.alloc();
-    let mut script = Vec::new(alloc);
-    for _ in 0..4096 {
-        script.extend_from_slice(b"0 load 36\n")?;
-    }
-    let mut machine = machine_of(alloc, SQUARE, script.as_slice())?;
-    let is_live = is_live_in_rounds(&mut machine, 1000000);
-    let order = machine.order(alloc)?;
-    let last = order.last();
-    let is_last = last.is_some_and(|row| is_row(
-        row,
-        &(36, 4095, 0, 4095, 12286, 12287, Some(12288)),
-    ));
-    let answers = machine.answers(0).unwrap_or(&[]);
-    let is_long = order.len() == 4096 && answers.len() == 4096;
-    assert!(rt; is_live && machine.finished(), "some step was enabled");
-    assert!(rt; is_long && is_last, "the last row");
-    for (index, answer) in answers.iter().enumerate() {
-        let wanted = Answer {
-            index: index as u32,
-            op: Op::Load,
-            reply: Reply::Old(5),
-            bank: 36,
-            place: index as u32,
-        };
-        assert!(rt; *answer == wanted, "answer {index}");
+fn machines_hold(rt: HostRuntime) -> Result<(), Fail> {
+    for (number, case) in CASES.iter().enumerate() {
+        let good = holds(rt.alloc(), case)?;
+        assert!(rt; good, "case {number}");
     }
     Ok(())
 }
@@ -441,18 +573,22 @@ fn drawn_script(alloc: Global, processors: u8, seed: u64) -> Result<Vec<u8>, All
     Ok(script)
 }
 
+const PROCESSOR_CHOICES: &[Choice] = &[
+    Choice::Send,
+    Choice::Take,
+    Choice::Credit,
+    Choice::Done,
+    Choice::Look,
+];
+
+const BANK_CHOICES: &[Choice] = &[Choice::Take, Choice::Serve, Choice::Send, Choice::Credit];
+
 /// The attempts of a round: each choice of each agent, in order.
 fn round_steps(alloc: Global, tiles: u8, ports: u8) -> Result<Vec<Step>, AllocError> {
     let mut steps = Vec::new(alloc);
     for tile in 0..tiles {
         let agent = 3 * u32::from(tile);
-        for &choice in &[
-            Choice::Send,
-            Choice::Take,
-            Choice::Credit,
-            Choice::Done,
-            Choice::Look,
-        ] {
+        for &choice in PROCESSOR_CHOICES {
             steps.push(Step { agent, choice })?;
         }
         let agent = agent + 1;
@@ -469,28 +605,75 @@ fn round_steps(alloc: Global, tiles: u8, ports: u8) -> Result<Vec<Step>, AllocEr
             steps.push(Step { agent, choice })?;
         }
         let agent = agent + 1;
-        for &choice in &[Choice::Take, Choice::Serve, Choice::Send, Choice::Credit] {
+        for &choice in BANK_CHOICES {
             steps.push(Step { agent, choice })?;
         }
     }
     Ok(steps)
 }
 
+/// The machine of a text, with drawn scripts for its tiles.
+fn drawn_machine(alloc: Global, text: &[u8], tiles: u8, seed: u64) -> Result<Machine, Fault> {
+    match drawn_script(alloc, tiles, seed) {
+        Ok(script) => machine_of(alloc, text, script.as_slice(), 1),
+        Err(_) => Err(Fault::Memory),
+    }
+}
+
 /// Whether two machines of at most eight tiles show the same, word by word.
-fn are_alike(alloc: Global, one: &Machine, other: &Machine) -> Result<bool, Fault> {
+fn are_alike(alloc: Global, one: &Machine, other: &Machine) -> bool {
     for at in 0..400 {
         if one.row(at) != other.row(at) {
-            return Ok(false);
+            return false;
         }
     }
     for tile in 0..8 {
         if one.answers(tile) != other.answers(tile) || one.bank(tile) != other.bank(tile) {
-            return Ok(false);
+            return false;
         }
     }
-    let order = one.order(alloc)?;
-    let same_order = order.as_slice() == other.order(alloc)?.as_slice();
-    Ok(same_order && one.moves_left() == other.moves_left())
+    let (Ok(order), Ok(other_order)) = (one.order(alloc), other.order(alloc)) else {
+        return false;
+    };
+    order.as_slice() == other_order.as_slice() && one.moves_left() == other.moves_left()
+}
+
+/// Whether rounds lead one machine where the list of a round's steps leads the other, also with drawn
+/// single steps between them; and to the end of all scripts.
+fn stay_alike(
+    alloc: Global,
+    rounds: &mut Machine,
+    lists: &mut Machine,
+    steps: &[Step],
+    seed: u64,
+) -> bool {
+    let mut number = seed;
+    for _ in 0..1000 {
+        number = drawn(number);
+        for &step in steps.iter().skip((number >> 40) as usize % 400).take(5) {
+            if rounds.step(step) != lists.step(step) {
+                return false;
+            }
+        }
+        rounds.round();
+        lists.run(steps);
+        if !are_alike(alloc, rounds, lists) {
+            return false;
+        }
+    }
+    rounds.finished()
+}
+
+fn lead_alike(
+    alloc: Global,
+    text: &[u8],
+    tiles: u8,
+    steps: &[Step],
+    seed: u64,
+) -> Result<bool, Fault> {
+    let mut rounds = drawn_machine(alloc, text, tiles, seed)?;
+    let mut lists = drawn_machine(alloc, text, tiles, seed)?;
+    Ok(stay_alike(alloc, &mut rounds, &mut lists, steps, seed))
 }
 
 /// Rounds, which leave out agents that are asleep, lead where the list of a round's steps leads; also with
@@ -501,80 +684,10 @@ fn rounds_lead_where_their_steps_lead(rt: HostRuntime) -> Result<(), Fail> {
     for &(text, tiles, ports) in &DRAWN {
         let steps = round_steps(alloc, tiles, ports)?;
         for seed in 1..4 {
-            let script = drawn_script(alloc, tiles, seed)?;
-            let mut rounds = machine_of(alloc, text, script.as_slice())?;
-            let mut lists = machine_of(alloc, text, script.as_slice())?;
-            let mut number = seed;
-            let mut alike = true;
-            for _ in 0..1000 {
-                number = drawn(number);
-                for step in steps.iter().skip((number >> 40) as usize % 400).take(5) {
-                    alike = alike && rounds.step(*step) == lists.step(*step);
-                }
-                rounds.round();
-                lists.run(steps.as_slice());
-                alike = alike && are_alike(alloc, &rounds, &lists)?;
-            }
-            assert!(rt;
-                alike && rounds.finished(),
-                "script {seed} of {tiles} tiles"
-            );
+            let alike = lead_alike(alloc, text, tiles, steps.as_slice(), seed)?;
+            assert!(rt; alike, "script {seed} of {tiles} tiles");
         }
     }
-    Ok(())
-}
-
-/// Steps that name no agent, or a choice that the agent hasn't.
-const NO_CHOICES: [(u32, Choice); 20] = [
-    (0, Choice::Serve),
-    (0, Choice::TakeFrom(0)),
-    (0, Choice::Put(0)),
-    (0, Choice::CreditOf(0)),
-    (1, Choice::Send),
-    (1, Choice::Take),
-    (1, Choice::Serve),
-    (1, Choice::Credit),
-    (1, Choice::Done),
-    (1, Choice::Look),
-    (1, Choice::TakeFrom(10)),
-    (1, Choice::Put(10)),
-    (1, Choice::CreditOf(10)),
-    (1, Choice::TakeFrom(u32::MAX)),
-    (2, Choice::Done),
-    (2, Choice::Look),
-    (2, Choice::TakeFrom(0)),
-    (6, Choice::Send),
-    (8, Choice::Serve),
-    (u32::MAX, Choice::Send),
-];
-
-#[test]
-fn choices_that_no_agent_has_are_idle(rt: HostRuntime) -> Result<(), Fail> {
-    let mut machine = machine_of(rt.alloc(), PAIR, b"0 load 0\n")?;
-    for &(agent, choice) in &NO_CHOICES {
-        let is_enabled = machine.enabled(Step { agent, choice });
-        assert!(rt;
-            !is_enabled && !made(&mut machine, agent, choice),
-            "agent {agent}"
-        );
-    }
-    Ok(())
-}
-
-#[test]
-fn nothing_is_out_of_range(rt: HostRuntime) -> Result<(), Fail> {
-    let machine = machine_of(rt.alloc(), PAIR, b"")?;
-    for at in [2, 3, u32::MAX] {
-        let none = machine.answers(at).is_none() && machine.bank(at).is_none();
-        assert!(rt; none, "no processor and no bank {at}");
-    }
-    for address in [8, 9, u32::MAX] {
-        let none = machine.word(address).is_none() && machine.opening(address).is_none();
-        assert!(rt; none, "no word {address}");
-    }
-    let is_small = machine.torus().tiles() == 2 && machine.words() == 8;
-    let opens = machine.opening(7) == Some(0) && has_words(&machine, &[(7, 0)]);
-    assert!(rt; is_small && opens && machine.finished(), "the last of each");
     Ok(())
 }
 
@@ -584,7 +697,7 @@ fn used<A: Allocator + Copy, B: Allocator + Copy>(
     rows: B,
 ) -> Result<usize, (Call, Fault)> {
     let mut machine = loaded(alloc, PAIR, b"0 store 5 17\n0 fence\n0 load 5\n")?;
-    rounds(&mut machine, 1000);
+    let _ = rounds(&mut machine, 1000);
     match machine.order(rows) {
         Ok(rows) => Ok(rows.len()),
         Err(fault) => Err((Call::Order, fault)),
@@ -608,31 +721,40 @@ fn within(
 
 /// Budgets of memory from none up, by so many bytes: those of the machine, where the order has enough,
 /// or those of the order. Refused up to some budget, at a load or at an order, and never from it on.
-const BUDGETS: [(Call, usize, usize); 2] = [(Call::Load, 1024, 64), (Call::Order, 64, 8)];
+const BUDGETS: [(Call, u16, u8); 2] = [(Call::Load, 1024, 64), (Call::Order, 64, 8)];
+
+/// Tries the budgets: whether refused at this call up to some budget, and never from it on.
+fn is_refused_first(
+    alloc: Global,
+    call: Call,
+    budgets: u16,
+    bytes: u8,
+) -> Result<bool, AllocError> {
+    let mut is_refused = false;
+    let mut suffices = false;
+    for number in 0..budgets {
+        let budget = usize::from(number) * usize::from(bytes);
+        let tried = match call {
+            Call::Order => within(alloc, 131072, budget)?,
+            _ => within(alloc, budget, 4096)?,
+        };
+        match (tried, call) {
+            (Ok(2), _) => suffices = true,
+            (Ok(_), _) => return Ok(false),
+            (Err((_, fault)), _) if suffices || fault != Fault::Memory => return Ok(false),
+            (Err((Call::Load, _)), Call::Load) => is_refused = true,
+            (Err((Call::Order, _)), Call::Order) => is_refused = true,
+            (Err(_), _) => {}
+        }
+    }
+    Ok(is_refused && suffices)
+}
 
 #[test]
 fn memory_is_refused(rt: HostRuntime) -> Result<(), Fail> {
     for &(call, budgets, bytes) in &BUDGETS {
-        let mut is_refused = false;
-        let mut suffices = false;
-        for budget in 0..budgets {
-            let (machine, rows) = match call {
-                Call::Order => (131072, budget * bytes),
-                _ => (budget * bytes, 4096),
-            };
-            let good = match within(rt.alloc(), machine, rows)? {
-                Ok(rows) => {
-                    suffices = true;
-                    rows == 2
-                }
-                Err((at, fault)) => {
-                    is_refused = is_refused || at == call;
-                    !suffices && fault == Fault::Memory
-                }
-            };
-            assert!(rt; good, "at {budget}");
-        }
-        assert!(rt; is_refused && suffices, "refused, and enough in the end");
+        let good = is_refused_first(rt.alloc(), call, budgets, bytes)?;
+        assert!(rt; good, "budgets by {bytes} bytes");
     }
     Ok(())
 }
