@@ -1,4 +1,4 @@
-ghost use Rattle.std.specs.Prelude.{◌≡◌, Some, None, MatchOption, IfErr, IfOk};
+ghost use Rattle.std.specs.Prelude.{◌≡◌, ◌↔◌, Some, None, IsSome, IsTrue, MatchOption, IfErr, IfOk};
 ghost use Rattle.std.specs.Borrow.{sem};
 ghost use Rattle.machine_handle.specs.Held.{held, LendsHeld};
 
@@ -28,7 +28,16 @@ impl Handle {
         }
     }
 
-    /// Holds a machine from now on, where it held none.
+    /// Whether it holds a machine.
+    #[inline(always)]
+    pub fn is_full(&mut self) -> bool
+        ensures answer { IsTrue result ↔ IsSome (held self.old) }
+        ensures same { self.new ≡ self.old }
+    {
+        self.slot.is_full()
+    }
+
+    /// Holds a machine from now on, where it held none (`is_full` tells).
     ///
     /// Errors: the heap has no room for it. The machine is then dropped, and the handle is as it was.
     pub fn hold(&mut self, machine: Machine) -> Result<(), AllocError>
