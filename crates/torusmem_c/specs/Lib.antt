@@ -1,0 +1,10 @@
+pub mod Outcome
+pub mod Choices
+pub mod Held
+pub mod Steps
+pub mod Records
+pub mod Room
+pub mod Routes
+pub mod Shown
+pub mod Texts
+pub mod Channels

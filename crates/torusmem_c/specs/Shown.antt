@@ -1,0 +1,57 @@
+-- What C is told of a machine (this project's own format).
+use Rattle.std.specs.Prelude.{ℕ, List, length, Option, Some, None, option_and_then, slice_get}
+use Rattle.torus.specs.Shape.{tiles_of}
+use Rattle.machine_laws.specs.Core.{Core, built_to, shown}
+use Rattle.core_row.specs.Row.{row_of}
+use Rattle.torusmem_c.specs.declared.outcome.Outcome.{Outcome}
+use Rattle.torusmem_c.specs.declared.outcome.Code.TheVariants as code
+use Rattle.torusmem_c.specs.declared.records.AnswerRecord.{AnswerRecord}
+use Rattle.torusmem_c.specs.declared.records.EntryRecord.{EntryRecord}
+use Rattle.torusmem_c.specs.Outcome.{outcome}
+use Rattle.torusmem_c.specs.Records.{answer_or_none, entry_or_none}
+use Rattle.torusmem_c.specs.Routes.{next_number}
+
+-- a number, or that there is none such
+abbrev pub number_outcome : Option ℕ → Outcome
+number_outcome None = outcome code.NoSuch 0
+number_outcome (Some n) = outcome code.Done n
+
+-- how many there are in a list, or that there is none such
+abbrev pub count_outcome : {A : Type 0} → Option (List A) → Outcome
+count_outcome None = outcome code.NoSuch 0
+count_outcome (Some list) = outcome code.Done (length list)
+
+-- how many tiles and words there are
+abbrev pub tiles_told : Core → Outcome
+tiles_told c = outcome code.Done (tiles_of c.shape)
+
+abbrev pub words_told : Core → Outcome
+words_told c = outcome code.Done (length c.opening)
+
+-- the word of an address
+abbrev pub word_told : ℕ → Core → Outcome
+word_told address c = number_outcome (slice_get (shown c).memory address)
+
+-- the word at a place of the row
+abbrev pub row_told : ℕ → Core → Outcome
+row_told at c = number_outcome (slice_get (row_of (built_to c) c.state) at)
+
+-- how many answers a processor has, and answer i of them
+abbrev pub answers_told : ℕ → Core → Outcome
+answers_told processor c = count_outcome (slice_get (shown c).answers processor)
+
+abbrev pub answer_told : ℕ → ℕ → Core → AnswerRecord
+answer_told processor i c =
+    answer_or_none (option_and_then (λ answers. slice_get answers i) (slice_get (shown c).answers processor))
+
+-- how many entries a bank has, and entry i of them
+abbrev pub entries_told : ℕ → Core → Outcome
+entries_told bank c = count_outcome (slice_get (shown c).entries bank)
+
+abbrev pub entry_told : ℕ → ℕ → Core → EntryRecord
+entry_told bank i c =
+    entry_or_none (option_and_then (λ entries. slice_get entries i) (slice_get (shown c).entries bank))
+
+-- the number of the output by which a packet goes on
+abbrev pub next_told : ℕ → ℕ → ℕ → Core → Outcome
+next_told at input dst c = number_outcome (next_number c.shape at input dst)

@@ -1,0 +1,69 @@
+-- Loads, reports and their check, as C sees them (this project's own format).
+use Rattle.std.specs.Prelude.{◌≡◌, ◌⊎◌, ℕ, List, Result, Option, Some, None}
+use Rattle.torus.specs.declared.fault.Fault.TheVariants as fault
+use Rattle.script.specs.declared.fault.LineFault.{LineFault}
+use Rattle.machine_core.specs.flights.specs.Load.{Load}
+use Rattle.machine_laws.specs.Core.{Core}
+use Rattle.report_lines.specs.Line.{text_of}
+use Rattle.report_check.specs.Good.{GoodReport, HasFault}
+use Rattle.report_check.specs.declared.fault.CheckFault.{CheckFault}
+use Rattle.history.specs.Report.{machine_report}
+use Rattle.commands.specs.declared.fault.ProgramFault.{ProgramFault}
+use Rattle.commands.specs.declared.fault.ProgramFault.TheVariants as program
+use Rattle.commands.specs.Outcome.{of_check}
+use Rattle.commands.specs.Run.{IsReadFault}
+use Rattle.commands.specs.Rounds.{HasLoaded}
+use Rattle.torusmem_c.specs.declared.outcome.Outcome.{Outcome}
+use Rattle.torusmem_c.specs.declared.outcome.Code.TheVariants as code
+use Rattle.torusmem_c.specs.Outcome.{outcome}
+use Rattle.torusmem_c.specs.Room.{put_over, put_outcome}
+
+-- memory was refused
+abbrev pub no_memory : Outcome
+no_memory = outcome (code.Fault fault.Memory) 0
+
+-- a fault of the program's commands: that of a text with its line, and the first bad line of a report. A text in memory
+-- takes all that is put, unless memory is refused
+abbrev pub fault_outcome : ProgramFault → Outcome
+fault_outcome (program.Line found) = outcome (code.Fault found.fault) found.line
+fault_outcome (program.Fault which) = outcome (code.Fault which) 0
+fault_outcome program.Output = no_memory
+fault_outcome program.Tile = outcome code.NoSuch 0
+fault_outcome (program.Bad line) = outcome code.BadReport line
+
+-- what an empty handle holds after a load: nothing, and the answer is the first fault of the texts or that memory was
+-- refused; or the machine that the texts ask for, which has made no step
+abbrev pub LoadsEmpty : Result Load LineFault → Option Core → Outcome → Type 0
+LoadsEmpty asked None r = (f : ProgramFault) × IsReadFault asked f × (r ≡ fault_outcome f)
+LoadsEmpty asked (Some c) r = HasLoaded asked c × (r ≡ outcome code.Done 0)
+
+-- a load: where a machine is held already, it stays, and the answer says so
+abbrev pub Loads : Result Load LineFault → Option Core → Option Core → Outcome → Type 0
+Loads asked None new r = LoadsEmpty asked new r
+Loads asked (Some c) new r = (new ≡ Some c) × (r ≡ outcome code.Full 0)
+
+-- the text of a machine's report, a good one, is put into a buffer
+pub record PutsText (c : Core) (before after : List ℕ) (r : Outcome) : Type 0 where
+  pub good : GoodReport (text_of (machine_report c))
+  pub buffer : after ≡ put_over (text_of (machine_report c)) before
+  pub answer : r ≡ put_outcome (text_of (machine_report c)) before
+
+-- a buffer stays as it was, since memory was refused
+pub record LacksMemory (before after : List ℕ) (r : Outcome) : Type 0 where
+  pub buffer : after ≡ before
+  pub answer : r ≡ no_memory
+
+-- a machine's report is put into a buffer, or memory was refused; and nothing of the machine changes
+pub record PutsReport (before after : List ℕ) (old new : Core) (r : Outcome) : Type 0 where
+  pub same : new ≡ old
+  pub put : PutsText old before after r ⊎ LacksMemory before after r
+
+-- the report is good, or the answer tells its first bad line, or that memory was refused
+abbrev pub IsVerdict : List ℕ → Outcome → Type 0
+IsVerdict report r =
+    (GoodReport report × (r ≡ outcome code.Done 0))
+    ⊎ ((f : CheckFault) × HasFault report f × (r ≡ fault_outcome (of_check f)))
+
+-- a report that is good is told to be so, unless memory is refused
+abbrev pub IsAccepted : Outcome → Type 0
+IsAccepted r = (r ≡ outcome code.Done 0) ⊎ (r ≡ no_memory)

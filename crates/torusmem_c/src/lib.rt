@@ -1,0 +1,12 @@
+//! The machine as a static library for C: each call's clauses are those of the call below it, said of what C sees.
+#![tactic(auto)]
+
+mod choice;
+pub mod outcome;
+mod ports;
+pub mod reading;
+pub mod records;
+mod room;
+pub mod routes;
+pub mod stepping;
+pub mod texts;

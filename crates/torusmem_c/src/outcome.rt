@@ -1,0 +1,114 @@
+//! What calls answer, as C sees it.
+
+ghost use Rattle.std.specs.Prelude.{◌≡◌, ◌≤◌};
+ghost use Rattle.torusmem_c.specs.Outcome.{fault_number, number_of, outcome, flag};
+
+use torus::Fault;
+
+/// How a call went.
+#[derive(Clone, Copy)]
+pub enum Code {
+    /// The call did what it is for.
+    Done,
+    /// A fault of a text, or want of memory.
+    Fault(Fault),
+    /// A report breaks a rule.
+    BadReport,
+    /// The handle holds no machine.
+    Empty,
+    /// The handle holds a machine already.
+    Full,
+    /// There is no such tile, address, place or index.
+    NoSuch,
+    /// The buffer is too short.
+    Short,
+}
+
+impl Code {
+    /// The number by which C knows it.
+    pub fn number(self) -> u32
+        ensures value { result ≡ number_of self }
+        ensures small { result ≤ 19 }
+    {
+        match self {
+            Code::Done => 0,
+            Code::Fault(fault) => fault_number(fault),
+            Code::BadReport => 15,
+            Code::Empty => 16,
+            Code::Full => 17,
+            Code::NoSuch => 18,
+            Code::Short => 19,
+        }
+    }
+}
+
+/// The number of a fault's code: 1 for `F1`, up to 14 for `F14`.
+fn fault_number(fault: Fault) -> u32
+    ensures value { result ≡ fault_number fault }
+    ensures small { result ≤ 14 }
+{
+    match fault {
+        Fault::Radix => 1,
+        Fault::Dimensions => 2,
+        Fault::Tiles => 3,
+        Fault::Line => 4,
+        Fault::Setting => 5,
+        Fault::Range => 6,
+        Fault::Address => 7,
+        Fault::Processor => 8,
+        Fault::Length => 9,
+        Fault::Last => 10,
+        Fault::Step => 11,
+        Fault::Memory => 12,
+        Fault::Count => 13,
+        Fault::Dateline => 14,
+    }
+}
+
+/// What a call answers: the number of a code, and a number whose meaning each call states.
+#[repr(C)]
+#[derive(Clone, Copy)]
+pub struct Outcome {
+    pub code: u32,
+    pub value: u64,
+}
+
+impl Outcome {
+    /// A code, and the number that goes with it.
+    pub fn of(code: Code, value: u64) -> Outcome
+        ensures { result ≡ outcome code value }
+    {
+        Outcome {
+            code: code.number(),
+            value,
+        }
+    }
+
+    /// The call did what it is for, and answers a number.
+    pub fn done(value: u64) -> Outcome
+        ensures { result ≡ outcome Code.Done value }
+    {
+        Outcome::of(Code::Done, value)
+    }
+
+    /// The call did what it is for, and answers yes or no.
+    pub fn told(answer: bool) -> Outcome
+        ensures { result ≡ outcome Code.Done (flag answer) }
+    {
+        Outcome::done(u64::from(answer))
+    }
+
+    /// The handle holds no machine.
+    pub fn empty() -> Outcome
+        ensures { result ≡ outcome Code.Empty 0 }
+    {
+        Outcome::of(Code::Empty, 0)
+    }
+
+    /// There is no such tile, address, place or index.
+    pub fn no_such() -> Outcome
+        ensures { result ≡ outcome Code.NoSuch 0 }
+    {
+        Outcome::of(Code::NoSuch, 0)
+    }
+}

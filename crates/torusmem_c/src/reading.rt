@@ -1,0 +1,153 @@
+//! What there is to tell of the machine that a handle holds: nothing of it changes.
+
+ghost use Rattle.std.specs.Prelude.{◌≡◌};
+ghost use Rattle.machine_handle.specs.Held.{held};
+ghost use Rattle.torusmem_c.specs.Held.{OfHeld, OnHeld, Tells};
+ghost use Rattle.torusmem_c.specs.Records.{no_answer, no_entry};
+ghost use Rattle.torusmem_c.specs.Shown.{answer_told, answers_told, entries_told, entry_told, next_told, number_outcome, row_told, tiles_told, word_told, words_told};
+ghost use Rattle.torusmem_c.specs.declared.outcome.Code.TheVariants as code;
+
+use crate::outcome::{Code, Outcome};
+use crate::ports::next_number;
+use crate::records::{AnswerRecord, EntryRecord};
+use machine_core::Machine;
+use machine_handle::Handle;
+
+/// A number, or that there is none such.
+fn number_outcome(found: Option<u64>) -> Outcome
+    ensures { result ≡ number_outcome found }
+{
+    match found {
+        Some(number) => Outcome::done(number),
+        None => Outcome::no_such(),
+    }
+}
+
+/// How many tiles there are.
+#[unsafe(no_mangle)]
+pub extern "C" fn torusmem_tiles(handle: &mut Handle) -> Outcome
+    ensures { OnHeld (Tells tiles_told) (held handle.old) (held handle.new) result }
+{
+    match handle.machine() {
+        Some(machine) => Outcome::done(u64::from(machine.torus().tiles())),
+        None => Outcome::empty(),
+    }
+}
+
+/// How many words there are.
+#[unsafe(no_mangle)]
+pub extern "C" fn torusmem_words(handle: &mut Handle) -> Outcome
+    ensures { OnHeld (Tells words_told) (held handle.old) (held handle.new) result }
+{
+    match handle.machine() {
+        Some(machine) => Outcome::done(u64::from(machine.words())),
+        None => Outcome::empty(),
+    }
+}
+
+/// The word of an address.
+#[unsafe(no_mangle)]
+pub extern "C" fn torusmem_word(handle: &mut Handle, address: u32) -> Outcome
+    ensures { OnHeld (Tells (word_told address)) (held handle.old) (held handle.new) result }
+{
+    match handle.machine() {
+        Some(machine) => number_outcome(machine.word(address)),
+        None => Outcome::empty(),
+    }
+}
+
+/// The word at a place of the row: the places of the channels, the memory, the done word.
+#[unsafe(no_mangle)]
+pub extern "C" fn torusmem_row(handle: &mut Handle, at: u32) -> Outcome
+    ensures { OnHeld (Tells (row_told at)) (held handle.old) (held handle.new) result }
+{
+    match handle.machine() {
+        Some(machine) => number_outcome(machine.row(at)),
+        None => Outcome::empty(),
+    }
+}
+
+/// How many answers a processor has.
+#[unsafe(no_mangle)]
+pub extern "C" fn torusmem_answers(handle: &mut Handle, processor: u32) -> Outcome
+    ensures { OnHeld (Tells (answers_told processor)) (held handle.old) (held handle.new) result }
+{
+    match handle.machine() {
+        Some(machine) => match machine.answers(processor) {
+            Some(answers) => Outcome::done(answers.len() as u64),
+            None => Outcome::no_such(),
+        },
+        None => Outcome::empty(),
+    }
+}
+
+/// Answer i of a processor, from 0 in the order of answering.
+#[unsafe(no_mangle)]
+pub extern "C" fn torusmem_answer_at(handle: &mut Handle, processor: u32, i: u32) -> AnswerRecord
+    ensures { OfHeld (no_answer code.Empty) (Tells (answer_told processor i)) (held handle.old) (held handle.new) result }
+{
+    match handle.machine() {
+        Some(machine) => answer_of(machine, processor, i),
+        None => AnswerRecord::none(Code::Empty),
+    }
+}
+
+/// What C sees of answer i of a processor.
+fn answer_of(machine: &Machine, processor: u32, i: u32) -> AnswerRecord
+    ensures { result ≡ answer_told processor i machine.now }
+{
+    match machine.answers(processor) {
+        Some(answers) => AnswerRecord::of_found(answers.get(i as usize).copied()),
+        None => AnswerRecord::none(Code::NoSuch),
+    }
+}
+
+/// How many entries a bank has.
+#[unsafe(no_mangle)]
+pub extern "C" fn torusmem_entries(handle: &mut Handle, bank: u32) -> Outcome
+    ensures { OnHeld (Tells (entries_told bank)) (held handle.old) (held handle.new) result }
+{
+    match handle.machine() {
+        Some(machine) => match machine.bank(bank) {
+            Some(entries) => Outcome::done(entries.len() as u64),
+            None => Outcome::no_such(),
+        },
+        None => Outcome::empty(),
+    }
+}
+
+/// Entry i of a bank, from 0 in the order of its services.
+#[unsafe(no_mangle)]
+pub extern "C" fn torusmem_entry_at(handle: &mut Handle, bank: u32, i: u32) -> EntryRecord
+    ensures { OfHeld (no_entry code.Empty) (Tells (entry_told bank i)) (held handle.old) (held handle.new) result }
+{
+    match handle.machine() {
+        Some(machine) => entry_of(machine, bank, i),
+        None => EntryRecord::none(Code::Empty),
+    }
+}
+
+/// What C sees of entry i of a bank.
+fn entry_of(machine: &Machine, bank: u32, i: u32) -> EntryRecord
+    ensures { result ≡ entry_told bank i machine.now }
+{
+    match machine.bank(bank) {
+        Some(entries) => EntryRecord::of_found(entries.get(i as usize).copied()),
+        None => EntryRecord::none(Code::NoSuch),
+    }
+}
+
+/// The number of the output at tile `at` by which a packet for tile `dst` goes on that came by this
+/// input.
+#[unsafe(no_mangle)]
+pub extern "C" fn torusmem_next(handle: &mut Handle, at: u32, input: u32, dst: u32) -> Outcome
+    ensures { OnHeld (Tells (next_told at input dst)) (held handle.old) (held handle.new) result }
+{
+    match handle.machine() {
+        Some(machine) => match next_number(machine.torus(), at, input, dst) {
+            Some(output) => Outcome::done(u64::from(output)),
+            None => Outcome::no_such(),
+        },
+        None => Outcome::empty(),
+    }
+}

@@ -1,0 +1,199 @@
+//! Answers, entries and channels, as C sees them.
+
+ghost use Rattle.std.specs.Prelude.{◌≡◌};
+ghost use Rattle.torusmem_c.specs.Outcome.{flag, number_of};
+ghost use Rattle.torusmem_c.specs.Records.{operation_number, first_value, second_value, has_old, old_word, answer_record, no_answer, answer_or_none, entry_record, no_entry, entry_or_none};
+
+use crate::outcome::Code;
+use machine_core::{Answer, Entry};
+use packet::{Op, Reply};
+
+/// An operation that a processor has had answered; its code is that of done. Where there is none, the
+/// code says why, and all else is 0.
+#[repr(C)]
+#[derive(Clone, Copy)]
+pub struct AnswerRecord {
+    pub code: u32,
+    pub index: u32,
+    pub operation: u32,
+    pub bank: u32,
+    pub place: u32,
+    pub has_old: u32,
+    pub first: u64,
+    pub second: u64,
+    pub old: u64,
+}
+
+impl AnswerRecord {
+    /// What C sees of an answer.
+    fn of(answer: Answer) -> AnswerRecord
+        ensures { result ≡ answer_record answer }
+    {
+        AnswerRecord {
+            code: Code::Done.number(),
+            index: answer.index,
+            operation: operation_number(answer.op),
+            bank: answer.bank,
+            place: answer.place,
+            has_old: has_old(answer.reply),
+            first: first_value(answer.op),
+            second: second_value(answer.op),
+            old: old_word(answer.reply),
+        }
+    }
+
+    /// There is no answer, and why.
+    pub fn none(code: Code) -> AnswerRecord
+        ensures { result ≡ no_answer code }
+    {
+        AnswerRecord {
+            code: code.number(),
+            index: 0,
+            operation: 0,
+            bank: 0,
+            place: 0,
+            has_old: 0,
+            first: 0,
+            second: 0,
+            old: 0,
+        }
+    }
+
+    /// What C sees of an answer, or that there is none such.
+    pub fn of_found(found: Option<Answer>) -> AnswerRecord
+        ensures { result ≡ answer_or_none found }
+    {
+        match found {
+            Some(answer) => AnswerRecord::of(answer),
+            None => AnswerRecord::none(Code::NoSuch),
+        }
+    }
+}
+
+/// A service of a bank; its code is that of done. Where there is none, the code says why, and all else
+/// is 0.
+#[repr(C)]
+#[derive(Clone, Copy)]
+pub struct EntryRecord {
+    pub code: u32,
+    pub source: u32,
+    pub tag: u32,
+    pub address: u32,
+    pub operation: u32,
+    pub has_old: u32,
+    pub first: u64,
+    pub second: u64,
+    pub old: u64,
+}
+
+impl EntryRecord {
+    /// What C sees of an entry.
+    fn of(entry: Entry) -> EntryRecord
+        ensures { result ≡ entry_record entry }
+    {
+        EntryRecord {
+            code: Code::Done.number(),
+            source: entry.source,
+            tag: entry.tag.0,
+            address: entry.address,
+            operation: operation_number(entry.op),
+            has_old: has_old(entry.reply),
+            first: first_value(entry.op),
+            second: second_value(entry.op),
+            old: old_word(entry.reply),
+        }
+    }
+
+    /// There is no entry, and why.
+    pub fn none(code: Code) -> EntryRecord
+        ensures { result ≡ no_entry code }
+    {
+        EntryRecord {
+            code: code.number(),
+            source: 0,
+            tag: 0,
+            address: 0,
+            operation: 0,
+            has_old: 0,
+            first: 0,
+            second: 0,
+            old: 0,
+        }
+    }
+
+    /// What C sees of an entry, or that there is none such.
+    pub fn of_found(found: Option<Entry>) -> EntryRecord
+        ensures { result ≡ entry_or_none found }
+    {
+        match found {
+            Some(entry) => EntryRecord::of(entry),
+            None => EntryRecord::none(Code::NoSuch),
+        }
+    }
+}
+
+/// The number by which C knows an operation.
+fn operation_number(op: Op) -> u32
+    ensures { result ≡ operation_number op }
+{
+    match op {
+        Op::Load => 0,
+        Op::Store(_) => 1,
+        Op::Swap(_) => 2,
+        Op::Cas(_, _) => 3,
+        Op::Add(_) => 4,
+        Op::And(_) => 5,
+        Op::Or(_) => 6,
+        Op::Xor(_) => 7,
+        Op::Max(_) => 8,
+        Op::Min(_) => 9,
+    }
+}
+
+/// The first value that an operation brings, or 0.
+fn first_value(op: Op) -> u64
+    ensures { result ≡ first_value op }
+{
+    match op {
+        Op::Load => 0,
+        Op::Store(value)
+        | Op::Swap(value)
+        | Op::Cas(value, _)
+        | Op::Add(value)
+        | Op::And(value)
+        | Op::Or(value)
+        | Op::Xor(value)
+        | Op::Max(value)
+        | Op::Min(value) => value,
+    }
+}
+
+/// The second value of a compare-and-swap, or 0.
+fn second_value(op: Op) -> u64
+    ensures { result ≡ second_value op }
+{
+    match op {
+        Op::Cas(_, new) => new,
+        _ => 0,
+    }
+}
+
+/// Whether a reply is an old word.
+fn has_old(reply: Reply) -> u32
+    ensures { result ≡ has_old reply }
+{
+    match reply {
+        Reply::Ok => 0,
+        Reply::Old(_) => 1,
+    }
+}
+
+/// The old word of a reply, or 0.
+fn old_word(reply: Reply) -> u64
+    ensures { result ≡ old_word reply }
+{
+    match reply {
+        Reply::Ok => 0,
+        Reply::Old(word) => word,
+    }
+}

@@ -1,0 +1,124 @@
+//! Steps and rounds of the machine that a handle holds.
+
+ghost use Rattle.std.specs.Prelude.{◌≡◌};
+ghost use Rattle.machine_handle.specs.Held.{held};
+ghost use Rattle.torusmem_c.specs.Choices.{attempt_named};
+ghost use Rattle.torusmem_c.specs.Held.{OnHeld};
+ghost use Rattle.torusmem_c.specs.Steps.{Attempts, Finishes, MakesRound, TellsEnabled, TellsFinished, TellsMovesLeft, is_enabled, moved};
+
+use crate::choice::attempt_named;
+use crate::outcome::Outcome;
+use machine_core::Machine;
+use machine_handle::Handle;
+use torus::{Step, Stepped};
+
+/// Attempts one choice of one agent: 1 where it moved, 0 where it was idle.
+#[unsafe(no_mangle)]
+pub extern "C" fn torusmem_step(
+    handle: &mut Handle,
+    agent: u32,
+    choice: u32,
+    number: u32,
+) -> Outcome
+    ensures { OnHeld (Attempts (attempt_named agent choice number)) (held handle.old) (held handle.new) result }
+{
+    match handle.machine() {
+        Some(machine) => made(machine, attempt_named(agent, choice, number)),
+        None => Outcome::empty(),
+    }
+}
+
+/// Makes the step that is named, if one is.
+#[inline(always)]
+fn made(machine: &mut Machine, attempt: Option<Step>) -> Outcome
+    ensures { Attempts attempt machine.old machine.new result }
+{
+    match attempt {
+        Some(attempt) => Outcome::done(moved(machine.step(attempt))),
+        None => Outcome::done(0),
+    }
+}
+
+/// 1 where a step moved, 0 where it was idle.
+#[inline(always)]
+fn moved(stepped: Stepped) -> u64
+    ensures { result ≡ moved stepped }
+{
+    match stepped {
+        Stepped::Moved => 1,
+        Stepped::Idle => 0,
+    }
+}
+
+/// Whether one choice of one agent is enabled: 1 or 0.
+#[unsafe(no_mangle)]
+pub extern "C" fn torusmem_enabled(
+    handle: &mut Handle,
+    agent: u32,
+    choice: u32,
+    number: u32,
+) -> Outcome
+    ensures { OnHeld (TellsEnabled (attempt_named agent choice number)) (held handle.old) (held handle.new) result }
+{
+    match handle.machine() {
+        Some(machine) => Outcome::told(is_enabled(machine, attempt_named(agent, choice, number))),
+        None => Outcome::empty(),
+    }
+}
+
+/// Whether the step that is named is enabled.
+fn is_enabled(machine: &Machine, attempt: Option<Step>) -> bool
+    ensures { result ≡ is_enabled attempt machine.now }
+{
+    match attempt {
+        Some(attempt) => machine.enabled(attempt),
+        None => false,
+    }
+}
+
+/// Makes one round.
+#[unsafe(no_mangle)]
+pub extern "C" fn torusmem_round(handle: &mut Handle) -> Outcome
+    ensures { OnHeld MakesRound (held handle.old) (held handle.new) result }
+{
+    match handle.machine() {
+        Some(machine) => {
+            machine.round();
+            Outcome::done(0)
+        }
+        None => Outcome::empty(),
+    }
+}
+
+/// Makes rounds until every script is finished, and answers how many.
+#[unsafe(no_mangle)]
+pub extern "C" fn torusmem_finish(handle: &mut Handle) -> Outcome
+    ensures { OnHeld Finishes (held handle.old) (held handle.new) result }
+{
+    match handle.machine() {
+        Some(machine) => Outcome::done(machine.finish()),
+        None => Outcome::empty(),
+    }
+}
+
+/// Whether every script is finished: 1 or 0.
+#[unsafe(no_mangle)]
+pub extern "C" fn torusmem_finished(handle: &mut Handle) -> Outcome
+    ensures { OnHeld TellsFinished (held handle.old) (held handle.new) result }
+{
+    match handle.machine() {
+        Some(machine) => Outcome::told(machine.finished()),
+        None => Outcome::empty(),
+    }
+}
+
+/// How many moves the scripts still allow.
+#[unsafe(no_mangle)]
+pub extern "C" fn torusmem_moves_left(handle: &mut Handle) -> Outcome
+    ensures { OnHeld TellsMovesLeft (held handle.old) (held handle.new) result }
+{
+    match handle.machine() {
+        Some(machine) => Outcome::done(machine.moves_left()),
+        None => Outcome::empty(),
+    }
+}

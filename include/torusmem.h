@@ -1,0 +1,199 @@
+/* torusmem: a proved shared memory over a wormhole torus, as a library for simulators (C99, C++).
+
+   A machine is made from the texts that the program `torusmem` reads (docs/FORMATS.md), then stepped, looked at and
+   freed. Each call is a function with a contract, and proved (docs/PROVED.md, "The library"). Nothing here prints,
+   ends the process or starts a thread, and each call ends.
+
+   Link libtorusmem_c.a and torusmem_heap.c.
+
+   WHAT THE CALLER OWES. Nothing checks it, and without it nothing that is said here holds.
+   - Each `m` points to a torusmem_machine that was begun by TORUSMEM_MACHINE_INIT and since then changed by calls of
+     this library alone. Its bytes may move, if they are not used in the old place again; they are never doubled.
+   - Each pointer that comes with a length points to that many readable bytes or items, writable for `out`, and to
+     nothing that the same call gets by another pointer. It isn't null, even where the length is 0.
+   - One call at a time for each machine, and all calls for it from one thread. Machines share nothing.
+   - malloc, realloc and free, which torusmem_heap.c calls, are of one allocator and align each block to every power of
+     two up to 16 that divides its size. No call comes from a signal handler, nor in the child that a process with
+     threads forked.
+   - Some kilobytes of stack are free at each call.
+
+   All calls take the machine by a pointer to one that isn't const, also those that change nothing of it. */
+#ifndef TORUSMEM_H
+#define TORUSMEM_H
+#include <stdbool.h>
+#include <stddef.h>
+#include <stdint.h>
+#ifdef __cplusplus
+extern "C" {
+#endif
+
+/* Room for a machine. It is the caller's, on the stack, in a struct or wherever: begun by TORUSMEM_MACHINE_INIT (all
+   zeros), then changed by calls alone. What it holds is let go by torusmem_free, and only so. */
+typedef struct torusmem_machine {
+  bool full;
+  void *at;
+} torusmem_machine;
+#define TORUSMEM_MACHINE_INIT { false, NULL }
+
+/* What a call answers: a code, and a number whose meaning each call states (0 where it states none). */
+typedef struct torusmem_outcome {
+  uint32_t code;
+  uint64_t value;
+} torusmem_outcome;
+
+/* Codes. */
+enum {
+  TORUSMEM_OK = 0,
+  /* 1 to 14: the fault F1 to F14 of a text (docs/FORMATS.md); value: the line, from 1. F12 is want of memory, and then
+     value is 0. */
+  TORUSMEM_FAULT_MEMORY = 12,
+  TORUSMEM_BAD_REPORT = 15, /* value: the first bad line, from 1 */
+  TORUSMEM_EMPTY = 16,      /* no machine is held: none was loaded, or it was freed */
+  TORUSMEM_FULL = 17,       /* a machine is held already: free it first */
+  TORUSMEM_NONE = 18,       /* there is no such tile, address, place or index */
+  TORUSMEM_SHORT = 19       /* the buffer is too short; value: how long it has to be */
+};
+
+/* Choices of agents. Tile t has the agents 3t, its processor; 3t + 1, its router; and 3t + 2, its bank. */
+enum {
+  TORUSMEM_SEND = 0,      /* a processor or bank puts its next flit */
+  TORUSMEM_TAKE = 1,      /* a processor or bank takes a flit */
+  TORUSMEM_TAKE_FROM = 2, /* a router takes a flit of an input */
+  TORUSMEM_PUT = 3,       /* a router puts the flit that it took of an input */
+  TORUSMEM_CREDIT = 4,    /* a processor or bank looks for a credit */
+  TORUSMEM_CREDIT_OF = 5, /* a router looks for a credit of an output */
+  TORUSMEM_SERVE = 6,     /* a bank serves a request */
+  TORUSMEM_DONE = 7,      /* a processor reports that its script is finished */
+  TORUSMEM_LOOK = 8       /* a processor looks whether all scripts are reported */
+};
+
+/* Operations. */
+enum {
+  TORUSMEM_LOAD = 0,
+  TORUSMEM_STORE = 1,
+  TORUSMEM_SWAP = 2,
+  TORUSMEM_CAS = 3,
+  TORUSMEM_ADD = 4,
+  TORUSMEM_AND = 5,
+  TORUSMEM_OR = 6,
+  TORUSMEM_XOR = 7,
+  TORUSMEM_MAX = 8,
+  TORUSMEM_MIN = 9
+};
+
+/* Kinds of channels. */
+enum { TORUSMEM_INJECTION = 0, TORUSMEM_HOP = 1, TORUSMEM_EJECTION = 2 };
+
+/* Classes of packets. */
+enum { TORUSMEM_REQUEST = 0, TORUSMEM_REPLY = 1 };
+
+/* Loads the machine of a machine text, whose processors follow the scripts of a scripts text, before any step.
+   OK; FULL; or a fault: the first one of the machine text, else the first one of the scripts, or want of memory.
+   On anything but OK, *m is as it was and no memory is kept. The texts may go after the call. */
+torusmem_outcome torusmem_load(torusmem_machine *m, const uint8_t *machine, size_t machine_length,
+                               const uint8_t *scripts, size_t scripts_length);
+
+/* Frees what *m holds, if anything. It may be loaded again then. */
+void torusmem_free(torusmem_machine *m);
+
+/* Attempts one choice of one agent: at most one operation on one word of the machine's row.
+   OK, value 1: it was enabled and is made. OK, value 0: it was not enabled, and nothing has changed; so it is for an
+   agent or a choice that there isn't, and for a choice that the agent doesn't have. EMPTY.
+   number: that of the router's input for TAKE_FROM and PUT, of its output for CREDIT_OF (docs/FORMATS.md, "Channels
+   and ports"); not looked at for other choices. It takes no memory. */
+torusmem_outcome torusmem_step(torusmem_machine *m, uint32_t agent, uint32_t choice, uint32_t number);
+
+/* Whether torusmem_step would move now. OK, value 1 or 0; EMPTY. */
+torusmem_outcome torusmem_enabled(torusmem_machine *m, uint32_t agent, uint32_t choice, uint32_t number);
+
+/* Makes one round: each choice of each agent is attempted once, in order. OK, value 0; EMPTY. */
+torusmem_outcome torusmem_round(torusmem_machine *m);
+
+/* Makes rounds until every script is finished. OK, value: how many rounds, the least number that does; EMPTY. */
+torusmem_outcome torusmem_finish(torusmem_machine *m);
+
+/* Whether every script is finished. OK, value 1 or 0; EMPTY. */
+torusmem_outcome torusmem_finished(torusmem_machine *m);
+
+/* How many moves the scripts still allow; no steps make more. OK, value: the number; EMPTY. */
+torusmem_outcome torusmem_moves_left(torusmem_machine *m);
+
+/* The number of tiles, 2 to 64, and of words, 1 to 65536. OK, value: the number; EMPTY. */
+torusmem_outcome torusmem_tiles(torusmem_machine *m);
+torusmem_outcome torusmem_words(torusmem_machine *m);
+
+/* The word of an address. OK, value: the word; NONE: no such address; EMPTY. */
+torusmem_outcome torusmem_word(torusmem_machine *m, uint32_t address);
+
+/* The word at a place of the machine's row: the places of the channels, then the words of the memory by address, then
+   the done word. OK, value: the word; NONE: the row is not so long; EMPTY. */
+torusmem_outcome torusmem_row(torusmem_machine *m, uint32_t at);
+
+/* An answer of a processor. */
+typedef struct torusmem_answer {
+  uint32_t code;          /* OK, EMPTY or NONE; the rest is 0 unless it is OK */
+  uint32_t index;         /* among the operations of its processor, from 0 in the order of issue */
+  uint32_t operation;     /* TORUSMEM_LOAD .. TORUSMEM_MIN */
+  uint32_t bank;          /* the tile of the bank that served it */
+  uint32_t place;         /* among the services of that bank, from 0 */
+  uint32_t has_old;       /* 1: the reply is the old word; 0: it is `ok`, that of a store */
+  uint64_t first, second; /* the operation's values: expected and new of a cas; the value of any other but a load, and
+                             0; 0 and 0 of a load */
+  uint64_t old;           /* the old word, or 0 */
+} torusmem_answer;
+
+/* How many answers a processor (by its tile) has. OK, value: the number; NONE: no such tile; EMPTY. */
+torusmem_outcome torusmem_answers(torusmem_machine *m, uint32_t processor);
+
+/* Answer i of a processor, from 0 in the order of answering. Code NONE: no such tile, or no such answer yet. */
+torusmem_answer torusmem_answer_at(torusmem_machine *m, uint32_t processor, uint32_t i);
+
+/* An entry of a bank: one service. */
+typedef struct torusmem_entry {
+  uint32_t code;          /* OK, EMPTY or NONE; the rest is 0 unless it is OK */
+  uint32_t source;        /* the tile of the processor that asked */
+  uint32_t tag;           /* its tag */
+  uint32_t address;       /* what was asked for */
+  uint32_t operation;     /* as in an answer, and so are the rest */
+  uint32_t has_old;
+  uint64_t first, second;
+  uint64_t old;
+} torusmem_entry;
+
+/* How many entries a bank (by its tile) has. OK, value: the number; NONE: no such tile; EMPTY. */
+torusmem_outcome torusmem_entries(torusmem_machine *m, uint32_t bank);
+
+/* Entry i of a bank, from 0 in the order of its services. Code NONE: no such tile, or no such entry yet. */
+torusmem_entry torusmem_entry_at(torusmem_machine *m, uint32_t bank, uint32_t i);
+
+/* The report of the run so far, the text that the program prints.
+   OK: it is the first `value` bytes of out, and the bytes behind them are as they were.
+   SHORT: value is its length, and out is as it was; so is it on FAULT_MEMORY and EMPTY. */
+torusmem_outcome torusmem_report(torusmem_machine *m, uint8_t *out, size_t out_length);
+
+/* Checks a report; needs no machine. OK: it is a good one. BAD_REPORT: value is its first bad line, from 1.
+   FAULT_MEMORY. */
+torusmem_outcome torusmem_check(const uint8_t *report, size_t report_length);
+
+/* A channel of a route. */
+typedef struct torusmem_channel {
+  uint32_t kind;            /* the injection of the tile, a hop out of it, or its ejection */
+  uint32_t tile;
+  uint32_t dim, minus, bit; /* of a hop: its dimension, 1 for minus or 0 for plus, its bit; else 0 */
+  uint32_t number;          /* the channel's number: along each route the numbers rise */
+} torusmem_channel;
+
+/* The route of a packet of a class, TORUSMEM_REQUEST or TORUSMEM_REPLY, from tile to tile.
+   OK: its channels are the first `value` of out, 2 to 10, and those behind them are as they were.
+   SHORT: value is how many there are, and out is as it was; so is it on NONE (no such tile or class) and EMPTY. */
+torusmem_outcome torusmem_route(torusmem_machine *m, uint32_t src, uint32_t dst, uint32_t reply,
+                                torusmem_channel *out, size_t out_length);
+
+/* The way on of a packet for tile dst that came to tile at by this input of its router (docs/FORMATS.md, "Channels and
+   ports"). OK, value: the number of the router's output; NONE: no such tile or input; EMPTY. */
+torusmem_outcome torusmem_next(torusmem_machine *m, uint32_t at, uint32_t input, uint32_t dst);
+
+#ifdef __cplusplus
+}
+#endif
+#endif
