@@ -38,13 +38,13 @@ unfolding no_drop_code.code
 put_spec {M} 𝓤 𝓛 𝓜 𝓡 wired =
     let c = f.clauses 𝓛 𝓜.mem 𝓡.returns in let W = walk_of 𝓛 f.ended stayed c in let 𝓣 = tables 𝓤 𝓛.H 𝓜 𝓡 𝓡.env in
     let heap_met = passed 𝓡.env (code.calls-std_heap::GlobalAllocator::allocate 𝓡.env wired) (code.calls-std_heap::GlobalAllocator::deallocate 𝓡.env wired)
-        (code.calls-std_heap::GlobalAllocator::grow 𝓡.env wired) (code.calls-std_heap::GlobalAllocator::shrink 𝓡.env wired) M 𝓤 𝓛 𝓜 𝓡 in
+    (code.calls-std_heap::GlobalAllocator::grow 𝓡.env wired) (code.calls-std_heap::GlobalAllocator::shrink 𝓡.env wired) M 𝓤 𝓛 𝓜 𝓡 in
     let heap_glue = glues "machine_handle::Destruct++none::drop" 𝓡.env (code.calls-machine_handle::Destruct++none::drop 𝓡.env wired) Heap heap_laws M 𝓤 𝓛 𝓜 𝓡 in
     let dropping = code.calls-machine_handle::machine_core++machine++Machine+Destruct::drop 𝓡.env wired in
     let glued : glue.Met 𝓛 𝓜 𝓡 𝓡.env Passed drops =
-        widened 𝓤 𝓛.H (triple_of 𝓛 (glue.signature Passed) (glue.spent 𝓛 Passed)) 𝓜 𝓡 𝓡.env
-        (𝓡.env (drop_name (bounded (a_type ∷ []) (Heap, tt) (dcons dict (dcons no_drop dnil))))) (𝓡.env (method drops 0 no_args)) (as_method 𝓡.env dropping (method drops 0 no_args) refl)
-        (drop.met 𝓤 𝓛 𝓜 𝓡 dropping Heap heap_laws ghosts dict no_drop heap_met heap_glue) in
+    widened 𝓤 𝓛.H (triple_of 𝓛 (glue.signature Passed) (glue.spent 𝓛 Passed)) 𝓜 𝓡 𝓡.env
+    (𝓡.env (drop_name (bounded (a_type ∷ []) (Heap, tt) (dcons dict (dcons no_drop dnil))))) (𝓡.env (method drops 0 no_args)) (as_method 𝓡.env dropping (method drops 0 no_args) refl)
+    (drop.met 𝓤 𝓛 𝓜 𝓡 dropping Heap heap_laws ghosts dict no_drop heap_met heap_glue) in
     let known = met 𝓤 𝓛 𝓜 𝓡 (code.calls-std_alloc::boxed::Box::into_raw 𝓡.env wired) Passed Heap passed_laws heap_laws ghosts dict no_drop drops heap_met heap_glue glued in
     let S = triple_of 𝓛 (g.signature Passed Heap ghosts dict no_drop drops) (g.spec Passed Heap ghosts dict no_drop drops 𝓛 𝓜.mem 𝓡.returns) in
     proved 𝓛 f.ended stayed c 𝓜 𝓡 (Goes-ref 𝓛 1 0 tt (plain (λ _. R)), (Goes-dropped 𝓛 1 (plain (λ _. B)) yes (λ κs x w. refl), tt))
