@@ -5,7 +5,7 @@ use Rattle.script.specs.declared.fault.LineFault.{LineFault}
 use Rattle.script.specs.Machine.{MachineSpec, machine_of}
 use Rattle.script.specs.Scripts.{ScriptsSpec, scripts_of}
 use Rattle.script.specs.Steps.{steps_of}
-use Rattle.machine_core.specs.flights.specs.Load.{load_of}
+use Rattle.machine_texts.specs.flights.specs.Load.{load_of}
 use Rattle.machine_laws.specs.Core.{Core, IsLawful, all_finished}
 use Rattle.report_lines.specs.Line.{text_of}
 use Rattle.history.specs.Report.{machine_report}

@@ -8,10 +8,10 @@ use Rattle.std.proofs.lemmas.List.FromFn.{get_or-map-range_with_len, length-map-
 use Rattle.torus.specs.Shape.{tiles_of}
 use Rattle.torus.specs.declared.step.Step.{Step}
 use Rattle.script.specs.declared.fault.LineFault.{LineFault}
-use Rattle.machine_core.specs.flights.specs.Load.{Load}
-use Rattle.machine_core.specs.flights.specs.Scripts.{AreFinished}
-use Rattle.machine_core.specs.core_laws.specs.Core.{after, records_of, run_of}
-use Rattle.machine_core.specs.core_laws.specs.Runs.{IsAccepted}
+use Rattle.machine_texts.specs.flights.specs.Load.{Load}
+use Rattle.machine_texts.specs.flights.specs.Scripts.{AreFinished}
+use Rattle.machine_texts.specs.core_laws.specs.Core.{after, records_of, run_of}
+use Rattle.machine_texts.specs.core_laws.specs.Runs.{IsAccepted}
 use Rattle.machine_laws.specs.Core.{Core, IsAfter, all_finished, core_after, core_after_load, shown}
 use Rattle.machine_laws.specs.Reported.{ReportsWell}
 use Rattle.worker_run.specs.fabric.specs.fabric_laws.specs.Ended.{AreAllFinished}
@@ -30,7 +30,7 @@ use Rattle.worker_run.specs.declared.worker.End.{End}
 use Rattle.worker_run.specs.declared.worker.End.TheVariants.{Held, Finished, Stopped}
 use Rattle.report_lines.specs.Line.{text_of}
 use Rattle.history.specs.Report.{report_of}
-use Rattle.commands.specs.Rounds.{HasLoaded}
+use Rattle.machine_texts.specs.Loading.{HasLoaded}
 use Rattle.commands.specs.Workers.{HasDonePart, IsMadeByWorkers, IsOfEnded, IsTakenIn, IsWorkersText, crew, first_held, held, new_worker}
 use Rattle.commands.proofs.Shares.{holder, holds_tiles, shares}
 

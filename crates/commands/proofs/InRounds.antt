@@ -4,24 +4,19 @@ use Rattle.std.proofs.lemmas.Bool.{cases_lt}
 use Rattle.torus.specs.Shape.{Shape}
 use Rattle.torus.specs.declared.step.Step.{Step}
 use Rattle.script.specs.declared.fault.LineFault.{LineFault}
-use Rattle.script.specs.Machine.{MachineSpec, machine_of}
-use Rattle.script.specs.Scripts.{ScriptsSpec, scripts_of}
-use Rattle.machine_core.specs.flights.specs.Load.{Load, load_of}
-use Rattle.machine_core.specs.core_laws.specs.Core.{round}
+use Rattle.machine_texts.specs.flights.specs.Load.{Load}
+use Rattle.machine_texts.specs.core_laws.specs.Core.{round}
 use Rattle.machine_laws.specs.Core.{Core, IsAfter, all_finished, core_after_load}
-use Rattle.machine_core.specs.Rounds.{rounds_of}
+use Rattle.machine_texts.specs.machine_core.specs.Rounds.{rounds_of}
+use Rattle.machine_texts.specs.Loading.{HasLoaded}
 use Rattle.commands.specs.Run.{IsOfMachine}
-use Rattle.commands.specs.Rounds.{HasLoaded, HasMadeRounds, IsRoundText, asked_rounds, is_finished_after, load_by}
+use Rattle.commands.specs.Rounds.{HasMadeRounds, IsRoundText, asked_rounds, is_finished_after}
 use Rattle.commands.proofs.Asked.{run_printed}
 
 -- so many rounds are made, and before each of them not every script was finished
 pub record HasMade (l : Load) (k : ℕ) (c : Core) : Type 0 where
   pub after : IsAfter l c (rounds_of l.shape k)
   pub unfinished : (j : ℕ) → j < k → is_finished_after l j ≡ false
-
--- both texts are read
-pub load_read : (a b : List (List ℕ)) (m : MachineSpec) (s : ScriptsSpec) → machine_of a ≡ Ok m → scripts_of m b ≡ Ok s → load_by a b ≡ Ok (load_of m s)
-load_read a b m s read scripts = rw (read, scripts) refl
 
 -- whether every script is finished after the rounds
 finished_now : (l : Load) (k : ℕ) (c : Core) (b : Bool) → IsAfter l c (rounds_of l.shape k) → b ≡ all_finished c.state → is_finished_after l k ≡ b

@@ -1,14 +1,12 @@
 -- What two texts ask for that is run in rounds, and what is printed of it (this project's own format).
-use Rattle.std.specs.Prelude.{◌≡◌, ℕ, ◌<◌, ◌≤◌, List, [], Bool, true, false, Result, Ok}
+use Rattle.std.specs.Prelude.{◌≡◌, ℕ, ◌<◌, ◌≤◌, List, Bool, true, false, Result, Ok}
 use Rattle.script.specs.declared.fault.LineFault.{LineFault}
-use Rattle.script.specs.Machine.{machine_of}
-use Rattle.script.specs.Scripts.{scripts_of}
-use Rattle.machine_core.specs.flights.specs.Load.{Load, load_of}
+use Rattle.machine_texts.specs.flights.specs.Load.{Load}
 use Rattle.machine_laws.specs.Core.{Core, IsAfter, all_finished}
-use Rattle.machine_core.specs.Rounds.{rounds_of}
+use Rattle.machine_texts.specs.machine_core.specs.Rounds.{rounds_of}
 use Rattle.commands.specs.declared.fault.ProgramFault.{ProgramFault}
 use Rattle.commands.specs.Done.{Does, Output}
-use Rattle.commands.specs.Run.{Asked, IsRunText, IsTextsFault, core_of, ◌then◌}
+use Rattle.commands.specs.Run.{Asked, IsRunText, IsTextsFault, core_of}
 
 -- a load that is to make so many rounds
 abbrev pub asked_rounds : Load → ℕ → Asked
@@ -30,16 +28,6 @@ pub record HasMadeRounds (l : Load) (most : ℕ) (c : Core) : Type 0 where
   pub rounds : ℕ
   pub fewest : AreFewest l most rounds
   pub after : IsAfter l c (rounds_of l.shape rounds)
-
--- what two texts ask for, or the first fault; they are taken in this order
-abbrev pub load_by : List (List ℕ) → List (List ℕ) → Result Load LineFault
-load_by machine scripts = machine_of machine then λ m. scripts_of m scripts then λ s. Ok (load_of m s)
-
--- a machine stands where what is asked for is loaded, and no step is made
-pub record HasLoaded (asked : Result Load LineFault) (c : Core) : Type 0 where
-  pub load : Load
-  pub read : asked ≡ Ok load
-  pub after : IsAfter load c []
 
 -- a text is the report of the run of the fewest rounds that finish every script, at most so many
 pub record IsRoundText (asked : Result Load LineFault) (most : ℕ) (finished : Bool) (text : List ℕ) : Type 0 where

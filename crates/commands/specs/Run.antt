@@ -6,10 +6,11 @@ use Rattle.script.specs.declared.fault.LineFault.{LineFault}
 use Rattle.script.specs.Machine.{machine_of}
 use Rattle.script.specs.Scripts.{scripts_of}
 use Rattle.script.specs.Steps.{steps_of}
-use Rattle.machine_core.specs.flights.specs.Load.{Load, load_of}
-use Rattle.machine_core.specs.core_laws.specs.Core.{run_of}
+use Rattle.machine_texts.specs.flights.specs.Load.{Load, load_of}
+use Rattle.machine_texts.specs.core_laws.specs.Core.{run_of}
 use Rattle.machine_laws.specs.Core.{Core, IsAfter, IsLawful, core_after_load, all_finished}
-use Rattle.machine_core.specs.flights.specs.Scripts.{AreFinished}
+use Rattle.machine_texts.specs.flights.specs.Scripts.{AreFinished}
+use Rattle.machine_texts.specs.Loading.{◌then◌}
 use Rattle.report_lines.specs.Line.{text_of}
 use Rattle.report_check.specs.Good.{GoodReport}
 use Rattle.history.specs.Report.{machine_report}
@@ -21,12 +22,6 @@ use Rattle.commands.specs.Done.{Does, Output}
 pub record Asked : Type 0 where
   pub load : Load
   pub steps : List Step
-
--- what is read next, unless the texts before have a fault
-infixl 10 ◌then◌
-abbrev pub ◌then◌ : {A B : Type 0} → Result A LineFault → (A → Result B LineFault) → Result B LineFault
-(Ok x) then next = next x
-(Err e) then next = Err e
 
 -- what three texts ask for, or the first fault; they are taken in this order
 abbrev pub asked_of : List (List ℕ) → List (List ℕ) → List (List ℕ) → Result Asked LineFault

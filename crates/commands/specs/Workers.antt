@@ -3,9 +3,9 @@ use Rattle.std.specs.Prelude.{◌≡◌, ℕ, ◌+◌, ◌-◌, ◌*◌, ◌/◌
 use Rattle.torus.specs.Shape.{tiles_of}
 use Rattle.torus.specs.declared.step.Step.{Step}
 use Rattle.script.specs.declared.fault.LineFault.{LineFault}
-use Rattle.machine_core.specs.flights.specs.Load.{Load}
-use Rattle.machine_core.specs.flights.specs.Scripts.{AreFinished}
-use Rattle.machine_core.specs.core_laws.specs.Core.{after, run_of}
+use Rattle.machine_texts.specs.flights.specs.Load.{Load}
+use Rattle.machine_texts.specs.flights.specs.Scripts.{AreFinished}
+use Rattle.machine_texts.specs.core_laws.specs.Core.{after, run_of}
 use Rattle.machine_laws.specs.Core.{IsLawful, all_finished, book_after, core_after_load}
 use Rattle.worker_run.specs.fabric.specs.fabric_laws.specs.Ended.{AreAllFinished}
 use Rattle.worker_run.specs.fabric.specs.fabric_laws.specs.Groups.{GoesOn, Owns}

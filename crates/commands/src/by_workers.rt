@@ -3,25 +3,25 @@ ghost use Rattle.std.specs.List.{range_with_len};
 ghost use Rattle.std.specs.Str.Lines.{lines};
 ghost use Rattle.torus.specs.Shape.{tiles_of};
 ghost use Rattle.torus.specs.declared.fault.Fault.TheVariants as fault;
-ghost use Rattle.machine_core.specs.flights.specs.Load.{Load};
+ghost use Rattle.machine_texts.specs.flights.specs.Load.{Load};
 ghost use Rattle.machine_laws.specs.Core.{IsAfter};
+ghost use Rattle.machine_texts.specs.Loading.{load_by};
 ghost use Rattle.worker_run.specs.fabric.specs.Opening.{fresh};
 ghost use Rattle.worker_run.specs.fabric.specs.Seats.{IsOf};
 ghost use Rattle.worker_run.specs.Working.{HasWorked, Working};
 ghost use Rattle.commands.specs.Done.{Does, output};
 ghost use Rattle.commands.specs.Run.{IsNoFault};
-ghost use Rattle.commands.specs.Rounds.{load_by};
 ghost use Rattle.commands.specs.Workers.{IsMadeByWorkers, IsOfEnded, IsTakenIn, PrintsWorkers, first_held, held, new_worker};
 
 use crate::ProgramFault;
 use crate::in_rounds::loaded;
 use arrayvec::ArrayVec;
 use history::{of_final, write_report};
-use machine_core::Machine;
 use machine_laws::laws::{
     ended_followers_finish_scripts, steps_decide_the_machine, steps_lead_on,
     steps_lead_to_a_machine,
 };
+use machine_texts::Machine;
 use report_lines::Out;
 use std::alloc::{AllocError, Allocator};
 use std::sync::Wait;

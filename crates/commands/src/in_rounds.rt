@@ -2,18 +2,18 @@ ghost use Rattle.std.specs.Prelude.{◌≡◌, IfErr, IfOk, [], length};
 ghost use Rattle.std.specs.Io.Iter.{u64_saturate};
 ghost use Rattle.std.specs.List.{sum_by};
 ghost use Rattle.std.specs.Str.Lines.{lines};
-ghost use Rattle.machine_core.specs.flights.specs.Load.{Load};
+ghost use Rattle.machine_texts.specs.flights.specs.Load.{Load};
 ghost use Rattle.machine_laws.specs.Core.{IsAfter, shown};
+ghost use Rattle.machine_texts.specs.Loading.{HasLoaded, load_by};
 ghost use Rattle.commands.specs.Done.{output};
 ghost use Rattle.commands.specs.Run.{IsReadFault};
-ghost use Rattle.commands.specs.Rounds.{HasLoaded, HasMadeRounds, PrintsRounds, load_by};
+ghost use Rattle.commands.specs.Rounds.{HasMadeRounds, PrintsRounds};
 
 use crate::ProgramFault;
 use crate::steps::print_run;
-use machine_core::Machine;
 use machine_laws::laws::{reached_machines_report_well, steps_decide_the_machine};
+use machine_texts::{Machine, load};
 use report_lines::Out;
-use script::{read_machine, read_scripts};
 use std::alloc::Allocator;
 
 /// Watches a run in rounds. Whatever it does, the run and its report are the same.
@@ -91,9 +91,7 @@ pub(crate) fn loaded<A: Allocator + Copy>(
     ensures ok { IfOk result (HasLoaded (load_by (lines machine.now) (lines scripts.now))) }
     ensures err { IfErr result (IsReadFault (load_by (lines machine.now) (lines scripts.now))) }
 {
-    let machine = read_machine(alloc, machine)?;
-    let scripts = read_scripts(alloc, scripts, &machine)?;
-    Ok(Machine::load(alloc, machine, scripts)?)
+    Ok(load(alloc, machine, scripts)?)
 }
 
 /// Makes rounds until every script is finished, and at most so many. Operations are counted only where

@@ -5,8 +5,8 @@ ghost use Rattle.commands.specs.Run.{HasRun, IsOfMachine, IsReadFault, IsNoFault
 
 use crate::ProgramFault;
 use history::{of_run, write_report};
-use machine_core::Machine;
 use machine_laws::laws::steps_decide_the_machine;
+use machine_texts::Machine;
 use report_lines::Out;
 use script::{read_machine, read_scripts, read_steps};
 use std::alloc::Allocator;

@@ -1,11 +1,9 @@
 //! Machines that are loaded, and fabrics with their seats.
-ghost use Rattle.std.specs.Prelude.{◌≤◌, [], All, IfOk};
-ghost use Rattle.fabric.specs.fabric_laws.specs.core_laws.specs.Core.{Load};
-ghost use Rattle.fabric.specs.fabric_laws.specs.machine_laws.specs.Core.{IsAfter};
+ghost use Rattle.std.specs.Prelude.{◌≤◌, All};
 ghost use Rattle.fabric.specs.Seats.{IsOf};
 
-use fabric::{Fabric, Final, Machine, ProbeSeat, TileSeat};
-use script::{read_machine, read_scripts};
+use fabric::{Fabric, Final, ProbeSeat, TileSeat};
+use machine_texts::load;
 use std::alloc::{Allocator, Global};
 use std::process::Abort;
 use std::test::Fail;
@@ -23,7 +21,6 @@ pub const PAIR: &[u8] = b"radix 2\ndims 1\ndepth 4\ntags 4\nwords 8\n";
 /// What was asked for when a call failed.
 #[derive(Drop)]
 pub enum Call {
-    Read,
     Load,
     Open,
 }
@@ -38,29 +35,7 @@ pub struct Dealt<A: Allocator = Global> {
     ghost own_probes: { All (λ s. IsOf fabric s) probes.items },
 }
 
-/// Reads both texts, and loads the machine.
-pub fn load<A: Allocator + Copy>(
-    alloc: A,
-    machine: &[u8],
-    scripts: &[u8],
-) -> Result<Machine<A>, (Call, Fault)>
-    ensures { IfOk result (λ m. (l : Load) × IsAfter l m []) }
-{
-    let text = match read_machine(alloc, machine) {
-        Ok(text) => text,
-        Err(fault) => return Err((Call::Read, fault.fault)),
-    };
-    let scripts = match read_scripts(alloc, scripts, &text) {
-        Ok(scripts) => scripts,
-        Err(fault) => return Err((Call::Read, fault.fault)),
-    };
-    match Machine::load(alloc, text, scripts) {
-        Ok(machine) => Ok(machine),
-        Err(fault) => Err((Call::Load, fault)),
-    }
-}
-
-/// The same, and opens the machine.
+/// Loads the machine of two texts, and opens it.
 pub fn deal<A: Allocator + Copy>(
     alloc: A,
     machine: &[u8],
@@ -68,7 +43,10 @@ pub fn deal<A: Allocator + Copy>(
     cuts: &[usize],
     probes: usize,
 ) -> Result<Dealt<A>, (Call, Fault)> {
-    let machine = load(alloc, machine, scripts)?;
+    let machine = match load(alloc, machine, scripts) {
+        Ok(machine) => machine,
+        Err(found) => return Err((Call::Load, found.fault)),
+    };
     match Fabric::open(alloc, machine, cuts, probes) {
         Ok((fabric, seats, probes)) => Ok(Dealt {
             fabric,

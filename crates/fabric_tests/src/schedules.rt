@@ -2,8 +2,9 @@
 ghost use Rattle.std.specs.Prelude.{◌≤◌};
 ghost use Rattle.fabric.specs.Seats.{IsOf};
 
-use crate::fixtures::{PAIR, Whole, deal_whole, load, step_at};
+use crate::fixtures::{PAIR, Whole, deal_whole, step_at};
 use fabric::{Fabric, Final, Machine, TileSeat, Turned};
+use machine_texts::load;
 use std::alloc::Global;
 use std::test::Fail;
 use torus::{Choice, Step, Stepped};

@@ -1,7 +1,7 @@
 use linked_list_allocator::LocalHeap;
 use machine_core::{Answer, Entry, Machine, Ordered};
 use packet::{Op, Reply};
-use script::{read_machine, read_scripts};
+use machine_texts::load;
 use std::alloc::{AllocError, Allocator, Global};
 use std::test::Fail;
 use torus::{Choice, Fault, Step, Stepped, Tag};
@@ -15,29 +15,8 @@ const SQUARE: &[u8] = b"radix 8\ndims 2\ndepth 1\ntags 1\nwords 64\ninit 36 5\n"
 /// What was asked for when a call failed.
 #[derive(Clone, Copy)]
 enum Call {
-    Read,
     Load,
     Order,
-}
-
-/// Reads both texts, and loads the machine.
-fn loaded<A: Allocator + Copy>(
-    alloc: A,
-    machine: &[u8],
-    scripts: &[u8],
-) -> Result<Machine<A>, (Call, Fault)> {
-    let text = match read_machine(alloc, machine) {
-        Ok(text) => text,
-        Err(fault) => return Err((Call::Read, fault.fault)),
-    };
-    let scripts = match read_scripts(alloc, scripts, &text) {
-        Ok(scripts) => scripts,
-        Err(fault) => return Err((Call::Read, fault.fault)),
-    };
-    match Machine::load(alloc, text, scripts) {
-        Ok(machine) => Ok(machine),
-        Err(fault) => Err((Call::Load, fault)),
-    }
 }
 
 /// The machine of a text and of scripts, which are a text that stands so many times, or the fault.
@@ -48,9 +27,9 @@ fn machine_of(alloc: Global, machine: &[u8], scripts: &[u8], times: u32) -> Resu
             return Err(Fault::Memory);
         }
     }
-    match loaded(alloc, machine, text.as_slice()) {
+    match load(alloc, machine, text.as_slice()) {
         Ok(machine) => Ok(machine),
-        Err((_, fault)) => Err(fault),
+        Err(found) => Err(found.fault),
     }
 }
 
@@ -696,7 +675,10 @@ fn used<A: Allocator + Copy, B: Allocator + Copy>(
     alloc: A,
     rows: B,
 ) -> Result<usize, (Call, Fault)> {
-    let mut machine = loaded(alloc, PAIR, b"0 store 5 17\n0 fence\n0 load 5\n")?;
+    let mut machine = match load(alloc, PAIR, b"0 store 5 17\n0 fence\n0 load 5\n") {
+        Ok(machine) => machine,
+        Err(found) => return Err((Call::Load, found.fault)),
+    };
     let _ = rounds(&mut machine, 1000);
     match machine.order(rows) {
         Ok(rows) => Ok(rows.len()),

@@ -4,12 +4,11 @@ use Rattle.std.specs.Prelude.{Option, None, Result}
 use Rattle.script.specs.declared.fault.LineFault.{LineFault}
 use Rattle.machine_core.specs.flights.specs.Load.{Load}
 use Rattle.machine_laws.specs.Core.{Core}
-use Rattle.commands.specs.declared.fault.ProgramFault.{ProgramFault}
-use Rattle.commands.specs.Run.{IsReadFault}
+use Rattle.machine_texts.specs.Loading.{IsLoadFault}
 use Rattle.torusmem_c.specs.declared.outcome.Outcome.{Outcome}
 use Rattle.torusmem_c.specs.Texts.{Loads, fault_outcome}
 
 -- nothing is held before and after, and the fault is told
-pub nothing_kept : (asked : Result Load LineFault) (old new : Option Core) (r : Outcome) (f : ProgramFault)
-    → old ≡ None → new ≡ None → IsReadFault asked f → r ≡ fault_outcome f → Loads asked old new r
+pub nothing_kept : (asked : Result Load LineFault) (old new : Option Core) (r : Outcome) (f : LineFault)
+    → old ≡ None → new ≡ None → IsLoadFault asked f → r ≡ fault_outcome f → Loads asked old new r
 nothing_kept asked old new r f before after is told = rw (before, after) (f, is, told)

@@ -7,12 +7,9 @@ use Rattle.machine_laws.specs.Core.{Core}
 use Rattle.report_lines.specs.Line.{text_of}
 use Rattle.report_check.specs.Good.{GoodReport, HasFault}
 use Rattle.report_check.specs.declared.fault.CheckFault.{CheckFault}
+use Rattle.report_check.specs.declared.fault.CheckFault.TheVariants.{BadReport, Memory}
 use Rattle.history.specs.Report.{machine_report}
-use Rattle.commands.specs.declared.fault.ProgramFault.{ProgramFault}
-use Rattle.commands.specs.declared.fault.ProgramFault.TheVariants as program
-use Rattle.commands.specs.Outcome.{of_check}
-use Rattle.commands.specs.Run.{IsReadFault}
-use Rattle.commands.specs.Rounds.{HasLoaded}
+use Rattle.machine_texts.specs.Loading.{HasLoaded, IsLoadFault}
 use Rattle.torusmem_c.specs.declared.outcome.Outcome.{Outcome}
 use Rattle.torusmem_c.specs.declared.outcome.Code.TheVariants as code
 use Rattle.torusmem_c.specs.Outcome.{outcome}
@@ -22,19 +19,19 @@ use Rattle.torusmem_c.specs.Room.{put_over, put_outcome}
 abbrev pub no_memory : Outcome
 no_memory = outcome (code.Fault fault.Memory) 0
 
--- a fault of the program's commands: that of a text with its line, and the first bad line of a report. A text in memory
--- takes all that is put, unless memory is refused
-abbrev pub fault_outcome : ProgramFault → Outcome
-fault_outcome (program.Line found) = outcome (code.Fault found.fault) found.line
-fault_outcome (program.Fault which) = outcome (code.Fault which) 0
-fault_outcome program.Output = no_memory
-fault_outcome program.Tile = outcome code.NoSuch 0
-fault_outcome (program.Bad line) = outcome code.BadReport line
+-- a fault of a text with its line; want of memory is at line 0
+abbrev pub fault_outcome : LineFault → Outcome
+fault_outcome found = outcome (code.Fault found.fault) found.line
+
+-- the first bad line of a report, or that memory was refused
+abbrev pub check_outcome : CheckFault → Outcome
+check_outcome (BadReport line) = outcome code.BadReport line
+check_outcome Memory = no_memory
 
 -- what an empty handle holds after a load: nothing, and the answer is the first fault of the texts or that memory was
 -- refused; or the machine that the texts ask for, which has made no step
 abbrev pub LoadsEmpty : Result Load LineFault → Option Core → Outcome → Type 0
-LoadsEmpty asked None r = (f : ProgramFault) × IsReadFault asked f × (r ≡ fault_outcome f)
+LoadsEmpty asked None r = (f : LineFault) × IsLoadFault asked f × (r ≡ fault_outcome f)
 LoadsEmpty asked (Some c) r = HasLoaded asked c × (r ≡ outcome code.Done 0)
 
 -- a load: where a machine is held already, it stays, and the answer says so
@@ -62,7 +59,7 @@ pub record PutsReport (before after : List ℕ) (old new : Core) (r : Outcome) :
 abbrev pub IsVerdict : List ℕ → Outcome → Type 0
 IsVerdict report r =
     (GoodReport report × (r ≡ outcome code.Done 0))
-    ⊎ ((f : CheckFault) × HasFault report f × (r ≡ fault_outcome (of_check f)))
+    ⊎ ((f : CheckFault) × HasFault report f × (r ≡ check_outcome f))
 
 -- a report that is good is told to be so, unless memory is refused
 abbrev pub IsAccepted : Outcome → Type 0

@@ -2,22 +2,22 @@
 
 ghost use Rattle.std.specs.Prelude.{◌≡◌, ◌⊎◌, IfErr, IfOk, None};
 ghost use Rattle.std.specs.Str.Lines.{lines};
-ghost use Rattle.commands.specs.Rounds.{HasLoaded, load_by};
-ghost use Rattle.commands.specs.Run.{IsReadFault};
 ghost use Rattle.history.specs.Report.{machine_report};
 ghost use Rattle.machine_handle.specs.Held.{held};
+ghost use Rattle.machine_texts.specs.Loading.{load_by};
 ghost use Rattle.report_check.specs.Good.{GoodReport};
 ghost use Rattle.report_lines.specs.Line.{text_of};
 ghost use Rattle.torusmem_c.specs.Held.{OnHeld};
-ghost use Rattle.torusmem_c.specs.Texts.{IsAccepted, IsVerdict, LacksMemory, Loads, PutsReport, PutsText, fault_outcome};
+ghost use Rattle.torusmem_c.specs.Texts.{IsAccepted, IsVerdict, LacksMemory, Loads, PutsReport, PutsText, check_outcome, fault_outcome, no_memory};
 
 use crate::outcome::{Code, Outcome};
 use crate::room::put_over;
-use commands::ProgramFault;
 use history::{Out, check_report, of_run, write_report};
 use machine_core::Machine;
 use machine_handle::Handle;
-use script::{read_machine, read_scripts};
+use machine_texts::load;
+use report_check::CheckFault;
+use script::LineFault;
 use std::alloc::{AllocError, Global};
 use torus::Fault;
 
@@ -47,27 +47,28 @@ impl Out for Text {
     }
 }
 
-/// What C sees of a fault of the program's commands.
-fn fault_outcome(fault: ProgramFault) -> Outcome
-    ensures { result ≡ fault_outcome fault }
+/// Memory was refused.
+fn no_memory() -> Outcome
+    ensures { result ≡ no_memory }
 {
-    match fault {
-        ProgramFault::Line(found) => Outcome::of(Code::Fault(found.fault), found.line),
-        ProgramFault::Fault(fault) => Outcome::of(Code::Fault(fault), 0),
-        ProgramFault::Output => Outcome::of(Code::Fault(Fault::Memory), 0),
-        ProgramFault::Tile => Outcome::no_such(),
-        ProgramFault::Bad(line) => Outcome::of(Code::BadReport, line),
-    }
+    Outcome::of(Code::Fault(Fault::Memory), 0)
 }
 
-/// The machine that the texts ask for, before any step.
-fn loaded(alloc: Global, machine: &[u8], scripts: &[u8]) -> Result<Machine, ProgramFault>
-    ensures ok { IfOk result (HasLoaded (load_by (lines machine.now) (lines scripts.now))) }
-    ensures err { IfErr result (IsReadFault (load_by (lines machine.now) (lines scripts.now))) }
+/// What C sees of a fault of a text.
+fn fault_outcome(found: LineFault) -> Outcome
+    ensures { result ≡ fault_outcome found }
 {
-    let machine = read_machine(alloc, machine)?;
-    let scripts = read_scripts(alloc, scripts, &machine)?;
-    Ok(Machine::load(alloc, machine, scripts)?)
+    Outcome::of(Code::Fault(found.fault), found.line)
+}
+
+/// What C sees of a fault of a report.
+fn check_outcome(fault: CheckFault) -> Outcome
+    ensures { result ≡ check_outcome fault }
+{
+    match fault {
+        CheckFault::BadReport { line } => Outcome::of(Code::BadReport, line),
+        CheckFault::Memory => no_memory(),
+    }
 }
 
 /// Loads the machine of a text, whose processors follow the scripts of a text, into an empty handle.
@@ -86,10 +87,10 @@ pub extern "C" fn torusmem_load(
     if let Some(_held) = handle.machine() {
         return Outcome::of(Code::Full, 0);
     }
-    match loaded(alloc, machine, scripts) {
+    match load(alloc, machine, scripts) {
         Ok(machine) => match handle.hold(machine) {
             Ok(()) => Outcome::done(0),
-            Err(_) => fault_outcome(ProgramFault::Fault(Fault::Memory)),
+            Err(_) => no_memory(),
         },
         Err(fault) => fault_outcome(fault),
     }
@@ -128,7 +129,7 @@ fn put_report(alloc: Global, machine: &Machine, out: &mut [u8]) -> Outcome
 {
     match report_text(alloc, machine) {
         Ok(text) => put_over(text.as_slice(), out),
-        Err(_) => fault_outcome(ProgramFault::Fault(Fault::Memory)),
+        Err(_) => no_memory(),
     }
 }
 
@@ -152,6 +153,6 @@ pub extern "C" fn torusmem_check(alloc: Global, report: &[u8]) -> Outcome
 {
     match check_report(alloc, report) {
         Ok(()) => Outcome::done(0),
-        Err(fault) => fault_outcome(ProgramFault::from(fault)),
+        Err(fault) => check_outcome(fault),
     }
 }

@@ -2,7 +2,7 @@
 ghost use Rattle.std.specs.Prelude.{◌≤◌, All, IfSome, length};
 ghost use Rattle.worker_run.specs.fabric.specs.Seats.{IsOf};
 
-use script::{read_machine, read_scripts};
+use machine_texts::load;
 use std::alloc::Global;
 use std::sync::Wait;
 use std::sync::atomic::{AtomicBool, AtomicU64, Ordering};
@@ -11,7 +11,7 @@ use std::thread;
 use std::thread::Threads;
 use torus::{Choice, Step};
 use worker_run::{
-    End, Fabric, Final, Gate, Machine, ProbeSeat, TileSeat, Turned, Worker, run_workers,
+    End, Fabric, Final, Gate, ProbeSeat, TileSeat, Turned, Worker, run_workers,
 };
 
 /// A fabric with its workers, and the seats that are no worker's.
@@ -28,9 +28,7 @@ pub struct Bench {
 
 /// Reads both texts, loads the machine and opens it, with no worker yet.
 pub fn deal(alloc: Global, machine: &[u8], scripts: &[u8], cuts: &[usize]) -> Result<Bench, Fail> {
-    let text = read_machine(alloc, machine)?;
-    let scripts = read_scripts(alloc, scripts, &text)?;
-    let machine = Machine::load(alloc, text, scripts)?;
+    let machine = load(alloc, machine, scripts)?;
     match Fabric::open(alloc, machine, cuts, 1) {
         Ok((fabric, seats, probes)) => Ok(Bench {
             fabric,

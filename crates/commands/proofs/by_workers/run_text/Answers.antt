@@ -2,9 +2,9 @@
 use Rattle.std.proofs.Common.{Result}
 use Rattle.std.specs.Str.Lines.{lines}
 use Rattle.script.specs.declared.fault.LineFault.{LineFault}
-use Rattle.machine_core.specs.flights.specs.Load.{Load}
+use Rattle.machine_texts.specs.flights.specs.Load.{Load}
 use Rattle.commands.specs.Run.{IsNoFault, IsTextsFault}
-use Rattle.commands.specs.Rounds.{HasLoaded, load_by}
+use Rattle.machine_texts.specs.Loading.{HasLoaded, load_by}
 use Rattle.commands.specs.Workers.{IsMadeByWorkers, IsOfEnded, IsWorkersText}
 use Rattle.commands.proofs.Asked.{does_more}
 use Rattle.commands.proofs.ByWorkers.{workers_printed}

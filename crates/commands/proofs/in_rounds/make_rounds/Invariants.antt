@@ -1,5 +1,5 @@
 use Rattle.std.proofs.Common.{[]}
-use Rattle.machine_core.specs.flights.specs.Load.{Load}
+use Rattle.machine_texts.specs.flights.specs.Load.{Load}
 use Rattle.machine_laws.specs.Core.{IsAfter}
 use Rattle.commands.proofs.InRounds.{HasMade}
 use Rattle.commands.proofs.in_rounds.make_rounds.Given as goal

@@ -2,9 +2,10 @@
 use Rattle.std.proofs.Common.{Result}
 use Rattle.std.specs.Str.Lines.{lines}
 use Rattle.script.specs.declared.fault.LineFault.{LineFault}
-use Rattle.machine_core.specs.flights.specs.Load.{Load}
+use Rattle.machine_texts.specs.flights.specs.Load.{Load}
 use Rattle.commands.specs.Run.{IsNoFault, IsOfMachine, IsTextsFault}
-use Rattle.commands.specs.Rounds.{HasLoaded, HasMadeRounds, IsRoundText, load_by}
+use Rattle.machine_texts.specs.Loading.{HasLoaded, load_by}
+use Rattle.commands.specs.Rounds.{HasMadeRounds, IsRoundText}
 use Rattle.commands.proofs.Asked.{does_more}
 use Rattle.commands.proofs.InRounds.{rounds_printed}
 use Rattle.commands.proofs.in_rounds.round_text_with.Goals as goal

@@ -2,7 +2,7 @@
 use Rattle.std.proofs.Common.{List, [], subst}
 use Rattle.std.specs.Str.Lines.{lines}
 use Rattle.torus.specs.declared.step.Step.{Step}
-use Rattle.machine_core.specs.flights.specs.Load.{Load, load_of}
+use Rattle.machine_texts.specs.flights.specs.Load.{Load, load_of}
 use Rattle.machine_laws.specs.Core.{IsAfter}
 use Rattle.commands.proofs.Asked.{all_read}
 use Rattle.commands.proofs.steps.ran.Goals as goal

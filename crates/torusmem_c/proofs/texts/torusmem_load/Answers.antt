@@ -1,14 +1,13 @@
 -- Where no memory was left to hold the machine, nothing is held.
-use Rattle.std.proofs.Common.{refl, ap, ◌∙◌}
+use Rattle.std.proofs.Common.{refl, inr, ap, ◌∙◌}
 use Rattle.std.specs.Str.Lines.{lines}
 use Rattle.torus.specs.declared.fault.Fault.TheVariants as fault
-use Rattle.commands.specs.declared.fault.ProgramFault.TheVariants as program
-use Rattle.commands.specs.Rounds.{load_by}
+use Rattle.machine_texts.specs.Loading.{load_by}
 use Rattle.machine_handle.specs.Held.{held}
 use Rattle.torusmem_c.proofs.Loads.{nothing_kept}
 use Rattle.torusmem_c.proofs.texts.torusmem_load.Goals as goal
 
 pub returns-in-Err-hold : goal.returns-in-Err-hold
 returns-in-Err-hold c =
-    nothing_kept (load_by (lines c.args.machine.now) (lines c.args.scripts.now)) (held c.args.handle.now) (held c.hold.new.self) c.fault_outcome.result
-    (program.Fault fault.Memory) c.in_default.ensures.value (ap held c.in-Err-hold.ensures.unchanged ∙ c.in_default.ensures.value) refl c.fault_outcome.ensures
+    nothing_kept (load_by (lines c.args.machine.now) (lines c.args.scripts.now)) (held c.args.handle.now) (held c.hold.new.self) c.no_memory.result
+    (record { fault = fault.Memory; line = 0 }) c.in_default.ensures.value (ap held c.in-Err-hold.ensures.unchanged ∙ c.in_default.ensures.value) (inr refl) c.no_memory.ensures
