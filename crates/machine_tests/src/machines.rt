@@ -1,7 +1,7 @@
 use linked_list_allocator::LocalHeap;
 use machine_core::{Answer, Entry, Machine, Ordered};
-use packet::{Op, Reply};
 use machine_texts::load;
+use packet::{Op, Reply};
 use std::alloc::{AllocError, Allocator, Global};
 use std::test::Fail;
 use torus::{Choice, Fault, Step, Stepped, Tag};

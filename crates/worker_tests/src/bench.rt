@@ -10,9 +10,7 @@ use std::test::Fail;
 use std::thread;
 use std::thread::Threads;
 use torus::{Choice, Step};
-use worker_run::{
-    End, Fabric, Final, Gate, ProbeSeat, TileSeat, Turned, Worker, run_workers,
-};
+use worker_run::{End, Fabric, Final, Gate, ProbeSeat, TileSeat, Turned, Worker, run_workers};
 
 /// A fabric with its workers, and the seats that are no worker's.
 #[derive(Drop)]
