@@ -2,6 +2,7 @@ use linked_list_allocator::LocalHeap;
 use machine_core::{Answer, Entry, Machine, Ordered};
 use machine_texts::load;
 use packet::{Op, Reply};
+use script::{read_machine, read_scripts};
 use std::alloc::{AllocError, Allocator, Global};
 use std::test::Fail;
 use torus::{Choice, Fault, Step, Stepped, Tag};
@@ -15,6 +16,7 @@ const SQUARE: &[u8] = b"radix 8\ndims 2\ndepth 1\ntags 1\nwords 64\ninit 36 5\n"
 /// What was asked for when a call failed.
 #[derive(Clone, Copy)]
 enum Call {
+    Read,
     Load,
     Order,
 }
@@ -670,15 +672,32 @@ fn rounds_lead_where_their_steps_lead(rt: HostRuntime) -> Result<(), Fail> {
     Ok(())
 }
 
+/// Reads both texts and loads the machine, so that it is told which of them was refused.
+fn loaded<A: Allocator + Copy>(
+    alloc: A,
+    machine: &[u8],
+    scripts: &[u8],
+) -> Result<Machine<A>, (Call, Fault)> {
+    let text = match read_machine(alloc, machine) {
+        Ok(text) => text,
+        Err(fault) => return Err((Call::Read, fault.fault)),
+    };
+    let scripts = match read_scripts(alloc, scripts, &text) {
+        Ok(scripts) => scripts,
+        Err(fault) => return Err((Call::Read, fault.fault)),
+    };
+    match Machine::load(alloc, text, scripts) {
+        Ok(machine) => Ok(machine),
+        Err(fault) => Err((Call::Load, fault)),
+    }
+}
+
 /// Loads a machine on one allocator, makes rounds, and tells how many rows its order on the other has.
 fn used<A: Allocator + Copy, B: Allocator + Copy>(
     alloc: A,
     rows: B,
 ) -> Result<usize, (Call, Fault)> {
-    let mut machine = match load(alloc, PAIR, b"0 store 5 17\n0 fence\n0 load 5\n") {
-        Ok(machine) => machine,
-        Err(found) => return Err((Call::Load, found.fault)),
-    };
+    let mut machine = loaded(alloc, PAIR, b"0 store 5 17\n0 fence\n0 load 5\n")?;
     let _ = rounds(&mut machine, 1000);
     match machine.order(rows) {
         Ok(rows) => Ok(rows.len()),
