@@ -5,3 +5,4 @@ pub mod Counted
 pub mod Machines
 pub mod Moves
 pub mod Beginnings
+pub mod Deliveries

@@ -5,3 +5,4 @@ pub use Rattle.core_progress.specs.net_interface
 pub use Rattle.core_progress.specs.tile
 pub mod Core
 pub mod Reported
+pub mod Delivered

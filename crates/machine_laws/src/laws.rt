@@ -15,6 +15,7 @@ ghost use Rattle.core_progress.specs.core_laws.specs.Core.{Load, run_of, step, r
 ghost use Rattle.core_progress.specs.core_laws.specs.Runs.{IsAccepted};
 ghost use Rattle.core_progress.specs.Moves.{IsLive, moves_made, most_moves};
 ghost use Rattle.machine_laws.specs.Core.{Core, IsAfter, IsLawful, MakesMove, built_to, book_after, core_after_load, core_next, core_after, all_finished};
+ghost use Rattle.machine_laws.specs.Delivered.{DeliversInOrder};
 ghost use Rattle.machine_laws.specs.Reported.{ReportsWell};
 
 /// Of every machine that is reached, what it shows goes with its rows: its report is a good one.
@@ -32,6 +33,13 @@ pub fn order_respects_real_time()
     ensures rows { (l : Load) (c : Core) (steps : List Step) → IsAfter l c steps
         → (j k m : ℕ) (x y : Ordered) → slice_get c.book.rows j ≡ Some x → slice_get c.book.rows k ≡ Some y
         → x.answered ≡ Some m → m < y.issued → j < k }
+{}
+
+/// Packets are delivered in order: between each two tiles and of both classes, those that the
+/// receiver has whole are a beginning of those that the sender has sent there. None is invented,
+/// doubled, mixed or overtaken. What was sent is told by the load and the steps.
+pub fn packets_are_delivered()
+    ensures { (l : Load) (c : Core) (steps : List Step) → IsAfter l c steps → DeliversInOrder l steps c }
 {}
 
 /// Two machines that the same steps reach from the same load are the same: the machine that these
