@@ -18,11 +18,12 @@ use Rattle.fabric_laws.specs.machine_laws.proofs.Lawful.{lawful}
 use Rattle.fabric_laws.specs.Known.{Shows, word_after, row_length}
 use Rattle.fabric_laws.specs.View.{View}
 use Rattle.fabric_laws.specs.Groups.{In, with_groups, note}
+use Rattle.fabric_laws.specs.Rule.{Kept}
 use Rattle.fabric_laws.proofs.Ending as ending
 use Rattle.fabric_laws.proofs.Runs.{word_shown}
 use Rattle.fabric.specs.Table.{Holds}
 use Rattle.fabric.specs.Seats.{Knowing, seat_knows, Seated, IsWhole, StandsAt}
-use Rattle.fabric.specs.Ending.{Ended, ended, IsLongest, shown_after, HasAll, IsEnd}
+use Rattle.fabric.specs.Ending.{Ended, ended, IsLongest, WasLongest, shown_after, HasAll, IsEnd}
 use Rattle.fabric.proofs.Seating.{in_group}
 use Rattle.fabric.proofs.Sharing.{ends}
 use Rattle.fabric.proofs.EndsShown.{closed_tiles, slot_at}
@@ -62,6 +63,24 @@ is_end load slots s n b st v start shape first is k loaded whole e f h at base b
       opening = words ∙ ap (λ (l : Load). l.opening) (sym same);
     } in
     subst (λ (u : View). IsEnd (ended u) slots st.words start shape first) (sym f) here
+
+-- the table's last state keeps the rule, with the run of a seat that has every tile as the longest: n is the seat then
+pub was_longest : (load : Load) (slots : List (Option PlacedTile)) (s n : S) (st : State (Unit {0}) View) (v : Knowing) → seat_knows s ≡ v → Seated slots s → v.load ≡ load → IsWhole v
+    → n.me.0 ≡ with_groups s.me.0 s.me.0.groups → Holds load st → get_elem? st.views n.id ≡ some n.me.0 → WasLongest v
+was_longest load slots s n st v is k loaded whole e h at =
+    let loads : n.me.0.load ≡ v.load = ap (λ (u : View). u.load) e ∙ ap (λ (u : Knowing). u.load) is in
+    let runs : n.me.0.run ≡ v.run = ap (λ (u : View). u.run) e ∙ ap (λ (u : Knowing). u.run) is in
+    let tiles : n.me.0.groups ≡ v.tiles ∷ [] = ap (λ (u : View). u.groups) e ∙ k.one_group ∙ ap (λ (u : Knowing). u.tiles ∷ []) is in
+    let kept : Kept v.load st.words st.views h.0 = subst (λ (l : Load). Kept l st.words st.views h.0) (sym loaded) h.1 in
+    let all : (t : ℕ) → t < tiles_of v.load.shape → In n.me.0.groups t = λ t lt. subst (λ (gs : List (List ℕ)). In gs t) (sym tiles) (inl (whole t lt)) in
+    let last : h.0 ≡ v.run = sym (ending.ends v.load st.words st.views h.0 n.id n.me.0 kept at all) ∙ runs in
+    record {
+      words = st.words;
+      views = st.views;
+      kept = subst (λ (r : List Step). Kept v.load st.words st.views r) last kept;
+      own = (n.id, n.me.0, at, (loads, runs, tiles));
+      longest = λ id u there. longest v whole st.words st.views h.0 n.id id n.me.0 u kept at runs tiles there;
+    }
 
 -- the load of the seat that was told is that of the fabric
 pub same_load : (s b : S) (v : Knowing) (load : Load) → seat_knows s ≡ v → v.load ≡ load → b.me.0 ≡ note s.me.0 → row_length b.me.0.load ≡ row_length load

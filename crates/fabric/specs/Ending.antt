@@ -33,6 +33,19 @@ IsLongest k = (words : List ℕ) (views : List View) (r : List Step) (id other :
     → get_elem? views id ≡ some v → v.run ≡ k.run → v.groups ≡ k.tiles ∷ [] → get_elem? views other ≡ some u
     → Begins k.run u.run
 
+-- a view as a seat that knows k has it
+abbrev pub IsViewOf : Knowing → View → Type 0
+IsViewOf k v = (v.load ≡ k.load) × (v.run ≡ k.run) × (v.groups ≡ k.tiles ∷ [])
+
+-- There are words and views of which the rule of the row is kept, with the run that k knows as the longest: the view of k
+-- is among the views, and each view's run is a beginning of its run.
+pub record WasLongest (k : Knowing) : Type 0 where
+  pub words : List ℕ
+  pub views : List View
+  pub kept : Kept k.load words views k.run
+  pub own : (id : ℕ) × (v : View) × (get_elem? views id ≡ some v) × IsViewOf k v
+  pub longest : (id : ℕ) (u : View) → get_elem? views id ≡ some u → Begins k.run u.run
+
 -- what is shown after a run: operations issued, answers, entries of the banks, and the words by address
 abbrev pub shown_after : Load → List Step → Observed
 shown_after load run = show (length load.opening) (after load run)

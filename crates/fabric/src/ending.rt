@@ -8,7 +8,7 @@ ghost use Rattle.fabric_laws.specs.core_laws.specs.Runs.{IsAccepted};
 ghost use Rattle.fabric_laws.specs.machine_laws.specs.Core.{all_finished};
 ghost use Rattle.fabric_laws.specs.Groups.{Owns};
 ghost use Rattle.fabric.specs.Seats.{IsOf, IsWhole, StandsAt};
-ghost use Rattle.fabric.specs.Ending.{IsLongest, shown_after, slot_finished};
+ghost use Rattle.fabric.specs.Ending.{IsLongest, WasLongest, shown_after, slot_finished};
 ghost use Rattle.fabric.specs.Lawful.{HasLawfulRun};
 
 use crate::seats::{Fabric, TileSeat};
@@ -57,6 +57,7 @@ impl<A: Allocator> Fabric<A> {
         requires { IsOf self seat × IsWhole seat }
         ensures known { result ≡ record { load = seat.load; run = seat.run } }
         ensures longest { IsLongest seat }
+        ensures was_longest { WasLongest seat }
         ensures lawful { HasLawfulRun result.load result.run }
     {
         let Fabric {

@@ -2,7 +2,7 @@ use Rattle.std.proofs.Common.{arith, List, ℕ, ap, sym, ◌∙◌, subst}
 use Rattle.fabric.specs.Seats.{Knowing, Origin}
 use Rattle.fabric.specs.Ending.{ended, IsEnd}
 use Rattle.fabric.proofs.Sharing.{notes}
-use Rattle.fabric.proofs.Closing.{is_end, longest, same_load}
+use Rattle.fabric.proofs.Closing.{is_end, longest, was_longest, same_load}
 use Rattle.fabric.proofs.Meetings.{lawful_view}
 use Rattle.fabric.proofs.seats.Fabric.close.Goals as goal
 
@@ -27,6 +27,12 @@ invariant_of-result g c =
 
 pub returns-clause-longest : goal.returns-clause-longest
 returns-clause-longest g c = longest c.args.seat c.requires.1
+
+pub returns-clause-was_longest : goal.returns-clause-was_longest
+returns-clause-was_longest g c =
+    let last = c.close_with-closed.ensures.values.2 in
+    was_longest c.self.inside.table.shared.key.load c.seat.inside.slots.items c.seat.inside.seat c.split_seat-behind.new.seat last.0 c.args.seat c.seat.view_is c.seat.invariant
+    (c.requires.0.1 ∙ sym (ap (λ (k : Origin). k.load) c.self.view_is)) c.requires.1 (ap (λ m. m.0) c.split_seat-behind.ensures.2) last.1.0 last.1.1
 
 pub returns-clause-lawful : goal.returns-clause-lawful
 returns-clause-lawful g c = lawful_view c.seat.inside.seat.me.0 c.split_seat-behind.result.me.0 c.seat.invariant.placed.accepted (ap (λ m. m.0.load) c.split_seat-behind.ensures.4)
