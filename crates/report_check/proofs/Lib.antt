@@ -10,5 +10,6 @@ pub mod Standing
 pub mod Told
 pub mod Replay
 pub mod Legal
+pub mod Answered
 pub mod Progress
 pub mod Verdict

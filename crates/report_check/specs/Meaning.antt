@@ -1,9 +1,11 @@
 -- What a good report says, in the terms of one memory (this project's own format).
-use Rattle.std.specs.Prelude.{◌≡◌, ℕ, ◌<◌, List, [], ◌∷◌, length, replicate, slice_set, fold, map, flat_map, All, IfSome}
+use Rattle.std.specs.Prelude.{◌≡◌, ℕ, ◌<◌, true, List, [], ◌∷◌, ◌++◌, Some, length, replicate, slice_get, slice_set, fold, map, flat_map, All, IfSome}
 use Rattle.std.specs.List.{range_with_len}
 use Rattle.std.specs.List.Sorted.{IsStrictlyIncreasing}
 use Rattle.packet.specs.Memory.{memory_after, replies}
 use Rattle.report_lines.specs.Contents.{set_words}
+use Rattle.report_lines.specs.declared.line.EntryLine.{EntryLine}
+use Rattle.report_lines.specs.declared.line.AnswerLine.{AnswerLine}
 use Rattle.report_lines.specs.declared.line.OrderLine.{OrderLine}
 use Rattle.report_lines.specs.declared.line.ReportLine.{ReportLine}
 use Rattle.report_lines.specs.declared.line.ReportLine.TheVariants.{Header, Shape, Init, Entry, Answer, Word, Order, End}
@@ -55,3 +57,27 @@ pub record OrdersEntries (s : Seen) : Type 0 where
   pub places : (bank : ℕ) → map (λ o. o.place) (orders_at s.orders bank) ≡ range_with_len 0 (length (entries_at s.entries bank))
   pub rises : IsStrictlyIncreasing (map (λ o. o.served) s.orders)
   pub timely : All IsTimely s.orders
+
+-- the entry that an answer names: of its bank, at its place, and of its processor; with its reply
+pub record NamesEntry (s : Seen) (a : AnswerLine) : Type 0 where
+  pub entry : EntryLine
+  pub there : slice_get (entries_at s.entries a.bank) a.place ≡ Some entry
+  pub source : entry.source ≡ a.processor
+  pub reply : entry.reply ≡ a.reply
+
+-- an answer names the entry at this place of a bank
+pub record IsNamed (s : Seen) (bank place : ℕ) : Type 0 where
+  pub at : ℕ
+  pub answer : AnswerLine
+  pub there : slice_get s.answers at ≡ Some answer
+  pub bank_is : answer.bank ≡ bank
+  pub place_is : answer.place ≡ place
+
+-- each answer names an entry of its processor and has its reply, no two name one entry, and where the last line says that
+-- all is complete, each entry has its answer (Herlihy and Wing, TOPLAS 12(3), 1990: a response answers one invocation)
+pub record AnswersEntries (lines : List ReportLine) : Type 0 where
+  pub named : (i : ℕ) (a : AnswerLine) → slice_get (seen_of lines).answers i ≡ Some a → NamesEntry (seen_of lines) a
+  pub once : (i j : ℕ) (a b : AnswerLine) → slice_get (seen_of lines).answers i ≡ Some a
+      → slice_get (seen_of lines).answers j ≡ Some b → a.bank ≡ b.bank → a.place ≡ b.place → i ≡ j
+  pub complete : (before : List ReportLine) → lines ≡ before ++ End true ∷ [] → (bank place : ℕ)
+      → place < length (entries_at (seen_of lines).entries bank) → IsNamed (seen_of lines) bank place

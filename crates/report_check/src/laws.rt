@@ -4,7 +4,7 @@ ghost use Rattle.std.specs.Prelude.{◌≡◌, ◌≢◌, ℕ, List, []};
 ghost use Rattle.report_lines.specs.declared.line.ReportLine.{ReportLine};
 ghost use Rattle.report_check.specs.Seen.{seen_of};
 ghost use Rattle.report_check.specs.Good.{AreGood, FirstBad, GoodReport};
-ghost use Rattle.report_check.specs.Meaning.{EntriesReplay, OrdersEntries};
+ghost use Rattle.report_check.specs.Meaning.{EntriesReplay, OrdersEntries, AnswersEntries};
 
 /// A text has at most one first bad line, and none if it is a good report.
 pub fn one_verdict()
@@ -20,4 +20,10 @@ pub fn entries_replay()
 /// The order lines of a good report, where it has any, give one order of its entries.
 pub fn orders_are_whole()
     ensures { (lines : List ReportLine) → AreGood lines → (seen_of lines).orders ≢ [] → OrdersEntries (seen_of lines) }
+{}
+
+/// Each answer of a good report names an entry of its processor, and has its reply; no two name one
+/// entry; and where the report says that all is complete, each entry has its answer.
+pub fn answers_name_entries()
+    ensures { (lines : List ReportLine) → AreGood lines → AnswersEntries lines }
 {}
