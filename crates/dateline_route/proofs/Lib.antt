@@ -8,3 +8,4 @@ pub mod Neighbours
 pub mod Rings
 pub mod Tiles
 pub mod Walks
+mod WrongOnes

@@ -4,3 +4,4 @@ pub mod RequestWords
 pub mod WantedPorts
 pub mod EmptyChannels
 pub mod MemoryReplays
+mod WrongOnes

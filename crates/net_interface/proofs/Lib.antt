@@ -9,3 +9,4 @@ pub mod Homes
 pub mod Ended
 pub mod Values
 mod Examples
+mod WrongOnes

@@ -10,3 +10,4 @@ pub mod Shapes
 pub mod Spelled
 pub mod Told
 pub mod Words
+mod WrongOnes

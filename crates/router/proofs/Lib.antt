@@ -3,3 +3,4 @@ pub mod Ways
 pub mod WantedPorts
 pub mod Begins
 pub mod EmptyChannels
+mod WrongOnes
