@@ -71,7 +71,7 @@ check_app = with_rule (new_app (codes "check")) (needed (codes "REPORT"))
 
 -- the program, whose subcommand has to stand there
 abbrev pub top_app : App
-top_app = let app = new_app (codes "torusmem") in record app { top = record app.top { subcommand_required = true } }
+top_app = let app = new_app (codes "torusmem") in record app { top = record app.top { subcommand_required = true; has_version = true } }
 
 -- the program with the subcommands that run scripts in one thread
 abbrev pub stepping_app : App

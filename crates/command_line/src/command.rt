@@ -172,6 +172,7 @@ fn stepping_command<'a>(alloc: Global) -> Result<Command<'a>, AllocError>
 {
     Command::new(alloc, "torusmem")
         .about("A shared memory spread over a torus of tiles")
+        .version("0.1.0")
         .subcommand_required(true)
         .subcommand(steps_command(alloc)?)?
         .subcommand(round_command(alloc)?)

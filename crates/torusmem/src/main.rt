@@ -52,7 +52,8 @@ fn run<R: Env + Files + Print + Eprint + Clock + AllocGlobal + Threads + Wait + 
     match read_command(rt.alloc(), words.as_slice()) {
         Ok(job) => done(rt, &job, is_seen),
         Err(error) => {
-            let _ = eprint!(rt; "{error}");
+            // Help and the version go to standard output, and what is wrong with the words to standard error.
+            let _ = error.print(rt);
             2
         }
     }

@@ -1,0 +1,237 @@
+"""What the words of the command line ask for, as far as that is told before the program is built: help, the version,
+an unknown command, wrong words, and the names of files. The texts are those of the built program, with which
+`checks/program` compares them. Words of which this can't tell are left to the program."""
+
+from __future__ import annotations
+
+import os
+import re
+import stat
+from dataclasses import dataclass
+from typing import NoReturn
+
+HERE = os.path.dirname(os.path.realpath(__file__))
+VERSION = "torusmem 0.1.0\n"
+# The positional words of each command, and its options: the limits of a number, or None for a flag.
+COMMANDS: dict[str, tuple[list[str], dict[str, tuple[int, int] | None]]] = {
+    "steps": (["MACHINE", "SCRIPT", "STEPS"], {}),
+    "round": (["MACHINE", "SCRIPT"], {"rounds": (1, 1000000)}),
+    "run": (["MACHINE", "SCRIPT"], {"workers": (1, 16), "turns": (1, 1000000000)}),
+    "route": (["MACHINE", "SRC", "DST"], {"reply": None}),
+    "channels": (["MACHINE"], {}),
+    "check": (["REPORT"], {}),
+}
+TILES = (0, 4294967295)
+FILES = ("MACHINE", "SCRIPT", "STEPS", "REPORT")
+TRY = "\n\nFor more information, try '--help'.\n"
+
+
+@dataclass
+class Answer:
+    """What there is to say without the program: a text for standard output, or for standard error, and the status."""
+
+    text: str
+    status: int
+    is_asked_for: bool = False
+
+
+@dataclass
+class Job:
+    """A command with its words as they are given, and the places of those that name files."""
+
+    words: list[str]
+    files: list[int]
+
+
+class Wrong(Exception):
+    """The words are wrong: what the program says of them, without `error: ` and without the hint at the end."""
+
+
+class Unclear(Exception):
+    """What the program makes of the words can't be told here."""
+
+
+def help_of(name: str) -> Answer:
+    with open(f"{HERE}/help/{name}.txt", encoding="utf-8") as file:
+        return Answer(file.read(), 2, True)
+
+
+def usage_of(name: str) -> str:
+    """The usage of a command, as its help says it, or of the program where the name is empty."""
+    text = help_of(name or "torusmem").text
+    return "\n\n" + next(line for line in text.split("\n") if line.startswith("Usage: "))
+
+
+def closeness(a: str, b: str) -> float:
+    """How close two words are, from 0 to 1 (Jaro, JASA 84(406), 1989)."""
+    if a == b:
+        return 1.0
+    reach = max(max(len(a), len(b)) // 2 - 1, 0)
+    taken = [False] * len(b)
+    ours = []
+    for at, letter in enumerate(a):
+        for other in range(max(at - reach, 0), min(at + reach + 1, len(b))):
+            if b[other] == letter and not taken[other]:
+                taken[other] = True
+                ours.append(letter)
+                break
+    if not ours:
+        return 0.0
+    theirs = [letter for letter, is_taken in zip(b, taken) if is_taken]
+    swapped = sum(x != y for x, y in zip(ours, theirs)) // 2
+    found = len(ours)
+    return (found / len(a) + found / len(b) + (found - swapped) / found) / 3.0
+
+
+def similar(word: str, names: list[str]) -> list[str]:
+    """The names that are close to the word, the closest last."""
+    fits: list[tuple[float, str]] = []
+    for name in names:
+        fit = closeness(word, name)
+        if fit > 0.7:
+            fits.insert(sum(other <= fit for other, _ in fits), (fit, name))
+    return [name for _, name in fits]
+
+
+def number(text: str, shown: str, limits: tuple[int, int]) -> None:
+    """Holds the word that is given for a number to its limits."""
+    why = ""
+    if not text:
+        why = "cannot parse integer from empty string"
+    elif text[0] == "-":
+        raise Unclear
+    elif not re.fullmatch(r"\+?[0-9]+", text):
+        why = "invalid digit found in string"
+    elif int(text) >= 2**63:
+        why = "number too large to fit in target type"
+    elif not limits[0] <= int(text) <= limits[1]:
+        why = f"{text.lstrip('+')} is not in {limits[0]}..={limits[1]}"
+    if why:
+        raise Wrong(f"invalid value '{text}' for '{shown}': {why}")
+
+
+def asked(words: list[str]) -> Answer | Job | None:
+    """What the words ask for, or None where only the program can tell."""
+    if any("\udc80" <= letter <= "\udcff" for word in words for letter in word):
+        return Answer("the command line can't be read\n", 2)
+    try:
+        return top(words)
+    except Wrong as wrong:
+        return Answer(f"error: {wrong}{TRY}", 2)
+    except Unclear:
+        return None
+
+
+def top(words: list[str]) -> Answer | Job:
+    """What the words ask for."""
+    if not words:
+        names = ", ".join([*COMMANDS, "help"])
+        raise Wrong(f"'torusmem' requires a subcommand but one was not provided\n  [subcommands: {names}]{usage_of('')}")
+    first, rest = words[0], words[1:]
+    if first in ("-h", "--help"):
+        return help_of("torusmem")
+    if first in ("-V", "--version"):
+        return Answer(VERSION, 2, True)
+    if first == "help":
+        return help_on(rest)
+    if first in COMMANDS:
+        return command(first, rest)
+    if first.startswith("-"):
+        stray("", first, ["help", "version"])
+    close = similar(first, [*COMMANDS, "help"])
+    tip = ""
+    if close:
+        few = "a similar subcommand exists: " if len(close) == 1 else "some similar subcommands exist: "
+        tip = "\n\n  tip: " + few + ", ".join(f"'{name}'" for name in close)
+    raise Wrong(f"unrecognized subcommand '{first}'{tip}{usage_of('')}")
+
+
+def help_on(names: list[str]) -> Answer:
+    """The help of the command that is named."""
+    if not names:
+        return help_of("torusmem")
+    if names[0] not in [*COMMANDS, "help"]:
+        raise Wrong(f"unrecognized subcommand '{names[0]}'{usage_of('')}")
+    if len(names) > 1:
+        raise Unclear
+    return help_of(names[0])
+
+
+def command(name: str, rest: list[str]) -> Answer | Job:
+    """What the words of a command ask for."""
+    needed, options = COMMANDS[name]
+    found: list[int] = []
+    given: list[str] = []
+    at = 0
+    while at < len(rest):
+        word = rest[at]
+        at += 1
+        if word in ("-h", "--help"):
+            return help_of(name)
+        if word.startswith("-") and word != "-":
+            option, has_value, value = word[2:].partition("=")
+            if not word.startswith("--") or option not in options:
+                if given:
+                    raise Unclear
+                stray(name, word, [*options, "help"])
+            limits = options[option]
+            if limits is not None and not has_value:
+                if at == len(rest):
+                    raise Wrong(f"a value is required for '--{option} <{option}>' but none was supplied")
+                value = rest[at]
+                at += 1
+            shown = f"--{option} <{option}>" if limits else f"--{option}"
+            if limits:
+                number(value, shown, limits)
+            elif has_value:
+                raise Unclear
+            if option in given:
+                raise Wrong(f"the argument '{shown}' cannot be used multiple times{usage_of(name)}")
+            given.append(option)
+            continue
+        if len(found) == len(needed):
+            raise Wrong(f"unexpected argument '{word}' found{usage_of(name)}")
+        if needed[len(found)] not in FILES:
+            number(word, f"<{needed[len(found)]}>", TILES)
+        found.append(at - 1)
+    if len(found) < len(needed):
+        lines = "".join(f"\n  <{it}>" for it in needed[len(found) :])
+        raise Wrong(f"the following required arguments were not provided:{lines}{usage_with(name, given)}")
+    return Job([name, *rest], [1 + place for place, it in zip(found, needed) if it in FILES])
+
+
+def usage_with(name: str, used: list[str]) -> str:
+    """The usage of a command, or of the program where the name is empty, with the options that were used or meant."""
+    needed, options = COMMANDS[name] if name else (["COMMAND"], {})
+    shown = [f"--{it} <{it}>" if options.get(it) else f"--{it}" for it in used]
+    return "\n\nUsage: " + " ".join(["torusmem", *[name] * bool(name), *shown, *[f"<{it}>" for it in needed]])
+
+
+def stray(name: str, word: str, options: list[str]) -> NoReturn:
+    """Says that the command, or the program where the name is empty, has no such option."""
+    if not re.fullmatch(r"-\w|--[\w-]+", word):
+        raise Unclear
+    close = similar(word[2:], options)
+    if close:
+        raise Wrong(
+            f"unexpected argument '{word}' found\n\n  tip: a similar argument exists: '--{close[-1]}'{usage_with(name, close[-1:])}"
+        )
+    tip = f"\n\n  tip: to pass '{word}' as a value, use '-- {word}'" if name else ""
+    raise Wrong(f"unexpected argument '{word}' found{tip}{usage_of(name)}")
+
+
+def unread(job: Job) -> Answer | None:
+    """The fault of the first file that can't be read. A pipe is left to the program, which reads it once."""
+    for place in job.files:
+        name = job.words[place]
+        try:
+            kind = os.stat(name).st_mode
+            if stat.S_ISREG(kind):
+                with open(name, "rb"):
+                    pass
+            is_fine = not stat.S_ISDIR(kind)
+        except (OSError, ValueError):
+            is_fine = False
+        if not is_fine:
+            return Answer(f"cannot read {name}\n", 1)
+    return None
