@@ -4,6 +4,8 @@
      library_calls codes MACHINE SCRIPT REPORT     what calls answer of a machine that is empty or full, of what isn't
                                                    there and of short buffers; the texts are those of examples/
      library_calls memory MACHINE SCRIPT REPORT    the same run with the n-th request for memory refused, for each n
+     library_calls steps MACHINE SCRIPT            a run by drawn steps, by rounds and at once: once it is loaded, no call
+                                                   asks for memory but that of a report and its check
 
    REPORT is the report of the finished run. It is linked with -Wl,--wrap=malloc,--wrap=realloc,--wrap=free. */
 #include <inttypes.h>
@@ -22,9 +24,9 @@ typedef struct text {
 static text machine_text, script_text, report_text, written;
 static int wrongs;
 
-/* Requests for memory: how many were made, which is refused (0: none; `and_later`: with all behind it), and how many
-   blocks are live. */
-static uint64_t requests, refused;
+/* Requests for memory: how many were made, which is refused (0: none; `and_later`: with all behind it), how many blocks
+   are live, and how often a block was given back. */
+static uint64_t requests, refused, given_back;
 static bool and_later;
 static int64_t live;
 
@@ -53,6 +55,7 @@ void *__wrap_realloc(void *block, size_t size) {
 }
 
 void __wrap_free(void *block) {
+  given_back++;
   if (block) live--;
   __real_free(block);
 }
@@ -95,9 +98,9 @@ static bool reports_well(torusmem_machine *m) {
   return said.code == TORUSMEM_OK && is_text(written.bytes, (size_t)said.value, &report_text);
 }
 
-/* Whether a machine is as it was begun. */
+/* Whether a machine is as it was begun, and no block is left of a load that failed. */
 static bool is_new(const torusmem_machine *m) {
-  return !m->full && m->at == NULL;
+  return !m->full && m->at == NULL && live == 0;
 }
 
 static void every_call_says_empty(torusmem_machine *m) {
@@ -143,8 +146,27 @@ static void faults_keep_nothing(torusmem_machine *m) {
   MUST(says(load_texts(m, "radix 2 2\ndims 3\n", ""), 13, 2) && is_new(m));
   MUST(says(load_texts(m, "radix 2\ndims 1\ndateline 2\n", ""), 14, 3) && is_new(m));
   every_call_says_empty(m);
-  MUST(says(load_texts(m, two_tiles, ""), TORUSMEM_OK, 0) && says(torusmem_finished(m), TORUSMEM_OK, 1));
+  MUST(says(load_texts(m, two_tiles, ""), TORUSMEM_OK, 0) && says(torusmem_finished(m), TORUSMEM_OK, 1) && live > 0);
   torusmem_free(m);
+  MUST(!m->full && live == 0);
+}
+
+/* Two texts that overlap, that are one, and that are nowhere. The comment at the end of the machine text is, behind its
+   sign, a script. */
+static void texts_that_meet(torusmem_machine *m) {
+  static const char both[] = "radix 2\ndims 1\ndepth 4\ntags 4\nwords 8\n#0 store 5 17\n";
+  const uint8_t *machine = (const uint8_t *)both;
+  size_t length = strlen(both), before = (size_t)(strchr(both, '#') + 1 - both);
+  MUST(says(torusmem_load(m, machine, length, machine, length), 4, 1) && is_new(m));
+  MUST(says(torusmem_load(m, NULL, 0, NULL, 0), 5, 1) && is_new(m));
+  MUST(says(torusmem_load(m, NULL, 0, machine, length), 5, 1) && is_new(m));
+  MUST(says(torusmem_load(m, machine, length, machine + before, length - before), TORUSMEM_OK, 0));
+  MUST(torusmem_finish(m).code == TORUSMEM_OK && says(torusmem_word(m, 5), TORUSMEM_OK, 17));
+  torusmem_free(m);
+  MUST(!m->full && live == 0);
+  MUST(says(torusmem_load(m, machine, length, NULL, 0), TORUSMEM_OK, 0) && says(torusmem_finished(m), TORUSMEM_OK, 1));
+  torusmem_free(m);
+  MUST(!m->full && live == 0);
 }
 
 /* Of two tiles, eight words, channels of four flits: see docs/FORMATS.md. */
@@ -188,6 +210,9 @@ static void short_buffers(torusmem_machine *m) {
   MUST(route[2].kind == TORUSMEM_EJECTION && route[2].tile == 0 && route[2].number == 11);
   memset(written.bytes, 0xAA, length + 8);
   MUST(says(torusmem_report(m, written.bytes, 0), TORUSMEM_SHORT, length) && written.bytes[0] == 0xAA);
+  MUST(says(torusmem_report(m, NULL, 0), TORUSMEM_SHORT, length));
+  MUST(says(torusmem_route(m, 1, 0, TORUSMEM_REPLY, NULL, 0), TORUSMEM_SHORT, 3));
+  MUST(says(torusmem_check(NULL, 0), TORUSMEM_BAD_REPORT, 1));
   MUST(says(torusmem_report(m, written.bytes, length - 1), TORUSMEM_SHORT, length) && written.bytes[0] == 0xAA);
   MUST(says(torusmem_report(m, written.bytes, length), TORUSMEM_OK, length) && written.bytes[length] == 0xAA);
   MUST(is_text(written.bytes, length, &report_text));
@@ -211,9 +236,10 @@ static void answers_and_entries(torusmem_machine *m) {
 }
 
 static void codes(void) {
-  torusmem_machine m = TORUSMEM_MACHINE_INIT, moved = TORUSMEM_MACHINE_INIT;
+  torusmem_machine m = TORUSMEM_MACHINE_INIT, moved = TORUSMEM_MACHINE_INIT, other = TORUSMEM_MACHINE_INIT;
   every_call_says_empty(&m);
   faults_keep_nothing(&m);
+  texts_that_meet(&other);
   MUST(says(load(&m), TORUSMEM_OK, 0) && m.full);
   what_is_not_there(&m);
   MUST(says(torusmem_step(&m, 0, TORUSMEM_SEND, 99), TORUSMEM_OK, 1));
@@ -280,6 +306,77 @@ static void memory(void) {
   fprintf(stderr, "%" PRIu64 " requests for memory, each refused alone and with all behind it\n", needed);
 }
 
+/* The next number, below a limit, as in examples/golden/golden.c. */
+static uint32_t drawn(uint64_t *state, uint32_t limit) {
+  uint64_t z = *state += UINT64_C(0x9E3779B97F4A7C15);
+  z = (z ^ (z >> 30)) * UINT64_C(0xBF58476D1CE4E5B9);
+  z = (z ^ (z >> 27)) * UINT64_C(0x94D049BB133111EB);
+  return (uint32_t)((z ^ (z >> 31)) % limit);
+}
+
+/* How often memory was asked for or given back. */
+static uint64_t uses_of_memory(void) {
+  return requests + given_back;
+}
+
+/* Looks at all that a machine tells. */
+static void look(torusmem_machine *m) {
+  uint32_t tiles = (uint32_t)torusmem_tiles(m).value, words = (uint32_t)torusmem_words(m).value, at;
+  torusmem_channel route[10];
+  for (at = 0; at < words; at++) MUST(torusmem_word(m, at).code == TORUSMEM_OK);
+  for (at = 0; torusmem_row(m, at).code == TORUSMEM_OK;) at++;
+  for (uint32_t tile = 0; tile < tiles; tile++) {
+    uint64_t answers = torusmem_answers(m, tile).value, entries = torusmem_entries(m, tile).value;
+    for (at = 0; at <= answers; at++) MUST((torusmem_answer_at(m, tile, at).code == TORUSMEM_OK) == (at < answers));
+    for (at = 0; at <= entries; at++) MUST((torusmem_entry_at(m, tile, at).code == TORUSMEM_OK) == (at < entries));
+    MUST(torusmem_next(m, tile, 0, 0).code == TORUSMEM_OK);
+    MUST(torusmem_route(m, tile, 0, TORUSMEM_REQUEST, route, 10).code == TORUSMEM_OK);
+  }
+}
+
+/* The report and its check ask for memory, and give all of it back. */
+static void report_keeps_nothing(torusmem_machine *m) {
+  int64_t before = live;
+  uint64_t asked = requests;
+  torusmem_outcome said = torusmem_report(m, written.bytes, MOST_BYTES);
+  MUST(said.code == TORUSMEM_OK && requests > asked && live == before);
+  asked = requests;
+  MUST(says(torusmem_check(written.bytes, (size_t)said.value), TORUSMEM_OK, 0) && requests > asked && live == before);
+  MUST(torusmem_report(m, written.bytes, 0).code == TORUSMEM_SHORT && live == before);
+}
+
+/* A run in three ways: 10000 drawn steps, then rounds to the end; and all rounds at once. */
+static void steps(void) {
+  torusmem_machine m = TORUSMEM_MACHINE_INIT;
+  uint64_t state = 1, before, moves = 0;
+  MUST(says(load(&m), TORUSMEM_OK, 0));
+  uint32_t agents = 3 * (uint32_t)torusmem_tiles(&m).value;
+  before = uses_of_memory();
+  for (int draw = 0; draw < 10000; draw++) {
+    uint32_t agent = drawn(&state, agents), choice = drawn(&state, TORUSMEM_LOOK + 1), number = drawn(&state, 26);
+    uint64_t enabled = torusmem_enabled(&m, agent, choice, number).value;
+    MUST(says(torusmem_step(&m, agent, choice, number), TORUSMEM_OK, enabled));
+    moves += enabled;
+    if (draw % 1000 == 0) look(&m);
+  }
+  MUST(moves > 0 && uses_of_memory() == before);
+  report_keeps_nothing(&m);
+  before = uses_of_memory();
+  while (torusmem_finished(&m).value == 0 && torusmem_moves_left(&m).value > 0) torusmem_round(&m);
+  look(&m);
+  MUST(says(torusmem_finished(&m), TORUSMEM_OK, 1) && uses_of_memory() == before);
+  report_keeps_nothing(&m);
+  torusmem_free(&m);
+  MUST(!m.full && live == 0);
+  MUST(says(load(&m), TORUSMEM_OK, 0));
+  before = uses_of_memory();
+  MUST(torusmem_finish(&m).code == TORUSMEM_OK && uses_of_memory() == before);
+  look(&m);
+  MUST(uses_of_memory() == before);
+  torusmem_free(&m);
+  MUST(!m.full && live == 0);
+}
+
 static void finish(void) {
   torusmem_machine m = TORUSMEM_MACHINE_INIT;
   MUST(says(load(&m), TORUSMEM_OK, 0) && torusmem_finish(&m).code == TORUSMEM_OK);
@@ -298,6 +395,7 @@ int main(int count, char **words) {
   if (strcmp(words[1], "finish") == 0) finish();
   else if (strcmp(words[1], "codes") == 0) codes();
   else if (strcmp(words[1], "memory") == 0) memory();
+  else if (strcmp(words[1], "steps") == 0) steps();
   else return 2;
   return wrongs == 0 ? 0 : 1;
 }

@@ -1,16 +1,20 @@
 /* torusmem: a proved shared memory over a wormhole torus, as a library for simulators (C99, C++).
 
    A machine is made from the texts that the program `torusmem` reads (docs/FORMATS.md), then stepped, looked at and
-   freed. Each call is a function with a contract, and proved (docs/PROVED.md, "The library"). Nothing here prints,
-   ends the process or starts a thread, and each call ends.
+   freed. Each call is a function with a contract, and proved (docs/PROVED.md, "torusmem_c: the library for C").
+   Nothing here prints, ends the process or starts a thread, and each call ends.
+
+   MEMORY. torusmem_load takes what the machine needs, and torusmem_free gives it back; torusmem_report and
+   torusmem_check take some, and give all of it back before they return. No other call takes any.
 
    Link libtorusmem_c.a and torusmem_heap.c.
 
    WHAT THE CALLER OWES. Nothing checks it, and without it nothing that is said here holds.
    - Each `m` points to a torusmem_machine that was begun by TORUSMEM_MACHINE_INIT and since then changed by calls of
      this library alone. Its bytes may move, if they are not used in the old place again; they are never doubled.
-   - Each pointer that comes with a length points to that many readable bytes or items, writable for `out`, and to
-     nothing that the same call gets by another pointer. It isn't null, even where the length is 0.
+   - Each pointer that comes with a length points to that many readable bytes or items. Where the length is 0 it may be
+     any, also null. Texts are only read, and may overlap or be one and the same; what `out` points to is writable.
+     Neither a text nor `out` has a byte of the machine.
    - One call at a time for each machine, and all calls for it from one thread. Machines share nothing.
    - malloc, realloc and free, which torusmem_heap.c calls, are of one allocator and align each block to every power of
      two up to 16 that divides its size. No call comes from a signal handler, nor in the child that a process with
@@ -20,6 +24,7 @@
    All calls take the machine by a pointer to one that isn't const, also those that change nothing of it. */
 #ifndef TORUSMEM_H
 #define TORUSMEM_H
+#define TORUSMEM_VERSION "0.1.0"
 #include <stdbool.h>
 #include <stddef.h>
 #include <stdint.h>
@@ -100,7 +105,7 @@ void torusmem_free(torusmem_machine *m);
    OK, value 1: it was enabled and is made. OK, value 0: it was not enabled, and nothing has changed; so it is for an
    agent or a choice that there isn't, and for a choice that the agent doesn't have. EMPTY.
    number: that of the router's input for TAKE_FROM and PUT, of its output for CREDIT_OF (docs/FORMATS.md, "Channels
-   and ports"); not looked at for other choices. It takes no memory. */
+   and ports"); not looked at for other choices. */
 torusmem_outcome torusmem_step(torusmem_machine *m, uint32_t agent, uint32_t choice, uint32_t number);
 
 /* Whether torusmem_step would move now. OK, value 1 or 0; EMPTY. */
@@ -192,6 +197,38 @@ torusmem_outcome torusmem_route(torusmem_machine *m, uint32_t src, uint32_t dst,
 /* The way on of a packet for tile dst that came to tile at by this input of its router (docs/FORMATS.md, "Channels and
    ports"). OK, value: the number of the router's output; NONE: no such tile or input; EMPTY. */
 torusmem_outcome torusmem_next(torusmem_machine *m, uint32_t at, uint32_t input, uint32_t dst);
+
+/* The library's own calls take no null pointer. So a C program that calls one of the four below has a call in front of
+   it, by which a pointer with the length 0 becomes one to a byte, or a channel, that is not looked at. */
+static inline const uint8_t *torusmem_text_at(const uint8_t *at, size_t length) {
+  static const uint8_t none = 0;
+  return length > 0 ? at : &none;
+}
+
+static inline torusmem_outcome torusmem_load_texts(torusmem_machine *m, const uint8_t *machine, size_t machine_length,
+                                                   const uint8_t *scripts, size_t scripts_length) {
+  return torusmem_load(m, torusmem_text_at(machine, machine_length), machine_length,
+                       torusmem_text_at(scripts, scripts_length), scripts_length);
+}
+#define torusmem_load torusmem_load_texts
+
+static inline torusmem_outcome torusmem_report_into(torusmem_machine *m, uint8_t *out, size_t out_length) {
+  uint8_t none = 0;
+  return torusmem_report(m, out_length > 0 ? out : &none, out_length);
+}
+#define torusmem_report torusmem_report_into
+
+static inline torusmem_outcome torusmem_check_text(const uint8_t *report, size_t report_length) {
+  return torusmem_check(torusmem_text_at(report, report_length), report_length);
+}
+#define torusmem_check torusmem_check_text
+
+static inline torusmem_outcome torusmem_route_into(torusmem_machine *m, uint32_t src, uint32_t dst, uint32_t reply,
+                                                   torusmem_channel *out, size_t out_length) {
+  torusmem_channel none = { 0, 0, 0, 0, 0, 0 };
+  return torusmem_route(m, src, dst, reply, out_length > 0 ? out : &none, out_length);
+}
+#define torusmem_route torusmem_route_into
 
 #ifdef __cplusplus
 }

@@ -1,5 +1,5 @@
-//! The C interface of torusmem, as include/torusmem.h declares it and says what each call does. The crate `torusmem`
-//! is the one to use.
+//! The C interface of torusmem, as include/torusmem.h declares it and says what each call does. These are the library's
+//! own calls, which take no null pointer, also where a length is 0. The crate `torusmem` is the one to use.
 #![no_std]
 #![allow(non_camel_case_types)]
 

@@ -1,13 +1,32 @@
 //! The calls of the C library, one method each. All that is unsafe stands here.
 //!
 //! What a caller owes is what include/torusmem.h says: a machine that began as zeros, was changed by calls alone, isn't
-//! doubled, goes to one call at a time, and stays on one thread; and for each pointer, which isn't null, as much behind
-//! it as the length says, and nothing that the same call gets by another one. The machine is a private field behind a
-//! `&mut`, and has a raw pointer, so that it is neither `Send` nor `Sync`; pointers with their lengths come from slices,
-//! whose pointers are never null.
+//! doubled, goes to one call at a time, and stays on one thread; and for each pointer as much behind it as the length
+//! says, where what is written is nobody else's and what is read may overlap. The machine is a private field behind a
+//! `&mut`, and has a raw pointer, so that it is neither `Send` nor `Sync`; pointers with their lengths come from slices.
+//! The library's own calls, which these are, take no null pointer. That of an empty slice becomes one to a byte, or a
+//! channel, that is there, as in the header.
 use torusmem_sys::*;
 
 pub struct Raw(torusmem_machine);
+
+/// The pointer of a slice; of an empty one that of a byte.
+fn text_at(text: &[u8]) -> *const u8 {
+    if text.is_empty() {
+        &0
+    } else {
+        text.as_ptr()
+    }
+}
+
+/// The pointer of a buffer; of an empty one that of an item in its place.
+fn buffer_at<T>(out: &mut [T], none: &mut T) -> *mut T {
+    if out.is_empty() {
+        none
+    } else {
+        out.as_mut_ptr()
+    }
+}
 
 impl Drop for Raw {
     fn drop(&mut self) {
@@ -32,8 +51,8 @@ impl Raw {
     }
 
     pub fn load(&mut self, machine: &[u8], scripts: &[u8]) -> torusmem_outcome {
-        // SAFETY: the machine is this one's alone; each slice has as many bytes as it says, also where it is empty.
-        unsafe { torusmem_load(&mut self.0, machine.as_ptr(), machine.len(), scripts.as_ptr(), scripts.len()) }
+        // SAFETY: the machine is this one's alone; each slice has as many bytes as it says, and is only read.
+        unsafe { torusmem_load(&mut self.0, text_at(machine), machine.len(), text_at(scripts), scripts.len()) }
     }
 
     calls! {
@@ -56,16 +75,18 @@ impl Raw {
 
     pub fn report(&mut self, out: &mut [u8]) -> torusmem_outcome {
         // SAFETY: the machine is this one's alone, and so is the slice, which has as many bytes as it says.
-        unsafe { torusmem_report(&mut self.0, out.as_mut_ptr(), out.len()) }
+        unsafe { torusmem_report(&mut self.0, buffer_at(out, &mut 0), out.len()) }
     }
 
     pub fn route(&mut self, src: u32, dst: u32, reply: u32, out: &mut [torusmem_channel]) -> torusmem_outcome {
+        let mut none = torusmem_channel::default();
+        let at = buffer_at(out, &mut none);
         // SAFETY: the machine is this one's alone, and so is the slice, which has as many channels as it says.
-        unsafe { torusmem_route(&mut self.0, src, dst, reply, out.as_mut_ptr(), out.len()) }
+        unsafe { torusmem_route(&mut self.0, src, dst, reply, at, out.len()) }
     }
 }
 
 pub fn check(report: &[u8]) -> torusmem_outcome {
     // SAFETY: the slice has as many bytes as it says. There is no machine.
-    unsafe { torusmem_check(report.as_ptr(), report.len()) }
+    unsafe { torusmem_check(text_at(report), report.len()) }
 }

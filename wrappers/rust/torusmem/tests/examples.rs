@@ -203,6 +203,17 @@ fn faults_of_texts() {
 }
 
 #[test]
+fn texts_may_overlap() {
+    let both = b"radix 2\ndims 1\ndepth 4\ntags 4\nwords 8\n#0 store 5 17\n";
+    let script = both.iter().position(|&byte| byte == b'#').expect("a comment") + 1;
+    let mut machine = Machine::load(both, &both[script..]).expect("the text is loaded");
+    machine.finish();
+    assert_eq!(machine.word(5), Some(17));
+    assert_eq!(Machine::load(both, both).expect_err("a fault"), Fault::Text { fault: 4, line: 1 });
+    assert!(Machine::load(both, &both[..0]).is_ok_and(|mut machine| machine.finished()));
+}
+
+#[test]
 fn reports_are_judged() {
     for name in
         ["examples/report.txt", "examples/flag/report.txt", "examples/flag/unfinished.txt", "examples/trace.txt"]
