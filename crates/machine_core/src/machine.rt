@@ -241,7 +241,7 @@ impl<A: Allocator> Machine<A> {
     pub fn moves_left(&self) -> u64
         ensures value { result ≡ self.now.moves_left }
         ensures law { (l : Load) (steps : List Step) → IsAfter l self.now steps → result ≡ moves_left l steps (length steps) }
-        ensures exact { (more : List Step) → moves_in (step (built_to self.now)) self.now.state more ≤ result }
+        ensures most { (more : List Step) → moves_in (step (built_to self.now)) self.now.state more ≤ result }
     {
         self.left
     }

@@ -1,26 +1,9 @@
--- A table of values, a write in a list of lists, and the words of all banks by address.
-use Rattle.std.proofs.Common.{◌≡◌, ◌≢◌, ◌⊎◌, inl, inr, ⊎_elim, ℕ, zero, suc, ◌+◌, ◌*◌, ◌/◌, ◌%◌, ◌<◌, ◌≤◌, List, [], ◌∷◌, ◌++◌, length, map, Some, refl, sym, ◌∙◌, ap, subst, arith, slice_get, slice_set, slice_index, set, get_or, get_or-set_same, get_or-set_other, length-set, unwrap_or}
+-- A write in a list of lists.
+use Rattle.std.proofs.Common.{◌≡◌, ◌⊎◌, inl, inr, ⊎_elim, ℕ, ◌<◌, ◌≤◌, List, [], length, Some, sym, ◌∙◌, ap, subst, slice_get, slice_set, set, get_or-set_same, get_or-set_other, length-set}
 use Rattle.std.proofs.lemmas.Bool.{cases_eq, cases_lt}
-use Rattle.std.proofs.lemmas.List.{set_past, map_push, length_push, get_or_append_left, get_or_push, ext_get_or}
-use Rattle.std.proofs.lemmas.Option.{get_or_from_slice_get, unwrap_or-slice_get}
-use Rattle.std.proofs.Math.Nat.{div-add-mod}
-use Rattle.runs.specs.Observed.{list_at, tabulate, words_by_address}
+use Rattle.std.proofs.lemmas.List.{set_past}
+use Rattle.runs.specs.Observed.{list_at}
 use Rattle.runs.proofs.Lists.{get_set_same, get_set_other}
-
-pub length-tabulate : {A : Type 0} (f : ℕ → A) (n : ℕ) → length (tabulate f n) ≡ n
-length-tabulate f zero = refl
-length-tabulate f (suc n) = let e = length-tabulate f n in let g = length_push (tabulate f n) (f n) in omega arith
-
-pub get_or-tabulate : {A : Type 0} (f : ℕ → A) (n k : ℕ) (d : A) → k < n → get_or (tabulate f n) k d ≡ f k
-get_or-tabulate f zero k d h = absurd (omega arith)
-get_or-tabulate f (suc n) k d h = let len = length-tabulate f n in ⊎_elim
-    (λ (l : k < n). get_or_append_left (tabulate f n) (f n ∷ []) d k (omega arith) ∙ get_or-tabulate f n k d l)
-    (λ (g : n ≤ k). let e : k ≡ n = omega arith in rw e (get_or_push (tabulate f n) (f n) d n len))
-    (cases_lt k n)
-
-pub map-tabulate : {A B : Type 0} (g : A → B) (f : ℕ → A) (n : ℕ) → map g (tabulate f n) ≡ tabulate (λ k. g (f k)) n
-map-tabulate g f zero = refl
-map-tabulate g f (suc n) = map_push g (tabulate f n) (f n) ∙ ap (λ xs. xs ++ g (f n) ∷ []) (map-tabulate g f n)
 
 -- a write in a list of lists
 abbrev pub put : {A : Type 0} → List (List A) → ℕ → ℕ → A → List (List A)
@@ -65,30 +48,3 @@ length_list_at_put xss p k v q = ⊎_elim
     (cases_lt p (length xss)))
     (λ other. ap length (get_or-set_other xss p q (set (list_at xss p) k v) [] other))
     (cases_eq q p)
-
--- addresses with one quotient and one remainder are one
-pub one_address : (n a c : ℕ) → c % n ≡ a % n → c / n ≡ a / n → c ≡ a
-one_address n a c same_bank same_word = sym (div-add-mod c n) ∙ (ap (λ q. n * q + c % n) same_word ∙ (ap (λ r. n * (a / n) + r) same_bank ∙ div-add-mod a n))
-
--- the word of an address
-pub word_at : (n m : ℕ) (banks : List (List ℕ)) (a : ℕ) → a < m → slice_index (words_by_address n m banks) a ≡ slice_index (list_at banks (a % n)) (a / n)
-word_at n m banks a h = get_or-tabulate (λ c. slice_index (list_at banks (c % n)) (c / n)) m a 0 h
-
-word_other : (n : ℕ) (banks : List (List ℕ)) (a v c : ℕ) → c ≢ a → slice_index (list_at (put banks (a % n) (a / n) v) (c % n)) (c / n) ≡ slice_index (list_at banks (c % n)) (c / n)
-word_other n banks a v c other =
-    let e = put_other banks (a % n) (a / n) v (c % n) (c / n) (λ b w. other (one_address n a c b w)) in
-    sym (unwrap_or-slice_get (list_at (put banks (a % n) (a / n) v) (c % n)) (c / n) 0) ∙ (ap (λ o. unwrap_or o 0) e ∙ unwrap_or-slice_get (list_at banks (c % n)) (c / n) 0)
-
--- a write of one bank's word is the write of the one memory
-pub words_by_address_put : (n m : ℕ) (banks : List (List ℕ)) (a v : ℕ) → a < m → a % n < length banks → a / n < length (list_at banks (a % n)) →
-    words_by_address n m (put banks (a % n) (a / n) v) ≡ slice_set (words_by_address n m banks) a v
-words_by_address_put n m banks a v h bank word =
-    let len = length-tabulate (λ c. slice_index (list_at (put banks (a % n) (a / n) v) (c % n)) (c / n)) m in
-    let old = length-tabulate (λ c. slice_index (list_at banks (c % n)) (c / n)) m in
-    let set_len = length-set (words_by_address n m banks) a v in
-    ext_get_or 0 _ _ (omega arith) (λ c l.
-    let below : c < m = omega arith in
-    word_at n m (put banks (a % n) (a / n) v) c below ∙ ⊎_elim
-    (λ (same : c ≡ a). rw same (get_or_from_slice_get _ (a / n) v 0 (put_new banks (a % n) (a / n) v bank word) ∙ sym (get_or-set_same (words_by_address n m banks) a v 0 (omega arith))))
-    (λ other. word_other n banks a v c other ∙ (sym (word_at n m banks c below) ∙ sym (get_or-set_other (words_by_address n m banks) a c v 0 other)))
-    (cases_eq c a))

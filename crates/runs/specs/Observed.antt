@@ -64,17 +64,6 @@ total (xs ∷ xss) = length xs + total xss
 abbrev pub event_count : Observed → ℕ
 event_count s = total s.issued + total s.entries + total s.answers
 
--- the first n values of f
-abbrev pub tabulate : {A : Type 0} → (ℕ → A) → ℕ → List A
-tabulate f zero = []
-tabulate f (suc n) = tabulate f n ++ f n ∷ []
-
--- the first m words by address, of the words of each bank: low-order interleaving puts address a in bank a mod N,
--- as its word a div N (Dally and Towles, Principles and Practices of Interconnection Networks, chapter 3; this
--- project's own format)
-abbrev pub words_by_address : ℕ → ℕ → List (List ℕ) → List ℕ
-words_by_address tiles m banks = tabulate (λ a. slice_index (list_at banks (a % tiles)) (a / tiles)) m
-
 -- what is shown is of a machine with so many tiles, tags a processor and words: a list for each processor and each
 -- bank, addresses of the memory, tags that a processor has (this project's own format)
 pub record IsOfMachine (tiles tags words : ℕ) (s : Observed) : Type 0 where

@@ -12,6 +12,6 @@ returns g c =
     record {
       value = value;
       law = λ l steps h. value ∙ h.moves;
-      exact = λ more. subst (λ (x : Core). moves_in (step (built_to x)) x.state more ≤ c.self.inside.left) c.self.view_is
+      most = λ more. subst (λ (x : Core). moves_in (step (built_to x)) x.state more ≤ c.self.inside.left) c.self.view_is
           (most_left c.self.invariant.load (core_of c.self.inside) c.self.invariant.steps c.self.invariant.after more);
     }
