@@ -1,0 +1,70 @@
+-- Between a beginning that is linearizable and one that isn't.
+use Rattle.std.proofs.Common.{◌≡◌, ⊎_elim, ℕ, ◌+◌, ◌<◌, ◌≤◌, List, [], length, subst, arith, take}
+use Rattle.std.proofs.lemmas.Bool.{cases_lt}
+use Rattle.std.proofs.lemmas.List.{take_all}
+use Rattle.trace_order.specs.declared.event.Event.{Event}
+use Rattle.trace_order.specs.declared.event.Event.TheVariants.{Issue, Answer}
+use Rattle.trace_order.specs.Traces.{IsTrace}
+use Rattle.trace_order.specs.Orders.{IsLinearizable}
+use Rattle.trace_order.proofs.Lists.{get_take, take_get}
+use Rattle.trace_order.proofs.Legal.{legal_none, legal_all}
+
+-- a beginning of a trace is one
+pub trace_take : (words n : ℕ) (trace : List Event) → IsTrace words trace → IsTrace words (take n trace)
+trace_take words n trace t = record {
+  rising = λ i j a b l h k. t.rising i j a b l (take_get n trace i (Issue a) h).1 (take_get n trace j (Issue b) k).1;
+  issued = λ j id reply h.
+      let at = take_get n trace j (Answer id reply) h in
+      let low = at.0 in
+      let r = t.issued j id reply at.1 in
+      let l = r.2 in
+      (r.0, r.1, l, r.3, get_take n trace r.0 (Issue r.1) (omega arith) r.4);
+  once = λ i j id r s h k. t.once i j id r s (take_get n trace i (Answer id r) h).1
+      (take_get n trace j (Answer id s) k).1;
+  inside = λ i call h. t.inside i call (take_get n trace i (Issue call) h).1;
+}
+
+-- nothing is linearizable
+pub none_linearizable : (opening : List ℕ) → IsLinearizable opening []
+none_linearizable opening = ([], legal_all opening [] 0 [] (omega arith) (legal_none opening []))
+
+pub record Boundary (opening : List ℕ) (trace : List Event) (good bad : ℕ) : Type 0 where
+  pub apart : good < bad
+  pub within : bad ≤ length trace
+  pub before : IsLinearizable opening (take good trace)
+  pub behind : IsLinearizable opening (take bad trace) → ⊥
+
+pub boundary_whole : (opening : List ℕ) (trace : List Event) → (IsLinearizable opening trace → ⊥)
+    → Boundary opening trace 0 (length trace)
+boundary_whole opening trace not_so = record {
+  apart = ⊎_elim {C = 0 < length trace}
+      (λ (l : 0 < length trace). l)
+      (λ (g : length trace ≤ 0). absurd
+      (not_so (subst (λ (t : List Event). IsLinearizable opening t) (take_all 0 trace g)
+      (none_linearizable opening))))
+      (cases_lt 0 (length trace));
+  within = omega arith;
+  before = none_linearizable opening;
+  behind = λ is. not_so
+      (subst (λ (t : List Event). IsLinearizable opening t) (take_all (length trace) trace (omega arith)) is);
+}
+
+pub boundary_good : (opening : List ℕ) (trace : List Event) (good bad middle : ℕ) → middle < bad
+    → IsLinearizable opening (take middle trace) → Boundary opening trace good bad
+    → Boundary opening trace middle bad
+boundary_good opening trace good bad middle l is was = record { apart = l; within = was.within; before = is; behind = was.behind }
+
+pub boundary_bad : (opening : List ℕ) (trace : List Event) (good bad middle : ℕ) → good < middle → middle ≤ bad
+    → (IsLinearizable opening (take middle trace) → ⊥) → Boundary opening trace good bad
+    → Boundary opening trace good middle
+boundary_bad opening trace good bad middle l m not_so was = record { apart = l; within = let w = was.within in omega arith; before = was.before; behind = not_so }
+
+pub boundary_found : (opening : List ℕ) (trace : List Event) (good bad : ℕ) → bad ≤ good + 1
+    → Boundary opening trace good bad
+    → (good < length trace) × IsLinearizable opening (take good trace) ×
+    (IsLinearizable opening (take (good + 1) trace) → ⊥)
+boundary_found opening trace good bad l was =
+    let a = was.apart in
+    let w = was.within in
+    let e : bad ≡ good + 1 = omega arith in
+    (omega arith, was.before, subst (λ (n : ℕ). IsLinearizable opening (take n trace) → ⊥) e was.behind)

@@ -1,0 +1,154 @@
+//! The decision, with an order or with the first event that has none.
+
+ghost use Rattle.std.specs.Prelude.{◌≡◌, ◌<◌, ◌+◌, ℕ, List, true, false, replicate, IfOk, MatchOption, length, Some};
+ghost use Rattle.trace_order.specs.Traces.{IsTrace};
+ghost use Rattle.trace_order.specs.Orders.{IsOrder, IsLinearizable};
+ghost use Rattle.trace_search.specs.Searches.{IsTrail, order_of};
+ghost use Rattle.trace_judge.specs.Searched.{Holds};
+ghost use Rattle.trace_judge.specs.Verdicts.{Tells};
+ghost use Rattle.trace_judge.specs.Marks.{AreNodes, IsBelow, AreMarked, ArePicked};
+ghost use Rattle.trace_judge.specs.Sets.{sets_of};
+
+use crate::search::{Search, start};
+use crate::undecided::Undecided;
+use std::alloc::{AllocError, Allocator};
+use trace_order::{Call, Event};
+use trace_search::Node;
+
+/// What a trace is judged to be.
+#[derive(Drop)]
+pub enum Verdict<A: Allocator> {
+    /// It is linearizable, in this order.
+    Linearizable(Vec<Call, A>),
+    /// It isn't, from this event on, counted from 0: what comes before the event is, and with it no
+    /// order explains the trace any more.
+    No { event: usize },
+}
+
+/// Goes through the events, as long as each word has a branch.
+fn run<A: Allocator + Copy>(
+    alloc: A,
+    opening: &[u64],
+    events: &[Event],
+    bound: usize,
+) -> Result<Option<Search<A>>, Undecided>
+    requires { IsTrace (length opening.now) events.now }
+    ensures { IfOk result (λ found. MatchOption found
+        (IsLinearizable opening.now events.now → ⊥)
+        (λ search. Holds opening.now events.now (length events.now) search)) }
+{
+    let mut search = start(alloc, opening, events)?;
+    for k in 0..events.len() {
+        if !search.step(alloc, opening, events, k, bound)? {
+            return Ok(None);
+        }
+    }
+    Ok(Some(search))
+}
+
+/// Marks the nodes on the way back from one.
+fn mark(marks: &mut [bool], nodes: &[Node], last: Option<usize>)
+    requires sized { length marks.old ≡ length nodes.now }
+    requires back { AreNodes nodes.now }
+    requires below { IsBelow nodes.now last }
+    ensures { (trail : List ℕ) × IsTrail nodes.now last trail × AreMarked marks.old trail marks.new }
+{
+    let mut next = last;
+    while let Some(i) = next {
+        marks[i] = true;
+        next = nodes[i].before;
+    }
+}
+
+/// No marks.
+fn no_marks<A: Allocator + Copy>(alloc: A, count: usize) -> Result<Vec<bool, A>, AllocError>
+    ensures { IfOk result (λ v. v.items ≡ replicate count false) }
+{
+    vec![in alloc; false; count]
+}
+
+/// Marks the nodes on the way to the first branch of each word.
+fn mark_all<A: Allocator + Copy>(
+    alloc: A,
+    search: &Search<A>,
+    opening: &[u64],
+    events: &[Event],
+) -> Result<Vec<bool, A>, AllocError>
+    requires { Holds opening.now events.now (length events.now) search.now }
+    ensures { IfOk result (λ v. ArePicked (length opening.now) (sets_of search.now.words.items)
+        search.now.nodes.items v.items) }
+{
+    let mut marks = no_marks(alloc, search.nodes.len())?;
+    for word in 0..search.words.len() {
+        let branches = &search.words[word];
+        mark(&mut marks, &search.nodes, branches[0].trail);
+    }
+    Ok(marks)
+}
+
+/// The operations of the marked nodes.
+fn collect<A: Allocator + Copy>(
+    alloc: A,
+    nodes: &[Node],
+    marks: &[bool],
+) -> Result<Vec<Call, A>, AllocError>
+    requires { length marks.now ≡ length nodes.now }
+    ensures { IfOk result (λ v. v.items ≡ order_of nodes.now marks.now) }
+{
+    let mut order = Vec::new(alloc);
+    for i in 0..nodes.len() {
+        if marks[i] {
+            order.push(nodes[i].call)?;
+        }
+    }
+    Ok(order)
+}
+
+/// An order that explains the trace, if there is one, found with at most so many configurations of a
+/// word at once. An `Err` says nothing of the trace.
+pub fn decide<A: Allocator + Copy>(
+    alloc: A,
+    opening: &[u64],
+    events: &[Event],
+    bound: usize,
+) -> Result<Option<Vec<Call, A>>, Undecided>
+    requires { IsTrace (length opening.now) events.now }
+    ensures { IfOk result (λ found. MatchOption found
+        (IsLinearizable opening.now events.now → ⊥)
+        (λ order. IsOrder opening.now events.now order.items)) }
+{
+    let Some(search) = run(alloc, opening, events, bound)? else {
+        return Ok(None);
+    };
+    let marks = mark_all(alloc, &search, opening, events)?;
+    let order = collect(alloc, &search.nodes, &marks)?;
+    Ok(Some(order))
+}
+
+/// Judges a trace over a memory that opens with these words, with at most so many configurations
+/// of a word at once: an order that explains it, or the first event up to which none does.
+/// An `Err` says nothing of the trace.
+pub fn judge<A: Allocator + Copy>(
+    alloc: A,
+    opening: &[u64],
+    events: &[Event],
+    bound: usize,
+) -> Result<Verdict<A>, Undecided>
+    requires { IsTrace (length opening.now) events.now }
+    ensures { IfOk result (λ verdict. Tells opening.now events.now verdict) }
+{
+    if let Some(order) = decide(alloc, opening, events, bound)? {
+        return Ok(Verdict::Linearizable(order));
+    }
+    let mut good = 0;
+    let mut bad = events.len();
+    while good + 1 < bad {
+        let middle = good + (bad - good) / 2;
+        if decide(alloc, opening, &events[..middle], bound)?.is_some() {
+            good = middle;
+        } else {
+            bad = middle;
+        }
+    }
+    Ok(Verdict::No { event: good })
+}

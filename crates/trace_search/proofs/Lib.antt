@@ -1,0 +1,6 @@
+pub mod Bits
+pub mod Table
+pub mod Fits
+pub mod Sound
+pub mod Complete
+pub mod Start

@@ -1,0 +1,137 @@
+-- The open operations of a trace, in the slots of a table.
+use Rattle.std.proofs.Common.{◌≡◌, ◌≢◌, inl, inr, ⊎_elim, ℕ, suc, ◌<◌, List, Option, Some, None, sym, ◌∙◌, ap, subst, arith, slice_get, set, length-set}
+use Rattle.std.proofs.lemmas.Bool.{cases_eq}
+use Rattle.packet.specs.declared.kinds.Reply.{Reply}
+use Rattle.trace_order.specs.declared.event.Call.{Call}
+use Rattle.trace_order.specs.declared.event.Event.{Event}
+use Rattle.trace_order.specs.declared.event.Event.TheVariants.{Issue, Answer}
+use Rattle.trace_search.specs.declared.opened.Open.{Open}
+use Rattle.trace_order.specs.Traces.{IsTrace, IsIssuedAt, IsAnsweredAt}
+use Rattle.trace_order.proofs.Lists.{get_within, get_set_same, set_get_same, get_set_other}
+use Rattle.trace_order.proofs.Issues.{one_issue}
+use Rattle.trace_search.specs.Searches.{IsAt, IsPending, IsTable}
+
+pub at_within : (trace : List Event) (k : ℕ) (table : List (Option Open)) (s : ℕ) (o : Open)
+    → IsTable trace k table → IsAt table s o → s < 64
+at_within trace k table s o t h = let l = get_within table s (Some o) h in let m = t.slots in omega arith
+
+-- the next event issues an operation, which takes a free slot
+pub table_issue : (words : ℕ) (trace : List Event) (k : ℕ) (table : List (Option Open)) (s : ℕ) (b : Open)
+    → IsTrace words trace → IsIssuedAt trace k b.call
+    → slice_get table s ≡ Some None → IsPending trace (suc k) b → IsTable trace k table
+    → IsTable trace (suc k) (set table s (Some b))
+table_issue words trace k table s b t now free new is = record {
+  slots = let e = length-set table s (Some b) in let l = is.slots in omega arith;
+  pending = λ u o h. ⊎_elim
+      (λ (e : u ≡ s). subst (λ (q : Open). IsPending trace (suc k) q) (sym (new_one u o e h)) new)
+      (λ (ne : u ≢ s). later o (is.pending u o (old u o ne h)))
+      (cases_eq u s);
+  distinct = λ u v o p h m same. ⊎_elim
+      (λ (eu : u ≡ s). ⊎_elim
+      (λ (ev : v ≡ s). eu ∙ sym ev)
+      (λ (nv : v ≢ s). absurd
+      (apart p (is.pending v p (old v p nv m)) (ap (λ (q : Open). q.call.id) (sym (new_one u o eu h)) ∙ same)))
+      (cases_eq v s))
+      (λ (nu : u ≢ s). ⊎_elim
+      (λ (ev : v ≡ s). absurd
+      (apart o (is.pending u o (old u o nu h)) (ap (λ (q : Open). q.call.id) (sym (new_one v p ev m)) ∙ sym same)))
+      (λ (nv : v ≢ s). is.distinct u v o p (old u o nu h) (old v p nv m) same)
+      (cases_eq v s))
+      (cases_eq u s);
+  known = λ i call l h. ⊎_elim
+      (λ (e : i ≡ k).
+      let there : slice_get trace i ≡ Some (Issue b.call) = ap (λ (n : ℕ). slice_get trace n) e ∙ now in
+      let same : b.call ≡ call = cc in
+      inr (s, b, set_get_same table s None (Some b) free, same))
+      (λ (ne : i ≢ k). ⊎_elim
+      (λ r. inl (r.0, r.1, omega arith, r.3))
+      (λ (r : (u : ℕ) × (o : Open) × IsAt table u o × (o.call ≡ call)). inr
+      (r.0, r.1, get_set_other table s r.0 (Some b) (taken r.0 r.1 r.2) ∙ r.2, r.3))
+      (is.known i call (omega arith) h))
+      (cases_eq i k);
+}
+  where
+    new_one : (u : ℕ) (o : Open) → u ≡ s → IsAt (set table s (Some b)) u o → o ≡ b
+    new_one u o e h =
+        let same : Some o ≡ Some b = get_set_same table s None (Some b) (Some o) free
+        (ap (λ (n : ℕ). slice_get (set table s (Some b)) n) (sym e) ∙ h) in
+        cc
+
+    old : (u : ℕ) (o : Open) → u ≢ s → IsAt (set table s (Some b)) u o → IsAt table u o
+    old u o ne h = sym (get_set_other table s u (Some b) ne) ∙ h
+
+    taken : (u : ℕ) (o : Open) → IsAt table u o → u ≢ s
+    taken u o h e = let there : slice_get table s ≡ Some (Some o) = ap (λ (n : ℕ). slice_get table n) (sym e)
+        ∙ h in cc
+
+    apart : (o : Open) → IsPending trace k o → b.call.id ≡ o.call.id → ⊥
+    apart o p e =
+        let same = one_issue words trace t k p.at b.call o.call now p.issue e in
+        let early = p.early in
+        omega arith
+
+    later : (o : Open) → IsPending trace k o → IsPending trace (suc k) o
+    later o p = record {
+      at = p.at;
+      early = let e = p.early in omega arith;
+      issue = p.issue;
+      unanswered = λ i reply h. ⊎_elim
+          (λ (e : i ≡ k). absurd
+          (let there : slice_get trace i ≡ Some (Issue b.call) = ap (λ (n : ℕ). slice_get trace n) e ∙ now in cc))
+          (λ (ne : i ≢ k). let l = p.unanswered i reply h in omega arith)
+          (cases_eq i k);
+      kept = p.kept;
+      honest = p.honest;
+    }
+
+-- the next event answers the operation in slot s
+pub table_answer : (trace : List Event) (k : ℕ) (table : List (Option Open)) (s : ℕ) (a : Open) (reply : Reply)
+    → IsAnsweredAt trace k a.call.id reply
+    → IsAt table s a → IsTable trace k table → IsTable trace (suc k) (set table s None)
+table_answer trace k table s a reply now there is = record {
+  slots = let e = length-set table s None in let l = is.slots in omega arith;
+  pending = λ u o h. let p = is.pending u o (old u o h) in record {
+    at = p.at;
+    early = let e = p.early in omega arith;
+    issue = p.issue;
+    unanswered = λ i told m. ⊎_elim
+        (λ (e : i ≡ k).
+        let at : slice_get trace i ≡ Some (Answer a.call.id reply) = ap (λ (n : ℕ). slice_get trace n) e ∙ now in
+        let same : a.call.id ≡ o.call.id = cc in
+        absurd (other u o h (is.distinct u s o a (old u o h) there (sym same))))
+        (λ (ne : i ≢ k). let l = p.unanswered i told m in omega arith)
+        (cases_eq i k);
+    kept = p.kept;
+    honest = p.honest;
+  };
+  distinct = λ u v o p h m same. is.distinct u v o p (old u o h) (old v p m) same;
+  known = λ i call l h. ⊎_elim
+      (λ (e : i ≡ k). absurd
+      (let at : slice_get trace k ≡ Some (Issue call) = ap (λ (n : ℕ). slice_get trace n) (sym e) ∙ h in cc))
+      (λ (ne : i ≢ k). ⊎_elim
+      (λ r. inl (r.0, r.1, omega arith, r.3))
+      (λ (r : (u : ℕ) × (o : Open) × IsAt table u o × (o.call ≡ call)). ⊎_elim
+      (λ (e : r.0 ≡ s).
+      let here : slice_get table s ≡ Some (Some r.1) = ap (λ (n : ℕ). slice_get table n) (sym e) ∙ r.2 in
+      let same : a ≡ r.1 = cc in
+      inl (
+        k,
+        reply,
+        omega arith,
+        subst (λ (c : Call). IsAnsweredAt trace k c.id reply)
+            (ap (λ (q : Open). q.call) same ∙ r.3) now,
+      ))
+      (λ (nu : r.0 ≢ s). inr (r.0, r.1, get_set_other table s r.0 None nu ∙ r.2, r.3))
+      (cases_eq r.0 s))
+      (is.known i call (omega arith) h))
+      (cases_eq i k);
+}
+  where
+    other : (u : ℕ) (o : Open) → IsAt (set table s None) u o → u ≢ s
+    other u o h e =
+        let same : Some o ≡ None = get_set_same table s (Some a) None (Some o) there
+        (ap (λ (n : ℕ). slice_get (set table s None) n) (sym e) ∙ h) in
+        cc
+
+    old : (u : ℕ) (o : Open) → IsAt (set table s None) u o → IsAt table u o
+    old u o h = sym (get_set_other table s u None (other u o h)) ∙ h

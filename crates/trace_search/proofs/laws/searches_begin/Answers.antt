@@ -1,0 +1,5 @@
+use Rattle.trace_search.proofs.Start.{searched_none}
+use Rattle.trace_search.proofs.laws.searches_begin.Goals as goal
+
+pub returns : goal.returns
+returns c = λ opening trace sets first. searched_none opening trace sets first
