@@ -1,0 +1,13 @@
+pub mod Ends
+pub mod Places
+pub mod Nets
+pub mod Failing
+pub mod Graphs
+pub mod Rounds
+pub mod Tracing
+pub mod Marking
+pub mod Searching
+pub mod Ranks
+pub mod Exactly
+pub mod Acyclic
+pub mod Judged

@@ -1,0 +1,33 @@
+-- That a table has no verdicts of two kinds.
+use Rattle.std.specs.Prelude.{◌≡◌, ℕ, true}
+use Rattle.table_net.specs.declared.table.Verdict.{Verdict}
+use Rattle.table_net.specs.declared.table.Verdict.TheVariants.{Rising, NoRoute, Cycle}
+use Rattle.table_net.specs.declared.table.Why.{Why}
+use Rattle.table_net.specs.Table.{Table, joins_of}
+use Rattle.table_net.specs.Ways.{Fails}
+
+-- whether a verdict is rising numbers
+abbrev pub IsRising : {A : Type 0} → Verdict A → Type 0
+IsRising (Rising numbers) = Unit {0}
+IsRising (NoRoute r) = ⊥
+IsRising (Cycle links) = ⊥
+
+-- two verdicts of one kind
+abbrev pub AreAlike : {A B : Type 0} → Verdict A → Verdict B → Type 0
+AreAlike (Rising m) (Rising n) = Unit {0}
+AreAlike (Rising m) (NoRoute s) = ⊥
+AreAlike (Rising m) (Cycle l) = ⊥
+AreAlike (NoRoute r) (Rising n) = ⊥
+AreAlike (NoRoute r) (NoRoute s) = Unit {0}
+AreAlike (NoRoute r) (Cycle l) = ⊥
+AreAlike (Cycle k) (Rising n) = ⊥
+AreAlike (Cycle k) (NoRoute s) = ⊥
+AreAlike (Cycle k) (Cycle l) = Unit {0}
+
+-- some pair has no route
+pub record HasFault (t : Table) : Type 0 where
+  pub from : ℕ
+  pub to : ℕ
+  pub why : Why
+  pub joined : joins_of t from to ≡ true
+  pub fails : Fails t from to why

@@ -1,0 +1,16 @@
+//! Any wormhole network that is written down as a table, judged: numbers that rise, a pair without a
+//! route, or a cycle.
+#![tactic(auto)]
+
+pub mod columns;
+pub mod judging;
+pub mod laws;
+pub mod search;
+pub mod table;
+pub mod walk;
+
+pub use judging::judge;
+pub use table::{By, Join, Kind, Link, NoRoute, Reply, Verdict, Why};
+
+#[cfg(test)]
+mod tests;
