@@ -1,0 +1,10 @@
+pub mod Followers
+pub mod Tiles
+pub mod Places
+pub mod Steps
+pub mod Runs
+pub mod Loads
+pub mod Machines
+pub mod Reports
+pub mod Shown
+pub mod Examples

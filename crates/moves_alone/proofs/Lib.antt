@@ -1,0 +1,3 @@
+pub mod Enabled
+pub mod Moves
+pub mod Examples

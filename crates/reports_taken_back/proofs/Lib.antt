@@ -1,0 +1,5 @@
+pub mod Tiles
+pub mod Runs
+pub mod Machines
+pub mod Shown
+pub mod Examples
