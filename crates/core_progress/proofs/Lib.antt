@@ -25,3 +25,4 @@ pub mod OfRound
 pub mod Budget
 pub mod Finish
 pub mod Examples
+mod WrongOnes

@@ -7,3 +7,4 @@ pub mod Joining
 pub mod Cutting
 pub mod Ending
 pub mod Ends
+mod WrongOnes

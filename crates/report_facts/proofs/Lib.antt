@@ -14,3 +14,4 @@ pub mod AnswerNext
 pub mod Counts
 pub mod OrderNext
 pub mod Whole
+mod WrongOnes

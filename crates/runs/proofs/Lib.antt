@@ -19,3 +19,4 @@ pub mod Agreement
 pub mod InTurn
 pub mod AnswersInTurn
 pub mod Beginnings
+mod WrongOnes
