@@ -54,47 +54,63 @@ blind c x w a n m v u op t = let e : moves x c n ≡ moves x c m = blind_moves x
   suits = blind_suits v.load x c w a n m op t.suits;
 }
 
-module _ (load : Load) (slots id : ℕ) (me : Me (Unit {0}) View) (c : Step) (x : TilePlace)
-    (accepted : IsAccepted me.0.load) (live : me.0.live ≡ true) (quiet : me.0.told ≡ []) (mine : In me.0.groups (tile_of c)) (here : known me.0.load me.0.run (tile_of c) ≡ Some x) where
+-- by a seat that still knows v
+module _ (load : Load) (slots id : ℕ) (me : Me (Unit {0}) View) (c : Step) (x : TilePlace) (v : View) (turning : me.0 ≡ v)
+    (accepted' : IsAccepted v.load) (live' : v.live ≡ true) (quiet' : v.told ≡ []) (mine' : In v.groups (tile_of c)) (here' : known v.load v.run (tile_of c) ≡ Some x) where
+  accepted : IsAccepted me.0.load
+  accepted = subst (λ (u : View). IsAccepted u.load) (sym turning) accepted'
+
+  live : me.0.live ≡ true
+  live = ap (λ (u : View). u.live) turning ∙ live'
+
+  quiet : me.0.told ≡ []
+  quiet = ap (λ (u : View). u.told) turning ∙ quiet'
+
+  mine : In me.0.groups (tile_of c)
+  mine = subst (λ (u : View). In u.groups (tile_of c)) (sym turning) mine'
+
+  here : known me.0.load me.0.run (tile_of c) ≡ Some x
+  here = subst (λ (u : View). known u.load u.run (tile_of c) ≡ Some x) (sym turning) here'
+
   abbrev Asks : WordOp → Type 0
   Asks o = op_of x c ≡ Some o
 
   -- an operation whose answer is the word that it found
-  tried : (o : WordOp) (f : ℕ → ℕ) → Asks o → ((n : ℕ) → f n ≡ new_word (effect_of o) n) → (st : TableStep (Unit {0})) → Allows (Holds load) slots id me (word_of o) f (attempted c x st me)
-  tried o f op same st = steps_on load slots id me c x o f accepted live quiet mine here op same (attempted c x st me) (λ n m t e. (t, e))
+  tried : (o : WordOp) (f : ℕ → ℕ) → Asks o → ((n : ℕ) → f n ≡ new_word (effect_of o) n) → (st : TableStep (Unit {0})) → Allows (Holds load) slots id me (word_of o) f (attempted v c x st me)
+  tried o f op same st = steps_on load slots id me c x o f accepted live quiet mine here op same (attempted v c x st me) (λ n m t e. (turning, t, e))
 
-  pub loads : (w : ℕ) → Asks (Read w) → Allows (Holds load) slots id me w (λ n. n) (attempted c x (step slots w 0 0 none) me)
+  pub loads : (w : ℕ) → Asks (Read w) → Allows (Holds load) slots id me w (λ n. n) (attempted v c x (step slots w 0 0 none) me)
   loads w op = tried (Read w) (λ n. n) op (λ n. refl) (step slots w 0 0 none)
 
-  pub stores : (w a : ℕ) → Asks (Store w a) → Allows (Holds load) slots id me w (λ _. a) (λ _. attempted c x (step slots w a 0 none) me a)
-  stores w a op = steps_on load slots id me c x (Store w a) (λ _. a) accepted live quiet mine here op (λ n. refl) (λ _. attempted c x (step slots w a 0 none) me a) (λ n m t e. (blind c x w a n a me.0 m.0 op t, e))
+  pub stores : (w a : ℕ) → Asks (Store w a) → Allows (Holds load) slots id me w (λ _. a) (λ _. attempted v c x (step slots w a 0 none) me a)
+  stores w a op = steps_on load slots id me c x (Store w a) (λ _. a) accepted live quiet mine here op (λ n. refl) (λ _. attempted v c x (step slots w a 0 none) me a) (λ n m t e. (turning, blind c x w a n a me.0 m.0 op t, e))
 
-  pub swaps : (w a : ℕ) → Asks (Swap w a) → Allows (Holds load) slots id me w (λ _. a) (attempted c x (step slots w a 0 none) me)
+  pub swaps : (w a : ℕ) → Asks (Swap w a) → Allows (Holds load) slots id me w (λ _. a) (attempted v c x (step slots w a 0 none) me)
   swaps w a op = tried (Swap w a) (λ _. a) op (λ n. refl) (step slots w a 0 none)
 
-  pub exchanges : (w e a : ℕ) → Asks (Cas w e a) → Allows (Holds load) slots id me w (λ n. either (n == e) a n) (attempted c x (step slots w e a none) me)
+  pub exchanges : (w e a : ℕ) → Asks (Cas w e a) → Allows (Holds load) slots id me w (λ n. either (n == e) a n) (attempted v c x (step slots w e a none) me)
   exchanges w e a op = tried (Cas w e a) (λ n. either (n == e) a n) op (λ n. by (n == e) n) (step slots w e a none)
     where
       by : (b : Bool) (n : ℕ) → either b a n ≡ (if b then a else n)
       by true n = refl
       by false n = refl
 
-  pub adds : (w a : ℕ) → Asks (Add w a) → Allows (Holds load) slots id me w (λ n. (n + a) % 2 ^ 64) (attempted c x (step slots w a 0 none) me)
+  pub adds : (w a : ℕ) → Asks (Add w a) → Allows (Holds load) slots id me w (λ n. (n + a) % 2 ^ 64) (attempted v c x (step slots w a 0 none) me)
   adds w a op = tried (Add w a) (λ n. (n + a) % 2 ^ 64) op (λ n. refl) (step slots w a 0 none)
 
-  pub ands : (w a : ℕ) → Asks (And w a) → Allows (Holds load) slots id me w (λ n. bit_and n a) (attempted c x (step slots w a 0 none) me)
+  pub ands : (w a : ℕ) → Asks (And w a) → Allows (Holds load) slots id me w (λ n. bit_and n a) (attempted v c x (step slots w a 0 none) me)
   ands w a op = tried (And w a) (λ n. bit_and n a) op (λ n. refl) (step slots w a 0 none)
 
-  pub ors : (w a : ℕ) → Asks (Or w a) → Allows (Holds load) slots id me w (λ n. bit_or n a) (attempted c x (step slots w a 0 none) me)
+  pub ors : (w a : ℕ) → Asks (Or w a) → Allows (Holds load) slots id me w (λ n. bit_or n a) (attempted v c x (step slots w a 0 none) me)
   ors w a op = tried (Or w a) (λ n. bit_or n a) op (λ n. refl) (step slots w a 0 none)
 
-  pub xors : (w a : ℕ) → Asks (Xor w a) → Allows (Holds load) slots id me w (λ n. bit_xor n a) (attempted c x (step slots w a 0 none) me)
+  pub xors : (w a : ℕ) → Asks (Xor w a) → Allows (Holds load) slots id me w (λ n. bit_xor n a) (attempted v c x (step slots w a 0 none) me)
   xors w a op = tried (Xor w a) (λ n. bit_xor n a) op (λ n. refl) (step slots w a 0 none)
 
-  pub maxes : (w a : ℕ) → Asks (Max w a) → Allows (Holds load) slots id me w (λ n. max n a) (attempted c x (step slots w a 0 none) me)
+  pub maxes : (w a : ℕ) → Asks (Max w a) → Allows (Holds load) slots id me w (λ n. max n a) (attempted v c x (step slots w a 0 none) me)
   maxes w a op = tried (Max w a) (λ n. max n a) op (λ n. refl) (step slots w a 0 none)
 
-  pub mins : (w a : ℕ) → Asks (Min w a) → Allows (Holds load) slots id me w (λ n. min n a) (attempted c x (step slots w a 0 none) me)
+  pub mins : (w a : ℕ) → Asks (Min w a) → Allows (Holds load) slots id me w (λ n. min n a) (attempted v c x (step slots w a 0 none) me)
   mins w a op = tried (Min w a) (λ n. min n a) op (λ n. refl) (step slots w a 0 none)
 
 -- a look at any word, by which the seat learns all steps so far

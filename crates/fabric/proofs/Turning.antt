@@ -87,6 +87,13 @@ idle_is v c n w k = by_tile (tile_absorbed v.place c n) k
     by_tile None k = refl
     by_tile (Some p) k = let e = k.0 in absurd (cc)
 
+-- where the seat still knows what it knew as the turn began
+pub before : (v u : View) (t : ℕ) (x : PlacedTile) → v ≡ u → StandsAt u.load u.run t x → StandsAt v.load v.run t x
+before v u t x e s = subst (λ (w : View). StandsAt w.load w.run t x) (sym e) s
+
+pub accepted_before : (v u : View) → v ≡ u → IsAccepted u.load → IsAccepted v.load
+accepted_before v u e a = subst (λ (w : View). IsAccepted w.load) (sym e) a
+
 -- the tile in code after an attempt stands as after the run that its seat knows then
 pub stands_then : (c : Step) (v : PlacedTile) (a b : View) (n : ℕ) (answer : Stepped) (w : PlacedTile) → StandsAt a.load a.run (tile_of c) v → Attempted c v.place a n b → Absorbs v c n answer w → StandsAt b.load b.run (tile_of c) w
 stands_then c v a b n answer w here t k =
@@ -100,6 +107,18 @@ word_in_row load run c x o ok here asks =
     let row : List ℕ = shown_row load run in
     let k = tells load ok row run c x o (row_shows load run) here asks in
     subst (λ (m : ℕ). word_of o < m) (row_size load ok row run (row_shows load run)) k.within
+
+-- what a turn picked is what it attempts
+pub as_picked : (v : View) (s c : Step) (p : TilePlace) (x : PlacedTile) (o : WordOp) → s ≡ c → p ≡ x.place → IsAccepted v.load → StandsAt v.load v.run (tile_of c) x → Some o ≡ tile_next_op x.place c
+    → (known v.load v.run (tile_of s) ≡ Some p) × (op_of p s ≡ Some o) × (word_of o < row_length v.load)
+as_picked v s c p x o step place ok here op =
+    let here' : known v.load v.run (tile_of s) ≡ Some p = ap (λ (y : Step). known v.load v.run (tile_of y)) step ∙ here.place ∙ ap (λ (q : TilePlace). Some q) (sym place) in
+    let next : Some o ≡ tile_next_op p s = op ∙ sym (ap (λ (q : TilePlace). tile_next_op q c) place) ∙ sym (ap (λ (y : Step). tile_next_op p y) step) in
+    let asks = op_is p s (Some o) next in
+    (here', asks, word_in_row v.load v.run s p o ok here' asks)
+
+pub told_of : (s c : Step) (p x : TilePlace) (v w : View) (n : ℕ) → s ≡ c → p ≡ x → Attempted s p v n w → Attempted c x v n w
+told_of s c p x v w n step place t = subst (λ (q : TilePlace). Attempted c q v n w) place (subst (λ (y : Step). Attempted y p v n w) step t)
 
 away_one : (t : ℕ) (xs : List Step) (c : Step) → Away t xs → tile_of c ≢ t → Away t (xs ++ c ∷ [])
 away_one t [] c a ne = (ne, tt)

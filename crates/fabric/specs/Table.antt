@@ -17,8 +17,9 @@ Holds load s = (r : List Step) × Kept load s.words s.views r
 abbrev pub Told : Type 1
 Told = table.Step (Unit {0}) → table.Me (Unit {0}) View → ℕ → table.Me (Unit {0}) View → Type 0
 
-abbrev pub attempted : Step → TilePlace → Told
-attempted c p st me n me' = Attempted c p me.0 n me'.0 × (me'.1 ≡ me.1)
+-- an attempt is made by a seat that still knows what it knew as its turn began
+abbrev pub attempted : View → Step → TilePlace → Told
+attempted v c p st me n me' = (me.0 ≡ v) × Attempted c p me.0 n me'.0 × (me'.1 ≡ me.1)
 
 abbrev pub looked : Told
 looked st me n me' = Looked st.word me.0 n me'.0 × (me'.1 ≡ me.1)

@@ -11,7 +11,7 @@ use crate::steps::{Both, Halves, Look, Merge, Note, OneRun, Turned, take_in, tur
 use crate::view::{Dealing, Knowledge};
 use atomic_table::{Seat, Table};
 use std::alloc::{Allocator, Global};
-use std::marker::Model;
+use std::marker::{Brand, Model};
 use tile_agents::TileAgents;
 use torus::{Step, Torus};
 
@@ -103,7 +103,7 @@ impl<A: Allocator> Fabric<A> {
         if !step.choice.is_of(step.agent % 3, self.ports) {
             return Turned::NotMine;
         }
-        turn_tile(&self.table.shared, &mut seat.seat, tile, step)
+        turn_tile::<A, Brand>(&self.table.shared, &mut seat.seat, tile, step)
     }
 
     // The memory word at an address, after the run that the seat knows then.

@@ -1,8 +1,8 @@
 //! The atomic operations on the row.
 ghost use Rattle.std.specs.Prelude.{◌≡◌, ◌≢◌, ◌<◌, true, Some, []};
-ghost use Rattle.flit_buffer.specs.Words.{word_of};
+ghost use Rattle.fabric_laws.specs.tile.specs.Agents.{tile_next_op};
 ghost use Rattle.fabric_laws.specs.core_laws.specs.Runs.{IsAccepted};
-ghost use Rattle.fabric_laws.specs.Known.{tile_of, known, op_of, row_length};
+ghost use Rattle.fabric_laws.specs.Known.{tile_of, row_length};
 ghost use Rattle.fabric_laws.specs.Groups.{In};
 ghost use Rattle.fabric_laws.specs.Rule.{Attempted};
 ghost use Rattle.fabric.specs.Seats.{StandsAt};
@@ -32,18 +32,26 @@ impl TableRule<(), Knowledge, Dealing> for OneRun {
 /// The shared row.
 pub type Row = Shared<(), Knowledge, Dealing, OneRun>;
 
-/// The step that is attempted, and its tile in its place. Each call picks them.
-pub trait Attempting {
+/// A turn: what the seat knows as it begins, the step that is attempted, and its tile in its place. Each turn
+/// picks them. That a seat still knows what it knew is its leave to make the turn's one operation: after that
+/// its run may have grown, so it has none for a second.
+pub trait Turning {
     ghost use Rattle.torus.specs.declared.step.Step.{Step};
     ghost use Rattle.fabric_laws.specs.tile.specs.Agents.{TilePlace};
+    ghost use Rattle.fabric_laws.specs.View.{View};
+
+    ghost view: { View };
 
     ghost step: { Step };
 
     ghost place: { TilePlace };
 }
 
-impl Attempting for Brand {
+impl Turning for Brand {
+    ghost use Rattle.fabric_laws.specs.View.{blank};
     ghost use Rattle.fabric.specs.Key.{no_step, no_place};
+
+    ghost view = { blank };
 
     ghost step = { no_step };
 
@@ -54,26 +62,27 @@ struct Attempt<B> {
     of: PhantomData<B>,
 }
 
-impl<B: Attempting> Play<(), Knowledge> for Attempt<B> {
+impl<B: Turning> Play<(), Knowledge> for Attempt<B> {
     ghost use Rattle.fabric.specs.Table.{attempted};
 
-    ghost then = { attempted B.step B.place };
+    ghost then = { attempted B.view B.step B.place };
 }
 
-// Makes the operation. At a store the answer is what was stored.
-fn perform<A: Allocator, B: Attempting>(
+// Makes the operation, the turn's only one. At a store the answer is what was stored.
+fn perform<A: Allocator, B: Turning>(
     row: &Row,
     seat: &mut Seat<(), Knowledge>,
     step: Step,
     tile: &TileAgents<A>,
     op: WordOp,
 ) -> u64
+    requires turning { seat.old.me.0 ≡ B.view }
     requires picked { (B.step ≡ step) × (B.place ≡ tile.now.place) }
-    requires table { (seat.old.table_id ≡ row.now.table_id) × (word_of op < row.now.table_id.words) }
-    requires load { IsAccepted seat.old.me.0.load }
-    requires seat { (seat.old.me.0.live ≡ true) × (seat.old.me.0.told ≡ []) × In seat.old.me.0.groups (tile_of B.step) }
-    requires place { known seat.old.me.0.load seat.old.me.0.run (tile_of B.step) ≡ Some B.place }
-    requires op { op_of B.place B.step ≡ Some op }
+    requires table { (seat.old.table_id ≡ row.now.table_id) × (row.now.table_id.words ≡ row_length B.view.load) }
+    requires load { IsAccepted B.view.load }
+    requires seat { (B.view.live ≡ true) × (B.view.told ≡ []) × In B.view.groups (tile_of B.step) }
+    requires tile { StandsAt B.view.load B.view.run (tile_of step) tile.now }
+    requires op { Some op ≡ tile_next_op tile.now.place step }
     ensures seat { (seat.new.table_id ≡ seat.old.table_id) × (seat.new.id ≡ seat.old.id) × (seat.new.me.1 ≡ seat.old.me.1) }
     ensures told { Attempted B.step B.place seat.old.me.0 result seat.new.me.0 }
 {
@@ -109,17 +118,19 @@ pub enum Turned {
     NotMine,
 }
 
-// Attempts the step of the tile.
-pub(crate) fn turn_tile<A: Allocator>(
+// Attempts the step of the tile, of which the seat knows what it knew as the turn began.
+pub(crate) fn turn_tile<A: Allocator, B: Turning>(
     row: &Row,
     seat: &mut Seat<(), Knowledge>,
     tile: &mut TileAgents<A>,
     step: Step,
 ) -> Turned
-    requires table { (seat.old.table_id ≡ row.now.table_id) × (row.now.table_id.words ≡ row_length seat.old.me.0.load) }
-    requires load { IsAccepted seat.old.me.0.load }
-    requires seat { (seat.old.me.0.live ≡ true) × (seat.old.me.0.told ≡ []) × In seat.old.me.0.groups (tile_of step) }
-    requires tile { StandsAt seat.old.me.0.load seat.old.me.0.run (tile_of step) tile.old }
+    requires turning { seat.old.me.0 ≡ B.view }
+    requires picked { (B.step ≡ step) × (B.place ≡ tile.old.place) }
+    requires table { (seat.old.table_id ≡ row.now.table_id) × (row.now.table_id.words ≡ row_length B.view.load) }
+    requires load { IsAccepted B.view.load }
+    requires seat { (B.view.live ≡ true) × (B.view.told ≡ []) × In B.view.groups (tile_of B.step) }
+    requires tile { StandsAt B.view.load B.view.run (tile_of step) tile.old }
     ensures seat { (seat.new.table_id ≡ seat.old.table_id) × (seat.new.id ≡ seat.old.id) × (seat.new.me.1 ≡ seat.old.me.1) }
     ensures tile { StandsAt seat.new.me.0.load seat.new.me.0.run (tile_of step) tile.new }
     ensures moved { result ≡ Moved → StepMoves seat.old.me.0 step seat.new.me.0 }
@@ -130,7 +141,7 @@ pub(crate) fn turn_tile<A: Allocator>(
     let Some(op) = tile.next_op(step) else {
         return Turned::Idle;
     };
-    let found = perform::<A, Brand>(row, seat, step, tile, op);
+    let found = perform::<A, B>(row, seat, step, tile, op);
     match tile.absorb(step, found) {
         Stepped::Moved => Turned::Moved,
         Stepped::Idle => Turned::Idle,

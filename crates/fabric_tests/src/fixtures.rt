@@ -95,10 +95,10 @@ pub fn deal_whole<A: Allocator + Copy>(
 
 /// Two tiles in two seats, and two probe seats.
 #[derive(Drop)]
-pub struct Pair {
-    pub fabric: Fabric,
-    pub one: TileSeat,
-    pub other: TileSeat,
+pub struct Pair<A: Allocator = Global> {
+    pub fabric: Fabric<A>,
+    pub one: TileSeat<A>,
+    pub other: TileSeat<A>,
     pub first: ProbeSeat,
     pub second: ProbeSeat,
     ghost own_one: { IsOf fabric one },
@@ -108,7 +108,7 @@ pub struct Pair {
 }
 
 /// Two tiles in two seats, with these scripts.
-pub fn deal_pair(alloc: Global, scripts: &[u8]) -> Result<Pair, Fail> {
+pub fn deal_pair<A: Allocator + Copy>(alloc: A, scripts: &[u8]) -> Result<Pair<A>, Fail> {
     let Dealt {
         fabric,
         mut seats,
