@@ -759,3 +759,134 @@ fn memory_is_refused(rt: HostRuntime) -> Result<(), Fail> {
     }
     Ok(())
 }
+
+/// More than a machine of the table takes, so that a call which asks for memory is given it.
+const ROOM: usize = 1 << 26;
+
+/// Whether looks leave the heap of a machine with eight words as it is; an order is made on another.
+fn looks_take_nothing<A: Allocator>(
+    heap: &LocalHeap,
+    other: Global,
+    machine: &Machine<A>,
+    step: Step,
+) -> bool {
+    let used = heap.used();
+    for &at in &[0, 1, 7, 8, 32, 97, 104, 400] {
+        let _ = (machine.answers(at).is_some(), machine.bank(at).is_some());
+        let _ = (machine.word(at), machine.opening(at), machine.row(at));
+        if heap.used() != used {
+            return false;
+        }
+    }
+    let _ = (machine.finished(), machine.moves_left(), machine.words());
+    let _ = (machine.enabled(step), machine.enabled_step());
+    machine.order(other).is_ok() && machine.torus().tiles() > 1 && heap.used() == used
+}
+
+/// Whether ten thousand drawn steps of a round, one by one, leave the heap as it is.
+fn steps_take_nothing<A: Allocator>(
+    heap: &LocalHeap,
+    machine: &mut Machine<A>,
+    steps: &[Step],
+    seed: u64,
+) -> bool {
+    let used = heap.used();
+    let mut number = seed;
+    let mut has_moved = false;
+    for _ in 0..10000 {
+        number = drawn(number);
+        let place = (number >> 40) as usize % steps.len().max(1);
+        for &step in steps.iter().skip(place).take(1) {
+            if machine.step(step) == Stepped::Moved {
+                has_moved = true;
+            }
+        }
+        if heap.used() != used {
+            return false;
+        }
+    }
+    has_moved
+}
+
+/// Whether lists of a round's steps, or rounds, to the end of all scripts, each with looks behind it,
+/// leave the heap as it is.
+fn rounds_take_nothing<A: Allocator>(
+    heap: &LocalHeap,
+    other: Global,
+    machine: &mut Machine<A>,
+    steps: &[Step],
+    are_lists: bool,
+) -> bool {
+    let used = heap.used();
+    let Some(&step) = steps.first() else {
+        return false;
+    };
+    for _ in 0..1000 {
+        if machine.finished() {
+            return true;
+        }
+        if are_lists {
+            machine.run(steps);
+        } else {
+            machine.round();
+        }
+        if heap.used() != used || !looks_take_nothing(heap, other, machine, step) {
+            return false;
+        }
+    }
+    false
+}
+
+/// A whole run by some calls: drawn steps and then `finish`, lists of steps, or rounds.
+#[derive(Clone, Copy)]
+enum Calls {
+    Steps,
+    Lists,
+    Rounds,
+}
+
+/// Whether the calls of a whole run leave the machine's heap as it is, its parts take nothing, and
+/// nothing is kept when they are dropped.
+fn calls_take_nothing(
+    alloc: Global,
+    heap: &LocalHeap,
+    mut machine: Machine<&LocalHeap>,
+    steps: &[Step],
+    calls: Calls,
+) -> bool {
+    let used = heap.used();
+    let good = match calls {
+        Calls::Steps => steps_take_nothing(heap, &mut machine, steps, 1),
+        Calls::Lists => rounds_take_nothing(heap, alloc, &mut machine, steps, true),
+        Calls::Rounds => rounds_take_nothing(heap, alloc, &mut machine, steps, false),
+    };
+    let _ = machine.finish();
+    let ends = machine.finished() && heap.used() == used;
+    let parts = machine.into_parts();
+    let is_given = heap.used() <= used;
+    drop(parts);
+    good && ends && is_given && heap.used() == 0
+}
+
+/// No call on a machine takes memory of the heap on which it was loaded, over whole runs.
+#[test]
+fn no_call_takes_memory(rt: HostRuntime) -> Result<(), Fail> {
+    let alloc = rt.alloc();
+    let heap = LocalHeap::new(alloc, ROOM)?;
+    for &(text, tiles, ports) in &DRAWN {
+        let steps = round_steps(alloc, tiles, ports)?;
+        let script = drawn_script(alloc, tiles, 1)?;
+        for &(calls, name) in &[
+            (Calls::Steps, "steps"),
+            (Calls::Lists, "lists"),
+            (Calls::Rounds, "rounds"),
+        ] {
+            let good = match loaded(&heap, text, script.as_slice()) {
+                Ok(machine) => calls_take_nothing(alloc, &heap, machine, steps.as_slice(), calls),
+                Err(_) => false,
+            };
+            assert!(rt; good, "{name} of {tiles} tiles");
+        }
+    }
+    Ok(())
+}

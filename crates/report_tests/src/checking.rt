@@ -284,11 +284,15 @@ fn more_than_a_machine_writes(rt: HostRuntime) -> Result<(), AllocError> {
     Ok(())
 }
 
-/// Whether the report is found good within so many bytes of memory; None where it is found bad,
+/// The first report without its answers and its order.
+const ENTRIES: &str =
+    "torusmem 1\nshape 2 1 8\nentry 1 0 0 0 store 5 17 ok\nentry 1 1 0 0 load 5 17\nword 5 17\nend incomplete\n";
+
+/// Whether a report is found good within so many bytes of memory; None where it is found bad,
 /// or where memory is kept.
-fn good_within(alloc: Global, bytes: usize) -> Result<Option<bool>, AllocError> {
+fn good_within(alloc: Global, bytes: usize, text: &str) -> Result<Option<bool>, AllocError> {
     let heap = LocalHeap::new(alloc, bytes)?;
-    let found = verdict(&heap, ROW.as_bytes());
+    let found = verdict(&heap, text.as_bytes());
     Ok(if heap.used() == 0 && (found == 0 || found == REFUSED) {
         Some(found == 0)
     } else {
@@ -300,10 +304,25 @@ fn good_within(alloc: Global, bytes: usize) -> Result<Option<bool>, AllocError> 
 #[test]
 fn budgets(rt: HostRuntime) -> Result<(), Fail> {
     let mut good = false;
-    for base in [0, 196_608, 393_216] {
+    for base in [0, 196_608] {
         for step in 0..128usize {
-            good = good_within(rt.alloc(), base + 16 * step)?.ok_or("wrong")?;
+            good = good_within(rt.alloc(), base + 16 * step, ROW)?.ok_or("wrong")?;
         }
+    }
+    assert!(rt; !good);
+    Ok(())
+}
+
+/// The lines that take no memory, answers and order lines, need none: whatever suffices without them
+/// suffices with them.
+#[test]
+fn no_memory_is_taken(rt: HostRuntime) -> Result<(), Fail> {
+    let mut good = false;
+    for step in 0..128usize {
+        let bytes = 393_216 + 16 * step;
+        good = good_within(rt.alloc(), bytes, ROW)?.ok_or("wrong")?;
+        let short = good_within(rt.alloc(), bytes, ENTRIES)?.ok_or("wrong")?;
+        assert_eq!(rt; good, short, "{bytes} bytes");
     }
     assert!(rt; good);
     Ok(())

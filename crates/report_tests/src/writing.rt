@@ -461,6 +461,28 @@ fn budgets(rt: HostRuntime) -> Result<(), Fail> {
     Ok(())
 }
 
+/// Whether a report, made on a heap with room for more, is written and told of without taking any of it,
+/// also where a put fails.
+fn writing_takes_nothing(alloc: Global, told: &Told) -> Result<bool, Fail> {
+    let heap = LocalHeap::new(alloc, 1 << 24)?;
+    let torus = Torus::mixed(told.radices, told.datelines)?;
+    let report = report_of(&heap, &torus, told)?;
+    let used = heap.used();
+    let is_whole = is_written(&report, 1024, told.text) && is_written(&report, 1, told.text);
+    let is_cut = taken_before(&report, 1024, 2, told.text).is_some();
+    Ok(is_whole && is_cut && !report.lines().is_empty() && heap.used() == used)
+}
+
+/// `write_report` takes no memory of the heap on which its report was made.
+#[test]
+fn no_memory_is_taken(rt: HostRuntime) -> Result<(), Fail> {
+    for told in &REPORTS {
+        let good = writing_takes_nothing(rt.alloc(), told)?;
+        assert!(rt; good, "{}", told.text);
+    }
+    Ok(())
+}
+
 /// A writer whose first write is interrupted.
 #[derive(Drop)]
 struct Interrupted {
