@@ -7,7 +7,9 @@
    MEMORY. torusmem_load takes what the machine needs, and torusmem_free gives it back; torusmem_report and
    torusmem_check take some, and give all of it back before they return. No other call takes any.
 
-   Link libtorusmem_c.a and torusmem_heap.c.
+   Link libtorusmem_c.a and torusmem_heap.c; or what `make install` makes of them, libtorusmem.so or libtorusmem.a, as
+   `pkg-config --cflags --libs torusmem` says. In both of these are the three functions of torusmem_heap.c; those that a
+   program defines itself come before those of libtorusmem.a.
 
    WHAT THE CALLER OWES. Nothing checks it, and without it nothing that is said here holds.
    - Each `m` points to a torusmem_machine that was begun by TORUSMEM_MACHINE_INIT and since then changed by calls of

@@ -1,0 +1,34 @@
+# Completions of bash for torusmem and torusmem-tools.
+
+_torusmem() {
+  local word=${COMP_WORDS[COMP_CWORD]} before=${COMP_WORDS[COMP_CWORD - 1]} words=""
+  if [ "$COMP_CWORD" = 1 ]; then
+    words="steps round run route channels check help --help --version"
+  else
+    case ${COMP_WORDS[1]} in
+    help) words="steps round run route channels check help" ;;
+    round) words="--rounds --help" ;;
+    run) words="--workers --turns --help" ;;
+    route) words="--reply --help" ;;
+    steps | channels | check) words="--help" ;;
+    esac
+    case $before in --rounds | --workers | --turns) words="" ;; esac
+    case "${COMP_WORDS[1]} $word" in
+    "help "*) ;;
+    *" -"*) ;;
+    *) words="" ;; # a file, which bash itself completes
+    esac
+  fi
+  mapfile -t COMPREPLY < <(compgen -W "$words" -- "$word")
+}
+
+_torusmem_tools() {
+  local word=${COMP_WORDS[COMP_CWORD]} names
+  COMPREPLY=()
+  [ "$COMP_CWORD" = 1 ] || return 0
+  names=$("${COMP_WORDS[0]}" --help 2>/dev/null | sed -n 's/^  \([a-z_]*\) .*/\1/p')
+  mapfile -t COMPREPLY < <(compgen -W "$names --help" -- "$word")
+}
+
+complete -o default -F _torusmem torusmem
+complete -o default -F _torusmem_tools torusmem-tools

@@ -1,0 +1,342 @@
+"""The package over the texts of examples/, whose reports the program printed."""
+
+from __future__ import annotations
+
+import copy
+import doctest
+import gc
+import os
+import pickle
+import re
+import threading
+import unittest
+import warnings
+
+import torusmem
+from torusmem import Answer, BadReport, Channel, Choice, Closed, Entry, Kind, Machine, Operation, TextFault, WrongThread
+
+ROOT = os.path.dirname(os.path.dirname(os.path.dirname(os.path.dirname(os.path.realpath(__file__)))))
+EXAMPLES = os.path.join(ROOT, "examples")
+SMALL = "radix 2\ndims 1\ndepth 4\ntags 4\nwords 8\n"
+
+
+def read(name):
+    with open(os.path.join(EXAMPLES, name), encoding="ascii") as file:
+        return file.read()
+
+
+def path(name):
+    return os.path.join(EXAMPLES, name)
+
+
+def first():
+    return Machine(read("machine.txt"), read("script.txt"))
+
+
+def steps(name):
+    """The steps of a steps text."""
+    of_router = {"take": Choice.TAKE_FROM, "put": Choice.PUT, "credit": Choice.CREDIT_OF}
+    for line in read(name).splitlines():
+        agent, choice, *number = line.split()
+        if number:
+            yield int(agent), of_router[choice], int(number[0])
+        else:
+            yield int(agent), Choice[choice.upper()]
+
+
+class Runs(unittest.TestCase):
+    def test_the_first_run_in_rounds(self):
+        with first() as machine:
+            self.assertFalse(machine.finished)
+            self.assertEqual(machine.finish(), 12)
+            self.assertTrue(machine.finished)
+            self.assertEqual(machine.report(), read("report.txt"))
+            self.assertEqual(machine.finish(), 0)
+
+    def test_rounds_one_by_one(self):
+        machine, rounds = first(), 0
+        while not machine.finished:
+            machine.round()
+            rounds += 1
+        self.assertEqual((rounds, machine.report()), (12, read("report.txt")))
+
+    def test_the_first_run_by_its_steps(self):
+        machine = first()
+        left = machine.moves_left
+        for step in steps("steps.txt"):
+            self.assertTrue(machine.enabled(*step))
+            self.assertTrue(machine.step(*step))
+            self.assertLess(machine.moves_left, left)
+            left = machine.moves_left
+        self.assertEqual(machine.report(), read("report.txt"))
+
+    def test_the_flag_by_a_list_of_steps(self):
+        made = list(steps("flag/steps.txt"))
+        with Machine.read(path("flag/machine.txt"), path("flag/script.txt")) as machine:
+            moves = machine.run(made[:425])
+            self.assertEqual(machine.report(), read("flag/unfinished.txt"))
+            moves += machine.run(it for it in made[425:])
+            self.assertEqual(machine.report(), read("flag/report.txt"))
+        with Machine.read(path("flag/machine.txt"), path("flag/script.txt")) as machine:
+            self.assertEqual(moves, sum(machine.step(*it) for it in made))
+            self.assertEqual(machine.run([]), 0)
+
+    def test_answers_and_entries_are_the_lines_of_the_report(self):
+        with first() as machine:
+            self.assertEqual((machine.answers(0), machine.entries(1)), ([], []))
+            machine.finish()
+            store, load = Operation.STORE, Operation.LOAD
+            self.assertEqual(machine.answers(0), [Answer(0, store, (17,), 1, 0, None), Answer(1, load, (), 1, 1, 17)])
+            self.assertEqual(machine.entries(1), [Entry(0, 0, 5, store, (17,), None), Entry(0, 0, 5, load, (), 17)])
+            self.assertEqual((machine.answers(1), machine.entries(0)), ([], []))
+            self.assertEqual((machine.words(), machine.word(5)), ([0, 0, 0, 0, 0, 17, 0, 0], 17))
+
+    def test_every_operation_comes_back_as_it_was_asked(self):
+        asked = "store 5, swap 9, cas 9 6, add 1, and 5, or 8, xor 1, max 20, min 4, load".split(", ")
+        olds = [None, 5, 9, 6, 7, 5, 13, 12, 20, 4]
+        lines = "1 fence\n".join(f"1 {name} 3 {' '.join(values)}\n" for name, *values in (it.split() for it in asked))
+        with Machine(SMALL, lines) as machine:
+            machine.finish()
+            for found in (machine.answers(1), machine.entries(1)):
+                said = [" ".join([it.operation.name.lower(), *map(str, it.values)]) for it in found]
+                self.assertEqual((said, [it.old for it in found]), (asked, olds))
+            self.assertEqual({(it.source, it.tag, it.address) for it in machine.entries(1)}, {(1, 0, 3)})
+            places = [(it.index, it.bank, it.place) for it in machine.answers(1)]
+            self.assertEqual(places, [(it, 1, it) for it in range(10)])
+
+    def test_large_words(self):
+        with Machine(SMALL + f"init 0 {2**64 - 1}\n", f"0 add 0 2\n1 store 1 {2**63 + 1}\n") as machine:
+            machine.finish()
+            self.assertEqual(machine.words()[:2], [1, 2**63 + 1])
+            self.assertEqual(machine.answers(0)[0].old, 2**64 - 1)
+
+
+class Looks(unittest.TestCase):
+    def test_a_flit_on_its_way(self):
+        machine = first()
+        self.assertEqual((machine.tiles, len(machine.row()), len(machine.channels())), (2, 24 * 4 + 8 + 1, 24))
+        self.assertTrue(machine.step(0, Choice.SEND))
+        # The request injection of tile 0 is channel 8. The first flit is a store's head: tile 1, word 2.
+        head = 0xA408000000000002
+        self.assertEqual([(at, it) for at, it in enumerate(machine.row()) if it], [(32, head)])
+        self.assertEqual(machine.channels()[8], (0, 8, (head, 0, 0, 0)))
+        self.assertTrue(machine.step(1, Choice.TAKE_FROM, 8))
+        self.assertFalse(machine.step(1, Choice.TAKE_FROM, 8))
+        self.assertTrue(machine.step(1, Choice.PUT, 8))
+        self.assertEqual([it for it in machine.channels() if any(it.words)], [(0, 0, (head, 0, 0, 0))])
+
+    def test_channels_of_every_dimension(self):
+        for name, tiles, each, depth in (("dateline", 8, 12, None), ("torus", 16, 20, None), ("cube", 24, 28, None)):
+            machine = Machine(read(f"{name}.txt"))
+            found = machine.channels()
+            depth = int(re.findall(r"(?m)^depth (\d+)", read(f"{name}.txt"))[0])
+            wanted = [(tile, place, (0,) * depth) for tile in range(tiles) for place in range(each)]
+            self.assertEqual(found, wanted, name)
+
+    def test_a_route_over_the_dateline(self):
+        ring = Machine(read("dateline.txt"))
+        inject, hop, eject = Kind.INJECTION, Kind.HOP, Kind.EJECTION
+        there = [(inject, 1, 0, False, 0, 0), (hop, 1, 0, False, 0, 7), (hop, 2, 0, False, 1, 9)]
+        there += [(hop, 3, 0, False, 1, 10), (eject, 4, 0, False, 0, 17)]
+        back = [(inject, 4, 0, False, 0, 18), (hop, 4, 0, True, 0, 25), (hop, 3, 0, True, 1, 27)]
+        back += [(hop, 2, 0, True, 1, 28), (eject, 1, 0, False, 0, 35)]
+        self.assertEqual((ring.route(1, 4), ring.route(4, 1, reply=True)), (there, back))
+        self.assertIsInstance(ring.route(1, 4)[0], Channel)
+        hops = [(1, 8, 0), (2, 0, 1), (3, 1, 1), (4, 1, 8)]
+        self.assertEqual([ring.next(at, port, 4) for at, port, _ in hops], [it for _, _, it in hops])
+
+    def test_what_is_not_there(self):
+        machine = first()
+        left = machine.moves_left
+        for step in [(6, 0), (2**32 - 1, 1), (0, 6), (1, 0), (1, 2, 10), (1, 3, 2**32 - 1), (0, 9)]:
+            self.assertFalse(machine.enabled(*step))
+            self.assertFalse(machine.step(*step))
+        self.assertEqual(machine.moves_left, left)
+        for asked in [
+            lambda: machine.word(8),
+            lambda: machine.word(2**32 - 1),
+            lambda: machine.answers(2),
+            lambda: machine.entries(2),
+            lambda: machine.route(0, 2),
+            lambda: machine.route(2, 0),
+            lambda: machine.next(2, 0, 0),
+            lambda: machine.next(0, 10, 0),
+        ]:
+            self.assertRaises(IndexError, asked)
+
+    def test_numbers_are_not_cut_off(self):
+        machine = first()
+        for number in (-1, 2**32, 2**64):
+            for asked in [
+                lambda: machine.step(number, 0),
+                lambda: machine.step(0, number),
+                lambda: machine.step(1, 2, number),
+                lambda: machine.enabled(number, 0),
+                lambda: machine.word(number),
+                lambda: machine.answers(number),
+                lambda: machine.entries(number),
+                lambda: machine.route(number, 0),
+                lambda: machine.next(0, number, 0),
+            ]:
+                self.assertRaises(ValueError, asked)
+        self.assertEqual(sum(machine.row()), 0)
+
+
+class Refusals(unittest.TestCase):
+    def fault(self, *texts):
+        with self.assertRaises(TextFault) as caught:
+            Machine(*texts)
+        found = caught.exception
+        self.assertEqual(str(found), f"{found.file}, line {found.line}: F{found.fault}: {found.reason}")
+        return found.file, found.line, found.fault
+
+    def test_faults_of_texts(self):
+        one, two = "machine text", "scripts text"
+        self.assertEqual(self.fault("radix 9\n", "0 load 8\n"), (one, 1, 1))
+        self.assertEqual(self.fault(""), (one, 1, 5))
+        self.assertEqual(self.fault(b"radix 2\n", b""), (one, 2, 5))
+        self.assertEqual(self.fault(SMALL, "0 load 8\n"), (two, 1, 7))
+        self.assertEqual(self.fault(SMALL, "\n0 jump 1\n"), (two, 2, 4))
+        self.assertEqual(self.fault("\0\xff", ""), (one, 1, 4))
+        self.assertEqual(self.fault(SMALL, "0 load 1\0\n"), (two, 1, 4))
+        # The same fault at the same line of both.
+        self.assertEqual(self.fault("jump\n", "jump\n"), (one, 1, 4))
+        self.assertTrue(Machine(SMALL).finished)
+        self.assertTrue(Machine(bytearray(SMALL.encode()), memoryview(b"")).finished)
+        self.assertRaises(TypeError, Machine, None)
+        self.assertRaises(TypeError, Machine, SMALL, 7)
+
+    def test_faults_of_files(self):
+        with self.assertRaises(TextFault) as caught:
+            Machine.read(path("machine.txt"), path("machine.txt"))
+        found = caught.exception
+        self.assertEqual((found.file, found.line, found.fault), (path("machine.txt"), 1, 4))
+        self.assertEqual(found.reason, "a line is not understood")
+        self.assertRaises(FileNotFoundError, Machine.read, path("machine.txt"), path("none.txt"))
+
+    def test_reasons_are_those_of_the_formats(self):
+        with open(os.path.join(ROOT, "docs/FORMATS.md"), encoding="utf-8") as file:
+            rows = re.findall(r"(?m)^\| F(\d+) \| (.*?) \|", file.read())
+        self.assertEqual(torusmem.REASONS, {int(number): when for number, when in rows})
+
+    def test_reports_are_judged(self):
+        for name in ("report.txt", "flag/report.txt", "flag/unfinished.txt", "trace.txt"):
+            self.assertIsNone(torusmem.check(read(name)))
+        for text, line in ((read("stale.txt"), 8), ("", 1), (read("report.txt") + "\n", 11), ("\u00e9", 1)):
+            with self.assertRaises(BadReport) as caught:
+                torusmem.check(text, "some.txt")
+            self.assertEqual((caught.exception.file, caught.exception.line), ("some.txt", line))
+        self.assertIn("line 8", str(pickle.loads(pickle.dumps(BadReport("some.txt", 8)))))
+
+    def test_a_closed_machine(self):
+        machine = first()
+        with machine:
+            self.assertFalse(machine.closed)
+            self.assertEqual(repr(machine), "<torusmem.Machine of 2 tiles>")
+        self.assertTrue(machine.closed)
+        machine.close()
+        self.assertEqual(repr(machine), "<torusmem.Machine closed>")
+        calls = [machine.round, machine.finish, machine.words, machine.row, machine.channels, machine.report]
+        calls += [lambda: machine.step(0, 0), lambda: machine.enabled(0, 0), lambda: machine.finished]
+        calls += [lambda: machine.moves_left, lambda: machine.tiles, lambda: machine.word(0)]
+        calls += [lambda: machine.answers(0), lambda: machine.entries(0), lambda: machine.route(0, 1), lambda: machine.next(0, 0, 0)]
+        calls += [lambda: machine.run([(0, 0)])]
+        for call in calls:
+            self.assertRaises(Closed, call)
+
+    def test_no_copies(self):
+        machine = first()
+        for copied in (copy.copy, copy.deepcopy, pickle.dumps):
+            self.assertRaises(TypeError, copied, machine)
+
+
+class Threads(unittest.TestCase):
+    def test_a_machine_stays_in_its_thread(self):
+        machine, seen = first(), []
+
+        def elsewhere():
+            looks = (machine.round, machine.report, machine.close, lambda: machine.tiles)
+            for call in (*looks, lambda: machine.step(0, 0)):
+                try:
+                    seen.append(call())
+                except WrongThread as why:
+                    seen.append(type(why))
+
+        thread = threading.Thread(target=elsewhere)
+        thread.start()
+        thread.join()
+        self.assertEqual(seen, [WrongThread] * 5)
+        self.assertEqual(machine.finish(), 12)
+
+    def test_a_later_thread_is_another_one(self):
+        made, seen = [], []
+        refused = lambda: self.assertRaises(WrongThread, made[0].round) or seen.append(1)
+        for work in (lambda: made.append(first()), refused):
+            thread = threading.Thread(target=work)
+            thread.start()
+            thread.join()
+        self.assertEqual(seen, [1])
+
+    def test_machines_of_many_threads_share_nothing(self):
+        reports = []
+
+        def run():
+            with first() as one, Machine.read(path("flag/machine.txt"), path("flag/script.txt")) as other:
+                while not (one.finished and other.finished):
+                    one.round()
+                    other.round()
+                reports.append((one.report(), other.report()))
+
+        threads = [threading.Thread(target=run) for _ in range(4)]
+        for thread in threads:
+            thread.start()
+        for thread in threads:
+            thread.join()
+        self.assertEqual(len(reports), 4)
+        self.assertEqual(len(set(reports)), 1)
+        self.assertEqual(reports[0][0], read("report.txt"))
+        torusmem.check(reports[0][1])
+
+    def test_dropped_machines_give_their_memory_back(self):
+        # Each takes more than half a megabyte.
+        text = "radix 8 8\ndims 2\ndepth 8\ntags 16\nwords 65536\n"
+        for _ in range(400):
+            Machine(text)
+        gc.collect()
+        with open("/proc/self/statm", encoding="ascii") as file:
+            self.assertLess(int(file.read().split()[1]) * os.sysconf("SC_PAGESIZE"), 150_000_000)
+
+
+class Words(unittest.TestCase):
+    def test_the_example_of_the_help(self):
+        found = doctest.testmod(torusmem)
+        self.assertEqual((found.failed, found.attempted > 0), (0, True))
+
+    def test_everything_public_says_what_it_is(self):
+        for name in torusmem.__all__:
+            it = getattr(torusmem, name)
+            self.assertTrue(name == "REASONS" or it.__doc__, name)
+        for name, it in vars(Machine).items():
+            self.assertTrue(name.startswith("_") or (getattr(it, "__func__", it).__doc__), name)
+
+    def test_the_numbers_are_those_of_the_header(self):
+        with open(os.path.join(ROOT, "include", "torusmem.h"), encoding="ascii") as file:
+            header = file.read()
+        numbers = {name: int(number) for name, number in re.findall(r"TORUSMEM_([A-Z_]+) = (\d+)", header)}
+        for names in (Choice, Operation, Kind):
+            for it in names:
+                self.assertEqual(numbers.pop(it.name), it, it.name)
+        library = torusmem._library
+        names = "OK FAULT_MEMORY BAD_REPORT EMPTY FULL NONE SHORT".split()
+        codes = {name: getattr(library, name) for name in names}
+        self.assertEqual(numbers, {**codes, "REQUEST": 0, "REPLY": 1})
+        calls = set(re.findall(r"(?m)^(?:void|torusmem_\w+) torusmem_(\w+)\(", header))
+        self.assertEqual(calls, set(library.CALLS))
+        version = re.findall(r'TORUSMEM_VERSION "(.*)"', header)[0]
+        self.assertEqual(version, torusmem.__version__)
+        self.assertEqual(library.SONAME, "libtorusmem.so." + version.rpartition(".")[0])
+
+
+if __name__ == "__main__":
+    warnings.simplefilter("error")
+    unittest.main()

@@ -1,0 +1,96 @@
+"""The library's machine and a model of it in plain Python (model.py), stepped beside each other by drawn steps."""
+
+from __future__ import annotations
+
+import random
+import unittest
+
+from model import Model
+from torusmem import Machine
+
+MACHINES = {
+    "a ring of two": "radix 2\ndims 1\ndepth 1\ntags 1\nwords 3\ninit 1 7\n",
+    "a ring with a dateline": "radix 5\ndims 1\ndateline 1\ndepth 2\ntags 3\nwords 7\n",
+    "mixed radices": "radix 3 2\ndims 2\ndateline 0 1\ndepth 3\ntags 2\nwords 8\ninit 0 18446744073709551615\n",
+    "three dimensions": "radix 2 3 2\ndims 3\ndepth 2\ntags 2\nwords 20\n",
+}
+NAMES = "load store swap cas add and or xor max min fence spin".split()
+
+
+def drawn_script(draw: random.Random, tiles: int, words: int, lines: int) -> str:
+    """Lines of every kind, of few addresses and small and large values."""
+    made = []
+    begun = set()
+    for _ in range(lines):
+        tile, name, address = draw.randrange(tiles), draw.choice(NAMES), draw.randrange(words)
+        values = [draw.choice(["0", "1", "7", str(2**64 - 1), str(draw.randrange(2**64))]) for _ in range(2)]
+        if tile in begun and draw.random() < 0.3:
+            values[0] = "last"
+        count = {"load": 0, "fence": 0, "cas": 2}.get(name, 1)
+        words_of = [name] if name == "fence" else [name, str(address), *values[:count]]
+        if name == "spin":
+            words_of[2:] = [draw.choice("017"), str(draw.randrange(1, 4))]
+        if name != "fence":
+            begun.add(tile)
+        made.append(" ".join([str(tile), *words_of]) + "\n")
+    return "".join(made)
+
+
+class Beside(unittest.TestCase):
+    def look(self, model: Model, machine: Machine) -> None:
+        """Both show the same."""
+        self.assertEqual(machine.row(), model.row)
+        self.assertEqual(machine.finished, model.is_finished())
+        for tile in range(model.shape.tiles):
+            answers = [(*it[:1], it[1].name.lower(), *it[2:]) for it in machine.answers(tile)]
+            self.assertEqual(answers, model.agents[3 * tile].answers)
+            entries = [(*it[:3], it[3].name.lower(), *it[4:]) for it in machine.entries(tile)]
+            self.assertEqual(entries, model.agents[3 * tile + 2].entries)
+
+    def beside(self, text: str, seed: int) -> None:
+        draw = random.Random(seed)
+        said = dict(it.split(None, 1) for it in text.splitlines())
+        tiles = Machine(text).tiles
+        scripts = drawn_script(draw, tiles, int(said["words"]), 4 * tiles)
+        model, moves = Model(text, scripts), 0
+        with Machine(text, scripts) as machine:
+            every = model.steps()
+            agents = draw.sample(range(3 * tiles + 1), 3 * tiles)  # the one that is left out isn't there, or is slow
+            some = [it for it in every if it[0] in agents] + [(3 * tiles, 0, 0), (1, 2, model.shape.ports)]
+            for number in range(2000):
+                step = draw.choice(some if number < 1000 else every)
+                moved = model.step(*step)
+                self.assertEqual(machine.step(*step), moved, (number, step))
+                moves += moved
+                if number % 200 == 0:
+                    self.look(model, machine)
+            while not model.is_finished():
+                for step in every:
+                    moved = machine.enabled(*step)
+                    self.assertEqual((machine.step(*step), model.step(*step)), (moved, moved), step)
+                    moves += moved
+            self.look(model, machine)
+            self.assertGreater(moves, 10)
+
+    def test_drawn_steps(self) -> None:
+        for name, text in MACHINES.items():
+            for seed in range(3):
+                with self.subTest(name, seed=seed):
+                    self.beside(text, seed)
+
+    def test_rounds(self) -> None:
+        for name, text in MACHINES.items():
+            with self.subTest(name):
+                words = int(dict(it.split(None, 1) for it in text.splitlines())["words"])
+                scripts = drawn_script(random.Random(name), Machine(text).tiles, words, 40)
+                model, machine, rounds = Model(text, scripts), Machine(text, scripts), 0
+                while not model.is_finished():
+                    for step in model.steps():
+                        model.step(*step)
+                    rounds += 1
+                self.assertEqual(machine.finish(), rounds)
+                self.look(model, machine)
+
+
+if __name__ == "__main__":
+    unittest.main()

@@ -1,0 +1,475 @@
+"""torusmem from Python: a shared memory over a wormhole torus, proved to behave like one sequential memory.
+
+A Machine is made of a machine text and a scripts text, then stepped, looked at and closed:
+
+    >>> import torusmem
+    >>> from torusmem import Choice, Machine
+    >>> text = "radix 2\\ndims 1\\ndepth 4\\ntags 4\\nwords 8\\n"
+    >>> with Machine(text, "0 store 5 17\\n0 fence\\n0 load 5\\n") as machine:
+    ...     moved = machine.step(0, Choice.SEND)    # processor 0 puts its first flit
+    ...     rounds = machine.finish()
+    ...     print(moved, rounds, machine.word(5), machine.answers(0)[1].old)
+    ...     torusmem.check(machine.report())
+    True 12 17 17
+
+Texts, agents, choices, channels and reports are those of docs/FORMATS.md. Tile t has the agents 3t (its processor),
+3t + 1 (its router) and 3t + 2 (its bank). What refuses a text or a report is an exception with the file, the line and
+the reason: TextFault, BadReport.
+
+The library beneath is proved; this package, which only passes numbers and texts on, is tested.
+"""
+
+from __future__ import annotations
+
+import os
+import threading
+from ctypes import byref, create_string_buffer
+from enum import IntEnum
+from operator import index as _whole
+from typing import Any, Iterable, List, NamedTuple, NoReturn, Optional, Tuple, Union
+
+from . import _library
+from ._library import LibraryNotFound
+
+__version__ = "0.1.0"
+__all__ = [
+    "Answer",
+    "BadReport",
+    "Channel",
+    "Choice",
+    "Closed",
+    "Entry",
+    "Kind",
+    "LibraryNotFound",
+    "Line",
+    "Machine",
+    "Operation",
+    "REASONS",
+    "TextFault",
+    "WrongThread",
+    "check",
+]
+
+Text = Union[str, bytes]
+Path = Union[str, "os.PathLike[str]"]
+_MOST = 2**32 - 1
+
+# What the faults say of a text, by their numbers: the table of docs/FORMATS.md.
+REASONS = {
+    1: "a radix is not 2 to 8",
+    2: "the number of dimensions is not 1 to 3",
+    3: "more than 64 tiles",
+    4: "a line is not understood",
+    5: "a setting is missing or given twice",
+    6: "a number is out of its range",
+    7: "an address is not below the number of words",
+    8: "a processor is not below the number of tiles",
+    9: "a script is too long, or all together are",
+    10: "`last` in the first operation of a script",
+    11: "a step names no agent, no channel, or a choice that its agent doesn't have",
+    12: "a request for memory was refused",
+    13: "a list has not one number for each dimension",
+    14: "a dateline is not below its radix",
+}
+
+
+class TextFault(ValueError):
+    """A text was refused: its first fault.
+
+    file: the file that it was read from, or `machine text` or `scripts text`
+    line: the line of the fault, from 1
+    fault: its number, 1 for F1 and so on
+    reason: what the fault says (REASONS)
+    """
+
+    def __init__(self, file: str, line: int, fault: int) -> None:
+        self.file, self.line, self.fault = file, line, fault
+        self.reason = REASONS.get(fault, "a fault that this version doesn't know")
+        super().__init__(f"{file}, line {line}: F{fault}: {self.reason}")
+
+    def __reduce__(self) -> Any:
+        return TextFault, (self.file, self.line, self.fault)
+
+
+class BadReport(ValueError):
+    """A text is no good report: `file`, and `line`, the first bad line, from 1."""
+
+    def __init__(self, file: str, line: int) -> None:
+        self.file, self.line = file, line
+        super().__init__(f"{file}, line {line}: this is the first bad line of the report")
+
+    def __reduce__(self) -> Any:
+        return BadReport, (self.file, self.line)
+
+
+class Closed(ValueError):
+    """The machine is closed."""
+
+
+class WrongThread(RuntimeError):
+    """The machine was made in another thread, and stays there."""
+
+
+class Choice(IntEnum):
+    """What an agent attempts. TAKE_FROM, PUT and CREDIT_OF are a router's, with the number of its input or output."""
+
+    SEND = 0
+    TAKE = 1
+    TAKE_FROM = 2
+    PUT = 3
+    CREDIT = 4
+    CREDIT_OF = 5
+    SERVE = 6
+    DONE = 7
+    LOOK = 8
+
+
+class Operation(IntEnum):
+    """An operation on one word."""
+
+    LOAD = 0
+    STORE = 1
+    SWAP = 2
+    CAS = 3
+    ADD = 4
+    AND = 5
+    OR = 6
+    XOR = 7
+    MAX = 8
+    MIN = 9
+
+
+class Kind(IntEnum):
+    """What a channel of a route is: the injection of its tile, a hop out of it, or its ejection."""
+
+    INJECTION = 0
+    HOP = 1
+    EJECTION = 2
+
+
+class Answer(NamedTuple):
+    """An operation of a processor that is answered.
+
+    index: among the operations of its processor, from 0 in the order of issue
+    operation, values: what was asked; values are none of a load, expected and new of a cas, else one
+    bank, place: the tile of the bank that served it, and its place among the services there, from 0
+    old: the word that was there before; None of a store, which is answered `ok`
+    """
+
+    index: int
+    operation: Operation
+    values: Tuple[int, ...]
+    bank: int
+    place: int
+    old: Optional[int]
+
+
+class Entry(NamedTuple):
+    """A service of a bank.
+
+    source, tag: the tile of the processor that asked, and the tag by which it asked
+    address: of the word that was asked for
+    operation, values, old: as those of an Answer
+    """
+
+    source: int
+    tag: int
+    address: int
+    operation: Operation
+    values: Tuple[int, ...]
+    old: Optional[int]
+
+
+class Channel(NamedTuple):
+    """A channel of a route: its kind, its tile, and its number, which rises along every route.
+
+    dim, minus, bit: of a hop its dimension, whether it goes in minus direction, and its bit; else 0
+    """
+
+    kind: Kind
+    tile: int
+    dim: int
+    minus: bool
+    bit: int
+    number: int
+
+
+class Line(NamedTuple):
+    """A channel of the machine: its tile, its place among the channels there (docs/FORMATS.md, "Channels and ports"),
+    and the words at its places now: flits, and 0 where none is."""
+
+    tile: int
+    place: int
+    words: Tuple[int, ...]
+
+
+_VALUES = {Operation.LOAD: 0, Operation.CAS: 2}
+_local = threading.local()
+
+
+def _thread() -> object:
+    """An object of this thread alone, which no later thread has again."""
+    try:
+        return _local.token
+    except AttributeError:
+        _local.token = object()
+        return _local.token
+
+
+def _bytes(text: Text, what: str) -> bytes:
+    if isinstance(text, str):
+        return text.encode("utf-8", "surrogateescape")
+    if isinstance(text, (bytes, bytearray, memoryview)):
+        return bytes(text)
+    raise TypeError(f"{what} must be str or bytes, not {type(text).__name__}")
+
+
+def _number(number: int, what: str) -> int:
+    """A number that the library can be given: ctypes would cut off what is above 32 bits."""
+    found = _whole(number)
+    if 0 <= found <= _MOST:
+        return found
+    raise ValueError(f"{what} must be 0 to {_MOST}, not {found}")
+
+
+def _values(raw: Any, operation: Operation) -> Tuple[int, ...]:
+    return (raw.first, raw.second)[: _VALUES.get(operation, 1)]
+
+
+class Machine:
+    """A machine: its tiles, with a processor, a router and a bank each, their channels, and the memory.
+
+    Machine(machine_text, scripts_text) is loaded and hasn't moved yet; Machine.read(machine_file, scripts_file) reads
+    both from files. TextFault tells the first fault of the first bad text.
+
+    All calls must come from the thread in which it was made: others are refused (WrongThread). `with` or close() gives
+    its memory back, and so does dropping it in its thread.
+    """
+
+    def __init__(self, machine: Text, scripts: Text = b"") -> None:
+        self._load(_bytes(machine, "machine"), _bytes(scripts, "scripts"), ("machine text", "scripts text"))
+
+    @classmethod
+    def read(cls, machine: Path, scripts: Path) -> Machine:
+        """The machine of two files. A fault names the file."""
+        texts = []
+        for path in (machine, scripts):
+            with open(path, "rb") as file:
+                texts.append(file.read())
+        made = cls.__new__(cls)
+        made._load(texts[0], texts[1], (os.fspath(machine), os.fspath(scripts)))
+        return made
+
+    def _load(self, machine: bytes, scripts: bytes, files: Tuple[str, str]) -> None:
+        self._calls = _library.library()
+        self._step = self._calls.step
+        self._owner = _thread()
+        self._held = _library.Held(False, None)
+        self._at = byref(self._held)
+        said = self._calls.load(self._at, machine, len(machine), scripts, len(scripts))
+        if said.code == _library.OK:
+            return
+        if said.code == _library.FAULT_MEMORY:
+            raise MemoryError(f"torusmem: {REASONS[12]} (F12)")
+        # The code doesn't tell which text it is. The machine text comes first, so it is its fault where it stays with
+        # scripts that have none.
+        alone = self._calls.load(self._at, machine, len(machine), b"", 0)
+        self._calls.free(self._at)
+        is_machine = (alone.code, alone.value) == (said.code, said.value)
+        raise TextFault(files[0 if is_machine else 1], said.value, said.code)
+
+    # What every call begins with, and what it makes of the code.
+
+    def _here(self) -> Any:
+        """Where the machine is, for a call from its own thread."""
+        if _thread() is not self._owner:
+            raise WrongThread("a machine stays in the thread that made it")
+        return self._at
+
+    def _refuse(self, code: int, what: str) -> NoReturn:
+        if code == _library.EMPTY:
+            raise Closed("the machine is closed")
+        if code == _library.FAULT_MEMORY:
+            raise MemoryError(f"torusmem: {REASONS[12]} (F12)")
+        raise IndexError(f"there is no {what}")
+
+    def _value(self, said: Any, what: str = "such number") -> int:
+        if said.code != _library.OK:
+            self._refuse(said.code, what)
+        return int(said.value)
+
+    # Steps.
+
+    def step(self, agent: int, choice: int, number: int = 0) -> bool:
+        """Attempts one choice of one agent; whether it moved. What isn't enabled, or isn't there, changes nothing.
+
+        number: the router's input of TAKE_FROM and PUT, its output of CREDIT_OF; not looked at for other choices.
+        """
+        if not (0 <= agent <= _MOST and 0 <= choice <= _MOST and 0 <= number <= _MOST):
+            agent, choice, number = _number(agent, "agent"), _number(choice, "choice"), _number(number, "number")
+        if _thread() is not self._owner:
+            self._here()
+        said = self._step(self._at, agent, choice, number)
+        if said.code:
+            self._refuse(said.code, "such step")
+        return said.value == 1
+
+    def enabled(self, agent: int, choice: int, number: int = 0) -> bool:
+        """Whether such a step would move now."""
+        words = _number(agent, "agent"), _number(choice, "choice"), _number(number, "number")
+        return self._value(self._calls.enabled(self._here(), *words)) == 1
+
+    def run(self, steps: Iterable[Tuple[int, ...]]) -> int:
+        """Makes these steps, (agent, choice) or (agent, choice, number) each; how many of them moved."""
+        step = self.step
+        return sum(step(*it) for it in steps)
+
+    def round(self) -> None:
+        """Attempts each choice of each agent once."""
+        self._value(self._calls.round(self._here()))
+
+    def finish(self) -> int:
+        """Makes rounds until every script is finished; how many. Such a call ends, and can't be interrupted before."""
+        return self._value(self._calls.finish(self._here()))
+
+    @property
+    def finished(self) -> bool:
+        """Whether every script is finished."""
+        return self._value(self._calls.finished(self._here())) == 1
+
+    @property
+    def moves_left(self) -> int:
+        """How many moves any schedule can still make, at most."""
+        return self._value(self._calls.moves_left(self._here()))
+
+    # What it shows.
+
+    @property
+    def tiles(self) -> int:
+        """The number of tiles, 2 to 64."""
+        return self._value(self._calls.tiles(self._here()))
+
+    def word(self, address: int) -> int:
+        """The word of an address."""
+        said = self._calls.word(self._here(), _number(address, "address"))
+        return self._value(said, f"address {address}")
+
+    def words(self) -> List[int]:
+        """All words of the memory, by address."""
+        at, word = self._here(), self._calls.word
+        return [word(at, address).value for address in range(self._value(self._calls.words(at)))]
+
+    def row(self) -> List[int]:
+        """The row: the places of all channels in channel order, the words of the memory, and last the count of the
+        processors that have reported. A call of the library for each word."""
+        at, word = self._here(), self._calls.row
+        self._value(word(at, 0))
+        made = []
+        while True:
+            said = word(at, len(made))
+            if said.code:
+                return made
+            made.append(said.value)
+
+    def channels(self) -> List[Line]:
+        """All channels in channel order, with the words at their places now."""
+        at, row = self._here(), self.row()
+        tiles, words = self.tiles, self._value(self._calls.words(at))
+        ports = 0
+        while self._calls.next(at, 0, ports, 0).code == _library.OK:
+            ports += 1
+        each = ports + 2  # a tile has an ejection for each of its two injections besides the inputs of its router
+        depth = (len(row) - words - 1) // (tiles * each)
+        cut = [tuple(row[depth * it : depth * (it + 1)]) for it in range(tiles * each)]
+        return [Line(it // each, it % each, words_now) for it, words_now in enumerate(cut)]
+
+    def answers(self, processor: int) -> List[Answer]:
+        """The answers of a processor (by its tile), in the order of answering."""
+        at, processor = self._here(), _number(processor, "processor")
+        count = self._value(self._calls.answers(at, processor), f"processor {processor}")
+        made = []
+        for number in range(count):
+            raw = self._calls.answer_at(at, processor, number)
+            operation, old = Operation(raw.operation), raw.old if raw.has_old else None
+            made.append(Answer(raw.index, operation, _values(raw, operation), raw.bank, raw.place, old))
+        return made
+
+    def entries(self, bank: int) -> List[Entry]:
+        """The services of a bank (by its tile), in their order."""
+        at, bank = self._here(), _number(bank, "bank")
+        count = self._value(self._calls.entries(at, bank), f"bank {bank}")
+        made = []
+        for number in range(count):
+            raw = self._calls.entry_at(at, bank, number)
+            operation, old = Operation(raw.operation), raw.old if raw.has_old else None
+            made.append(Entry(raw.source, raw.tag, raw.address, operation, _values(raw, operation), old))
+        return made
+
+    def report(self) -> str:
+        """The report of the run so far: the text that the program prints, a good report."""
+        at = self._here()
+        said = self._calls.report(at, create_string_buffer(1), 0)
+        if said.code != _library.SHORT:
+            self._refuse(said.code, "report")
+        out = create_string_buffer(said.value)
+        length = self._value(self._calls.report(at, out, len(out)))
+        return out.raw[:length].decode("ascii")
+
+    def route(self, src: int, dst: int, reply: bool = False) -> List[Channel]:
+        """The channels of the route of a request, or of a reply, from tile to tile."""
+        out = (_library.RawChannel * _library.LONGEST_ROUTE)()
+        ends = _number(src, "src"), _number(dst, "dst")
+        said = self._calls.route(self._here(), *ends, 1 if reply else 0, out, len(out))
+        count = self._value(said, f"route from tile {src} to tile {dst}")
+        return [Channel(Kind(it.kind), it.tile, it.dim, bool(it.minus), it.bit, it.number) for it in out[:count]]
+
+    def next(self, at: int, input: int, dst: int) -> int:
+        """The output by which a packet to tile dst leaves the router of tile `at`, where it came by this input."""
+        words = _number(at, "at"), _number(input, "input"), _number(dst, "dst")
+        return self._value(self._calls.next(self._here(), *words), f"tile {at} or {dst}, or no input {input}")
+
+    # Its end.
+
+    @property
+    def closed(self) -> bool:
+        """Whether it is closed."""
+        return not self._held.full
+
+    def close(self) -> None:
+        """Gives its memory back. A second time nothing happens."""
+        self._calls.free(self._here())
+
+    def __enter__(self) -> Machine:
+        return self
+
+    def __exit__(self, *why: object) -> None:
+        self.close()
+
+    def __del__(self) -> None:
+        try:
+            if _thread() is self._owner:
+                self._calls.free(self._at)
+        except (AttributeError, TypeError):
+            pass  # it was never loaded, or Python ends
+
+    def __reduce__(self) -> NoReturn:
+        raise TypeError("a machine can't be copied or pickled")
+
+    def __repr__(self) -> str:
+        return f"<torusmem.Machine {'closed' if self.closed else 'of ' + str(self._size()) + ' tiles'}>"
+
+    def _size(self) -> Any:
+        return self._calls.tiles(self._at).value if _thread() is self._owner else "some"
+
+
+def check(report: Text, file: str = "report") -> None:
+    """Checks a report. BadReport tells the first bad line of one that isn't good; file is how it names the text.
+
+    A good report replays on one memory, whichever machine or simulator wrote it.
+    """
+    text = _bytes(report, "report")
+    said = _library.library().check(text, len(text))
+    if said.code == _library.BAD_REPORT:
+        raise BadReport(file, said.value)
+    if said.code != _library.OK:
+        raise MemoryError(f"torusmem: {REASONS[12]} (F12)")

@@ -1,0 +1,128 @@
+"""The shared library beneath: where it is found, and what its calls take and answer (include/torusmem.h)."""
+
+from __future__ import annotations
+
+import ctypes
+import os
+import sys
+from ctypes import POINTER, Structure, c_bool, c_char_p, c_size_t, c_uint32, c_uint64, c_void_p
+from typing import Any, Iterator, List, Optional
+
+SONAME = "libtorusmem.so.0.1"
+# The number of calls, codes and limits that the header has.
+OK, FAULT_MEMORY, BAD_REPORT, EMPTY, FULL, NONE, SHORT = 0, 12, 15, 16, 17, 18, 19
+LONGEST_ROUTE = 10
+
+
+class LibraryNotFound(ImportError):
+    """The shared library isn't there, or isn't one of this version: what was tried, and how it is made."""
+
+
+class Held(Structure):
+    """Room for a machine."""
+
+    _fields_ = [("full", c_bool), ("at", c_void_p)]
+
+
+class Outcome(Structure):
+    """What a call answers: a code and a number."""
+
+    _fields_ = [("code", c_uint32), ("value", c_uint64)]
+
+
+class RawAnswer(Structure):
+    _fields_ = [(it, c_uint32) for it in ("code", "index", "operation", "bank", "place", "has_old")] + [
+        (it, c_uint64) for it in ("first", "second", "old")
+    ]
+
+
+class RawEntry(Structure):
+    _fields_ = [(it, c_uint32) for it in ("code", "source", "tag", "address", "operation", "has_old")] + [
+        (it, c_uint64) for it in ("first", "second", "old")
+    ]
+
+
+class RawChannel(Structure):
+    _fields_ = [(it, c_uint32) for it in ("kind", "tile", "dim", "minus", "bit", "number")]
+
+
+_M = POINTER(Held)
+# Each call: what it answers, and what it takes.
+CALLS = {
+    "load": (Outcome, [_M, c_char_p, c_size_t, c_char_p, c_size_t]),
+    "free": (None, [_M]),
+    "step": (Outcome, [_M, c_uint32, c_uint32, c_uint32]),
+    "enabled": (Outcome, [_M, c_uint32, c_uint32, c_uint32]),
+    "round": (Outcome, [_M]),
+    "finish": (Outcome, [_M]),
+    "finished": (Outcome, [_M]),
+    "moves_left": (Outcome, [_M]),
+    "tiles": (Outcome, [_M]),
+    "words": (Outcome, [_M]),
+    "word": (Outcome, [_M, c_uint32]),
+    "row": (Outcome, [_M, c_uint32]),
+    "answers": (Outcome, [_M, c_uint32]),
+    "answer_at": (RawAnswer, [_M, c_uint32, c_uint32]),
+    "entries": (Outcome, [_M, c_uint32]),
+    "entry_at": (RawEntry, [_M, c_uint32, c_uint32]),
+    "report": (Outcome, [_M, c_void_p, c_size_t]),
+    "check": (Outcome, [c_char_p, c_size_t]),
+    "route": (Outcome, [_M, c_uint32, c_uint32, c_uint32, POINTER(RawChannel), c_size_t]),
+    "next": (Outcome, [_M, c_uint32, c_uint32, c_uint32]),
+}
+
+
+class Library:
+    """The calls of the library, each under its name without `torusmem_`."""
+
+    def __init__(self, handle: ctypes.CDLL) -> None:
+        for name, (answered, taken) in CALLS.items():
+            call = getattr(handle, f"torusmem_{name}")
+            call.restype, call.argtypes = answered, taken
+            setattr(self, name, call)
+
+    def __getattr__(self, name: str) -> Any:  # for type checkers: every name of CALLS is set
+        raise AttributeError(name)
+
+
+def places() -> Iterator[str]:
+    """Where the library is looked for, in this order; a name without a slash is left to the loader of programs."""
+    here = os.path.dirname(os.path.realpath(__file__))
+    yield os.path.join(here, SONAME)
+    for prefix in (sys.prefix, os.path.join(os.path.expanduser("~"), ".local"), "/usr/local"):
+        yield os.path.join(prefix, "lib", SONAME)
+    yield SONAME
+
+
+def loaded(path: str) -> Library:
+    """The library of a file, or an OSError or AttributeError that says why there is none."""
+    return Library(ctypes.CDLL(path))
+
+
+def find() -> Library:
+    """The library that the variable TORUSMEM_SO names, or the first one that is found."""
+    named = os.environ.get("TORUSMEM_SO")
+    tried: List[str] = []
+    for path in [named] if named else places():
+        if not named and os.sep in path and not os.path.exists(path):
+            tried.append(f"{path}: there is no such file")
+            continue
+        try:
+            return loaded(os.path.abspath(path) if named else path)
+        except (OSError, AttributeError) as why:
+            tried.append(str(why))
+    raise LibraryNotFound(
+        "no shared library of torusmem was found: `make install` in its repository makes one, "
+        "and the variable TORUSMEM_SO names one that stands elsewhere. Tried:\n  " + "\n  ".join(tried)
+    )
+
+
+_found: Optional[Library] = None
+
+
+def library() -> Library:
+    """The library, looked for at the first call."""
+    global _found
+    if _found is None:
+        _found = find()
+    return _found
