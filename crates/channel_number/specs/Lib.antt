@@ -1,3 +1,4 @@
+pub use Rattle.dateline_route
 pub mod Order
 pub mod Ports
 pub mod Number

@@ -11,7 +11,7 @@ use Rattle.fabric_laws.specs.net_interface.specs.Following.{is_finished}
 use Rattle.fabric_laws.specs.net_interface.specs.ProcessorRecord.{ProcessorRecord}
 use Rattle.fabric_laws.specs.tile.specs.Tile.{TileState}
 use Rattle.fabric_laws.specs.tile.specs.Agents.{TilePlace, tile_placed}
-use Rattle.tile_agents.specs.Placed.{PlacedTile}
+use Rattle.fabric_laws.specs.tile_agents.specs.Placed.{PlacedTile}
 use Rattle.fabric_laws.specs.core_laws.specs.Core.{Load, design_of, after, records_of}
 use Rattle.fabric_laws.specs.core_laws.specs.Runs.{IsAccepted}
 use Rattle.fabric_laws.specs.core_row.proofs.Reached.{tiles_there, all_steps}

@@ -4,7 +4,7 @@ use Rattle.std.specs.Prelude.{slice_get}
 use Rattle.std.proofs.lemmas.List.{append-nil}
 use Rattle.atomic_table.specs.declared.shared.Seat.{Seat}
 use Rattle.torus.specs.declared.step.Step.{Step}
-use Rattle.tile_agents.specs.Placed.{PlacedTile}
+use Rattle.fabric_laws.specs.tile_agents.specs.Placed.{PlacedTile}
 use Rattle.fabric_laws.specs.core_laws.specs.Core.{Load}
 use Rattle.fabric_laws.specs.core_laws.specs.Runs.{IsAccepted}
 use Rattle.fabric_laws.specs.Known.{tile_of, known, row_length}

@@ -3,7 +3,7 @@ use Rattle.std.proofs.Common.{◌≡◌, ℕ, zero, suc, ◌+◌, ◌-◌, ◌*�
 use Rattle.std.specs.Prelude.{◌^◌}
 use Rattle.atomic_table.specs.Seated.{TableId}
 use Rattle.torus.specs.Shape.{Shape, dims_of}
-use Rattle.tile_agents.specs.Placed.{PlacedTile}
+use Rattle.fabric_laws.specs.tile_agents.specs.Placed.{PlacedTile}
 use Rattle.channel_number.specs.Order.{channel_count}
 use Rattle.channel_number.specs.Ports.{port_count}
 use Rattle.fabric_laws.specs.core_laws.specs.Core.{Load}

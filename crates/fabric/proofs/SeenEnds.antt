@@ -3,7 +3,7 @@ use Rattle.std.proofs.Common.{◌≡◌, ℕ, ◌<◌, ◌≤◌, true, List, le
 use Rattle.std.proofs.lemmas.Option.{slice_get_within}
 use Rattle.atomic_table.specs.declared.shared.Seat.{Seat}
 use Rattle.fabric_laws.specs.tile.specs.Agents.{TilePlace}
-use Rattle.tile_agents.specs.Placed.{PlacedTile}
+use Rattle.fabric_laws.specs.tile_agents.specs.Placed.{PlacedTile}
 use Rattle.fabric_laws.specs.Known.{known}
 use Rattle.fabric_laws.specs.View.{View}
 use Rattle.fabric_laws.specs.Groups.{Owns}

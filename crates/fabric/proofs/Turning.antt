@@ -10,7 +10,7 @@ use Rattle.fabric_laws.specs.flights.specs.Room.{home_room}
 use Rattle.flit_buffer.specs.declared.word_op.WordOp.{WordOp}
 use Rattle.flit_buffer.specs.Words.{word_of}
 use Rattle.fabric_laws.specs.tile.specs.Agents.{TilePlace, agent_numbered, tile_next_op, tile_absorbed}
-use Rattle.tile_agents.specs.Placed.{PlacedTile, with_place, IsAcceptableTo, HasRoomFor}
+use Rattle.fabric_laws.specs.tile_agents.specs.Placed.{PlacedTile, with_place, IsAcceptableTo, HasRoomFor}
 use Rattle.fabric_laws.specs.core_laws.specs.Core.{Load}
 use Rattle.fabric_laws.specs.core_laws.specs.Runs.{IsAccepted}
 use Rattle.fabric_laws.specs.Known.{tile_of, known, op_of, moves, left_by, Suits, row_length}

@@ -6,7 +6,7 @@ use Rattle.torus.specs.Shape.{Shape, tiles_of}
 use Rattle.torus.specs.declared.step.Step.{Step}
 use Rattle.channel_number.specs.Order.{channel_count}
 use Rattle.runs.specs.Observed.{Observed}
-use Rattle.tile_agents.specs.Placed.{PlacedTile}
+use Rattle.fabric_laws.specs.tile_agents.specs.Placed.{PlacedTile}
 use Rattle.fabric_laws.specs.net_interface.specs.Following.{is_finished}
 use Rattle.fabric_laws.specs.core_laws.specs.Core.{Load, after, show}
 use Rattle.fabric_laws.specs.core_laws.specs.Runs.{IsAccepted}

@@ -19,7 +19,7 @@ use home_bank::Entry;
 use runs::Answer;
 use std::alloc::{Allocator, Global};
 use std::marker::Model;
-use tile_agents::TileAgents;
+use machine_core::TileAgents;
 use torus::Torus;
 
 impl<A: Allocator> TileSeat<A> {

@@ -20,7 +20,7 @@ use channel_number::channel_count;
 use machine_core::{Machine, Parts};
 use std::alloc::{AllocError, Allocator};
 use std::marker::Brand;
-use tile_agents::TileAgents;
+use machine_core::TileAgents;
 use torus::{Fault, Torus};
 
 // The seat's first group becomes a tile seat with its tiles. What is left of the seat comes back.

@@ -12,7 +12,7 @@ use crate::view::{Dealing, Knowledge};
 use atomic_table::{Seat, Table};
 use std::alloc::{Allocator, Global};
 use std::marker::{Brand, Model};
-use tile_agents::TileAgents;
+use machine_core::TileAgents;
 use torus::{Step, Torus};
 
 /// A row of words that threads share, and the rule that it keeps.

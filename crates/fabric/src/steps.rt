@@ -14,7 +14,7 @@ use atomic_table::{Join, Play, Seat, Shared, Split, TableRule};
 use flit_buffer::WordOp;
 use std::alloc::Allocator;
 use std::marker::{Brand, PhantomData};
-use tile_agents::TileAgents;
+use machine_core::TileAgents;
 use torus::{Step, Stepped};
 
 /// The rule of the shared row.

@@ -1,3 +1,4 @@
+pub use Rattle.machine_seen.specs.tile_agents
 pub use Rattle.machine_seen.specs.core_laws
 pub use Rattle.machine_seen.specs.core_row
 pub use Rattle.machine_seen.specs.flights

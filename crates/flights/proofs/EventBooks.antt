@@ -5,7 +5,7 @@ use Rattle.std.proofs.lemmas.List.{length-replicate}
 use Rattle.std.proofs.lemmas.Option.{slice_get_within, same_Some, get_or_from_slice_get}
 use Rattle.torus.specs.declared.step.Tag.{Tag}
 use Rattle.packet.specs.declared.kinds.Operation.{Operation}
-use Rattle.home_bank.specs.declared.entry.Entry.{Entry}
+use Rattle.net_interface.specs.home_bank.specs.declared.entry.Entry.{Entry}
 use Rattle.runs.specs.declared.answer.Answer.{Answer}
 use Rattle.runs.specs.declared.ordered.Ordered.{Ordered}
 use Rattle.runs.specs.Observed.{Observed, Run, list_at, event_count}

@@ -7,7 +7,7 @@ use Rattle.std.proofs.lemmas.Option.{slice_get_within, same_Some, get_or_from_sl
 use Rattle.torus.specs.declared.step.OpId.{OpId}
 use Rattle.packet.specs.declared.kinds.Operation.{Operation}
 use Rattle.script.specs.declared.line.Line.{Line}
-use Rattle.home_bank.specs.declared.entry.Entry.{Entry}
+use Rattle.net_interface.specs.home_bank.specs.declared.entry.Entry.{Entry}
 use Rattle.net_interface.specs.Following.{first_of}
 use Rattle.runs.specs.declared.answer.Answer.{Answer}
 use Rattle.runs.specs.Observed.{Observed, list_at}

@@ -2,7 +2,7 @@
 use Rattle.std.proofs.Common.{◌≡◌, ℕ, zero, suc, List, [], ◌∷◌, map, refl, sym, ◌∙◌, ap, slice_set, slice_index_or, set}
 use Rattle.std.proofs.lemmas.List.{map-set, set-get_or}
 use Rattle.packet.specs.declared.kinds.Operation.{Operation}
-use Rattle.home_bank.specs.declared.entry.Entry.{Entry}
+use Rattle.net_interface.specs.home_bank.specs.declared.entry.Entry.{Entry}
 use Rattle.runs.specs.declared.answer.Answer.{Answer}
 use Rattle.runs.specs.Observed.{Observed, list_at}
 use Rattle.net_interface.specs.ProcessorRecord.{ProcessorRecord, no_processor}

@@ -7,7 +7,7 @@ use Rattle.torus.specs.declared.step.Tag.{Tag}
 use Rattle.packet.specs.declared.kinds.Op.{Op}
 use Rattle.packet.specs.declared.kinds.Operation.{Operation}
 use Rattle.packet.specs.declared.kinds.Response.{Response}
-use Rattle.home_bank.specs.declared.entry.Entry.{Entry}
+use Rattle.net_interface.specs.home_bank.specs.declared.entry.Entry.{Entry}
 use Rattle.runs.specs.Observed.{Observed, list_at, IsTold}
 use Rattle.runs.specs.Order.{LinearizationPoint, home}
 use Rattle.runs.specs.Events.{Issued, Served, Answered, happens, entry_of}

@@ -15,8 +15,8 @@ use Rattle.packet.specs.declared.kinds.Reply.{Reply}
 use Rattle.packet.specs.declared.kinds.Request.{Request}
 use Rattle.packet.specs.declared.kinds.Response.{Response}
 use Rattle.packet.specs.Memory.{reply_to, new_word, reply_of_one}
-use Rattle.home_bank.specs.declared.entry.Entry.{Entry}
-use Rattle.home_bank.specs.ServiceList.{response_of}
+use Rattle.net_interface.specs.home_bank.specs.declared.entry.Entry.{Entry}
+use Rattle.net_interface.specs.home_bank.specs.ServiceList.{response_of}
 use Rattle.net_interface.specs.Following.{Following, after_issue, after_answer, last_answered, other_answered}
 use Rattle.runs.specs.declared.answer.Answer.{Answer}
 use Rattle.runs.specs.Observed.{list_at}

@@ -7,8 +7,8 @@ use Rattle.packet.specs.declared.kinds.Request.{Request}
 use Rattle.packet.specs.declared.kinds.Response.{Response}
 use Rattle.packet.specs.declared.kinds.Reply.{Reply}
 use Rattle.packet.specs.Memory.{new_word, reply_to}
-use Rattle.home_bank.specs.declared.entry.Entry.{Entry}
-use Rattle.home_bank.specs.ServiceList.{address_of, entry_of, response_of}
+use Rattle.net_interface.specs.home_bank.specs.declared.entry.Entry.{Entry}
+use Rattle.net_interface.specs.home_bank.specs.ServiceList.{address_of, entry_of, response_of}
 use Rattle.net_interface.specs.Following.{next_operation_of, is_finished}
 use Rattle.runs.specs.Observed.{Observed, list_at}
 use Rattle.runs.specs.Events.{Event, Nothing, Issued, Served, Answered, push_at}

@@ -1,3 +1,4 @@
+pub use Rattle.net_interface
 pub mod Load
 pub mod Flight
 pub mod Courses

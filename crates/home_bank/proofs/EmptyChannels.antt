@@ -5,7 +5,7 @@ use Rattle.std.specs.Prelude.{slice_index, replicate}
 use Rattle.torus.specs.Shape.{Shape, tiles_of}
 use Rattle.torus.specs.declared.shape.Class.{Class}
 use Rattle.torus.specs.declared.shape.Class.TheVariants.{Request, Reply}
-use Rattle.dateline_route.specs.declared.channel.Kind.TheVariants.{Injection, Ejection}
+use Rattle.channel_number.specs.dateline_route.specs.declared.channel.Kind.TheVariants.{Injection, Ejection}
 use Rattle.channel_number.specs.Order.{channel_count}
 use Rattle.channel_number.specs.Ports.{injection_channel, ejection_channel}
 use Rattle.channel_number.proofs.Orders.{index_below}

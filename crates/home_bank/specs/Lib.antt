@@ -1,3 +1,4 @@
+pub use Rattle.flit_buffer
 pub mod ServiceList
 pub mod Inside
 pub mod BankTable

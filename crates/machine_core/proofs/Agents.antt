@@ -25,8 +25,8 @@ use Rattle.router.specs.Table.{RouterState, router_wants, router_after}
 use Rattle.event_book.specs.RoomyBook.{RoomyBook, KeepsRoom}
 use Rattle.wake_flags.specs.tile.specs.Tile.{Design, TileState, Agent, Router}
 use Rattle.wake_flags.specs.tile.specs.Agents.{TilePlace, agent_numbered, state_of, tile_placed, tile_next_op, agent_op, agent_absorbed}
-use Rattle.tile_agents.specs.Placed.{PlacedTile, IsAcceptableTo, with_place, agent_attempted, tile_attempted}
-use Rattle.tile_agents.proofs.OwnAttempts.{own_attempt}
+use Rattle.wake_flags.specs.tile_agents.specs.Placed.{PlacedTile, IsAcceptableTo, with_place, agent_attempted, tile_attempted}
+use Rattle.wake_flags.specs.tile_agents.proofs.OwnAttempts.{own_attempt}
 use Rattle.wake_flags.specs.core_laws.specs.Core.{design_of, after}
 use Rattle.wake_flags.specs.machine_seen.specs.Notes.{book_noted}
 use Rattle.wake_flags.specs.machine_laws.specs.Core.{Core, Steps}

@@ -7,7 +7,7 @@ use Rattle.torus.specs.declared.step.Step.{Step}
 use Rattle.flit_buffer.specs.Tries.{performed_by}
 use Rattle.wake_flags.specs.tile.specs.Tile.{Design}
 use Rattle.wake_flags.specs.tile.specs.Agents.{TilePlace, tile_next_op}
-use Rattle.tile_agents.specs.Placed.{PlacedTile, tile_attempted}
+use Rattle.wake_flags.specs.tile_agents.specs.Placed.{PlacedTile, tile_attempted}
 use Rattle.wake_flags.specs.core_laws.specs.Core.{Load, State, design_of, step, after}
 use Rattle.wake_flags.specs.core_laws.specs.Runs.{state_after}
 use Rattle.wake_flags.specs.core_row.proofs.Reached.{all_steps}

@@ -12,7 +12,7 @@ use Rattle.flit_buffer.specs.Words.{word_of}
 use Rattle.flit_buffer.specs.declared.word_op.WordOp.{WordOp}
 use Rattle.wake_flags.specs.tile.specs.Tile.{Design}
 use Rattle.wake_flags.specs.tile.specs.Agents.{TilePlace, agent_numbered, tile_next_op, tile_absorbed}
-use Rattle.tile_agents.specs.Placed.{PlacedTile, IsAcceptableTo, tile_attempted}
+use Rattle.wake_flags.specs.tile_agents.specs.Placed.{PlacedTile, IsAcceptableTo, tile_attempted}
 use Rattle.wake_flags.specs.core_laws.specs.Core.{Load, State, design_of, step, after}
 use Rattle.wake_flags.specs.machine_seen.specs.Seen.{IsShown, LeadsOn, state_seen}
 use Rattle.wake_flags.specs.machine_seen.proofs.Attempts.{leads_on}

@@ -16,7 +16,7 @@ use Rattle.wake_flags.specs.flights.specs.EventBook.{EventBook, first_book}
 use Rattle.wake_flags.specs.flights.proofs.LoadingAccepted.{accepted_load}
 use Rattle.wake_flags.specs.tile.specs.Tile.{TileState}
 use Rattle.wake_flags.specs.tile.specs.Agents.{tile_placed}
-use Rattle.tile_agents.specs.Placed.{PlacedTile, first_tile}
+use Rattle.wake_flags.specs.tile_agents.specs.Placed.{PlacedTile, first_tile}
 use Rattle.wake_flags.specs.core_laws.specs.Core.{Load, design_of, first_state, first_tile as first_tile_state}
 use Rattle.wake_flags.specs.core_laws.specs.Runs.{IsAccepted}
 use Rattle.wake_flags.specs.core_row.specs.Attempts.{tile_in}

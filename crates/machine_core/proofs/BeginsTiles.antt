@@ -7,7 +7,7 @@ use Rattle.script.specs.declared.line.Line.{Line}
 use Rattle.script.specs.declared.lists.LineList.{LineList}
 use Rattle.script.specs.ScriptViews.{lists_of}
 use Rattle.wake_flags.specs.tile.specs.Tile.{Design}
-use Rattle.tile_agents.specs.Placed.{PlacedTile, first_tile}
+use Rattle.wake_flags.specs.tile_agents.specs.Placed.{PlacedTile, first_tile}
 use Rattle.machine_core.specs.Loaded.{tiles_from, first_tiles}
 
 module _ (d : Design) (tags : ℕ) (room : ℕ → ℕ) where

@@ -13,7 +13,7 @@ use Rattle.flit_buffer.specs.Surroundings.{Surroundings}
 use Rattle.event_book.specs.RoomyBook.{RoomyBook}
 use Rattle.wake_flags.specs.tile.specs.Tile.{Design, TileState}
 use Rattle.wake_flags.specs.tile.specs.Agents.{TilePlace, state_of, tile_placed}
-use Rattle.tile_agents.specs.Placed.{PlacedTile, with_place}
+use Rattle.wake_flags.specs.tile_agents.specs.Placed.{PlacedTile, with_place}
 use Rattle.wake_flags.specs.core_laws.specs.Core.{Load, State, step}
 use Rattle.wake_flags.specs.machine_seen.specs.Seen.{IsShown}
 use Rattle.wake_flags.specs.machine_laws.specs.Core.{Core, IsAfter, Steps, built_to, told, event_in, core_with}

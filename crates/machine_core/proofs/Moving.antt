@@ -24,7 +24,7 @@ use Rattle.event_book.specs.RoomyBook.{RoomyBook, KeepsRoom}
 use Rattle.rounds.specs.Rounds.{moves_in, one_if_moved}
 use Rattle.wake_flags.specs.tile.specs.Tile.{Design}
 use Rattle.wake_flags.specs.tile.specs.Agents.{TilePlace, state_of, tile_next_op}
-use Rattle.tile_agents.specs.Placed.{PlacedTile, with_place, tile_attempted}
+use Rattle.wake_flags.specs.tile_agents.specs.Placed.{PlacedTile, with_place, tile_attempted}
 use Rattle.wake_flags.specs.core_laws.specs.Core.{Load, State, design_of, step, or_same, first_state, after, records_of}
 use Rattle.wake_flags.specs.machine_seen.specs.Seen.{IsShown, state_seen}
 use Rattle.wake_flags.specs.machine_seen.proofs.Reached.{seen_state}

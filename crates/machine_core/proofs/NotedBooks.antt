@@ -8,7 +8,7 @@ use Rattle.runs.specs.declared.answer.Answer.{Answer}
 use Rattle.wake_flags.specs.net_interface.specs.ProcessorRecord.{ProcessorRecord, no_processor, index_of}
 use Rattle.wake_flags.specs.flights.specs.EventBook.{EventBook, noted_issue, noted_service, noted_answer}
 use Rattle.wake_flags.specs.tile.specs.Tile.{TileState}
-use Rattle.tile_agents.specs.Placed.{PlacedTile}
+use Rattle.wake_flags.specs.tile_agents.specs.Placed.{PlacedTile}
 use Rattle.wake_flags.specs.machine_seen.specs.Notes.{book_noted, answer_noted, service_noted, index_served}
 use Rattle.machine_core.specs.declared.noting.Counts.{Counts}
 use Rattle.machine_core.specs.Noted.{records_in}

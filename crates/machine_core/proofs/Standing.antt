@@ -6,7 +6,7 @@ use Rattle.std.proofs.lemmas.Option.{slice_get_past}
 use Rattle.torus.specs.Shape.{Shape, tiles_of}
 use Rattle.torus.specs.declared.step.Step.{Step}
 use Rattle.wake_flags.specs.tile.specs.Agents.{state_of}
-use Rattle.tile_agents.specs.Placed.{PlacedTile}
+use Rattle.wake_flags.specs.tile_agents.specs.Placed.{PlacedTile}
 use Rattle.wake_flags.specs.core_laws.specs.Core.{Load, State, design_of, step, after}
 use Rattle.wake_flags.specs.core_laws.specs.Runs.{state_after}
 use Rattle.wake_flags.specs.core_laws.proofs.EveryRun.{holds_in}

@@ -10,7 +10,7 @@ use Rattle.wake_flags.specs.net_interface.specs.Following.{is_finished}
 use Rattle.wake_flags.specs.net_interface.specs.ProcessorRecord.{ProcessorRecord}
 use Rattle.wake_flags.specs.tile.specs.Tile.{TileState}
 use Rattle.wake_flags.specs.tile.specs.Agents.{TilePlace, state_of}
-use Rattle.tile_agents.specs.Placed.{PlacedTile}
+use Rattle.wake_flags.specs.tile_agents.specs.Placed.{PlacedTile}
 use Rattle.wake_flags.specs.core_laws.specs.Core.{Load, State, design_of, records_of}
 use Rattle.wake_flags.specs.core_row.specs.Row.{row_of}
 use Rattle.wake_flags.specs.core_row.proofs.Reached.{all_steps, size}

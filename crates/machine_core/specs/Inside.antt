@@ -8,7 +8,7 @@ use Rattle.wake_flags.specs.flights.specs.Room.{home_room}
 use Rattle.event_book.specs.RoomyBook.{RoomyBook}
 use Rattle.wake_flags.specs.tile.specs.Tile.{Design}
 use Rattle.wake_flags.specs.tile.specs.Agents.{TilePlace}
-use Rattle.tile_agents.specs.Placed.{PlacedTile}
+use Rattle.wake_flags.specs.tile_agents.specs.Placed.{PlacedTile}
 use Rattle.wake_flags.specs.core_laws.specs.Core.{Load, design_of, after as state_after_steps}
 use Rattle.wake_flags.specs.machine_seen.specs.Seen.{IsShown, state_seen}
 use Rattle.wake_flags.specs.machine_laws.specs.Core.{Core, IsAfter}

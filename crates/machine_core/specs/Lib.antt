@@ -1,3 +1,4 @@
+pub use Rattle.wake_flags.specs.machine_laws
 pub use Rattle.wake_flags.specs.core_laws
 pub use Rattle.wake_flags.specs.flights
 pub mod Inside

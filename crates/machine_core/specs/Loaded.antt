@@ -2,7 +2,7 @@
 use Rattle.std.specs.Prelude.{ℕ, ◌+◌, List, [], ◌∷◌}
 use Rattle.script.specs.declared.line.Line.{Line}
 use Rattle.wake_flags.specs.tile.specs.Tile.{Design}
-use Rattle.tile_agents.specs.Placed.{PlacedTile, first_tile}
+use Rattle.wake_flags.specs.tile_agents.specs.Placed.{PlacedTile, first_tile}
 
 -- the tiles from tile t on, before any step: one for each script, each bank with its room (this project's own format)
 abbrev pub tiles_from : Design → ℕ → ℕ → (ℕ → ℕ) → List (List Line) → List PlacedTile

@@ -7,7 +7,7 @@ use Rattle.runs.specs.declared.answer.Answer.{Answer}
 use Rattle.runs.specs.Observed.{list_at}
 use Rattle.wake_flags.specs.net_interface.specs.ProcessorRecord.{ProcessorRecord}
 use Rattle.event_book.specs.RoomyBook.{RoomyBook}
-use Rattle.tile_agents.specs.Placed.{PlacedTile}
+use Rattle.wake_flags.specs.tile_agents.specs.Placed.{PlacedTile}
 use Rattle.wake_flags.specs.machine_seen.specs.Notes.{RoomToNoteAnswer, index_served}
 use Rattle.machine_core.specs.declared.noting.Counts.{Counts}
 

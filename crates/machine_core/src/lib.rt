@@ -13,3 +13,4 @@ pub use home_bank::Entry;
 pub use machine::Machine;
 pub use parts::Parts;
 pub use runs::{Answer, Ordered};
+pub use wake_flags::TileAgents;

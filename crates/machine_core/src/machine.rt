@@ -23,7 +23,7 @@ use script::{LineList, MachineText, Scripts};
 use script_rooms::{all_room, home_rooms, processor_rooms};
 use std::alloc::{AllocError, Allocator, Global};
 use std::marker::Model;
-use tile_agents::TileAgents;
+use wake_flags::TileAgents;
 use torus::{Fault, Step, Stepped, Torus};
 use wake_flags::WakeFlags;
 

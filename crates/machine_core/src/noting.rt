@@ -6,14 +6,14 @@ ghost use Rattle.wake_flags.specs.net_interface.specs.ProcessorRecord.{index_of}
 ghost use Rattle.wake_flags.specs.tile.specs.Tile.{Bank};
 ghost use Rattle.wake_flags.specs.tile.specs.Agents.{state_of};
 ghost use Rattle.event_book.specs.RoomyBook.{KeepsRoom};
-ghost use Rattle.tile_agents.specs.Placed.{HasRoomFor, PlacedTile};
+ghost use Rattle.wake_flags.specs.tile_agents.specs.Placed.{HasRoomFor, PlacedTile};
 ghost use Rattle.wake_flags.specs.machine_seen.specs.Notes.{book_noted};
 ghost use Rattle.machine_core.specs.Noted.{HasRoomToNote, IsOfFullBank, counts_of, records_in};
 
 use event_book::EventBook;
 use std::alloc::Allocator;
 use tag_table::{OpId, Tag};
-use tile_agents::TileAgents;
+use wake_flags::TileAgents;
 use torus::Choice;
 
 /// Whether a choice of a bank is a service for the entry of which it has no room.

@@ -9,7 +9,7 @@ ghost use Rattle.machine_core.specs.Inside.{HaveRoom};
 
 use crate::machine::Machine;
 use std::alloc::{Allocator, Global};
-use tile_agents::TileAgents;
+use wake_flags::TileAgents;
 use torus::Torus;
 
 /// What a machine is made of: what was loaded, but for the scripts, the tiles by number, and the row

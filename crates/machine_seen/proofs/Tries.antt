@@ -22,7 +22,7 @@ use Rattle.channel_number.specs.Ports.{port_count, input_channel}
 use Rattle.home_bank.specs.BankAgent.{NamesWord}
 use Rattle.home_bank.specs.BankTable.{is_nil}
 use Rattle.machine_laws.specs.net_interface.specs.ProcessorRecord.{ProcessorRecord}
-use Rattle.processor.specs.Place.{IsForProcessor}
+use Rattle.tile_agents.specs.processor.specs.Place.{IsForProcessor}
 use Rattle.router.specs.Table.{NamesTile, latch_of, wants_to_take}
 use Rattle.machine_laws.specs.tile.specs.Tile.{Design, TileState, Agent, Processor, Router, Bank}
 use Rattle.machine_laws.specs.tile.specs.Agents.{TilePlace, agent_numbered, wiring_of, tile_placed, agent_op, tile_next_op}

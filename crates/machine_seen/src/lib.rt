@@ -5,3 +5,5 @@
 pub mod asking;
 pub mod laws;
 pub mod noting;
+
+pub use tile_agents::TileAgents;

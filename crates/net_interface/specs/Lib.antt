@@ -1,3 +1,5 @@
+pub use Rattle.runs
+pub use Rattle.runs.specs.home_bank
 pub mod Scripts
 pub mod Homes
 pub mod Following

@@ -8,9 +8,9 @@ use Rattle.packet.specs.declared.kinds.Packet.TheVariants.{Request, Response}
 use Rattle.packet.specs.declared.assembler.Offered.{Offered}
 use Rattle.packet.specs.declared.assembler.Offered.TheVariants.{Whole}
 use Rattle.packet.specs.Answer.{flits_left}
-use Rattle.flit_buffer.specs.declared.want.Want.{Want}
-use Rattle.flit_buffer.specs.declared.want.Want.TheVariants.{Take, Put, Credit, Access, Await}
-use Rattle.flit_buffer.specs.Channel.{first_of, rest}
+use Rattle.runs.specs.flit_buffer.specs.declared.want.Want.{Want}
+use Rattle.runs.specs.flit_buffer.specs.declared.want.Want.TheVariants.{Take, Put, Credit, Access, Await}
+use Rattle.runs.specs.flit_buffer.specs.Channel.{first_of, rest}
 use Rattle.net_interface.specs.Following.{is_finished}
 use Rattle.net_interface.specs.ProcessorRecord.{ProcessorRecord, ready, issued_by, answered_by, request_of}
 use Rattle.packet.specs.Flits.{offered, flits_of}

@@ -8,3 +8,4 @@ mod spin;
 mod tests;
 
 pub use follower::Follower;
+pub use runs::Answer;

@@ -12,8 +12,8 @@ use Rattle.script.specs.declared.line.Line.{Line}
 use Rattle.script.specs.Scripts.{operation_count}
 use Rattle.tag_table.specs.Tags.{holder_of, free_tag, HoldsNone}
 use Rattle.tag_table.proofs.Moves.{taken, given, distinct-taken, distinct-given}
-use Rattle.runs.proofs.Lists.{get_append_left, get_push, get_push_cases, get_set_same, get_set_other}
-use Rattle.runs.specs.declared.answer.Answer.{Answer}
+use Rattle.net_interface.specs.runs.proofs.Lists.{get_append_left, get_push, get_push_cases, get_set_same, get_set_other}
+use Rattle.net_interface.specs.runs.specs.declared.answer.Answer.{Answer}
 use Rattle.net_interface.specs.Scripts.{Invocation, IsFollowable, AreAnswersBefore}
 use Rattle.net_interface.specs.Following.{Following, ShowsPast, starts, issues, answers, first_of, next_operation_of, after_issue, after_answer}
 use Rattle.net_interface.specs.ProcessorRecord.{ProcessorRecord, ready, issued_by, answered_by, index_of, index_in, answer_of}

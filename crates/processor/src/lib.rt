@@ -7,4 +7,4 @@ mod record;
 mod start;
 
 pub use processor::Processor;
-pub use runs::Answer;
+pub use net_interface::Answer;

@@ -26,7 +26,7 @@ use crate::start::new_ports;
 use arrayvec::ArrayVec;
 use flit_buffer::{Ports, Want, WordOp};
 use packet::{Assembler, Offered, Op, Operation, Packet, Request, flits};
-use runs::Answer;
+use net_interface::Answer;
 use script::Line;
 use std::alloc::{AllocError, Allocator, Global};
 use std::marker::Model;

@@ -11,7 +11,7 @@ ghost use Rattle.processor.specs.Beginning.{first_record};
 
 use net_interface::Follower;
 use packet::{Operation, Response};
-use runs::Answer;
+use net_interface::Answer;
 use script::Line;
 use std::alloc::{AllocError, Allocator, Global};
 use std::marker::Model;

@@ -1,3 +1,5 @@
+pub use Rattle.home_bank
+pub use Rattle.home_bank.specs.flit_buffer
 pub mod Observed
 pub mod Order
 pub mod Growth

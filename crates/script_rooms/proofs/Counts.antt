@@ -8,9 +8,9 @@ use Rattle.script.specs.declared.line.Line.{Line}
 use Rattle.script.specs.declared.lists.LineList.{LineList}
 use Rattle.script.specs.Scripts.{operations_of, operation_count, script_of, total_count}
 use Rattle.script.specs.ScriptViews.{lists_of}
-use Rattle.net_interface.specs.Scripts.{address_of}
+use Rattle.flights.specs.net_interface.specs.Scripts.{address_of}
 use Rattle.flights.specs.Room.{home_room}
-use Rattle.net_interface.specs.Homes.{is_home, line_home_count, script_home_count}
+use Rattle.flights.specs.net_interface.specs.Homes.{is_home, line_home_count, script_home_count}
 
 -- one line more
 pub count_more : (lines : List Line) (i : ℕ) (d : Line) → i < length lines → sum_by operations_of (take (i + 1) lines) ≡ sum_by operations_of (take i lines) + operations_of (get_or lines i d)

@@ -1,7 +1,7 @@
 -- A tile in the beginning.
 use Rattle.std.specs.Prelude.{ℕ}
 use Rattle.router.specs.Beginning.{new_ports as new_router_ports}
-use Rattle.home_bank.specs.Beginning.{new_ports as new_bank_ports}
+use Rattle.processor.specs.home_bank.specs.Beginning.{new_ports as new_bank_ports}
 use Rattle.processor.specs.Beginning.{new_ports as new_processor_ports}
 use Rattle.tile.specs.Tile.{Design, TileState}
 use Rattle.tile.specs.Agents.{TilePlace}

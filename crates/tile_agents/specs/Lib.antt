@@ -1,2 +1,3 @@
+pub use Rattle.tile.specs.processor
 pub mod Placed
 pub mod Inside

@@ -10,8 +10,8 @@ use Rattle.channel_number.specs.Ports.{port_count}
 use Rattle.router.specs.Table.{IsRoutable, empty_router}
 use Rattle.home_bank.specs.BankAgent.{IsAcceptable as IsAcceptableToBank}
 use Rattle.home_bank.specs.Beginning.{empty_bank}
-use Rattle.processor.specs.Place.{IsAcceptable as IsAcceptableToProcessor}
-use Rattle.processor.specs.Beginning.{first_processor}
+use Rattle.tile.specs.processor.specs.Place.{IsAcceptable as IsAcceptableToProcessor}
+use Rattle.tile.specs.processor.specs.Beginning.{first_processor}
 use Rattle.tile.specs.Tile.{Design, TileState, Agent, Processor, Router, Bank}
 use Rattle.tile.specs.Agents.{TilePlace, agent_op, agent_absorbed, tile_next_op, tile_absorbed}
 use Rattle.tile.specs.Beginning.{new_tile}

@@ -7,3 +7,4 @@ pub mod laws;
 
 pub use ends::Ends;
 pub use flags::WakeFlags;
+pub use wakefulness::TileAgents;

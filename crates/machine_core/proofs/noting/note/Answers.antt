@@ -2,7 +2,7 @@ use Rattle.std.proofs.Common.{◌≡◌, ◌<◌, ℕ, length, sym, ◌∙◌, a
 use Rattle.std.proofs.lemmas.Option.{same_Some}
 use Rattle.wake_flags.specs.flights.specs.EventBook.{noted_service}
 use Rattle.wake_flags.specs.tile.specs.Agents.{state_of}
-use Rattle.tile_agents.specs.Placed.{PlacedTile}
+use Rattle.wake_flags.specs.tile_agents.specs.Placed.{PlacedTile}
 use Rattle.wake_flags.specs.machine_seen.specs.Notes.{RoomToNoteAnswer, index_served}
 use Rattle.machine_core.specs.Noted.{HasRoomForIssue, HasRoomForService, records_in}
 use Rattle.machine_core.proofs.NotedBooks.{seen_at, looked_up, noted_as_issue, noted_as_answer, noted_as_service, noted_as_nothing, served_at}

@@ -3,7 +3,7 @@ use Rattle.std.specs.Prelude.{sum_by}
 use Rattle.script.specs.declared.line.Line.{Line}
 use Rattle.script.specs.declared.line.Line.TheVariants.{Load}
 use Rattle.script.specs.Scripts.{operation_count}
-use Rattle.net_interface.specs.Homes.{line_home_count}
+use Rattle.flights.specs.net_interface.specs.Homes.{line_home_count}
 use Rattle.script_rooms.proofs.Counts.{count_more, count_within, script_home_within}
 use Rattle.script_rooms.proofs.rooms.count_script.Goals as goal
 

@@ -4,7 +4,7 @@ use Rattle.std.proofs.lemmas.List.{get_or-replicate}
 use Rattle.std.proofs.lemmas.List.Sums.{sum_by-take-le}
 use Rattle.script.specs.ScriptViews.{lists_of}
 use Rattle.script.specs.Scripts.{operation_count, total_count}
-use Rattle.net_interface.specs.Homes.{script_home_count}
+use Rattle.flights.specs.net_interface.specs.Homes.{script_home_count}
 use Rattle.script_rooms.proofs.Counts.{lists_more, home_within}
 use Rattle.script_rooms.proofs.rooms.home_rooms.Goals as goal
 

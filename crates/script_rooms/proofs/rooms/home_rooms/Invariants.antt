@@ -1,7 +1,7 @@
 use Rattle.std.proofs.Common.{◌≡◌, ◌<◌, ℕ, take, slice_index}
 use Rattle.std.specs.Prelude.{sum_by}
 use Rattle.script.specs.ScriptViews.{lists_of}
-use Rattle.net_interface.specs.Homes.{script_home_count}
+use Rattle.flights.specs.net_interface.specs.Homes.{script_home_count}
 use Rattle.script_rooms.proofs.rooms.home_rooms.Given as goal
 
 -- each count is that of the scripts so far

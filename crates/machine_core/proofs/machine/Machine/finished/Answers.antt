@@ -3,7 +3,7 @@ use Rattle.std.proofs.lemmas.Iterator.{YieldsList-from_slice}
 use Rattle.std.proofs.lemmas.Iterator.Search.{all_from_yields_List}
 use Rattle.wake_flags.specs.net_interface.specs.Following.{is_finished}
 use Rattle.wake_flags.specs.flights.specs.Scripts.{AreFinished}
-use Rattle.tile_agents.specs.Placed.{PlacedTile}
+use Rattle.wake_flags.specs.tile_agents.specs.Placed.{PlacedTile}
 use Rattle.wake_flags.specs.core_laws.specs.Core.{run_of}
 use Rattle.wake_flags.specs.core_progress.specs.Moves.{IsLive}
 use Rattle.wake_flags.specs.machine_laws.specs.Core.{Core, built_to, all_finished}

@@ -5,7 +5,7 @@ use Rattle.std.proofs.lemmas.Option.{same_Some}
 use Rattle.torus.specs.declared.step.Stepped.TheVariants.{Moved}
 use Rattle.wake_flags.specs.tile.specs.Tile.{Bank}
 use Rattle.wake_flags.specs.tile.specs.Agents.{agent_op}
-use Rattle.tile_agents.specs.Placed.{PlacedTile, agent_attempted}
+use Rattle.wake_flags.specs.tile_agents.specs.Placed.{PlacedTile, agent_attempted}
 use Rattle.machine_core.specs.declared.noting.Counts.{Counts}
 use Rattle.machine_core.specs.Noted.{HasRoomToNote, counts_of}
 use Rattle.machine_core.proofs.Fields.{Led, vec_at, with_parts, moved_tile, idle_tile, noted_same}

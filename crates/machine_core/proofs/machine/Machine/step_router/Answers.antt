@@ -4,7 +4,7 @@ use Rattle.std.proofs.lemmas.Option.{same_Some}
 use Rattle.torus.specs.declared.step.Stepped.TheVariants.{Moved}
 use Rattle.wake_flags.specs.tile.specs.Tile.{Router}
 use Rattle.wake_flags.specs.tile.specs.Agents.{agent_op}
-use Rattle.tile_agents.specs.Placed.{PlacedTile, agent_attempted}
+use Rattle.wake_flags.specs.tile_agents.specs.Placed.{PlacedTile, agent_attempted}
 use Rattle.machine_core.proofs.Fields.{Led, vec_at, with_parts, moved_tile, idle_tile}
 use Rattle.machine_core.proofs.Agents.{of_tile, of_kind, tile_within, agent_word, agent_fits, agent_without_op, agent_idle, agent_left, router_moved}
 use Rattle.machine_core.proofs.machine.Machine.step_router.Given.{Over}
