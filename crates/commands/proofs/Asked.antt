@@ -8,7 +8,7 @@ use Rattle.script.specs.Steps.{steps_of}
 use Rattle.machine_texts.specs.flights.specs.Load.{load_of}
 use Rattle.machine_laws.specs.Core.{Core, IsLawful, all_finished}
 use Rattle.report_lines.specs.Line.{text_of}
-use Rattle.history.specs.Report.{machine_report}
+use Rattle.history.specs.machine_report.specs.Report.{machine_report}
 use Rattle.commands.specs.declared.fault.ProgramFault.{ProgramFault}
 use Rattle.commands.specs.declared.fault.ProgramFault.TheVariants as program
 use Rattle.commands.specs.Done.{Does, Output}

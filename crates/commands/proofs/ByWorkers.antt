@@ -14,22 +14,22 @@ use Rattle.machine_texts.specs.core_laws.specs.Core.{after, records_of, run_of}
 use Rattle.machine_texts.specs.core_laws.specs.Runs.{IsAccepted}
 use Rattle.machine_laws.specs.Core.{Core, IsAfter, all_finished, core_after, core_after_load, shown}
 use Rattle.machine_laws.specs.Reported.{ReportsWell}
-use Rattle.worker_run.specs.fabric.specs.fabric_laws.specs.Ended.{AreAllFinished}
-use Rattle.worker_run.specs.fabric.specs.fabric_laws.specs.Groups.{GoesOn, Owns}
-use Rattle.worker_run.specs.fabric.specs.fabric_laws.specs.Known.{known}
-use Rattle.worker_run.specs.fabric.specs.fabric_laws.proofs.Ends.{all_ended}
-use Rattle.worker_run.specs.fabric.specs.fabric_laws.proofs.Groups.{away}
-use Rattle.worker_run.specs.fabric.specs.fabric_laws.proofs.Runs.{known_away}
-use Rattle.worker_run.specs.fabric.specs.Asking.{HasSeen}
-use Rattle.worker_run.specs.fabric.specs.Ending.{Ended}
-use Rattle.worker_run.specs.fabric.specs.Key.{ranges}
-use Rattle.worker_run.specs.fabric.specs.Opening.{fresh}
-use Rattle.worker_run.specs.fabric.specs.Seats.{Knowing, Origin, IsOf, IsWhole}
-use Rattle.worker_run.specs.Working.{HasTurned, HasWorked, EndsAs, Working}
-use Rattle.worker_run.specs.declared.worker.End.{End}
-use Rattle.worker_run.specs.declared.worker.End.TheVariants.{Held, Finished, Stopped}
+use Rattle.history.specs.worker_run.specs.fabric.specs.fabric_laws.specs.Ended.{AreAllFinished}
+use Rattle.history.specs.worker_run.specs.fabric.specs.fabric_laws.specs.Groups.{GoesOn, Owns}
+use Rattle.history.specs.worker_run.specs.fabric.specs.fabric_laws.specs.Known.{known}
+use Rattle.history.specs.worker_run.specs.fabric.specs.fabric_laws.proofs.Ends.{all_ended}
+use Rattle.history.specs.worker_run.specs.fabric.specs.fabric_laws.proofs.Groups.{away}
+use Rattle.history.specs.worker_run.specs.fabric.specs.fabric_laws.proofs.Runs.{known_away}
+use Rattle.history.specs.worker_run.specs.fabric.specs.Asking.{HasSeen}
+use Rattle.history.specs.worker_run.specs.fabric.specs.Ending.{Ended}
+use Rattle.history.specs.worker_run.specs.fabric.specs.Key.{ranges}
+use Rattle.history.specs.worker_run.specs.fabric.specs.Opening.{fresh}
+use Rattle.history.specs.worker_run.specs.fabric.specs.Seats.{Knowing, Origin, IsOf, IsWhole}
+use Rattle.history.specs.worker_run.specs.Working.{HasTurned, HasWorked, EndsAs, Working}
+use Rattle.history.specs.worker_run.specs.declared.worker.End.{End}
+use Rattle.history.specs.worker_run.specs.declared.worker.End.TheVariants.{Held, Finished, Stopped}
 use Rattle.report_lines.specs.Line.{text_of}
-use Rattle.history.specs.Report.{report_of}
+use Rattle.history.specs.machine_report.specs.Report.{report_of}
 use Rattle.machine_texts.specs.Loading.{HasLoaded}
 use Rattle.commands.specs.Workers.{HasDonePart, IsMadeByWorkers, IsOfEnded, IsTakenIn, IsWorkersText, crew, first_held, held, new_worker}
 use Rattle.commands.proofs.Shares.{holder, holds_tiles, shares}

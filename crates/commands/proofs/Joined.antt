@@ -2,10 +2,10 @@
 use Rattle.std.proofs.Common.{◌≡◌, ℕ, All, List, [], ◌∷◌, ◌++◌, Some, sym, ap, ◌∙◌, subst, inl, append_assoc}
 use Rattle.std.proofs.lemmas.List.{append-nil}
 use Rattle.std.proofs.lemmas.List.Elements.{All-cons, All-nil, All-pop, All-weaker}
-use Rattle.worker_run.specs.fabric.specs.fabric_laws.specs.Groups.{Owns}
-use Rattle.worker_run.specs.fabric.specs.fabric_laws.proofs.Groups.{in_one, others_append, others_sub, owns_left, owns_right}
-use Rattle.worker_run.specs.fabric.specs.Seats.{Knowing, Origin, IsOf, JoinsTo}
-use Rattle.worker_run.specs.Working.{Working}
+use Rattle.history.specs.worker_run.specs.fabric.specs.fabric_laws.specs.Groups.{Owns}
+use Rattle.history.specs.worker_run.specs.fabric.specs.fabric_laws.proofs.Groups.{in_one, others_append, others_sub, owns_left, owns_right}
+use Rattle.history.specs.worker_run.specs.fabric.specs.Seats.{Knowing, Origin, IsOf, JoinsTo}
+use Rattle.history.specs.worker_run.specs.Working.{Working}
 use Rattle.commands.specs.Workers.{IsTakenIn}
 
 -- what the seat of two takes in

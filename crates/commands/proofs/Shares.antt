@@ -7,9 +7,9 @@ use Rattle.std.proofs.Math.Nat.{add-mul, div-mul-le_self, mul-div_cancel_left, z
 use Rattle.std.proofs.lemmas.Bool.{cases_lt}
 use Rattle.std.proofs.lemmas.List.FromFn.{length-map-range_with_len}
 use Rattle.std.proofs.lemmas.Nat.{le-div}
-use Rattle.worker_run.specs.fabric.specs.fabric_laws.specs.Groups.{Owns}
-use Rattle.worker_run.specs.fabric.specs.Key.{count_up, ranges, Rises}
-use Rattle.worker_run.specs.fabric.specs.Opening.{CanDeal}
+use Rattle.history.specs.worker_run.specs.fabric.specs.fabric_laws.specs.Groups.{Owns}
+use Rattle.history.specs.worker_run.specs.fabric.specs.Key.{count_up, ranges, Rises}
+use Rattle.history.specs.worker_run.specs.fabric.specs.Opening.{CanDeal}
 use Rattle.commands.specs.Workers.{first_held, held}
 
 owns_count : (a k t : ℕ) → Owns (count_up a k) t → (a ≤ t) × (t < a + k)

@@ -13,7 +13,7 @@ use Rattle.machine_texts.specs.flights.specs.Scripts.{AreFinished}
 use Rattle.machine_texts.specs.Loading.{◌then◌}
 use Rattle.report_lines.specs.Line.{text_of}
 use Rattle.report_check.specs.Good.{GoodReport}
-use Rattle.history.specs.Report.{machine_report}
+use Rattle.history.specs.machine_report.specs.Report.{machine_report}
 use Rattle.commands.specs.declared.fault.ProgramFault.{ProgramFault}
 use Rattle.commands.specs.declared.fault.ProgramFault.TheVariants as program
 use Rattle.commands.specs.Done.{Does, Output}

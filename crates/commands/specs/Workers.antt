@@ -7,15 +7,15 @@ use Rattle.machine_texts.specs.flights.specs.Load.{Load}
 use Rattle.machine_texts.specs.flights.specs.Scripts.{AreFinished}
 use Rattle.machine_texts.specs.core_laws.specs.Core.{after, run_of}
 use Rattle.machine_laws.specs.Core.{IsLawful, all_finished, book_after, core_after_load}
-use Rattle.worker_run.specs.fabric.specs.fabric_laws.specs.Ended.{AreAllFinished}
-use Rattle.worker_run.specs.fabric.specs.fabric_laws.specs.Groups.{GoesOn, Owns}
-use Rattle.worker_run.specs.fabric.specs.Ending.{Ended}
-use Rattle.worker_run.specs.fabric.specs.Key.{count_up}
-use Rattle.worker_run.specs.fabric.specs.Seats.{Knowing}
-use Rattle.worker_run.specs.Working.{HasTurned, Working}
+use Rattle.history.specs.worker_run.specs.fabric.specs.fabric_laws.specs.Ended.{AreAllFinished}
+use Rattle.history.specs.worker_run.specs.fabric.specs.fabric_laws.specs.Groups.{GoesOn, Owns}
+use Rattle.history.specs.worker_run.specs.fabric.specs.Ending.{Ended}
+use Rattle.history.specs.worker_run.specs.fabric.specs.Key.{count_up}
+use Rattle.history.specs.worker_run.specs.fabric.specs.Seats.{Knowing}
+use Rattle.history.specs.worker_run.specs.Working.{HasTurned, Working}
 use Rattle.report_lines.specs.Line.{text_of}
 use Rattle.report_check.specs.Good.{GoodReport}
-use Rattle.history.specs.Report.{run_report}
+use Rattle.history.specs.RunReport.{run_report}
 use Rattle.commands.specs.declared.fault.ProgramFault.{ProgramFault}
 use Rattle.commands.specs.Done.{Does, Output}
 use Rattle.commands.specs.Run.{IsTextsFault}

@@ -6,9 +6,9 @@ ghost use Rattle.torus.specs.declared.fault.Fault.TheVariants as fault;
 ghost use Rattle.machine_texts.specs.flights.specs.Load.{Load};
 ghost use Rattle.machine_laws.specs.Core.{IsAfter};
 ghost use Rattle.machine_texts.specs.Loading.{load_by};
-ghost use Rattle.worker_run.specs.fabric.specs.Opening.{fresh};
-ghost use Rattle.worker_run.specs.fabric.specs.Seats.{IsOf};
-ghost use Rattle.worker_run.specs.Working.{HasWorked, Working};
+ghost use Rattle.history.specs.worker_run.specs.fabric.specs.Opening.{fresh};
+ghost use Rattle.history.specs.worker_run.specs.fabric.specs.Seats.{IsOf};
+ghost use Rattle.history.specs.worker_run.specs.Working.{HasWorked, Working};
 ghost use Rattle.commands.specs.Done.{Does, output};
 ghost use Rattle.commands.specs.Run.{IsNoFault};
 ghost use Rattle.commands.specs.Workers.{IsMadeByWorkers, IsOfEnded, IsTakenIn, PrintsWorkers, first_held, held, new_worker};
@@ -16,7 +16,7 @@ ghost use Rattle.commands.specs.Workers.{IsMadeByWorkers, IsOfEnded, IsTakenIn, 
 use crate::ProgramFault;
 use crate::in_rounds::loaded;
 use arrayvec::ArrayVec;
-use history::{of_final, write_report};
+use history::{Fabric, Final, Open, TileSeat, Worker, of_final, run_workers, write_report};
 use machine_laws::laws::{
     ended_followers_finish_scripts, steps_decide_the_machine, steps_lead_on,
     steps_lead_to_a_machine,
@@ -27,8 +27,6 @@ use std::alloc::{AllocError, Allocator};
 use std::sync::Wait;
 use std::thread::Threads;
 use torus::Fault;
-use worker_run::gate::Open;
-use worker_run::{Fabric, Final, TileSeat, Worker, run_workers};
 
 /// Runs the machine of a text, whose processors follow the scripts of a text, by workers in threads of
 /// their own: as many as are asked for, 1 to 16, and at most one a tile, each with so many turns at

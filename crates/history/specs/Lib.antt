@@ -1,1 +1,3 @@
-pub mod Report
+pub use Rattle.machine_report
+pub use Rattle.worker_run
+pub mod RunReport

@@ -1,13 +1,15 @@
 //! The reports of runs: of a machine, and of a closed fabric.
 #![tactic(auto)]
 
-mod reached;
-mod rows;
+mod ended;
 pub mod run;
 
-pub use report_check::{CheckFault, check_report};
-pub use report_lines::{
-    AnswerLine, AnswerRow, EntryLine, EntryRow, LineText, OrderLine, Out, OutputFailed, Parts,
-    Piped, Radices, Report, ReportLine, line_of, write_report,
+pub use machine_report::{
+    AnswerLine, AnswerRow, CheckFault, EntryLine, EntryRow, LineText, OrderLine, Out, OutputFailed,
+    Parts, Piped, Radices, Report, ReportLine, check_report, line_of, of_run, write_report,
 };
-pub use run::{of_final, of_run};
+pub use run::of_final;
+pub use worker_run::gate::Open;
+pub use worker_run::{
+    End, Fabric, Final, Gate, Machine, ProbeSeat, TileSeat, Turned, Worker, run_workers,
+};

@@ -13,7 +13,7 @@ use denote.RawPtr.{ptr_val}
 use mir.Val.{vbool}
 use Rattle.machine_handle.proofs.slot.Slot.TheLaws.{lowers}
 use Rattle.std.specs.contracts.impls.GlobalAllocator.TheImpl.{ghosts}
-use Rattle.machine_laws.specs.Core.{Core}
+use Rattle.machine_core.specs.machine_laws.specs.Core.{Core}
 use Rattle.machine_handle.specs.declared.slot.Slot.{Slot}
 use Rattle.machine_handle.specs.contracts.slot.Slot.{the_row as R, the_type}
 use Rattle.machine_handle.specs.Row.{machine_row as T, heap}

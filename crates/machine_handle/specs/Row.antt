@@ -5,7 +5,7 @@ use Rattle.std.specs.Box.Ownership.{box_owns}
 use Rattle.std.specs.Global.{Global}
 use Rattle.std.specs.contracts.alloc.Global as global
 use Rattle.std.specs.contracts.impls.GlobalAllocator.TheImpl.{ghosts}
-use Rattle.machine_laws.specs.Core.{Core}
+use Rattle.machine_core.specs.machine_laws.specs.Core.{Core}
 use Rattle.machine_core.specs.contracts.machine.Machine.{the_row}
 use denote.RawPtr.{Ptr}
 

@@ -1,7 +1,7 @@
 -- What C is told of a machine (this project's own format).
 use Rattle.std.specs.Prelude.{ℕ, List, length, Option, Some, None, option_and_then, slice_get}
 use Rattle.torus.specs.Shape.{tiles_of}
-use Rattle.machine_laws.specs.Core.{Core, built_to, shown}
+use Rattle.machine_handle.specs.machine_laws.specs.Core.{Core, built_to, shown}
 use Rattle.core_row.specs.Row.{row_of}
 use Rattle.torusmem_c.specs.declared.outcome.Outcome.{Outcome}
 use Rattle.torusmem_c.specs.declared.outcome.Code.TheVariants as code

@@ -4,11 +4,11 @@ use Rattle.torus.specs.declared.step.Step.{Step}
 use Rattle.torus.specs.declared.step.Stepped.{Stepped}
 use Rattle.torus.specs.declared.step.Stepped.TheVariants.{Moved, Idle}
 use Rattle.rounds.specs.Rounds.{moves_in}
-use Rattle.machine_core.specs.flights.specs.Scripts.{AreFinished}
-use Rattle.machine_core.specs.core_laws.specs.Core.{Load, run_of, step, round}
-use Rattle.machine_laws.specs.Core.{Core, IsAfter, MakesMove, Steps, core_after, built_to, all_finished}
-use Rattle.machine_core.specs.Rounds.{rounds_of, NeedsRounds}
-use Rattle.machine_laws.specs.core_progress.specs.Moves.{IsLive, moves_left}
+use Rattle.machine_handle.specs.machine_core.specs.flights.specs.Scripts.{AreFinished}
+use Rattle.machine_handle.specs.machine_core.specs.core_laws.specs.Core.{Load, run_of, step, round}
+use Rattle.machine_handle.specs.machine_laws.specs.Core.{Core, IsAfter, MakesMove, Steps, core_after, built_to, all_finished}
+use Rattle.machine_handle.specs.machine_core.specs.Rounds.{rounds_of, NeedsRounds}
+use Rattle.machine_handle.specs.machine_laws.specs.core_progress.specs.Moves.{IsLive, moves_left}
 use Rattle.torusmem_c.specs.declared.outcome.Outcome.{Outcome}
 use Rattle.torusmem_c.specs.declared.outcome.Code.TheVariants as code
 use Rattle.torusmem_c.specs.Outcome.{outcome, flag}

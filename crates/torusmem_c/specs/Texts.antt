@@ -2,13 +2,13 @@
 use Rattle.std.specs.Prelude.{◌≡◌, ◌⊎◌, ℕ, List, Result, Option, Some, None}
 use Rattle.torus.specs.declared.fault.Fault.TheVariants as fault
 use Rattle.script.specs.declared.fault.LineFault.{LineFault}
-use Rattle.machine_core.specs.flights.specs.Load.{Load}
-use Rattle.machine_laws.specs.Core.{Core}
+use Rattle.machine_handle.specs.machine_core.specs.flights.specs.Load.{Load}
+use Rattle.machine_handle.specs.machine_laws.specs.Core.{Core}
 use Rattle.report_lines.specs.Line.{text_of}
 use Rattle.report_check.specs.Good.{GoodReport, HasFault}
 use Rattle.report_check.specs.declared.fault.CheckFault.{CheckFault}
 use Rattle.report_check.specs.declared.fault.CheckFault.TheVariants.{BadReport, Memory}
-use Rattle.history.specs.Report.{machine_report}
+use Rattle.machine_report.specs.Report.{machine_report}
 use Rattle.machine_texts.specs.Loading.{HasLoaded, IsLoadFault}
 use Rattle.torusmem_c.specs.declared.outcome.Outcome.{Outcome}
 use Rattle.torusmem_c.specs.declared.outcome.Code.TheVariants as code

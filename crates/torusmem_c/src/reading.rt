@@ -10,7 +10,7 @@ ghost use Rattle.torusmem_c.specs.declared.outcome.Code.TheVariants as code;
 use crate::outcome::{Code, Outcome};
 use crate::ports::next_number;
 use crate::records::{AnswerRecord, EntryRecord};
-use machine_core::Machine;
+use machine_report::Machine;
 use machine_handle::Handle;
 
 /// A number, or that there is none such.

@@ -5,7 +5,7 @@ ghost use Rattle.torusmem_c.specs.Outcome.{flag, number_of};
 ghost use Rattle.torusmem_c.specs.Records.{operation_number, first_value, second_value, has_old, old_word, answer_record, no_answer, answer_or_none, entry_record, no_entry, entry_or_none};
 
 use crate::outcome::Code;
-use machine_core::{Answer, Entry};
+use machine_report::{Answer, Entry};
 use packet::{Op, Reply};
 
 /// An operation that a processor has had answered; its code is that of done. Where there is none, the

@@ -8,7 +8,7 @@ ghost use Rattle.torusmem_c.specs.Steps.{Attempts, Finishes, MakesRound, TellsEn
 
 use crate::choice::attempt_named;
 use crate::outcome::Outcome;
-use machine_core::Machine;
+use machine_report::Machine;
 use machine_handle::Handle;
 use torus::{Step, Stepped};
 

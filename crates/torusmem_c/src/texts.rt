@@ -2,7 +2,7 @@
 
 ghost use Rattle.std.specs.Prelude.{◌≡◌, ◌⊎◌, IfErr, IfOk, None};
 ghost use Rattle.std.specs.Str.Lines.{lines};
-ghost use Rattle.history.specs.Report.{machine_report};
+ghost use Rattle.machine_report.specs.Report.{machine_report};
 ghost use Rattle.machine_handle.specs.Held.{held};
 ghost use Rattle.machine_texts.specs.Loading.{load_by};
 ghost use Rattle.report_check.specs.Good.{GoodReport};
@@ -12,8 +12,8 @@ ghost use Rattle.torusmem_c.specs.Texts.{IsAccepted, IsVerdict, LacksMemory, Loa
 
 use crate::outcome::{Code, Outcome};
 use crate::room::put_over;
-use history::{Out, check_report, of_run, write_report};
-use machine_core::Machine;
+use machine_report::{Out, check_report, of_run, write_report};
+use machine_report::Machine;
 use machine_handle::Handle;
 use machine_texts::load;
 use report_check::CheckFault;

@@ -2,9 +2,9 @@
 use Rattle.std.proofs.Common.{◌≡◌, ℕ, ◌<◌, List, [], map, replicate, length, refl, ap, ◌∙◌, arith}
 use Rattle.std.specs.Prelude.{All, slice_index_or}
 use Rattle.std.proofs.lemmas.List.Elements.{All-map, All-replicate, All-same}
-use Rattle.worker_run.specs.fabric.specs.Seats.{Knowing, Origin, IsOf, with_run}
-use Rattle.worker_run.specs.fabric.specs.Opening.{fresh}
-use Rattle.worker_run.specs.Working.{Working, Grew}
+use Rattle.history.specs.worker_run.specs.fabric.specs.Seats.{Knowing, Origin, IsOf, with_run}
+use Rattle.history.specs.worker_run.specs.fabric.specs.Opening.{fresh}
+use Rattle.history.specs.worker_run.specs.Working.{Working, Grew}
 
 pub own_after : (f : Origin) (v w : Knowing) → IsOf f v → w ≡ with_run v w.run → IsOf f w
 own_after f v w own e = (ap (λ (k : Knowing). k.table) e ∙ own.0, ap (λ (k : Knowing). k.load) e ∙ own.1)

@@ -1,6 +1,6 @@
 //! A fabric with its workers, and gates.
 ghost use Rattle.std.specs.Prelude.{◌≤◌, All, IfSome, length};
-ghost use Rattle.worker_run.specs.fabric.specs.Seats.{IsOf};
+ghost use Rattle.history.specs.worker_run.specs.fabric.specs.Seats.{IsOf};
 
 use machine_texts::load;
 use std::alloc::Global;
@@ -10,7 +10,7 @@ use std::test::Fail;
 use std::thread;
 use std::thread::Threads;
 use torus::{Choice, Step};
-use worker_run::{End, Fabric, Final, Gate, ProbeSeat, TileSeat, Turned, Worker, run_workers};
+use history::{End, Fabric, Final, Gate, ProbeSeat, TileSeat, Turned, Worker, run_workers};
 
 /// A fabric with its workers, and the seats that are no worker's.
 #[derive(Drop)]

@@ -1,12 +1,10 @@
 use crate::bench::{Door, Rendezvous, deal, deal_workers};
-use history::{Piped, check_report, of_final, write_report};
+use history::{End, Final, Open, Piped, check_report, of_final, write_report};
 use linked_list_allocator::LocalHeap;
 use packet::Reply;
 use runs::Answer;
 use std::alloc::{AllocError, Global};
 use std::test::Fail;
-use worker_run::gate::Open;
-use worker_run::{End, Final};
 
 /// Two tiles, eight words.
 const PAIR: &[u8] = b"radix 2\ndims 1\ndepth 4\ntags 4\nwords 8\n";

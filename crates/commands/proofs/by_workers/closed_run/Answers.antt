@@ -2,7 +2,7 @@
 use Rattle.std.proofs.Common.{◌≡◌, List, map, refl, rules, sym, ap, ◌∙◌, arith}
 use Rattle.std.proofs.lemmas.List.{length-map}
 use Rattle.torus.specs.Shape.{tiles_of}
-use Rattle.worker_run.specs.fabric.specs.Seats.{Knowing}
+use Rattle.history.specs.worker_run.specs.fabric.specs.Seats.{Knowing}
 use Rattle.commands.specs.Workers.{new_worker}
 use Rattle.commands.proofs.ByWorkers.{IsCrew, crew_made, crew_whole, made_by_workers, seats_count, seats_own}
 use Rattle.commands.proofs.by_workers.closed_run.Goals as goal

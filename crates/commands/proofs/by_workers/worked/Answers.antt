@@ -3,8 +3,8 @@ use Rattle.std.proofs.Common.{◌≡◌, ◌++◌, ℕ, All, List, take, drop, l
 use Rattle.std.specs.Prelude.{slice_index_or}
 use Rattle.std.proofs.lemmas.List.{length-map}
 use Rattle.std.proofs.lemmas.List.Elements.{All-map}
-use Rattle.worker_run.specs.fabric.specs.Seats.{IsOf}
-use Rattle.worker_run.specs.Working.{Working, HasWorked}
+use Rattle.history.specs.worker_run.specs.fabric.specs.Seats.{IsOf}
+use Rattle.history.specs.worker_run.specs.Working.{Working, HasWorked}
 use Rattle.commands.specs.Workers.{new_worker}
 use Rattle.commands.proofs.ByWorkers.{lent, own_after}
 use Rattle.commands.proofs.by_workers.worked.Goals as goal

@@ -1,5 +1,5 @@
 use Rattle.std.proofs.lemmas.List.Elements.{All-pop}
-use Rattle.worker_run.specs.fabric.specs.Seats.{Knowing, IsOf}
+use Rattle.history.specs.worker_run.specs.fabric.specs.Seats.{Knowing, IsOf}
 use Rattle.worker_tests.proofs.bench.last_seat.Goals as goal
 
 pub returns-clause-rest : goal.returns-clause-rest

@@ -1,6 +1,6 @@
 use Rattle.std.proofs.lemmas.List.Elements.{All-pop}
-use Rattle.worker_run.specs.fabric.specs.Seats.{IsOf}
-use Rattle.worker_run.specs.Working.{Working}
+use Rattle.history.specs.worker_run.specs.fabric.specs.Seats.{IsOf}
+use Rattle.history.specs.worker_run.specs.Working.{Working}
 use Rattle.worker_tests.proofs.bench.last_worker.Goals as goal
 
 pub returns-clause-rest : goal.returns-clause-rest

@@ -1,4 +1,4 @@
-use Rattle.worker_run.specs.fabric.specs.Seats.{IsOf}
+use Rattle.history.specs.worker_run.specs.fabric.specs.Seats.{IsOf}
 use Rattle.worker_tests.proofs.bench.read_all.Given as goal
 
 abbrev pub invariant-loop : goal.invariant-loop

@@ -1,6 +1,6 @@
 use Rattle.std.specs.Prelude.{All}
-use Rattle.worker_run.specs.fabric.specs.Seats.{IsOf}
-use Rattle.worker_run.specs.Working.{Working}
+use Rattle.history.specs.worker_run.specs.fabric.specs.Seats.{IsOf}
+use Rattle.history.specs.worker_run.specs.Working.{Working}
 use Rattle.worker_tests.proofs.bench.Bench.join.Given as goal
 
 abbrev pub invariant-loop : goal.invariant-loop

@@ -1,7 +1,0 @@
-use Rattle.std.proofs.Common.{All, subst}
-use Rattle.report_check.specs.Fits.{FitsLine}
-use Rattle.history.proofs.Good.{good_report}
-use Rattle.history.proofs.run.goodness.Goals as goal
-
-pub returns : goal.returns
-returns g c = good_report (g.S.Reached.core c.args.reached.now) c.args.report.now c.contents_are_good.ensures c.reports_well.ensures c.requires (subst (All FitsLine) c.lines.ensures c.numbers_fit.ensures)

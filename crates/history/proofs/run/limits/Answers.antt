@@ -1,5 +1,0 @@
-use Rattle.history.proofs.Limits.{within_limits}
-use Rattle.history.proofs.run.limits.Goals as goal
-
-pub returns : goal.returns
-returns g c = within_limits (g.S.Reached.core c.args.reached.now) c.reports_well.ensures
