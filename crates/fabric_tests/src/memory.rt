@@ -154,7 +154,8 @@ fn end_takes_none(heap: &LocalHeap, last: &Final<&LocalHeap>) -> bool {
 /// Whether a whole run takes no memory, to its end; where two seats become one, and at the end, some may be
 /// given back.
 fn whole_run_takes_none(alloc: Global) -> Result<bool, Fail> {
-    let heap = LocalHeap::new(alloc, 65536).ok().ok_or("a heap")?;
+    // With room for much more than the fabric takes, so that a call that asks for some is given it.
+    let heap = LocalHeap::new(alloc, 1 << 20).ok().ok_or("a heap")?;
     let pair = deal_pair(&heap, SCRIPTS)?;
     let Pair {
         fabric,
