@@ -8,39 +8,45 @@ use std::alloc::Allocator;
 use torus::Torus;
 use worker_run::Final;
 
-impl<B: Allocator> Reached for Final<B> {
-    ghost core = { λ last. core_after_load last.load last.run };
+/// A closed fabric, as what its run reached.
+#[derive(Clone, Copy)]
+pub(crate) struct Ended<'a, B: Allocator> {
+    pub(crate) last: &'a Final<B>,
+}
+
+impl<B: Allocator> Reached for Ended<'_, B> {
+    ghost core = { λ ended. core_after_load ended.last.now.load ended.last.now.run };
 
     fn torus(&self) -> &Torus {
-        Final::torus(self)
+        self.last.torus()
     }
 
     fn words(&self) -> u32 {
-        Final::words(self)
+        self.last.words()
     }
 
     fn opening(&self, address: u32) -> Option<u64> {
-        Final::opening(self, address)
+        self.last.opening(address)
     }
 
     fn answers(&self, processor: u32) -> Option<&[Answer]> {
-        Final::answers(self, processor)
+        self.last.answers(processor)
     }
 
     fn bank(&self, bank: u32) -> Option<&[Entry]> {
-        Final::bank(self, bank)
+        self.last.bank(bank)
     }
 
     fn word(&self, address: u32) -> Option<u64> {
-        Final::word(self, address)
+        self.last.word(address)
     }
 
     fn finished(&self) -> bool {
-        Final::finished(self)
+        self.last.finished()
     }
 
     fn reports_well(&self) {
-        self.reached();
+        self.last.reached();
         steps_lead_to_a_machine();
     }
 }

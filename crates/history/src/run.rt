@@ -5,6 +5,7 @@ ghost use Rattle.report_lines.specs.Line.{text_of};
 ghost use Rattle.report_check.specs.Good.{GoodReport};
 ghost use Rattle.history.specs.RunReport.{run_report};
 
+use crate::ended::Ended;
 use machine_report::Report;
 use machine_report::run::{goodness, lines_with};
 use std::alloc::{AllocError, Allocator};
@@ -19,8 +20,9 @@ fn lines_of_final<A: Allocator + Copy, B: Allocator>(
     ensures report { IfOk result (λ report. report ≡ run_report last.now.load last.now.run) }
     ensures good { IfOk result (λ report. GoodReport (text_of report)) }
 {
-    let report = lines_with(alloc, last, Vec::new(alloc))?;
-    goodness(last, &report);
+    let ended = Ended { last };
+    let report = lines_with(alloc, &ended, Vec::new(alloc))?;
+    goodness(&ended, &report);
     Ok(report)
 }
 
