@@ -32,6 +32,11 @@ pub record TookFront (old new : Output) (text : List ℕ) : Type 0 where
   pub bytes : AppendsFront old.taken new.taken text
   pub failed : Rose old.failures new.failures
 
+-- the whole of a right text was taken, or, where that failed, a beginning of one
+abbrev pub Puts : {A E : Type 0} → (List ℕ → Type 0) → Output → Output → Result A E → Type 0
+Puts is old new (Ok x) = (text : List ℕ) × is text × TookAll old new text
+Puts is old new (Err e) = (text : List ℕ) × is text × TookFront old new text
+
 -- a right answer, whose text was taken, or a beginning of it
 abbrev pub Wrote : {A : Type 0} → (A → List ℕ → Type 0) → (Output → Output → List ℕ → Type 0) → Output → Output → A → Type 0
 Wrote gives takes old new x = (text : List ℕ) × gives x text × takes old new text

@@ -1,5 +1,5 @@
 -- The lines that tell of channels (this project's own format).
-use Rattle.std.specs.Prelude.{ℕ, ◌/◌, ◌%◌, Bool, true, false, List, [], ◌∷◌, ◌++◌, codes, decimal, map, slice_index}
+use Rattle.std.specs.Prelude.{◌≡◌, ℕ, ◌/◌, ◌%◌, Bool, true, false, List, [], ◌∷◌, ◌++◌, codes, decimal, map, slice_index}
 use Rattle.std.specs.List.{join_with_byte, flat_map, range_with_len}
 use Rattle.torus.specs.Shape.{Shape}
 use Rattle.torus.specs.declared.shape.Class.{Class}
@@ -11,6 +11,7 @@ use Rattle.dateline_route.specs.declared.channel.Kind.TheVariants.{Injection, Ho
 use Rattle.dateline_route.specs.Route.{route_of}
 use Rattle.channel_number.specs.Number.{number_of}
 use Rattle.channel_number.specs.Order.{channel_count, channels_at_tile}
+use Rattle.channel_number.specs.Rising.{IsRising}
 
 -- the bytes of a line: its words with one space between each two, and a line feed
 abbrev pub line_of : List (List ℕ) → List ℕ
@@ -53,6 +54,15 @@ order_line s numbers i = place_line (i / channels_at_tile s) (i % channels_at_ti
 abbrev pub order_lines : Shape → List ℕ → ℕ → List (List ℕ)
 order_lines s numbers count = map (order_line s numbers) (range_with_len 0 count)
 
+-- the lines of all channels
+abbrev pub all_lines : Shape → List ℕ → List ℕ
+all_lines s numbers = flat_map (λ line. line) (order_lines s numbers (channel_count s))
+
 -- the lines of all channels, and one that says that their numbers rise along every route
 abbrev pub channels_lines : Shape → List ℕ → List ℕ
-channels_lines s numbers = flat_map (λ line. line) (order_lines s numbers (channel_count s)) ++ codes "rising\n"
+channels_lines s numbers = all_lines s numbers ++ codes "rising\n"
+
+-- a text has the lines of all channels, whatever numbers these are, and says that they rise exactly where they do
+pub record IsNumbersText (s : Shape) (numbers text : List ℕ) : Type 0 where
+  pub rising : IsRising s numbers → text ≡ channels_lines s numbers
+  pub falling : (IsRising s numbers → ⊥) → text ≡ all_lines s numbers

@@ -1,12 +1,10 @@
-ghost use Rattle.std.specs.Prelude.{◌≡◌, ◌<◌, OnOk, OnErr, length};
+ghost use Rattle.std.specs.Prelude.{◌≡◌, OnOk, OnErr, length};
 ghost use Rattle.std.specs.Io.KnownBytes.{Appends};
-ghost use Rattle.std.specs.List.{flat_map};
 ghost use Rattle.std.specs.Str.Lines.{lines};
 ghost use Rattle.report_lines.specs.Taken.{AppendsFront, Rose};
 ghost use Rattle.channel_number.specs.Order.{channel_count};
-ghost use Rattle.commands.specs.Done.{PrintsChannels, output};
-ghost use Rattle.channel_number.specs.Rising.{IsRising};
-ghost use Rattle.commands.specs.Lines.{channels_lines, order_lines};
+ghost use Rattle.commands.specs.Done.{PrintsChannels, Puts, output};
+ghost use Rattle.commands.specs.Lines.{IsNumbersText, all_lines};
 
 use crate::ProgramFault;
 use crate::line::place_line;
@@ -17,8 +15,8 @@ use script::read_machine;
 use std::alloc::Allocator;
 use torus::Torus;
 
-/// Prints the number of each channel, in channel order, and `rising` after the check that they rise
-/// along every route.
+/// Prints the number of each channel, in channel order, and `rising`, which the check says of these
+/// numbers: they rise along every route.
 ///
 /// Errors: the machine text's first fault, or want of memory; and nothing was written then. If the
 /// output fails, a beginning was written.
@@ -32,21 +30,19 @@ pub fn channels_text<A: Allocator + Copy, W: Out>(
     let machine = read_machine(alloc, machine)?;
     let torus = machine.torus();
     let numbers = numbers(alloc, torus)?;
-    put_checked(out, torus, &numbers)?;
+    put_numbers(out, torus, &numbers)?;
     Ok(())
 }
 
-/// Puts a line for each channel, and one after the check of the numbers.
-fn put_checked<W: Out>(out: &mut W, torus: &Torus, numbers: &[u32]) -> Result<(), OutputFailed>
-    requires count { length numbers.now ≡ channel_count torus.now }
-    requires rising { IsRising torus.now numbers.now }
-    ensures ok { OnOk result (Appends (W.taken out.old) (W.taken out.new) (channels_lines torus.now numbers.now)) }
-    ensures err { OnErr result (AppendsFront (W.taken out.old) (W.taken out.new) (channels_lines torus.now numbers.now)) }
-    ensures quiet { OnOk result (W.failures out.new ≡ W.failures out.old) }
-    ensures failed { OnErr result (Rose (W.failures out.old) (W.failures out.new)) }
+/// Puts a line for each channel, in channel order, with these numbers, and `rising` behind them exactly
+/// where the numbers rise along every route.
+pub fn put_numbers<W: Out>(out: &mut W, torus: &Torus, numbers: &[u32]) -> Result<(), OutputFailed>
+    requires { length numbers.now ≡ channel_count torus.now }
+    ensures { Puts (IsNumbersText torus.now numbers.now) (output (W.taken out.old) (W.failures out.old)) (output (W.taken out.new) (W.failures out.new)) result }
 {
+    let checked = check(torus, numbers);
     put_channels(out, torus, numbers)?;
-    match check(torus, numbers) {
+    match checked {
         Ok(Rising) => put_all(out, b"rising\n"),
         Err(_) => Ok(()),
     }
@@ -55,8 +51,8 @@ fn put_checked<W: Out>(out: &mut W, torus: &Torus, numbers: &[u32]) -> Result<()
 /// Puts a line for each channel, in channel order.
 fn put_channels<W: Out>(out: &mut W, torus: &Torus, numbers: &[u32]) -> Result<(), OutputFailed>
     requires { length numbers.now ≡ channel_count torus.now }
-    ensures ok { OnOk result (Appends (W.taken out.old) (W.taken out.new) (flat_map (λ line. line) (order_lines torus.now numbers.now (channel_count torus.now)))) }
-    ensures err { OnErr result (AppendsFront (W.taken out.old) (W.taken out.new) (flat_map (λ line. line) (order_lines torus.now numbers.now (channel_count torus.now)))) }
+    ensures ok { OnOk result (Appends (W.taken out.old) (W.taken out.new) (all_lines torus.now numbers.now)) }
+    ensures err { OnErr result (AppendsFront (W.taken out.old) (W.taken out.new) (all_lines torus.now numbers.now)) }
     ensures quiet { OnOk result (W.failures out.new ≡ W.failures out.old) }
     ensures failed { OnErr result (Rose (W.failures out.old) (W.failures out.new)) }
 {

@@ -13,7 +13,8 @@ pub mod route;
 pub mod steps;
 
 pub use by_workers::run_text;
-pub use channels::channels_text;
+pub use channel_number::channel_count;
+pub use channels::{channels_text, put_numbers};
 pub use check::check_text;
 pub use fault::{ProgramFault, finished, status_of};
 pub use in_rounds::{Progress, Silent, round_text, round_text_with};

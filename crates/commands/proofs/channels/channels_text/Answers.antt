@@ -1,26 +1,28 @@
--- Where the output failed, a beginning of the channels' lines was taken.
-use Rattle.std.proofs.Common.{ℕ, List, ap, subst, ◌∙◌}
+-- The numbers rise, so what was put is the text of the channels; where the output failed, a beginning of it.
 use Rattle.std.proofs.lemmas.Result.{err_from_is_err_and}
-use Rattle.torus.specs.Shape.{Shape}
-use Rattle.channel_number.specs.Number.{IsNumbering}
-use Rattle.commands.specs.Lines.{channels_lines}
+use Rattle.std.specs.Str.Lines.{lines}
+use Rattle.commands.proofs.Numbers.{channels_printed}
 use Rattle.commands.proofs.channels.channels_text.Goals as goal
 
-pub returns-in_err-put_checked : goal.returns-in_err-put_checked
-returns-in_err-put_checked g c =
-    let p = err_from_is_err_and c.from_residual-in_err-put_checked.result c.from_residual-in_err-put_checked.ensures.1 in
+pub returns-in_err-put_numbers : goal.returns-in_err-put_numbers
+returns-in_err-put_numbers g c =
+    let p = err_from_is_err_and c.from_residual-in_err-put_numbers.result c.from_residual-in_err-put_numbers.ensures.1 in
+    let put = c.in_err-put_numbers.ensures in
     rw (p.1, p.2) (
       tt,
       (
-        _,
-        record {
-          machine = c.in_ok-machine.machine;
-          read = c.in_ok-machine.ensures;
-          numbers = c.in_ok-numbers.numbers.items;
-          numbering = subst (λ (s : Shape). IsNumbering s c.in_ok-numbers.numbers.items) c.torus-torus.ensures.value c.in_ok-numbers.ensures.numbers;
-          is = ap (λ (numbers : List ℕ). channels_lines c.torus-torus.result.now numbers) c.deref.ensures.value
-              ∙ ap (λ (s : Shape). channels_lines s c.in_ok-numbers.numbers.items) c.torus-torus.ensures.value;
-        },
-        record { bytes = c.in_err-put_checked.ensures.err; failed = c.in_err-put_checked.ensures.failed },
+        put.0,
+        channels_printed (lines c.args.machine.now) c.in_ok-machine.machine c.torus-torus.result.now c.in_ok-numbers.numbers.items c.deref.result.now put.0
+            c.in_ok-machine.ensures c.torus-torus.ensures.value c.deref.ensures.value c.in_ok-numbers.ensures.numbers c.in_ok-numbers.ensures.rise put.1,
+        put.2,
       ),
+    )
+
+pub returns : goal.returns
+returns g c =
+    let put = c.in_ok-put_numbers.ensures in (
+      put.0,
+      channels_printed (lines c.args.machine.now) c.in_ok-machine.machine c.torus-torus.result.now c.in_ok-numbers.numbers.items c.deref.result.now put.0
+          c.in_ok-machine.ensures c.torus-torus.ensures.value c.deref.ensures.value c.in_ok-numbers.ensures.numbers c.in_ok-numbers.ensures.rise put.1,
+      put.2,
     )
