@@ -10,7 +10,7 @@ use Rattle.machine_laws.specs.Core.{Core, IsAfter, all_finished, core_after_load
 use Rattle.machine_texts.specs.machine_core.specs.Rounds.{rounds_of}
 use Rattle.machine_texts.specs.Loading.{HasLoaded}
 use Rattle.commands.specs.Run.{IsOfMachine}
-use Rattle.commands.specs.Rounds.{HasMadeRounds, IsRoundText, asked_rounds, is_finished_after}
+use Rattle.commands.specs.Rounds.{AreFewest, HasMadeRounds, IsRoundText, asked_rounds, is_finished_after}
 use Rattle.commands.proofs.Asked.{run_printed}
 
 -- so many rounds are made, and before each of them not every script was finished
@@ -46,20 +46,16 @@ one_more l k c d made unfinished law = record {
 }
 
 -- every script is finished
-pub made_enough : (l : Load) (most k : ℕ) (c : Core) → HasMade l k c → k < most → true ≡ all_finished c.state → HasMadeRounds l most c
-made_enough l most k c made below finished = record {
-  rounds = k;
-  fewest = record { allowed = omega (arith, below); unfinished = made.unfinished; finished = λ under. finished_now l k c true made.after finished };
-  after = made.after;
+pub enough : (l : Load) (most k : ℕ) (c : Core) → HasMade l k c → k < most → true ≡ all_finished c.state → AreFewest l most k
+enough l most k c made below finished = record {
+  allowed = omega (arith, below);
+  unfinished = made.unfinished;
+  finished = λ under. finished_now l k c true made.after finished;
 }
 
 -- as many as are allowed
-pub made_most : (l : Load) (most : ℕ) (c : Core) → HasMade l most c → HasMadeRounds l most c
-made_most l most c made = record {
-  rounds = most;
-  fewest = record { allowed = omega arith; unfinished = made.unfinished; finished = λ under. absurd (omega (arith, under)) };
-  after = made.after;
-}
+pub as_allowed : (l : Load) (most : ℕ) (c : Core) → HasMade l most c → AreFewest l most most
+as_allowed l most c made = record { allowed = omega arith; unfinished = made.unfinished; finished = λ under. absurd (omega (arith, under)) }
 
 -- the report of a machine that has made the rounds is the report of the run in rounds
 pub rounds_printed : (asked : Result Load LineFault) (most : ℕ) (start c : Core) (finished : Bool) (text : List ℕ) (loaded : HasLoaded asked start)

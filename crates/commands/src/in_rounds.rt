@@ -1,13 +1,13 @@
-ghost use Rattle.std.specs.Prelude.{◌≡◌, IfErr, IfOk, [], length};
-ghost use Rattle.std.specs.Io.Iter.{u64_saturate};
-ghost use Rattle.std.specs.List.{sum_by};
+ghost use Rattle.std.specs.Prelude.{◌≡◌, Bool, IfErr, IfOk, []};
 ghost use Rattle.std.specs.Str.Lines.{lines};
 ghost use Rattle.machine_texts.specs.flights.specs.Load.{Load};
-ghost use Rattle.machine_laws.specs.Core.{IsAfter, shown};
+ghost use Rattle.machine_laws.specs.Core.{IsAfter};
 ghost use Rattle.machine_texts.specs.Loading.{HasLoaded, load_by};
 ghost use Rattle.commands.specs.Done.{output};
 ghost use Rattle.commands.specs.Run.{IsReadFault};
 ghost use Rattle.commands.specs.Rounds.{HasMadeRounds, PrintsRounds};
+ghost use Rattle.commands.specs.Calls.{Hears};
+ghost use Rattle.commands.specs.Telling.{AreRoundsCalls, HearsSome, TellsRounds, answered_by, round_calls};
 
 use crate::ProgramFault;
 use crate::steps::print_run;
@@ -18,15 +18,24 @@ use std::alloc::Allocator;
 
 /// Watches a run in rounds. Whatever it does, the run and its report are the same.
 pub trait Progress {
+    ghost use Rattle.std.specs.Prelude.{List, [], ◌∷◌};
+    ghost use Rattle.commands.specs.Calls.{Call, Wants, Made, Ended, Hears};
+
+    // Which lists of calls may be all that it has heard so far, in order: any, unless an `impl` says more.
+    ghost heard: { Self → List Call → Type 0 } = { λ watcher calls. Unit {0} };
+
     /// Whether it wants to be told how far the run is. Asked once after each round, so it is to cost
     /// little.
-    fn wants(&mut self) -> bool;
+    fn wants(&mut self) -> bool
+        ensures { Hears (heard self.old) (heard self.new) (Wants result ∷ []) };
 
     /// So many rounds are made, and so many operations are answered.
-    fn made(&mut self, rounds: u64, answered: u64);
+    fn made(&mut self, rounds: u64, answered: u64)
+        ensures { Hears (heard self.old) (heard self.new) (Made rounds answered ∷ []) };
 
     /// No more rounds are made, and the report is written next.
-    fn ended(&mut self);
+    fn ended(&mut self)
+        ensures { Hears (heard self.old) (heard self.new) (Ended ∷ []) };
 }
 
 /// Watches nothing.
@@ -61,8 +70,10 @@ pub fn round_text<A: Allocator + Copy, W: Out>(
     round_text_with(alloc, machine, scripts, rounds, out, &mut Silent)
 }
 
-/// Does what `round_text` does, and tells `progress` how far the run is, as often as it wants. A fault
-/// of the texts, and want of memory for the machine, come before it is told anything.
+/// Does what `round_text` does, and tells `progress` how far the run is: after each round it asks
+/// whether that is wanted, and where it is, tells how many rounds are made and how many operations
+/// answered; and behind the last round it tells the end. A fault of the texts, and want of memory for
+/// the machine, come before it is told anything.
 ///
 /// Errors: as `round_text`.
 pub fn round_text_with<A: Allocator + Copy, W: Out, P: Progress>(
@@ -73,7 +84,8 @@ pub fn round_text_with<A: Allocator + Copy, W: Out, P: Progress>(
     out: &mut W,
     progress: &mut P,
 ) -> Result<bool, ProgramFault>
-    ensures { PrintsRounds (load_by (lines machine.now) (lines scripts.now)) rounds (output (W.taken out.old) (W.failures out.old)) (output (W.taken out.new) (W.failures out.new)) result }
+    ensures prints { PrintsRounds (load_by (lines machine.now) (lines scripts.now)) rounds (output (W.taken out.old) (W.failures out.old)) (output (W.taken out.new) (W.failures out.new)) result }
+    ensures told { TellsRounds (load_by (lines machine.now) (lines scripts.now)) rounds (P.heard progress.old) (P.heard progress.new) result }
 {
     let mut machine = loaded(alloc, machine, scripts)?;
     make_rounds(&mut machine, rounds, progress);
@@ -94,25 +106,33 @@ pub(crate) fn loaded<A: Allocator + Copy>(
     Ok(load(alloc, machine, scripts)?)
 }
 
-/// Makes rounds until every script is finished, and at most so many. Operations are counted only where
-/// `progress` wants to be told of them.
+/// Makes rounds until every script is finished, and at most so many, and tells `progress` of them.
 fn make_rounds<A: Allocator, P: Progress>(machine: &mut Machine<A>, rounds: u64, progress: &mut P)
-    ensures { (l : Load) → IsAfter l machine.old [] → HasMadeRounds l rounds machine.new }
+    ensures made { (l : Load) → IsAfter l machine.old [] → HasMadeRounds l rounds machine.new }
+    ensures told { (l : Load) → IsAfter l machine.old [] → HearsSome (AreRoundsCalls l rounds) (P.heard progress.old) (P.heard progress.new) }
 {
+    steps_decide_the_machine();
     for before in 0..rounds {
         if machine.finished() {
             return;
         }
         machine.round();
-        if progress.wants() {
-            progress.made(before + 1, answered(machine));
-        }
+        tell_round(machine, before + 1, progress);
+    }
+}
+
+/// Tells `progress` of the last of so many rounds. Operations are counted only where it wants to be told.
+fn tell_round<A: Allocator, P: Progress>(machine: &Machine<A>, rounds: u64, progress: &mut P)
+    ensures { (wants : Bool) × Hears (P.heard progress.old) (P.heard progress.new) (round_calls rounds (answered_by machine.now) wants) }
+{
+    if progress.wants() {
+        progress.made(rounds, answered(machine));
     }
 }
 
 /// How many operations are answered; at most `u64::MAX`.
 fn answered<A: Allocator>(machine: &Machine<A>) -> u64
-    ensures { result ≡ u64_saturate (sum_by length (shown machine.now).answers) }
+    ensures { result ≡ answered_by machine.now }
 {
     machine.reached();
     reached_machines_report_well();

@@ -1,9 +1,13 @@
 use Rattle.std.proofs.Common.{[]}
 use Rattle.machine_texts.specs.flights.specs.Load.{Load}
 use Rattle.machine_laws.specs.Core.{IsAfter}
+use Rattle.commands.specs.Telling.{AreCallsOf, HearsSome}
 use Rattle.commands.proofs.InRounds.{HasMade}
 use Rattle.commands.proofs.in_rounds.make_rounds.Given as goal
 
--- the rounds so far are made, and before each not every script was finished
+-- the rounds so far are made, and before each not every script was finished; and who watches was told of them
 abbrev pub invariant-loop-before : goal.invariant-loop-before
-invariant-loop-before g l = (load : Load) → IsAfter load l.fn.machine [] → HasMade load l.before l.machine
+invariant-loop-before g l = record {
+  made : (load : Load) → IsAfter load l.fn.machine [] → HasMade load l.before l.machine;
+  told : (load : Load) → IsAfter load l.fn.machine [] → HearsSome (AreCallsOf load l.before) (g.P.Progress.heard l.fn.progress) (g.P.Progress.heard l.progress);
+}

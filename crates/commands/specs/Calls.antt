@@ -1,0 +1,13 @@
+-- The calls of whoever watches a run in rounds (this project's own format).
+use Rattle.std.specs.Prelude.{ℕ, List, ◌++◌, Bool}
+
+-- one call: the question whether it wants to be told, with its answer; or so many rounds are made, and so many
+-- operations are answered; or no more rounds are made
+pub data Call : Type 0 where
+  Wants : (answer : Bool) → Call
+  Made : (rounds answered : ℕ) → Call
+  Ended : Call
+
+-- these calls come behind those that a watcher has heard, by what it has heard before and after
+abbrev pub Hears : (List Call → Type 0) → (List Call → Type 0) → List Call → Type 0
+Hears old new more = (calls : List Call) → old calls → new (calls ++ more)

@@ -1,0 +1,63 @@
+-- What whoever watches a run in rounds is told (this project's own format).
+use Rattle.std.specs.Prelude.{◌≡◌, ℕ, zero, suc, ◌+◌, List, [], ◌∷◌, ◌++◌, Bool, true, false, Result, Ok, Err, ◌⊎◌, length}
+use Rattle.std.specs.Io.Iter.{u64_saturate}
+use Rattle.std.specs.List.{sum_by}
+use Rattle.script.specs.declared.fault.LineFault.{LineFault}
+use Rattle.machine_texts.specs.flights.specs.Load.{Load}
+use Rattle.machine_laws.specs.Core.{Core, shown}
+use Rattle.commands.specs.declared.fault.ProgramFault.{ProgramFault}
+use Rattle.commands.specs.declared.fault.ProgramFault.TheVariants as program
+use Rattle.commands.specs.Calls.{Call, Wants, Made, Ended, Hears}
+use Rattle.commands.specs.Run.{core_of}
+use Rattle.commands.specs.Rounds.{AreFewest, asked_rounds}
+
+-- how many operations a machine has answered; at most u64::MAX
+abbrev pub answered_by : Core → ℕ
+answered_by c = u64_saturate (sum_by length (shown c).answers)
+
+-- how many operations are answered after so many rounds
+abbrev pub answered_after : Load → ℕ → ℕ
+answered_after l k = answered_by (core_of (asked_rounds l k))
+
+-- the calls behind a round: the question, and how far the run is, exactly where that is wanted
+abbrev pub round_calls : ℕ → ℕ → Bool → List Call
+round_calls rounds answered false = Wants false ∷ []
+round_calls rounds answered true = Wants true ∷ Made rounds answered ∷ []
+
+-- these are the calls behind the first rounds, one round after the other
+abbrev pub AreCallsOf : Load → ℕ → List Call → Type 0
+AreCallsOf l zero calls = calls ≡ []
+AreCallsOf l (suc k) calls =
+    (before : List Call) × (wants : Bool) × AreCallsOf l k before
+    × (calls ≡ before ++ round_calls (k + 1) (answered_after l (k + 1)) wants)
+
+-- these are the calls behind the fewest rounds that finish every script, at most so many
+pub record AreRoundsCalls (l : Load) (most : ℕ) (calls : List Call) : Type 0 where
+  pub rounds : ℕ
+  pub fewest : AreFewest l most rounds
+  pub each : AreCallsOf l rounds calls
+
+-- these are all calls of the run in rounds of what was asked for: those behind its rounds, and the end, once
+pub record AreRunCalls (asked : Result Load LineFault) (most : ℕ) (calls : List Call) : Type 0 where
+  pub load : Load
+  pub read : asked ≡ Ok load
+  pub before : List Call
+  pub made : AreRoundsCalls load most before
+  pub ended : calls ≡ before ++ Ended ∷ []
+
+-- a watcher hears some such calls, by what it heard before and after
+abbrev pub HearsSome : (List Call → Type 0) → (List Call → Type 0) → (List Call → Type 0) → Type 0
+HearsSome are old new = (calls : List Call) × are calls × Hears old new calls
+
+-- a watcher hears nothing, by what it heard before and after
+abbrev pub HearsNothing : (List Call → Type 0) → (List Call → Type 0) → Type 0
+HearsNothing old new = (calls : List Call) → old calls → new calls
+
+-- whoever watches is told of each round and of the end, unless a text has a fault, or memory is wanting for the machine
+abbrev pub TellsRounds : Result Load LineFault → ℕ → (List Call → Type 0) → (List Call → Type 0) → Result Bool ProgramFault → Type 0
+TellsRounds asked most old new (Ok finished) = HearsSome (AreRunCalls asked most) old new
+TellsRounds asked most old new (Err program.Output) = HearsSome (AreRunCalls asked most) old new
+TellsRounds asked most old new (Err (program.Fault which)) = HearsSome (AreRunCalls asked most) old new ⊎ HearsNothing old new
+TellsRounds asked most old new (Err (program.Line found)) = HearsNothing old new
+TellsRounds asked most old new (Err program.Tile) = ⊥
+TellsRounds asked most old new (Err (program.Bad line)) = ⊥
