@@ -1,5 +1,5 @@
 -- What workers make of the seats that share the tiles, and what is left of it once they are joined.
-use Rattle.std.proofs.Common.{◌≡◌, ◌↔◌, ℕ, zero, suc, ◌-◌, ◌<◌, ◌≤◌, All, true, Bool, List, [], ◌∷◌, ◌++◌, length, map, take, drop, get_or, Result, Option, Some, None, refl, sym, ap, ◌∙◌, subst, inl, ⊎_elim, arith}
+use Rattle.std.proofs.Common.{◌≡◌, ◌↔◌, ℕ, zero, suc, ◌-◌, ◌<◌, ◌≤◌, All, true, Bool, List, [], ◌∷◌, ◌++◌, length, map, take, drop, get_or, Result, Option, Some, None, refl, sym, ap, ◌∙◌, subst, inl, inr, ⊎_elim, arith}
 use Rattle.std.specs.Prelude.{slice_get, slice_index_or, is_some, option_map, min}
 use Rattle.std.specs.List.{range_with_len}
 use Rattle.std.proofs.lemmas.List.{append-nil, get_or-map, length-map}
@@ -31,7 +31,7 @@ use Rattle.history.specs.worker_run.specs.declared.worker.End.TheVariants.{Held,
 use Rattle.report_lines.specs.Line.{text_of}
 use Rattle.history.specs.machine_report.specs.Report.{report_of}
 use Rattle.machine_texts.specs.Loading.{HasLoaded}
-use Rattle.commands.specs.Workers.{HasDonePart, IsMadeByWorkers, IsOfEnded, IsTakenIn, IsWorkersText, crew, first_held, held, new_worker}
+use Rattle.commands.specs.Workers.{HasDonePart, IsMadeByWorkers, IsOfEnded, IsTakenIn, IsWorkersText, LetsAll, crew, first_held, held, new_worker}
 use Rattle.commands.proofs.Shares.{holder, holds_tiles, shares}
 
 -- a tile is known where the state has it
@@ -80,6 +80,33 @@ mapped g f (x ∷ xs) = ap (λ l. g (f x) ∷ l) (mapped g f xs)
 -- every machine that steps lead to reports well
 abbrev pub ReportWell : Type 0
 ReportWell = (l : Load) (steps : List Step) → IsAccepted l → ReportsWell (core_after_load l steps)
+
+-- turns that a gate may have stopped, and never did
+turned_on : (stops : Step → Type 0) (turns : ℕ) (v w : Knowing) → ((step : Step) → stops step → ⊥) → HasTurned stops turns v w → HasTurned (λ step. ⊥) turns v w
+turned_on stops turns v w lets t = record {
+  grew = t.grew;
+  steps = t.steps;
+  first = t.first;
+  last = t.last;
+  start = t.start;
+  made = t.made;
+  few = t.few;
+  none = t.none;
+  until = ⊎_elim (λ seen. inl seen) (λ other. ⊎_elim (λ all. inr (inl all)) (λ stopped. absurd (lets stopped.0 stopped.2)) other) t.until;
+}
+
+-- an end behind a gate that lets the worker begin and go on
+ended_open : (holds : Type 0) (stops : Step → Type 0) (turns : ℕ) (v w : Knowing) (o : Option End) → (holds → ⊥) → ((step : Step) → stops step → ⊥)
+    → EndsAs holds stops turns v o w → EndsAs ⊥ (λ step. ⊥) turns v o w
+ended_open holds stops turns v w None begin lets e = e
+ended_open holds stops turns v w (Some Held) begin lets e = absurd (begin e.0)
+ended_open holds stops turns v w (Some Finished) begin lets e = (turned_on stops turns v w lets e.0, e.1, e.2)
+ended_open holds stops turns v w (Some Stopped) begin lets e = (turned_on stops turns v w lets e.0, e.1)
+
+-- what a worker does behind a gate that lets all is what it does behind none
+pub worked_open : (holds : ℕ → Type 0) (stops : ℕ → Step → Type 0) (turns i : ℕ) (v w : Working) → LetsAll holds stops
+    → HasWorked (holds i) (stops i) turns v w → HasWorked ⊥ (λ step. ⊥) turns v w
+worked_open holds stops turns i v w lets h = (h.0, ended_open (holds i) (stops i) turns v.knows w.knows w.ended (lets.begin i) (lets.go_on i) h.1, h.2)
 
 -- the turns behind any end of a worker that no gate holds back
 turned_of : (stops : Step → Type 0) (turns : ℕ) (v w : Knowing) (o : Option End) → EndsAs ⊥ stops turns v o w → HasTurned stops turns v w

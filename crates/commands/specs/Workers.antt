@@ -36,6 +36,11 @@ crew workers load = min workers (tiles_of load.shape)
 abbrev pub new_worker : Knowing → Working
 new_worker k = record { knows = k; ended = None }
 
+-- a gate holds back no worker, and stops none ahead of any step
+pub record LetsAll (holds : ℕ → Type 0) (stops : ℕ → Step → Type 0) : Type 0 where
+  pub begin : (worker : ℕ) → holds worker → ⊥
+  pub go_on : (worker : ℕ) (step : Step) → stops worker step → ⊥
+
 -- all tiles of a seat are another's, whose run goes on from the seat's by steps of other tiles
 abbrev pub IsTakenIn : Knowing → Knowing → Type 0
 IsTakenIn k whole = ((t : ℕ) → Owns k.tiles t → Owns whole.tiles t) × GoesOn (k.tiles ∷ []) whole.run k.run

@@ -11,12 +11,12 @@ ghost use Rattle.history.specs.worker_run.specs.fabric.specs.Seats.{IsOf};
 ghost use Rattle.history.specs.worker_run.specs.Working.{HasWorked, Working};
 ghost use Rattle.commands.specs.Done.{Does, output};
 ghost use Rattle.commands.specs.Run.{IsNoFault};
-ghost use Rattle.commands.specs.Workers.{IsMadeByWorkers, IsOfEnded, IsTakenIn, PrintsWorkers, first_held, held, new_worker};
+ghost use Rattle.commands.specs.Workers.{IsMadeByWorkers, IsOfEnded, IsTakenIn, LetsAll, PrintsWorkers, first_held, held, new_worker};
 
 use crate::ProgramFault;
 use crate::in_rounds::loaded;
 use arrayvec::ArrayVec;
-use history::{Fabric, Final, Open, TileSeat, Worker, of_final, run_workers, write_report};
+use history::{Fabric, Final, Gate, Open, TileSeat, Worker, of_final, run_workers, write_report};
 use machine_laws::laws::{
     ended_followers_finish_scripts, steps_decide_the_machine, steps_lead_on,
     steps_lead_to_a_machine,
@@ -48,31 +48,55 @@ pub fn run_text<R: Threads + Wait + Sync, A: Allocator + Copy + Send + Sync, W: 
     requires turns { (1 ≤ turns) × (turns ≤ 1000000000) }
     ensures { PrintsWorkers (load_by (lines machine.now) (lines scripts.now)) workers turns (output (W.taken out.old) (W.failures out.old)) (output (W.taken out.new) (W.failures out.new)) result }
 {
+    run_text_with(rt, alloc, machine, scripts, workers, turns, &Open, out)
+}
+
+/// Does what `run_text` does, with workers that ask `gate` whether they may begin, and ahead of each
+/// attempt whether they may go on. It is one that lets all, at its time.
+///
+/// Errors: as `run_text`.
+pub fn run_text_with<R: Threads + Wait + Sync, A: Allocator + Copy + Send + Sync, G: Gate, W: Out>(
+    rt: &R,
+    alloc: A,
+    machine: &[u8],
+    scripts: &[u8],
+    workers: usize,
+    turns: u64,
+    gate: &G,
+    out: &mut W,
+) -> Result<bool, ProgramFault>
+    requires workers { (1 ≤ workers) × (workers ≤ 16) }
+    requires turns { (1 ≤ turns) × (turns ≤ 1000000000) }
+    requires gate { LetsAll (G.holds gate.now) (G.stops gate.now) }
+    ensures { PrintsWorkers (load_by (lines machine.now) (lines scripts.now)) workers turns (output (W.taken out.old) (W.failures out.old)) (output (W.taken out.new) (W.failures out.new)) result }
+{
     let machine = loaded(alloc, machine, scripts)?;
-    let end = closed_run(rt, alloc, machine, workers, turns)?;
+    let end = closed_run(rt, alloc, machine, workers, turns, gate)?;
     steps_lead_to_a_machine();
     ended_followers_finish_scripts();
     print_end(alloc, &end, out)
 }
 
 /// The end of a run that workers made of a machine before any step.
-fn closed_run<R: Threads + Wait + Sync, A: Allocator + Copy + Send + Sync>(
+fn closed_run<R: Threads + Wait + Sync, A: Allocator + Copy + Send + Sync, G: Gate>(
     rt: &R,
     alloc: A,
     machine: Machine<A>,
     workers: usize,
     turns: u64,
+    gate: &G,
 ) -> Result<Final<A>, Fault>
     requires fresh { (l : Load) × IsAfter l machine [] }
     requires workers { (1 ≤ workers) × (workers ≤ 16) }
     requires turns { (1 ≤ turns) × (turns ≤ 1000000000) }
+    requires gate { LetsAll (G.holds gate.now) (G.stops gate.now) }
     ensures run { IfOk result (λ end. (l : Load) → IsAfter l machine [] → IsMadeByWorkers l workers turns end) }
     ensures fault { IfErr result (λ fault. fault ≡ Fault.Memory) }
 {
     let tiles = machine.torus().tiles();
     let crew = crew_of(workers, tiles);
     let (fabric, seats) = opened(alloc, machine, tiles, crew)?;
-    let Ok(workers) = worked(rt, alloc, &fabric, seats, turns) else {
+    let Ok(workers) = worked(rt, alloc, &fabric, seats, turns, gate) else {
         return Err(Fault::Memory);
     };
     let whole = joined(&fabric, workers);
@@ -130,22 +154,24 @@ fn cuts_of(tiles: u32, crew: u32) -> ArrayVec<usize, 15>
 }
 
 /// The workers of these seats, after their turns.
-fn worked<R: Threads + Wait + Sync, A: Allocator + Copy + Send + Sync>(
+fn worked<R: Threads + Wait + Sync, A: Allocator + Copy + Send + Sync, G: Gate>(
     rt: &R,
     alloc: A,
     fabric: &Fabric<A>,
     seats: Vec<TileSeat<A>, A>,
     turns: u64,
+    gate: &G,
 ) -> Result<Vec<Worker<A>, A>, AllocError>
     requires own { All (IsOf fabric.now) seats.items }
     requires few { length seats.items ≤ 16 }
     requires turns { (1 ≤ turns) × (turns ≤ 1000000000) }
+    requires gate { LetsAll (G.holds gate.now) (G.stops gate.now) }
     ensures own { IfOk result (λ workers. All (λ w. IsOf fabric.now w.knows) workers.items) }
     ensures count { IfOk result (λ workers. length workers.items ≡ length seats.items) }
     ensures worked { IfOk result (λ workers. (i : ℕ) (d : Working) → i < length seats.items → HasWorked ⊥ (λ step. ⊥) turns (slice_index_or (map new_worker seats.items) i d) (slice_index_or workers.items i d)) }
 {
     let mut workers = workers_of(alloc, seats)?;
-    run_workers(rt, fabric, workers.as_mut_slice(), &Open, turns);
+    run_workers(rt, fabric, workers.as_mut_slice(), gate, turns);
     Ok(workers)
 }
 

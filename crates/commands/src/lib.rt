@@ -12,11 +12,12 @@ pub mod message;
 pub mod route;
 pub mod steps;
 
-pub use by_workers::run_text;
+pub use by_workers::{run_text, run_text_with};
 pub use channel_number::channel_count;
 pub use channels::{channels_text, put_numbers};
 pub use check::check_text;
 pub use fault::{ProgramFault, finished, status_of};
+pub use history::Gate;
 pub use in_rounds::{Progress, Silent, round_text, round_text_with};
 pub use message::fault_text;
 pub use route::route_text;

@@ -6,7 +6,7 @@ use Rattle.std.proofs.lemmas.List.Elements.{All-map}
 use Rattle.history.specs.worker_run.specs.fabric.specs.Seats.{IsOf}
 use Rattle.history.specs.worker_run.specs.Working.{Working, HasWorked}
 use Rattle.commands.specs.Workers.{new_worker}
-use Rattle.commands.proofs.ByWorkers.{lent, own_after}
+use Rattle.commands.proofs.ByWorkers.{lent, own_after, worked_open}
 use Rattle.commands.proofs.by_workers.worked.Goals as goal
 
 pub run_workers-requires-clause-own : goal.run_workers-requires-clause-own
@@ -35,7 +35,9 @@ returns-clause-own g c =
     let own : All (λ (w : Working). IsOf c.args.fabric.now w.knows) c.as_mut_slice.result.now = subst (All (λ (w : Working). IsOf c.args.fabric.now w.knows)) (sym is)
     (All-map (λ (w : Working). IsOf c.args.fabric.now w.knows) new_worker c.args.seats.items c.requires.own) in
     subst (All (λ (w : Working). IsOf c.args.fabric.now w.knows)) (sym (back v.len old c.as_mut_slice.result.now new size c.as_mut_slice.ensures.value c.run_workers.ensures.count))
-    (own_after c.args.fabric.now c.args.turns c.as_mut_slice.result.now new c.run_workers.ensures.count own c.run_workers.ensures.worked)
+    (own_after c.args.fabric.now c.args.turns c.as_mut_slice.result.now new c.run_workers.ensures.count own
+    (λ i d lt. worked_open (g.G.Gate.holds c.args.gate.now) (g.G.Gate.stops c.args.gate.now) c.args.turns i
+    (slice_index_or c.as_mut_slice.result.now i d) (slice_index_or new i d) c.requires.gate (c.run_workers.ensures.worked i d lt)))
 
 pub returns-clause-count : goal.returns-clause-count
 returns-clause-count g c =
@@ -56,4 +58,5 @@ returns-clause-worked g c = λ i d lt.
     let many = ap length is ∙ length-map c.args.seats.items new_worker in
     let same = back v.len old c.as_mut_slice.result.now new size c.as_mut_slice.ensures.value c.run_workers.ensures.count in
     subst (λ (p : List Working × List Working). HasWorked ⊥ (λ step. ⊥) c.args.turns (slice_index_or p.0 i d) (slice_index_or p.1 i d)) (λ j. (is j, sym same j))
-    (c.run_workers.ensures.worked i d (omega (arith, lt, many)))
+    (worked_open (g.G.Gate.holds c.args.gate.now) (g.G.Gate.stops c.args.gate.now) c.args.turns i
+    (slice_index_or c.as_mut_slice.result.now i d) (slice_index_or new i d) c.requires.gate (c.run_workers.ensures.worked i d (omega (arith, lt, many))))

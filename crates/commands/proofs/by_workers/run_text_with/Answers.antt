@@ -8,7 +8,7 @@ use Rattle.machine_texts.specs.Loading.{HasLoaded, load_by}
 use Rattle.commands.specs.Workers.{IsMadeByWorkers, IsOfEnded, IsWorkersText}
 use Rattle.commands.proofs.Asked.{does_more}
 use Rattle.commands.proofs.ByWorkers.{workers_printed}
-use Rattle.commands.proofs.by_workers.run_text.Goals as goal
+use Rattle.commands.proofs.by_workers.run_text_with.Goals as goal
 
 pub returns : goal.returns
 returns g c =
