@@ -16,10 +16,10 @@ use crate::steps::Note;
 use crate::view::Knowledge;
 use atomic_table::{Closed, Seat};
 use home_bank::Entry;
+use machine_core::TileAgents;
 use runs::Answer;
 use std::alloc::{Allocator, Global};
 use std::marker::Model;
-use machine_core::TileAgents;
 use torus::Torus;
 
 impl<A: Allocator> TileSeat<A> {

@@ -17,10 +17,9 @@ use crate::taking::{filled, taken};
 use crate::view::Knowledge;
 use atomic_table::{Seat, Table};
 use channel_number::channel_count;
-use machine_core::{Machine, Parts};
+use machine_core::{Machine, Parts, TileAgents};
 use std::alloc::{AllocError, Allocator};
 use std::marker::Brand;
-use machine_core::TileAgents;
 use torus::{Fault, Torus};
 
 // The seat's first group becomes a tile seat with its tiles. What is left of the seat comes back.

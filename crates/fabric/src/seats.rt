@@ -10,9 +10,9 @@ ghost use Rattle.fabric.specs.declared.steps.Turned.TheVariants.{Moved, Idle, No
 use crate::steps::{Both, Halves, Look, Merge, Note, OneRun, Turned, take_in, turn_tile};
 use crate::view::{Dealing, Knowledge};
 use atomic_table::{Seat, Table};
+use machine_core::TileAgents;
 use std::alloc::{Allocator, Global};
 use std::marker::{Brand, Model};
-use machine_core::TileAgents;
 use torus::{Step, Torus};
 
 /// A row of words that threads share, and the rule that it keeps.

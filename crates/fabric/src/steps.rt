@@ -12,9 +12,9 @@ ghost use Rattle.fabric.specs.declared.steps.Turned.TheVariants.{Moved, Idle, No
 use crate::view::{Dealing, Knowledge};
 use atomic_table::{Join, Play, Seat, Shared, Split, TableRule};
 use flit_buffer::WordOp;
+use machine_core::TileAgents;
 use std::alloc::Allocator;
 use std::marker::{Brand, PhantomData};
-use machine_core::TileAgents;
 use torus::{Step, Stepped};
 
 /// The rule of the shared row.

@@ -18,8 +18,7 @@ ghost use Rattle.home_bank.specs.Beginning.{empty_bank, new_ports};
 
 use crate::flits_left::FlitsLeft;
 use crate::{Entry, ServiceList};
-use channel_number::{channel_count, channel_index};
-use channel_number::{Channel, Kind};
+use channel_number::{Channel, Kind, channel_count, channel_index};
 use flit_buffer::{Ports, Receiver, Sender, Want, WordOp};
 use packet::{Assembler, Head, Offered, Packet, Request, apply, flits, head};
 use std::alloc::{AllocError, Allocator, Global};

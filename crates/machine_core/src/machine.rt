@@ -23,9 +23,8 @@ use script::{LineList, MachineText, Scripts};
 use script_rooms::{all_room, home_rooms, processor_rooms};
 use std::alloc::{AllocError, Allocator, Global};
 use std::marker::Model;
-use wake_flags::TileAgents;
 use torus::{Fault, Step, Stepped, Torus};
-use wake_flags::WakeFlags;
+use wake_flags::{TileAgents, WakeFlags};
 
 /// A machine: the agents of all tiles, the row of words that they share (the places of the
 /// channels, the memory, and the done word), the book of the events so far, how many moves its scripts

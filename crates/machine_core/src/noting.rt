@@ -13,8 +13,8 @@ ghost use Rattle.machine_core.specs.Noted.{HasRoomToNote, IsOfFullBank, counts_o
 use event_book::EventBook;
 use std::alloc::Allocator;
 use tag_table::{OpId, Tag};
-use wake_flags::TileAgents;
 use torus::Choice;
+use wake_flags::TileAgents;
 
 /// Whether a choice of a bank is a service for the entry of which it has no room.
 #[inline(always)]

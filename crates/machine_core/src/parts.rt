@@ -9,8 +9,8 @@ ghost use Rattle.machine_core.specs.Inside.{HaveRoom};
 
 use crate::machine::Machine;
 use std::alloc::{Allocator, Global};
-use wake_flags::TileAgents;
 use torus::Torus;
+use wake_flags::TileAgents;
 
 /// What a machine is made of: what was loaded, but for the scripts, the tiles by number, and the row
 /// of words that they share.

@@ -6,5 +6,5 @@ pub mod processor;
 mod record;
 mod start;
 
-pub use processor::Processor;
 pub use net_interface::Answer;
+pub use processor::Processor;

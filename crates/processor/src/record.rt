@@ -9,9 +9,8 @@ ghost use Rattle.net_interface.specs.Following.{is_finished};
 ghost use Rattle.net_interface.specs.ProcessorRecord.{ready, index_of, issued_by, answered_by};
 ghost use Rattle.processor.specs.Beginning.{first_record};
 
-use net_interface::Follower;
+use net_interface::{Answer, Follower};
 use packet::{Operation, Response};
-use net_interface::Answer;
 use script::Line;
 use std::alloc::{AllocError, Allocator, Global};
 use std::marker::Model;

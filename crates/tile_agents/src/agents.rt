@@ -14,13 +14,12 @@ ghost use Rattle.tile_agents.specs.Placed.{with_place, first_tile, IsAcceptableT
 use flit_buffer::WordOp;
 use home_bank::{BankAgent, Entry};
 use packet::Operation;
-use tile::Processor;
 use router::Router;
-use tile::Answer;
 use script::Line;
 use std::alloc::{AllocError, Allocator, Global};
 use std::marker::Model;
 use tag_table::{OpId, Tag};
+use tile::{Answer, Processor};
 use torus::{Choice, Step, Stepped, Torus};
 
 /// The three agents of a tile: its processor, its router and its bank, each with the ends of its

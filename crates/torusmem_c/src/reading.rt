@@ -10,8 +10,8 @@ ghost use Rattle.torusmem_c.specs.declared.outcome.Code.TheVariants as code;
 use crate::outcome::{Code, Outcome};
 use crate::ports::next_number;
 use crate::records::{AnswerRecord, EntryRecord};
-use machine_report::Machine;
 use machine_handle::Handle;
+use machine_report::Machine;
 
 /// A number, or that there is none such.
 fn number_outcome(found: Option<u64>) -> Outcome

@@ -8,8 +8,8 @@ ghost use Rattle.torusmem_c.specs.Steps.{Attempts, Finishes, MakesRound, TellsEn
 
 use crate::choice::attempt_named;
 use crate::outcome::Outcome;
-use machine_report::Machine;
 use machine_handle::Handle;
+use machine_report::Machine;
 use torus::{Step, Stepped};
 
 /// Attempts one choice of one agent: 1 where it moved, 0 where it was idle.

@@ -12,9 +12,8 @@ ghost use Rattle.torusmem_c.specs.Texts.{IsAccepted, IsVerdict, LacksMemory, Loa
 
 use crate::outcome::{Code, Outcome};
 use crate::room::put_over;
-use machine_report::{Out, check_report, of_run, write_report};
-use machine_report::Machine;
 use machine_handle::Handle;
+use machine_report::{Machine, Out, check_report, of_run, write_report};
 use machine_texts::load;
 use report_check::CheckFault;
 use script::LineFault;

@@ -2,6 +2,7 @@
 ghost use Rattle.std.specs.Prelude.{◌≤◌, All, IfSome, length};
 ghost use Rattle.history.specs.worker_run.specs.fabric.specs.Seats.{IsOf};
 
+use history::{End, Fabric, Final, Gate, ProbeSeat, TileSeat, Turned, Worker, run_workers};
 use machine_texts::load;
 use std::alloc::Global;
 use std::sync::Wait;
@@ -10,7 +11,6 @@ use std::test::Fail;
 use std::thread;
 use std::thread::Threads;
 use torus::{Choice, Step};
-use history::{End, Fabric, Final, Gate, ProbeSeat, TileSeat, Turned, Worker, run_workers};
 
 /// A fabric with its workers, and the seats that are no worker's.
 #[derive(Drop)]
