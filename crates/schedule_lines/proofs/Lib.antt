@@ -1,0 +1,5 @@
+pub mod Cuts
+pub mod Numerals
+pub mod Attempts
+pub mod Again
+pub mod Growing
