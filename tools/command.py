@@ -127,8 +127,8 @@ def contents(path: str, most: int = MOST_BYTES) -> bytes:
     return found
 
 
-def torusmem(*words: str) -> str:
-    """What the program prints on the words. Where its status is not 0, its line is the reason of an exception."""
+def torusmem(*words: str, fine: tuple[int, ...] = (0,)) -> str:
+    """What the program prints on the words. Where its status is not fine, its line is the reason of an exception."""
     program = os.environ.get("TORUSMEM") or os.path.join(ROOT, "torusmem")
     with tempfile.TemporaryFile() as printed:
         try:
@@ -138,7 +138,7 @@ def torusmem(*words: str) -> str:
             raise Refusal(f"cannot run {program}: {fault.strerror or fault}") from None
         with asked:
             last = last_line(asked.stderr or [])
-        if asked.returncode:
+        if asked.returncode not in fine:
             why = last or f"{program} ended with status {asked.returncode}"
             raise WrongWords(why) if asked.returncode == 2 else Refusal(why)
         printed.seek(0)

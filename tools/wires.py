@@ -1,0 +1,132 @@
+"""Where the tiles and the links of a torus lie in a picture, and what its channels are called."""
+from __future__ import annotations
+
+from dataclasses import dataclass
+from typing import Any
+
+import drawing
+from drawing import Point
+from replay import Shape
+
+WIDE, HIGH = 44, 30
+# How far neighbours lie apart: across, where a row is short and where it is long; down; and for each tile of
+# the third dimension.
+MOST_ACROSS, ROW_WIDTH, LEAST_DOWN = 132, 728, 92
+SLOT_ACROSS, SLOT_DOWN = 74, 60
+MARGIN, TOP, LEAST_WIDTH = 76, 128, 720
+
+
+class Layout:
+    """Where the tiles and the links lie: dimension 0 to the right, 1 down, 2 up to the right."""
+
+    def __init__(self, shape: Shape, scale: float = 1) -> None:
+        self.shape = shape
+        radices = [*shape.radices, 1, 1][:3]
+        self.across = scale * max(min(MOST_ACROSS, ROW_WIDTH / (radices[0] - 1)), SLOT_ACROSS * radices[2])
+        self.down = scale * max(LEAST_DOWN, SLOT_DOWN * radices[2])
+        self.rise = scale * SLOT_DOWN * (radices[2] - 1)
+        self.scale = scale
+        net = self.across * (radices[0] - 1) + scale * SLOT_ACROSS * (radices[2] - 1)
+        self.width = max(LEAST_WIDTH, net + 2 * scale * MARGIN)
+        self.left = (self.width - net) / 2
+        self.top = 64 + 64 * scale
+        self.low = self.top + self.rise + self.down * (radices[1] - 1) + 60 * scale
+
+    def at(self, tile: int) -> Point:
+        """The middle of a tile."""
+        x, y, z = [*self.shape.digits(tile), 0, 0][:3]
+        slot = self.scale * z
+        return self.left + self.across * x + SLOT_ACROSS * slot, self.top + self.rise + self.down * y - SLOT_DOWN * slot
+
+    def link(self, tile: int, dim: int) -> list[Point]:
+        """The way of the plus hop out of a tile, from the middle of the tile to that of its neighbour."""
+        start, end = self.at(tile), self.at(self.shape.next_tile(tile, dim, 1))
+        if self.shape.digits(tile)[dim] + 1 < self.shape.radices[dim]:
+            return [start, end]
+        (x, y), (u, v), by = start, end, self.scale
+        if dim == 0:
+            return [start, (x + 41 * by, y), (x + 41 * by, y - 35 * by), (u - 34 * by, y - 35 * by), (u - 34 * by, y), end]
+        if dim == 1:
+            return [start, (x, y + 25 * by), (x + 29 * by, y + 25 * by), (x + 29 * by, v - 25 * by), (x, v - 25 * by), end]
+        return [start, (x + 22 * by, y + 28 * by), (u + 22 * by, v + 28 * by), end]
+
+
+@dataclass(frozen=True)
+class Wire:
+    """A channel: the tile that it leaves, its place there, and what it is."""
+
+    tile: int
+    place: int
+    kind: str
+    class_: str
+    dimension: int | None = None
+    direction: str | None = None
+    bit: int | None = None
+    to: int | None = None
+
+    def name(self) -> str:
+        """The channel in words."""
+        if self.kind != "hop":
+            return f"{self.class_} {self.kind} at tile {self.tile}"
+        class_ = "requests" if self.class_ == "request" else "replies"
+        return f"tile {self.tile} to {self.to}, dimension {self.dimension} {self.direction}, {class_}, bit {self.bit}"
+
+    def told(self) -> dict[str, Any]:
+        """The channel for JSON."""
+        made: dict[str, Any] = {"tile": self.tile, "place": self.place, "kind": self.kind, "class": self.class_}
+        if self.kind == "hop":
+            made.update(dimension=self.dimension, direction=self.direction, bit=self.bit, to=self.to)
+        return made
+
+
+def wires(shape: Shape) -> list[Wire]:
+    """All channels, in channel order (docs/FORMATS.md, Channels and ports)."""
+    made = []
+    for tile in range(shape.tiles):
+        for place in range(8 * shape.dims):
+            dim, minus, reply, bit = place // 8, place // 4 % 2, place // 2 % 2, place % 2
+            to = shape.next_tile(tile, dim, -1 if minus else 1)
+            ways = ("reply" if reply else "request", dim, "minus" if minus else "plus", bit, to)
+            made.append(Wire(tile, place, "hop", *ways))
+        for at, kind in enumerate(("injection", "injection", "ejection", "ejection")):
+            made.append(Wire(tile, 8 * shape.dims + at, kind, "reply" if at % 2 else "request"))
+    return made
+
+
+def beside(way: list[Point], by: float) -> list[Point]:
+    """A way along another, so far to the right of it, seen in its direction."""
+    made = []
+    for at, (x, y) in enumerate(way):
+        sides = [normal(way[it], way[it + 1]) for it in (at - 1, at) if 0 <= it < len(way) - 1]
+        u, v = (sum(it[axis] for it in sides) for axis in (0, 1))
+        # at a corner of a right angle both sides move it
+        length = max(u * u + v * v, 1e-9) if len(sides) == 2 else 1
+        made.append((x + by * u * len(sides) / length, y + by * v * len(sides) / length))
+    return made
+
+
+def normal(start: Point, end: Point) -> Point:
+    """The direction to the right of a line, of length 1."""
+    x, y = end[0] - start[0], end[1] - start[1]
+    length = max((x * x + y * y) ** 0.5, 1e-9)
+    return -y / length, x / length
+
+
+def along(way: list[Point], part: float) -> Point:
+    """The point at so much of the length of a way, 0 to 1."""
+    lengths = [((u - x) ** 2 + (v - y) ** 2) ** 0.5 for (x, y), (u, v) in zip(way, way[1:])]
+    left = part * sum(lengths)
+    for (x, y), (u, v), length in zip(way, way[1:], lengths):
+        if left <= length or (u, v) == way[-1]:
+            share = min(left / length, 1) if length else 0
+            return x + (u - x) * share, y + (v - y) * share
+        left -= length
+    return way[-1]
+
+
+def tile_box(layout: Layout, tile: int, **attributes: object) -> str:
+    """The box of a tile, and its number."""
+    x, y = layout.at(tile)
+    place: dict[str, Any] = {"x": x - WIDE / 2, "y": y - HIGH / 2, "width": WIDE, "height": HIGH, "rx": 5}
+    box = drawing.element("rect", stroke="#57606a", stroke_width=1.5, **place, **attributes)
+    return box + drawing.text(x, y + 5, str(tile), 13, text_anchor="middle", font_weight="bold")
