@@ -9,7 +9,7 @@ import argparse
 import re
 from collections import deque
 from dataclasses import dataclass, field
-from typing import Iterator
+from typing import Iterator, Sequence
 
 import command
 import drawn
@@ -527,6 +527,11 @@ def compare(machine: Machine, found: report.Report) -> None:
     }
     if made != told or found.is_complete != machine.is_finished():
         raise command.Refusal("the replay of the schedule is not the run of the report that `torusmem steps` prints")
+
+
+def percentile(rising: Sequence[int], part: int) -> int:
+    """The least of the numbers that so many of a hundred of them do not exceed: the nearest rank."""
+    return rising[max(0, -(-len(rising) * part // 100) - 1)]
 
 
 def add_words(parser: command.Parser) -> None:
