@@ -21,7 +21,7 @@ MOST_BYTES = 1 << 30
 HEADING = re.compile(rb"# round ([0-9]{1,20})")
 
 
-@dataclass
+@dataclass(eq=False)
 class Operation:
     """An operation of a processor. A time is the round of the event, or the number of the move without rounds."""
 

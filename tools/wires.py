@@ -19,7 +19,7 @@ MARGIN, TOP, LEAST_WIDTH = 76, 128, 720
 class Layout:
     """Where the tiles and the links lie: dimension 0 to the right, 1 down, 2 up to the right."""
 
-    def __init__(self, shape: Shape, scale: float = 1) -> None:
+    def __init__(self, shape: Shape, scale: float = 1, top: float = TOP) -> None:
         self.shape = shape
         radices = [*shape.radices, 1, 1][:3]
         self.across = scale * max(min(MOST_ACROSS, ROW_WIDTH / (radices[0] - 1)), SLOT_ACROSS * radices[2])
@@ -29,7 +29,7 @@ class Layout:
         net = self.across * (radices[0] - 1) + scale * SLOT_ACROSS * (radices[2] - 1)
         self.width = max(LEAST_WIDTH, net + 2 * scale * MARGIN)
         self.left = (self.width - net) / 2
-        self.top = 64 + 64 * scale
+        self.top = top
         self.low = self.top + self.rise + self.down * (radices[1] - 1) + 60 * scale
 
     def at(self, tile: int) -> Point:
