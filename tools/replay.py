@@ -520,8 +520,9 @@ def compare(machine: Machine, found: report.Report) -> None:
         for it in machine.operations()
         if it.answered is not None
     }
+    events = lambda it: (it.issued, it.served, it.answered)
     told = {
-        (it.source, it.index): (it.bank, it.kind, it.address, it.values, it.reply or 0, it.issued, it.served, it.answered)
+        (it.source, it.index): (it.bank, it.kind, it.address, it.values, it.reply or 0, *events(it))
         for it in found.entries
         if it.index is not None
     }

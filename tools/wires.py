@@ -45,9 +45,11 @@ class Layout:
             return [start, end]
         (x, y), (u, v), by = start, end, self.scale
         if dim == 0:
-            return [start, (x + 41 * by, y), (x + 41 * by, y - 35 * by), (u - 34 * by, y - 35 * by), (u - 34 * by, y), end]
+            right, left, high = x + 41 * by, u - 34 * by, y - 35 * by
+            return [start, (right, y), (right, high), (left, high), (left, y), end]
         if dim == 1:
-            return [start, (x, y + 25 * by), (x + 29 * by, y + 25 * by), (x + 29 * by, v - 25 * by), (x, v - 25 * by), end]
+            low, high, right = y + 25 * by, v - 25 * by, x + 29 * by
+            return [start, (x, low), (right, low), (right, high), (x, high), end]
         return [start, (x + 22 * by, y + 28 * by), (u + 22 * by, v + 28 * by), end]
 
 
