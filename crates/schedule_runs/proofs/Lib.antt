@@ -1,0 +1,2 @@
+pub mod OfTorus
+pub mod Again
