@@ -1,0 +1,8 @@
+pub mod SixWords
+pub mod Hops
+pub mod Added
+pub mod Fresh
+pub mod Begun
+pub mod Cells
+pub mod Told
+pub mod Pieces

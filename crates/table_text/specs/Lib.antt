@@ -1,0 +1,4 @@
+pub mod Network
+pub mod Reading
+pub mod Inside
+pub mod Answer

@@ -1,0 +1,13 @@
+//! The text of a network: its channels, who sends to whom, the routers' choices and the replies; and
+//! the text of what is judged of it.
+#![tactic(auto)]
+
+pub mod answer;
+mod fault;
+pub mod network;
+mod number;
+mod reading;
+mod words;
+
+pub use answer::{Answer, network_answer, verdict_text};
+pub use network::{Network, read_network};
