@@ -1,0 +1,4 @@
+//! Laws of judged networks: none locks up, and all that was sent comes.
+#![tactic(auto)]
+
+pub mod laws;
