@@ -2,15 +2,15 @@ ghost use Rattle.std.specs.Prelude.{None};
 
 use arrayvec::{ArrayString, ArrayVec};
 use commands::{
-    ProgramFault, Progress, channels_text, check_text, fault_text, finished, round_text,
-    round_text_with, route_text, status_of, steps_text,
+    ProgramFault, Progress, channel_count, channels_text, check_text, fault_text, finished,
+    put_numbers, round_text, round_text_with, route_text, status_of, steps_text,
 };
 use linked_list_allocator::LocalHeap;
 use report_lines::{Out, Piped};
 use script::LineFault;
 use std::alloc::{AllocError, Allocator, Global};
 use std::test::Fail;
-use torus::{Class, Fault};
+use torus::{Class, Fault, Torus};
 
 /// Takes at most so many bytes a put, and none at the put of one number, counted from 1.
 #[derive(Drop)]
@@ -207,6 +207,67 @@ fn commands_write_their_texts(rt: HostRuntime) {
     for (job, text) in &WRITTEN {
         assert!(rt; writes(rt.alloc(), job, true, text), "{text}");
     }
+}
+
+/// Numbers of all channels of two tiles, and whether they rise along every route: those that `channels`
+/// prints; with other gaps between them; all alike; with an injection that is above the hop behind it,
+/// and an ejection that is below the hop ahead of it.
+const NUMBERS: [([u32; 24], bool); 5] = [
+    (
+        [
+            1, 4, 7, 10, 2, 3, 8, 9, 0, 6, 5, 11, 2, 3, 8, 9, 1, 4, 7, 10, 0, 6, 5, 11,
+        ],
+        true,
+    ),
+    (
+        [
+            10, 40, 70, 100, 20, 30, 80, 90, 0, 60, 50, 110, 20, 30, 80, 90, 10, 40, 70, 100, 0,
+            60, 50, 110,
+        ],
+        true,
+    ),
+    ([0; 24], false),
+    (
+        [
+            1, 4, 7, 10, 2, 3, 8, 9, 5, 6, 5, 11, 2, 3, 8, 9, 1, 4, 7, 10, 0, 6, 5, 11,
+        ],
+        false,
+    ),
+    (
+        [
+            1, 4, 7, 10, 2, 3, 8, 9, 0, 6, 5, 11, 2, 3, 8, 9, 1, 4, 7, 10, 0, 6, 5, 0,
+        ],
+        false,
+    ),
+];
+
+/// The lines of numbers of all channels of two tiles, and `rising` behind them or not.
+fn numbers_text(alloc: Global, numbers: &[u32], is_rising: bool) -> Result<String, AllocError> {
+    let mut text = String::new(alloc);
+    for (index, number) in numbers.iter().enumerate() {
+        writeln!(text, "channel {} {} {number}", index / 12, index % 12)?;
+    }
+    if is_rising {
+        text.push_str("rising\n")?;
+    }
+    Ok(text)
+}
+
+/// It is said that numbers rise exactly where they do, whatever numbers they are.
+#[test]
+fn rising_is_said_where_numbers_rise(rt: HostRuntime) -> Result<(), Fail> {
+    let torus = Torus::new(2, 1)?;
+    for &(numbers, is_rising) in &NUMBERS {
+        let mut sink = Sink::whole();
+        assert!(rt; numbers.len() == channel_count(&torus) as usize);
+        let answer = put_numbers(&mut sink, &torus, &numbers);
+        let text = numbers_text(rt.alloc(), &numbers, is_rising)?;
+        assert!(rt;
+            answer.is_ok() && sink.bytes.as_slice() == text.as_bytes(),
+            "{text}"
+        );
+    }
+    Ok(())
 }
 
 /// Runs of steps: the machine, the scripts, the steps, and the report.
@@ -871,6 +932,77 @@ fn watched_runs_are_the_same(rt: HostRuntime) {
             is_same && watch.saw(told, made, answered, 1),
             "{script}, {rounds}, {every}"
         );
+    }
+}
+
+/// Keeps what a run in rounds tells it. It always wants to be told.
+#[derive(Drop)]
+struct Recorder {
+    told: ArrayVec<(u64, u64), 32>,
+    asked: usize,
+    ended: usize,
+}
+
+impl Progress for Recorder {
+    /// It is asked once between two rounds that it is told of, and not behind the end.
+    fn wants(&mut self) -> bool {
+        if self.ended == 0 && self.asked == self.told.len() {
+            self.asked = self.asked.saturating_add(1);
+        }
+        true
+    }
+
+    fn made(&mut self, rounds: u64, answered: u64) {
+        let _ = self.told.try_push((rounds, answered));
+    }
+
+    fn ended(&mut self) {
+        self.ended = self.ended.saturating_add(1);
+    }
+}
+
+/// How many lines of a text begin with a word and a space.
+fn lines_of(text: &str, word: &str) -> u64 {
+    let mut count = 0u64;
+    for line in text.lines() {
+        if line.split(' ').next() == Some(word) {
+            count = count.saturating_add(1);
+        }
+    }
+    count
+}
+
+/// How many operations are answered after so many rounds of two tiles, by the report of that many.
+fn answers_after(alloc: Global, script: &str, rounds: u64) -> Option<u64> {
+    let mut sink = Sink::whole();
+    round_text(alloc, PAIR.as_bytes(), script.as_bytes(), rounds, &mut sink).ok()?;
+    let report = str::from_utf8(sink.bytes.as_slice()).ok()?;
+    Some(lines_of(report, "answer"))
+}
+
+/// Who wants to be told is told of each round in turn, with the answers that a report after that many
+/// rounds has, and of the end once.
+#[test]
+fn each_round_is_told(rt: HostRuntime) {
+    for &(script, count) in &[(SCRIPT, 12), ("0 load 0\n1 load 1\n", 5), ("", 0)] {
+        let mut recorder = Recorder {
+            told: ArrayVec::new(),
+            asked: 0,
+            ended: 0,
+        };
+        let (machine, scripts) = (PAIR.as_bytes(), script.as_bytes());
+        let mut sink = Sink::whole();
+        let answer = round_text_with(rt.alloc(), machine, scripts, 1000, &mut sink, &mut recorder);
+        let has_all = recorder.told.len() == count
+            && recorder.asked == count
+            && recorder.ended == 1;
+        assert!(rt; answer == Ok(true) && has_all, "{script}");
+        for (index, &(rounds, answered)) in recorder.told.iter().enumerate() {
+            assert!(rt;
+                rounds == index as u64 + 1
+                    && answers_after(rt.alloc(), script, rounds) == Some(answered)
+            );
+        }
     }
 }
 

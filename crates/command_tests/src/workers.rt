@@ -1,12 +1,13 @@
 use crate::answers::{PAIR, SCRIPT, Sink};
-use commands::{ProgramFault, check_text, run_text};
+use commands::{Gate, ProgramFault, check_text, run_text, run_text_with};
 use report_lines::{Out, Piped};
 use script::LineFault;
 use std::alloc::AllocError;
 use std::sync::Wait;
+use std::sync::atomic::{AtomicU64, Ordering};
 use std::test::Fail;
-use std::thread::Threads;
-use torus::Fault;
+use std::thread::{self, Threads};
+use torus::{Fault, Step};
 
 /// Four tiles.
 const BOX: &str = "radix 2\ndims 2\ndepth 4\ntags 4\nwords 8\n";
@@ -87,6 +88,55 @@ fn workers_write_reports(rt: HostRuntime) {
             "{workers} workers: {text}"
         );
     }
+}
+
+/// Lets a worker begin once another has come, or after a long while.
+#[derive(Drop)]
+struct Rendezvous {
+    come: AtomicU64,
+    missed: AtomicU64,
+    asked: AtomicU64,
+}
+
+impl Gate for Rendezvous {
+    ghost holds = { λ gate worker. ⊥ };
+
+    ghost stops = { λ gate worker step. ⊥ };
+
+    fn begin(&self, _worker: usize) -> bool {
+        self.come.fetch_add(1, Ordering::SeqCst);
+        for _ in 0..10000000u64 {
+            if self.come.load(Ordering::SeqCst) > 1 {
+                return true;
+            }
+            thread::yield_now();
+        }
+        self.missed.fetch_add(1, Ordering::SeqCst);
+        true
+    }
+
+    fn before(&self, _worker: usize, _step: Step) -> bool {
+        self.asked.fetch_add(1, Ordering::SeqCst);
+        true
+    }
+}
+
+/// Two workers have begun before either makes a turn, so they are in threads of their own; and they ask
+/// ahead of each turn, of which this run takes many.
+#[test]
+fn workers_run_side_by_side(rt: HostRuntime) {
+    let gate = Rendezvous {
+        come: AtomicU64::new(0),
+        missed: AtomicU64::new(0),
+        asked: AtomicU64::new(0),
+    };
+    let mut sink = Sink::whole();
+    let (machine, scripts) = (PAIR.as_bytes(), SCRIPT.as_bytes());
+    let answer = run_text_with(&rt, rt.alloc(), machine, scripts, 2, MOST, &gate, &mut sink);
+    let is_text = sink.bytes.as_slice() == UNORDERED.as_bytes();
+    assert!(rt; answer == Ok(true) && is_text);
+    assert!(rt; gate.come.load(Ordering::SeqCst) == 2 && gate.missed.load(Ordering::SeqCst) == 0);
+    assert!(rt; gate.asked.load(Ordering::SeqCst) >= 40);
 }
 
 /// Texts with a fault, machine and scripts, and the first fault.
