@@ -7,6 +7,7 @@ are wrong), 4 (standard output failed), or 130 (interrupted).
 from __future__ import annotations
 
 import argparse
+import mmap
 import os
 import subprocess
 import tempfile
@@ -14,6 +15,8 @@ from contextlib import contextmanager
 from typing import IO, Callable, Iterable, Iterator, NoReturn, Optional
 
 ROOT = os.path.dirname(os.path.dirname(os.path.realpath(__file__)))
+# No other text is longer, so that a device without end doesn't take the memory of the machine.
+MOST_TEXT = 2**31
 # No report is longer: five sections of at most 65,536 lines and three lines more, of at most 128 bytes each.
 MOST_BYTES = (5 * 65536 + 3) * 128
 
@@ -115,21 +118,38 @@ def printable(text: str) -> str:
     return "".join(it if it.isprintable() else "?" for it in text)
 
 
-def contents(path: str, most: int = MOST_BYTES) -> bytes:
-    """The bytes of a file, or of standard input for `-`. Refused if there are more than `most`."""
+def contents(path: str, most: int = MOST_TEXT) -> bytes:
+    """The bytes of a file, or of standard input for `-`. Refused if there are more than `most`, of a file before it
+    is read."""
     try:
         with open(0 if path == "-" else path, "rb", closefd=path != "-") as file:
-            found = file.read(most + 1)
+            parts, length = [], 0
+            is_long = os.fstat(file.fileno()).st_size > most
+            while not is_long and (part := file.read(2**20)):
+                parts.append(part)
+                length += len(part)
+                is_long = length > most
     except OSError as fault:
         raise Refusal(f"cannot read {path}: {fault.strerror or fault}") from None
-    if len(found) > most:
-        raise Refusal(f"{path} has more than {most} bytes")
-    return found
+    if is_long:
+        raise Refusal(f"cannot read {path}: longer than {'2 GiB' if most == MOST_TEXT else f'{most} bytes'}")
+    return b"".join(parts)
 
 
-def torusmem(*words: str, fine: tuple[int, ...] = (0,)) -> str:
+def mapped(path: str) -> bytes | mmap.mmap:
+    """The bytes of a file, or of standard input for `-`. A long file isn't read into memory, and may have any length."""
+    try:
+        if path != "-" and os.path.isfile(path) and os.path.getsize(path) > 2**20:
+            with open(path, "rb") as file:
+                return mmap.mmap(file.fileno(), 0, access=mmap.ACCESS_READ)
+    except OSError as fault:
+        raise Refusal(f"cannot read {path}: {fault.strerror or fault}") from None
+    return contents(path)
+
+
+def torusmem(*words: str, program: str | None = None, fine: tuple[int, ...] = (0,)) -> str:
     """What the program prints on the words. Where its status is not fine, its line is the reason of an exception."""
-    program = os.environ.get("TORUSMEM") or os.path.join(ROOT, "torusmem")
+    program = program or os.environ.get("TORUSMEM") or os.path.join(ROOT, "torusmem")
     with tempfile.TemporaryFile() as printed:
         try:
             null, pipe = subprocess.DEVNULL, subprocess.PIPE

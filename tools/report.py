@@ -90,7 +90,7 @@ def product(numbers: list[int]) -> int:
 
 def number(word: str, least: int, most: int, what: str) -> int:
     """The number that a word spells, which is to lie between `least` and `most`."""
-    if not (word.isdigit() and len(word) <= 20):
+    if not (word.isascii() and word.isdigit() and len(word) <= 20):
         raise BadLine(f"{what} is no number")
     found = int(word)
     if not least <= found <= most:
@@ -242,7 +242,7 @@ def add_words(parser: command.Parser) -> None:
 
 def read(given: argparse.Namespace) -> Report:
     """The report that the command line names, which `torusmem check` finds good if it is asked."""
-    text = command.contents(given.report)
+    text = command.contents(given.report, command.MOST_BYTES)
     if not given.unchecked:
         try:
             with command.kept(text) as path:

@@ -132,7 +132,7 @@ def judged(case: Case, programs: Programs, folder: str, status: int, said: str) 
         if verdict != 0 or file.read() != b"good report\n" or why:
             return Outcome("check", f"status {verdict}, {why}")
     try:
-        check_report(case, report.parsed(command.contents(where), "its report"), status)
+        check_report(case, report.parsed(command.contents(where, command.MOST_BYTES), "its report"), status)
     except Wrong as wrong:
         return Outcome(wrong.kind, str(wrong))
     except command.Refusal as why_not:

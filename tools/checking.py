@@ -1,0 +1,206 @@
+"""Checks the trace that a table tells, of any length: its rows are read by processes side by side, spread over files by
+address and service, and judged in pieces (tools/pieces.py) by processes side by side."""
+from __future__ import annotations
+
+import os
+import random
+from collections import Counter
+from dataclasses import dataclass
+from itertools import groupby
+from operator import itemgetter
+from typing import Any, Dict, List, Optional, Set, Tuple
+
+import command
+import exchange
+import jobs
+import table
+from pieces import ADDRESS, LINE, Fault, Judge, pieces_of
+
+# How many bytes are read at a time, and about how many rows there are in a range.
+CHUNK = 2**22
+RANGE, NAMES = 50000, 300000
+# How many rows of each range are looked at to part them.
+SAMPLES = 32
+
+
+@dataclass
+class Table:
+    """A table: its bytes, and what may be in it."""
+
+    path: str
+    text: Any  # bytes, or a map of a file
+    limits: table.Limits
+
+    def begin(self) -> int:
+        """Where the second line begins."""
+        return self.text.find(b"\n") + 1 or len(self.text)
+
+
+@dataclass
+class Chunk:
+    """A part of a table: its number, where it begins and ends, and how many lines stand before it."""
+
+    number: int
+    start: int
+    end: int
+    lines: int
+
+
+@dataclass
+class Read:
+    """What was read of a chunk: its operations by address and service, their names, and how many weren't served."""
+
+    rows: exchange.Spread
+    names: exchange.Spread
+    served: int
+    unserved: int
+
+
+@dataclass
+class Verdict:
+    """What is found of a trace: its first fault, if there is one, and of what it consists."""
+
+    fault: Optional[Fault]
+    served: int
+    unserved: int
+    words: int
+    pieces: int
+
+    def told(self) -> str:
+        """The line of a good trace."""
+        many = lambda count, name: f"{count} {name}{'' if count == 1 else 's'}"
+        parts = f"{many(self.served, 'operation')} on {many(self.words, 'word')}, in {many(self.pieces, 'report')}"
+        return f"good trace: {parts}\n"
+
+
+def chunks_of(found: Table) -> List[Chunk]:
+    """The parts of a table, each of whole lines; all of it in one part where a field may go over lines."""
+    start, lines, made = found.begin(), 1, []
+    if found.text.find(b'"') >= 0:
+        return [Chunk(0, start, len(found.text), lines)]
+    while start < len(found.text):
+        end = found.text.find(b"\n", min(start + CHUNK, len(found.text))) + 1 or len(found.text)
+        made.append(Chunk(len(made), start, end, lines))
+        lines += found.text[start:end].count(b"\n")
+        start = end
+    return made
+
+
+def sampled(found: Table, count: int) -> Tuple[List[Tuple[int, int]], List[int]]:
+    """The address and the service, and the name, of so many rows of a table; without those that can't be understood."""
+    draw, begin, end = random.Random(1), found.begin(), len(found.text)
+    rows = table.Rows(found.path, found.limits)
+    for _ in range(count):
+        start = found.text.rfind(b"\n", 0, draw.randrange(begin, end)) + 1
+        line = found.text[start : found.text.find(b"\n", start) + 1 or end]
+        if start >= begin:
+            try:
+                rows.take_text(line, 0)
+            except command.Refusal:
+                pass
+    return [it[:2] for it in rows.served], rows.names
+
+
+class Check:
+    """The check of a table, in the steps in which it is made."""
+
+    def __init__(self, found: Table, judge: Judge, processes: int) -> None:
+        self.table, self.judge, self.processes = found, judge, processes
+        self.chunks = chunks_of(found)
+        self.borders: List[Tuple[Any, ...]] = []
+        self.name_borders: List[int] = []
+        self.reads: List[Read] = []
+        self.ends: List[Optional[Tuple[Any, Any]]] = []
+        closing = judge.memory.closing
+        self.given = {*judge.memory.opening.words, *closing.words} if closing else set()
+
+    def part(self) -> None:
+        """Parts addresses and services, and names, into ranges, if there are enough of them."""
+        last = self.chunks[-1:]
+        lines = sum(it.lines + (it.end - it.start) // 60 for it in last)
+        if lines > RANGE:
+            rows, names = sampled(self.table, SAMPLES * (lines // RANGE + 1))
+            self.borders = exchange.borders_of(rows, lines // RANGE + 1)
+            self.name_borders = exchange.borders_of(names, lines // NAMES + 1)
+
+    def read(self, chunk: Chunk) -> Read:
+        """Reads a chunk, and spreads it over its files."""
+        rows = self.rows_of(chunk)
+        place = lambda name: os.path.join(self.judge.folder, f"{name}-{chunk.number}")
+        served = len(rows.served)
+        spread = exchange.spread(rows.served, self.borders, place("rows"))
+        return Read(spread, exchange.spread(rows.names, self.name_borders, place("names")), served, rows.unserved)
+
+    def rows_of(self, chunk: Chunk) -> table.Rows:
+        """The rows of a chunk."""
+        rows = table.Rows(self.table.path, self.table.limits)
+        rows.take_text(self.table.text[chunk.start : chunk.end], chunk.lines)
+        return rows
+
+    def twice(self, number: int) -> Set[int]:
+        """The names of a range that stand in more than one line."""
+        names = exchange.gathered([it.names for it in self.reads], number)
+        if len(set(names)) == len(names):
+            return set()
+        return {name for name, count in Counter(names).items() if count > 1}
+
+    def twice_told(self, names: Set[int]) -> Optional[Fault]:
+        """The first line whose name stands in an earlier line, where these names are those that stand twice."""
+        lines: Dict[int, int] = {}
+        for chunk in self.chunks if names else []:
+            rows = self.rows_of(chunk)
+            for name, row in zip(rows.names, rows.served):
+                if name in lines:
+                    which = f"operation {name & table.MASK} of processor {name >> 64}"
+                    return Fault((-1, row[LINE], 0), row[LINE], f"{which} is in line {lines[name]} already")
+                if name in names:
+                    lines[name] = row[LINE]
+        return None
+
+    def judged(self, number: int) -> Tuple[Optional[Fault], int, int, List[int]]:
+        """The first fault of a range of addresses and services, how many pieces and how many addresses it has that no
+        range before it has, and those of its addresses whose words are given."""
+        rows = sorted(exchange.gathered([it.rows for it in self.reads], number))
+        before = next((it[1] for it in reversed(self.ends[:number]) if it), None)
+        after = next((it[0][ADDRESS] for it in self.ends[number + 1 :] if it), None)
+        pieces = list(pieces_of(rows, before, after))
+        faults = [it for it in map(self.judge.fault, pieces) if it]
+        addresses = [address for address, _ in groupby(rows, itemgetter(ADDRESS))]
+        count = len(addresses) - (bool(pieces) and pieces[0].before is not None)
+        given = [it for it in addresses if it in self.given]
+        return min(faults, key=place_of, default=None), len(pieces), count, given
+
+    def untouched(self, touched: Set[int]) -> List[Fault]:
+        """The words that no operation is on, and that end as others than they open."""
+        memory = self.judge.memory
+        faults = []
+        for address in sorted(self.given - touched):
+            opening = memory.opening.words.get(address, 0)
+            closing = memory.closing.words.get(address, 0) if memory.closing else opening
+            if opening != closing and memory.closing:
+                why = f"the word at address {address} is {closing}, but it opens with {opening}, and no operation is on it"
+                faults.append(Fault((2, address, 0), 0, f"{memory.closing.told(address)}: {why}"))
+        return faults
+
+    def made(self) -> Verdict:
+        """The whole check."""
+        self.part()
+        self.reads = list(jobs.answers(self.read, self.chunks, self.processes))
+        ranges = list(range(len(self.borders) + 1))
+        self.ends = [exchange.ends([it.rows for it in self.reads], at) for at in ranges]
+        names = list(range(len(self.name_borders) + 1))
+        again = self.twice_told(set().union(*jobs.answers(self.twice, names, self.processes)))
+        faults = [again] if again else []
+        pieces, words, touched = 0, 0, set()
+        for fault, made, found, given in jobs.answers(self.judged, ranges, self.processes):
+            faults += [fault] if fault else []
+            pieces, words = pieces + made, words + found
+            touched.update(given)
+        faults += self.untouched(touched)
+        served, unserved = sum(it.served for it in self.reads), sum(it.unserved for it in self.reads)
+        return Verdict(min(faults, key=place_of, default=None), served, unserved, words, pieces)
+
+
+def place_of(fault: Fault) -> Tuple[int, int, int]:
+    """Where a fault stands among others."""
+    return fault.place

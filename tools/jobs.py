@@ -1,0 +1,81 @@
+"""Does work in processes side by side."""
+from __future__ import annotations
+
+import gc
+import os
+import signal
+from multiprocessing import connection, get_context
+from typing import Callable, Dict, Iterator, List, NoReturn, TypeVar
+
+import command
+
+Task = TypeVar("Task")
+Answer = TypeVar("Answer")
+
+
+def cores() -> int:
+    """How many processes can run at once."""
+    if hasattr(os, "sched_getaffinity"):
+        return len(os.sched_getaffinity(0))
+    return os.cpu_count() or 1
+
+
+def answers(work: Callable[[Task], Answer], tasks: List[Task], jobs: int) -> Iterator[Answer]:
+    """What the work answers to each task, in their order, so many at once. The first refusal is raised in its turn."""
+    if min(jobs, len(tasks)) < 2:
+        yield from map(work, tasks)
+        return
+    pipes, children = [], []
+    try:
+        for job in range(min(jobs, len(tasks))):
+            out, into = get_context("fork").Pipe(duplex=False)
+            child = os.fork()
+            if child == 0:
+                out.close()
+                told(work, list(range(job, len(tasks), jobs)), tasks, into)
+            into.close()
+            children.append(child)
+            pipes.append(out)
+        yield from in_order(pipes, len(tasks))
+    finally:
+        for child in children:
+            os.kill(child, signal.SIGKILL)
+            os.waitpid(child, 0)
+
+
+def told(
+    work: Callable[[Task], Answer], mine: List[int], tasks: List[Task], pipe: connection.Connection
+) -> NoReturn:
+    """In a process of its own: does the tasks of the numbers, and writes each answer into the pipe."""
+    signal.signal(signal.SIGINT, signal.SIG_IGN)
+    signal.signal(signal.SIGTERM, signal.SIG_DFL)
+    gc.disable()  # it would look again and again at rows that hold no circles
+    try:
+        for at in mine:
+            try:
+                pipe.send((at, work(tasks[at]), ""))
+            except (command.Refusal, OSError) as why:
+                pipe.send((at, None, str(why)))
+            except MemoryError:
+                pipe.send((at, None, "there is no memory left"))
+    finally:
+        os._exit(0)
+
+
+def in_order(pipes: List[connection.Connection], count: int) -> Iterator[Answer]:
+    """The answers to so many tasks, in the order of the tasks, as they come out of the pipes."""
+    early: Dict[int, tuple[Answer, str]] = {}
+    for at in range(count):
+        while at not in early:
+            if not pipes:
+                raise command.Refusal("a process was ended")
+            for pipe in connection.wait(pipes):
+                try:
+                    number, answer, why = pipe.recv()
+                    early[number] = answer, why
+                except EOFError:
+                    pipes.remove(pipe)
+        answer, why = early.pop(at)
+        if why:
+            raise command.Refusal(why)
+        yield answer

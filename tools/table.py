@@ -1,0 +1,209 @@
+"""Reads tables of operations (CSV, comma-separated values; `tools/from_csv --help` says what each column is).
+
+A line can be read in two ways. The plain way takes many lines at once by one regular expression: lines without
+spaces at their fields and without quotes. What it can't take, or what is out of its range, is read field by field,
+which says what is wrong. A table with quotes is read field by field altogether, since a field in quotes may go over
+lines.
+"""
+from __future__ import annotations
+
+import csv
+import io
+import re
+from dataclasses import dataclass, field
+from typing import Iterator, List, Optional, Tuple
+
+import command
+import report
+from report import BadLine, Entry
+
+COLUMNS = "processor,index,tag,operation,address,values,reply,bank,issued,served,answered".split(",")
+MASK = 2**64 - 1
+LATEST = 10**20 - 1
+# An operation that was served: its address, the time of its service, its line, the times of its issue and of its
+# answer, its kind, its values as a report spells them, each with a space before it, and its reply as a report does.
+Row = Tuple[int, int, int, int, Optional[int], str, str, str]
+
+NUMBER = "(0|[1-9][0-9]{0,19})"
+# (processors, indexes, addresses and banks below 10^19, which are below 2^64)
+SHORT = "(0|[1-9][0-9]{0,18})"
+PLAIN = re.compile(
+    rf"^{SHORT},{SHORT},([0-9]|1[0-5])?,([a-z]{{2,5}}),{SHORT},(?:{NUMBER}(?: {NUMBER})?)?,"
+    rf"({NUMBER[1:-1]}|ok),{SHORT}?,{NUMBER},{NUMBER},{NUMBER}?\r?$|^(.*)$",
+    re.ASCII | re.MULTILINE,
+)
+# Of each kind whether there is a first and a second value, and whether the reply is `ok`.
+PLAIN_KINDS = {(kind, count > 0, count > 1, kind == "store") for kind, count in report.VALUES.items()}
+
+
+@dataclass
+class Limits:
+    """What a table may have: so many tiles and words, where that is known, and indexes up to the last."""
+
+    tiles: Optional[int]
+    words: Optional[int]
+    last_index: int = MASK
+
+    def last_tile(self) -> int:
+        """The greatest number of a processor or of a bank."""
+        return MASK if self.tiles is None else self.tiles - 1
+
+    def last_address(self) -> int:
+        """The greatest address."""
+        return MASK if self.words is None else self.words - 1
+
+
+def cut(text: bytes, path: str, before: int = 0) -> Iterator[tuple[int, list[str]]]:
+    """The rows of a table, each with the number of its line, where so many lines stand before the text."""
+    rows = csv.reader(io.TextIOWrapper(io.BytesIO(text), encoding="utf-8-sig", newline=""), strict=True)
+    try:
+        for row in rows:
+            if any(map(str.strip, row)):
+                yield before + rows.line_num, [it.strip() for it in row]
+    except UnicodeDecodeError:
+        raise command.Refusal(f"{path} is no text in UTF-8") from None
+    except csv.Error as fault:
+        raise command.Refusal(f"{path}, line {before + rows.line_num}: {fault}") from None
+
+
+def values_of(kind: str, words: list[str]) -> tuple[int, ...]:
+    """The values of an operation, as many as it has."""
+    if kind not in report.VALUES:
+        raise BadLine("there is no such operation")
+    if len(words) != report.VALUES[kind]:
+        raise BadLine(f"{kind} has not so many values")
+    return tuple(map(report.value, words))
+
+
+def reply_of(kind: str, word: str) -> int | None:
+    """The reply of an operation."""
+    if (kind == "store") != (word == "ok"):
+        raise BadLine("the reply is `ok` for a store, and a number for every other operation")
+    return report.reply(word)
+
+
+def entry_of(fields: list[str], limits: Limits) -> Entry | None:
+    """The operation of a row, with its times in place of event numbers, and no place yet; None if it isn't served."""
+    if len(fields) != len(COLUMNS):
+        raise BadLine(f"there are {len(fields)} fields in place of {len(COLUMNS)}")
+    row = dict(zip(COLUMNS, fields))
+    if not row["served"] and not row["answered"]:
+        return None
+    tile = lambda name, word: report.number(word, 0, limits.last_tile(), f"the {name}")
+    time = lambda name: report.number(row[name], 0, LATEST, f"the time `{name}`")
+    address = report.number(row["address"], 0, limits.last_address(), "the address")
+    kind = row["operation"]
+    bank = tile("bank", row["bank"] or str(address % (limits.tiles or 1)))
+    source = tile("processor", row["processor"])
+    tag = report.number(row["tag"] or "0", 0, 15, "the tag")
+    values = values_of(kind, row["values"].split())
+    made = Entry(bank, 0, source, tag, kind, address, values, reply_of(kind, row["reply"]))
+    made.index = report.number(row["index"], 0, limits.last_index, "the index")
+    made.issued, made.served = time("issued"), time("served")
+    made.answered = time("answered") if row["answered"] else None
+    return made
+
+
+def first_row(text: bytes, path: str) -> None:
+    """Refuses a table whose first line doesn't name its columns."""
+    if next(cut(text, path), (0, []))[1] != COLUMNS:
+        raise command.Refusal(f"{path}: the first line isn't {','.join(COLUMNS)}")
+
+
+def entries_of(text: bytes, path: str, limits: Limits) -> Iterator[tuple[int, Entry | None]]:
+    """The operations of a table, each with its line; None where one isn't served. Refused with the first line that
+    can't be understood."""
+    first_row(text, path)
+    rows = cut(text, path)
+    next(rows)
+    for line, row in rows:
+        try:
+            yield line, entry_of(row, limits)
+        except BadLine as why:
+            raise command.Refusal(f"{path}, line {line}: {why}") from None
+
+
+def written(kind: str, values: tuple[int, ...], word: int) -> int:
+    """The word that an operation leaves where it finds one (docs/FORMATS.md, Good reports, rule 4)."""
+    if kind == "load":
+        return word
+    if kind == "cas":
+        return values[1] if word == values[0] else word
+    it = values[0]
+    return {
+        "store": it,
+        "swap": it,
+        "add": (word + it) & MASK,
+        "and": word & it,
+        "or": word | it,
+        "xor": word ^ it,
+        "max": max(word, it),
+        "min": min(word, it),
+    }[kind]
+
+
+@dataclass
+class Rows:
+    """The operations of a part of a table: those that were served; of each the processor and the index in one number,
+    its name; and how many weren't served."""
+
+    path: str
+    limits: Limits
+    served: List[Row] = field(default_factory=list)
+    names: List[int] = field(default_factory=list)
+    unserved: int = 0
+
+    def take(self, line: int, fields: list[str]) -> None:
+        """Takes a row, field by field. Refused if it can't be understood, or tells another bank than the home."""
+        try:
+            found = entry_of(fields, self.limits)
+            home = found and self.limits.tiles and found.address % self.limits.tiles
+            if found and home is not None and found.bank != home:
+                raise BadLine(f"the bank is {found.bank}, and the home of address {found.address} is {home}")
+        except BadLine as why:
+            raise command.Refusal(f"{self.path}, line {line}: {why}") from None
+        if found is None:
+            self.unserved += 1
+            return
+        values = "".join(f" {it}" for it in found.values)
+        times = (found.address, found.served, line, found.issued, found.answered)
+        self.served.append((*times, found.kind, values, found.replied()))
+        self.names.append(found.source << 64 | (found.index or 0))
+
+    def take_all(self, text: bytes, before: int) -> None:
+        """Takes the rows of a text field by field, where so many lines stand before it."""
+        for line, row in cut(text, self.path, before):
+            self.take(line, row)
+
+    def take_plain(self, text: str, before: int) -> None:
+        """Takes the rows of a text without quotes, the plain way where that can be."""
+        last_tile, last_address, tiles = self.limits.last_tile(), self.limits.last_address(), self.limits.tiles
+        for line, fields in enumerate(PLAIN.findall(text), before + 1):
+            source, index, _, kind, place, one, two, reply, bank, issued, served, answered, other = fields
+            if not kind:
+                if other:
+                    self.take_all(other.encode("utf-8"), line - 1)
+                continue
+            address, processor = int(place), int(source)
+            is_far = address > last_address or processor > last_tile
+            if tiles and bank:
+                is_far = is_far or int(bank) != address % tiles
+            if len(one) + len(two) + len(reply) >= 20:
+                is_far = is_far or reply != "ok" and int(reply) > MASK or int(one or 0) > MASK or int(two or 0) > MASK
+            if is_far or (kind, one != "", two != "", reply == "ok") not in PLAIN_KINDS:
+                self.take_all(text.split("\n")[line - before - 1].encode("utf-8"), line - 1)
+                continue
+            values = f" {one} {two}" if two else f" {one}" if one else ""
+            end = int(answered) if answered else None
+            self.served.append((address, int(served), line, int(issued), end, kind, values, reply))
+            self.names.append(processor << 64 | int(index))
+
+    def take_text(self, text: bytes, before: int) -> None:
+        """Takes the rows of a text, where so many lines stand before it."""
+        try:
+            if b'"' in text:
+                self.take_all(text, before)
+            else:
+                self.take_plain(text.decode("utf-8"), before)
+        except UnicodeDecodeError:
+            raise command.Refusal(f"{self.path} is no text in UTF-8") from None
