@@ -1,6 +1,7 @@
 /* The memory of torusmem, from malloc, realloc and free: link it with libtorusmem_c.a. A program with an allocator of
    its own supplies these three functions over that one instead. The three have to be of one allocator, which aligns
-   each block to every power of two up to 16 that divides its size, as that of every C library does. */
+   each block to every power of two up to 16 that divides its size, as that of every C library does. It compiles as C and
+   as C++. */
 #include <stdbool.h>
 #include <stddef.h>
 #include <stdlib.h>
@@ -10,6 +11,10 @@ struct rattle_tried {
   bool ok;
   void *at;
 };
+
+#ifdef __cplusplus
+extern "C" {
+#endif
 
 struct rattle_tried rattle_alloc(size_t size, size_t align);
 struct rattle_tried rattle_realloc(void *at, size_t kept, size_t size, size_t align);
@@ -35,3 +40,7 @@ struct rattle_tried rattle_realloc(void *at, size_t kept, size_t size, size_t al
 }
 
 void rattle_dealloc(void *at) { free(at); }
+
+#ifdef __cplusplus
+}
+#endif
