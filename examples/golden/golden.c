@@ -2,7 +2,8 @@
 
    In a simulator the design under test says which agent moves next; here a generator draws it. Each sixteenth step
    is asked for before it is made, and must move exactly if it was enabled. A run that isn't finished after so many
-   draws is finished by rounds. The status is 0, or 1 with a line on standard error. */
+   draws is finished by rounds. The status is 0; 1 with a line on standard error, also where the report can't be printed;
+   or 2 where the words aren't these. */
 #include <inttypes.h>
 #include <stdio.h>
 #include <stdlib.h>
@@ -43,6 +44,16 @@ static bool read_file(const char *name, text *read) {
   if (file) fclose(file);
   if (!whole) fprintf(stderr, "cannot read %s\n", name);
   return whole;
+}
+
+/* The number that a word spells; false if it spells none below 2^64. */
+static bool read_number(const char *word, uint64_t *number) {
+  *number = 0;
+  for (const char *at = word; *at; at++) {
+    if (*at < '0' || *at > '9' || *number > (UINT64_MAX - (uint64_t)(*at - '0')) / 10) return false;
+    *number = *number * 10 + (uint64_t)(*at - '0');
+  }
+  return *word != 0;
 }
 
 /* Says what a call refused; true if it was granted. */
@@ -94,23 +105,30 @@ static bool print_report(torusmem_machine *m) {
   size_t length = (size_t)torusmem_report(m, &none, 0).value;
   uint8_t *report = malloc(length + 1);
   bool is_good = report && granted("report", torusmem_report(m, report, length)) &&
-                 granted("check", torusmem_check(report, length)) && fwrite(report, 1, length, stdout) == length;
+                 granted("check", torusmem_check(report, length));
+  bool is_printed = is_good && fwrite(report, 1, length, stdout) == length && fflush(stdout) == 0;
+  if (is_good && !is_printed) fprintf(stderr, "output failed\n");
   free(report);
-  return is_good;
+  return is_printed;
 }
 
 int main(int count, char **words) {
   text machine = { NULL, 0 }, script = { NULL, 0 };
   torusmem_machine m = TORUSMEM_MACHINE_INIT;
+  uint64_t seed = 0;
   if (count != 4) {
     fprintf(stderr, "give MACHINE SCRIPT SEED\n");
+    return 2;
+  }
+  if (!read_number(words[3], &seed)) {
+    fprintf(stderr, "SEED is a number below 2^64, not %s\n", words[3]);
     return 2;
   }
   bool is_good = read_file(words[1], &machine) && read_file(words[2], &script) &&
                  granted("load", torusmem_load(&m, machine.bytes, machine.length, script.bytes, script.length));
   free(machine.bytes);
   free(script.bytes);
-  is_good = is_good && drive(&m, strtoull(words[3], NULL, 10)) && print_report(&m);
+  is_good = is_good && drive(&m, seed) && print_report(&m);
   torusmem_free(&m);
-  return is_good && fflush(stdout) == 0 ? 0 : 1;
+  return is_good ? 0 : 1;
 }

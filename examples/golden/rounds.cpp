@@ -53,7 +53,8 @@ int main(int count, char **words) try {
   if (count != 3) throw std::runtime_error("give MACHINE SCRIPT");
   Machine machine(read_file(words[1]), read_file(words[2]));
   std::cerr << machine.finish() << " rounds\n";
-  std::cout << machine.report();
+  std::cout << machine.report() << std::flush;
+  if (!std::cout) throw std::runtime_error("output failed");
   return 0;
 } catch (const std::exception &fault) {
   std::cerr << fault.what() << "\n";

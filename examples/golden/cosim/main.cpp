@@ -7,6 +7,7 @@
 #include <cinttypes>
 #include <cstdio>
 #include <cstdlib>
+#include <cstring>
 #include <fstream>
 #include <iterator>
 #include <string>
@@ -128,6 +129,16 @@ bool run(torusmem_machine *m, Vrouter &router, uint32_t tile, Numbers numbers) {
   return torusmem_finished(m).value == 1;
 }
 
+// The number that a word spells; false if it spells none below 2^64.
+bool read_number(const char *word, uint64_t &number) {
+  number = 0;
+  for (const char *at = word; *at; at++) {
+    if (*at < '0' || *at > '9' || number > (UINT64_MAX - (*at - '0')) / 10) return false;
+    number = number * 10 + (*at - '0');
+  }
+  return *word != 0;
+}
+
 std::string read_file(const char *name) {
   std::ifstream file(name, std::ios::binary);
   return {std::istreambuf_iterator<char>(file), {}};
@@ -141,7 +152,15 @@ int main(int count, char **words) {
     std::fprintf(stderr, "give MACHINE SCRIPT TILE SEED, and +mistake for the planted mistake\n");
     return 2;
   }
-  uint32_t tile = static_cast<uint32_t>(std::strtoul(words[3], nullptr, 10)) % TILES;
+  uint64_t tile, seed;
+  if (!read_number(words[3], tile) || tile >= TILES || !read_number(words[4], seed)) {
+    std::fprintf(stderr, "TILE is a number below %" PRIu32 ", SEED one below 2^64, not %s %s\n", TILES, words[3], words[4]);
+    return 2;
+  }
+  if (count > 6 || (count == 6 && std::strcmp(words[5], "+mistake") != 0)) {
+    std::fprintf(stderr, "there is no mistake but +mistake\n");
+    return 2;
+  }
   std::string machine = read_file(words[1]), script = read_file(words[2]);
   torusmem_machine m = TORUSMEM_MACHINE_INIT;
   torusmem_outcome loaded = torusmem_load(&m, reinterpret_cast<const uint8_t *>(machine.data()), machine.size(),
@@ -152,8 +171,10 @@ int main(int count, char **words) {
     return 2;
   }
   Vrouter router;
-  router.tile = tile;
-  bool is_same = run(&m, router, tile, Numbers{std::strtoull(words[4], nullptr, 10)});
+  router.tile = static_cast<uint32_t>(tile);
+  bool is_same = run(&m, router, static_cast<uint32_t>(tile), Numbers{seed});
   torusmem_free(&m);
-  return is_same ? 0 : 1;
+  bool is_printed = std::fflush(stdout) == 0 && !std::ferror(stdout);
+  if (!is_printed) std::fprintf(stderr, "output failed\n");
+  return is_same && is_printed ? 0 : 1;
 }
