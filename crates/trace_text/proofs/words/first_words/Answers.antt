@@ -1,0 +1,23 @@
+use Rattle.std.proofs.Common.{◌<◌, ◌∙◌, length, arith}
+use Rattle.std.proofs.lemmas.List.{length-set}
+use Rattle.script.specs.Words.{words_of}
+use Rattle.script.proofs.WordCuts.{one_more_word}
+use Rattle.trace_text.proofs.SevenWords.{seven_words, last_words}
+use Rattle.trace_text.proofs.words.first_words.Goals as goal
+use Rattle.trace_text.proofs.words.first_words.Goals.{else-loop-count-test, then-loop-count-test+in_default}
+
+pub loop-count-preserved : goal.loop-count-preserved
+loop-count-preserved c =
+    let low : c.loop-count.count < length c.loop-count.words = omega arith in
+    record {
+      few = omega arith;
+      seven = length-set c.loop-count.words c.loop-count.count c.in-Some.word ∙ c.loop-count.invariant.seven;
+      words = one_more_word c.loop-count.words c.loop-count.count c.in-Some.word (words_of c.loop-count.rest.now) (words_of c.in-Some.after.now) (words_of c.args.line.now) low c.in-Some.ensures.some c.loop-count.invariant.words;
+    }
+
+pub returns-clause-words : goal.returns-clause-words
+returns-clause-words c =
+    elim c.loop-count-test.branch [
+      | else-loop-count-test w ↦ seven_words c.loop-count.words c.loop-count.count (words_of c.loop-count.rest.now) (words_of c.args.line.now) c.loop-count.invariant.seven (omega arith) c.loop-count.invariant.words
+      | then-loop-count-test+in_default w ↦ last_words c.loop-count.words c.loop-count.count (words_of c.loop-count.rest.now) (words_of c.args.line.now) c.loop-count.invariant.seven c.loop-count.invariant.few w.in_default.ensures.none c.loop-count.invariant.words
+    ]

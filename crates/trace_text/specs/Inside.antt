@@ -1,0 +1,17 @@
+-- How a `TraceText` keeps its trace.
+use Rattle.trace_text.specs.declared.text.TraceText.TheInside.{Inside}
+use Rattle.trace_text.specs.Traced.{TraceSpec}
+use Rattle.trace_text.specs.Kept.{IsKept}
+use Rattle.trace_text.specs.Views.{reading_of}
+
+abbrev pub trace_of_fields : {A : Type 0} → Inside A → TraceSpec
+trace_of_fields t = record {
+  words = t.reading.words;
+  inits = t.reading.inits.entries;
+  issued = t.reading.issued.items;
+  events = t.reading.events.items;
+  lines = t.reading.lines.items;
+}
+
+abbrev pub IsTraceText : {A : Type 0} → Inside A → Type 0
+IsTraceText t = IsKept (reading_of t.reading)

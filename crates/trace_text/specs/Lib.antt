@@ -1,0 +1,6 @@
+pub mod Form
+pub mod Inside
+pub mod Kept
+pub mod Renumbered
+pub mod Traced
+pub mod Views

@@ -1,0 +1,220 @@
+//! Issues and answers as a trace text gives them.
+
+ghost use Rattle.std.specs.Prelude.{◌≡◌, ◌≤◌, ◌<◌, ◌^◌, ◌++◌, ◌∷◌, [], Some, map, OnOk, IfErr, vec_len, slice_get, slice_set};
+ghost use Rattle.std.specs.List.{slice_index_or};
+ghost use Rattle.script.specs.Outcome.{Makes};
+ghost use Rattle.trace_text.specs.Traced.{after_issue_line, after_issue, add_issue, after_answer_line, after_answer, add_answer, goes_with, placed, noted};
+ghost use Rattle.trace_text.specs.Views.{reading_of, lists_of};
+
+use crate::form::{Form, form_of, reply_of, told_of};
+use crate::issued::Issued;
+use crate::number::a_number;
+use crate::reading::Reading;
+use packet::{Code, Operation};
+use std::alloc::Allocator;
+use torus::Fault;
+use trace_order::{Call, Event};
+
+/// Puts a number at the end of the list of a processor.
+fn push_number<A: Allocator>(
+    numbers: &mut Vec<Vec<u32, A>, A>,
+    p: usize,
+    number: u32,
+) -> Result<(), Fault>
+    requires { p < vec_len numbers.old }
+    ensures value { OnOk result (lists_of numbers.new.items ≡ slice_set (lists_of numbers.old.items) p
+        (slice_index_or (lists_of numbers.old.items) p [] ++ number ∷ [])) }
+    ensures memory { IfErr result (λ e. e ≡ Fault.Memory) }
+{
+    let list = &mut numbers[p];
+    match list.push(number) {
+        Ok(()) => Ok(()),
+        Err(_) => Err(Fault::Memory),
+    }
+}
+
+/// The number at an index.
+fn number_at(numbers: &[u32], index: u128) -> Option<u32>
+    ensures { result ≡ slice_get numbers.now index }
+{
+    if index >= numbers.len() as u128 {
+        return None;
+    }
+    numbers.get(index as usize).copied()
+}
+
+/// The operation of a number.
+fn issued_at(issued: &[Issued], number: u32) -> Option<Issued>
+    ensures { result ≡ slice_get issued.now number }
+{
+    issued.get(number as usize).copied()
+}
+
+/// Whether a reply goes with an operation: `ok` with a store, and a number with every other one.
+fn goes_with(code: Code, told: Option<u128>) -> bool
+    ensures { result ≡ goes_with code told }
+{
+    match told {
+        None => matches!(code, Code::Store),
+        Some(_) => !matches!(code, Code::Store),
+    }
+}
+
+impl<A: Allocator + Copy> Reading<A> {
+    /// Takes the processor and the operation of an issue.
+    pub(crate) fn take_issue(&mut self, line: u64, values: &[&[u8]]) -> Result<(), Fault>
+        requires words { self.old.words ≤ 2 ^ 32 }
+        requires processors { vec_len self.old.numbers ≡ 4096 }
+        ensures { Makes (reading_of self.new) result (after_issue_line (reading_of self.old) line
+            (map (λ value. value.now) values.now)) }
+    {
+        match values {
+            [] => Err(Fault::Line),
+            [processor, rest @ ..] => {
+                let p = a_number(processor)?;
+                let form = form_of(rest)?;
+                self.issue(line, p, form)
+            }
+        }
+    }
+
+    /// An operation is issued.
+    fn issue(&mut self, line: u64, p: u128, form: Form) -> Result<(), Fault>
+        requires words { self.old.words ≤ 2 ^ 32 }
+        requires processors { vec_len self.old.numbers ≡ 4096 }
+        ensures { Makes (reading_of self.new) result (after_issue (reading_of self.old) line p form) }
+    {
+        if self.words == 0 {
+            return Err(Fault::Setting);
+        }
+        if p >= 4096 {
+            return Err(Fault::Processor);
+        }
+        let operation = form.operation(self.words)?;
+        self.add_issue(line, p as u32, operation)
+    }
+
+    /// Adds an operation.
+    fn add_issue(&mut self, line: u64, p: u32, operation: Operation) -> Result<(), Fault>
+        requires processors { vec_len self.old.numbers ≡ 4096 }
+        requires processor { p < 4096 }
+        ensures { Makes (reading_of self.new) result (add_issue (reading_of self.old) line p operation) }
+    {
+        let number = self.issued.len();
+        if number >= 1 << 22 {
+            return Err(Fault::Length);
+        }
+        self.place(operation.address)?;
+        let index = self.numbers[p as usize].len() as u64;
+        push_number(&mut self.numbers, p as usize, number as u32)?;
+        let issued = Issued {
+            processor: p,
+            index,
+            operation,
+            reply: None,
+        };
+        if self.issued.push(issued).is_err() {
+            return Err(Fault::Memory);
+        }
+        let id = number as u64;
+        self.note(line, Event::Issue(Call { id, operation }))
+    }
+
+    /// Gives an address a place, where it has none.
+    fn place(&mut self, address: u32) -> Result<(), Fault>
+        ensures { Makes (reading_of self.new) result (placed (reading_of self.old) address) }
+    {
+        if self.places.contains_key(&address) {
+            return Ok(());
+        }
+        let place = self.addresses.len();
+        if place >= 1 << 20 {
+            return Err(Fault::Length);
+        }
+        if self.places.insert(address, place as u32).is_err() {
+            return Err(Fault::Memory);
+        }
+        if self.addresses.push(address).is_err() {
+            return Err(Fault::Memory);
+        }
+        Ok(())
+    }
+
+    /// Adds an event.
+    fn note(&mut self, line: u64, event: Event) -> Result<(), Fault>
+        ensures value { OnOk result (reading_of self.new ≡ noted (reading_of self.old) line event) }
+        ensures memory { IfErr result (λ e. e ≡ Fault.Memory) }
+    {
+        if self.events.push(event).is_err() {
+            return Err(Fault::Memory);
+        }
+        if self.lines.push(line).is_err() {
+            return Err(Fault::Memory);
+        }
+        Ok(())
+    }
+
+    /// Takes the processor, the index and the reply of an answer.
+    pub(crate) fn take_answer(&mut self, line: u64, values: &[&[u8]]) -> Result<(), Fault>
+        requires processors { vec_len self.old.numbers ≡ 4096 }
+        ensures { Makes (reading_of self.new) result (after_answer_line (reading_of self.old) line
+            (map (λ value. value.now) values.now)) }
+    {
+        match values {
+            [processor, index, reply] => {
+                let p = a_number(processor)?;
+                let index = a_number(index)?;
+                let told = told_of(reply)?;
+                self.answer(line, p, index, told)
+            }
+            _ => Err(Fault::Line),
+        }
+    }
+
+    /// An operation is answered.
+    fn answer(&mut self, line: u64, p: u128, index: u128, told: Option<u128>) -> Result<(), Fault>
+        requires processors { vec_len self.old.numbers ≡ 4096 }
+        ensures { Makes (reading_of self.new) result (after_answer (reading_of self.old) line p index told) }
+    {
+        if self.words == 0 {
+            return Err(Fault::Setting);
+        }
+        if p >= 4096 {
+            return Err(Fault::Processor);
+        }
+        let Some(number) = number_at(&self.numbers[p as usize], index) else {
+            return Err(Fault::Range);
+        };
+        let Some(issued) = issued_at(&self.issued, number) else {
+            return Err(Fault::Range);
+        };
+        self.add_answer(line, number, issued, told)
+    }
+
+    /// Adds the answer to the operation of this number.
+    fn add_answer(
+        &mut self,
+        line: u64,
+        number: u32,
+        issued: Issued,
+        told: Option<u128>,
+    ) -> Result<(), Fault>
+        requires { slice_get self.old.issued.items number ≡ Some issued }
+        ensures { Makes (reading_of self.new) result (add_answer (reading_of self.old) line number issued told) }
+    {
+        if !goes_with(issued.operation.op.code(), told) {
+            return Err(Fault::Line);
+        }
+        if issued.reply.is_some() {
+            return Err(Fault::Setting);
+        }
+        let reply = reply_of(told)?;
+        self.issued[number as usize] = Issued {
+            processor: issued.processor,
+            index: issued.index,
+            operation: issued.operation,
+            reply: Some(reply),
+        };
+        self.note(line, Event::Answer(u64::from(number), reply))
+    }
+}

@@ -1,0 +1,14 @@
+//! The trace text: events of processors, in the order of time.
+#![tactic(auto)]
+
+mod events;
+mod form;
+pub mod issued;
+pub mod laws;
+mod number;
+mod reading;
+pub mod text;
+mod words;
+
+pub use issued::Issued;
+pub use text::{TraceText, read_trace};

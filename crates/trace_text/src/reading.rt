@@ -1,0 +1,177 @@
+//! What the lines of a trace text give, one after the other.
+
+ghost use Rattle.std.specs.Prelude.{◌≡◌, ◌≤◌, ◌^◌, [], map, replicate, IfOk, vec_len};
+ghost use Rattle.script.specs.Outcome.{Makes};
+ghost use Rattle.trace_text.specs.Traced.{after_words, after_keyword, after_title, after_count, after_words_line, after_init, after_init_line, nothing_read};
+ghost use Rattle.trace_text.specs.Views.{reading_of, lists_of};
+
+use crate::issued::Issued;
+use crate::number::a_number;
+use std::alloc::{AllocError, Allocator};
+use std::collections::BTreeMap;
+use torus::Fault;
+use trace_order::Event;
+
+/// What the lines so far gave.
+#[derive(Drop)]
+pub(crate) struct Reading<A: Allocator> {
+    /// Whether the line `trace 1` came.
+    pub(crate) begun: bool,
+    /// The words of the memory, 0 before their number is given.
+    pub(crate) words: u64,
+    /// The opening words that `init` lines gave, by address.
+    pub(crate) inits: BTreeMap<u32, u64, A>,
+    /// The places of addresses among those that operations are on.
+    pub(crate) places: BTreeMap<u32, u32, A>,
+    /// The addresses that operations are on, by place.
+    pub(crate) addresses: Vec<u32, A>,
+    /// For each processor the numbers of its issues.
+    pub(crate) numbers: Vec<Vec<u32, A>, A>,
+    /// The operations by number.
+    pub(crate) issued: Vec<Issued, A>,
+    pub(crate) events: Vec<Event, A>,
+    /// The line of each event.
+    pub(crate) lines: Vec<u64, A>,
+}
+
+/// Of each of 4096 processors no numbers.
+fn no_numbers<A: Allocator + Copy>(alloc: A) -> Result<Vec<Vec<u32, A>, A>, AllocError>
+    ensures { IfOk result (λ numbers. lists_of numbers.items ≡ replicate 4096 []) }
+{
+    let mut numbers = Vec::new(alloc);
+    for _ in 0..4096usize {
+        numbers.push(Vec::new(alloc))?;
+    }
+    Ok(numbers)
+}
+
+impl<A: Allocator + Copy> Reading<A> {
+    /// Nothing is given.
+    pub(crate) fn none(alloc: A) -> Result<Reading<A>, AllocError>
+        ensures { IfOk result (λ r. reading_of r ≡ nothing_read) }
+    {
+        Ok(Reading {
+            begun: false,
+            words: 0,
+            inits: BTreeMap::new(alloc),
+            places: BTreeMap::new(alloc),
+            addresses: Vec::new(alloc),
+            numbers: no_numbers(alloc)?,
+            issued: Vec::new(alloc),
+            events: Vec::new(alloc),
+            lines: Vec::new(alloc),
+        })
+    }
+
+    /// Takes what the words of a line give.
+    pub(crate) fn take(&mut self, line: u64, words: &[&[u8]]) -> Result<(), Fault>
+        requires words { self.old.words ≤ 2 ^ 32 }
+        requires processors { vec_len self.old.numbers ≡ 4096 }
+        ensures { Makes (reading_of self.new) result (after_words (reading_of self.old) line (map (λ word. word.now) words.now)) }
+    {
+        match words {
+            [] => Ok(()),
+            [[b'#', ..], ..] => Ok(()),
+            [keyword, values @ ..] => self.take_keyword(line, keyword, values),
+        }
+    }
+
+    /// Takes a line by its keyword.
+    fn take_keyword(&mut self, line: u64, keyword: &[u8], values: &[&[u8]]) -> Result<(), Fault>
+        requires words { self.old.words ≤ 2 ^ 32 }
+        requires processors { vec_len self.old.numbers ≡ 4096 }
+        ensures { Makes (reading_of self.new) result (after_keyword (reading_of self.old) line keyword.now (map (λ value. value.now) values.now)) }
+    {
+        if !self.begun {
+            return self.take_title(keyword, values);
+        }
+        if keyword == b"issue".as_slice() {
+            return self.take_issue(line, values);
+        }
+        if keyword == b"answer".as_slice() {
+            return self.take_answer(line, values);
+        }
+        if keyword == b"init".as_slice() {
+            return self.take_init(values);
+        }
+        if keyword == b"words".as_slice() {
+            return self.take_words(values);
+        }
+        Err(Fault::Line)
+    }
+
+    /// Takes the first line.
+    fn take_title(&mut self, keyword: &[u8], values: &[&[u8]]) -> Result<(), Fault>
+        ensures { Makes (reading_of self.new) result (after_title (reading_of self.old) keyword.now (map (λ value. value.now) values.now)) }
+    {
+        match values {
+            [version] => {
+                if keyword == b"trace".as_slice() && *version == b"1".as_slice() {
+                    self.begun = true;
+                    return Ok(());
+                }
+                Err(Fault::Line)
+            }
+            _ => Err(Fault::Line),
+        }
+    }
+
+    /// Takes the number of words.
+    fn take_words(&mut self, values: &[&[u8]]) -> Result<(), Fault>
+        ensures { Makes (reading_of self.new) result (after_words_line (reading_of self.old) (map (λ value. value.now) values.now)) }
+    {
+        match values {
+            [count] => {
+                let words = a_number(count)?;
+                if self.words != 0 {
+                    return Err(Fault::Setting);
+                }
+                if !(1 <= words && words <= 1 << 32) {
+                    return Err(Fault::Range);
+                }
+                self.words = words as u64;
+                Ok(())
+            }
+            _ => Err(Fault::Line),
+        }
+    }
+
+    /// Takes the address and the value of an opening word.
+    fn take_init(&mut self, values: &[&[u8]]) -> Result<(), Fault>
+        requires { self.old.words ≤ 2 ^ 32 }
+        ensures { Makes (reading_of self.new) result (after_init_line (reading_of self.old) (map (λ value. value.now) values.now)) }
+    {
+        match values {
+            [a, v] => {
+                let a = a_number(a)?;
+                let v = a_number(v)?;
+                self.set_word(a, v)
+            }
+            _ => Err(Fault::Line),
+        }
+    }
+
+    /// Sets an opening word.
+    fn set_word(&mut self, address: u128, value: u128) -> Result<(), Fault>
+        requires { self.old.words ≤ 2 ^ 32 }
+        ensures { Makes (reading_of self.new) result (after_init (reading_of self.old) address value) }
+    {
+        if !(self.words != 0 && self.issued.is_empty()) {
+            return Err(Fault::Setting);
+        }
+        if address >= u128::from(self.words) {
+            return Err(Fault::Address);
+        }
+        if value > u128::from(u64::MAX) {
+            return Err(Fault::Range);
+        }
+        let address = address as u32;
+        if self.inits.contains_key(&address) {
+            return Err(Fault::Setting);
+        }
+        match self.inits.insert(address, value as u64) {
+            Ok(_) => Ok(()),
+            Err(_) => Err(Fault::Memory),
+        }
+    }
+}

@@ -1,0 +1,69 @@
+//! Reads a trace text.
+
+ghost use Rattle.std.specs.Prelude.{◌≡◌};
+ghost use Rattle.std.specs.Str.Lines.{lines};
+ghost use Rattle.script.specs.Outcome.{Gives, line_of_fault};
+ghost use Rattle.trace_text.specs.Traced.{trace_of};
+
+use crate::reading::Reading;
+use crate::words::{first_words, next_line};
+use script::LineFault;
+use std::alloc::{Allocator, Global};
+use std::marker::Model;
+use torus::Fault;
+
+/// A trace as its text gives it.
+#[derive(Drop)]
+pub struct TraceText<A: Allocator = Global> {
+    reading: Reading<A>,
+}
+
+impl<A: Allocator> Model for TraceText<A> {
+    ghost use Rattle.trace_text.specs.Traced.{TraceSpec};
+
+    ghost Value = { TraceSpec };
+
+    ghost use Rattle.trace_text.specs.Inside.{trace_of_fields, IsTraceText};
+
+    ghost view = { trace_of_fields };
+
+    ghost invariant = { IsTraceText };
+}
+
+/// A fault that was found at a line.
+fn fault_at(fault: Fault, line: u64) -> LineFault
+    ensures { result ≡ record { fault = fault; line = line_of_fault fault line } }
+{
+    match fault {
+        Fault::Memory => LineFault { fault, line: 0 },
+        _ => LineFault { fault, line },
+    }
+}
+
+/// Reads a trace text.
+///
+/// Errors: the first fault and its line, or `Fault::Memory` at line 0.
+pub fn read_trace<A: Allocator + Copy>(alloc: A, text: &[u8]) -> Result<TraceText<A>, LineFault>
+    ensures { Gives (λ t. t) result (trace_of (lines text.now)) }
+{
+    let Ok(mut reading) = Reading::none(alloc) else {
+        return Err(fault_at(Fault::Memory, 0));
+    };
+    let mut number = 1u64;
+    let mut rest = text;
+    while let Some((line, after)) = next_line(rest) {
+        let (words, count) = first_words(line);
+        if let Err(fault) = reading.take(number, &words[..count]) {
+            return Err(fault_at(fault, number));
+        }
+        number += 1;
+        rest = after;
+    }
+    if !reading.begun {
+        return Err(fault_at(Fault::Line, number));
+    }
+    if reading.words == 0 {
+        return Err(fault_at(Fault::Setting, number));
+    }
+    Ok(TraceText { reading })
+}
