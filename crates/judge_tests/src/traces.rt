@@ -184,8 +184,8 @@ fn bounds_are_kept(rt: HostRuntime) -> Result<(), Fail> {
     // Of three others each may have taken effect or not, or only the answered one has: nine configurations.
     let nine = beside_pending_sums(alloc, 3, 0, 9)?;
     let eight = beside_pending_sums(alloc, 3, 0, 8)?;
-    assert!(rt; most == Seen::Yes(1) && more == Seen::Not(Undecided::Operations));
-    assert!(rt; nine == Seen::Yes(1) && eight == Seen::Not(Undecided::Configurations));
+    assert!(rt; most == Seen::Yes(1) && more == Seen::Not(Undecided::Operations { event: 64 }));
+    assert!(rt; nine == Seen::Yes(1) && eight == Seen::Not(Undecided::Configurations { event: 4 }));
     Ok(())
 }
 

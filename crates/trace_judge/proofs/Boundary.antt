@@ -1,5 +1,5 @@
 -- Between a beginning that is linearizable and one that isn't.
-use Rattle.std.proofs.Common.{◌≡◌, ⊎_elim, ℕ, ◌+◌, ◌<◌, ◌≤◌, List, [], length, subst, arith, take}
+use Rattle.std.proofs.Common.{◌≡◌, ⊎_elim, ℕ, ◌+◌, ◌<◌, ◌≤◌, List, [], length, subst, sym, arith, take}
 use Rattle.std.proofs.lemmas.Bool.{cases_lt}
 use Rattle.std.proofs.lemmas.List.{take_all}
 use Rattle.trace_order.specs.declared.event.Event.{Event}
@@ -7,6 +7,8 @@ use Rattle.trace_order.specs.declared.event.Event.TheVariants.{Issue, Answer}
 use Rattle.trace_order.specs.Traces.{IsTrace}
 use Rattle.trace_order.specs.Orders.{IsLinearizable}
 use Rattle.trace_order.proofs.Lists.{get_take, take_get}
+use Rattle.trace_judge.specs.declared.undecided.Undecided.{Undecided}
+use Rattle.trace_judge.specs.Stops.{IsUndecided, IsUnjudged}
 use Rattle.trace_order.proofs.Legal.{legal_none, legal_all}
 
 -- a beginning of a trace is one
@@ -68,3 +70,11 @@ boundary_found opening trace good bad l was =
     let w = was.within in
     let e : bad ≡ good + 1 = omega arith in
     (omega arith, was.before, subst (λ (n : ℕ). IsLinearizable opening (take n trace) → ⊥) e was.behind)
+
+-- what is not decided is not judged
+pub whole_unjudged : (trace : List Event) (why : Undecided) → IsUndecided trace why → IsUnjudged trace why
+whole_unjudged trace why h =
+    (length trace, subst (λ (t : List Event). IsUndecided t why) (sym (take_all (length trace) trace (omega arith))) h)
+
+pub beginning_unjudged : (trace : List Event) (n : ℕ) (why : Undecided) → IsUndecided (take n trace) why → IsUnjudged trace why
+beginning_unjudged trace n why h = (n, h)

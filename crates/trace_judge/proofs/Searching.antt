@@ -1,7 +1,7 @@
 -- What the judge holds, over one event.
 use Rattle.std.proofs.Common.{◌≡◌, ◌≢◌, ⊎_elim, ℕ, zero, suc, ◌+◌, ◌<◌, ◌≤◌, ◌==◌, Bool, true, false, List, [], ◌∷◌, length, Option, Some, None, Vec, MatchOption, refl, sym, ◌∙◌, ap, subst, arith, slice_get, set, map, get_or, replicate, add-one, get_or-set_same, get_or-set_other, length-set, vec_len, not}
 use Rattle.std.proofs.lemmas.Bool.{cases_eq, cases_lt, eqb-true, eqb-false}
-use Rattle.std.proofs.lemmas.List.{map-set, length-map, get_or-map, nil_from_length}
+use Rattle.std.proofs.lemmas.List.{map-set, length-map, length-replicate, get_or-map, nil_from_length}
 use Rattle.packet.specs.declared.kinds.Reply.{Reply}
 use Rattle.trace_order.specs.declared.event.Call.{Call}
 use Rattle.trace_order.specs.declared.event.Event.{Event}
@@ -32,6 +32,7 @@ pub holds_start : {A : Type 0} (opening : List ℕ) (trace : List Event) (table 
     → Holds {A = A} opening trace 0 (record { table = table; words = words; nodes = nodes; hints = hints })
 holds_start {A} opening trace table words nodes hints empty sized first none = record {
   sized = sized;
+  slots = ap (λ (t : List (Option Open)). length t) empty ∙ length-replicate {A = Option Open} 64 None;
   searched =
       subst (λ (t : List (Option Open)). IsSearched opening trace 0 t (sets_of words.items) nodes.items) (sym empty)
       (subst (λ (ns : List Node). IsSearched opening trace 0 (replicate 64 None) (sets_of words.items) ns) (sym none)
@@ -79,6 +80,8 @@ pub holds_issue : {A : Type 0} (opening : List ℕ) (trace : List Event) (k : �
     (record { table = table; words = s.words; nodes = s.nodes; hints = s.hints })
 holds_issue {A} opening trace k s table slot call promise e t now free tells holds = record {
   sized = holds.sized;
+  slots = ap (λ (ts : List (Option Open)). length ts) e
+      ∙ (length-set s.table.items slot (Some (record { call = call; promise = promise })) ∙ holds.slots);
   searched =
       subst (λ (n : ℕ). IsSearched opening trace n table.items (sets_of s.words.items) s.nodes.items)
       (sym (add-one k))
@@ -237,10 +240,11 @@ some_in (b ∷ bs) l = (b, (zero, refl))
 pub answer_yes : {A : Type 0} (opening : List ℕ) (trace : List Event) (k : ℕ) (s : Search A)
     (table : Vec (Option Open) A) (words : Vec (Vec Branch A) A) (nodes : Vec Node A) (hints : Vec ℕ A)
     (w : ℕ) (later : Vec Branch A) → w < length s.words.items → 0 < length later.items
-    → words.items ≡ set s.words.items w later → Holds {A = A} opening trace k s
+    → words.items ≡ set s.words.items w later → length table.items ≡ length s.table.items → Holds {A = A} opening trace k s
     → IsSearched opening trace (suc k) table.items (sets_of words.items) nodes.items
     → Holds {A = A} opening trace (k + 1) (record { table = table; words = words; nodes = nodes; hints = hints })
-answer_yes {A} opening trace k s table words nodes hints w later inside some written holds searched = record {
+answer_yes {A} opening trace k s table words nodes hints w later inside some written kept holds searched = record {
+  slots = kept ∙ holds.slots;
   sized = ap (λ (vs : List (Vec Branch A)). length vs) written ∙ (length-set s.words.items w later ∙ holds.sized);
   searched = subst (λ (n : ℕ). IsSearched opening trace n table.items (sets_of words.items) nodes.items)
       (sym (add-one k)) searched;

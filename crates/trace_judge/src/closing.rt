@@ -9,7 +9,7 @@ ghost use Rattle.trace_search.specs.Searches.{configs_of, AreReleased};
 ghost use Rattle.trace_judge.specs.Sets.{Adds, GoesOn, TakesEffect, StaysSound};
 
 use crate::bits::{has, with, without};
-use crate::undecided::Undecided;
+use crate::undecided::Full;
 use packet::apply;
 use std::alloc::{AllocError, Allocator};
 use trace_search::{Branch, Config, Node, Open};
@@ -39,6 +39,9 @@ fn after(config: Config, place: Option<Open>, address: u32, slot: usize) -> Opti
         },
     ))
 }
+
+/// The most hints on configurations that are kept.
+const MOST_HINTS: usize = 1 << 24;
 
 /// Where the hints on a configuration stand.
 fn hint(config: Config) -> u64 {
@@ -73,21 +76,38 @@ fn note(hints: &mut [usize], config: Config, at: usize) {
     }
 }
 
+/// Makes room for hints on four times as many configurations, where half of it is taken.
+fn widen<A: Allocator + Copy>(
+    alloc: A,
+    hints: &mut Vec<usize, A>,
+    found: &[Branch],
+) -> Result<(), AllocError> {
+    if found.len() <= hints.len() / 2 || hints.len() >= MOST_HINTS {
+        return Ok(());
+    }
+    let mut wider = vec![in alloc; 0usize; hints.len() * 4]?;
+    for (at, branch) in found.iter().enumerate() {
+        note(&mut wider, branch.config, at);
+    }
+    *hints = wider;
+    Ok(())
+}
+
 /// Makes a node and a branch.
 fn push<A: Allocator>(
     found: &mut Vec<Branch, A>,
     nodes: &mut Vec<Node, A>,
     branch: Branch,
     node: Node,
-) -> Result<(), Undecided>
+) -> Result<(), Full>
     ensures branches { OnOk result (found.new.items ≡ found.old.items ++ branch ∷ []) }
     ensures nodes { OnOk result (nodes.new.items ≡ nodes.old.items ++ node ∷ []) }
 {
     if nodes.push(node).is_err() {
-        return Err(Undecided::Memory);
+        return Err(Full::Memory);
     }
     if found.push(branch).is_err() {
-        return Err(Undecided::Memory);
+        return Err(Full::Memory);
     }
     Ok(())
 }
@@ -101,7 +121,7 @@ fn add<A: Allocator>(
     opened: Open,
     config: Config,
     bound: usize,
-) -> Result<(), Undecided>
+) -> Result<(), Full>
     ensures there { OnOk result (IsIn (configs_of found.new.items) config) }
     ensures grows { OnOk result (GoesOn found.old.items found.new.items) }
     ensures bounded { OnOk result (length found.new.items ≤ max bound (length found.old.items)) }
@@ -112,7 +132,7 @@ fn add<A: Allocator>(
         return Ok(());
     }
     if found.len() >= bound {
-        return Err(Undecided::Configurations);
+        return Err(Full::Configurations);
     }
     let branch = Branch {
         config,
@@ -135,7 +155,7 @@ fn expand<A: Allocator>(
     address: u32,
     from: Branch,
     bound: usize,
-) -> Result<(), Undecided>
+) -> Result<(), Full>
     requires small { length table.now ≤ 64 }
     requires there { IsIn found.old.items from }
     ensures expanded { OnOk result (IsExpanded table.now address (configs_of found.new.items) from.config) }
@@ -158,12 +178,12 @@ pub fn close<A: Allocator + Copy>(
     alloc: A,
     branches: &[Branch],
     nodes: &mut Vec<Node, A>,
-    hints: &mut [usize],
+    hints: &mut Vec<usize, A>,
     table: &[Option<Open>],
     address: u32,
     slot: usize,
     bound: usize,
-) -> Result<Vec<Branch, A>, Undecided>
+) -> Result<Vec<Branch, A>, Full>
     requires small { length table.now ≤ 64 }
     requires inside { slot < 64 }
     ensures kept { IfOk result (λ v. GoesOn branches.now v.items) }
@@ -177,6 +197,7 @@ pub fn close<A: Allocator + Copy>(
     while next < found.len() {
         let from = found[next];
         if !has(from.config.taken, slot) {
+            widen(alloc, hints, &found)?;
             expand(&mut found, nodes, hints, table, address, from, bound)?;
         }
         next += 1;

@@ -1,10 +1,11 @@
 //! The decision, with an order or with the first event that has none.
 
-ghost use Rattle.std.specs.Prelude.{◌≡◌, ◌<◌, ◌+◌, ℕ, List, true, false, replicate, IfOk, MatchOption, length, Some};
+ghost use Rattle.std.specs.Prelude.{◌≡◌, ◌<◌, ◌+◌, ℕ, List, true, false, replicate, IfOk, IfErr, MatchOption, length, Some};
 ghost use Rattle.trace_order.specs.Traces.{IsTrace};
 ghost use Rattle.trace_order.specs.Orders.{IsOrder, IsLinearizable};
 ghost use Rattle.trace_search.specs.Searches.{IsTrail, order_of};
 ghost use Rattle.trace_judge.specs.Searched.{Holds};
+ghost use Rattle.trace_judge.specs.Stops.{IsUndecided, IsUnjudged};
 ghost use Rattle.trace_judge.specs.Verdicts.{Tells};
 ghost use Rattle.trace_judge.specs.Marks.{AreNodes, IsBelow, AreMarked, ArePicked};
 ghost use Rattle.trace_judge.specs.Sets.{sets_of};
@@ -33,7 +34,8 @@ fn run<A: Allocator + Copy>(
     bound: usize,
 ) -> Result<Option<Search<A>>, Undecided>
     requires { IsTrace (length opening.now) events.now }
-    ensures { IfOk result (λ found. MatchOption found
+    ensures undecided { IfErr result (IsUndecided events.now) }
+    ensures decided { IfOk result (λ found. MatchOption found
         (IsLinearizable opening.now events.now → ⊥)
         (λ search. Holds opening.now events.now (length events.now) search)) }
 {
@@ -105,7 +107,8 @@ fn collect<A: Allocator + Copy>(
 }
 
 /// An order that explains the trace, if there is one, found with at most so many configurations of a
-/// word at once. An `Err` says nothing of the trace.
+/// word at once. An `Err` tells why it isn't decided, and where: an answer at which a word has more
+/// configurations, or an issue beside 64 open operations.
 pub fn decide<A: Allocator + Copy>(
     alloc: A,
     opening: &[u64],
@@ -113,7 +116,8 @@ pub fn decide<A: Allocator + Copy>(
     bound: usize,
 ) -> Result<Option<Vec<Call, A>>, Undecided>
     requires { IsTrace (length opening.now) events.now }
-    ensures { IfOk result (λ found. MatchOption found
+    ensures undecided { IfErr result (IsUndecided events.now) }
+    ensures decided { IfOk result (λ found. MatchOption found
         (IsLinearizable opening.now events.now → ⊥)
         (λ order. IsOrder opening.now events.now order.items)) }
 {
@@ -127,7 +131,7 @@ pub fn decide<A: Allocator + Copy>(
 
 /// Judges a trace over a memory that opens with these words, with at most so many configurations
 /// of a word at once: an order that explains it, or the first event up to which none does.
-/// An `Err` says nothing of the trace.
+/// An `Err` tells why the trace, or a beginning of it, isn't decided.
 pub fn judge<A: Allocator + Copy>(
     alloc: A,
     opening: &[u64],
@@ -135,7 +139,8 @@ pub fn judge<A: Allocator + Copy>(
     bound: usize,
 ) -> Result<Verdict<A>, Undecided>
     requires { IsTrace (length opening.now) events.now }
-    ensures { IfOk result (λ verdict. Tells opening.now events.now verdict) }
+    ensures unjudged { IfErr result (IsUnjudged events.now) }
+    ensures judged { IfOk result (λ verdict. Tells opening.now events.now verdict) }
 {
     if let Some(order) = decide(alloc, opening, events, bound)? {
         return Ok(Verdict::Linearizable(order));

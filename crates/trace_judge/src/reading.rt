@@ -1,6 +1,6 @@
 //! Looks things up in a trace and in the table of open operations.
 
-ghost use Rattle.std.specs.Prelude.{◌≡◌, ◌≤◌, ℕ, Some, None, MatchOption, IfSome, slice_get};
+ghost use Rattle.std.specs.Prelude.{◌≡◌, ◌≤◌, ℕ, Some, None, MatchOption, slice_get};
 ghost use Rattle.packet.specs.declared.kinds.Reply.{Reply};
 ghost use Rattle.trace_search.specs.declared.opened.Open.{Open};
 ghost use Rattle.trace_order.specs.Traces.{IsAnsweredAt};
@@ -28,7 +28,9 @@ pub fn promise_of(events: &[Event], from: usize, id: u64) -> Option<Reply>
 
 /// A slot with nothing in it.
 pub fn free_slot(table: &[Option<Open>]) -> Option<usize>
-    ensures { IfSome result (λ s. slice_get table.now s ≡ Some None) }
+    ensures { MatchOption result
+        ((s : ℕ) → slice_get table.now s ≡ Some None → ⊥)
+        (λ s. slice_get table.now s ≡ Some None) }
 {
     for slot in 0..table.len() {
         if table[slot].is_none() {

@@ -1,22 +1,23 @@
 //! The search over the events of a trace.
 
-ghost use Rattle.std.specs.Prelude.{◌≡◌, ◌<◌, ◌+◌, ◌∷◌, ℕ, [], true, false, None, IfOk, OnOk, length, replicate, slice_index};
+ghost use Rattle.std.specs.Prelude.{◌≡◌, ◌<◌, ◌+◌, ◌∷◌, ℕ, [], true, false, None, IfOk, IfErr, OnOk, length, replicate, slice_index};
 ghost use Rattle.trace_order.specs.Traces.{IsTrace, IsIssuedAt, IsAnsweredAt};
 ghost use Rattle.trace_order.specs.Orders.{IsLinearizable};
 ghost use Rattle.trace_search.specs.Searches.{first_branch};
 ghost use Rattle.trace_judge.specs.Sets.{sets_of};
 ghost use Rattle.trace_judge.specs.Searched.{Holds};
+ghost use Rattle.trace_judge.specs.Stops.{IsUndecided};
 
 use crate::closing::{close, keep};
 use crate::reading::{free_slot, promise_of, slot_of};
-use crate::undecided::Undecided;
+use crate::undecided::{Full, Undecided};
 use packet::Reply;
 use std::alloc::{AllocError, Allocator};
 use trace_order::{Call, Event};
 use trace_search::{Branch, Config, Node, Open};
 
-/// How many hints on configurations are kept.
-const HINTS: usize = 65536;
+/// How many hints on configurations are kept at first.
+const HINTS: usize = 64;
 
 /// The open operations, the branches of each word, the nodes on the ways to them, and hints on where
 /// configurations are.
@@ -92,10 +93,11 @@ impl<A: Allocator + Copy> Search<A> {
         requires inside { k < length events.now }
         requires issued { IsIssuedAt events.now k call }
         requires holds { Holds opening.now events.now k self.old }
-        ensures { OnOk result (Holds opening.now events.now (k + 1) self.new) }
+        ensures holds { OnOk result (Holds opening.now events.now (k + 1) self.new) }
+        ensures undecided { IfErr result (IsUndecided events.now) }
     {
         let Some(slot) = free_slot(&self.table) else {
-            return Err(Undecided::Operations);
+            return Err(Undecided::Operations { event: k });
         };
         let promise = promise_of(events, k + 1, call.id);
         self.table[slot] = Some(Open { call, promise });
@@ -118,13 +120,14 @@ impl<A: Allocator + Copy> Search<A> {
         requires holds { Holds opening.now events.now k self.old }
         ensures yes { IfOk result (λ b. b ≡ true → Holds opening.now events.now (k + 1) self.new) }
         ensures no { IfOk result (λ b. b ≡ false → IsLinearizable opening.now events.now → ⊥) }
+        ensures undecided { IfErr result (IsUndecided events.now) }
     {
         let Some((slot, opened)) = slot_of(&self.table, id) else {
             unreachable!();
         };
         let address = opened.call.operation.address;
         let word = address as usize;
-        let middle = close(
+        let closed = close(
             alloc,
             &self.words[word],
             &mut self.nodes,
@@ -133,7 +136,12 @@ impl<A: Allocator + Copy> Search<A> {
             address,
             slot,
             bound,
-        )?;
+        );
+        let middle = match closed {
+            Ok(middle) => middle,
+            Err(Full::Memory) => return Err(Undecided::Memory),
+            Err(Full::Configurations) => return Err(Undecided::Configurations { event: k }),
+        };
         let later = keep(alloc, &middle, slot)?;
         let stands = !later.is_empty();
         self.table[slot] = None;
@@ -155,6 +163,7 @@ impl<A: Allocator + Copy> Search<A> {
         requires holds { Holds opening.now events.now k self.old }
         ensures yes { IfOk result (λ b. b ≡ true → Holds opening.now events.now (k + 1) self.new) }
         ensures no { IfOk result (λ b. b ≡ false → IsLinearizable opening.now events.now → ⊥) }
+        ensures undecided { IfErr result (IsUndecided events.now) }
     {
         match events[k] {
             Event::Issue(call) => {

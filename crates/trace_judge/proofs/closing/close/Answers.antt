@@ -4,13 +4,13 @@ use Rattle.trace_search.proofs.Bits.{not_both}
 use Rattle.std.proofs.lemmas.Option.{slice_get_read}
 use Rattle.trace_judge.proofs.Growth.{closing_skip, closing_expand, closing_all}
 use Rattle.trace_judge.proofs.closing.close.Goals as goal
-use Rattle.trace_judge.proofs.closing.close.Goals.{then-not-has+in_ok-expand, else-not-has}
+use Rattle.trace_judge.proofs.closing.close.Goals.{then-not-has+in_ok-widen+in_ok-expand, else-not-has}
 
 pub loop-next-preserved : goal.loop-next-preserved
 loop-next-preserved g c =
     let l : c.loop-next.next < length c.loop-next.found.items = omega arith in
     elim c.if-not-has.branch [
-      | then-not-has+in_ok-expand w ↦ rw (w.found-is, w.nodes-is)
+      | then-not-has+in_ok-widen+in_ok-expand w ↦ rw (w.found-is, w.nodes-is)
           (closing_expand c.args.table.now c.args.address c.args.slot c.args.branches.now c.args.nodes.now.items c.args.bound c.loop-next.next c.loop-next.found.items
           w.expand.new.found.items c.loop-next.nodes.items w.expand.new.nodes.items c.index-from.result.now
           (slice_get_read c.loop-next.found.items

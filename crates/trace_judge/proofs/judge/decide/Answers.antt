@@ -8,10 +8,10 @@ use Rattle.trace_judge.specs.Sets.{sets_of}
 use Rattle.trace_search.proofs.Sound.{sound_all}
 use Rattle.trace_judge.proofs.judge.decide.Goals as goal
 
-pub returns : goal.returns
-returns g c =
+pub returns-clause-decided : goal.returns-clause-decided
+returns-clause-decided g c =
     let s = c.in-Some.search in
-    let holds = MatchOption-at_some {o = c.in_ok-search.field-0} _ _ s c.in-Some.is c.in_ok-search.ensures in
+    let holds = MatchOption-at_some {o = c.in_ok-search.field-0} _ _ s c.in-Some.is c.in_ok-search.ensures.decided in
     let p = c.in_ok-marks.ensures in
     let all : length c.args.events.now ≤ length c.args.events.now = omega arith in
     let is = sound_all c.args.opening.now c.args.events.now (length c.args.events.now) s.table.items

@@ -1,0 +1,32 @@
+-- Why a trace is not judged.
+use Rattle.std.specs.Prelude.{◌≡◌, ◌<◌, ℕ, List, Some, length, slice_get, take}
+use Rattle.packet.specs.declared.kinds.Reply.{Reply}
+use Rattle.trace_order.specs.declared.event.Call.{Call}
+use Rattle.trace_order.specs.declared.event.Event.{Event}
+use Rattle.trace_order.specs.Traces.{IsIssuedAt, IsAnsweredAt, IsUnanswered}
+use Rattle.trace_judge.specs.declared.undecided.Undecided.{Undecided}
+use Rattle.trace_judge.specs.declared.undecided.Undecided.TheVariants.{Memory, Configurations, Operations}
+
+-- 64 operations are open before event k (Herlihy and Wing, TOPLAS 12(3), 1990: pending), which issues another
+pub record IsCrowded (trace : List Event) (k : ℕ) : Type 0 where
+  pub calls : List Call
+  pub many : length calls ≡ 64
+  pub issued : (s : ℕ) (c : Call) → slice_get calls s ≡ Some c → (i : ℕ) × (i < k) × IsIssuedAt trace i c
+  pub pending : (s : ℕ) (c : Call) → slice_get calls s ≡ Some c → IsUnanswered trace k c.id
+  pub distinct : (s u : ℕ) (c d : Call) → slice_get calls s ≡ Some c → slice_get calls u ≡ Some d
+      → c.id ≡ d.id → s ≡ u
+  pub another : (c : Call) × IsIssuedAt trace k c
+
+-- event k answers an operation
+abbrev pub IsAnAnswer : List Event → ℕ → Type 0
+IsAnAnswer trace k = (id : ℕ) × (reply : Reply) × IsAnsweredAt trace k id reply
+
+-- why a trace is not decided: there are too many open operations at an event, or configurations of a word, or no memory
+abbrev pub IsUndecided : List Event → Undecided → Type 0
+IsUndecided trace Memory = Unit {0}
+IsUndecided trace (Configurations event) = IsAnAnswer trace event
+IsUndecided trace (Operations event) = IsCrowded trace event
+
+-- why a trace is not judged: a beginning of it is not decided
+abbrev pub IsUnjudged : List Event → Undecided → Type 0
+IsUnjudged trace why = (n : ℕ) × IsUndecided (take n trace) why
