@@ -1,6 +1,8 @@
 pub mod Answered
 pub mod Entries
+pub mod Found
 pub mod Kept
+pub mod Mapped
 pub mod NumberLists
 pub mod Numbers
 pub mod Outcomes

@@ -1,3 +1,4 @@
+pub mod Findings
 pub mod Form
 pub mod Inside
 pub mod Kept

@@ -5,10 +5,12 @@ mod events;
 mod form;
 pub mod issued;
 pub mod laws;
+pub mod linearize;
 mod number;
 mod reading;
 pub mod text;
 mod words;
 
 pub use issued::Issued;
+pub use linearize::{Finding, Unfound};
 pub use text::{TraceText, read_trace};

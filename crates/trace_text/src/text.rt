@@ -1,10 +1,13 @@
 //! Reads a trace text.
 
-ghost use Rattle.std.specs.Prelude.{◌≡◌};
+ghost use Rattle.std.specs.Prelude.{◌≡◌, IfOk, IfErr};
 ghost use Rattle.std.specs.Str.Lines.{lines};
 ghost use Rattle.script.specs.Outcome.{Gives, line_of_fault};
+ghost use Rattle.trace_text.specs.Findings.{Tells, IsUnfound};
 ghost use Rattle.trace_text.specs.Traced.{trace_of};
 
+use crate::issued::Issued;
+use crate::linearize::{Finding, Unfound};
 use crate::reading::Reading;
 use crate::words::{first_words, next_line};
 use script::LineFault;
@@ -28,6 +31,35 @@ impl<A: Allocator> Model for TraceText<A> {
     ghost view = { trace_of_fields };
 
     ghost invariant = { IsTraceText };
+}
+
+impl<A: Allocator> TraceText<A> {
+    /// The number of words of the memory, 1 to 2^32.
+    pub fn words(&self) -> u64
+        ensures { result ≡ self.now.words }
+    {
+        self.reading.words
+    }
+
+    /// The operations in the order of issue.
+    pub fn issued(&self) -> &[Issued]
+        ensures { result.now ≡ self.now.issued }
+    {
+        &self.reading.issued
+    }
+}
+
+impl<A: Allocator + Copy> TraceText<A> {
+    /// Judges the trace, with at most so many configurations of a word at once: an order that explains
+    /// it as it is written, or the line of the first event up to which none does.
+    ///
+    /// Errors: the line at which there are too many configurations or open operations, or no memory.
+    pub fn linearize(&self, alloc: A, bound: usize) -> Result<Finding<A>, Unfound>
+        ensures unfound { IfErr result (IsUnfound self.now) }
+        ensures found { IfOk result (λ finding. Tells self.now finding) }
+    {
+        self.reading.linearize(alloc, bound)
+    }
 }
 
 /// A fault that was found at a line.

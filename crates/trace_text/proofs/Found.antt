@@ -1,0 +1,238 @@
+-- What is found of a trace with places for addresses is so of the trace as it is written.
+use Rattle.std.proofs.Common.{◌≡◌, ⊎_elim, ℕ, zero, suc, ◌+◌, ◌<◌, ◌≤◌, List, [], ◌∷◌, length, Some, None, refl, sym, ◌∙◌, ap, subst, arith, slice_get, take, get_or, map}
+use Rattle.std.specs.Prelude.{unwrap_or}
+use Rattle.std.proofs.lemmas.Bool.{cases_lt}
+use Rattle.std.proofs.lemmas.List.{length-map}
+use Rattle.std.proofs.lemmas.List.FromFn.{length-map-range_with_len, get_or-map-range_with_len}
+use Rattle.packet.specs.declared.kinds.Reply.{Reply}
+use Rattle.trace_order.specs.declared.event.Call.{Call}
+use Rattle.trace_order.specs.declared.event.Event.{Event}
+use Rattle.trace_order.specs.declared.event.Event.TheVariants.{Issue, Answer}
+use Rattle.trace_order.specs.Traces.{IsTrace, IsIssuedAt, IsAnsweredAt}
+use Rattle.trace_order.specs.Orders.{IsOrder, IsLinearizable}
+use Rattle.trace_order.proofs.Lists.{get_within, within_length, take_get, get_take}
+use Rattle.trace_judge.specs.Stops.{IsCrowded, IsAnAnswer, IsUndecided, IsUnjudged}
+use Rattle.trace_judge.specs.declared.undecided.Undecided.{Undecided}
+use Rattle.trace_judge.specs.declared.undecided.Undecided.TheVariants as undecided
+use Rattle.std.specs.Prelude.{Vec}
+use Rattle.trace_judge.specs.declared.judge.Verdict.{Verdict}
+use Rattle.trace_judge.specs.declared.judge.Verdict.TheVariants.{Linearizable, No}
+use Rattle.trace_judge.specs.Verdicts.{Tells}
+use Rattle.trace_text.specs.declared.linearize.Unfound.{Unfound}
+use Rattle.trace_text.specs.Findings.{place_of, address_of, words_of, trace_read, unfound_at, IsUnfound}
+use Rattle.trace_text.specs.Kept.{IsKept}
+use Rattle.trace_text.specs.Renumbered.{moved_call, moved_event, IsRenumbering}
+use Rattle.trace_text.specs.Traced.{Reading, opening_of, value_at}
+use Rattle.trace_text.proofs.Renumbered.{map_get, get_map, take_map, issue_back, answer_back, order_there, order_back}
+
+-- what stands at a place, as the code reads it
+read_is : {A : Type 0} (xs : List A) (k : ℕ) (x d : A) → slice_get xs k ≡ Some x → get_or xs k d ≡ x
+read_is [] k x d h = absurd (let e : None ≡ Some x = h in cc)
+read_is (y ∷ ys) zero x d h = cc
+read_is (y ∷ ys) (suc k) x d h = read_is ys k x d h
+
+-- the events with places
+abbrev pub moved : Reading → List Event
+moved r = map (moved_event (place_of r.places)) r.events
+
+-- the words with places
+abbrev pub others : Reading → List ℕ
+others r = words_of r.inits r.addresses
+
+abbrev word_at : Reading → ℕ → ℕ
+word_at r a = unwrap_or (value_at r.inits a) 0
+
+place_is : (r : Reading) (a p : ℕ) → value_at r.places a ≡ Some p → place_of r.places a ≡ p
+place_is r a p h = ap (λ o. unwrap_or o 0) h
+
+-- places are numbers of their own
+pub renumbering : (r : Reading) → IsKept r
+    → IsRenumbering (place_of r.places) (address_of r.addresses) (opening_of (trace_read r)) (others r) r.events
+renumbering r k = record {
+  inside = λ i c h.
+      let low = k.trace.inside i c h in
+      let sized = length-map-range_with_len (word_at r) 0 r.words in
+      omega arith;
+  placed = λ i c h.
+      let q = k.placed i c h in
+      let low = get_within r.addresses q.0 c.operation.address (k.addressed c.operation.address q.0 q.1) in
+      let sized = length-map r.addresses (word_at r) in
+      subst (λ (n : ℕ). n < length (others r)) (sym (place_is r c.operation.address q.0 q.1)) (omega arith);
+  word = λ i c h.
+      let q = k.placed i c h in
+      let at = k.addressed c.operation.address q.0 q.1 in
+      let low = k.trace.inside i c h in
+      ap (λ (n : ℕ). get_or (others r) n 0) (place_is r c.operation.address q.0 q.1)
+      ∙ (read_is (others r) q.0 (word_at r c.operation.address) 0 (map_get (word_at r) r.addresses q.0 c.operation.address at)
+      ∙ sym (get_or-map-range_with_len (word_at r) 0 r.words c.operation.address c.operation.address 0 low (omega arith)));
+  inverse = λ i c h.
+      let q = k.placed i c h in
+      ap (address_of r.addresses) (place_is r c.operation.address q.0 q.1)
+      ∙ read_is r.addresses q.0 c.operation.address 0 (k.addressed c.operation.address q.0 q.1);
+}
+
+-- also of a beginning
+renumbering_take : (place back : ℕ → ℕ) (opening words : List ℕ) (trace : List Event) (n : ℕ)
+    → IsRenumbering place back opening words trace → IsRenumbering place back opening words (take n trace)
+renumbering_take place back opening words trace n r = record {
+  inside = λ i c h. r.inside i c (take_get n trace i (Issue c) h).1;
+  placed = λ i c h. r.placed i c (take_get n trace i (Issue c) h).1;
+  word = λ i c h. r.word i c (take_get n trace i (Issue c) h).1;
+  inverse = λ i c h. r.inverse i c (take_get n trace i (Issue c) h).1;
+}
+
+-- the events with places are a trace
+pub trace_moved : (r : Reading) → IsKept r → IsTrace (length (others r)) (moved r)
+trace_moved r k = record {
+  rising = λ i j a b l h m.
+      let c = issue_back (place_of r.places) r.events i a h in
+      let d = issue_back (place_of r.places) r.events j b m in
+      let low = k.trace.rising i j c.0 d.0 l c.1 d.1 in
+      let e = ap (λ (x : Call). x.id) c.2 in
+      let f = ap (λ (x : Call). x.id) d.2 in
+      subst (λ (n : ℕ). n < b.id) e (subst (λ (n : ℕ). c.0.id < n) f low);
+  issued = λ j id reply h.
+      let w = k.trace.issued j id reply (answer_back (place_of r.places) r.events j id reply h) in
+      (w.0, moved_call (place_of r.places) w.1, w.2, w.3, map_get (moved_event (place_of r.places)) r.events w.0 (Issue w.1) w.4);
+  once = λ i j id s t h m.
+      k.trace.once i j id s t (answer_back (place_of r.places) r.events i id s h) (answer_back (place_of r.places) r.events j id t m);
+  inside = λ i c h.
+      let b = issue_back (place_of r.places) r.events i c h in
+      let low = (renumbering r k).placed i b.0 b.1 in
+      subst (λ (x : Call). x.operation.address < length (others r)) b.2 low;
+}
+
+-- a yes
+pub found_yes : (r : Reading) → IsKept r → (order : List Call) → IsOrder (others r) (moved r) order
+    → IsOrder (opening_of (trace_read r)) r.events (map (moved_call (address_of r.addresses)) order)
+found_yes r k order o =
+    order_back (place_of r.places) (address_of r.addresses) (opening_of (trace_read r)) (others r) r.events (renumbering r k) order o
+
+-- beginnings are linearizable together
+beginning_back : (r : Reading) → IsKept r → (n : ℕ) → IsLinearizable (others r) (take n (moved r))
+    → IsLinearizable (opening_of (trace_read r)) (take n r.events)
+beginning_back r k n is =
+    let place = place_of r.places in
+    let back = address_of r.addresses in
+    let o : IsOrder (others r) (map (moved_event place) (take n r.events)) is.0 =
+        subst (λ (t : List Event). IsOrder (others r) t is.0) (take_map (moved_event place) n r.events) is.1 in
+    (map (moved_call back) is.0, order_back place back (opening_of (trace_read r)) (others r) (take n r.events)
+    (renumbering_take place back (opening_of (trace_read r)) (others r) r.events n (renumbering r k)) is.0 o)
+
+beginning_there : (r : Reading) → IsKept r → (n : ℕ) → IsLinearizable (opening_of (trace_read r)) (take n r.events)
+    → IsLinearizable (others r) (take n (moved r))
+beginning_there r k n is =
+    let place = place_of r.places in
+    let back = address_of r.addresses in
+    (map (moved_call place) is.0, subst (λ (t : List Event). IsOrder (others r) t (map (moved_call place) is.0))
+    (sym (take_map (moved_event place) n r.events))
+    (order_there place back (opening_of (trace_read r)) (others r) (take n r.events)
+    (renumbering_take place back (opening_of (trace_read r)) (others r) r.events n (renumbering r k)) is.0 is.1))
+
+-- the line of an event
+line_is : (r : Reading) → IsKept r → (event : ℕ) → event < length r.events → slice_get r.lines event ≡ Some (get_or r.lines event 0)
+line_is r k event low =
+    let sized = k.lines in
+    let at = within_length r.lines event (omega arith) in
+    at.1 ∙ ap (λ (n : ℕ). Some n) (sym (read_is r.lines event at.0 0 at.1))
+
+-- a no
+pub found_no : (r : Reading) → IsKept r → (event : ℕ) → event < length (moved r) → IsLinearizable (others r) (take event (moved r))
+    → (IsLinearizable (others r) (take (event + 1) (moved r)) → ⊥)
+    → (e : ℕ) × (slice_get r.lines e ≡ Some (get_or r.lines event 0))
+    × IsLinearizable (opening_of (trace_read r)) (take e r.events)
+    × (IsLinearizable (opening_of (trace_read r)) (take (e + 1) r.events) → ⊥)
+found_no r k event low good bad =
+    let sized = length-map r.events (moved_event (place_of r.places)) in
+    (event, line_is r k event (omega arith), beginning_back r k event good, λ is. bad (beginning_there r k (event + 1) is))
+
+-- an answer in a beginning of the events with places
+answer_in : (r : Reading) (n event : ℕ) → IsAnAnswer (take n (moved r)) event → IsAnAnswer r.events event
+answer_in r n event a =
+    (a.0, a.1, answer_back (place_of r.places) r.events event a.0 a.1 (take_get n (moved r) event (Answer a.0 a.1) a.2).1)
+
+-- a crowd in a beginning of the events with places
+crowd_in : (r : Reading) → IsKept r → (n event : ℕ) → IsCrowded (take n (moved r)) event → IsCrowded r.events event
+crowd_in r k n event w =
+    let place = place_of r.places in
+    let back = address_of r.addresses in
+    let issue : (i : ℕ) (c : Call) → IsIssuedAt (take n (moved r)) i c → (i < n) × IsIssuedAt r.events i (moved_call back c) = λ i c h.
+        let g = take_get n (moved r) i (Issue c) h in
+        let b = issue_back place r.events i c g.1 in
+        let inverse = (renumbering r k).inverse i b.0 b.1 in
+        let same : moved_call back c ≡ b.0 =
+            ap (moved_call back) (sym b.2) ∙ ap (λ (a : ℕ). record { id = b.0.id; operation = record { address = a; op = b.0.operation.op } }) inverse in
+        (g.0, subst (λ (x : Call). IsIssuedAt r.events i x) (sym same) b.1) in
+    let now = issue event w.another.0 w.another.1 in
+    record {
+      calls = map (moved_call back) w.calls;
+      many = length-map w.calls (moved_call back) ∙ w.many;
+      issued = λ s c h.
+          let g = get_map (moved_call back) w.calls s c h in
+          let i = w.issued s g.0 g.1 in
+          let at = issue i.0 g.0 i.2 in
+          (i.0, i.1, subst (λ (x : Call). IsIssuedAt r.events i.0 x) g.2 at.1);
+      pending = λ s c h i reply at.
+          let g = get_map (moved_call back) w.calls s c h in
+          let e = ap (λ (x : Call). x.id) g.2 in
+          let there : IsAnsweredAt (moved r) i g.0.id reply =
+              map_get (moved_event place) r.events i (Answer g.0.id reply) (subst (λ (m : ℕ). IsAnsweredAt r.events i m reply) (sym e) at) in
+          ⊎_elim {C = event ≤ i}
+          (λ (l : i < n). w.pending s g.0 g.1 i reply (get_take n (moved r) i (Answer g.0.id reply) l there))
+          (λ (m : n ≤ i). let early = now.0 in omega arith)
+          (cases_lt i n);
+      distinct = λ s u c d h m e.
+          let g = get_map (moved_call back) w.calls s c h in
+          let f = get_map (moved_call back) w.calls u d m in
+          w.distinct s u g.0 f.0 g.1 f.1 (ap (λ (x : Call). x.id) g.2 ∙ (e ∙ sym (ap (λ (x : Call). x.id) f.2)));
+      another = (moved_call back w.another.0, now.1);
+    }
+
+-- why it is not judged
+pub unfound : (r : Reading) → IsKept r → (why : Undecided) → IsUnjudged (moved r) why → IsUnfound (trace_read r) (unfound_at r.lines why)
+unfound r k undecided.Memory u = tt
+unfound r k (undecided.Configurations event) u =
+    let a = answer_in r u.0 event u.1 in
+    (event, line_is r k event (get_within r.events event (Answer a.0 a.1) a.2), a)
+unfound r k (undecided.Operations event) u =
+    let w = crowd_in r k u.0 event u.1 in
+    (event, line_is r k event (get_within r.events event (Issue w.another.0) w.another.1), w)
+
+-- the same, of the words and the events that the judge was given
+pub trace_given : (r : Reading) → IsKept r → (ws : List ℕ) (es : List Event) → ws ≡ others r → es ≡ moved r → IsTrace (length ws) es
+trace_given r k ws es w e = rw (w, e) (trace_moved r k)
+
+pub yes_given : (r : Reading) → IsKept r → (ws : List ℕ) (es : List Event) → ws ≡ others r → es ≡ moved r → (order named : List Call)
+    → IsOrder ws es order → named ≡ map (moved_call (address_of r.addresses)) order → IsOrder (opening_of (trace_read r)) r.events named
+yes_given r k ws es w e order named o n =
+    subst (λ (cs : List Call). IsOrder (opening_of (trace_read r)) r.events cs) (sym n)
+    (found_yes r k order
+    (subst (λ (v : List ℕ). IsOrder v (moved r) order) w (subst (λ (f : List Event). IsOrder ws f order) e o)))
+
+pub no_given : (r : Reading) → IsKept r → (ws : List ℕ) (es : List Event) → ws ≡ others r → es ≡ moved r → (event line : ℕ)
+    → (event < length es) × IsLinearizable ws (take event es) × (IsLinearizable ws (take (event + 1) es) → ⊥) → line ≡ get_or r.lines event 0
+    → (n : ℕ) × (slice_get r.lines n ≡ Some line)
+    × IsLinearizable (opening_of (trace_read r)) (take n r.events)
+    × (IsLinearizable (opening_of (trace_read r)) (take (n + 1) r.events) → ⊥)
+no_given r k ws es w e event line tells l =
+    let moved_tells : (event < length (moved r)) × IsLinearizable (others r) (take event (moved r)) × (IsLinearizable (others r) (take (event + 1) (moved r)) → ⊥) =
+        subst (λ (v : List ℕ). (event < length (moved r)) × IsLinearizable v (take event (moved r)) × (IsLinearizable v (take (event + 1) (moved r)) → ⊥)) w
+        (subst (λ (f : List Event). (event < length f) × IsLinearizable ws (take event f) × (IsLinearizable ws (take (event + 1) f) → ⊥)) e tells) in
+    let found = found_no r k event moved_tells.0 moved_tells.1 moved_tells.2 in
+    (found.0, found.1 ∙ ap (λ (n : ℕ). Some n) (sym l), found.2, found.3)
+
+pub unfound_given : (r : Reading) → IsKept r → (es : List Event) → es ≡ moved r → (why : Undecided) (told : Unfound) → IsUnjudged es why
+    → told ≡ unfound_at r.lines why → IsUnfound (trace_read r) told
+unfound_given r k es e why told u is =
+    subst (λ (x : Unfound). IsUnfound (trace_read r) x) (sym is)
+    (unfound r k why (subst (λ (f : List Event). IsUnjudged f why) e u))
+
+-- what a verdict tells, by its kind
+pub yes_told : {A : Type 0} (ws : List ℕ) (es : List Event) (verdict : Verdict A) (order : Vec Call A) → verdict ≡ Linearizable order
+    → Tells ws es verdict → IsOrder ws es order.items
+yes_told {A} ws es verdict order is tells = subst (λ (v : Verdict A). Tells ws es v) is tells
+
+pub no_told : {A : Type 0} (ws : List ℕ) (es : List Event) (verdict : Verdict A) (event : ℕ) → verdict ≡ No event
+    → Tells ws es verdict
+    → (event < length es) × IsLinearizable ws (take event es) × (IsLinearizable ws (take (event + 1) es) → ⊥)
+no_told {A} ws es verdict event is tells = subst (λ (v : Verdict A). Tells ws es v) is tells

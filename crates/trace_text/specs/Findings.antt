@@ -1,0 +1,47 @@
+-- What is found of the trace of a text.
+use Rattle.std.specs.Prelude.{◌≡◌, ◌+◌, ℕ, List, Some, map, slice_get, take, unwrap_or}
+use Rattle.std.specs.List.{slice_index_or}
+use Rattle.trace_order.specs.Orders.{IsOrder, IsLinearizable}
+use Rattle.trace_judge.specs.declared.undecided.Undecided.{Undecided}
+use Rattle.trace_judge.specs.declared.undecided.Undecided.TheVariants as undecided
+use Rattle.trace_judge.specs.Stops.{IsCrowded, IsAnAnswer}
+use Rattle.trace_text.specs.declared.linearize.Finding.{Finding}
+use Rattle.trace_text.specs.declared.linearize.Finding.TheVariants.{Linearizable, No}
+use Rattle.trace_text.specs.declared.linearize.Unfound.{Unfound}
+use Rattle.trace_text.specs.declared.linearize.Unfound.TheVariants.{Memory, Configurations, Operations}
+use Rattle.trace_text.specs.Traced.{Reading, TraceSpec, opening_of, value_at}
+
+-- the place of an address; 0 where it has none
+abbrev pub place_of : List (ℕ × ℕ) → ℕ → ℕ
+place_of places a = unwrap_or (value_at places a) 0
+
+-- the address at a place; 0 where there is none
+abbrev pub address_of : List ℕ → ℕ → ℕ
+address_of addresses p = slice_index_or addresses p 0
+
+-- the opening words at some addresses
+abbrev pub words_of : List (ℕ × ℕ) → List ℕ → List ℕ
+words_of inits addresses = map (λ a. unwrap_or (value_at inits a) 0) addresses
+
+-- the trace that was read
+abbrev pub trace_read : Reading → TraceSpec
+trace_read r = record { words = r.words; inits = r.inits; issued = r.issued; events = r.events; lines = r.lines }
+
+-- why a trace is not judged, with the line of the event
+abbrev pub unfound_at : List ℕ → Undecided → Unfound
+unfound_at lines undecided.Memory = Memory
+unfound_at lines (undecided.Configurations event) = Configurations (slice_index_or lines event 0)
+unfound_at lines (undecided.Operations event) = Operations (slice_index_or lines event 0)
+
+-- an order that explains the trace as it is written; or the line of the first event up to which none does
+abbrev pub Tells : {A : Type 0} → TraceSpec → Finding A → Type 0
+Tells t (Linearizable order) = IsOrder (opening_of t) t.events order.items
+Tells t (No line) = (event : ℕ) × (slice_get t.lines event ≡ Some line)
+    × IsLinearizable (opening_of t) (take event t.events)
+    × (IsLinearizable (opening_of t) (take (event + 1) t.events) → ⊥)
+
+-- the line of an answer at which a word has too many configurations, or of an issue beside 64 open operations
+abbrev pub IsUnfound : TraceSpec → Unfound → Type 0
+IsUnfound t Memory = Unit {0}
+IsUnfound t (Configurations line) = (event : ℕ) × (slice_get t.lines event ≡ Some line) × IsAnAnswer t.events event
+IsUnfound t (Operations line) = (event : ℕ) × (slice_get t.lines event ≡ Some line) × IsCrowded t.events event

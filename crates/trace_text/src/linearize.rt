@@ -1,0 +1,186 @@
+//! Judges the trace of a text: the words that its operations name are numbered from 0 for it.
+
+ghost use Rattle.std.specs.Prelude.{◌≡◌, ◌<◌, map, unwrap_or, length, IfOk, IfErr};
+ghost use Rattle.std.specs.List.{slice_index_or};
+ghost use Rattle.trace_text.specs.Findings.{Tells, IsUnfound, trace_read, place_of, address_of, words_of, unfound_at};
+ghost use Rattle.trace_text.specs.Kept.{IsKept};
+ghost use Rattle.trace_text.specs.Renumbered.{moved_call, moved_event};
+ghost use Rattle.trace_text.specs.Traced.{value_at};
+ghost use Rattle.trace_text.specs.Views.{reading_of};
+
+use crate::reading::Reading;
+use packet::Operation;
+use std::alloc::{AllocError, Allocator};
+use std::collections::BTreeMap;
+use trace_judge::judge::{Verdict, judge};
+use trace_judge::undecided::Undecided;
+use trace_order::{Call, Event};
+
+/// What the trace of a text is judged to be.
+#[derive(Drop)]
+pub enum Finding<A: Allocator> {
+    /// It is linearizable, in this order; the numbers of the operations count the issues before them.
+    Linearizable(Vec<Call, A>),
+    /// It isn't, from the event of this line on: what comes before it is.
+    No { line: u64 },
+}
+
+/// Why the trace of a text is not judged.
+#[derive(Clone, Copy, Debug, PartialEq, Eq)]
+pub enum Unfound {
+    /// A request for memory was refused.
+    Memory,
+    /// At the answer of this line a word has more configurations than were allowed.
+    Configurations { line: u64 },
+    /// At the issue of this line more than 64 operations are open.
+    Operations { line: u64 },
+}
+
+/// The place of an address, 0 where it has none.
+fn place_of<A: Allocator>(places: &BTreeMap<u32, u32, A>, address: u32) -> u32
+    ensures { result ≡ place_of places.now.entries address }
+{
+    places.get(&address).copied().unwrap_or(0)
+}
+
+/// The opening word at an address, 0 where no line gave it.
+fn word_at<A: Allocator>(inits: &BTreeMap<u32, u64, A>, address: u32) -> u64
+    ensures { result ≡ unwrap_or (value_at inits.now.entries address) 0 }
+{
+    inits.get(&address).copied().unwrap_or(0)
+}
+
+/// The address at a place, 0 where there is none.
+fn address_at(addresses: &[u32], place: u32) -> u32
+    ensures { result ≡ address_of addresses.now place }
+{
+    addresses.get(place as usize).copied().unwrap_or(0)
+}
+
+/// An event with the place of its address.
+fn moved<A: Allocator>(places: &BTreeMap<u32, u32, A>, event: Event) -> Event
+    ensures { result ≡ moved_event (place_of places.now.entries) event }
+{
+    match event {
+        Event::Issue(call) => Event::Issue(Call {
+            id: call.id,
+            operation: Operation {
+                address: place_of(places, call.operation.address),
+                op: call.operation.op,
+            },
+        }),
+        Event::Answer(id, reply) => Event::Answer(id, reply),
+    }
+}
+
+/// Events with the places of their addresses.
+fn moved_events<A: Allocator + Copy>(
+    alloc: A,
+    places: &BTreeMap<u32, u32, A>,
+    events: &[Event],
+) -> Result<Vec<Event, A>, AllocError>
+    ensures { IfOk result (λ v. v.items ≡ map (moved_event (place_of places.now.entries)) events.now) }
+{
+    let mut all = Vec::new(alloc);
+    for i in 0..events.len() {
+        all.push(moved(places, events[i]))?;
+    }
+    Ok(all)
+}
+
+/// The opening words at some addresses.
+fn words_of<A: Allocator + Copy>(
+    alloc: A,
+    inits: &BTreeMap<u32, u64, A>,
+    addresses: &[u32],
+) -> Result<Vec<u64, A>, AllocError>
+    ensures { IfOk result (λ v. v.items ≡ words_of inits.now.entries addresses.now) }
+{
+    let mut words = Vec::new(alloc);
+    for i in 0..addresses.len() {
+        words.push(word_at(inits, addresses[i]))?;
+    }
+    Ok(words)
+}
+
+/// A call with the address of its place.
+fn named(addresses: &[u32], call: Call) -> Call
+    ensures { result ≡ moved_call (address_of addresses.now) call }
+{
+    Call {
+        id: call.id,
+        operation: Operation {
+            address: address_at(addresses, call.operation.address),
+            op: call.operation.op,
+        },
+    }
+}
+
+/// Calls with the addresses of their places.
+fn named_calls<A: Allocator + Copy>(
+    alloc: A,
+    addresses: &[u32],
+    calls: &[Call],
+) -> Result<Vec<Call, A>, AllocError>
+    ensures { IfOk result (λ v. v.items ≡ map (moved_call (address_of addresses.now)) calls.now) }
+{
+    let mut all = Vec::new(alloc);
+    for i in 0..calls.len() {
+        all.push(named(addresses, calls[i]))?;
+    }
+    Ok(all)
+}
+
+impl From<AllocError> for Unfound {
+    ghost use Rattle.trace_text.specs.declared.linearize.Unfound.TheVariants.{Memory as Refused};
+
+    ghost from_gives = { λ _ e. e ≡ Refused };
+
+    fn from(_refused: AllocError) -> Unfound {
+        Unfound::Memory
+    }
+}
+
+impl<A: Allocator + Copy> Reading<A> {
+    /// The line of an event, 0 where there is none.
+    fn line_at(&self, event: usize) -> u64
+        ensures { result ≡ slice_index_or self.now.lines.items event 0 }
+    {
+        self.lines.get(event).copied().unwrap_or(0)
+    }
+
+    /// Why the trace is not judged, at its line.
+    fn at_line(&self, why: Undecided) -> Unfound
+        ensures { result ≡ unfound_at self.now.lines.items why }
+    {
+        match why {
+            Undecided::Memory => Unfound::Memory,
+            Undecided::Configurations { event } => Unfound::Configurations {
+                line: self.line_at(event),
+            },
+            Undecided::Operations { event } => Unfound::Operations {
+                line: self.line_at(event),
+            },
+        }
+    }
+
+    /// Judges the trace, with at most so many configurations of a word at once.
+    pub(crate) fn linearize(&self, alloc: A, bound: usize) -> Result<Finding<A>, Unfound>
+        requires { IsKept (reading_of self.now) }
+        ensures unfound { IfErr result (IsUnfound (trace_read (reading_of self.now))) }
+        ensures found { IfOk result (λ finding. Tells (trace_read (reading_of self.now)) finding) }
+    {
+        let opening = words_of(alloc, &self.inits, &self.addresses)?;
+        let events = moved_events(alloc, &self.places, &self.events)?;
+        match judge(alloc, &opening, &events, bound) {
+            Ok(Verdict::Linearizable(order)) => {
+                let order = named_calls(alloc, &self.addresses, &order)?;
+                Ok(Finding::Linearizable(order))
+            }
+            Ok(Verdict::No { event }) => Ok(Finding::No {
+                line: self.line_at(event),
+            }),
+            Err(why) => Err(self.at_line(why)),
+        }
+    }
+}
