@@ -12,7 +12,6 @@ calls_of [] = []
 calls_of (None ∷ table) = calls_of table
 calls_of (Some o ∷ table) = o.call ∷ calls_of table
 
-
 many : (table : List (Option Open)) → ((s : ℕ) → slice_get table s ≡ Some None → ⊥) → length (calls_of table) ≡ length table
 many [] full = refl
 many (None ∷ table) full = absurd (full zero refl)

@@ -115,19 +115,23 @@ beginning_back r k n is =
     let place = place_of r.places in
     let back = address_of r.addresses in
     let o : IsOrder (others r) (map (moved_event place) (take n r.events)) is.0 =
-        subst (λ (t : List Event). IsOrder (others r) t is.0) (take_map (moved_event place) n r.events) is.1 in
-    (map (moved_call back) is.0, order_back place back (opening_of (trace_read r)) (others r) (take n r.events)
-    (renumbering_take place back (opening_of (trace_read r)) (others r) r.events n (renumbering r k)) is.0 o)
+    subst (λ (t : List Event). IsOrder (others r) t is.0) (take_map (moved_event place) n r.events) is.1 in (
+      map (moved_call back) is.0,
+      order_back place back (opening_of (trace_read r)) (others r) (take n r.events)
+          (renumbering_take place back (opening_of (trace_read r)) (others r) r.events n (renumbering r k)) is.0 o,
+    )
 
 beginning_there : (r : Reading) → IsKept r → (n : ℕ) → IsLinearizable (opening_of (trace_read r)) (take n r.events)
     → IsLinearizable (others r) (take n (moved r))
 beginning_there r k n is =
     let place = place_of r.places in
-    let back = address_of r.addresses in
-    (map (moved_call place) is.0, subst (λ (t : List Event). IsOrder (others r) t (map (moved_call place) is.0))
-    (sym (take_map (moved_event place) n r.events))
-    (order_there place back (opening_of (trace_read r)) (others r) (take n r.events)
-    (renumbering_take place back (opening_of (trace_read r)) (others r) r.events n (renumbering r k)) is.0 is.1))
+    let back = address_of r.addresses in (
+      map (moved_call place) is.0,
+      subst (λ (t : List Event). IsOrder (others r) t (map (moved_call place) is.0))
+          (sym (take_map (moved_event place) n r.events))
+          (order_there place back (opening_of (trace_read r)) (others r) (take n r.events)
+          (renumbering_take place back (opening_of (trace_read r)) (others r) r.events n (renumbering r k)) is.0 is.1),
+    )
 
 -- the line of an event
 line_is : (r : Reading) → IsKept r → (event : ℕ) → event < length r.events → slice_get r.lines event ≡ Some (get_or r.lines event 0)
@@ -157,12 +161,12 @@ crowd_in r k n event w =
     let place = place_of r.places in
     let back = address_of r.addresses in
     let issue : (i : ℕ) (c : Call) → IsIssuedAt (take n (moved r)) i c → (i < n) × IsIssuedAt r.events i (moved_call back c) = λ i c h.
-        let g = take_get n (moved r) i (Issue c) h in
-        let b = issue_back place r.events i c g.1 in
-        let inverse = (renumbering r k).inverse i b.0 b.1 in
-        let same : moved_call back c ≡ b.0 =
-            ap (moved_call back) (sym b.2) ∙ ap (λ (a : ℕ). record { id = b.0.id; operation = record { address = a; op = b.0.operation.op } }) inverse in
-        (g.0, subst (λ (x : Call). IsIssuedAt r.events i x) (sym same) b.1) in
+    let g = take_get n (moved r) i (Issue c) h in
+    let b = issue_back place r.events i c g.1 in
+    let inverse = (renumbering r k).inverse i b.0 b.1 in
+    let same : moved_call back c ≡ b.0 =
+    ap (moved_call back) (sym b.2) ∙ ap (λ (a : ℕ). record { id = b.0.id; operation = record { address = a; op = b.0.operation.op } }) inverse in
+    (g.0, subst (λ (x : Call). IsIssuedAt r.events i x) (sym same) b.1) in
     let now = issue event w.another.0 w.another.1 in
     record {
       calls = map (moved_call back) w.calls;
@@ -176,7 +180,7 @@ crowd_in r k n event w =
           let g = get_map (moved_call back) w.calls s c h in
           let e = ap (λ (x : Call). x.id) g.2 in
           let there : IsAnsweredAt (moved r) i g.0.id reply =
-              map_get (moved_event place) r.events i (Answer g.0.id reply) (subst (λ (m : ℕ). IsAnsweredAt r.events i m reply) (sym e) at) in
+          map_get (moved_event place) r.events i (Answer g.0.id reply) (subst (λ (m : ℕ). IsAnsweredAt r.events i m reply) (sym e) at) in
           ⊎_elim {C = event ≤ i}
           (λ (l : i < n). w.pending s g.0 g.1 i reply (get_take n (moved r) i (Answer g.0.id reply) l there))
           (λ (m : n ≤ i). let early = now.0 in omega arith)
@@ -216,8 +220,8 @@ pub no_given : (r : Reading) → IsKept r → (ws : List ℕ) (es : List Event) 
     × (IsLinearizable (opening_of (trace_read r)) (take (n + 1) r.events) → ⊥)
 no_given r k ws es w e event line tells l =
     let moved_tells : (event < length (moved r)) × IsLinearizable (others r) (take event (moved r)) × (IsLinearizable (others r) (take (event + 1) (moved r)) → ⊥) =
-        subst (λ (v : List ℕ). (event < length (moved r)) × IsLinearizable v (take event (moved r)) × (IsLinearizable v (take (event + 1) (moved r)) → ⊥)) w
-        (subst (λ (f : List Event). (event < length f) × IsLinearizable ws (take event f) × (IsLinearizable ws (take (event + 1) f) → ⊥)) e tells) in
+    subst (λ (v : List ℕ). (event < length (moved r)) × IsLinearizable v (take event (moved r)) × (IsLinearizable v (take (event + 1) (moved r)) → ⊥)) w
+    (subst (λ (f : List Event). (event < length f) × IsLinearizable ws (take event f) × (IsLinearizable ws (take (event + 1) f) → ⊥)) e tells) in
     let found = found_no r k event moved_tells.0 moved_tells.1 moved_tells.2 in
     (found.0, found.1 ∙ ap (λ (n : ℕ). Some n) (sym l), found.2, found.3)
 

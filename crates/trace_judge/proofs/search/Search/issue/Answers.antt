@@ -22,8 +22,8 @@ returns-in_default-clause-undecided g c =
 pub index_mut-requires : goal.index_mut-requires
 index_mut-requires g c =
     let at : slice_get c.args.self.now.table.items c.in-Some.slot ≡ Some None =
-        subst (λ (ts : List (Option Open)). slice_get ts c.in-Some.slot ≡ Some None) c.deref.ensures.value
-        (MatchOption-at_some {o = c.free_slot.result} _ _ c.in-Some.slot c.in-Some.is c.free_slot.ensures) in
+    subst (λ (ts : List (Option Open)). slice_get ts c.in-Some.slot ≡ Some None) c.deref.ensures.value
+    (MatchOption-at_some {o = c.free_slot.result} _ _ c.in-Some.slot c.in-Some.is c.free_slot.ensures) in
     let low = get_within c.args.self.now.table.items c.in-Some.slot None at in
     let sized = c.args.self.now.table.ok.0 in
     omega arith

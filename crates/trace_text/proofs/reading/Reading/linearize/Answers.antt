@@ -10,17 +10,17 @@ use Rattle.trace_text.proofs.reading.Reading.linearize.Goals as goal
 pub judge-requires : goal.judge-requires
 judge-requires g c =
     let words : c.deref-3.result.now ≡ others (reading_of c.args.self.now) =
-        c.deref-3.ensures.value ∙ (c.in_ok-opening.ensures ∙ ap (words_of c.args.self.now.inits.entries) c.deref.ensures.value) in
+    c.deref-3.ensures.value ∙ (c.in_ok-opening.ensures ∙ ap (words_of c.args.self.now.inits.entries) c.deref.ensures.value) in
     let events : c.deref-4.result.now ≡ moved (reading_of c.args.self.now) =
-        c.deref-4.ensures.value ∙ (c.in_ok-events.ensures ∙ ap (map (moved_event (place_of c.args.self.now.places.entries))) c.deref-2.ensures.value) in
+    c.deref-4.ensures.value ∙ (c.in_ok-events.ensures ∙ ap (map (moved_event (place_of c.args.self.now.places.entries))) c.deref-2.ensures.value) in
     trace_given (reading_of c.args.self.now) c.requires _ _ words events
 
 pub returns-in-Ok-Linearizable-clause-found : goal.returns-in-Ok-Linearizable-clause-found
 returns-in-Ok-Linearizable-clause-found g c =
     let words : c.deref-3.result.now ≡ others (reading_of c.args.self.now) =
-        c.deref-3.ensures.value ∙ (c.in_ok-opening.ensures ∙ ap (words_of c.args.self.now.inits.entries) c.deref.ensures.value) in
+    c.deref-3.ensures.value ∙ (c.in_ok-opening.ensures ∙ ap (words_of c.args.self.now.inits.entries) c.deref.ensures.value) in
     let events : c.deref-4.result.now ≡ moved (reading_of c.args.self.now) =
-        c.deref-4.ensures.value ∙ (c.in_ok-events.ensures ∙ ap (map (moved_event (place_of c.args.self.now.places.entries))) c.deref-2.ensures.value) in
+    c.deref-4.ensures.value ∙ (c.in_ok-events.ensures ∙ ap (map (moved_event (place_of c.args.self.now.places.entries))) c.deref-2.ensures.value) in
     yes_given (reading_of c.args.self.now) c.requires _ _ words events c.in-Ok-Linearizable.order.items c.in_ok-order-in-Ok-Linearizable.order.items
     (yes_told _ _ c.in-Ok-Linearizable.field-0 c.in-Ok-Linearizable.order c.in-Ok-Linearizable.field-0-is c.in-Ok-Linearizable.ensures.judged)
     (c.in_ok-order-in-Ok-Linearizable.ensures
@@ -30,14 +30,14 @@ returns-in-Ok-Linearizable-clause-found g c =
 pub returns-in-Ok-No-clause-found : goal.returns-in-Ok-No-clause-found
 returns-in-Ok-No-clause-found g c =
     let words : c.deref-3.result.now ≡ others (reading_of c.args.self.now) =
-        c.deref-3.ensures.value ∙ (c.in_ok-opening.ensures ∙ ap (words_of c.args.self.now.inits.entries) c.deref.ensures.value) in
+    c.deref-3.ensures.value ∙ (c.in_ok-opening.ensures ∙ ap (words_of c.args.self.now.inits.entries) c.deref.ensures.value) in
     let events : c.deref-4.result.now ≡ moved (reading_of c.args.self.now) =
-        c.deref-4.ensures.value ∙ (c.in_ok-events.ensures ∙ ap (map (moved_event (place_of c.args.self.now.places.entries))) c.deref-2.ensures.value) in
+    c.deref-4.ensures.value ∙ (c.in_ok-events.ensures ∙ ap (map (moved_event (place_of c.args.self.now.places.entries))) c.deref-2.ensures.value) in
     no_given (reading_of c.args.self.now) c.requires _ _ words events c.in-Ok-No.event c.line_at.result
     (no_told _ _ c.in-Ok-No.field-0 c.in-Ok-No.event c.in-Ok-No.field-0-is c.in-Ok-No.ensures.judged) c.line_at.ensures
 
 pub returns-clause-unfound : goal.returns-clause-unfound
 returns-clause-unfound g c =
     let events : c.deref-4.result.now ≡ moved (reading_of c.args.self.now) =
-        c.deref-4.ensures.value ∙ (c.in_ok-events.ensures ∙ ap (map (moved_event (place_of c.args.self.now.places.entries))) c.deref-2.ensures.value) in
+    c.deref-4.ensures.value ∙ (c.in_ok-events.ensures ∙ ap (map (moved_event (place_of c.args.self.now.places.entries))) c.deref-2.ensures.value) in
     unfound_given (reading_of c.args.self.now) c.requires _ events c.in-Err.why c.at_line.result c.in-Err.ensures.unjudged c.at_line.ensures
