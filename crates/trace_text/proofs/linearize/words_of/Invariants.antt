@@ -1,4 +1,4 @@
-use Rattle.std.proofs.Common.{◌≡◌, map, take}
+use Rattle.std.proofs.Common.{◌≡◌, take}
 use Rattle.trace_text.specs.Findings.{words_of}
 use Rattle.trace_text.proofs.linearize.words_of.Given as goal
 

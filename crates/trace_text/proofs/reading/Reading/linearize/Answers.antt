@@ -1,6 +1,4 @@
 use Rattle.std.proofs.Common.{◌≡◌, ◌∙◌, ap, map, List, ℕ}
-use Rattle.trace_order.specs.declared.event.Event.{Event}
-use Rattle.trace_order.specs.declared.event.Call.{Call}
 use Rattle.trace_text.specs.Findings.{place_of, address_of, words_of}
 use Rattle.trace_text.specs.Renumbered.{moved_call, moved_event}
 use Rattle.trace_text.specs.Views.{reading_of}
