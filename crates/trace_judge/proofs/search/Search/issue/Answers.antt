@@ -1,4 +1,4 @@
-use Rattle.std.proofs.Common.{refl, subst, arith, sym, ◌≡◌, ℕ, List, Option, Some, None, slice_get}
+use Rattle.std.proofs.Common.{refl, subst, arith, ◌≡◌, ℕ, List, Option, Some, None, slice_get}
 use Rattle.std.proofs.lemmas.Option.{MatchOption-at_none, MatchOption-at_some}
 use Rattle.trace_search.specs.declared.opened.Open.{Open}
 use Rattle.trace_order.proofs.Lists.{get_within}
