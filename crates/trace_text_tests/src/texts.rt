@@ -17,7 +17,7 @@ enum Seen {
 }
 
 /// What is seen of a text, judged with at most 1000 configurations.
-fn seen<A: Allocator + Copy>(alloc: A, text: &str) -> Seen {
+fn found_in<A: Allocator + Copy>(alloc: A, text: &str) -> Seen {
     match read_trace(alloc, text.as_bytes()) {
         Err(fault) => Seen::Fault(fault.fault, fault.line),
         Ok(trace) => match trace.linearize(alloc, 1000) {
@@ -212,7 +212,7 @@ const TEXTS: [(&str, Seen); 59] = [
 fn texts_and_what_is_seen_of_them(rt: HostRuntime) -> Result<(), Fail> {
     let mut unlike = None;
     for (row, (text, expected)) in TEXTS.iter().enumerate() {
-        if seen(rt.alloc(), text) != *expected {
+        if found_in(rt.alloc(), text) != *expected {
             unlike = Some(row);
         }
     }
@@ -223,7 +223,7 @@ fn texts_and_what_is_seen_of_them(rt: HostRuntime) -> Result<(), Fail> {
 /// What is seen within a budget of bytes.
 fn within(alloc: Global, text: &str, budget: usize) -> Result<Seen, AllocError> {
     let heap = LocalHeap::new(alloc, budget)?;
-    let found = seen(&heap, text);
+    let found = found_in(&heap, text);
     if heap.used() != 0 {
         return Err(AllocError);
     }
