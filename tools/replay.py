@@ -530,6 +530,32 @@ def compare(machine: Machine, found: report.Report) -> None:
         raise command.Refusal("the replay of the schedule is not the run of the report that `torusmem steps` prints")
 
 
+def attempts(shape: Shape) -> Iterator[tuple[int, str, int | None]]:
+    """The attempts of a round, in its order: the agent, its choice, and the number of the port if the choice has one."""
+    for tile in range(shape.tiles):
+        agent = 3 * tile
+        yield from ((agent, it, None) for it in ("send", "take", "credit", "done", "look"))
+        yield from ((agent + 1, it, port) for it in ("take", "put", "credit") for port in range(8 * shape.dims + 2))
+        yield from ((agent + 2, it, None) for it in ("take", "serve", "send", "credit"))
+
+
+def scheduled(case: drawn.Case, most: int) -> Iterator[str]:
+    """The lines of the schedule of a run in rounds: until every script is finished, and at most so many."""
+    machine = Machine(case)
+    tries = [(*it, " ".join(str(word) for word in it if word is not None)) for it in attempts(machine.shape)]
+    for number in range(1, most + 1):
+        if machine.is_finished():
+            break
+        moves = [text for agent, choice, port, text in tries if machine.step(agent, choice, port or 0, number)]
+        yield from [f"# round {number}", *moves] if moves else []
+    yield "# finished" if machine.is_finished() else "# stopped"
+
+
+def schedule_text(case: drawn.Case, most: int) -> str:
+    """The schedule of a run in rounds, as a text."""
+    return "".join(f"{line}\n" for line in scheduled(case, most))
+
+
 def percentile(rising: Sequence[int], part: int) -> int:
     """The least of the numbers that so many of a hundred of them do not exceed: the nearest rank."""
     return rising[max(0, -(-len(rising) * part // 100) - 1)]
@@ -539,7 +565,7 @@ def add_words(parser: command.Parser) -> None:
     """The words of the command line that every tool for schedules has."""
     parser.add_argument("machine", metavar="MACHINE", help="the text of a machine")
     parser.add_argument("script", metavar="SCRIPT", help="the text of its scripts")
-    what = "the schedule of a run, as `torusmem schedule` prints it, or any text of steps"
+    what = "the schedule of a run, as tools/schedule prints it, or any text of steps"
     parser.add_argument("schedule", metavar="SCHEDULE", help=what)
 
 
