@@ -204,7 +204,7 @@ fn adds_are_replied_once(rt: HostRuntime) -> Result<(), Fail> {
     for _ in 0..1000 {
         scripts.push_str("0 add 3 1\n1 add 3 1\n")?;
     }
-    for _ in 0..100 {
+    for _ in 0..25 {
         let mut report: Vec<u8> = Vec::new(rt.alloc());
         let answer = ran(&rt, BOX, &scripts, 4, MOST, &mut Piped::new(&mut report));
         let verdict = check_text(rt.alloc(), &report, &mut Sink::whole());
