@@ -1,5 +1,5 @@
 -- What C is told of a machine (this project's own format).
-use Rattle.std.specs.Prelude.{ℕ, List, length, Option, Some, None, option_and_then, slice_get}
+use Rattle.std.specs.Prelude.{◌≡◌, ℕ, List, length, Option, Some, None, option_and_then, slice_get}
 use Rattle.torus.specs.Shape.{tiles_of}
 use Rattle.machine_handle.specs.machine_laws.specs.Core.{Core, built_to, shown}
 use Rattle.core_row.specs.Row.{row_of}
@@ -9,6 +9,7 @@ use Rattle.torusmem_c.specs.declared.records.AnswerRecord.{AnswerRecord}
 use Rattle.torusmem_c.specs.declared.records.EntryRecord.{EntryRecord}
 use Rattle.torusmem_c.specs.Outcome.{outcome}
 use Rattle.torusmem_c.specs.Records.{answer_or_none, entry_or_none}
+use Rattle.torusmem_c.specs.Room.{put_over, put_outcome}
 use Rattle.torusmem_c.specs.Routes.{next_number}
 
 -- a number, or that there is none such
@@ -35,6 +36,12 @@ word_told address c = number_outcome (slice_get (shown c).memory address)
 -- the word at a place of the row
 abbrev pub row_told : ℕ → Core → Outcome
 row_told at c = number_outcome (slice_get (row_of (built_to c) c.state) at)
+
+-- the words of the whole row, put into a buffer, and nothing of the machine changes
+pub record PutsRow (before after : List ℕ) (old new : Core) (r : Outcome) : Type 0 where
+  pub same : new ≡ old
+  pub buffer : after ≡ put_over (row_of (built_to old) old.state) before
+  pub answer : r ≡ put_outcome (row_of (built_to old) old.state) before
 
 -- how many answers a processor has, and answer i of them
 abbrev pub answers_told : ℕ → Core → Outcome

@@ -1,5 +1,6 @@
 -- Steps and rounds, as C sees them.
 use Rattle.std.specs.Prelude.{◌≡◌, ℕ, ◌+◌, ◌≤◌, ◌↔◌, ◌++◌, [], ◌∷◌, List, Bool, false, IsTrue, Option, Some, None, is_some, length}
+use Rattle.std.specs.List.{filter_map}
 use Rattle.torus.specs.declared.step.Step.{Step}
 use Rattle.torus.specs.declared.step.Stepped.{Stepped}
 use Rattle.torus.specs.declared.step.Stepped.TheVariants.{Moved, Idle}
@@ -11,6 +12,8 @@ use Rattle.machine_handle.specs.machine_core.specs.Rounds.{rounds_of, NeedsRound
 use Rattle.machine_handle.specs.machine_laws.specs.core_progress.specs.Moves.{IsLive, moves_left}
 use Rattle.torusmem_c.specs.declared.outcome.Outcome.{Outcome}
 use Rattle.torusmem_c.specs.declared.outcome.Code.TheVariants as code
+use Rattle.torusmem_c.specs.declared.stepping.AttemptRecord.{AttemptRecord}
+use Rattle.torusmem_c.specs.Choices.{attempt_named}
 use Rattle.torusmem_c.specs.Outcome.{outcome, flag}
 use Rattle.torusmem_c.specs.Held.{Tells}
 
@@ -31,6 +34,18 @@ pub record MakesStep (attempt : Step) (old new : Core) (r : Outcome) : Type 0 wh
 abbrev pub Attempts : Option Step → Core → Core → Outcome → Type 0
 Attempts None old new r = (new ≡ old) × (r ≡ outcome code.Done 0)
 Attempts (Some attempt) old new r = MakesStep attempt old new r
+
+-- the steps that attempts name, in order; what names none is left out (this project's own format)
+abbrev pub steps_named : List AttemptRecord → List Step
+steps_named attempts = filter_map (λ it. attempt_named it.agent it.choice it.number) attempts
+
+-- the machine makes these steps, one after the other, and how many of them moved is answered; after any steps that led
+-- to the machine from a load they lead on
+pub record MakesSteps (steps : List Step) (old new : Core) (r : Outcome) : Type 0 where
+  pub state : new ≡ core_after old steps
+  pub answer : r ≡ outcome code.Done (moves_in (step (built_to old)) old.state steps)
+  pub left : new.moves_left + moves_in (step (built_to old)) old.state steps ≡ old.moves_left
+  pub law : (l : Load) (before : List Step) → IsAfter l old before → IsAfter l new (before ++ steps)
 
 -- whether the step that is named is enabled (this project's own format)
 abbrev pub is_enabled : Option Step → Core → Bool

@@ -1,10 +1,13 @@
 //! What there is to tell of the machine that a handle holds: nothing of it changes.
 
-ghost use Rattle.std.specs.Prelude.{◌≡◌};
+ghost use Rattle.std.specs.Prelude.{◌≡◌, None, length};
+ghost use Rattle.core_row.specs.Row.{row_of};
 ghost use Rattle.machine_handle.specs.Held.{held};
+ghost use Rattle.machine_handle.specs.machine_laws.specs.Core.{built_to};
+ghost use Rattle.torusmem_c.specs.Room.{put_over, put_outcome};
 ghost use Rattle.torusmem_c.specs.Held.{OfHeld, OnHeld, Tells};
 ghost use Rattle.torusmem_c.specs.Records.{no_answer, no_entry};
-ghost use Rattle.torusmem_c.specs.Shown.{answer_told, answers_told, entries_told, entry_told, next_told, number_outcome, row_told, tiles_told, word_told, words_told};
+ghost use Rattle.torusmem_c.specs.Shown.{PutsRow, answer_told, answers_told, entries_told, entry_told, next_told, number_outcome, row_told, tiles_told, word_told, words_told};
 ghost use Rattle.torusmem_c.specs.declared.outcome.Code.TheVariants as code;
 
 use crate::outcome::{Code, Outcome};
@@ -65,6 +68,46 @@ pub extern "C" fn torusmem_row(handle: &mut Handle, at: u32) -> Outcome
         Some(machine) => number_outcome(machine.row(at)),
         None => Outcome::empty(),
     }
+}
+
+/// Puts the whole row into a buffer, and answers how many words it has.
+#[unsafe(no_mangle)]
+pub extern "C" fn torusmem_rows(handle: &mut Handle, out: &mut [u64]) -> Outcome
+    ensures held { OnHeld (PutsRow out.old out.new) (held handle.old) (held handle.new) result }
+    ensures empty { held handle.old ≡ None → out.new ≡ out.old }
+{
+    match handle.machine() {
+        Some(machine) => put_row(machine, out),
+        None => Outcome::empty(),
+    }
+}
+
+/// Puts the words of the row at the front of a buffer, and answers how many they are; where the buffer
+/// is too short for all, it stays as it was.
+fn put_row(machine: &Machine, out: &mut [u64]) -> Outcome
+    ensures buffer { out.new ≡ put_over (row_of (built_to machine.now) machine.now.state) out.old }
+    ensures value { result ≡ put_outcome (row_of (built_to machine.now) machine.now.state) out.old }
+{
+    let count = row_length(machine);
+    if count as usize > out.len() {
+        return Outcome::of(Code::Short, u64::from(count));
+    }
+    for at in 0..count {
+        out[at as usize] = machine.row(at).unwrap_or(0);
+    }
+    Outcome::done(u64::from(count))
+}
+
+/// How many words the row has: the first place at which it has none.
+fn row_length(machine: &Machine) -> u32
+    ensures { result ≡ length (row_of (built_to machine.now) machine.now.state) }
+{
+    machine.reached();
+    let mut count = 0;
+    while machine.row(count).is_some() {
+        count += 1;
+    }
+    count
 }
 
 /// How many answers a processor has.

@@ -4,10 +4,11 @@ ghost use Rattle.std.specs.Prelude.{◌≡◌};
 ghost use Rattle.machine_handle.specs.Held.{held};
 ghost use Rattle.torusmem_c.specs.Choices.{attempt_named};
 ghost use Rattle.torusmem_c.specs.Held.{OnHeld};
-ghost use Rattle.torusmem_c.specs.Steps.{Attempts, Finishes, MakesRound, TellsEnabled, TellsFinished, TellsMovesLeft, is_enabled, moved};
+ghost use Rattle.torusmem_c.specs.Outcome.{outcome};
+ghost use Rattle.torusmem_c.specs.Steps.{Attempts, Finishes, MakesRound, MakesSteps, TellsEnabled, TellsFinished, TellsMovesLeft, is_enabled, moved, steps_named};
 
 use crate::choice::attempt_named;
-use crate::outcome::Outcome;
+use crate::outcome::{Code, Outcome};
 use machine_handle::Handle;
 use machine_report::Machine;
 use torus::{Step, Stepped};
@@ -48,6 +49,42 @@ fn moved(stepped: Stepped) -> u64
         Stepped::Moved => 1,
         Stepped::Idle => 0,
     }
+}
+
+/// An attempt as C writes it: an agent, the number of a choice, and that of an input or output where the
+/// choice needs one.
+#[repr(C)]
+#[derive(Clone, Copy)]
+pub struct AttemptRecord {
+    pub agent: u32,
+    pub choice: u32,
+    pub number: u32,
+}
+
+/// Attempts choices of agents, one after the other, and answers how many of them moved.
+#[unsafe(no_mangle)]
+pub extern "C" fn torusmem_run(handle: &mut Handle, attempts: &[AttemptRecord]) -> Outcome
+    ensures { OnHeld (MakesSteps (steps_named attempts.now)) (held handle.old) (held handle.new) result }
+{
+    match handle.machine() {
+        Some(machine) => Outcome::done(made_all(machine, attempts)),
+        None => Outcome::empty(),
+    }
+}
+
+/// Makes the steps that are named, one after the other, and answers how many of them moved: each move
+/// takes one from the moves that are left.
+fn made_all(machine: &mut Machine, attempts: &[AttemptRecord]) -> u64
+    ensures { MakesSteps (steps_named attempts.now) machine.old machine.new (outcome Code.Done result) }
+{
+    machine.reached();
+    let left = machine.moves_left();
+    for it in attempts {
+        if let Some(attempt) = attempt_named(it.agent, it.choice, it.number) {
+            let _ = machine.step(attempt);
+        }
+    }
+    left - machine.moves_left()
 }
 
 /// Whether one choice of one agent is enabled: 1 or 0.

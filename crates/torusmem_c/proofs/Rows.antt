@@ -1,0 +1,55 @@
+-- The row of a machine, word by word.
+use Rattle.std.proofs.Common.{◌≡◌, ℕ, zero, suc, ◌+◌, ◌*◌, ◌<◌, ◌≤◌, true, false, List, [], ◌∷◌, ◌++◌, length, take, drop, set, slice_get, Option, Some, None, is_some, refl, sym, ◌∙◌, ap, subst, arith}
+use Rattle.std.proofs.Math.Nat.{mul-le-mul}
+use Rattle.std.specs.Option.{unwrap_or}
+use Rattle.std.proofs.lemmas.List.{length-set}
+use Rattle.torus.specs.Shape.{Shape, dims_of, tiles_of}
+use Rattle.torus.specs.declared.step.Step.{Step}
+use Rattle.channel_number.specs.Order.{channel_count}
+use Rattle.core_row.specs.Row.{row_of}
+use Rattle.machine_handle.specs.machine_core.specs.core_laws.specs.Core.{Load}
+use Rattle.machine_handle.specs.machine_laws.specs.Core.{Core, IsAfter, built_to}
+use Rattle.machine_handle.specs.machine_core.proofs.ShownRows.{shows_row}
+
+-- a row has at most as many words as 1792 channels of 8 places, 65536 addresses and the done word
+pub row_small : (l : Load) (c : Core) (steps : List Step) → IsAfter l c steps → length (row_of (built_to c) c.state) ≤ 79873
+row_small l c steps h =
+    let size = (shows_row l c steps h).size in
+    let tiles : tiles_of c.shape ≤ 64 = subst (λ (s : Shape). tiles_of s ≤ 64) (sym h.shape) h.accepted.shape.tiles in
+    let dims : dims_of c.shape ≤ 3 = subst (λ (s : Shape). dims_of s ≤ 3) (sym h.shape) h.accepted.shape.dims_high in
+    let ports : 8 * dims_of c.shape + 4 ≤ 28 = omega (arith, dims) in
+    let channels : channel_count c.shape ≤ 64 * 28 = mul-le-mul tiles ports in
+    let depth : c.depth ≤ 8 = subst (λ (n : ℕ). n ≤ 8) (sym h.depth) h.accepted.depth.1 in
+    let places : channel_count c.shape * c.depth ≤ (64 * 28) * 8 = mul-le-mul channels depth in
+    let words : length c.opening ≤ 65536 = subst (λ (xs : List ℕ). length xs ≤ 65536) (sym h.opening) h.accepted.size.1 in
+    omega (arith, size, places, words)
+
+-- where there is a word the row goes on, and where there is none it ends
+pub goes_on : (row : List ℕ) (i : ℕ) → is_some (slice_get row i) ≡ true → i < length row
+goes_on [] i h = absurd (cc)
+goes_on (x ∷ row) zero h = omega arith
+goes_on (x ∷ row) (suc i) h = let rest : i < length row = goes_on row i h in omega (arith, rest)
+
+pub ends : (row : List ℕ) (i : ℕ) → i ≤ length row → is_some (slice_get row i) ≡ false → i ≡ length row
+ends [] i low h = omega (arith, low)
+ends (x ∷ row) zero low h = absurd (cc)
+ends (x ∷ row) (suc i) low h = let rest : i ≡ length row = ends row i (omega (arith, low)) h in omega (arith, rest)
+
+-- a word more of the row over a buffer
+pub word_more : (row out : List ℕ) (i : ℕ) → i < length row → i < length out
+    → set (take i row ++ drop i out) i (unwrap_or (slice_get row i) 0) ≡ take (suc i) row ++ drop (suc i) out
+word_more [] out i there low = absurd (omega (arith, there))
+word_more (x ∷ row) [] i there low = absurd (omega (arith, low))
+word_more (x ∷ row) (y ∷ out) zero there low = refl
+word_more (x ∷ row) (y ∷ out) (suc i) there low = ap (λ (zs : List ℕ). x ∷ zs) (word_more row out i (omega (arith, there)) (omega (arith, low)))
+
+-- a buffer into which a word more is written
+pub puts_more : (row out now : List ℕ) (i word : ℕ) → i < length row → length now ≡ length out → i < length now
+    → now ≡ take i row ++ drop i out → word ≡ unwrap_or (slice_get row i) 0
+    → (length (set now i word) ≡ length out) × (set now i word ≡ take (i + 1) row ++ drop (i + 1) out)
+puts_more row out now i word there size low is read = (
+  length-set now i word ∙ size,
+  ap (λ (n : ℕ). set now i n) read
+      ∙ (ap (λ (xs : List ℕ). set xs i (unwrap_or (slice_get row i) 0)) is ∙ subst (λ (n : ℕ). set (take i row ++ drop i out) i (unwrap_or (slice_get row i) 0) ≡ take n row ++ drop n out) (let next : suc i ≡ i + 1 = omega arith in next)
+      (word_more row out i there (omega (arith, size, low)))),
+)
