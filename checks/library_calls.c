@@ -4,8 +4,9 @@
      library_calls codes MACHINE SCRIPT REPORT     what calls answer of a machine that is empty or full, of what isn't
                                                    there and of short buffers; the texts are those of examples/
      library_calls memory MACHINE SCRIPT REPORT    the same run with the n-th request for memory refused, for each n
-     library_calls steps MACHINE SCRIPT            a run by drawn steps, by rounds and at once: once it is loaded, no call
-                                                   asks for memory but that of a report and its check
+     library_calls steps MACHINE SCRIPT            a run by drawn steps, one by one and by lists, by rounds and at once:
+                                                   once it is loaded, no call asks for memory but that of a report and
+                                                   its check
 
    REPORT is the report of the finished run. It is linked with -Wl,--wrap=malloc,--wrap=realloc,--wrap=free. */
 #include <inttypes.h>
@@ -14,7 +15,7 @@
 #include <string.h>
 #include "torusmem.h"
 
-enum { MOST_BYTES = 1 << 20 };
+enum { MOST_BYTES = 1 << 20, MOST_ROW = 79873 + 1, DRAWS = 10000 };
 
 typedef struct text {
   uint8_t bytes[MOST_BYTES];
@@ -105,11 +106,14 @@ static bool is_new(const torusmem_machine *m) {
 
 static void every_call_says_empty(torusmem_machine *m) {
   uint8_t byte = 7;
+  uint64_t word = 7;
+  torusmem_attempt attempt = { 0, TORUSMEM_SEND, 0 };
   torusmem_channel channel = { 7, 7, 7, 7, 7, 7 };
   torusmem_answer answer = torusmem_answer_at(m, 0, 0);
   torusmem_entry entry = torusmem_entry_at(m, 0, 0);
   MUST(says(torusmem_step(m, 0, TORUSMEM_SEND, 0), TORUSMEM_EMPTY, 0));
   MUST(says(torusmem_enabled(m, 0, TORUSMEM_SEND, 0), TORUSMEM_EMPTY, 0));
+  MUST(says(torusmem_run(m, &attempt, 1), TORUSMEM_EMPTY, 0) && says(torusmem_run(m, NULL, 0), TORUSMEM_EMPTY, 0));
   MUST(says(torusmem_round(m), TORUSMEM_EMPTY, 0));
   MUST(says(torusmem_finish(m), TORUSMEM_EMPTY, 0));
   MUST(says(torusmem_finished(m), TORUSMEM_EMPTY, 0));
@@ -118,6 +122,7 @@ static void every_call_says_empty(torusmem_machine *m) {
   MUST(says(torusmem_words(m), TORUSMEM_EMPTY, 0));
   MUST(says(torusmem_word(m, 99), TORUSMEM_EMPTY, 0));
   MUST(says(torusmem_row(m, 0), TORUSMEM_EMPTY, 0));
+  MUST(says(torusmem_rows(m, &word, 1), TORUSMEM_EMPTY, 0) && word == 7);
   MUST(says(torusmem_answers(m, 0), TORUSMEM_EMPTY, 0));
   MUST(says(torusmem_entries(m, 0), TORUSMEM_EMPTY, 0));
   MUST(says(torusmem_report(m, &byte, 1), TORUSMEM_EMPTY, 0) && byte == 7);
@@ -172,6 +177,8 @@ static void texts_that_meet(torusmem_machine *m) {
 /* Of two tiles, eight words, channels of four flits: see docs/FORMATS.md. */
 static void what_is_not_there(torusmem_machine *m) {
   torusmem_channel route[14];
+  torusmem_attempt none[] = { { 6, TORUSMEM_SEND, 0 }, { 0, TORUSMEM_LOOK + 1, 0 }, { 0, UINT32_MAX, 0 },
+                              { 1, TORUSMEM_TAKE_FROM, UINT32_MAX } };
   MUST(says(torusmem_tiles(m), TORUSMEM_OK, 2) && says(torusmem_words(m), TORUSMEM_OK, 8));
   MUST(says(torusmem_word(m, 7), TORUSMEM_OK, 0) && says(torusmem_word(m, 8), TORUSMEM_NONE, 0));
   MUST(says(torusmem_word(m, UINT32_MAX), TORUSMEM_NONE, 0));
@@ -190,6 +197,7 @@ static void what_is_not_there(torusmem_machine *m) {
   MUST(says(torusmem_step(m, 0, TORUSMEM_LOOK + 1, 0), TORUSMEM_OK, 0));
   MUST(says(torusmem_step(m, 0, UINT32_MAX, 0), TORUSMEM_OK, 0));
   MUST(says(torusmem_step(m, 1, TORUSMEM_TAKE_FROM, UINT32_MAX), TORUSMEM_OK, 0));
+  MUST(says(torusmem_run(m, none, 4), TORUSMEM_OK, 0) && says(torusmem_run(m, NULL, 0), TORUSMEM_OK, 0));
   MUST(says(torusmem_enabled(m, 0, UINT32_MAX, 0), TORUSMEM_OK, 0));
   MUST(says(torusmem_enabled(m, 0, TORUSMEM_SEND, 99), TORUSMEM_OK, 1));
 }
@@ -319,12 +327,27 @@ static uint64_t uses_of_memory(void) {
   return requests + given_back;
 }
 
+/* The row in one call, beside a call for each word. */
+static void look_at_the_row(torusmem_machine *m) {
+  static uint64_t row[MOST_ROW];
+  uint64_t length = torusmem_rows(m, NULL, 0).value;
+  uint32_t at;
+  MUST(length > 0 && length < MOST_ROW);
+  for (at = 0; at < MOST_ROW; at++) row[at] = 7;
+  MUST(says(torusmem_rows(m, row, (size_t)length - 1), TORUSMEM_SHORT, length));
+  for (at = 0; at < MOST_ROW; at++) MUST(row[at] == 7);
+  MUST(says(torusmem_rows(m, row, MOST_ROW), TORUSMEM_OK, length));
+  for (at = 0; at < length; at++) MUST(says(torusmem_row(m, at), TORUSMEM_OK, row[at]));
+  for (; at < MOST_ROW; at++) MUST(row[at] == 7);
+  MUST(says(torusmem_rows(m, row, (size_t)length), TORUSMEM_OK, length));
+}
+
 /* Looks at all that a machine tells. */
 static void look(torusmem_machine *m) {
   uint32_t tiles = (uint32_t)torusmem_tiles(m).value, words = (uint32_t)torusmem_words(m).value, at;
   torusmem_channel route[10];
   for (at = 0; at < words; at++) MUST(torusmem_word(m, at).code == TORUSMEM_OK);
-  for (at = 0; torusmem_row(m, at).code == TORUSMEM_OK;) at++;
+  look_at_the_row(m);
   for (uint32_t tile = 0; tile < tiles; tile++) {
     uint64_t answers = torusmem_answers(m, tile).value, entries = torusmem_entries(m, tile).value;
     for (at = 0; at <= answers; at++) MUST((torusmem_answer_at(m, tile, at).code == TORUSMEM_OK) == (at < answers));
@@ -345,22 +368,40 @@ static void report_keeps_nothing(torusmem_machine *m) {
   MUST(torusmem_report(m, written.bytes, 0).code == TORUSMEM_SHORT && live == before);
 }
 
-/* A run in three ways: 10000 drawn steps, then rounds to the end; and all rounds at once. */
+/* The same drawn steps by lists of a hundred: as many moves, and the same report. */
+static void lists(const torusmem_attempt *made, uint64_t moves, const text *report) {
+  torusmem_machine m = TORUSMEM_MACHINE_INIT;
+  uint64_t listed = 0, before;
+  MUST(says(load(&m), TORUSMEM_OK, 0));
+  before = uses_of_memory();
+  for (int draw = 0; draw < DRAWS; draw += 100) listed += torusmem_run(&m, made + draw, 100).value;
+  MUST(listed == moves && uses_of_memory() == before);
+  MUST(says(torusmem_report(&m, written.bytes, MOST_BYTES), TORUSMEM_OK, report->length));
+  MUST(memcmp(written.bytes, report->bytes, report->length) == 0);
+  torusmem_free(&m);
+  MUST(!m.full && live == 0);
+}
+
+/* A run in four ways: drawn steps, then rounds to the end; the same steps by lists; and all rounds at once. */
 static void steps(void) {
+  static torusmem_attempt made[DRAWS];
+  static text report;
   torusmem_machine m = TORUSMEM_MACHINE_INIT;
   uint64_t state = 1, before, moves = 0;
   MUST(says(load(&m), TORUSMEM_OK, 0));
   uint32_t agents = 3 * (uint32_t)torusmem_tiles(&m).value;
   before = uses_of_memory();
-  for (int draw = 0; draw < 10000; draw++) {
+  for (int draw = 0; draw < DRAWS; draw++) {
     uint32_t agent = drawn(&state, agents), choice = drawn(&state, TORUSMEM_LOOK + 1), number = drawn(&state, 26);
     uint64_t enabled = torusmem_enabled(&m, agent, choice, number).value;
     MUST(says(torusmem_step(&m, agent, choice, number), TORUSMEM_OK, enabled));
+    made[draw] = (torusmem_attempt){ agent, choice, number };
     moves += enabled;
     if (draw % 1000 == 0) look(&m);
   }
   MUST(moves > 0 && uses_of_memory() == before);
   report_keeps_nothing(&m);
+  report.length = (size_t)torusmem_report(&m, report.bytes, MOST_BYTES).value;
   before = uses_of_memory();
   while (torusmem_finished(&m).value == 0 && torusmem_moves_left(&m).value > 0) torusmem_round(&m);
   look(&m);
@@ -368,6 +409,7 @@ static void steps(void) {
   report_keeps_nothing(&m);
   torusmem_free(&m);
   MUST(!m.full && live == 0);
+  lists(made, moves, &report);
   MUST(says(load(&m), TORUSMEM_OK, 0));
   before = uses_of_memory();
   MUST(torusmem_finish(&m).code == TORUSMEM_OK && uses_of_memory() == before);

@@ -15,8 +15,8 @@
    - Each `m` points to a torusmem_machine that was begun by TORUSMEM_MACHINE_INIT and since then changed by calls of
      this library alone. Its bytes may move, if they are not used in the old place again; they are never doubled.
    - Each pointer that comes with a length points to that many readable bytes or items. Where the length is 0 it may be
-     any, also null. Texts are only read, and may overlap or be one and the same; what `out` points to is writable.
-     Neither a text nor `out` has a byte of the machine.
+     any, also null. Texts and attempts are only read, and may overlap or be one and the same; what `out` points to is
+     writable. None of them has a byte of the machine.
    - One call at a time for each machine, and all calls for it from one thread. Machines share nothing.
    - malloc, realloc and free, which torusmem_heap.c calls, are of one allocator and align each block to every power of
      two up to 16 that divides its size. No call comes from a signal handler, nor in the child that a process with
@@ -110,6 +110,14 @@ void torusmem_free(torusmem_machine *m);
    and ports"); not looked at for other choices. */
 torusmem_outcome torusmem_step(torusmem_machine *m, uint32_t agent, uint32_t choice, uint32_t number);
 
+/* An attempt: what torusmem_step takes. */
+typedef struct torusmem_attempt {
+  uint32_t agent, choice, number;
+} torusmem_attempt;
+
+/* Makes attempts, one after the other, each as a call of torusmem_step does. OK, value: how many of them moved; EMPTY. */
+torusmem_outcome torusmem_run(torusmem_machine *m, const torusmem_attempt *attempts, size_t attempts_length);
+
 /* Whether torusmem_step would move now. OK, value 1 or 0; EMPTY. */
 torusmem_outcome torusmem_enabled(torusmem_machine *m, uint32_t agent, uint32_t choice, uint32_t number);
 
@@ -135,6 +143,11 @@ torusmem_outcome torusmem_word(torusmem_machine *m, uint32_t address);
 /* The word at a place of the machine's row: the places of the channels, then the words of the memory by address, then
    the done word. OK, value: the word; NONE: the row is not so long; EMPTY. */
 torusmem_outcome torusmem_row(torusmem_machine *m, uint32_t at);
+
+/* All words of the row in one call, each as torusmem_row tells it.
+   OK: they are the first `value` of out, at most 79873, and those behind them are as they were.
+   SHORT: value is how many there are, and out is as it was; so is it on EMPTY. */
+torusmem_outcome torusmem_rows(torusmem_machine *m, uint64_t *out, size_t out_length);
 
 /* An answer of a processor. */
 typedef struct torusmem_answer {
@@ -200,8 +213,8 @@ torusmem_outcome torusmem_route(torusmem_machine *m, uint32_t src, uint32_t dst,
    ports"). OK, value: the number of the router's output; NONE: no such tile or input; EMPTY. */
 torusmem_outcome torusmem_next(torusmem_machine *m, uint32_t at, uint32_t input, uint32_t dst);
 
-/* The library's own calls take no null pointer. So a C program that calls one of the four below has a call in front of
-   it, by which a pointer with the length 0 becomes one to a byte, or a channel, that is not looked at. */
+/* The library's own calls take no null pointer. So a C program that calls one of the six below has a call in front of
+   it, by which a pointer with the length 0 becomes one to an item that is not looked at. */
 static inline const uint8_t *torusmem_text_at(const uint8_t *at, size_t length) {
   static const uint8_t none = 0;
   return length > 0 ? at : &none;
@@ -213,6 +226,19 @@ static inline torusmem_outcome torusmem_load_texts(torusmem_machine *m, const ui
                        torusmem_text_at(scripts, scripts_length), scripts_length);
 }
 #define torusmem_load torusmem_load_texts
+
+static inline torusmem_outcome torusmem_run_all(torusmem_machine *m, const torusmem_attempt *attempts,
+                                                size_t attempts_length) {
+  static const torusmem_attempt none = { 0, 0, 0 };
+  return torusmem_run(m, attempts_length > 0 ? attempts : &none, attempts_length);
+}
+#define torusmem_run torusmem_run_all
+
+static inline torusmem_outcome torusmem_rows_into(torusmem_machine *m, uint64_t *out, size_t out_length) {
+  uint64_t none = 0;
+  return torusmem_rows(m, out_length > 0 ? out : &none, out_length);
+}
+#define torusmem_rows torusmem_rows_into
 
 static inline torusmem_outcome torusmem_report_into(torusmem_machine *m, uint8_t *out, size_t out_length) {
   uint8_t none = 0;

@@ -58,6 +58,15 @@ pub const TORUSMEM_EJECTION: u32 = 2;
 pub const TORUSMEM_REQUEST: u32 = 0;
 pub const TORUSMEM_REPLY: u32 = 1;
 
+/// An attempt: what `torusmem_step` takes.
+#[repr(C)]
+#[derive(Clone, Copy, Debug, Default)]
+pub struct torusmem_attempt {
+    pub agent: u32,
+    pub choice: u32,
+    pub number: u32,
+}
+
 /// An answer of a processor.
 #[repr(C)]
 #[derive(Clone, Copy, Debug)]
@@ -110,6 +119,11 @@ extern "C" {
     ) -> torusmem_outcome;
     pub fn torusmem_free(m: *mut torusmem_machine);
     pub fn torusmem_step(m: *mut torusmem_machine, agent: u32, choice: u32, number: u32) -> torusmem_outcome;
+    pub fn torusmem_run(
+        m: *mut torusmem_machine,
+        attempts: *const torusmem_attempt,
+        attempts_length: usize,
+    ) -> torusmem_outcome;
     pub fn torusmem_enabled(m: *mut torusmem_machine, agent: u32, choice: u32, number: u32) -> torusmem_outcome;
     pub fn torusmem_round(m: *mut torusmem_machine) -> torusmem_outcome;
     pub fn torusmem_finish(m: *mut torusmem_machine) -> torusmem_outcome;
@@ -119,6 +133,7 @@ extern "C" {
     pub fn torusmem_words(m: *mut torusmem_machine) -> torusmem_outcome;
     pub fn torusmem_word(m: *mut torusmem_machine, address: u32) -> torusmem_outcome;
     pub fn torusmem_row(m: *mut torusmem_machine, at: u32) -> torusmem_outcome;
+    pub fn torusmem_rows(m: *mut torusmem_machine, out: *mut u64, out_length: usize) -> torusmem_outcome;
     pub fn torusmem_answers(m: *mut torusmem_machine, processor: u32) -> torusmem_outcome;
     pub fn torusmem_answer_at(m: *mut torusmem_machine, processor: u32, i: u32) -> torusmem_answer;
     pub fn torusmem_entries(m: *mut torusmem_machine, bank: u32) -> torusmem_outcome;

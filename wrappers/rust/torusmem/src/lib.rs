@@ -178,6 +178,26 @@ impl Machine {
         self.raw.step(agent, choice, number).value == 1
     }
 
+    /// Makes attempts, one after the other, and answers how many of them moved. One call makes as many as fit into a
+    /// room of 256.
+    pub fn run(&mut self, attempts: impl IntoIterator<Item = (u32, Choice)>) -> u64 {
+        let mut attempts = attempts.into_iter();
+        let mut room = [sys::torusmem_attempt::default(); 256];
+        let mut moved = 0;
+        loop {
+            let mut count = 0;
+            for (place, (agent, choice)) in room.iter_mut().zip(&mut attempts) {
+                let (choice, number) = numbered(choice);
+                *place = sys::torusmem_attempt { agent, choice, number };
+                count += 1;
+            }
+            if count == 0 {
+                return moved;
+            }
+            moved += self.raw.run(&room[..count]).value;
+        }
+    }
+
     /// Whether such an attempt would move now.
     pub fn enabled(&mut self, agent: u32, choice: Choice) -> bool {
         let (choice, number) = numbered(choice);
@@ -223,6 +243,13 @@ impl Machine {
     /// the processors that have reported.
     pub fn row(&mut self, at: u32) -> Option<u64> {
         found(self.raw.row(at))
+    }
+
+    /// All words of the row.
+    pub fn rows(&mut self) -> Vec<u64> {
+        let mut row = vec![0; self.raw.rows(&mut []).value as usize];
+        self.raw.rows(&mut row);
+        row
     }
 
     /// The answers that a processor has, in the order of answering.

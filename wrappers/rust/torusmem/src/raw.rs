@@ -19,6 +19,16 @@ fn text_at(text: &[u8]) -> *const u8 {
     }
 }
 
+/// The pointer of a list of attempts; of an empty one that of an attempt.
+fn attempts_at(attempts: &[torusmem_attempt]) -> *const torusmem_attempt {
+    static NONE: torusmem_attempt = torusmem_attempt { agent: 0, choice: 0, number: 0 };
+    if attempts.is_empty() {
+        &NONE
+    } else {
+        attempts.as_ptr()
+    }
+}
+
 /// The pointer of a buffer; of an empty one that of an item in its place.
 fn buffer_at<T>(out: &mut [T], none: &mut T) -> *mut T {
     if out.is_empty() {
@@ -71,6 +81,16 @@ impl Raw {
         entries = torusmem_entries(bank) -> torusmem_outcome;
         entry_at = torusmem_entry_at(bank, i) -> torusmem_entry;
         next = torusmem_next(at, input, dst) -> torusmem_outcome;
+    }
+
+    pub fn run(&mut self, attempts: &[torusmem_attempt]) -> torusmem_outcome {
+        // SAFETY: the machine is this one's alone; the slice has as many attempts as it says, and is only read.
+        unsafe { torusmem_run(&mut self.0, attempts_at(attempts), attempts.len()) }
+    }
+
+    pub fn rows(&mut self, out: &mut [u64]) -> torusmem_outcome {
+        // SAFETY: the machine is this one's alone, and so is the slice, which has as many words as it says.
+        unsafe { torusmem_rows(&mut self.0, buffer_at(out, &mut 0), out.len()) }
     }
 
     pub fn report(&mut self, out: &mut [u8]) -> torusmem_outcome {

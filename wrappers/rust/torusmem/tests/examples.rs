@@ -57,6 +57,23 @@ fn the_first_run_in_rounds() {
 }
 
 #[test]
+fn the_flag_by_lists_of_steps_and_one_by_one() {
+    let made = steps("examples/flag/steps.txt");
+    let flag = || loaded("examples/flag/machine.txt", "examples/flag/script.txt");
+    let (mut by_list, mut one_by_one) = (flag(), flag());
+    let mut moved = 0;
+    for part in made.chunks(300) {
+        moved += by_list.run(part.iter().copied());
+        part.iter().for_each(|&(agent, choice)| assert!(one_by_one.step(agent, choice)));
+        let each = (0..).map_while(|at| one_by_one.row(at)).collect::<Vec<_>>();
+        assert_eq!(by_list.rows(), each);
+    }
+    assert_eq!(moved, made.len() as u64);
+    assert_eq!(by_list.report().unwrap(), read("examples/flag/report.txt"));
+    assert_eq!((by_list.run([]), by_list.run([(0, Choice::Send), (99, Choice::Look)])), (0, 0));
+}
+
+#[test]
 fn the_first_run_round_by_round() {
     let mut machine = first();
     (0..11).for_each(|_| machine.round());
