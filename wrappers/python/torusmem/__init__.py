@@ -23,10 +23,11 @@ from __future__ import annotations
 
 import os
 import threading
-from ctypes import byref, create_string_buffer
+from array import array
+from ctypes import byref, c_uint64, create_string_buffer
 from enum import IntEnum
 from operator import index as _whole
-from typing import Any, Iterable, List, NamedTuple, NoReturn, Optional, Tuple, Union
+from typing import Any, Iterable, List, NamedTuple, NoReturn, Optional, Sequence, Tuple, Union
 
 from . import _library
 from ._library import LibraryNotFound
@@ -45,6 +46,7 @@ __all__ = [
     "Machine",
     "Operation",
     "REASONS",
+    "Steps",
     "TextFault",
     "WrongThread",
     "check",
@@ -203,6 +205,29 @@ class Line(NamedTuple):
     words: Tuple[int, ...]
 
 
+class Steps:
+    """Steps, (agent, choice) or (agent, choice, number) each, as Machine.run takes them: made ready once, for many runs
+    of any machines."""
+
+    def __init__(self, steps: Iterable[Sequence[int]]) -> None:
+        made: List[int] = []
+        for step in steps:
+            if not 2 <= len(step) <= 3:
+                raise ValueError(f"a step is an agent, a choice and perhaps a number, not {step!r}")
+            made.extend(step)
+            if len(step) == 2:
+                made.append(0)
+        try:
+            words = array("I", made)
+        except (OverflowError, TypeError):
+            words = array("I", [_number(it, "an agent, a choice and a number") for it in made])
+        self._length = len(made) // 3
+        self._attempts = (_library.Attempt * self._length).from_buffer_copy(words)
+
+    def __len__(self) -> int:
+        return self._length
+
+
 _VALUES = {Operation.LOAD: 0, Operation.CAS: 2}
 _local = threading.local()
 
@@ -265,6 +290,7 @@ class Machine:
         self._step = self._calls.step
         self._owner = _thread()
         self._held = _library.Held(False, None)
+        self._row: Any = None  # room for the row, once it was asked for
         self._at = byref(self._held)
         said = self._calls.load(self._at, machine, len(machine), scripts, len(scripts))
         if said.code == _library.OK:
@@ -319,10 +345,11 @@ class Machine:
         words = _number(agent, "agent"), _number(choice, "choice"), _number(number, "number")
         return self._value(self._calls.enabled(self._here(), *words)) == 1
 
-    def run(self, steps: Iterable[Tuple[int, ...]]) -> int:
-        """Makes these steps, (agent, choice) or (agent, choice, number) each; how many of them moved."""
-        step = self.step
-        return sum(step(*it) for it in steps)
+    def run(self, steps: Union[Steps, Iterable[Sequence[int]]]) -> int:
+        """Makes these steps, (agent, choice) or (agent, choice, number) each, in one call; how many of them moved. What is
+        made again and again is best made ready as Steps. Such a call ends, and can't be interrupted before."""
+        made = steps if isinstance(steps, Steps) else Steps(steps)
+        return self._value(self._calls.run(self._here(), made._attempts, len(made)))
 
     def round(self) -> None:
         """Attempts each choice of each agent once."""
@@ -356,20 +383,20 @@ class Machine:
 
     def words(self) -> List[int]:
         """All words of the memory, by address."""
-        at, word = self._here(), self._calls.word
-        return [word(at, address).value for address in range(self._value(self._calls.words(at)))]
+        count = self._value(self._calls.words(self._here()))
+        return self.row()[-count - 1 : -1]
 
     def row(self) -> List[int]:
         """The row: the places of all channels in channel order, the words of the memory, and last the count of the
-        processors that have reported. A call of the library for each word."""
-        at, word = self._here(), self._calls.row
-        self._value(word(at, 0))
-        made = []
-        while True:
-            said = word(at, len(made))
-            if said.code:
-                return made
-            made.append(said.value)
+        processors that have reported."""
+        at = self._here()
+        if self._row is None:
+            said = self._calls.rows(at, (c_uint64 * 1)(), 0)
+            if said.code != _library.SHORT:
+                self._refuse(said.code, "row")
+            self._row = (c_uint64 * said.value)()
+        self._value(self._calls.rows(at, self._row, len(self._row)))
+        return list(self._row)
 
     def channels(self) -> List[Line]:
         """All channels in channel order, with the words at their places now."""
@@ -383,23 +410,23 @@ class Machine:
         cut = [tuple(row[depth * it : depth * (it + 1)]) for it in range(tiles * each)]
         return [Line(it // each, it % each, words_now) for it, words_now in enumerate(cut)]
 
-    def answers(self, processor: int) -> List[Answer]:
-        """The answers of a processor (by its tile), in the order of answering."""
+    def answers(self, processor: int, first: int = 0) -> List[Answer]:
+        """The answers of a processor (by its tile), in the order of answering; those from number `first` on."""
         at, processor = self._here(), _number(processor, "processor")
         count = self._value(self._calls.answers(at, processor), f"processor {processor}")
         made = []
-        for number in range(count):
+        for number in range(_number(first, "first"), count):
             raw = self._calls.answer_at(at, processor, number)
             operation, old = Operation(raw.operation), raw.old if raw.has_old else None
             made.append(Answer(raw.index, operation, _values(raw, operation), raw.bank, raw.place, old))
         return made
 
-    def entries(self, bank: int) -> List[Entry]:
-        """The services of a bank (by its tile), in their order."""
+    def entries(self, bank: int, first: int = 0) -> List[Entry]:
+        """The services of a bank (by its tile), in their order; those from number `first` on."""
         at, bank = self._here(), _number(bank, "bank")
         count = self._value(self._calls.entries(at, bank), f"bank {bank}")
         made = []
-        for number in range(count):
+        for number in range(_number(first, "first"), count):
             raw = self._calls.entry_at(at, bank, number)
             operation, old = Operation(raw.operation), raw.old if raw.has_old else None
             made.append(Entry(raw.source, raw.tag, raw.address, operation, _values(raw, operation), old))
@@ -438,6 +465,7 @@ class Machine:
     def close(self) -> None:
         """Gives its memory back. A second time nothing happens."""
         self._calls.free(self._here())
+        self._row = None
 
     def __enter__(self) -> Machine:
         return self

@@ -42,6 +42,12 @@ class RawEntry(Structure):
     ]
 
 
+class Attempt(Structure):
+    """An attempt: what step takes."""
+
+    _fields_ = [(it, c_uint32) for it in ("agent", "choice", "number")]
+
+
 class RawChannel(Structure):
     _fields_ = [(it, c_uint32) for it in ("kind", "tile", "dim", "minus", "bit", "number")]
 
@@ -52,6 +58,7 @@ CALLS = {
     "load": (Outcome, [_M, c_char_p, c_size_t, c_char_p, c_size_t]),
     "free": (None, [_M]),
     "step": (Outcome, [_M, c_uint32, c_uint32, c_uint32]),
+    "run": (Outcome, [_M, POINTER(Attempt), c_size_t]),
     "enabled": (Outcome, [_M, c_uint32, c_uint32, c_uint32]),
     "round": (Outcome, [_M]),
     "finish": (Outcome, [_M]),
@@ -61,6 +68,7 @@ CALLS = {
     "words": (Outcome, [_M]),
     "word": (Outcome, [_M, c_uint32]),
     "row": (Outcome, [_M, c_uint32]),
+    "rows": (Outcome, [_M, POINTER(c_uint64), c_size_t]),
     "answers": (Outcome, [_M, c_uint32]),
     "answer_at": (RawAnswer, [_M, c_uint32, c_uint32]),
     "entries": (Outcome, [_M, c_uint32]),
