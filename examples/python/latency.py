@@ -19,6 +19,7 @@ from torusmem import Choice, Machine, Steps
 
 WORDS, DEPTH, TAGS = 4096, 4, 8
 WARM_UP, MEASURED, MOST_CYCLES = 300, 600, 4000
+SATURATED = 100  # cycles: the queues grow as long as the run goes on, and the curve ends
 LOADS = (0.01, 0.02, 0.04, 0.06, 0.08, 0.1, 0.12, 0.14, 0.16, 0.2)
 
 
@@ -107,6 +108,8 @@ def main():
                 break
             curves[name].append((load, latency))
             print(f"{name:8} {load:5.3f}  {latency:7.2f}")
+            if latency > SATURATED:
+                break
     draw(curves, given.out)
 
 
