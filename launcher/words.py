@@ -14,15 +14,17 @@ HERE = os.path.dirname(os.path.realpath(__file__))
 VERSION = "torusmem 0.1.0\n"
 # The positional words of each command, and its options: the limits of a number, or None for a flag.
 COMMANDS: dict[str, tuple[list[str], dict[str, tuple[int, int] | None]]] = {
-    "steps": (["MACHINE", "SCRIPT", "STEPS"], {}),
-    "round": (["MACHINE", "SCRIPT"], {"rounds": (1, 1000000)}),
-    "run": (["MACHINE", "SCRIPT"], {"workers": (1, 16), "turns": (1, 1000000000)}),
-    "route": (["MACHINE", "SRC", "DST"], {"reply": None}),
-    "channels": (["MACHINE"], {}),
-    "check": (["REPORT"], {}),
+    "steps": (["MACHINE", "SCRIPT", "STEPS"], {"explain": None}),
+    "round": (["MACHINE", "SCRIPT"], {"rounds": (1, 1000000), "explain": None}),
+    "run": (["MACHINE", "SCRIPT"], {"workers": (1, 16), "turns": (1, 1000000000), "explain": None}),
+    "route": (["MACHINE", "SRC", "DST"], {"reply": None, "explain": None}),
+    "channels": (["MACHINE"], {"explain": None}),
+    "check": (["REPORT"], {"explain": None}),
+    "network": (["NETWORK"], {"explain": None}),
+    "linearize": (["TRACE"], {"configurations": (1, 4294967295), "explain": None}),
 }
 TILES = (0, 4294967295)
-FILES = ("MACHINE", "SCRIPT", "STEPS", "REPORT")
+FILES = ("MACHINE", "SCRIPT", "STEPS", "REPORT", "NETWORK", "TRACE")
 TRY = "\n\nFor more information, try '--help'.\n"
 
 

@@ -212,8 +212,8 @@ def shape(numbers: Numbers, way: str) -> list[int]:
     return list(numbers.among([it for it in SHAPES if report.product(it) <= most]))
 
 
-def drawn(seed: int, way: str) -> Case:
-    """The run of a seed."""
+def drawn(seed: int, way: str, draws: bool = False) -> Case:
+    """The run of a seed; draws: whether the program has `draw`, which then draws the schedules of even seeds."""
     numbers = Numbers(len(WAYS) * seed + WAYS.index(way))
     radices = shape(numbers, way)
     words = 1 + numbers.below(numbers.among([4, 64, 4096]))
@@ -231,6 +231,9 @@ def drawn(seed: int, way: str) -> Case:
         case.options += ["--turns", str(1 + numbers.below(numbers.among([100, 10000])))] if is_cut else []
     elif way == "rounds":
         case.options = ["--rounds", str(1 + numbers.below(200))] if is_cut else []
+    elif way == "draw" and draws and seed % 2 == 0:
+        case.options = ["--seed", str(numbers.next())]
+        case.options += ["--steps", str(1 + numbers.below(numbers.among([20, 200, 2000])))] if is_cut else []
     elif way == "draw":
         case.steps = schedule(numbers, case)
     else:

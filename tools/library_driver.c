@@ -12,7 +12,7 @@
 #include <string.h>
 #include "torusmem.h"
 
-enum { MACHINES = 2, CANARY = 0xA5, BEHIND = 16, MOST_WRONGS = 10, KINDS_OF_CALLS = 24 };
+enum { MACHINES = 2, CANARY = 0xA5, BEHIND = 16, MOST_WRONGS = 10, KINDS_OF_CALLS = 26 };
 
 typedef struct text {
   uint8_t *bytes;
@@ -172,6 +172,48 @@ static void turn(kept *it) {
   it->left = torusmem_moves_left(it->m).value;
 }
 
+/* A list of drawn attempts in a block of its own length: each move takes away at least one of the moves that are left. */
+static void run(kept *it) {
+  uint64_t tiles = torusmem_tiles(it->m).value;
+  size_t count = below(40);
+  torusmem_attempt *list = room(count * sizeof *list);
+  for (size_t at = 0; at < count; at++) {
+    list[at].agent = around(3 * tiles);
+    list[at].choice = around(TORUSMEM_LOOK + 1);
+    list[at].number = around(26);
+  }
+  torusmem_outcome said = torusmem_run(it->m, count > 0 || below(2) ? list : NULL, count);
+  free(list);
+  if (!it->held) {
+    MUST(says(said, TORUSMEM_EMPTY, 0));
+    return;
+  }
+  uint64_t left = torusmem_moves_left(it->m).value;
+  MUST(said.code == TORUSMEM_OK && said.value <= count && left + said.value <= it->left);
+  MUST(said.value > 0 || left == it->left);
+  it->left = left;
+}
+
+/* The whole row, into a buffer that may be too short: a drawn word of it is the one that torusmem_row tells. */
+static void row(kept *it) {
+  uint64_t none = CANARY;
+  torusmem_outcome whole = torusmem_rows(it->m, below(2) ? &none : NULL, 0);
+  if (!it->held) {
+    MUST(says(whole, TORUSMEM_EMPTY, 0) && says(torusmem_rows(it->m, &none, 1), TORUSMEM_EMPTY, 0) && none == CANARY);
+    return;
+  }
+  MUST(whole.code == TORUSMEM_SHORT && whole.value > torusmem_words(it->m).value && whole.value <= 79873 && none == CANARY);
+  size_t length = (size_t)whole.value, given = below(3) ? length + below(BEHIND) : below(length), size = given * sizeof none;
+  uint64_t *made = room(size);
+  memset(made, CANARY, size);
+  MUST(says(torusmem_rows(it->m, made, given), given < length ? TORUSMEM_SHORT : TORUSMEM_OK, length));
+  memset(&none, CANARY, sizeof none);
+  for (size_t at = given < length ? 0 : length; at < given; at++) MUST(made[at] == none);
+  uint32_t at = below(length);
+  MUST(given < length || says(torusmem_row(it->m, at), TORUSMEM_OK, made[at]));
+  free(made);
+}
+
 static void rounds(kept *it) {
   uint32_t code = it->held ? TORUSMEM_OK : TORUSMEM_EMPTY;
   uint64_t before = torusmem_finished(it->m).value;
@@ -297,6 +339,8 @@ static void call(kept *it) {
   case 11: rounds(it); break;
   case 12:
   case 13: turn(it); break;
+  case 14: run(it); break;
+  case 15: row(it); break;
   default: step(it);
   }
 }

@@ -6,7 +6,7 @@ import re
 import subprocess
 import tempfile
 import time
-from dataclasses import dataclass
+from dataclasses import dataclass, field
 
 import command
 import report
@@ -20,21 +20,25 @@ SANITIZERS = ["-fsanitize=address,undefined", "-fno-sanitize-recover=all"]
 
 @dataclass
 class Programs:
-    """What a campaign starts: torusmem, and the driver of the C library where it goes by that."""
+    """What a campaign starts: torusmem, and the driver of the C library where it goes by that; and whether torusmem
+    draws schedules."""
 
     torusmem: str
     driver: str = ""
+    draws: bool = False
 
 
 @dataclass
 class Outcome:
-    """What came of a run: good, or what is wrong in one word and in more; its rounds, its seconds and its report."""
+    """What came of a run: good, or what is wrong in one word and in more; its rounds, its seconds, its report, and its
+    steps where the program drew them."""
 
     kind: str
     more: str = ""
     rounds: int | None = None
     wall: float = 0.0
     report: bytes = b""
+    steps: list[str] = field(default_factory=list)
 
     def is_good(self) -> bool:
         """Whether nothing is wrong with it."""
@@ -77,6 +81,15 @@ def built_driver(folder: str) -> str:
     return made
 
 
+def can_draw(torusmem: str) -> bool:
+    """Whether the program has the command `draw`: it then prints its help, with the status 2 that help has."""
+    try:
+        said = subprocess.run([torusmem, "draw", "--help"], stdin=subprocess.DEVNULL, capture_output=True, check=False)
+    except OSError as fault:
+        raise command.Refusal(f"cannot run {torusmem}: {fault.strerror or fault}") from None
+    return b"Usage: torusmem draw" in said.stdout
+
+
 def write(case: Case, folder: str) -> None:
     """Writes the texts of a run into a folder."""
     os.makedirs(folder, exist_ok=True)
@@ -112,7 +125,8 @@ def run(words: list[str], printed: str) -> tuple[int, str]:
 
 def is_cut(case: Case) -> bool:
     """Whether a run may end before its scripts are finished."""
-    return case.way == "draw" or "--turns" in case.options or "--rounds" in case.options
+    is_given = case.way == "draw" and (case.steps or not case.options)
+    return bool(is_given) or any(it in case.options for it in ("--turns", "--rounds", "--steps"))
 
 
 def judged(case: Case, programs: Programs, folder: str, status: int, said: str) -> Outcome:
@@ -144,14 +158,38 @@ def judged(case: Case, programs: Programs, folder: str, status: int, said: str) 
     return found
 
 
+def schedule(case: Case, programs: Programs, folder: str) -> tuple[int, list[str], str]:
+    """Has the program draw the steps of a run into the folder: its status, the steps, and what is wrong with them."""
+    machine, script, steps = (os.path.join(folder, name) for name in NAMES[:3])
+    status, said = run([programs.torusmem, "draw", machine, script, *case.options], steps)
+    if said or status not in ([0, 3] if is_cut(case) else [0]):
+        return status, [], f"status {status}, {said[-300:]}"
+    lines = command.contents(steps, command.MOST_BYTES).decode("utf-8", "replace").splitlines()
+    made = [it for it in lines if it and not it.startswith("#")]
+    last = "# stopped" if status else "# finished"
+    if not lines or lines[-1] != last:
+        return status, made, f"status {status}, and its last line is not '{last}'"
+    most = int(case.options[case.options.index("--steps") + 1]) if "--steps" in case.options else len(made)
+    if len(made) > most or (status and len(made) != most):
+        return status, made, f"status {status} after {len(made)} steps of {most}"
+    return status, made, ""
+
+
 def tried(case: Case, programs: Programs, folder: str, takes_report: bool = False) -> Outcome:
     """Makes a run in a folder, and judges it."""
     write(case, folder)
     begun = time.monotonic()
+    drawn, steps, wrong = None, [], ""
+    if case.way == "draw" and not case.steps and case.options:
+        drawn, steps, wrong = schedule(case, programs, folder)
+        if wrong:
+            return Outcome("draw", wrong, None, time.monotonic() - begun, b"", steps)
     status, said = run(started(case, programs, folder), os.path.join(folder, NAMES[4]))
     wall = time.monotonic() - begun
     found = judged(case, programs, folder, status, said)
-    found.wall = wall
+    if found.is_good() and drawn not in (None, status):
+        found = Outcome("draw", f"status {drawn}, and {status} of `steps` with what it drew")
+    found.wall, found.steps = wall, steps
     if takes_report or not found.is_good():
         with open(os.path.join(folder, NAMES[4]), "rb") as file:
             found.report = file.read(command.MOST_BYTES)

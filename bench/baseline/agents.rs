@@ -1,5 +1,5 @@
 //! Choices of routers, processors and banks in plain Rust, of the same design as the crates
-//! `flit_buffer`, `router`, `processor` and `home_bank`, and those on which these stand:
+//! `flit_buffer`, `router`, `net_interface` and `home_bank`, and those on which these stand:
 //!
 //!     agents ROUNDS
 //!

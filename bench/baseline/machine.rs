@@ -1,207 +1,27 @@
 //! A machine of tiles over one row of words in plain Rust, of the same design as the crates
-//! `tile_agents`, `event_book` and `machine_core`:
+//! `tile`, `order_book` and `machine_core`:
 //!
 //!     machine TIMES LOADS EACH
 //!
 //! prints lines `NAME NUMBER`: what a piece of work took in nanoseconds, and what came of it.
 mod dense;
 mod packets;
+mod rounds;
 mod row;
 mod script;
 mod tile;
 mod torus;
 
 use packets::Reply;
+use rounds::{Machine, Ordered, Step};
 use script::Line;
 use std::env;
 use std::time::Instant;
-use tile::{Answer, Moved, Tile};
+use tile::Answer;
 use torus::{Choice, Torus};
 
 const PORTS: u32 = 18;
 const KEPT: usize = 1048576;
-
-#[derive(Clone, Copy)]
-struct Step {
-    agent: u32,
-    choice: Choice,
-}
-
-#[derive(Clone, Copy)]
-struct Ordered {
-    bank: u32,
-    place: u32,
-    source: u32,
-    index: u32,
-    issued: u32,
-    served: u32,
-    answered: Option<u32>,
-}
-
-/// The events so far.
-struct Book {
-    events: u32,
-    issues: Vec<Vec<u32>>,
-    positions: Vec<Vec<u32>>,
-    rows: Vec<Ordered>,
-}
-
-struct Machine {
-    tiles: Vec<Tile>,
-    row: Vec<u64>,
-    book: Book,
-}
-
-impl Book {
-    fn new(issue_rooms: &[usize], position_rooms: &[usize]) -> Book {
-        let lists = |rooms: &[usize]| rooms.iter().map(|&room| Vec::with_capacity(room)).collect();
-        Book {
-            events: 0,
-            issues: lists(issue_rooms),
-            positions: lists(position_rooms),
-            rows: Vec::with_capacity(issue_rooms.iter().sum()),
-        }
-    }
-
-    fn note_issue(&mut self, processor: usize) {
-        self.events += 1;
-        self.issues[processor].push(self.events);
-    }
-
-    fn note_service(&mut self, bank: usize, source: u32, index: u32) {
-        self.events += 1;
-        let positions = &mut self.positions[bank];
-        let place = positions.len() as u32;
-        positions.push(self.rows.len() as u32);
-        self.rows.push(Ordered {
-            bank: bank as u32,
-            place,
-            source,
-            index,
-            issued: self.issues[source as usize][index as usize],
-            served: self.events,
-            answered: None,
-        });
-    }
-
-    fn note_answer(&mut self, bank: u32, place: u32) {
-        self.events += 1;
-        let position = self.positions[bank as usize][place as usize];
-        self.rows[position as usize].answered = Some(self.events);
-    }
-}
-
-impl Machine {
-    /// A machine that has made no step, with all the room that its steps will need.
-    fn load(torus: &Torus, depth: usize, tags: usize, opening: &[u64], scripts: &[Vec<Line>]) -> Machine {
-        let tiles = torus.tiles();
-        let mut issues = vec![0; tiles as usize];
-        let mut entries = vec![0; tiles as usize];
-        for (processor, script) in scripts.iter().enumerate() {
-            for line in script {
-                let (address, count) = line.operations();
-                issues[processor] += count;
-                entries[(address % tiles) as usize] += count;
-            }
-        }
-        let mut row = vec![0; torus.channels() * depth];
-        row.extend_from_slice(opening);
-        row.push(0);
-        let tile = |at: u32| {
-            let script = scripts[at as usize].clone();
-            Tile::new(torus, opening.len(), at, depth, tags, script, entries[at as usize])
-        };
-        Machine { tiles: (0..tiles).map(tile).collect(), row, book: Book::new(&issues, &entries) }
-    }
-
-    #[inline]
-    fn note(&mut self, tile: usize, moved: Moved) {
-        match moved {
-            Moved::Quietly => {}
-            Moved::Issued => self.book.note_issue(tile),
-            Moved::Answered { bank, place } => self.book.note_answer(bank, place),
-            Moved::Served { source, tag } => {
-                let index = self.tiles[source as usize].processor.holder(tag).unwrap_or(0);
-                self.book.note_service(tile, source, index);
-            }
-        }
-    }
-
-    #[inline]
-    fn attempt_processor(&mut self, tile: usize, choice: Choice) -> bool {
-        let moved = self.tiles[tile].processor.attempt(choice, self.row.as_mut_slice());
-        if let Some(moved) = moved {
-            self.note(tile, moved);
-        }
-        moved.is_some()
-    }
-
-    #[inline]
-    fn attempt_bank(&mut self, tile: usize, choice: Choice) -> bool {
-        let moved = self.tiles[tile].bank.attempt(choice, self.row.as_mut_slice());
-        if let Some(moved) = moved {
-            self.note(tile, moved);
-        }
-        moved.is_some()
-    }
-
-    /// Attempts one choice of one agent, and answers whether it moved.
-    fn step(&mut self, step: Step) -> bool {
-        let tile = (step.agent / 3) as usize;
-        if tile >= self.tiles.len() {
-            return false;
-        }
-        match step.agent % 3 {
-            0 => self.attempt_processor(tile, step.choice),
-            1 => self.tiles[tile].router.attempt(step.choice, self.row.as_mut_slice()),
-            _ => self.attempt_bank(tile, step.choice),
-        }
-    }
-
-    #[inline(never)]
-    fn run(&mut self, steps: &[Step]) {
-        for &step in steps {
-            self.step(step);
-        }
-    }
-
-    /// Attempts each choice of each agent once.
-    fn round(&mut self) {
-        for tile in 0..self.tiles.len() {
-            for choice in [Choice::Send, Choice::Take, Choice::Credit, Choice::Done, Choice::Look] {
-                self.attempt_processor(tile, choice);
-            }
-            let router = &mut self.tiles[tile].router;
-            for input in 0..PORTS {
-                router.attempt(Choice::TakeFrom(input), self.row.as_mut_slice());
-            }
-            for input in 0..PORTS {
-                router.attempt(Choice::Put(input), self.row.as_mut_slice());
-            }
-            for output in 0..PORTS {
-                router.attempt(Choice::CreditOf(output), self.row.as_mut_slice());
-            }
-            for choice in [Choice::Take, Choice::Serve, Choice::Send, Choice::Credit] {
-                self.attempt_bank(tile, choice);
-            }
-        }
-    }
-
-    fn is_finished(&self) -> bool {
-        self.tiles.iter().all(|tile| tile.processor.is_finished())
-    }
-
-    /// Makes rounds until every script is finished, and answers how many.
-    #[inline(never)]
-    fn finish(&mut self) -> u64 {
-        let mut rounds = 0;
-        while !self.is_finished() {
-            self.round();
-            rounds += 1;
-        }
-        rounds
-    }
-}
 
 /// What is measured: the machine and the scripts.
 struct Work {

@@ -13,6 +13,7 @@ mod script;
 #[allow(dead_code)]
 mod tile;
 mod torus;
+mod workers;
 
 use script::Line;
 use std::env;
@@ -22,11 +23,9 @@ use std::time::Instant;
 use tile::turns::Agent;
 use tile::Tile;
 use torus::{Choice, Torus};
+use workers::{in_loops, run, BANK, PROCESSOR};
 
 const PORTS: u32 = 18;
-const PROCESSOR: [Choice; 5] = [Choice::Send, Choice::Take, Choice::Credit, Choice::Done, Choice::Look];
-const BANK: [Choice; 4] = [Choice::Take, Choice::Serve, Choice::Send, Choice::Credit];
-
 /// The tiles before any step, with all the room that their steps will need.
 fn load(torus: &Torus, scripts: &[Vec<Line>]) -> Vec<Tile> {
     let tiles = torus.tiles();
@@ -39,43 +38,6 @@ fn load(torus: &Torus, scripts: &[Vec<Line>]) -> Vec<Tile> {
         Tile::new(torus, dense::WORDS, at, dense::DEPTH, dense::TAGS, script, entries[at as usize])
     };
     (0..tiles).map(tile).collect()
-}
-
-/// One worker: it attempts each choice of its tiles' agents, round after round, until all its processors
-/// have seen the end. Where a whole round was quiet it lets others run.
-#[inline(never)]
-fn in_loops(tiles: &mut [Tile], mut row: &[AtomicU64]) {
-    let mut unseen = tiles.len();
-    loop {
-        let mut moved = false;
-        for tile in tiles.iter_mut() {
-            for choice in PROCESSOR {
-                let is_moved = tile.processor.attempt(choice, &mut row).is_some();
-                if is_moved && choice == Choice::Look {
-                    unseen -= 1;
-                    if unseen == 0 {
-                        return;
-                    }
-                }
-                moved |= is_moved;
-            }
-            for input in 0..PORTS {
-                moved |= tile.router.attempt(Choice::TakeFrom(input), &mut row);
-            }
-            for input in 0..PORTS {
-                moved |= tile.router.attempt(Choice::Put(input), &mut row);
-            }
-            for output in 0..PORTS {
-                moved |= tile.router.attempt(Choice::CreditOf(output), &mut row);
-            }
-            for choice in BANK {
-                moved |= tile.bank.attempt(choice, &mut row).is_some();
-            }
-        }
-        if !moved {
-            thread::yield_now();
-        }
-    }
 }
 
 /// Where a worker is in its rounds: at a tile, at one of the choices of the tile's agents.
@@ -134,20 +96,6 @@ fn by_turns(tiles: &mut [Tile], mut row: &[AtomicU64]) {
             moved = false;
         }
     }
-}
-
-/// Worker j of w has the tiles from j·N div w on, below (j + 1)·N div w. The last one runs in this thread.
-fn run(tiles: &mut [Tile], row: &[AtomicU64], workers: usize, work: fn(&mut [Tile], &[AtomicU64])) {
-    thread::scope(|scope| {
-        let (count, mut rest) = (tiles.len(), tiles);
-        for worker in 0..workers - 1 {
-            let held = (worker + 1) * count / workers - worker * count / workers;
-            let (mine, others) = rest.split_at_mut(held);
-            rest = others;
-            scope.spawn(move || work(mine, row));
-        }
-        work(rest, row);
-    });
 }
 
 /// Prints what the run of a new machine took, after which all operations must have been answered.

@@ -1,5 +1,5 @@
 //! The processor, the router and the bank of a tile in plain Rust, of the same design as the crates
-//! `flit_buffer`, `router`, `tag_table`, `processor`, `home_bank` and `tile_agents`.
+//! `flit_buffer`, `router`, `tag_table`, `net_interface`, `home_bank` and `tile`.
 use crate::packets::{flits, head, is_tail, Assembler, Flits, Offered, Op, Packet, Reply, Request, Response};
 use crate::row::Row;
 use crate::script::{Follower, Line, Operation};
@@ -256,6 +256,11 @@ impl Router {
         }
     }
 
+    /// The number of the inputs, and of the outputs.
+    pub fn ports(&self) -> u32 {
+        self.latches.len() as u32
+    }
+
     fn output_for(&self, input: u32, flit: u64) -> Option<u32> {
         let Some(head) = head(flit) else {
             return self.owned[input as usize];
@@ -319,12 +324,12 @@ impl Router {
 }
 
 #[allow(dead_code)]
-struct Entry {
-    source: u32,
-    tag: u32,
-    address: u32,
-    op: Op,
-    reply: Reply,
+pub struct Entry {
+    pub source: u32,
+    pub tag: u32,
+    pub address: u32,
+    pub op: Op,
+    pub reply: Reply,
 }
 
 pub struct Bank {
@@ -383,6 +388,12 @@ impl Bank {
             Choice::Credit => self.output.credit(row).then_some(Moved::Quietly),
             _ => None,
         }
+    }
+
+    /// The entries, in the order of the services.
+    #[allow(dead_code)]
+    pub fn entries(&self) -> &[Entry] {
+        &self.entries
     }
 
     fn taken(&mut self, flit: u64) {

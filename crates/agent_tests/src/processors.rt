@@ -1,11 +1,11 @@
 ghost use Rattle.std.specs.Prelude.{◌<◌, ◌≤◌};
 ghost use Rattle.script.specs.Scripts.{operation_count};
-ghost use Rattle.net_interface.specs.Scripts.{IsFollowable};
+ghost use Rattle.script_follower.specs.Scripts.{IsFollowable};
 
 use crate::bench::{Agent, Bench, Event, IDLE, MOVED, ring_of};
 use flit_buffer::perform;
+use net_interface::{Answer, Processor};
 use packet::{Op, Reply};
-use processor::{Answer, Processor};
 use script::{Line, Value};
 use std::alloc::{AllocError, Global};
 use std::test::Fail;
@@ -262,7 +262,7 @@ const FILLED_PLACES: &[Event] = &[
 ];
 
 #[test]
-#[tactic(auto, using(net_interface::proofs::Followable::followable_by))]
+#[tactic(auto, using(script_follower::proofs::Followable::followable_by))]
 fn events_go_as_they_say(rt: HostRuntime) -> Result<(), Fail> {
     let alloc = rt.alloc();
     let choices = [Line::Load(5), Line::Store(5, Value::Number(17))];

@@ -27,7 +27,8 @@ hop_from_source s h t d dir low inside =
 
 -- and the hop to a tile arrives from its own
 pub source_of_hop : (s : Shape) → IsAccepted s → (u d : ℕ) (dir : Dir) → u < tiles_of s → d < dims_of s
-    → (with_digit s u d (one_hop dir (radix_of s d) (digit_of s u d)) < tiles_of s) × (hop_source s (with_digit s u d (one_hop dir (radix_of s d) (digit_of s u d))) d dir ≡ u)
+    → (with_digit s u d (one_hop dir (radix_of s d) (digit_of s u d)) < tiles_of s)
+    × (hop_source s (with_digit s u d (one_hop dir (radix_of s d) (digit_of s u d))) d dir ≡ u)
 source_of_hop s h u d dir low inside =
     let t : ℕ = with_digit s u d (one_hop dir (radix_of s d) (digit_of s u d)) in
     let there : IsNeighbour s u d dir t = hop_is s h u d dir low inside in

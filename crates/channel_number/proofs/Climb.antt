@@ -29,7 +29,8 @@ abbrev pub begin_at : Shape → Class → ℕ → ℕ
 begin_at s class d = first_number s class + 1 + 2 * sum (take d s.radices)
 
 number-hop : (s : Shape) (src dst d i : ℕ) (dir : Dir) (class : Class) → InDimension s src dst d (corrected s src dst d) dir → i < radix_of s d →
-    number_of s (hop_of s (corrected s src dst d) dir d class i) ≡ begin_at s class d + rank_at dir (radix_of s d) (dateline_of s d) (digit_of s (corrected s src dst d) d) i
+    number_of s (hop_of s (corrected s src dst d) dir d class i)
+    ≡ begin_at s class d + rank_at dir (radix_of s d) (dateline_of s d) (digit_of s (corrected s src dst d) d) i
 number-hop s src dst d i dir class r few =
     let t : ℕ = corrected s src dst d in
     let k : ℕ = radix_of s d in
@@ -46,8 +47,10 @@ hops_rise s src dst class d trip low =
     let r : InDimension s src dst d t dir = in_dimension s src dst d trip low in
     let here : x < k = digit_below s trip.accepted t d low in
     let line : z < k = trip.accepted.dateline d low in
-    let few : hops_in s t dst d < k = (few_hops dir k x (digit_of s dst d) r.way here (digit_below s trip.accepted dst d low) (trip.accepted.radix_high d low)).1 in
-    let is : (i : ℕ) → i < k → number_of s (hop_of s t dir d class i) ≡ begin_at s class d + rank_at dir k z x i = λ i less. number-hop s src dst d i dir class r less in
+    let few : hops_in s t dst d < k =
+    (few_hops dir k x (digit_of s dst d) r.way here (digit_below s trip.accepted dst d low) (trip.accepted.radix_high d low)).1 in
+    let is : (i : ℕ) → i < k → number_of s (hop_of s t dir d class i) ≡ begin_at s class d + rank_at dir k z x i =
+    λ i less. number-hop s src dst d i dir class r less in
     let wide : begin_at s class (d + 1) ≡ begin_at s class d + (k + k) = omega (arith, sum_more s.radices d low) in
     record {
       first = omega arith;
@@ -60,7 +63,8 @@ take_all : (ks : List ℕ) → take (length ks) ks ≡ ks
 take_all [] = refl
 take_all (k ∷ ks) = ap (λ ls. k ∷ ls) (take_all ks)
 
-pub numbers_rise : (s : Shape) → IsAccepted s → (src dst : ℕ) → src < tiles_of s → dst < tiles_of s → (class : Class) → IsStrictlyIncreasing (map (number_of s) (route_of s src dst class))
+pub numbers_rise : (s : Shape) → IsAccepted s → (src dst : ℕ) → src < tiles_of s → dst < tiles_of s → (class : Class)
+    → IsStrictlyIncreasing (map (number_of s) (route_of s src dst class))
 numbers_rise s h src dst from to class =
     let trip : IsTrip s src dst = record { accepted = h; from = from; to = to } in
     let whole : sum (take (dims_of s) s.radices) ≡ sum s.radices = ap sum (take_all s.radices) in
@@ -69,10 +73,12 @@ numbers_rise s h src dst from to class =
       hops = λ d low. hops_rise s src dst class d trip low;
       last = omega arith;
     } in
-    climbs_increase (number_of s) 0 (route_of s src dst class) (number_of s (ejection dst class) + 1) (climbs_route s src dst class (number_of s) (begin_at s class) rises)
+    climbs_increase (number_of s) 0 (route_of s src dst class) (number_of s (ejection dst class) + 1)
+    (climbs_route s src dst class (number_of s) (begin_at s class) rises)
 
 -- lists of numbers that agree on some channels
-map_same : (f g : Channel → ℕ) (xs : List Channel) → ((k : ℕ) (d : Channel) → k < length xs → f (slice_index_or xs k d) ≡ g (slice_index_or xs k d)) → map f xs ≡ map g xs
+map_same : (f g : Channel → ℕ) (xs : List Channel) → ((k : ℕ) (d : Channel) → k < length xs → f (slice_index_or xs k d) ≡ g (slice_index_or xs k d))
+    → map f xs ≡ map g xs
 map_same f g [] same = refl
 map_same f g (x ∷ xs) same =
     ap (λ n. n ∷ map f xs) (same 0 x (omega arith)) ∙ ap (λ ns. g x ∷ ns) (map_same f g xs (λ k d low. same (suc k) d (omega arith)))

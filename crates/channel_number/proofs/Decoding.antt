@@ -9,7 +9,8 @@ use Rattle.dateline_route.specs.declared.channel.Channel.{Channel}
 use Rattle.dateline_route.specs.declared.channel.Kind.{Kind}
 use Rattle.dateline_route.specs.declared.channel.Kind.TheVariants.{Injection, Hop, Ejection}
 use Rattle.dateline_route.specs.Walk.{IsChannel, IsInside}
-use Rattle.channel_number.specs.Order.{dir_place, class_place, bit_place, place_of, channels_at_tile, channel_count, channel_index, dir_at, class_at, channel_at}
+use Rattle.channel_number.specs.Order.{dir_place, class_place, bit_place, place_of, channels_at_tile, channel_count, channel_index, dir_at, class_at}
+use Rattle.channel_number.specs.Order.{channel_at}
 use Rattle.channel_number.proofs.Orders.{index_below, one_index}
 
 -- the class and kind of a place, where it is known whether it is among the hops, and whether before the ejections

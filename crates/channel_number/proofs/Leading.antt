@@ -16,19 +16,23 @@ use Rattle.dateline_route.specs.Route.{with_digit}
 use Rattle.dateline_route.specs.Walk.{IsChannel, IsInside, LeadsTo, input_of, kind_of}
 use Rattle.dateline_route.proofs.Neighbours.{hop_is}
 use Rattle.channel_number.specs.Order.{dir_at, class_place, place_of, channels_at_tile, channel_index, channel_at}
-use Rattle.channel_number.specs.Ports.{port_count, tile_after, is_ejection, input_channel, output_channel, output_number, input_numbered, input_router, input_port, IsInput, HasInput}
+use Rattle.channel_number.specs.Ports.{port_count, tile_after, is_ejection, input_channel, output_channel, output_number, input_numbered, input_router}
+use Rattle.channel_number.specs.Ports.{input_port, IsInput, HasInput}
 use Rattle.channel_number.proofs.Orders.{dir_small, class_small, bit_small, index_below, place_below}
 use Rattle.channel_number.proofs.Decoding.{kind_by, decoded, encoded}
 use Rattle.channel_number.proofs.Ports.{is_input, has_input}
 
 -- a channel leads to one tile's router
-pub leads_to_after : (s : Shape) → IsAccepted s → (t : ℕ) (kind : Kind) (u : ℕ) → t < tiles_of s → IsInside s kind → LeadsTo s t kind u → u ≡ tile_after s t kind
+pub leads_to_after : (s : Shape) → IsAccepted s → (t : ℕ) (kind : Kind) (u : ℕ) → t < tiles_of s → IsInside s kind → LeadsTo s t kind u
+    → u ≡ tile_after s t kind
 leads_to_after s h t Injection u low inside l = l
-leads_to_after s h t (Hop d dir bit) u low inside l = one_neighbour s h t d u (with_digit s t d (one_hop dir (radix_of s d) (digit_of s t d))) dir l (hop_is s h t d dir low inside)
+leads_to_after s h t (Hop d dir bit) u low inside l =
+    one_neighbour s h t d u (with_digit s t d (one_hop dir (radix_of s d) (digit_of s t d))) dir l (hop_is s h t d dir low inside)
 leads_to_after s h t Ejection u low inside l = absurd l
 
 -- and leads there, if it is no ejection
-pub after_leads : (s : Shape) → IsAccepted s → (t : ℕ) (kind : Kind) → t < tiles_of s → IsInside s kind → is_ejection kind ≡ false → LeadsTo s t kind (tile_after s t kind)
+pub after_leads : (s : Shape) → IsAccepted s → (t : ℕ) (kind : Kind) → t < tiles_of s → IsInside s kind → is_ejection kind ≡ false
+    → LeadsTo s t kind (tile_after s t kind)
 after_leads s h t Injection low inside e = refl
 after_leads s h t (Hop d dir bit) low inside e = hop_is s h t d dir low inside
 after_leads s h t Ejection low inside e = cc
@@ -54,7 +58,8 @@ arrives s h t i low small =
     let at : IsInput s t i = is_input s h t i low small in
     let is : IsChannel s c = (decoded s x at.below).0 in (
       subst (LeadsTo s c.tile c.kind) at.router (after_leads s h c.tile c.kind is.tile is.kind at.leads),
-      ap (λ p. input_of (kind_by (ltb p (8 * dims_of s)) (ltb p (8 * dims_of s + 2)) p)) at.port ∙ input_by (ltb i (8 * dims_of s)) (ltb i (8 * dims_of s + 2)) i,
+      ap (λ p. input_of (kind_by (ltb p (8 * dims_of s)) (ltb p (8 * dims_of s + 2)) p)) at.port
+          ∙ input_by (ltb i (8 * dims_of s)) (ltb i (8 * dims_of s + 2)) i,
     )
 
 -- a channel that leads to a router is at the input of its place
@@ -65,7 +70,8 @@ only_arrives s h x t is leads =
     let p : ℕ = place_of (dims_of s) x.class x.kind in
     let same : channel_at s X ≡ x = encoded s x is in
     let at : HasInput s X = has_input s h X (index_below s x is) (ap (λ (c : Channel). is_ejection c.kind) same ∙ no_ejection s x.tile x.kind t leads) in
-    let router : input_router s X ≡ t = ap (λ (c : Channel). tile_after s c.tile c.kind) same ∙ sym (leads_to_after s h x.tile x.kind t is.tile is.kind leads) in
+    let router : input_router s X ≡ t =
+    ap (λ (c : Channel). tile_after s c.tile c.kind) same ∙ sym (leads_to_after s h x.tile x.kind t is.tile is.kind leads) in
     let port : input_port s X ≡ p = mod-mul-add x.tile (channels_at_tile s) p (place_below (dims_of s) x.class s x.kind refl is.kind) in (
       subst (λ m. m < port_count (dims_of s)) port at.port,
       sym (ap (input_channel s t) port) ∙ (sym (ap (λ u. input_channel s u (input_port s X)) router) ∙ at.same),

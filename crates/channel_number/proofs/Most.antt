@@ -60,7 +60,8 @@ product_low : (b c : ℕ) → 2 ≤ b → 2 ≤ c → 2 * b + 2 * c ≤ b * c + 
 product_low b c p q =
     let b_is : (b - 2) + 2 ≡ b = omega arith in
     let c_is : (c - 2) + 2 ≡ c = omega arith in
-    let same : b * c ≡ (b - 2) * (c - 2) + 2 * (b - 2) + 2 * (c - 2) + 4 = ap (λ m. m * c) (sym b_is) ∙ ap (λ m. ((b - 2) + 2) * m) (sym c_is) ∙ lows (b - 2) (c - 2) in
+    let same : b * c ≡ (b - 2) * (c - 2) + 2 * (b - 2) + 2 * (c - 2) + 4 =
+    ap (λ m. m * c) (sym b_is) ∙ ap (λ m. ((b - 2) + 2) * m) (sym c_is) ∙ lows (b - 2) (c - 2) in
     omega (arith, same)
 
 product_high : (b c : ℕ) → b ≤ 8 → c ≤ 8 → 8 * b + 8 * c ≤ b * c + 64
@@ -88,7 +89,8 @@ by_first (suc (suc (suc (suc (suc (suc (suc (suc m)))))))) b c p low high hb hc 
     omega (arith, same, last)
 
 -- the radices of a torus within the limits: at most three, from 2 to 8, their product at most 64
-few : (ks : List ℕ) → length ks ≤ 3 → ((d : ℕ) → d < length ks → 2 ≤ slice_index ks d) → ((d : ℕ) → d < length ks → slice_index ks d ≤ 8) → product ks ≤ 64 → sum ks ≤ 16
+few : (ks : List ℕ) → length ks ≤ 3 → ((d : ℕ) → d < length ks → 2 ≤ slice_index ks d) → ((d : ℕ) → d < length ks → slice_index ks d ≤ 8) → product ks ≤ 64
+    → sum ks ≤ 16
 few [] n low high most = omega arith
 few (a ∷ []) n low high most = let h = high 0 (omega arith) in omega (arith, h)
 few (a ∷ b ∷ []) n low high most = let h = high 0 (omega arith) in let i = high 1 (omega arith) in omega (arith, h, i)
@@ -115,15 +117,19 @@ number_at_most s h t class kind inside = omega (arith, most_at s h t class kind 
 pub number_most : (s : Shape) → IsAccepted s → (x : Channel) → IsChannel s x → number_of s x ≤ 67
 number_most s h x is = number_at_most s h x.tile x.class x.kind is.kind
 
-pub ejection_most : (s : Shape) → IsAccepted s → (class : Class) (first all : ℕ) → first ≡ first_number s class → all ≡ sum (take (dims_of s) s.radices) → first + 1 + 2 * all ≤ 67
+pub ejection_most : (s : Shape) → IsAccepted s → (class : Class) (first all : ℕ) → first ≡ first_number s class → all ≡ sum (take (dims_of s) s.radices)
+    → first + 1 + 2 * all ≤ 67
 ejection_most s h class first all first_is all_is =
     let whole = sum_within s.radices (dims_of s) in
     let f = first_most s class in
     omega (arith, f, whole, radices_most s h)
 
-pub hop_most : (s : Shape) → IsAccepted s → (t : ℕ) (class : Class) (d : ℕ) (dir : Dir) (bit : Bool) (first below k z x rank : ℕ) → d < dims_of s → first ≡ first_number s class
-    → below ≡ sum (take d s.radices) → k ≡ radix_of s d → z ≡ dateline_of s d → x ≡ digit_of s t d → rank ≡ rank_of dir k z x bit → first + 1 + 2 * below + rank ≤ 67
+pub hop_most : (s : Shape) → IsAccepted s → (t : ℕ) (class : Class) (d : ℕ) (dir : Dir) (bit : Bool) (first below k z x rank : ℕ) → d < dims_of s
+    → first ≡ first_number s class
+    → below ≡ sum (take d s.radices) → k ≡ radix_of s d → z ≡ dateline_of s d → x ≡ digit_of s t d → rank ≡ rank_of dir k z x bit
+    → first + 1 + 2 * below + rank ≤ 67
 hop_most s h t class d dir bit first below k z x rank inside first_is below_is k_is z_is x_is rank_is =
     let same : rank ≡ rank_of dir (radix_of s d) (dateline_of s d) (digit_of s t d) bit =
-    rank_is ∙ ap (λ m. rank_of dir m z x bit) k_is ∙ ap (λ m. rank_of dir (radix_of s d) m x bit) z_is ∙ ap (λ m. rank_of dir (radix_of s d) (dateline_of s d) m bit) x_is in
+    rank_is ∙ ap (λ m. rank_of dir m z x bit) k_is ∙ ap (λ m. rank_of dir (radix_of s d) m x bit) z_is
+    ∙ ap (λ m. rank_of dir (radix_of s d) (dateline_of s d) m bit) x_is in
     omega (arith, number_at_most s h t class (Hop d dir bit) inside)

@@ -24,7 +24,8 @@ at_end old n i e = grind (arith, common_steps)
 before_end : (old : List ℕ) (n i : ℕ) → i < length old → slice_index (old ++ n ∷ []) i ≡ slice_index old i
 before_end old n i low = grind (arith, common_steps)
 
-pub begun_more : (s : Shape) (old new : List ℕ) (n number : ℕ) (x : Channel) → IsBegun s old n → IsChannel s x → channel_index s x ≡ n → number ≡ number_of s x → new ≡ old ++ number ∷ [] → IsBegun s new (n + 1)
+pub begun_more : (s : Shape) (old new : List ℕ) (n number : ℕ) (x : Channel) → IsBegun s old n → IsChannel s x → channel_index s x ≡ n → number ≡ number_of s x
+    → new ≡ old ++ number ∷ [] → IsBegun s new (n + 1)
 begun_more s old new n number x b h at number_is new_is =
     let P : List ℕ → Type 0 = λ ns. IsBegun s ns (n + 1) in
     subst P (sym new_is) (record {

@@ -62,7 +62,8 @@ pub record SameDigits (d a b c e x y z : ℕ) : Type 0 where
   pub third : b ≡ y
   pub last : c ≡ z
 
-same_digits : (d a b c e x y z : ℕ) → a ≤ 1 → b ≤ 1 → c ≤ 1 → x ≤ 1 → y ≤ 1 → z ≤ 1 → 8 * d + 4 * a + 2 * b + c ≡ 8 * e + 4 * x + 2 * y + z → SameDigits d a b c e x y z
+same_digits : (d a b c e x y z : ℕ) → a ≤ 1 → b ≤ 1 → c ≤ 1 → x ≤ 1 → y ≤ 1 → z ≤ 1 → 8 * d + 4 * a + 2 * b + c ≡ 8 * e + 4 * x + 2 * y + z
+    → SameDigits d a b c e x y z
 same_digits d a b c e x y z ha hb hc hx hy hz same = record { first = omega arith; second = omega arith; third = omega arith; last = omega arith }
 
 same_hop : (d e : ℕ) (dir way : Dir) (bit on : Bool) → d ≡ e → dir ≡ way → bit ≡ on → Hop d dir bit ≡ Hop e way on
@@ -102,7 +103,8 @@ pub hop_inside : (s : Shape) (kind : Kind) (d : ℕ) (dir : Dir) (bit : Bool) �
 hop_inside s kind d dir bit e inside = let P : Kind → Type 0 = λ k. IsInside s k in subst P e inside
 
 -- the place of a channel, from those of its tile and of its class and kind
-pub index_from : (s : Shape) (x : Channel) (per place : ℕ) → IsChannel s x → per ≡ channels_at_tile s → place ≡ place_of (dims_of s) x.class x.kind → x.tile * per + place < channel_count s
+pub index_from : (s : Shape) (x : Channel) (per place : ℕ) → IsChannel s x → per ≡ channels_at_tile s → place ≡ place_of (dims_of s) x.class x.kind
+    → x.tile * per + place < channel_count s
 index_from s x per place h per_is place_is =
     let P : ℕ → Type 0 = λ m. m < channel_count s in
     subst P (ap (λ m. x.tile * channels_at_tile s + m) (sym place_is) ∙ ap (λ m. x.tile * m + place) (sym per_is)) (index_below s x h)

@@ -9,7 +9,8 @@ use Rattle.torus.specs.declared.shape.Dir.{Dir}
 use Rattle.dateline_route.specs.declared.channel.Kind.{Kind}
 use Rattle.dateline_route.specs.declared.channel.Kind.TheVariants.{Injection, Hop, Ejection}
 use Rattle.channel_number.specs.Order.{dir_at, channels_at_tile, channel_count, channel_at}
-use Rattle.channel_number.specs.Ports.{port_count, hop_source, tile_after, is_injection, is_ejection, input_channel, output_channel, input_router, input_port, output_router, output_port, IsInput, HasInput, IsOutput, HasOutput}
+use Rattle.channel_number.specs.Ports.{port_count, hop_source, tile_after, is_injection, is_ejection, input_channel, output_channel, input_router, input_port}
+use Rattle.channel_number.specs.Ports.{output_router, output_port, IsInput, HasInput, IsOutput, HasOutput}
 use Rattle.channel_number.proofs.Decoding.{kind_by}
 use Rattle.channel_number.proofs.Arrivals.{hop_from_source, source_of_hop}
 
@@ -17,17 +18,20 @@ use Rattle.channel_number.proofs.Arrivals.{hop_from_source, source_of_hop}
 abbrev kind_of_place : Shape → ℕ → Kind
 kind_of_place s p = kind_by (ltb p (8 * dims_of s)) (ltb p (8 * dims_of s + 2)) p
 
-kind_hop : (s : Shape) (p : ℕ) → p < 8 * dims_of s → kind_by (ltb p (8 * dims_of s)) (ltb p (8 * dims_of s + 2)) p ≡ Hop (p / 8) (dir_at (p / 4 % 2)) (p % 2 == 1)
+kind_hop : (s : Shape) (p : ℕ) → p < 8 * dims_of s
+    → kind_by (ltb p (8 * dims_of s)) (ltb p (8 * dims_of s + 2)) p ≡ Hop (p / 8) (dir_at (p / 4 % 2)) (p % 2 == 1)
 kind_hop s p low = ap (λ (b : Bool). kind_by b (ltb p (8 * dims_of s + 2)) p) (lt-ltb p (8 * dims_of s) low)
 
 kind_injection : (s : Shape) (p : ℕ) → 8 * dims_of s ≤ p → p < 8 * dims_of s + 2 → kind_by (ltb p (8 * dims_of s)) (ltb p (8 * dims_of s + 2)) p ≡ Injection
 kind_injection s p over low =
-    ap (λ (b : Bool). kind_by b (ltb p (8 * dims_of s + 2)) p) (le-ltb p (8 * dims_of s) over) ∙ ap (λ (b : Bool). kind_by false b p) (lt-ltb p (8 * dims_of s + 2) low)
+    ap (λ (b : Bool). kind_by b (ltb p (8 * dims_of s + 2)) p) (le-ltb p (8 * dims_of s) over)
+    ∙ ap (λ (b : Bool). kind_by false b p) (lt-ltb p (8 * dims_of s + 2) low)
 
 kind_ejection : (s : Shape) (p : ℕ) → 8 * dims_of s + 2 ≤ p → kind_by (ltb p (8 * dims_of s)) (ltb p (8 * dims_of s + 2)) p ≡ Ejection
 kind_ejection s p over =
     let more : 8 * dims_of s ≤ p = omega arith in
-    ap (λ (b : Bool). kind_by b (ltb p (8 * dims_of s + 2)) p) (le-ltb p (8 * dims_of s) more) ∙ ap (λ (b : Bool). kind_by false b p) (le-ltb p (8 * dims_of s + 2) over)
+    ap (λ (b : Bool). kind_by b (ltb p (8 * dims_of s + 2)) p) (le-ltb p (8 * dims_of s) more)
+    ∙ ap (λ (b : Bool). kind_by false b p) (le-ltb p (8 * dims_of s + 2) over)
 
 -- the channel of a tile's place: its index, and what it is
 record IsPlaced (s : Shape) (u p x : ℕ) : Type 0 where
@@ -55,7 +59,8 @@ record IsInputAt (s : Shape) (t i x : ℕ) : Type 0 where
   router : input_router s x ≡ t
   port : input_port s x ≡ i
 
-hop_input : (s : Shape) → IsAccepted s → (t i : ℕ) → t < tiles_of s → i < 8 * dims_of s → IsInputAt s t i (hop_source s t (i / 8) (dir_at (i / 4 % 2)) * channels_at_tile s + i)
+hop_input : (s : Shape) → IsAccepted s → (t i : ℕ) → t < tiles_of s → i < 8 * dims_of s
+    → IsInputAt s t i (hop_source s t (i / 8) (dir_at (i / 4 % 2)) * channels_at_tile s + i)
 hop_input s h t i low small =
     let d : ℕ = i / 8 in
     let dir : Dir = dir_at (i / 4 % 2) in
@@ -67,7 +72,8 @@ hop_input s h t i low small =
     record {
       below = at.below;
       leads = ap is_ejection kind;
-      router = ap (λ k. tile_after s ((u * channels_at_tile s + i) / channels_at_tile s) k) kind ∙ (ap (λ v. tile_after s v (Hop d dir (i % 2 == 1))) at.tile ∙ back.1);
+      router = ap (λ k. tile_after s ((u * channels_at_tile s + i) / channels_at_tile s) k) kind
+          ∙ (ap (λ v. tile_after s v (Hop d dir (i % 2 == 1))) at.tile ∙ back.1);
       port = at.place;
     }
 
@@ -88,12 +94,14 @@ is_input s h t i low small =
     let b : ℕ = t * channels_at_tile s + i in
     let at : IsInputAt s t i (input_channel s t i) = ⊎_elim
     (λ (hop : i < 8 * dims_of s). subst (IsInputAt s t i) (sym (ap (λ (c : Bool). cond c a b) (lt-ltb i (8 * dims_of s) hop))) (hop_input s h t i low hop))
-    (λ (over : 8 * dims_of s ≤ i). subst (IsInputAt s t i) (sym (ap (λ (c : Bool). cond c a b) (le-ltb i (8 * dims_of s) over))) (injection_input s t i low over small))
+    (λ (over : 8 * dims_of s ≤ i). subst (IsInputAt s t i) (sym (ap (λ (c : Bool). cond c a b) (le-ltb i (8 * dims_of s) over)))
+    (injection_input s t i low over small))
     (cases_lt i (8 * dims_of s)) in
     record { below = at.below; leads = at.leads; router = at.router; port = at.port }
 
 -- a channel that leads to a router
-input_back : (s : Shape) → IsAccepted s → (x u p : ℕ) → u < tiles_of s → p < channels_at_tile s → x / channels_at_tile s ≡ u → x % channels_at_tile s ≡ p → u * channels_at_tile s + p ≡ x
+input_back : (s : Shape) → IsAccepted s → (x u p : ℕ) → u < tiles_of s → p < channels_at_tile s → x / channels_at_tile s ≡ u → x % channels_at_tile s ≡ p
+    → u * channels_at_tile s + p ≡ x
     → is_ejection (channel_at s x).kind ≡ false → HasInput s x
 input_back s h x u p low small tile place whole leads = ⊎_elim
     (λ (hop : p < 8 * dims_of s).
@@ -117,13 +125,15 @@ input_back s h x u p low small tile place whole leads = ⊎_elim
     let kind : (channel_at s x).kind ≡ Injection = ap (kind_of_place s) place ∙ kind_injection s p over first in
     let router : input_router s x ≡ u = ap (λ k. tile_after s (x / channels_at_tile s) k) kind ∙ tile in
     let channel : input_channel s u p ≡ x =
-    ap (λ (c : Bool). cond c (hop_source s u (p / 8) (dir_at (p / 4 % 2)) * channels_at_tile s + p) (u * channels_at_tile s + p)) (le-ltb p (8 * dims_of s) over) ∙ whole in
+    ap (λ (c : Bool). cond c (hop_source s u (p / 8) (dir_at (p / 4 % 2)) * channels_at_tile s + p) (u * channels_at_tile s + p))
+    (le-ltb p (8 * dims_of s) over) ∙ whole in
     record {
       tile = subst (λ v. v < tiles_of s) (sym router) low;
       port = subst (λ v. v < port_count (dims_of s)) (sym place) first;
       same = ap (λ v. input_channel s v (x % channels_at_tile s)) router ∙ (ap (input_channel s u) place ∙ channel);
     })
-    (λ (last : 8 * dims_of s + 2 ≤ p). let e : is_ejection (channel_at s x).kind ≡ true = ap is_ejection (ap (kind_of_place s) place ∙ kind_ejection s p last) in cc)
+    (λ (last : 8 * dims_of s + 2 ≤ p). let e : is_ejection (channel_at s x).kind ≡ true =
+    ap is_ejection (ap (kind_of_place s) place ∙ kind_ejection s p last) in cc)
     (cases_lt p (8 * dims_of s + 2)))
     (cases_lt p (8 * dims_of s))
 
@@ -158,7 +168,8 @@ ejection_output s t o low over small =
       below = at.below;
       leaves = ap is_injection (at.kind ∙ kind_ejection s (o + 2) (omega arith));
       router = at.tile;
-      port = ap (λ p. cond (ltb p (8 * dims_of s)) p (p - 2)) at.place ∙ (ap (λ (c : Bool). cond c (o + 2) ((o + 2) - 2)) (le-ltb (o + 2) (8 * dims_of s) (omega arith)) ∙ back);
+      port = ap (λ p. cond (ltb p (8 * dims_of s)) p (p - 2)) at.place
+          ∙ (ap (λ (c : Bool). cond c (o + 2) ((o + 2) - 2)) (le-ltb (o + 2) (8 * dims_of s) (omega arith)) ∙ back);
     }
 
 pub is_output : (s : Shape) (t o : ℕ) → t < tiles_of s → o < port_count (dims_of s) → IsOutput s t o
@@ -167,7 +178,8 @@ is_output s t o low small =
     let b : ℕ = t * channels_at_tile s + (o + 2) in
     let at : IsOutputAt s t o (output_channel s t o) = ⊎_elim
     (λ (hop : o < 8 * dims_of s). subst (IsOutputAt s t o) (sym (ap (λ (c : Bool). cond c a b) (lt-ltb o (8 * dims_of s) hop))) (hop_output s t o low hop))
-    (λ (over : 8 * dims_of s ≤ o). subst (IsOutputAt s t o) (sym (ap (λ (c : Bool). cond c a b) (le-ltb o (8 * dims_of s) over))) (ejection_output s t o low over small))
+    (λ (over : 8 * dims_of s ≤ o). subst (IsOutputAt s t o) (sym (ap (λ (c : Bool). cond c a b) (le-ltb o (8 * dims_of s) over)))
+    (ejection_output s t o low over small))
     (cases_lt o (8 * dims_of s)) in
     record { below = at.below; leaves = at.leaves; router = at.router; port = at.port }
 
@@ -197,19 +209,22 @@ has_output s x low leaves =
     record {
       tile = tile;
       port = subst (λ v. v < port_count (dims_of s)) (sym port) (omega arith);
-      same = ap (output_channel s u) port ∙ (ap (λ (c : Bool). cond c (u * per + (p - 2)) (u * per + ((p - 2) + 2))) (le-ltb (p - 2) n (omega arith)) ∙ (again ∙ whole));
+      same = ap (output_channel s u) port
+          ∙ (ap (λ (c : Bool). cond c (u * per + (p - 2)) (u * per + ((p - 2) + 2))) (le-ltb (p - 2) n (omega arith)) ∙ (again ∙ whole));
     })
     (cases_lt p (n + 2)))
     (cases_lt p n)
 
 -- no two inputs are at one channel, and no two outputs
-pub inputs_apart : (s : Shape) → IsAccepted s → (t i u j : ℕ) → t < tiles_of s → i < port_count (dims_of s) → u < tiles_of s → j < port_count (dims_of s) → input_channel s t i ≡ input_channel s u j → (t ≡ u) × (i ≡ j)
+pub inputs_apart : (s : Shape) → IsAccepted s → (t i u j : ℕ) → t < tiles_of s → i < port_count (dims_of s) → u < tiles_of s → j < port_count (dims_of s)
+    → input_channel s t i ≡ input_channel s u j → (t ≡ u) × (i ≡ j)
 inputs_apart s h t i u j low small high little e =
     let a = is_input s h t i low small in
     let b = is_input s h u j high little in
     (sym a.router ∙ (ap (input_router s) e ∙ b.router), sym a.port ∙ (ap (input_port s) e ∙ b.port))
 
-pub outputs_apart : (s : Shape) (t o u p : ℕ) → t < tiles_of s → o < port_count (dims_of s) → u < tiles_of s → p < port_count (dims_of s) → output_channel s t o ≡ output_channel s u p → (t ≡ u) × (o ≡ p)
+pub outputs_apart : (s : Shape) (t o u p : ℕ) → t < tiles_of s → o < port_count (dims_of s) → u < tiles_of s → p < port_count (dims_of s)
+    → output_channel s t o ≡ output_channel s u p → (t ≡ u) × (o ≡ p)
 outputs_apart s t o u p low small high little e =
     let a = is_output s t o low small in
     let b = is_output s u p high little in

@@ -5,7 +5,8 @@ use Rattle.std.proofs.lemmas.Bool.{cases_lt, cases_eq, eq-eqb, ne_eqb}
 use Rattle.torus.specs.declared.shape.Dir.{Dir}
 use Rattle.torus.specs.declared.shape.Dir.TheVariants.{Plus, Minus}
 use Rattle.dateline_route.specs.Ring.{hops_by, digit_after, dateline_out_of, is_crossed}
-use Rattle.dateline_route.proofs.Rings.{mod_cases, mod_small, mod_over, is_crossed_more, is_crossed_first, digit_after-hops_by, hops_by-digit_after, hops_by_below}
+use Rattle.dateline_route.proofs.Rings.{mod_cases, mod_small, mod_over, is_crossed_more, is_crossed_first, digit_after-hops_by, hops_by-digit_after}
+use Rattle.dateline_route.proofs.Rings.{hops_by_below}
 use Rattle.channel_number.specs.Number.{past_dateline, rank_of}
 
 dateline_below : (dir : Dir) (k z : ℕ) → z < k → dateline_out_of dir k z < k
@@ -17,19 +18,26 @@ abbrev pub hops_before : Dir → ℕ → ℕ → ℕ → ℕ
 hops_before dir k z x = hops_by dir k x (dateline_out_of dir k z)
 
 -- how far past the dateline the hops leave, up to the dateline hop
-past_before : (dir : Dir) (k z x i : ℕ) → z < k → x < k → i ≤ hops_before dir k z x → past_dateline dir k z (digit_after dir k x i) + (hops_before dir k z x + 1) ≡ k + i
-past_before Plus k z x i hz hx few = let w0 = mod_cases (z + (k - x)) k (omega arith) in let w1 = mod_cases (x + i) k (omega arith) in let w2 = mod_cases ((x + i) % k + (k - (z + 1))) k (omega arith) in grind arith
-past_before Minus k z x i hz hx few = let w3 = mod_cases (z + 1) k (omega arith) in let w0 = mod_cases (x + (k - (z + 1) % k)) k (omega arith) in let w1 = mod_cases (x + (k - i)) k (omega arith) in let w2 = mod_cases (z + (k - (x + (k - i)) % k)) k (omega arith) in grind arith
+past_before : (dir : Dir) (k z x i : ℕ) → z < k → x < k → i ≤ hops_before dir k z x
+    → past_dateline dir k z (digit_after dir k x i) + (hops_before dir k z x + 1) ≡ k + i
+past_before Plus k z x i hz hx few = let w0 = mod_cases (z + (k - x)) k (omega arith) in let w1 = mod_cases (x + i) k (omega arith) in
+    let w2 = mod_cases ((x + i) % k + (k - (z + 1))) k (omega arith) in grind arith
+past_before Minus k z x i hz hx few = let w3 = mod_cases (z + 1) k (omega arith) in let w0 = mod_cases (x + (k - (z + 1) % k)) k (omega arith) in
+    let w1 = mod_cases (x + (k - i)) k (omega arith) in let w2 = mod_cases (z + (k - (x + (k - i)) % k)) k (omega arith) in grind arith
 
 -- and after it
-past_after : (dir : Dir) (k z x i : ℕ) → z < k → x < k → i < k → hops_before dir k z x < i → past_dateline dir k z (digit_after dir k x i) + (hops_before dir k z x + 1) ≡ i
-past_after Plus k z x i hz hx small many = let w0 = mod_cases (z + (k - x)) k (omega arith) in let w1 = mod_cases (x + i) k (omega arith) in let w2 = mod_cases ((x + i) % k + (k - (z + 1))) k (omega arith) in grind arith
-past_after Minus k z x i hz hx small many = let w3 = mod_cases (z + 1) k (omega arith) in let w0 = mod_cases (x + (k - (z + 1) % k)) k (omega arith) in let w1 = mod_cases (x + (k - i)) k (omega arith) in let w2 = mod_cases (z + (k - (x + (k - i)) % k)) k (omega arith) in grind arith
+past_after : (dir : Dir) (k z x i : ℕ) → z < k → x < k → i < k → hops_before dir k z x < i
+    → past_dateline dir k z (digit_after dir k x i) + (hops_before dir k z x + 1) ≡ i
+past_after Plus k z x i hz hx small many = let w0 = mod_cases (z + (k - x)) k (omega arith) in let w1 = mod_cases (x + i) k (omega arith) in
+    let w2 = mod_cases ((x + i) % k + (k - (z + 1))) k (omega arith) in grind arith
+past_after Minus k z x i hz hx small many = let w3 = mod_cases (z + 1) k (omega arith) in let w0 = mod_cases (x + (k - (z + 1) % k)) k (omega arith) in
+    let w1 = mod_cases (x + (k - i)) k (omega arith) in let w2 = mod_cases (z + (k - (x + (k - i)) % k)) k (omega arith) in grind arith
 
 -- the dateline hop is the one that leaves after that many hops
 at_dateline : (dir : Dir) (k z x j : ℕ) → z < k → x < k → j ≡ hops_before dir k z x → (digit_after dir k x j == dateline_out_of dir k z) ≡ true
 at_dateline dir k z x j hz hx e =
-    eq-eqb (digit_after dir k x j) (dateline_out_of dir k z) (ap (digit_after dir k x) e ∙ digit_after-hops_by dir k x (dateline_out_of dir k z) hx (dateline_below dir k z hz))
+    eq-eqb (digit_after dir k x j) (dateline_out_of dir k z)
+    (ap (digit_after dir k x) e ∙ digit_after-hops_by dir k x (dateline_out_of dir k z) hx (dateline_below dir k z hz))
 
 off_dateline : (dir : Dir) (k z x j : ℕ) → x < k → j < k → j ≢ hops_before dir k z x → (digit_after dir k x j == dateline_out_of dir k z) ≡ false
 off_dateline dir k z x j hx hj other =
@@ -66,7 +74,8 @@ rank_at dir k z x i = rank_of dir k z (digit_after dir k x i) (is_crossed dir k 
 pub rank_before : (dir : Dir) (k z x i : ℕ) → z < k → x < k → i < hops_before dir k z x → rank_at dir k z x i + (hops_before dir k z x + 1) ≡ k + i
 rank_before dir k z x i hz hx few =
     let short : i < k = omega (arith, hops_by_below dir k x (dateline_out_of dir k z) hx (dateline_below dir k z hz)) in
-    let bit : rank_at dir k z x i ≡ past_dateline dir k z (digit_after dir k x i) = ap (rank_of dir k z (digit_after dir k x i)) (not_crossed dir k z x i hx short few) in
+    let bit : rank_at dir k z x i ≡ past_dateline dir k z (digit_after dir k x i) =
+    ap (rank_of dir k z (digit_after dir k x i)) (not_crossed dir k z x i hx short few) in
     omega (arith, past_before dir k z x i hz hx (omega arith))
 
 pub rank_after : (dir : Dir) (k z x i : ℕ) → z < k → x < k → i < k → hops_before dir k z x ≤ i → rank_at dir k z x i + hops_before dir k z x ≡ k + i

@@ -14,14 +14,16 @@ pub record IsFirstFall (xs : List ℕ) (hop : ℕ) : Type 0 where
 
 -- from this source the numbers rise to all destinations below n (this project's own format)
 abbrev pub RisesTo : Shape → List ℕ → Class → ℕ → ℕ → Type 0
-RisesTo s numbers class src n = (dst : ℕ) → dst < n → IsStrictlyIncreasing (along s numbers class src dst)
+RisesTo s numbers class src n =
+    (dst : ℕ) → dst < n → IsStrictlyIncreasing (along s numbers class src dst)
 
 -- they rise from all sources below n (this project's own format)
 abbrev pub RisesFrom : Shape → List ℕ → Class → ℕ → Type 0
 RisesFrom s numbers class n = (src : ℕ) → src < n → RisesTo s numbers class src (tiles_of s)
 
 -- the first failing case of a class from a source (this project's own format)
-pub record IsFirstFrom (s : Shape) (numbers : List ℕ) (class : Class) (src : ℕ) (e : NotRising) : Type 0 where
+pub record IsFirstFrom (s : Shape) (numbers : List ℕ) (class : Class) (src : ℕ)
+    (e : NotRising) : Type 0 where
   pub class_is : e.class ≡ class
   pub src_is : e.src ≡ src
   pub dst : e.dst < tiles_of s

@@ -1,4 +1,5 @@
--- The numbers of the channels (this project's own numbering, after Dally and Towles, chapter 14: resource ordering).
+-- The numbers of the channels (this project's own numbering, after Dally and Towles, chapter 14:
+-- resource ordering).
 use Rattle.std.specs.Prelude.{◌≡◌, ℕ, ◌+◌, ◌-◌, ◌*◌, ◌%◌, Bool, true, false, List, length, sum, take, slice_index}
 use Rattle.torus.specs.Shape.{Shape, radix_of, dateline_of, digit_of}
 use Rattle.torus.specs.declared.shape.Class.{Class}
@@ -11,17 +12,20 @@ use Rattle.dateline_route.specs.declared.channel.Kind.TheVariants.{Injection, Ho
 use Rattle.dateline_route.specs.Walk.{IsChannel}
 use Rattle.channel_number.specs.Order.{channel_count, channel_index}
 
--- how many hops past the dateline digit x lies: x - z - 1 for plus, z - x for minus, modulo k (this project's own numbering)
+-- how many hops past the dateline digit x lies: x - z - 1 for plus, z - x for minus, modulo k (this
+-- project's own numbering)
 abbrev pub past_dateline : Dir → ℕ → ℕ → ℕ → ℕ
 past_dateline Plus k z x = (x + (k - (z + 1))) % k
 past_dateline Minus k z x = (z + (k - x)) % k
 
--- the rank of a hop among those of its ring: bit 0 below bit 1, and there the dateline hop first (this project's own numbering)
+-- the rank of a hop among those of its ring: bit 0 below bit 1, and there the dateline hop first
+-- (this project's own numbering)
 abbrev pub rank_of : Dir → ℕ → ℕ → ℕ → Bool → ℕ
 rank_of dir k z x false = past_dateline dir k z x
 rank_of dir k z x true = k + (past_dateline dir k z x + 1) % k
 
--- the number of the injections of a class: replies lie above all requests (this project's own numbering)
+-- the number of the injections of a class: replies lie above all requests (this project's own
+-- numbering)
 abbrev pub first_number : Shape → Class → ℕ
 first_number s Request = 0
 first_number s Reply = 2 + 2 * sum s.radices
@@ -29,7 +33,9 @@ first_number s Reply = 2 + 2 * sum s.radices
 -- the number of a channel of a tile (this project's own numbering)
 abbrev pub number_at : Shape → ℕ → Class → Kind → ℕ
 number_at s t class Injection = first_number s class
-number_at s t class (Hop d dir bit) = first_number s class + 1 + 2 * sum (take d s.radices) + rank_of dir (radix_of s d) (dateline_of s d) (digit_of s t d) bit
+number_at s t class (Hop d dir bit) =
+    first_number s class + 1 + 2 * sum (take d s.radices)
+    + rank_of dir (radix_of s d) (dateline_of s d) (digit_of s t d) bit
 number_at s t class Ejection = first_number s class + 1 + 2 * sum s.radices
 
 -- the number of a channel (this project's own numbering)

@@ -1,5 +1,6 @@
 -- The order of the channels of a torus:
--- tile by tile, at a tile the hops by dimension, direction, class and bit, then the injections and the ejections by class (this project's own format).
+-- tile by tile, at a tile the hops by dimension, direction, class and bit, then the injections and
+-- the ejections by class (this project's own format).
 use Rattle.std.specs.Prelude.{ℕ, zero, suc, ◌+◌, ◌*◌, ◌/◌, ◌%◌, ◌==◌, nat_lt, Bool, true, false, if◌then◌else◌}
 use Rattle.torus.specs.Shape.{Shape, dims_of, tiles_of}
 use Rattle.torus.specs.declared.shape.Class.{Class}
@@ -57,10 +58,12 @@ class_at (suc m) = Reply
 abbrev pub class_of_place : ℕ → ℕ → Class
 class_of_place n p = if nat_lt p (8 * n) then class_at (p / 2 % 2) else class_at (p % 2)
 
--- the kind of the channel at place p of a tile, in n dimensions: the hops stand first, then the injections, then the ejections (this project's own format)
+-- the kind of the channel at place p of a tile, in n dimensions: the hops stand first, then the
+-- injections, then the ejections (this project's own format)
 abbrev pub kind_of_place : ℕ → ℕ → Kind
 kind_of_place n p =
-    if nat_lt p (8 * n) then Hop (p / 8) (dir_at (p / 4 % 2)) (p % 2 == 1) else if nat_lt p (8 * n + 2) then Injection else Ejection
+    if nat_lt p (8 * n) then Hop (p / 8) (dir_at (p / 4 % 2)) (p % 2 == 1)
+    else if nat_lt p (8 * n + 2) then Injection else Ejection
 
 -- the channel that has a place among all (this project's own format)
 abbrev pub channel_at : Shape → ℕ → Channel

@@ -33,7 +33,8 @@ pub fn check(torus: &Torus, numbers: &[u32]) -> Result<Rising, NotRising>
 /// The first failing case of this class.
 fn failing_in(torus: &Torus, numbers: &[u32], class: Class) -> Option<NotRising>
     requires { length numbers.now ≡ channel_count torus.now }
-    ensures { MatchOption result (RisesFrom torus.now numbers.now class (tiles_of torus.now)) (IsFirstIn torus.now numbers.now class) }
+    ensures { MatchOption result (RisesFrom torus.now numbers.now class (tiles_of torus.now))
+        (IsFirstIn torus.now numbers.now class) }
 {
     for src in 0..torus.tiles() {
         if let Some(failing) = failing_from(torus, numbers, class, src) {
@@ -47,7 +48,8 @@ fn failing_in(torus: &Torus, numbers: &[u32], class: Class) -> Option<NotRising>
 fn failing_from(torus: &Torus, numbers: &[u32], class: Class, src: u32) -> Option<NotRising>
     requires numbers { length numbers.now ≡ channel_count torus.now }
     requires src { src < tiles_of torus.now }
-    ensures { MatchOption result (RisesTo torus.now numbers.now class src (tiles_of torus.now)) (IsFirstFrom torus.now numbers.now class src) }
+    ensures { MatchOption result (RisesTo torus.now numbers.now class src (tiles_of torus.now))
+        (IsFirstFrom torus.now numbers.now class src) }
 {
     for dst in 0..torus.tiles() {
         if let Some(hop) = falling_hop(torus, numbers, class, src, dst) {
@@ -67,7 +69,8 @@ fn falling_hop(torus: &Torus, numbers: &[u32], class: Class, src: u32, dst: u32)
     requires numbers { length numbers.now ≡ channel_count torus.now }
     requires src { src < tiles_of torus.now }
     requires dst { dst < tiles_of torus.now }
-    ensures { MatchOption result (IsStrictlyIncreasing (along torus.now numbers.now class src dst)) (IsFirstFall (along torus.now numbers.now class src dst)) }
+    ensures { MatchOption result (IsStrictlyIncreasing (along torus.now numbers.now class src dst))
+        (IsFirstFall (along torus.now numbers.now class src dst)) }
 {
     let channels = route(torus, src, dst, class);
     let mut before = numbers[channel_index(torus, channels[0]) as usize];

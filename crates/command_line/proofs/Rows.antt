@@ -35,10 +35,9 @@ flag_of_text E None b none value = let e : Some b ≡ None = none refl in cc
 flag_of_text E (Some t) true none value = ap Some (value t refl)
 flag_of_text E (Some t) false none value = ap Some (value t refl)
 
-pub flag_read : (E : Type 0) (f : Found) (id : Text) (result : Option Bool) (b : Bool)
+pub flag_is_read : (E : Type 0) (f : Found) (id : Text) (result : Option Bool)
     → (one_text f id ≡ None → result ≡ None) → ((t : Text) → one_text f id ≡ Some t → ReadsOne (ParsesBool {E = E}) t result)
-    → result ≡ Some b → one_of id (rows_of f) ≡ Some (flag_text b)
-flag_read E f id None b none value is = cc
-flag_read E f id (Some x) b none value is =
-    let same : x ≡ b = cc in
-    sym (one_text-rows f id) ∙ flag_of_text E (one_text f id) x none value ∙ ap (λ v. Some (flag_text v)) same
+    → IfSome result (λ b. one_of id (rows_of f) ≡ Some (flag_text b))
+flag_is_read E f id None none value = tt
+flag_is_read E f id (Some b) none value =
+    sym (one_text-rows f id) ∙ flag_of_text E (one_text f id) b none value

@@ -11,7 +11,8 @@ needed id = record (new_rule id) { required = true }
 
 -- a number of 32 bits that has to stand there
 abbrev pub tile : Text → Rule
-tile id = record (new_rule id) { required = true; parser = Some (vp.Signed (pos 0) (pos 4294967295)) }
+tile id = record (new_rule id)
+    { required = true; parser = Some (vp.Signed (pos 0) (pos 4294967295)) }
 
 -- the option for the most rounds, a number from 1 to 1000000, which it is where it isn't given
 abbrev pub rounds : Rule
@@ -29,7 +30,8 @@ workers = record (new_rule (codes "workers")) {
   defaults = codes "1" ∷ [];
 }
 
--- the option for the most turns of a worker, a number from 1 to 1000000000, which it is where it isn't given
+-- the option for the most turns of a worker, a number from 1 to 1000000000, which it is where it
+-- isn't given
 abbrev pub turns : Rule
 turns = record (new_rule (codes "turns")) {
   long = Some (codes "turns");
@@ -41,37 +43,63 @@ turns = record (new_rule (codes "turns")) {
 abbrev pub flag : Text → Rule
 flag name = record (new_rule name) { long = Some name; action = Some SetTrue }
 
--- `steps MACHINE SCRIPT STEPS`
+-- the option for the most configurations of a search, a number from 1 to 4294967295, which is
+-- 1000000 where it isn't given
+abbrev pub configurations : Rule
+configurations = record (new_rule (codes "configurations")) {
+  long = Some (codes "configurations");
+  parser = Some (vp.Signed (pos 1) (pos 4294967295));
+  defaults = codes "1000000" ∷ [];
+}
+
+-- the option to say more of what is wrong, of each subcommand
+abbrev pub explain : Rule
+explain = flag (codes "explain")
+
+-- a subcommand of this name that takes a file of the machine, and one of the scripts
+abbrev pub loading_app : Text → App
+loading_app name = with_rule (with_rule (new_app name)
+    (needed (codes "MACHINE"))) (needed (codes "SCRIPT"))
+
+-- `steps MACHINE SCRIPT STEPS [--explain]`
 abbrev pub steps_app : App
-steps_app = with_rule (with_rule (with_rule (new_app (codes "steps"))
-    (needed (codes "MACHINE"))) (needed (codes "SCRIPT"))) (needed (codes "STEPS"))
+steps_app = with_rule (with_rule (loading_app (codes "steps")) (needed (codes "STEPS"))) explain
 
--- `round MACHINE SCRIPT [--rounds R]`
+-- `round MACHINE SCRIPT [--rounds R] [--explain]`
 abbrev pub round_app : App
-round_app = with_rule (with_rule (with_rule (new_app (codes "round"))
-    (needed (codes "MACHINE"))) (needed (codes "SCRIPT"))) rounds
+round_app = with_rule (with_rule (loading_app (codes "round")) rounds) explain
 
--- `run MACHINE SCRIPT [--workers W] [--turns T]`
+-- `run MACHINE SCRIPT [--workers W] [--turns T] [--explain]`
 abbrev pub run_app : App
-run_app = with_rule (with_rule (with_rule (with_rule (new_app (codes "run"))
-    (needed (codes "MACHINE"))) (needed (codes "SCRIPT"))) workers) turns
+run_app = with_rule (with_rule (with_rule (loading_app (codes "run")) workers) turns) explain
 
--- `route MACHINE SRC DST [--reply]`
+-- `route MACHINE SRC DST [--reply] [--explain]`
 abbrev pub route_app : App
-route_app = with_rule (with_rule (with_rule (with_rule (new_app (codes "route"))
-    (needed (codes "MACHINE"))) (tile (codes "SRC"))) (tile (codes "DST"))) (flag (codes "reply"))
+route_app = with_rule (with_rule (with_rule (with_rule (with_rule (new_app (codes "route"))
+    (needed (codes "MACHINE"))) (tile (codes "SRC"))) (tile (codes "DST")))
+    (flag (codes "reply"))) explain
 
--- `channels MACHINE`
+-- `channels MACHINE [--explain]`
 abbrev pub channels_app : App
-channels_app = with_rule (new_app (codes "channels")) (needed (codes "MACHINE"))
+channels_app = with_rule (with_rule (new_app (codes "channels")) (needed (codes "MACHINE"))) explain
 
--- `check REPORT`
+-- `check REPORT [--explain]`
 abbrev pub check_app : App
-check_app = with_rule (new_app (codes "check")) (needed (codes "REPORT"))
+check_app = with_rule (with_rule (new_app (codes "check")) (needed (codes "REPORT"))) explain
+
+-- `network NETWORK [--explain]`
+abbrev pub network_app : App
+network_app = with_rule (with_rule (new_app (codes "network")) (needed (codes "NETWORK"))) explain
+
+-- `linearize TRACE [--configurations N] [--explain]`
+abbrev pub linearize_app : App
+linearize_app = with_rule (with_rule (with_rule (new_app (codes "linearize"))
+    (needed (codes "TRACE"))) configurations) explain
 
 -- the program, whose subcommand has to stand there
 abbrev pub top_app : App
-top_app = let app = new_app (codes "torusmem") in record app { top = record app.top { subcommand_required = true; has_version = true } }
+top_app = let app = new_app (codes "torusmem") in
+    record app { top = record app.top { subcommand_required = true; has_version = true } }
 
 -- the program with the subcommands that run scripts in one thread
 abbrev pub stepping_app : App
@@ -85,9 +113,13 @@ running_app = with_subcommand stepping_app run_app.top
 abbrev pub routing_app : App
 routing_app = with_subcommand (with_subcommand running_app route_app.top) channels_app.top
 
--- the program with all its subcommands
+-- and with the one that checks reports
+abbrev pub checking_app : App
+checking_app = with_subcommand routing_app check_app.top
+
+-- the program with all its subcommands: last those that judge networks and traces
 abbrev pub torusmem_app : App
-torusmem_app = with_subcommand routing_app check_app.top
+torusmem_app = with_subcommand (with_subcommand checking_app network_app.top) linearize_app.top
 
 -- the name of the subcommand that the words name
 abbrev pub name_by : List Text → Option Text

@@ -7,6 +7,7 @@ use Rattle.torus.specs.declared.shape.Class.{Class}
 use Rattle.torus.specs.declared.shape.Class.TheVariants.{Request, Reply}
 use Rattle.command_line.specs.declared.command.Job.{Job}
 use Rattle.command_line.specs.declared.command.Job.TheVariants.{Steps, Round, Run, Route, Channels, Check}
+use Rattle.command_line.specs.declared.command.Job.TheVariants.{Network, Linearize}
 
 -- the values of a subcommand's arguments
 abbrev pub rows_in : Option (Text × List Row) → Option (List Row)
@@ -14,7 +15,8 @@ rows_in = option_map (λ found. found.1)
 
 -- the number that is written for an argument
 abbrev pub number_in : Text → List Row → Option ℕ
-number_in id rows = option_map (λ text. digits_value 10 (without_leading_plus text)) (one_of id rows)
+number_in id rows = option_map (λ text. digits_value 10 (without_leading_plus text))
+    (one_of id rows)
 
 -- how `clap` writes whether a flag is given
 abbrev pub flag_text : Bool → Text
@@ -34,24 +36,40 @@ name_of (Run machine script workers turns) = codes "run"
 name_of (Route machine src dst class) = codes "route"
 name_of (Channels machine) = codes "channels"
 name_of (Check report) = codes "check"
+name_of (Network network) = codes "network"
+name_of (Linearize trace configurations) = codes "linearize"
+
+-- whether the flag of this name is given
+abbrev pub IsFlag : Text → Bool → List Row → Type 0
+IsFlag id given rows = one_of id rows ≡ Some (flag_text given)
 
 -- the values are those of the job: words as they are given, and the numbers that are written
 abbrev pub AreOf : Job → List Row → Type 0
 AreOf (Steps machine script steps) rows = (first_of (codes "MACHINE") rows ≡ Some machine.now)
-    × (first_of (codes "SCRIPT") rows ≡ Some script.now) × (first_of (codes "STEPS") rows ≡ Some steps.now)
+    × (first_of (codes "SCRIPT") rows ≡ Some script.now)
+    × (first_of (codes "STEPS") rows ≡ Some steps.now)
 AreOf (Round machine script rounds) rows = (first_of (codes "MACHINE") rows ≡ Some machine.now)
-    × (first_of (codes "SCRIPT") rows ≡ Some script.now) × (number_in (codes "rounds") rows ≡ Some rounds)
+    × (first_of (codes "SCRIPT") rows ≡ Some script.now)
+    × (number_in (codes "rounds") rows ≡ Some rounds)
 AreOf (Run machine script workers turns) rows = (first_of (codes "MACHINE") rows ≡ Some machine.now)
-    × (first_of (codes "SCRIPT") rows ≡ Some script.now) × (number_in (codes "workers") rows ≡ Some workers)
+    × (first_of (codes "SCRIPT") rows ≡ Some script.now)
+    × (number_in (codes "workers") rows ≡ Some workers)
     × (number_in (codes "turns") rows ≡ Some turns)
 AreOf (Route machine src dst class) rows = (first_of (codes "MACHINE") rows ≡ Some machine.now)
     × (number_in (codes "SRC") rows ≡ Some src) × (number_in (codes "DST") rows ≡ Some dst)
     × (one_of (codes "reply") rows ≡ Some (class_word class))
 AreOf (Channels machine) rows = first_of (codes "MACHINE") rows ≡ Some machine.now
 AreOf (Check report) rows = first_of (codes "REPORT") rows ≡ Some report.now
+AreOf (Network network) rows = first_of (codes "NETWORK") rows ≡ Some network.now
+AreOf (Linearize trace configurations) rows =
+    (first_of (codes "TRACE") rows ≡ Some trace.now)
+    × (number_in (codes "configurations") rows ≡ Some configurations)
 
--- the numbers of a job are within their limits: 1 to 1000000 rounds, 1 to 16 workers, 1 to 1000000000 turns
+-- the numbers of a job are within their limits: 1 to 1000000 rounds, 1 to 16 workers, 1 to
+-- 1000000000 turns, at least one configuration
 abbrev pub IsWithinLimits : Job → Type 0
 IsWithinLimits (Round machine script rounds) = (1 ≤ rounds) × (rounds ≤ 1000000)
-IsWithinLimits (Run machine script workers turns) = ((1 ≤ workers) × (workers ≤ 16)) × ((1 ≤ turns) × (turns ≤ 1000000000))
+IsWithinLimits (Run machine script workers turns) =
+    ((1 ≤ workers) × (workers ≤ 16)) × ((1 ≤ turns) × (turns ≤ 1000000000))
+IsWithinLimits (Linearize trace configurations) = 1 ≤ configurations
 IsWithinLimits _ = Unit {0}

@@ -1,6 +1,7 @@
 //! The command line of torusmem: what its words ask for.
 #![tactic(auto)]
 
+mod building;
 pub mod command;
 
-pub use command::{Job, read_command};
+pub use command::{Job, Request, read_command, read_request};

@@ -5,22 +5,24 @@ use Rattle.script.specs.declared.fault.LineFault.{LineFault}
 use Rattle.script.specs.Machine.{MachineSpec, machine_of}
 use Rattle.script.specs.Scripts.{ScriptsSpec, scripts_of}
 use Rattle.script.specs.Steps.{steps_of}
-use Rattle.machine_texts.specs.flights.specs.Load.{load_of}
-use Rattle.machine_laws.specs.Core.{Core, IsLawful, all_finished}
+use Rattle.machine_texts.specs.order_abstract.specs.Load.{load_of}
+use Rattle.core_machine.specs.Core.{Core, IsLawful, all_finished}
 use Rattle.report_lines.specs.Line.{text_of}
 use Rattle.history.specs.machine_report.specs.Report.{machine_report}
-use Rattle.commands.specs.declared.fault.ProgramFault.{ProgramFault}
-use Rattle.commands.specs.declared.fault.ProgramFault.TheVariants as program
-use Rattle.commands.specs.Done.{Does, Output}
+use Rattle.program_fault.specs.declared.fault.ProgramFault.{ProgramFault}
+use Rattle.program_fault.specs.declared.fault.ProgramFault.TheVariants as program
+use Rattle.program_fault.specs.Done.{Does, Output}
 use Rattle.commands.specs.Run.{Asked, HasRun, IsOfMachine, IsRunText, asked_of}
 
 -- all three are read
-pub all_read : (a b c : List (List ℕ)) (m : MachineSpec) (s : ScriptsSpec) (list : List Step) → machine_of a ≡ Ok m → scripts_of m b ≡ Ok s → steps_of m c ≡ Ok list
+pub all_read : (a b c : List (List ℕ)) (m : MachineSpec) (s : ScriptsSpec) (list : List Step) → machine_of a ≡ Ok m → scripts_of m b ≡ Ok s
+    → steps_of m c ≡ Ok list
     → asked_of a b c ≡ Ok (record { load = load_of m s; steps = list })
 all_read a b c m s list read scripts steps = rw (read, scripts, steps) refl
 
 -- the report of a machine that has made the steps is the report of the run
-pub run_printed : (asked : Result Asked LineFault) (c : Core) (finished : Bool) (text : List ℕ) → HasRun asked c → IsOfMachine c finished text → IsRunText asked finished text
+pub run_printed : (asked : Result Asked LineFault) (c : Core) (finished : Bool) (text : List ℕ) → HasRun asked c → IsOfMachine c finished text
+    → IsRunText asked finished text
 run_printed asked c finished text ran printed = record {
   run = ran.run;
   read = ran.read;

@@ -1,5 +1,6 @@
 -- What workers make of the seats that share the tiles, and what is left of it once they are joined.
-use Rattle.std.proofs.Common.{◌≡◌, ◌↔◌, ℕ, zero, suc, ◌-◌, ◌<◌, ◌≤◌, All, true, Bool, List, [], ◌∷◌, ◌++◌, length, map, take, drop, get_or, Result, Option, Some, None, refl, sym, ap, ◌∙◌, subst, inl, inr, ⊎_elim, arith}
+use Rattle.std.proofs.Common.{◌≡◌, ◌↔◌, ℕ, zero, suc, ◌-◌, ◌<◌, ◌≤◌, All, true, Bool, List, [], ◌∷◌, ◌++◌, length, map, take, drop, get_or, Result, Option}
+use Rattle.std.proofs.Common.{Some, None, refl, sym, ap, ◌∙◌, subst, inl, inr, ⊎_elim, arith}
 use Rattle.std.specs.Prelude.{slice_get, slice_index_or, is_some, option_map, min}
 use Rattle.std.specs.List.{range_with_len}
 use Rattle.std.proofs.lemmas.List.{append-nil, get_or-map, length-map}
@@ -8,18 +9,18 @@ use Rattle.std.proofs.lemmas.List.FromFn.{get_or-map-range_with_len, length-map-
 use Rattle.torus.specs.Shape.{tiles_of}
 use Rattle.torus.specs.declared.step.Step.{Step}
 use Rattle.script.specs.declared.fault.LineFault.{LineFault}
-use Rattle.machine_texts.specs.flights.specs.Load.{Load}
-use Rattle.machine_texts.specs.flights.specs.Scripts.{AreFinished}
+use Rattle.machine_texts.specs.order_abstract.specs.Load.{Load}
+use Rattle.machine_texts.specs.order_abstract.specs.Scripts.{AreFinished}
 use Rattle.machine_texts.specs.core_laws.specs.Core.{after, records_of, run_of}
 use Rattle.machine_texts.specs.core_laws.specs.Runs.{IsAccepted}
-use Rattle.machine_laws.specs.Core.{Core, IsAfter, all_finished, core_after, core_after_load, shown}
-use Rattle.machine_laws.specs.Reported.{ReportsWell}
-use Rattle.history.specs.worker_run.specs.fabric.specs.fabric_laws.specs.Ended.{AreAllFinished}
-use Rattle.history.specs.worker_run.specs.fabric.specs.fabric_laws.specs.Groups.{GoesOn, Owns}
-use Rattle.history.specs.worker_run.specs.fabric.specs.fabric_laws.specs.Known.{known}
-use Rattle.history.specs.worker_run.specs.fabric.specs.fabric_laws.proofs.Ends.{all_ended}
-use Rattle.history.specs.worker_run.specs.fabric.specs.fabric_laws.proofs.Groups.{away}
-use Rattle.history.specs.worker_run.specs.fabric.specs.fabric_laws.proofs.Runs.{known_away}
+use Rattle.core_machine.specs.Core.{Core, IsAfter, all_finished, core_after, core_after_load, shown}
+use Rattle.core_machine.specs.Reported.{ReportsWell}
+use Rattle.history.specs.worker_run.specs.fabric.specs.fabric_rule.specs.Ended.{AreAllFinished}
+use Rattle.history.specs.worker_run.specs.fabric.specs.fabric_rule.specs.Groups.{GoesOn, Owns}
+use Rattle.history.specs.worker_run.specs.fabric.specs.fabric_rule.specs.Known.{known}
+use Rattle.history.specs.worker_run.specs.fabric.specs.fabric_rule.proofs.Ends.{all_ended}
+use Rattle.history.specs.worker_run.specs.fabric.specs.fabric_rule.proofs.Groups.{away}
+use Rattle.history.specs.worker_run.specs.fabric.specs.fabric_rule.proofs.Runs.{known_away}
 use Rattle.history.specs.worker_run.specs.fabric.specs.Asking.{HasSeen}
 use Rattle.history.specs.worker_run.specs.fabric.specs.Ending.{Ended}
 use Rattle.history.specs.worker_run.specs.fabric.specs.Key.{ranges}
@@ -204,7 +205,8 @@ module _ (f : Origin) (n count : ℕ) where
   seats_count seats es = ap length es ∙ length-map-range_with_len seat_of 0 count
 
 module _ (f : Origin) (n count turns : ℕ) (whole : Knowing) where
-  pub crew_made : (seats : List Knowing) (old new : List Working) → IsOf f whole → seats ≡ map (seat_of f n count) (range_with_len 0 count) → old ≡ map new_worker seats → length new ≡ length old
+  pub crew_made : (seats : List Knowing) (old new : List Working) → IsOf f whole → seats ≡ map (seat_of f n count) (range_with_len 0 count)
+      → old ≡ map new_worker seats → length new ≡ length old
       → ((i : ℕ) (d : Working) → i < length old → HasWorked ⊥ (λ step. ⊥) turns (slice_index_or old i d) (slice_index_or new i d))
       → All (λ (x : Working). IsTakenIn x.knows whole) new → IsCrew f n count turns whole
   crew_made seats old new own es eo en worked taken =
@@ -236,10 +238,12 @@ module _ (f : Origin) (n count turns : ℕ) (whole : Knowing) where
     -- each worker did its part
     crew_parts : tiles_of f.load.shape ≡ n → IsAccepted f.load → ReportWell → (j : ℕ) → j < count → HasDonePart f.load turns (held n count j) whole.run
     crew_parts size ok report j lt =
-        done_part f turns (held n count j) whole (k.each j lt) ok report (λ t o. let below = holds_tiles n count some few j t lt o in omega (arith, below, size))
+        done_part f turns (held n count j) whole (k.each j lt) ok report
+        (λ t o. let below = holds_tiles n count some few j t lt o in omega (arith, below, size))
 
     -- what steps lead to, from either of two loads of one machine
-    module _ (l : Load) (c : Core) (from : IsAfter l c []) (told : IsAfter f.load c []) (size : n ≡ tiles_of c.shape) (workers : ℕ) (hired : count ≡ min workers n) where
+    module _ (l : Load) (c : Core) (from : IsAfter l c []) (told : IsAfter f.load c []) (size : n ≡ tiles_of c.shape) (workers : ℕ)
+        (hired : count ≡ min workers n) where
       crew_is : (tiles_of l.shape ≡ n) × (crew workers l ≡ count)
       crew_is =
           let same : tiles_of l.shape ≡ n = ap tiles_of (sym from.shape) ∙ sym size in
@@ -265,7 +269,8 @@ module _ (f : Origin) (n count turns : ℕ) (whole : Knowing) where
           }
 
 -- the report of what workers have made is that of a run of what was asked for
-pub workers_printed : (asked : Result Load LineFault) (workers turns : ℕ) (start : Core) (end : Ended) (finished : Bool) (text : List ℕ) (loaded : HasLoaded asked start)
+pub workers_printed : (asked : Result Load LineFault) (workers turns : ℕ) (start : Core) (end : Ended) (finished : Bool) (text : List ℕ)
+    (loaded : HasLoaded asked start)
     → IsMadeByWorkers loaded.load workers turns end
     → ((l : Load) (steps : List Step) → IsAccepted l → IsAfter l (core_after_load l steps) steps)
     → ((l : Load) (c : Core) (steps : List Step) → IsAfter l c steps → (all_finished c.state ≡ true) ↔ AreFinished (run_of l steps) (length steps) l.scripts)
@@ -284,5 +289,6 @@ workers_printed asked workers turns start end finished text loaded made leads en
       good = printed.good;
       lawful = after_run.lawful;
       value = value;
-      ended = subst (λ (b : Bool). (b ≡ true) ↔ AreFinished (run_of l end.run) (length end.run) l.scripts) (sym value) (ends l (core_after_load l end.run) end.run after_run);
+      ended = subst (λ (b : Bool). (b ≡ true) ↔ AreFinished (run_of l end.run) (length end.run) l.scripts) (sym value)
+          (ends l (core_after_load l end.run) end.run after_run);
     }

@@ -1,12 +1,13 @@
 -- A machine that makes rounds until every script is finished.
-use Rattle.std.proofs.Common.{◌≡◌, ℕ, zero, suc, ◌+◌, ◌<◌, ◌++◌, List, [], Bool, true, false, Result, Ok, refl, sym, ap, subst, ◌∙◌, arith, ⊎_elim, append_assoc, append-nil}
+use Rattle.std.proofs.Common.{◌≡◌, ℕ, zero, suc, ◌+◌, ◌<◌, ◌++◌, List, [], Bool, true, false, Result, Ok, refl, sym, ap, subst, ◌∙◌, arith, ⊎_elim}
+use Rattle.std.proofs.Common.{append_assoc, append-nil}
 use Rattle.std.proofs.lemmas.Bool.{cases_lt}
 use Rattle.torus.specs.Shape.{Shape}
 use Rattle.torus.specs.declared.step.Step.{Step}
 use Rattle.script.specs.declared.fault.LineFault.{LineFault}
-use Rattle.machine_texts.specs.flights.specs.Load.{Load}
+use Rattle.machine_texts.specs.order_abstract.specs.Load.{Load}
 use Rattle.machine_texts.specs.core_laws.specs.Core.{round}
-use Rattle.machine_laws.specs.Core.{Core, IsAfter, all_finished, core_after_load}
+use Rattle.core_machine.specs.Core.{Core, IsAfter, all_finished, core_after_load}
 use Rattle.machine_texts.specs.machine_core.specs.Rounds.{rounds_of}
 use Rattle.machine_texts.specs.Loading.{HasLoaded}
 use Rattle.commands.specs.Run.{IsOfMachine}
@@ -38,7 +39,8 @@ round_more s k = let one : suc k ≡ k + 1 = omega arith in rounds_then_round s 
 pub one_more : (l : Load) (k : ℕ) (c d : Core) → HasMade l k c → false ≡ all_finished c.state
     → ((steps : List Step) → IsAfter l c steps → IsAfter l d (steps ++ round c.shape)) → HasMade l (k + 1) d
 one_more l k c d made unfinished law = record {
-  after = subst (IsAfter l d) (ap (λ (s : Shape). rounds_of l.shape k ++ round s) made.after.shape ∙ round_more l.shape k) (law (rounds_of l.shape k) made.after);
+  after = subst (IsAfter l d) (ap (λ (s : Shape). rounds_of l.shape k ++ round s) made.after.shape ∙ round_more l.shape k)
+      (law (rounds_of l.shape k) made.after);
   unfinished = λ j below. ⊎_elim (made.unfinished j)
       (λ last. let same : j ≡ k = omega (arith, below, last) in
       ap (is_finished_after l) same ∙ finished_now l k c false made.after unfinished)
@@ -68,6 +70,11 @@ rounds_printed asked most start c finished text loaded made named printed = reco
   rounds = made.rounds;
   fewest = made.fewest;
   report = run_printed (Ok (asked_rounds loaded.load made.rounds)) c finished text
-      (record { run = asked_rounds loaded.load made.rounds; read = refl; after = made.after; reached = named loaded.load c (rounds_of loaded.load.shape made.rounds) made.after })
+      (record {
+        run = asked_rounds loaded.load made.rounds;
+        read = refl;
+        after = made.after;
+        reached = named loaded.load c (rounds_of loaded.load.shape made.rounds) made.after;
+      })
       printed;
 }

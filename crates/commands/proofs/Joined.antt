@@ -2,8 +2,8 @@
 use Rattle.std.proofs.Common.{◌≡◌, ℕ, All, List, [], ◌∷◌, ◌++◌, Some, sym, ap, ◌∙◌, subst, inl, append_assoc}
 use Rattle.std.proofs.lemmas.List.{append-nil}
 use Rattle.std.proofs.lemmas.List.Elements.{All-cons, All-nil, All-pop, All-weaker}
-use Rattle.history.specs.worker_run.specs.fabric.specs.fabric_laws.specs.Groups.{Owns}
-use Rattle.history.specs.worker_run.specs.fabric.specs.fabric_laws.proofs.Groups.{in_one, others_append, others_sub, owns_left, owns_right}
+use Rattle.history.specs.worker_run.specs.fabric.specs.fabric_rule.specs.Groups.{Owns}
+use Rattle.history.specs.worker_run.specs.fabric.specs.fabric_rule.proofs.Groups.{in_one, others_append, others_sub, owns_left, owns_right}
 use Rattle.history.specs.worker_run.specs.fabric.specs.Seats.{Knowing, Origin, IsOf, JoinsTo}
 use Rattle.history.specs.worker_run.specs.Working.{Working}
 use Rattle.commands.specs.Workers.{IsTakenIn}
@@ -38,7 +38,8 @@ pub record IsJoining (f : Origin) (all left : List Working) (whole : Knowing) : 
 
 module _ (f : Origin) (all : List Working) where
   -- the first of them
-  pub joins_first : (left : List Working) (last : Working) → All (λ (w : Working). IsOf f w.knows) all → all ≡ left ++ last ∷ [] → IsJoining f all left last.knows
+  pub joins_first : (left : List Working) (last : Working) → All (λ (w : Working). IsOf f w.knows) all → all ≡ left ++ last ∷ []
+      → IsJoining f all left last.knows
   joins_first left last own split =
       let p = All-pop (λ (w : Working). IsOf f w.knows) all left (Some last) split own in
       record {

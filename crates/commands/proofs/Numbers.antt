@@ -9,7 +9,8 @@ use Rattle.torus.specs.Shape.{Shape}
 use Rattle.channel_number.specs.Rising.{IsRising}
 use Rattle.script.specs.Machine.{MachineSpec, machine_of}
 use Rattle.channel_number.specs.Number.{IsNumbering}
-use Rattle.commands.specs.Done.{IsChannelsText, Output, Puts, TookAll}
+use Rattle.program_fault.specs.Done.{Output, Puts, TookAll}
+use Rattle.commands.specs.Done.{IsChannelsText}
 use Rattle.commands.specs.Lines.{IsNumbersText, all_lines, channels_lines}
 use Rattle.commands.proofs.Pieces.{front_of_last}
 
@@ -18,7 +19,8 @@ abbrev pub last_line : {A E : Type 0} → Result A E → List ℕ
 last_line (Ok x) = codes "rising\n"
 last_line (Err e) = []
 
-pub checked_text : {A E : Type 0} (s : Shape) (numbers : List ℕ) (r : Result A E) → (IsOk r ↔ IsRising s numbers) → IsNumbersText s numbers (all_lines s numbers ++ last_line r)
+pub checked_text : {A E : Type 0} (s : Shape) (numbers : List ℕ) (r : Result A E) → (IsOk r ↔ IsRising s numbers)
+    → IsNumbersText s numbers (all_lines s numbers ++ last_line r)
 checked_text s numbers (Ok x) is = record { rising = λ rises. refl; falling = λ falls. absurd (falls (is.0 refl)) }
 checked_text s numbers (Err e) is = record { rising = λ rises. absurd (true≢false (sym (is.1 rises))); falling = λ falls. append-nil (all_lines s numbers) }
 
@@ -28,11 +30,18 @@ pub puts_last : {A E : Type 0} (is : List ℕ → Type 0) (old mid new : Output)
     → OnOk r (new.failures ≡ mid.failures) → OnErr r (Rose mid.failures new.failures) → Puts is old new r
 puts_last is old mid new lines last (Ok x) right before ok err quiet failed =
     (lines ++ last, right, record { bytes = Appends-trans old.taken mid.taken new.taken lines last before.bytes ok; quiet = quiet ∙ before.quiet })
-puts_last is old mid new lines last (Err e) right before ok err quiet failed =
-    (lines ++ last, right, record { bytes = front_of_last old.taken mid.taken new.taken lines last before.bytes err; failed = subst (λ (n : ℕ). Rose n new.failures) before.quiet failed })
+puts_last is old mid new lines last (Err e) right before ok err quiet failed = (
+  lines ++ last,
+  right,
+  record {
+    bytes = front_of_last old.taken mid.taken new.taken lines last before.bytes err;
+    failed = subst (λ (n : ℕ). Rose n new.failures) before.quiet failed;
+  },
+)
 
 -- the text of numbers that rise is that of the channels
-pub channels_printed : (lines : List (List ℕ)) (machine : MachineSpec) (s : Shape) (numbers given text : List ℕ) → machine_of lines ≡ Ok machine → s ≡ machine.shape → given ≡ numbers
+pub channels_printed : (lines : List (List ℕ)) (machine : MachineSpec) (s : Shape) (numbers given text : List ℕ) → machine_of lines ≡ Ok machine
+    → s ≡ machine.shape → given ≡ numbers
     → IsNumbering s numbers → IsRising s numbers → IsNumbersText s given text → IsChannelsText lines text
 channels_printed lines machine s numbers given text read shape same numbering rises right = record {
   machine = machine;

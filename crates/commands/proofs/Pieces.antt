@@ -1,5 +1,6 @@
 -- Lines that were taken one after another.
-use Rattle.std.proofs.Common.{◌≡◌, ℕ, ◌+◌, ◌<◌, List, [], ◌∷◌, ◌++◌, length, get_or, map, take, drop, Option, arith, ap, subst, sym, ◌∙◌, append_assoc, append-nil, zero-add}
+use Rattle.std.proofs.Common.{◌≡◌, ℕ, ◌+◌, ◌<◌, List, [], ◌∷◌, ◌++◌, length, get_or, map, take, drop, Option, arith, ap, subst, sym, ◌∙◌, append_assoc}
+use Rattle.std.proofs.Common.{append-nil, zero-add}
 use Rattle.std.specs.List.{flat_map, range_with_len}
 use Rattle.std.specs.Io.KnownBytes.{Appends}
 use Rattle.std.proofs.KnownBytes.{Appends-trans}
@@ -19,11 +20,13 @@ first_lines-more line i =
     ∙ ap (λ t. first_lines line i ++ t) (append-nil (line i))
 
 -- one more line
-pub line_more : (a b c : Option (List ℕ)) (line : ℕ → List ℕ) (i : ℕ) → Appends a b (first_lines line i) → Appends b c (line i) → Appends a c (first_lines line (i + 1))
+pub line_more : (a b c : Option (List ℕ)) (line : ℕ → List ℕ) (i : ℕ) → Appends a b (first_lines line i) → Appends b c (line i)
+    → Appends a c (first_lines line (i + 1))
 line_more a b c line i before here = subst (Appends a c) (sym (first_lines-more line i)) (Appends-trans a b c _ _ before here)
 
 -- a beginning of one more line is a beginning of all lines
-pub line_front : (a b c : Option (List ℕ)) (line : ℕ → List ℕ) (i n : ℕ) → i < n → Appends a b (first_lines line i) → AppendsFront b c (line i) → AppendsFront a c (first_lines line n)
+pub line_front : (a b c : Option (List ℕ)) (line : ℕ → List ℕ) (i n : ℕ) → i < n → Appends a b (first_lines line i) → AppendsFront b c (line i)
+    → AppendsFront a c (first_lines line n)
 line_front a b c line i n inside before here =
     let xs : List (List ℕ) = map line (range_with_len 0 n) in
     let whole : i < length xs = rw length-map-range_with_len inside in

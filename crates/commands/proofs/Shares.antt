@@ -7,7 +7,7 @@ use Rattle.std.proofs.Math.Nat.{add-mul, div-mul-le_self, mul-div_cancel_left, z
 use Rattle.std.proofs.lemmas.Bool.{cases_lt}
 use Rattle.std.proofs.lemmas.List.FromFn.{length-map-range_with_len}
 use Rattle.std.proofs.lemmas.Nat.{le-div}
-use Rattle.history.specs.worker_run.specs.fabric.specs.fabric_laws.specs.Groups.{Owns}
+use Rattle.history.specs.worker_run.specs.fabric.specs.fabric_rule.specs.Groups.{Owns}
 use Rattle.history.specs.worker_run.specs.fabric.specs.Key.{count_up, ranges, Rises}
 use Rattle.history.specs.worker_run.specs.fabric.specs.Opening.{CanDeal}
 use Rattle.commands.specs.Workers.{first_held, held}
@@ -77,7 +77,8 @@ module _ (n workers : ℕ) (some : 0 < workers) (few : workers ≤ n) where
       let left : (j * n / workers + 1) * workers ≡ j * n / workers * workers + 1 * workers = add-mul (j * n / workers) 1 workers in
       let this : 1 * n ≡ n = omega arith in
       let right : (j + 1) * n ≡ j * n + 1 * n = add-mul j 1 n in
-      let le : j * n / workers + 1 ≤ (j + 1) * n / workers = le-div (j * n / workers + 1) ((j + 1) * n) workers some (omega (arith, below, one, left, this, right, few)) in
+      let le : j * n / workers + 1 ≤ (j + 1) * n / workers =
+      le-div (j * n / workers + 1) ((j + 1) * n) workers some (omega (arith, below, one, left, this, right, few)) in
       omega (arith, le)
 
   last : (k : ℕ) → workers ≡ suc k → g (0 + suc k) ≡ n

@@ -2,13 +2,13 @@
 use Rattle.std.proofs.Common.{◌≡◌, ℕ, suc, ◌+◌, ◌++◌, List, [], ◌∷◌, Bool, Result, Ok, Err, refl, sym, ap, subst, arith, inl, inr, append_assoc, append-nil}
 use Rattle.torus.specs.declared.step.Step.{Step}
 use Rattle.script.specs.declared.fault.LineFault.{LineFault}
-use Rattle.machine_texts.specs.flights.specs.Load.{Load}
-use Rattle.machine_laws.specs.Core.{Core, IsAfter, core_after_load}
+use Rattle.machine_texts.specs.order_abstract.specs.Load.{Load}
+use Rattle.core_machine.specs.Core.{Core, IsAfter, core_after_load}
 use Rattle.machine_texts.specs.machine_core.specs.Rounds.{rounds_of}
 use Rattle.machine_texts.specs.Loading.{HasLoaded}
-use Rattle.commands.specs.declared.fault.ProgramFault.{ProgramFault}
-use Rattle.commands.specs.declared.fault.ProgramFault.TheVariants as program
-use Rattle.commands.specs.Done.{Does, Output}
+use Rattle.program_fault.specs.declared.fault.ProgramFault.{ProgramFault}
+use Rattle.program_fault.specs.declared.fault.ProgramFault.TheVariants as program
+use Rattle.program_fault.specs.Done.{Does, Output}
 use Rattle.commands.specs.Run.{IsNoFault, IsReadFault}
 use Rattle.commands.specs.Calls.{Call, Ended, Hears}
 use Rattle.commands.specs.Telling.{AreCallsOf, AreRoundsCalls, AreRunCalls, HearsSome, TellsRounds, answered_after, answered_by, round_calls}
@@ -32,7 +32,8 @@ calls_more l k c calls wants each after named =
     (calls, wants, each, ap (λ (n : ℕ). calls ++ round_calls (k + 1) n wants) count)
 
 -- what was heard behind the first rounds, and then behind one more
-pub round_heard : (l : Load) (k : ℕ) (c : Core) (old mid new : List Call → Type 0) → HearsSome (AreCallsOf l k) old mid → IsAfter l c (rounds_of l.shape (k + 1))
+pub round_heard : (l : Load) (k : ℕ) (c : Core) (old mid new : List Call → Type 0) → HearsSome (AreCallsOf l k) old mid
+    → IsAfter l c (rounds_of l.shape (k + 1))
     → ((l : Load) (c : Core) (steps : List Step) → IsAfter l c steps → c ≡ core_after_load l steps)
     → ((wants : Bool) × Hears mid new (round_calls (k + 1) (answered_by c) wants)) → HearsSome (AreCallsOf l (k + 1)) old new
 round_heard l k c old mid new so_far after named more = (
@@ -42,7 +43,8 @@ round_heard l k c old mid new so_far after named more = (
 )
 
 told_all : (asked : Result Load LineFault) (most : ℕ) (old new : List Call → Type 0) → HearsSome (AreRunCalls asked most) old new
-    → (gives : Bool → List ℕ → Type 0) (before behind : Output) (r : Result Bool ProgramFault) → Does gives IsNoFault before behind r → TellsRounds asked most old new r
+    → (gives : Bool → List ℕ → Type 0) (before behind : Output) (r : Result Bool ProgramFault) → Does gives IsNoFault before behind r
+    → TellsRounds asked most old new r
 told_all asked most old new all gives before behind (Ok x) done = all
 told_all asked most old new all gives before behind (Err program.Output) done = all
 told_all asked most old new all gives before behind (Err (program.Fault which)) done = inl all
@@ -53,7 +55,8 @@ told_all asked most old new all gives before behind (Err (program.Bad line)) don
 -- all calls, where the report was written, or the output or memory for it failed
 pub run_told : (asked : Result Load LineFault) (most : ℕ) (start : Core) (loaded : HasLoaded asked start) (old mid new : List Call → Type 0)
     → HearsSome (AreRoundsCalls loaded.load most) old mid → Hears mid new (Ended ∷ [])
-    → (gives : Bool → List ℕ → Type 0) (before behind : Output) (r : Result Bool ProgramFault) → Does gives IsNoFault before behind r → TellsRounds asked most old new r
+    → (gives : Bool → List ℕ → Type 0) (before behind : Output) (r : Result Bool ProgramFault) → Does gives IsNoFault before behind r
+    → TellsRounds asked most old new r
 run_told asked most start loaded old mid new rounds ended gives before behind r done =
     let all : HearsSome (AreRunCalls asked most) old new = (
       rounds.0 ++ Ended ∷ [],
@@ -63,7 +66,8 @@ run_told asked most start loaded old mid new rounds ended gives before behind r 
     told_all asked most old new all gives before behind r done
 
 -- nothing, where there is no machine
-pub none_told : (asked : Result Load LineFault) (most : ℕ) (h : List Call → Type 0) (e : ProgramFault) → IsReadFault asked e → TellsRounds asked most h h (Err e)
+pub none_told : (asked : Result Load LineFault) (most : ℕ) (h : List Call → Type 0) (e : ProgramFault) → IsReadFault asked e
+    → TellsRounds asked most h h (Err e)
 none_told asked most h program.Output is = absurd is
 none_told asked most h (program.Fault which) is = inr (λ calls o. o)
 none_told asked most h (program.Line found) is = λ calls o. o

@@ -1,8 +1,8 @@
 -- The calls of whoever watches a run in rounds (this project's own format).
 use Rattle.std.specs.Prelude.{ℕ, List, ◌++◌, Bool}
 
--- one call: the question whether it wants to be told, with its answer; or so many rounds are made, and so many
--- operations are answered; or no more rounds are made
+-- one call: the question whether it wants to be told, with its answer; or so many rounds are made,
+-- and so many operations are answered; or no more rounds are made
 pub data Call : Type 0 where
   Wants : (answer : Bool) → Call
   Made : (rounds answered : ℕ) → Call

@@ -1,5 +1,3 @@
-pub mod Outcome
-pub mod Message
 pub mod Lines
 pub mod Done
 pub mod Run

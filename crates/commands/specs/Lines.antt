@@ -1,5 +1,6 @@
 -- The lines that tell of channels (this project's own format).
-use Rattle.std.specs.Prelude.{◌≡◌, ℕ, ◌/◌, ◌%◌, Bool, true, false, List, [], ◌∷◌, ◌++◌, codes, decimal, map, slice_index}
+use Rattle.std.specs.Prelude.{◌≡◌, ℕ, ◌/◌, ◌%◌, Bool, true, false, List, [], ◌∷◌, ◌++◌, codes, decimal, map}
+use Rattle.std.specs.Prelude.{slice_index}
 use Rattle.std.specs.List.{join_with_byte, flat_map, range_with_len}
 use Rattle.torus.specs.Shape.{Shape}
 use Rattle.torus.specs.declared.shape.Class.{Class}
@@ -44,11 +45,13 @@ route_lines s src dst class = flat_map (channel_line s) (route_of s src dst clas
 
 -- the line of the channel that stands at a place among those of its tile, with its number
 abbrev pub place_line : ℕ → ℕ → ℕ → List ℕ
-place_line tile place number = line_of (codes "channel" ∷ decimal tile ∷ decimal place ∷ decimal number ∷ [])
+place_line tile place number =
+    line_of (codes "channel" ∷ decimal tile ∷ decimal place ∷ decimal number ∷ [])
 
 -- the line of channel i of the channel order, where these are the numbers of all
 abbrev pub order_line : Shape → List ℕ → ℕ → List ℕ
-order_line s numbers i = place_line (i / channels_at_tile s) (i % channels_at_tile s) (slice_index numbers i)
+order_line s numbers i = place_line (i / channels_at_tile s) (i % channels_at_tile s)
+    (slice_index numbers i)
 
 -- the lines of the first channels of the channel order
 abbrev pub order_lines : Shape → List ℕ → ℕ → List (List ℕ)
@@ -62,7 +65,8 @@ all_lines s numbers = flat_map (λ line. line) (order_lines s numbers (channel_c
 abbrev pub channels_lines : Shape → List ℕ → List ℕ
 channels_lines s numbers = all_lines s numbers ++ codes "rising\n"
 
--- a text has the lines of all channels, whatever numbers these are, and says that they rise exactly where they do
+-- a text has the lines of all channels, whatever numbers these are, and says that they rise exactly
+-- where they do
 pub record IsNumbersText (s : Shape) (numbers text : List ℕ) : Type 0 where
   pub rising : IsRising s numbers → text ≡ channels_lines s numbers
   pub falling : (IsRising s numbers → ⊥) → text ≡ all_lines s numbers

@@ -6,17 +6,17 @@ use Rattle.script.specs.declared.fault.LineFault.{LineFault}
 use Rattle.script.specs.Machine.{machine_of}
 use Rattle.script.specs.Scripts.{scripts_of}
 use Rattle.script.specs.Steps.{steps_of}
-use Rattle.machine_texts.specs.flights.specs.Load.{Load, load_of}
+use Rattle.machine_texts.specs.order_abstract.specs.Load.{Load, load_of}
 use Rattle.machine_texts.specs.core_laws.specs.Core.{run_of}
-use Rattle.machine_laws.specs.Core.{Core, IsAfter, IsLawful, core_after_load, all_finished}
-use Rattle.machine_texts.specs.flights.specs.Scripts.{AreFinished}
+use Rattle.core_machine.specs.Core.{Core, IsAfter, IsLawful, core_after_load, all_finished}
+use Rattle.machine_texts.specs.order_abstract.specs.Scripts.{AreFinished}
 use Rattle.machine_texts.specs.Loading.{◌then◌}
 use Rattle.report_lines.specs.Line.{text_of}
 use Rattle.report_check.specs.Good.{GoodReport}
 use Rattle.history.specs.machine_report.specs.Report.{machine_report}
-use Rattle.commands.specs.declared.fault.ProgramFault.{ProgramFault}
-use Rattle.commands.specs.declared.fault.ProgramFault.TheVariants as program
-use Rattle.commands.specs.Done.{Does, Output}
+use Rattle.program_fault.specs.declared.fault.ProgramFault.{ProgramFault}
+use Rattle.program_fault.specs.declared.fault.ProgramFault.TheVariants as program
+use Rattle.program_fault.specs.Done.{Does, Output}
 
 -- a machine with its scripts, and the steps that it is to make
 pub record Asked : Type 0 where
@@ -50,22 +50,29 @@ IsReadFault asked _ = ⊥
 abbrev pub IsNoFault : ProgramFault → Type 0
 IsNoFault f = ⊥
 
--- a text is the report of a machine's run, a good one, and the answer says whether every script is finished
+-- a text is the report of a machine's run, a good one, and the answer says whether every script is
+-- finished
 pub record IsOfMachine (c : Core) (finished : Bool) (text : List ℕ) : Type 0 where
   pub is : text ≡ text_of (machine_report c)
   pub good : GoodReport text
   pub value : finished ≡ all_finished c.state
-  pub law : (l : Load) (steps : List Step) → IsAfter l c steps → IsTrue finished ↔ AreFinished (run_of l steps) (length steps) l.scripts
+  pub law : (l : Load) (steps : List Step) → IsAfter l c steps
+      → IsTrue finished ↔ AreFinished (run_of l steps) (length steps) l.scripts
 
--- A text is the report of the run that was asked for, and a good one: the run has one legal order, which is that of the report's order lines (Herlihy and Wing, TOPLAS 12(3), 1990: linearizability), every processor has followed its script, and the answer says whether every script is finished.
-pub record IsRunText (asked : Result Asked LineFault) (finished : Bool) (text : List ℕ) : Type 0 where
-  pub run : Asked
-  pub read : asked ≡ Ok run
-  pub is : text ≡ text_of (machine_report (core_of run))
-  pub good : GoodReport text
-  pub lawful : IsLawful run.load run.steps (core_of run).book.rows
-  pub value : finished ≡ all_finished (core_of run).state
-  pub ended : IsTrue finished ↔ AreFinished (run_of run.load run.steps) (length run.steps) run.load.scripts
+-- A text is the report of the run that was asked for, and a good one: the run has one legal order,
+-- which is that of the report's order lines (Herlihy and Wing, TOPLAS 12(3), 1990:
+-- linearizability), every processor has followed its script, and the answer says whether every
+-- script is finished.
+pub record IsRunText (asked : Result Asked LineFault) (finished : Bool) (text : List ℕ) : Type 0
+  where
+    pub run : Asked
+    pub read : asked ≡ Ok run
+    pub is : text ≡ text_of (machine_report (core_of run))
+    pub good : GoodReport text
+    pub lawful : IsLawful run.load run.steps (core_of run).book.rows
+    pub value : finished ≡ all_finished (core_of run).state
+    pub ended : IsTrue finished
+        ↔ AreFinished (run_of run.load run.steps) (length run.steps) run.load.scripts
 
 -- this is the first fault of the texts
 abbrev pub IsTextsFault : {A : Type 0} → Result A LineFault → ProgramFault → Type 0

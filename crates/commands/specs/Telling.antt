@@ -1,12 +1,13 @@
 -- What whoever watches a run in rounds is told (this project's own format).
-use Rattle.std.specs.Prelude.{◌≡◌, ℕ, zero, suc, ◌+◌, List, [], ◌∷◌, ◌++◌, Bool, true, false, Result, Ok, Err, ◌⊎◌, length}
+use Rattle.std.specs.Prelude.{◌≡◌, ℕ, zero, suc, ◌+◌, List, [], ◌∷◌, ◌++◌, Bool, true, false, Result, Ok, Err, ◌⊎◌}
+use Rattle.std.specs.Prelude.{length}
 use Rattle.std.specs.Io.Iter.{u64_saturate}
 use Rattle.std.specs.List.{sum_by}
 use Rattle.script.specs.declared.fault.LineFault.{LineFault}
-use Rattle.machine_texts.specs.flights.specs.Load.{Load}
-use Rattle.machine_laws.specs.Core.{Core, shown}
-use Rattle.commands.specs.declared.fault.ProgramFault.{ProgramFault}
-use Rattle.commands.specs.declared.fault.ProgramFault.TheVariants as program
+use Rattle.machine_texts.specs.order_abstract.specs.Load.{Load}
+use Rattle.core_machine.specs.Core.{Core, shown}
+use Rattle.program_fault.specs.declared.fault.ProgramFault.{ProgramFault}
+use Rattle.program_fault.specs.declared.fault.ProgramFault.TheVariants as program
 use Rattle.commands.specs.Calls.{Call, Wants, Made, Ended, Hears}
 use Rattle.commands.specs.Run.{core_of}
 use Rattle.commands.specs.Rounds.{AreFewest, asked_rounds}
@@ -37,7 +38,8 @@ pub record AreRoundsCalls (l : Load) (most : ℕ) (calls : List Call) : Type 0 w
   pub fewest : AreFewest l most rounds
   pub each : AreCallsOf l rounds calls
 
--- these are all calls of the run in rounds of what was asked for: those behind its rounds, and the end, once
+-- these are all calls of the run in rounds of what was asked for: those behind its rounds, and the
+-- end, once
 pub record AreRunCalls (asked : Result Load LineFault) (most : ℕ) (calls : List Call) : Type 0 where
   pub load : Load
   pub read : asked ≡ Ok load
@@ -53,11 +55,14 @@ HearsSome are old new = (calls : List Call) × are calls × Hears old new calls
 abbrev pub HearsNothing : (List Call → Type 0) → (List Call → Type 0) → Type 0
 HearsNothing old new = (calls : List Call) → old calls → new calls
 
--- whoever watches is told of each round and of the end, unless a text has a fault, or memory is wanting for the machine
-abbrev pub TellsRounds : Result Load LineFault → ℕ → (List Call → Type 0) → (List Call → Type 0) → Result Bool ProgramFault → Type 0
+-- whoever watches is told of each round and of the end, unless a text has a fault, or memory is
+-- wanting for the machine
+abbrev pub TellsRounds : Result Load LineFault → ℕ → (List Call → Type 0) → (List Call → Type 0)
+    → Result Bool ProgramFault → Type 0
 TellsRounds asked most old new (Ok finished) = HearsSome (AreRunCalls asked most) old new
 TellsRounds asked most old new (Err program.Output) = HearsSome (AreRunCalls asked most) old new
-TellsRounds asked most old new (Err (program.Fault which)) = HearsSome (AreRunCalls asked most) old new ⊎ HearsNothing old new
+TellsRounds asked most old new (Err (program.Fault which)) =
+    HearsSome (AreRunCalls asked most) old new ⊎ HearsNothing old new
 TellsRounds asked most old new (Err (program.Line found)) = HearsNothing old new
 TellsRounds asked most old new (Err program.Tile) = ⊥
 TellsRounds asked most old new (Err (program.Bad line)) = ⊥

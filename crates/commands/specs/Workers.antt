@@ -1,14 +1,16 @@
--- What two texts ask for that workers run in threads, and what is printed of it (this project's own format).
-use Rattle.std.specs.Prelude.{◌≡◌, ℕ, ◌+◌, ◌-◌, ◌*◌, ◌/◌, ◌<◌, min, List, [], ◌∷◌, length, Bool, None, Result, Ok, IsTrue, ◌↔◌}
+-- What two texts ask for that workers run in threads, and what is printed of it (this project's own
+-- format).
+use Rattle.std.specs.Prelude.{◌≡◌, ℕ, ◌+◌, ◌-◌, ◌*◌, ◌/◌, ◌<◌, min, List, [], ◌∷◌, length, Bool, None, Result, Ok}
+use Rattle.std.specs.Prelude.{IsTrue, ◌↔◌}
 use Rattle.torus.specs.Shape.{tiles_of}
 use Rattle.torus.specs.declared.step.Step.{Step}
 use Rattle.script.specs.declared.fault.LineFault.{LineFault}
-use Rattle.machine_texts.specs.flights.specs.Load.{Load}
-use Rattle.machine_texts.specs.flights.specs.Scripts.{AreFinished}
+use Rattle.machine_texts.specs.order_abstract.specs.Load.{Load}
+use Rattle.machine_texts.specs.order_abstract.specs.Scripts.{AreFinished}
 use Rattle.machine_texts.specs.core_laws.specs.Core.{after, run_of}
-use Rattle.machine_laws.specs.Core.{IsLawful, all_finished, book_after, core_after_load}
-use Rattle.history.specs.worker_run.specs.fabric.specs.fabric_laws.specs.Ended.{AreAllFinished}
-use Rattle.history.specs.worker_run.specs.fabric.specs.fabric_laws.specs.Groups.{GoesOn, Owns}
+use Rattle.core_machine.specs.Core.{IsLawful, all_finished, book_after, core_after_load}
+use Rattle.history.specs.worker_run.specs.fabric.specs.fabric_rule.specs.Ended.{AreAllFinished}
+use Rattle.history.specs.worker_run.specs.fabric.specs.fabric_rule.specs.Groups.{GoesOn, Owns}
 use Rattle.history.specs.worker_run.specs.fabric.specs.Ending.{Ended}
 use Rattle.history.specs.worker_run.specs.fabric.specs.Key.{count_up}
 use Rattle.history.specs.worker_run.specs.fabric.specs.Seats.{Knowing}
@@ -16,8 +18,8 @@ use Rattle.history.specs.worker_run.specs.Working.{HasTurned, Working}
 use Rattle.report_lines.specs.Line.{text_of}
 use Rattle.report_check.specs.Good.{GoodReport}
 use Rattle.history.specs.RunReport.{run_report}
-use Rattle.commands.specs.declared.fault.ProgramFault.{ProgramFault}
-use Rattle.commands.specs.Done.{Does, Output}
+use Rattle.program_fault.specs.declared.fault.ProgramFault.{ProgramFault}
+use Rattle.program_fault.specs.Done.{Does, Output}
 use Rattle.commands.specs.Run.{IsTextsFault}
 
 -- the first tile of worker j, where so many workers share n tiles (this project's own format)
@@ -26,7 +28,8 @@ first_held n workers j = j * n / workers
 
 -- the tiles of worker j: from its first one on, up to that of the next
 abbrev pub held : ℕ → ℕ → ℕ → List ℕ
-held n workers j = count_up (first_held n workers j) (first_held n workers (j + 1) - first_held n workers j)
+held n workers j = count_up (first_held n workers j)
+    (first_held n workers (j + 1) - first_held n workers j)
 
 -- how many workers there are, where so many are asked for: no more than there are tiles
 abbrev pub crew : ℕ → Load → ℕ
@@ -43,11 +46,13 @@ pub record LetsAll (holds : ℕ → Type 0) (stops : ℕ → Step → Type 0) : 
 
 -- all tiles of a seat are another's, whose run goes on from the seat's by steps of other tiles
 abbrev pub IsTakenIn : Knowing → Knowing → Type 0
-IsTakenIn k whole = ((t : ℕ) → Owns k.tiles t → Owns whole.tiles t) × GoesOn (k.tiles ∷ []) whole.run k.run
+IsTakenIn k whole = ((t : ℕ) → Owns k.tiles t → Owns whole.tiles t)
+    × GoesOn (k.tiles ∷ []) whole.run k.run
 
--- A worker did its part of a run: with its tiles it made turns from the empty run on, in the order of rounds, until its
--- processors had seen the end or it had made all its turns, and all of them where a script isn't finished after the run.
--- The run goes on from what the worker knew then by steps of other tiles.
+-- A worker did its part of a run: with its tiles it made turns from the empty run on, in the order
+-- of rounds, until its processors had seen the end or it had made all its turns, and all of them
+-- where a script isn't finished after the run. The run goes on from what the worker knew then by
+-- steps of other tiles.
 pub record HasDonePart (load : Load) (turns : ℕ) (tiles : List ℕ) (run : List Step) : Type 0 where
   pub first : Knowing
   pub last : Knowing
@@ -58,22 +63,26 @@ pub record HasDonePart (load : Load) (turns : ℕ) (tiles : List ℕ) (run : Lis
   pub all : (AreAllFinished load run → ⊥) → length turned.steps ≡ turns
   pub rest : GoesOn (tiles ∷ []) run last.run
 
--- So many workers have made a run of a load, each its part. What the end says was loaded leads to the same machines as
--- the load; it may lack fences in front of scripts, which no machine tells.
+-- So many workers have made a run of a load, each its part. What the end says was loaded leads to
+-- the same machines as the load; it may lack fences in front of scripts, which no machine tells.
 pub record IsMadeByWorkers (load : Load) (workers turns : ℕ) (end : Ended) : Type 0 where
   pub alike : (steps : List Step) → core_after_load end.load steps ≡ core_after_load load steps
-  pub each : (j : ℕ) → j < crew workers load → HasDonePart end.load turns (held (tiles_of load.shape) (crew workers load) j) end.run
+  pub each : (j : ℕ) → j < crew workers load
+      → HasDonePart end.load turns (held (tiles_of load.shape) (crew workers load) j) end.run
 
--- a text is the report of a run, a good one without order lines, and the answer says whether every script is finished
+-- a text is the report of a run, a good one without order lines, and the answer says whether every
+-- script is finished
 pub record IsOfEnded (end : Ended) (finished : Bool) (text : List ℕ) : Type 0 where
   pub is : text ≡ text_of (run_report end.load end.run)
   pub good : GoodReport text
   pub value : finished ≡ all_finished (after end.load end.run)
 
--- A text is the report of some run that the workers made of what was asked for, and a good one, without order lines: the
--- run has one legal order, that of the services (Herlihy and Wing, TOPLAS 12(3), 1990: linearizability), every processor
--- has followed its script, and the answer says whether every script is finished.
-pub record IsWorkersText (asked : Result Load LineFault) (workers turns : ℕ) (finished : Bool) (text : List ℕ) : Type 0 where
+-- A text is the report of some run that the workers made of what was asked for, and a good one,
+-- without order lines: the run has one legal order, that of the services (Herlihy and Wing, TOPLAS
+-- 12(3), 1990: linearizability), every processor has followed its script, and the answer says
+-- whether every script is finished.
+pub record IsWorkersText (asked : Result Load LineFault) (workers turns : ℕ) (finished : Bool)
+    (text : List ℕ) : Type 0 where
   pub load : Load
   pub read : asked ≡ Ok load
   pub end : Ended
@@ -85,5 +94,6 @@ pub record IsWorkersText (asked : Result Load LineFault) (workers turns : ℕ) (
   pub ended : IsTrue finished ↔ AreFinished (run_of load end.run) (length end.run) load.scripts
 
 -- the report of the workers' run was printed
-abbrev pub PrintsWorkers : Result Load LineFault → ℕ → ℕ → Output → Output → Result Bool ProgramFault → Type 0
+abbrev pub PrintsWorkers : Result Load LineFault → ℕ → ℕ → Output → Output
+    → Result Bool ProgramFault → Type 0
 PrintsWorkers asked workers turns = Does (IsWorkersText asked workers turns) (IsTextsFault asked)

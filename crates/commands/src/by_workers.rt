@@ -3,24 +3,25 @@ ghost use Rattle.std.specs.List.{range_with_len};
 ghost use Rattle.std.specs.Str.Lines.{lines};
 ghost use Rattle.torus.specs.Shape.{tiles_of};
 ghost use Rattle.torus.specs.declared.fault.Fault.TheVariants as fault;
-ghost use Rattle.machine_texts.specs.flights.specs.Load.{Load};
-ghost use Rattle.machine_laws.specs.Core.{IsAfter};
+ghost use Rattle.machine_texts.specs.order_abstract.specs.Load.{Load};
+ghost use Rattle.core_machine.specs.Core.{IsAfter};
 ghost use Rattle.machine_texts.specs.Loading.{load_by};
 ghost use Rattle.history.specs.worker_run.specs.fabric.specs.Opening.{fresh};
 ghost use Rattle.history.specs.worker_run.specs.fabric.specs.Seats.{IsOf};
 ghost use Rattle.history.specs.worker_run.specs.Working.{HasWorked, Working};
-ghost use Rattle.commands.specs.Done.{Does, output};
+ghost use Rattle.program_fault.specs.Done.{Does, output};
 ghost use Rattle.commands.specs.Run.{IsNoFault};
-ghost use Rattle.commands.specs.Workers.{IsMadeByWorkers, IsOfEnded, IsTakenIn, LetsAll, PrintsWorkers, first_held, held, new_worker};
+ghost use Rattle.commands.specs.Workers.{IsMadeByWorkers, IsOfEnded, IsTakenIn, LetsAll, PrintsWorkers, first_held};
+ghost use Rattle.commands.specs.Workers.{held, new_worker};
 
 use crate::ProgramFault;
 use crate::in_rounds::loaded;
 use arrayvec::ArrayVec;
-use history::{Fabric, Final, Gate, Open, TileSeat, Worker, of_final, run_workers, write_report};
-use machine_laws::laws::{
+use core_machine::laws::{
     ended_followers_finish_scripts, steps_decide_the_machine, steps_lead_on,
     steps_lead_to_a_machine,
 };
+use history::{Fabric, Final, Gate, Open, TileSeat, Worker, of_final, run_workers, write_report};
 use machine_texts::Machine;
 use report_lines::Out;
 use std::alloc::{AllocError, Allocator};
@@ -46,7 +47,9 @@ pub fn run_text<R: Threads + Wait + Sync, A: Allocator + Copy + Send + Sync, W: 
 ) -> Result<bool, ProgramFault>
     requires workers { (1 ≤ workers) × (workers ≤ 16) }
     requires turns { (1 ≤ turns) × (turns ≤ 1000000000) }
-    ensures { PrintsWorkers (load_by (lines machine.now) (lines scripts.now)) workers turns (output (W.taken out.old) (W.failures out.old)) (output (W.taken out.new) (W.failures out.new)) result }
+    ensures { PrintsWorkers (load_by (lines machine.now) (lines scripts.now)) workers turns
+        (output (W.taken out.old) (W.failures out.old))
+        (output (W.taken out.new) (W.failures out.new)) result }
 {
     run_text_with(rt, alloc, machine, scripts, workers, turns, &Open, out)
 }
@@ -68,7 +71,9 @@ pub fn run_text_with<R: Threads + Wait + Sync, A: Allocator + Copy + Send + Sync
     requires workers { (1 ≤ workers) × (workers ≤ 16) }
     requires turns { (1 ≤ turns) × (turns ≤ 1000000000) }
     requires gate { LetsAll (G.holds gate.now) (G.stops gate.now) }
-    ensures { PrintsWorkers (load_by (lines machine.now) (lines scripts.now)) workers turns (output (W.taken out.old) (W.failures out.old)) (output (W.taken out.new) (W.failures out.new)) result }
+    ensures { PrintsWorkers (load_by (lines machine.now) (lines scripts.now)) workers turns
+        (output (W.taken out.old) (W.failures out.old))
+        (output (W.taken out.new) (W.failures out.new)) result }
 {
     let machine = loaded(alloc, machine, scripts)?;
     let end = closed_run(rt, alloc, machine, workers, turns, gate)?;
@@ -90,7 +95,8 @@ fn closed_run<R: Threads + Wait + Sync, A: Allocator + Copy + Send + Sync, G: Ga
     requires workers { (1 ≤ workers) × (workers ≤ 16) }
     requires turns { (1 ≤ turns) × (turns ≤ 1000000000) }
     requires gate { LetsAll (G.holds gate.now) (G.stops gate.now) }
-    ensures run { IfOk result (λ end. (l : Load) → IsAfter l machine [] → IsMadeByWorkers l workers turns end) }
+    ensures run { IfOk result
+        (λ end. (l : Load) → IsAfter l machine [] → IsMadeByWorkers l workers turns end) }
     ensures fault { IfErr result (λ fault. fault ≡ Fault.Memory) }
 {
     let tiles = machine.torus().tiles();
@@ -131,7 +137,9 @@ fn opened<A: Allocator + Copy>(
     requires tiles { tiles ≡ tiles_of machine.shape }
     requires crew { (1 ≤ crew) × (crew ≤ 16) × (crew ≤ tiles) }
     ensures load { IfOk result (λ r. IsAfter r.0.load machine []) }
-    ensures seats { IfOk result (λ r. r.1.items ≡ map (λ j. fresh r.0.table r.0.load (held tiles crew j)) (range_with_len 0 crew)) }
+    ensures seats { IfOk result
+        (λ r. r.1.items ≡ map (λ j. fresh r.0.table r.0.load (held tiles crew j))
+        (range_with_len 0 crew)) }
     ensures fault { IfErr result (λ fault. fault ≡ Fault.Memory) }
 {
     let cuts = cuts_of(tiles, crew);
@@ -168,7 +176,10 @@ fn worked<R: Threads + Wait + Sync, A: Allocator + Copy + Send + Sync, G: Gate>(
     requires gate { LetsAll (G.holds gate.now) (G.stops gate.now) }
     ensures own { IfOk result (λ workers. All (λ w. IsOf fabric.now w.knows) workers.items) }
     ensures count { IfOk result (λ workers. length workers.items ≡ length seats.items) }
-    ensures worked { IfOk result (λ workers. (i : ℕ) (d : Working) → i < length seats.items → HasWorked ⊥ (λ step. ⊥) turns (slice_index_or (map new_worker seats.items) i d) (slice_index_or workers.items i d)) }
+    ensures worked { IfOk result
+        (λ workers. (i : ℕ) (d : Working) → i < length seats.items
+        → HasWorked ⊥ (λ step. ⊥) turns (slice_index_or (map new_worker seats.items) i d)
+        (slice_index_or workers.items i d)) }
 {
     let mut workers = workers_of(alloc, seats)?;
     run_workers(rt, fabric, workers.as_mut_slice(), gate, turns);
@@ -212,7 +223,8 @@ fn print_end<A: Allocator + Copy, B: Allocator, W: Out>(
     end: &Final<B>,
     out: &mut W,
 ) -> Result<bool, ProgramFault>
-    ensures { Does (IsOfEnded end.now) IsNoFault (output (W.taken out.old) (W.failures out.old)) (output (W.taken out.new) (W.failures out.new)) result }
+    ensures { Does (IsOfEnded end.now) IsNoFault (output (W.taken out.old) (W.failures out.old))
+        (output (W.taken out.new) (W.failures out.new)) result }
 {
     let finished = end.finished();
     let report = of_final(alloc, end)?;

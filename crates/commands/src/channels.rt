@@ -3,7 +3,8 @@ ghost use Rattle.std.specs.Io.KnownBytes.{Appends};
 ghost use Rattle.std.specs.Str.Lines.{lines};
 ghost use Rattle.report_lines.specs.Taken.{AppendsFront, Rose};
 ghost use Rattle.channel_number.specs.Order.{channel_count};
-ghost use Rattle.commands.specs.Done.{PrintsChannels, Puts, output};
+ghost use Rattle.program_fault.specs.Done.{Puts, output};
+ghost use Rattle.commands.specs.Done.{PrintsChannels};
 ghost use Rattle.commands.specs.Lines.{IsNumbersText, all_lines};
 
 use crate::ProgramFault;
@@ -25,7 +26,8 @@ pub fn channels_text<A: Allocator + Copy, W: Out>(
     machine: &[u8],
     out: &mut W,
 ) -> Result<(), ProgramFault>
-    ensures { PrintsChannels (lines machine.now) (output (W.taken out.old) (W.failures out.old)) (output (W.taken out.new) (W.failures out.new)) result }
+    ensures { PrintsChannels (lines machine.now) (output (W.taken out.old) (W.failures out.old))
+        (output (W.taken out.new) (W.failures out.new)) result }
 {
     let machine = read_machine(alloc, machine)?;
     let torus = machine.torus();
@@ -38,7 +40,9 @@ pub fn channels_text<A: Allocator + Copy, W: Out>(
 /// where the numbers rise along every route.
 pub fn put_numbers<W: Out>(out: &mut W, torus: &Torus, numbers: &[u32]) -> Result<(), OutputFailed>
     requires { length numbers.now ≡ channel_count torus.now }
-    ensures { Puts (IsNumbersText torus.now numbers.now) (output (W.taken out.old) (W.failures out.old)) (output (W.taken out.new) (W.failures out.new)) result }
+    ensures { Puts (IsNumbersText torus.now numbers.now)
+        (output (W.taken out.old) (W.failures out.old))
+        (output (W.taken out.new) (W.failures out.new)) result }
 {
     let checked = check(torus, numbers);
     put_channels(out, torus, numbers)?;
@@ -51,8 +55,10 @@ pub fn put_numbers<W: Out>(out: &mut W, torus: &Torus, numbers: &[u32]) -> Resul
 /// Puts a line for each channel, in channel order.
 fn put_channels<W: Out>(out: &mut W, torus: &Torus, numbers: &[u32]) -> Result<(), OutputFailed>
     requires { length numbers.now ≡ channel_count torus.now }
-    ensures ok { OnOk result (Appends (W.taken out.old) (W.taken out.new) (all_lines torus.now numbers.now)) }
-    ensures err { OnErr result (AppendsFront (W.taken out.old) (W.taken out.new) (all_lines torus.now numbers.now)) }
+    ensures ok { OnOk result
+        (Appends (W.taken out.old) (W.taken out.new) (all_lines torus.now numbers.now)) }
+    ensures err { OnErr result
+        (AppendsFront (W.taken out.old) (W.taken out.new) (all_lines torus.now numbers.now)) }
     ensures quiet { OnOk result (W.failures out.new ≡ W.failures out.old) }
     ensures failed { OnErr result (Rose (W.failures out.old) (W.failures out.new)) }
 {

@@ -1,4 +1,5 @@
-ghost use Rattle.commands.specs.Done.{PrintsVerdict, output};
+ghost use Rattle.program_fault.specs.Done.{output};
+ghost use Rattle.commands.specs.Done.{PrintsVerdict};
 
 use crate::ProgramFault;
 use report_check::check_report;
@@ -15,7 +16,8 @@ pub fn check_text<A: Allocator + Copy, W: Out>(
     report: &[u8],
     out: &mut W,
 ) -> Result<(), ProgramFault>
-    ensures { PrintsVerdict report.now (output (W.taken out.old) (W.failures out.old)) (output (W.taken out.new) (W.failures out.new)) result }
+    ensures { PrintsVerdict report.now (output (W.taken out.old) (W.failures out.old))
+        (output (W.taken out.new) (W.failures out.new)) result }
 {
     check_report(alloc, report)?;
     put_all(out, b"good report\n")?;

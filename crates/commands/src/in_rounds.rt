@@ -1,9 +1,9 @@
 ghost use Rattle.std.specs.Prelude.{◌≡◌, Bool, IfErr, IfOk, []};
 ghost use Rattle.std.specs.Str.Lines.{lines};
-ghost use Rattle.machine_texts.specs.flights.specs.Load.{Load};
-ghost use Rattle.machine_laws.specs.Core.{IsAfter};
+ghost use Rattle.machine_texts.specs.order_abstract.specs.Load.{Load};
+ghost use Rattle.core_machine.specs.Core.{IsAfter};
 ghost use Rattle.machine_texts.specs.Loading.{HasLoaded, load_by};
-ghost use Rattle.commands.specs.Done.{output};
+ghost use Rattle.program_fault.specs.Done.{output};
 ghost use Rattle.commands.specs.Run.{IsReadFault};
 ghost use Rattle.commands.specs.Rounds.{HasMadeRounds, PrintsRounds};
 ghost use Rattle.commands.specs.Calls.{Hears};
@@ -11,7 +11,7 @@ ghost use Rattle.commands.specs.Telling.{AreRoundsCalls, HearsSome, TellsRounds,
 
 use crate::ProgramFault;
 use crate::steps::print_run;
-use machine_laws::laws::{reached_machines_report_well, steps_decide_the_machine};
+use core_machine::laws::{reached_machines_report_well, steps_decide_the_machine};
 use machine_texts::{Machine, load};
 use report_lines::Out;
 use std::alloc::Allocator;
@@ -65,14 +65,16 @@ pub fn round_text<A: Allocator + Copy, W: Out>(
     rounds: u64,
     out: &mut W,
 ) -> Result<bool, ProgramFault>
-    ensures { PrintsRounds (load_by (lines machine.now) (lines scripts.now)) rounds (output (W.taken out.old) (W.failures out.old)) (output (W.taken out.new) (W.failures out.new)) result }
+    ensures { PrintsRounds (load_by (lines machine.now) (lines scripts.now)) rounds
+        (output (W.taken out.old) (W.failures out.old))
+        (output (W.taken out.new) (W.failures out.new)) result }
 {
     round_text_with(alloc, machine, scripts, rounds, out, &mut Silent)
 }
 
 /// Does what `round_text` does, and tells `progress` how far the run is: after each round it asks
 /// whether that is wanted, and where it is, tells how many rounds are made and how many operations
-/// answered; and behind the last round it tells the end. A fault of the texts, and want of memory for
+/// answered; and behind the last round it tells the end. A fault of the texts, and memory refused for
 /// the machine, come before it is told anything.
 ///
 /// Errors: as `round_text`.
@@ -84,8 +86,11 @@ pub fn round_text_with<A: Allocator + Copy, W: Out, P: Progress>(
     out: &mut W,
     progress: &mut P,
 ) -> Result<bool, ProgramFault>
-    ensures prints { PrintsRounds (load_by (lines machine.now) (lines scripts.now)) rounds (output (W.taken out.old) (W.failures out.old)) (output (W.taken out.new) (W.failures out.new)) result }
-    ensures told { TellsRounds (load_by (lines machine.now) (lines scripts.now)) rounds (P.heard progress.old) (P.heard progress.new) result }
+    ensures prints { PrintsRounds (load_by (lines machine.now) (lines scripts.now)) rounds
+        (output (W.taken out.old) (W.failures out.old))
+        (output (W.taken out.new) (W.failures out.new)) result }
+    ensures told { TellsRounds (load_by (lines machine.now) (lines scripts.now)) rounds
+        (P.heard progress.old) (P.heard progress.new) result }
 {
     let mut machine = loaded(alloc, machine, scripts)?;
     make_rounds(&mut machine, rounds, progress);
@@ -109,7 +114,8 @@ pub(crate) fn loaded<A: Allocator + Copy>(
 /// Makes rounds until every script is finished, and at most so many, and tells `progress` of them.
 fn make_rounds<A: Allocator, P: Progress>(machine: &mut Machine<A>, rounds: u64, progress: &mut P)
     ensures made { (l : Load) → IsAfter l machine.old [] → HasMadeRounds l rounds machine.new }
-    ensures told { (l : Load) → IsAfter l machine.old [] → HearsSome (AreRoundsCalls l rounds) (P.heard progress.old) (P.heard progress.new) }
+    ensures told { (l : Load) → IsAfter l machine.old []
+        → HearsSome (AreRoundsCalls l rounds) (P.heard progress.old) (P.heard progress.new) }
 {
     steps_decide_the_machine();
     for before in 0..rounds {
@@ -121,9 +127,12 @@ fn make_rounds<A: Allocator, P: Progress>(machine: &mut Machine<A>, rounds: u64,
     }
 }
 
-/// Tells `progress` of the last of so many rounds. Operations are counted only where it wants to be told.
+/// Tells `progress` of the last of so many rounds. Operations are counted only where it wants to
+/// be told.
 fn tell_round<A: Allocator, P: Progress>(machine: &Machine<A>, rounds: u64, progress: &mut P)
-    ensures { (wants : Bool) × Hears (P.heard progress.old) (P.heard progress.new) (round_calls rounds (answered_by machine.now) wants) }
+    ensures { (wants : Bool)
+        × Hears (P.heard progress.old) (P.heard progress.new)
+        (round_calls rounds (answered_by machine.now) wants) }
 {
     if progress.wants() {
         progress.made(rounds, answered(machine));

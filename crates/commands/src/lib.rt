@@ -5,10 +5,8 @@
 pub mod by_workers;
 pub mod channels;
 pub mod check;
-pub mod fault;
 pub mod in_rounds;
 mod line;
-pub mod message;
 pub mod route;
 pub mod steps;
 
@@ -16,9 +14,8 @@ pub use by_workers::{run_text, run_text_with};
 pub use channel_number::channel_count;
 pub use channels::{channels_text, put_numbers};
 pub use check::check_text;
-pub use fault::{ProgramFault, finished, status_of};
 pub use history::Gate;
 pub use in_rounds::{Progress, Silent, round_text, round_text_with};
-pub use message::fault_text;
+pub use program_fault::{ProgramFault, fault_text, finished, status_of};
 pub use route::route_text;
 pub use steps::steps_text;

@@ -4,7 +4,8 @@ ghost use Rattle.std.specs.List.{flat_map};
 ghost use Rattle.std.specs.Str.Lines.{lines};
 ghost use Rattle.dateline_route.specs.Walk.{IsChannel};
 ghost use Rattle.report_lines.specs.Taken.{AppendsFront, Rose};
-ghost use Rattle.commands.specs.Done.{PrintsRoute, output};
+ghost use Rattle.program_fault.specs.Done.{output};
+ghost use Rattle.commands.specs.Done.{PrintsRoute};
 ghost use Rattle.commands.specs.Lines.{channel_line};
 
 use crate::ProgramFault;
@@ -29,7 +30,9 @@ pub fn route_text<A: Allocator + Copy, W: Out>(
     class: Class,
     out: &mut W,
 ) -> Result<(), ProgramFault>
-    ensures { PrintsRoute (lines machine.now) src dst class (output (W.taken out.old) (W.failures out.old)) (output (W.taken out.new) (W.failures out.new)) result }
+    ensures { PrintsRoute (lines machine.now) src dst class
+        (output (W.taken out.old) (W.failures out.old))
+        (output (W.taken out.new) (W.failures out.new)) result }
 {
     let machine = read_machine(alloc, machine)?;
     let torus = machine.torus();
@@ -43,8 +46,12 @@ pub fn route_text<A: Allocator + Copy, W: Out>(
 /// Puts a line for each channel.
 fn put_route<W: Out>(out: &mut W, torus: &Torus, channels: &[Channel]) -> Result<(), OutputFailed>
     requires { All (IsChannel torus.now) channels.now }
-    ensures ok { OnOk result (Appends (W.taken out.old) (W.taken out.new) (flat_map (channel_line torus.now) channels.now)) }
-    ensures err { OnErr result (AppendsFront (W.taken out.old) (W.taken out.new) (flat_map (channel_line torus.now) channels.now)) }
+    ensures ok { OnOk result
+        (Appends (W.taken out.old) (W.taken out.new)
+        (flat_map (channel_line torus.now) channels.now)) }
+    ensures err { OnErr result
+        (AppendsFront (W.taken out.old) (W.taken out.new)
+        (flat_map (channel_line torus.now) channels.now)) }
     ensures quiet { OnOk result (W.failures out.new ≡ W.failures out.old) }
     ensures failed { OnErr result (Rose (W.failures out.old) (W.failures out.new)) }
 {

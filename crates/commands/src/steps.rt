@@ -1,11 +1,11 @@
 ghost use Rattle.std.specs.Prelude.{IfErr, IfOk};
 ghost use Rattle.std.specs.Str.Lines.{lines};
-ghost use Rattle.commands.specs.Done.{Does, output};
+ghost use Rattle.program_fault.specs.Done.{Does, output};
 ghost use Rattle.commands.specs.Run.{HasRun, IsOfMachine, IsReadFault, IsNoFault, PrintsRun, asked_of};
 
 use crate::ProgramFault;
+use core_machine::laws::steps_decide_the_machine;
 use history::{of_run, write_report};
-use machine_laws::laws::steps_decide_the_machine;
 use machine_texts::Machine;
 use report_lines::Out;
 use script::{read_machine, read_scripts, read_steps};
@@ -23,7 +23,9 @@ pub fn steps_text<A: Allocator + Copy, W: Out>(
     steps: &[u8],
     out: &mut W,
 ) -> Result<bool, ProgramFault>
-    ensures { PrintsRun (asked_of (lines machine.now) (lines scripts.now) (lines steps.now)) (output (W.taken out.old) (W.failures out.old)) (output (W.taken out.new) (W.failures out.new)) result }
+    ensures { PrintsRun (asked_of (lines machine.now) (lines scripts.now) (lines steps.now))
+        (output (W.taken out.old) (W.failures out.old))
+        (output (W.taken out.new) (W.failures out.new)) result }
 {
     let machine = ran(alloc, machine, scripts, steps)?;
     print_run(alloc, &machine, out)
@@ -36,8 +38,10 @@ fn ran<A: Allocator + Copy>(
     scripts: &[u8],
     steps: &[u8],
 ) -> Result<Machine<A>, ProgramFault>
-    ensures ok { IfOk result (HasRun (asked_of (lines machine.now) (lines scripts.now) (lines steps.now))) }
-    ensures err { IfErr result (IsReadFault (asked_of (lines machine.now) (lines scripts.now) (lines steps.now))) }
+    ensures ok { IfOk result
+        (HasRun (asked_of (lines machine.now) (lines scripts.now) (lines steps.now))) }
+    ensures err { IfErr result
+        (IsReadFault (asked_of (lines machine.now) (lines scripts.now) (lines steps.now))) }
 {
     let machine = read_machine(alloc, machine)?;
     let scripts = read_scripts(alloc, scripts, &machine)?;
@@ -54,7 +58,9 @@ pub(crate) fn print_run<A: Allocator + Copy, W: Out>(
     machine: &Machine<A>,
     out: &mut W,
 ) -> Result<bool, ProgramFault>
-    ensures { Does (IsOfMachine machine.now) IsNoFault (output (W.taken out.old) (W.failures out.old)) (output (W.taken out.new) (W.failures out.new)) result }
+    ensures { Does (IsOfMachine machine.now) IsNoFault
+        (output (W.taken out.old) (W.failures out.old))
+        (output (W.taken out.new) (W.failures out.new)) result }
 {
     let finished = machine.finished();
     let report = of_run(alloc, machine)?;

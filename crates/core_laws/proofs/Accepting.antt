@@ -1,5 +1,6 @@
 -- An end takes a flit from an ejection_channel channel: what its assembler answers, and how the channels change.
-use Rattle.std.proofs.Common.{◌≡◌, ◌≢◌, ⊎_elim, ℕ, ◌+◌, ◌<◌, Bool, true, false, cond, List, [], ◌∷◌, ◌++◌, map, length, Option, refl, sym, ◌∙◌, ap, subst, arith}
+use Rattle.std.proofs.Common.{◌≡◌, ◌≢◌, ⊎_elim, ℕ, ◌+◌, ◌<◌, Bool, true, false, cond, List, [], ◌∷◌, ◌++◌, map, length, Option, refl, sym, ◌∙◌, ap, subst}
+use Rattle.std.proofs.Common.{arith}
 use Rattle.std.proofs.lemmas.Bool.{cases_eq}
 use Rattle.torus.specs.Shape.{Shape, tiles_of}
 use Rattle.torus.specs.declared.shape.Class.{Class}
@@ -14,8 +15,8 @@ use Rattle.packet.specs.Reading.{packet_told}
 use Rattle.packet.specs.Spelling.{Spells}
 use Rattle.packet.proofs.Told.{packet_told-spelled}
 use Rattle.packet.proofs.Answered.{IsTaken-spelled}
-use Rattle.runs.specs.Observed.{list_at}
-use Rattle.runs.specs.Order.{LinearizationPoint}
+use Rattle.one_order.specs.Observed.{list_at}
+use Rattle.one_order.specs.Order.{LinearizationPoint}
 use Rattle.channel_number.specs.Order.{channel_count, channel_at}
 use Rattle.dateline_route.specs.declared.channel.Channel.{Channel}
 use Rattle.flit_buffer.specs.Channel.{CanTake, rest}
@@ -33,7 +34,7 @@ use Rattle.wormhole.proofs.Wholes.{none_arrives}
 use Rattle.packet.specs.Flits.{is_tail, offered, offered_by, flits_of}
 use Rattle.core_laws.specs.Heads.{is_head}
 use Rattle.channel_number.specs.Ports.{injection_channel, ejection_channel}
-use Rattle.tile.specs.Tile.{Design}
+use Rattle.tile_laws.specs.Tile.{Design}
 use Rattle.core_laws.specs.Core.{State}
 use Rattle.core_laws.proofs.Projection.{net_of, request_parcel, response_parcel}
 use Rattle.core_laws.proofs.Parcels.{parcel_flits}
@@ -70,7 +71,8 @@ is_complete p so_far flit g h =
     ∙ ap Complete (packet_told-spelled p (so_far ++ flit ∷ []) (subst (λ (xs : List ℕ). Spells p (so_far ++ flit ∷ xs)) none g.spelled)))
 
 -- how an accept changes the lines and the notes
-pub lines_accepts : (n : Net) (s : NetState) (x flit : ℕ) (more : List ℕ) (bit : Bool) → (after n s (accepts x flit more bit)).lines ≡ update s.lines x (accepted n flit more (s.lines x))
+pub lines_accepts : (n : Net) (s : NetState) (x flit : ℕ) (more : List ℕ) (bit : Bool)
+    → (after n s (accepts x flit more bit)).lines ≡ update s.lines x (accepted n flit more (s.lines x))
 lines_accepts n s x flit more true = refl
 lines_accepts n s x flit more false = refl
 
@@ -78,7 +80,8 @@ pub notes_other : (n : Net) (s : NetState) (x flit : ℕ) (more : List ℕ) (bit
 notes_other n s x flit more true z other = update_other s.notes x _ z other
 notes_other n s x flit more false z other = update_other s.notes x _ z other
 
-can_happen : (n : Net) (s : NetState) (x flit : ℕ) (more : List ℕ) (bit : Bool) → CanAccept n (s.lines x) x flit more bit → CanHappen n s.lines (accepts x flit more bit)
+can_happen : (n : Net) (s : NetState) (x flit : ℕ) (more : List ℕ) (bit : Bool) → CanAccept n (s.lines x) x flit more bit
+    → CanHappen n s.lines (accepts x flit more bit)
 can_happen n s x flit more true c = c
 can_happen n s x flit more false c = c
 
@@ -86,8 +89,10 @@ same_accept : (x flit : ℕ) (more : List ℕ) (bit : Bool) → accept bit x fli
 same_accept x flit more true = refl
 same_accept x flit more false = refl
 
-module _ (d : Design) (net : IsNet (net_of d)) (tags : ℕ) (opening : List ℕ) (s : State) (g : Ghost) (order : List LinearizationPoint) (st : Stands d tags opening s g order)
-    (t : ℕ) (t_in : t < tiles_of d.shape) (class : Class) (flit : ℕ) (more : List ℕ) (first : (ring s.around.rings (ejection_channel d.shape t class)).channel.flits ≡ flit ∷ more) where
+module _ (d : Design) (net : IsNet (net_of d)) (tags : ℕ) (opening : List ℕ) (s : State) (g : Ghost) (order : List LinearizationPoint)
+    (st : Stands d tags opening s g order)
+    (t : ℕ) (t_in : t < tiles_of d.shape) (class : Class) (flit : ℕ) (more : List ℕ)
+    (first : (ring s.around.rings (ejection_channel d.shape t class)).channel.flits ≡ flit ∷ more) where
   abbrev pub n : Net
   n = net_of d
 
@@ -151,38 +156,48 @@ module _ (d : Design) (net : IsNet (net_of d)) (tags : ℕ) (opening : List ℕ)
       ∙ none_arrives n g.net lane flit more (is_head flit) net st.lines st.routes may_accept (is_tail_of d flit ∙ body) z ejects
 
 -- a flit that a processor takes goes on with a response
-pub reply_goes_on : (d : Design) (net : IsNet (net_of d)) (tags : ℕ) (opening : List ℕ) (s : State) (g : Ghost) (order : List LinearizationPoint) (st : Stands d tags opening s g order)
-    (p : ℕ) (p_in : p < tiles_of d.shape) (flit : ℕ) (more : List ℕ) (first : (ring s.around.rings (ejection_channel d.shape p Reply)).channel.flits ≡ flit ∷ more)
+pub reply_goes_on : (d : Design) (net : IsNet (net_of d)) (tags : ℕ) (opening : List ℕ) (s : State) (g : Ghost) (order : List LinearizationPoint)
+    (st : Stands d tags opening s g order)
+    (p : ℕ) (p_in : p < tiles_of d.shape) (flit : ℕ) (more : List ℕ)
+    (first : (ring s.around.rings (ejection_channel d.shape p Reply)).channel.flits ≡ flit ∷ more)
     → (r : Telling) × GoesOn (packet.Response r) (tile_at s p).processor.so_far flit
 reply_goes_on d net tags opening s g order st p p_in flit more first =
     let x : ℕ = ejection_channel d.shape p Reply in
-    let t = is_taken (net_of d) g.net x flit more (is_head flit) net st.lines st.routes (may_accept d net tags opening s g order st p p_in Reply flit more first) in
+    let t = is_taken (net_of d) g.net x flit more (is_head flit) net st.lines st.routes
+    (may_accept d net tags opening s g order st p p_in Reply flit more first) in
     let from = joined_from d t.packet.source p Reply (ap ((net_of d).joins t.packet.source) (sym t.destination) ∙ t.parcel.joined) in
     let b : ℕ = from.0 in
     let responses : List Telling = responses_from b 0 (tile_at s b).bank.entries in
     let sent : IsOn t.packet (g.net.notes (injection_channel d.shape b Reply)).sent = subst (λ (i : ℕ). IsOn t.packet (g.net.notes i).sent) from.2 t.sent in
     let made : IsOn t.packet (map (response_parcel d.shape) responses) =
     subst (λ (ks : List Parcel). IsOn t.packet ks) (sym (st.carries.replies_sent b from.1))
-    (on_left t.packet (g.net.notes (injection_channel d.shape b Reply)).sent (map (response_parcel d.shape) (unsent (tile_at s b).bank.to_put responses)) sent) in
+    (on_left t.packet (g.net.notes (injection_channel d.shape b Reply)).sent (map (response_parcel d.shape) (unsent (tile_at s b).bank.to_put responses))
+    sent) in
     let q = on_map (response_parcel d.shape) responses t.packet made in
     let proper = all_on (λ r. IsProperResponse d r × (r.source ≡ b)) responses q.0 (st.carries.replies_proper b from.1) q.1 in
     let flits : flits_of (packet.Response q.0) ≡ (tile_at s p).processor.so_far ++ flit ∷ t.rest =
-    parcel_flits d.shape (packet.Response q.0) proper.0.spelled ∙ (ap flits_in q.2 ∙ (t.flits ∙ ap (λ (xs : List ℕ). xs ++ flit ∷ t.rest) (st.mirrors.takes_replies p p_in))) in
+    parcel_flits d.shape (packet.Response q.0) proper.0.spelled
+    ∙ (ap flits_in q.2 ∙ (t.flits ∙ ap (λ (xs : List ℕ). xs ++ flit ∷ t.rest) (st.mirrors.takes_replies p p_in))) in
     (q.0, record { left = t.rest; spelled = subst (Spells (packet.Response q.0)) flits proper.0.spelled; tail = sym (is_tail_of d flit) ∙ t.tail })
 
 -- a flit that a bank takes goes on with a request
-pub request_goes_on : (d : Design) (net : IsNet (net_of d)) (tags : ℕ) (opening : List ℕ) (s : State) (g : Ghost) (order : List LinearizationPoint) (st : Stands d tags opening s g order)
-    (b : ℕ) (b_in : b < tiles_of d.shape) (flit : ℕ) (more : List ℕ) (first : (ring s.around.rings (ejection_channel d.shape b Request)).channel.flits ≡ flit ∷ more)
+pub request_goes_on : (d : Design) (net : IsNet (net_of d)) (tags : ℕ) (opening : List ℕ) (s : State) (g : Ghost) (order : List LinearizationPoint)
+    (st : Stands d tags opening s g order)
+    (b : ℕ) (b_in : b < tiles_of d.shape) (flit : ℕ) (more : List ℕ)
+    (first : (ring s.around.rings (ejection_channel d.shape b Request)).channel.flits ≡ flit ∷ more)
     → (r : Asking) × GoesOn (packet.Request r) (tile_at s b).bank.so_far flit
 request_goes_on d net tags opening s g order st b b_in flit more first =
     let x : ℕ = ejection_channel d.shape b Request in
-    let t = is_taken (net_of d) g.net x flit more (is_head flit) net st.lines st.routes (may_accept d net tags opening s g order st b b_in Request flit more first) in
+    let t = is_taken (net_of d) g.net x flit more (is_head flit) net st.lines st.routes
+    (may_accept d net tags opening s g order st b b_in Request flit more first) in
     let from = joined_from d t.packet.source b Request (ap ((net_of d).joins t.packet.source) (sym t.destination) ∙ t.parcel.joined) in
     let p : ℕ = from.0 in
     let sent : IsOn t.packet (g.net.notes (injection_channel d.shape p Request)).sent = subst (λ (i : ℕ). IsOn t.packet (g.net.notes i).sent) from.2 t.sent in
-    let made : IsOn t.packet (map (request_parcel d.shape) (list_at g.requests p)) = subst (λ (ks : List Parcel). IsOn t.packet ks) (st.carries.requests_sent p from.1) sent in
+    let made : IsOn t.packet (map (request_parcel d.shape) (list_at g.requests p)) =
+    subst (λ (ks : List Parcel). IsOn t.packet ks) (st.carries.requests_sent p from.1) sent in
     let q = on_map (request_parcel d.shape) (list_at g.requests p) t.packet made in
     let proper = all_on (λ r. IsProperRequest d r × (r.source ≡ p)) (list_at g.requests p) q.0 (st.carries.requests_proper p) q.1 in
     let flits : flits_of (packet.Request q.0) ≡ (tile_at s b).bank.so_far ++ flit ∷ t.rest =
-    parcel_flits d.shape (packet.Request q.0) proper.0.spelled ∙ (ap flits_in q.2 ∙ (t.flits ∙ ap (λ (xs : List ℕ). xs ++ flit ∷ t.rest) (st.mirrors.takes_requests b b_in))) in
+    parcel_flits d.shape (packet.Request q.0) proper.0.spelled
+    ∙ (ap flits_in q.2 ∙ (t.flits ∙ ap (λ (xs : List ℕ). xs ++ flit ∷ t.rest) (st.mirrors.takes_requests b b_in))) in
     (q.0, record { left = t.rest; spelled = subst (Spells (packet.Request q.0)) flits proper.0.spelled; tail = sym (is_tail_of d flit) ∙ t.tail })

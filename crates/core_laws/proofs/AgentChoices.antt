@@ -13,16 +13,17 @@ use Rattle.flit_buffer.specs.Surroundings.{Surroundings}
 use Rattle.channel_number.specs.Ports.{port_count}
 use Rattle.router.specs.Table.{RouterState, latch_of, wants_to_take, wants_to_put, router_wants, router_after}
 use Rattle.router.specs.Beginning.{router_wiring}
-use Rattle.net_interface.specs.ProcessorTable.{ProcessorState, processor_wants, processor_after}
+use Rattle.script_follower.specs.ProcessorTable.{ProcessorState, processor_wants, processor_after}
 use Rattle.home_bank.specs.BankTable.{BankState, bank_wants, bank_after}
-use Rattle.tile.specs.Wiring.{processor_wiring, bank_wiring}
-use Rattle.tile.specs.Tile.{Design, TileState, Processor, Router, Bank, tile_step}
+use Rattle.tile_laws.specs.Wiring.{processor_wiring, bank_wiring}
+use Rattle.tile_laws.specs.Tile.{Design, TileState, Processor, Router, Bank, tile_step}
 use Rattle.core_laws.specs.Choices.{has_choice}
 use Rattle.core_laws.specs.Core.{State, agent_numbered, step}
 use Rattle.core_laws.proofs.AgentSteps.{did, option_map_some}
 use Rattle.core_laws.proofs.RouterChoices.{if_true}
 
-processor_has : (ports tiles words t : ℕ) (p : ProcessorState) (c : Choice) (w : Want) → processor_wants tiles words t p c ≡ Some w → has_choice ports Processor c ≡ true
+processor_has : (ports tiles words t : ℕ) (p : ProcessorState) (c : Choice) (w : Want) → processor_wants tiles words t p c ≡ Some w
+    → has_choice ports Processor c ≡ true
 processor_has ports tiles words t p choice.Send w h = refl
 processor_has ports tiles words t p choice.Take w h = refl
 processor_has ports tiles words t p choice.Credit w h = refl
@@ -56,10 +57,12 @@ router_has s t r choice.Done w h = absurd (cc)
 router_has s t r choice.Look w h = absurd (cc)
 
 module _ (d : Design) (t : ℕ) (tile : TileState) (around : Surroundings) (c : Choice) (after : TileState × Surroundings) where
-  tile_has : (kind : ℕ) → tile_step d t tile around (agent_numbered kind) c ≡ Some after → has_choice (port_count (dims_of d.shape)) (agent_numbered kind) c ≡ true
+  tile_has : (kind : ℕ) → tile_step d t tile around (agent_numbered kind) c ≡ Some after
+      → has_choice (port_count (dims_of d.shape)) (agent_numbered kind) c ≡ true
   tile_has zero h =
       let f = option_map_some (λ (p : ProcessorState × Surroundings). (record tile { processor = p.0 }, p.1)) _ after h in
-      let x = did (processor_wants (tiles_of d.shape) d.words t) (processor_after (tiles_of d.shape) d.words t) d.depth (processor_wiring d.shape t) tile.processor around c f.0.0 f.0.1 f.1 in
+      let x = did (processor_wants (tiles_of d.shape) d.words t) (processor_after (tiles_of d.shape) d.words t) d.depth (processor_wiring d.shape t)
+      tile.processor around c f.0.0 f.0.1 f.1 in
       processor_has (port_count (dims_of d.shape)) (tiles_of d.shape) d.words t tile.processor c x.want x.wanted
   tile_has (suc zero) h =
       let f = option_map_some (λ (p : RouterState × Surroundings). (record tile { router = p.0 }, p.1)) _ after h in

@@ -15,7 +15,8 @@ pub option_map_none : {A B : Type 0} (f : A → B) (o : Option A) → option_map
 option_map_none f None h = refl
 option_map_none f (Some x) h = absurd (cc)
 
-module _ {S : Type 0} (wants : S → Choice → Option Want) (after : S → Choice → Want → ℕ → S) (depth : ℕ) (wiring : Wiring) (state : S) (around : Surroundings) (choice : Choice) where
+module _ {S : Type 0} (wants : S → Choice → Option Want) (after : S → Choice → Want → ℕ → S) (depth : ℕ) (wiring : Wiring) (state : S) (around : Surroundings)
+    (choice : Choice) where
   -- the want, what was learned, and what stands after it
   pub record Did (next : S) (left : Surroundings) : Type 0 where
     pub want : Want
@@ -30,7 +31,14 @@ module _ {S : Type 0} (wants : S → Choice → Option Want) (after : S → Choi
   did_granted want None next left w g h = cc
   did_granted want (Some learned) next left w g h =
       let e : ◌≡◌ {A = S × Surroundings} (after state choice want learned, surroundings_after depth around wiring want) (next, left) = same_Some _ _ h in
-      record { want = want; learned = learned; wanted = w; grants = g; state_is = sym (ap (λ (p : S × Surroundings). p.0) e); around_is = sym (ap (λ (p : S × Surroundings). p.1) e) }
+      record {
+        want = want;
+        learned = learned;
+        wanted = w;
+        grants = g;
+        state_is = sym (ap (λ (p : S × Surroundings). p.0) e);
+        around_is = sym (ap (λ (p : S × Surroundings). p.1) e);
+      }
 
   did_wanted : (w : Option Want) (next : S) (left : Surroundings) → wants state choice ≡ w
       → option_and_then (λ want. step_with wants after depth wiring state around choice want (granted around wiring want)) w ≡ Some (next, left) → Did next left
@@ -47,7 +55,9 @@ module _ {S : Type 0} (wants : S → Choice → Option Want) (after : S → Choi
   refused_granted want None h = refl
   refused_granted want (Some learned) h = cc
 
-  refused_wanted : (w : Option Want) → option_and_then (λ want. step_with wants after depth wiring state around choice want (granted around wiring want)) w ≡ None → option_and_then (granted around wiring) w ≡ None
+  refused_wanted : (w : Option Want)
+      → option_and_then (λ want. step_with wants after depth wiring state around choice want (granted around wiring want)) w ≡ None
+      → option_and_then (granted around wiring) w ≡ None
   refused_wanted None h = refl
   refused_wanted (Some want) h = refused_granted want (granted around wiring want) h
 

@@ -1,5 +1,6 @@
 -- A processor takes the flit that makes a reply whole: what holds of every reached state is kept.
-use Rattle.std.proofs.Common.{◌≡◌, ◌≢◌, ⊎_elim, ℕ, ◌+◌, ◌<◌, ◌==◌, Bool, true, false, cond, List, [], ◌∷◌, ◌++◌, map, length, Some, refl, sym, ◌∙◌, ap, ap₂, subst, arith, slice_get, slice_set, append_assoc, eq-eqb, length-set, get_or-set_same, get_or-set_other}
+use Rattle.std.proofs.Common.{◌≡◌, ◌≢◌, ⊎_elim, ℕ, ◌+◌, ◌<◌, ◌==◌, Bool, true, false, cond, List, [], ◌∷◌, ◌++◌, map, length, Some, refl, sym, ◌∙◌, ap, ap₂}
+use Rattle.std.proofs.Common.{subst, arith, slice_get, slice_set, append_assoc, eq-eqb, length-set, get_or-set_same, get_or-set_other}
 use Rattle.std.specs.Prelude.{remove, ◌&&◌}
 use Rattle.std.proofs.lemmas.Bool.{cases_eq, ne_eqb}
 use Rattle.std.proofs.lemmas.List.{map-append}
@@ -11,11 +12,11 @@ use Rattle.torus.specs.declared.shape.Class.TheVariants.{Request, Reply}
 use Rattle.packet.specs.declared.kinds.Packet.TheVariants as packet
 use Rattle.packet.specs.declared.kinds.Response.{Response as Telling}
 use Rattle.packet.specs.declared.assembler.Offered.TheVariants.{Whole as Complete}
-use Rattle.net_interface.specs.Following.{is_finished}
-use Rattle.runs.specs.Observed.{list_at}
-use Rattle.runs.specs.Order.{LinearizationPoint}
-use Rattle.runs.specs.Events.{points_of, push_at}
-use Rattle.runs.proofs.Lists.{list_at_push_same, list_at_push_other}
+use Rattle.script_follower.specs.Following.{is_finished}
+use Rattle.one_order.specs.Observed.{list_at}
+use Rattle.one_order.specs.Order.{LinearizationPoint}
+use Rattle.one_order.specs.Events.{points_of, push_at}
+use Rattle.one_order.proofs.Lists.{list_at_push_same, list_at_push_other}
 use Rattle.channel_number.specs.Order.{channel_count, channel_at}
 use Rattle.dateline_route.specs.declared.channel.Channel.{Channel}
 use Rattle.flit_buffer.specs.Channel.{CanTake, rest}
@@ -28,16 +29,16 @@ use Rattle.wormhole.specs.State.{Line as Lane, Note}
 use Rattle.wormhole.specs.Events.{accepted, after}
 use Rattle.wormhole.specs.Delivery.{whole, whole_of}
 use Rattle.wormhole.proofs.Changes.{update_same, update_other}
-use Rattle.net_interface.specs.ProcessorRecord.{ProcessorRecord, answered_by, answer_of}
-use Rattle.flights.specs.Flight.{Flight, Takes, event, is_told_alike, told_place, IsFound}
-use Rattle.flights.proofs.Whole.{Whole, any_steps}
-use Rattle.flights.proofs.FirstPlaces.{first_removed}
+use Rattle.script_follower.specs.ProcessorRecord.{ProcessorRecord, answered_by, answer_of}
+use Rattle.order_abstract.specs.Flight.{Flight, Takes, event, is_told_alike, told_place, IsFound}
+use Rattle.order_abstract.proofs.Whole.{Whole, any_steps}
+use Rattle.order_abstract.proofs.FirstPlaces.{first_removed}
 use Rattle.packet.specs.Flits.{offered}
 use Rattle.core_laws.specs.Heads.{is_head}
 use Rattle.home_bank.specs.BankTable.{BankState}
 use Rattle.router.specs.Table.{RouterState, output_owned}
 use Rattle.channel_number.specs.Ports.{injection_channel, ejection_channel}
-use Rattle.tile.specs.Tile.{Design, TileState}
+use Rattle.tile_laws.specs.Tile.{Design, TileState}
 use Rattle.core_laws.specs.Core.{State}
 use Rattle.core_laws.proofs.Projection.{net_of, response_parcel}
 use Rattle.core_laws.proofs.ChannelFacts.{ejection_is, ejection_in, ejection_tile, is_tail_of}
@@ -52,8 +53,10 @@ use Rattle.core_laws.proofs.Stands.{Ghost, Stands, Mirrors, Carries, Reported, I
 use Rattle.core_laws.proofs.Accepting.{lines_accepts, notes_other}
 use Rattle.core_laws.proofs.Finished.{finished_stays}
 
-module _ (d : Design) (net : IsNet (net_of d)) (tags : ℕ) (opening : List ℕ) (s : State) (g : Ghost) (order : List LinearizationPoint) (st : Stands d tags opening s g order)
-    (p : ℕ) (p_in : p < tiles_of d.shape) (flit : ℕ) (more : List ℕ) (first : (ring s.around.rings (ejection_channel d.shape p Reply)).channel.flits ≡ flit ∷ more)
+module _ (d : Design) (net : IsNet (net_of d)) (tags : ℕ) (opening : List ℕ) (s : State) (g : Ghost) (order : List LinearizationPoint)
+    (st : Stands d tags opening s g order)
+    (p : ℕ) (p_in : p < tiles_of d.shape) (flit : ℕ) (more : List ℕ)
+    (first : (ring s.around.rings (ejection_channel d.shape p Reply)).channel.flits ≡ flit ∷ more)
     (r : Telling) (is_whole : offered (tile_at s p).processor.so_far flit ≡ Complete (packet.Response r)) where
   abbrev n : Net
   n = net_of d
@@ -62,7 +65,8 @@ module _ (d : Design) (net : IsNet (net_of d)) (tags : ℕ) (opening : List ℕ)
   lane = ejection_channel d.shape p Reply
 
   abbrev taken_tile : TileState
-  taken_tile = record (tile_at s p) { processor = record ((tile_at s p).processor) { operations = answered_by (tile_at s p).processor.operations r; so_far = [] } }
+  taken_tile = record (tile_at s p)
+      { processor = record ((tile_at s p).processor) { operations = answered_by (tile_at s p).processor.operations r; so_far = [] } }
 
   -- the state after the flit that makes a reply whole is taken, and what is noted then
   abbrev pub taken_state : State
@@ -123,7 +127,8 @@ module _ (d : Design) (net : IsNet (net_of d)) (tags : ℕ) (opening : List ℕ)
   new_lanes z within = ⊎_elim
       (λ (h : z ≡ lane).
       let old = st.mirrors.rings lane lane_in in
-      let ring_here : ring taken_state.around.rings lane ≡ take_from_ring d.depth (ring s.around.rings lane) = changed_here s.around lane (take_from_ring d.depth) lane_here in
+      let ring_here : ring taken_state.around.rings lane ≡ take_from_ring d.depth (ring s.around.rings lane) =
+      changed_here s.around lane (take_from_ring d.depth) lane_here in
       subst (λ (w : ℕ). IsLane (ring taken_state.around.rings w).channel (taken_ghost.net.lines w)) (sym h) (record {
         flits = ap (λ (l : Lane). l.flits) line_here ∙ (ap rest (sym first) ∙ ap (λ (c : Ring). c.channel.flits) (sym ring_here));
         held = ap (λ (l : Lane). l.held) line_here ∙ (old.held ∙ ap (λ (c : Ring). c.channel.held) (sym ring_here));
@@ -136,7 +141,8 @@ module _ (d : Design) (net : IsNet (net_of d)) (tags : ℕ) (opening : List ℕ)
 
   request_apart : (u : ℕ) → ejection_channel d.shape u Request ≢ lane
   request_apart u h =
-      let k : ◌≡◌ {A = Class} Request Reply = ap (λ (x : Channel). x.class) (sym (ejection_is d.shape u Request) ∙ (ap (channel_at d.shape) h ∙ ejection_is d.shape p Reply)) in cc
+      let k : ◌≡◌ {A = Class} Request Reply =
+      ap (λ (x : Channel). x.class) (sym (ejection_is d.shape u Request) ∙ (ap (channel_at d.shape) h ∙ ejection_is d.shape p Reply)) in cc
 
   tail : n.is_tail flit ≡ true
   tail = is_tail_of d flit ∙ (tells d net tags opening s g order st p p_in flit more first r is_whole).tail
@@ -145,9 +151,11 @@ module _ (d : Design) (net : IsNet (net_of d)) (tags : ℕ) (opening : List ℕ)
   so_far_new u u_in = ⊎_elim
       (λ (h : u ≡ p).
       ap (λ (v : ℕ). (taken_ghost.net.lines (ejection_channel d.shape v Reply)).so_far) h ∙ (ap (λ (l : Lane). l.so_far) line_here
-      ∙ (ap (λ (b : Bool). cond b [] ((g.net.lines lane).so_far ++ flit ∷ [])) tail ∙ (ap (λ (w : TileState). w.processor.so_far) (sym tile_new) ∙ ap (λ (v : ℕ). (tile_at taken_state v).processor.so_far) (sym h)))))
+      ∙ (ap (λ (b : Bool). cond b [] ((g.net.lines lane).so_far ++ flit ∷ [])) tail
+      ∙ (ap (λ (w : TileState). w.processor.so_far) (sym tile_new) ∙ ap (λ (v : ℕ). (tile_at taken_state v).processor.so_far) (sym h)))))
       (λ (other : u ≢ p).
-      ap (λ (l : Lane). l.so_far) (line_other (ejection_channel d.shape u Reply) (λ h. other (ejection_tile d.shape u p Reply Reply h))) ∙ (st.mirrors.takes_replies u u_in ∙ ap (λ (w : TileState). w.processor.so_far) (sym (tile_other u other))))
+      ap (λ (l : Lane). l.so_far) (line_other (ejection_channel d.shape u Reply) (λ h. other (ejection_tile d.shape u p Reply Reply h)))
+      ∙ (st.mirrors.takes_replies u u_in ∙ ap (λ (w : TileState). w.processor.so_far) (sym (tile_other u other))))
       (cases_eq u p)
 
   taken_mirrors : Mirrors d taken_state taken_ghost.net.lines
@@ -156,14 +164,19 @@ module _ (d : Design) (net : IsNet (net_of d)) (tags : ℕ) (opening : List ℕ)
     rings = new_lanes;
     ports = λ u h. let k = part_kept (λ (w : TileState). w.router) refl u in rw k (st.mirrors.ports u h);
     latches = λ u i h l. let k = part_kept (λ (w : TileState). w.router) refl u in rw k (line_kept (λ (x : Lane). x.latch) refl _ ∙ st.mirrors.latches u i h l);
-    owners = λ u i o h l m. let k = part_kept (λ (w : TileState). w.router) refl u in rw (k, line_kept (λ (x : Lane). x.owner) refl _) (st.mirrors.owners u i o h l m);
+    owners = λ u i o h l m. let k = part_kept (λ (w : TileState). w.router) refl u in
+        rw (k, line_kept (λ (x : Lane). x.owner) refl _) (st.mirrors.owners u i o h l m);
     unowned = λ u o h l none. let k = part_kept (λ (w : TileState). w.router) refl u in
         line_kept (λ (x : Lane). x.owner) refl _ ∙ st.mirrors.unowned u o h l (λ i owns. none i (ap (λ (x : RouterState). output_owned x i) k ∙ owns));
-    outputs = λ u i o h owns. let k = part_kept (λ (w : TileState). w.router) refl u in st.mirrors.outputs u i o h (ap (λ (x : RouterState). output_owned x i) (sym k) ∙ owns);
-    sends_requests = λ u h. line_kept (λ (x : Lane). x.rest) refl _ ∙ (st.mirrors.sends_requests u h ∙ sym (part_kept (λ (w : TileState). w.processor.to_put) refl u));
-    sends_replies = λ u h. let k = part_kept (λ (w : TileState). w.bank) refl u in rw k (line_kept (λ (x : Lane). x.rest) refl _ ∙ st.mirrors.sends_replies u h);
+    outputs = λ u i o h owns. let k = part_kept (λ (w : TileState). w.router) refl u in
+        st.mirrors.outputs u i o h (ap (λ (x : RouterState). output_owned x i) (sym k) ∙ owns);
+    sends_requests = λ u h. line_kept (λ (x : Lane). x.rest) refl _
+        ∙ (st.mirrors.sends_requests u h ∙ sym (part_kept (λ (w : TileState). w.processor.to_put) refl u));
+    sends_replies = λ u h. let k = part_kept (λ (w : TileState). w.bank) refl u in
+        rw k (line_kept (λ (x : Lane). x.rest) refl _ ∙ st.mirrors.sends_replies u h);
     takes_replies = so_far_new;
-    takes_requests = λ u h. let k = part_kept (λ (w : TileState). w.bank) refl u in rw k (ap (λ (l : Lane). l.so_far) (line_other (ejection_channel d.shape u Request) (request_apart u)) ∙ st.mirrors.takes_requests u h);
+    takes_requests = λ u h. let k = part_kept (λ (w : TileState). w.bank) refl u in
+        rw k (ap (λ (l : Lane). l.so_far) (line_other (ejection_channel d.shape u Request) (request_apart u)) ∙ st.mirrors.takes_requests u h);
   }
 
   whole_other : (z : ℕ) → z ≢ lane → whole taken_ghost.net z ≡ whole g.net z
@@ -172,16 +185,20 @@ module _ (d : Design) (net : IsNet (net_of d)) (tags : ℕ) (opening : List ℕ)
   takers_in : p < length g.taken
   takers_in = subst (λ (k : ℕ). p < k) (sym st.carries.takers) p_in
 
-  whole_new : (u : ℕ) → u < tiles_of d.shape → whole taken_ghost.net (ejection_channel d.shape u Reply) ≡ map (response_parcel d.shape) (list_at taken_ghost.taken u)
+  whole_new : (u : ℕ) → u < tiles_of d.shape
+      → whole taken_ghost.net (ejection_channel d.shape u Reply) ≡ map (response_parcel d.shape) (list_at taken_ghost.taken u)
   whole_new u u_in = ⊎_elim
       (λ (h : u ≡ p).
       let R : Telling → Parcel = response_parcel d.shape in
       ap (λ (v : ℕ). whole taken_ghost.net (ejection_channel d.shape v Reply)) h
       ∙ ((done d net tags opening s g order st p p_in flit more first r is_whole).whole_now
-      ∙ (ap₂ (λ (ks : List Parcel) (k : Parcel). ks ++ k ∷ []) (st.carries.replies_whole p p_in) (comes_from d net tags opening s g order st p p_in flit more first r is_whole).packet_is
-      ∙ (sym (map-append R (list_at g.taken p) (r ∷ [])) ∙ (ap (map R) (sym (list_at_push_same g.taken p r takers_in)) ∙ ap (λ (v : ℕ). map R (list_at taken_ghost.taken v)) (sym h))))))
+      ∙ (ap₂ (λ (ks : List Parcel) (k : Parcel). ks ++ k ∷ []) (st.carries.replies_whole p p_in)
+      (comes_from d net tags opening s g order st p p_in flit more first r is_whole).packet_is
+      ∙ (sym (map-append R (list_at g.taken p) (r ∷ []))
+      ∙ (ap (map R) (sym (list_at_push_same g.taken p r takers_in)) ∙ ap (λ (v : ℕ). map R (list_at taken_ghost.taken v)) (sym h))))))
       (λ (other : u ≢ p).
-      whole_other (ejection_channel d.shape u Reply) (λ h. other (ejection_tile d.shape u p Reply Reply h)) ∙ (st.carries.replies_whole u u_in ∙ ap (map (response_parcel d.shape)) (sym (list_at_push_other g.taken p u r other))))
+      whole_other (ejection_channel d.shape u Reply) (λ h. other (ejection_tile d.shape u p Reply Reply h))
+      ∙ (st.carries.replies_whole u u_in ∙ ap (map (response_parcel d.shape)) (sym (list_at_push_other g.taken p u r other))))
       (cases_eq u p)
 
   and_fails : (x y : Bool) → y ≡ false → (x && y) ≡ false
@@ -191,7 +208,8 @@ module _ (d : Design) (net : IsNet (net_of d)) (tags : ℕ) (opening : List ℕ)
   told_other : (b u : ℕ) → (r.source == b && r.destination == u) ≡ false → told_between b u taken_ghost.told ≡ told_between b u g.told
   told_other b u fails = filter_removed _ g.told (told_place g.told r) r found.0 fails
 
-  told_new : (b u : ℕ) → b < tiles_of d.shape → u < tiles_of d.shape → told_between b u (responses_from b 0 (tile_at s b).bank.entries) ≡ told_between b u (list_at taken_ghost.taken u) ++ told_between b u taken_ghost.told
+  told_new : (b u : ℕ) → b < tiles_of d.shape → u < tiles_of d.shape
+      → told_between b u (responses_from b 0 (tile_at s b).bank.entries) ≡ told_between b u (list_at taken_ghost.taken u) ++ told_between b u taken_ghost.told
   told_new b u b_in u_in = ⊎_elim
       (λ (h : u ≡ p).
       let F : List Telling → List Telling = told_between b p in
@@ -200,20 +218,27 @@ module _ (d : Design) (net : IsNet (net_of d)) (tags : ℕ) (opening : List ℕ)
       let t = taken_first d net tags opening s g order st p p_in flit more first r is_whole in
       let both : F ≡ told_between r.source r.destination = ap₂ told_between k (sym here) in
       let was : told_between r.source r.destination g.told ≡ r ∷ t.0 = ap (λ (v : ℕ). told_between r.source v g.told) here ∙ t.1 in
-      let own : told_between r.source r.destination (r ∷ []) ≡ r ∷ [] = ap₂ (λ (x y : Bool). cond (x && y) (r ∷ []) []) (eq-eqb r.source r.source refl) (eq-eqb r.destination r.destination refl) in
+      let own : told_between r.source r.destination (r ∷ []) ≡ r ∷ [] =
+      ap₂ (λ (x y : Bool). cond (x && y) (r ∷ []) []) (eq-eqb r.source r.source refl) (eq-eqb r.destination r.destination refl) in
       let gone : told_between r.source r.destination taken_ghost.told ≡ t.0 = first_removed (is_told_alike r) g.told r t.0 was in
-      ap (λ (G : List Telling → List Telling). G g.told) both ∙ (was ∙ (ap₂ (λ (xs ys : List Telling). xs ++ ys) (sym own) (sym gone) ∙ ap (λ (G : List Telling → List Telling). G (r ∷ []) ++ G taken_ghost.told) (sym both))))
+      ap (λ (G : List Telling → List Telling). G g.told) both
+      ∙ (was ∙ (ap₂ (λ (xs ys : List Telling). xs ++ ys) (sym own) (sym gone)
+      ∙ ap (λ (G : List Telling → List Telling). G (r ∷ []) ++ G taken_ghost.told) (sym both))))
       (λ (k : b ≢ r.source).
       let fails : (r.source == b && r.destination == p) ≡ false = ap (λ (x : Bool). x && (r.destination == p)) (ne_eqb r.source b (λ f. k (sym f))) in
       ap₂ (λ (xs ys : List Telling). xs ++ ys) (sym (ap (λ (x : Bool). cond x (r ∷ []) []) fails)) (sym (told_other b p fails)))
       (cases_eq b r.source) in
-      ap (λ (v : ℕ). told_between b v (responses_from b 0 (tile_at s b).bank.entries)) h ∙ (st.carries.told b p b_in p_in ∙ (ap (λ (xs : List Telling). F (list_at g.taken p) ++ xs) left
+      ap (λ (v : ℕ). told_between b v (responses_from b 0 (tile_at s b).bank.entries)) h
+      ∙ (st.carries.told b p b_in p_in ∙ (ap (λ (xs : List Telling). F (list_at g.taken p) ++ xs) left
       ∙ (sym (append_assoc (F (list_at g.taken p)) (F (r ∷ [])) (F taken_ghost.told))
-      ∙ (ap (λ (xs : List Telling). xs ++ F taken_ghost.told) (sym (filter-append _ (list_at g.taken p) (r ∷ [])) ∙ ap F (sym (list_at_push_same g.taken p r takers_in)))
+      ∙ (ap (λ (xs : List Telling). xs ++ F taken_ghost.told)
+      (sym (filter-append _ (list_at g.taken p) (r ∷ [])) ∙ ap F (sym (list_at_push_same g.taken p r takers_in)))
       ∙ ap (λ (v : ℕ). told_between b v (list_at taken_ghost.taken v) ++ told_between b v taken_ghost.told) (sym h))))))
       (λ (other : u ≢ p).
-      let fails : (r.source == b && r.destination == u) ≡ false = and_fails (r.source == b) (r.destination == u) (ne_eqb r.destination u (λ f. other (sym f ∙ here))) in
-      st.carries.told b u b_in u_in ∙ ap₂ (λ (xs ys : List Telling). told_between b u xs ++ ys) (sym (list_at_push_other g.taken p u r other)) (sym (told_other b u fails)))
+      let fails : (r.source == b && r.destination == u) ≡ false =
+      and_fails (r.source == b) (r.destination == u) (ne_eqb r.destination u (λ f. other (sym f ∙ here))) in
+      st.carries.told b u b_in u_in
+      ∙ ap₂ (λ (xs ys : List Telling). told_between b u xs ++ ys) (sym (list_at_push_other g.taken p u r other)) (sym (told_other b u fails)))
       (cases_eq u p)
 
   taken_carries : Carries d taken_state taken_ghost
@@ -222,10 +247,13 @@ module _ (d : Design) (net : IsNet (net_of d)) (tags : ℕ) (opening : List ℕ)
     takers = length-set g.taken p _ ∙ st.carries.takers;
     requests_sent = λ u h. sent_kept n g.net lane flit more (is_head flit) (injection_channel d.shape u Request) ∙ st.carries.requests_sent u h;
     requests_proper = st.carries.requests_proper;
-    requests_whole = λ b h. let k = part_kept (λ (w : TileState). w.bank) refl b in rw k (whole_other (ejection_channel d.shape b Request) (request_apart b) ∙ st.carries.requests_whole b h);
-    waiting_proper = λ b q waits. st.carries.waiting_proper b q (ap (λ (w : BankState). w.waiting) (sym (part_kept (λ (w : TileState). w.bank) refl b)) ∙ waits);
+    requests_whole = λ b h. let k = part_kept (λ (w : TileState). w.bank) refl b in
+        rw k (whole_other (ejection_channel d.shape b Request) (request_apart b) ∙ st.carries.requests_whole b h);
+    waiting_proper = λ b q waits. st.carries.waiting_proper b q
+        (ap (λ (w : BankState). w.waiting) (sym (part_kept (λ (w : TileState). w.bank) refl b)) ∙ waits);
     asked = λ u b h l. let k = part_kept (λ (w : TileState). w.bank) refl b in rw k (st.carries.asked u b h l);
-    replies_sent = λ b h. let k = part_kept (λ (w : TileState). w.bank) refl b in rw (k, sent_kept n g.net lane flit more (is_head flit) (injection_channel d.shape b Reply)) (st.carries.replies_sent b h);
+    replies_sent = λ b h. let k = part_kept (λ (w : TileState). w.bank) refl b in
+        rw (k, sent_kept n g.net lane flit more (is_head flit) (injection_channel d.shape b Reply)) (st.carries.replies_sent b h);
     replies_proper = λ b h. let k = part_kept (λ (w : TileState). w.bank) refl b in rw k (st.carries.replies_proper b h);
     replies_whole = whole_new;
     told = λ b u h l. let k = part_kept (λ (w : TileState). w.bank) refl b in rw k (told_new b u h l);
@@ -234,10 +262,13 @@ module _ (d : Design) (net : IsNet (net_of d)) (tags : ℕ) (opening : List ℕ)
         (λ (h : u ≡ p).
         let operations : ProcessorRecord = (tile_at s p).processor.operations in
         subst (λ (v : ℕ). map (notice_by v) (tile_at taken_state v).processor.operations.answers ≡ map notice_of (list_at taken_ghost.taken v)) (sym h)
-        (ap (λ (w : TileState). map (notice_by p) w.processor.operations.answers) tile_new ∙ (map-append (notice_by p) operations.answers (answer_of operations r ∷ [])
-        ∙ (ap₂ (λ (xs : List Notice) (v : ℕ). xs ++ (record { processor = v; bank = r.source; place = r.place; reply = r.reply }) ∷ []) (st.carries.answered p) (sym here)
+        (ap (λ (w : TileState). map (notice_by p) w.processor.operations.answers) tile_new
+        ∙ (map-append (notice_by p) operations.answers (answer_of operations r ∷ [])
+        ∙ (ap₂ (λ (xs : List Notice) (v : ℕ). xs ++ (record { processor = v; bank = r.source; place = r.place; reply = r.reply }) ∷ []) (st.carries.answered p)
+        (sym here)
         ∙ (sym (map-append notice_of (list_at g.taken p) (r ∷ [])) ∙ ap (map notice_of) (sym (list_at_push_same g.taken p r takers_in)))))))
-        (λ (other : u ≢ p). ap (λ (w : TileState). map (notice_by u) w.processor.operations.answers) (tile_other u other) ∙ (st.carries.answered u ∙ ap (map notice_of) (sym (list_at_push_other g.taken p u r other))))
+        (λ (other : u ≢ p). ap (λ (w : TileState). map (notice_by u) w.processor.operations.answers) (tile_other u other)
+        ∙ (st.carries.answered u ∙ ap (map notice_of) (sym (list_at_push_other g.taken p u r other))))
         (cases_eq u p);
   }
 
@@ -246,8 +277,10 @@ module _ (d : Design) (net : IsNet (net_of d)) (tags : ℕ) (opening : List ℕ)
     counts = st.reported.counts ∙ sym (count_set (λ (w : TileState). w.processor.reported) s.tiles p taken_tile no_tile refl);
     finished = λ u h. ⊎_elim
         (λ (e : u ≡ p).
-        let was : (tile_at s p).processor.reported ≡ true = ap (λ (v : ℕ). (tile_at s v).processor.reported) (sym e) ∙ (sym (part_kept (λ (w : TileState). w.processor.reported) refl u) ∙ h) in
-        ap (λ (v : ℕ). is_finished (tile_at taken_state v).processor.operations.following) e ∙ (ap (λ (w : TileState). is_finished w.processor.operations.following) tile_new
+        let was : (tile_at s p).processor.reported ≡ true =
+        ap (λ (v : ℕ). (tile_at s v).processor.reported) (sym e) ∙ (sym (part_kept (λ (w : TileState). w.processor.reported) refl u) ∙ h) in
+        ap (λ (v : ℕ). is_finished (tile_at taken_state v).processor.operations.following) e
+        ∙ (ap (λ (w : TileState). is_finished w.processor.operations.following) tile_new
         ∙ finished_stays (tile_at s p).processor.operations.following _ r.reply (st.reported.finished p was)))
         (λ (other : u ≢ p). let k = tile_other u other in rw k (st.reported.finished u (ap (λ (w : TileState). w.processor.reported) (sym k) ∙ h)))
         (cases_eq u p);
@@ -260,8 +293,10 @@ module _ (d : Design) (net : IsNet (net_of d)) (tags : ℕ) (opening : List ℕ)
       let some : CanTake (ring s.around.rings lane).channel = rw first (let l : 0 < length (flit ∷ more) = omega arith in l) in
       ⊎_elim
       (λ (h : z ≡ lane). subst (λ (w : ℕ). IsRing d.depth (ring taken_state.around.rings w)) (sym h)
-      (subst (λ (c : Ring). IsRing d.depth c) (sym (changed_here s.around lane (take_from_ring d.depth) lane_here)) (take_ring d.depth (ring s.around.rings lane) (st.rings lane lane_here) some)))
-      (λ (other : z ≢ lane). subst (λ (c : Ring). IsRing d.depth c) (sym (changed_other s.around lane (take_from_ring d.depth) z other)) (st.rings z (subst (λ (k : ℕ). z < k) count within)))
+      (subst (λ (c : Ring). IsRing d.depth c) (sym (changed_here s.around lane (take_from_ring d.depth) lane_here))
+      (take_ring d.depth (ring s.around.rings lane) (st.rings lane lane_here) some)))
+      (λ (other : z ≢ lane). subst (λ (c : Ring). IsRing d.depth c) (sym (changed_other s.around lane (take_from_ring d.depth) z other))
+      (st.rings z (subst (λ (k : ℕ). z < k) count within)))
       (cases_eq z lane)
 
   tile_there : slice_get s.tiles p ≡ Some (tile_at s p)
@@ -270,10 +305,13 @@ module _ (d : Design) (net : IsNet (net_of d)) (tags : ℕ) (opening : List ℕ)
   taken_moved : TileMoved (tiles_of d.shape) d.words p (tile_at s p) s.around taken_tile taken_state.around (Some (Takes r))
   taken_moved = record { operations = refl; entries = refl; memory = refl }
 
-  taken_records : (k : ℕ) → Whole (tiles_of d.shape) tags opening (flight_of d.words taken_state taken_ghost) (order ++ points_of (event (flight_of d.words s g) (Takes r)) k)
+  taken_records : (k : ℕ) → Whole (tiles_of d.shape) tags opening (flight_of d.words taken_state taken_ghost)
+      (order ++ points_of (event (flight_of d.words s g) (Takes r)) k)
   taken_records k =
-      let w = (any_steps (tiles_of d.shape) tags opening (flight_of d.words s g) order k (Some (Takes r)) st.flight (λ m h. subst (IsFound (length opening) (flight_of d.words s g)) (same_Some _ _ h) found.0)).whole in
-      let same = moved_flight d s g.asked g.told p (tile_at s p) taken_tile taken_state.around (Some (Takes r)) tile_there taken_moved (λ m h. subst (IsHere (tiles_of d.shape) d.words p) (same_Some _ _ h) here) in
+      let w = (any_steps (tiles_of d.shape) tags opening (flight_of d.words s g) order k (Some (Takes r)) st.flight
+      (λ m h. subst (IsFound (length opening) (flight_of d.words s g)) (same_Some _ _ h) found.0)).whole in
+      let same = moved_flight d s g.asked g.told p (tile_at s p) taken_tile taken_state.around (Some (Takes r)) tile_there taken_moved
+      (λ m h. subst (IsHere (tiles_of d.shape) d.words p) (same_Some _ _ h) here) in
       subst (λ (f : Flight). Whole (tiles_of d.shape) tags opening f (order ++ points_of (event (flight_of d.words s g) (Takes r)) k)) (sym same) w
 
   -- What holds of every reached state is kept by the take that makes a reply whole.

@@ -4,9 +4,9 @@ use Rattle.std.proofs.lemmas.Option.{slice_get_within, get_or_from_slice_get}
 use Rattle.torus.specs.Shape.{tiles_of}
 use Rattle.torus.specs.declared.step.Step.{Step}
 use Rattle.script.specs.Scripts.{script_of}
-use Rattle.runs.specs.Events.{order_after}
+use Rattle.one_order.specs.Events.{order_after}
 use Rattle.channel_number.specs.Ports.{input_channel}
-use Rattle.tile.specs.Tile.{Design, TileState}
+use Rattle.tile_laws.specs.Tile.{Design, TileState}
 use Rattle.core_laws.specs.Core.{Load, State, design_of}
 use Rattle.core_laws.specs.Runs.{IsAccepted}
 use Rattle.core_laws.specs.Asks.{RouterAsks, ProcessorAsks, BankAsks}
@@ -39,7 +39,8 @@ module _ (l : Load) (ok : IsAccepted l) (steps : List Step) (n t : ℕ) (tile : 
   is = get_or_from_slice_get s.tiles t tile no_tile there
 
   pub router_asked : RouterAsks d t s.around
-  router_asked = router_asks d ok.shape l.tags l.opening s _ _ st t (λ i i_in. subst (λ (k : ℕ). input_channel d.shape t i < k) (sym st.mirrors.count) ((is_wired_up d ok.shape).inputs_within t i t_in i_in))
+  router_asked = router_asks d ok.shape l.tags l.opening s _ _ st t
+      (λ i i_in. subst (λ (k : ℕ). input_channel d.shape t i < k) (sym st.mirrors.count) ((is_wired_up d ok.shape).inputs_within t i t_in i_in))
 
   processor_here : ProcessorAsks d (script_of l.scripts t) t (tile_at s t).processor s.around
   processor_here = record {

@@ -1,5 +1,6 @@
 -- What agents find in a state that stands is as they ask.
-use Rattle.std.proofs.Common.{◌≡◌, ◌≢◌, ℕ, ◌<◌, ◌==◌, Bool, true, false, List, [], ◌∷◌, map, length, Some, None, All, refl, sym, ◌∙◌, ap, subst, arith, slice_get, is_none, if◌then◌else◌}
+use Rattle.std.proofs.Common.{◌≡◌, ◌≢◌, ℕ, ◌<◌, ◌==◌, Bool, true, false, List, [], ◌∷◌, map, length, Some, None, All, refl, sym, ◌∙◌, ap, subst, arith}
+use Rattle.std.proofs.Common.{slice_get, is_none, if◌then◌else◌}
 use Rattle.std.specs.Prelude.{IfSome, ◌&&◌, option_to_list}
 use Rattle.std.proofs.lemmas.Bool.{eqb-true}
 use Rattle.std.proofs.lemmas.List.Elements.{All-nil, All-head, All-cons}
@@ -19,8 +20,8 @@ use Rattle.packet.specs.Spelling.{Spells, IsTailShaped, destination_of}
 use Rattle.packet.specs.Flits.{is_tail, offered, flits_of}
 use Rattle.packet.proofs.Shapes.{TellsPacket-spelled, IsTailShaped-spelled}
 use Rattle.packet.proofs.Spelled.{IsSpellable-spelled}
-use Rattle.runs.specs.Observed.{list_at}
-use Rattle.runs.specs.Order.{LinearizationPoint}
+use Rattle.one_order.specs.Observed.{list_at}
+use Rattle.one_order.specs.Order.{LinearizationPoint}
 use Rattle.flit_buffer.specs.declared.want.Want.TheVariants.{Take}
 use Rattle.flit_buffer.specs.Surroundings.{ring}
 use Rattle.wormhole.specs.Net.{IsNet, IsOn, Parcel, flits_of as flits_in}
@@ -28,11 +29,11 @@ use Rattle.wormhole.proofs.FlitsHold.{HoldsOfNoted, line_holds, sent_holds}
 use Rattle.wormhole.proofs.Lists.{all_on, on_left, all_right}
 use Rattle.channel_number.specs.Ports.{port_count, injection_channel, ejection_channel, input_channel}
 use Rattle.home_bank.specs.BankTable.{bank_wants, is_nil}
-use Rattle.net_interface.specs.ProcessorRecord.{ProcessorRecord}
-use Rattle.flights.specs.Flight.{show, told_place}
-use Rattle.flights.proofs.Parts.{tags_of, tags_at, issued_at}
+use Rattle.script_follower.specs.ProcessorRecord.{ProcessorRecord}
+use Rattle.order_abstract.specs.Flight.{show, told_place}
+use Rattle.order_abstract.proofs.Parts.{tags_of, tags_at, issued_at}
 use Rattle.router.specs.Table.{NamesTile}
-use Rattle.tile.specs.Tile.{Design, TileState}
+use Rattle.tile_laws.specs.Tile.{Design, TileState}
 use Rattle.core_laws.specs.Core.{State}
 use Rattle.core_laws.specs.Delivery.{next_flit}
 use Rattle.core_laws.specs.Asks.{flit_found, IsNextFlit, AnswersHeld, IsResponseTo, AsksHere, IsRequestTo, RouterAsks}
@@ -53,7 +54,8 @@ pub names_where : (s : Shape) (flit : ℕ) → ((field flit 63 1 == 1) ≡ true 
 names_where s flit h = by_bits (field flit 63 1 == 1) (field flit 61 1 == 1) h
   where
     by_bits : (a b : Bool) → (a ≡ true → field flit 51 6 < tiles_of s)
-        → IfSome (if a && b then Some (record { destination = field flit 51 6; class = class_numbered (field flit 57 1) }) else None) (λ (x : Head). x.destination < tiles_of s)
+        → IfSome (if a && b then Some (record { destination = field flit 51 6; class = class_numbered (field flit 57 1) }) else None)
+        (λ (x : Head). x.destination < tiles_of s)
     by_bits true true h = h refl
     by_bits true false h = tt
     by_bits false b h = tt
@@ -100,18 +102,21 @@ next_by passes so_far flit p goes is false tail =
       whole = λ q told. let e : ◌≡◌ {A = Offered} More (Complete q) = sym more ∙ told in absurd (cc);
     }
 
-module _ (d : Design) (accepted : IsAccepted d.shape) (tags : ℕ) (opening : List ℕ) (s : State) (g : Ghost) (order : List LinearizationPoint) (st : Stands d tags opening s g order) where
+module _ (d : Design) (accepted : IsAccepted d.shape) (tags : ℕ) (opening : List ℕ) (s : State) (g : Ghost) (order : List LinearizationPoint)
+    (st : Stands d tags opening s g order) where
   net : IsNet (net_of d)
   net = network d accepted
 
-  request_names : (b : ℕ) → b < tiles_of d.shape → (k : Parcel) → IsOn k (g.net.notes (injection_channel d.shape b Request)).sent → All (NamesTile d.shape) (flits_in k)
+  request_names : (b : ℕ) → b < tiles_of d.shape → (k : Parcel) → IsOn k (g.net.notes (injection_channel d.shape b Request)).sent
+      → All (NamesTile d.shape) (flits_in k)
   request_names b b_in k sent =
       let q = on_map (request_parcel d.shape) (list_at g.requests b) k (subst (λ (ks : List Parcel). IsOn k ks) (st.carries.requests_sent b b_in) sent) in
       let proper = all_on (λ r. IsProperRequest d r × (r.source ≡ b)) (list_at g.requests b) q.0 (st.carries.requests_proper b) q.1 in
       let flits : flits_of (packet.Request q.0) ≡ k.head ∷ k.tail = parcel_flits d.shape (packet.Request q.0) proper.0.spelled ∙ ap flits_in q.2 in
       packet_names d.shape (packet.Request q.0) k (subst (Spells (packet.Request q.0)) flits proper.0.spelled) proper.0.destination
 
-  response_names : (b : ℕ) → b < tiles_of d.shape → (k : Parcel) → IsOn k (g.net.notes (injection_channel d.shape b Reply)).sent → All (NamesTile d.shape) (flits_in k)
+  response_names : (b : ℕ) → b < tiles_of d.shape → (k : Parcel) → IsOn k (g.net.notes (injection_channel d.shape b Reply)).sent
+      → All (NamesTile d.shape) (flits_in k)
   response_names b b_in k sent =
       let responses : List Telling = responses_from b 0 (tile_at s b).bank.entries in
       let made : IsOn k (map (response_parcel d.shape) responses) =
@@ -122,7 +127,8 @@ module _ (d : Design) (accepted : IsAccepted d.shape) (tags : ℕ) (opening : Li
       let flits : flits_of (packet.Response q.0) ≡ k.head ∷ k.tail = parcel_flits d.shape (packet.Response q.0) proper.0.spelled ∙ ap flits_in q.2 in
       packet_names d.shape (packet.Response q.0) k (subst (Spells (packet.Response q.0)) flits proper.0.spelled) proper.0.destination
 
-  by_class : (b : ℕ) → b < tiles_of d.shape → (class : Class) (k : Parcel) → IsOn k (g.net.notes (injection_channel d.shape b class)).sent → All (NamesTile d.shape) (flits_in k)
+  by_class : (b : ℕ) → b < tiles_of d.shape → (class : Class) (k : Parcel) → IsOn k (g.net.notes (injection_channel d.shape b class)).sent
+      → All (NamesTile d.shape) (flits_in k)
   by_class b b_in Request k sent = request_names b b_in k sent
   by_class b b_in Reply k sent = response_names b b_in k sent
 
@@ -143,12 +149,14 @@ module _ (d : Design) (accepted : IsAccepted d.shape) (tags : ℕ) (opening : Li
         let line = line_holds (net_of d) (NamesTile d.shape) g.net x st.lines names in
         let lane = st.mirrors.rings x (subst (λ (k : ℕ). x < k) st.mirrors.count (within i i_in)) in
         first_names (ring s.around.rings x).channel.flits
-        (subst (λ (xs : List ℕ). All (NamesTile d.shape) xs) lane.flits (all_right (NamesTile d.shape) (option_to_list (g.net.lines x).latch) (g.net.lines x).flits line));
+        (subst (λ (xs : List ℕ). All (NamesTile d.shape) xs) lane.flits
+        (all_right (NamesTile d.shape) (option_to_list (g.net.lines x).latch) (g.net.lines x).flits line));
   }
 
   -- a response that is whole is to an operation that holds its tag
   held : (t : ℕ) → t < tiles_of d.shape → (flit : ℕ) (more : List ℕ) → (ring s.around.rings (ejection_channel d.shape t Reply)).channel.flits ≡ flit ∷ more
-      → (r : Telling) → offered (tile_at s t).processor.so_far flit ≡ Complete (packet.Response r) → AnswersHeld (tiles_of d.shape) t (tile_at s t).processor.operations r
+      → (r : Telling) → offered (tile_at s t).processor.so_far flit ≡ Complete (packet.Response r)
+      → AnswersHeld (tiles_of d.shape) t (tile_at s t).processor.operations r
   held t t_in flit more first r told =
       let f = flight_of d.words s g in
       let found = takes_found d net tags opening s g order st t t_in flit more first r told in
@@ -167,7 +175,8 @@ module _ (d : Design) (accepted : IsAccepted d.shape) (tags : ℕ) (opening : Li
 
   -- the flit that a processor finds is the next of a response to it
   pub processor_finds : (t : ℕ) → t < tiles_of d.shape → flit_found s.around (ejection_channel d.shape t Reply) ≢ 0
-      → IsNextFlit (IsResponseTo (tiles_of d.shape) t (tile_at s t).processor.operations) (tile_at s t).processor.so_far (flit_found s.around (ejection_channel d.shape t Reply))
+      → IsNextFlit (IsResponseTo (tiles_of d.shape) t (tile_at s t).processor.operations) (tile_at s t).processor.so_far
+      (flit_found s.around (ejection_channel d.shape t Reply))
   processor_finds t t_in some =
       let flit : ℕ = flit_found s.around (ejection_channel d.shape t Reply) in
       let first = first_there (ring s.around.rings (ejection_channel d.shape t Reply)).channel.flits some in
@@ -188,8 +197,10 @@ module _ (d : Design) (accepted : IsAccepted d.shape) (tags : ℕ) (opening : Li
       }
 
   -- a request that becomes whole is of a word of its bank: it is the one that waits after the take
-  whole_here : (t : ℕ) (t_in : t < tiles_of d.shape) (flit : ℕ) (more : List ℕ) (first : (ring s.around.rings (ejection_channel d.shape t Request)).channel.flits ≡ flit ∷ more)
-      (none : (tile_at s t).bank.waiting ≡ None) (idle : (tile_at s t).bank.to_put ≡ []) (r : Asking) → offered (tile_at s t).bank.so_far flit ≡ Complete (packet.Request r)
+  whole_here : (t : ℕ) (t_in : t < tiles_of d.shape) (flit : ℕ) (more : List ℕ)
+      (first : (ring s.around.rings (ejection_channel d.shape t Request)).channel.flits ≡ flit ∷ more)
+      (none : (tile_at s t).bank.waiting ≡ None) (idle : (tile_at s t).bank.to_put ≡ []) (r : Asking)
+      → offered (tile_at s t).bank.so_far flit ≡ Complete (packet.Request r)
       → (last : Bool) → is_tail flit ≡ last → AsksHere (tiles_of d.shape) t d.words r
   whole_here t t_in flit more first none idle r told true tail =
       let c = whole.comes_from d net tags opening s g order st t t_in flit more first tail none idle in
@@ -208,14 +219,16 @@ module _ (d : Design) (accepted : IsAccepted d.shape) (tags : ℕ) (opening : Li
       subst (AsksHere (tiles_of d.shape) t d.words) (cc) here
   whole_here t t_in flit more first none idle r told false tail =
       let goes = request_goes_on d net tags opening s g order st t t_in flit more first in
-      let e : ◌≡◌ {A = Offered} More (Complete (packet.Request r)) = sym (is_more (packet.Request goes.0) (tile_at s t).bank.so_far flit goes.1 tail) ∙ told in absurd (cc)
+      let e : ◌≡◌ {A = Offered} More (Complete (packet.Request r)) = sym (is_more (packet.Request goes.0) (tile_at s t).bank.so_far flit goes.1 tail) ∙ told in
+      absurd (cc)
 
   nil_there : (xs : List ℕ) → is_nil xs ≡ true → xs ≡ []
   nil_there [] h = refl
   nil_there (x ∷ xs) h = absurd (cc)
 
   -- the flit that a bank finds, when it takes one, is the next of a request to it
-  pub bank_finds : (t : ℕ) → t < tiles_of d.shape → bank_wants (tiles_of d.shape) t (tile_at s t).bank choice.Take ≡ Some (Take 0) → flit_found s.around (ejection_channel d.shape t Request) ≢ 0
+  pub bank_finds : (t : ℕ) → t < tiles_of d.shape → bank_wants (tiles_of d.shape) t (tile_at s t).bank choice.Take ≡ Some (Take 0)
+      → flit_found s.around (ejection_channel d.shape t Request) ≢ 0
       → IsNextFlit (IsRequestTo (tiles_of d.shape) t d.words) (tile_at s t).bank.so_far (flit_found s.around (ejection_channel d.shape t Request))
   bank_finds t t_in takes some =
       let b = (tile_at s t).bank in
@@ -224,4 +237,5 @@ module _ (d : Design) (accepted : IsAccepted d.shape) (tags : ℕ) (opening : Li
       let free = both_true (is_none b.waiting) (is_nil b.to_put) (if_true (is_none b.waiting && is_nil b.to_put) (Take 0) (Take 0) takes) in
       let goes = request_goes_on d net tags opening s g order st t t_in flit first.0 first.1 in
       next_by (IsRequestTo (tiles_of d.shape) t d.words) b.so_far flit (packet.Request goes.0) goes.1
-      (λ told. whole_here t t_in flit first.0 first.1 (none_there b.waiting free.0) (nil_there b.to_put free.1) goes.0 told (is_tail flit) refl) (is_tail flit) refl
+      (λ told. whole_here t t_in flit first.0 first.1 (none_there b.waiting free.0) (nil_there b.to_put free.1) goes.0 told (is_tail flit) refl) (is_tail flit)
+      refl

@@ -14,9 +14,9 @@ use Rattle.channel_number.specs.Order.{channel_count, channels_at_tile, class_pl
 use Rattle.packet.specs.Flits.{is_tail}
 use Rattle.core_laws.specs.Heads.{is_head}
 use Rattle.channel_number.specs.Ports.{injection_channel, ejection_channel, is_injection, is_ejection}
-use Rattle.tile.specs.Tile.{Design}
+use Rattle.tile_laws.specs.Tile.{Design}
 use Rattle.core_laws.proofs.Projection.{net_of}
-use Rattle.torus_net.specs.TorusNet.{same_class as is_same_class, joins_in}
+use Rattle.wormhole_torus.specs.TorusNet.{same_class as is_same_class, joins_in}
 use Rattle.channel_number.proofs.Decoding.{kind_by, class_by}
 
 injection_place : (n : ℕ) (class : Class) → (class_of_place n (8 * n + class_place class) ≡ class) × (kind_of_place n (8 * n + class_place class) ≡ Injection)
@@ -31,7 +31,8 @@ injection_place n Reply =
     let odd : (8 * n + 1) % 2 ≡ 1 = omega arith in
     (rw (low, odd) refl, rw (low, high) refl)
 
-ejection_place : (n : ℕ) (class : Class) → (class_of_place n (8 * n + 2 + class_place class) ≡ class) × (kind_of_place n (8 * n + 2 + class_place class) ≡ Ejection)
+ejection_place : (n : ℕ) (class : Class)
+    → (class_of_place n (8 * n + 2 + class_place class) ≡ class) × (kind_of_place n (8 * n + 2 + class_place class) ≡ Ejection)
 ejection_place n Request =
     let low = le-ltb (8 * n + 2 + 0) (8 * n) (omega arith) in
     let high = le-ltb (8 * n + 2 + 0) (8 * n + 2) (omega arith) in
@@ -43,11 +44,15 @@ ejection_place n Reply =
     let odd : (8 * n + 2 + 1) % 2 ≡ 1 = omega arith in
     (rw (low, odd) refl, rw (low, high) refl)
 
-same_channel : (t u : ℕ) (c e : Class) (k l : Kind) → t ≡ u → c ≡ e → k ≡ l → ◌≡◌ {A = Channel} (record { tile = t; class = c; kind = k }) (record { tile = u; class = e; kind = l })
-same_channel t u c e k l ht hc hk = ap (λ x. record { tile = x; class = c; kind = k }) ht ∙ (ap (λ x. record { tile = u; class = x; kind = k }) hc ∙ ap (λ x. record { tile = u; class = e; kind = x }) hk)
+same_channel : (t u : ℕ) (c e : Class) (k l : Kind) → t ≡ u → c ≡ e → k ≡ l
+    → ◌≡◌ {A = Channel} (record { tile = t; class = c; kind = k }) (record { tile = u; class = e; kind = l })
+same_channel t u c e k l ht hc hk =
+    ap (λ x. record { tile = x; class = c; kind = k }) ht
+    ∙ (ap (λ x. record { tile = u; class = x; kind = k }) hc ∙ ap (λ x. record { tile = u; class = e; kind = x }) hk)
 
 -- the channel of a tile's place
-at_place : (s : Shape) (t m : ℕ) (class : Class) (kind : Kind) → m < channels_at_tile s → (class_of_place (dims_of s) m ≡ class) × (kind_of_place (dims_of s) m ≡ kind)
+at_place : (s : Shape) (t m : ℕ) (class : Class) (kind : Kind) → m < channels_at_tile s
+    → (class_of_place (dims_of s) m ≡ class) × (kind_of_place (dims_of s) m ≡ kind)
     → channel_at s (t * channels_at_tile s + m) ≡ record { tile = t; class = class; kind = kind }
 at_place s t m class kind low h =
     let r = mod-mul-add t (channels_at_tile s) m low in
@@ -70,7 +75,8 @@ unfolding net_of
 ejects_at d p class = ap (λ (x : Channel). is_ejection x.kind) (ejection_is d.shape p class)
 
 -- an injection by its number
-place_injected : (n j : ℕ) (b c : Bool) → nat_lt j (8 * n) ≡ b → nat_lt j (8 * n + 2) ≡ c → kind_of_place n j ≡ Injection → j ≡ 8 * n + class_place (class_of_place n j)
+place_injected : (n j : ℕ) (b c : Bool) → nat_lt j (8 * n) ≡ b → nat_lt j (8 * n + 2) ≡ c → kind_of_place n j ≡ Injection
+    → j ≡ 8 * n + class_place (class_of_place n j)
 place_injected n j true c low high h =
     let e : kind_of_place n j ≡ Hop (j / 8) (dir_at (j / 4 % 2)) (j % 2 == 1) = ap (λ (x : Bool). kind_by x (nat_lt j (8 * n + 2)) j) low in
     let no : ◌≡◌ {A = Kind} (Hop (j / 8) (dir_at (j / 4 % 2)) (j % 2 == 1)) Injection = sym e ∙ h in cc
@@ -117,11 +123,13 @@ class_only Request Reply h = cc
 class_only Reply Request h = cc
 class_only Reply Reply h = refl
 
-joins_from : (s : Shape) (i p : ℕ) (class : Class) → joins_in s i (ejection_channel s p class) ≡ true → (b : ℕ) × (b < tiles_of s) × (i ≡ injection_channel s b class)
+joins_from : (s : Shape) (i p : ℕ) (class : Class) → joins_in s i (ejection_channel s p class) ≡ true
+    → (b : ℕ) × (b < tiles_of s) × (i ≡ injection_channel s b class)
 joins_from s i p class h =
     let x : Channel = channel_at s i in
     let c : ℕ = channels_at_tile s in
-    let ends : Bool = (nat_lt i (channel_count s) && is_injection x.kind) && (nat_lt (ejection_channel s p class) (channel_count s) && is_ejection (channel_at s (ejection_channel s p class)).kind) in
+    let ends : Bool = (nat_lt i (channel_count s) && is_injection x.kind)
+    && (nat_lt (ejection_channel s p class) (channel_count s) && is_ejection (channel_at s (ejection_channel s p class)).kind) in
     let a = and_parts ends (is_same_class x.class (channel_at s (ejection_channel s p class)).class) h in
     let b = and_parts (nat_lt i (channel_count s) && is_injection x.kind) _ a.0 in
     let f = and_parts (nat_lt i (channel_count s)) (is_injection x.kind) b.0 in
@@ -131,32 +139,43 @@ joins_from s i p class h =
     (x.tile, (div-lt_iff_lt-mul {k = c} {x = i} {y = tiles_of s} (omega arith)).1 within, injection_from s i k ∙ ap (injection_channel s x.tile) e)
 
 pub injection_in : (s : Shape) (t : ℕ) (class : Class) → t < tiles_of s → injection_channel s t class < channel_count s
-injection_in s t Request h = let l = mul-add-lt t (channels_at_tile s) (8 * dims_of s + 0) (tiles_of s) h (omega arith) in let e = mul_comm (channels_at_tile s) (tiles_of s) in omega (arith, l, e)
-injection_in s t Reply h = let l = mul-add-lt t (channels_at_tile s) (8 * dims_of s + 1) (tiles_of s) h (omega arith) in let e = mul_comm (channels_at_tile s) (tiles_of s) in omega (arith, l, e)
+injection_in s t Request h = let l = mul-add-lt t (channels_at_tile s) (8 * dims_of s + 0) (tiles_of s) h (omega arith) in
+    let e = mul_comm (channels_at_tile s) (tiles_of s) in omega (arith, l, e)
+injection_in s t Reply h = let l = mul-add-lt t (channels_at_tile s) (8 * dims_of s + 1) (tiles_of s) h (omega arith) in
+    let e = mul_comm (channels_at_tile s) (tiles_of s) in omega (arith, l, e)
 
 pub ejection_in : (s : Shape) (t : ℕ) (class : Class) → t < tiles_of s → ejection_channel s t class < channel_count s
-ejection_in s t Request h = let l = mul-add-lt t (channels_at_tile s) (8 * dims_of s + 2 + 0) (tiles_of s) h (omega arith) in let e = mul_comm (channels_at_tile s) (tiles_of s) in omega (arith, l, e)
-ejection_in s t Reply h = let l = mul-add-lt t (channels_at_tile s) (8 * dims_of s + 2 + 1) (tiles_of s) h (omega arith) in let e = mul_comm (channels_at_tile s) (tiles_of s) in omega (arith, l, e)
+ejection_in s t Request h = let l = mul-add-lt t (channels_at_tile s) (8 * dims_of s + 2 + 0) (tiles_of s) h (omega arith) in
+    let e = mul_comm (channels_at_tile s) (tiles_of s) in omega (arith, l, e)
+ejection_in s t Reply h = let l = mul-add-lt t (channels_at_tile s) (8 * dims_of s + 2 + 1) (tiles_of s) h (omega arith) in
+    let e = mul_comm (channels_at_tile s) (tiles_of s) in omega (arith, l, e)
 
-joins_at : (s : Shape) (p b : ℕ) (class : Class) → p < tiles_of s → b < tiles_of s → joins_in s (injection_channel s p class) (ejection_channel s b class) ≡ true
+joins_at : (s : Shape) (p b : ℕ) (class : Class) → p < tiles_of s → b < tiles_of s
+    → joins_in s (injection_channel s p class) (ejection_channel s b class) ≡ true
 joins_at s p b class lp lb =
     let I : Channel → Bool = λ x. is_injection x.kind in
     let E : Channel → Bool = λ x. is_ejection x.kind in
-    ap₂ (λ (x y : Bool). (x && is_injection (channel_at s (injection_channel s p class)).kind) && (y && is_ejection (channel_at s (ejection_channel s b class)).kind) && is_same_class (channel_at s (injection_channel s p class)).class (channel_at s (ejection_channel s b class)).class)
-    (lt-ltb (injection_channel s p class) (channel_count s) (injection_in s p class lp)) (lt-ltb (ejection_channel s b class) (channel_count s) (ejection_in s b class lb))
-    ∙ (ap₂ (λ (x y : Channel). (true && is_injection x.kind) && (true && is_ejection y.kind) && is_same_class x.class y.class) (injection_is s p class) (ejection_is s b class) ∙ same_class class)
+    ap₂ (λ (x y : Bool). (x && is_injection (channel_at s (injection_channel s p class)).kind)
+    && (y && is_ejection (channel_at s (ejection_channel s b class)).kind) && is_same_class (channel_at s (injection_channel s p class)).class
+    (channel_at s (ejection_channel s b class)).class)
+    (lt-ltb (injection_channel s p class) (channel_count s) (injection_in s p class lp))
+    (lt-ltb (ejection_channel s b class) (channel_count s) (ejection_in s b class lb))
+    ∙ (ap₂ (λ (x y : Channel). (true && is_injection x.kind) && (true && is_ejection y.kind) && is_same_class x.class y.class) (injection_is s p class)
+    (ejection_is s b class) ∙ same_class class)
   where
     same_class : (c : Class) → is_same_class c c ≡ true
     same_class Request = refl
     same_class Reply = refl
 
 -- packets of a class go from each tile to each
-pub joined : (d : Design) (p b : ℕ) (class : Class) → p < tiles_of d.shape → b < tiles_of d.shape → (net_of d).joins (injection_channel d.shape p class) (ejection_channel d.shape b class) ≡ true
+pub joined : (d : Design) (p b : ℕ) (class : Class) → p < tiles_of d.shape → b < tiles_of d.shape
+    → (net_of d).joins (injection_channel d.shape p class) (ejection_channel d.shape b class) ≡ true
 unfolding net_of
 joined d p b class lp lb = joins_at d.shape p b class lp lb
 
 -- what is sent to an ejection comes from an injection of its class
-pub joined_from : (d : Design) (i p : ℕ) (class : Class) → (net_of d).joins i (ejection_channel d.shape p class) ≡ true → (b : ℕ) × (b < tiles_of d.shape) × (i ≡ injection_channel d.shape b class)
+pub joined_from : (d : Design) (i p : ℕ) (class : Class) → (net_of d).joins i (ejection_channel d.shape p class) ≡ true
+    → (b : ℕ) × (b < tiles_of d.shape) × (i ≡ injection_channel d.shape b class)
 unfolding net_of
 joined_from d i p class h = joins_from d.shape i p class h
 

@@ -21,7 +21,8 @@ IsOfChannel (want.Credit o) = Unit {0}
 IsOfChannel (want.Access word o) = ⊥
 IsOfChannel (want.Await word value) = ⊥
 
-pub channel_words : (depth : ℕ) (around : Surroundings) (wiring : Wiring) (w : Want) → IsOfChannel w → (surroundings_after depth around wiring w).words ≡ around.words
+pub channel_words : (depth : ℕ) (around : Surroundings) (wiring : Wiring) (w : Want) → IsOfChannel w
+    → (surroundings_after depth around wiring w).words ≡ around.words
 channel_words depth around wiring (want.Take i) h = refl
 channel_words depth around wiring (want.Put o flit) h = refl
 channel_words depth around wiring (want.Credit o) h = refl
@@ -36,7 +37,8 @@ takes_of : (s : Shape) (t i : ℕ) (latch : Option ℕ) (w : Want) → wants_to_
 takes_of s t i None w h = sym (same_Some _ _ h)
 takes_of s t i (Some flit) w h = cc
 
-puts_of : (s : Shape) (t : ℕ) (r : RouterState) (i : ℕ) (latch : Option ℕ) (w : Want) → wants_to_put s t r i latch ≡ Some w → (flit : ℕ) × (o : ℕ) × (latch ≡ Some flit) × (w ≡ want.Put o flit)
+puts_of : (s : Shape) (t : ℕ) (r : RouterState) (i : ℕ) (latch : Option ℕ) (w : Want) → wants_to_put s t r i latch ≡ Some w
+    → (flit : ℕ) × (o : ℕ) × (latch ≡ Some flit) × (w ≡ want.Put o flit)
 puts_of s t r i None w h = cc
 puts_of s t r i (Some flit) w h =
     let f = option_map_some (λ (o : ℕ). want.Put o flit) (output_for s t r i (head_of flit)) w h in (flit, f.0, refl, sym f.2)

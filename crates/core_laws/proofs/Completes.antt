@@ -36,7 +36,8 @@ without_last_push [] k = refl
 without_last_push (l ∷ []) k = refl
 without_last_push (l ∷ m ∷ ks) k = ap (λ (xs : List Parcel). l ∷ xs) (without_last_push (m ∷ ks) k)
 
-pub completes : (n : Net) (s : State) (x flit : ℕ) (more : List ℕ) (bit : Bool) → IsNet n → Words n s → Routes n s → CanAccept n (s.lines x) x flit more bit → n.is_tail flit ≡ true
+pub completes : (n : Net) (s : State) (x flit : ℕ) (more : List ℕ) (bit : Bool) → IsNet n → Words n s → Routes n s → CanAccept n (s.lines x) x flit more bit
+    → n.is_tail flit ≡ true
     → Completes n s (after n s (accepts x flit more bit)) x flit
 completes n s x flit more true net w r c last =
     let h : Note = s.notes x in
@@ -52,7 +53,9 @@ completes n s x flit more true net w r c last =
       parcel = m.parcel;
       destination = sym (net.ejects k.source k.destination x m.parcel.joined way c.ejects);
       sent = was_sent n s x k w r here;
-      flits = ap (λ (f : ℕ). f ∷ k.tail) m.head ∙ (ap (λ (fs : List ℕ). flit ∷ fs) none ∙ ap (λ (fs : List ℕ). fs ++ flit ∷ []) (sym (nothing_so_far (s.lines x) h (w.assembling x c.ejects) m.none)));
+      flits = ap (λ (f : ℕ). f ∷ k.tail) m.head
+          ∙ (ap (λ (fs : List ℕ). flit ∷ fs) none
+          ∙ ap (λ (fs : List ℕ). fs ++ flit ∷ []) (sym (nothing_so_far (s.lines x) h (w.assembling x c.ejects) m.none)));
       whole_now = ap (λ (z : Note). whole_of z.awaited z.begun) note
           ∙ (ap (λ (fs : List ℕ). whole_of fs (h.begun ++ take 1 h.parcels)) (m.tail ∙ none)
           ∙ (ap (λ (ks : List Parcel). h.begun ++ ks) m.one ∙ ap (λ (fs : List ℕ). whole_of fs h.begun ++ k ∷ []) (sym m.none)));
@@ -67,7 +70,8 @@ completes n s x flit more false net w r c last =
     let note : update s.notes x new x ≡ new = update_same s.notes x new in
     ⊎_elim
     (λ (no : (h.awaited ≡ []) × ((s.lines x).so_far ≡ [])). let z = no.0 in let f = p.1 in cc)
-    (λ (q : (before : List Parcel) × (last : Parcel) × (h.begun ≡ before ++ last ∷ []) × ((s.lines x).so_far ++ h.awaited ≡ flits_of last) × ((s.lines x).so_far ≢ []) × (h.awaited ≢ [])).
+    (λ (q : (before : List Parcel) × (last : Parcel) × (h.begun ≡ before ++ last ∷ []) × ((s.lines x).so_far ++ h.awaited ≡ flits_of last)
+    × ((s.lines x).so_far ≢ []) × (h.awaited ≢ [])).
     let here : IsOn q.1 h.begun = (q.0, [], q.2) in
     let begun = all_on (IsBegunHere n x) h.begun q.1 (r.begun x) here in
     record {
@@ -78,31 +82,37 @@ completes n s x flit more false net w r c last =
       flits = sym q.3 ∙ ap (λ (fs : List ℕ). (s.lines x).so_far ++ fs) awaits;
       whole_now = ap (λ (z : Note). whole_of z.awaited z.begun) note
           ∙ (ap (λ (fs : List ℕ). whole_of (drop 1 fs) h.begun) awaits
-          ∙ (q.2 ∙ ap (λ (ks : List Parcel). ks ++ q.1 ∷ []) (sym (without_last_push q.0 q.1) ∙ (ap without_last (sym q.2) ∙ ap (λ (fs : List ℕ). whole_of fs h.begun) (sym awaits)))));
+          ∙ (q.2 ∙ ap (λ (ks : List Parcel). ks ++ q.1 ∷ [])
+          (sym (without_last_push q.0 q.1) ∙ (ap without_last (sym q.2) ∙ ap (λ (fs : List ℕ). whole_of fs h.begun) (sym awaits)))));
     })
     (w.assembling x c.ejects)
 
 -- what was sent stays as it was
-pub sent_kept : (n : Net) (s : State) (x flit : ℕ) (more : List ℕ) (bit : Bool) (i : ℕ) → ((after n s (accepts x flit more bit)).notes i).sent ≡ (s.notes i).sent
+pub sent_kept : (n : Net) (s : State) (x flit : ℕ) (more : List ℕ) (bit : Bool) (i : ℕ)
+    → ((after n s (accepts x flit more bit)).notes i).sent ≡ (s.notes i).sent
 sent_kept n s x flit more true i = note_kept s x (record (popped (s.notes x)) { begun = (s.notes x).begun ++ take 1 (s.notes x).parcels }) i refl
   where
     note_kept : (s : State) (x : ℕ) (new : Note) (i : ℕ) → new.sent ≡ (s.notes x).sent → (update s.notes x new i).sent ≡ (s.notes i).sent
     note_kept s x new i same = ⊎_elim
-        (λ (e : i ≡ x). ap (λ (j : ℕ). (update s.notes x new j).sent) e ∙ (ap (λ (k : Note). k.sent) (update_same s.notes x new) ∙ (same ∙ ap (λ (j : ℕ). (s.notes j).sent) (sym e))))
+        (λ (e : i ≡ x). ap (λ (j : ℕ). (update s.notes x new j).sent) e
+        ∙ (ap (λ (k : Note). k.sent) (update_same s.notes x new) ∙ (same ∙ ap (λ (j : ℕ). (s.notes j).sent) (sym e))))
         (λ (other : i ≢ x). ap (λ (k : Note). k.sent) (update_other s.notes x new i other))
         (cases_eq i x)
 sent_kept n s x flit more false i = note_kept s x (record (s.notes x) { awaited = drop 1 (s.notes x).awaited }) i refl
   where
     note_kept : (s : State) (x : ℕ) (new : Note) (i : ℕ) → new.sent ≡ (s.notes x).sent → (update s.notes x new i).sent ≡ (s.notes i).sent
     note_kept s x new i same = ⊎_elim
-        (λ (e : i ≡ x). ap (λ (j : ℕ). (update s.notes x new j).sent) e ∙ (ap (λ (k : Note). k.sent) (update_same s.notes x new) ∙ (same ∙ ap (λ (j : ℕ). (s.notes j).sent) (sym e))))
+        (λ (e : i ≡ x). ap (λ (j : ℕ). (update s.notes x new j).sent) e
+        ∙ (ap (λ (k : Note). k.sent) (update_same s.notes x new) ∙ (same ∙ ap (λ (j : ℕ). (s.notes j).sent) (sym e))))
         (λ (other : i ≢ x). ap (λ (k : Note). k.sent) (update_other s.notes x new i other))
         (cases_eq i x)
 
-pub accept_routes : (n : Net) (s : State) (x flit : ℕ) (more : List ℕ) (bit : Bool) → IsNet n → Words n s → Routes n s → CanAccept n (s.lines x) x flit more bit → Routes n (after n s (accepts x flit more bit))
+pub accept_routes : (n : Net) (s : State) (x flit : ℕ) (more : List ℕ) (bit : Bool) → IsNet n → Words n s → Routes n s → CanAccept n (s.lines x) x flit more bit
+    → Routes n (after n s (accepts x flit more bit))
 accept_routes n s x flit more true net w r c = routes_kept n s (AcceptHead x flit more) net w r c
 accept_routes n s x flit more false net w r c = routes_kept n s (AcceptRest x flit more) net w r c
 
-pub accept_words : (n : Net) (s : State) (x flit : ℕ) (more : List ℕ) (bit : Bool) → IsNet n → Words n s → Routes n s → CanAccept n (s.lines x) x flit more bit → Words n (after n s (accepts x flit more bit))
+pub accept_words : (n : Net) (s : State) (x flit : ℕ) (more : List ℕ) (bit : Bool) → IsNet n → Words n s → Routes n s → CanAccept n (s.lines x) x flit more bit
+    → Words n (after n s (accepts x flit more bit))
 accept_words n s x flit more true net w r c = words_kept n s (AcceptHead x flit more) net w r c
 accept_words n s x flit more false net w r c = words_kept n s (AcceptRest x flit more) net w r c

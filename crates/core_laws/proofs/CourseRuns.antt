@@ -3,13 +3,13 @@ use Rattle.std.proofs.Common.{◌≡◌, ℕ, suc, List, [], ◌∷◌, map, len
 use Rattle.torus.specs.Shape.{tiles_of, dims_of}
 use Rattle.torus.specs.declared.step.Step.{Step}
 use Rattle.script.specs.declared.line.Line.{Line}
-use Rattle.runs.specs.Observed.{Observed}
-use Rattle.runs.specs.Events.{order_after}
+use Rattle.one_order.specs.Observed.{Observed}
+use Rattle.one_order.specs.Events.{order_after}
 use Rattle.wormhole.specs.Events.{CanHappen}
-use Rattle.net_interface.specs.ProcessorRecord.{ProcessorRecord}
-use Rattle.flights.specs.Flight.{moved_by}
-use Rattle.flights.specs.Courses.{IsCourse, first_record, first_flight}
-use Rattle.tile.specs.Tile.{Design}
+use Rattle.script_follower.specs.ProcessorRecord.{ProcessorRecord}
+use Rattle.order_abstract.specs.Flight.{moved_by}
+use Rattle.order_abstract.specs.Courses.{IsCourse, first_record, first_flight}
+use Rattle.tile_laws.specs.Tile.{Design}
 use Rattle.core_laws.specs.Core.{Load, State, design_of, first_tile, first_state}
 use Rattle.core_laws.specs.Runs.{IsAccepted}
 use Rattle.core_laws.specs.Network.{net_of}
@@ -31,11 +31,14 @@ module _ (l : Load) (ok : IsAccepted l) (steps : List Step) where
   starts : flight_after l steps 0 ≡ first_flight (tiles_of l.shape) l.tags l.opening l.scripts
   starts =
       let shown = first_shown l ok.depth.0 ok.processors in
-      ap (λ (bs : List ProcessorRecord). record { processors = bs; entries = (flight_after l steps 0).entries; memory = (flight_after l steps 0).memory; asked = []; told = [] }) (records_first (dims_of l.shape) l.tags l.scripts)
+      ap (λ (bs : List ProcessorRecord).
+      record { processors = bs; entries = (flight_after l steps 0).entries; memory = (flight_after l steps 0).memory; asked = []; told = [] })
+      (records_first (dims_of l.shape) l.tags l.scripts)
       ∙ ap (λ (o : Observed). record { processors = map (first_record l.tags) l.scripts; entries = o.entries; memory = o.memory; asked = []; told = [] }) shown
 
   pub go : (k : ℕ) → Goes l k (state_at l steps k) (noted l steps k) (order_after (event_at l steps) k) (slice_get steps k)
-  go k = goes l ok (quiet l ok) k (state_at l steps k) (noted l steps k) (order_after (event_at l steps) k) (holds_in l ok steps k).stands (holds_in l ok steps k).values (slice_get steps k)
+  go k = goes l ok (quiet l ok) k (state_at l steps k) (noted l steps k) (order_after (event_at l steps) k) (holds_in l ok steps k).stands
+      (holds_in l ok steps k).values (slice_get steps k)
 
   moves : (k : ℕ) → flight_after l steps (suc k) ≡ moved_by (tiles_of l.shape) (flight_after l steps k) (move_after l steps k)
   moves k = ap (λ (s : State). flight_of (length l.opening) s (noted l steps (suc k))) (after_more d steps (first_state l) k) ∙ (go k).flight

@@ -2,15 +2,15 @@
 use Rattle.std.proofs.Common.{ℕ, List, length}
 use Rattle.torus.specs.Shape.{IsAccepted as IsAcceptedShape, tiles_of}
 use Rattle.torus.specs.declared.step.Step.{Step}
-use Rattle.runs.specs.declared.ordered.Ordered.{Ordered}
-use Rattle.runs.specs.Events.{IsHistory, order_after}
-use Rattle.runs.specs.OneOrder.{HasOneOrder}
-use Rattle.runs.specs.Consequences.{ServesInTurn, AnswersInTurn}
-use Rattle.runs.proofs.OrderRows.{rows_of, one_order}
-use Rattle.runs.proofs.InTurn.{serves_in_turn}
-use Rattle.runs.proofs.AnswersInTurn.{answers_in_turn}
-use Rattle.flights.specs.Scripts.{FollowScripts}
-use Rattle.tile.specs.Tile.{Design}
+use Rattle.one_order.specs.declared.ordered.Ordered.{Ordered}
+use Rattle.one_order.specs.Events.{IsHistory, order_after}
+use Rattle.one_order.specs.OneOrder.{HasOneOrder}
+use Rattle.one_order.specs.Consequences.{ServesInTurn, AnswersInTurn}
+use Rattle.one_order.proofs.OrderRows.{rows_of, one_order}
+use Rattle.one_order.proofs.InTurn.{serves_in_turn}
+use Rattle.one_order.proofs.AnswersInTurn.{answers_in_turn}
+use Rattle.order_abstract.specs.Scripts.{FollowScripts}
+use Rattle.tile_laws.specs.Tile.{Design}
 use Rattle.core_laws.specs.Core.{Load, design_of, run_of}
 use Rattle.core_laws.specs.Delivery.{DeliversPackets}
 use Rattle.core_laws.specs.Noted.{noted}
@@ -57,10 +57,12 @@ module _ (l : Load) (ok : IsAccepted l) where
       serves_in_turn (tiles_of l.shape) l.tags l.opening (run_of l steps) n order.0 order.1 b p
 
   -- Packets are delivered in order, between all tiles and of both classes.
-  pub packets_delivered : (steps : List Step) (n : ℕ) → DeliversPackets (design_of l) (length l.opening) (state_at l steps n) (noted l steps n).requests (noted l steps n).taken
+  pub packets_delivered : (steps : List Step) (n : ℕ)
+      → DeliversPackets (design_of l) (length l.opening) (state_at l steps n) (noted l steps n).requests (noted l steps n).taken
   packets_delivered steps n =
       let h = holds_in steps n in
-      delivers (design_of l) l.tags l.opening (state_at l steps n) (noted l steps n) (order_after (event_at l steps) n) h.stands (network (design_of l) ok.shape)
+      delivers (design_of l) l.tags l.opening (state_at l steps n) (noted l steps n) (order_after (event_at l steps) n) h.stands
+      (network (design_of l) ok.shape)
 
   -- Each processor's answers of a bank are of a beginning of its entries there.
   pub answers_come : (steps : List Step) (n b p : ℕ) → AnswersInTurn (run_of l steps n) b p

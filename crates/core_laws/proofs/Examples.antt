@@ -9,17 +9,24 @@ use Rattle.packet.specs.declared.kinds.Reply.TheVariants.{Old, Ok as Stored}
 use Rattle.script.specs.declared.line.Line.TheVariants as line
 use Rattle.script.specs.declared.line.Line.{Line}
 use Rattle.script.specs.declared.line.Value.TheVariants.{Number}
-use Rattle.net_interface.specs.Following.{first_of, next_operation_of, after_issue, after_answer, is_finished}
+use Rattle.script_follower.specs.Following.{first_of, next_operation_of, after_issue, after_answer, is_finished}
 use Rattle.flit_buffer.specs.Surroundings.{ring}
 use Rattle.packet.specs.Flits.{offered, flits_of}
 use Rattle.core_laws.specs.Core.{Load, after, show, round}
 
 -- two tiles, depth 4, 4 tags, 8 words
 abbrev two_tiles : Load
-two_tiles = record { shape = record { radices = 2 ∷ []; datelines = 1 ∷ [] }; depth = 4; tags = 4; opening = 0 ∷ 0 ∷ 0 ∷ 0 ∷ 0 ∷ 0 ∷ 0 ∷ 0 ∷ []; scripts = (line.Store 1 (Number 7) ∷ []) ∷ [] ∷ [] }
+two_tiles = record {
+  shape = record { radices = 2 ∷ []; datelines = 1 ∷ [] };
+  depth = 4;
+  tags = 4;
+  opening = 0 ∷ 0 ∷ 0 ∷ 0 ∷ 0 ∷ 0 ∷ 0 ∷ 0 ∷ [];
+  scripts = (line.Store 1 (Number 7) ∷ []) ∷ [] ∷ [];
+}
 
 abbrev one_pass : List Step
-one_pass = record { agent = 0; choice = Send } ∷ record { agent = 1; choice = TakeFrom 8 } ∷ record { agent = 1; choice = Put 8 } ∷ record { agent = 4; choice = TakeFrom 0 } ∷ record { agent = 4; choice = Put 0 } ∷ record { agent = 5; choice = Take } ∷ []
+one_pass = record { agent = 0; choice = Send } ∷ record { agent = 1; choice = TakeFrom 8 } ∷ record { agent = 1; choice = Put 8 }
+    ∷ record { agent = 4; choice = TakeFrom 0 } ∷ record { agent = 4; choice = Put 0 } ∷ record { agent = 5; choice = Take } ∷ []
 
 abbrev served_once : List Step
 served_once = one_pass ++ one_pass ++ one_pass ++ record { agent = 5; choice = Serve } ∷ []
@@ -49,8 +56,10 @@ store_and_load = with_scripts ((line.Store 5 (Number 17) ∷ line.Fence ∷ line
 
 a_fenced_load_sees_the_store : show 8 (after store_and_load (rounds 13)) ≡ record {
   issued = (record { address = 5; op = op.Store 17 } ∷ record { address = 5; op = op.Load } ∷ []) ∷ [] ∷ [];
-  answers = (record { index = 0; op = op.Store 17; reply = Stored; bank = 1; place = 0 } ∷ record { index = 1; op = op.Load; reply = Old 17; bank = 1; place = 1 } ∷ []) ∷ [] ∷ [];
-  entries = [] ∷ (record { source = 0; tag = record { 0 = 0 }; address = 5; op = op.Store 17; reply = Stored } ∷ record { source = 0; tag = record { 0 = 0 }; address = 5; op = op.Load; reply = Old 17 } ∷ []) ∷ [];
+  answers = (record { index = 0; op = op.Store 17; reply = Stored; bank = 1; place = 0 }
+      ∷ record { index = 1; op = op.Load; reply = Old 17; bank = 1; place = 1 } ∷ []) ∷ [] ∷ [];
+  entries = [] ∷ (record { source = 0; tag = record { 0 = 0 }; address = 5; op = op.Store 17; reply = Stored }
+      ∷ record { source = 0; tag = record { 0 = 0 }; address = 5; op = op.Load; reply = Old 17 } ∷ []) ∷ [];
   memory = 0 ∷ 0 ∷ 0 ∷ 0 ∷ 0 ∷ 17 ∷ 0 ∷ 0 ∷ [];
 }
 unfolding first_of next_operation_of after_issue after_answer is_finished field offered flits_of

@@ -1,5 +1,6 @@
 -- What holds of the flits of all packets that were sent holds of all flits on their way, and of those that are still to be put.
-use Rattle.std.proofs.Common.{◌≡◌, ◌≢◌, ⊎_elim, ℕ, zero, suc, ◌+◌, ◌*◌, ◌%◌, ◌<◌, ◌≤◌, Bool, true, false, List, [], ◌∷◌, ◌++◌, map, Option, Some, All, refl, sym, ◌∙◌, ap, subst, arith}
+use Rattle.std.proofs.Common.{◌≡◌, ◌≢◌, ⊎_elim, ℕ, zero, suc, ◌+◌, ◌*◌, ◌%◌, ◌<◌, ◌≤◌, Bool, true, false, List, [], ◌∷◌, ◌++◌, map, Option, Some, All, refl}
+use Rattle.std.proofs.Common.{sym, ◌∙◌, ap, subst, arith}
 use Rattle.std.specs.Prelude.{nat_lt, ◌&&◌}
 use Rattle.std.proofs.lemmas.Bool.{ltb-true}
 use Rattle.std.proofs.Math.Nat.{div-lt_iff_lt-mul}
@@ -15,12 +16,12 @@ use Rattle.packet.proofs.Shapes.{flits_above_zero}
 use Rattle.dateline_route.specs.declared.channel.Channel.{Channel}
 use Rattle.dateline_route.specs.Walk.{IsInside}
 use Rattle.channel_number.specs.Order.{channel_count, channels_at_tile, channel_at}
-use Rattle.runs.specs.Observed.{list_at}
-use Rattle.runs.specs.Order.{LinearizationPoint}
+use Rattle.one_order.specs.Observed.{list_at}
+use Rattle.one_order.specs.Order.{LinearizationPoint}
 use Rattle.channel_number.specs.Ports.{is_injection, is_ejection, injection_channel}
-use Rattle.torus_net.specs.TorusNet.{same_class as is_same_class, joins_in}
+use Rattle.wormhole_torus.specs.TorusNet.{same_class as is_same_class, joins_in}
 use Rattle.channel_number.proofs.Decoding.{kind_by}
-use Rattle.torus_net.proofs.Numbers.{number_below}
+use Rattle.wormhole_torus.proofs.Numbers.{number_below}
 use Rattle.wormhole.specs.Net.{Net, Parcel, IsParcel, IsOn, flits_of as flits_in, flits_of_all}
 use Rattle.wormhole.specs.State.{State as NetState, in_line}
 use Rattle.wormhole.specs.Words.{Words}
@@ -29,7 +30,7 @@ use Rattle.wormhole.proofs.FlitsHold.{HoldsOfNoted, line_holds}
 use Rattle.wormhole.proofs.Lists.{all_on, on_left}
 use Rattle.wormhole.proofs.Arrivals.{was_sent, begun_was_sent}
 use Rattle.packet.specs.Flits.{flits_of}
-use Rattle.tile.specs.Tile.{Design}
+use Rattle.tile_laws.specs.Tile.{Design}
 use Rattle.core_laws.specs.Core.{State}
 use Rattle.core_laws.proofs.Projection.{net_of, request_parcel, response_parcel, parcel_of}
 use Rattle.core_laws.proofs.Parcels.{parcel_flits}
@@ -51,7 +52,8 @@ each_holds P (k ∷ ks) h = All-cons (λ (k : Parcel). All P (flits_in k)) k ks 
 all_hold : (P : ℕ → Type 0) (ks : List Parcel) → All (λ (k : Parcel). All P (flits_in k)) ks → All P (flits_of_all ks)
 all_hold P [] h = All-nil P
 all_hold P (k ∷ ks) h =
-    All-append P (flits_in k) (flits_of_all ks) (All-head (λ (k : Parcel). All P (flits_in k)) k ks h) (all_hold P ks (All-tail (λ (k : Parcel). All P (flits_in k)) k ks h))
+    All-append P (flits_in k) (flits_of_all ks) (All-head (λ (k : Parcel). All P (flits_in k)) k ks h)
+    (all_hold P ks (All-tail (λ (k : Parcel). All P (flits_in k)) k ks h))
 
 module _ (n : Net) (s : NetState) (w : Words n s) (r : Routes n s) (bounded : (x : ℕ) → n.number x < n.top) (P : ℕ → Type 0)
     (sent : (k : Parcel) → IsParcel n k → IsOn k (s.notes k.source).sent → All P (flits_in k)) where
@@ -62,16 +64,19 @@ module _ (n : Net) (s : NetState) (w : Words n s) (r : Routes n s) (bounded : (x
   owed_after : (x : ℕ) → All P (s.notes x).awaited → All P (s.notes x).owed
   owed_after x h =
       all_right P (in_line (s.lines x)) (s.notes x).owed
-      (subst (λ (fs : List ℕ). All P fs) (w.contiguous x) (All-append P (s.notes x).awaited (flits_of_all (s.notes x).parcels) h (all_hold P (s.notes x).parcels (parcels_hold x))))
+      (subst (λ (fs : List ℕ). All P fs) (w.contiguous x)
+      (All-append P (s.notes x).awaited (flits_of_all (s.notes x).parcels) h (all_hold P (s.notes x).parcels (parcels_hold x))))
 
   -- the flits that are awaited behind a channel are those that its packet's next channel is owed
   awaited_by : (x : ℕ) (b : Bool) → n.ejects x ≡ b → ((y : ℕ) → n.number x < n.number y → All P (s.notes y).awaited) → All P (s.notes x).awaited
   awaited_by x true ejects further = ⊎_elim
       (λ (none : ((s.notes x).awaited ≡ []) × ((s.lines x).so_far ≡ [])). subst (λ (fs : List ℕ). All P fs) (sym none.0) (All-nil P))
-      (λ (q : (before : List Parcel) × (last : Parcel) × ((s.notes x).begun ≡ before ++ last ∷ []) × ((s.lines x).so_far ++ (s.notes x).awaited ≡ flits_in last) × ((s.lines x).so_far ≢ []) × ((s.notes x).awaited ≢ [])).
+      (λ (q : (before : List Parcel) × (last : Parcel) × ((s.notes x).begun ≡ before ++ last ∷ []) × ((s.lines x).so_far ++ (s.notes x).awaited ≡ flits_in last)
+      × ((s.lines x).so_far ≢ []) × ((s.notes x).awaited ≢ [])).
       let here : IsOn q.1 (s.notes x).begun = (q.0, [], q.2) in
       let begun = all_on (IsBegunHere n x) (s.notes x).begun q.1 (r.begun x) here in
-      all_right P (s.lines x).so_far (s.notes x).awaited (subst (λ (fs : List ℕ). All P fs) (sym q.3) (sent q.1 begun.parcel (begun_was_sent n s x q.1 r here))))
+      all_right P (s.lines x).so_far (s.notes x).awaited
+      (subst (λ (fs : List ℕ). All P fs) (sym q.3) (sent q.1 begun.parcel (begun_was_sent n s x q.1 r here))))
       (w.assembling x ejects)
   awaited_by x false input further = ⊎_elim
       (λ (none : (s.notes x).awaited ≡ []). subst (λ (fs : List ℕ). All P fs) (sym none) (All-nil P))
@@ -101,29 +106,34 @@ unfolding net_of
 numbers_bounded d accepted x =
     let s : Shape = d.shape in
     let j : ℕ = x % channels_at_tile s in
-    number_below s accepted (channel_at s x).tile (channel_at s x).class (channel_at s x).kind (inside_by s j (nat_lt j (8 * dims_of s)) (nat_lt j (8 * dims_of s + 2)) refl)
+    number_below s accepted (channel_at s x).tile (channel_at s x).class (channel_at s x).kind
+    (inside_by s j (nat_lt j (8 * dims_of s)) (nat_lt j (8 * dims_of s + 2)) refl)
 
 source_in : (s : Shape) (i j : ℕ) → joins_in s i j ≡ true → (b : ℕ) × (class : Class) × (b < tiles_of s) × (i ≡ injection_channel s b class)
 source_in s i j h =
     let x : Channel = channel_at s i in
     let c : ℕ = channels_at_tile s in
     let y : Channel = channel_at s j in
-    let a = and_parts ((nat_lt i (channel_count s) && is_injection x.kind) && (nat_lt j (channel_count s) && is_ejection y.kind)) (is_same_class x.class y.class) h in
+    let a = and_parts ((nat_lt i (channel_count s) && is_injection x.kind) && (nat_lt j (channel_count s) && is_ejection y.kind))
+    (is_same_class x.class y.class) h in
     let b = and_parts (nat_lt i (channel_count s) && is_injection x.kind) (nat_lt j (channel_count s) && is_ejection y.kind) a.0 in
     let f = and_parts (nat_lt i (channel_count s)) (is_injection x.kind) b.0 in
     let within = ltb-true i (channel_count s) f.0 in
     (x.tile, x.class, (div-lt_iff_lt-mul {k = c} {x = i} {y = tiles_of s} (omega arith)).1 within, injection_from s i (injects_only x.kind f.1))
 
 -- a packet of the machine comes from an injection_channel
-source_of_parcel : (d : Design) (k : Parcel) → IsParcel (net_of d) k → (b : ℕ) × (class : Class) × (b < tiles_of d.shape) × (k.source ≡ injection_channel d.shape b class)
+source_of_parcel : (d : Design) (k : Parcel) → IsParcel (net_of d) k
+    → (b : ℕ) × (class : Class) × (b < tiles_of d.shape) × (k.source ≡ injection_channel d.shape b class)
 unfolding net_of
 source_of_parcel d k h = source_in d.shape k.source k.destination h.joined
 
-module _ (d : Design) (accepted : IsAccepted d.shape) (tags : ℕ) (opening : List ℕ) (s : State) (g : Ghost) (order : List LinearizationPoint) (st : Stands d tags opening s g order) where
+module _ (d : Design) (accepted : IsAccepted d.shape) (tags : ℕ) (opening : List ℕ) (s : State) (g : Ghost) (order : List LinearizationPoint)
+    (st : Stands d tags opening s g order) where
   spelled_above : (p : Packet) → Spells p (flits_of p) → All (λ f. 0 < f) (flits_in (parcel_of d.shape p))
   spelled_above p h = subst (λ (fs : List ℕ). All (λ f. 0 < f) fs) (parcel_flits d.shape p h) (flits_above_zero p (flits_of p) h)
 
-  sent_above : (b : ℕ) (class : Class) → b < tiles_of d.shape → (k : Parcel) → IsOn k (g.net.notes (injection_channel d.shape b class)).sent → All (λ f. 0 < f) (flits_in k)
+  sent_above : (b : ℕ) (class : Class) → b < tiles_of d.shape → (k : Parcel) → IsOn k (g.net.notes (injection_channel d.shape b class)).sent
+      → All (λ f. 0 < f) (flits_in k)
   sent_above b Request b_in k on =
       let q = on_map (request_parcel d.shape) (list_at g.requests b) k (subst (λ (ks : List Parcel). IsOn k ks) (st.carries.requests_sent b b_in) on) in
       let proper = all_on (λ r. IsProperRequest d r × (r.source ≡ b)) (list_at g.requests b) q.0 (st.carries.requests_proper b) q.1 in
@@ -146,7 +156,8 @@ module _ (d : Design) (accepted : IsAccepted d.shape) (tags : ℕ) (opening : Li
   pub latched_above : (x flit : ℕ) → (g.net.lines x).latch ≡ Some flit → flit ≢ 0
   latched_above x flit full e =
       let all = line_holds (net_of d) (λ f. 0 < f) g.net x st.lines flits_above in
-      let some : 0 < flit = All-head (λ f. 0 < f) flit (g.net.lines x).flits (subst (λ (o : Option ℕ). All (λ f. 0 < f) (in_line (record (g.net.lines x) { latch = o }))) full all) in
+      let some : 0 < flit = All-head (λ f. 0 < f) flit (g.net.lines x).flits
+      (subst (λ (o : Option ℕ). All (λ f. 0 < f) (in_line (record (g.net.lines x) { latch = o }))) full all) in
       omega (arith, some, e)
 
   -- what a sender has yet to put of a packet isn't 0

@@ -6,11 +6,13 @@ use Rattle.packet.specs.declared.kinds.Operation.{Operation}
 use Rattle.script.specs.declared.line.Line.{Line}
 use Rattle.script.specs.declared.line.Line.TheVariants as line
 use Rattle.script.specs.Scripts.{IsAcceptedLine, IsAcceptedScript, operation_count}
-use Rattle.net_interface.specs.declared.spin.OpenSpin.{OpenSpin}
-use Rattle.net_interface.specs.Scripts.{reply_number}
-use Rattle.net_interface.specs.Following.{Following, first_of, next_operation_of, after_issue, after_answer, last_answered, other_answered, loads_left, spin_issued, spin_answered}
-use Rattle.net_interface.proofs.Residual.{BeginsWithLoads, WantsLoad}
-use Rattle.net_interface.proofs.Places.{Each, each_from, each_past_fences, each_issued, each_unfenced, count_past_fences, count_unfenced, left_issued, left_answered, wants_left, wants_none, wants_answered, spin_answered_cases}
+use Rattle.script_follower.specs.declared.spin.OpenSpin.{OpenSpin}
+use Rattle.script_follower.specs.Scripts.{reply_number}
+use Rattle.script_follower.specs.Following.{Following, first_of, next_operation_of, after_issue, after_answer, last_answered, other_answered, loads_left}
+use Rattle.script_follower.specs.Following.{spin_issued, spin_answered}
+use Rattle.script_follower.proofs.Residual.{BeginsWithLoads, WantsLoad}
+use Rattle.script_follower.proofs.Places.{Each, each_from, each_past_fences, each_issued, each_unfenced, count_past_fences, count_unfenced, left_issued}
+use Rattle.script_follower.proofs.Places.{left_answered, wants_left, wants_none, wants_answered, spin_answered_cases}
 use Rattle.core_laws.proofs.ValueBounds.{Known, IsInside, IsSpinInside, ready_inside}
 
 -- the lines ahead and the spin are of words of the memory, the last reply is of 64 bits, and what is issued and what is left are at most `most` operations
@@ -36,7 +38,8 @@ begins words (line.Min a v ∷ lines) h = tt
 begins words (line.Fence ∷ lines) h = tt
 begins words (line.Spin a v m ∷ lines) h = h.0.2
 
-spin_issued_inside : (words : ℕ) (spin : Option OpenSpin) (ahead : List Line) → Each (IsAcceptedLine words) ahead → IsSpinInside words spin → IsSpinInside words (spin_issued spin ahead)
+spin_issued_inside : (words : ℕ) (spin : Option OpenSpin) (ahead : List Line) → Each (IsAcceptedLine words) ahead → IsSpinInside words spin
+    → IsSpinInside words (spin_issued spin ahead)
 spin_issued_inside words (Some s) ahead each inside = inside
 spin_issued_inside words None [] each inside = tt
 spin_issued_inside words None (line.Spin a v m ∷ rest) each inside = each.0.0
@@ -67,7 +70,8 @@ unfolding next_operation_of
 next_inside words most f o h next = ready_inside words f.spin f.ahead f.last o h.ahead h.spin h.last next
 
 -- an issue
-pub followed_issued : (words most : ℕ) (f : Following) (o : Operation) → IsFollowed words most f → next_operation_of f ≡ Some o → IsFollowed words most (after_issue f)
+pub followed_issued : (words most : ℕ) (f : Following) (o : Operation) → IsFollowed words most f → next_operation_of f ≡ Some o
+    → IsFollowed words most (after_issue f)
 unfolding next_operation_of after_issue
 followed_issued words most f o h next = record {
   ahead = each_issued (IsAcceptedLine words) f.spin f.ahead h.ahead;
@@ -87,7 +91,8 @@ other_followed words most f h = record {
   count = let e = h.count in let k = count_unfenced f.spin (f.waiting - 1) f.ahead in omega arith;
 }
 
-last_followed : (words most : ℕ) (f : Following) (reply : Reply) → reply_number reply < 2 ^ 64 → IsFollowed words most f → IsFollowed words most (last_answered f reply)
+last_followed : (words most : ℕ) (f : Following) (reply : Reply) → reply_number reply < 2 ^ 64 → IsFollowed words most f
+    → IsFollowed words most (last_answered f reply)
 last_followed words most f reply small h = record {
   ahead = each_unfenced (IsAcceptedLine words) (spin_answered f.spin reply) (f.waiting - 1) f.ahead h.ahead;
   spin = spin_answered_inside words f.spin reply h.spin;
@@ -96,7 +101,8 @@ last_followed words most f reply small h = record {
   count = let e = h.count in let k = count_unfenced (spin_answered f.spin reply) (f.waiting - 1) f.ahead in let l = left_answered f.spin reply in omega arith;
 }
 
-pub followed_answered : (words most : ℕ) (f : Following) (i : ℕ) (reply : Reply) → reply_number reply < 2 ^ 64 → IsFollowed words most f → IsFollowed words most (after_answer f i reply)
+pub followed_answered : (words most : ℕ) (f : Following) (i : ℕ) (reply : Reply) → reply_number reply < 2 ^ 64 → IsFollowed words most f
+    → IsFollowed words most (after_answer f i reply)
 unfolding after_answer
 followed_answered words most f i reply small h =
     cond_both (i + 1 == f.issued) (last_answered f reply) (other_answered f) (IsFollowed words most)

@@ -1,9 +1,9 @@
 -- Runs of the core are histories of events: what is left is that each step keeps what holds.
 use Rattle.std.proofs.Common.{◌≡◌, ℕ, zero, suc, List, [], ◌∷◌, length, take, Option, Some, None, refl, slice_get}
 use Rattle.torus.specs.declared.step.Step.{Step}
-use Rattle.runs.specs.Events.{Event}
-use Rattle.flights.specs.Flight.{Move, event_by}
-use Rattle.tile.specs.Tile.{Design}
+use Rattle.one_order.specs.Events.{Event}
+use Rattle.order_abstract.specs.Flight.{Move, event_by}
+use Rattle.tile_laws.specs.Tile.{Design}
 use Rattle.core_laws.specs.Core.{Load, State, design_of, next, after_from, after}
 use Rattle.core_laws.specs.Moves.{move_of}
 use Rattle.core_laws.proofs.FlightSteps.{flight_with}
@@ -24,7 +24,8 @@ state_at l steps k = after l (take k steps)
 abbrev pub event_at : Load → List Step → ℕ → Event
 event_at l steps k = event_by (flight_with (length l.opening) (state_at l steps k) [] []) (move_at (design_of l) (state_at l steps k) (slice_get steps k))
 
-pub after_more : (d : Design) (steps : List Step) (s : State) (k : ℕ) → after_from d s (take (suc k) steps) ≡ next_at d (after_from d s (take k steps)) (slice_get steps k)
+pub after_more : (d : Design) (steps : List Step) (s : State) (k : ℕ)
+    → after_from d s (take (suc k) steps) ≡ next_at d (after_from d s (take k steps)) (slice_get steps k)
 after_more d [] s zero = refl
 after_more d [] s (suc k) = refl
 after_more d (step ∷ steps) s zero = refl

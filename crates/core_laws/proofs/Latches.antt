@@ -2,7 +2,7 @@
 use Rattle.std.proofs.Common.{◌≡◌, ◌≢◌, ⊎_elim, ℕ, ◌+◌, ◌<◌, List, ◌∷◌, length, Some, None, refl, sym, ◌∙◌, ap, subst, arith}
 use Rattle.std.proofs.lemmas.Bool.{cases_eq}
 use Rattle.torus.specs.Shape.{tiles_of, dims_of}
-use Rattle.runs.specs.Order.{LinearizationPoint}
+use Rattle.one_order.specs.Order.{LinearizationPoint}
 use Rattle.channel_number.specs.Order.{channel_count}
 use Rattle.flit_buffer.specs.Channel.{rest}
 use Rattle.flit_buffer.specs.Places.{take_from_ring}
@@ -14,7 +14,7 @@ use Rattle.wormhole.specs.Events.{Latch, CanLatch, taken}
 use Rattle.wormhole.proofs.Changes.{update_same, update_other}
 use Rattle.router.specs.Table.{RouterState, latch_of}
 use Rattle.channel_number.specs.Ports.{port_count, input_channel, output_channel}
-use Rattle.tile.specs.Tile.{Design}
+use Rattle.tile_laws.specs.Tile.{Design}
 use Rattle.core_laws.specs.Core.{State}
 use Rattle.core_laws.proofs.Projection.{net_of}
 use Rattle.core_laws.proofs.ChannelFacts.{channels_of}
@@ -23,7 +23,8 @@ use Rattle.core_laws.proofs.Quiet.{IsQuietStep}
 use Rattle.core_laws.proofs.RouterFrame.{router_tile, router_state, router_ghost, IsRouterStep, router_stands}
 use Rattle.core_laws.proofs.Stands.{Ghost, Stands, tile_at}
 
-module _ (d : Design) (net : IsNet (net_of d)) (wired : IsWiredUp d) (tags : ℕ) (opening : List ℕ) (s : State) (g : Ghost) (order : List LinearizationPoint) (st : Stands d tags opening s g order)
+module _ (d : Design) (net : IsNet (net_of d)) (wired : IsWiredUp d) (tags : ℕ) (opening : List ℕ) (s : State) (g : Ghost) (order : List LinearizationPoint)
+    (st : Stands d tags opening s g order)
     (t : ℕ) (t_in : t < tiles_of d.shape) (i : ℕ) (i_in : i < port_count (dims_of d.shape)) (flit : ℕ) (more : List ℕ)
     (free : latch_of (tile_at s t).router i ≡ None) (first : (ring s.around.rings (input_channel d.shape t i)).channel.flits ≡ flit ∷ more) where
   abbrev r : RouterState
@@ -46,7 +47,8 @@ module _ (d : Design) (net : IsNet (net_of d)) (wired : IsWiredUp d) (tags : ℕ
 
   line_part : {A : Type 0} (h : Lane → A) → h filled ≡ h (g.net.lines x) → (z : ℕ) → h (update g.net.lines x filled z) ≡ h (g.net.lines z)
   line_part h same z = ⊎_elim
-      (λ (k : z ≡ x). ap (λ (w : ℕ). h (update g.net.lines x filled w)) k ∙ (ap h (update_same g.net.lines x filled) ∙ (same ∙ ap (λ (w : ℕ). h (g.net.lines w)) (sym k))))
+      (λ (k : z ≡ x). ap (λ (w : ℕ). h (update g.net.lines x filled w)) k
+      ∙ (ap h (update_same g.net.lines x filled) ∙ (same ∙ ap (λ (w : ℕ). h (g.net.lines w)) (sym k))))
       (λ (other : z ≢ x). ap h (update_other g.net.lines x filled z other))
       (cases_eq z x)
 
@@ -58,7 +60,9 @@ module _ (d : Design) (net : IsNet (net_of d)) (wired : IsWiredUp d) (tags : ℕ
     first = (st.mirrors.rings x x_in).flits ∙ first;
   }
 
-  pub latch_quiet : IsQuietStep d net tags opening s g order st t t_in (router_tile d net wired tags opening s g order st t t_in i i_in (Some flit) r.owned x x_in (take_from_ring d.depth) (Latch x flit more)) x x_in (take_from_ring d.depth) (Latch x flit more)
+  pub latch_quiet : IsQuietStep d net tags opening s g order st t t_in
+      (router_tile d net wired tags opening s g order st t t_in i i_in (Some flit) r.owned x x_in (take_from_ring d.depth) (Latch x flit more)) x x_in
+      (take_from_ring d.depth) (Latch x flit more)
   latch_quiet =
       let old = st.mirrors.rings x x_in in
       let here : update g.net.lines x filled x ≡ filled = update_same g.net.lines x filled in
@@ -92,7 +96,8 @@ module _ (d : Design) (net : IsNet (net_of d)) (wired : IsWiredUp d) (tags : ℕ
         rests = line_part (λ (l : Lane). l.rest) refl;
         so_fars = line_part (λ (l : Lane). l.so_far) refl;
         count = refl;
-        owners = λ j o j_in o_in. let old = st.mirrors.owners t j o t_in j_in o_in in (λ h. old.0 (sym (owner (output_channel d.shape t o)) ∙ h), λ h. owner (output_channel d.shape t o) ∙ old.1 h);
+        owners = λ j o j_in o_in. let old = st.mirrors.owners t j o t_in j_in o_in in
+            (λ h. old.0 (sym (owner (output_channel d.shape t o)) ∙ h), λ h. owner (output_channel d.shape t o) ∙ old.1 h);
         unowned = λ o o_in none. owner (output_channel d.shape t o) ∙ st.mirrors.unowned t o t_in o_in none;
         outputs = λ j o owns. st.mirrors.outputs t j o t_in owns;
         elsewhere = λ u o apart u_in o_in. owner (output_channel d.shape u o);
@@ -100,4 +105,5 @@ module _ (d : Design) (net : IsNet (net_of d)) (wired : IsWiredUp d) (tags : ℕ
 
   -- What holds of every reached state is kept.
   pub latched_stands : Stands d tags opening latched_state latched_ghost order
-  latched_stands = router_stands d net wired tags opening s g order st t t_in i i_in (Some flit) r.owned x x_in (take_from_ring d.depth) (Latch x flit more) latch_quiet latch_router
+  latched_stands = router_stands d net wired tags opening s g order st t t_in i i_in (Some flit) r.owned x x_in (take_from_ring d.depth) (Latch x flit more)
+      latch_quiet latch_router

@@ -12,8 +12,8 @@ use Rattle.packet.specs.declared.kinds.Packet.TheVariants as packet
 use Rattle.packet.specs.declared.kinds.Response.{Response as Telling}
 use Rattle.packet.specs.Spelling.{Spells}
 use Rattle.packet.proofs.Shapes.{flits_above_zero}
-use Rattle.runs.specs.Observed.{list_at}
-use Rattle.runs.specs.Order.{LinearizationPoint}
+use Rattle.one_order.specs.Observed.{list_at}
+use Rattle.one_order.specs.Order.{LinearizationPoint}
 use Rattle.dateline_route.specs.declared.channel.Channel.{Channel}
 use Rattle.dateline_route.specs.declared.channel.Kind.{Kind}
 use Rattle.dateline_route.specs.declared.channel.Kind.TheVariants.{Injection, Hop, Ejection}
@@ -23,13 +23,13 @@ use Rattle.wormhole.specs.Net.{IsOn, Parcel, flits_of as flits_in}
 use Rattle.wormhole.proofs.FlitsHold.{HoldsOfNoted, latch_holds, sent_holds}
 use Rattle.wormhole.proofs.Lists.{all_on, on_left}
 use Rattle.channel_number.specs.Ports.{is_injection, is_ejection, port_count, injection_channel, input_channel}
-use Rattle.torus_net.specs.TorusNet.{same_class, joins_in}
+use Rattle.wormhole_torus.specs.TorusNet.{same_class, joins_in}
 use Rattle.channel_number.proofs.Decoding.{kind_by}
-use Rattle.torus_net.proofs.Numbers.{number_below}
+use Rattle.wormhole_torus.proofs.Numbers.{number_below}
 use Rattle.packet.specs.Flits.{flits_of}
 use Rattle.core_laws.specs.Heads.{is_head}
 use Rattle.router.specs.Table.{latch_of}
-use Rattle.tile.specs.Tile.{Design}
+use Rattle.tile_laws.specs.Tile.{Design}
 use Rattle.core_laws.specs.Core.{State}
 use Rattle.core_laws.proofs.Projection.{net_of, request_parcel, response_parcel}
 use Rattle.core_laws.proofs.ChannelFacts.{injects_at, injection_from}
@@ -72,14 +72,21 @@ joins_source s i j h =
     let from : Bool = nat_lt i (channel_count s) && is_injection x.kind in
     let to : Bool = nat_lt j (channel_count s) && is_ejection (channel_at s j).kind in
     let f = and_left from to (and_left (from && to) (same_class x.class (channel_at s j).class) h) in
-    let within = ltb-true i (channel_count s) (and_left (nat_lt i (channel_count s)) (is_injection x.kind) f) in
-    (x.tile, x.class, div_below i (channels_at_tile s) (tiles_of s) (omega arith) within, injection_from s i (is_injected x.kind (and_right (nat_lt i (channel_count s)) (is_injection x.kind) f)))
+    let within = ltb-true i (channel_count s) (and_left (nat_lt i (channel_count s)) (is_injection x.kind) f) in (
+      x.tile,
+      x.class,
+      div_below i (channels_at_tile s) (tiles_of s) (omega arith) within,
+      injection_from s i
+          (is_injected x.kind (and_right (nat_lt i (channel_count s)) (is_injection x.kind) f)),
+    )
 
-pub joined_source : (d : Design) (i j : ℕ) → (net_of d).joins i j ≡ true → (b : ℕ) × (class : Class) × (b < tiles_of d.shape) × (i ≡ injection_channel d.shape b class)
+pub joined_source : (d : Design) (i j : ℕ) → (net_of d).joins i j ≡ true
+    → (b : ℕ) × (class : Class) × (b < tiles_of d.shape) × (i ≡ injection_channel d.shape b class)
 unfolding net_of
 joined_source d i j h = joins_source d.shape i j h
 
-module _ (d : Design) (accepted : IsAccepted d.shape) (tags : ℕ) (opening : List ℕ) (s : State) (g : Ghost) (order : List LinearizationPoint) (st : Stands d tags opening s g order) where
+module _ (d : Design) (accepted : IsAccepted d.shape) (tags : ℕ) (opening : List ℕ) (s : State) (g : Ghost) (order : List LinearizationPoint)
+    (st : Stands d tags opening s g order) where
   abbrev Above : ℕ → Type 0
   Above flit = 0 < flit
 
@@ -104,7 +111,8 @@ module _ (d : Design) (accepted : IsAccepted d.shape) (tags : ℕ) (opening : Li
       let flits : flits_of (packet.Response q.0) ≡ k.head ∷ k.tail = parcel_flits d.shape (packet.Response q.0) proper.0.spelled ∙ ap flits_in q.2 in
       spelled_above (packet.Response q.0) k (subst (Spells (packet.Response q.0)) flits proper.0.spelled)
 
-  by_class : (b : ℕ) → b < tiles_of d.shape → (class : Class) (k : Parcel) → IsOn k (g.net.notes (injection_channel d.shape b class)).sent → All Above (flits_in k)
+  by_class : (b : ℕ) → b < tiles_of d.shape → (class : Class) (k : Parcel) → IsOn k (g.net.notes (injection_channel d.shape b class)).sent
+      → All Above (flits_in k)
   by_class b b_in Request k sent = request_above b b_in k sent
   by_class b b_in Reply k sent = response_above b b_in k sent
 
@@ -117,7 +125,8 @@ module _ (d : Design) (accepted : IsAccepted d.shape) (tags : ℕ) (opening : Li
   -- A latched flit isn't 0.
   pub latched_some : (t i flit : ℕ) → t < tiles_of d.shape → i < port_count (dims_of d.shape) → latch_of (tile_at s t).router i ≡ Some flit → flit ≢ 0
   latched_some t i flit t_in i_in full e =
-      let above : 0 < flit = latch_holds (net_of d) Above g.net (input_channel d.shape t i) flit st.lines flits_above (st.mirrors.latches t i t_in i_in ∙ full) in
+      let above : 0 < flit = latch_holds (net_of d) Above g.net (input_channel d.shape t i) flit st.lines flits_above
+      (st.mirrors.latches t i t_in i_in ∙ full) in
       omega arith
 
   -- a flit that is owed in an injection_channel isn't 0
@@ -128,7 +137,8 @@ module _ (d : Design) (accepted : IsAccepted d.shape) (tags : ℕ) (opening : Li
 
   -- A further flit that a processor has yet to put isn't 0.
   pub processor_some : (t flit : ℕ) (more : List ℕ) → t < tiles_of d.shape → (tile_at s t).processor.to_put ≡ flit ∷ more → flit ≢ 0
-  processor_some t flit more t_in course = owed_some (injection_channel d.shape t Request) flit more (injects_at d t Request) (st.mirrors.sends_requests t t_in ∙ course)
+  processor_some t flit more t_in course =
+      owed_some (injection_channel d.shape t Request) flit more (injects_at d t Request) (st.mirrors.sends_requests t t_in ∙ course)
 
   -- a flit with the head bit isn't 0
   head_some : (flit : ℕ) → is_head flit ≡ true → flit ≢ 0

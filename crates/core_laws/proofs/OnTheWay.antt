@@ -4,9 +4,9 @@ use Rattle.std.proofs.lemmas.List.{length-map}
 use Rattle.torus.specs.Shape.{tiles_of}
 use Rattle.torus.specs.declared.step.Step.{Step}
 use Rattle.script.specs.declared.line.Line.{Line}
-use Rattle.net_interface.specs.ProcessorRecord.{no_processor}
-use Rattle.runs.specs.Events.{order_after}
-use Rattle.tile.specs.Tile.{TileState}
+use Rattle.script_follower.specs.ProcessorRecord.{no_processor}
+use Rattle.one_order.specs.Events.{order_after}
+use Rattle.tile_laws.specs.Tile.{TileState}
 use Rattle.core_laws.specs.Core.{Load, run_of}
 use Rattle.core_laws.specs.Runs.{IsAccepted}
 use Rattle.core_laws.specs.Noted.{flight_after, move_after}
@@ -23,9 +23,11 @@ module _ (l : Load) (ok : IsAccepted l) (steps : List Step) where
   have_packets (suc n) =
       let c = is_course l ok steps (suc n) in
       let st = (holds_in l ok steps n).stands in
-      let count : length (flight_after l steps n).processors ≡ tiles_of l.shape = length-map (state_at l steps n).tiles (λ (t : TileState). t.processor.operations) ∙ st.tiles in
+      let count : length (flight_after l steps n).processors ≡ tiles_of l.shape =
+      length-map (state_at l steps n).tiles (λ (t : TileState). t.processor.operations) ∙ st.tiles in
       subst HavePackets (sym (c.each n (let low : n < suc n = omega arith in low)))
-      (have_any (tiles_of l.shape) l.tags l.opening (flight_after l steps n) (order_after (event_at l steps) n) (move_after l steps n) count st.flight (λ m is. c.found n m (omega arith) is) (have_packets n))
+      (have_any (tiles_of l.shape) l.tags l.opening (flight_after l steps n) (order_after (event_at l steps) n) (move_after l steps n) count st.flight
+      (λ m is. c.found n m (omega arith) is) (have_packets n))
 
   -- Each follower shows its processor's operations.
   pub shows_operations : (n p : ℕ) (lines : List Line) → slice_get l.scripts p ≡ Some lines

@@ -1,17 +1,17 @@
 -- What a step touches: one agent of one tile, and what that agent wanted of the surroundings.
 use Rattle.std.proofs.Common.{◌≡◌, ◌≢◌, ℕ, ◌/◌, Some, sym, ◌∙◌, ap, slice_get, slice_set}
 use Rattle.std.proofs.lemmas.Option.{option_and_then_some}
-use Rattle.runs.proofs.Lists.{get_set_other}
+use Rattle.one_order.proofs.Lists.{get_set_other}
 use Rattle.torus.specs.Shape.{tiles_of}
 use Rattle.torus.specs.declared.step.Step.{Step}
 use Rattle.torus.specs.declared.step.Choice.{Choice}
 use Rattle.flit_buffer.specs.Surroundings.{Surroundings}
 use Rattle.router.specs.Table.{RouterState, router_wants, router_after}
 use Rattle.router.specs.Beginning.{router_wiring}
-use Rattle.net_interface.specs.ProcessorTable.{ProcessorState, processor_wants, processor_after}
+use Rattle.script_follower.specs.ProcessorTable.{ProcessorState, processor_wants, processor_after}
 use Rattle.home_bank.specs.BankTable.{BankState, bank_wants, bank_after}
-use Rattle.tile.specs.Wiring.{processor_wiring, bank_wiring}
-use Rattle.tile.specs.Tile.{Design, TileState, Processor, Router, Bank, tile_step}
+use Rattle.tile_laws.specs.Wiring.{processor_wiring, bank_wiring}
+use Rattle.tile_laws.specs.Tile.{Design, TileState, Processor, Router, Bank, tile_step}
 use Rattle.core_laws.specs.Core.{State, step}
 use Rattle.core_laws.specs.Touches.{ProcessorAlone, RouterAlone, BankAlone}
 use Rattle.core_laws.proofs.AgentSteps.{did, option_map_some}
@@ -27,7 +27,8 @@ module _ (d : Design) (t : ℕ) (tile : TileState) (around : Surroundings) (c : 
   pub processor_alone : tile_step d t tile around Processor c ≡ Some (left, after) → ProcessorAlone d t tile around c left after
   processor_alone h =
       let f = option_map_some (λ (p : ProcessorState × Surroundings). (record tile { processor = p.0 }, p.1)) _ (left, after) h in
-      let x = did (processor_wants (tiles_of d.shape) d.words t) (processor_after (tiles_of d.shape) d.words t) d.depth (processor_wiring d.shape t) tile.processor around c f.0.0 f.0.1 f.1 in
+      let x = did (processor_wants (tiles_of d.shape) d.words t) (processor_after (tiles_of d.shape) d.words t) d.depth (processor_wiring d.shape t)
+      tile.processor around c f.0.0 f.0.1 f.1 in
       record {
         want = x.want;
         wanted = x.wanted;

@@ -10,7 +10,7 @@ use Rattle.packet.proofs.Shapes.{TellsPacket-spelled, tail_bit-head, IsTailShape
 use Rattle.wormhole.specs.Net.{Parcel, IsParcel, IsTailShaped, is_empty}
 use Rattle.packet.specs.Flits.{is_tail, flits_of}
 use Rattle.channel_number.specs.Ports.{injection_channel, ejection_channel}
-use Rattle.tile.specs.Tile.{Design}
+use Rattle.tile_laws.specs.Tile.{Design}
 use Rattle.core_laws.proofs.Projection.{net_of, parcel_of}
 use Rattle.core_laws.proofs.Parcels.{parcel_flits}
 use Rattle.core_laws.proofs.ChannelFacts.{joined}
@@ -28,20 +28,28 @@ alone : (flit : ℕ) (flits : List ℕ) → ((field flit 62 1 ≡ 1) ↔ (flits 
 alone flit [] h = eq-eqb (field flit 62 1) 1 (h.1 refl)
 alone flit (x ∷ flits) h = ne_eqb (field flit 62 1) 1 (λ e. let no = h.0 e in cc)
 
-told_is : (d : Design) (p : Packet) (head : ℕ) → TellsPacket p head → ((net_of d).is_head head ≡ true) × ((net_of d).told head ≡ ejection_channel d.shape (destination_of p) (class_of p))
+told_is : (d : Design) (p : Packet) (head : ℕ) → TellsPacket p head
+    → ((net_of d).is_head head ≡ true) × ((net_of d).told head ≡ ejection_channel d.shape (destination_of p) (class_of p))
 unfolding net_of
-told_is d p head h = (ap₂ (λ (x y : Bool). x && y) (eq-eqb (field head 63 1) 1 h.head_bit) (eq-eqb (field head 61 1) 1 h.flit_bit), ap₂ (ejection_channel d.shape) h.destination h.class)
+told_is d p head h = (
+  ap₂ (λ (x y : Bool). x && y) (eq-eqb (field head 63 1) 1 h.head_bit) (eq-eqb (field head 61 1) 1 h.flit_bit),
+  ap₂
+      (ejection_channel d.shape) h.destination h.class,
+)
 
 alone_is : (d : Design) (flit : ℕ) (flits : List ℕ) → ((field flit 62 1 ≡ 1) ↔ (flits ≡ [])) → (net_of d).is_tail flit ≡ is_empty flits
 unfolding net_of
 alone_is d flit flits h = alone flit flits h
 
-ends_are : (d : Design) (p : Packet) → ((parcel_of d.shape p).source ≡ injection_channel d.shape (source_of p) (class_of p)) × ((parcel_of d.shape p).destination ≡ ejection_channel d.shape (destination_of p) (class_of p))
+ends_are : (d : Design) (p : Packet)
+    → ((parcel_of d.shape p).source ≡ injection_channel d.shape (source_of p) (class_of p))
+    × ((parcel_of d.shape p).destination ≡ ejection_channel d.shape (destination_of p) (class_of p))
 unfolding parcel_of
 ends_are d p = (refl, refl)
 
 -- a packet between tiles of the machine is a packet of its network
-pub is_parcel : (d : Design) (p : Packet) → Spells p (flits_of p) → source_of p < tiles_of d.shape → destination_of p < tiles_of d.shape → IsParcel (net_of d) (parcel_of d.shape p)
+pub is_parcel : (d : Design) (p : Packet) → Spells p (flits_of p) → source_of p < tiles_of d.shape → destination_of p < tiles_of d.shape
+    → IsParcel (net_of d) (parcel_of d.shape p)
 is_parcel d p h source destination =
     let k : Parcel = parcel_of d.shape p in
     let spelled : Spells p (k.head ∷ k.tail) = subst (Spells p) (parcel_flits d.shape p h) h in

@@ -1,5 +1,6 @@
 -- The steps of a processor that are no issue and no answer keep what holds of every reached state.
-use Rattle.std.proofs.Common.{◌≡◌, ◌≢◌, ℕ, ◌%◌, ◌<◌, ◌==◌, Bool, true, false, List, [], ◌∷◌, Option, Some, None, refl, sym, ◌∙◌, ap, subst, slice_index, slice_set}
+use Rattle.std.proofs.Common.{◌≡◌, ◌≢◌, ℕ, ◌%◌, ◌<◌, ◌==◌, Bool, true, false, List, [], ◌∷◌, Option, Some, None, refl, sym, ◌∙◌, ap, subst, slice_index}
+use Rattle.std.proofs.Common.{slice_set}
 use Rattle.std.specs.Prelude.{option_map, nat_lt, not, ◌&&◌}
 use Rattle.std.proofs.lemmas.Bool.{ltb-true, eqb-true}
 use Rattle.std.proofs.lemmas.Option.{same_Some}
@@ -13,20 +14,20 @@ use Rattle.packet.specs.declared.kinds.Operation.{Operation}
 use Rattle.packet.specs.declared.kinds.Packet.TheVariants as packet
 use Rattle.packet.specs.declared.assembler.Offered.{Offered}
 use Rattle.packet.specs.Answer.{flits_left}
-use Rattle.net_interface.specs.Following.{is_finished}
-use Rattle.runs.specs.Order.{LinearizationPoint}
+use Rattle.script_follower.specs.Following.{is_finished}
+use Rattle.one_order.specs.Order.{LinearizationPoint}
 use Rattle.flit_buffer.specs.Channel.{first_of, rest}
 use Rattle.flit_buffer.specs.declared.want.Want.{Want}
 use Rattle.flit_buffer.specs.declared.want.Want.TheVariants as want
 use Rattle.flit_buffer.specs.Surroundings.{Surroundings, ring, granted, surroundings_after}
 use Rattle.wormhole.specs.Net.{IsNet}
-use Rattle.net_interface.specs.ProcessorRecord.{ready}
-use Rattle.flights.specs.Flight.{Move, Takes}
+use Rattle.script_follower.specs.ProcessorRecord.{ready}
+use Rattle.order_abstract.specs.Flight.{Move, Takes}
 use Rattle.packet.specs.Flits.{is_tail, offered}
-use Rattle.net_interface.specs.ProcessorTable.{ProcessorState, processor_wants, processor_after, flits_due, record_sent, record_offered}
+use Rattle.script_follower.specs.ProcessorTable.{ProcessorState, processor_wants, processor_after, flits_due, record_sent, record_offered}
 use Rattle.channel_number.specs.Ports.{injection_channel, ejection_channel}
-use Rattle.tile.specs.Wiring.{processor_wiring}
-use Rattle.tile.specs.Tile.{Design, Processor, tile_step}
+use Rattle.tile_laws.specs.Wiring.{processor_wiring}
+use Rattle.tile_laws.specs.Tile.{Design, Processor, tile_step}
 use Rattle.core_laws.specs.Core.{State, next, agent_numbered}
 use Rattle.core_laws.specs.Moves.{processor_move, answer_by, issue_of, tile_move, move_of}
 use Rattle.core_laws.proofs.Projection.{net_of}
@@ -47,7 +48,8 @@ use Rattle.core_laws.proofs.Quiet.{back_quiet, back_stands}
 use Rattle.core_laws.proofs.QuietSteps.{Stays, with_tile, agent_stays, attempt_stays, if_true, both_true, not_true}
 use Rattle.core_laws.proofs.Stands.{Ghost, Stands, tile_at}
 
-module _ (d : Design) (accepted : IsAccepted d.shape) (tags : ℕ) (opening : List ℕ) (s : State) (g : Ghost) (order : List LinearizationPoint) (st : Stands d tags opening s g order) where
+module _ (d : Design) (accepted : IsAccepted d.shape) (tags : ℕ) (opening : List ℕ) (s : State) (g : Ghost) (order : List LinearizationPoint)
+    (st : Stands d tags opening s g order) where
   net : IsNet (net_of d)
   net = network d accepted
 
@@ -58,7 +60,10 @@ module _ (d : Design) (accepted : IsAccepted d.shape) (tags : ℕ) (opening : Li
   Kept after e = Stays d tags opening g order after e
 
   abbrev processor_then : ℕ → ProcessorState → Want → State
-  processor_then t q w = record { tiles = slice_set s.tiles t (record (tile_at s t) { processor = q }); around = surroundings_after d.depth s.around (processor_wiring d.shape t) w }
+  processor_then t q w = record {
+    tiles = slice_set s.tiles t (record (tile_at s t) { processor = q });
+    around = surroundings_after d.depth s.around (processor_wiring d.shape t) w;
+  }
 
   module _ (t : ℕ) (t_in : t < tiles_of d.shape) where
     abbrev p : ProcessorState
@@ -68,18 +73,23 @@ module _ (d : Design) (accepted : IsAccepted d.shape) (tags : ℕ) (opening : Li
     abbrev taking : Offered → ℕ → ProcessorState
     taking o flit = record p { operations = record_offered tiles d.words t p.operations o; so_far = flits_left o p.so_far flit }
 
-    take_flit : (flit : ℕ) (more : List ℕ) → (ring s.around.rings (ejection_channel d.shape t Reply)).channel.flits ≡ flit ∷ more → answer_by (offered p.so_far flit) ≡ None → (last : Bool) → is_tail flit ≡ last
-        → Kept (processor_then t (taking (offered p.so_far flit) flit) (want.Take 0)) (Some (accepts (ejection_channel d.shape t Reply) flit more (is_head flit)))
+    take_flit : (flit : ℕ) (more : List ℕ) → (ring s.around.rings (ejection_channel d.shape t Reply)).channel.flits ≡ flit ∷ more
+        → answer_by (offered p.so_far flit) ≡ None → (last : Bool) → is_tail flit ≡ last
+        → Kept (processor_then t (taking (offered p.so_far flit) flit) (want.Take 0))
+        (Some (accepts (ejection_channel d.shape t Reply) flit more (is_head flit)))
     take_flit flit more first unanswered true is =
         let c = reply_goes_on d net tags opening s g order st t t_in flit more first in
         let no : ◌≡◌ {A = Option Move} (Some (Takes c.0)) None = ap answer_by (sym (is_complete (packet.Response c.0) p.so_far flit c.1 is)) ∙ unanswered in
         absurd (cc)
     take_flit flit more first unanswered false is =
         let c = reply_goes_on d net tags opening s g order st t t_in flit more first in
-        let same : more_state d net tags opening s g order st t t_in Reply flit more first is (processor_tile d net tags opening s g order st t t_in flit more is) ≡ processor_then t (taking (offered p.so_far flit) flit) (want.Take 0) =
+        let same : more_state d net tags opening s g order st t t_in Reply flit more first is
+        (processor_tile d net tags opening s g order st t t_in flit more is) ≡ processor_then t (taking (offered p.so_far flit) flit) (want.Take 0) =
         ap (λ (o : Offered). processor_then t (taking o flit) (want.Take 0)) (sym (is_more (packet.Response c.0) p.so_far flit c.1 is)) in
         record {
-          stands = subst (λ (x : State). Stands d tags opening x (more_ghost d net tags opening s g order st t t_in Reply flit more first is (processor_tile d net tags opening s g order st t t_in flit more is)) order) same
+          stands = subst (λ (x : State). Stands d tags opening x
+              (more_ghost d net tags opening s g order st t t_in Reply flit more first is
+              (processor_tile d net tags opening s g order st t t_in flit more is)) order) same
               (processor_more d net tags opening s g order st t t_in flit more is first);
           may = may_happen d net tags opening s g order st t t_in Reply flit more first;
         }
@@ -89,43 +99,57 @@ module _ (d : Design) (accepted : IsAccepted d.shape) (tags : ℕ) (opening : Li
     sending to_put o = record p { operations = record_sent tiles d.words t to_put p.operations; to_put = rest (flits_due tiles d.words t to_put o) }
 
     send_flit : (w : Want) (learned : ℕ) (to_put : List ℕ) (o : Option (ℕ × Operation)) → p.to_put ≡ to_put → issue_of t to_put o ≡ None
-        → option_map (λ (flit : ℕ). want.Put 0 flit) (first_of (flits_due tiles d.words t to_put o)) ≡ Some w → granted s.around (processor_wiring d.shape t) w ≡ Some learned
+        → option_map (λ (flit : ℕ). want.Put 0 flit) (first_of (flits_due tiles d.words t to_put o)) ≡ Some w
+        → granted s.around (processor_wiring d.shape t) w ≡ Some learned
         → Kept (processor_then t (sending to_put o) w) (request_event d t to_put o)
     send_flit w learned [] None course unissued is grants = absurd (cc)
     send_flit w learned [] (Some f) course unissued is grants = absurd (cc)
     send_flit w learned (flit ∷ more) o course unissued is grants =
         let w_is : want.Put 0 flit ≡ w = same_Some _ _ is in
         let held : 0 < (ring s.around.rings (injection_channel d.shape t Request)).channel.held =
-        ltb-true 0 _ (if_true (nat_lt 0 (ring s.around.rings (injection_channel d.shape t Request)).channel.held) 0 learned (ap (granted s.around (processor_wiring d.shape t)) w_is ∙ grants)) in
-        let some : flit ≢ 0 = rest_above d accepted tags opening s g order st (injection_channel d.shape t Request) flit more (injects_at d t Request) (st.mirrors.sends_requests t t_in ∙ course) in
+        ltb-true 0 _ (if_true (nat_lt 0 (ring s.around.rings (injection_channel d.shape t Request)).channel.held) 0 learned
+        (ap (granted s.around (processor_wiring d.shape t)) w_is ∙ grants)) in
+        let some : flit ≢ 0 = rest_above d accepted tags opening s g order st (injection_channel d.shape t Request) flit more (injects_at d t Request)
+        (st.mirrors.sends_requests t t_in ∙ course) in
         subst (λ (v : Want). Kept (processor_then t (record p { to_put = more }) v) (request_event d t (flit ∷ more) o)) w_is
-        (record { stands = rest_stands d net tags opening s g order st t t_in flit more course some held; may = (rest_quiet d net tags opening s g order st t t_in flit more course some held).can })
+        (record {
+          stands = rest_stands d net tags opening s g order st t t_in flit more course some held;
+          may = (rest_quiet d net tags opening s g order st t t_in flit more course some held).can;
+        })
 
-    then_processor : (choice : Choice) (w : Want) (learned : ℕ) → processor_wants tiles d.words t p choice ≡ Some w → granted s.around (processor_wiring d.shape t) w ≡ Some learned → processor_move t p choice learned ≡ None
+    then_processor : (choice : Choice) (w : Want) (learned : ℕ) → processor_wants tiles d.words t p choice ≡ Some w
+        → granted s.around (processor_wiring d.shape t) w ≡ Some learned → processor_move t p choice learned ≡ None
         → Kept (processor_then t (processor_after tiles d.words t p choice w learned) w) (processor_event d t p s.around choice learned)
     then_processor Send w learned is grants e = send_flit w learned p.to_put (ready p.operations) refl e is grants
     then_processor Take w learned is grants e =
         let w_is : want.Take 0 ≡ w = same_Some _ _ is in
         let flits : List ℕ = (ring s.around.rings (ejection_channel d.shape t Reply)).channel.flits in
         let first : flits ≡ learned ∷ rest flits = first_there flits learned (ap (granted s.around (processor_wiring d.shape t)) w_is ∙ grants) in
-        subst (λ (v : Want). Kept (processor_then t (taking (offered p.so_far learned) learned) v) (processor_event d t p s.around Take learned)) w_is (take_flit learned (rest flits) first e (is_tail learned) refl)
+        subst (λ (v : Want). Kept (processor_then t (taking (offered p.so_far learned) learned) v) (processor_event d t p s.around Take learned)) w_is
+        (take_flit learned (rest flits) first e (is_tail learned) refl)
     then_processor Credit w learned is grants e =
         let w_is : want.Credit 0 ≡ w = same_Some _ _ is in
         let x : ℕ = injection_channel d.shape t Request in
         let returns : 0 < (ring s.around.rings x).channel.returning =
-        ltb-true 0 _ (if_true (nat_lt 0 (ring s.around.rings x).channel.returning) 0 learned (ap (granted s.around (processor_wiring d.shape t)) w_is ∙ grants)) in
+        ltb-true 0 _ (if_true (nat_lt 0 (ring s.around.rings x).channel.returning) 0 learned
+        (ap (granted s.around (processor_wiring d.shape t)) w_is ∙ grants)) in
         subst (λ (v : Want). Kept (processor_then t p v) (Some (Return x))) w_is
-        (record { stands = back_stands d net tags opening s g order st t t_in x (injection_in d.shape t Request t_in) returns; may = (back_quiet d net tags opening s g order st t t_in x (injection_in d.shape t Request t_in) returns).can })
+        (record {
+          stands = back_stands d net tags opening s g order st t t_in x (injection_in d.shape t Request t_in) returns;
+          may = (back_quiet d net tags opening s g order st t t_in x (injection_in d.shape t Request t_in) returns).can;
+        })
     then_processor Done w learned is grants e =
         let may : Bool = is_finished p.operations.following && not p.reported in
         let w_is : want.Access d.words (op.Add 1) ≡ w = if_some may (want.Access d.words (op.Add 1)) w is in
         let k = both_true (is_finished p.operations.following) (not p.reported) (if_true may (want.Access d.words (op.Add 1)) w is) in
-        subst (λ (v : Want). Kept (processor_then t (record p { reported = true }) v) None) w_is (record { stands = done_stands d accepted net tags opening s g order st t t_in k.0 (not_true p.reported k.1); may = tt })
+        subst (λ (v : Want). Kept (processor_then t (record p { reported = true }) v) None) w_is
+        (record { stands = done_stands d accepted net tags opening s g order st t t_in k.0 (not_true p.reported k.1); may = tt })
     then_processor Look w learned is grants e =
         let w_is : want.Await d.words tiles ≡ w = if_some (p.reported && not p.seen) (want.Await d.words tiles) w is in
         let all : slice_index s.around.words d.words ≡ tiles =
         eqb-true _ _ (if_true (slice_index s.around.words d.words == tiles) tiles learned (ap (granted s.around (processor_wiring d.shape t)) w_is ∙ grants)) in
-        subst (λ (v : Want). Kept (processor_then t (record p { seen = true }) v) None) w_is (record { stands = seen_stands d net tags opening s g order st t t_in all; may = tt })
+        subst (λ (v : Want). Kept (processor_then t (record p { seen = true }) v) None) w_is
+        (record { stands = seen_stands d net tags opening s g order st t t_in all; may = tt })
     then_processor (TakeFrom i) w learned is grants e = absurd (cc)
     then_processor (Put i) w learned is grants e = absurd (cc)
     then_processor (CreditOf i) w learned is grants e = absurd (cc)
@@ -133,12 +157,17 @@ module _ (d : Design) (accepted : IsAccepted d.shape) (tags : ℕ) (opening : Li
 
     -- each choice of a processor that is no issue and no answer
     pub processor_choice_quiet : (choice : Choice) → tile_move d t (tile_at s t) s.around Processor choice ≡ None
-        → Stays d tags opening g order (with_tile s t (tile_step d t (tile_at s t) s.around Processor choice)) (tile_event d t (tile_at s t) s.around Processor choice)
+        → Stays d tags opening g order (with_tile s t (tile_step d t (tile_at s t) s.around Processor choice))
+        (tile_event d t (tile_at s t) s.around Processor choice)
     processor_choice_quiet choice h =
-        agent_stays (processor_wants tiles d.words t) (processor_after tiles d.words t) d.depth (processor_wiring d.shape t) p s.around choice (processor_move t p choice)
-        (processor_event d t p s.around choice) (λ (o : Option (ProcessorState × Surroundings)) (e : Option Event). Kept (with_tile s t (option_map (λ q. (record (tile_at s t) { processor = q.0 }, q.1)) o)) e)
+        agent_stays (processor_wants tiles d.words t) (processor_after tiles d.words t) d.depth (processor_wiring d.shape t) p s.around choice
+        (processor_move t p choice)
+        (processor_event d t p s.around choice)
+        (λ (o : Option (ProcessorState × Surroundings)) (e : Option Event). Kept
+        (with_tile s t (option_map (λ q. (record (tile_at s t) { processor = q.0 }, q.1)) o)) e)
         (record { stands = st; may = tt }) (then_processor choice) h
 
   -- Each attempt of a processor that is no issue and no answer keeps what holds of every reached state.
-  pub processor_quiet : (attempt : Step) → agent_numbered (attempt.agent % 3) ≡ Processor → move_of d s attempt ≡ None → Stays d tags opening g order (next d s attempt) (network_event d s attempt)
+  pub processor_quiet : (attempt : Step) → agent_numbered (attempt.agent % 3) ≡ Processor → move_of d s attempt ≡ None
+      → Stays d tags opening g order (next d s attempt) (network_event d s attempt)
   processor_quiet = attempt_stays d tags opening s g order st Processor processor_choice_quiet

@@ -1,12 +1,13 @@
 -- A router puts a head flit: what holds of every reached state is kept.
-use Rattle.std.proofs.Common.{◌≡◌, ◌≢◌, ◌↔◌, ⊎_elim, ℕ, ◌-◌, ◌<◌, Bool, true, false, List, [], ◌∷◌, ◌++◌, Option, Some, None, refl, sym, ◌∙◌, ap, ap₂, subst, slice_set, length-set, get_or-set_same, get_or-set_other, if◌then◌else◌, drop}
+use Rattle.std.proofs.Common.{◌≡◌, ◌≢◌, ◌↔◌, ⊎_elim, ℕ, ◌-◌, ◌<◌, Bool, true, false, List, [], ◌∷◌, ◌++◌, Option, Some, None, refl, sym, ◌∙◌, ap, ap₂, subst}
+use Rattle.std.proofs.Common.{slice_set, length-set, get_or-set_same, get_or-set_other, if◌then◌else◌, drop}
 use Rattle.std.specs.Prelude.{take, drop}
 use Rattle.std.proofs.lemmas.Bool.{cases_eq}
 use Rattle.torus.specs.Shape.{tiles_of, dims_of}
 use Rattle.packet.specs.declared.heading.Head.{Head}
 use Rattle.packet.specs.Flit.{field, class_numbered}
 use Rattle.channel_number.specs.Order.{channel_count, channel_at}
-use Rattle.runs.specs.Order.{LinearizationPoint}
+use Rattle.one_order.specs.Order.{LinearizationPoint}
 use Rattle.flit_buffer.specs.Places.{put_in_ring}
 use Rattle.flit_buffer.specs.Surroundings.{ring}
 use Rattle.flit_buffer.proofs.RingLaws.{put_ring}
@@ -21,7 +22,7 @@ use Rattle.wormhole.proofs.Routers.{latched}
 use Rattle.packet.specs.Flits.{is_tail, head_of}
 use Rattle.router.specs.Table.{RouterState, latch_of, output_owned, is_owned, way_of}
 use Rattle.channel_number.specs.Ports.{port_count, ejection_channel, input_channel, output_channel}
-use Rattle.tile.specs.Tile.{Design}
+use Rattle.tile_laws.specs.Tile.{Design}
 use Rattle.core_laws.specs.Core.{State}
 use Rattle.core_laws.proofs.Projection.{net_of}
 use Rattle.core_laws.proofs.ChannelFacts.{channels_of, is_head_of, is_tail_of}
@@ -34,7 +35,8 @@ told_of : (d : Design) (flit : ℕ) → (net_of d).told flit ≡ ejection_channe
 unfolding net_of
 told_of d flit = refl
 
-module _ (d : Design) (net : IsNet (net_of d)) (wired : IsWiredUp d) (tags : ℕ) (opening : List ℕ) (s : State) (g : Ghost) (order : List LinearizationPoint) (st : Stands d tags opening s g order)
+module _ (d : Design) (net : IsNet (net_of d)) (wired : IsWiredUp d) (tags : ℕ) (opening : List ℕ) (s : State) (g : Ghost) (order : List LinearizationPoint)
+    (st : Stands d tags opening s g order)
     (t : ℕ) (t_in : t < tiles_of d.shape) (i : ℕ) (i_in : i < port_count (dims_of d.shape)) (flit : ℕ) (head : Head)
     (full : latch_of (tile_at s t).router i ≡ Some flit) (is : head_of flit ≡ Some head) (there : head.destination < tiles_of d.shape)
     (class : (channel_at d.shape (input_channel d.shape t i)).class ≡ head.class)
@@ -90,7 +92,8 @@ module _ (d : Design) (net : IsNet (net_of d)) (wired : IsWiredUp d) (tags : ℕ
   -- the input owned nothing
   owned_none : (z : ℕ) → (g.net.lines z).owner ≡ Some x → ⊥
   owned_none z h =
-      let m = moved n (g.net.notes x) flit ((g.net.lines x).flits ++ (g.net.notes x).owed) (st.lines.parcels x) (st.lines.awaited x) can_forward.head (latched n g.net x flit st.lines can_forward.full) in
+      let m = moved n (g.net.notes x) flit ((g.net.lines x).flits ++ (g.net.notes x).owed) (st.lines.parcels x) (st.lines.awaited x) can_forward.head
+      (latched n g.net x flit st.lines can_forward.full) in
       (st.lines.held x z h).more m.none
 
   abbrev line_x : Lane
@@ -141,14 +144,17 @@ module _ (d : Design) (net : IsNet (net_of d)) (wired : IsWiredUp d) (tags : ℕ
   -- a part of the notes that stays at the output stays at all but the input
   note_other : {A : Type 0} (f : Note → A) → f note_y ≡ f (g.net.notes y) → (z : ℕ) → z ≢ x → f (notes z) ≡ f (g.net.notes z)
   note_other f same z a = ⊎_elim
-      (λ (e : z ≡ y). ap (λ (w : ℕ). f (notes w)) e ∙ (ap f (update_same (update g.net.notes x note_x) y note_y) ∙ (same ∙ ap (λ (w : ℕ). f (g.net.notes w)) (sym e))))
+      (λ (e : z ≡ y). ap (λ (w : ℕ). f (notes w)) e
+      ∙ (ap f (update_same (update g.net.notes x note_x) y note_y) ∙ (same ∙ ap (λ (w : ℕ). f (g.net.notes w)) (sym e))))
       (λ (b : z ≢ y). ap f (update_other (update g.net.notes x note_x) y note_y z b ∙ update_other g.net.notes x note_x z a))
       (cases_eq z y)
 
   sent_kept : (z : ℕ) → (notes z).sent ≡ (g.net.notes z).sent
   sent_kept z = ⊎_elim
       (λ (e : z ≡ x).
-      ap (λ (w : ℕ). (notes w).sent) e ∙ (ap (λ (k : Note). k.sent) (update_other (update g.net.notes x note_x) y note_y x apart ∙ update_same g.net.notes x note_x) ∙ ap (λ (w : ℕ). (g.net.notes w).sent) (sym e)))
+      ap (λ (w : ℕ). (notes w).sent) e
+      ∙ (ap (λ (k : Note). k.sent) (update_other (update g.net.notes x note_x) y note_y x apart ∙ update_same g.net.notes x note_x)
+      ∙ ap (λ (w : ℕ). (g.net.notes w).sent) (sym e)))
       (λ (a : z ≢ x). note_other (λ (k : Note). k.sent) refl z a)
       (cases_eq z x)
 
@@ -157,7 +163,9 @@ module _ (d : Design) (net : IsNet (net_of d)) (wired : IsWiredUp d) (tags : ℕ
       let other : z ≢ x = λ e. let no : ◌≡◌ {A = Bool} true false = sym ejects ∙ (ap n.ejects e ∙ can_forward.input) in cc in
       ap₂ whole_of (note_other (λ (k : Note). k.awaited) refl z other) (note_other (λ (k : Note). k.begun) refl z other)
 
-  put_quiet : flit ≢ 0 → IsQuietStep d net tags opening s g order st t t_in (router_tile d net wired tags opening s g order st t t_in i i_in None left y y_in (put_in_ring flit) (ForwardHead x y flit)) y y_in (put_in_ring flit) (ForwardHead x y flit)
+  put_quiet : flit ≢ 0 → IsQuietStep d net tags opening s g order st t t_in
+      (router_tile d net wired tags opening s g order st t t_in i i_in None left y y_in (put_in_ring flit) (ForwardHead x y flit)) y y_in (put_in_ring flit)
+      (ForwardHead x y flit)
   put_quiet some =
       let old = st.mirrors.rings y y_in in
       record {
@@ -184,7 +192,8 @@ module _ (d : Design) (net : IsNet (net_of d)) (wired : IsWiredUp d) (tags : ℕ
   owner : (lines y).owner ≡ owner_after (is_tail flit) x
   owner = ap (λ (l : Lane). l.owner) at_y ∙ ap (λ (b : Bool). owner_after b x) (is_tail_of d flit)
 
-  owner_else : (p : ℕ) → p < port_count (dims_of d.shape) → p ≢ o → (lines (output_channel d.shape t p)).owner ≡ (g.net.lines (output_channel d.shape t p)).owner
+  owner_else : (p : ℕ) → p < port_count (dims_of d.shape) → p ≢ o
+      → (lines (output_channel d.shape t p)).owner ≡ (g.net.lines (output_channel d.shape t p)).owner
   owner_else p p_in b = line_but (λ (l : Lane). l.owner) refl (output_channel d.shape t p) (λ h. b (wired.outputs_apart t p t o t_in p_in t_in way.0 h).1)
 
   abbrev new : RouterState
@@ -221,9 +230,11 @@ module _ (d : Design) (net : IsNet (net_of d)) (wired : IsWiredUp d) (tags : ℕ
       (λ h. owned_else j a ∙ old.0 h, λ h. old.1 (sym (owned_else j a) ∙ h)))
       (cases_eq j i)
 
-  owners_new : (j p : ℕ) → j < port_count (dims_of d.shape) → p < port_count (dims_of d.shape) → ((lines (output_channel d.shape t p)).owner ≡ Some (input_channel d.shape t j)) ↔ (output_owned new j ≡ Some p)
+  owners_new : (j p : ℕ) → j < port_count (dims_of d.shape) → p < port_count (dims_of d.shape)
+      → ((lines (output_channel d.shape t p)).owner ≡ Some (input_channel d.shape t j)) ↔ (output_owned new j ≡ Some p)
   owners_new j p j_in p_in = ⊎_elim
-      (λ (e : p ≡ o). subst (λ (q : ℕ). ((lines (output_channel d.shape t q)).owner ≡ Some (input_channel d.shape t j)) ↔ (output_owned new j ≡ Some q)) (sym e) (owners_here j j_in))
+      (λ (e : p ≡ o). subst (λ (q : ℕ). ((lines (output_channel d.shape t q)).owner ≡ Some (input_channel d.shape t j)) ↔ (output_owned new j ≡ Some q)) (sym e)
+      (owners_here j j_in))
       (λ (b : p ≢ o).
       let line = owner_else p p_in b in
       let iff = owners_else j p j_in p_in b in
@@ -232,7 +243,8 @@ module _ (d : Design) (net : IsNet (net_of d)) (wired : IsWiredUp d) (tags : ℕ
 
   unowned_new : (p : ℕ) → p < port_count (dims_of d.shape) → ((j : ℕ) → output_owned new j ≡ Some p → ⊥) → (lines (output_channel d.shape t p)).owner ≡ None
   unowned_new p p_in none = ⊎_elim
-      (λ (e : p ≡ o). ap (λ (q : ℕ). (lines (output_channel d.shape t q)).owner) e ∙ (owner ∙ owner_none (is_tail flit) x o (λ h. none i (owned_here ∙ (h ∙ ap Some (sym e))))))
+      (λ (e : p ≡ o). ap (λ (q : ℕ). (lines (output_channel d.shape t q)).owner) e
+      ∙ (owner ∙ owner_none (is_tail flit) x o (λ h. none i (owned_here ∙ (h ∙ ap Some (sym e))))))
       (λ (b : p ≢ o).
       owner_else p p_in b ∙ st.mirrors.unowned t p t_in p_in (λ j h. ⊎_elim
       (λ (k : j ≡ i). owned_none (output_channel d.shape t p) ((st.mirrors.owners t i p t_in i_in p_in).1 (ap (output_owned r) (sym k) ∙ h)))
@@ -242,7 +254,8 @@ module _ (d : Design) (net : IsNet (net_of d)) (wired : IsWiredUp d) (tags : ℕ
 
   outputs_new : (j p : ℕ) → output_owned new j ≡ Some p → p < port_count (dims_of d.shape)
   outputs_new j p h = ⊎_elim
-      (λ (e : j ≡ i). subst (λ (q : ℕ). q < port_count (dims_of d.shape)) (owner_only (is_tail flit) o p (sym owned_here ∙ (ap (output_owned new) (sym e) ∙ h))) way.0)
+      (λ (e : j ≡ i). subst (λ (q : ℕ). q < port_count (dims_of d.shape)) (owner_only (is_tail flit) o p (sym owned_here ∙ (ap (output_owned new) (sym e) ∙ h)))
+      way.0)
       (λ (a : j ≢ i). st.mirrors.outputs t j p t_in (sym (owned_else j a) ∙ h))
       (cases_eq j i)
 
@@ -256,9 +269,11 @@ module _ (d : Design) (net : IsNet (net_of d)) (wired : IsWiredUp d) (tags : ℕ
     owners = owners_new;
     unowned = unowned_new;
     outputs = outputs_new;
-    elsewhere = λ u p a u_in p_in. line_but (λ (l : Lane). l.owner) refl (output_channel d.shape u p) (λ h. a (wired.outputs_apart u p t o u_in p_in t_in way.0 h).0);
+    elsewhere = λ u p a u_in p_in. line_but (λ (l : Lane). l.owner) refl (output_channel d.shape u p)
+        (λ h. a (wired.outputs_apart u p t o u_in p_in t_in way.0 h).0);
   }
 
   -- What holds of every reached state is kept.
   pub put_stands : flit ≢ 0 → Stands d tags opening put_state put_ghost order
-  put_stands some = router_stands d net wired tags opening s g order st t t_in i i_in None left y y_in (put_in_ring flit) (ForwardHead x y flit) (put_quiet some) put_router
+  put_stands some = router_stands d net wired tags opening s g order st t t_in i i_in None left y y_in (put_in_ring flit) (ForwardHead x y flit)
+      (put_quiet some) put_router

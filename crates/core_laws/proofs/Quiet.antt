@@ -1,11 +1,12 @@
 -- A step that shows nothing new, and changes one channel: a frame for its cases; and the credits of all agents.
-use Rattle.std.proofs.Common.{◌≡◌, ◌≢◌, ⊎_elim, ℕ, ◌+◌, ◌-◌, ◌<◌, Bool, true, cond, List, [], ◌++◌, map, length, Some, refl, sym, ◌∙◌, ap, ap₂, subst, slice_get, slice_set, length-set, get_or-set_same, get_or-set_other}
+use Rattle.std.proofs.Common.{◌≡◌, ◌≢◌, ⊎_elim, ℕ, ◌+◌, ◌-◌, ◌<◌, Bool, true, cond, List, [], ◌++◌, map, length, Some, refl, sym, ◌∙◌, ap, ap₂, subst}
+use Rattle.std.proofs.Common.{slice_get, slice_set, length-set, get_or-set_same, get_or-set_other}
 use Rattle.std.proofs.lemmas.Bool.{cases_eq}
 use Rattle.std.proofs.lemmas.Option.{slice_get-get_or}
 use Rattle.torus.specs.Shape.{tiles_of}
 use Rattle.torus.specs.declared.shape.Class.TheVariants.{Request, Reply}
-use Rattle.net_interface.specs.Following.{is_finished}
-use Rattle.runs.specs.Order.{LinearizationPoint}
+use Rattle.script_follower.specs.Following.{is_finished}
+use Rattle.one_order.specs.Order.{LinearizationPoint}
 use Rattle.channel_number.specs.Order.{channel_count}
 use Rattle.flit_buffer.specs.Places.{Ring, IsRing, credit_of_ring}
 use Rattle.flit_buffer.specs.Surroundings.{ring, changed, AreRings}
@@ -17,22 +18,24 @@ use Rattle.wormhole.specs.Events.{Event, Return, CanHappen, after}
 use Rattle.wormhole.specs.Delivery.{whole}
 use Rattle.wormhole.proofs.Changes.{update_same, update_other}
 use Rattle.wormhole.proofs.Reached.{words_kept, routes_kept}
-use Rattle.net_interface.specs.ProcessorRecord.{ProcessorRecord, no_processor}
-use Rattle.flights.specs.Flight.{Flight}
-use Rattle.flights.proofs.Whole.{Whole}
+use Rattle.script_follower.specs.ProcessorRecord.{ProcessorRecord, no_processor}
+use Rattle.order_abstract.specs.Flight.{Flight}
+use Rattle.order_abstract.proofs.Whole.{Whole}
 use Rattle.core_laws.specs.Heads.{is_head}
 use Rattle.router.specs.Table.{RouterState, output_owned}
 use Rattle.channel_number.specs.Ports.{injection_channel, ejection_channel}
-use Rattle.tile.specs.Tile.{Design, TileState}
+use Rattle.tile_laws.specs.Tile.{Design, TileState}
 use Rattle.core_laws.specs.Core.{State}
 use Rattle.core_laws.proofs.Projection.{net_of, first_flit, response_parcel}
 use Rattle.core_laws.proofs.ChannelFacts.{channels_of, ejects_at}
 use Rattle.core_laws.proofs.FlightSteps.{record_in, entries_in, same_flight, part_stays}
 use Rattle.core_laws.proofs.SendFacts.{count_set}
 use Rattle.core_laws.specs.Delivery.{notice_by}
-use Rattle.core_laws.proofs.Stands.{Ghost, Stands, Mirrors, Carries, Reported, IsLane, IsInPhase, tile_at, no_tile, flight_of, responses_from, last_of, in_course}
+use Rattle.core_laws.proofs.Stands.{Ghost, Stands, Mirrors, Carries, Reported, IsLane, IsInPhase, tile_at, no_tile, flight_of, responses_from, last_of}
+use Rattle.core_laws.proofs.Stands.{in_course}
 
-module _ (d : Design) (net : IsNet (net_of d)) (tags : ℕ) (opening : List ℕ) (s : State) (g : Ghost) (order : List LinearizationPoint) (st : Stands d tags opening s g order)
+module _ (d : Design) (net : IsNet (net_of d)) (tags : ℕ) (opening : List ℕ) (s : State) (g : Ghost) (order : List LinearizationPoint)
+    (st : Stands d tags opening s g order)
     (t : ℕ) (t_in : t < tiles_of d.shape) (new_tile : TileState) (x : ℕ) (x_in : x < channel_count d.shape) (f : Ring → Ring) (e : Event) where
   abbrev n : Net
   n = net_of d
@@ -68,7 +71,8 @@ module _ (d : Design) (net : IsNet (net_of d)) (tags : ℕ) (opening : List ℕ)
     pub ring_is : IsRing d.depth (f (ring s.around.rings x))
     pub lane : IsLane (f (ring s.around.rings x)).channel (quiet_ghost.net.lines x)
     pub others : (z : ℕ) → z ≢ x → (quiet_ghost.net.lines z).flits ≡ (g.net.lines z).flits
-    pub others_held : (z : ℕ) → z ≢ x → ((quiet_ghost.net.lines z).held ≡ (g.net.lines z).held) × ((quiet_ghost.net.lines z).returning ≡ (g.net.lines z).returning)
+    pub others_held : (z : ℕ) → z ≢ x
+        → ((quiet_ghost.net.lines z).held ≡ (g.net.lines z).held) × ((quiet_ghost.net.lines z).returning ≡ (g.net.lines z).returning)
     pub sent : (z : ℕ) → (quiet_ghost.net.notes z).sent ≡ (g.net.notes z).sent
     pub wholes : (z : ℕ) → n.ejects z ≡ true → whole quiet_ghost.net z ≡ whole g.net z
     pub operations : new_tile.processor.operations ≡ (tile_at s t).processor.operations
@@ -98,10 +102,14 @@ module _ (d : Design) (net : IsNet (net_of d)) (tags : ℕ) (opening : List ℕ)
       pub router : new_tile.router ≡ (tile_at s t).router
       pub latches : (z : ℕ) → (quiet_ghost.net.lines z).latch ≡ (g.net.lines z).latch
       pub owners : (z : ℕ) → (quiet_ghost.net.lines z).owner ≡ (g.net.lines z).owner
-      pub requests : (u : ℕ) → u < tiles_of d.shape → (quiet_ghost.net.lines (injection_channel d.shape u Request)).rest ≡ (tile_at quiet_state u).processor.to_put
-      pub replies : (u : ℕ) → u < tiles_of d.shape → (quiet_ghost.net.lines (injection_channel d.shape u Reply)).rest ≡ in_course (tile_at quiet_state u).bank.to_put
-      pub replies_in : (u : ℕ) → u < tiles_of d.shape → (quiet_ghost.net.lines (ejection_channel d.shape u Reply)).so_far ≡ (tile_at quiet_state u).processor.so_far
-      pub requests_in : (u : ℕ) → u < tiles_of d.shape → (quiet_ghost.net.lines (ejection_channel d.shape u Request)).so_far ≡ (tile_at quiet_state u).bank.so_far
+      pub requests : (u : ℕ) → u < tiles_of d.shape
+          → (quiet_ghost.net.lines (injection_channel d.shape u Request)).rest ≡ (tile_at quiet_state u).processor.to_put
+      pub replies : (u : ℕ) → u < tiles_of d.shape
+          → (quiet_ghost.net.lines (injection_channel d.shape u Reply)).rest ≡ in_course (tile_at quiet_state u).bank.to_put
+      pub replies_in : (u : ℕ) → u < tiles_of d.shape
+          → (quiet_ghost.net.lines (ejection_channel d.shape u Reply)).so_far ≡ (tile_at quiet_state u).processor.so_far
+      pub requests_in : (u : ℕ) → u < tiles_of d.shape
+          → (quiet_ghost.net.lines (ejection_channel d.shape u Request)).so_far ≡ (tile_at quiet_state u).bank.so_far
 
     pub end_mirrors : IsEndStep → Mirrors d quiet_state quiet_ghost.net.lines
     end_mirrors i = record {
@@ -110,8 +118,10 @@ module _ (d : Design) (net : IsNet (net_of d)) (tags : ℕ) (opening : List ℕ)
       ports = λ u h. let k = quiet_part (λ (w : TileState). w.router) i.router u in rw k (st.mirrors.ports u h);
       latches = λ u j h l. let k = quiet_part (λ (w : TileState). w.router) i.router u in rw k (i.latches _ ∙ st.mirrors.latches u j h l);
       owners = λ u j o h l m. let k = quiet_part (λ (w : TileState). w.router) i.router u in rw (k, i.owners _) (st.mirrors.owners u j o h l m);
-      unowned = λ u o h l none. let k = quiet_part (λ (w : TileState). w.router) i.router u in i.owners _ ∙ st.mirrors.unowned u o h l (λ j owns. none j (ap (λ (r : RouterState). output_owned r j) k ∙ owns));
-      outputs = λ u j o h owns. let k = quiet_part (λ (w : TileState). w.router) i.router u in st.mirrors.outputs u j o h (ap (λ (r : RouterState). output_owned r j) (sym k) ∙ owns);
+      unowned = λ u o h l none. let k = quiet_part (λ (w : TileState). w.router) i.router u in
+          i.owners _ ∙ st.mirrors.unowned u o h l (λ j owns. none j (ap (λ (r : RouterState). output_owned r j) k ∙ owns));
+      outputs = λ u j o h owns. let k = quiet_part (λ (w : TileState). w.router) i.router u in
+          st.mirrors.outputs u j o h (ap (λ (r : RouterState). output_owned r j) (sym k) ∙ owns);
       sends_requests = i.requests;
       sends_replies = i.replies;
       takes_replies = i.replies_in;
@@ -122,7 +132,8 @@ module _ (d : Design) (net : IsNet (net_of d)) (tags : ℕ) (opening : List ℕ)
     tile_there = slice_get-get_or s.tiles t no_tile tile_in
 
     quiet_flight : flight_of d.words quiet_state quiet_ghost ≡ flight_of d.words s g
-    quiet_flight = same_flight _ _ _ _ _ _ g.asked g.told (part_stays record_in no_processor s.tiles t (tile_at s t) new_tile tile_there q.operations) (part_stays entries_in [] s.tiles t (tile_at s t) new_tile tile_there q.entries) refl
+    quiet_flight = same_flight _ _ _ _ _ _ g.asked g.told (part_stays record_in no_processor s.tiles t (tile_at s t) new_tile tile_there q.operations)
+        (part_stays entries_in [] s.tiles t (tile_at s t) new_tile tile_there q.entries) refl
 
     quiet_carries : Carries d quiet_state quiet_ghost
     quiet_carries = record {
@@ -130,30 +141,37 @@ module _ (d : Design) (net : IsNet (net_of d)) (tags : ℕ) (opening : List ℕ)
       takers = st.carries.takers;
       requests_sent = λ u h. q.sent _ ∙ st.carries.requests_sent u h;
       requests_proper = st.carries.requests_proper;
-      requests_whole = λ b h. let k = quiet_part (λ (w : TileState). w.bank.entries) q.entries b in let l = quiet_part (λ (w : TileState). w.bank.waiting) q.waiting b in rw (k, l) (q.wholes _ (ejects_at d b Request) ∙ st.carries.requests_whole b h);
+      requests_whole = λ b h. let k = quiet_part (λ (w : TileState). w.bank.entries) q.entries b in
+          let l = quiet_part (λ (w : TileState). w.bank.waiting) q.waiting b in rw (k, l) (q.wholes _ (ejects_at d b Request) ∙ st.carries.requests_whole b h);
       waiting_proper = λ b r waits. st.carries.waiting_proper b r (sym (quiet_part (λ (w : TileState). w.bank.waiting) q.waiting b) ∙ waits);
       asked = λ p b h l. let k = quiet_part (λ (w : TileState). w.bank.entries) q.entries b in rw k (st.carries.asked p b h l);
       replies_sent = λ b h.
           let k = quiet_part (λ (w : TileState). w.bank.entries) q.entries b in
           let l = quiet_part (λ (w : TileState). is_head (first_flit w.bank.to_put)) q.heads b in
-          rw k (st.carries.replies_sent b h ∙ ap₂ (λ (ks : List Parcel) (i : Bool). ks ++ map (response_parcel d.shape) (cond i (last_of (responses_from b 0 (tile_at s b).bank.entries)) [])) (sym (q.sent (injection_channel d.shape b Reply))) (sym l));
+          rw k (st.carries.replies_sent b h
+          ∙ ap₂ (λ (ks : List Parcel) (i : Bool). ks
+          ++ map (response_parcel d.shape) (cond i (last_of (responses_from b 0 (tile_at s b).bank.entries)) []))
+          (sym (q.sent (injection_channel d.shape b Reply))) (sym l));
       replies_proper = λ b h. let k = quiet_part (λ (w : TileState). w.bank.entries) q.entries b in rw k (st.carries.replies_proper b h);
       replies_whole = λ p h. q.wholes _ (ejects_at d p Reply) ∙ st.carries.replies_whole p h;
       told = λ b p h l. let k = quiet_part (λ (w : TileState). w.bank.entries) q.entries b in rw k (st.carries.told b p h l);
       issued = λ p. st.carries.issued p ∙ sym (ap (λ (b : ProcessorRecord). b.issued) (quiet_part (λ (w : TileState). w.processor.operations) q.operations p));
-      answered = λ p. ap (λ (b : ProcessorRecord). map (notice_by p) b.answers) (quiet_part (λ (w : TileState). w.processor.operations) q.operations p) ∙ st.carries.answered p;
+      answered = λ p. ap (λ (b : ProcessorRecord). map (notice_by p) b.answers) (quiet_part (λ (w : TileState). w.processor.operations) q.operations p)
+          ∙ st.carries.answered p;
     }
 
     quiet_phases : (u : ℕ) → IsInPhase u (tile_at quiet_state u).bank
     quiet_phases u = ⊎_elim
-        (λ (k : u ≡ t). subst (λ (v : ℕ). IsInPhase v (tile_at quiet_state v).bank) (sym k) (subst (λ (w : TileState). IsInPhase t w.bank) (sym quiet_new) q.phase))
+        (λ (k : u ≡ t). subst (λ (v : ℕ). IsInPhase v (tile_at quiet_state v).bank) (sym k)
+        (subst (λ (w : TileState). IsInPhase t w.bank) (sym quiet_new) q.phase))
         (λ (other : u ≢ t). subst (λ (w : TileState). IsInPhase u w.bank) (sym (quiet_other u other)) (st.phases u))
         (cases_eq u t)
 
     quiet_reported : Reported d quiet_state
     quiet_reported = record {
       counts = st.reported.counts ∙ sym (count_set (λ (w : TileState). w.processor.reported) s.tiles t new_tile no_tile q.reported.0);
-      finished = λ u h. ap (λ (b : ProcessorRecord). is_finished b.following) (quiet_part (λ (w : TileState). w.processor.operations) q.operations u) ∙ st.reported.finished u (sym (quiet_part (λ (w : TileState). w.processor.reported) q.reported.0 u) ∙ h);
+      finished = λ u h. ap (λ (b : ProcessorRecord). is_finished b.following) (quiet_part (λ (w : TileState). w.processor.operations) q.operations u)
+          ∙ st.reported.finished u (sym (quiet_part (λ (w : TileState). w.processor.reported) q.reported.0 u) ∙ h);
       seen = λ u h. st.reported.seen u (sym (quiet_part (λ (w : TileState). w.processor.seen) q.reported.1 u) ∙ h);
     }
 
@@ -161,8 +179,10 @@ module _ (d : Design) (net : IsNet (net_of d)) (tags : ℕ) (opening : List ℕ)
     quiet_rings z within =
         let count : length quiet_state.around.rings ≡ length s.around.rings = length-set s.around.rings x _ in
         ⊎_elim
-        (λ (k : z ≡ x). subst (λ (w : ℕ). IsRing d.depth (ring quiet_state.around.rings w)) (sym k) (subst (λ (c : Ring). IsRing d.depth c) (sym (changed_here s.around x f x_here)) q.ring_is))
-        (λ (other : z ≢ x). subst (λ (c : Ring). IsRing d.depth c) (sym (changed_other s.around x f z other)) (st.rings z (subst (λ (k : ℕ). z < k) count within)))
+        (λ (k : z ≡ x). subst (λ (w : ℕ). IsRing d.depth (ring quiet_state.around.rings w)) (sym k)
+        (subst (λ (c : Ring). IsRing d.depth c) (sym (changed_here s.around x f x_here)) q.ring_is))
+        (λ (other : z ≢ x). subst (λ (c : Ring). IsRing d.depth c) (sym (changed_other s.around x f z other))
+        (st.rings z (subst (λ (k : ℕ). z < k) count within)))
         (cases_eq z x)
 
     -- What holds of every reached state is kept by a quiet step.
@@ -182,7 +202,8 @@ module _ (d : Design) (net : IsNet (net_of d)) (tags : ℕ) (opening : List ℕ)
     }
 
 -- An agent of a tile has a credit back of a channel.
-module _ (d : Design) (net : IsNet (net_of d)) (tags : ℕ) (opening : List ℕ) (s : State) (g : Ghost) (order : List LinearizationPoint) (st : Stands d tags opening s g order)
+module _ (d : Design) (net : IsNet (net_of d)) (tags : ℕ) (opening : List ℕ) (s : State) (g : Ghost) (order : List LinearizationPoint)
+    (st : Stands d tags opening s g order)
     (t : ℕ) (t_in : t < tiles_of d.shape) (x : ℕ) (x_in : x < channel_count d.shape) (returns : 0 < (ring s.around.rings x).channel.returning) where
   abbrev back : Lane
   back = record (g.net.lines x) { held = (g.net.lines x).held + 1; returning = (g.net.lines x).returning - 1 }
@@ -220,11 +241,13 @@ module _ (d : Design) (net : IsNet (net_of d)) (tags : ℕ) (opening : List ℕ)
         phase = st.phases t;
       }
 
-  back_tile : {A : Type 0} (h : TileState → A) (u : ℕ) → h (tile_at (quiet_state d net tags opening s g order st t t_in (tile_at s t) x x_in credit_of_ring (Return x)) u) ≡ h (tile_at s u)
+  back_tile : {A : Type 0} (h : TileState → A) (u : ℕ)
+      → h (tile_at (quiet_state d net tags opening s g order st t t_in (tile_at s t) x x_in credit_of_ring (Return x)) u) ≡ h (tile_at s u)
   back_tile h u = quiet_part d net tags opening s g order st t t_in (tile_at s t) x x_in credit_of_ring (Return x) h refl u
 
   -- What holds of every reached state is kept when an agent has a credit back.
-  pub back_stands : Stands d tags opening (quiet_state d net tags opening s g order st t t_in (tile_at s t) x x_in credit_of_ring (Return x)) (quiet_ghost d net tags opening s g order st t t_in (tile_at s t) x x_in credit_of_ring (Return x)) order
+  pub back_stands : Stands d tags opening (quiet_state d net tags opening s g order st t t_in (tile_at s t) x x_in credit_of_ring (Return x))
+      (quiet_ghost d net tags opening s g order st t t_in (tile_at s t) x x_in credit_of_ring (Return x)) order
   back_stands =
       quiet_stands d net tags opening s g order st t t_in (tile_at s t) x x_in credit_of_ring (Return x) back_quiet
       (end_mirrors d net tags opening s g order st t t_in (tile_at s t) x x_in credit_of_ring (Return x) back_quiet (record {
@@ -232,7 +255,9 @@ module _ (d : Design) (net : IsNet (net_of d)) (tags : ℕ) (opening : List ℕ)
         latches = back_part (λ (l : Lane). l.latch) refl;
         owners = back_part (λ (l : Lane). l.owner) refl;
         requests = λ u h. back_part (λ (l : Lane). l.rest) refl _ ∙ (st.mirrors.sends_requests u h ∙ sym (back_tile (λ (w : TileState). w.processor.to_put) u));
-        replies = λ u h. back_part (λ (l : Lane). l.rest) refl _ ∙ (st.mirrors.sends_replies u h ∙ sym (back_tile (λ (w : TileState). in_course w.bank.to_put) u));
-        replies_in = λ u h. back_part (λ (l : Lane). l.so_far) refl _ ∙ (st.mirrors.takes_replies u h ∙ sym (back_tile (λ (w : TileState). w.processor.so_far) u));
+        replies = λ u h. back_part (λ (l : Lane). l.rest) refl _
+            ∙ (st.mirrors.sends_replies u h ∙ sym (back_tile (λ (w : TileState). in_course w.bank.to_put) u));
+        replies_in = λ u h. back_part (λ (l : Lane). l.so_far) refl _
+            ∙ (st.mirrors.takes_replies u h ∙ sym (back_tile (λ (w : TileState). w.processor.so_far) u));
         requests_in = λ u h. back_part (λ (l : Lane). l.so_far) refl _ ∙ (st.mirrors.takes_requests u h ∙ sym (back_tile (λ (w : TileState). w.bank.so_far) u));
       }))

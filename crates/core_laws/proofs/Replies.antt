@@ -1,5 +1,6 @@
 -- A bank sends the head flit of a reply: what holds of every reached state is kept.
-use Rattle.std.proofs.Common.{◌≡◌, ◌≢◌, ⊎_elim, ℕ, ◌-◌, ◌<◌, Bool, true, false, cond, List, [], ◌∷◌, ◌++◌, map, length, Some, refl, sym, ◌∙◌, ap, ap₂, subst, slice_get, slice_set, append-nil, length-set, get_or-set_same, get_or-set_other}
+use Rattle.std.proofs.Common.{◌≡◌, ◌≢◌, ⊎_elim, ℕ, ◌-◌, ◌<◌, Bool, true, false, cond, List, [], ◌∷◌, ◌++◌, map, length, Some, refl, sym, ◌∙◌, ap, ap₂, subst}
+use Rattle.std.proofs.Common.{slice_get, slice_set, append-nil, length-set, get_or-set_same, get_or-set_other}
 use Rattle.std.proofs.lemmas.Bool.{cases_eq}
 use Rattle.std.proofs.lemmas.Option.{slice_get-get_or}
 use Rattle.torus.specs.Shape.{tiles_of}
@@ -7,7 +8,7 @@ use Rattle.torus.specs.declared.shape.Class.{Class}
 use Rattle.torus.specs.declared.shape.Class.TheVariants.{Request, Reply}
 use Rattle.packet.specs.declared.kinds.Packet.TheVariants as packet
 use Rattle.packet.specs.declared.kinds.Response.{Response as Telling}
-use Rattle.runs.specs.Order.{LinearizationPoint}
+use Rattle.one_order.specs.Order.{LinearizationPoint}
 use Rattle.channel_number.specs.Order.{channel_count}
 use Rattle.flit_buffer.specs.Channel.{rest}
 use Rattle.flit_buffer.specs.Places.{Ring, IsRing, put_in_ring}
@@ -21,15 +22,15 @@ use Rattle.wormhole.specs.Delivery.{whole, whole_of}
 use Rattle.wormhole.proofs.Changes.{update_same, update_other}
 use Rattle.wormhole.proofs.Reached.{words_kept, routes_kept}
 use Rattle.wormhole.proofs.Lists.{all_on}
-use Rattle.net_interface.specs.ProcessorRecord.{no_processor}
-use Rattle.flights.specs.Flight.{Flight}
-use Rattle.flights.proofs.Whole.{Whole}
+use Rattle.script_follower.specs.ProcessorRecord.{no_processor}
+use Rattle.order_abstract.specs.Flight.{Flight}
+use Rattle.order_abstract.proofs.Whole.{Whole}
 use Rattle.packet.specs.Flits.{flits_of}
 use Rattle.core_laws.specs.Heads.{is_head}
-use Rattle.net_interface.specs.ProcessorTable.{ProcessorState}
+use Rattle.script_follower.specs.ProcessorTable.{ProcessorState}
 use Rattle.router.specs.Table.{RouterState, output_owned}
 use Rattle.channel_number.specs.Ports.{injection_channel}
-use Rattle.tile.specs.Tile.{Design, TileState}
+use Rattle.tile_laws.specs.Tile.{Design, TileState}
 use Rattle.core_laws.specs.Core.{State}
 use Rattle.core_laws.proofs.Projection.{net_of, parcel_of, response_parcel, first_flit}
 use Rattle.core_laws.proofs.ChannelFacts.{channels_of, injects_at, injection_in, is_head_of}
@@ -39,7 +40,8 @@ use Rattle.core_laws.proofs.FlightSteps.{record_in, entries_in, same_flight, par
 use Rattle.core_laws.proofs.SendFacts.{injection_tile, injection_class, count_set, head_some}
 use Rattle.core_laws.proofs.ResponseLists.{no_head}
 use Rattle.core_laws.specs.Delivery.{notice_by}
-use Rattle.core_laws.proofs.Stands.{Ghost, Stands, Mirrors, Carries, IsLane, IsInPhase, IsProperResponse, tile_at, no_tile, flight_of, in_course, responses_from, last_of, unsent}
+use Rattle.core_laws.proofs.Stands.{Ghost, Stands, Mirrors, Carries, IsLane, IsInPhase, IsProperResponse, tile_at, no_tile, flight_of, in_course}
+use Rattle.core_laws.proofs.Stands.{responses_from, last_of, unsent}
 
 -- the last of some responses is one of them
 last_on : (rs : List Telling) (q : Telling) → last_of rs ≡ q ∷ [] → IsOn q rs
@@ -57,8 +59,10 @@ pub no_head_after : (d : Design) (flits : List ℕ) → IsTailShaped (net_of d) 
 no_head_after d [] h = no_head
 no_head_after d (flit ∷ flits) h = sym (is_head_of d flit) ∙ h.0
 
-module _ (d : Design) (net : IsNet (net_of d)) (tags : ℕ) (opening : List ℕ) (s : State) (g : Ghost) (order : List LinearizationPoint) (st : Stands d tags opening s g order)
-    (t : ℕ) (t_in : t < tiles_of d.shape) (starts : is_head (first_flit (tile_at s t).bank.to_put) ≡ true) (credit : 0 < (ring s.around.rings (injection_channel d.shape t Reply)).channel.held) where
+module _ (d : Design) (net : IsNet (net_of d)) (tags : ℕ) (opening : List ℕ) (s : State) (g : Ghost) (order : List LinearizationPoint)
+    (st : Stands d tags opening s g order)
+    (t : ℕ) (t_in : t < tiles_of d.shape) (starts : is_head (first_flit (tile_at s t).bank.to_put) ≡ true)
+    (credit : 0 < (ring s.around.rings (injection_channel d.shape t Reply)).channel.held) where
   abbrev n : Net
   n = net_of d
 
@@ -134,16 +138,19 @@ module _ (d : Design) (net : IsNet (net_of d)) (tags : ℕ) (opening : List ℕ)
 
   line_kept : {A : Type 0} (f : Lane → A) → f new_line ≡ f (g.net.lines lane) → (x : ℕ) → f (reply_ghost.net.lines x) ≡ f (g.net.lines x)
   line_kept f same x = ⊎_elim
-      (λ (e : x ≡ lane). ap (λ (y : ℕ). f (reply_ghost.net.lines y)) e ∙ (ap f (update_same g.net.lines lane new_line) ∙ (same ∙ ap (λ (y : ℕ). f (g.net.lines y)) (sym e))))
+      (λ (e : x ≡ lane). ap (λ (y : ℕ). f (reply_ghost.net.lines y)) e
+      ∙ (ap f (update_same g.net.lines lane new_line) ∙ (same ∙ ap (λ (y : ℕ). f (g.net.lines y)) (sym e))))
       (λ (other : x ≢ lane). ap f (update_other g.net.lines lane new_line x other))
       (cases_eq x lane)
 
   abbrev new_note : Note
-  new_note = record (g.net.notes lane) { parcels = (g.net.notes lane).parcels ++ parcel ∷ []; owed = parcel.tail; sent = (g.net.notes lane).sent ++ parcel ∷ [] }
+  new_note = record (g.net.notes lane)
+      { parcels = (g.net.notes lane).parcels ++ parcel ∷ []; owed = parcel.tail; sent = (g.net.notes lane).sent ++ parcel ∷ [] }
 
   note_kept : {A : Type 0} (f : Note → A) → f new_note ≡ f (g.net.notes lane) → (x : ℕ) → f (reply_ghost.net.notes x) ≡ f (g.net.notes x)
   note_kept f same x = ⊎_elim
-      (λ (e : x ≡ lane). ap (λ (y : ℕ). f (reply_ghost.net.notes y)) e ∙ (ap f (update_same g.net.notes lane new_note) ∙ (same ∙ ap (λ (y : ℕ). f (g.net.notes y)) (sym e))))
+      (λ (e : x ≡ lane). ap (λ (y : ℕ). f (reply_ghost.net.notes y)) e
+      ∙ (ap f (update_same g.net.notes lane new_note) ∙ (same ∙ ap (λ (y : ℕ). f (g.net.notes y)) (sym e))))
       (λ (other : x ≢ lane). ap f (update_other g.net.notes lane new_note x other))
       (cases_eq x lane)
 
@@ -173,7 +180,8 @@ module _ (d : Design) (net : IsNet (net_of d)) (tags : ℕ) (opening : List ℕ)
       let here : ring reply_state.around.rings lane ≡ put_in_ring flit (ring s.around.rings lane) = changed_here s.around lane (put_in_ring flit) lane_here in
       let line : reply_ghost.net.lines lane ≡ new_line = update_same g.net.lines lane new_line in
       subst (λ (y : ℕ). IsLane (ring reply_state.around.rings y).channel (reply_ghost.net.lines y)) (sym e) (record {
-        flits = ap (λ (l : Lane). l.flits) line ∙ (ap₂ (λ (xs : List ℕ) (f : ℕ). xs ++ f ∷ []) old.flits head_is ∙ ap (λ (r : Ring). r.channel.flits) (sym here));
+        flits = ap (λ (l : Lane). l.flits) line
+            ∙ (ap₂ (λ (xs : List ℕ) (f : ℕ). xs ++ f ∷ []) old.flits head_is ∙ ap (λ (r : Ring). r.channel.flits) (sym here));
         held = ap (λ (l : Lane). l.held) line ∙ (ap (λ (k : ℕ). k - 1) old.held ∙ ap (λ (r : Ring). r.channel.held) (sym here));
         returning = ap (λ (l : Lane). l.returning) line ∙ (old.returning ∙ ap (λ (r : Ring). r.channel.returning) (sym here));
       }))
@@ -194,15 +202,22 @@ module _ (d : Design) (net : IsNet (net_of d)) (tags : ℕ) (opening : List ℕ)
     rings = new_lanes;
     ports = λ u h. let r = part_kept (λ (x : TileState). x.router) refl u in rw r (st.mirrors.ports u h);
     latches = λ u i h l. let r = part_kept (λ (x : TileState). x.router) refl u in rw r (line_kept (λ (x : Lane). x.latch) refl _ ∙ st.mirrors.latches u i h l);
-    owners = λ u i p h l m. let r = part_kept (λ (x : TileState). x.router) refl u in rw (r, line_kept (λ (x : Lane). x.owner) refl _) (st.mirrors.owners u i p h l m);
-    unowned = λ u p h l none. let r = part_kept (λ (x : TileState). x.router) refl u in line_kept (λ (x : Lane). x.owner) refl _ ∙ st.mirrors.unowned u p h l (λ i owns. none i (ap (λ (x : RouterState). output_owned x i) r ∙ owns));
-    outputs = λ u i p h owns. let r = part_kept (λ (x : TileState). x.router) refl u in st.mirrors.outputs u i p h (ap (λ (x : RouterState). output_owned x i) (sym r) ∙ owns);
-    sends_requests = λ u h. ap (λ (l : Lane). l.rest) (update_other g.net.lines lane new_line (injection_channel d.shape u Request) (request_apart u)) ∙ (st.mirrors.sends_requests u h ∙ sym (part_kept (λ (x : TileState). x.processor.to_put) refl u));
+    owners = λ u i p h l m. let r = part_kept (λ (x : TileState). x.router) refl u in
+        rw (r, line_kept (λ (x : Lane). x.owner) refl _) (st.mirrors.owners u i p h l m);
+    unowned = λ u p h l none. let r = part_kept (λ (x : TileState). x.router) refl u in
+        line_kept (λ (x : Lane). x.owner) refl _ ∙ st.mirrors.unowned u p h l (λ i owns. none i (ap (λ (x : RouterState). output_owned x i) r ∙ owns));
+    outputs = λ u i p h owns. let r = part_kept (λ (x : TileState). x.router) refl u in
+        st.mirrors.outputs u i p h (ap (λ (x : RouterState). output_owned x i) (sym r) ∙ owns);
+    sends_requests = λ u h. ap (λ (l : Lane). l.rest) (update_other g.net.lines lane new_line (injection_channel d.shape u Request) (request_apart u))
+        ∙ (st.mirrors.sends_requests u h ∙ sym (part_kept (λ (x : TileState). x.processor.to_put) refl u));
     sends_replies = by_tile (λ u w. u < tiles_of d.shape → (reply_ghost.net.lines (injection_channel d.shape u Reply)).rest ≡ in_course w.bank.to_put)
         (λ h. ap (λ (l : Lane). l.rest) (update_same g.net.lines lane new_line) ∙ (tail_is ∙ sym (ap (λ (b : Bool). cond b [] more) no_more)))
-        (λ u other h. ap (λ (l : Lane). l.rest) (update_other g.net.lines lane new_line (injection_channel d.shape u Reply) (apart u other)) ∙ st.mirrors.sends_replies u h);
-    takes_replies = λ u h. line_kept (λ (x : Lane). x.so_far) refl _ ∙ (st.mirrors.takes_replies u h ∙ sym (part_kept (λ (x : TileState). x.processor.so_far) refl u));
-    takes_requests = λ u h. line_kept (λ (x : Lane). x.so_far) refl _ ∙ (st.mirrors.takes_requests u h ∙ sym (part_kept (λ (x : TileState). x.bank.so_far) refl u));
+        (λ u other h. ap (λ (l : Lane). l.rest) (update_other g.net.lines lane new_line (injection_channel d.shape u Reply) (apart u other))
+        ∙ st.mirrors.sends_replies u h);
+    takes_replies = λ u h. line_kept (λ (x : Lane). x.so_far) refl _
+        ∙ (st.mirrors.takes_replies u h ∙ sym (part_kept (λ (x : TileState). x.processor.so_far) refl u));
+    takes_requests = λ u h. line_kept (λ (x : Lane). x.so_far) refl _
+        ∙ (st.mirrors.takes_requests u h ∙ sym (part_kept (λ (x : TileState). x.bank.so_far) refl u));
   }
 
   whole_kept : (x : ℕ) → whole reply_ghost.net x ≡ whole g.net x
@@ -212,21 +227,27 @@ module _ (d : Design) (net : IsNet (net_of d)) (tags : ℕ) (opening : List ℕ)
   reply_carries = record {
     processors = st.carries.processors;
     takers = st.carries.takers;
-    requests_sent = λ u h. ap (λ (k : Note). k.sent) (update_other g.net.notes lane new_note (injection_channel d.shape u Request) (request_apart u)) ∙ st.carries.requests_sent u h;
+    requests_sent = λ u h. ap (λ (k : Note). k.sent) (update_other g.net.notes lane new_note (injection_channel d.shape u Request) (request_apart u))
+        ∙ st.carries.requests_sent u h;
     requests_proper = st.carries.requests_proper;
-    requests_whole = λ b h. let k = part_kept (λ (x : TileState). x.bank.entries) refl b in let l = part_kept (λ (x : TileState). x.bank.waiting) refl b in rw (k, l) (whole_kept _ ∙ st.carries.requests_whole b h);
+    requests_whole = λ b h. let k = part_kept (λ (x : TileState). x.bank.entries) refl b in let l = part_kept (λ (x : TileState). x.bank.waiting) refl b in
+        rw (k, l) (whole_kept _ ∙ st.carries.requests_whole b h);
     waiting_proper = λ b r waits. st.carries.waiting_proper b r (sym (part_kept (λ (x : TileState). x.bank.waiting) refl b) ∙ waits);
     asked = λ p b h l. let k = part_kept (λ (x : TileState). x.bank.entries) refl b in rw k (st.carries.asked p b h l);
     replies_sent = by_tile (λ u w. u < tiles_of d.shape → map (response_parcel d.shape) (responses_from u 0 w.bank.entries)
-        ≡ (reply_ghost.net.notes (injection_channel d.shape u Reply)).sent ++ map (response_parcel d.shape) (unsent w.bank.to_put (responses_from u 0 w.bank.entries)))
+        ≡ (reply_ghost.net.notes (injection_channel d.shape u Reply)).sent
+        ++ map (response_parcel d.shape) (unsent w.bank.to_put (responses_from u 0 w.bank.entries)))
         (λ h.
         let R : Telling → Parcel = response_parcel d.shape in
         let was : unsent (tile_at s t).bank.to_put responses ≡ fresh.0 ∷ [] = ap (λ (b : Bool). cond b (last_of responses) []) starts ∙ fresh.1 in
-        let sent : (reply_ghost.net.notes lane).sent ≡ (g.net.notes lane).sent ++ R fresh.0 ∷ [] = ap (λ (k : Note). k.sent) (update_same g.net.notes lane new_note) ∙ ap (λ (k : Parcel). (g.net.notes lane).sent ++ k ∷ []) parcel_same in
+        let sent : (reply_ghost.net.notes lane).sent ≡ (g.net.notes lane).sent ++ R fresh.0 ∷ [] =
+        ap (λ (k : Note). k.sent) (update_same g.net.notes lane new_note) ∙ ap (λ (k : Parcel). (g.net.notes lane).sent ++ k ∷ []) parcel_same in
         let none : unsent more responses ≡ [] = ap (λ (b : Bool). cond b (last_of responses) []) no_more in
         st.carries.replies_sent t h ∙ (ap (λ (rs : List Telling). (g.net.notes lane).sent ++ map R rs) was ∙ (sym sent
         ∙ (sym (append-nil (reply_ghost.net.notes lane).sent) ∙ ap (λ (rs : List Telling). (reply_ghost.net.notes lane).sent ++ map R rs) (sym none)))))
-        (λ u other h. st.carries.replies_sent u h ∙ ap (λ (ks : List Parcel). ks ++ map (response_parcel d.shape) (unsent (tile_at s u).bank.to_put (responses_from u 0 (tile_at s u).bank.entries)))
+        (λ u other h. st.carries.replies_sent u h
+        ∙ ap (λ (ks : List Parcel). ks
+        ++ map (response_parcel d.shape) (unsent (tile_at s u).bank.to_put (responses_from u 0 (tile_at s u).bank.entries)))
         (sym (ap (λ (k : Note). k.sent) (update_other g.net.notes lane new_note (injection_channel d.shape u Reply) (apart u other)))));
     replies_proper = λ b h. let k = part_kept (λ (x : TileState). x.bank.entries) refl b in rw k (st.carries.replies_proper b h);
     replies_whole = λ p h. whole_kept _ ∙ st.carries.replies_whole p h;
@@ -251,7 +272,8 @@ module _ (d : Design) (net : IsNet (net_of d)) (tags : ℕ) (opening : List ℕ)
   tile_there = slice_get-get_or s.tiles t no_tile tile_in
 
   reply_flight : flight_of d.words reply_state reply_ghost ≡ flight_of d.words s g
-  reply_flight = same_flight _ _ _ _ _ _ g.asked g.told (part_stays record_in no_processor s.tiles t (tile_at s t) sent_tile tile_there refl) (part_stays entries_in [] s.tiles t (tile_at s t) sent_tile tile_there refl) refl
+  reply_flight = same_flight _ _ _ _ _ _ g.asked g.told (part_stays record_in no_processor s.tiles t (tile_at s t) sent_tile tile_there refl)
+      (part_stays entries_in [] s.tiles t (tile_at s t) sent_tile tile_there refl) refl
 
   flit_some : flit ≢ 0
   flit_some e = head_some (packet.Response fresh.0) proper.0.spelled (ap first_flit fresh.2 ∙ e)
@@ -261,8 +283,10 @@ module _ (d : Design) (net : IsNet (net_of d)) (tags : ℕ) (opening : List ℕ)
       let count : length reply_state.around.rings ≡ length s.around.rings = length-set s.around.rings lane _ in
       ⊎_elim
       (λ (e : x ≡ lane). subst (λ (y : ℕ). IsRing d.depth (ring reply_state.around.rings y)) (sym e)
-      (subst (λ (r : Ring). IsRing d.depth r) (sym (changed_here s.around lane (put_in_ring flit) lane_here)) (put_ring d.depth (ring s.around.rings lane) (st.rings lane lane_here) flit flit_some credit)))
-      (λ (other : x ≢ lane). subst (λ (r : Ring). IsRing d.depth r) (sym (changed_other s.around lane (put_in_ring flit) x other)) (st.rings x (subst (λ (k : ℕ). x < k) count within)))
+      (subst (λ (r : Ring). IsRing d.depth r) (sym (changed_here s.around lane (put_in_ring flit) lane_here))
+      (put_ring d.depth (ring s.around.rings lane) (st.rings lane lane_here) flit flit_some credit)))
+      (λ (other : x ≢ lane). subst (λ (r : Ring). IsRing d.depth r) (sym (changed_other s.around lane (put_in_ring flit) x other))
+      (st.rings x (subst (λ (k : ℕ). x < k) count within)))
       (cases_eq x lane)
 
   -- What holds of every reached state is kept by the send of a reply's head flit.
@@ -281,7 +305,8 @@ module _ (d : Design) (net : IsNet (net_of d)) (tags : ℕ) (opening : List ℕ)
         phases = reply_phases;
         reported = record {
           counts = st.reported.counts ∙ sym (count_set (λ (x : TileState). x.processor.reported) s.tiles t sent_tile no_tile refl);
-          finished = λ u h. let k = part_kept (λ (x : TileState). x.processor) refl u in rw k (st.reported.finished u (ap (λ (p : ProcessorState). p.reported) (sym k) ∙ h));
+          finished = λ u h. let k = part_kept (λ (x : TileState). x.processor) refl u in
+              rw k (st.reported.finished u (ap (λ (p : ProcessorState). p.reported) (sym k) ∙ h));
           seen = λ u h. st.reported.seen u (sym (part_kept (λ (x : TileState). x.processor.seen) refl u) ∙ h);
         };
       }

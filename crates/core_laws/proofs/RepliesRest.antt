@@ -4,7 +4,7 @@ use Rattle.std.proofs.lemmas.Bool.{cases_eq}
 use Rattle.torus.specs.Shape.{tiles_of}
 use Rattle.torus.specs.declared.shape.Class.{Class}
 use Rattle.torus.specs.declared.shape.Class.TheVariants.{Request, Reply}
-use Rattle.runs.specs.Order.{LinearizationPoint}
+use Rattle.one_order.specs.Order.{LinearizationPoint}
 use Rattle.channel_number.specs.Order.{channel_count}
 use Rattle.flit_buffer.specs.Places.{put_in_ring}
 use Rattle.flit_buffer.specs.Surroundings.{ring}
@@ -16,7 +16,7 @@ use Rattle.wormhole.specs.Delivery.{whole_of}
 use Rattle.wormhole.proofs.Changes.{update_same, update_other}
 use Rattle.core_laws.specs.Heads.{is_head}
 use Rattle.channel_number.specs.Ports.{injection_channel}
-use Rattle.tile.specs.Tile.{Design, TileState}
+use Rattle.tile_laws.specs.Tile.{Design, TileState}
 use Rattle.core_laws.specs.Core.{State}
 use Rattle.core_laws.proofs.Projection.{net_of, first_flit}
 use Rattle.core_laws.proofs.ChannelFacts.{channels_of, injects_at, injection_in}
@@ -25,8 +25,10 @@ use Rattle.core_laws.proofs.Quiet.{quiet_state, quiet_ghost, quiet_new, quiet_ot
 use Rattle.core_laws.proofs.Stands.{Ghost, Stands, tile_at, in_course}
 use Rattle.core_laws.proofs.Replies.{no_head_after}
 
-module _ (d : Design) (net : IsNet (net_of d)) (tags : ℕ) (opening : List ℕ) (s : State) (g : Ghost) (order : List LinearizationPoint) (st : Stands d tags opening s g order)
-    (t : ℕ) (t_in : t < tiles_of d.shape) (flit : ℕ) (more : List ℕ) (course : (tile_at s t).bank.to_put ≡ flit ∷ more) (body : is_head flit ≡ false) (some : flit ≢ 0)
+module _ (d : Design) (net : IsNet (net_of d)) (tags : ℕ) (opening : List ℕ) (s : State) (g : Ghost) (order : List LinearizationPoint)
+    (st : Stands d tags opening s g order)
+    (t : ℕ) (t_in : t < tiles_of d.shape) (flit : ℕ) (more : List ℕ) (course : (tile_at s t).bank.to_put ≡ flit ∷ more) (body : is_head flit ≡ false)
+    (some : flit ≢ 0)
     (credit : 0 < (ring s.around.rings (injection_channel d.shape t Reply)).channel.held) where
   abbrev pub lane : ℕ
   lane = injection_channel d.shape t Reply
@@ -45,13 +47,15 @@ module _ (d : Design) (net : IsNet (net_of d)) (tags : ℕ) (opening : List ℕ)
 
   line_part : {A : Type 0} (h : Lane → A) → h new_line ≡ h (g.net.lines lane) → (z : ℕ) → h (update g.net.lines lane new_line z) ≡ h (g.net.lines z)
   line_part h same z = ⊎_elim
-      (λ (k : z ≡ lane). ap (λ (w : ℕ). h (update g.net.lines lane new_line w)) k ∙ (ap h (update_same g.net.lines lane new_line) ∙ (same ∙ ap (λ (w : ℕ). h (g.net.lines w)) (sym k))))
+      (λ (k : z ≡ lane). ap (λ (w : ℕ). h (update g.net.lines lane new_line w)) k
+      ∙ (ap h (update_same g.net.lines lane new_line) ∙ (same ∙ ap (λ (w : ℕ). h (g.net.lines w)) (sym k))))
       (λ (other : z ≢ lane). ap h (update_other g.net.lines lane new_line z other))
       (cases_eq z lane)
 
   note_part : {A : Type 0} (h : Note → A) → h new_note ≡ h (g.net.notes lane) → (z : ℕ) → h (update g.net.notes lane new_note z) ≡ h (g.net.notes z)
   note_part h same z = ⊎_elim
-      (λ (k : z ≡ lane). ap (λ (w : ℕ). h (update g.net.notes lane new_note w)) k ∙ (ap h (update_same g.net.notes lane new_note) ∙ (same ∙ ap (λ (w : ℕ). h (g.net.notes w)) (sym k))))
+      (λ (k : z ≡ lane). ap (λ (w : ℕ). h (update g.net.notes lane new_note w)) k
+      ∙ (ap h (update_same g.net.notes lane new_note) ∙ (same ∙ ap (λ (w : ℕ). h (g.net.notes w)) (sym k))))
       (λ (other : z ≢ lane). ap h (update_other g.net.notes lane new_note z other))
       (cases_eq z lane)
 
@@ -61,7 +65,8 @@ module _ (d : Design) (net : IsNet (net_of d)) (tags : ℕ) (opening : List ℕ)
 
   no_more : is_head (first_flit more) ≡ false
   no_more =
-      let shaped : IsTailShaped (net_of d) (flit ∷ more) = subst (IsTailShaped (net_of d)) (st.lines.senders lane (injects_at d t Reply) ∙ in_rest) (st.lines.owed lane) in
+      let shaped : IsTailShaped (net_of d) (flit ∷ more) =
+      subst (IsTailShaped (net_of d)) (st.lines.senders lane (injects_at d t Reply) ∙ in_rest) (st.lines.owed lane) in
       no_head_after d more shaped.2
 
   some_left : (tile_at s t).bank.to_put ≢ []
@@ -85,7 +90,8 @@ module _ (d : Design) (net : IsNet (net_of d)) (tags : ℕ) (opening : List ℕ)
           returning = ap (λ (l : Lane). l.returning) here ∙ old.returning;
         };
         others = λ z other. ap (λ (l : Lane). l.flits) (update_other g.net.lines lane new_line z other);
-        others_held = λ z other. let same = update_other g.net.lines lane new_line z other in (ap (λ (l : Lane). l.held) same, ap (λ (l : Lane). l.returning) same);
+        others_held = λ z other. let same = update_other g.net.lines lane new_line z other in
+            (ap (λ (l : Lane). l.held) same, ap (λ (l : Lane). l.returning) same);
         sent = note_part (λ (k : Note). k.sent) refl;
         wholes = λ z ejects. ap₂ whole_of (note_part (λ (k : Note). k.awaited) refl z) (note_part (λ (k : Note). k.begun) refl z);
         operations = refl;
@@ -103,31 +109,43 @@ module _ (d : Design) (net : IsNet (net_of d)) (tags : ℕ) (opening : List ℕ)
   abbrev pub rest_state : State
   rest_state = quiet_state d net tags opening s g order st t t_in new_tile lane lane_in (put_in_ring flit) (InjectRest lane flit more)
 
-  replies_rest : (u : ℕ) → u < tiles_of d.shape → (update g.net.lines lane new_line (injection_channel d.shape u Reply)).rest ≡ in_course (tile_at rest_state u).bank.to_put
+  replies_rest : (u : ℕ) → u < tiles_of d.shape
+      → (update g.net.lines lane new_line (injection_channel d.shape u Reply)).rest ≡ in_course (tile_at rest_state u).bank.to_put
   replies_rest u u_in = ⊎_elim
       (λ (k : u ≡ t).
-      ap (λ (v : ℕ). (update g.net.lines lane new_line (injection_channel d.shape v Reply)).rest) k ∙ (ap (λ (l : Lane). l.rest) (update_same g.net.lines lane new_line)
+      ap (λ (v : ℕ). (update g.net.lines lane new_line (injection_channel d.shape v Reply)).rest) k
+      ∙ (ap (λ (l : Lane). l.rest) (update_same g.net.lines lane new_line)
       ∙ (sym (ap (λ (b : Bool). cond b [] more) no_more)
-      ∙ (ap (λ (w : TileState). in_course w.bank.to_put) (sym (quiet_new d net tags opening s g order st t t_in new_tile lane lane_in (put_in_ring flit) (InjectRest lane flit more))) ∙ ap (λ (v : ℕ). in_course (tile_at rest_state v).bank.to_put) (sym k)))))
+      ∙ (ap (λ (w : TileState). in_course w.bank.to_put)
+      (sym (quiet_new d net tags opening s g order st t t_in new_tile lane lane_in (put_in_ring flit) (InjectRest lane flit more)))
+      ∙ ap (λ (v : ℕ). in_course (tile_at rest_state v).bank.to_put) (sym k)))))
       (λ (other : u ≢ t).
-      ap (λ (l : Lane). l.rest) (update_other g.net.lines lane new_line (injection_channel d.shape u Reply) (λ e. other (injection_tile d.shape u t Reply Reply e)))
-      ∙ (st.mirrors.sends_replies u u_in ∙ ap (λ (w : TileState). in_course w.bank.to_put) (sym (quiet_other d net tags opening s g order st t t_in new_tile lane lane_in (put_in_ring flit) (InjectRest lane flit more) u other))))
+      ap (λ (l : Lane). l.rest)
+      (update_other g.net.lines lane new_line (injection_channel d.shape u Reply) (λ e. other (injection_tile d.shape u t Reply Reply e)))
+      ∙ (st.mirrors.sends_replies u u_in
+      ∙ ap (λ (w : TileState). in_course w.bank.to_put)
+      (sym (quiet_other d net tags opening s g order st t t_in new_tile lane lane_in (put_in_ring flit) (InjectRest lane flit more) u other))))
       (cases_eq u t)
 
   tile_part : {A : Type 0} (h : TileState → A) → h new_tile ≡ h (tile_at s t) → (u : ℕ) → h (tile_at rest_state u) ≡ h (tile_at s u)
   tile_part h same u = quiet_part d net tags opening s g order st t t_in new_tile lane lane_in (put_in_ring flit) (InjectRest lane flit more) h same u
 
   -- What holds of every reached state is kept.
-  pub rest_stands : Stands d tags opening rest_state (quiet_ghost d net tags opening s g order st t t_in new_tile lane lane_in (put_in_ring flit) (InjectRest lane flit more)) order
+  pub rest_stands : Stands d tags opening rest_state
+      (quiet_ghost d net tags opening s g order st t t_in new_tile lane lane_in (put_in_ring flit) (InjectRest lane flit more)) order
   rest_stands =
       quiet_stands d net tags opening s g order st t t_in new_tile lane lane_in (put_in_ring flit) (InjectRest lane flit more) rest_quiet
       (end_mirrors d net tags opening s g order st t t_in new_tile lane lane_in (put_in_ring flit) (InjectRest lane flit more) rest_quiet (record {
         router = refl;
         latches = line_part (λ (l : Lane). l.latch) refl;
         owners = line_part (λ (l : Lane). l.owner) refl;
-        requests = λ u h. ap (λ (l : Lane). l.rest) (update_other g.net.lines lane new_line (injection_channel d.shape u Request) (λ e. let no : ◌≡◌ {A = Class} Request Reply = injection_class d.shape u t Request Reply e in cc))
+        requests = λ u h. ap (λ (l : Lane). l.rest)
+            (update_other g.net.lines lane new_line (injection_channel d.shape u Request)
+            (λ e. let no : ◌≡◌ {A = Class} Request Reply = injection_class d.shape u t Request Reply e in cc))
             ∙ (st.mirrors.sends_requests u h ∙ sym (tile_part (λ (w : TileState). w.processor.to_put) refl u));
         replies = replies_rest;
-        replies_in = λ u h. line_part (λ (l : Lane). l.so_far) refl _ ∙ (st.mirrors.takes_replies u h ∙ sym (tile_part (λ (w : TileState). w.processor.so_far) refl u));
-        requests_in = λ u h. line_part (λ (l : Lane). l.so_far) refl _ ∙ (st.mirrors.takes_requests u h ∙ sym (tile_part (λ (w : TileState). w.bank.so_far) refl u));
+        replies_in = λ u h. line_part (λ (l : Lane). l.so_far) refl _
+            ∙ (st.mirrors.takes_replies u h ∙ sym (tile_part (λ (w : TileState). w.processor.so_far) refl u));
+        requests_in = λ u h. line_part (λ (l : Lane). l.so_far) refl _
+            ∙ (st.mirrors.takes_requests u h ∙ sym (tile_part (λ (w : TileState). w.bank.so_far) refl u));
       }))

@@ -1,5 +1,6 @@
 -- Lists of requests and responses, and the flits that begin them.
-use Rattle.std.proofs.Common.{◌≡◌, ℕ, zero, suc, ◌+◌, Bool, true, false, cond, List, [], ◌∷◌, ◌++◌, length, Some, refl, sym, ◌∙◌, ap, ap₂, arith, slice_get, eq-eqb}
+use Rattle.std.proofs.Common.{◌≡◌, ℕ, zero, suc, ◌+◌, Bool, true, false, cond, List, [], ◌∷◌, ◌++◌, length, Some, refl, sym, ◌∙◌, ap, ap₂, arith, slice_get}
+use Rattle.std.proofs.Common.{eq-eqb}
 use Rattle.std.specs.Prelude.{filter, remove, ◌&&◌}
 use Rattle.std.proofs.lemmas.Option.{same_Some}
 use Rattle.packet.specs.declared.kinds.Packet.{Packet}
@@ -16,10 +17,12 @@ use Rattle.core_laws.specs.Network.{last_response}
 use Rattle.core_laws.proofs.Stands.{response_of_entry, responses_from, last_of}
 
 -- one response more
-pub responses_push : (b k : ℕ) (es : List Entry) (e : Entry) → responses_from b k (es ++ e ∷ []) ≡ responses_from b k es ++ response_of_entry b (k + length es) e ∷ []
+pub responses_push : (b k : ℕ) (es : List Entry) (e : Entry)
+    → responses_from b k (es ++ e ∷ []) ≡ responses_from b k es ++ response_of_entry b (k + length es) e ∷ []
 responses_push b k [] e = ap (λ (n : ℕ). response_of_entry b n e ∷ []) (let z : k ≡ k + 0 = omega arith in z)
 responses_push b k (x ∷ es) e = ap (λ rs. response_of_entry b k x ∷ rs)
-    (responses_push b (k + 1) es e ∙ ap (λ (n : ℕ). responses_from b (k + 1) es ++ response_of_entry b n e ∷ []) (let z : k + 1 + length es ≡ k + length (x ∷ es) = omega arith in z))
+    (responses_push b (k + 1) es e
+    ∙ ap (λ (n : ℕ). responses_from b (k + 1) es ++ response_of_entry b n e ∷ []) (let z : k + 1 + length es ≡ k + length (x ∷ es) = omega arith in z))
 
 pub last_push : (rs : List Telling) (q : Telling) → last_of (rs ++ q ∷ []) ≡ q ∷ []
 last_push [] q = refl
@@ -27,7 +30,8 @@ last_push (r ∷ []) q = refl
 last_push (r ∷ p ∷ rs) q = last_push (p ∷ rs) q
 
 -- an element removed that doesn't pass
-pub filter_removed : {A : Type 0} (test : A → Bool) (xs : List A) (k : ℕ) (x : A) → slice_get xs k ≡ Some x → test x ≡ false → filter test (remove xs k) ≡ filter test xs
+pub filter_removed : {A : Type 0} (test : A → Bool) (xs : List A) (k : ℕ) (x : A) → slice_get xs k ≡ Some x → test x ≡ false
+    → filter test (remove xs k) ≡ filter test xs
 filter_removed test [] k x h fails = cc
 filter_removed test (y ∷ xs) zero x h fails = ap (λ (b : Bool). cond b (y ∷ filter test xs) (filter test xs)) (sym (ap test (same_Some y x h) ∙ fails))
 filter_removed test (y ∷ xs) (suc k) x h fails = ap (λ zs. cond (test y) (y ∷ zs) zs) (filter_removed test xs k x h fails)

@@ -1,9 +1,10 @@
 -- A router puts a body or tail flit: what holds of every reached state is kept.
-use Rattle.std.proofs.Common.{◌≡◌, ◌≢◌, ◌↔◌, ⊎_elim, ℕ, ◌-◌, ◌<◌, Bool, true, false, List, [], ◌∷◌, ◌++◌, drop, Option, Some, None, refl, sym, ◌∙◌, ap, ap₂, subst, slice_set, length-set, get_or-set_same, get_or-set_other, if◌then◌else◌}
+use Rattle.std.proofs.Common.{◌≡◌, ◌≢◌, ◌↔◌, ⊎_elim, ℕ, ◌-◌, ◌<◌, Bool, true, false, List, [], ◌∷◌, ◌++◌, drop, Option, Some, None, refl, sym, ◌∙◌, ap, ap₂}
+use Rattle.std.proofs.Common.{subst, slice_set, length-set, get_or-set_same, get_or-set_other, if◌then◌else◌}
 use Rattle.std.proofs.lemmas.Bool.{cases_eq}
 use Rattle.std.proofs.lemmas.Option.{same_Some}
 use Rattle.torus.specs.Shape.{tiles_of, dims_of}
-use Rattle.runs.specs.Order.{LinearizationPoint}
+use Rattle.one_order.specs.Order.{LinearizationPoint}
 use Rattle.channel_number.specs.Order.{channel_count}
 use Rattle.flit_buffer.specs.Places.{put_in_ring}
 use Rattle.flit_buffer.specs.Surroundings.{ring}
@@ -18,7 +19,7 @@ use Rattle.packet.specs.Flits.{is_tail}
 use Rattle.core_laws.specs.Heads.{is_head}
 use Rattle.router.specs.Table.{RouterState, latch_of, output_owned}
 use Rattle.channel_number.specs.Ports.{port_count, input_channel, output_channel}
-use Rattle.tile.specs.Tile.{Design}
+use Rattle.tile_laws.specs.Tile.{Design}
 use Rattle.core_laws.specs.Core.{State}
 use Rattle.core_laws.proofs.Projection.{net_of}
 use Rattle.core_laws.proofs.ChannelFacts.{channels_of, is_head_of, is_tail_of}
@@ -27,7 +28,8 @@ use Rattle.core_laws.proofs.Quiet.{IsQuietStep}
 use Rattle.core_laws.proofs.RouterFrame.{router_tile, router_state, router_ghost, router_new, IsRouterStep, router_stands}
 use Rattle.core_laws.proofs.Stands.{Ghost, Stands, tile_at}
 
-module _ (d : Design) (net : IsNet (net_of d)) (wired : IsWiredUp d) (tags : ℕ) (opening : List ℕ) (s : State) (g : Ghost) (order : List LinearizationPoint) (st : Stands d tags opening s g order)
+module _ (d : Design) (net : IsNet (net_of d)) (wired : IsWiredUp d) (tags : ℕ) (opening : List ℕ) (s : State) (g : Ghost) (order : List LinearizationPoint)
+    (st : Stands d tags opening s g order)
     (t : ℕ) (t_in : t < tiles_of d.shape) (i : ℕ) (i_in : i < port_count (dims_of d.shape)) (flit o : ℕ)
     (full : latch_of (tile_at s t).router i ≡ Some flit) (rest : is_head flit ≡ false) (owns : output_owned (tile_at s t).router i ≡ Some o)
     (credit : 0 < (ring s.around.rings (output_channel d.shape t o)).channel.held) (some : flit ≢ 0) where
@@ -122,14 +124,17 @@ module _ (d : Design) (net : IsNet (net_of d)) (wired : IsWiredUp d) (tags : ℕ
   -- a part of the notes that stays at the output stays at all but the input
   note_other : {A : Type 0} (f : Note → A) → f note_y ≡ f (g.net.notes y) → (z : ℕ) → z ≢ x → f (notes z) ≡ f (g.net.notes z)
   note_other f same z a = ⊎_elim
-      (λ (e : z ≡ y). ap (λ (w : ℕ). f (notes w)) e ∙ (ap f (update_same (update g.net.notes x note_x) y note_y) ∙ (same ∙ ap (λ (w : ℕ). f (g.net.notes w)) (sym e))))
+      (λ (e : z ≡ y). ap (λ (w : ℕ). f (notes w)) e
+      ∙ (ap f (update_same (update g.net.notes x note_x) y note_y) ∙ (same ∙ ap (λ (w : ℕ). f (g.net.notes w)) (sym e))))
       (λ (b : z ≢ y). ap f (update_other (update g.net.notes x note_x) y note_y z b ∙ update_other g.net.notes x note_x z a))
       (cases_eq z y)
 
   sent_kept : (z : ℕ) → (notes z).sent ≡ (g.net.notes z).sent
   sent_kept z = ⊎_elim
       (λ (e : z ≡ x).
-      ap (λ (w : ℕ). (notes w).sent) e ∙ (ap (λ (k : Note). k.sent) (update_other (update g.net.notes x note_x) y note_y x apart ∙ update_same g.net.notes x note_x) ∙ ap (λ (w : ℕ). (g.net.notes w).sent) (sym e)))
+      ap (λ (w : ℕ). (notes w).sent) e
+      ∙ (ap (λ (k : Note). k.sent) (update_other (update g.net.notes x note_x) y note_y x apart ∙ update_same g.net.notes x note_x)
+      ∙ ap (λ (w : ℕ). (g.net.notes w).sent) (sym e)))
       (λ (a : z ≢ x). note_other (λ (k : Note). k.sent) refl z a)
       (cases_eq z x)
 
@@ -138,7 +143,9 @@ module _ (d : Design) (net : IsNet (net_of d)) (wired : IsWiredUp d) (tags : ℕ
       let other : z ≢ x = λ e. let no : ◌≡◌ {A = Bool} true false = sym ejects ∙ (ap n.ejects e ∙ can_forward.input) in cc in
       ap₂ whole_of (note_other (λ (k : Note). k.awaited) refl z other) (note_other (λ (k : Note). k.begun) refl z other)
 
-  pub rest_quiet : IsQuietStep d net tags opening s g order st t t_in (router_tile d net wired tags opening s g order st t t_in i i_in None left y y_in (put_in_ring flit) (ForwardRest x y flit)) y y_in (put_in_ring flit) (ForwardRest x y flit)
+  pub rest_quiet : IsQuietStep d net tags opening s g order st t t_in
+      (router_tile d net wired tags opening s g order st t t_in i i_in None left y y_in (put_in_ring flit) (ForwardRest x y flit)) y y_in (put_in_ring flit)
+      (ForwardRest x y flit)
   rest_quiet =
       let old = st.mirrors.rings y y_in in
       record {
@@ -165,7 +172,8 @@ module _ (d : Design) (net : IsNet (net_of d)) (wired : IsWiredUp d) (tags : ℕ
   owner : (lines y).owner ≡ owner_after (is_tail flit) x
   owner = ap (λ (l : Lane). l.owner) at_y ∙ ap (λ (b : Bool). owner_after b x) (is_tail_of d flit)
 
-  owner_else : (p : ℕ) → p < port_count (dims_of d.shape) → p ≢ o → (lines (output_channel d.shape t p)).owner ≡ (g.net.lines (output_channel d.shape t p)).owner
+  owner_else : (p : ℕ) → p < port_count (dims_of d.shape) → p ≢ o
+      → (lines (output_channel d.shape t p)).owner ≡ (g.net.lines (output_channel d.shape t p)).owner
   owner_else p p_in b = line_but (λ (l : Lane). l.owner) refl (output_channel d.shape t p) (λ h. b (wired.outputs_apart t p t o t_in p_in t_in o_in h).1)
 
   abbrev new : RouterState
@@ -186,7 +194,8 @@ module _ (d : Design) (net : IsNet (net_of d)) (wired : IsWiredUp d) (tags : ℕ
       ))
       (λ (other : j ≢ i). (
         λ h. absurd (other (sym (wired.inputs_apart t i t j t_in i_in t_in j_in (owner_only (is_tail flit) x (input_channel d.shape t j) (sym owner ∙ h))).1)),
-        λ h. absurd (other (sym (wired.inputs_apart t i t j t_in i_in t_in j_in (same_Some x (input_channel d.shape t j) (sym owner_was ∙ (st.mirrors.owners t j o t_in j_in o_in).1 (sym (owned_else j other) ∙ h)))).1)),
+        λ h. absurd (other (sym (wired.inputs_apart t i t j t_in i_in t_in j_in
+            (same_Some x (input_channel d.shape t j) (sym owner_was ∙ (st.mirrors.owners t j o t_in j_in o_in).1 (sym (owned_else j other) ∙ h)))).1)),
       ))
       (cases_eq j i)
 
@@ -194,7 +203,8 @@ module _ (d : Design) (net : IsNet (net_of d)) (wired : IsWiredUp d) (tags : ℕ
       → ((g.net.lines (output_channel d.shape t p)).owner ≡ Some (input_channel d.shape t j)) ↔ (output_owned new j ≡ Some p)
   owners_else j p j_in p_in other = ⊎_elim
       (λ (e : j ≡ i). (
-        λ h. absurd (other (wired.outputs_apart t p t o t_in p_in t_in o_in (st.lines.single x (output_channel d.shape t p) y (h ∙ ap (λ (k : ℕ). Some (input_channel d.shape t k)) e) owner_was)).1),
+        λ h. absurd (other (wired.outputs_apart t p t o t_in p_in t_in o_in
+            (st.lines.single x (output_channel d.shape t p) y (h ∙ ap (λ (k : ℕ). Some (input_channel d.shape t k)) e) owner_was)).1),
         λ h. absurd (other (sym (owner_only (is_tail flit) o p (sym owned_here ∙ (ap (output_owned new) (sym e) ∙ h))))),
       ))
       (λ (a : j ≢ i).
@@ -202,9 +212,11 @@ module _ (d : Design) (net : IsNet (net_of d)) (wired : IsWiredUp d) (tags : ℕ
       (λ h. owned_else j a ∙ old.0 h, λ h. old.1 (sym (owned_else j a) ∙ h)))
       (cases_eq j i)
 
-  owners_new : (j p : ℕ) → j < port_count (dims_of d.shape) → p < port_count (dims_of d.shape) → ((lines (output_channel d.shape t p)).owner ≡ Some (input_channel d.shape t j)) ↔ (output_owned new j ≡ Some p)
+  owners_new : (j p : ℕ) → j < port_count (dims_of d.shape) → p < port_count (dims_of d.shape)
+      → ((lines (output_channel d.shape t p)).owner ≡ Some (input_channel d.shape t j)) ↔ (output_owned new j ≡ Some p)
   owners_new j p j_in p_in = ⊎_elim
-      (λ (e : p ≡ o). subst (λ (q : ℕ). ((lines (output_channel d.shape t q)).owner ≡ Some (input_channel d.shape t j)) ↔ (output_owned new j ≡ Some q)) (sym e) (owners_here j j_in))
+      (λ (e : p ≡ o). subst (λ (q : ℕ). ((lines (output_channel d.shape t q)).owner ≡ Some (input_channel d.shape t j)) ↔ (output_owned new j ≡ Some q)) (sym e)
+      (owners_here j j_in))
       (λ (b : p ≢ o).
       let line = owner_else p p_in b in
       let iff = owners_else j p j_in p_in b in
@@ -213,7 +225,8 @@ module _ (d : Design) (net : IsNet (net_of d)) (wired : IsWiredUp d) (tags : ℕ
 
   unowned_new : (p : ℕ) → p < port_count (dims_of d.shape) → ((j : ℕ) → output_owned new j ≡ Some p → ⊥) → (lines (output_channel d.shape t p)).owner ≡ None
   unowned_new p p_in none = ⊎_elim
-      (λ (e : p ≡ o). ap (λ (q : ℕ). (lines (output_channel d.shape t q)).owner) e ∙ (owner ∙ owner_none (is_tail flit) x o (λ h. none i (owned_here ∙ (h ∙ ap Some (sym e))))))
+      (λ (e : p ≡ o). ap (λ (q : ℕ). (lines (output_channel d.shape t q)).owner) e
+      ∙ (owner ∙ owner_none (is_tail flit) x o (λ h. none i (owned_here ∙ (h ∙ ap Some (sym e))))))
       (λ (b : p ≢ o).
       owner_else p p_in b ∙ st.mirrors.unowned t p t_in p_in (λ j h. ⊎_elim
       (λ (k : j ≡ i). b (same_Some p o (sym h ∙ (ap (output_owned r) k ∙ owns))))
@@ -223,7 +236,8 @@ module _ (d : Design) (net : IsNet (net_of d)) (wired : IsWiredUp d) (tags : ℕ
 
   outputs_new : (j p : ℕ) → output_owned new j ≡ Some p → p < port_count (dims_of d.shape)
   outputs_new j p h = ⊎_elim
-      (λ (e : j ≡ i). subst (λ (q : ℕ). q < port_count (dims_of d.shape)) (owner_only (is_tail flit) o p (sym owned_here ∙ (ap (output_owned new) (sym e) ∙ h))) o_in)
+      (λ (e : j ≡ i). subst (λ (q : ℕ). q < port_count (dims_of d.shape)) (owner_only (is_tail flit) o p (sym owned_here ∙ (ap (output_owned new) (sym e) ∙ h)))
+      o_in)
       (λ (a : j ≢ i). st.mirrors.outputs t j p t_in (sym (owned_else j a) ∙ h))
       (cases_eq j i)
 
@@ -237,9 +251,11 @@ module _ (d : Design) (net : IsNet (net_of d)) (wired : IsWiredUp d) (tags : ℕ
     owners = owners_new;
     unowned = unowned_new;
     outputs = outputs_new;
-    elsewhere = λ u p a u_in p_in. line_but (λ (l : Lane). l.owner) refl (output_channel d.shape u p) (λ h. a (wired.outputs_apart u p t o u_in p_in t_in o_in h).0);
+    elsewhere = λ u p a u_in p_in. line_but (λ (l : Lane). l.owner) refl (output_channel d.shape u p)
+        (λ h. a (wired.outputs_apart u p t o u_in p_in t_in o_in h).0);
   }
 
   -- What holds of every reached state is kept.
   pub rest_stands : Stands d tags opening rest_state rest_ghost order
-  rest_stands = router_stands d net wired tags opening s g order st t t_in i i_in None left y y_in (put_in_ring flit) (ForwardRest x y flit) rest_quiet rest_router
+  rest_stands = router_stands d net wired tags opening s g order st t t_in i i_in None left y y_in (put_in_ring flit) (ForwardRest x y flit) rest_quiet
+      rest_router

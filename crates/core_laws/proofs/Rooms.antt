@@ -8,22 +8,22 @@ use Rattle.packet.specs.declared.kinds.Operation.{Operation}
 use Rattle.packet.specs.declared.kinds.Request.{Request as Asking}
 use Rattle.script.specs.declared.line.Line.{Line}
 use Rattle.script.specs.Scripts.{operation_count, script_of, IsAcceptedScript as IsReadScript}
-use Rattle.net_interface.specs.Scripts.{IsFollowable}
-use Rattle.net_interface.specs.Following.{next_operation_of}
-use Rattle.net_interface.specs.ProcessorRecord.{ProcessorRecord, ready}
-use Rattle.net_interface.proofs.Shown.{followed, left_after_issue, left_within}
-use Rattle.net_interface.proofs.Followable.{accepted_followable}
-use Rattle.runs.specs.Observed.{list_at}
-use Rattle.runs.specs.Events.{order_after}
-use Rattle.runs.proofs.Lists.{within_length}
-use Rattle.flights.specs.Flight.{Flight, show, asked_place}
-use Rattle.flights.proofs.Counts.{home_total, asked_remove}
-use Rattle.flights.proofs.Parts.{issued_at, list_at_map}
-use Rattle.tile.specs.Tile.{Design}
+use Rattle.script_follower.specs.Scripts.{IsFollowable}
+use Rattle.script_follower.specs.Following.{next_operation_of}
+use Rattle.script_follower.specs.ProcessorRecord.{ProcessorRecord, ready}
+use Rattle.script_follower.proofs.Shown.{followed, left_after_issue, left_within}
+use Rattle.script_follower.proofs.Followable.{accepted_followable}
+use Rattle.one_order.specs.Observed.{list_at}
+use Rattle.one_order.specs.Events.{order_after}
+use Rattle.one_order.proofs.Lists.{within_length}
+use Rattle.order_abstract.specs.Flight.{Flight, show, asked_place}
+use Rattle.order_abstract.proofs.Counts.{home_total, asked_remove}
+use Rattle.order_abstract.proofs.Parts.{issued_at, list_at_map}
+use Rattle.tile_laws.specs.Tile.{Design}
 use Rattle.core_laws.specs.Core.{Load, State, design_of}
 use Rattle.core_laws.specs.Runs.{IsAccepted}
-use Rattle.flights.specs.Room.{home_room}
-use Rattle.flights.proofs.BoundsScripts.{followed_home_within, home_total_within}
+use Rattle.order_abstract.specs.Room.{home_room}
+use Rattle.order_abstract.proofs.BoundsScripts.{followed_home_within, home_total_within}
 use Rattle.core_laws.specs.Noted.{noted}
 use Rattle.core_laws.proofs.Networks.{network}
 use Rattle.core_laws.proofs.SendFacts.{ready_parts}
@@ -73,7 +73,8 @@ module _ (l : Load) (ok : IsAccepted l) (steps : List Step) (n : ℕ) where
       omega (arith, one, gone, counted, here, most)
 
   -- while an operation is ready, the script has it left
-  pub issue_room : (t tag : ℕ) (o : Operation) → t < tiles_of l.shape → ready (tile_at s t).processor.operations ≡ Some (tag, o) → length (tile_at s t).processor.operations.issued < operation_count (script_of l.scripts t)
+  pub issue_room : (t tag : ℕ) (o : Operation) → t < tiles_of l.shape → ready (tile_at s t).processor.operations ≡ Some (tag, o)
+      → length (tile_at s t).processor.operations.issued < operation_count (script_of l.scripts t)
   issue_room t tag o t_in is_ready =
       let parts = ready_parts (tile_at s t).processor.operations tag o is_ready in
       let script = within_length l.scripts t (subst (λ (k : ℕ). t < k) (sym ok.processors) t_in) in

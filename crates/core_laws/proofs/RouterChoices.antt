@@ -1,5 +1,6 @@
 -- From the router's table to what its steps leave standing: takes, puts of body and tail flits, and credits.
-use Rattle.std.proofs.Common.{◌≡◌, ◌≢◌, ℕ, ◌<◌, Bool, true, false, List, ◌∷◌, ◌++◌, Option, Some, None, refl, sym, ◌∙◌, ap, subst, arith, slice_index, slice_set, if◌then◌else◌}
+use Rattle.std.proofs.Common.{◌≡◌, ◌≢◌, ℕ, ◌<◌, Bool, true, false, List, ◌∷◌, ◌++◌, Option, Some, None, refl, sym, ◌∙◌, ap, subst, arith, slice_index}
+use Rattle.std.proofs.Common.{slice_set, if◌then◌else◌}
 use Rattle.std.specs.Prelude.{option_map, nat_lt}
 use Rattle.std.proofs.lemmas.Bool.{ltb-true}
 use Rattle.std.proofs.lemmas.List.FromFn.{get_or-map-range_with_len}
@@ -8,7 +9,7 @@ use Rattle.torus.specs.Shape.{Shape, IsAccepted, tiles_of, dims_of}
 use Rattle.torus.specs.declared.step.Choice.{Choice}
 use Rattle.torus.specs.declared.step.Choice.TheVariants.{Send, Take, TakeFrom, Put, Credit, CreditOf, Serve, Done, Look}
 use Rattle.packet.specs.declared.heading.Head.{Head}
-use Rattle.runs.specs.Order.{LinearizationPoint}
+use Rattle.one_order.specs.Order.{LinearizationPoint}
 use Rattle.flit_buffer.specs.Channel.{rest}
 use Rattle.flit_buffer.specs.Places.{put_in_ring, take_from_ring, credit_of_ring}
 use Rattle.flit_buffer.specs.declared.want.Want.{Want}
@@ -23,7 +24,7 @@ use Rattle.core_laws.specs.Heads.{is_head}
 use Rattle.router.specs.Table.{RouterState, latch_of, output_owned, output_for, wants_to_take, wants_to_put, router_wants, router_after}
 use Rattle.channel_number.specs.Ports.{port_count, input_channel, output_channel}
 use Rattle.router.specs.Beginning.{router_wiring}
-use Rattle.tile.specs.Tile.{Design}
+use Rattle.tile_laws.specs.Tile.{Design}
 use Rattle.core_laws.specs.Core.{State}
 use Rattle.core_laws.proofs.Projection.{net_of}
 use Rattle.core_laws.proofs.AgentSteps.{option_map_some}
@@ -62,7 +63,8 @@ put_told : (s : Shape) (t : ℕ) (r : RouterState) (i : ℕ) (latch : Option ℕ
 put_told s t r i None w h = absurd (cc)
 put_told s t r i (Some flit) w h = (flit, refl)
 
-module _ (d : Design) (accepted : IsAccepted d.shape) (tags : ℕ) (opening : List ℕ) (s : State) (g : Ghost) (order : List LinearizationPoint) (st : Stands d tags opening s g order)
+module _ (d : Design) (accepted : IsAccepted d.shape) (tags : ℕ) (opening : List ℕ) (s : State) (g : Ghost) (order : List LinearizationPoint)
+    (st : Stands d tags opening s g order)
     (t : ℕ) (t_in : t < tiles_of d.shape) where
   abbrev r : RouterState
   r = (tile_at s t).router
@@ -72,12 +74,17 @@ module _ (d : Design) (accepted : IsAccepted d.shape) (tags : ℕ) (opening : Li
 
   -- what stands after a granted want of the router
   abbrev pub router_then : Choice → Want → ℕ → State
-  router_then choice w learned = record { tiles = slice_set s.tiles t (record (tile_at s t) { router = router_after r choice w learned }); around = surroundings_after d.depth s.around (router_wiring d.shape t) w }
+  router_then choice w learned =
+      record {
+        tiles = slice_set s.tiles t (record (tile_at s t) { router = router_after r choice w learned });
+        around = surroundings_after d.depth s.around (router_wiring d.shape t) w;
+      }
 
   abbrev Keeps : State → Option Event → Type 0
   Keeps after e = Stays d tags opening g order after e
 
-  then_latch : (i : ℕ) (w : Want) (learned : ℕ) → router_wants d.shape t r (TakeFrom i) ≡ Some w → granted s.around (router_wiring d.shape t) w ≡ Some learned → Keeps (router_then (TakeFrom i) w learned) (router_event d t r s.around (TakeFrom i) learned)
+  then_latch : (i : ℕ) (w : Want) (learned : ℕ) → router_wants d.shape t r (TakeFrom i) ≡ Some w → granted s.around (router_wiring d.shape t) w ≡ Some learned
+      → Keeps (router_then (TakeFrom i) w learned) (router_event d t r s.around (TakeFrom i) learned)
   then_latch i w learned is grants =
       let wired = is_wired_up d accepted in
       let net = network d accepted in
@@ -88,7 +95,8 @@ module _ (d : Design) (accepted : IsAccepted d.shape) (tags : ℕ) (opening : Li
       let flits : List ℕ = (ring s.around.rings x).channel.flits in
       let first : flits ≡ learned ∷ rest flits =
       subst (λ (z : ℕ). (ring s.around.rings z).channel.flits ≡ learned ∷ rest (ring s.around.rings z).channel.flits) at
-      (first_there (ring s.around.rings (slice_index (router_wiring d.shape t).inputs i)).channel.flits learned (ap (granted s.around (router_wiring d.shape t)) told.1 ∙ grants)) in
+      (first_there (ring s.around.rings (slice_index (router_wiring d.shape t).inputs i)).channel.flits learned
+      (ap (granted s.around (router_wiring d.shape t)) told.1 ∙ grants)) in
       let new = latched_stands d net wired tags opening s g order st t t_in i i_in learned (rest flits) told.0 first in
       let same : latched_state d net wired tags opening s g order st t t_in i i_in learned (rest flits) told.0 first ≡ router_then (TakeFrom i) w learned =
       ap (λ (z : ℕ). record {
@@ -97,11 +105,13 @@ module _ (d : Design) (accepted : IsAccepted d.shape) (tags : ℕ) (opening : Li
       }) (sym at)
       ∙ ap (λ (v : Want). router_then (TakeFrom i) v learned) told.1 in
       record {
-        stands = subst (λ (z : State). Stands d tags opening z (latched_ghost d net wired tags opening s g order st t t_in i i_in learned (rest flits) told.0 first) order) same new;
+        stands = subst (λ (z : State). Stands d tags opening z
+            (latched_ghost d net wired tags opening s g order st t t_in i i_in learned (rest flits) told.0 first) order) same new;
         may = can_latch d net wired tags opening s g order st t t_in i i_in learned (rest flits) told.0 first;
       }
 
-  then_credit : (o : ℕ) (w : Want) (learned : ℕ) → router_wants d.shape t r (CreditOf o) ≡ Some w → granted s.around (router_wiring d.shape t) w ≡ Some learned → Keeps (router_then (CreditOf o) w learned) (router_event d t r s.around (CreditOf o) learned)
+  then_credit : (o : ℕ) (w : Want) (learned : ℕ) → router_wants d.shape t r (CreditOf o) ≡ Some w → granted s.around (router_wiring d.shape t) w ≡ Some learned
+      → Keeps (router_then (CreditOf o) w learned) (router_event d t r s.around (CreditOf o) learned)
   then_credit o w learned is grants =
       let wired = is_wired_up d accepted in
       let net = network d accepted in
@@ -112,13 +122,15 @@ module _ (d : Design) (accepted : IsAccepted d.shape) (tags : ℕ) (opening : Li
       let at : slice_index (router_wiring d.shape t).outputs o ≡ y = output_at d.shape t o o_in in
       let returns : 0 < (ring s.around.rings y).channel.returning =
       subst (λ (z : ℕ). 0 < (ring s.around.rings z).channel.returning) at
-      (ltb-true 0 _ (held_of (nat_lt 0 (ring s.around.rings (slice_index (router_wiring d.shape t).outputs o)).channel.returning) learned (ap (granted s.around (router_wiring d.shape t)) w_is ∙ grants))) in
+      (ltb-true 0 _ (held_of (nat_lt 0 (ring s.around.rings (slice_index (router_wiring d.shape t).outputs o)).channel.returning) learned
+      (ap (granted s.around (router_wiring d.shape t)) w_is ∙ grants))) in
       let new = back_stands d net tags opening s g order st t t_in y y_in returns in
       let same : quiet_state d net tags opening s g order st t t_in (tile_at s t) y y_in credit_of_ring (Return y) ≡ router_then (CreditOf o) w learned =
       ap (λ (z : ℕ). record { tiles = slice_set s.tiles t (tile_at s t); around = changed s.around z credit_of_ring }) (sym at)
       ∙ ap (λ (v : Want). router_then (CreditOf o) v learned) w_is in
       record {
-        stands = subst (λ (z : State). Stands d tags opening z (quiet_ghost d net tags opening s g order st t t_in (tile_at s t) y y_in credit_of_ring (Return y)) order) same new;
+        stands = subst (λ (z : State). Stands d tags opening z
+            (quiet_ghost d net tags opening s g order st t t_in (tile_at s t) y y_in credit_of_ring (Return y)) order) same new;
         may = (back_quiet d net tags opening s g order st t t_in y y_in returns).can;
       }
 
@@ -128,27 +140,36 @@ module _ (d : Design) (accepted : IsAccepted d.shape) (tags : ℕ) (opening : Li
       let n : Net = net_of d in
       let x : ℕ = input_channel d.shape t i in
       let owner = (st.mirrors.owners t i o t_in i_in (st.mirrors.outputs t i o t_in owns)).1 owns in
-      let m = moved n (g.net.notes x) flit ((g.net.lines x).flits ++ (g.net.notes x).owed) (st.lines.parcels x) (st.lines.awaited x) (is_head_of d flit ∙ head) (latched n g.net x flit st.lines (st.mirrors.latches t i t_in i_in ∙ full)) in
+      let m = moved n (g.net.notes x) flit ((g.net.lines x).flits ++ (g.net.notes x).owed) (st.lines.parcels x) (st.lines.awaited x) (is_head_of d flit ∙ head)
+      (latched n g.net x flit st.lines (st.mirrors.latches t i t_in i_in ∙ full)) in
       (st.lines.held x (output_channel d.shape t o) owner).more m.none
 
   then_rest : (i : ℕ) (w : Want) (learned : ℕ) → router_wants d.shape t r (Put i) ≡ Some w → granted s.around (router_wiring d.shape t) w ≡ Some learned
-      → i < ports → (flit : ℕ) → latch_of r i ≡ Some flit → head_of flit ≡ None → flit ≢ 0 → Keeps (router_then (Put i) w learned) (put_event d t r i (latch_of r i))
+      → i < ports → (flit : ℕ) → latch_of r i ≡ Some flit → head_of flit ≡ None → flit ≢ 0
+      → Keeps (router_then (Put i) w learned) (put_event d t r i (latch_of r i))
   then_rest i w learned is grants i_in flit full tells some =
       let wired = is_wired_up d accepted in
       let net = network d accepted in
-      let wants : wants_to_put d.shape t r i (Some flit) ≡ Some w = ap (wants_to_put d.shape t r i) (sym full) ∙ if_what (nat_lt i ports) (wants_to_put d.shape t r i (latch_of r i)) w is in
-      let k = option_map_some (λ (p : ℕ). want.Put p flit) (output_owned r i) w (ap (λ (z : Option Head). option_map (λ (p : ℕ). want.Put p flit) (output_for d.shape t r i z)) (sym tells) ∙ wants) in
+      let wants : wants_to_put d.shape t r i (Some flit) ≡ Some w =
+      ap (wants_to_put d.shape t r i) (sym full) ∙ if_what (nat_lt i ports) (wants_to_put d.shape t r i (latch_of r i)) w is in
+      let k = option_map_some (λ (p : ℕ). want.Put p flit) (output_owned r i) w
+      (ap (λ (z : Option Head). option_map (λ (p : ℕ). want.Put p flit) (output_for d.shape t r i z)) (sym tells) ∙ wants) in
       let o : ℕ = k.0 in
       let o_in = st.mirrors.outputs t i o t_in k.1 in
       let body : is_head flit ≡ false = is_not (is_head flit) (no_head_owns i o flit i_in full k.1) in
       let at : slice_index (router_wiring d.shape t).outputs o ≡ output_channel d.shape t o = output_at d.shape t o o_in in
       let held : 0 < (ring s.around.rings (output_channel d.shape t o)).channel.held =
       subst (λ (z : ℕ). 0 < (ring s.around.rings z).channel.held) at
-      (ltb-true 0 _ (held_of (nat_lt 0 (ring s.around.rings (slice_index (router_wiring d.shape t).outputs o)).channel.held) learned (ap (granted s.around (router_wiring d.shape t)) k.2 ∙ grants))) in
+      (ltb-true 0 _ (held_of (nat_lt 0 (ring s.around.rings (slice_index (router_wiring d.shape t).outputs o)).channel.held) learned
+      (ap (granted s.around (router_wiring d.shape t)) k.2 ∙ grants))) in
       let new = rest_stands d net wired tags opening s g order st t t_in i i_in flit o full body k.1 held some in
       let same : rest_state d net wired tags opening s g order st t t_in i i_in flit o full body k.1 held some ≡ router_then (Put i) w learned =
       ap (λ (z : ℕ). record {
-        tiles = slice_set s.tiles t (record (tile_at s t) { router = record { latches = slice_set r.latches i None; owned = slice_set r.owned i (if is_tail flit then None else Some o) } });
+        tiles = slice_set s.tiles t
+            (record (tile_at s t) {
+              router =
+                  record { latches = slice_set r.latches i None; owned = slice_set r.owned i (if is_tail flit then None else Some o) };
+            });
         around = changed s.around z (put_in_ring flit);
       }) (sym at)
       ∙ ap (λ (v : Want). router_then (Put i) v learned) k.2 in
@@ -159,13 +180,15 @@ module _ (d : Design) (accepted : IsAccepted d.shape) (tags : ℕ) (opening : Li
       ∙ ap (put_event d t r i) (sym full)) in
       subst (λ (e : Option Event). Keeps (router_then (Put i) w learned) e) event
       (record {
-        stands = subst (λ (z : State). Stands d tags opening z (rest_ghost d net wired tags opening s g order st t t_in i i_in flit o full body k.1 held some) order) same new;
+        stands = subst (λ (z : State). Stands d tags opening z (rest_ghost d net wired tags opening s g order st t t_in i i_in flit o full body k.1 held some)
+            order) same new;
         may = can_rest d net wired tags opening s g order st t t_in i i_in flit o full body k.1 held some;
       })
 
   -- What a granted want of the router leaves stands, where no latched flit is 0.
   pub then_router : ((i flit : ℕ) → i < ports → latch_of r i ≡ Some flit → flit ≢ 0)
-      → (choice : Choice) (w : Want) (learned : ℕ) → router_wants d.shape t r choice ≡ Some w → granted s.around (router_wiring d.shape t) w ≡ Some learned → Keeps (router_then choice w learned) (router_event d t r s.around choice learned)
+      → (choice : Choice) (w : Want) (learned : ℕ) → router_wants d.shape t r choice ≡ Some w → granted s.around (router_wiring d.shape t) w ≡ Some learned
+      → Keeps (router_then choice w learned) (router_event d t r s.around choice learned)
   then_router some (TakeFrom i) w learned is grants = then_latch i w learned is grants
   then_router some (CreditOf o) w learned is grants = then_credit o w learned is grants
   then_router some (Put i) w learned is grants =
@@ -173,9 +196,11 @@ module _ (d : Design) (accepted : IsAccepted d.shape) (tags : ℕ) (opening : Li
       let told = put_told d.shape t r i (latch_of r i) w (if_what (nat_lt i ports) (wants_to_put d.shape t r i (latch_of r i)) w is) in
       by_head i_in told.0 told.1 (head_of told.0) refl
     where
-      by_head : i < ports → (flit : ℕ) → latch_of r i ≡ Some flit → (head : Option Head) → head_of flit ≡ head → Keeps (router_then (Put i) w learned) (put_event d t r i (latch_of r i))
+      by_head : i < ports → (flit : ℕ) → latch_of r i ≡ Some flit → (head : Option Head) → head_of flit ≡ head
+          → Keeps (router_then (Put i) w learned) (put_event d t r i (latch_of r i))
       by_head i_in flit full None tells = then_rest i w learned is grants i_in flit full tells (some i flit i_in full)
-      by_head i_in flit full (Some head) tells = then_put d accepted tags opening s g order st t t_in i w learned is grants i_in flit full head tells (some i flit i_in full)
+      by_head i_in flit full (Some head) tells =
+          then_put d accepted tags opening s g order st t t_in i w learned is grants i_in flit full head tells (some i flit i_in full)
   then_router some Send w learned is grants = absurd (cc)
   then_router some Take w learned is grants = absurd (cc)
   then_router some Credit w learned is grants = absurd (cc)

@@ -1,5 +1,7 @@
--- Every run from an accepted load is a history of events, in which the processors follow their scripts: what is left is that the steps that are no issue, service or answer keep what holds.
-use Rattle.std.proofs.Common.{◌≡◌, ⊎_elim, ℕ, zero, suc, ◌<◌, ◌≤◌, List, [], ◌∷◌, ◌++◌, map, length, slice_index_or, Option, Some, None, IfSome, refl, sym, ◌∙◌, ap, subst, arith, slice_get}
+-- Every run from an accepted load is a history of events, in which the processors follow their scripts: what is left is that the steps that are no issue,
+-- service or answer keep what holds.
+use Rattle.std.proofs.Common.{◌≡◌, ⊎_elim, ℕ, zero, suc, ◌<◌, ◌≤◌, List, [], ◌∷◌, ◌++◌, map, length, slice_index_or, Option, Some, None, IfSome, refl, sym}
+use Rattle.std.proofs.Common.{◌∙◌, ap, subst, arith, slice_get}
 use Rattle.std.proofs.lemmas.Bool.{cases_lt}
 use Rattle.std.proofs.lemmas.List.{append-nil}
 use Rattle.std.proofs.lemmas.Option.{same_Some, get_or_from_slice_get}
@@ -8,19 +10,19 @@ use Rattle.torus.specs.declared.step.Step.{Step}
 use Rattle.packet.specs.declared.kinds.Operation.{Operation}
 use Rattle.script.specs.declared.line.Line.{Line}
 use Rattle.script.specs.Scripts.{IsAcceptedScript as IsReadScript}
-use Rattle.net_interface.specs.Following.{Following, first_of, next_operation_of}
-use Rattle.net_interface.proofs.Shown.{followed}
-use Rattle.runs.specs.Observed.{Observed, list_at}
-use Rattle.runs.proofs.Lists.{list_at_none, within_length}
-use Rattle.runs.specs.Order.{LinearizationPoint}
-use Rattle.runs.specs.Events.{Event, happens, points_of, order_after, MayHappen, IsHistory}
+use Rattle.script_follower.specs.Following.{Following, first_of, next_operation_of}
+use Rattle.script_follower.proofs.Shown.{followed}
+use Rattle.one_order.specs.Observed.{Observed, list_at}
+use Rattle.one_order.proofs.Lists.{list_at_none, within_length}
+use Rattle.one_order.specs.Order.{LinearizationPoint}
+use Rattle.one_order.specs.Events.{Event, happens, points_of, order_after, MayHappen, IsHistory}
 use Rattle.wormhole.specs.Net.{IsNet}
-use Rattle.net_interface.specs.ProcessorRecord.{ProcessorRecord, no_processor}
-use Rattle.flights.specs.Flight.{Flight, Move, Sends, Serves, Takes, moved_by, event_by, IsFound}
-use Rattle.flights.specs.Scripts.{HasFollowed, FollowScripts}
-use Rattle.flights.proofs.Follows.{Follows, follows_first}
-use Rattle.flights.proofs.FollowsMoves.{follows_any}
-use Rattle.tile.specs.Tile.{Design}
+use Rattle.script_follower.specs.ProcessorRecord.{ProcessorRecord, no_processor}
+use Rattle.order_abstract.specs.Flight.{Flight, Move, Sends, Serves, Takes, moved_by, event_by, IsFound}
+use Rattle.order_abstract.specs.Scripts.{HasFollowed, FollowScripts}
+use Rattle.order_abstract.proofs.Follows.{Follows, follows_first}
+use Rattle.order_abstract.proofs.FollowsMoves.{follows_any}
+use Rattle.tile_laws.specs.Tile.{Design}
 use Rattle.core_laws.specs.Core.{Load, State, design_of, first_tile, first_state, next, records_of, show, run_of}
 use Rattle.core_laws.specs.Moves.{move_of}
 use Rattle.core_laws.proofs.Projection.{net_of}
@@ -31,7 +33,7 @@ use Rattle.core_laws.proofs.Begins.{begins, first_shown}
 use Rattle.core_laws.proofs.Histories.{move_at, next_at, state_at, event_at, after_more}
 use Rattle.core_laws.proofs.Keeps.{keeps_step}
 use Rattle.core_laws.proofs.Followed.{next_inside}
-use Rattle.net_interface.proofs.Followable.{accepted_followable}
+use Rattle.script_follower.proofs.Followable.{accepted_followable}
 use Rattle.core_laws.specs.Runs.{IsAccepted}
 use Rattle.wormhole.specs.Events.{CanHappen}
 use Rattle.core_laws.specs.Network.{network_event}
@@ -73,13 +75,19 @@ pub record HoldsIn (l : Load) (steps : List Step) (n : ℕ) : Type 0 where
 
 -- one step more: of an attempt that is there, and of none
 pub record Goes (l : Load) (n : ℕ) (s : State) (g : Ghost) (order : List LinearizationPoint) (attempt : Option Step) : Type 0 where
-  pub stands : Stands (design_of l) l.tags l.opening (next_at (design_of l) s attempt) (noted_by (design_of l) s g (move_at (design_of l) s attempt) (network_by l s attempt)) (order ++ points_of (event_by (flight_with (length l.opening) s [] []) (move_at (design_of l) s attempt)) (suc n))
+  pub stands : Stands (design_of l) l.tags l.opening (next_at (design_of l) s attempt)
+      (noted_by (design_of l) s g (move_at (design_of l) s attempt) (network_by l s attempt))
+      (order ++ points_of (event_by (flight_with (length l.opening) s [] []) (move_at (design_of l) s attempt)) (suc n))
   pub values : HasValues (design_of l) (next_at (design_of l) s attempt)
-  pub shown : show (length l.opening) (next_at (design_of l) s attempt) ≡ happens (tiles_of l.shape) (show (length l.opening) s) (event_by (flight_with (length l.opening) s [] []) (move_at (design_of l) s attempt))
-  pub may : MayHappen (tiles_of l.shape) l.tags l.opening (show (length l.opening) s) order (event_by (flight_with (length l.opening) s [] []) (move_at (design_of l) s attempt))
+  pub shown : show (length l.opening) (next_at (design_of l) s attempt)
+      ≡ happens (tiles_of l.shape) (show (length l.opening) s) (event_by (flight_with (length l.opening) s [] []) (move_at (design_of l) s attempt))
+  pub may : MayHappen (tiles_of l.shape) l.tags l.opening (show (length l.opening) s) order
+      (event_by (flight_with (length l.opening) s [] []) (move_at (design_of l) s attempt))
   pub can : IfSome (network_by l s attempt) (CanHappen (net_of (design_of l)) g.net.lines)
   pub finds : (m : Move) → move_at (design_of l) s attempt ≡ Some m → IsFound (length l.opening) (flight_of (length l.opening) s g) m
-  pub flight : flight_of (length l.opening) (next_at (design_of l) s attempt) (noted_by (design_of l) s g (move_at (design_of l) s attempt) (network_by l s attempt)) ≡ moved_by (tiles_of l.shape) (flight_of (length l.opening) s g) (move_at (design_of l) s attempt)
+  pub flight : flight_of (length l.opening) (next_at (design_of l) s attempt)
+      (noted_by (design_of l) s g (move_at (design_of l) s attempt) (network_by l s attempt))
+      ≡ moved_by (tiles_of l.shape) (flight_of (length l.opening) s g) (move_at (design_of l) s attempt)
 
 module _ (l : Load) (ok : IsAccepted l) (quiet : AreQuiet (design_of l) l.tags l.opening) where
   abbrev d : Design
@@ -88,7 +96,8 @@ module _ (l : Load) (ok : IsAccepted l) (quiet : AreQuiet (design_of l) l.tags l
   net_is : IsNet (net_of d)
   net_is = network d ok.shape
 
-  pub goes : (n : ℕ) (s : State) (g : Ghost) (order : List LinearizationPoint) → Stands d l.tags l.opening s g order → HasValues d s → (attempt : Option Step) → Goes l n s g order attempt
+  pub goes : (n : ℕ) (s : State) (g : Ghost) (order : List LinearizationPoint) → Stands d l.tags l.opening s g order → HasValues d s → (attempt : Option Step)
+      → Goes l n s g order attempt
   goes n s g order st v None = record {
     stands = subst (λ (xs : List LinearizationPoint). Stands d l.tags l.opening s g xs) (sym (append-nil order)) st;
     values = v;
@@ -104,12 +113,14 @@ module _ (l : Load) (ok : IsAccepted l) (quiet : AreQuiet (design_of l) l.tags l
         responses = reply_proper d l.tags (limited l ok) l.opening s g order st v;
         quiet = quiet s g order st v;
       }) (suc n) attempt in
-      let addressed : (t : ℕ) (o : Operation) → t < tiles_of l.shape → next_operation_of (tile_at s t).processor.operations.following ≡ Some o → o.address < length l.opening =
+      let addressed : (t : ℕ) (o : Operation) → t < tiles_of l.shape → next_operation_of (tile_at s t).processor.operations.following ≡ Some o
+      → o.address < length l.opening =
       λ t o t_in is. (next_inside d.words 4096 (tile_at s t).processor.operations.following o (v.tiles t).followed is).0 in
       let e = is_event d net_is l.tags l.opening s g order st addressed attempt (suc n) in
       let same = event_same (length l.opening) s g (move_of d s attempt) in
       record {
-        stands = subst (λ (x : Event). Stands d l.tags l.opening (next d s attempt) (noted_by d s g (move_of d s attempt) (network_event d s attempt)) (order ++ points_of x (suc n))) same more.stands;
+        stands = subst (λ (x : Event). Stands d l.tags l.opening (next d s attempt) (noted_by d s g (move_of d s attempt) (network_event d s attempt))
+            (order ++ points_of x (suc n))) same more.stands;
         can = more.may;
         values = values_kept d l.tags (limited l ok) l.opening s g order st v attempt;
         shown = e.shown ∙ ap (happens (tiles_of l.shape) (show (length l.opening) s)) same;
@@ -125,7 +136,8 @@ module _ (l : Load) (ok : IsAccepted l) (quiet : AreQuiet (design_of l) l.tags l
     values = values_first l ok;
     history = record { start = first_shown l ok.depth.0 ok.processors; each = λ j h. absurd (omega arith); may = λ j h. absurd (omega arith) };
     follows = λ p lines there. subst (Follows (run_of l steps) 0 p lines) (sym (first_following (dims_of l.shape) l.tags l.scripts p lines there))
-        (follows_first (run_of l steps) p lines (ap (λ (y : Observed). list_at y.issued p) (first_shown l ok.depth.0 ok.processors) ∙ list_at_none {A = Operation} (tiles_of l.shape) p));
+        (follows_first (run_of l steps) p lines
+        (ap (λ (y : Observed). list_at y.issued p) (first_shown l ok.depth.0 ok.processors) ∙ list_at_none {A = Operation} (tiles_of l.shape) p));
   }
   holds_in steps (suc n) =
       let before = holds_in steps n in
@@ -141,12 +153,14 @@ module _ (l : Load) (ok : IsAccepted l) (quiet : AreQuiet (design_of l) l.tags l
           each = λ j h. ⊎_elim
               (λ (below : j < n). before.history.each j below)
               (λ (above : n ≤ j). let e : n ≡ j = omega arith in
-              subst (λ (x : ℕ). run_of l steps (suc x) ≡ happens (tiles_of l.shape) (run_of l steps x) (event_at l steps x)) e (ap (show (length l.opening)) now ∙ go.shown))
+              subst (λ (x : ℕ). run_of l steps (suc x) ≡ happens (tiles_of l.shape) (run_of l steps x) (event_at l steps x)) e
+              (ap (show (length l.opening)) now ∙ go.shown))
               (cases_lt j n);
           may = λ j h. ⊎_elim
               (λ (below : j < n). before.history.may j below)
               (λ (above : n ≤ j). let e : n ≡ j = omega arith in
-              subst (λ (x : ℕ). MayHappen (tiles_of l.shape) l.tags l.opening (run_of l steps x) (order_after (event_at l steps) x) (event_at l steps x)) e go.may)
+              subst (λ (x : ℕ). MayHappen (tiles_of l.shape) l.tags l.opening (run_of l steps x) (order_after (event_at l steps) x) (event_at l steps x)) e
+              go.may)
               (cases_lt j n);
         };
         follows = λ p lines there.
@@ -155,10 +169,13 @@ module _ (l : Load) (ok : IsAccepted l) (quiet : AreQuiet (design_of l) l.tags l
             let same : event_by f m ≡ event_at l steps n = event_same (length l.opening) s (noted l steps n) m in
             let happened : run_of l steps (suc n) ≡ happens (tiles_of l.shape) (run_of l steps n) (event_by f m) =
             (ap (show (length l.opening)) now ∙ go.shown) ∙ ap (happens (tiles_of l.shape) (run_of l steps n)) (sym same) in
-            let may : MayHappen (tiles_of l.shape) l.tags l.opening (run_of l steps n) order (event_by f m) = subst (MayHappen (tiles_of l.shape) l.tags l.opening (run_of l steps n) order) (sym same) go.may in
-            let new = follows_any (tiles_of l.shape) l.tags l.opening (run_of l steps) n f order refl before.stands.flight (event_at l steps) before.history m go.finds happened may p lines (before.follows p lines there) in
+            let may : MayHappen (tiles_of l.shape) l.tags l.opening (run_of l steps n) order (event_by f m) =
+            subst (MayHappen (tiles_of l.shape) l.tags l.opening (run_of l steps n) order) (sym same) go.may in
+            let new = follows_any (tiles_of l.shape) l.tags l.opening (run_of l steps) n f order refl before.stands.flight (event_at l steps) before.history m
+            go.finds happened may p lines (before.follows p lines there) in
             subst (λ (x : State). Follows (run_of l steps) (suc n) p lines (following_in x p)) (sym now)
-            (subst (λ (bs : List ProcessorRecord). Follows (run_of l steps) (suc n) p lines (slice_index_or bs p no_processor).following) (sym (ap (λ (x : Flight). x.processors) go.flight)) new);
+            (subst (λ (bs : List ProcessorRecord). Follows (run_of l steps) (suc n) p lines (slice_index_or bs p no_processor).following)
+            (sym (ap (λ (x : Flight). x.processors) go.flight)) new);
       }
 
   -- Every run from an accepted load is a history, where the quiet steps keep what holds.
@@ -174,5 +191,9 @@ module _ (l : Load) (ok : IsAccepted l) (quiet : AreQuiet (design_of l) l.tags l
         let f = (holds_in steps n).follows p script.0 script.1 in
         let read : IsReadScript (length l.opening) script.0 = subst (IsReadScript (length l.opening)) lines_are (ok.scripts.each p) in
         subst (HasFollowed (run_of l steps) n p) (sym lines_are)
-        (record { ops = f.ops; are = f.are; follows = followed script.0 f.ops (following_in (state_at l steps n) p) (accepted_followable (length l.opening) script.0 read) f.shows });
+        (record {
+          ops = f.ops;
+          are = f.are;
+          follows = followed script.0 f.ops (following_in (state_at l steps n) p) (accepted_followable (length l.opening) script.0 read) f.shows;
+        });
   }

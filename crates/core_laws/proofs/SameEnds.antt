@@ -16,10 +16,10 @@ use Rattle.flit_buffer.specs.Surroundings.{Surroundings, Wiring, ring, no_ring, 
 use Rattle.flit_buffer.proofs.ManyRings.{changed_here}
 use Rattle.router.specs.Table.{RouterState, router_wants, router_after}
 use Rattle.router.specs.Beginning.{router_wiring}
-use Rattle.net_interface.specs.ProcessorTable.{ProcessorState, processor_wants, processor_after}
+use Rattle.script_follower.specs.ProcessorTable.{ProcessorState, processor_wants, processor_after}
 use Rattle.home_bank.specs.BankTable.{BankState, bank_wants, bank_after}
-use Rattle.tile.specs.Wiring.{processor_wiring, bank_wiring}
-use Rattle.tile.specs.Tile.{Design, TileState, Processor, Router, Bank, tile_step}
+use Rattle.tile_laws.specs.Wiring.{processor_wiring, bank_wiring}
+use Rattle.tile_laws.specs.Tile.{Design, TileState, Processor, Router, Bank, tile_step}
 use Rattle.core_laws.proofs.AgentSteps.{did, option_map_some}
 
 -- a channel of which something is granted is there
@@ -33,26 +33,31 @@ abbrev where_some : ℕ → Option ℕ
 where_some n = if nat_lt 0 n then Some 0 else None
 
 -- of a ring that is changed in both
-same_changed : {A : Type 0} (part : Ring → A) (a b : Surroundings) (x : ℕ) (f : Ring → Ring) (g : A → A) → ((r : Ring) → part (f r) ≡ g (part r)) → x < length a.rings → x < length b.rings
+same_changed : {A : Type 0} (part : Ring → A) (a b : Surroundings) (x : ℕ) (f : Ring → Ring) (g : A → A) → ((r : Ring) → part (f r) ≡ g (part r))
+    → x < length a.rings → x < length b.rings
     → part (ring a.rings x) ≡ part (ring b.rings x) → part (ring (changed a x f).rings x) ≡ part (ring (changed b x f).rings x)
 same_changed part a b x f g is in_a in_b same =
     ap part (changed_here a x f in_a) ∙ (is (ring a.rings x) ∙ (ap g same ∙ (sym (is (ring b.rings x)) ∙ ap part (sym (changed_here b x f in_b)))))
 
 -- what a granted want leaves in both is the same where it looked
-pub same_end : (depth : ℕ) (a b : Surroundings) (wiring : Wiring) (want : Want) (m n : ℕ) → length a.words ≡ length b.words → granted a wiring want ≡ Some m → granted b wiring want ≡ Some n
+pub same_end : (depth : ℕ) (a b : Surroundings) (wiring : Wiring) (want : Want) (m n : ℕ) → length a.words ≡ length b.words → granted a wiring want ≡ Some m
+    → granted b wiring want ≡ Some n
     → SameWhereWanted a b wiring want → SameWhereWanted (surroundings_after depth a wiring want) (surroundings_after depth b wiring want) wiring want
 same_end depth a b wiring (Take i) m n size in_a in_b same =
     let x : ℕ = slice_index wiring.inputs i in
     let seen : Ring → Option ℕ = λ r. first_of r.channel.flits in
-    same_changed (λ (r : Ring). r.channel.flits) a b x (take_from_ring depth) rest (λ r. refl) (within ℕ seen a.rings x m refl in_a) (within ℕ seen b.rings x n refl in_b) same
+    same_changed (λ (r : Ring). r.channel.flits) a b x (take_from_ring depth) rest (λ r. refl) (within ℕ seen a.rings x m refl in_a)
+    (within ℕ seen b.rings x n refl in_b) same
 same_end depth a b wiring (Put o flit) m n size in_a in_b same =
     let x : ℕ = slice_index wiring.outputs o in
     let seen : Ring → Option ℕ = λ r. where_some r.channel.held in
-    same_changed (λ (r : Ring). r.channel.held) a b x (put_in_ring flit) (λ k. k - 1) (λ r. refl) (within ℕ seen a.rings x m refl in_a) (within ℕ seen b.rings x n refl in_b) same
+    same_changed (λ (r : Ring). r.channel.held) a b x (put_in_ring flit) (λ k. k - 1) (λ r. refl) (within ℕ seen a.rings x m refl in_a)
+    (within ℕ seen b.rings x n refl in_b) same
 same_end depth a b wiring (Credit o) m n size in_a in_b same =
     let x : ℕ = slice_index wiring.outputs o in
     let seen : Ring → Option ℕ = λ r. where_some r.channel.returning in
-    same_changed (λ (r : Ring). r.channel.returning) a b x credit_of_ring (λ k. k - 1) (λ r. refl) (within ℕ seen a.rings x m refl in_a) (within ℕ seen b.rings x n refl in_b) same
+    same_changed (λ (r : Ring). r.channel.returning) a b x credit_of_ring (λ k. k - 1) (λ r. refl) (within ℕ seen a.rings x m refl in_a)
+    (within ℕ seen b.rings x n refl in_b) same
 same_end depth a b wiring (Access word op) m n size in_a in_b same = ⊎_elim
     (λ (low : word < length a.words).
     get_or-set_same a.words word (new_word op (slice_index a.words word)) 0 low
@@ -64,11 +69,13 @@ same_end depth a b wiring (Access word op) m n size in_a in_b same = ⊎_elim
 same_end depth a b wiring (Await word value) m n size in_a in_b same = same
 
 -- of an agent in its tile
-module _ {S : Type 0} (wants : S → Choice → Option Want) (after : S → Choice → Want → ℕ → S) (depth : ℕ) (wiring : Wiring) (part : TileState → S) (put_back : TileState → S → TileState) where
+module _ {S : Type 0} (wants : S → Choice → Option Want) (after : S → Choice → Want → ℕ → S) (depth : ℕ) (wiring : Wiring) (part : TileState → S)
+    (put_back : TileState → S → TileState) where
   abbrev in_tile : TileState → Surroundings → Choice → Option (TileState × Surroundings)
   in_tile tile around c = option_map (λ (p : S × Surroundings). (put_back tile p.0, p.1)) (agent_step wants after depth wiring (part tile) around c)
 
-  pub ends_alike : (v w : TileState) (a b : Surroundings) (c : Choice) (p q : TileState × Surroundings) (want : Want) → part v ≡ part w → length a.words ≡ length b.words
+  pub ends_alike : (v w : TileState) (a b : Surroundings) (c : Choice) (p q : TileState × Surroundings) (want : Want) → part v ≡ part w
+      → length a.words ≡ length b.words
       → in_tile v a c ≡ Some p → in_tile w b c ≡ Some q → wants (part v) c ≡ Some want → SameWhereWanted a b wiring want → SameWhereWanted p.1 q.1 wiring want
   ends_alike v w a b c p q want same size h k wanted alike =
       let f = option_map_some (λ (x : S × Surroundings). (put_back v x.0, x.1)) _ p h in
@@ -77,26 +84,33 @@ module _ {S : Type 0} (wants : S → Choice → Option Want) (after : S → Choi
       let y = did wants after depth wiring (part w) b c g.0.0 g.0.1 g.1 in
       let first : x.want ≡ want = same_Some _ _ (sym x.wanted ∙ wanted) in
       let second : y.want ≡ want = same_Some _ _ (sym y.wanted ∙ (ap (λ (z : S). wants z c) (sym same) ∙ wanted)) in
-      let new = same_end depth a b wiring want x.learned y.learned size (ap (granted a wiring) (sym first) ∙ x.grants) (ap (granted b wiring) (sym second) ∙ y.grants) alike in
-      let left : surroundings_after depth a wiring want ≡ p.1 = ap (surroundings_after depth a wiring) (sym first) ∙ (sym x.around_is ∙ ap (λ (z : TileState × Surroundings). z.1) f.2) in
-      let right : surroundings_after depth b wiring want ≡ q.1 = ap (surroundings_after depth b wiring) (sym second) ∙ (sym y.around_is ∙ ap (λ (z : TileState × Surroundings). z.1) g.2) in
-      subst (λ (z : Surroundings). SameWhereWanted z q.1 wiring want) left (subst (λ (z : Surroundings). SameWhereWanted (surroundings_after depth a wiring want) z wiring want) right new)
+      let new = same_end depth a b wiring want x.learned y.learned size (ap (granted a wiring) (sym first) ∙ x.grants)
+      (ap (granted b wiring) (sym second) ∙ y.grants) alike in
+      let left : surroundings_after depth a wiring want ≡ p.1 =
+      ap (surroundings_after depth a wiring) (sym first) ∙ (sym x.around_is ∙ ap (λ (z : TileState × Surroundings). z.1) f.2) in
+      let right : surroundings_after depth b wiring want ≡ q.1 =
+      ap (surroundings_after depth b wiring) (sym second) ∙ (sym y.around_is ∙ ap (λ (z : TileState × Surroundings). z.1) g.2) in
+      subst (λ (z : Surroundings). SameWhereWanted z q.1 wiring want) left
+      (subst (λ (z : Surroundings). SameWhereWanted (surroundings_after depth a wiring want) z wiring want) right new)
 
-pub processor_ends : (d : Design) (t : ℕ) (v w : TileState) (a b : Surroundings) (c : Choice) (p q : TileState × Surroundings) (want : Want) → v.processor ≡ w.processor → length a.words ≡ length b.words
+pub processor_ends : (d : Design) (t : ℕ) (v w : TileState) (a b : Surroundings) (c : Choice) (p q : TileState × Surroundings) (want : Want)
+    → v.processor ≡ w.processor → length a.words ≡ length b.words
     → tile_step d t v a Processor c ≡ Some p → tile_step d t w b Processor c ≡ Some q → processor_wants (tiles_of d.shape) d.words t v.processor c ≡ Some want
     → SameWhereWanted a b (processor_wiring d.shape t) want → SameWhereWanted p.1 q.1 (processor_wiring d.shape t) want
 processor_ends d t v w a b c p q want same size h k wanted alike =
     ends_alike (processor_wants (tiles_of d.shape) d.words t) (processor_after (tiles_of d.shape) d.words t) d.depth (processor_wiring d.shape t)
     (λ (x : TileState). x.processor) (λ (x : TileState) (y : ProcessorState). record x { processor = y }) v w a b c p q want same size h k wanted alike
 
-pub router_ends : (d : Design) (t : ℕ) (v w : TileState) (a b : Surroundings) (c : Choice) (p q : TileState × Surroundings) (want : Want) → v.router ≡ w.router → length a.words ≡ length b.words
+pub router_ends : (d : Design) (t : ℕ) (v w : TileState) (a b : Surroundings) (c : Choice) (p q : TileState × Surroundings) (want : Want) → v.router ≡ w.router
+    → length a.words ≡ length b.words
     → tile_step d t v a Router c ≡ Some p → tile_step d t w b Router c ≡ Some q → router_wants d.shape t v.router c ≡ Some want
     → SameWhereWanted a b (router_wiring d.shape t) want → SameWhereWanted p.1 q.1 (router_wiring d.shape t) want
 router_ends d t v w a b c p q want same size h k wanted alike =
     ends_alike (router_wants d.shape t) router_after d.depth (router_wiring d.shape t)
     (λ (x : TileState). x.router) (λ (x : TileState) (y : RouterState). record x { router = y }) v w a b c p q want same size h k wanted alike
 
-pub bank_ends : (d : Design) (t : ℕ) (v w : TileState) (a b : Surroundings) (c : Choice) (p q : TileState × Surroundings) (want : Want) → v.bank ≡ w.bank → length a.words ≡ length b.words
+pub bank_ends : (d : Design) (t : ℕ) (v w : TileState) (a b : Surroundings) (c : Choice) (p q : TileState × Surroundings) (want : Want) → v.bank ≡ w.bank
+    → length a.words ≡ length b.words
     → tile_step d t v a Bank c ≡ Some p → tile_step d t w b Bank c ≡ Some q → bank_wants (tiles_of d.shape) t v.bank c ≡ Some want
     → SameWhereWanted a b (bank_wiring d.shape t) want → SameWhereWanted p.1 q.1 (bank_wiring d.shape t) want
 bank_ends d t v w a b c p q want same size h k wanted alike =

@@ -1,5 +1,6 @@
 -- Facts of what a processor sends.
-use Rattle.std.proofs.Common.{◌≡◌, ◌≢◌, ℕ, zero, suc, is_none, ◌+◌, ◌*◌, ◌<◌, ◌==◌, Bool, true, cond, List, [], ◌∷◌, length, Option, Some, None, All, refl, sym, ◌∙◌, ap, arith, slice_get, slice_index_or, slice_set, get_or}
+use Rattle.std.proofs.Common.{◌≡◌, ◌≢◌, ℕ, zero, suc, is_none, ◌+◌, ◌*◌, ◌<◌, ◌==◌, Bool, true, cond, List, [], ◌∷◌, length, Option, Some, None, All, refl}
+use Rattle.std.proofs.Common.{sym, ◌∙◌, ap, arith, slice_get, slice_index_or, slice_set, get_or}
 use Rattle.std.specs.Prelude.{◌&&◌, count_by, fold}
 use Rattle.std.proofs.lemmas.List.Elements.{All-head}
 use Rattle.std.proofs.lemmas.Option.{option_and_then_some, slice_get-get_or}
@@ -12,11 +13,11 @@ use Rattle.packet.specs.Spelling.{Spells, values_of}
 use Rattle.packet.proofs.Shapes.{flits_above_zero, length-spelled}
 use Rattle.packet.specs.declared.kinds.Reply.{Reply as Reply'}
 use Rattle.script.specs.declared.line.Line.{Line}
-use Rattle.net_interface.specs.declared.spin.OpenSpin.{OpenSpin}
+use Rattle.script_follower.specs.declared.spin.OpenSpin.{OpenSpin}
 use Rattle.tag_table.specs.Tags.{free_tag}
 use Rattle.dateline_route.specs.declared.channel.Channel.{Channel}
-use Rattle.net_interface.specs.Following.{Following, is_finished, next_operation_of, is_empty, ready as next_of}
-use Rattle.net_interface.specs.ProcessorRecord.{ProcessorRecord, ready}
+use Rattle.script_follower.specs.Following.{Following, is_finished, next_operation_of, is_empty, ready as next_of}
+use Rattle.script_follower.specs.ProcessorRecord.{ProcessorRecord, ready}
 use Rattle.packet.specs.Flits.{flits_of}
 use Rattle.channel_number.specs.Ports.{injection_channel}
 use Rattle.core_laws.proofs.Projection.{first_flit}
@@ -32,19 +33,24 @@ pub injection_class : (s : Shape) (t u : ℕ) (c e : Class) → injection_channe
 injection_class s t u c e h = ap (λ (x : Channel). x.class) (sym (injection_is s t c) ∙ (ap (channel_at s) h ∙ injection_is s u e))
 
 -- what a processor has ready
-pub ready_parts : (b : ProcessorRecord) (tag : ℕ) (o : Operation) → ready b ≡ Some (tag, o) → (next_operation_of b.following ≡ Some o) × (slice_get b.tags tag ≡ Some None)
+pub ready_parts : (b : ProcessorRecord) (tag : ℕ) (o : Operation) → ready b ≡ Some (tag, o)
+    → (next_operation_of b.following ≡ Some o) × (slice_get b.tags tag ≡ Some None)
 ready_parts b tag o h = option_and_then_some _ (next_operation_of b.following) (tag, o) h (λ p is_p f.
     let k = option_map_some (λ (k : ℕ). (k, p)) (free_tag b.tags) (tag, o) f in
     let free = position-Some is_none b.tags k.0 None k.1 in
     let same_tag : k.0 ≡ tag = ap (λ (z : ℕ × Operation). z.0) k.2 in
-    let same : p ≡ o = ap (λ (z : ℕ × Operation). z.1) k.2 in
-    (is_p ∙ ap Some same, ap (slice_get b.tags) (sym same_tag) ∙ (slice_get-get_or b.tags k.0 None free.0 ∙ ap Some (is_none_only (get_or b.tags k.0 None) free.1))))
+    let same : p ≡ o = ap (λ (z : ℕ × Operation). z.1) k.2 in (
+      is_p ∙ ap Some same,
+      ap (slice_get b.tags) (sym same_tag)
+          ∙ (slice_get-get_or b.tags k.0 None free.0 ∙ ap Some (is_none_only (get_or b.tags k.0 None) free.1)),
+    ))
   where
     is_none_only : {A : Type 0} (o : Option A) → is_none o ≡ true → o ≡ None
     is_none_only None h = refl
     is_none_only (Some x) h = absurd (cc)
 
-ended_parts : (spin : Option OpenSpin) (ahead : List Line) (last : Option Reply') (waiting : Bool) (o : Operation) → is_empty ahead && is_none spin && waiting ≡ true → next_of spin ahead last ≡ Some o → ⊥
+ended_parts : (spin : Option OpenSpin) (ahead : List Line) (last : Option Reply') (waiting : Bool) (o : Operation)
+    → is_empty ahead && is_none spin && waiting ≡ true → next_of spin ahead last ≡ Some o → ⊥
 ended_parts (Some x) [] last waiting o h r = cc
 ended_parts (Some x) (l ∷ ahead) last waiting o h r = cc
 ended_parts None [] last waiting o h r = cc
@@ -55,13 +61,15 @@ pub ended : (f : Following) (o : Operation) → is_finished f ≡ true → next_
 unfolding is_finished next_operation_of
 ended f o h r = ended_parts f.spin f.ahead f.last (f.waiting == 0) o h r
 
-fold_set : {A B : Type 0} (f : B → A → B) (b : B) (xs : List A) (k : ℕ) (y d : A) → ((c : B) → f c y ≡ f c (slice_index_or xs k d)) → fold f b (slice_set xs k y) ≡ fold f b xs
+fold_set : {A B : Type 0} (f : B → A → B) (b : B) (xs : List A) (k : ℕ) (y d : A) → ((c : B) → f c y ≡ f c (slice_index_or xs k d))
+    → fold f b (slice_set xs k y) ≡ fold f b xs
 fold_set f b [] k y d h = refl
 fold_set f b (x ∷ xs) zero y d h = ap (λ c. fold f c xs) (h b)
 fold_set f b (x ∷ xs) (suc k) y d h = fold_set f (f b x) xs k y d h
 
 -- how many pass, where one is replaced by one alike
-pub count_set : {A : Type 0} (test : A → Bool) (xs : List A) (k : ℕ) (y d : A) → test y ≡ test (slice_index_or xs k d) → count_by test (slice_set xs k y) ≡ count_by test xs
+pub count_set : {A : Type 0} (test : A → Bool) (xs : List A) (k : ℕ) (y d : A) → test y ≡ test (slice_index_or xs k d)
+    → count_by test (slice_set xs k y) ≡ count_by test xs
 count_set test xs k y d h = fold_set (λ (n : ℕ) x. n + cond {A = ℕ} (test x) 1 0) 0 xs k y d (λ n. ap (λ (b : Bool). n + cond {A = ℕ} b 1 0) h)
 
 -- the first flit of a packet isn't 0

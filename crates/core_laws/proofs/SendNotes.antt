@@ -6,11 +6,11 @@ use Rattle.std.proofs.lemmas.List.Elements.{filter-append, All-push}
 use Rattle.torus.specs.Shape.{tiles_of}
 use Rattle.packet.specs.declared.kinds.Operation.{Operation}
 use Rattle.packet.specs.declared.kinds.Request.{Request as Asking}
-use Rattle.runs.specs.Observed.{list_at}
-use Rattle.runs.specs.Events.{push_at}
-use Rattle.runs.proofs.Lists.{list_at_push_same, list_at_push_other}
-use Rattle.net_interface.specs.ProcessorRecord.{request_of}
-use Rattle.tile.specs.Tile.{Design}
+use Rattle.one_order.specs.Observed.{list_at}
+use Rattle.one_order.specs.Events.{push_at}
+use Rattle.one_order.proofs.Lists.{list_at_push_same, list_at_push_other}
+use Rattle.script_follower.specs.ProcessorRecord.{request_of}
+use Rattle.tile_laws.specs.Tile.{Design}
 use Rattle.core_laws.specs.Core.{State}
 use Rattle.core_laws.proofs.Stands.{Ghost, Carries, IsProperRequest, tile_at, asked_between, served_requests}
 
@@ -29,7 +29,8 @@ module _ (d : Design) (s : State) (g : Ghost) (carries : Carries d s g) (t : ℕ
       (λ (e : p ≡ t). subst (λ (q : ℕ). All (λ r. IsProperRequest d r × (r.source ≡ q)) (list_at requests q)) (sym e)
       (subst (λ (rs : List Asking). All (λ r. IsProperRequest d r × (r.source ≡ t)) rs) (sym (list_at_push_same g.requests t asks requests_in))
       (All-push (λ r. IsProperRequest d r × (r.source ≡ t)) (list_at g.requests t) asks (carries.requests_proper t) (proper, refl))))
-      (λ (other : p ≢ t). subst (λ (rs : List Asking). All (λ r. IsProperRequest d r × (r.source ≡ p)) rs) (sym (list_at_push_other g.requests t p asks other)) (carries.requests_proper p))
+      (λ (other : p ≢ t). subst (λ (rs : List Asking). All (λ r. IsProperRequest d r × (r.source ≡ p)) rs) (sym (list_at_push_other g.requests t p asks other))
+      (carries.requests_proper p))
       (cases_eq p t)
 
   pub asked_here : (p b : ℕ) → p < tiles_of d.shape → b < tiles_of d.shape → asked_between p b (list_at requests p)

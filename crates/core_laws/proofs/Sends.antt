@@ -1,5 +1,6 @@
 -- A processor sends a head flit: what holds of every reached state is kept.
-use Rattle.std.proofs.Common.{◌≡◌, ◌≢◌, ⊎_elim, ℕ, ◌-◌, ◌/◌, ◌%◌, ◌<◌, true, List, [], ◌∷◌, ◌++◌, map, length, Some, None, refl, sym, ◌∙◌, ap, ap₂, subst, slice_get, slice_index_or, slice_set, append-nil, length-set, get_or-set_same, get_or-set_other}
+use Rattle.std.proofs.Common.{◌≡◌, ◌≢◌, ⊎_elim, ℕ, ◌-◌, ◌/◌, ◌%◌, ◌<◌, true, List, [], ◌∷◌, ◌++◌, map, length, Some, None, refl, sym, ◌∙◌, ap, ap₂, subst}
+use Rattle.std.proofs.Common.{slice_get, slice_index_or, slice_set, append-nil, length-set, get_or-set_same, get_or-set_other}
 use Rattle.std.proofs.lemmas.Bool.{cases_eq}
 use Rattle.std.proofs.lemmas.List.{map-append, map-set, get_or-map, length-map}
 use Rattle.std.proofs.lemmas.Option.{slice_get-get_or}
@@ -10,11 +11,11 @@ use Rattle.packet.specs.declared.kinds.Operation.{Operation}
 use Rattle.packet.specs.declared.kinds.Packet.TheVariants as packet
 use Rattle.packet.specs.declared.kinds.Request.{Request as Asking}
 use Rattle.channel_number.specs.Order.{channel_count}
-use Rattle.net_interface.specs.Following.{next_operation_of}
-use Rattle.runs.specs.Observed.{list_at}
-use Rattle.runs.specs.Order.{LinearizationPoint}
-use Rattle.runs.specs.Events.{push_at}
-use Rattle.runs.proofs.Lists.{list_at_push_same, list_at_push_other}
+use Rattle.script_follower.specs.Following.{next_operation_of}
+use Rattle.one_order.specs.Observed.{list_at}
+use Rattle.one_order.specs.Order.{LinearizationPoint}
+use Rattle.one_order.specs.Events.{push_at}
+use Rattle.one_order.proofs.Lists.{list_at_push_same, list_at_push_other}
 use Rattle.flit_buffer.specs.Channel.{rest}
 use Rattle.flit_buffer.specs.Places.{Ring, IsRing, put_in_ring}
 use Rattle.flit_buffer.specs.Surroundings.{ring, changed, AreRings}
@@ -26,14 +27,14 @@ use Rattle.wormhole.specs.Events.{InjectHead, CanInjectHead, after, put}
 use Rattle.wormhole.specs.Delivery.{whole, whole_of}
 use Rattle.wormhole.proofs.Changes.{update_same, update_other}
 use Rattle.wormhole.proofs.Reached.{words_kept, routes_kept}
-use Rattle.net_interface.specs.ProcessorRecord.{ProcessorRecord, no_processor, ready, issued_by, request_of}
-use Rattle.flights.specs.Flight.{Flight, Sends, moved, IsFound}
-use Rattle.flights.proofs.Whole.{Whole, sends_steps, address_is}
+use Rattle.script_follower.specs.ProcessorRecord.{ProcessorRecord, no_processor, ready, issued_by, request_of}
+use Rattle.order_abstract.specs.Flight.{Flight, Sends, moved, IsFound}
+use Rattle.order_abstract.proofs.Whole.{Whole, sends_steps, address_is}
 use Rattle.packet.specs.Flits.{flits_of}
 use Rattle.router.specs.Table.{RouterState, output_owned}
 use Rattle.home_bank.specs.BankTable.{BankState}
 use Rattle.channel_number.specs.Ports.{injection_channel}
-use Rattle.tile.specs.Tile.{Design, TileState}
+use Rattle.tile_laws.specs.Tile.{Design, TileState}
 use Rattle.core_laws.specs.Core.{State, records_of}
 use Rattle.core_laws.proofs.Projection.{net_of, parcel_of, request_parcel, first_flit}
 use Rattle.core_laws.proofs.Parcels.{request_ends}
@@ -44,7 +45,8 @@ use Rattle.core_laws.proofs.Stands.{Ghost, Stands, Mirrors, Carries, Reported, I
 use Rattle.core_laws.proofs.SendFacts.{injection_tile, injection_class, ready_parts, ended, count_set, head_some}
 use Rattle.core_laws.proofs.SendNotes.{proper_all, asked_here}
 
-module _ (d : Design) (net : IsNet (net_of d)) (tags : ℕ) (opening : List ℕ) (s : State) (g : Ghost) (order : List LinearizationPoint) (st : Stands d tags opening s g order)
+module _ (d : Design) (net : IsNet (net_of d)) (tags : ℕ) (opening : List ℕ) (s : State) (g : Ghost) (order : List LinearizationPoint)
+    (st : Stands d tags opening s g order)
     (t : ℕ) (t_in : t < tiles_of d.shape) (tag : ℕ) (o : Operation) where
   abbrev pub asks : Asking
   asks = request_of (tiles_of d.shape) t tag o
@@ -56,7 +58,10 @@ module _ (d : Design) (net : IsNet (net_of d)) (tags : ℕ) (opening : List ℕ)
   parcel = request_parcel d.shape asks
 
   abbrev pub sent_tile : TileState
-  sent_tile = record (tile_at s t) { processor = record ((tile_at s t).processor) { operations = issued_by (tile_at s t).processor.operations tag o; to_put = rest (flits_of (packet.Request asks)) } }
+  sent_tile = record (tile_at s t) {
+    processor = record ((tile_at s t).processor)
+        { operations = issued_by (tile_at s t).processor.operations tag o; to_put = rest (flits_of (packet.Request asks)) };
+  }
 
   -- the state after the head flit of an operation's request is sent
   abbrev pub sent_state : State
@@ -94,16 +99,19 @@ module _ (d : Design) (net : IsNet (net_of d)) (tags : ℕ) (opening : List ℕ)
   -- a part of the lines that stays
   pub line_kept : {A : Type 0} (f : Lane → A) → f new_line ≡ f (g.net.lines lane) → (x : ℕ) → f (sent_ghost.net.lines x) ≡ f (g.net.lines x)
   line_kept f same x = ⊎_elim
-      (λ (e : x ≡ lane). ap (λ (y : ℕ). f (sent_ghost.net.lines y)) e ∙ (ap f (update_same g.net.lines lane new_line) ∙ (same ∙ ap (λ (y : ℕ). f (g.net.lines y)) (sym e))))
+      (λ (e : x ≡ lane). ap (λ (y : ℕ). f (sent_ghost.net.lines y)) e
+      ∙ (ap f (update_same g.net.lines lane new_line) ∙ (same ∙ ap (λ (y : ℕ). f (g.net.lines y)) (sym e))))
       (λ (other : x ≢ lane). ap f (update_other g.net.lines lane new_line x other))
       (cases_eq x lane)
 
   abbrev pub new_note : Note
-  new_note = record (g.net.notes lane) { parcels = (g.net.notes lane).parcels ++ parcel ∷ []; owed = parcel.tail; sent = (g.net.notes lane).sent ++ parcel ∷ [] }
+  new_note = record (g.net.notes lane)
+      { parcels = (g.net.notes lane).parcels ++ parcel ∷ []; owed = parcel.tail; sent = (g.net.notes lane).sent ++ parcel ∷ [] }
 
   pub note_kept : {A : Type 0} (f : Note → A) → f new_note ≡ f (g.net.notes lane) → (x : ℕ) → f (sent_ghost.net.notes x) ≡ f (g.net.notes x)
   note_kept f same x = ⊎_elim
-      (λ (e : x ≡ lane). ap (λ (y : ℕ). f (sent_ghost.net.notes y)) e ∙ (ap f (update_same g.net.notes lane new_note) ∙ (same ∙ ap (λ (y : ℕ). f (g.net.notes y)) (sym e))))
+      (λ (e : x ≡ lane). ap (λ (y : ℕ). f (sent_ghost.net.notes y)) e
+      ∙ (ap f (update_same g.net.notes lane new_note) ∙ (same ∙ ap (λ (y : ℕ). f (g.net.notes y)) (sym e))))
       (λ (other : x ≢ lane). ap f (update_other g.net.notes lane new_note x other))
       (cases_eq x lane)
 
@@ -143,7 +151,8 @@ module _ (d : Design) (net : IsNet (net_of d)) (tags : ℕ) (opening : List ℕ)
         let here : ring sent_state.around.rings lane ≡ put_in_ring head (ring s.around.rings lane) = changed_here s.around lane (put_in_ring head) lane_here in
         let line : sent_ghost.net.lines lane ≡ new_line = update_same g.net.lines lane new_line in
         record {
-          flits = ap (λ (l : Lane). l.flits) line ∙ (ap₂ (λ (xs : List ℕ) (f : ℕ). xs ++ f ∷ []) old.flits parcel_is.0 ∙ ap (λ (r : Ring). r.channel.flits) (sym here));
+          flits = ap (λ (l : Lane). l.flits) line
+              ∙ (ap₂ (λ (xs : List ℕ) (f : ℕ). xs ++ f ∷ []) old.flits parcel_is.0 ∙ ap (λ (r : Ring). r.channel.flits) (sym here));
           held = ap (λ (l : Lane). l.held) line ∙ (ap (λ (n : ℕ). n - 1) old.held ∙ ap (λ (r : Ring). r.channel.held) (sym here));
           returning = ap (λ (l : Lane). l.returning) line ∙ (old.returning ∙ ap (λ (r : Ring). r.channel.returning) (sym here));
         }
@@ -160,9 +169,11 @@ module _ (d : Design) (net : IsNet (net_of d)) (tags : ℕ) (opening : List ℕ)
     rest_sent u u_in = ⊎_elim
         (λ (e : u ≡ t).
         ap (λ (v : ℕ). (sent_ghost.net.lines (injection_channel d.shape v Request)).rest) e
-        ∙ (ap (λ (l : Lane). l.rest) (update_same g.net.lines lane new_line) ∙ (parcel_is.1 ∙ (ap (λ (x : TileState). x.processor.to_put) (sym tile_new) ∙ ap (λ (v : ℕ). (tile_at sent_state v).processor.to_put) (sym e)))))
+        ∙ (ap (λ (l : Lane). l.rest) (update_same g.net.lines lane new_line)
+        ∙ (parcel_is.1 ∙ (ap (λ (x : TileState). x.processor.to_put) (sym tile_new) ∙ ap (λ (v : ℕ). (tile_at sent_state v).processor.to_put) (sym e)))))
         (λ (other : u ≢ t).
-        ap (λ (l : Lane). l.rest) (update_other g.net.lines lane new_line (injection_channel d.shape u Request) (λ e. other (injection_tile d.shape u t Request Request e)))
+        ap (λ (l : Lane). l.rest)
+        (update_other g.net.lines lane new_line (injection_channel d.shape u Request) (λ e. other (injection_tile d.shape u t Request Request e)))
         ∙ (st.mirrors.sends_requests u u_in ∙ ap (λ (x : TileState). x.processor.to_put) (sym (tile_other u other))))
         (cases_eq u t)
 
@@ -174,14 +185,22 @@ module _ (d : Design) (net : IsNet (net_of d)) (tags : ℕ) (opening : List ℕ)
       count = length-set s.around.rings lane _ ∙ st.mirrors.count;
       rings = new_lanes;
       ports = λ u h. let r = part_kept (λ (x : TileState). x.router) refl u in rw r (st.mirrors.ports u h);
-      latches = λ u i h l. let r = part_kept (λ (x : TileState). x.router) refl u in rw r (line_kept (λ (x : Lane). x.latch) refl _ ∙ st.mirrors.latches u i h l);
-      owners = λ u i p h l m. let r = part_kept (λ (x : TileState). x.router) refl u in rw (r, line_kept (λ (x : Lane). x.owner) refl _) (st.mirrors.owners u i p h l m);
-      unowned = λ u p h l none. let r = part_kept (λ (x : TileState). x.router) refl u in line_kept (λ (x : Lane). x.owner) refl _ ∙ st.mirrors.unowned u p h l (λ i owns. none i (ap (λ (x : RouterState). output_owned x i) r ∙ owns));
-      outputs = λ u i p h owns. let r = part_kept (λ (x : TileState). x.router) refl u in st.mirrors.outputs u i p h (ap (λ (x : RouterState). output_owned x i) (sym r) ∙ owns);
+      latches = λ u i h l. let r = part_kept (λ (x : TileState). x.router) refl u in
+          rw r (line_kept (λ (x : Lane). x.latch) refl _ ∙ st.mirrors.latches u i h l);
+      owners = λ u i p h l m. let r = part_kept (λ (x : TileState). x.router) refl u in
+          rw (r, line_kept (λ (x : Lane). x.owner) refl _) (st.mirrors.owners u i p h l m);
+      unowned = λ u p h l none. let r = part_kept (λ (x : TileState). x.router) refl u in
+          line_kept (λ (x : Lane). x.owner) refl _ ∙ st.mirrors.unowned u p h l (λ i owns. none i (ap (λ (x : RouterState). output_owned x i) r ∙ owns));
+      outputs = λ u i p h owns. let r = part_kept (λ (x : TileState). x.router) refl u in
+          st.mirrors.outputs u i p h (ap (λ (x : RouterState). output_owned x i) (sym r) ∙ owns);
       sends_requests = rest_sent;
-      sends_replies = λ u h. let b = part_kept (λ (x : TileState). x.bank) refl u in rw b (ap (λ (l : Lane). l.rest) (update_other g.net.lines lane new_line (injection_channel d.shape u Reply) (reply_apart u)) ∙ st.mirrors.sends_replies u h);
-      takes_replies = λ u h. line_kept (λ (x : Lane). x.so_far) refl _ ∙ (st.mirrors.takes_replies u h ∙ sym (part_kept (λ (x : TileState). x.processor.so_far) refl u));
-      takes_requests = λ u h. let b = part_kept (λ (x : TileState). x.bank) refl u in rw b (line_kept (λ (x : Lane). x.so_far) refl _ ∙ st.mirrors.takes_requests u h);
+      sends_replies = λ u h. let b = part_kept (λ (x : TileState). x.bank) refl u in
+          rw b (ap (λ (l : Lane). l.rest) (update_other g.net.lines lane new_line (injection_channel d.shape u Reply) (reply_apart u))
+          ∙ st.mirrors.sends_replies u h);
+      takes_replies = λ u h. line_kept (λ (x : Lane). x.so_far) refl _
+          ∙ (st.mirrors.takes_replies u h ∙ sym (part_kept (λ (x : TileState). x.processor.so_far) refl u));
+      takes_requests = λ u h. let b = part_kept (λ (x : TileState). x.bank) refl u in
+          rw b (line_kept (λ (x : Lane). x.so_far) refl _ ∙ st.mirrors.takes_requests u h);
     }
 
     whole_kept : (x : ℕ) → whole sent_ghost.net x ≡ whole g.net x
@@ -190,14 +209,16 @@ module _ (d : Design) (net : IsNet (net_of d)) (tags : ℕ) (opening : List ℕ)
     requests_in : t < length g.requests
     requests_in = subst (λ (n : ℕ). t < n) (sym st.carries.processors) t_in
 
-    sent_here : (p : ℕ) → p < tiles_of d.shape → (sent_ghost.net.notes (injection_channel d.shape p Request)).sent ≡ map (request_parcel d.shape) (list_at sent_ghost.requests p)
+    sent_here : (p : ℕ) → p < tiles_of d.shape
+        → (sent_ghost.net.notes (injection_channel d.shape p Request)).sent ≡ map (request_parcel d.shape) (list_at sent_ghost.requests p)
     sent_here p p_in = ⊎_elim
         (λ (e : p ≡ t).
         ap (λ (q : ℕ). (sent_ghost.net.notes (injection_channel d.shape q Request)).sent) e
         ∙ (ap (λ (k : Note). k.sent) (update_same g.net.notes lane new_note)
         ∙ (ap (λ (ks : List Parcel). ks ++ parcel ∷ []) (st.carries.requests_sent t t_in)
         ∙ (sym (map-append (request_parcel d.shape) (list_at g.requests t) (asks ∷ []))
-        ∙ (ap (map (request_parcel d.shape)) (sym (list_at_push_same g.requests t asks requests_in)) ∙ ap (λ (q : ℕ). map (request_parcel d.shape) (list_at sent_ghost.requests q)) (sym e))))))
+        ∙ (ap (map (request_parcel d.shape)) (sym (list_at_push_same g.requests t asks requests_in))
+        ∙ ap (λ (q : ℕ). map (request_parcel d.shape) (list_at sent_ghost.requests q)) (sym e))))))
         (λ (other : p ≢ t).
         ap (λ (k : Note). k.sent) (note_other (injection_channel d.shape p Request) (λ e. other (injection_tile d.shape p t Request Request e)))
         ∙ (st.carries.requests_sent p p_in ∙ ap (map (request_parcel d.shape)) (sym (list_at_push_other g.requests t p asks other))))
@@ -210,19 +231,24 @@ module _ (d : Design) (net : IsNet (net_of d)) (tags : ℕ) (opening : List ℕ)
       requests_sent = sent_here;
       requests_proper = proper_all d s g st.carries t t_in tag o proper;
       requests_whole = λ b h. let k = part_kept (λ (x : TileState). x.bank) refl b in rw k (whole_kept _ ∙ st.carries.requests_whole b h);
-      waiting_proper = λ b r waits. st.carries.waiting_proper b r (ap (λ (x : BankState). x.waiting) (sym (part_kept (λ (x : TileState). x.bank) refl b)) ∙ waits);
+      waiting_proper = λ b r waits. st.carries.waiting_proper b r
+          (ap (λ (x : BankState). x.waiting) (sym (part_kept (λ (x : TileState). x.bank) refl b)) ∙ waits);
       asked = λ p b h l. let k = part_kept (λ (x : TileState). x.bank) refl b in rw k (asked_here d s g st.carries t t_in tag o p b h l);
-      replies_sent = λ b h. let k = part_kept (λ (x : TileState). x.bank) refl b in rw (k, note_other (injection_channel d.shape b Reply) (reply_apart b)) (st.carries.replies_sent b h);
+      replies_sent = λ b h. let k = part_kept (λ (x : TileState). x.bank) refl b in
+          rw (k, note_other (injection_channel d.shape b Reply) (reply_apart b)) (st.carries.replies_sent b h);
       replies_proper = λ b h. let k = part_kept (λ (x : TileState). x.bank) refl b in rw k (st.carries.replies_proper b h);
       replies_whole = λ p h. whole_kept _ ∙ st.carries.replies_whole p h;
       told = λ b p h l. let k = part_kept (λ (x : TileState). x.bank) refl b in rw k (st.carries.told b p h l);
       issued = λ p. ⊎_elim
           (λ (e : p ≡ t).
           let A : Asking → Operation = operation_asked (tiles_of d.shape) in
-          let asked_is : A asks ≡ o = ap (λ (a : ℕ). record { address = a; op = o.op }) (address_is (tiles_of d.shape) o.address (o.address / tiles_of d.shape) (o.address % tiles_of d.shape) refl refl) in
+          let asked_is : A asks ≡ o =
+          ap (λ (a : ℕ). record { address = a; op = o.op })
+          (address_is (tiles_of d.shape) o.address (o.address / tiles_of d.shape) (o.address % tiles_of d.shape) refl refl) in
           subst (λ (v : ℕ). map A (list_at sent_ghost.requests v) ≡ (tile_at sent_state v).processor.operations.issued) (sym e)
           (ap (map A) (list_at_push_same g.requests t asks requests_in) ∙ (map-append A (list_at g.requests t) (asks ∷ [])
-          ∙ (ap₂ (λ (xs : List Operation) (x : Operation). xs ++ x ∷ []) (st.carries.issued t) asked_is ∙ sym (ap (λ (w : TileState). w.processor.operations.issued) tile_new)))))
+          ∙ (ap₂ (λ (xs : List Operation) (x : Operation). xs ++ x ∷ []) (st.carries.issued t) asked_is
+          ∙ sym (ap (λ (w : TileState). w.processor.operations.issued) tile_new)))))
           (λ (other : p ≢ t). ap (map (operation_asked (tiles_of d.shape))) (list_at_push_other g.requests t p asks other)
           ∙ (st.carries.issued p ∙ sym (ap (λ (w : TileState). w.processor.operations.issued) (tile_other p other))))
           (cases_eq p t);
@@ -256,7 +282,8 @@ module _ (d : Design) (net : IsNet (net_of d)) (tags : ℕ) (opening : List ℕ)
 
       sent_records : Whole (tiles_of d.shape) tags opening (flight_of d.words sent_state sent_ghost) order
       sent_records = subst (λ (f : Flight). Whole (tiles_of d.shape) tags opening f order) (sym sent_flight)
-          (subst (λ (xs : List LinearizationPoint). Whole (tiles_of d.shape) tags opening (moved (tiles_of d.shape) (flight_of d.words s g) (Sends t tag o)) xs) (append-nil order)
+          (subst (λ (xs : List LinearizationPoint). Whole (tiles_of d.shape) tags opening (moved (tiles_of d.shape) (flight_of d.words s g) (Sends t tag o)) xs)
+          (append-nil order)
           (sends_steps (tiles_of d.shape) tags opening (flight_of d.words s g) order t tag o 0 st.flight sent_found).whole)
 
       unreported : (tile_at s t).processor.reported ≡ true → ⊥
@@ -266,7 +293,8 @@ module _ (d : Design) (net : IsNet (net_of d)) (tags : ℕ) (opening : List ℕ)
       sent_reported = record {
         counts = st.reported.counts ∙ sym (count_set (λ (x : TileState). x.processor.reported) s.tiles t sent_tile no_tile refl);
         finished = λ u h. ⊎_elim
-            (λ (e : u ≡ t). absurd (unreported (ap (λ (v : ℕ). (tile_at s v).processor.reported) (sym e) ∙ (sym (part_kept (λ (x : TileState). x.processor.reported) refl u) ∙ h))))
+            (λ (e : u ≡ t). absurd (unreported
+            (ap (λ (v : ℕ). (tile_at s v).processor.reported) (sym e) ∙ (sym (part_kept (λ (x : TileState). x.processor.reported) refl u) ∙ h))))
             (λ (other : u ≢ t). let k = tile_other u other in rw k (st.reported.finished u (ap (λ (x : TileState). x.processor.reported) (sym k) ∙ h)))
             (cases_eq u t);
         seen = λ u h. st.reported.seen u (sym (part_kept (λ (x : TileState). x.processor.seen) refl u) ∙ h);
@@ -279,7 +307,8 @@ module _ (d : Design) (net : IsNet (net_of d)) (tags : ℕ) (opening : List ℕ)
           (λ (e : x ≡ lane). subst (λ (y : ℕ). IsRing d.depth (ring sent_state.around.rings y)) (sym e)
           (subst (λ (r : Ring). IsRing d.depth r) (sym (changed_here s.around lane (put_in_ring head) lane_here))
           (put_ring d.depth (ring s.around.rings lane) (st.rings lane lane_here) head (head_some (packet.Request asks) proper.spelled) credit)))
-          (λ (other : x ≢ lane). subst (λ (r : Ring). IsRing d.depth r) (sym (changed_other s.around lane (put_in_ring head) x other)) (st.rings x (subst (λ (n : ℕ). x < n) count within)))
+          (λ (other : x ≢ lane). subst (λ (r : Ring). IsRing d.depth r) (sym (changed_other s.around lane (put_in_ring head) x other))
+          (st.rings x (subst (λ (n : ℕ). x < n) count within)))
           (cases_eq x lane)
 
       -- What holds of every reached state is kept by the send of a head flit.

@@ -1,5 +1,7 @@
 -- A bank serves the request that waits: what holds of every reached state is kept.
-use Rattle.std.proofs.Common.{◌≡◌, ◌≢◌, ⊎_elim, ℕ, ◌+◌, ◌*◌, ◌/◌, ◌<◌, ◌==◌, Bool, true, false, cond, List, [], ◌∷◌, ◌++◌, map, length, take, Option, Some, None, All, refl, sym, ◌∙◌, ap, ap₂, subst, arith, slice_get, slice_index, slice_set, append_assoc, append-nil, eq-eqb, length-set, get_or-set_same, get_or-set_other}
+use Rattle.std.proofs.Common.{◌≡◌, ◌≢◌, ⊎_elim, ℕ, ◌+◌, ◌*◌, ◌/◌, ◌<◌, ◌==◌, Bool, true, false, cond, List, [], ◌∷◌, ◌++◌, map, length, take, Option, Some}
+use Rattle.std.proofs.Common.{None, All, refl, sym, ◌∙◌, ap, ap₂, subst, arith, slice_get, slice_index, slice_set, append_assoc, append-nil, eq-eqb}
+use Rattle.std.proofs.Common.{length-set, get_or-set_same, get_or-set_other}
 use Rattle.std.specs.Prelude.{remove, ◌&&◌, option_to_list}
 use Rattle.std.proofs.lemmas.Bool.{cases_eq, ne_eqb}
 use Rattle.std.proofs.lemmas.List.{map-append, get_or-take}
@@ -16,21 +18,21 @@ use Rattle.packet.specs.declared.kinds.Reply.{Reply as Answering}
 use Rattle.packet.specs.Memory.{new_word, reply_to}
 use Rattle.home_bank.specs.declared.entry.Entry.{Entry}
 use Rattle.home_bank.specs.ServiceList.{address_of, entry_of, response_of}
-use Rattle.runs.specs.Observed.{list_at}
-use Rattle.runs.specs.Order.{LinearizationPoint}
-use Rattle.runs.specs.Events.{points_of}
+use Rattle.one_order.specs.Observed.{list_at}
+use Rattle.one_order.specs.Order.{LinearizationPoint}
+use Rattle.one_order.specs.Events.{points_of}
 use Rattle.wormhole.specs.Net.{IsNet, Parcel}
 use Rattle.wormhole.specs.Delivery.{whole}
-use Rattle.flights.specs.Flight.{Flight, Serves, moved, event, is_asked_alike, asked_place, reply_given, IsFound}
-use Rattle.flights.proofs.Whole.{Whole, any_steps}
-use Rattle.flights.proofs.FirstPlaces.{first_removed}
+use Rattle.order_abstract.specs.Flight.{Flight, Serves, moved, event, is_asked_alike, asked_place, reply_given, IsFound}
+use Rattle.order_abstract.proofs.Whole.{Whole, any_steps}
+use Rattle.order_abstract.proofs.FirstPlaces.{first_removed}
 use Rattle.packet.specs.Flits.{flits_of}
 use Rattle.core_laws.specs.Heads.{is_head}
 use Rattle.home_bank.specs.BankTable.{BankState}
-use Rattle.net_interface.specs.ProcessorTable.{ProcessorState}
+use Rattle.script_follower.specs.ProcessorTable.{ProcessorState}
 use Rattle.router.specs.Table.{RouterState, output_owned}
 use Rattle.channel_number.specs.Ports.{injection_channel, ejection_channel}
-use Rattle.tile.specs.Tile.{Design, TileState}
+use Rattle.tile_laws.specs.Tile.{Design, TileState}
 use Rattle.core_laws.specs.Core.{State, records_of, show}
 use Rattle.core_laws.proofs.Projection.{net_of, request_parcel, response_parcel, first_flit}
 use Rattle.core_laws.proofs.TileMoves.{IsHere, TileMoved}
@@ -38,10 +40,13 @@ use Rattle.core_laws.proofs.FlightSteps.{entries_in, moved_flight, part_at}
 use Rattle.core_laws.proofs.ServesFound.{serves_found, waiting_first}
 use Rattle.core_laws.proofs.SendFacts.{count_set}
 use Rattle.core_laws.specs.Delivery.{notice_by}
-use Rattle.core_laws.proofs.Stands.{Ghost, Stands, Mirrors, Carries, Reported, IsInPhase, IsProperRequest, IsProperResponse, tile_at, no_tile, flight_of, in_course, asked_between, told_between, served_requests, request_of_entry, response_of_entry, responses_from, last_of, unsent}
+use Rattle.core_laws.proofs.Stands.{Ghost, Stands, Mirrors, Carries, Reported, IsInPhase, IsProperRequest, IsProperResponse, tile_at, no_tile, flight_of}
+use Rattle.core_laws.proofs.Stands.{in_course, asked_between, told_between, served_requests, request_of_entry, response_of_entry, responses_from, last_of}
+use Rattle.core_laws.proofs.Stands.{unsent}
 use Rattle.core_laws.proofs.ResponseLists.{responses_push, last_push, filter_removed, no_head, first_is_head}
 
-module _ (d : Design) (net : IsNet (net_of d)) (tags : ℕ) (opening : List ℕ) (s : State) (g : Ghost) (order : List LinearizationPoint) (st : Stands d tags opening s g order)
+module _ (d : Design) (net : IsNet (net_of d)) (tags : ℕ) (opening : List ℕ) (s : State) (g : Ghost) (order : List LinearizationPoint)
+    (st : Stands d tags opening s g order)
     (t : ℕ) (t_in : t < tiles_of d.shape) (r : Asking) (waits : (tile_at s t).bank.waiting ≡ Some r) where
   abbrev tiles : ℕ
   tiles = tiles_of d.shape
@@ -65,11 +70,15 @@ module _ (d : Design) (net : IsNet (net_of d)) (tags : ℕ) (opening : List ℕ)
   q = response_of t (length b.entries) r reply
 
   abbrev served_tile : TileState
-  served_tile = record (tile_at s t) { bank = record { entries = b.entries ++ e ∷ []; so_far = b.so_far; waiting = None; to_put = flits_of (packet.Response q) } }
+  served_tile = record (tile_at s t)
+      { bank = record { entries = b.entries ++ e ∷ []; so_far = b.so_far; waiting = None; to_put = flits_of (packet.Response q) } }
 
   -- the state after the service, and what is noted then
   abbrev pub served_state : State
-  served_state = record { tiles = slice_set s.tiles t served_tile; around = record { rings = s.around.rings; words = slice_set m a (new_word r.op (slice_index m a)) } }
+  served_state = record {
+    tiles = slice_set s.tiles t served_tile;
+    around = record { rings = s.around.rings; words = slice_set m a (new_word r.op (slice_index m a)) };
+  }
 
   abbrev pub served_ghost : Ghost
   served_ghost = record { net = g.net; asked = remove g.asked (asked_place g.asked r); told = g.told ++ q ∷ []; requests = g.requests; taken = g.taken }
@@ -119,11 +128,14 @@ module _ (d : Design) (net : IsNet (net_of d)) (tags : ℕ) (opening : List ℕ)
       ports = λ u h. let k = part_kept (λ (w : TileState). w.router) refl u in rw k (st.mirrors.ports u h);
       latches = λ u i h l. let k = part_kept (λ (w : TileState). w.router) refl u in rw k (st.mirrors.latches u i h l);
       owners = λ u i o h l n. let k = part_kept (λ (w : TileState). w.router) refl u in rw k (st.mirrors.owners u i o h l n);
-      unowned = λ u o h l none. let k = part_kept (λ (w : TileState). w.router) refl u in st.mirrors.unowned u o h l (λ i owns. none i (ap (λ (x : RouterState). output_owned x i) k ∙ owns));
-      outputs = λ u i o h owns. let k = part_kept (λ (w : TileState). w.router) refl u in st.mirrors.outputs u i o h (ap (λ (x : RouterState). output_owned x i) (sym k) ∙ owns);
+      unowned = λ u o h l none. let k = part_kept (λ (w : TileState). w.router) refl u in
+          st.mirrors.unowned u o h l (λ i owns. none i (ap (λ (x : RouterState). output_owned x i) k ∙ owns));
+      outputs = λ u i o h owns. let k = part_kept (λ (w : TileState). w.router) refl u in
+          st.mirrors.outputs u i o h (ap (λ (x : RouterState). output_owned x i) (sym k) ∙ owns);
       sends_requests = λ u h. let k = part_kept (λ (w : TileState). w.processor) refl u in rw k (st.mirrors.sends_requests u h);
       sends_replies = by_tile (λ u w. u < tiles_of d.shape → (g.net.lines (injection_channel d.shape u Reply)).rest ≡ in_course w.bank.to_put)
-          (λ h. st.mirrors.sends_replies t h ∙ (ap in_course phase.1 ∙ (ap (λ (x : Bool). cond x [] []) no_head ∙ sym (ap (λ (x : Bool). cond x [] (flits_of (packet.Response q))) starts))))
+          (λ h. st.mirrors.sends_replies t h
+          ∙ (ap in_course phase.1 ∙ (ap (λ (x : Bool). cond x [] []) no_head ∙ sym (ap (λ (x : Bool). cond x [] (flits_of (packet.Response q))) starts))))
           (λ u other h. st.mirrors.sends_replies u h);
       takes_replies = λ u h. let k = part_kept (λ (w : TileState). w.processor) refl u in rw k (st.mirrors.takes_replies u h);
       takes_requests = λ u h. st.mirrors.takes_requests u h ∙ sym (part_kept (λ (w : TileState). w.bank.so_far) refl u);
@@ -132,7 +144,8 @@ module _ (d : Design) (net : IsNet (net_of d)) (tags : ℕ) (opening : List ℕ)
     -- the request of the new entry is the one that waited
     entry_is : request_of_entry tiles t e ≡ r
     entry_is =
-        let word : (t + r.word * tiles) / tiles ≡ r.word = ap (λ (k : ℕ). k / tiles) (let z : t + r.word * tiles ≡ r.word * tiles + t = omega arith in z) ∙ div-mul-add r.word tiles t t_in in
+        let word : (t + r.word * tiles) / tiles ≡ r.word =
+        ap (λ (k : ℕ). k / tiles) (let z : t + r.word * tiles ≡ r.word * tiles + t = omega arith in z) ∙ div-mul-add r.word tiles t t_in in
         ap₂ (λ (x y : ℕ). record { destination = x; source = r.source; tag = r.tag; word = y; op = r.op }) (sym here) word
 
     response_is : response_of_entry t (length b.entries) e ≡ q
@@ -142,7 +155,8 @@ module _ (d : Design) (net : IsNet (net_of d)) (tags : ℕ) (opening : List ℕ)
     served_push = map-append (request_of_entry tiles t) b.entries (e ∷ []) ∙ ap (λ (x : Asking). served_requests tiles t b.entries ++ x ∷ []) entry_is
 
     responses_new : responses_from t 0 (b.entries ++ e ∷ []) ≡ responses_from t 0 b.entries ++ q ∷ []
-    responses_new = responses_push t 0 b.entries e ∙ ap (λ (n : ℕ). responses_from t 0 b.entries ++ response_of_entry t n e ∷ []) (let z : 0 + length b.entries ≡ length b.entries = omega arith in z)
+    responses_new = responses_push t 0 b.entries e
+        ∙ ap (λ (n : ℕ). responses_from t 0 b.entries ++ response_of_entry t n e ∷ []) (let z : 0 + length b.entries ≡ length b.entries = omega arith in z)
 
     is_request : Asking → Asking → Bool
     is_request x y = is_asked_alike x y
@@ -160,25 +174,35 @@ module _ (d : Design) (net : IsNet (net_of d)) (tags : ℕ) (opening : List ℕ)
     served_asked p c p_in c_in = ⊎_elim
         (λ (h : c ≡ t).
         let F : List Asking → List Asking = asked_between p t in
-        let first = waiting_first d net tags opening s g order st r (st.carries.waiting_proper t r waits).0 (ap (λ (k : ℕ). (tile_at s k).bank.waiting) here ∙ waits) in
-        let entries : served_requests tiles t (tile_at served_state t).bank.entries ≡ served_requests tiles t b.entries ++ r ∷ [] = ap (λ (w : TileState). served_requests tiles t w.bank.entries) tile_new ∙ served_push in
+        let first = waiting_first d net tags opening s g order st r (st.carries.waiting_proper t r waits).0
+        (ap (λ (k : ℕ). (tile_at s k).bank.waiting) here ∙ waits) in
+        let entries : served_requests tiles t (tile_at served_state t).bank.entries ≡ served_requests tiles t b.entries ++ r ∷ [] =
+        ap (λ (w : TileState). served_requests tiles t w.bank.entries) tile_new ∙ served_push in
         let left : F (g.asked) ≡ F (r ∷ []) ++ F served_ghost.asked = ⊎_elim
         (λ (k : p ≡ r.source).
         let both : F ≡ asked_between r.source r.destination = ap₂ asked_between k (sym here) in
-        let own : asked_between r.source r.destination (r ∷ []) ≡ r ∷ [] = ap₂ (λ (x y : Bool). cond (x && y) (r ∷ []) []) (eq-eqb r.source r.source refl) (eq-eqb r.destination r.destination refl) in
+        let own : asked_between r.source r.destination (r ∷ []) ≡ r ∷ [] =
+        ap₂ (λ (x y : Bool). cond (x && y) (r ∷ []) []) (eq-eqb r.source r.source refl) (eq-eqb r.destination r.destination refl) in
         let gone : asked_between r.source r.destination served_ghost.asked ≡ first.0 = first_removed (is_asked_alike r) g.asked r first.0 first.1 in
-        ap (λ (G : List Asking → List Asking). G g.asked) both ∙ (first.1 ∙ (ap₂ (λ (xs ys : List Asking). xs ++ ys) (sym own) (sym gone) ∙ ap (λ (G : List Asking → List Asking). G (r ∷ []) ++ G served_ghost.asked) (sym both))))
+        ap (λ (G : List Asking → List Asking). G g.asked) both
+        ∙ (first.1 ∙ (ap₂ (λ (xs ys : List Asking). xs ++ ys) (sym own) (sym gone)
+        ∙ ap (λ (G : List Asking → List Asking). G (r ∷ []) ++ G served_ghost.asked) (sym both))))
         (λ (k : p ≢ r.source).
         let unlike : (r.source == p) ≡ false = ne_eqb r.source p (λ f. k (sym f)) in
         let fails : (r.source == p && r.destination == t) ≡ false = ap (λ (x : Bool). x && (r.destination == t)) unlike in
         ap₂ (λ (xs ys : List Asking). xs ++ ys) (sym (ap (λ (x : Bool). cond x (r ∷ []) []) fails)) (sym (asked_other p t fails)))
         (cases_eq p r.source) in
-        ap (λ (k : ℕ). asked_between p k (list_at g.requests p)) h ∙ (st.carries.asked p t p_in t_in ∙ (ap (λ (xs : List Asking). F (served_requests tiles t b.entries) ++ xs) left
-        ∙ (sym (append_assoc (F (served_requests tiles t b.entries)) (F (r ∷ [])) (F served_ghost.asked)) ∙ (ap (λ (xs : List Asking). xs ++ F served_ghost.asked) (sym (filter-append _ (served_requests tiles t b.entries) (r ∷ [])) ∙ ap F (sym entries))
+        ap (λ (k : ℕ). asked_between p k (list_at g.requests p)) h
+        ∙ (st.carries.asked p t p_in t_in ∙ (ap (λ (xs : List Asking). F (served_requests tiles t b.entries) ++ xs) left
+        ∙ (sym (append_assoc (F (served_requests tiles t b.entries)) (F (r ∷ [])) (F served_ghost.asked))
+        ∙ (ap (λ (xs : List Asking). xs ++ F served_ghost.asked) (sym (filter-append _ (served_requests tiles t b.entries) (r ∷ [])) ∙ ap F (sym entries))
         ∙ ap (λ (k : ℕ). asked_between p k (served_requests tiles k (tile_at served_state k).bank.entries) ++ asked_between p k served_ghost.asked) (sym h))))))
         (λ (other : c ≢ t).
-        let fails : (r.source == p && r.destination == c) ≡ false = and_no (r.source == p) (r.destination == c) (ne_eqb r.destination c (λ f. other (sym f ∙ here))) in
-        st.carries.asked p c p_in c_in ∙ ap₂ (λ (w : TileState) (xs : List Asking). asked_between p c (served_requests tiles c w.bank.entries) ++ xs) (sym (tile_other c other)) (sym (asked_other p c fails)))
+        let fails : (r.source == p && r.destination == c) ≡ false =
+        and_no (r.source == p) (r.destination == c) (ne_eqb r.destination c (λ f. other (sym f ∙ here))) in
+        st.carries.asked p c p_in c_in
+        ∙ ap₂ (λ (w : TileState) (xs : List Asking). asked_between p c (served_requests tiles c w.bank.entries) ++ xs) (sym (tile_other c other))
+        (sym (asked_other p c fails)))
         (cases_eq c t)
 
     served_carries : Carries d served_state served_ghost
@@ -187,35 +211,50 @@ module _ (d : Design) (net : IsNet (net_of d)) (tags : ℕ) (opening : List ℕ)
       takers = st.carries.takers;
       requests_sent = st.carries.requests_sent;
       requests_proper = st.carries.requests_proper;
-      requests_whole = by_tile (λ u w. u < tiles_of d.shape → whole g.net (ejection_channel d.shape u Request) ≡ map (request_parcel d.shape) (served_requests tiles u w.bank.entries ++ option_to_list w.bank.waiting))
-          (λ h. st.carries.requests_whole t h ∙ ap (map (request_parcel d.shape)) (ap (λ (x : Option Asking). served_requests tiles t b.entries ++ option_to_list x) waits ∙ (sym served_push ∙ sym (append-nil (served_requests tiles t (b.entries ++ e ∷ []))))))
+      requests_whole = by_tile (λ u w. u < tiles_of d.shape
+          → whole g.net (ejection_channel d.shape u Request)
+          ≡ map (request_parcel d.shape) (served_requests tiles u w.bank.entries ++ option_to_list w.bank.waiting))
+          (λ h. st.carries.requests_whole t h
+          ∙ ap (map (request_parcel d.shape))
+          (ap (λ (x : Option Asking). served_requests tiles t b.entries ++ option_to_list x) waits
+          ∙ (sym served_push ∙ sym (append-nil (served_requests tiles t (b.entries ++ e ∷ []))))))
           (λ u other h. st.carries.requests_whole u h);
-      waiting_proper = by_tile (λ u w. (x : Asking) → w.bank.waiting ≡ Some x → IsProperRequest d x × (x.destination ≡ u)) (λ x h. absurd (cc)) (λ u other. st.carries.waiting_proper u);
+      waiting_proper = by_tile (λ u w. (x : Asking) → w.bank.waiting ≡ Some x → IsProperRequest d x × (x.destination ≡ u)) (λ x h. absurd (cc))
+          (λ u other. st.carries.waiting_proper u);
       asked = served_asked;
       replies_sent = by_tile (λ u w. u < tiles_of d.shape → map (response_parcel d.shape) (responses_from u 0 w.bank.entries)
           ≡ (g.net.notes (injection_channel d.shape u Reply)).sent ++ map (response_parcel d.shape) (unsent w.bank.to_put (responses_from u 0 w.bank.entries)))
           (λ h.
           let R : Telling → Parcel = response_parcel d.shape in
           let old : map R (responses_from t 0 b.entries) ≡ (g.net.notes (injection_channel d.shape t Reply)).sent =
-          st.carries.replies_sent t h ∙ (ap (λ (xs : List ℕ). (g.net.notes (injection_channel d.shape t Reply)).sent ++ map R (unsent xs (responses_from t 0 b.entries))) phase.1
-          ∙ (ap (λ (x : Bool). (g.net.notes (injection_channel d.shape t Reply)).sent ++ map R (cond x (last_of (responses_from t 0 b.entries)) [])) no_head ∙ append-nil _)) in
+          st.carries.replies_sent t h
+          ∙ (ap (λ (xs : List ℕ). (g.net.notes (injection_channel d.shape t Reply)).sent ++ map R (unsent xs (responses_from t 0 b.entries))) phase.1
+          ∙ (ap (λ (x : Bool). (g.net.notes (injection_channel d.shape t Reply)).sent ++ map R (cond x (last_of (responses_from t 0 b.entries)) [])) no_head
+          ∙ append-nil _)) in
           let last : unsent (flits_of (packet.Response q)) (responses_from t 0 (b.entries ++ e ∷ [])) ≡ q ∷ [] =
-          ap (λ (x : Bool). cond x (last_of (responses_from t 0 (b.entries ++ e ∷ []))) []) starts ∙ (ap last_of responses_new ∙ last_push (responses_from t 0 b.entries) q) in
-          ap (map R) responses_new ∙ (map-append R (responses_from t 0 b.entries) (q ∷ []) ∙ ap₂ (λ (xs : List Parcel) (ys : List Telling). xs ++ map R ys) old (sym last)))
+          ap (λ (x : Bool). cond x (last_of (responses_from t 0 (b.entries ++ e ∷ []))) []) starts
+          ∙ (ap last_of responses_new ∙ last_push (responses_from t 0 b.entries) q) in
+          ap (map R) responses_new ∙ (map-append R (responses_from t 0 b.entries) (q ∷ [])
+          ∙ ap₂ (λ (xs : List Parcel) (ys : List Telling). xs ++ map R ys) old (sym last)))
           (λ u other h. st.carries.replies_sent u h);
       replies_proper = by_tile (λ u w. u < tiles_of d.shape → All (λ x. IsProperResponse d x × (x.source ≡ u)) (responses_from u 0 w.bank.entries))
-          (λ h. subst (λ (xs : List Telling). All (λ x. IsProperResponse d x × (x.source ≡ t)) xs) (sym responses_new) (All-push (λ x. IsProperResponse d x × (x.source ≡ t)) (responses_from t 0 b.entries) q (st.carries.replies_proper t h) (proper, refl)))
+          (λ h. subst (λ (xs : List Telling). All (λ x. IsProperResponse d x × (x.source ≡ t)) xs) (sym responses_new)
+          (All-push (λ x. IsProperResponse d x × (x.source ≡ t)) (responses_from t 0 b.entries) q (st.carries.replies_proper t h) (proper, refl)))
           (λ u other h. st.carries.replies_proper u h);
       replies_whole = st.carries.replies_whole;
-      told = by_tile (λ u w. (p : ℕ) → u < tiles_of d.shape → p < tiles_of d.shape → told_between u p (responses_from u 0 w.bank.entries) ≡ told_between u p (list_at g.taken p) ++ told_between u p served_ghost.told)
+      told = by_tile (λ u w. (p : ℕ) → u < tiles_of d.shape → p < tiles_of d.shape
+          → told_between u p (responses_from u 0 w.bank.entries) ≡ told_between u p (list_at g.taken p) ++ told_between u p served_ghost.told)
           (λ p h l.
           let F : List Telling → List Telling = told_between t p in
-          ap F responses_new ∙ (filter-append _ (responses_from t 0 b.entries) (q ∷ []) ∙ (ap (λ (xs : List Telling). xs ++ F (q ∷ [])) (st.carries.told t p h l)
-          ∙ (append_assoc (F (list_at g.taken p)) (F g.told) (F (q ∷ [])) ∙ ap (λ (xs : List Telling). F (list_at g.taken p) ++ xs) (sym (filter-append _ g.told (q ∷ [])))))))
+          ap F responses_new ∙ (filter-append _ (responses_from t 0 b.entries) (q ∷ [])
+          ∙ (ap (λ (xs : List Telling). xs ++ F (q ∷ [])) (st.carries.told t p h l)
+          ∙ (append_assoc (F (list_at g.taken p)) (F g.told) (F (q ∷ []))
+          ∙ ap (λ (xs : List Telling). F (list_at g.taken p) ++ xs) (sym (filter-append _ g.told (q ∷ [])))))))
           (λ u other p h l.
           let F : List Telling → List Telling = told_between u p in
           let none : F (q ∷ []) ≡ [] = ap (λ (x : Bool). cond (x && (q.destination == p)) (q ∷ []) []) (ne_eqb t u (λ f. other (sym f))) in
-          st.carries.told u p h l ∙ ap (λ (xs : List Telling). F (list_at g.taken p) ++ xs) (sym (append-nil (F g.told)) ∙ (ap (λ (xs : List Telling). F g.told ++ xs) (sym none) ∙ sym (filter-append _ g.told (q ∷ [])))));
+          st.carries.told u p h l ∙ ap (λ (xs : List Telling). F (list_at g.taken p) ++ xs)
+          (sym (append-nil (F g.told)) ∙ (ap (λ (xs : List Telling). F g.told ++ xs) (sym none) ∙ sym (filter-append _ g.told (q ∷ [])))));
       issued = λ p. st.carries.issued p ∙ sym (part_kept (λ (w : TileState). w.processor.operations.issued) refl p);
       answered = λ p. ap (map (notice_by p)) (part_kept (λ (w : TileState). w.processor.operations.answers) refl p) ∙ st.carries.answered p;
     }
@@ -235,7 +274,8 @@ module _ (d : Design) (net : IsNet (net_of d)) (tags : ℕ) (opening : List ℕ)
     served_reported : Reported d served_state
     served_reported = record {
       counts = done_kept ∙ (st.reported.counts ∙ sym (count_set (λ (w : TileState). w.processor.reported) s.tiles t served_tile no_tile refl));
-      finished = λ u h. let k = part_kept (λ (w : TileState). w.processor) refl u in rw k (st.reported.finished u (ap (λ (p : ProcessorState). p.reported) (sym k) ∙ h));
+      finished = λ u h. let k = part_kept (λ (w : TileState). w.processor) refl u in
+          rw k (st.reported.finished u (ap (λ (p : ProcessorState). p.reported) (sym k) ∙ h));
       seen = λ u h. done_kept ∙ st.reported.seen u (sym (part_kept (λ (w : TileState). w.processor.seen) refl u) ∙ h);
     }
 
@@ -263,13 +303,23 @@ module _ (d : Design) (net : IsNet (net_of d)) (tags : ℕ) (opening : List ℕ)
         ap (λ (k : ℕ). g.told ++ response_of k (length (list_at (show d.words s).entries k)) r (reply_given tiles (flight_of d.words s g) r) ∷ []) here
         ∙ ap₂ (λ (es : List Entry) (v : Answering). g.told ++ response_of t (length es) r v ∷ []) entries seen_reply
 
-    served_records : (n : ℕ) → Whole tiles tags opening (flight_of d.words served_state served_ghost) (order ++ points_of (event (flight_of d.words s g) (Serves r)) n)
+    served_records : (n : ℕ) → Whole tiles tags opening (flight_of d.words served_state served_ghost)
+        (order ++ points_of (event (flight_of d.words s g) (Serves r)) n)
     served_records n =
         let after : Flight = moved tiles (flight_of d.words s g) (Serves r) in
-        let w = (any_steps tiles tags opening (flight_of d.words s g) order n (Some (Serves r)) st.flight (λ k h. subst (IsFound (length opening) (flight_of d.words s g)) (same_Some _ _ h) found.0)).whole in
-        let same = moved_flight d s g.asked g.told t (tile_at s t) served_tile served_state.around (Some (Serves r)) tile_there served_moved (λ k h. subst (IsHere tiles d.words t) (same_Some _ _ h) found.1) in
+        let w = (any_steps tiles tags opening (flight_of d.words s g) order n (Some (Serves r)) st.flight
+        (λ k h. subst (IsFound (length opening) (flight_of d.words s g)) (same_Some _ _ h) found.0)).whole in
+        let same = moved_flight d s g.asked g.told t (tile_at s t) served_tile served_state.around (Some (Serves r)) tile_there served_moved
+        (λ k h. subst (IsHere tiles d.words t) (same_Some _ _ h) found.1) in
         subst (λ (f : Flight). Whole tiles tags opening f (order ++ points_of (event (flight_of d.words s g) (Serves r)) n))
-        (sym same ∙ ap (λ (xs : List Telling). record { processors = records_of served_state; entries = (show d.words served_state).entries; memory = (show d.words served_state).memory; asked = served_ghost.asked; told = xs }) told_same) w
+        (sym same ∙ ap (λ (xs : List Telling).
+        record {
+          processors = records_of served_state;
+          entries = (show d.words served_state).entries;
+          memory = (show d.words served_state).memory;
+          asked = served_ghost.asked;
+          told = xs;
+        }) told_same) w
 
     -- What holds of every reached state is kept by a service.
     pub served_stands : (n : ℕ) → Stands d tags opening served_state served_ghost (order ++ points_of (event (flight_of d.words s g) (Serves r)) n)

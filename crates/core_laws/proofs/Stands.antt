@@ -1,5 +1,6 @@
 -- What holds of every state that a run reaches.
-use Rattle.std.specs.Prelude.{◌≡◌, ◌≢◌, ℕ, ◌+◌, ◌/◌, ◌<◌, ◌==◌, ◌&&◌, true, if◌then◌else◌, List, [], ◌∷◌, ◌++◌, length, map, filter, All, Some, option_to_list, slice_index, count_by}
+use Rattle.std.specs.Prelude.{◌≡◌, ◌≢◌, ℕ, ◌+◌, ◌/◌, ◌<◌, ◌==◌, ◌&&◌, true, if◌then◌else◌, List, [], ◌∷◌, ◌++◌, length, map, filter, All, Some}
+use Rattle.std.specs.Prelude.{option_to_list, slice_index, count_by}
 use Rattle.torus.specs.Shape.{tiles_of}
 use Rattle.torus.specs.declared.shape.Class.TheVariants.{Request, Reply}
 use Rattle.packet.specs.declared.kinds.Packet.TheVariants as packet
@@ -8,19 +9,19 @@ use Rattle.packet.specs.declared.kinds.Response.{Response as Telling}
 use Rattle.packet.specs.Kinds.{code_of}
 use Rattle.packet.specs.Spelling.{Spells}
 use Rattle.home_bank.specs.declared.entry.Entry.{Entry}
-use Rattle.net_interface.specs.Following.{is_finished}
-use Rattle.runs.specs.Observed.{list_at}
-use Rattle.runs.specs.Order.{LinearizationPoint}
+use Rattle.script_follower.specs.Following.{is_finished}
+use Rattle.one_order.specs.Observed.{list_at}
+use Rattle.one_order.specs.Order.{LinearizationPoint}
 use Rattle.flit_buffer.specs.Surroundings.{AreRings}
 use Rattle.wormhole.specs.Words.{Words}
 use Rattle.wormhole.specs.Routes.{Routes}
 use Rattle.wormhole.specs.Delivery.{whole}
-use Rattle.flights.proofs.Whole.{Whole}
+use Rattle.order_abstract.proofs.Whole.{Whole}
 use Rattle.packet.specs.Flits.{flits_of}
 use Rattle.core_laws.specs.Heads.{is_head}
 use Rattle.channel_number.specs.Ports.{injection_channel, ejection_channel}
 use Rattle.home_bank.specs.BankTable.{BankState}
-use Rattle.tile.specs.Tile.{Design}
+use Rattle.tile_laws.specs.Tile.{Design}
 use Rattle.core_laws.specs.Core.{State}
 use Rattle.core_laws.specs.Delivery.{operation_asked, notice_of, notice_by}
 use Rattle.core_laws.proofs.Projection.{net_of, request_parcel, response_parcel, first_flit}
@@ -74,7 +75,8 @@ pub record Carries (d : Design) (s : State) (g : Ghost) : Type 0 where
   pub processors : length g.requests ≡ tiles_of d.shape
   pub takers : length g.taken ≡ tiles_of d.shape
   -- a processor's requests are in its injection_channel channel, in the order of issue
-  pub requests_sent : (p : ℕ) → p < tiles_of d.shape → (g.net.notes (injection_channel d.shape p Request)).sent ≡ map (request_parcel d.shape) (list_at g.requests p)
+  pub requests_sent : (p : ℕ) → p < tiles_of d.shape
+      → (g.net.notes (injection_channel d.shape p Request)).sent ≡ map (request_parcel d.shape) (list_at g.requests p)
   pub requests_proper : (p : ℕ) → All (λ r. IsProperRequest d r × (r.source ≡ p)) (list_at g.requests p)
   -- a bank has whole the requests that it served, and the one that waits
   pub requests_whole : (b : ℕ) → b < tiles_of d.shape → whole g.net (ejection_channel d.shape b Request)
@@ -85,7 +87,8 @@ pub record Carries (d : Design) (s : State) (g : Ghost) : Type 0 where
       ≡ asked_between p b (served_requests (tiles_of d.shape) b (tile_at s b).bank.entries) ++ asked_between p b g.asked
   -- a bank's replies are in its injection_channel channel but for the last one, where its head is not put yet
   pub replies_sent : (b : ℕ) → b < tiles_of d.shape → map (response_parcel d.shape) (responses_from b 0 (tile_at s b).bank.entries)
-      ≡ (g.net.notes (injection_channel d.shape b Reply)).sent ++ map (response_parcel d.shape) (unsent (tile_at s b).bank.to_put (responses_from b 0 (tile_at s b).bank.entries))
+      ≡ (g.net.notes (injection_channel d.shape b Reply)).sent
+      ++ map (response_parcel d.shape) (unsent (tile_at s b).bank.to_put (responses_from b 0 (tile_at s b).bank.entries))
   pub replies_proper : (b : ℕ) → b < tiles_of d.shape → All (λ r. IsProperResponse d r × (r.source ≡ b)) (responses_from b 0 (tile_at s b).bank.entries)
   -- a processor has whole the responses that it has taken
   pub replies_whole : (p : ℕ) → p < tiles_of d.shape → whole g.net (ejection_channel d.shape p Reply) ≡ map (response_parcel d.shape) (list_at g.taken p)

@@ -13,21 +13,21 @@ use Rattle.packet.specs.declared.kinds.Request.{Request as Asking}
 use Rattle.packet.specs.declared.kinds.Response.{Response as Telling}
 use Rattle.packet.specs.declared.assembler.Offered.{Offered}
 use Rattle.packet.specs.declared.assembler.Offered.TheVariants.{More, Whole as Complete, Refused}
-use Rattle.net_interface.specs.Following.{next_operation_of}
-use Rattle.runs.specs.Order.{LinearizationPoint}
-use Rattle.runs.specs.Events.{Event, happens, points_of, MayHappen}
+use Rattle.script_follower.specs.Following.{next_operation_of}
+use Rattle.one_order.specs.Order.{LinearizationPoint}
+use Rattle.one_order.specs.Events.{Event, happens, points_of, MayHappen}
 use Rattle.flit_buffer.specs.Channel.{first_of, rest}
 use Rattle.flit_buffer.specs.Surroundings.{ring}
 use Rattle.wormhole.specs.Net.{IsNet}
-use Rattle.net_interface.specs.ProcessorRecord.{ProcessorRecord, no_processor, ready}
-use Rattle.flights.specs.Flight as flight
-use Rattle.flights.specs.Flight.{Flight, Move, Sends, Serves, Takes, moved_by, event_by, IsFound}
-use Rattle.flights.proofs.Whole.{Whole, any_steps}
+use Rattle.script_follower.specs.ProcessorRecord.{ProcessorRecord, no_processor, ready}
+use Rattle.order_abstract.specs.Flight as flight
+use Rattle.order_abstract.specs.Flight.{Flight, Move, Sends, Serves, Takes, moved_by, event_by, IsFound}
+use Rattle.order_abstract.proofs.Whole.{Whole, any_steps}
 use Rattle.packet.specs.Flits.{offered}
-use Rattle.net_interface.specs.ProcessorTable.{processor_wants}
+use Rattle.script_follower.specs.ProcessorTable.{processor_wants}
 use Rattle.channel_number.specs.Ports.{ejection_channel}
-use Rattle.tile.specs.Wiring.{processor_wiring}
-use Rattle.tile.specs.Tile.{Design, TileState, Agent, Processor, Router, Bank}
+use Rattle.tile_laws.specs.Wiring.{processor_wiring}
+use Rattle.tile_laws.specs.Tile.{Design, TileState, Agent, Processor, Router, Bank}
 use Rattle.core_laws.specs.Core.{State, next, agent_numbered, show}
 use Rattle.core_laws.specs.Moves.{learned_by, issue_of, answer_by, processor_move, bank_move, tile_move, move_of}
 use Rattle.core_laws.proofs.AgentSteps.{option_map_some}
@@ -40,7 +40,8 @@ use Rattle.core_laws.proofs.TakesFound.{takes_found}
 use Rattle.core_laws.proofs.Stands.{Ghost, Stands, tile_at, no_tile, flight_of}
 
 -- what a flit sent tells of the issue
-pub issue_told : (t : ℕ) (to_put : List ℕ) (next : Option (ℕ × Operation)) (m : Move) → issue_of t to_put next ≡ Some m → (f : ℕ × Operation) × (next ≡ Some f) × (Sends t f.0 f.1 ≡ m)
+pub issue_told : (t : ℕ) (to_put : List ℕ) (next : Option (ℕ × Operation)) (m : Move) → issue_of t to_put next ≡ Some m
+    → (f : ℕ × Operation) × (next ≡ Some f) × (Sends t f.0 f.1 ≡ m)
 issue_told t [] next m h = option_map_some (λ (f : ℕ × Operation). Sends t f.0 f.1) next m h
 issue_told t (flit ∷ flits) next m h = absurd (cc)
 
@@ -55,8 +56,10 @@ pub first_there : (xs : List ℕ) (x : ℕ) → first_of xs ≡ Some x → xs �
 first_there [] x h = cc
 first_there (y ∷ xs) x h = ap (λ z. z ∷ xs) (same_Some y x h)
 
-module _ (d : Design) (net : IsNet (net_of d)) (tags : ℕ) (opening : List ℕ) (s : State) (g : Ghost) (order : List LinearizationPoint) (st : Stands d tags opening s g order)
-    (addressed : (t : ℕ) (o : Operation) → t < tiles_of d.shape → next_operation_of (tile_at s t).processor.operations.following ≡ Some o → o.address < length opening) where
+module _ (d : Design) (net : IsNet (net_of d)) (tags : ℕ) (opening : List ℕ) (s : State) (g : Ghost) (order : List LinearizationPoint)
+    (st : Stands d tags opening s g order)
+    (addressed : (t : ℕ) (o : Operation) → t < tiles_of d.shape → next_operation_of (tile_at s t).processor.operations.following ≡ Some o
+    → o.address < length opening) where
   abbrev AreFound : ℕ → Move → Type 0
   AreFound t m = IsFound (length opening) (flight_of d.words s g) m × IsHere (tiles_of d.shape) d.words t m
 
@@ -67,7 +70,8 @@ module _ (d : Design) (net : IsNet (net_of d)) (tags : ℕ) (opening : List ℕ)
       let f = issue_told t (tile_at s t).processor.to_put (ready (tile_at s t).processor.operations) m e in
       let parts = ready_parts (tile_at s t).processor.operations f.0.0 f.0.1 f.1 in
       let tile_in : t < length s.tiles = subst (λ (n : ℕ). t < n) (sym st.tiles) t_in in
-      let operations : slice_index_or (map record_in s.tiles) t no_processor ≡ (tile_at s t).processor.operations = get_or-map record_in s.tiles t no_tile no_processor tile_in in
+      let operations : slice_index_or (map record_in s.tiles) t no_processor ≡ (tile_at s t).processor.operations =
+      get_or-map record_in s.tiles t no_tile no_processor tile_in in
       subst (AreFound t) f.2 (
         (
           subst (λ (n : ℕ). t < n) (sym (length-map s.tiles record_in)) tile_in,
@@ -104,8 +108,10 @@ module _ (d : Design) (net : IsNet (net_of d)) (tags : ℕ) (opening : List ℕ)
   found_bank t (Put i) learned m e = absurd (cc)
   found_bank t (CreditOf i) learned m e = absurd (cc)
 
-  found_tile : (t : ℕ) → t < tiles_of d.shape → (agent : Agent) (choice : Choice) (m : Move) → tile_move d t (tile_at s t) s.around agent choice ≡ Some m → AreFound t m
-  found_tile t t_in Processor choice m h = option_and_then_some (processor_move t (tile_at s t).processor choice) _ m h (λ learned is e. found_processor t t_in choice learned m is e)
+  found_tile : (t : ℕ) → t < tiles_of d.shape → (agent : Agent) (choice : Choice) (m : Move) → tile_move d t (tile_at s t) s.around agent choice ≡ Some m
+      → AreFound t m
+  found_tile t t_in Processor choice m h =
+      option_and_then_some (processor_move t (tile_at s t).processor choice) _ m h (λ learned is e. found_processor t t_in choice learned m is e)
   found_tile t t_in Router choice m h = absurd (cc)
   found_tile t t_in Bank choice m h = option_and_then_some (bank_move (tile_at s t).bank choice) _ m h (λ learned is e. found_bank t choice learned m e)
 
@@ -116,7 +122,8 @@ module _ (d : Design) (net : IsNet (net_of d)) (tags : ℕ) (opening : List ℕ)
       option_and_then_some (λ tile. tile_move d t tile s.around (agent_numbered (attempt.agent % 3)) attempt.choice) (slice_get s.tiles t) m h (λ tile there e.
       let is : tile_at s t ≡ tile = get_or_from_slice_get s.tiles t tile no_tile there in
       let within : t < tiles_of d.shape = subst (λ (n : ℕ). t < n) st.tiles (slice_get_within s.tiles t tile there) in
-      found_tile t within (agent_numbered (attempt.agent % 3)) attempt.choice m (ap (λ (x : TileState). tile_move d t x s.around (agent_numbered (attempt.agent % 3)) attempt.choice) is ∙ e))
+      found_tile t within (agent_numbered (attempt.agent % 3)) attempt.choice m
+      (ap (λ (x : TileState). tile_move d t x s.around (agent_numbered (attempt.agent % 3)) attempt.choice) is ∙ e))
 
   -- the event of a step
   abbrev pub event_here : Step → Event
@@ -130,7 +137,8 @@ module _ (d : Design) (net : IsNet (net_of d)) (tags : ℕ) (opening : List ℕ)
   pub record IsEvent (attempt : Step) (n : ℕ) : Type 0 where
     pub shown : show d.words (next d s attempt) ≡ happens (tiles_of d.shape) (show d.words s) (event_here attempt)
     pub may : MayHappen (tiles_of d.shape) tags opening (show d.words s) order (event_here attempt)
-    pub flight : Whole (tiles_of d.shape) tags opening (flight_with d.words (next d s attempt) (flight_then attempt).asked (flight_then attempt).told) (order ++ points_of (event_here attempt) n)
+    pub flight : Whole (tiles_of d.shape) tags opening (flight_with d.words (next d s attempt) (flight_then attempt).asked (flight_then attempt).told)
+        (order ++ points_of (event_here attempt) n)
 
   pub is_event : (attempt : Step) (n : ℕ) → IsEvent attempt n
   is_event attempt n =

@@ -1,5 +1,6 @@
 -- The reply that becomes whole at a processor is the first of its bank among those told to the processor.
-use Rattle.std.proofs.Common.{◌≡◌, ℕ, ◌<◌, Bool, true, false, cond, List, [], ◌∷◌, ◌++◌, map, length, Option, Some, None, All, refl, sym, ◌∙◌, ap, ap₂, subst, append_assoc, eq-eqb}
+use Rattle.std.proofs.Common.{◌≡◌, ℕ, ◌<◌, Bool, true, false, cond, List, [], ◌∷◌, ◌++◌, map, length, Option, Some, None, All, refl, sym, ◌∙◌, ap, ap₂, subst}
+use Rattle.std.proofs.Common.{append_assoc, eq-eqb}
 use Rattle.std.specs.Prelude.{◌&&◌}
 use Rattle.std.proofs.lemmas.List.{map-append}
 use Rattle.std.proofs.lemmas.List.Elements.{filter-append, All-filter}
@@ -14,8 +15,8 @@ use Rattle.packet.specs.declared.assembler.Offered.TheVariants.{More, Whole as C
 use Rattle.packet.specs.Refusal.{refusal}
 use Rattle.packet.specs.Reading.{packet_told}
 use Rattle.packet.proofs.Told.{packet_told-spelled}
-use Rattle.runs.specs.Observed.{list_at}
-use Rattle.runs.specs.Order.{LinearizationPoint}
+use Rattle.one_order.specs.Observed.{list_at}
+use Rattle.one_order.specs.Order.{LinearizationPoint}
 use Rattle.flit_buffer.specs.Surroundings.{ring}
 use Rattle.wormhole.specs.Net.{Net, IsNet, Parcel, IsOn, flits_of as flits_in}
 use Rattle.wormhole.specs.State.{State as NetState}
@@ -24,12 +25,12 @@ use Rattle.wormhole.specs.Routes.{between}
 use Rattle.wormhole.specs.Delivery.{whole}
 use Rattle.wormhole.proofs.Lists.{all_on, on_left}
 use Rattle.wormhole.proofs.Arrivals.{delivered}
-use Rattle.flights.specs.Flight.{Takes, is_told_alike, IsFound}
-use Rattle.flights.proofs.FirstPlaces.{first_there}
+use Rattle.order_abstract.specs.Flight.{Takes, is_told_alike, IsFound}
+use Rattle.order_abstract.proofs.FirstPlaces.{first_there}
 use Rattle.packet.specs.Flits.{is_tail, offered, offered_by, flits_of}
 use Rattle.core_laws.specs.Heads.{is_head}
 use Rattle.channel_number.specs.Ports.{injection_channel, ejection_channel}
-use Rattle.tile.specs.Tile.{Design}
+use Rattle.tile_laws.specs.Tile.{Design}
 use Rattle.core_laws.specs.Core.{State}
 use Rattle.core_laws.proofs.Projection.{net_of, response_parcel}
 use Rattle.core_laws.proofs.Parcels.{between_responses, one_response, parcel_flits, response_ends, same_response}
@@ -52,7 +53,8 @@ pub tells_whole : (so_far : List ℕ) (flit : ℕ) (p : Packet) → offered so_f
 unfolding offered
 tells_whole so_far flit p h = by_refusal so_far flit p (refusal so_far flit) h
   where
-    by_tail : (so_far : List ℕ) (flit : ℕ) (p : Packet) (b : Bool) → is_tail flit ≡ b → cond b (Complete (packet_told (so_far ++ flit ∷ []))) More ≡ Complete p → TellsWhole so_far flit p
+    by_tail : (so_far : List ℕ) (flit : ℕ) (p : Packet) (b : Bool) → is_tail flit ≡ b → cond b (Complete (packet_told (so_far ++ flit ∷ []))) More ≡ Complete p
+        → TellsWhole so_far flit p
     by_tail so_far flit p true is h = record { tail = is; told = ap (λ (o : Offered). whole_in o p) h }
     by_tail so_far flit p false is h = cc
 
@@ -74,8 +76,10 @@ on_map {A} {B} f xs y on = at f xs y on.0 on.1 on.2
 own_told : (r : Telling) → told_between r.source r.destination (r ∷ []) ≡ r ∷ []
 own_told r = ap₂ (λ (x y : Bool). cond (x && y) (r ∷ []) []) (eq-eqb r.source r.source refl) (eq-eqb r.destination r.destination refl)
 
-module _ (d : Design) (net : IsNet (net_of d)) (tags : ℕ) (opening : List ℕ) (s : State) (g : Ghost) (order : List LinearizationPoint) (st : Stands d tags opening s g order)
-    (p : ℕ) (p_in : p < tiles_of d.shape) (flit : ℕ) (more : List ℕ) (first : (ring s.around.rings (ejection_channel d.shape p Reply)).channel.flits ≡ flit ∷ more) where
+module _ (d : Design) (net : IsNet (net_of d)) (tags : ℕ) (opening : List ℕ) (s : State) (g : Ghost) (order : List LinearizationPoint)
+    (st : Stands d tags opening s g order)
+    (p : ℕ) (p_in : p < tiles_of d.shape) (flit : ℕ) (more : List ℕ)
+    (first : (ring s.around.rings (ejection_channel d.shape p Reply)).channel.flits ≡ flit ∷ more) where
   abbrev pub lane_in : ℕ
   lane_in = ejection_channel d.shape p Reply
 
@@ -111,20 +115,25 @@ module _ (d : Design) (net : IsNet (net_of d)) (tags : ℕ) (opening : List ℕ)
         let from = joined_from d done.packet.source p Reply joins in
         let b : ℕ = from.0 in
         let responses : List Telling = responses_from b 0 (tile_at s b).bank.entries in
-        let sent : IsOn done.packet (g.net.notes (injection_channel d.shape b Reply)).sent = subst (λ (i : ℕ). IsOn done.packet (g.net.notes i).sent) from.2 done.sent in
+        let sent : IsOn done.packet (g.net.notes (injection_channel d.shape b Reply)).sent =
+        subst (λ (i : ℕ). IsOn done.packet (g.net.notes i).sent) from.2 done.sent in
         let made : IsOn done.packet (map (response_parcel d.shape) responses) =
         subst (λ (ks : List Parcel). IsOn done.packet ks) (sym (st.carries.replies_sent b from.1))
-        (on_left done.packet (g.net.notes (injection_channel d.shape b Reply)).sent (map (response_parcel d.shape) (unsent (tile_at s b).bank.to_put responses)) sent) in
+        (on_left done.packet (g.net.notes (injection_channel d.shape b Reply)).sent (map (response_parcel d.shape) (unsent (tile_at s b).bank.to_put responses))
+        sent) in
         let q = on_map (response_parcel d.shape) responses done.packet made in
         let proper = all_on (λ r. IsProperResponse d r × (r.source ≡ b)) responses q.0 (st.carries.replies_proper b from.1) q.1 in
         let flits : flits_of (packet.Response q.0) ≡ (tile_at s p).processor.so_far ++ flit ∷ [] =
-        parcel_flits d.shape (packet.Response q.0) proper.0.spelled ∙ (ap flits_in q.2 ∙ (done.flits ∙ ap (λ (xs : List ℕ). xs ++ flit ∷ []) (st.mirrors.takes_replies p p_in))) in
-        let same : r ≡ q.0 = same_response r q.0 (sym tells.told ∙ (ap packet_told (sym flits) ∙ packet_told-spelled (packet.Response q.0) (flits_of (packet.Response q.0)) proper.0.spelled)) in
+        parcel_flits d.shape (packet.Response q.0) proper.0.spelled
+        ∙ (ap flits_in q.2 ∙ (done.flits ∙ ap (λ (xs : List ℕ). xs ++ flit ∷ []) (st.mirrors.takes_replies p p_in))) in
+        let same : r ≡ q.0 = same_response r q.0
+        (sym tells.told ∙ (ap packet_told (sym flits) ∙ packet_told-spelled (packet.Response q.0) (flits_of (packet.Response q.0)) proper.0.spelled)) in
         let is : IsProperResponse d r = subst (IsProperResponse d) (sym same) proper.0 in
         let packet_is : done.packet ≡ response_parcel d.shape r = sym q.2 ∙ ap (response_parcel d.shape) (sym same) in
         record {
           bank_in = is.source;
-          here = ejection_tile d.shape r.destination p Reply Reply (sym (response_ends d.shape r).1 ∙ (ap (λ (k : Parcel). k.destination) (sym packet_is) ∙ done.destination));
+          here = ejection_tile d.shape r.destination p Reply Reply
+              (sym (response_ends d.shape r).1 ∙ (ap (λ (k : Parcel). k.destination) (sym packet_is) ∙ done.destination));
           proper = is;
           packet_is = packet_is;
         }
@@ -141,23 +150,30 @@ module _ (d : Design) (net : IsNet (net_of d)) (tags : ℕ) (opening : List ℕ)
         let told : List Telling = told_between b p g.told in
         let responses : List Telling = responses_from b 0 (tile_at s b).bank.entries in
         let rest : List Parcel = map R (unsent (tile_at s b).bank.to_put responses) in
-        let arrives = delivered n taken_net i lane_in (accept_routes n g.net lane_in flit more (is_head flit) net st.lines st.routes can_accept) (joined d b p Reply from.bank_in p_in) in
+        let arrives = delivered n taken_net i lane_in (accept_routes n g.net lane_in flit more (is_head flit) net st.lines st.routes can_accept)
+        (joined d b p Reply from.bank_in p_in) in
         let own : told_between b p (r ∷ []) ≡ r ∷ [] = ap (λ (t : ℕ). told_between b t (r ∷ [])) (sym from.here) ∙ own_told r in
         let took : between i lane_in (whole taken_net lane_in) ≡ map R (taken ++ r ∷ []) =
-        ap (between i lane_in) (done.whole_now ∙ (ap₂ (λ (ks : List Parcel) (k : Parcel). ks ++ k ∷ []) (st.carries.replies_whole p p_in) from.packet_is ∙ sym (map-append R (list_at g.taken p) (r ∷ []))))
-        ∙ (between_responses d.shape b p (list_at g.taken p ++ r ∷ []) ∙ ap (map R) (filter-append _ (list_at g.taken p) (r ∷ []) ∙ ap (λ (qs : List Telling). taken ++ qs) own)) in
+        ap (between i lane_in) (done.whole_now
+        ∙ (ap₂ (λ (ks : List Parcel) (k : Parcel). ks ++ k ∷ []) (st.carries.replies_whole p p_in) from.packet_is
+        ∙ sym (map-append R (list_at g.taken p) (r ∷ []))))
+        ∙ (between_responses d.shape b p (list_at g.taken p ++ r ∷ [])
+        ∙ ap (map R) (filter-append _ (list_at g.taken p) (r ∷ []) ∙ ap (λ (qs : List Telling). taken ++ qs) own)) in
         let made : map R (taken ++ told) ≡ between i lane_in ((taken_net.notes i).sent ++ rest) =
         ap (map R) (sym (st.carries.told b p from.bank_in p_in)) ∙ (sym (between_responses d.shape b p responses)
-        ∙ ap (between i lane_in) (st.carries.replies_sent b from.bank_in ∙ ap (λ (ks : List Parcel). ks ++ rest) (sym (sent_kept n g.net lane_in flit more (is_head flit) i)))) in
+        ∙ ap (between i lane_in) (st.carries.replies_sent b from.bank_in
+        ∙ ap (λ (ks : List Parcel). ks ++ rest) (sym (sent_kept n g.net lane_in flit more (is_head flit) i)))) in
         let all : map R (taken ++ told) ≡ map R (taken ++ r ∷ []) ++ (arrives.0 ++ between i lane_in rest) =
-        made ∙ (filter-append _ (taken_net.notes i).sent rest ∙ (ap (λ (ks : List Parcel). ks ++ between i lane_in rest) (arrives.1 ∙ ap (λ (ks : List Parcel). ks ++ arrives.0) took)
+        made ∙ (filter-append _ (taken_net.notes i).sent rest
+        ∙ (ap (λ (ks : List Parcel). ks ++ between i lane_in rest) (arrives.1 ∙ ap (λ (ks : List Parcel). ks ++ arrives.0) took)
         ∙ append_assoc (map R (taken ++ r ∷ [])) arrives.0 (between i lane_in rest))) in
         let left : map R told ≡ R r ∷ (arrives.0 ++ between i lane_in rest) = next_of_map R taken told r (arrives.0 ++ between i lane_in rest) all in
         let f = first_of_map R told (R r) (arrives.0 ++ between i lane_in rest) left in
         let every : All (λ q. IsProperResponse d q × (q.source ≡ b)) (taken ++ told) =
         subst (λ (qs : List Telling). All (λ q. IsProperResponse d q × (q.source ≡ b)) qs) (st.carries.told b p from.bank_in p_in)
         (All-filter _ (λ q. IsProperResponse d q × (q.source ≡ b)) responses (st.carries.replies_proper b from.bank_in)) in
-        let proper = all_on (λ q. IsProperResponse d q × (q.source ≡ b)) (taken ++ told) f.first every (taken, f.others, ap (λ (qs : List Telling). taken ++ qs) f.is) in
+        let proper = all_on (λ q. IsProperResponse d q × (q.source ≡ b)) (taken ++ told) f.first every
+        (taken, f.others, ap (λ (qs : List Telling). taken ++ qs) f.is) in
         let same : f.first ≡ r = one_response d.shape f.first r proper.0.spelled from.proper.spelled f.same in
         (f.others, f.is ∙ ap (λ (q : Telling). q ∷ f.others) same)
 

@@ -5,7 +5,7 @@ use Rattle.torus.specs.Shape.{tiles_of}
 use Rattle.torus.specs.declared.shape.Class.{Class}
 use Rattle.torus.specs.declared.shape.Class.TheVariants.{Request, Reply}
 use Rattle.packet.specs.declared.kinds.Request.{Request as Asking}
-use Rattle.runs.specs.Order.{LinearizationPoint}
+use Rattle.one_order.specs.Order.{LinearizationPoint}
 use Rattle.channel_number.specs.Order.{channel_count}
 use Rattle.flit_buffer.specs.Places.{take_from_ring}
 use Rattle.flit_buffer.specs.Surroundings.{ring}
@@ -16,13 +16,14 @@ use Rattle.packet.specs.Flits.{is_tail}
 use Rattle.core_laws.specs.Heads.{is_head}
 use Rattle.home_bank.specs.BankTable.{BankState}
 use Rattle.channel_number.specs.Ports.{ejection_channel}
-use Rattle.tile.specs.Tile.{Design, TileState}
+use Rattle.tile_laws.specs.Tile.{Design, TileState}
 use Rattle.core_laws.specs.Core.{State}
 use Rattle.core_laws.proofs.Projection.{net_of, first_flit}
 use Rattle.core_laws.proofs.ChannelFacts.{ejection_tile}
 use Rattle.core_laws.proofs.Completes.{accepts, sent_kept}
 use Rattle.core_laws.proofs.ResponseLists.{no_head}
-use Rattle.core_laws.proofs.Accepting.{lane_in as accept_in, new_line as accept_line, ejection_class, may_happen, taken_ring, taken_lane, line_other, line_kept, so_far_now, none_whole}
+use Rattle.core_laws.proofs.Accepting.{lane_in as accept_in, new_line as accept_line, ejection_class, may_happen, taken_ring, taken_lane, line_other}
+use Rattle.core_laws.proofs.Accepting.{line_kept, so_far_now, none_whole}
 use Rattle.core_laws.proofs.Quiet.{quiet_state, quiet_ghost, quiet_new, quiet_other, quiet_part, IsQuietStep, end_mirrors, quiet_stands}
 use Rattle.core_laws.proofs.Stands.{Ghost, Stands, IsInPhase, tile_at, in_course}
 
@@ -37,8 +38,10 @@ same_class Request Reply = inr (λ h. cc)
 same_class Reply Request = inr (λ h. cc)
 same_class Reply Reply = inl refl
 
-module _ (d : Design) (net : IsNet (net_of d)) (tags : ℕ) (opening : List ℕ) (s : State) (g : Ghost) (order : List LinearizationPoint) (st : Stands d tags opening s g order)
-    (t : ℕ) (t_in : t < tiles_of d.shape) (class : Class) (flit : ℕ) (more : List ℕ) (first : (ring s.around.rings (ejection_channel d.shape t class)).channel.flits ≡ flit ∷ more)
+module _ (d : Design) (net : IsNet (net_of d)) (tags : ℕ) (opening : List ℕ) (s : State) (g : Ghost) (order : List LinearizationPoint)
+    (st : Stands d tags opening s g order)
+    (t : ℕ) (t_in : t < tiles_of d.shape) (class : Class) (flit : ℕ) (more : List ℕ)
+    (first : (ring s.around.rings (ejection_channel d.shape t class)).channel.flits ≡ flit ∷ more)
     (body : is_tail flit ≡ false) (new_tile : TileState) where
   -- the tile has the flit behind those so far, and nothing else has changed there
   pub record IsTaking : Type 0 where
@@ -72,7 +75,8 @@ module _ (d : Design) (net : IsNet (net_of d)) (tags : ℕ) (opening : List ℕ)
   mirrored Request u h = st.mirrors.takes_requests u h
   mirrored Reply u h = st.mirrors.takes_replies u h
 
-  kept_line : {A : Type 0} (f : Lane → A) → f (accept_line d net tags opening s g order st t t_in class flit more first) ≡ f (g.net.lines lane) → (z : ℕ) → f (more_ghost.net.lines z) ≡ f (g.net.lines z)
+  kept_line : {A : Type 0} (f : Lane → A) → f (accept_line d net tags opening s g order st t t_in class flit more first) ≡ f (g.net.lines lane) → (z : ℕ)
+      → f (more_ghost.net.lines z) ≡ f (g.net.lines z)
   kept_line f same z = line_kept d net tags opening s g order st t t_in class flit more first f same z
 
   module _ (i : IsTaking) where
@@ -85,7 +89,8 @@ module _ (d : Design) (net : IsNet (net_of d)) (tags : ℕ) (opening : List ℕ)
       ring_is = taken_ring d net tags opening s g order st t t_in class flit more first;
       lane = taken_lane d net tags opening s g order st t t_in class flit more first;
       others = λ z other. ap (λ (l : Lane). l.flits) (line_other d net tags opening s g order st t t_in class flit more first z other);
-      others_held = λ z other. let same = line_other d net tags opening s g order st t t_in class flit more first z other in (ap (λ (l : Lane). l.held) same, ap (λ (l : Lane). l.returning) same);
+      others_held = λ z other. let same = line_other d net tags opening s g order st t t_in class flit more first z other in
+          (ap (λ (l : Lane). l.held) same, ap (λ (l : Lane). l.returning) same);
       sent = sent_kept (net_of d) g.net lane flit more (is_head flit);
       wholes = none_whole d net tags opening s g order st t t_in class flit more first body;
       operations = i.operations;
@@ -98,17 +103,23 @@ module _ (d : Design) (net : IsNet (net_of d)) (tags : ℕ) (opening : List ℕ)
 
     so_far_end : (e : Class) (u : ℕ) → u < tiles_of d.shape → (more_ghost.net.lines (ejection_channel d.shape u e)).so_far ≡ so_far_of e (tile_at more_state u)
     so_far_end e u h = ⊎_elim
-        (λ (k : e ≡ class). subst (λ (c : Class). (more_ghost.net.lines (ejection_channel d.shape u c)).so_far ≡ so_far_of c (tile_at more_state u)) (sym k) (⊎_elim
+        (λ (k : e ≡ class). subst (λ (c : Class). (more_ghost.net.lines (ejection_channel d.shape u c)).so_far ≡ so_far_of c (tile_at more_state u)) (sym k)
+        (⊎_elim
         (λ (l : u ≡ t). subst (λ (v : ℕ). (more_ghost.net.lines (ejection_channel d.shape v class)).so_far ≡ so_far_of class (tile_at more_state v)) (sym l)
         (so_far_now d net tags opening s g order st t t_in class flit more first false body
         ∙ (ap (λ (xs : List ℕ). xs ++ flit ∷ []) (mirrored class t t_in)
         ∙ (sym i.so_far ∙ ap (so_far_of class) (sym (quiet_new d net tags opening s g order st t t_in new_tile lane lane_in (take_from_ring d.depth) event))))))
         (λ (other : u ≢ t).
-        ap (λ (l : Lane). l.so_far) (line_other d net tags opening s g order st t t_in class flit more first (ejection_channel d.shape u class) (λ f. other (ejection_tile d.shape u t class class f)))
-        ∙ (mirrored class u h ∙ ap (so_far_of class) (sym (quiet_other d net tags opening s g order st t t_in new_tile lane lane_in (take_from_ring d.depth) event u other))))
+        ap (λ (l : Lane). l.so_far)
+        (line_other d net tags opening s g order st t t_in class flit more first (ejection_channel d.shape u class)
+        (λ f. other (ejection_tile d.shape u t class class f)))
+        ∙ (mirrored class u h ∙ ap (so_far_of class)
+        (sym (quiet_other d net tags opening s g order st t t_in new_tile lane lane_in (take_from_ring d.depth) event u other))))
         (cases_eq u t)))
         (λ (apart : e ≢ class).
-        ap (λ (l : Lane). l.so_far) (line_other d net tags opening s g order st t t_in class flit more first (ejection_channel d.shape u e) (λ f. apart (ejection_class d.shape u t e class f)))
+        ap (λ (l : Lane). l.so_far)
+        (line_other d net tags opening s g order st t t_in class flit more first (ejection_channel d.shape u e)
+        (λ f. apart (ejection_class d.shape u t e class f)))
         ∙ (mirrored e u h ∙ sym (tile_part (so_far_of e) (i.others e apart) u)))
         (same_class e class)
 
@@ -119,8 +130,10 @@ module _ (d : Design) (net : IsNet (net_of d)) (tags : ℕ) (opening : List ℕ)
           router = i.router;
           latches = kept_line (λ (l : Lane). l.latch) refl;
           owners = kept_line (λ (l : Lane). l.owner) refl;
-          requests = λ u h. kept_line (λ (l : Lane). l.rest) refl _ ∙ (st.mirrors.sends_requests u h ∙ sym (tile_part (λ (w : TileState). w.processor.to_put) i.requests u));
-          replies = λ u h. kept_line (λ (l : Lane). l.rest) refl _ ∙ (st.mirrors.sends_replies u h ∙ sym (tile_part (λ (w : TileState). in_course w.bank.to_put) (ap in_course i.replies) u));
+          requests = λ u h. kept_line (λ (l : Lane). l.rest) refl _
+              ∙ (st.mirrors.sends_requests u h ∙ sym (tile_part (λ (w : TileState). w.processor.to_put) i.requests u));
+          replies = λ u h. kept_line (λ (l : Lane). l.rest) refl _
+              ∙ (st.mirrors.sends_replies u h ∙ sym (tile_part (λ (w : TileState). in_course w.bank.to_put) (ap in_course i.replies) u));
           replies_in = so_far_end Reply;
           requests_in = so_far_end Request;
         }))
@@ -133,7 +146,8 @@ taking_phase t b none idle = record {
   fresh = λ h. let no : ◌≡◌ {A = Bool} true false = sym h ∙ (ap (λ (xs : List ℕ). is_head (first_flit xs)) idle ∙ no_head) in cc;
 }
 
-module _ (d : Design) (net : IsNet (net_of d)) (tags : ℕ) (opening : List ℕ) (s : State) (g : Ghost) (order : List LinearizationPoint) (st : Stands d tags opening s g order)
+module _ (d : Design) (net : IsNet (net_of d)) (tags : ℕ) (opening : List ℕ) (s : State) (g : Ghost) (order : List LinearizationPoint)
+    (st : Stands d tags opening s g order)
     (t : ℕ) (t_in : t < tiles_of d.shape) (flit : ℕ) (more : List ℕ) (body : is_tail flit ≡ false) where
   abbrev pub processor_tile : TileState
   processor_tile = record (tile_at s t) { processor = record ((tile_at s t).processor) { so_far = (tile_at s t).processor.so_far ++ flit ∷ [] } }
@@ -142,7 +156,8 @@ module _ (d : Design) (net : IsNet (net_of d)) (tags : ℕ) (opening : List ℕ)
   bank_tile = record (tile_at s t) { bank = record ((tile_at s t).bank) { so_far = (tile_at s t).bank.so_far ++ flit ∷ [] } }
 
   pub processor_more : (first : (ring s.around.rings (ejection_channel d.shape t Reply)).channel.flits ≡ flit ∷ more)
-      → Stands d tags opening (more_state d net tags opening s g order st t t_in Reply flit more first body processor_tile) (more_ghost d net tags opening s g order st t t_in Reply flit more first body processor_tile) order
+      → Stands d tags opening (more_state d net tags opening s g order st t t_in Reply flit more first body processor_tile)
+      (more_ghost d net tags opening s g order st t t_in Reply flit more first body processor_tile) order
   processor_more first = more_stands d net tags opening s g order st t t_in Reply flit more first body processor_tile (record {
     router = refl;
     operations = refl;
@@ -160,8 +175,10 @@ module _ (d : Design) (net : IsNet (net_of d)) (tags : ℕ) (opening : List ℕ)
       reply_only Request h = refl
       reply_only Reply h = absurd (h refl)
 
-  pub bank_more : (first : (ring s.around.rings (ejection_channel d.shape t Request)).channel.flits ≡ flit ∷ more) → (tile_at s t).bank.waiting ≡ None → (tile_at s t).bank.to_put ≡ []
-      → Stands d tags opening (more_state d net tags opening s g order st t t_in Request flit more first body bank_tile) (more_ghost d net tags opening s g order st t t_in Request flit more first body bank_tile) order
+  pub bank_more : (first : (ring s.around.rings (ejection_channel d.shape t Request)).channel.flits ≡ flit ∷ more) → (tile_at s t).bank.waiting ≡ None
+      → (tile_at s t).bank.to_put ≡ []
+      → Stands d tags opening (more_state d net tags opening s g order st t t_in Request flit more first body bank_tile)
+      (more_ghost d net tags opening s g order st t t_in Request flit more first body bank_tile) order
   bank_more first none idle = more_stands d net tags opening s g order st t t_in Request flit more first body bank_tile (record {
     router = refl;
     operations = refl;

@@ -1,5 +1,6 @@
 -- What a step of a tile's agent does to what the machine shows is what its move says.
-use Rattle.std.proofs.Common.{◌≡◌, ℕ, ◌<◌, Bool, true, false, List, [], ◌∷◌, ◌++◌, take, Option, Some, None, refl, sym, ◌∙◌, ap, subst, arith, slice_index, slice_set, if◌then◌else◌}
+use Rattle.std.proofs.Common.{◌≡◌, ℕ, ◌<◌, Bool, true, false, List, [], ◌∷◌, ◌++◌, take, Option, Some, None, refl, sym, ◌∙◌, ap, subst, arith, slice_index}
+use Rattle.std.proofs.Common.{slice_set, if◌then◌else◌}
 use Rattle.std.specs.Prelude.{option_and_then, option_map, is_none, not, ◌&&◌}
 use Rattle.std.proofs.lemmas.Option.{same_Some}
 use Rattle.std.proofs.lemmas.List.{take-set-le, get_or-take}
@@ -18,21 +19,21 @@ use Rattle.packet.specs.declared.assembler.Offered.TheVariants.{More, Whole, Ref
 use Rattle.packet.specs.Memory.{new_word, reply_to}
 use Rattle.home_bank.specs.declared.entry.Entry.{Entry}
 use Rattle.home_bank.specs.ServiceList.{address_of, entry_of}
-use Rattle.net_interface.specs.Following.{is_finished}
+use Rattle.script_follower.specs.Following.{is_finished}
 use Rattle.flit_buffer.specs.Channel.{first_of}
 use Rattle.flit_buffer.specs.declared.want.Want.{Want}
 use Rattle.flit_buffer.specs.declared.want.Want.TheVariants as want
 use Rattle.flit_buffer.specs.Wants.{told_by}
 use Rattle.flit_buffer.specs.Surroundings.{Surroundings, Wiring, granted, surroundings_after}
-use Rattle.net_interface.specs.ProcessorRecord.{ProcessorRecord, ready, issued_by, answered_by}
-use Rattle.flights.specs.Flight.{Move, Sends, Serves, Takes}
+use Rattle.script_follower.specs.ProcessorRecord.{ProcessorRecord, ready, issued_by, answered_by}
+use Rattle.order_abstract.specs.Flight.{Move, Sends, Serves, Takes}
 use Rattle.packet.specs.Flits.{offered}
 use Rattle.router.specs.Table.{RouterState, router_wants, router_after}
-use Rattle.net_interface.specs.ProcessorTable.{ProcessorState, processor_wants, processor_after, flits_due, record_sent, record_offered, issued_of}
+use Rattle.script_follower.specs.ProcessorTable.{ProcessorState, processor_wants, processor_after, flits_due, record_sent, record_offered, issued_of}
 use Rattle.home_bank.specs.BankTable.{BankState, bank_wants, bank_after, is_nil, served}
-use Rattle.tile.specs.Wiring.{processor_wiring, bank_wiring}
+use Rattle.tile_laws.specs.Wiring.{processor_wiring, bank_wiring}
 use Rattle.router.specs.Beginning.{router_wiring}
-use Rattle.tile.specs.Tile.{Design, TileState, Agent, Processor, Router, Bank, tile_step}
+use Rattle.tile_laws.specs.Tile.{Design, TileState, Agent, Processor, Router, Bank, tile_step}
 use Rattle.core_laws.specs.Moves.{issue_of, answer_by, processor_move, bank_move, tile_move}
 use Rattle.core_laws.proofs.AgentSteps.{Did, did, did_learn, option_map_some}
 use Rattle.core_laws.proofs.ChannelWants.{channel_words, router_of_channel}
@@ -73,7 +74,8 @@ record ProcessorMoved (words t : ℕ) (p : ProcessorState) (around : Surrounding
 
 sent_record : (tiles words t : ℕ) (p : ProcessorState) (to_put : List ℕ) (next : Option (ℕ × Operation)) (w : Want) → next ≡ ready p.operations
     → option_map (λ flit. want.Put 0 flit) (first_of (flits_due tiles words t to_put next)) ≡ Some w
-    → RecordMoved t p.operations (record_sent tiles words t to_put p.operations) (issue_of t to_put next) × ((r : Request) → issue_of t to_put next ≡ Some (Serves r) → ⊥)
+    → RecordMoved t p.operations (record_sent tiles words t to_put p.operations) (issue_of t to_put next)
+    × ((r : Request) → issue_of t to_put next ≡ Some (Serves r) → ⊥)
 sent_record tiles words t p [] None w is h = cc
 sent_record tiles words t p [] (Some f) w is h =
     ((refl, sym (ap (λ o. issued_of tiles words t o p.operations) is)), λ r e. let no : ◌≡◌ {A = Move} (Sends t f.0 f.1) (Serves r) = same_Some _ _ e in cc)
@@ -87,13 +89,16 @@ put_words depth words around left wiring o w h e =
 
 take_words : (depth words i : ℕ) (around left : Surroundings) (wiring : Wiring) (w : Want) → ◌≡◌ {A = Option Want} (Some (want.Take i)) (Some w)
     → left ≡ surroundings_after depth around wiring w → take words left.words ≡ take words around.words
-take_words depth words i around left wiring w h e = ap (λ (x : Surroundings). take words x.words) (e ∙ ap (surroundings_after depth around wiring) (sym (same_Some _ _ h)))
+take_words depth words i around left wiring w h e =
+    ap (λ (x : Surroundings). take words x.words) (e ∙ ap (surroundings_after depth around wiring) (sym (same_Some _ _ h)))
 
 credit_words : (depth words i : ℕ) (around left : Surroundings) (wiring : Wiring) (w : Want) → ◌≡◌ {A = Option Want} (Some (want.Credit i)) (Some w)
     → left ≡ surroundings_after depth around wiring w → take words left.words ≡ take words around.words
-credit_words depth words i around left wiring w h e = ap (λ (x : Surroundings). take words x.words) (e ∙ ap (surroundings_after depth around wiring) (sym (same_Some _ _ h)))
+credit_words depth words i around left wiring w h e =
+    ap (λ (x : Surroundings). take words x.words) (e ∙ ap (surroundings_after depth around wiring) (sym (same_Some _ _ h)))
 
-offered_record : (tiles words t : ℕ) (b : ProcessorRecord) (o : Offered) → RecordMoved t b (record_offered tiles words t b o) (answer_by o) × ((r : Request) → answer_by o ≡ Some (Serves r) → ⊥)
+offered_record : (tiles words t : ℕ) (b : ProcessorRecord) (o : Offered)
+    → RecordMoved t b (record_offered tiles words t b o) (answer_by o) × ((r : Request) → answer_by o ≡ Some (Serves r) → ⊥)
 offered_record tiles words t b More = (refl, λ r e. cc)
 offered_record tiles words t b (Whole (packet.Request q)) = (refl, λ r e. cc)
 offered_record tiles words t b (Whole (packet.Response q)) = (refl, λ r e. let no : ◌≡◌ {A = Move} (Takes q) (Serves r) = same_Some _ _ e in cc)
@@ -103,18 +108,21 @@ pub if_some : {A : Type 0} (b : Bool) (x y : A) → (if b then Some x else None)
 if_some true x y h = same_Some x y h
 if_some false x y h = cc
 
-processor_moves : (tiles words depth t : ℕ) (wiring : Wiring) (p : ProcessorState) (around : Surroundings) (choice : Choice) (q : ProcessorState) (left : Surroundings)
+processor_moves : (tiles words depth t : ℕ) (wiring : Wiring) (p : ProcessorState) (around : Surroundings) (choice : Choice) (q : ProcessorState)
+    (left : Surroundings)
     → (x : Did (processor_wants tiles words t) (processor_after tiles words t) depth wiring p around choice q left)
     → ProcessorMoved words t p around q left (processor_move t p choice x.learned)
 processor_moves tiles words depth t wiring p around Send q left x =
     let s = sent_record tiles words t p p.to_put (ready p.operations) x.want refl x.wanted in record {
-      operations = subst (λ (c : ProcessorRecord). RecordMoved t p.operations c (issue_of t p.to_put (ready p.operations))) (sym (ap (λ (z : ProcessorState). z.operations) x.state_is)) s.0;
+      operations = subst (λ (c : ProcessorRecord). RecordMoved t p.operations c (issue_of t p.to_put (ready p.operations)))
+          (sym (ap (λ (z : ProcessorState). z.operations) x.state_is)) s.0;
       memory = put_words depth words around left wiring (first_of (flits_due tiles words t p.to_put (ready p.operations))) x.want x.wanted x.around_is;
       serves = s.1;
     }
 processor_moves tiles words depth t wiring p around Take q left x =
     let s = offered_record tiles words t p.operations (offered p.so_far x.learned) in record {
-      operations = subst (λ (c : ProcessorRecord). RecordMoved t p.operations c (answer_by (offered p.so_far x.learned))) (sym (ap (λ (z : ProcessorState). z.operations) x.state_is)) s.0;
+      operations = subst (λ (c : ProcessorRecord). RecordMoved t p.operations c (answer_by (offered p.so_far x.learned)))
+          (sym (ap (λ (z : ProcessorState). z.operations) x.state_is)) s.0;
       memory = take_words depth words 0 around left wiring x.want x.wanted x.around_is;
       serves = s.1;
     }
@@ -161,7 +169,8 @@ reply_learned (op.Xor v) w = refl
 reply_learned (op.Max v) w = refl
 reply_learned (op.Min v) w = refl
 
-serve_moves : (tiles words depth t : ℕ) (wiring : Wiring) (b : BankState) (around : Surroundings) (c : BankState) (left : Surroundings) (waiting : Option Request) (w : Want) (learned : ℕ)
+serve_moves : (tiles words depth t : ℕ) (wiring : Wiring) (b : BankState) (around : Surroundings) (c : BankState) (left : Surroundings)
+    (waiting : Option Request) (w : Want) (learned : ℕ)
     → option_map (λ (r : Request). want.Access (address_of t tiles r.word) r.op) waiting ≡ Some w → granted around wiring w ≡ Some learned
     → c.entries ≡ (served tiles t b waiting learned).entries → left ≡ surroundings_after depth around wiring w
     → ((m : Move) → option_map (λ r. Serves r) waiting ≡ Some m → IsHere tiles words t m)
@@ -187,7 +196,8 @@ bank_moves : (tiles words depth t : ℕ) (wiring : Wiring) (b : BankState) (arou
     → ((m : Move) → bank_move b choice x.learned ≡ Some m → IsHere tiles words t m)
     → BankMoved tiles words t b around c left (bank_move b choice x.learned)
 bank_moves tiles words depth t wiring b around Serve c left x here =
-    serve_moves tiles words depth t wiring b around c left b.waiting x.want x.learned x.wanted x.grants (ap (λ (z : BankState). z.entries) x.state_is) x.around_is here
+    serve_moves tiles words depth t wiring b around c left b.waiting x.want x.learned x.wanted x.grants (ap (λ (z : BankState). z.entries) x.state_is)
+    x.around_is here
 bank_moves tiles words depth t wiring b around Take c left x here = record {
   entries = ap (λ (z : BankState). z.entries) x.state_is;
   memory =
@@ -235,10 +245,13 @@ module _ (d : Design) (t : ℕ) (before : TileState) (around : Surroundings) whe
       → TileMoved (tiles_of d.shape) d.words t before around after left (tile_move d t before around agent choice)
   tile_moves Processor choice after left h here =
       let f = option_map_some (λ (p : ProcessorState × Surroundings). (record before { processor = p.0 }, p.1)) _ (after, left) h in
-      let x = did (processor_wants (tiles_of d.shape) d.words t) (processor_after (tiles_of d.shape) d.words t) d.depth (processor_wiring d.shape t) before.processor around choice f.0.0 f.0.1 f.1 in
-      let learns = did_learn (processor_wants (tiles_of d.shape) d.words t) (processor_after (tiles_of d.shape) d.words t) d.depth (processor_wiring d.shape t) before.processor around choice f.0.0 f.0.1 x in
+      let x = did (processor_wants (tiles_of d.shape) d.words t) (processor_after (tiles_of d.shape) d.words t) d.depth (processor_wiring d.shape t)
+      before.processor around choice f.0.0 f.0.1 f.1 in
+      let learns = did_learn (processor_wants (tiles_of d.shape) d.words t) (processor_after (tiles_of d.shape) d.words t) d.depth (processor_wiring d.shape t)
+      before.processor around choice f.0.0 f.0.1 x in
       let m = processor_moves (tiles_of d.shape) d.words d.depth t (processor_wiring d.shape t) before.processor around choice f.0.0 f.0.1 x in
-      let move : tile_move d t before around Processor choice ≡ processor_move t before.processor choice x.learned = ap (λ o. option_and_then (processor_move t before.processor choice) o) learns in
+      let move : tile_move d t before around Processor choice ≡ processor_move t before.processor choice x.learned =
+      ap (λ o. option_and_then (processor_move t before.processor choice) o) learns in
       subst (λ (z : TileState × Surroundings). TileMoved (tiles_of d.shape) d.words t before around z.0 z.1 (tile_move d t before around Processor choice)) f.2
       (subst (λ (k : Option Move). TileMoved (tiles_of d.shape) d.words t before around (record before { processor = f.0.0 }) f.0.1 k) (sym move)
       (record {
@@ -253,13 +266,18 @@ module _ (d : Design) (t : ℕ) (before : TileState) (around : Surroundings) whe
       (record {
         operations = refl;
         entries = refl;
-        memory = ap (take d.words) (ap (λ (z : Surroundings). z.words) x.around_is ∙ channel_words d.depth around (router_wiring d.shape t) x.want (router_of_channel d.shape t before.router choice x.want x.wanted));
+        memory = ap (take d.words)
+            (ap (λ (z : Surroundings). z.words) x.around_is
+            ∙ channel_words d.depth around (router_wiring d.shape t) x.want (router_of_channel d.shape t before.router choice x.want x.wanted));
       })
   tile_moves Bank choice after left h here =
       let f = option_map_some (λ (p : BankState × Surroundings). (record before { bank = p.0 }, p.1)) _ (after, left) h in
-      let x = did (bank_wants (tiles_of d.shape) t) (bank_after (tiles_of d.shape) t) d.depth (bank_wiring d.shape t) before.bank around choice f.0.0 f.0.1 f.1 in
-      let learns = did_learn (bank_wants (tiles_of d.shape) t) (bank_after (tiles_of d.shape) t) d.depth (bank_wiring d.shape t) before.bank around choice f.0.0 f.0.1 x in
-      let move : tile_move d t before around Bank choice ≡ bank_move before.bank choice x.learned = ap (λ o. option_and_then (bank_move before.bank choice) o) learns in
+      let x = did (bank_wants (tiles_of d.shape) t) (bank_after (tiles_of d.shape) t) d.depth (bank_wiring d.shape t) before.bank around choice f.0.0 f.0.1
+      f.1 in
+      let learns = did_learn (bank_wants (tiles_of d.shape) t) (bank_after (tiles_of d.shape) t) d.depth (bank_wiring d.shape t) before.bank around choice f.0.0
+      f.0.1 x in
+      let move : tile_move d t before around Bank choice ≡ bank_move before.bank choice x.learned =
+      ap (λ o. option_and_then (bank_move before.bank choice) o) learns in
       let m = bank_moves (tiles_of d.shape) d.words d.depth t (bank_wiring d.shape t) before.bank around choice f.0.0 f.0.1 x (λ k e. here k (move ∙ e)) in
       subst (λ (z : TileState × Surroundings). TileMoved (tiles_of d.shape) d.words t before around z.0 z.1 (tile_move d t before around Bank choice)) f.2
       (subst (λ (k : Option Move). TileMoved (tiles_of d.shape) d.words t before around (record before { bank = f.0.0 }) f.0.1 k) (sym move)

@@ -15,10 +15,10 @@ use Rattle.script.specs.declared.line.Line.TheVariants as line
 use Rattle.script.specs.declared.line.Value.{Value}
 use Rattle.script.specs.declared.line.Value.TheVariants.{Number, Last}
 use Rattle.script.specs.Scripts.{IsWord, IsAcceptedLine}
-use Rattle.net_interface.specs.declared.spin.OpenSpin.{OpenSpin}
-use Rattle.net_interface.specs.Scripts.{reply_number}
-use Rattle.net_interface.specs.Following.{ready, operation_of, asked, operand_of}
-use Rattle.net_interface.proofs.Places.{Each}
+use Rattle.script_follower.specs.declared.spin.OpenSpin.{OpenSpin}
+use Rattle.script_follower.specs.Scripts.{reply_number}
+use Rattle.script_follower.specs.Following.{ready, operation_of, asked, operand_of}
+use Rattle.script_follower.proofs.Places.{Each}
 
 -- values of 64 bits
 abbrev pub Below : List ℕ → Type 0
@@ -98,7 +98,8 @@ operand_below (Number n) last x word known e = let same : n ≡ x = cc in subst 
 operand_below Last None x word known e = cc
 operand_below Last (Some reply) x word known e = let same : reply_number reply ≡ x = cc in subst (λ m. m < 2 ^ 64) same known
 
-asked_inside : (words : ℕ) (kind : ℕ → Op) → ((x : ℕ) → x < 2 ^ 64 → Below (values_of_op (kind x))) → (a : ℕ) (v : Value) (last : Option Reply) (o : Operation) → a < words → IsWord v → Known last
+asked_inside : (words : ℕ) (kind : ℕ → Op) → ((x : ℕ) → x < 2 ^ 64 → Below (values_of_op (kind x))) → (a : ℕ) (v : Value) (last : Option Reply) (o : Operation)
+    → a < words → IsWord v → Known last
     → (found : Option ℕ) → operand_of v last ≡ found → option_map (λ x. record { address = a; op = kind x }) found ≡ Some o → IsInside words o
 asked_inside words kind below a v last o a_in word known None is e = cc
 asked_inside words kind below a v last o a_in word known (Some x) is e =
@@ -109,14 +110,16 @@ cas_inside : (words a : ℕ) (e n : Value) (last : Option Reply) (o : Operation)
     → (found : Option ℕ) → operand_of e last ≡ found → option_and_then (λ x. asked (Cas x) a n last) found ≡ Some o → IsInside words o
 cas_inside words a e n last o a_in we wn known None is h = cc
 cas_inside words a e n last o a_in we wn known (Some x) is h =
-    asked_inside words (Cas x) (λ y small. All-cons (λ v. v < 2 ^ 64) x (y ∷ []) (operand_below e last x we known is) (one_below y small)) a n last o a_in wn known (operand_of n last) refl h
+    asked_inside words (Cas x) (λ y small. All-cons (λ v. v < 2 ^ 64) x (y ∷ []) (operand_below e last x we known is) (one_below y small)) a n last o a_in wn
+    known (operand_of n last) refl h
 
 loads_inside : (words a : ℕ) (o : Operation) → a < words → Some (record { address = a; op = Load }) ≡ Some o → IsInside words o
 loads_inside words a o a_in h =
     let same : record { address = a; op = Load } ≡ o = cc in
     subst (λ (p : Operation). IsInside words p) same (a_in, none_below)
 
-line_inside : (words : ℕ) (first : Line) (last : Option Reply) (o : Operation) → IsAcceptedLine words first → Known last → operation_of first last ≡ Some o → IsInside words o
+line_inside : (words : ℕ) (first : Line) (last : Option Reply) (o : Operation) → IsAcceptedLine words first → Known last → operation_of first last ≡ Some o
+    → IsInside words o
 line_inside words (line.Load a) last o ok known h = loads_inside words a o ok h
 line_inside words (line.Store a v) last o ok known h = asked_inside words Store one_below a v last o ok.0 ok.1 known (operand_of v last) refl h
 line_inside words (line.Swap a v) last o ok known h = asked_inside words Swap one_below a v last o ok.0 ok.1 known (operand_of v last) refl h
@@ -131,7 +134,8 @@ line_inside words line.Fence last o ok known h = cc
 line_inside words (line.Spin a v m) last o ok known h = loads_inside words a o ok.0 h
 
 -- the operation that is ready is at a word, and of 64-bit values
-pub ready_inside : (words : ℕ) (spin : Option OpenSpin) (ahead : List Line) (last : Option Reply) (o : Operation) → Each (IsAcceptedLine words) ahead → IsSpinInside words spin → Known last
+pub ready_inside : (words : ℕ) (spin : Option OpenSpin) (ahead : List Line) (last : Option Reply) (o : Operation) → Each (IsAcceptedLine words) ahead
+    → IsSpinInside words spin → Known last
     → ready spin ahead last ≡ Some o → IsInside words o
 ready_inside words None [] last o each inside known h = cc
 ready_inside words None (first ∷ lines) last o each inside known h = line_inside words first last o each.0 known h

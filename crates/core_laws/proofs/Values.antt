@@ -1,5 +1,6 @@
 -- What holds of the values of a machine: words of 64 bits, addresses of words, and flits that aren't 0.
-use Rattle.std.proofs.Common.{◌≡◌, ◌≢◌, ⊎_elim, ℕ, zero, suc, ◌^◌, ◌<◌, ◌≤◌, List, [], ◌∷◌, ◌++◌, length, map, replicate, Option, Some, None, All, sym, ◌∙◌, arith, slice_index, slice_index_or}
+use Rattle.std.proofs.Common.{◌≡◌, ◌≢◌, ⊎_elim, ℕ, zero, suc, ◌^◌, ◌<◌, ◌≤◌, List, [], ◌∷◌, ◌++◌, length, map, replicate, Option, Some, None, All, sym, ◌∙◌}
+use Rattle.std.proofs.Common.{arith, slice_index, slice_index_or}
 use Rattle.std.proofs.lemmas.Bool.{cases_lt}
 use Rattle.std.proofs.lemmas.List.{get_or-replicate, get_or_past, length-replicate}
 use Rattle.std.proofs.lemmas.List.Elements.{All-nil}
@@ -8,7 +9,7 @@ use Rattle.script.specs.declared.line.Line.{Line}
 use Rattle.script.specs.Scripts.{IsAcceptedScript, script_of}
 use Rattle.channel_number.specs.Ports.{port_count}
 use Rattle.router.specs.Table.{latch_of}
-use Rattle.tile.specs.Tile.{Design, TileState}
+use Rattle.tile_laws.specs.Tile.{Design, TileState}
 use Rattle.core_laws.specs.Core.{Load, State, design_of, first_tile, first_state}
 use Rattle.core_laws.specs.Runs.{IsAccepted}
 use Rattle.core_laws.proofs.Followed.{IsFollowed, followed_first, followed_none}
@@ -42,7 +43,8 @@ pub record HasValues (d : Design) (s : State) : Type 0 where
 none_latched : (n i flit : ℕ) → slice_index_or {A = Option ℕ} (replicate n None) i None ≡ Some flit → flit ≢ 0
 none_latched n i flit h =
     let e : slice_index_or {A = Option ℕ} (replicate n None) i None ≡ None =
-    ⊎_elim (λ (l : i < n). get_or-replicate n i None None l) (λ (g : n ≤ i). let len = length-replicate {A = Option ℕ} n None in get_or_past (replicate n None) i None (omega (arith, len))) (cases_lt i n) in
+    ⊎_elim (λ (l : i < n). get_or-replicate n i None None l)
+    (λ (g : n ≤ i). let len = length-replicate {A = Option ℕ} n None in get_or_past (replicate n None) i None (omega (arith, len))) (cases_lt i n) in
     let no : ◌≡◌ {A = Option ℕ} None (Some flit) = sym e ∙ h in absurd (cc)
 
 abbrev some_none : AreSome []
@@ -64,7 +66,8 @@ no_values words = record {
   replies_left = some_none;
 }
 
-tiles_values : (words dims tags : ℕ) (scripts : List (List Line)) → ((p : ℕ) → IsAcceptedScript words (script_of scripts p)) → (t : ℕ) → HasTileValues words (slice_index_or (map (first_tile dims tags) scripts) t no_tile)
+tiles_values : (words dims tags : ℕ) (scripts : List (List Line)) → ((p : ℕ) → IsAcceptedScript words (script_of scripts p)) → (t : ℕ)
+    → HasTileValues words (slice_index_or (map (first_tile dims tags) scripts) t no_tile)
 tiles_values words dims tags [] ok t = no_values words
 tiles_values words dims tags (lines ∷ scripts) ok zero = first_values words dims tags lines (ok 0)
 tiles_values words dims tags (lines ∷ scripts) ok (suc t) = tiles_values words dims tags scripts (λ p. ok (suc p)) t

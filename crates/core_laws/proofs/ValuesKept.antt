@@ -1,5 +1,6 @@
 -- Each step keeps what holds of values.
-use Rattle.std.proofs.Common.{◌≡◌, ◌≢◌, ⊎_elim, ℕ, ◌/◌, ◌%◌, ◌^◌, ◌<◌, ◌≤◌, List, [], ◌∷◌, length, Option, Some, None, refl, sym, ◌∙◌, ap, subst, arith, slice_get, slice_index, slice_set}
+use Rattle.std.proofs.Common.{◌≡◌, ◌≢◌, ⊎_elim, ℕ, ◌/◌, ◌%◌, ◌^◌, ◌<◌, ◌≤◌, List, [], ◌∷◌, length, Option, Some, None, refl, sym, ◌∙◌, ap, subst, arith}
+use Rattle.std.proofs.Common.{slice_get, slice_index, slice_set}
 use Rattle.std.specs.Prelude.{option_map, option_and_then}
 use Rattle.std.proofs.lemmas.Bool.{cases_lt}
 use Rattle.std.proofs.lemmas.List.{get_or_past}
@@ -16,33 +17,35 @@ use Rattle.packet.specs.declared.kinds.Reply.{Reply}
 use Rattle.packet.specs.Memory.{reply_to}
 use Rattle.packet.proofs.Shapes.{flits_above_zero}
 use Rattle.home_bank.specs.ServiceList.{address_of, response_of}
-use Rattle.runs.specs.Order.{LinearizationPoint}
+use Rattle.one_order.specs.Order.{LinearizationPoint}
 use Rattle.flit_buffer.specs.Channel.{first_of}
 use Rattle.flit_buffer.specs.Wants.{told_by}
 use Rattle.flit_buffer.specs.declared.want.Want.{Want}
 use Rattle.flit_buffer.specs.declared.want.Want.TheVariants as want
 use Rattle.flit_buffer.specs.Surroundings.{Surroundings, ring, no_ring, granted}
-use Rattle.net_interface.specs.ProcessorRecord.{ready, request_of}
+use Rattle.script_follower.specs.ProcessorRecord.{ready, request_of}
 use Rattle.packet.specs.Flits.{flits_of}
 use Rattle.router.specs.Table.{RouterState, latch_of, router_wants, router_after}
-use Rattle.net_interface.specs.ProcessorTable.{ProcessorState, processor_wants, processor_after}
+use Rattle.script_follower.specs.ProcessorTable.{ProcessorState, processor_wants, processor_after}
 use Rattle.home_bank.specs.BankTable.{BankState, bank_wants, bank_after}
-use Rattle.tile.specs.Wiring.{processor_wiring, bank_wiring}
+use Rattle.tile_laws.specs.Wiring.{processor_wiring, bank_wiring}
 use Rattle.router.specs.Beginning.{router_wiring}
-use Rattle.tile.specs.Tile.{Design, TileState, Agent, Processor, Router, Bank, tile_step}
+use Rattle.tile_laws.specs.Tile.{Design, TileState, Agent, Processor, Router, Bank, tile_step}
 use Rattle.core_laws.specs.Core.{State, next, or_same, agent_numbered}
 use Rattle.core_laws.proofs.AgentSteps.{did, option_map_some}
 use Rattle.core_laws.proofs.TileMoves.{reply_learned}
 use Rattle.core_laws.proofs.Values.{IsLimited, AreSome, HasTileValues, HasValues}
 use Rattle.core_laws.proofs.ValuesProper.{ready_proper, waiting_values, reply_proper}
-use Rattle.core_laws.proofs.ValuesParts.{set_any, words_after, processor_sound, bank_sound, router_sound, processor_followed, processor_left, bank_left, router_latched, router_takes}
+use Rattle.core_laws.proofs.ValuesParts.{set_any, words_after, processor_sound, bank_sound, router_sound, processor_followed, processor_left, bank_left}
+use Rattle.core_laws.proofs.ValuesParts.{router_latched, router_takes}
 use Rattle.core_laws.proofs.Stands.{Ghost, Stands, tile_at, no_tile}
 
 first_some : (flits : List ℕ) (flit : ℕ) → ((i : ℕ) → i < length flits → slice_index flits i ≢ 0) → first_of flits ≡ Some flit → flit ≢ 0
 first_some [] flit some h = absurd (cc)
 first_some (x ∷ flits) flit some h = subst (λ (n : ℕ). n ≢ 0) (same_Some x flit h) (some 0 (omega arith))
 
-module _ (d : Design) (tags : ℕ) (limits : IsLimited d tags) (opening : List ℕ) (s : State) (g : Ghost) (order : List LinearizationPoint) (st : Stands d tags opening s g order) (h : HasValues d s) where
+module _ (d : Design) (tags : ℕ) (limits : IsLimited d tags) (opening : List ℕ) (s : State) (g : Ghost) (order : List LinearizationPoint)
+    (st : Stands d tags opening s g order) (h : HasValues d s) where
   abbrev AreBelow : Surroundings → Type 0
   AreBelow left = (a : ℕ) → slice_index left.words a < 2 ^ 64
 
@@ -55,41 +58,50 @@ module _ (d : Design) (tags : ℕ) (limits : IsLimited d tags) (opening : List �
       let no : ◌≡◌ {A = Option ℕ} None (Some flit) = sym none ∙ e in absurd (cc))
       (cases_lt x (length s.around.rings))
 
-  ready_left : (t : ℕ) → t < tiles_of d.shape → (f : ℕ × Operation) → ready (tile_at s t).processor.operations ≡ Some f → AreSome (flits_of (packet.Request (request_of (tiles_of d.shape) t f.0 f.1)))
+  ready_left : (t : ℕ) → t < tiles_of d.shape → (f : ℕ × Operation) → ready (tile_at s t).processor.operations ≡ Some f
+      → AreSome (flits_of (packet.Request (request_of (tiles_of d.shape) t f.0 f.1)))
   ready_left t t_in f is =
       flits_above_zero (packet.Request (request_of (tiles_of d.shape) t f.0 f.1)) (flits_of (packet.Request (request_of (tiles_of d.shape) t f.0 f.1)))
       (ready_proper d tags limits opening s g order st h t f.0 f.1 t_in is).0.spelled
 
-  reply_left : (t : ℕ) → t < tiles_of d.shape → (choice : Choice) (w : Want) (learned : ℕ) → bank_wants (tiles_of d.shape) t (tile_at s t).bank choice ≡ Some w → granted s.around (bank_wiring d.shape t) w ≡ Some learned
-      → choice ≡ Serve → (r : Asking) → (tile_at s t).bank.waiting ≡ Some r → AreSome (flits_of (packet.Response (response_of t (length (tile_at s t).bank.entries) r (reply_to r.op learned))))
+  reply_left : (t : ℕ) → t < tiles_of d.shape → (choice : Choice) (w : Want) (learned : ℕ) → bank_wants (tiles_of d.shape) t (tile_at s t).bank choice ≡ Some w
+      → granted s.around (bank_wiring d.shape t) w ≡ Some learned
+      → choice ≡ Serve → (r : Asking) → (tile_at s t).bank.waiting ≡ Some r
+      → AreSome (flits_of (packet.Response (response_of t (length (tile_at s t).bank.entries) r (reply_to r.op learned))))
   reply_left t t_in choice w learned wanted grants serves r waits =
       let n : ℕ = tiles_of d.shape in
       let b : BankState = (tile_at s t).bank in
       let a : ℕ = address_of t n r.word in
       let is : bank_wants n t b Serve ≡ Some w = ap (bank_wants n t b) (sym serves) ∙ wanted in
-      let w_is : want.Access a r.op ≡ w = same_Some _ _ (ap (λ (o : Option Asking). option_map (λ (x : Asking). want.Access (address_of t n x.word) x.op) o) (sym waits) ∙ is) in
+      let w_is : want.Access a r.op ≡ w =
+      same_Some _ _ (ap (λ (o : Option Asking). option_map (λ (x : Asking). want.Access (address_of t n x.word) x.op) o) (sym waits) ∙ is) in
       let learns : told_by r.op (slice_index s.around.words a) ≡ learned = same_Some _ _ (ap (granted s.around (bank_wiring d.shape t)) w_is ∙ grants) in
-      let reply : reply_to r.op (slice_index s.around.words a) ≡ reply_to r.op learned = sym (reply_learned r.op (slice_index s.around.words a)) ∙ ap (reply_to r.op) learns in
+      let reply : reply_to r.op (slice_index s.around.words a) ≡ reply_to r.op learned =
+      sym (reply_learned r.op (slice_index s.around.words a)) ∙ ap (reply_to r.op) learns in
       let spelled = (reply_proper d tags limits opening s g order st h t r t_in waits).spelled in
       subst (λ (v : Reply). AreSome (flits_of (packet.Response (response_of t (length b.entries) r v)))) reply
-      (flits_above_zero (packet.Response (response_of t (length b.entries) r (reply_to r.op (slice_index s.around.words a)))) (flits_of (packet.Response (response_of t (length b.entries) r (reply_to r.op (slice_index s.around.words a))))) spelled)
+      (flits_above_zero (packet.Response (response_of t (length b.entries) r (reply_to r.op (slice_index s.around.words a))))
+      (flits_of (packet.Response (response_of t (length b.entries) r (reply_to r.op (slice_index s.around.words a))))) spelled)
 
   -- the tile and the surroundings after a step of one of its agents
-  tile_kept : (t : ℕ) → t < tiles_of d.shape → (agent : Agent) (choice : Choice) (after : TileState) (left : Surroundings) → tile_step d t (tile_at s t) s.around agent choice ≡ Some (after, left)
+  tile_kept : (t : ℕ) → t < tiles_of d.shape → (agent : Agent) (choice : Choice) (after : TileState) (left : Surroundings)
+      → tile_step d t (tile_at s t) s.around agent choice ≡ Some (after, left)
       → HasTileValues d.words after × AreBelow left
   tile_kept t t_in Processor choice after left e =
       let n : ℕ = tiles_of d.shape in
       let before : TileState = tile_at s t in
       let old = h.tiles t in
       let f = option_map_some (λ (p : ProcessorState × Surroundings). (record before { processor = p.0 }, p.1)) _ (after, left) e in
-      let x = did (processor_wants n d.words t) (processor_after n d.words t) d.depth (processor_wiring d.shape t) before.processor s.around choice f.0.0 f.0.1 f.1 in
+      let x = did (processor_wants n d.words t) (processor_after n d.words t) d.depth (processor_wiring d.shape t) before.processor s.around choice f.0.0 f.0.1
+      f.1 in
       let kept : HasTileValues d.words (record before { processor = processor_after n d.words t before.processor choice x.want x.learned }) = record {
         followed = processor_followed n d.words t 4096 before.processor choice x.want x.learned old.followed;
         latched = old.latched;
         requests_left = processor_left n d.words t 4096 before.processor choice x.want x.learned old.requests_left (ready_left t t_in);
         replies_left = old.replies_left;
       } in
-      let words = words_after d.depth s.around (processor_wiring d.shape t) x.want (processor_sound n d.words t before.processor choice x.want x.wanted) h.words in
+      let words = words_after d.depth s.around (processor_wiring d.shape t) x.want (processor_sound n d.words t before.processor choice x.want x.wanted)
+      h.words in
       subst (λ (z : TileState × Surroundings). HasTileValues d.words z.0 × AreBelow z.1) f.2
       (subst (λ (q : ProcessorState). HasTileValues d.words (record before { processor = q })) (sym x.state_is) kept, subst AreBelow (sym x.around_is) words)
   tile_kept t t_in Router choice after left e =
@@ -121,14 +133,16 @@ module _ (d : Design) (tags : ℕ) (limits : IsLimited d tags) (opening : List �
         requests_left = old.requests_left;
         replies_left = bank_left n t before.bank choice x.want x.learned old.replies_left (reply_left t t_in choice x.want x.learned x.wanted x.grants);
       } in
-      let words = words_after d.depth s.around (bank_wiring d.shape t) x.want (bank_sound n t before.bank choice x.want (waiting_values d tags limits opening s g order st h t) x.wanted) h.words in
+      let words = words_after d.depth s.around (bank_wiring d.shape t) x.want
+      (bank_sound n t before.bank choice x.want (waiting_values d tags limits opening s g order st h t) x.wanted) h.words in
       subst (λ (z : TileState × Surroundings). HasTileValues d.words z.0 × AreBelow z.1) f.2
       (subst (λ (q : BankState). HasTileValues d.words (record before { bank = q })) (sym x.state_is) kept, subst AreBelow (sym x.around_is) words)
 
   abbrev with_step : ℕ → Option (TileState × Surroundings) → State
   with_step t p = or_same s (option_map (λ p. record { tiles = slice_set s.tiles t p.0; around = p.1 }) p)
 
-  step_kept : (t : ℕ) → t < tiles_of d.shape → (agent : Agent) (choice : Choice) (o : Option (TileState × Surroundings)) → tile_step d t (tile_at s t) s.around agent choice ≡ o → HasValues d (with_step t o)
+  step_kept : (t : ℕ) → t < tiles_of d.shape → (agent : Agent) (choice : Choice) (o : Option (TileState × Surroundings))
+      → tile_step d t (tile_at s t) s.around agent choice ≡ o → HasValues d (with_step t o)
   step_kept t t_in agent choice None e = h
   step_kept t t_in agent choice (Some (after, left)) e =
       let k = tile_kept t t_in agent choice after left e in
@@ -146,7 +160,8 @@ module _ (d : Design) (tags : ℕ) (limits : IsLimited d tags) (opening : List �
       let is : tile_at s t ≡ tile = get_or_from_slice_get s.tiles t tile no_tile there in
       let t_in : t < tiles_of d.shape = subst (λ (k : ℕ). t < k) st.tiles (slice_get_within s.tiles t tile there) in
       subst (λ (x : TileState). HasValues d (at_tile attempt (Some x))) is
-      (step_kept t t_in (agent_numbered (attempt.agent % 3)) attempt.choice (tile_step d t (tile_at s t) s.around (agent_numbered (attempt.agent % 3)) attempt.choice) refl)
+      (step_kept t t_in (agent_numbered (attempt.agent % 3)) attempt.choice
+      (tile_step d t (tile_at s t) s.around (agent_numbered (attempt.agent % 3)) attempt.choice) refl)
 
   -- Each step keeps what holds of values.
   pub values_kept : (attempt : Step) → HasValues d (next d s attempt)

@@ -1,5 +1,6 @@
 -- What the agents' tables make of values.
-use Rattle.std.proofs.Common.{◌≡◌, ◌≢◌, ℕ, zero, suc, ◌+◌, ◌^◌, ◌<◌, ◌==◌, Bool, true, false, List, [], ◌∷◌, ◌++◌, length, Option, Some, None, refl, sym, subst, arith, slice_index, slice_index_or, slice_set, if◌then◌else◌}
+use Rattle.std.proofs.Common.{◌≡◌, ◌≢◌, ℕ, zero, suc, ◌+◌, ◌^◌, ◌<◌, ◌==◌, Bool, true, false, List, [], ◌∷◌, ◌++◌, length, Option, Some, None, refl, sym}
+use Rattle.std.proofs.Common.{subst, arith, slice_index, slice_index_or, slice_set, if◌then◌else◌}
 use Rattle.std.specs.Prelude.{option_map, is_none, not, ◌&&◌, nat_lt}
 use Rattle.std.proofs.lemmas.Bool.{cond_both}
 use Rattle.std.proofs.lemmas.Option.{same_Some}
@@ -24,17 +25,17 @@ use Rattle.packet.specs.Refusal.{refusal}
 use Rattle.packet.specs.Spelling.{values_of_op}
 use Rattle.packet.proofs.Fields.{field_below}
 use Rattle.home_bank.specs.ServiceList.{address_of, response_of}
-use Rattle.net_interface.specs.Scripts.{reply_number}
-use Rattle.net_interface.specs.Following.{is_finished}
+use Rattle.script_follower.specs.Scripts.{reply_number}
+use Rattle.script_follower.specs.Following.{is_finished}
 use Rattle.flit_buffer.specs.Channel.{first_of, rest}
 use Rattle.flit_buffer.specs.declared.want.Want.{Want}
 use Rattle.flit_buffer.specs.declared.want.Want.TheVariants as want
 use Rattle.flit_buffer.specs.Surroundings.{Surroundings, Wiring, surroundings_after}
-use Rattle.net_interface.specs.ProcessorRecord.{ProcessorRecord, ready, request_of}
+use Rattle.script_follower.specs.ProcessorRecord.{ProcessorRecord, ready, request_of}
 use Rattle.packet.specs.Flits.{is_tail, offered_by, offered, flits_of, head_of}
 use Rattle.router.specs.Table.{RouterState, latch_of, output_for, wants_to_take, wants_to_put, router_wants, router_after}
 use Rattle.channel_number.specs.Ports.{port_count}
-use Rattle.net_interface.specs.ProcessorTable.{ProcessorState, processor_wants, processor_after, flits_due, issued_of, record_sent, record_offered}
+use Rattle.script_follower.specs.ProcessorTable.{ProcessorState, processor_wants, processor_after, flits_due, issued_of, record_sent, record_offered}
 use Rattle.home_bank.specs.BankTable.{BankState, is_nil, bank_wants, bank_after, served}
 use Rattle.core_laws.proofs.AgentSteps.{option_map_some}
 use Rattle.core_laws.proofs.SendFacts.{ready_parts}
@@ -44,7 +45,8 @@ use Rattle.core_laws.proofs.Followed.{IsFollowed, followed_issued, followed_answ
 use Rattle.core_laws.proofs.Values.{AreSome}
 
 -- an element of a list of which one was replaced
-pub set_any : {A : Type 0} (d : A) (xs : List A) (k : ℕ) (x : A) (i : ℕ) (P : A → Type 0) → P x → P (slice_index_or xs i d) → P (slice_index_or (slice_set xs k x) i d)
+pub set_any : {A : Type 0} (d : A) (xs : List A) (k : ℕ) (x : A) (i : ℕ) (P : A → Type 0) → P x → P (slice_index_or xs i d)
+    → P (slice_index_or (slice_set xs k x) i d)
 set_any d [] k x i P new old = old
 set_any d (y ∷ xs) zero x zero P new old = new
 set_any d (y ∷ xs) zero x (suc i) P new old = old
@@ -65,7 +67,8 @@ words_after depth around wiring (want.Take i) sound h a = h a
 words_after depth around wiring (want.Put o flit) sound h a = h a
 words_after depth around wiring (want.Credit o) sound h a = h a
 words_after depth around wiring (want.Access word op) sound h a =
-    set_any 0 around.words word (new_word op (slice_index around.words word)) a (λ w. w < 2 ^ 64) (word_stays op (slice_index around.words word) (h word) sound) (h a)
+    set_any 0 around.words word (new_word op (slice_index around.words word)) a (λ w. w < 2 ^ 64) (word_stays op (slice_index around.words word) (h word) sound)
+    (h a)
 words_after depth around wiring (want.Await word value) sound h a = h a
 
 -- The wants of each table.
@@ -92,7 +95,8 @@ processor_sound tiles words t p (Put i) w h = absurd (cc)
 processor_sound tiles words t p (CreditOf i) w h = absurd (cc)
 processor_sound tiles words t p Serve w h = absurd (cc)
 
-pub bank_sound : (tiles t : ℕ) (b : BankState) (choice : Choice) (w : Want) → ((r : Asking) → b.waiting ≡ Some r → Below (values_of_op r.op)) → bank_wants tiles t b choice ≡ Some w → IsSoundWant w
+pub bank_sound : (tiles t : ℕ) (b : BankState) (choice : Choice) (w : Want) → ((r : Asking) → b.waiting ≡ Some r → Below (values_of_op r.op))
+    → bank_wants tiles t b choice ≡ Some w → IsSoundWant w
 bank_sound tiles t b Take w asks h = if_sound (is_none b.waiting && is_nil b.to_put) (want.Take 0) w tt h
 bank_sound tiles t b Serve w asks h =
     let f = option_map_some (λ (r : Asking). want.Access (address_of t tiles r.word) r.op) b.waiting w h in subst IsSoundWant f.2 (asks f.0 f.1)
@@ -172,25 +176,30 @@ some_rest (x ∷ xs) h = All-tail (λ flit. 0 < flit) x xs h
 
 -- A processor's part.
 module _ (tiles words t most : ℕ) where
-  sent_followed : (xs : List ℕ) (b : ProcessorRecord) (next : Option (ℕ × Operation)) → ready b ≡ next → IsFollowed words most b.following → IsFollowed words most (record_sent tiles words t xs b).following
+  sent_followed : (xs : List ℕ) (b : ProcessorRecord) (next : Option (ℕ × Operation)) → ready b ≡ next → IsFollowed words most b.following
+      → IsFollowed words most (record_sent tiles words t xs b).following
   sent_followed [] b None is h = subst (λ (o : Option (ℕ × Operation)). IsFollowed words most (issued_of tiles words t o b).following) (sym is) h
   sent_followed [] b (Some f) is h =
       subst (λ (o : Option (ℕ × Operation)). IsFollowed words most (issued_of tiles words t o b).following) (sym is)
       (followed_issued words most b.following f.1 h (ready_parts b f.0 f.1 is).0)
   sent_followed (flit ∷ flits) b next is h = h
 
-  sent_left : (xs : List ℕ) (next : Option (ℕ × Operation)) → AreSome xs → ((f : ℕ × Operation) → next ≡ Some f → AreSome (flits_of (packet.Request (request_of tiles t f.0 f.1)))) → AreSome (rest (flits_due tiles words t xs next))
+  sent_left : (xs : List ℕ) (next : Option (ℕ × Operation)) → AreSome xs
+      → ((f : ℕ × Operation) → next ≡ Some f → AreSome (flits_of (packet.Request (request_of tiles t f.0 f.1))))
+      → AreSome (rest (flits_due tiles words t xs next))
   sent_left [] None h new = h
   sent_left [] (Some f) h new = some_rest (flits_of (packet.Request (request_of tiles t f.0 f.1))) (new f refl)
   sent_left (flit ∷ flits) next h new = some_rest (flit ∷ flits) h
 
-  offered_followed : (b : ProcessorRecord) (o : Offered) → ((r : Telling) → o ≡ Whole (packet.Response r) → reply_number r.reply < 2 ^ 64) → IsFollowed words most b.following → IsFollowed words most (record_offered tiles words t b o).following
+  offered_followed : (b : ProcessorRecord) (o : Offered) → ((r : Telling) → o ≡ Whole (packet.Response r) → reply_number r.reply < 2 ^ 64)
+      → IsFollowed words most b.following → IsFollowed words most (record_offered tiles words t b o).following
   offered_followed b More small h = h
   offered_followed b (Whole (packet.Request r)) small h = h
   offered_followed b (Whole (packet.Response r)) small h = followed_answered words most b.following _ r.reply (small r refl) h
   offered_followed b (Refused k) small h = h
 
-  pub processor_followed : (p : ProcessorState) (choice : Choice) (w : Want) (learned : ℕ) → IsFollowed words most p.operations.following → IsFollowed words most (processor_after tiles words t p choice w learned).operations.following
+  pub processor_followed : (p : ProcessorState) (choice : Choice) (w : Want) (learned : ℕ) → IsFollowed words most p.operations.following
+      → IsFollowed words most (processor_after tiles words t p choice w learned).operations.following
   processor_followed p Send w learned h = sent_followed p.to_put p.operations (ready p.operations) refl h
   processor_followed p Take w learned h = offered_followed p.operations (offered p.so_far learned) (offered_known p.so_far learned) h
   processor_followed p Credit w learned h = h
@@ -202,7 +211,8 @@ module _ (tiles words t most : ℕ) where
   processor_followed p Serve w learned h = h
 
   pub processor_left : (p : ProcessorState) (choice : Choice) (w : Want) (learned : ℕ) → AreSome p.to_put
-      → ((f : ℕ × Operation) → ready p.operations ≡ Some f → AreSome (flits_of (packet.Request (request_of tiles t f.0 f.1)))) → AreSome (processor_after tiles words t p choice w learned).to_put
+      → ((f : ℕ × Operation) → ready p.operations ≡ Some f → AreSome (flits_of (packet.Request (request_of tiles t f.0 f.1))))
+      → AreSome (processor_after tiles words t p choice w learned).to_put
   processor_left p Send w learned h new = sent_left p.to_put (ready p.operations) h new
   processor_left p Take w learned h new = h
   processor_left p Credit w learned h new = h
@@ -215,12 +225,14 @@ module _ (tiles words t most : ℕ) where
 
 -- A bank's part.
 served_left : (tiles t : ℕ) (b : BankState) (o : Option Asking) (found : ℕ) → AreSome b.to_put
-    → ((r : Asking) → o ≡ Some r → AreSome (flits_of (packet.Response (response_of t (length b.entries) r (reply_to r.op found))))) → AreSome (served tiles t b o found).to_put
+    → ((r : Asking) → o ≡ Some r → AreSome (flits_of (packet.Response (response_of t (length b.entries) r (reply_to r.op found)))))
+    → AreSome (served tiles t b o found).to_put
 served_left tiles t b None found h new = h
 served_left tiles t b (Some r) found h new = new r refl
 
 pub bank_left : (tiles t : ℕ) (b : BankState) (choice : Choice) (w : Want) (learned : ℕ) → AreSome b.to_put
-    → (choice ≡ Serve → (r : Asking) → b.waiting ≡ Some r → AreSome (flits_of (packet.Response (response_of t (length b.entries) r (reply_to r.op learned))))) → AreSome (bank_after tiles t b choice w learned).to_put
+    → (choice ≡ Serve → (r : Asking) → b.waiting ≡ Some r → AreSome (flits_of (packet.Response (response_of t (length b.entries) r (reply_to r.op learned)))))
+    → AreSome (bank_after tiles t b choice w learned).to_put
 bank_left tiles t b Take w learned h new = h
 bank_left tiles t b Serve w learned h new = served_left tiles t b b.waiting learned h (new refl)
 bank_left tiles t b Send w learned h new = some_rest b.to_put h
@@ -236,15 +248,18 @@ abbrev pub AreLatched : RouterState → Type 0
 AreLatched r = (i flit : ℕ) → latch_of r i ≡ Some flit → flit ≢ 0
 
 latched_put : (s : Shape) (t : ℕ) (r : RouterState) (k : ℕ) (w : Want) (learned : ℕ) → AreLatched r → AreLatched (router_after r (Put k) w learned)
-latched_put s t r k (want.Put o flit) learned h = λ i. set_any None r.latches k None i (λ (x : Option ℕ). (f : ℕ) → x ≡ Some f → f ≢ 0) (λ f e. absurd (cc)) (h i)
+latched_put s t r k (want.Put o flit) learned h =
+    λ i. set_any None r.latches k None i (λ (x : Option ℕ). (f : ℕ) → x ≡ Some f → f ≢ 0) (λ f e. absurd (cc)) (h i)
 latched_put s t r k (want.Take j) learned h = h
 latched_put s t r k (want.Credit o) learned h = h
 latched_put s t r k (want.Access a op) learned h = h
 latched_put s t r k (want.Await a v) learned h = h
 
-pub router_latched : (s : Shape) (t : ℕ) (r : RouterState) (choice : Choice) (w : Want) (learned : ℕ) → AreLatched r → ((k : ℕ) → choice ≡ TakeFrom k → learned ≢ 0) → AreLatched (router_after r choice w learned)
+pub router_latched : (s : Shape) (t : ℕ) (r : RouterState) (choice : Choice) (w : Want) (learned : ℕ) → AreLatched r
+    → ((k : ℕ) → choice ≡ TakeFrom k → learned ≢ 0) → AreLatched (router_after r choice w learned)
 router_latched s t r (TakeFrom k) w learned h new = λ i.
-    set_any None r.latches k (Some learned) i (λ (x : Option ℕ). (f : ℕ) → x ≡ Some f → f ≢ 0) (λ f e. subst (λ (n : ℕ). n ≢ 0) (same_Some learned f e) (new k refl)) (h i)
+    set_any None r.latches k (Some learned) i (λ (x : Option ℕ). (f : ℕ) → x ≡ Some f → f ≢ 0)
+    (λ f e. subst (λ (n : ℕ). n ≢ 0) (same_Some learned f e) (new k refl)) (h i)
 router_latched s t r (Put k) w learned h new = latched_put s t r k w learned h
 router_latched s t r (CreditOf o) w learned h new = h
 router_latched s t r Send w learned h new = h

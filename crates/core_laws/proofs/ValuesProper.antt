@@ -1,5 +1,6 @@
 -- The requests that are ready and the responses to what waits are proper packets of the machine.
-use Rattle.std.proofs.Common.{◌≡◌, ℕ, zero, suc, ◌*◌, ◌^◌, ◌<◌, ◌≤◌, List, [], ◌∷◌, length, map, Some, None, refl, ap, subst, arith, slice_get, slice_index, slice_index_or}
+use Rattle.std.proofs.Common.{◌≡◌, ℕ, zero, suc, ◌*◌, ◌^◌, ◌<◌, ◌≤◌, List, [], ◌∷◌, length, map, Some, None, refl, ap, subst, arith, slice_get, slice_index}
+use Rattle.std.proofs.Common.{slice_index_or}
 use Rattle.std.proofs.lemmas.Nat.{mod_below}
 use Rattle.std.proofs.lemmas.Option.{slice_get_within}
 use Rattle.std.proofs.Math.Nat.{div-le_self}
@@ -11,14 +12,14 @@ use Rattle.packet.specs.Memory.{reply_to}
 use Rattle.packet.specs.Spelling.{values_of_op}
 use Rattle.packet.proofs.Spelled.{IsSpellable-spelled, IsOfWords-spelled}
 use Rattle.home_bank.specs.ServiceList.{address_of, response_of}
-use Rattle.runs.specs.Observed.{list_at, total}
-use Rattle.runs.specs.Order.{LinearizationPoint}
-use Rattle.net_interface.specs.ProcessorRecord.{ProcessorRecord, no_processor, ready, request_of}
-use Rattle.flights.specs.Flight.{Flight, show}
-use Rattle.flights.proofs.Counts.{total_within}
-use Rattle.flights.proofs.Parts.{list_at_map, issued_at, tags_at}
+use Rattle.one_order.specs.Observed.{list_at, total}
+use Rattle.one_order.specs.Order.{LinearizationPoint}
+use Rattle.script_follower.specs.ProcessorRecord.{ProcessorRecord, no_processor, ready, request_of}
+use Rattle.order_abstract.specs.Flight.{Flight, show}
+use Rattle.order_abstract.proofs.Counts.{total_within}
+use Rattle.order_abstract.proofs.Parts.{list_at_map, issued_at, tags_at}
 use Rattle.packet.specs.Flits.{flits_of}
-use Rattle.tile.specs.Tile.{Design, TileState}
+use Rattle.tile_laws.specs.Tile.{Design, TileState}
 use Rattle.core_laws.specs.Core.{State}
 use Rattle.core_laws.proofs.FlightSteps.{record_in, entries_in}
 use Rattle.core_laws.proofs.Parcels.{spells}
@@ -37,7 +38,8 @@ total_at_most : {A : Type 0} (xss : List (List A)) → ((p : ℕ) → length (li
 total_at_most [] h = omega arith
 total_at_most (xs ∷ xss) h = omega (arith, h 0, total_at_most xss (λ p. h (suc p)))
 
-module _ (d : Design) (tags : ℕ) (limits : IsLimited d tags) (opening : List ℕ) (s : State) (g : Ghost) (order : List LinearizationPoint) (st : Stands d tags opening s g order) (h : HasValues d s) where
+module _ (d : Design) (tags : ℕ) (limits : IsLimited d tags) (opening : List ℕ) (s : State) (g : Ghost) (order : List LinearizationPoint)
+    (st : Stands d tags opening s g order) (h : HasValues d s) where
   abbrev f : Flight
   f = flight_of d.words s g
 
@@ -99,7 +101,8 @@ module _ (d : Design) (tags : ℕ) (limits : IsLimited d tags) (opening : List �
 
   -- The response to the request that waits is a proper one.
   pub reply_proper : (t : ℕ) (r : Asking) → t < tiles_of d.shape → (tile_at s t).bank.waiting ≡ Some r
-      → IsProperResponse d (response_of t (length (tile_at s t).bank.entries) r (reply_to r.op (slice_index s.around.words (address_of t (tiles_of d.shape) r.word))))
+      → IsProperResponse d (response_of t (length (tile_at s t).bank.entries) r
+      (reply_to r.op (slice_index s.around.words (address_of t (tiles_of d.shape) r.word))))
   reply_proper t r t_in waits =
       let proper = (st.carries.waiting_proper t r waits).0 in
       let asked = IsSpellable-spelled (packet.Request r) (flits_of (packet.Request r)) proper.spelled in

@@ -11,9 +11,9 @@ use Rattle.wormhole.proofs.Arrivals.{is_routed}
 use Rattle.channel_number.proofs.Ports.{is_input, is_output, inputs_apart, outputs_apart}
 use Rattle.dateline_route.proofs.First.{chosen_inside}
 use Rattle.channel_number.proofs.Leading.{output_within}
-use Rattle.torus_net.proofs.Heads.{chosen_is, head_tells}
+use Rattle.wormhole_torus.proofs.Heads.{chosen_is, head_tells}
 use Rattle.channel_number.specs.Ports.{input_numbered}
-use Rattle.tile.specs.Tile.{Design}
+use Rattle.tile_laws.specs.Tile.{Design}
 use Rattle.core_laws.proofs.Projection.{net_of}
 use Rattle.channel_number.specs.Order.{channel_at}
 use Rattle.core_laws.proofs.WiredUp.{IsWiredUp, IsHeadOf}
@@ -27,13 +27,15 @@ is_wired_up d h = record {
   outputs_apart = λ t o u p low small high little e. outputs_apart d.shape t o u p low small high little e;
   inputs_lead = λ t i low small. (is_input d.shape h t i low small).leads;
   chosen = λ t i head low small there own. (
-    output_within d.shape head.class (next_of d.shape t (input_numbered (dims_of d.shape) i) head.destination) (chosen_inside d.shape t (input_numbered (dims_of d.shape) i) head.destination),
+    output_within d.shape head.class (next_of d.shape t (input_numbered (dims_of d.shape) i) head.destination)
+        (chosen_inside d.shape t (input_numbered (dims_of d.shape) i) head.destination),
     sym (chosen_is d.shape d.depth t i head.destination head.class h low small there own),
   );
 }
 
 -- a latched head flit tells a tile of the machine, and its channel's class
-pub head_there : (d : Design) → IsAccepted d.shape → (st : NetState) → IsNet (net_of d) → Words (net_of d) st → Routes (net_of d) st → (x flit : ℕ) (head : Head)
+pub head_there : (d : Design) → IsAccepted d.shape → (st : NetState) → IsNet (net_of d) → Words (net_of d) st → Routes (net_of d) st
+    → (x flit : ℕ) (head : Head)
     → (net_of d).ejects x ≡ false → (st.lines x).latch ≡ Some flit → (net_of d).is_head flit ≡ true → IsHeadOf flit head
     → (head.destination < tiles_of d.shape) × ((channel_at d.shape x).class ≡ head.class)
 unfolding net_of

@@ -1,5 +1,6 @@
 -- What the wiring gives, and who owns an output.
-use Rattle.std.proofs.Common.{◌≡◌, ◌↔◌, ℕ, zero, suc, ◌<◌, ◌==◌, Bool, true, false, List, [], ◌∷◌, Option, Some, None, refl, sym, ap, ap₂, slice_index_or, eq-eqb, if◌then◌else◌}
+use Rattle.std.proofs.Common.{◌≡◌, ◌↔◌, ℕ, zero, suc, ◌<◌, ◌==◌, Bool, true, false, List, [], ◌∷◌, Option, Some, None, refl, sym, ap, ap₂, slice_index_or}
+use Rattle.std.proofs.Common.{eq-eqb, if◌then◌else◌}
 use Rattle.std.specs.Prelude.{◌&&◌, ◌||◌}
 use Rattle.std.specs.List.{list_any}
 use Rattle.std.proofs.lemmas.Option.{same_Some}
@@ -11,7 +12,7 @@ use Rattle.packet.specs.Flits.{head_of}
 use Rattle.core_laws.specs.Heads.{is_head}
 use Rattle.router.specs.Table.{RouterState, output_owned, is_owned, is_output, way_of}
 use Rattle.channel_number.specs.Ports.{port_count, ejection_channel, input_channel, output_channel}
-use Rattle.tile.specs.Tile.{Design}
+use Rattle.tile_laws.specs.Tile.{Design}
 use Rattle.core_laws.proofs.Projection.{net_of}
 
 -- What is needed of the wiring: the channels at the routers' ports are there, each at one input and one output, and a router's way is the network's choice.
@@ -23,8 +24,11 @@ pub record IsWiredUp (d : Design) : Type 0 where
   pub outputs_apart : (t o u p : ℕ) → t < tiles_of d.shape → o < port_count (dims_of d.shape) → u < tiles_of d.shape → p < port_count (dims_of d.shape)
       → output_channel d.shape t o ≡ output_channel d.shape u p → (t ≡ u) × (o ≡ p)
   pub inputs_lead : (t i : ℕ) → t < tiles_of d.shape → i < port_count (dims_of d.shape) → (net_of d).ejects (input_channel d.shape t i) ≡ false
-  pub chosen : (t i : ℕ) (head : Head) → t < tiles_of d.shape → i < port_count (dims_of d.shape) → head.destination < tiles_of d.shape → (channel_at d.shape (input_channel d.shape t i)).class ≡ head.class
-      → (way_of d.shape t i head < port_count (dims_of d.shape)) × (output_channel d.shape t (way_of d.shape t i head) ≡ (net_of d).next (input_channel d.shape t i) (ejection_channel d.shape head.destination head.class))
+  pub chosen : (t i : ℕ) (head : Head) → t < tiles_of d.shape → i < port_count (dims_of d.shape) → head.destination < tiles_of d.shape
+      → (channel_at d.shape (input_channel d.shape t i)).class ≡ head.class
+      → (way_of d.shape t i head < port_count (dims_of d.shape))
+      × (output_channel d.shape t (way_of d.shape t i head)
+      ≡ (net_of d).next (input_channel d.shape t i) (ejection_channel d.shape head.destination head.class))
 
 -- no input owns what isn't owned
 any_false : (owned : List (Option ℕ)) (i o : ℕ) → list_any (λ k. is_output k o) owned ≡ false → slice_index_or owned i None ≡ Some o → ⊥
@@ -52,7 +56,8 @@ pub record IsHeadOf (flit : ℕ) (head : Head) : Type 0 where
 pub head_told : (flit : ℕ) (head : Head) → head_of flit ≡ Some head → IsHeadOf flit head
 head_told flit head h = by_bits (field flit 63 1 == 1) (field flit 61 1 == 1) refl refl h
   where
-    by_bits : (a b : Bool) → (field flit 63 1 == 1) ≡ a → (field flit 61 1 == 1) ≡ b → (if a && b then Some (record { destination = field flit 51 6; class = class_numbered (field flit 57 1) }) else None) ≡ Some head → IsHeadOf flit head
+    by_bits : (a b : Bool) → (field flit 63 1 == 1) ≡ a → (field flit 61 1 == 1) ≡ b
+        → (if a && b then Some (record { destination = field flit 51 6; class = class_numbered (field flit 57 1) }) else None) ≡ Some head → IsHeadOf flit head
     by_bits true true is one h =
         let e : ◌≡◌ {A = Head} (record { destination = field flit 51 6; class = class_numbered (field flit 57 1) }) head = same_Some _ _ h in
         record { bit = ap₂ (λ (x y : Bool). x && y) is one; destination = ap (λ (x : Head). x.destination) (sym e); class = ap (λ (x : Head). x.class) (sym e) }

@@ -1,5 +1,5 @@
 -- The core: all tiles and what they share, its steps, runs and rounds.
-pub use Rattle.tile.specs.Agents.{agent_numbered}
+pub use Rattle.tile_laws.specs.Agents.{agent_numbered}
 use Rattle.std.specs.Prelude.{ℕ, ◌+◌, ◌*◌, ◌/◌, ◌%◌, false, List, [], ◌∷◌, ◌++◌, length, map, take}
 use Rattle.std.specs.Prelude.{replicate, Option, Some, None, option_map, option_and_then, slice_get, slice_set}
 use Rattle.std.specs.List.{flat_map, range_with_len}
@@ -11,24 +11,26 @@ use Rattle.script.specs.declared.line.Line.{Line}
 use Rattle.flit_buffer.specs.Places.{empty_ring}
 use Rattle.flit_buffer.specs.Surroundings.{Surroundings}
 use Rattle.channel_number.specs.Order.{channel_count}
-use Rattle.net_interface.specs.Following.{first_of}
-use Rattle.runs.specs.Observed.{Observed, Run}
-use Rattle.net_interface.specs.ProcessorRecord.{ProcessorRecord}
+use Rattle.script_follower.specs.Following.{first_of}
+use Rattle.one_order.specs.Observed.{Observed, Run}
+use Rattle.script_follower.specs.ProcessorRecord.{ProcessorRecord}
 use Rattle.channel_number.specs.Ports.{port_count}
-pub use Rattle.flights.specs.Load.{Load}
-use Rattle.tile.specs.Tile.{Design, TileState, tile_step}
+pub use Rattle.order_abstract.specs.Load.{Load}
+use Rattle.tile_laws.specs.Tile.{Design, TileState, tile_step}
 
--- the state of a machine: its tiles, and what they share, that is the channels, and the words of the memory with the
--- done word behind them
+-- the state of a machine: its tiles, and what they share, that is the channels, and the words of
+-- the memory with the done word behind them
 pub record State : Type 0 where
   pub tiles : List TileState
   pub around : Surroundings
 
--- the core's step: one choice of one agent; None where it isn't enabled (Dally and Towles, chapters 13 and 16)
+-- the core's step: one choice of one agent; None where it isn't enabled (Dally and Towles, chapters
+-- 13 and 16)
 abbrev pub step : Design → State → Step → Option State
 step d s attempt = option_and_then (λ tile.
     option_map (λ p. record { tiles = slice_set s.tiles (attempt.agent / 3) p.0; around = p.1 })
-    (tile_step d (attempt.agent / 3) tile s.around (agent_numbered (attempt.agent % 3)) attempt.choice))
+    (tile_step d (attempt.agent / 3) tile s.around (agent_numbered (attempt.agent % 3))
+    attempt.choice))
     (slice_get s.tiles (attempt.agent / 3))
 
 -- the next state where there is one, and else the same
@@ -49,25 +51,38 @@ after_from d s (attempt ∷ attempts) = after_from d (next d s attempt) attempts
 abbrev pub design_of : Load → Design
 design_of l = record { shape = l.shape; depth = l.depth; words = length l.opening }
 
--- a tile before any step, of a torus of so many dimensions, with so many tags and the script of its processor
+-- a tile before any step, of a torus of so many dimensions, with so many tags and the script of its
+-- processor
 abbrev pub first_tile : ℕ → ℕ → List Line → TileState
 first_tile dims tags lines = record {
   processor = record {
-    operations = record { following = first_of lines; tags = replicate tags None; issued = []; answers = [] };
+    operations = record {
+      following = first_of lines;
+      tags = replicate tags None;
+      issued = [];
+      answers = [];
+    };
     to_put = [];
     so_far = [];
     reported = false;
     seen = false;
   };
-  router = record { latches = replicate (port_count dims) None; owned = replicate (port_count dims) None };
+  router = record {
+    latches = replicate (port_count dims) None;
+    owned = replicate (port_count dims) None;
+  };
   bank = record { entries = []; so_far = []; waiting = None; to_put = [] };
 }
 
--- the state before any step: nothing is issued, no tag is out, every channel is empty, and no processor has reported
+-- the state before any step: nothing is issued, no tag is out, every channel is empty, and no
+-- processor has reported
 abbrev pub first_state : Load → State
 first_state l = record {
   tiles = map (first_tile (dims_of l.shape) l.tags) l.scripts;
-  around = record { rings = replicate (channel_count l.shape) (empty_ring l.depth); words = l.opening ++ 0 ∷ [] };
+  around = record {
+    rings = replicate (channel_count l.shape) (empty_ring l.depth);
+    words = l.opening ++ 0 ∷ [];
+  };
 }
 
 -- the state after a list of attempts from a load
@@ -78,7 +93,8 @@ after l attempts = after_from (design_of l) (first_state l) attempts
 abbrev pub records_of : State → List ProcessorRecord
 records_of s = map (λ t. t.processor.operations) s.tiles
 
--- what a state shows: what is issued and answered by processor, the entries by bank, and the memory by address
+-- what a state shows: what is issued and answered by processor, the entries by bank, and the memory
+-- by address
 abbrev pub show : ℕ → State → Observed
 show words s = record {
   issued = map (λ b. b.issued) (records_of s);
@@ -95,7 +111,8 @@ run_of l attempts = λ k. show (length l.opening) (after l (take k attempts))
 abbrev pub attempts_of : ℕ → List Choice → List Step
 attempts_of agent choices = map (λ c. record { agent = agent; choice = c }) choices
 
--- the attempts of a round at one tile, of so many ports of its router: each choice of each agent once
+-- the attempts of a round at one tile, of so many ports of its router: each choice of each agent
+-- once
 abbrev pub round_at : ℕ → ℕ → List Step
 round_at ports t =
     attempts_of (3 * t) (Send ∷ Take ∷ Credit ∷ Done ∷ Look ∷ [])

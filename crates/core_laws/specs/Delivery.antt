@@ -9,12 +9,12 @@ use Rattle.packet.specs.declared.kinds.Reply.{Reply}
 use Rattle.packet.specs.Kinds.{code_of}
 use Rattle.home_bank.specs.declared.entry.Entry.{Entry}
 use Rattle.home_bank.specs.ServiceList.{address_of}
-use Rattle.runs.specs.declared.answer.Answer.{Answer}
-use Rattle.runs.specs.Observed.{list_at}
+use Rattle.one_order.specs.declared.answer.Answer.{Answer}
+use Rattle.one_order.specs.Observed.{list_at}
 use Rattle.wormhole.specs.Delivery.{Begins, without_last}
 use Rattle.core_laws.specs.Heads.{is_head}
 use Rattle.home_bank.specs.BankTable.{BankState}
-use Rattle.tile.specs.Tile.{Design, TileState}
+use Rattle.tile_laws.specs.Tile.{Design, TileState}
 use Rattle.core_laws.specs.Core.{State, show}
 
 -- the operation that a request asks for
@@ -30,7 +30,12 @@ pub record Notice : Type 0 where
 
 -- what a response tells
 abbrev pub notice_of : Response → Notice
-notice_of r = record { processor = r.destination; bank = r.source; place = r.place; reply = r.reply }
+notice_of r = record {
+  processor = r.destination;
+  bank = r.source;
+  place = r.place;
+  reply = r.reply;
+}
 
 -- what an answer of processor p tells
 abbrev pub notice_by : ℕ → Answer → Notice
@@ -67,37 +72,46 @@ response_made b place e = record {
 
 -- the requests that bank b has whole: those of its entries, and the one that waits
 abbrev pub requests_whole : ℕ → ℕ → BankState → List Request
-requests_whole tiles b bank = map (request_served tiles b) bank.entries ++ option_to_list bank.waiting
+requests_whole tiles b bank =
+    map (request_served tiles b) bank.entries ++ option_to_list bank.waiting
 
 -- the responses to entries of bank b, the first of which has this place
 abbrev pub responses_made : ℕ → ℕ → List Entry → List Response
 responses_made b place [] = []
-responses_made b place (e ∷ entries) = response_made b place e ∷ responses_made b (place + 1) entries
+responses_made b place (e ∷ entries) =
+    response_made b place e ∷ responses_made b (place + 1) entries
 
 -- the flit that is next to put; 0 where there is none
 abbrev pub next_flit : List ℕ → ℕ
 next_flit [] = 0
 next_flit (flit ∷ flits) = flit
 
--- the responses of which bank b has put the head: all, but for the last where its head is next to put
+-- the responses of which bank b has put the head: all, but for the last where its head is next to
+-- put
 abbrev pub responses_sent : ℕ → BankState → List Response
 responses_sent b bank =
     if is_head (next_flit bank.to_put) then without_last (responses_made b 0 bank.entries)
     else responses_made b 0 bank.entries
 
--- The packets of each class between two tiles that the receiver has whole are a beginning of those whose heads the
--- sender has put, in that order: none is invented, doubled, mixed or overtaken (Dally and Towles, chapter 13).
--- Of each processor these are the requests that it has sent, one for each operation that it has issued, and the responses
--- that it has whole, one for each of its answers, in their order.
-pub record DeliversPackets (d : Design) (words : ℕ) (s : State) (requests : List (List Request)) (taken : List (List Response)) : Type 0 where
+-- The packets of each class between two tiles that the receiver has whole are a beginning of those
+-- whose heads the sender has put, in that order: none is invented, doubled, mixed or overtaken
+-- (Dally and Towles, chapter 13). Of each processor these are the requests that it has sent, one
+-- for each operation that it has issued, and the responses that it has whole, one for each of its
+-- answers, in their order.
+pub record DeliversPackets (d : Design) (words : ℕ) (s : State) (requests : List (List Request))
+    (taken : List (List Response)) : Type 0 where
   pub issued : (p : ℕ)
-      → map (operation_asked (tiles_of d.shape)) (list_at requests p) ≡ list_at (show words s).issued p
+      → map (operation_asked (tiles_of d.shape)) (list_at requests p)
+      ≡ list_at (show words s).issued p
   pub proper : (p : ℕ)
       → All (λ r. (r.source ≡ p) × (r.destination < tiles_of d.shape)) (list_at requests p)
-  pub answered : (p : ℕ) → map (notice_by p) (list_at (show words s).answers p) ≡ map notice_of (list_at taken p)
-  pub at_banks : (p b : ℕ) (tile : TileState) → p < tiles_of d.shape → slice_get s.tiles b ≡ Some tile
+  pub answered : (p : ℕ) → map (notice_by p) (list_at (show words s).answers p)
+      ≡ map notice_of (list_at taken p)
+  pub at_banks : (p b : ℕ) (tile : TileState) → p < tiles_of d.shape
+      → slice_get s.tiles b ≡ Some tile
       → Begins (requests_between p b (requests_whole (tiles_of d.shape) b tile.bank))
       (requests_between p b (list_at requests p))
-  pub at_processors : (b p : ℕ) (tile : TileState) → p < tiles_of d.shape → slice_get s.tiles b ≡ Some tile
+  pub at_processors : (b p : ℕ) (tile : TileState) → p < tiles_of d.shape
+      → slice_get s.tiles b ≡ Some tile
       → Begins (responses_between b p (list_at taken p))
       (responses_between b p (responses_sent b tile.bank))

@@ -1,6 +1,6 @@
-pub use Rattle.flights
-pub use Rattle.net_interface
-pub use Rattle.tile
+pub use Rattle.order_abstract
+pub use Rattle.script_follower
+pub use Rattle.tile_laws
 pub mod Heads
 pub mod Core
 pub mod Moves

@@ -7,9 +7,9 @@ use Rattle.channel_number.specs.Ports.{port_count, injection_channel, ejection_c
 use Rattle.flit_buffer.specs.Channel as channel
 use Rattle.flit_buffer.specs.Surroundings.{ring}
 use Rattle.wormhole.specs.State.{Line as Lane}
-use Rattle.net_interface.specs.ProcessorRecord.{no_processor}
+use Rattle.script_follower.specs.ProcessorRecord.{no_processor}
 use Rattle.router.specs.Table.{latch_of, output_owned}
-use Rattle.tile.specs.Tile.{Design, TileState}
+use Rattle.tile_laws.specs.Tile.{Design, TileState}
 use Rattle.core_laws.specs.Heads.{is_head}
 use Rattle.core_laws.specs.Core.{State}
 use Rattle.core_laws.specs.Delivery.{next_flit}
@@ -17,7 +17,13 @@ use Rattle.core_laws.specs.Delivery.{next_flit}
 -- stands where there is no tile of a number
 abbrev pub no_tile : TileState
 no_tile = record {
-  processor = record { operations = no_processor; to_put = []; so_far = []; reported = false; seen = false };
+  processor = record {
+    operations = no_processor;
+    to_put = [];
+    so_far = [];
+    reported = false;
+    seen = false;
+  };
   router = record { latches = []; owned = [] };
   bank = record { entries = []; so_far = []; waiting = None; to_put = [] };
 }
@@ -36,9 +42,10 @@ pub record IsLane (ch : channel.ChannelState) (l : Lane) : Type 0 where
 abbrev pub in_course : List ℕ → List ℕ
 in_course flits = if is_head (next_flit flits) then [] else flits
 
--- The network's lines mirror the machine: each channel's flits and credits; each router's latches, and which of its
--- inputs owns which output; and of each processor and bank the flits left to put of the packet in course, and the flits
--- so far of the one that comes in (Dally and Towles, chapter 16).
+-- The network's lines mirror the machine: each channel's flits and credits; each router's latches,
+-- and which of its inputs owns which output; and of each processor and bank the flits left to put
+-- of the packet in course, and the flits so far of the one that comes in (Dally and Towles, chapter
+-- 16).
 pub record Mirrors (d : Design) (s : State) (lines : ℕ → Lane) : Type 0 where
   pub count : length s.around.rings ≡ channel_count d.shape
   pub rings : (x : ℕ) → x < channel_count d.shape → IsLane (ring s.around.rings x).channel (lines x)
@@ -47,11 +54,13 @@ pub record Mirrors (d : Design) (s : State) (lines : ℕ → Lane) : Type 0 wher
       × (length (tile_at s t).router.owned ≡ port_count (dims_of d.shape))
   pub latches : (t i : ℕ) → t < tiles_of d.shape → i < port_count (dims_of d.shape)
       → (lines (input_channel d.shape t i)).latch ≡ latch_of (tile_at s t).router i
-  pub owners : (t i o : ℕ) → t < tiles_of d.shape → i < port_count (dims_of d.shape) → o < port_count (dims_of d.shape)
+  pub owners : (t i o : ℕ) → t < tiles_of d.shape → i < port_count (dims_of d.shape)
+      → o < port_count (dims_of d.shape)
       → ((lines (output_channel d.shape t o)).owner ≡ Some (input_channel d.shape t i))
       ↔ (output_owned (tile_at s t).router i ≡ Some o)
   pub unowned : (t o : ℕ) → t < tiles_of d.shape → o < port_count (dims_of d.shape)
-      → ((i : ℕ) → output_owned (tile_at s t).router i ≡ Some o → ⊥) → (lines (output_channel d.shape t o)).owner ≡ None
+      → ((i : ℕ) → output_owned (tile_at s t).router i ≡ Some o → ⊥)
+      → (lines (output_channel d.shape t o)).owner ≡ None
   pub outputs : (t i o : ℕ) → t < tiles_of d.shape → output_owned (tile_at s t).router i ≡ Some o
       → o < port_count (dims_of d.shape)
   pub sends_requests : (t : ℕ) → t < tiles_of d.shape

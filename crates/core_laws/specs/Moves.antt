@@ -10,18 +10,20 @@ use Rattle.packet.specs.declared.assembler.Offered.{Offered}
 use Rattle.packet.specs.declared.assembler.Offered.TheVariants.{Whole}
 use Rattle.flit_buffer.specs.declared.want.Want.{Want}
 use Rattle.flit_buffer.specs.Surroundings.{Surroundings, Wiring, granted}
-use Rattle.net_interface.specs.ProcessorRecord.{ready}
-use Rattle.flights.specs.Flight.{Move, Sends, Serves, Takes}
+use Rattle.script_follower.specs.ProcessorRecord.{ready}
+use Rattle.order_abstract.specs.Flight.{Move, Sends, Serves, Takes}
 use Rattle.packet.specs.Flits.{offered}
-use Rattle.net_interface.specs.ProcessorTable.{ProcessorState, processor_wants}
+use Rattle.script_follower.specs.ProcessorTable.{ProcessorState, processor_wants}
 use Rattle.home_bank.specs.BankTable.{BankState, bank_wants}
-use Rattle.tile.specs.Wiring.{processor_wiring, bank_wiring}
-use Rattle.tile.specs.Tile.{Design, TileState, Agent, Processor, Router, Bank}
+use Rattle.tile_laws.specs.Wiring.{processor_wiring, bank_wiring}
+use Rattle.tile_laws.specs.Tile.{Design, TileState, Agent, Processor, Router, Bank}
 use Rattle.core_laws.specs.Core.{State, agent_numbered}
 
 -- what an agent learns by a choice; None where it isn't enabled
-abbrev pub learned_by : {S : Type 0} → (S → Choice → Option Want) → Wiring → S → Surroundings → Choice → Option ℕ
-learned_by wants wiring state around choice = option_and_then (granted around wiring) (wants state choice)
+abbrev pub learned_by : {S : Type 0} → (S → Choice → Option Want) → Wiring → S → Surroundings
+    → Choice → Option ℕ
+learned_by wants wiring state around choice =
+    option_and_then (granted around wiring) (wants state choice)
 
 -- the move of a flit sent: with no request in course it is a head, and an issue
 abbrev pub issue_of : ℕ → List ℕ → Option (ℕ × Operation) → Option Move
@@ -46,7 +48,8 @@ bank_move b _ learned = None
 
 -- the move of a choice of one of a tile's agents
 abbrev pub tile_move : Design → ℕ → TileState → Surroundings → Agent → Choice → Option Move
-tile_move d t tile around Processor choice = option_and_then (processor_move t tile.processor choice)
+tile_move d t tile around Processor choice =
+    option_and_then (processor_move t tile.processor choice)
     (learned_by (processor_wants (tiles_of d.shape) d.words t) (processor_wiring d.shape t)
     tile.processor around choice)
 tile_move d t tile around Router choice = None
@@ -56,5 +59,6 @@ tile_move d t tile around Bank choice = option_and_then (bank_move tile.bank cho
 -- what a step is of the operations: an issue, a service, an answer, or nothing
 abbrev pub move_of : Design → State → Step → Option Move
 move_of d s attempt = option_and_then (λ tile.
-    tile_move d (attempt.agent / 3) tile s.around (agent_numbered (attempt.agent % 3)) attempt.choice)
+    tile_move d (attempt.agent / 3) tile s.around (agent_numbered (attempt.agent % 3))
+    attempt.choice)
     (slice_get s.tiles (attempt.agent / 3))

@@ -1,5 +1,6 @@
 -- The network of a machine, its packets there, and the event of the network that each step is.
-use Rattle.std.specs.Prelude.{ℕ, ◌/◌, ◌%◌, if◌then◌else◌, List, [], ◌∷◌, Option, Some, None, option_map, option_and_then, slice_get}
+use Rattle.std.specs.Prelude.{ℕ, ◌/◌, ◌%◌, if◌then◌else◌, List, [], ◌∷◌, Option, Some, None, option_map}
+use Rattle.std.specs.Prelude.{option_and_then, slice_get}
 use Rattle.torus.specs.Shape.{Shape, tiles_of}
 use Rattle.torus.specs.declared.shape.Class.TheVariants as class
 use Rattle.torus.specs.declared.step.Step.{Step}
@@ -19,14 +20,14 @@ use Rattle.wormhole.specs.Net.{Net, Parcel}
 use Rattle.wormhole.specs.State.{State as NetState}
 use Rattle.wormhole.specs.Events.{Event, InjectHead, InjectRest, Latch, ForwardHead, ForwardRest, Return, after}
 use Rattle.wormhole.specs.Delivery.{accept}
-use Rattle.torus_net.specs.TorusNet as torus_net
+use Rattle.wormhole_torus.specs.TorusNet as wormhole_torus
 use Rattle.router.specs.Table.{RouterState, router_wants, latch_of, output_for}
 use Rattle.router.specs.Beginning.{router_wiring}
-use Rattle.net_interface.specs.ProcessorRecord.{ready, request_of}
-use Rattle.net_interface.specs.ProcessorTable.{ProcessorState, processor_wants}
+use Rattle.script_follower.specs.ProcessorRecord.{ready, request_of}
+use Rattle.script_follower.specs.ProcessorTable.{ProcessorState, processor_wants}
 use Rattle.home_bank.specs.BankTable.{BankState, bank_wants}
-use Rattle.tile.specs.Wiring.{processor_wiring, bank_wiring}
-use Rattle.tile.specs.Tile.{Design, TileState, Agent, Processor, Router, Bank}
+use Rattle.tile_laws.specs.Wiring.{processor_wiring, bank_wiring}
+use Rattle.tile_laws.specs.Tile.{Design, TileState, Agent, Processor, Router, Bank}
 use Rattle.core_laws.specs.Heads.{is_head}
 use Rattle.core_laws.specs.Core.{State, agent_numbered}
 use Rattle.core_laws.specs.Moves.{learned_by}
@@ -34,11 +35,11 @@ use Rattle.core_laws.specs.Delivery.{next_flit, responses_made}
 
 -- the network of a machine, by the channels' numbers
 unfoldable pub net_of : Design → Net
-net_of d = torus_net.net_of d.shape d.depth
+net_of d = wormhole_torus.net_of d.shape d.depth
 
 -- a packet as the network has it
 unfoldable pub parcel_of : Shape → Packet → Parcel
-parcel_of s p = torus_net.parcel_of s p 0 (next_flit (flits_of p)) (rest (flits_of p))
+parcel_of s p = wormhole_torus.parcel_of s p 0 (next_flit (flits_of p)) (rest (flits_of p))
 
 abbrev pub request_parcel : Shape → Request → Parcel
 request_parcel s r = parcel_of s (packet.Request r)
@@ -56,24 +57,28 @@ last_response (r ∷ q ∷ rs) = last_response (q ∷ rs)
 abbrev pub taken_there : Surroundings → ℕ → ℕ → Event
 taken_there around x flit = accept (is_head flit) x flit (rest (ring around.rings x).channel.flits)
 
--- a flit goes from the latch behind x into y: a head, or one that follows (Dally and Towles, chapter 16)
+-- a flit goes from the latch behind x into y: a head, or one that follows (Dally and Towles,
+-- chapter 16)
 abbrev pub forwarded : Option Head → ℕ → ℕ → ℕ → Event
 forwarded (Some head) x y flit = ForwardHead x y flit
 forwarded None x y flit = ForwardRest x y flit
 
 module _ (d : Design) (t : ℕ) where
-  -- the flit that a processor sends: the next of the request in course, or the head of the request that is ready
+  -- the flit that a processor sends: the next of the request in course, or the head of the request
+  -- that is ready
   abbrev pub request_event : List ℕ → Option (ℕ × Operation) → Option Event
   request_event [] next = option_map (λ f. InjectHead (injection_channel d.shape t class.Request)
       (request_parcel d.shape (request_of (tiles_of d.shape) t f.0 f.1))) next
-  request_event (flit ∷ more) next = Some (InjectRest (injection_channel d.shape t class.Request) flit more)
+  request_event (flit ∷ more) next =
+      Some (InjectRest (injection_channel d.shape t class.Request) flit more)
 
   -- the flit that a bank sends: the head of its last reply, or a further flit of it
   abbrev pub reply_event : BankState → List ℕ → Option Event
   reply_event b [] = None
   reply_event b (flit ∷ more) =
       if is_head flit
-      then option_map (λ r. InjectHead (injection_channel d.shape t class.Reply) (response_parcel d.shape r))
+      then option_map (λ r. InjectHead (injection_channel d.shape t class.Reply)
+      (response_parcel d.shape r))
       (last_response (responses_made t 0 b.entries))
       else Some (InjectRest (injection_channel d.shape t class.Reply) flit more)
 
@@ -81,7 +86,8 @@ module _ (d : Design) (t : ℕ) where
   abbrev pub put_event : RouterState → ℕ → Option ℕ → Option Event
   put_event r i None = None
   put_event r i (Some flit) =
-      option_map (λ o. forwarded (head_of flit) (input_channel d.shape t i) (output_channel d.shape t o) flit)
+      option_map (λ o. forwarded (head_of flit) (input_channel d.shape t i)
+      (output_channel d.shape t o) flit)
       (output_for d.shape t r i (head_of flit))
 
   -- the event of a processor's choice, with what it learns: none where it looks or reports
@@ -89,27 +95,32 @@ module _ (d : Design) (t : ℕ) where
   processor_event p around choice.Send learned = request_event p.to_put (ready p.operations)
   processor_event p around choice.Take flit =
       Some (taken_there around (ejection_channel d.shape t class.Reply) flit)
-  processor_event p around choice.Credit learned = Some (Return (injection_channel d.shape t class.Request))
+  processor_event p around choice.Credit learned =
+      Some (Return (injection_channel d.shape t class.Request))
   processor_event p around _ learned = None
 
   -- the event of a router's choice
   abbrev pub router_event : RouterState → Surroundings → Choice → ℕ → Option Event
   router_event r around (choice.TakeFrom i) flit =
-      Some (Latch (input_channel d.shape t i) flit (rest (ring around.rings (input_channel d.shape t i)).channel.flits))
+      Some (Latch (input_channel d.shape t i) flit
+      (rest (ring around.rings (input_channel d.shape t i)).channel.flits))
   router_event r around (choice.Put i) learned = put_event r i (latch_of r i)
   router_event r around (choice.CreditOf o) learned = Some (Return (output_channel d.shape t o))
   router_event r around _ learned = None
 
   -- the event of a bank's choice: none where it serves
   abbrev pub bank_event : BankState → Surroundings → Choice → ℕ → Option Event
-  bank_event b around choice.Take flit = Some (taken_there around (ejection_channel d.shape t class.Request) flit)
+  bank_event b around choice.Take flit =
+      Some (taken_there around (ejection_channel d.shape t class.Request) flit)
   bank_event b around choice.Send learned = reply_event b b.to_put
-  bank_event b around choice.Credit learned = Some (Return (injection_channel d.shape t class.Reply))
+  bank_event b around choice.Credit learned =
+      Some (Return (injection_channel d.shape t class.Reply))
   bank_event b around _ learned = None
 
   -- the event of a choice of one of a tile's agents; none where it isn't enabled
   abbrev pub tile_event : TileState → Surroundings → Agent → Choice → Option Event
-  tile_event tile around Processor choice = option_and_then (processor_event tile.processor around choice)
+  tile_event tile around Processor choice =
+      option_and_then (processor_event tile.processor around choice)
       (learned_by (processor_wants (tiles_of d.shape) d.words t) (processor_wiring d.shape t)
       tile.processor around choice)
   tile_event tile around Router choice = option_and_then (router_event tile.router around choice)
@@ -117,10 +128,12 @@ module _ (d : Design) (t : ℕ) where
   tile_event tile around Bank choice = option_and_then (bank_event tile.bank around choice)
       (learned_by (bank_wants (tiles_of d.shape) t) (bank_wiring d.shape t) tile.bank around choice)
 
--- what a step is of the network: a flit or a credit that moves, or nothing (Dally and Towles, chapters 13 and 16)
+-- what a step is of the network: a flit or a credit that moves, or nothing (Dally and Towles,
+-- chapters 13 and 16)
 abbrev pub network_event : Design → State → Step → Option Event
 network_event d s attempt = option_and_then (λ tile.
-    tile_event d (attempt.agent / 3) tile s.around (agent_numbered (attempt.agent % 3)) attempt.choice)
+    tile_event d (attempt.agent / 3) tile s.around (agent_numbered (attempt.agent % 3))
+    attempt.choice)
     (slice_get s.tiles (attempt.agent / 3))
 
 -- the network after an event, or none

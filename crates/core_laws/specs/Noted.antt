@@ -4,19 +4,19 @@ use Rattle.torus.specs.Shape.{tiles_of}
 use Rattle.torus.specs.declared.step.Step.{Step}
 use Rattle.packet.specs.declared.kinds.Request.{Request}
 use Rattle.packet.specs.declared.kinds.Response.{Response}
-use Rattle.runs.specs.Events.{push_at}
-use Rattle.net_interface.specs.ProcessorRecord.{request_of}
-use Rattle.flights.specs.Flight.{Flight, Move, Sends, Takes, moved_by}
+use Rattle.one_order.specs.Events.{push_at}
+use Rattle.script_follower.specs.ProcessorRecord.{request_of}
+use Rattle.order_abstract.specs.Flight.{Flight, Move, Sends, Takes, moved_by}
 use Rattle.wormhole.specs.State.{State as NetState, empty}
 use Rattle.wormhole.specs.Events.{Event}
-use Rattle.tile.specs.Tile.{Design}
+use Rattle.tile_laws.specs.Tile.{Design}
 use Rattle.core_laws.specs.Core.{Load, State, design_of, records_of, show}
 use Rattle.core_laws.specs.Network.{net_of, network_event, network_after}
 use Rattle.core_laws.specs.Runs.{state_after, move_by}
 
--- what is noted: the network with its packets; the requests issued and not served, and the responses made and not taken,
--- each in the order in which they were sent; and of each processor the requests of its issues and the responses of its
--- answers, in their order
+-- what is noted: the network with its packets; the requests issued and not served, and the
+-- responses made and not taken, each in the order in which they were sent; and of each processor
+-- the requests of its issues and the responses of its answers, in their order
 pub record Noted : Type 0 where
   pub net : NetState
   pub asked : List Request
@@ -44,7 +44,8 @@ abbrev pub taken_noted : Option Move → List (List Response) → List (List Res
 taken_noted (Some (Takes r)) taken = push_at taken r.destination r
 taken_noted _ taken = taken
 
--- what is noted after a step that is this move, or none, of the operations, and this event, or none, of the network
+-- what is noted after a step that is this move, or none, of the operations, and this event, or
+-- none, of the network
 abbrev pub noted_by : Design → State → Noted → Option Move → Option Event → Noted
 noted_by d s g m e = record {
   net = network_after (net_of d) g.net e;

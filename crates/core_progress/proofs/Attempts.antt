@@ -43,9 +43,11 @@ on_range a (suc n) (suc x) low =
 
 module _ (s : Shape) (t : ℕ) (here : t < tiles_of s) where
   in_round : (a : Step) → IsOn a (round_at (port_count (dims_of s)) t) → IsOn a (round s)
-  in_round a on = on_flat_map (round_at (port_count (dims_of s))) t a (range_with_len 0 (tiles_of s)) (subst (λ z. IsOn z (range_with_len 0 (tiles_of s))) (let e : 0 + t ≡ t = omega arith in e) (on_range 0 (tiles_of s) t here)) on
+  in_round a on = on_flat_map (round_at (port_count (dims_of s))) t a (range_with_len 0 (tiles_of s))
+      (subst (λ z. IsOn z (range_with_len 0 (tiles_of s))) (let e : 0 + t ≡ t = omega arith in e) (on_range 0 (tiles_of s) t here)) on
 
-  numbered : (agent other : ℕ) (choice : Choice) → agent ≡ other → IsOn (record { agent = agent; choice = choice }) (round_at (port_count (dims_of s)) t) → IsOn (record { agent = other; choice = choice }) (round_at (port_count (dims_of s)) t)
+  numbered : (agent other : ℕ) (choice : Choice) → agent ≡ other → IsOn (record { agent = agent; choice = choice }) (round_at (port_count (dims_of s)) t)
+      → IsOn (record { agent = other; choice = choice }) (round_at (port_count (dims_of s)) t)
   numbered agent other choice same on = subst (λ n. IsOn (record { agent = n; choice = choice }) (round_at (port_count (dims_of s)) t)) same on
 
   abbrev pub processor_choices : List Choice
@@ -55,27 +57,32 @@ module _ (s : Shape) (t : ℕ) (here : t < tiles_of s) where
   bank_choices = Take ∷ Serve ∷ Send ∷ Credit ∷ []
 
   abbrev pub router_choices : List Choice
-  router_choices = map (λ i. TakeFrom i) (range_with_len 0 (port_count (dims_of s))) ++ map (λ i. Put i) (range_with_len 0 (port_count (dims_of s))) ++ map (λ o. CreditOf o) (range_with_len 0 (port_count (dims_of s)))
+  router_choices = map (λ i. TakeFrom i) (range_with_len 0 (port_count (dims_of s))) ++ map (λ i. Put i) (range_with_len 0 (port_count (dims_of s)))
+      ++ map (λ o. CreditOf o) (range_with_len 0 (port_count (dims_of s)))
 
   pub processor_on : (choice : Choice) → IsOn choice processor_choices → IsOn (record { agent = t * 3 + 0; choice = choice }) (round s)
   processor_on choice on = in_round (record { agent = t * 3 + 0; choice = choice }) (numbered (3 * t) (t * 3 + 0) choice (omega arith)
-      (on_left (record { agent = 3 * t; choice = choice }) (attempts_of (3 * t) processor_choices) (attempts_of (3 * t + 1) router_choices ++ attempts_of (3 * t + 2) bank_choices)
+      (on_left (record { agent = 3 * t; choice = choice }) (attempts_of (3 * t) processor_choices)
+      (attempts_of (3 * t + 1) router_choices ++ attempts_of (3 * t + 2) bank_choices)
       (on_map (λ c. record { agent = 3 * t; choice = c }) choice processor_choices on)))
 
   pub router_on : (choice : Choice) → IsOn choice router_choices → IsOn (record { agent = t * 3 + 1; choice = choice }) (round s)
   router_on choice on = in_round (record { agent = t * 3 + 1; choice = choice }) (numbered (3 * t + 1) (t * 3 + 1) choice (omega arith)
-      (on_right (record { agent = 3 * t + 1; choice = choice }) (attempts_of (3 * t) processor_choices) (attempts_of (3 * t + 1) router_choices ++ attempts_of (3 * t + 2) bank_choices)
+      (on_right (record { agent = 3 * t + 1; choice = choice }) (attempts_of (3 * t) processor_choices)
+      (attempts_of (3 * t + 1) router_choices ++ attempts_of (3 * t + 2) bank_choices)
       (on_left (record { agent = 3 * t + 1; choice = choice }) (attempts_of (3 * t + 1) router_choices) (attempts_of (3 * t + 2) bank_choices)
       (on_map (λ c. record { agent = 3 * t + 1; choice = c }) choice router_choices on))))
 
   pub bank_on : (choice : Choice) → IsOn choice bank_choices → IsOn (record { agent = t * 3 + 2; choice = choice }) (round s)
   bank_on choice on = in_round (record { agent = t * 3 + 2; choice = choice }) (numbered (3 * t + 2) (t * 3 + 2) choice (omega arith)
-      (on_right (record { agent = 3 * t + 2; choice = choice }) (attempts_of (3 * t) processor_choices) (attempts_of (3 * t + 1) router_choices ++ attempts_of (3 * t + 2) bank_choices)
+      (on_right (record { agent = 3 * t + 2; choice = choice }) (attempts_of (3 * t) processor_choices)
+      (attempts_of (3 * t + 1) router_choices ++ attempts_of (3 * t + 2) bank_choices)
       (on_right (record { agent = 3 * t + 2; choice = choice }) (attempts_of (3 * t + 1) router_choices) (attempts_of (3 * t + 2) bank_choices)
       (on_map (λ c. record { agent = 3 * t + 2; choice = c }) choice bank_choices on))))
 
   port_on : (f : ℕ → Choice) (i : ℕ) → i < port_count (dims_of s) → IsOn (f i) (map f (range_with_len 0 (port_count (dims_of s))))
-  port_on f i low = on_map f i (range_with_len 0 (port_count (dims_of s))) (subst (λ z. IsOn z (range_with_len 0 (port_count (dims_of s)))) (let e : 0 + i ≡ i = omega arith in e) (on_range 0 (port_count (dims_of s)) i low))
+  port_on f i low = on_map f i (range_with_len 0 (port_count (dims_of s)))
+      (subst (λ z. IsOn z (range_with_len 0 (port_count (dims_of s)))) (let e : 0 + i ≡ i = omega arith in e) (on_range 0 (port_count (dims_of s)) i low))
 
   pub takes_on : (i : ℕ) → i < port_count (dims_of s) → IsOn (TakeFrom i) router_choices
   takes_on i low =

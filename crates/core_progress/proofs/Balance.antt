@@ -5,11 +5,11 @@ use Rattle.torus.specs.declared.step.OpId.{OpId}
 use Rattle.packet.specs.declared.kinds.Operation.{Operation}
 use Rattle.packet.specs.declared.kinds.Response.{Response}
 use Rattle.tag_table.specs.Tags.{out_count}
-use Rattle.core_laws.specs.net_interface.specs.ProcessorRecord.{ProcessorRecord, issued_by, answered_by, index_of, answer_of}
-use Rattle.runs.specs.Order.{LinearizationPoint}
-use Rattle.core_laws.specs.flights.specs.Flight.{Flight, Move, Sends, Serves, Takes, IsFound, processor_at, moved, moved_by}
-use Rattle.core_laws.specs.flights.proofs.Whole.{Whole}
-use Rattle.core_laws.specs.flights.proofs.Parts.{tags_at, processor_set}
+use Rattle.core_laws.specs.script_follower.specs.ProcessorRecord.{ProcessorRecord, issued_by, answered_by, index_of, answer_of}
+use Rattle.one_order.specs.Order.{LinearizationPoint}
+use Rattle.core_laws.specs.order_abstract.specs.Flight.{Flight, Move, Sends, Serves, Takes, IsFound, processor_at, moved, moved_by}
+use Rattle.core_laws.specs.order_abstract.proofs.Whole.{Whole}
+use Rattle.core_laws.specs.order_abstract.proofs.Parts.{tags_at, processor_set}
 use Rattle.core_progress.proofs.Out.{AreOut, issue_out, answer_out, issue_waits, answer_waits, out_some}
 
 -- who awaits an answer holds a tag, and the others are answered
@@ -38,17 +38,21 @@ abbrev pub AreBalanced : Flight → Type 0
 AreBalanced f = (p : ℕ) → IsBalanced (processor_at f p)
 
 -- each move keeps it
-pub move_balanced : (tiles tags words : ℕ) (opening : List ℕ) (f : Flight) (order : List LinearizationPoint) → Whole tiles tags opening f order → (m : Move) → IsFound words f m
+pub move_balanced : (tiles tags words : ℕ) (opening : List ℕ) (f : Flight) (order : List LinearizationPoint) → Whole tiles tags opening f order → (m : Move)
+    → IsFound words f m
     → AreBalanced f → AreBalanced (moved tiles f m)
 move_balanced tiles tags words opening f order w (Sends t tag o) found at p =
     processor_set f.processors t (issued_by (processor_at f t) tag o) p IsBalanced (issued_balanced (processor_at f t) tag o (at t) found.2) (at p)
 move_balanced tiles tags words opening f order w (Serves r) found at p = at p
 move_balanced tiles tags words opening f order w (Takes r) found at p =
     let is = w.sound.responses _ r found in
-    let held : slice_get (processor_at f r.destination).tags r.tag.0 ≡ Some (Some (record { 0 = is.index })) = sym (ap (λ ts. slice_get ts r.tag.0) (tags_at f r.destination)) ∙ is.holds in
-    processor_set f.processors r.destination (answered_by (processor_at f r.destination) r) p IsBalanced (answered_balanced (processor_at f r.destination) r (record { 0 = is.index }) (at r.destination) held) (at p)
+    let held : slice_get (processor_at f r.destination).tags r.tag.0 ≡ Some (Some (record { 0 = is.index })) =
+    sym (ap (λ ts. slice_get ts r.tag.0) (tags_at f r.destination)) ∙ is.holds in
+    processor_set f.processors r.destination (answered_by (processor_at f r.destination) r) p IsBalanced
+    (answered_balanced (processor_at f r.destination) r (record { 0 = is.index }) (at r.destination) held) (at p)
 
-pub any_balanced : (tiles tags words : ℕ) (opening : List ℕ) (f : Flight) (order : List LinearizationPoint) → Whole tiles tags opening f order → (m : Option Move) → ((k : Move) → m ≡ Some k → IsFound words f k)
+pub any_balanced : (tiles tags words : ℕ) (opening : List ℕ) (f : Flight) (order : List LinearizationPoint) → Whole tiles tags opening f order
+    → (m : Option Move) → ((k : Move) → m ≡ Some k → IsFound words f k)
     → AreBalanced f → AreBalanced (moved_by tiles f m)
 any_balanced tiles tags words opening f order w None found at = at
 any_balanced tiles tags words opening f order w (Some m) found at = move_balanced tiles tags words opening f order w m (found m refl) at

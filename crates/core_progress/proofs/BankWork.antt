@@ -22,16 +22,16 @@ use Rattle.flit_buffer.specs.Surroundings.{granted, ring}
 use Rattle.wormhole.specs.Net.{IsOn, IsParcel, IsTailShaped, Parcel, flits_of as flits_in}
 use Rattle.wormhole.specs.Words.{Words}
 use Rattle.wormhole.specs.Events.{InjectHead, InjectRest}
-use Rattle.torus_net.proofs.Ends.{few_channels}
-use Rattle.progress.specs.Work.{End}
+use Rattle.wormhole_torus.proofs.Ends.{few_channels}
+use Rattle.wormhole_progress.specs.Work.{End}
 use Rattle.rounds.proofs.Members.{on_head, on_tail}
 use Rattle.wormhole.proofs.Lists.{all_on}
 use Rattle.packet.specs.Flits.{flits_of}
 use Rattle.core_laws.specs.Heads.{is_head}
 use Rattle.home_bank.specs.BankTable.{bank_wants, bank_after, is_nil}
 use Rattle.channel_number.specs.Ports.{injection_channel, ejection_channel}
-use Rattle.core_laws.specs.tile.specs.Wiring.{bank_wiring}
-use Rattle.core_laws.specs.tile.specs.Tile.{Design}
+use Rattle.core_laws.specs.tile_laws.specs.Wiring.{bank_wiring}
+use Rattle.core_laws.specs.tile_laws.specs.Tile.{Design}
 use Rattle.core_laws.specs.Core.{State}
 use Rattle.core_laws.proofs.AgentSteps.{option_map_some}
 use Rattle.core_laws.proofs.Projection.{net_of, response_parcel, first_flit}
@@ -82,7 +82,8 @@ tail_first : (d : Design) (fs : List ℕ) → IsTailShaped (net_of d) fs → is_
 tail_first d [] shaped = no_head
 tail_first d (f ∷ fs) shaped = sym (is_head_of d f) ∙ shaped.0
 
-module _ (d : Design) (s : State) (g : Ghost) (mirrors : Mirrors d s g.net.lines) (accepted : IsAccepted d.shape) (words : Words (net_of d) g.net) (carries : Carries d s g) (t cap : ℕ) (here : t < tiles_of d.shape)
+module _ (d : Design) (s : State) (g : Ghost) (mirrors : Mirrors d s g.net.lines) (accepted : IsAccepted d.shape) (words : Words (net_of d) g.net)
+    (carries : Carries d s g) (t cap : ℕ) (here : t < tiles_of d.shape)
     (phase : IsInPhase t (tile_at s t).bank) (room : (r : Asking) → (tile_at s t).bank.waiting ≡ Some r → length (tile_at s t).bank.entries < cap) where
   abbrev after_choice : Choice → Want → ℕ → End
   after_choice c w learned = end_of cap (tile_at s t).processor (bank_after (tiles_of d.shape) t (tile_at s t).bank c w learned)
@@ -95,7 +96,8 @@ module _ (d : Design) (s : State) (g : Ghost) (mirrors : Mirrors d s g.net.lines
   short_ways i j joined = few_channels d.shape d.depth i j accepted joined
 
   -- the first flit of a reply
-  send_first : (w : Want) (learned f : ℕ) (fs : List ℕ) → (tile_at s t).bank.to_put ≡ f ∷ fs → is_head f ≡ true → granted s.around (bank_wiring d.shape t) (want.Put 0 f) ≡ Some learned
+  send_first : (w : Want) (learned f : ℕ) (fs : List ℕ) → (tile_at s t).bank.to_put ≡ f ∷ fs → is_head f ≡ true
+      → granted s.around (bank_wiring d.shape t) (want.Put 0 f) ≡ Some learned
       → IsTileEvent d g.net (network.reply_event d t (tile_at s t).bank (f ∷ fs)) now (after_choice choice.Send w learned)
   send_first w learned f fs due head grants =
       let x : ℕ = injection_channel d.shape t Reply in
@@ -104,15 +106,20 @@ module _ (d : Design) (s : State) (g : Ghost) (mirrors : Mirrors d s g.net.lines
       let bit : is_head (first_flit (tile_at s t).bank.to_put) ≡ true = ap (λ l. is_head (first_flit l)) due ∙ head in
       let one = one_item (λ (r : Telling). flits_of (packet.Response r)) (last_of made) (tile_at s t).bank.to_put (phase.fresh bit) in
       let r : Telling = one.0 in
-      let is : IsProperResponse d r × (r.source ≡ t) = all_on (λ (q : Telling). IsProperResponse d q × (q.source ≡ t)) made r (carries.replies_proper t here) (last_on made r one.1) in
+      let is : IsProperResponse d r × (r.source ≡ t) =
+      all_on (λ (q : Telling). IsProperResponse d q × (q.source ≡ t)) made r (carries.replies_proper t here) (last_on made r one.1) in
       let k : Parcel = response_parcel d.shape r in
       let parcel : IsParcel (net_of d) k = is_parcel d (packet.Response r) is.0.spelled is.0.source is.0.destination in
       let flits : flits_in k ≡ f ∷ fs = sym (parcel_flits d.shape (packet.Response r) is.0.spelled) ∙ one.2 ∙ due in
       let tail : k.tail ≡ fs = cc in
       let later : is_head (first_flit fs) ≡ false = ap (λ l. is_head (first_flit l)) (sym tail) ∙ tail_first d k.tail parcel.tail in
-      let last : network.last_response (responses_made t 0 (tile_at s t).bank.entries) ≡ Some r = ap network.last_response (sym (made_same t 0 (tile_at s t).bank.entries)) ∙ last_is made r one.1 in
-      subst (λ (b : Bool). IsTileEvent d g.net (if b then option_map (λ q. InjectHead x (response_parcel d.shape q)) (network.last_response (responses_made t 0 (tile_at s t).bank.entries)) else Some (InjectRest x f fs)) now (after_choice choice.Send w learned)) (sym head)
-      (subst (λ (q : Option Telling). IsTileEvent d g.net (option_map (λ p. InjectHead x (response_parcel d.shape p)) q) now (after_choice choice.Send w learned)) (sym last) (record {
+      let last : network.last_response (responses_made t 0 (tile_at s t).bank.entries) ≡ Some r =
+      ap network.last_response (sym (made_same t 0 (tile_at s t).bank.entries)) ∙ last_is made r one.1 in
+      subst (λ (b : Bool). IsTileEvent d g.net
+      (if b then option_map (λ q. InjectHead x (response_parcel d.shape q)) (network.last_response (responses_made t 0 (tile_at s t).bank.entries))
+      else Some (InjectRest x f fs)) now (after_choice choice.Send w learned)) (sym head)
+      (subst (λ (q : Option Telling). IsTileEvent d g.net (option_map (λ p. InjectHead x (response_parcel d.shape p)) q) now
+      (after_choice choice.Send w learned)) (sym last) (record {
         may = record {
           here = end.0;
           injects = end.1;
@@ -121,11 +128,13 @@ module _ (d : Design) (s : State) (g : Ghost) (mirrors : Mirrors d s g.net.lines
           parcel = parcel;
           source = (response_ends d.shape r).0 ∙ ap (λ z. injection_channel d.shape z Reply) is.1;
         };
-        change = inr (reply_begins (tiles_of d.shape) d.words t cap (tile_at s t).processor (tile_at s t).bank (net_of d) k w learned f fs due head later (ap length flits) (short_ways k.source k.destination parcel.joined));
+        change = inr (reply_begins (tiles_of d.shape) d.words t cap (tile_at s t).processor (tile_at s t).bank (net_of d) k w learned f fs due head later
+            (ap length flits) (short_ways k.source k.destination parcel.joined));
       }))
 
   -- a further flit of a reply
-  send_on : (w : Want) (learned f : ℕ) (fs : List ℕ) → (tile_at s t).bank.to_put ≡ f ∷ fs → is_head f ≡ false → granted s.around (bank_wiring d.shape t) (want.Put 0 f) ≡ Some learned
+  send_on : (w : Want) (learned f : ℕ) (fs : List ℕ) → (tile_at s t).bank.to_put ≡ f ∷ fs → is_head f ≡ false
+      → granted s.around (bank_wiring d.shape t) (want.Put 0 f) ≡ Some learned
       → IsTileEvent d g.net (network.reply_event d t (tile_at s t).bank (f ∷ fs)) now (after_choice choice.Send w learned)
   send_on w learned f fs due rest grants =
       let x : ℕ = injection_channel d.shape t Reply in
@@ -133,31 +142,45 @@ module _ (d : Design) (s : State) (g : Ghost) (mirrors : Mirrors d s g.net.lines
       let bit : is_head (first_flit (tile_at s t).bank.to_put) ≡ false = ap (λ l. is_head (first_flit l)) due ∙ rest in
       let course : (g.net.lines x).rest ≡ f ∷ fs = mirrors.sends_replies t here ∙ ap (λ b. cond b [] (tile_at s t).bank.to_put) bit ∙ due in
       let shaped : IsTailShaped (net_of d) (f ∷ fs) = subst (IsTailShaped (net_of d)) (words.senders x end.1 ∙ course) (words.owed x) in
-      subst (λ (b : Bool). IsTileEvent d g.net (if b then option_map (λ q. InjectHead x (response_parcel d.shape q)) (network.last_response (responses_made t 0 (tile_at s t).bank.entries)) else Some (InjectRest x f fs)) now (after_choice choice.Send w learned)) (sym rest)
+      subst (λ (b : Bool). IsTileEvent d g.net
+      (if b then option_map (λ q. InjectHead x (response_parcel d.shape q)) (network.last_response (responses_made t 0 (tile_at s t).bank.entries))
+      else Some (InjectRest x f fs)) now (after_choice choice.Send w learned)) (sym rest)
       (record {
-        may = record { here = end.0; injects = end.1; course = course; credit = credit_there d s g.net mirrors (bank_wiring d.shape t) x f learned refl end.0 grants };
+        may = record {
+          here = end.0;
+          injects = end.1;
+          course = course;
+          credit = credit_there d s g.net mirrors (bank_wiring d.shape t) x f learned refl end.0 grants;
+        };
         change = reply_goes_on (tiles_of d.shape) d.words t cap (tile_at s t).processor (tile_at s t).bank w learned f fs due rest (tail_first d fs shaped.2);
       })
 
-  send_bit : (w : Want) (learned f : ℕ) (fs : List ℕ) → (tile_at s t).bank.to_put ≡ f ∷ fs → (b : Bool) → is_head f ≡ b → granted s.around (bank_wiring d.shape t) (want.Put 0 f) ≡ Some learned
+  send_bit : (w : Want) (learned f : ℕ) (fs : List ℕ) → (tile_at s t).bank.to_put ≡ f ∷ fs → (b : Bool) → is_head f ≡ b
+      → granted s.around (bank_wiring d.shape t) (want.Put 0 f) ≡ Some learned
       → IsTileEvent d g.net (network.reply_event d t (tile_at s t).bank (f ∷ fs)) now (after_choice choice.Send w learned)
   send_bit w learned f fs due true bit grants = send_first w learned f fs due bit grants
   send_bit w learned f fs due false bit grants = send_on w learned f fs due bit grants
 
-  send_by : (w : Want) (learned : ℕ) (l : List ℕ) → (tile_at s t).bank.to_put ≡ l → option_map (λ f. want.Put 0 f) (channel.first_of l) ≡ Some w → granted s.around (bank_wiring d.shape t) w ≡ Some learned
+  send_by : (w : Want) (learned : ℕ) (l : List ℕ) → (tile_at s t).bank.to_put ≡ l → option_map (λ f. want.Put 0 f) (channel.first_of l) ≡ Some w
+      → granted s.around (bank_wiring d.shape t) w ≡ Some learned
       → IsTileEvent d g.net (network.reply_event d t (tile_at s t).bank l) now (after_choice choice.Send w learned)
   send_by w learned [] due wanted grants = absurd (cc)
-  send_by w learned (f ∷ fs) due wanted grants = send_bit w learned f fs due (is_head f) refl (ap (granted s.around (bank_wiring d.shape t)) (same_Some (want.Put 0 f) w wanted) ∙ grants)
+  send_by w learned (f ∷ fs) due wanted grants =
+      send_bit w learned f fs due (is_head f) refl (ap (granted s.around (bank_wiring d.shape t)) (same_Some (want.Put 0 f) w wanted) ∙ grants)
 
   -- each choice of a bank that is enabled
-  pub bank_event : (c : Choice) (w : Want) (learned : ℕ) → bank_wants (tiles_of d.shape) t (tile_at s t).bank c ≡ Some w → granted s.around (bank_wiring d.shape t) w ≡ Some learned
-      → IsTileEvent d g.net (network.bank_event d t (tile_at s t).bank s.around c learned) (end_of cap (tile_at s t).processor (tile_at s t).bank) (end_of cap (tile_at s t).processor (bank_after (tiles_of d.shape) t (tile_at s t).bank c w learned))
+  pub bank_event : (c : Choice) (w : Want) (learned : ℕ) → bank_wants (tiles_of d.shape) t (tile_at s t).bank c ≡ Some w
+      → granted s.around (bank_wiring d.shape t) w ≡ Some learned
+      → IsTileEvent d g.net (network.bank_event d t (tile_at s t).bank s.around c learned) (end_of cap (tile_at s t).processor (tile_at s t).bank)
+      (end_of cap (tile_at s t).processor (bank_after (tiles_of d.shape) t (tile_at s t).bank c w learned))
   bank_event choice.Take w learned wanted grants =
       let x : ℕ = ejection_channel d.shape t Request in
       let end = ejection_low d s g.net mirrors t Request here in
       let is = if_so (is_none (tile_at s t).bank.waiting && is_nil (tile_at s t).bank.to_put) (Some (want.Take 0)) w wanted in
-      let f = flit_there d s g.net mirrors (bank_wiring d.shape t) x learned refl end.0 (ap (granted s.around (bank_wiring d.shape t)) (same_Some (want.Take 0) w is.1) ∙ grants) in
-      accepts d s g.net mirrors x learned (channel.rest (ring s.around.rings x).channel.flits) now (after_choice choice.Take w learned) end.0 end.1 f (bank_takes (tiles_of d.shape) d.words t cap (tile_at s t).processor (tile_at s t).bank w learned)
+      let f = flit_there d s g.net mirrors (bank_wiring d.shape t) x learned refl end.0
+      (ap (granted s.around (bank_wiring d.shape t)) (same_Some (want.Take 0) w is.1) ∙ grants) in
+      accepts d s g.net mirrors x learned (channel.rest (ring s.around.rings x).channel.flits) now (after_choice choice.Take w learned) end.0 end.1 f
+      (bank_takes (tiles_of d.shape) d.words t cap (tile_at s t).processor (tile_at s t).bank w learned)
       (is_head learned) (is_head_of d learned)
   bank_event choice.Serve w learned wanted grants =
       let r = option_map_some _ (tile_at s t).bank.waiting w wanted in
@@ -171,7 +194,11 @@ module _ (d : Design) (s : State) (g : Ghost) (mirrors : Mirrors d s g.net.lines
       let x : ℕ = injection_channel d.shape t Reply in
       let end = injection_low d s g.net mirrors t Reply here in
       record {
-        may = record { here = end.0; returns = returning_there d s g.net mirrors (bank_wiring d.shape t) x learned refl end.0 (ap (granted s.around (bank_wiring d.shape t)) (same_Some (want.Credit 0) w wanted) ∙ grants) };
+        may = record {
+          here = end.0;
+          returns = returning_there d s g.net mirrors (bank_wiring d.shape t) x learned refl end.0
+              (ap (granted s.around (bank_wiring d.shape t)) (same_Some (want.Credit 0) w wanted) ∙ grants);
+        };
         change = bank_credit (tiles_of d.shape) d.words t cap (tile_at s t).processor (tile_at s t).bank w learned;
       }
   bank_event (choice.TakeFrom i) w learned wanted grants = absurd (cc)

@@ -1,25 +1,26 @@
 -- No run makes more moves than are owed at first.
-use Rattle.std.proofs.Common.{◌≡◌, ℕ, zero, suc, ◌+◌, ◌<◌, ◌≤◌, cond, List, [], length, take, Option, Some, None, refl, sym, ◌∙◌, ap, subst, arith, slice_get, slice_index_or}
+use Rattle.std.proofs.Common.{◌≡◌, ℕ, zero, suc, ◌+◌, ◌<◌, ◌≤◌, cond, List, [], length, take, Option, Some, None, refl, sym, ◌∙◌, ap, subst, arith, slice_get}
+use Rattle.std.proofs.Common.{slice_index_or}
 use Rattle.std.proofs.lemmas.List.{get_or-map}
 use Rattle.torus.specs.Shape.{tiles_of, dims_of}
 use Rattle.torus.specs.declared.step.Step.{Step}
 use Rattle.script.specs.declared.line.Line.{Line}
 use Rattle.script.specs.Scripts.{operation_count, total_count}
-use Rattle.core_laws.specs.net_interface.specs.Following.{first_of, left_of}
-use Rattle.core_laws.specs.net_interface.proofs.Followable.{accepted_followable}
-use Rattle.runs.specs.Events.{order_after}
+use Rattle.core_laws.specs.script_follower.specs.Following.{first_of, left_of}
+use Rattle.core_laws.specs.script_follower.proofs.Followable.{accepted_followable}
+use Rattle.one_order.specs.Events.{order_after}
 use Rattle.wormhole.specs.State.{State as NetState}
 use Rattle.wormhole.specs.Events.{Event}
-use Rattle.progress.specs.Weight.{sum_below}
-use Rattle.progress.specs.Work.{End, end_weight, work, first_end}
-use Rattle.progress.specs.Work as progress
+use Rattle.wormhole_progress.specs.Weight.{sum_below}
+use Rattle.wormhole_progress.specs.Work.{End, end_weight, work, first_end}
+use Rattle.wormhole_progress.specs.Work as progress
 use Rattle.rounds.specs.Rounds.{one_if_moved}
-use Rattle.progress.proofs.Sums.{sum_same}
-use Rattle.progress.proofs.Bounded.{ends_owe, empty_owes}
-use Rattle.core_laws.specs.tile.specs.Tile.{Design, TileState}
+use Rattle.wormhole_progress.proofs.Sums.{sum_same}
+use Rattle.wormhole_progress.proofs.Bounded.{ends_owe, empty_owes}
+use Rattle.core_laws.specs.tile_laws.specs.Tile.{Design, TileState}
 use Rattle.core_laws.specs.Core.{Load, State, design_of, first_state, first_tile, or_same, step}
 use Rattle.core_laws.specs.Runs.{IsAccepted, state_after}
-use Rattle.core_laws.specs.flights.specs.Room.{home_room}
+use Rattle.core_laws.specs.order_abstract.specs.Room.{home_room}
 use Rattle.core_laws.specs.Network.{net_of, network_event, network_after}
 use Rattle.core_laws.specs.Noted.{noted, event_by}
 use Rattle.core_laws.proofs.Histories.{event_at, next_at, after_more}
@@ -41,7 +42,8 @@ same_after d net None = refl
 same_after d net (Some e) = refl
 
 -- what the ends of a tile have to do at first
-first_weight : (dims tags cap : ℕ) (lines : List Line) → end_weight (end_of cap (first_tile dims tags lines).processor (first_tile dims tags lines).bank) ≡ end_weight (first_end (left_of (first_of lines)) cap)
+first_weight : (dims tags cap : ℕ) (lines : List Line)
+    → end_weight (end_of cap (first_tile dims tags lines).processor (first_tile dims tags lines).bank) ≡ end_weight (first_end (left_of (first_of lines)) cap)
 first_weight dims tags cap lines =
     let none : (end_of cap (first_tile dims tags lines).processor (first_tile dims tags lines).bank).unsent ≡ 0 = ap (λ b. cond b 0 0) no_head in
     omega arith
@@ -61,7 +63,8 @@ module _ (l : Load) (ok : IsAccepted l) where
   has_room : (steps : List Step) (n : ℕ) → HasRoom d (state_after l steps n) cap
   has_room steps n = record {
     proper = λ t tag o here due.
-        (ready_proper d l.tags (limited l ok) l.opening (state_after l steps n) (noted l steps n) (order_after (event_at l steps) n) (holds_in l ok steps n).stands (holds_in l ok steps n).values t tag o here due).0;
+        (ready_proper d l.tags (limited l ok) l.opening (state_after l steps n) (noted l steps n) (order_after (event_at l steps) n)
+        (holds_in l ok steps n).stands (holds_in l ok steps n).values t tag o here due).0;
     room = λ t r here waits. bank_room l ok steps n t r waits;
   }
 
@@ -77,8 +80,10 @@ module _ (l : Load) (ok : IsAccepted l) where
       let ends : sum_below tiles (λ t. end_weight (ends_at cap (first_state l) t)) ≡ sum_below tiles (λ t. end_weight (first_end (ops t) (cap t))) =
       sum_same tiles (λ t. end_weight (first_end (ops t) (cap t))) (λ t. end_weight (ends_at cap (first_state l) t)) (λ t here.
       let low : t < length l.scripts = subst (λ (k : ℕ). t < k) (sym ok.processors) here in
-      let is : tile_at (first_state l) t ≡ first_tile (dims_of l.shape) l.tags (slice_index_or l.scripts t []) = get_or-map (first_tile (dims_of l.shape) l.tags) l.scripts t [] no_tile low in
-      ap (λ (u : TileState). end_weight (end_of (cap t) u.processor u.bank)) is ∙ first_weight (dims_of l.shape) l.tags (cap t) (slice_index_or l.scripts t [])) in
+      let is : tile_at (first_state l) t ≡ first_tile (dims_of l.shape) l.tags (slice_index_or l.scripts t []) =
+      get_or-map (first_tile (dims_of l.shape) l.tags) l.scripts t [] no_tile low in
+      ap (λ (u : TileState). end_weight (end_of (cap t) u.processor u.bank)) is
+      ∙ first_weight (dims_of l.shape) l.tags (cap t) (slice_index_or l.scripts t [])) in
       let all = ends_owe ops cap tiles in
       let none = empty_owes (net_of d) (net_of d).channels in
       let left : sum_below (length l.scripts) ops ≤ total_count l.scripts = all_left l.scripts (λ lines. left_of (first_of lines)) script_left in
@@ -94,9 +99,11 @@ module _ (l : Load) (ok : IsAccepted l) where
       let made : one_if_moved (step d s a) ≡ 0 = ap one_if_moved is in
       let state : state_after l steps (suc n) ≡ s = after_more d steps (first_state l) n ∙ ap (next_at d s) there ∙ ap (or_same s) is in
       let net : (noted l steps (suc n)).net ≡ (noted l steps n).net =
-      ap (λ (b : Option Step). network_after (net_of d) (noted l steps n).net (event_by l s b)) there ∙ ap (network_after (net_of d) (noted l steps n).net) (still d s a is) in
+      ap (λ (b : Option Step). network_after (net_of d) (noted l steps n).net (event_by l s b)) there
+      ∙ ap (network_after (net_of d) (noted l steps n).net) (still d s a is) in
       let same : owed steps (suc n) ≡ owed steps n =
-      ap (λ (t : State). work (net_of d) (tiles_of l.shape) (ends_at cap t) (noted l steps (suc n)).net) state ∙ ap (work (net_of d) (tiles_of l.shape) (ends_at cap s)) net in
+      ap (λ (t : State). work (net_of d) (tiles_of l.shape) (ends_at cap t) (noted l steps (suc n)).net) state
+      ∙ ap (work (net_of d) (tiles_of l.shape) (ends_at cap s)) net in
       omega arith
   step_owed steps n a (Some after) is there =
       let s : State = state_after l steps n in
@@ -104,19 +111,24 @@ module _ (l : Load) (ok : IsAccepted l) where
       let state : state_after l steps (suc n) ≡ after = after_more d steps (first_state l) n ∙ ap (next_at d s) there ∙ ap (or_same s) is in
       let new : NetState = progress.network_after (net_of d) (noted l steps n).net (network_event d s a) in
       let net : (noted l steps (suc n)).net ≡ new =
-      ap (λ (b : Option Step). network_after (net_of d) (noted l steps n).net (event_by l s b)) there ∙ sym (same_after d (noted l steps n).net (network_event d s a)) in
+      ap (λ (b : Option Step). network_after (net_of d) (noted l steps n).net (event_by l s b)) there
+      ∙ sym (same_after d (noted l steps n).net (network_event d s a)) in
       let same : owed steps (suc n) ≡ work (net_of d) (tiles_of l.shape) (ends_at cap after) new =
-      ap (λ (t : State). work (net_of d) (tiles_of l.shape) (ends_at cap t) (noted l steps (suc n)).net) state ∙ ap (work (net_of d) (tiles_of l.shape) (ends_at cap after)) net in
-      let falls = machine_work_falls d l.tags l.opening s (noted l steps n) (order_after (event_at l steps) n) ok.shape (stands_live l ok steps n) cap (has_room steps n) a after is in
+      ap (λ (t : State). work (net_of d) (tiles_of l.shape) (ends_at cap t) (noted l steps (suc n)).net) state
+      ∙ ap (work (net_of d) (tiles_of l.shape) (ends_at cap after)) net in
+      let falls = machine_work_falls d l.tags l.opening s (noted l steps n) (order_after (event_at l steps) n) ok.shape (stands_live l ok steps n) cap
+      (has_room steps n) a after is in
       omega arith
 
   by_attempt : (steps : List Step) (n : ℕ) (a : Option Step) → slice_get steps n ≡ a → made_by d (state_after l steps n) a + owed steps (suc n) ≤ owed steps n
   by_attempt steps n None there =
       let s : State = state_after l steps n in
       let state : state_after l steps (suc n) ≡ s = after_more d steps (first_state l) n ∙ ap (next_at d s) there in
-      let net : (noted l steps (suc n)).net ≡ (noted l steps n).net = ap (λ (b : Option Step). network_after (net_of d) (noted l steps n).net (event_by l s b)) there in
+      let net : (noted l steps (suc n)).net ≡ (noted l steps n).net =
+      ap (λ (b : Option Step). network_after (net_of d) (noted l steps n).net (event_by l s b)) there in
       let same : owed steps (suc n) ≡ owed steps n =
-      ap (λ (t : State). work (net_of d) (tiles_of l.shape) (ends_at cap t) (noted l steps (suc n)).net) state ∙ ap (work (net_of d) (tiles_of l.shape) (ends_at cap s)) net in
+      ap (λ (t : State). work (net_of d) (tiles_of l.shape) (ends_at cap t) (noted l steps (suc n)).net) state
+      ∙ ap (work (net_of d) (tiles_of l.shape) (ends_at cap s)) net in
       omega arith
   by_attempt steps n (Some a) there = step_owed steps n a (step d (state_after l steps n) a) refl there
 

@@ -1,16 +1,17 @@
 -- How many operations all scripts allow, by processor and by bank.
-use Rattle.std.proofs.Common.{◌≡◌, ⊎_elim, ℕ, zero, suc, ◌+◌, ◌%◌, ◌<◌, ◌≤◌, ◌==◌, cond, List, [], ◌∷◌, length, Option, Some, None, refl, ap, arith, slice_index_or, eq-eqb}
+use Rattle.std.proofs.Common.{◌≡◌, ⊎_elim, ℕ, zero, suc, ◌+◌, ◌%◌, ◌<◌, ◌≤◌, ◌==◌, cond, List, [], ◌∷◌, length, Option, Some, None, refl, ap, arith}
+use Rattle.std.proofs.Common.{slice_index_or, eq-eqb}
 use Rattle.std.specs.Prelude.{if◌then◌else◌}
 use Rattle.std.proofs.lemmas.Bool.{cases_eq, ne_eqb}
 use Rattle.std.proofs.lemmas.List.Sums.{sum_by-cons}
 use Rattle.script.specs.declared.line.Line.{Line}
 use Rattle.script.specs.Scripts.{operations_of, operation_count, total_count}
-use Rattle.core_laws.specs.net_interface.specs.Scripts.{IsFollowable, address_of}
-use Rattle.core_laws.specs.net_interface.specs.Homes.{is_home, line_home_count, script_home_count}
-use Rattle.core_laws.specs.net_interface.specs.Following.{first_of, left_of, starts}
-use Rattle.core_laws.specs.net_interface.proofs.Shown.{left_within}
-use Rattle.core_laws.specs.flights.specs.Room.{home_room}
-use Rattle.progress.specs.Weight.{sum_below}
+use Rattle.core_laws.specs.script_follower.specs.Scripts.{IsFollowable, address_of}
+use Rattle.core_laws.specs.script_follower.specs.Homes.{is_home, line_home_count, script_home_count}
+use Rattle.core_laws.specs.script_follower.specs.Following.{first_of, left_of, starts}
+use Rattle.core_laws.specs.script_follower.proofs.Shown.{left_within}
+use Rattle.core_laws.specs.order_abstract.specs.Room.{home_room}
+use Rattle.wormhole_progress.specs.Weight.{sum_below}
 
 -- the sum of two counts
 sum_both : (m : ℕ) (f g h : ℕ → ℕ) → ((b : ℕ) → h b ≡ f b + g b) → sum_below m h ≡ sum_below m f + sum_below m g
@@ -50,7 +51,8 @@ at_home tiles c m (Some a) = one_below m (a % tiles) c
 script_homes : (tiles m : ℕ) (lines : List Line) → sum_below m (λ b. script_home_count tiles b lines) ≤ operation_count lines
 script_homes tiles m [] = let none = sum_none m (λ b. script_home_count tiles b []) (λ b. refl) in omega arith
 script_homes tiles m (line ∷ lines) =
-    let both = sum_both m (λ b. line_home_count tiles b line) (λ b. script_home_count tiles b lines) (λ b. script_home_count tiles b (line ∷ lines)) (λ b. sum_by-cons (line_home_count tiles b) line lines) in
+    let both = sum_both m (λ b. line_home_count tiles b line) (λ b. script_home_count tiles b lines) (λ b. script_home_count tiles b (line ∷ lines))
+    (λ b. sum_by-cons (line_home_count tiles b) line lines) in
     let first = at_home tiles (operations_of line) m (address_of line) in
     let rest = script_homes tiles m lines in
     let all = sum_by-cons operations_of line lines in
@@ -60,7 +62,8 @@ script_homes tiles m (line ∷ lines) =
 pub all_homes : (tiles m : ℕ) (scripts : List (List Line)) → sum_below m (λ b. home_room tiles b scripts) ≤ total_count scripts
 all_homes tiles m [] = let none = sum_none m (λ b. home_room tiles b []) (λ b. refl) in omega arith
 all_homes tiles m (lines ∷ scripts) =
-    let both = sum_both m (λ b. script_home_count tiles b lines) (λ b. home_room tiles b scripts) (λ b. home_room tiles b (lines ∷ scripts)) (λ b. sum_by-cons (script_home_count tiles b) lines scripts) in
+    let both = sum_both m (λ b. script_home_count tiles b lines) (λ b. home_room tiles b scripts) (λ b. home_room tiles b (lines ∷ scripts))
+    (λ b. sum_by-cons (script_home_count tiles b) lines scripts) in
     let first = script_homes tiles m lines in
     let rest = all_homes tiles m scripts in
     let all = sum_by-cons operation_count lines scripts in
@@ -75,7 +78,8 @@ sum_front : (m : ℕ) (f : ℕ → ℕ) → sum_below (suc m) f ≡ f 0 + sum_be
 sum_front zero f = omega arith
 sum_front (suc m) f = let rest = sum_front m f in omega arith
 
-pub all_left : (scripts : List (List Line)) (f : List Line → ℕ) → ((p : ℕ) → p < length scripts → f (slice_index_or scripts p []) ≤ operation_count (slice_index_or scripts p []))
+pub all_left : (scripts : List (List Line)) (f : List Line → ℕ)
+    → ((p : ℕ) → p < length scripts → f (slice_index_or scripts p []) ≤ operation_count (slice_index_or scripts p []))
     → sum_below (length scripts) (λ t. f (slice_index_or scripts t [])) ≤ total_count scripts
 all_left [] f each = omega arith
 all_left (lines ∷ scripts) f each =

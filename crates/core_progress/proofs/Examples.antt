@@ -9,13 +9,19 @@ use Rattle.packet.specs.Flits.{offered, flits_of}
 use Rattle.script.specs.declared.line.Line.{Line}
 use Rattle.script.specs.declared.line.Line.TheVariants as line
 use Rattle.script.specs.declared.line.Value.TheVariants.{Number}
-use Rattle.core_laws.specs.net_interface.specs.Following.{first_of, next_operation_of, after_issue, after_answer, is_finished}
+use Rattle.core_laws.specs.script_follower.specs.Following.{first_of, next_operation_of, after_issue, after_answer, is_finished}
 use Rattle.core_laws.specs.Core.{Load, design_of, first_state, after, step, round}
 use Rattle.rounds.specs.Rounds.{after_rounds}
 use Rattle.core_progress.specs.Moves.{enabled_step, all_finished, moves_left}
 
 abbrev with_scripts : List (List Line) → Load
-with_scripts scripts = record { shape = record { radices = 2 ∷ []; datelines = 1 ∷ [] }; depth = 4; tags = 4; opening = 0 ∷ 0 ∷ 0 ∷ 0 ∷ 0 ∷ 0 ∷ 0 ∷ 0 ∷ []; scripts = scripts }
+with_scripts scripts = record {
+  shape = record { radices = 2 ∷ []; datelines = 1 ∷ [] };
+  depth = 4;
+  tags = 4;
+  opening = 0 ∷ 0 ∷ 0 ∷ 0 ∷ 0 ∷ 0 ∷ 0 ∷ 0 ∷ [];
+  scripts = scripts;
+}
 
 abbrev attempt : ℕ → Choice → Step
 attempt agent choice = record { agent = agent; choice = choice }

@@ -4,7 +4,7 @@ use Rattle.torus.specs.declared.step.Step.{Step}
 use Rattle.rounds.specs.Rounds.{first_enabled, one_if_moved, Finishes}
 use Rattle.rounds.proofs.Rounds.{rounds_finish}
 use Rattle.rounds.proofs.Simulates.{first_shown, finishes_shown}
-use Rattle.core_laws.specs.tile.specs.Tile.{Design}
+use Rattle.core_laws.specs.tile_laws.specs.Tile.{Design}
 use Rattle.core_laws.specs.Core.{Load, State, design_of, first_state, step, or_same, after, round}
 use Rattle.core_laws.specs.Runs.{IsAccepted, state_after}
 use Rattle.core_laws.proofs.AgentSteps.{option_map_some}
@@ -51,7 +51,8 @@ module _ (l : Load) (ok : IsAccepted l) where
   -- From every list of attempts on rounds finish every script, and the least number of them that does is at most the moves left.
   list_finishes : (xs : List Step) → Finishes longer (round l.shape) (λ ys. all_finished (after l ys)) left_of xs
   list_finishes xs =
-      rounds_finish longer (round l.shape) (λ ys. all_finished (after l ys)) (λ ys. Unit {0}) left_of (λ ys zs a inv is. tt) (λ ys zs a inv is. falls ys zs a is) (λ ys inv busy. lives ys busy) xs tt
+      rounds_finish longer (round l.shape) (λ ys. all_finished (after l ys)) (λ ys. Unit {0}) left_of (λ ys zs a inv is. tt)
+      (λ ys zs a inv is. falls ys zs a is) (λ ys inv busy. lives ys busy) xs tt
 
   pub run_finishes : (steps : List Step) (n : ℕ) → Finishes (step d) (round l.shape) all_finished (λ s. moves_left l steps n) (state_after l steps n)
   run_finishes steps n = finishes_shown longer (step d) (after l) shown (round l.shape) all_finished left_of (take n steps) (list_finishes (take n steps))

@@ -1,14 +1,15 @@
 -- The operations of a processor in a run are told by the run alone.
-use Rattle.std.proofs.Common.{◌≡◌, ⊎_elim, ℕ, zero, suc, ◌<◌, ◌≤◌, ◌&&◌, Bool, true, List, [], ◌∷◌, length, Option, Some, None, refl, sym, ◌∙◌, ap, arith, slice_get, slice_index_or}
+use Rattle.std.proofs.Common.{◌≡◌, ⊎_elim, ℕ, zero, suc, ◌<◌, ◌≤◌, ◌&&◌, Bool, true, List, [], ◌∷◌, length, Option, Some, None, refl, sym, ◌∙◌, ap, arith}
+use Rattle.std.proofs.Common.{slice_get, slice_index_or}
 use Rattle.std.specs.List.{list_all}
 use Rattle.std.proofs.lemmas.Bool.{and_parts, cases_lt}
 use Rattle.packet.specs.declared.kinds.Reply.{Reply}
 use Rattle.packet.specs.declared.kinds.Operation.{Operation}
-use Rattle.core_laws.specs.net_interface.specs.Scripts.{Invocation}
-use Rattle.runs.specs.declared.answer.Answer.{Answer}
-use Rattle.runs.specs.Observed.{Run, IsFirst, list_at, HasAnswered, IsAnsweredAt}
-use Rattle.runs.proofs.Lists.{same_get}
-use Rattle.core_laws.specs.flights.specs.Scripts.{AreInvocationsOf}
+use Rattle.core_laws.specs.script_follower.specs.Scripts.{Invocation}
+use Rattle.one_order.specs.declared.answer.Answer.{Answer}
+use Rattle.one_order.specs.Observed.{Run, IsFirst, list_at, HasAnswered, IsAnsweredAt}
+use Rattle.one_order.proofs.Lists.{same_get}
+use Rattle.core_laws.specs.order_abstract.specs.Scripts.{AreInvocationsOf}
 
 -- two lists with the same elements are one
 same_list : {A : Type 0} (xs ys : List A) → length xs ≡ length ys → ((k : ℕ) (x y : A) → slice_get xs k ≡ Some x → slice_get ys k ≡ Some y → x ≡ y) → xs ≡ ys
@@ -29,7 +30,8 @@ same_time P s t f g = ⊎_elim
 
 -- no two answers of a processor are of one operation
 abbrev pub AnswersOnce : Run → ℕ → ℕ → Type 0
-AnswersOnce run n p = (i j : ℕ) (a c : Answer) → slice_get (list_at (run n).answers p) i ≡ Some a → slice_get (list_at (run n).answers p) j ≡ Some c → a.index ≡ c.index → i ≡ j
+AnswersOnce run n p = (i j : ℕ) (a c : Answer) → slice_get (list_at (run n).answers p) i ≡ Some a → slice_get (list_at (run n).answers p) j ≡ Some c
+    → a.index ≡ c.index → i ≡ j
 
 -- what is said of operation i's answer in the first n steps
 record Tells (run : Run) (n p i : ℕ) (x : Option (ℕ × Reply)) : Type 0 where
@@ -64,7 +66,8 @@ same_invocation a b operation issue answer =
     ∙ (ap (λ (x : ℕ). invocation b.operation x a.answer) issue ∙ ap (λ (x : Option (ℕ × Reply)). invocation b.operation b.issue x) answer)
 
 -- the operations of a processor in a run are these and no others
-pub same_invocations : (run : Run) (n p : ℕ) (xs ys : List Invocation) → AnswersOnce run n p → AreInvocationsOf run n p xs → AreInvocationsOf run n p ys → xs ≡ ys
+pub same_invocations : (run : Run) (n p : ℕ) (xs ys : List Invocation) → AnswersOnce run n p → AreInvocationsOf run n p xs → AreInvocationsOf run n p ys
+    → xs ≡ ys
 same_invocations run n p xs ys once f g = same_list xs ys (f.count ∙ sym g.count) (λ i x y there also.
     let u = f.each i x there in
     let v = g.each i y also in

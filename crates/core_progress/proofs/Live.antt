@@ -8,20 +8,20 @@ use Rattle.torus.specs.declared.step.Step.{Step}
 use Rattle.packet.specs.declared.kinds.Operation.{Operation}
 use Rattle.script.specs.declared.line.Line.{Line}
 use Rattle.script.specs.Scripts.{IsAcceptedScript}
-use Rattle.core_laws.specs.net_interface.specs.Scripts.{IsFollowable, HasFinished}
-use Rattle.core_laws.specs.net_interface.specs.Following.{Following, is_finished}
-use Rattle.core_laws.specs.net_interface.specs.ProcessorRecord.{ProcessorRecord}
-use Rattle.core_laws.specs.net_interface.proofs.Followable.{accepted_followable}
-use Rattle.core_laws.specs.net_interface.proofs.Shown.{finished_is, finished_from}
-use Rattle.runs.specs.Observed.{list_at, HasAnswered}
-use Rattle.runs.specs.Events.{order_after}
-use Rattle.runs.proofs.Lists.{within_length, list_within}
+use Rattle.core_laws.specs.script_follower.specs.Scripts.{IsFollowable, HasFinished}
+use Rattle.core_laws.specs.script_follower.specs.Following.{Following, is_finished}
+use Rattle.core_laws.specs.script_follower.specs.ProcessorRecord.{ProcessorRecord}
+use Rattle.core_laws.specs.script_follower.proofs.Followable.{accepted_followable}
+use Rattle.core_laws.specs.script_follower.proofs.Shown.{finished_is, finished_from}
+use Rattle.one_order.specs.Observed.{list_at, HasAnswered}
+use Rattle.one_order.specs.Events.{order_after}
+use Rattle.one_order.proofs.Lists.{within_length, list_within}
 use Rattle.std.proofs.lemmas.List.{length-map}
-use Rattle.core_laws.specs.flights.specs.Scripts.{HasFinishedIn, AreFinished}
-use Rattle.core_laws.specs.flights.proofs.Follows.{Follows}
+use Rattle.core_laws.specs.order_abstract.specs.Scripts.{HasFinishedIn, AreFinished}
+use Rattle.core_laws.specs.order_abstract.proofs.Follows.{Follows}
 use Rattle.rounds.specs.Rounds.{moves_in}
 use Rattle.rounds.proofs.Rounds.{round_moves}
-use Rattle.core_laws.specs.tile.specs.Tile.{Design, TileState}
+use Rattle.core_laws.specs.tile_laws.specs.Tile.{Design, TileState}
 use Rattle.core_laws.specs.Core.{Load, State, design_of, records_of, step, round, run_of}
 use Rattle.core_laws.specs.Runs.{IsAccepted, state_after}
 use Rattle.core_laws.specs.Noted.{noted}
@@ -75,10 +75,12 @@ module _ (l : Load) (ok : IsAccepted l) (steps : List Step) (n : ℕ) where
 
   -- a follower at each tile has finished where all have
   pub finished_at : all_finished s ≡ true → (p : ℕ) → p < tiles_of l.shape → is_finished (tile_at s p).processor.operations.following ≡ true
-  finished_at all p here = all_at (λ (t : TileState). is_finished t.processor.operations.following) s.tiles p no_tile all (subst (λ (k : ℕ). p < k) (sym tiles_there) here)
+  finished_at all p here = all_at (λ (t : TileState). is_finished t.processor.operations.following) s.tiles p no_tile all
+      (subst (λ (k : ℕ). p < k) (sym tiles_there) here)
 
   all_where : ((p : ℕ) → p < tiles_of l.shape → is_finished (tile_at s p).processor.operations.following ≡ true) → all_finished s ≡ true
-  all_where each = all_from (λ (t : TileState). is_finished t.processor.operations.following) s.tiles no_tile (λ p low. each p (subst (λ (k : ℕ). p < k) tiles_there low))
+  all_where each = all_from (λ (t : TileState). is_finished t.processor.operations.following) s.tiles no_tile
+      (λ p low. each p (subst (λ (k : ℕ). p < k) tiles_there low))
 
   -- No dead state: a step is enabled, or all scripts are finished.
   pub live_or_finished : IsLive d s ⊎ (all_finished s ≡ true)
@@ -107,7 +109,11 @@ module _ (l : Load) (ok : IsAccepted l) (steps : List Step) (n : ℕ) where
         let at : HasScript p = has_script p below in
         let is : is_finished (tile_at s p).processor.operations.following ≡ true = finished_at all p (subst (λ (k : ℕ). p < k) ok.processors below) in
         subst (HasFinishedIn (run_of l steps) n p) (sym at.same)
-        (record { ops = at.follows.ops; are = at.follows.are; finished = finished_is at.lines at.follows.ops (tile_at s p).processor.operations.following at.followable at.follows.shows is });
+        (record {
+          ops = at.follows.ops;
+          are = at.follows.are;
+          finished = finished_is at.lines at.follows.ops (tile_at s p).processor.operations.following at.followable at.follows.shows is;
+        });
   }
 
   from_finished : AreFinished (run_of l steps) n l.scripts → all_finished s ≡ true
@@ -116,13 +122,15 @@ module _ (l : Load) (ok : IsAccepted l) (steps : List Step) (n : ℕ) where
       let at : HasScript p = has_script p below in
       let done : HasFinishedIn (run_of l steps) n p at.lines = subst (HasFinishedIn (run_of l steps) n p) at.same (are.each p below) in
       let same : done.ops ≡ at.follows.ops = same_invocations (run_of l steps) n p done.ops at.follows.ops (once p) done.are at.follows.are in
-      finished_from at.lines at.follows.ops (tile_at s p).processor.operations.following at.followable at.follows.shows (subst (HasFinished at.lines) same done.finished))
+      finished_from at.lines at.follows.ops (tile_at s p).processor.operations.following at.followable at.follows.shows
+      (subst (HasFinished at.lines) same done.finished))
 
   pub finished_is_finished : (all_finished s ≡ true) ↔ AreFinished (run_of l steps) n l.scripts
   finished_is_finished = (to_finished, from_finished)
 
   -- an operation that is issued and not answered makes its script unfinished
-  pub unanswered_unfinished : (p i : ℕ) (o : Operation) (tile : TileState) → slice_get s.tiles p ≡ Some tile → slice_get (list_at (run_of l steps n).issued p) i ≡ Some o → (HasAnswered (run_of l steps n) p i → ⊥)
+  pub unanswered_unfinished : (p i : ℕ) (o : Operation) (tile : TileState) → slice_get s.tiles p ≡ Some tile
+      → slice_get (list_at (run_of l steps n).issued p) i ≡ Some o → (HasAnswered (run_of l steps n) p i → ⊥)
       → is_finished tile.processor.operations.following ≡ false
   unanswered_unfinished p i o tile there issued unanswered =
       let here : p < tiles_of l.shape = subst (λ (k : ℕ). p < k) tiles_there (slice_get_within s.tiles p tile there) in
@@ -130,17 +138,22 @@ module _ (l : Load) (ok : IsAccepted l) (steps : List Step) (n : ℕ) where
       let is : tile_at s p ≡ tile = get_or_from_slice_get s.tiles p tile no_tile there in
       false_from_ne_true (is_finished tile.processor.operations.following) (λ ends.
       let f : Following = (tile_at s p).processor.operations.following in
-      let done : HasFinished at.lines at.follows.ops = finished_is at.lines at.follows.ops f at.followable at.follows.shows (ap (λ (t : TileState). is_finished t.processor.operations.following) is ∙ ends) in
-      let low : i < length at.follows.ops = subst (λ (k : ℕ). i < k) (sym at.follows.are.count) (slice_get_within (list_at (run_of l steps n).issued p) i o issued) in
+      let done : HasFinished at.lines at.follows.ops =
+      finished_is at.lines at.follows.ops f at.followable at.follows.shows
+      (ap (λ (t : TileState). is_finished t.processor.operations.following) is ∙ ends) in
+      let low : i < length at.follows.ops =
+      subst (λ (k : ℕ). i < k) (sym at.follows.are.count) (slice_get_within (list_at (run_of l steps n).issued p) i o issued) in
       let x = within_length at.follows.ops i low in
       let answered = done.finished.answered i x.0 x.1 in
       let a = (at.follows.are.answered i x.0 answered.0 answered.1 x.1 answered.2).1 in
       unanswered (a.0, a.1, a.2, a.3))
 
   -- and so not all are
-  pub unanswered_leaves : (p i : ℕ) (o : Operation) → slice_get (list_at (run_of l steps n).issued p) i ≡ Some o → (HasAnswered (run_of l steps n) p i → ⊥) → all_finished s ≡ false
+  pub unanswered_leaves : (p i : ℕ) (o : Operation) → slice_get (list_at (run_of l steps n).issued p) i ≡ Some o → (HasAnswered (run_of l steps n) p i → ⊥)
+      → all_finished s ≡ false
   unanswered_leaves p i o issued unanswered = false_from_ne_true (all_finished s) (λ all.
-      let low : p < length (map (λ (b : ProcessorRecord). b.issued) (records_of s)) = list_within (map (λ (b : ProcessorRecord). b.issued) (records_of s)) p i o issued in
+      let low : p < length (map (λ (b : ProcessorRecord). b.issued) (records_of s)) =
+      list_within (map (λ (b : ProcessorRecord). b.issued) (records_of s)) p i o issued in
       let tiles : length (map (λ (b : ProcessorRecord). b.issued) (records_of s)) ≡ length s.tiles =
       length-map (records_of s) (λ (b : ProcessorRecord). b.issued) ∙ length-map s.tiles (λ (t : TileState). t.processor.operations) in
       let inside : p < length s.tiles = subst (λ (k : ℕ). p < k) tiles low in

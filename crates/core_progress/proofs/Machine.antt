@@ -2,11 +2,11 @@
 use Rattle.std.proofs.Common.{◌≡◌, ◌⊎◌, ℕ, ◌<◌, true, List}
 use Rattle.torus.specs.Shape.{IsAccepted, tiles_of}
 use Rattle.script.specs.declared.line.Line.{Line}
-use Rattle.core_laws.specs.net_interface.specs.Scripts.{IsFollowable, Invocation}
-use Rattle.core_laws.specs.net_interface.specs.Following.{ShowsPast, is_finished}
-use Rattle.runs.specs.Order.{LinearizationPoint}
+use Rattle.core_laws.specs.script_follower.specs.Scripts.{IsFollowable, Invocation}
+use Rattle.core_laws.specs.script_follower.specs.Following.{ShowsPast, is_finished}
+use Rattle.one_order.specs.Order.{LinearizationPoint}
 use Rattle.rounds.specs.Rounds.{moves_in}
-use Rattle.core_laws.specs.tile.specs.Tile.{Design}
+use Rattle.core_laws.specs.tile_laws.specs.Tile.{Design}
 use Rattle.core_laws.specs.Core.{State, step, round}
 use Rattle.core_laws.proofs.Stands.{Ghost, Stands, tile_at, flight_of}
 use Rattle.core_progress.proofs.Wired.{machine_net}
@@ -30,7 +30,8 @@ pub record StandsLive (d : Design) (tags : ℕ) (opening : List ℕ) (s : State)
   pub balanced : AreBalanced (flight_of d.words s g)
   pub following : (p : ℕ) → p < tiles_of d.shape → IsFollowing s p
 
-module _ (d : Design) (tags : ℕ) (opening : List ℕ) (s : State) (g : Ghost) (order : List LinearizationPoint) (accepted : IsAccepted d.shape) (deep : 0 < d.depth) (some : 0 < tags) (at : StandsLive d tags opening s g order) where
+module _ (d : Design) (tags : ℕ) (opening : List ℕ) (s : State) (g : Ghost) (order : List LinearizationPoint) (accepted : IsAccepted d.shape)
+    (deep : 0 < d.depth) (some : 0 < tags) (at : StandsLive d tags opening s g order) where
   stands_so : StandsSo d s g
   stands_so = let base = at.stands in record {
     filled = base.tiles;
@@ -49,5 +50,6 @@ module _ (d : Design) (tags : ℕ) (opening : List ℕ) (s : State) (g : Ghost) 
   machine_is_live = live_or_finished d s g (machine_net d accepted deep) stands_so
 
   -- a round makes a move, or every script is finished
-  pub machine_round_moves : (0 < moves_in (step d) s (round d.shape)) ⊎ ((p : ℕ) → p < tiles_of d.shape → is_finished (tile_at s p).processor.operations.following ≡ true)
+  pub machine_round_moves : (0 < moves_in (step d) s (round d.shape))
+      ⊎ ((p : ℕ) → p < tiles_of d.shape → is_finished (tile_at s p).processor.operations.following ≡ true)
   machine_round_moves = round_moves_or_finished d s g (machine_net d accepted deep) stands_so

@@ -7,10 +7,10 @@ use Rattle.torus.specs.declared.step.Choice.{Choice}
 use Rattle.flit_buffer.specs.Surroundings.{Surroundings}
 use Rattle.router.specs.Table.{RouterState, router_wants, router_after}
 use Rattle.router.specs.Beginning.{router_wiring}
-use Rattle.core_laws.specs.net_interface.specs.ProcessorTable.{ProcessorState, processor_wants, processor_after}
+use Rattle.core_laws.specs.script_follower.specs.ProcessorTable.{ProcessorState, processor_wants, processor_after}
 use Rattle.home_bank.specs.BankTable.{BankState, bank_wants, bank_after}
-use Rattle.core_laws.specs.tile.specs.Wiring.{processor_wiring, bank_wiring}
-use Rattle.core_laws.specs.tile.specs.Tile.{Design, TileState, Agent, Processor, Router, Bank, tile_step}
+use Rattle.core_laws.specs.tile_laws.specs.Wiring.{processor_wiring, bank_wiring}
+use Rattle.core_laws.specs.tile_laws.specs.Tile.{Design, TileState, Agent, Processor, Router, Bank, tile_step}
 use Rattle.rounds.specs.Rounds as rounds
 use Rattle.rounds.specs.Rounds.{moves_in, one_if_moved}
 use Rattle.core_laws.specs.Core.{State, step, next, or_same, after_from, agent_numbered}
@@ -27,13 +27,15 @@ made_by d s None = 0
 made_by d s (Some a) = one_if_moved (step d s a)
 
 -- one attempt more
-pub made_more : (d : Design) (steps : List Step) (s : State) (n : ℕ) → moves_in (step d) s (take (suc n) steps) ≡ moves_in (step d) s (take n steps) + made_by d (after_from d s (take n steps)) (slice_get steps n)
+pub made_more : (d : Design) (steps : List Step) (s : State) (n : ℕ)
+    → moves_in (step d) s (take (suc n) steps) ≡ moves_in (step d) s (take n steps) + made_by d (after_from d s (take n steps)) (slice_get steps n)
 made_more d [] s zero = refl
 made_more d [] s (suc n) = refl
 made_more d (a ∷ steps) s zero = omega arith
 made_more d (a ∷ steps) s (suc n) =
     let rest = made_more d steps (rounds.or_same s (step d s a)) n in
-    let same : made_by d (after_from d (rounds.or_same s (step d s a)) (take n steps)) (slice_get steps n) ≡ made_by d (after_from d (next d s a) (take n steps)) (slice_get steps n) =
+    let same : made_by d (after_from d (rounds.or_same s (step d s a)) (take n steps)) (slice_get steps n)
+    ≡ made_by d (after_from d (next d s a) (take n steps)) (slice_get steps n) =
     ap (λ t. made_by d (after_from d t (take n steps)) (slice_get steps n)) (or_is s (step d s a)) in
     omega arith
 
@@ -47,7 +49,8 @@ pub after_push : (d : Design) (steps : List Step) (s : State) (a : Step) → aft
 after_push d [] s a = refl
 after_push d (b ∷ steps) s a = after_push d steps (next d s b) a
 
-pub made_push : (d : Design) (steps : List Step) (s : State) (a : Step) → moves_in (step d) s (steps ++ a ∷ []) ≡ moves_in (step d) s steps + one_if_moved (step d (after_from d s steps) a)
+pub made_push : (d : Design) (steps : List Step) (s : State) (a : Step)
+    → moves_in (step d) s (steps ++ a ∷ []) ≡ moves_in (step d) s steps + one_if_moved (step d (after_from d s steps) a)
 made_push d [] s a = omega arith
 made_push d (b ∷ steps) s a =
     let rest = made_push d steps (rounds.or_same s (step d s b)) a in
@@ -59,7 +62,8 @@ made_push d (b ∷ steps) s a =
 module _ (d : Design) (t : ℕ) (tile : TileState) (around : Surroundings) where
   still_tile : (agent : Agent) (c : Choice) → tile_step d t tile around agent c ≡ None → tile_event d t tile around agent c ≡ None
   still_tile Processor c h = ap (option_and_then (processor_event d t tile.processor around c))
-      (refused (processor_wants (tiles_of d.shape) d.words t) (processor_after (tiles_of d.shape) d.words t) d.depth (processor_wiring d.shape t) tile.processor around c
+      (refused (processor_wants (tiles_of d.shape) d.words t) (processor_after (tiles_of d.shape) d.words t) d.depth (processor_wiring d.shape t) tile.processor
+      around c
       (option_map_none (λ (p : ProcessorState × Surroundings). (record tile { processor = p.0 }, p.1)) _ h))
   still_tile Router c h = ap (option_and_then (router_event d t tile.router around c))
       (refused (router_wants d.shape t) router_after d.depth (router_wiring d.shape t) tile.router around c
@@ -69,7 +73,9 @@ module _ (d : Design) (t : ℕ) (tile : TileState) (around : Surroundings) where
       (option_map_none (λ (p : BankState × Surroundings). (record tile { bank = p.0 }, p.1)) _ h))
 
 still_by : (d : Design) (s : State) (a : Step) (o : Option TileState)
-    → option_and_then {U = State} (λ tile. option_map (λ (p : TileState × Surroundings). record { tiles = slice_set s.tiles (a.agent / 3) p.0; around = p.1 }) (tile_step d (a.agent / 3) tile s.around (agent_numbered (a.agent % 3)) a.choice)) o ≡ None
+    → option_and_then {U = State}
+    (λ tile. option_map (λ (p : TileState × Surroundings). record { tiles = slice_set s.tiles (a.agent / 3) p.0; around = p.1 })
+    (tile_step d (a.agent / 3) tile s.around (agent_numbered (a.agent % 3)) a.choice)) o ≡ None
     → option_and_then (λ tile. tile_event d (a.agent / 3) tile s.around (agent_numbered (a.agent % 3)) a.choice) o ≡ None
 still_by d s a None h = refl
 still_by d s a (Some tile) h = still_tile d (a.agent / 3) tile s.around (agent_numbered (a.agent % 3)) a.choice

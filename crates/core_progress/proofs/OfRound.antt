@@ -12,7 +12,7 @@ use Rattle.channel_number.specs.Ports.{port_count}
 use Rattle.rounds.specs.Rounds.{IsEnabled}
 use Rattle.rounds.proofs.Rounds.{found_enabled, none_enabled}
 use Rattle.wormhole.specs.Net.{IsOn}
-use Rattle.core_laws.specs.tile.specs.Tile.{Design, TileState, Processor, Router, Bank, tile_step}
+use Rattle.core_laws.specs.tile_laws.specs.Tile.{Design, TileState, Processor, Router, Bank, tile_step}
 use Rattle.core_laws.specs.Core.{Load, State, design_of, agent_numbered, step, round}
 use Rattle.core_laws.specs.Runs.{IsAccepted, state_after}
 use Rattle.core_laws.specs.Choices.{has_choice}
@@ -57,24 +57,29 @@ module _ (s : Shape) (t : ℕ) (here : t < tiles_of s) where
   banks (choice.CreditOf o) h = absurd (cc)
 
   -- of one of the tile's agents
-  by_agent : (k : ℕ) (c : Choice) → k < 3 → has_choice (port_count (dims_of s)) (agent_numbered k) c ≡ true → IsOn (record { agent = t * 3 + k; choice = c }) (round s)
+  by_agent : (k : ℕ) (c : Choice) → k < 3 → has_choice (port_count (dims_of s)) (agent_numbered k) c ≡ true
+      → IsOn (record { agent = t * 3 + k; choice = c }) (round s)
   by_agent zero c low h = processor_on s t here c (processors c h)
   by_agent (suc zero) c low h = router_on s t here c (routers c h)
   by_agent (suc (suc zero)) c low h = bank_on s t here c (banks c h)
   by_agent (suc (suc (suc k))) c low h = absurd (omega arith)
 
 -- an attempt of an agent that is there, of a choice that it has
-pub on_round : (s : Shape) (a : Step) → a.agent / 3 < tiles_of s → has_choice (port_count (dims_of s)) (agent_numbered (a.agent % 3)) a.choice ≡ true → IsOn a (round s)
+pub on_round : (s : Shape) (a : Step) → a.agent / 3 < tiles_of s → has_choice (port_count (dims_of s)) (agent_numbered (a.agent % 3)) a.choice ≡ true
+    → IsOn a (round s)
 on_round s a here has =
     let same : a.agent / 3 * 3 + a.agent % 3 ≡ a.agent = omega (arith, div-add-mod a.agent 3) in
-    subst (λ (n : ℕ). IsOn (record { agent = n; choice = a.choice }) (round s)) same (by_agent s (a.agent / 3) here (a.agent % 3) a.choice (mod-lt a.agent (omega arith)) has)
+    subst (λ (n : ℕ). IsOn (record { agent = n; choice = a.choice }) (round s)) same
+    (by_agent s (a.agent / 3) here (a.agent % 3) a.choice (mod-lt a.agent (omega arith)) has)
 
 -- an enabled step is of a tile that is there
 tile_there : (d : Design) (s : State) (a : Step) (after : State) → step d s a ≡ Some after → a.agent / 3 < length s.tiles
 tile_there d s a after enabled = by_tile (slice_get s.tiles (a.agent / 3)) refl enabled
   where
     by_tile : (o : Option TileState) → slice_get s.tiles (a.agent / 3) ≡ o
-        → option_and_then {U = State} (λ tile. option_map (λ p. record { tiles = slice_set s.tiles (a.agent / 3) p.0; around = p.1 }) (tile_step d (a.agent / 3) tile s.around (agent_numbered (a.agent % 3)) a.choice)) o ≡ Some after
+        → option_and_then {U = State}
+        (λ tile. option_map (λ p. record { tiles = slice_set s.tiles (a.agent / 3) p.0; around = p.1 })
+        (tile_step d (a.agent / 3) tile s.around (agent_numbered (a.agent % 3)) a.choice)) o ≡ Some after
         → a.agent / 3 < length s.tiles
     by_tile None there h = absurd (cc)
     by_tile (Some tile) there h = slice_get_within s.tiles (a.agent / 3) tile there

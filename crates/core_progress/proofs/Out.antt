@@ -1,5 +1,6 @@
 -- As many tags are out as operations await an answer: kept by each issue and answer.
-use Rattle.std.proofs.Common.{◌≡◌, ℕ, zero, suc, ◌+◌, ◌-◌, ◌<◌, true, false, cond, List, [], ◌∷◌, Option, Some, None, refl, sym, ◌∙◌, ap, arith, slice_get, get_or, set}
+use Rattle.std.proofs.Common.{◌≡◌, ℕ, zero, suc, ◌+◌, ◌-◌, ◌<◌, true, false, cond, List, [], ◌∷◌, Option, Some, None, refl, sym, ◌∙◌, ap, arith, slice_get}
+use Rattle.std.proofs.Common.{get_or, set}
 use Rattle.std.specs.Prelude.{is_some, IsSome, ◌==◌}
 use Rattle.std.proofs.lemmas.List.Sums.{sum_by-set, sum_by-cons}
 use Rattle.std.proofs.lemmas.Option.{slice_get_within, get_or_from_slice_get}
@@ -8,21 +9,24 @@ use Rattle.packet.specs.declared.kinds.Operation.{Operation}
 use Rattle.packet.specs.declared.kinds.Reply.{Reply}
 use Rattle.script.specs.declared.line.Line.{Line}
 use Rattle.tag_table.specs.Tags.{holder_of, out_count}
-use Rattle.core_laws.specs.net_interface.specs.Scripts.{IsFollowable, Invocation, AreAnswered, unanswered, awaited}
-use Rattle.core_laws.specs.net_interface.specs.Following.{Following, ShowsPast, next_operation_of, after_issue, after_answer, is_finished, last_answered, other_answered}
-use Rattle.core_laws.specs.net_interface.proofs.Shown.{waiting_is, progress}
+use Rattle.core_laws.specs.script_follower.specs.Scripts.{IsFollowable, Invocation, AreAnswered, unanswered, awaited}
+use Rattle.core_laws.specs.script_follower.specs.Following.{Following, ShowsPast, next_operation_of, after_issue, after_answer, is_finished, last_answered}
+use Rattle.core_laws.specs.script_follower.specs.Following.{other_answered}
+use Rattle.core_laws.specs.script_follower.proofs.Shown.{waiting_is, progress}
 
 -- a tag goes out, or comes back
 pub out_more : (tags : List (Option OpId)) (tag : ℕ) (id : OpId) → slice_get tags tag ≡ Some None → out_count (set tags tag (Some id)) ≡ out_count tags + 1
 out_more tags tag id free =
     let sums = sum_by-set (λ (x : Option OpId). cond (is_some x) 1 0) tags tag (Some id) None (slice_get_within tags tag None free) in
-    let was : ◌≡◌ {A = ℕ} (cond (is_some (get_or tags tag None)) 1 0) 0 = ap (λ (x : Option OpId). cond (is_some x) 1 0) (get_or_from_slice_get tags tag None None free) in
+    let was : ◌≡◌ {A = ℕ} (cond (is_some (get_or tags tag None)) 1 0) 0 =
+    ap (λ (x : Option OpId). cond (is_some x) 1 0) (get_or_from_slice_get tags tag None None free) in
     omega arith
 
 pub out_less : (tags : List (Option OpId)) (tag : ℕ) (id : OpId) → slice_get tags tag ≡ Some (Some id) → out_count (set tags tag None) + 1 ≡ out_count tags
 out_less tags tag id held =
     let sums = sum_by-set (λ (x : Option OpId). cond (is_some x) 1 0) tags tag None None (slice_get_within tags tag (Some id) held) in
-    let was : ◌≡◌ {A = ℕ} (cond (is_some (get_or tags tag None)) 1 0) 1 = ap (λ (x : Option OpId). cond (is_some x) 1 0) (get_or_from_slice_get tags tag (Some id) None held) in
+    let was : ◌≡◌ {A = ℕ} (cond (is_some (get_or tags tag None)) 1 0) 1 =
+    ap (λ (x : Option OpId). cond (is_some x) 1 0) (get_or_from_slice_get tags tag (Some id) None held) in
     omega arith
 
 -- as many tags are out as operations await an answer
@@ -35,12 +39,15 @@ issue_waits f = refl
 
 pub answer_waits : (f : Following) (i : ℕ) (r : Reply) → (after_answer f i r).waiting ≡ f.waiting - 1
 unfolding after_answer
-answer_waits f i r = elim ((i + 1) == f.issued) as (λ b. (cond {A = Following} b (last_answered f r) (other_answered f)).waiting ≡ f.waiting - 1) [ true ↦ refl | false ↦ refl ]
+answer_waits f i r = elim ((i + 1) == f.issued) as (λ b. (cond {A = Following} b (last_answered f r) (other_answered f)).waiting ≡ f.waiting - 1)
+    [ true ↦ refl | false ↦ refl ]
 
-pub issue_out : (f : Following) (tags : List (Option OpId)) (tag : ℕ) (id : OpId) → AreOut f tags → slice_get tags tag ≡ Some None → AreOut (after_issue f) (set tags tag (Some id))
+pub issue_out : (f : Following) (tags : List (Option OpId)) (tag : ℕ) (id : OpId) → AreOut f tags → slice_get tags tag ≡ Some None
+    → AreOut (after_issue f) (set tags tag (Some id))
 issue_out f tags tag id are free = let a = issue_waits f in let b = out_more tags tag id free in omega arith
 
-pub answer_out : (f : Following) (tags : List (Option OpId)) (tag i : ℕ) (r : Reply) (id : OpId) → AreOut f tags → slice_get tags tag ≡ Some (Some id) → AreOut (after_answer f i r) (set tags tag None)
+pub answer_out : (f : Following) (tags : List (Option OpId)) (tag i : ℕ) (r : Reply) (id : OpId) → AreOut f tags → slice_get tags tag ≡ Some (Some id)
+    → AreOut (after_answer f i r) (set tags tag None)
 answer_out f tags tag i r id are held = let a = answer_waits f i r in let b = out_less tags tag id held in omega arith
 
 -- a tag that is held is out

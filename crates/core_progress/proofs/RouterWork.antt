@@ -16,13 +16,13 @@ use Rattle.flit_buffer.specs.Surroundings.{granted, ring}
 use Rattle.wormhole.specs.State.{State as NetState}
 use Rattle.wormhole.specs.Events.{Event, Latch, ForwardHead, ForwardRest}
 use Rattle.channel_number.proofs.Ports.{is_input, is_output}
-use Rattle.progress.specs.Work.{End, IsChange, Stays, MayHappen}
+use Rattle.wormhole_progress.specs.Work.{End, IsChange, Stays, MayHappen}
 use Rattle.packet.specs.Flits.{head_of}
 use Rattle.channel_number.specs.Ports.{port_count}
 use Rattle.router.specs.Table.{latch_of, output_owned, is_owned, output_for, wants_to_take, wants_to_put, router_wants, way_of}
 use Rattle.channel_number.specs.Ports.{input_channel, output_channel}
 use Rattle.router.specs.Beginning.{router_wiring}
-use Rattle.core_laws.specs.tile.specs.Tile.{Design}
+use Rattle.core_laws.specs.tile_laws.specs.Tile.{Design}
 use Rattle.core_laws.specs.Core.{State}
 use Rattle.core_laws.proofs.AgentSteps.{option_map_some}
 use Rattle.core_laws.proofs.WiredUp.{not_owned as no_owner}
@@ -53,14 +53,17 @@ pub record IsRouterEvent (d : Design) (net : NetState) (event : Option Event) : 
   pub may : MayHappen (net_of d) net event
   pub stays : (e : End) → IsChange (net_of d) event e e
 
-module _ (d : Design) (s : State) (net : NetState) (accepted : IsAccepted d.shape) (mirrors : Mirrors d s net.lines) (tell : FlitsTell d s) (t : ℕ) (here : t < tiles_of d.shape) where
-  in_low : (i : ℕ) → i < port_count (dims_of d.shape) → (input_channel d.shape t i < (net_of d).channels) × ((net_of d).ejects (input_channel d.shape t i) ≡ false)
+module _ (d : Design) (s : State) (net : NetState) (accepted : IsAccepted d.shape) (mirrors : Mirrors d s net.lines) (tell : FlitsTell d s) (t : ℕ)
+    (here : t < tiles_of d.shape) where
+  in_low : (i : ℕ) → i < port_count (dims_of d.shape)
+      → (input_channel d.shape t i < (net_of d).channels) × ((net_of d).ejects (input_channel d.shape t i) ≡ false)
   unfolding net_of
   in_low i low =
       let at = is_input d.shape accepted t i here low in
       (at.below, at.leads)
 
-  out_low : (o : ℕ) → o < port_count (dims_of d.shape) → (output_channel d.shape t o < (net_of d).channels) × ((net_of d).injects (output_channel d.shape t o) ≡ false)
+  out_low : (o : ℕ) → o < port_count (dims_of d.shape)
+      → (output_channel d.shape t o < (net_of d).channels) × ((net_of d).injects (output_channel d.shape t o) ≡ false)
   unfolding net_of
   out_low o low = let at = is_output d.shape t o here low in (at.below, at.leaves)
 
@@ -74,35 +77,47 @@ module _ (d : Design) (s : State) (net : NetState) (accepted : IsAccepted d.shap
   output_at : (o : ℕ) → o < port_count (dims_of d.shape) → slice_index (router_wiring d.shape t).outputs o ≡ output_channel d.shape t o
   output_at o low = get_or-map-range_with_len (output_channel d.shape t) 0 (port_count (dims_of d.shape)) o o 0 low (omega arith)
 
-  has_flit : (i f : ℕ) → i < port_count (dims_of d.shape) → granted s.around (router_wiring d.shape t) (want.Take i) ≡ Some f → (net.lines (input_channel d.shape t i)).flits ≡ f ∷ channel.rest (ring s.around.rings (input_channel d.shape t i)).channel.flits
+  has_flit : (i f : ℕ) → i < port_count (dims_of d.shape) → granted s.around (router_wiring d.shape t) (want.Take i) ≡ Some f
+      → (net.lines (input_channel d.shape t i)).flits ≡ f ∷ channel.rest (ring s.around.rings (input_channel d.shape t i)).channel.flits
   has_flit i f low grants =
       let x : ℕ = input_channel d.shape t i in
-      let at = first_there (ring s.around.rings x).channel.flits f (ap (λ z. channel.first_of (ring s.around.rings z).channel.flits) (sym (input_at i low)) ∙ grants) in
+      let at = first_there (ring s.around.rings x).channel.flits f
+      (ap (λ z. channel.first_of (ring s.around.rings z).channel.flits) (sym (input_at i low)) ∙ grants) in
       (lane x (in_low i low).0).flits ∙ at
 
-  has_credit : (o f l : ℕ) → o < port_count (dims_of d.shape) → granted s.around (router_wiring d.shape t) (want.Put o f) ≡ Some l → 0 < (net.lines (output_channel d.shape t o)).held
+  has_credit : (o f l : ℕ) → o < port_count (dims_of d.shape) → granted s.around (router_wiring d.shape t) (want.Put o f) ≡ Some l
+      → 0 < (net.lines (output_channel d.shape t o)).held
   has_credit o f l low grants =
       let y : ℕ = output_channel d.shape t o in
       let test = (if_so (nat_lt 0 (ring s.around.rings (slice_index (router_wiring d.shape t).outputs o)).channel.held) (Some 0) l grants).0 in
-      subst (λ n. 0 < n) (ap (λ z. (ring s.around.rings z).channel.held) (output_at o low) ∙ sym (lane y (out_low o low).0).held) (ltb-true 0 (ring s.around.rings (slice_index (router_wiring d.shape t).outputs o)).channel.held test)
+      subst (λ n. 0 < n) (ap (λ z. (ring s.around.rings z).channel.held) (output_at o low) ∙ sym (lane y (out_low o low).0).held)
+      (ltb-true 0 (ring s.around.rings (slice_index (router_wiring d.shape t).outputs o)).channel.held test)
 
-  has_returning : (o l : ℕ) → o < port_count (dims_of d.shape) → granted s.around (router_wiring d.shape t) (want.Credit o) ≡ Some l → 0 < (net.lines (output_channel d.shape t o)).returning
+  has_returning : (o l : ℕ) → o < port_count (dims_of d.shape) → granted s.around (router_wiring d.shape t) (want.Credit o) ≡ Some l
+      → 0 < (net.lines (output_channel d.shape t o)).returning
   has_returning o l low grants =
       let y : ℕ = output_channel d.shape t o in
       let test = (if_so (nat_lt 0 (ring s.around.rings (slice_index (router_wiring d.shape t).outputs o)).channel.returning) (Some 0) l grants).0 in
-      subst (λ n. 0 < n) (ap (λ z. (ring s.around.rings z).channel.returning) (output_at o low) ∙ sym (lane y (out_low o low).0).returning) (ltb-true 0 (ring s.around.rings (slice_index (router_wiring d.shape t).outputs o)).channel.returning test)
+      subst (λ n. 0 < n) (ap (λ z. (ring s.around.rings z).channel.returning) (output_at o low) ∙ sym (lane y (out_low o low).0).returning)
+      (ltb-true 0 (ring s.around.rings (slice_index (router_wiring d.shape t).outputs o)).channel.returning test)
 
   -- a flit is taken into an empty latch
-  take_event : (i learned : ℕ) (w : Want) (l : Option ℕ) → i < port_count (dims_of d.shape) → latch_of (tile_at s t).router i ≡ l → wants_to_take d.shape t i l ≡ Some w → granted s.around (router_wiring d.shape t) w ≡ Some learned
+  take_event : (i learned : ℕ) (w : Want) (l : Option ℕ) → i < port_count (dims_of d.shape) → latch_of (tile_at s t).router i ≡ l
+      → wants_to_take d.shape t i l ≡ Some w → granted s.around (router_wiring d.shape t) w ≡ Some learned
       → IsRouterEvent d net (Some (Latch (input_channel d.shape t i) learned (channel.rest (ring s.around.rings (input_channel d.shape t i)).channel.flits)))
   take_event i learned w (Some f) low latched wanted grants = absurd (cc)
   take_event i learned w None low latched wanted grants =
       let at = has_flit i learned low (ap (granted s.around (router_wiring d.shape t)) (same_Some (want.Take i) w wanted) ∙ grants) in
-      record { may = record { here = (in_low i low).0; input = (in_low i low).1; free = mirrors.latches t i here low ∙ latched; first = at }; stays = same_ends }
+      record {
+        may = record { here = (in_low i low).0; input = (in_low i low).1; free = mirrors.latches t i here low ∙ latched; first = at };
+        stays = same_ends;
+      }
 
   -- a latched flit goes to its output
-  head_event : (i f o l : ℕ) (h : Head) → i < port_count (dims_of d.shape) → latch_of (tile_at s t).router i ≡ Some f → head_of f ≡ Some h → output_for d.shape t (tile_at s t).router i (Some h) ≡ Some o
-      → granted s.around (router_wiring d.shape t) (want.Put o f) ≡ Some l → (b : Bool) → (net_of d).is_head f ≡ b → IsRouterEvent d net (Some (ForwardHead (input_channel d.shape t i) (output_channel d.shape t o) f))
+  head_event : (i f o l : ℕ) (h : Head) → i < port_count (dims_of d.shape) → latch_of (tile_at s t).router i ≡ Some f → head_of f ≡ Some h
+      → output_for d.shape t (tile_at s t).router i (Some h) ≡ Some o
+      → granted s.around (router_wiring d.shape t) (want.Put o f) ≡ Some l → (b : Bool) → (net_of d).is_head f ≡ b
+      → IsRouterEvent d net (Some (ForwardHead (input_channel d.shape t i) (output_channel d.shape t o) f))
   head_event i f o l h low latched told output grants false bit = let never : ◌≡◌ {A = Option Head} None (Some h) = sym (tell.rests f bit) ∙ told in absurd (cc)
   head_event i f o l h low latched told output grants true bit =
       let way : Chooses d t i f = tell.heads t i f here low latched bit in
@@ -124,8 +139,10 @@ module _ (d : Design) (s : State) (net : NetState) (accepted : IsAccepted d.shap
         stays = same_ends;
       }
 
-  rest_event : (i f o l : ℕ) → i < port_count (dims_of d.shape) → latch_of (tile_at s t).router i ≡ Some f → head_of f ≡ None → output_owned (tile_at s t).router i ≡ Some o
-      → granted s.around (router_wiring d.shape t) (want.Put o f) ≡ Some l → (b : Bool) → (net_of d).is_head f ≡ b → IsRouterEvent d net (Some (ForwardRest (input_channel d.shape t i) (output_channel d.shape t o) f))
+  rest_event : (i f o l : ℕ) → i < port_count (dims_of d.shape) → latch_of (tile_at s t).router i ≡ Some f → head_of f ≡ None
+      → output_owned (tile_at s t).router i ≡ Some o
+      → granted s.around (router_wiring d.shape t) (want.Put o f) ≡ Some l → (b : Bool) → (net_of d).is_head f ≡ b
+      → IsRouterEvent d net (Some (ForwardRest (input_channel d.shape t i) (output_channel d.shape t o) f))
   rest_event i f o l low latched told owned grants true bit =
       let way : Chooses d t i f = tell.heads t i f here low latched bit in
       let never : ◌≡◌ {A = Option Head} None (Some way.head) = sym told ∙ way.told in absurd (cc)
@@ -143,21 +160,26 @@ module _ (d : Design) (s : State) (net : NetState) (accepted : IsAccepted d.shap
         stays = same_ends;
       }
 
-  put_by : (i f o l : ℕ) (h : Option Head) → i < port_count (dims_of d.shape) → latch_of (tile_at s t).router i ≡ Some f → head_of f ≡ h → output_for d.shape t (tile_at s t).router i h ≡ Some o
-      → granted s.around (router_wiring d.shape t) (want.Put o f) ≡ Some l → IsRouterEvent d net (Some (network.forwarded h (input_channel d.shape t i) (output_channel d.shape t o) f))
+  put_by : (i f o l : ℕ) (h : Option Head) → i < port_count (dims_of d.shape) → latch_of (tile_at s t).router i ≡ Some f → head_of f ≡ h
+      → output_for d.shape t (tile_at s t).router i h ≡ Some o
+      → granted s.around (router_wiring d.shape t) (want.Put o f) ≡ Some l
+      → IsRouterEvent d net (Some (network.forwarded h (input_channel d.shape t i) (output_channel d.shape t o) f))
   put_by i f o l (Some h) low latched told output grants = head_event i f o l h low latched told output grants ((net_of d).is_head f) refl
   put_by i f o l None low latched told output grants = rest_event i f o l low latched told output grants ((net_of d).is_head f) refl
 
-  put_event : (i learned : ℕ) (w : Want) (l : Option ℕ) → i < port_count (dims_of d.shape) → latch_of (tile_at s t).router i ≡ l → wants_to_put d.shape t (tile_at s t).router i l ≡ Some w → granted s.around (router_wiring d.shape t) w ≡ Some learned
+  put_event : (i learned : ℕ) (w : Want) (l : Option ℕ) → i < port_count (dims_of d.shape) → latch_of (tile_at s t).router i ≡ l
+      → wants_to_put d.shape t (tile_at s t).router i l ≡ Some w → granted s.around (router_wiring d.shape t) w ≡ Some learned
       → IsRouterEvent d net (network.put_event d t (tile_at s t).router i l)
   put_event i learned w None low latched wanted grants = absurd (cc)
   put_event i learned w (Some f) low latched wanted grants =
       let o = option_map_some (λ o. want.Put o f) (output_for d.shape t (tile_at s t).router i (head_of f)) w wanted in
-      subst (λ (p : Option ℕ). IsRouterEvent d net (option_map (λ q. network.forwarded (head_of f) (input_channel d.shape t i) (output_channel d.shape t q) f) p)) (sym o.1)
+      subst (λ (p : Option ℕ). IsRouterEvent d net
+      (option_map (λ q. network.forwarded (head_of f) (input_channel d.shape t i) (output_channel d.shape t q) f) p)) (sym o.1)
       (put_by i f o.0 learned (head_of f) low latched refl o.1 (ap (granted s.around (router_wiring d.shape t)) o.2 ∙ grants))
 
   -- each choice of a router that is enabled
-  pub router_event : (c : Choice) (w : Want) (learned : ℕ) → router_wants d.shape t (tile_at s t).router c ≡ Some w → granted s.around (router_wiring d.shape t) w ≡ Some learned
+  pub router_event : (c : Choice) (w : Want) (learned : ℕ) → router_wants d.shape t (tile_at s t).router c ≡ Some w
+      → granted s.around (router_wiring d.shape t) w ≡ Some learned
       → IsRouterEvent d net (network.router_event d t (tile_at s t).router s.around c learned)
   router_event (choice.TakeFrom i) w learned wanted grants =
       let at = if_so (nat_lt i (port_count (dims_of d.shape))) (wants_to_take d.shape t i (latch_of (tile_at s t).router i)) w wanted in

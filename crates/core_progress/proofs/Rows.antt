@@ -10,16 +10,16 @@ use Rattle.packet.specs.declared.assembler.Offered.{Offered}
 use Rattle.packet.specs.declared.assembler.Offered.TheVariants.{More, Whole, Refused}
 use Rattle.packet.specs.Memory.{reply_to}
 use Rattle.home_bank.specs.ServiceList.{entry_of, response_of}
-use Rattle.core_laws.specs.net_interface.specs.Following.{left_of, is_finished, after_issue}
-use Rattle.core_laws.specs.net_interface.proofs.Shown.{left_after_answer}
+use Rattle.core_laws.specs.script_follower.specs.Following.{left_of, is_finished, after_issue}
+use Rattle.core_laws.specs.script_follower.proofs.Shown.{left_after_answer}
 use Rattle.flit_buffer.specs.declared.want.Want.{Want}
 use Rattle.flit_buffer.specs.Channel.{rest}
-use Rattle.core_laws.specs.net_interface.specs.ProcessorRecord.{ProcessorRecord, ready, issued_by, index_of}
+use Rattle.core_laws.specs.script_follower.specs.ProcessorRecord.{ProcessorRecord, ready, issued_by, index_of}
 use Rattle.wormhole.specs.Net.{Net, Parcel, flits_of as parcel_flits}
-use Rattle.progress.specs.Work.{End, Issues, Replies, Serves, Reports, Stays}
+use Rattle.wormhole_progress.specs.Work.{End, Issues, Replies, Serves, Reports, Stays}
 use Rattle.packet.specs.Flits.{offered, flits_of}
 use Rattle.core_laws.specs.Heads.{is_head}
-use Rattle.core_laws.specs.net_interface.specs.ProcessorTable.{ProcessorState, processor_wants, processor_after, record_sent, record_offered, issued_of}
+use Rattle.core_laws.specs.script_follower.specs.ProcessorTable.{ProcessorState, processor_wants, processor_after, record_sent, record_offered, issued_of}
 use Rattle.home_bank.specs.BankTable.{BankState, bank_after, served}
 use Rattle.core_laws.proofs.Projection.{first_flit}
 
@@ -53,18 +53,24 @@ module _ (tiles words t cap : ℕ) (p : ProcessorState) (b : BankState) where
   processor_takes w flit = record { left = offered_left p.operations (offered p.so_far flit); reports = refl; room = refl; unsent = refl }
 
   -- a request's first flit: the operation is issued
-  pub issue_left : (n : Net) (k : Parcel) (w : Want) (learned tag : ℕ) (o : Operation) → p.to_put ≡ [] → ready p.operations ≡ Some (tag, o) → left_of (after_issue p.operations.following) < left_of p.operations.following
-      → length (parcel_flits k) ≤ 5 → length (n.route k.source k.destination) ≤ 10 → Issues n k (end_of cap p b) (end_of cap (processor_after tiles words t p choice.Send w learned) b)
+  pub issue_left : (n : Net) (k : Parcel) (w : Want) (learned tag : ℕ) (o : Operation) → p.to_put ≡ [] → ready p.operations ≡ Some (tag, o)
+      → left_of (after_issue p.operations.following) < left_of p.operations.following
+      → length (parcel_flits k) ≤ 5 → length (n.route k.source k.destination) ≤ 10
+      → Issues n k (end_of cap p b) (end_of cap (processor_after tiles words t p choice.Send w learned) b)
   issue_left n k w learned tag o none due falls short near =
-      let book : record_sent tiles words t p.to_put p.operations ≡ issued_by p.operations tag o = ap (λ l. record_sent tiles words t l p.operations) none ∙ ap (λ r. issued_of tiles words t r p.operations) due in
-      let left : left_of (record_sent tiles words t p.to_put p.operations).following ≡ left_of (after_issue p.operations.following) = ap (λ (c : ProcessorRecord). left_of c.following) book in
+      let book : record_sent tiles words t p.to_put p.operations ≡ issued_by p.operations tag o =
+      ap (λ l. record_sent tiles words t l p.operations) none ∙ ap (λ r. issued_of tiles words t r p.operations) due in
+      let left : left_of (record_sent tiles words t p.to_put p.operations).following ≡ left_of (after_issue p.operations.following) =
+      ap (λ (c : ProcessorRecord). left_of c.following) book in
       record { left = omega arith; reports = refl; room = refl; unsent = refl; short = short; near = near }
 
   -- a further flit of a request
-  pub send_stays : (w : Want) (learned f : ℕ) (fs : List ℕ) → p.to_put ≡ f ∷ fs → Stays (end_of cap p b) (end_of cap (processor_after tiles words t p choice.Send w learned) b)
+  pub send_stays : (w : Want) (learned f : ℕ) (fs : List ℕ) → p.to_put ≡ f ∷ fs
+      → Stays (end_of cap p b) (end_of cap (processor_after tiles words t p choice.Send w learned) b)
   send_stays w learned f fs due =
       let book : record_sent tiles words t p.to_put p.operations ≡ p.operations = ap (λ l. record_sent tiles words t l p.operations) due in
-      let left : left_of (record_sent tiles words t p.to_put p.operations).following ≡ left_of p.operations.following = ap (λ (c : ProcessorRecord). left_of c.following) book in
+      let left : left_of (record_sent tiles words t p.to_put p.operations).following ≡ left_of p.operations.following =
+      ap (λ (c : ProcessorRecord). left_of c.following) book in
       record { left = omega arith; reports = refl; room = refl; unsent = refl }
 
   not_yet : (c d : Bool) (x w : Want) → (if c && not d then Some x else None) ≡ Some w → d ≡ false
@@ -73,12 +79,14 @@ module _ (tiles words t cap : ℕ) (p : ProcessorState) (b : BankState) where
   not_yet false d x w h = absurd (cc)
 
   -- a report, and the sight of the end
-  pub done_reports : (w : Want) (learned : ℕ) → processor_wants tiles words t p choice.Done ≡ Some w → Reports (end_of cap p b) (end_of cap (processor_after tiles words t p choice.Done w learned) b)
+  pub done_reports : (w : Want) (learned : ℕ) → processor_wants tiles words t p choice.Done ≡ Some w
+      → Reports (end_of cap p b) (end_of cap (processor_after tiles words t p choice.Done w learned) b)
   done_reports w learned wanted =
       let new = ap unless (not_yet (is_finished p.operations.following) p.reported _ w wanted) in
       record { left = refl; reports = omega arith; room = refl; unsent = refl }
 
-  pub look_reports : (w : Want) (learned : ℕ) → processor_wants tiles words t p choice.Look ≡ Some w → Reports (end_of cap p b) (end_of cap (processor_after tiles words t p choice.Look w learned) b)
+  pub look_reports : (w : Want) (learned : ℕ) → processor_wants tiles words t p choice.Look ≡ Some w
+      → Reports (end_of cap p b) (end_of cap (processor_after tiles words t p choice.Look w learned) b)
   look_reports w learned wanted =
       let new = ap unless (not_yet p.reported p.seen _ w wanted) in
       record { left = refl; reports = omega arith; room = refl; unsent = refl }
@@ -92,14 +100,16 @@ module _ (tiles words t cap : ℕ) (p : ProcessorState) (b : BankState) where
       let is : served tiles t b b.waiting found ≡ after = ap (λ o. served tiles t b o found) waits in
       let longer = length_push b.entries (entry_of t tiles r (reply_to r.op found)) in
       let few : unsent_flits after.to_put ≤ length after.to_put = at_most (is_head (first_flit after.to_put)) (length after.to_put) in
-      subst (λ (c : BankState). Serves (end_of cap p b) (end_of cap p c)) (sym is) (record { left = refl; reports = refl; room = omega arith; unsent = omega arith })
+      subst (λ (c : BankState). Serves (end_of cap p b) (end_of cap p c)) (sym is)
+      (record { left = refl; reports = refl; room = omega arith; unsent = omega arith })
     where
       at_most : (c : Bool) (m : ℕ) → (if c then m else 0) ≤ m
       at_most true m = omega arith
       at_most false m = omega arith
 
   -- the first flit of a reply
-  pub reply_begins : (n : Net) (k : Parcel) (w : Want) (learned f : ℕ) (fs : List ℕ) → b.to_put ≡ f ∷ fs → is_head f ≡ true → is_head (first_flit fs) ≡ false → length (parcel_flits k) ≡ length (f ∷ fs)
+  pub reply_begins : (n : Net) (k : Parcel) (w : Want) (learned f : ℕ) (fs : List ℕ) → b.to_put ≡ f ∷ fs → is_head f ≡ true → is_head (first_flit fs) ≡ false
+      → length (parcel_flits k) ≡ length (f ∷ fs)
       → length (n.route k.source k.destination) ≤ 10 → Replies n k (end_of cap p b) (end_of cap p (bank_after tiles t b choice.Send w learned))
   reply_begins n k w learned f fs due first later size near = record {
     left = refl;
@@ -117,7 +127,8 @@ module _ (tiles words t cap : ℕ) (p : ProcessorState) (b : BankState) where
     left = omega arith;
     reports = refl;
     room = refl;
-    unsent = ap (λ l. unsent_flits (rest l)) due ∙ ap (λ c. cond c (length fs) 0) later ∙ sym (ap unsent_flits due ∙ ap (λ c. cond c (length (f ∷ fs)) 0) first);
+    unsent = ap (λ l. unsent_flits (rest l)) due ∙ ap (λ c. cond c (length fs) 0) later
+        ∙ sym (ap unsent_flits due ∙ ap (λ c. cond c (length (f ∷ fs)) 0) first);
   }
 
   -- a bank takes a flit

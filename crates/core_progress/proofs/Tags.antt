@@ -1,5 +1,6 @@
 -- Where nothing is in flight, all tags are free, and a processor has finished or an operation is ready.
-use Rattle.std.proofs.Common.{◌≡◌, ℕ, zero, suc, ◌+◌, ◌<◌, ◌≤◌, false, cond, List, [], ◌∷◌, length, map, Option, Some, None, inl, inr, refl, sym, ◌∙◌, ap, subst, arith, slice_get, slice_index_or}
+use Rattle.std.proofs.Common.{◌≡◌, ℕ, zero, suc, ◌+◌, ◌<◌, ◌≤◌, false, cond, List, [], ◌∷◌, length, map, Option, Some, None, inl, inr, refl, sym, ◌∙◌, ap}
+use Rattle.std.proofs.Common.{subst, arith, slice_get, slice_index_or}
 use Rattle.std.proofs.lemmas.Bool.{lt-ltb}
 use Rattle.std.proofs.Math.ListN.{get_or-map}
 use Rattle.std.proofs.Math.Nat.{mod-lt}
@@ -9,15 +10,15 @@ use Rattle.packet.specs.declared.kinds.Operation.{Operation}
 use Rattle.packet.specs.declared.kinds.Request.{Request as Asking}
 use Rattle.packet.specs.declared.kinds.Response.{Response as Telling}
 use Rattle.tag_table.specs.Tags.{holder_of, free_tag}
-use Rattle.core_laws.specs.net_interface.specs.Following.{next_operation_of, is_finished}
-use Rattle.core_laws.specs.net_interface.specs.ProcessorRecord.{ProcessorRecord, no_processor}
-use Rattle.runs.specs.Observed.{total}
-use Rattle.runs.specs.Order.{LinearizationPoint}
-use Rattle.runs.proofs.Lists.{list_within}
-use Rattle.core_laws.specs.flights.specs.Flight.{Flight, processor_at}
-use Rattle.core_laws.specs.flights.proofs.Whole.{Whole}
-use Rattle.core_laws.specs.flights.proofs.Parts.{tags_at, tags_of}
-use Rattle.core_laws.specs.tile.specs.Tile.{Design, TileState}
+use Rattle.core_laws.specs.script_follower.specs.Following.{next_operation_of, is_finished}
+use Rattle.core_laws.specs.script_follower.specs.ProcessorRecord.{ProcessorRecord, no_processor}
+use Rattle.one_order.specs.Observed.{total}
+use Rattle.one_order.specs.Order.{LinearizationPoint}
+use Rattle.one_order.proofs.Lists.{list_within}
+use Rattle.core_laws.specs.order_abstract.specs.Flight.{Flight, processor_at}
+use Rattle.core_laws.specs.order_abstract.proofs.Whole.{Whole}
+use Rattle.core_laws.specs.order_abstract.proofs.Parts.{tags_at, tags_of}
+use Rattle.core_laws.specs.tile_laws.specs.Tile.{Design, TileState}
 use Rattle.core_laws.specs.Core.{State}
 use Rattle.core_laws.proofs.Stands.{Ghost, tile_at, no_tile, flight_of}
 use Rattle.core_progress.proofs.Lives.{IsInFlight, TagsTell}
@@ -31,12 +32,14 @@ first_free (x ∷ xs) some none = (0, ap (λ y. free_tag (y ∷ xs)) (none 0) �
 
 -- as many operations await an answer as are issued and not answered
 waits_together : (rs : List ProcessorRecord) → ((p : ℕ) → IsBalanced (slice_index_or rs p no_processor)) → (p : ℕ)
-    → (slice_index_or rs p no_processor).following.waiting + total (map (λ (b : ProcessorRecord). b.answers) rs) ≤ total (map (λ (b : ProcessorRecord). b.issued) rs)
+    → (slice_index_or rs p no_processor).following.waiting + total (map (λ (b : ProcessorRecord). b.answers) rs)
+    ≤ total (map (λ (b : ProcessorRecord). b.issued) rs)
 waits_together [] at p = let none = (at p).answered in omega arith
 waits_together (r ∷ rs) at zero = let first = (at 0).answered in let rest = waits_together rs (λ q. at (suc q)) (length rs) in omega arith
 waits_together (r ∷ rs) at (suc p) = let first = (at 0).answered in let rest = waits_together rs (λ q. at (suc q)) p in omega arith
 
-module _ (d : Design) (tags : ℕ) (opening : List ℕ) (s : State) (g : Ghost) (order : List LinearizationPoint) (some : 0 < tags) (w : Whole (tiles_of d.shape) tags opening (flight_of d.words s g) order)
+module _ (d : Design) (tags : ℕ) (opening : List ℕ) (s : State) (g : Ghost) (order : List LinearizationPoint) (some : 0 < tags)
+    (w : Whole (tiles_of d.shape) tags opening (flight_of d.words s g) order)
     (balanced : AreBalanced (flight_of d.words s g)) where
   abbrev f : Flight
   f = flight_of d.words s g
@@ -49,7 +52,8 @@ module _ (d : Design) (tags : ℕ) (opening : List ℕ) (s : State) (g : Ghost) 
   none_asked none (r ∷ rs) is =
       let there : slice_get g.asked 0 ≡ Some r = ap (λ (xs : List Asking). slice_get xs 0) is in
       let at = w.sound.requests 0 r there in
-      let source : r.source < tiles_of d.shape = subst (λ (k : ℕ). r.source < k) w.sound.tagged (list_within (tags_of f) r.source r.tag.0 (Some (record { 0 = at.index })) at.holds) in
+      let source : r.source < tiles_of d.shape =
+      subst (λ (k : ℕ). r.source < k) w.sound.tagged (list_within (tags_of f) r.source r.tag.0 (Some (record { 0 = at.index })) at.holds) in
       absurd (none (inl (0, r, there, source, subst (λ n. n < tiles_of d.shape) at.bank (mod-lt at.operation.address (omega arith)))))
 
   none_told : (IsInFlight d g → ⊥) → (told : List Telling) → g.told ≡ told → length g.told ≡ 0
@@ -57,7 +61,8 @@ module _ (d : Design) (tags : ℕ) (opening : List ℕ) (s : State) (g : Ghost) 
   none_told none (r ∷ rs) is =
       let there : slice_get g.told 0 ≡ Some r = ap (λ (xs : List Telling). slice_get xs 0) is in
       let at = w.sound.responses 0 r there in
-      let to : r.destination < tiles_of d.shape = subst (λ (k : ℕ). r.destination < k) w.sound.tagged (list_within (tags_of f) r.destination r.tag.0 (Some (record { 0 = at.index })) at.holds) in
+      let to : r.destination < tiles_of d.shape =
+      subst (λ (k : ℕ). r.destination < k) w.sound.tagged (list_within (tags_of f) r.destination r.tag.0 (Some (record { 0 = at.index })) at.holds) in
       absurd (none (inr (0, r, there, subst (λ n. n < tiles_of d.shape) (sym at.at.bank) (mod-lt at.at.point.operation.address (omega arith)), to)))
 
   -- where nothing is in flight, no operation awaits an answer
@@ -68,11 +73,13 @@ module _ (d : Design) (tags : ℕ) (opening : List ℕ) (s : State) (g : Ghost) 
       let count = w.counted.asked in
       let count_too = w.counted.told in
       let all = waits_together f.processors balanced p in
-      let same : (processor_at f p).following.waiting ≡ (tile_at s p).processor.operations.following.waiting = ap (λ (b : ProcessorRecord). b.following.waiting) (record_is p) in
+      let same : (processor_at f p).following.waiting ≡ (tile_at s p).processor.operations.following.waiting =
+      ap (λ (b : ProcessorRecord). b.following.waiting) (record_is p) in
       omega arith
 
   -- what the records tell where nothing is in flight
-  pub tags_tell : ((p : ℕ) → p < tiles_of d.shape → (tile_at s p).processor.operations.following.waiting ≡ 0 → is_finished (tile_at s p).processor.operations.following ≡ false
+  pub tags_tell : ((p : ℕ) → p < tiles_of d.shape → (tile_at s p).processor.operations.following.waiting ≡ 0
+      → is_finished (tile_at s p).processor.operations.following ≡ false
       → (o : Operation) × (next_operation_of (tile_at s p).processor.operations.following ≡ Some o)) → TagsTell d s g
   tags_tell ready = record {
     free = λ none p here.

@@ -10,7 +10,7 @@ use Rattle.wormhole.specs.State.{State as NetState}
 use Rattle.wormhole.specs.Words.{Words}
 use Rattle.wormhole.specs.Routes.{Routes}
 use Rattle.router.specs.Table.{latch_of}
-use Rattle.core_laws.specs.tile.specs.Tile.{Design}
+use Rattle.core_laws.specs.tile_laws.specs.Tile.{Design}
 use Rattle.core_laws.specs.Core.{State}
 use Rattle.core_laws.proofs.Projection.{net_of}
 use Rattle.core_laws.proofs.Networks.{network}
@@ -23,13 +23,16 @@ use Rattle.core_progress.proofs.Wires.{Chooses, FlitsTell}
 abbrev head_in : ℕ → Head
 head_in flit = record { destination = field flit 51 6; class = class_numbered (field flit 57 1) }
 
-module _ (d : Design) (s : State) (net : NetState) (accepted : IsAccepted d.shape) (words : Words (net_of d) net) (routes : Routes (net_of d) net) (mirrors : Mirrors d s net.lines) where
-  heads_tell : (t i flit : ℕ) → t < tiles_of d.shape → i < port_count (dims_of d.shape) → latch_of (tile_at s t).router i ≡ Some flit → (net_of d).is_head flit ≡ true → Chooses d t i flit
+module _ (d : Design) (s : State) (net : NetState) (accepted : IsAccepted d.shape) (words : Words (net_of d) net) (routes : Routes (net_of d) net)
+    (mirrors : Mirrors d s net.lines) where
+  heads_tell : (t i flit : ℕ) → t < tiles_of d.shape → i < port_count (dims_of d.shape) → latch_of (tile_at s t).router i ≡ Some flit
+      → (net_of d).is_head flit ≡ true → Chooses d t i flit
   unfolding net_of
   heads_tell t i flit here low latched head =
       let wired = is_wired_up d accepted in
       let is : IsHeadOf flit (head_in flit) = record { bit = head; destination = refl; class = refl } in
-      let tells = head_there d accepted net (network d accepted) words routes (input_channel d.shape t i) flit (head_in flit) (wired.inputs_lead t i here low) (mirrors.latches t i here low ∙ latched) head is in
+      let tells = head_there d accepted net (network d accepted) words routes (input_channel d.shape t i) flit (head_in flit) (wired.inputs_lead t i here low)
+      (mirrors.latches t i here low ∙ latched) head is in
       let chosen = wired.chosen t i (head_in flit) here low tells.0 tells.1 in
       record {
         head = head_in flit;

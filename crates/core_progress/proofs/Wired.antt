@@ -4,13 +4,13 @@ use Rattle.torus.specs.Shape.{IsAccepted, tiles_of}
 use Rattle.torus.specs.declared.shape.Class.{Class}
 use Rattle.torus.specs.declared.shape.Class.TheVariants.{Request, Reply}
 use Rattle.wormhole.specs.Net.{IsNet}
-use Rattle.torus_net.specs.Ends.{IsEjection}
+use Rattle.wormhole_torus.specs.Ends.{IsEjection}
 use Rattle.channel_number.proofs.Ports.{has_input, has_output}
-use Rattle.torus_net.proofs.Ends.{is_injection_at, is_ejection_at, ends_are, replies_above}
-use Rattle.torus_net.proofs.Facts.{is_net}
-use Rattle.progress.specs.Ends.{AreTiles}
+use Rattle.wormhole_torus.proofs.Ends.{is_injection_at, is_ejection_at, ends_are, replies_above}
+use Rattle.wormhole_torus.proofs.Facts.{is_net}
+use Rattle.wormhole_progress.specs.Ends.{AreTiles}
 use Rattle.channel_number.specs.Ports.{ejection_channel, input_router, input_port, output_router, output_port}
-use Rattle.core_laws.specs.tile.specs.Tile.{Design}
+use Rattle.core_laws.specs.tile_laws.specs.Tile.{Design}
 use Rattle.core_laws.proofs.Projection.{net_of}
 use Rattle.core_laws.proofs.ChannelFacts.{joined, injects_at}
 use Rattle.core_progress.proofs.Wires.{AreWires, ends_of}
@@ -33,7 +33,8 @@ wires d accepted = record {
 
 -- a receiver is a processor's or a bank's
 receiver : (d : Design) (x : ℕ) (at : IsEjection d.shape x) (class : Class) → at.class ≡ class
-    → ((p : ℕ) × (p < tiles_of d.shape) × (x ≡ ejection_channel d.shape p Reply)) ⊎ ((b : ℕ) × (b < tiles_of d.shape) × (x ≡ ejection_channel d.shape b Request))
+    → ((p : ℕ) × (p < tiles_of d.shape) × (x ≡ ejection_channel d.shape p Reply))
+    ⊎ ((b : ℕ) × (b < tiles_of d.shape) × (x ≡ ejection_channel d.shape b Request))
 receiver d x at Reply is = inl (at.tile, at.here, at.same ∙ ap (ejection_channel d.shape at.tile) is)
 receiver d x at Request is = inr (at.tile, at.here, at.same ∙ ap (ejection_channel d.shape at.tile) is)
 

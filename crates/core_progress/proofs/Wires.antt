@@ -5,12 +5,12 @@ use Rattle.torus.specs.declared.shape.Class.{Class}
 use Rattle.torus.specs.declared.shape.Class.TheVariants.{Request, Reply}
 use Rattle.packet.specs.declared.heading.Head.{Head}
 use Rattle.channel_number.specs.Order.{channel_count}
-use Rattle.progress.specs.Ends.{Tiles}
+use Rattle.wormhole_progress.specs.Ends.{Tiles}
 use Rattle.packet.specs.Flits.{head_of}
 use Rattle.channel_number.specs.Ports.{port_count}
 use Rattle.router.specs.Table.{latch_of, way_of}
 use Rattle.channel_number.specs.Ports.{injection_channel, ejection_channel, input_channel, output_channel}
-use Rattle.core_laws.specs.tile.specs.Tile.{Design}
+use Rattle.core_laws.specs.tile_laws.specs.Tile.{Design}
 use Rattle.core_laws.specs.Core.{State}
 use Rattle.core_laws.proofs.Projection.{net_of}
 use Rattle.core_laws.proofs.Stands.{tile_at}
@@ -49,7 +49,8 @@ pub record Chooses (d : Design) (t i flit : ℕ) : Type 0 where
 
 -- a latched head flit tells a router its way, and any other tells it none
 pub record FlitsTell (d : Design) (s : State) : Type 0 where
-  pub heads : (t i flit : ℕ) → t < tiles_of d.shape → i < port_count (dims_of d.shape) → latch_of (tile_at s t).router i ≡ Some flit → (net_of d).is_head flit ≡ true → Chooses d t i flit
+  pub heads : (t i flit : ℕ) → t < tiles_of d.shape → i < port_count (dims_of d.shape) → latch_of (tile_at s t).router i ≡ Some flit
+      → (net_of d).is_head flit ≡ true → Chooses d t i flit
   pub rests : (flit : ℕ) → (net_of d).is_head flit ≡ false → head_of flit ≡ None
 
 -- the ends of the machine's tiles

@@ -1,11 +1,12 @@
--- What can move in a state of the core, when all scripts are finished, and how many moves a run has made and has left.
+-- What can move in a state of the core, when all scripts are finished, and how many moves a run has
+-- made and has left.
 use Rattle.std.specs.Prelude.{◌≡◌, ℕ, ◌+◌, ◌-◌, ◌*◌, Bool, List, take, Option, Some}
 use Rattle.std.specs.List.{list_all}
 use Rattle.torus.specs.Shape.{tiles_of}
 use Rattle.torus.specs.declared.step.Step.{Step}
 use Rattle.script.specs.Scripts.{total_count}
-use Rattle.core_laws.specs.net_interface.specs.Following.{is_finished}
-use Rattle.core_laws.specs.tile.specs.Tile.{Design}
+use Rattle.core_laws.specs.script_follower.specs.Following.{is_finished}
+use Rattle.core_laws.specs.tile_laws.specs.Tile.{Design}
 use Rattle.core_laws.specs.Core.{Load, State, design_of, first_state, step, round}
 use Rattle.rounds.specs.Rounds.{first_enabled, moves_in}
 
@@ -17,7 +18,8 @@ enabled_step d s = first_enabled (step d) s (round d.shape)
 abbrev pub IsLive : Design → State → Type 0
 IsLive d s = (attempt : Step) × (enabled_step d s ≡ Some attempt)
 
--- whether every script is finished: no line is left, no spin is open, and all is answered (this project's own format)
+-- whether every script is finished: no line is left, no spin is open, and all is answered (this
+-- project's own format)
 abbrev pub all_finished : State → Bool
 all_finished s = list_all (λ t. is_finished t.processor.operations.following) s.tiles
 
@@ -25,9 +27,10 @@ all_finished s = list_all (λ t. is_finished t.processor.operations.following) s
 abbrev pub moves_made : Load → List Step → ℕ
 moves_made l attempts = moves_in (step (design_of l)) (first_state l) attempts
 
--- The most moves that a run can make: 241 for each operation that the scripts allow, and 2 for each tile. An operation
--- takes put, take and credit of at most 5 flits and of 3 flits back, on at most 10 channels each way, and one service;
--- a processor reports once and sees once that all have (this project's own format).
+-- The most moves that a run can make: 241 for each operation that the scripts allow, and 2 for each
+-- tile. An operation takes put, take and credit of at most 5 flits and of 3 flits back, on at most
+-- 10 channels each way, and one service; a processor reports once and sees once that all have (this
+-- project's own format).
 abbrev pub most_moves : Load → ℕ
 most_moves l = 241 * total_count l.scripts + 2 * tiles_of l.shape
 

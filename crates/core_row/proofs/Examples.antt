@@ -6,7 +6,7 @@ use Rattle.packet.specs.Flit.{field}
 use Rattle.packet.specs.Flits.{offered, flits_of}
 use Rattle.script.specs.declared.line.Line.TheVariants as line
 use Rattle.script.specs.declared.line.Value.TheVariants.{Number}
-use Rattle.core_laws.specs.net_interface.specs.Following.{first_of, next_operation_of, after_issue, after_answer}
+use Rattle.core_laws.specs.script_follower.specs.Following.{first_of, next_operation_of, after_issue, after_answer}
 use Rattle.flit_buffer.specs.declared.word_op.WordOp.TheVariants as word_op
 use Rattle.core_laws.specs.Core.{Load, after, design_of, first_state}
 use Rattle.core_row.specs.Row.{row_of}
@@ -14,11 +14,18 @@ use Rattle.core_row.specs.Attempts.{step_op}
 
 -- two tiles, depth 4, 4 tags, 8 words: 96 places, 8 words and the done word; processor 0 stores 7 at address 1
 abbrev two_tiles : Load
-two_tiles = record { shape = record { radices = 2 ∷ []; datelines = 1 ∷ [] }; depth = 4; tags = 4; opening = replicate 8 0; scripts = (line.Store 1 (Number 7) ∷ []) ∷ [] ∷ [] }
+two_tiles = record {
+  shape = record { radices = 2 ∷ []; datelines = 1 ∷ [] };
+  depth = 4;
+  tags = 4;
+  opening = replicate 8 0;
+  scripts = (line.Store 1 (Number 7) ∷ []) ∷ [] ∷ [];
+}
 
 -- a flit's way from processor 0 to bank 1
 abbrev one_flit : List Step
-one_flit = record { agent = 0; choice = Send } ∷ record { agent = 1; choice = TakeFrom 8 } ∷ record { agent = 1; choice = Put 8 } ∷ record { agent = 4; choice = TakeFrom 0 } ∷ record { agent = 4; choice = Put 0 } ∷ record { agent = 5; choice = Take } ∷ []
+one_flit = record { agent = 0; choice = Send } ∷ record { agent = 1; choice = TakeFrom 8 } ∷ record { agent = 1; choice = Put 8 }
+    ∷ record { agent = 4; choice = TakeFrom 0 } ∷ record { agent = 4; choice = Put 0 } ∷ record { agent = 5; choice = Take } ∷ []
 
 -- three flits, and the service
 abbrev store : List Step

@@ -6,10 +6,10 @@ use Rattle.torus.specs.Shape.{tiles_of, dims_of}
 use Rattle.script.specs.declared.line.Line.{Line}
 use Rattle.channel_number.specs.Order.{channel_count}
 use Rattle.flit_buffer.proofs.Starts.{are_rings, starts}
-use Rattle.core_laws.specs.tile.specs.Tile.{TileState}
-use Rattle.core_laws.specs.tile.specs.Agents.{TilePlace, tile_placed}
-use Rattle.core_laws.specs.tile.specs.Beginning.{new_tile}
-use Rattle.core_laws.specs.tile.proofs.NewTiles.{new_is}
+use Rattle.core_laws.specs.tile_laws.specs.Tile.{TileState}
+use Rattle.core_laws.specs.tile_laws.specs.Agents.{TilePlace, tile_placed}
+use Rattle.core_laws.specs.tile_laws.specs.Beginning.{new_tile}
+use Rattle.core_laws.specs.tile_laws.proofs.NewTiles.{new_is}
 use Rattle.core_laws.specs.Core.{Load, design_of, first_state, first_tile}
 use Rattle.core_laws.specs.Runs.{IsAccepted}
 use Rattle.core_row.specs.Row.{row_of}

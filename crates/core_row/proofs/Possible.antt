@@ -14,7 +14,7 @@ use Rattle.packet.specs.declared.kinds.Packet.TheVariants as packet
 use Rattle.packet.specs.declared.kinds.Request.{Request as Asking}
 use Rattle.packet.specs.Flits.{flits_of}
 use Rattle.packet.proofs.Shapes.{flits_above_zero}
-use Rattle.runs.specs.Order.{LinearizationPoint}
+use Rattle.one_order.specs.Order.{LinearizationPoint}
 use Rattle.flit_buffer.specs.Channel.{first_of}
 use Rattle.flit_buffer.specs.Surroundings.{Wiring, IsPossible}
 use Rattle.flit_buffer.specs.declared.want.Want.{Want}
@@ -22,16 +22,16 @@ use Rattle.flit_buffer.specs.declared.want.Want.TheVariants as want
 use Rattle.flit_buffer.proofs.PortLaws.{some_if}
 use Rattle.channel_number.specs.Ports.{port_count, input_channel, output_channel, injection_channel, ejection_channel}
 use Rattle.home_bank.specs.ServiceList.{address_of}
-use Rattle.core_laws.specs.net_interface.specs.Following.{is_finished}
-use Rattle.core_laws.specs.net_interface.specs.ProcessorRecord.{ready, request_of}
-use Rattle.core_laws.specs.net_interface.specs.ProcessorTable.{ProcessorState, processor_wants, request_flits, flits_due}
+use Rattle.core_laws.specs.script_follower.specs.Following.{is_finished}
+use Rattle.core_laws.specs.script_follower.specs.ProcessorRecord.{ready, request_of}
+use Rattle.core_laws.specs.script_follower.specs.ProcessorTable.{ProcessorState, processor_wants, request_flits, flits_due}
 use Rattle.home_bank.specs.BankTable.{BankState, bank_wants, is_nil}
 use Rattle.router.specs.Beginning.{router_wiring}
 use Rattle.router.specs.Reach.{IsRouterState}
 use Rattle.router.proofs.WantedPorts as router
-use Rattle.core_laws.specs.tile.specs.Wiring.{processor_wiring, bank_wiring}
-use Rattle.core_laws.specs.tile.specs.Tile.{Design, Agent, Processor, Router, Bank}
-use Rattle.core_laws.specs.tile.specs.Refinement.{IsSurrounded, IsPossibleChoice}
+use Rattle.core_laws.specs.tile_laws.specs.Wiring.{processor_wiring, bank_wiring}
+use Rattle.core_laws.specs.tile_laws.specs.Tile.{Design, Agent, Processor, Router, Bank}
+use Rattle.core_laws.specs.tile_laws.specs.Refinement.{IsSurrounded, IsPossibleChoice}
 use Rattle.core_laws.specs.Core.{State}
 use Rattle.core_laws.proofs.AgentSteps.{option_map_some}
 use Rattle.core_laws.proofs.Networks.{network}
@@ -45,7 +45,8 @@ first_some : (flits : List ℕ) (flit : ℕ) → AreSome flits → first_of flit
 first_some [] flit all h z = absurd (cc)
 first_some (x ∷ flits) flit all h z = let some = All-head (λ n. 0 < n) x flits all in let same : x ≡ flit = same_Some x flit h in omega (arith, some, same, z)
 
-module _ (d : Design) (tags : ℕ) (limits : IsLimited d tags) (opening : List ℕ) (s : State) (g : Ghost) (order : List LinearizationPoint) (st : Stands d tags opening s g order) (h : HasValues d s) where
+module _ (d : Design) (tags : ℕ) (limits : IsLimited d tags) (opening : List ℕ) (s : State) (g : Ghost) (order : List LinearizationPoint)
+    (st : Stands d tags opening s g order) (h : HasValues d s) where
   -- the channels are those of the torus
   pub surrounded : IsSurrounded d s.around
   surrounded = record { count = st.mirrors.count; rings = st.rings }
@@ -83,11 +84,13 @@ module _ (d : Design) (tags : ℕ) (limits : IsLimited d tags) (opening : List �
 
     processor_there : (c : Choice) (w : Want) → processor_wants (tiles_of d.shape) d.words t p c ≡ Some w → IsThere (processor_wiring d.shape t) w
     processor_there choice.Send w e =
-        put_there (injection_channel d.shape t Request) (ejection_channel d.shape t Reply ∷ []) (flits_due (tiles_of d.shape) d.words t p.to_put (ready p.operations)) w (due_some p.to_put (h.tiles t).requests_left) e
+        put_there (injection_channel d.shape t Request) (ejection_channel d.shape t Reply ∷ [])
+        (flits_due (tiles_of d.shape) d.words t p.to_put (ready p.operations)) w (due_some p.to_put (h.tiles t).requests_left) e
     processor_there choice.Take w e = subst (IsThere (processor_wiring d.shape t)) (same_Some _ _ e) (omega arith)
     processor_there choice.Credit w e = subst (IsThere (processor_wiring d.shape t)) (same_Some _ _ e) (omega arith)
     processor_there choice.Done w e =
-        subst (IsThere (processor_wiring d.shape t)) (some_if (is_finished p.operations.following && not p.reported) (want.Access d.words (Add 1)) w e).1 done_there
+        subst (IsThere (processor_wiring d.shape t)) (some_if (is_finished p.operations.following && not p.reported) (want.Access d.words (Add 1)) w e).1
+        done_there
     processor_there choice.Look w e =
         subst (IsThere (processor_wiring d.shape t)) (some_if (p.reported && not p.seen) (want.Await d.words (tiles_of d.shape)) w e).1 done_there
     processor_there choice.Serve w e = absurd (cc)

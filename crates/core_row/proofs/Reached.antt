@@ -1,5 +1,6 @@
 -- The row of every state that a run reaches, and what attempts do to it.
-use Rattle.std.proofs.Common.{◌≡◌, ◌≢◌, ◌↔◌, ℕ, ◌+◌, ◌*◌, ◌/◌, ◌%◌, ◌<◌, ◌≤◌, List, [], ◌∷◌, ◌++◌, length, get_or, get_or-take, Option, Some, None, All, refl, sym, ap, ◌∙◌, subst, arith, append_assoc, slice_get}
+use Rattle.std.proofs.Common.{◌≡◌, ◌≢◌, ◌↔◌, ℕ, ◌+◌, ◌*◌, ◌/◌, ◌%◌, ◌<◌, ◌≤◌, List, [], ◌∷◌, ◌++◌, length, get_or, get_or-take, Option, Some, None, All, refl}
+use Rattle.std.proofs.Common.{sym, ap, ◌∙◌, subst, arith, append_assoc, slice_get}
 use Rattle.std.proofs.Math.Nat.{mul-le-mul}
 use Rattle.std.proofs.Math.Seq.{take-length}
 use Rattle.std.proofs.lemmas.List.{append-nil}
@@ -7,12 +8,12 @@ use Rattle.std.proofs.lemmas.List.Elements.{All-head, All-tail}
 use Rattle.std.proofs.lemmas.Option.{slice_get_within, get_or_from_slice_get}
 use Rattle.torus.specs.Shape.{tiles_of}
 use Rattle.torus.specs.declared.step.Step.{Step}
-use Rattle.runs.specs.Events.{order_after}
+use Rattle.one_order.specs.Events.{order_after}
 use Rattle.channel_number.specs.Order.{channel_count, channels_at_tile}
 use Rattle.flit_buffer.specs.Surroundings.{ring, ShowsAll}
-use Rattle.core_laws.specs.tile.specs.Tile.{TileState, Agent}
-use Rattle.core_laws.specs.tile.specs.Agents.{TilePlace, agent_numbered}
-use Rattle.core_laws.specs.tile.specs.Refinement.{IsSurrounded, IsPossibleChoice, KeepsOthers, OnlyAgent}
+use Rattle.core_laws.specs.tile_laws.specs.Tile.{TileState, Agent}
+use Rattle.core_laws.specs.tile_laws.specs.Agents.{TilePlace, agent_numbered}
+use Rattle.core_laws.specs.tile_laws.specs.Refinement.{IsSurrounded, IsPossibleChoice, KeepsOthers, OnlyAgent}
 use Rattle.core_laws.specs.Core.{Load, State, design_of, first_state, after, after_from, next, or_same, step, show}
 use Rattle.core_laws.specs.Runs.{IsAccepted, state_after}
 use Rattle.core_laws.specs.Noted.{noted}
@@ -34,14 +35,17 @@ module _ (l : Load) (ok : IsAccepted l) (steps : List Step) (n : ℕ) where
   st = (holds_in l ok steps n).stands
 
   pub surrounded : IsSurrounded (design_of l) s.around
-  surrounded = possible.surrounded (design_of l) l.tags (limited l ok) l.opening s (noted l steps n) (order_after (event_at l steps) n) st (holds_in l ok steps n).values
+  surrounded = possible.surrounded (design_of l) l.tags (limited l ok) l.opening s (noted l steps n) (order_after (event_at l steps) n) st
+      (holds_in l ok steps n).values
 
-  possible_at : (t : ℕ) (tile : TileState) → slice_get s.tiles t ≡ Some tile → (a : Agent) (attempt : Step) → IsPossibleChoice (design_of l) t tile s.around a attempt.choice
+  possible_at : (t : ℕ) (tile : TileState) → slice_get s.tiles t ≡ Some tile → (a : Agent) (attempt : Step)
+      → IsPossibleChoice (design_of l) t tile s.around a attempt.choice
   possible_at t tile e a attempt =
       let is : tile_at s t ≡ tile = get_or_from_slice_get s.tiles t tile no_tile e in
       let t_in : t < tiles_of l.shape = subst (λ (k : ℕ). t < k) st.tiles (slice_get_within s.tiles t tile e) in
       subst (λ (w : TileState). IsPossibleChoice (design_of l) t w s.around a attempt.choice) is
-      (possible.possible_here (design_of l) l.tags (limited l ok) l.opening s (noted l steps n) (order_after (event_at l steps) n) st (holds_in l ok steps n).values t t_in a attempt.choice)
+      (possible.possible_here (design_of l) l.tags (limited l ok) l.opening s (noted l steps n) (order_after (event_at l steps) n) st
+      (holds_in l ok steps n).values t t_in a attempt.choice)
 
   pub possible_there : (attempt : Step) (tile : TileState) → slice_get s.tiles (attempt.agent / 3) ≡ Some tile
       → IsPossibleChoice (design_of l) (attempt.agent / 3) tile s.around (agent_numbered (attempt.agent % 3)) attempt.choice
@@ -57,14 +61,17 @@ module _ (l : Load) (ok : IsAccepted l) (steps : List Step) (n : ℕ) where
   pub is_operation : (attempt : Step) → IsWordOperation (design_of l) s attempt
   is_operation attempt = steps_of.is_operation (design_of l) s ok.shape st.tiles surrounded possible_at attempt
 
-  pub others_stay : (attempt : Step) (left : State) → step (design_of l) s attempt ≡ Some left → KeepsOthers (design_of l) (attempt.agent / 3) (agent_numbered (attempt.agent % 3)) s.around left.around
+  pub others_stay : (attempt : Step) (left : State) → step (design_of l) s attempt ≡ Some left
+      → KeepsOthers (design_of l) (attempt.agent / 3) (agent_numbered (attempt.agent % 3)) s.around left.around
   others_stay attempt left e = steps_of.others_stay (design_of l) s ok.shape st.tiles surrounded possible_at attempt left e
 
-  pub tile_stays : (attempt : Step) (left : State) (u : ℕ) → step (design_of l) s attempt ≡ Some left → u ≢ attempt.agent / 3 → tile_in (design_of l) left u ≡ tile_in (design_of l) s u
+  pub tile_stays : (attempt : Step) (left : State) (u : ℕ) → step (design_of l) s attempt ≡ Some left → u ≢ attempt.agent / 3
+      → tile_in (design_of l) left u ≡ tile_in (design_of l) s u
   tile_stays attempt left u e other = steps_of.tile_stays (design_of l) s ok.shape st.tiles surrounded possible_at attempt left e u other
 
   pub only_own : (attempt : Step) (left : State) (p q : TilePlace) → step (design_of l) s attempt ≡ Some left
-      → tile_in (design_of l) s (attempt.agent / 3) ≡ Some p → tile_in (design_of l) left (attempt.agent / 3) ≡ Some q → OnlyAgent (agent_numbered (attempt.agent % 3)) p q
+      → tile_in (design_of l) s (attempt.agent / 3) ≡ Some p → tile_in (design_of l) left (attempt.agent / 3) ≡ Some q
+      → OnlyAgent (agent_numbered (attempt.agent % 3)) p q
   only_own attempt left p q e before now = steps_of.only_own (design_of l) s ok.shape st.tiles surrounded possible_at attempt left p q e before now
 
   -- the row
@@ -108,7 +115,8 @@ module _ (l : Load) (ok : IsAccepted l) (steps : List Step) (n : ℕ) where
   word_shown : (a : ℕ) → get_or (row_of (design_of l) s) (channel_count l.shape * l.depth + a) 0 ≡ get_or s.around.words a 0
   word_shown a = ap (λ (k : ℕ). get_or (row_of (design_of l) s) (k * l.depth + a) 0) (sym surrounded.count) ∙ rows.row_word l.depth s.around a
 
-  pub memory_shown : (a : ℕ) → a < length l.opening → get_or (row_of (design_of l) s) (channel_count l.shape * l.depth + a) 0 ≡ get_or (show (length l.opening) s).memory a 0
+  pub memory_shown : (a : ℕ) → a < length l.opening
+      → get_or (row_of (design_of l) s) (channel_count l.shape * l.depth + a) 0 ≡ get_or (show (length l.opening) s).memory a 0
   memory_shown a h = word_shown a ∙ sym (get_or-take (length l.opening) s.around.words a 0 h)
 
   pub done_shown : get_or (row_of (design_of l) s) (channel_count l.shape * l.depth + length l.opening) 0 ≡ get_or s.around.words (length l.opening) 0
@@ -119,13 +127,15 @@ pub all_steps : (l : Load) (xs : List Step) → state_after l xs (length xs) ≡
 all_steps l xs = ap (after l) (take-length xs)
 
 -- runs, one after the other
-pub run_append : (l : Load) (s : State) (xs ys : List Step) → after_from (design_of l) s (xs ++ ys) ≡ after_from (design_of l) (after_from (design_of l) s xs) ys
+pub run_append : (l : Load) (s : State) (xs ys : List Step)
+    → after_from (design_of l) s (xs ++ ys) ≡ after_from (design_of l) (after_from (design_of l) s xs) ys
 run_append l s [] ys = refl
 run_append l s (x ∷ xs) ys = run_append l (next (design_of l) s x) xs ys
 
 module _ (l : Load) (ok : IsAccepted l) where
   -- a step of another tile, enabled or not
-  next_leaves : (xs : List Step) (attempt : Step) (u : ℕ) → attempt.agent / 3 ≢ u → tile_in (design_of l) (next (design_of l) (after l xs) attempt) u ≡ tile_in (design_of l) (after l xs) u
+  next_leaves : (xs : List Step) (attempt : Step) (u : ℕ) → attempt.agent / 3 ≢ u
+      → tile_in (design_of l) (next (design_of l) (after l xs) attempt) u ≡ tile_in (design_of l) (after l xs) u
   next_leaves xs attempt u other =
       subst (λ (z : State). tile_in (design_of l) (next (design_of l) z attempt) u ≡ tile_in (design_of l) z u) (all_steps l xs)
       (by_step (step (design_of l) (state_after l xs (length xs)) attempt) refl)
@@ -136,7 +146,8 @@ module _ (l : Load) (ok : IsAccepted l) where
       by_step (Some left) e = tile_stays l ok xs (length xs) attempt left u e (λ q. other (sym q))
 
   -- steps of other tiles leave a tile
-  pub run_leaves : (steps more : List Step) (u : ℕ) → All (λ attempt. attempt.agent / 3 ≢ u) more → tile_in (design_of l) (after l (steps ++ more)) u ≡ tile_in (design_of l) (after l steps) u
+  pub run_leaves : (steps more : List Step) (u : ℕ) → All (λ attempt. attempt.agent / 3 ≢ u) more
+      → tile_in (design_of l) (after l (steps ++ more)) u ≡ tile_in (design_of l) (after l steps) u
   run_leaves steps [] u all = ap (λ xs. tile_in (design_of l) (after l xs) u) (append-nil steps)
   run_leaves steps (attempt ∷ more) u all =
       ap (λ xs. tile_in (design_of l) (after l xs) u) (sym (append_assoc steps (attempt ∷ []) more))

@@ -1,5 +1,6 @@
 -- Exactly one row shows given channels and words.
-use Rattle.std.proofs.Common.{◌≡◌, ◌≢◌, ◌↔◌, ℕ, zero, suc, ◌+◌, ◌-◌, ◌*◌, ◌/◌, ◌%◌, ◌<◌, inl, inr, List, [], ◌∷◌, ◌++◌, length, get_or, sym, ◌∙◌, ap, subst, arith, mod-eq_of_lt}
+use Rattle.std.proofs.Common.{◌≡◌, ◌≢◌, ◌↔◌, ℕ, zero, suc, ◌+◌, ◌-◌, ◌*◌, ◌/◌, ◌%◌, ◌<◌, inl, inr, List, [], ◌∷◌, ◌++◌, length, get_or, sym, ◌∙◌, ap, subst}
+use Rattle.std.proofs.Common.{arith, mod-eq_of_lt}
 use Rattle.std.specs.List.{flat_map}
 use Rattle.std.proofs.Math.Nat.{suc-mul, add-mod_left, add-mod_right}
 use Rattle.std.proofs.lemmas.Bool.{cases_lt}
@@ -39,7 +40,8 @@ module _ (depth : ℕ) where
       ∙ ap (λ n. depth + n) (all_count rings)
       ∙ (let s = suc-mul (length rings) depth in omega (arith, s))
 
-  place_at : (rings : List Ring) (x q : ℕ) → x < length rings → q < depth → get_or (flat_map (places_of depth) rings) (x * depth + q) 0 ≡ place_word depth (ring rings x) q
+  place_at : (rings : List Ring) (x q : ℕ) → x < length rings → q < depth
+      → get_or (flat_map (places_of depth) rings) (x * depth + q) 0 ≡ place_word depth (ring rings x) q
   place_at [] x q h low = absurd (omega arith)
   place_at (r ∷ rings) zero q h low =
       let n = places_count r in
@@ -89,7 +91,8 @@ module _ (depth : ℕ) where
       }
 
       -- a place of a row that shows them
-      shown_place : (row : List ℕ) → ShowsAll row depth around → (x q : ℕ) → x < count → q < depth → get_or row (x * depth + q) 0 ≡ place_word depth (ring around.rings x) q
+      shown_place : (row : List ℕ) → ShowsAll row depth around → (x q : ℕ) → x < count → q < depth
+          → get_or row (x * depth + q) 0 ≡ place_word depth (ring around.rings x) q
       shown_place row shows x q h low =
           let r = are x h in
           let i : ℕ = (q + (depth - (ring around.rings x).front)) % depth in
@@ -123,7 +126,8 @@ module _ (depth : ℕ) where
       pub only_row : (row : List ℕ) → ShowsAll row depth around → row ≡ row_showing depth around
       only_row row shows = same_lists row (row_showing depth around) (shows.size ∙ sym row_count) (λ k d h.
           get_or_default row k d 0 h ∙ (by_half row shows k h
-          ∙ get_or_default (row_showing depth around) k 0 d (let s : length row ≡ length (row_showing depth around) = shows.size ∙ sym row_count in omega (arith, s))))
+          ∙ get_or_default (row_showing depth around) k 0 d
+          (let s : length row ≡ length (row_showing depth around) = shows.size ∙ sym row_count in omega (arith, s))))
 
       pub one_row : (row : List ℕ) → ShowsAll row depth around ↔ (row ≡ row_showing depth around)
       one_row row = (only_row row, λ e. subst (λ (z : List ℕ). ShowsAll z depth around) (sym e) row_shows)

@@ -1,17 +1,18 @@
 -- A step of the core, at any state whose channels are channels and whose wants are possible.
-use Rattle.std.proofs.Common.{◌≡◌, ◌≢◌, ℕ, ◌/◌, ◌%◌, ◌==◌, ◌<◌, Bool, true, List, length, Option, Some, None, refl, sym, ap, ◌∙◌, subst, slice_get, slice_set, eq-eqb}
+use Rattle.std.proofs.Common.{◌≡◌, ◌≢◌, ℕ, ◌/◌, ◌%◌, ◌==◌, ◌<◌, Bool, true, List, length, Option, Some, None, refl, sym, ap, ◌∙◌, subst, slice_get, slice_set}
+use Rattle.std.proofs.Common.{eq-eqb}
 use Rattle.std.specs.Prelude.{option_map, option_and_then, if◌then◌else◌, MatchOption}
 use Rattle.std.proofs.lemmas.Option.{slice_get_within, same_Some}
-use Rattle.runs.proofs.Lists.{get_set_same, get_set_other}
+use Rattle.one_order.proofs.Lists.{get_set_same, get_set_other}
 use Rattle.torus.specs.Shape.{IsAccepted, tiles_of}
 use Rattle.torus.specs.declared.step.Step.{Step}
 use Rattle.flit_buffer.specs.Words.{word_of, performed}
 use Rattle.flit_buffer.specs.Surroundings.{Surroundings}
 use Rattle.flit_buffer.specs.declared.word_op.WordOp.{WordOp}
-use Rattle.core_laws.specs.tile.specs.Tile.{Design, TileState, Agent, Processor, Router, Bank, tile_step}
-use Rattle.core_laws.specs.tile.specs.Agents.{TilePlace, agent_numbered, tile_placed, agent_op, agent_absorbed, tile_next_op, tile_absorbed}
-use Rattle.core_laws.specs.tile.specs.Refinement.{IsSurrounded, IsPossibleChoice, TileStays, TileMoves, TileRefines, KeepsOthers, OnlyAgent}
-use Rattle.core_laws.specs.tile.proofs.Tiles.{tile_refines, tile_keeps}
+use Rattle.core_laws.specs.tile_laws.specs.Tile.{Design, TileState, Agent, Processor, Router, Bank, tile_step}
+use Rattle.core_laws.specs.tile_laws.specs.Agents.{TilePlace, agent_numbered, tile_placed, agent_op, agent_absorbed, tile_next_op, tile_absorbed}
+use Rattle.core_laws.specs.tile_laws.specs.Refinement.{IsSurrounded, IsPossibleChoice, TileStays, TileMoves, TileRefines, KeepsOthers, OnlyAgent}
+use Rattle.core_laws.specs.tile_laws.proofs.Tiles.{tile_refines, tile_keeps}
 use Rattle.core_laws.specs.Core.{State, step}
 use Rattle.core_laws.proofs.AgentSteps.{option_map_some}
 use Rattle.core_laws.proofs.OneAgent.{processor_alone, router_alone, bank_alone}
@@ -21,18 +22,22 @@ use Rattle.core_row.proofs.Rows.{row_shows, only_row}
 
 -- the step of a tile that is there, and of none
 pub step_of_tile : (d : Design) (s : State) (attempt : Step) (tile : TileState) → slice_get s.tiles (attempt.agent / 3) ≡ Some tile
-    → step d s attempt ≡ option_map (λ p. record { tiles = slice_set s.tiles (attempt.agent / 3) p.0; around = p.1 }) (tile_step d (attempt.agent / 3) tile s.around (agent_numbered (attempt.agent % 3)) attempt.choice)
+    → step d s attempt ≡ option_map (λ p. record { tiles = slice_set s.tiles (attempt.agent / 3) p.0; around = p.1 })
+    (tile_step d (attempt.agent / 3) tile s.around (agent_numbered (attempt.agent % 3)) attempt.choice)
 step_of_tile d s attempt tile e =
     let with_tile : TileState × Surroundings → State = λ p. record { tiles = slice_set s.tiles (attempt.agent / 3) p.0; around = p.1 } in
-    ap (λ (o : Option TileState). option_and_then (λ y. option_map with_tile (tile_step d (attempt.agent / 3) y s.around (agent_numbered (attempt.agent % 3)) attempt.choice)) o) e
+    ap (λ (o : Option TileState). option_and_then
+    (λ y. option_map with_tile (tile_step d (attempt.agent / 3) y s.around (agent_numbered (attempt.agent % 3)) attempt.choice)) o) e
 
 pub step_of_none : (d : Design) (s : State) (attempt : Step) → slice_get s.tiles (attempt.agent / 3) ≡ None → step d s attempt ≡ None
 step_of_none d s attempt e =
     let with_tile : TileState × Surroundings → State = λ p. record { tiles = slice_set s.tiles (attempt.agent / 3) p.0; around = p.1 } in
-    ap (λ (o : Option TileState). option_and_then (λ y. option_map with_tile (tile_step d (attempt.agent / 3) y s.around (agent_numbered (attempt.agent % 3)) attempt.choice)) o) e
+    ap (λ (o : Option TileState). option_and_then
+    (λ y. option_map with_tile (tile_step d (attempt.agent / 3) y s.around (agent_numbered (attempt.agent % 3)) attempt.choice)) o) e
 
 module _ (d : Design) (s : State) (ok : IsAccepted d.shape) (count : length s.tiles ≡ tiles_of d.shape) (in_network : IsSurrounded d s.around)
-    (possible : (t : ℕ) (tile : TileState) → slice_get s.tiles t ≡ Some tile → (a : Agent) (attempt : Step) → IsPossibleChoice d t tile s.around a attempt.choice) (attempt : Step) where
+    (possible : (t : ℕ) (tile : TileState) → slice_get s.tiles t ≡ Some tile → (a : Agent) (attempt : Step)
+    → IsPossibleChoice d t tile s.around a attempt.choice) (attempt : Step) where
   abbrev t : ℕ
   t = attempt.agent / 3
 
@@ -112,7 +117,8 @@ module _ (d : Design) (s : State) (ok : IsAccepted d.shape) (count : length s.ti
   own : (t == t) ≡ true
   own = eq-eqb t t refl
 
-  absorbed_at : (tile : TileState) → slice_get s.tiles t ≡ Some tile → (found : ℕ) → step_absorbed d s attempt found ≡ agent_absorbed (placed tile) a attempt.choice found
+  absorbed_at : (tile : TileState) → slice_get s.tiles t ≡ Some tile → (found : ℕ)
+      → step_absorbed d s attempt found ≡ agent_absorbed (placed tile) a attempt.choice found
   absorbed_at tile e found =
       ap (λ (o : Option TileState). option_and_then (λ p. tile_absorbed p attempt found) (option_map (λ y. tile_placed d t y s.around) o)) e
       ∙ ap (λ (b : Bool). if b then agent_absorbed (placed tile) a attempt.choice found else None) own
@@ -125,7 +131,8 @@ module _ (d : Design) (s : State) (ok : IsAccepted d.shape) (count : length s.ti
 
   module _ (tile : TileState) (e : slice_get s.tiles t ≡ Some tile) where
     shows_now : TileRefines d t tile s.around row a attempt.choice
-    shows_now = tile_refines d t tile s.around attempt.choice ok (there tile e) in_network a (possible t tile e a attempt) row (row_shows d.depth s.around in_network.rings)
+    shows_now = tile_refines d t tile s.around attempt.choice ok (there tile e) in_network a (possible t tile e a attempt) row
+        (row_shows d.depth s.around in_network.rings)
 
     by_step : (op : WordOp) (x : Option (TileState × Surroundings)) → tried tile ≡ x
         → MatchOption x (TileStays d t tile s.around row a attempt.choice op) (λ p. TileMoves d t tile s.around row a attempt.choice op p.0 p.1)
@@ -195,7 +202,8 @@ module _ (d : Design) (s : State) (ok : IsAccepted d.shape) (count : length s.ti
       let k = keeps m.tile m.here m.p m.is in
       let was : placed m.tile ≡ p = same_Some _ _ (sym (ap (λ (o : Option TileState). option_map (λ y. tile_placed d t y s.around) o) m.here) ∙ before) in
       let now : tile_placed d t m.p.0 m.p.1 ≡ q = same_Some _ _
-      (sym (ap (λ (o : Option TileState). option_map (λ y. tile_placed d t y m.p.1) o) (get_set_same s.tiles t m.p.0 (slice_get_within s.tiles t m.tile m.here)))
+      (sym (ap (λ (o : Option TileState). option_map (λ y. tile_placed d t y m.p.1) o)
+      (get_set_same s.tiles t m.p.0 (slice_get_within s.tiles t m.tile m.here)))
       ∙ (ap (λ (z : State). tile_in d z t) m.next_is ∙ after)) in
       subst (λ (y : TilePlace). OnlyAgent a y q) was (subst (λ (y : TilePlace). OnlyAgent a (placed m.tile) y) now
       (only_by a m.tile m.p.0 m.p.1 k (there m.tile m.here) m.is))

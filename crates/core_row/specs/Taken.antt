@@ -3,12 +3,12 @@ use Rattle.std.specs.Prelude.{ℕ, ◌+◌, ◌/◌, ◌%◌, is_some, if◌then
 use Rattle.torus.specs.declared.step.Step.{Step}
 use Rattle.flit_buffer.specs.Surroundings.{Surroundings, Wiring, granted, taken_from}
 use Rattle.flit_buffer.specs.declared.want.Want.{Want}
-use Rattle.core_laws.specs.tile.specs.Tile.{Design, TileState}
-use Rattle.core_laws.specs.tile.specs.Agents.{agent_numbered, wiring_of, tile_wants}
+use Rattle.core_laws.specs.tile_laws.specs.Tile.{Design, TileState}
+use Rattle.core_laws.specs.tile_laws.specs.Agents.{agent_numbered, wiring_of, tile_wants}
 use Rattle.core_laws.specs.Core.{State, Load, design_of, first_state, next}
 
--- how many flits a choice takes from channel x, by what it wants: one where that is the channel's next flit and there
--- is one, else none (Dally and Towles, chapter 13)
+-- how many flits a choice takes from channel x, by what it wants: one where that is the channel's
+-- next flit and there is one, else none (Dally and Towles, chapter 13)
 abbrev pub want_takes : Surroundings → Wiring → ℕ → Option Want → ℕ
 want_takes around wiring x None = 0
 want_takes around wiring x (Some want) = if is_some (granted around wiring want) then taken_from wiring want x else 0
@@ -27,7 +27,8 @@ step_takes d s attempt x = tile_takes d s.around attempt x (slice_get s.tiles (a
 -- how many a list of attempts takes, one after the other
 abbrev pub takes_of : Design → State → List Step → ℕ → ℕ
 takes_of d s [] x = 0
-takes_of d s (attempt ∷ attempts) x = step_takes d s attempt x + takes_of d (next d s attempt) attempts x
+takes_of d s (attempt ∷ attempts) x =
+    step_takes d s attempt x + takes_of d (next d s attempt) attempts x
 
 -- how many flits are taken from channel x by a list of attempts from a load
 abbrev pub taken : Load → List Step → ℕ → ℕ

@@ -34,14 +34,16 @@ pub record Rises (f : Channel → ℕ) (channel : ℕ → Channel) (n a c : ℕ)
   pub high : (i : ℕ) → i < n → f (channel i) < c
   pub up : (i : ℕ) → i + 1 < n → f (channel i) < f (channel (i + 1))
 
-climbs_some : (f : Channel → ℕ) (channel : ℕ → Channel) (n a c i : ℕ) → Rises f channel n a c → i < n → Climbs f a (map channel (range_with_len 0 (i + 1))) (f (channel i) + 1)
+climbs_some : (f : Channel → ℕ) (channel : ℕ → Channel) (n a c i : ℕ) → Rises f channel n a c → i < n
+    → Climbs f a (map channel (range_with_len 0 (i + 1))) (f (channel i) + 1)
 climbs_some f channel n a c zero r low = (r.low 0 low, omega arith)
 climbs_some f channel n a c (suc i) r low =
     let before : Climbs f a (map channel (range_with_len 0 (i + 1))) (f (channel i) + 1) = climbs_some f channel n a c i r (omega arith) in
     let up : f (channel i) < f (channel (i + 1)) = r.up i (omega arith) in
     let above : f (channel i) + 1 ≤ f (channel (i + 1)) = omega arith in
     let last : Climbs f (f (channel i) + 1) (channel (i + 1) ∷ []) (f (channel (i + 1)) + 1) = (above, omega arith) in
-    let both : Climbs f a (map channel (range_with_len 0 (i + 1)) ++ channel (i + 1) ∷ []) (f (channel (i + 1)) + 1) = climbs_on f a (map channel (range_with_len 0 (i + 1))) (f (channel i) + 1) (channel (i + 1) ∷ []) (f (channel (i + 1)) + 1) before last in
+    let both : Climbs f a (map channel (range_with_len 0 (i + 1)) ++ channel (i + 1) ∷ []) (f (channel (i + 1)) + 1) =
+    climbs_on f a (map channel (range_with_len 0 (i + 1))) (f (channel i) + 1) (channel (i + 1) ∷ []) (f (channel (i + 1)) + 1) before last in
     let P : List Channel → Type 0 = λ xs. Climbs f a xs (f (channel (i + 1)) + 1) in
     let Q : ℕ → Type 0 = λ m. Climbs f a (map channel (range_with_len 0 (m + 1))) (f (channel m) + 1) in
     let next : i + 1 ≡ suc i = omega arith in
@@ -61,16 +63,19 @@ abbrev pub RisesIn : Shape → ℕ → ℕ → Class → (Channel → ℕ) → (
 RisesIn s src dst class f low d =
     Rises f (hop_of s (corrected s src dst d) (way_in s (corrected s src dst d) dst d) d class) (hops_in s (corrected s src dst d) dst d) (low d) (low (d + 1))
 
-climbs_hops : (s : Shape) (src dst : ℕ) (class : Class) (f : Channel → ℕ) (low : ℕ → ℕ) (n : ℕ) → ((d : ℕ) → d < n → RisesIn s src dst class f low d) → Climbs f (low 0) (hops_below s src dst class n) (low n)
+climbs_hops : (s : Shape) (src dst : ℕ) (class : Class) (f : Channel → ℕ) (low : ℕ → ℕ) (n : ℕ) → ((d : ℕ) → d < n → RisesIn s src dst class f low d)
+    → Climbs f (low 0) (hops_below s src dst class n) (low n)
 climbs_hops s src dst class f low zero all = omega arith
 climbs_hops s src dst class f low (suc n) all =
     let t : ℕ = corrected s src dst n in
     let before : Climbs f (low 0) (hops_below s src dst class n) (low n) = climbs_hops s src dst class f low n (λ d under. all d (omega arith)) in
-    let more : Climbs f (low n) (dimension_hops s t dst class n) (low (n + 1)) = climbs_dimension f (hop_of s t (way_in s t dst n) n class) (hops_in s t dst n) (low n) (low (n + 1)) (all n (omega arith)) in
+    let more : Climbs f (low n) (dimension_hops s t dst class n) (low (n + 1)) =
+    climbs_dimension f (hop_of s t (way_in s t dst n) n class) (hops_in s t dst n) (low n) (low (n + 1)) (all n (omega arith)) in
     let P : List Channel → Type 0 = λ xs. Climbs f (low 0) xs (low (n + 1)) in
     let Q : ℕ → Type 0 = λ m. Climbs f (low 0) (hops_below s src dst class m) (low m) in
     let next : n + 1 ≡ suc n = omega arith in
-    subst Q next (subst P (sym (hops_below_more s src dst class n)) (climbs_on f (low 0) (hops_below s src dst class n) (low n) (dimension_hops s t dst class n) (low (n + 1)) before more))
+    subst Q next (subst P (sym (hops_below_more s src dst class n))
+    (climbs_on f (low 0) (hops_below s src dst class n) (low n) (dimension_hops s t dst class n) (low (n + 1)) before more))
 
 -- what rises from the injection to the ejection
 pub record RisesAlong (s : Shape) (src dst : ℕ) (class : Class) (f : Channel → ℕ) (low : ℕ → ℕ) : Type 0 where
@@ -78,7 +83,8 @@ pub record RisesAlong (s : Shape) (src dst : ℕ) (class : Class) (f : Channel �
   pub hops : (d : ℕ) → d < dims_of s → RisesIn s src dst class f low d
   pub last : low (dims_of s) ≤ f (ejection dst class)
 
-pub climbs_route : (s : Shape) (src dst : ℕ) (class : Class) (f : Channel → ℕ) (low : ℕ → ℕ) → RisesAlong s src dst class f low → Climbs f 0 (route_of s src dst class) (f (ejection dst class) + 1)
+pub climbs_route : (s : Shape) (src dst : ℕ) (class : Class) (f : Channel → ℕ) (low : ℕ → ℕ) → RisesAlong s src dst class f low
+    → Climbs f 0 (route_of s src dst class) (f (ejection dst class) + 1)
 climbs_route s src dst class f low r =
     let n : ℕ = dims_of s in
     let hops : List Channel = hops_below s src dst class n in
@@ -91,7 +97,8 @@ climbs_route s src dst class f low r =
           (climbs_on f (low 0) hops (low n) (ejection dst class ∷ []) (f (ejection dst class) + 1) middle last),
     )
 
-increasing_at : (f : Channel → ℕ) (a : ℕ) (xs : List Channel) (b k : ℕ) → Climbs f a xs b → suc k < length (map f xs) → slice_index (map f xs) k < slice_index (map f xs) (suc k)
+increasing_at : (f : Channel → ℕ) (a : ℕ) (xs : List Channel) (b k : ℕ) → Climbs f a xs b → suc k < length (map f xs)
+    → slice_index (map f xs) k < slice_index (map f xs) (suc k)
 increasing_at f a [] b k h low = absurd (omega arith)
 increasing_at f a (x ∷ []) b k h low = absurd (omega arith)
 increasing_at f a (x ∷ y ∷ ys) b zero h low = omega (arith, h.1.0)

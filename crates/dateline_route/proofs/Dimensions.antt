@@ -16,7 +16,8 @@ use Rattle.dateline_route.specs.declared.channel.Kind.TheVariants.{Hop}
 use Rattle.dateline_route.specs.Ring.{hops_by, shorter_way, digit_after, dateline_out_of}
 use Rattle.dateline_route.specs.Next.{is_dateline_hop}
 use Rattle.dateline_route.specs.Route.{with_digit, hop_of, way_in, dimension_hops, corrected, hops_below}
-use Rattle.dateline_route.proofs.Rings.{way_between, range_more, IsShorter, shorter, shorter_hops, one_hop-digit_after, digit_after-zero, digit_after_below, hops_by_below, digit_after-hops_by}
+use Rattle.dateline_route.proofs.Rings.{way_between, range_more, IsShorter, shorter, shorter_hops, one_hop-digit_after, digit_after-zero, digit_after_below}
+use Rattle.dateline_route.proofs.Rings.{hops_by_below, digit_after-hops_by}
 use Rattle.dateline_route.proofs.Tiles.{with_digit_moved, moved_is, hop_moves}
 
 -- tile u is where i hops in dimension d lead from tile t
@@ -25,7 +26,8 @@ pub record IsAfter (s : Shape) (t : ℕ) (dir : Dir) (d i u : ℕ) : Type 0 wher
 
 -- whether one of the first n hops is the dateline hop
 abbrev pub crossed_in : Shape → ℕ → Dir → ℕ → ℕ → Bool
-crossed_in s t dir d n = list_any (λ j. digit_after dir (radix_of s d) (digit_of s t d) j == dateline_out_of dir (radix_of s d) (dateline_of s d)) (range_with_len 0 n)
+crossed_in s t dir d n = list_any (λ j. digit_after dir (radix_of s d) (digit_of s t d) j == dateline_out_of dir (radix_of s d) (dateline_of s d))
+    (range_with_len 0 n)
 
 pub after_none : (s : Shape) → IsAccepted s → (t d : ℕ) (dir : Dir) → t < tiles_of s → d < dims_of s → IsAfter s t dir d 0 t
 after_none s h t d dir below low = record {
@@ -37,7 +39,8 @@ after_none s h t d dir below low = record {
 }
 
 -- one hop further
-pub after_more : (s : Shape) → IsAccepted s → (t d i u v : ℕ) (dir : Dir) → d < dims_of s → i < radix_of s d → IsAfter s t dir d i u → IsNeighbour s u d dir v → IsAfter s t dir d (i + 1) v
+pub after_more : (s : Shape) → IsAccepted s → (t d i u v : ℕ) (dir : Dir) → d < dims_of s → i < radix_of s d → IsAfter s t dir d i u → IsNeighbour s u d dir v
+    → IsAfter s t dir d (i + 1) v
 after_more s h t d i u v dir low few a n =
     let k : ℕ = radix_of s d in
     let x : ℕ = digit_of s t d in
@@ -66,7 +69,8 @@ after_all s h t dst d u dir below low a =
     after_is s h t d (hops_by dir k x y) u dir below low (omega arith) a ∙ ap (with_digit s t d) (digit_after-hops_by dir k x y here there)
 
 -- whether the dateline is crossed, one hop further
-pub crossed_more : (s : Shape) (t d i u : ℕ) (dir : Dir) → IsAfter s t dir d i u → (crossed_in s t dir d i || is_dateline_hop s u d dir) ≡ crossed_in s t dir d (i + 1)
+pub crossed_more : (s : Shape) (t d i u : ℕ) (dir : Dir) → IsAfter s t dir d i u
+    → (crossed_in s t dir d i || is_dateline_hop s u d dir) ≡ crossed_in s t dir d (i + 1)
 crossed_more s t d i u dir a =
     let k : ℕ = radix_of s d in
     let out : ℕ = dateline_out_of dir k (dateline_of s d) in
@@ -75,11 +79,13 @@ crossed_more s t d i u dir a =
     ∙ ap (λ b. crossed_in s t dir d i || b) (or-false (p i) ∙ ap (λ y. y == out) (sym a.moved.moved)))
 
 -- the channel of hop i
-pub hop_is : (s : Shape) → IsAccepted s → (t d i u : ℕ) (dir : Dir) (class : Class) (bit : Bool) → t < tiles_of s → d < dims_of s → i ≤ radix_of s d → IsAfter s t dir d i u →
+pub hop_is : (s : Shape) → IsAccepted s → (t d i u : ℕ) (dir : Dir) (class : Class) (bit : Bool) → t < tiles_of s → d < dims_of s → i ≤ radix_of s d
+    → IsAfter s t dir d i u →
     bit ≡ crossed_in s t dir d (i + 1) → record { tile = u; class = class; kind = Hop d dir bit } ≡ hop_of s t dir d class i
 hop_is s h t d i u dir class bit below low few a crossed =
     let channel : ℕ → Bool → Channel = λ v b. record { tile = v; class = class; kind = Hop d dir b } in
-    ap (λ v. channel v bit) (after_is s h t d i u dir below low few a) ∙ ap (channel (with_digit s t d (digit_after dir (radix_of s d) (digit_of s t d) i))) crossed
+    ap (λ v. channel v bit) (after_is s h t d i u dir below low few a)
+    ∙ ap (channel (with_digit s t d (digit_after dir (radix_of s d) (digit_of s t d) i))) crossed
 
 -- they are at most four, and fewer than the digits of the ring
 pub few_hops : (dir : Dir) (k x y : ℕ) → IsShorter k x y dir → x < k → y < k → k ≤ 8 → (hops_by dir k x y ≤ 4) × (hops_by dir k x y < k)
@@ -110,7 +116,8 @@ pub hops_end : (s : Shape) (t dst : ℕ) (class : Class) (d : ℕ) (old : List C
     old ++ map (hop_of s t dir d class) (range_with_len 0 n) ≡ old ++ dimension_hops s t dst class d
 hops_end s t dst class d old dir k x y n k_is x_is y_is way n_is =
     let way' : dir ≡ way_in s t dst d = way_between dir k (radix_of s d) x (digit_of s t d) y (digit_of s dst d) way k_is x_is y_is in
-    let same : n ≡ hops_by dir (radix_of s d) (digit_of s t d) (digit_of s dst d) = n_is ∙ hops_at dir k (radix_of s d) x (digit_of s t d) y (digit_of s dst d) k_is x_is y_is in
+    let same : n ≡ hops_by dir (radix_of s d) (digit_of s t d) (digit_of s dst d) =
+    n_is ∙ hops_at dir k (radix_of s d) x (digit_of s t d) y (digit_of s dst d) k_is x_is y_is in
     ap (λ m. old ++ map (hop_of s t dir d class) (range_with_len 0 m)) same
     ∙ ap (λ w. old ++ map (hop_of s t w d class) (range_with_len 0 (hops_by w (radix_of s d) (digit_of s t d) (digit_of s dst d)))) way'
 
@@ -118,7 +125,8 @@ hops_end s t dst class d old dir k x y n k_is x_is y_is way n_is =
 pub hops_lead : (s : Shape) → IsAccepted s → (t dst d u : ℕ) → t < tiles_of s → d < dims_of s → (dir : Dir) (k x y n : ℕ) →
     k ≡ radix_of s d → x ≡ digit_of s t d → y ≡ digit_of s dst d → n ≡ hops_by dir k x y → IsAfter s t dir d n u → u ≡ with_digit s t d (digit_of s dst d)
 hops_lead s h t dst d u below low dir k x y n k_is x_is y_is n_is a =
-    let same : n ≡ hops_by dir (radix_of s d) (digit_of s t d) (digit_of s dst d) = n_is ∙ hops_at dir k (radix_of s d) x (digit_of s t d) y (digit_of s dst d) k_is x_is y_is in
+    let same : n ≡ hops_by dir (radix_of s d) (digit_of s t d) (digit_of s dst d) =
+    n_is ∙ hops_at dir k (radix_of s d) x (digit_of s t d) y (digit_of s dst d) k_is x_is y_is in
     let P : ℕ → Type 0 = λ m. IsAfter s t dir d m u in
     after_all s h t dst d u dir below low (subst P same a)
 
@@ -126,16 +134,19 @@ pub length-pushed : {X : Type 0} (f : ℕ → X) (xs ys : List X) (n : ℕ) → 
 length-pushed f xs ys n e = ap length e ∙ length-append xs (map f (range_with_len 0 n)) ∙ ap (λ m. length xs + m) (length-map-range_with_len f 0 n)
 
 -- the list of one hop more
-pub made_more : {X : Type 0} (f : ℕ → X) (old xs ys : List X) (n : ℕ) (x : X) → xs ≡ old ++ map f (range_with_len 0 n) → ys ≡ xs ++ x ∷ [] → x ≡ f n → ys ≡ old ++ map f (range_with_len 0 (n + 1))
+pub made_more : {X : Type 0} (f : ℕ → X) (old xs ys : List X) (n : ℕ) (x : X) → xs ≡ old ++ map f (range_with_len 0 n) → ys ≡ xs ++ x ∷ [] → x ≡ f n
+    → ys ≡ old ++ map f (range_with_len 0 (n + 1))
 made_more f old xs ys n x before after e =
     after ∙ ap (λ zs. zs ++ x ∷ []) before ∙ ap (λ z. (old ++ map f (range_with_len 0 n)) ++ z ∷ []) e
     ∙ append_assoc old (map f (range_with_len 0 n)) (f n ∷ []) ∙ ap (λ zs. old ++ zs) (sym (map-range_with_len_more f 0 n n (omega arith)))
 
 -- the hops of one dimension more
-pub hops_below_more : (s : Shape) (src dst : ℕ) (class : Class) (d : ℕ) → hops_below s src dst class (d + 1) ≡ hops_below s src dst class d ++ dimension_hops s (corrected s src dst d) dst class d
+pub hops_below_more : (s : Shape) (src dst : ℕ) (class : Class) (d : ℕ)
+    → hops_below s src dst class (d + 1) ≡ hops_below s src dst class d ++ dimension_hops s (corrected s src dst d) dst class d
 hops_below_more s src dst class d =
     let each : ℕ → List Channel = λ e. dimension_hops s (corrected s src dst e) dst class e in
-    ap (flat_map each) (range_more 0 d d (omega arith)) ∙ flat_map-append each (range_with_len 0 d) (d ∷ []) ∙ ap (λ hops. hops_below s src dst class d ++ hops) (append-nil (each d))
+    ap (flat_map each) (range_more 0 d d (omega arith)) ∙ flat_map-append each (range_with_len 0 d) (d ∷ [])
+    ∙ ap (λ hops. hops_below s src dst class d ++ hops) (append-nil (each d))
 
 pub corrected_more : (s : Shape) (src dst d : ℕ) → corrected s src dst (d + 1) ≡ with_digit s (corrected s src dst d) d (digit_of s dst d)
 corrected_more s src dst d = let next : d + 1 ≡ suc d = omega arith in ap (corrected s src dst) next

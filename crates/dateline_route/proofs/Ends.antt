@@ -22,26 +22,31 @@ every P f all [] = All-nil P
 every P f all (i ∷ is) = All-cons P (f i) (map f is) (all i) (every P f all is)
 
 -- what holds of each hop in each dimension, the way that the route goes there
-pub each_way : (s : Shape) (src dst : ℕ) (class : Class) (P : Channel → Type 0) (n : ℕ) → ((t d i : ℕ) → d < n → P (hop_of s t (way_in s t dst d) d class i)) → All P (hops_below s src dst class n)
+pub each_way : (s : Shape) (src dst : ℕ) (class : Class) (P : Channel → Type 0) (n : ℕ) → ((t d i : ℕ) → d < n → P (hop_of s t (way_in s t dst d) d class i))
+    → All P (hops_below s src dst class n)
 each_way s src dst class P zero all = All-nil P
 each_way s src dst class P (suc n) all =
     let t : ℕ = corrected s src dst n in
     let before : All P (hops_below s src dst class n) = each_way s src dst class P n (λ u d i low. all u d i (omega arith)) in
-    let more : All P (dimension_hops s t dst class n) = every P (hop_of s t (way_in s t dst n) n class) (λ i. all t n i (omega arith)) (range_with_len 0 (hops_in s t dst n)) in
+    let more : All P (dimension_hops s t dst class n) =
+    every P (hop_of s t (way_in s t dst n) n class) (λ i. all t n i (omega arith)) (range_with_len 0 (hops_in s t dst n)) in
     let Q : List Channel → Type 0 = λ xs. All P xs in
     let R : ℕ → Type 0 = λ m. All P (hops_below s src dst class m) in
     let next : n + 1 ≡ suc n = omega arith in
     subst R next (subst Q (sym (hops_below_more s src dst class n)) (All-append P (hops_below s src dst class n) (dimension_hops s t dst class n) before more))
 
 -- and by any way
-pub each_hop : (s : Shape) (src dst : ℕ) (class : Class) (P : Channel → Type 0) (n : ℕ) → ((t d i : ℕ) (dir : Dir) → d < n → P (hop_of s t dir d class i)) → All P (hops_below s src dst class n)
+pub each_hop : (s : Shape) (src dst : ℕ) (class : Class) (P : Channel → Type 0) (n : ℕ) → ((t d i : ℕ) (dir : Dir) → d < n → P (hop_of s t dir d class i))
+    → All P (hops_below s src dst class n)
 each_hop s src dst class P n all = each_way s src dst class P n (λ t d i low. all t d i (way_in s t dst d) low)
 
 -- and of the injection and the ejection, holds of the whole route
-pub each_channel : (s : Shape) (src dst : ℕ) (class : Class) (P : Channel → Type 0) → P (injection src class) → P (ejection dst class) → All P (hops_below s src dst class (dims_of s)) → All P (route_of s src dst class)
+pub each_channel : (s : Shape) (src dst : ℕ) (class : Class) (P : Channel → Type 0) → P (injection src class) → P (ejection dst class)
+    → All P (hops_below s src dst class (dims_of s)) → All P (route_of s src dst class)
 each_channel s src dst class P first last hops =
     let hops' : List Channel = hops_below s src dst class (dims_of s) in
-    All-cons P (injection src class) (hops' ++ ejection dst class ∷ []) first (All-append P hops' (ejection dst class ∷ []) hops (All-cons P (ejection dst class) [] last (All-nil P)))
+    All-cons P (injection src class) (hops' ++ ejection dst class ∷ []) first
+    (All-append P hops' (ejection dst class ∷ []) hops (All-cons P (ejection dst class) [] last (All-nil P)))
 
 abbrev pub Between : Shape → ℕ → ℕ → Class → List Channel → Type 0
 Between s src dst class hops = route_of s src dst class ≡ injection src class ∷ hops ++ ejection dst class ∷ []
@@ -51,7 +56,8 @@ pub ends : (s : Shape) → IsAccepted s → (src dst : ℕ) → src < tiles_of s
 ends s h src dst from to class =
     (hops_below s src dst class (dims_of s), each_hop s src dst class (λ x. IsHop x.kind) (dims_of s) (λ t d i dir low. tt), refl)
 
-pub classes : (s : Shape) → IsAccepted s → (src dst : ℕ) → src < tiles_of s → dst < tiles_of s → (class : Class) → All (λ x. x.class ≡ class) (route_of s src dst class)
+pub classes : (s : Shape) → IsAccepted s → (src dst : ℕ) → src < tiles_of s → dst < tiles_of s → (class : Class)
+    → All (λ x. x.class ≡ class) (route_of s src dst class)
 classes s h src dst from to class =
     let P : Channel → Type 0 = λ x. x.class ≡ class in
     each_channel s src dst class P refl refl (each_hop s src dst class P (dims_of s) (λ t d i dir low. refl))
@@ -115,7 +121,8 @@ way_of_two s h t dst d low two =
     let y : ℕ = digit_of s dst d in
     ap (λ k. shorter_way k x y) two ∙ two_go_plus x y (subst (λ k. x < k) two (digit_below s h t d low)) (subst (λ k. y < k) two (digit_below s h dst d low))
 
-no_minus : (s : Shape) → IsAccepted s → (t dst d e i : ℕ) (class : Class) (bit : Bool) → d < dims_of s → radix_of s e ≡ 2 → (hop_of s t (way_in s t dst d) d class i).kind ≢ Hop e Minus bit
+no_minus : (s : Shape) → IsAccepted s → (t dst d e i : ℕ) (class : Class) (bit : Bool) → d < dims_of s → radix_of s e ≡ 2
+    → (hop_of s t (way_in s t dst d) d class i).kind ≢ Hop e Minus bit
 no_minus s h t dst d e i class bit low two same =
     let dimension : d ≡ e = cc in
     let minus : way_in s t dst d ≡ Minus = cc in
@@ -123,7 +130,8 @@ no_minus s h t dst d e i class bit low two same =
     cc
 
 -- no route takes a minus channel of a dimension of radix 2
-pub pluses : (s : Shape) → IsAccepted s → (src dst : ℕ) (class : Class) (e : ℕ) (bit : Bool) → radix_of s e ≡ 2 → All (λ x. x.kind ≢ Hop e Minus bit) (route_of s src dst class)
+pub pluses : (s : Shape) → IsAccepted s → (src dst : ℕ) (class : Class) (e : ℕ) (bit : Bool) → radix_of s e ≡ 2
+    → All (λ x. x.kind ≢ Hop e Minus bit) (route_of s src dst class)
 pluses s h src dst class e bit two =
     let P : Channel → Type 0 = λ x. x.kind ≢ Hop e Minus bit in
     each_channel s src dst class P (λ same. cc) (λ same. cc) (each_way s src dst class P (dims_of s) (λ t d i low. no_minus s h t dst d e i class bit low two))

@@ -1,5 +1,6 @@
 -- The first number that passes a test, and the first dimension in which two tiles' digits differ.
-use Rattle.std.proofs.Common.{◌≡◌, ◌≢◌, ℕ, ◌+◌, ◌<◌, zero, suc, Bool, true, false, cond, not, Option, None, Some, [], ◌∷◌, refl, sym, ◌∙◌, ap, subst, arith, inl, inr}
+use Rattle.std.proofs.Common.{◌≡◌, ◌≢◌, ℕ, ◌+◌, ◌<◌, zero, suc, Bool, true, false, cond, not, Option, None, Some, [], ◌∷◌, refl, sym, ◌∙◌, ap, subst, arith}
+use Rattle.std.proofs.Common.{inl, inr}
 use Rattle.std.specs.Prelude.{find, ◌==◌}
 use Rattle.std.specs.Option.{option_or}
 use Rattle.std.specs.List.{range_with_len}
@@ -67,10 +68,13 @@ apart_true : (s : Shape) (t dst d : ℕ) → digit_of s t d ≢ digit_of s dst d
 apart_true s t dst d other = ap not (ne_eqb (digit_of s t d) (digit_of s dst d) other)
 
 -- where the digits below d agree and digit d differs, the next output is a hop in d
-pub next_hops : (s : Shape) (t : ℕ) (came : Input) (dst d : ℕ) → d < dims_of s → ((e : ℕ) → e < d → digit_of s t e ≡ digit_of s dst e) → digit_of s t d ≢ digit_of s dst d →
+pub next_hops : (s : Shape) (t : ℕ) (came : Input) (dst d : ℕ) → d < dims_of s → ((e : ℕ) → e < d → digit_of s t e ≡ digit_of s dst e)
+    → digit_of s t d ≢ digit_of s dst d →
     next_of s t came dst ≡ hop_to s t came d (shorter_way (radix_of s d) (digit_of s t d) (digit_of s dst d))
 next_hops s t came dst d low same other =
-    ap (output_in s t came dst) (find_first (apart s t dst) d (dims_of s) low (find_none (apart s t dst) d (λ e under. apart_false s t dst e (same e under))) (apart_true s t dst d other))
+    ap (output_in s t came dst)
+    (find_first (apart s t dst) d (dims_of s) low (find_none (apart s t dst) d (λ e under. apart_false s t dst e (same e under)))
+    (apart_true s t dst d other))
 
 -- where all digits agree, it is ejection
 pub next_ejects : (s : Shape) (t : ℕ) (came : Input) (dst : ℕ) → ((e : ℕ) → e < dims_of s → digit_of s t e ≡ digit_of s dst e) → next_of s t came dst ≡ Eject
@@ -78,7 +82,8 @@ next_ejects s t came dst same =
     ap (output_in s t came dst) (find_none (apart s t dst) (dims_of s) (λ e under. apart_false s t dst e (same e under)))
 
 -- a router's choice is in one of the torus's dimensions
-chosen_in : (s : Shape) (t : ℕ) (came : Input) (dst : ℕ) (d : Option ℕ) → ((m : ℕ) → d ≡ Some m → m < dims_of s) → IsInside s (kind_of (output_in s t came dst d))
+chosen_in : (s : Shape) (t : ℕ) (came : Input) (dst : ℕ) (d : Option ℕ) → ((m : ℕ) → d ≡ Some m → m < dims_of s)
+    → IsInside s (kind_of (output_in s t came dst d))
 chosen_in s t came dst None h = tt
 chosen_in s t came dst (Some d) h = h d refl
 

@@ -36,7 +36,8 @@ length-hops_below s src dst class (suc n) =
     let P : ℕ → Type 0 = λ m. length (hops_below s src dst class m) ≡ total (hops_at s src dst) n + hops_at s src dst n in
     let next : n + 1 ≡ suc n = omega arith in
     subst P next (ap length (hops_below_more s src dst class n) ∙ length-append (hops_below s src dst class n) (dimension_hops s t dst class n)
-    ∙ ap (λ m. m + length (dimension_hops s t dst class n)) (length-hops_below s src dst class n) ∙ ap (λ m. total (hops_at s src dst) n + m) (length-map-range_with_len f 0 (hops_in s t dst n)))
+    ∙ ap (λ m. m + length (dimension_hops s t dst class n)) (length-hops_below s src dst class n)
+    ∙ ap (λ m. total (hops_at s src dst) n + m) (length-map-range_with_len f 0 (hops_in s t dst n)))
 
 product_large : (x y z : ℕ) → x ≤ 4 → y ≤ 4 → z ≤ 4 → 9 ≤ x + (y + z) → 9 ≤ x * (y * z)
 product_large x zero zero a b c sum = omega arith
@@ -94,7 +95,9 @@ half_rings (k ∷ l ∷ []) h low high small tiles half =
     let b : l ≤ 8 = small 1 (omega arith) in let y : h 1 + h 1 ≤ l = half 1 (omega arith) in omega arith
 half_rings (k ∷ l ∷ m ∷ []) h low high small tiles half =
     let tiles' : k * (l * m) ≤ 64 = (simp mul-one at tiles) in
-    let few : h 0 + (h 1 + h 2) ≤ 8 = three_few k l m (h 0) (h 1) (h 2) (small 0 (omega arith)) (small 1 (omega arith)) (small 2 (omega arith)) tiles' (half 0 (omega arith)) (half 1 (omega arith)) (half 2 (omega arith)) in
+    let few : h 0 + (h 1 + h 2) ≤ 8 =
+    three_few k l m (h 0) (h 1) (h 2) (small 0 (omega arith)) (small 1 (omega arith)) (small 2 (omega arith)) tiles' (half 0 (omega arith))
+    (half 1 (omega arith)) (half 2 (omega arith)) in
     omega arith
 half_rings (k ∷ l ∷ m ∷ n ∷ ks) h low high small tiles half = absurd (omega arith)
 
@@ -116,7 +119,8 @@ key_of s src t Ejection = 25
 abbrev pub key : Shape → ℕ → Channel → ℕ
 key s src x = key_of s src x.tile x.kind
 
-key-hop : (s : Shape) (src dst d i : ℕ) (dir : Dir) (class : Class) → InDimension s src dst d (corrected s src dst d) dir → i < radix_of s d → key s src (hop_of s (corrected s src dst d) dir d class i) ≡ 1 + (8 * d + i)
+key-hop : (s : Shape) (src dst d i : ℕ) (dir : Dir) (class : Class) → InDimension s src dst d (corrected s src dst d) dir → i < radix_of s d
+    → key s src (hop_of s (corrected s src dst d) dir d class i) ≡ 1 + (8 * d + i)
 key-hop s src dst d i dir class r few =
     let t : ℕ = corrected s src dst d in
     let k : ℕ = radix_of s d in
@@ -124,7 +128,8 @@ key-hop s src dst d i dir class r few =
     let a : IsAfter s t dir d i (tile_at s t dir d i) = after_at s src dst d t dir i r (omega arith) in
     let begins : digit_of s src d ≡ x = sym (r.start.above d r.low (omega arith)) in
     let made : hops_by dir k (digit_of s src d) (digit_of s (tile_at s t dir d i) d) ≡ i =
-    ap (λ n. hops_by dir k n (digit_of s (tile_at s t dir d i) d)) begins ∙ ap (hops_by dir k x) a.moved.moved ∙ hops_by-digit_after dir k x i (digit_below s r.accepted t d r.low) few in
+    ap (λ n. hops_by dir k n (digit_of s (tile_at s t dir d i) d)) begins ∙ ap (hops_by dir k x) a.moved.moved
+    ∙ hops_by-digit_after dir k x i (digit_below s r.accepted t d r.low) few in
     ap (λ n. 1 + (8 * d + n)) made
 
 key_rises : (s : Shape) (src dst : ℕ) (class : Class) (d : ℕ) → IsTrip s src dst → d < dims_of s → RisesIn s src dst class (key s src) (λ e. 1 + 8 * e) d
@@ -134,7 +139,8 @@ key_rises s src dst class d trip low =
     let dir : Dir = way_in s t dst d in
     let r : InDimension s src dst d t dir = in_dimension s src dst d trip low in
     let small : k ≤ 8 = trip.accepted.radix_high d low in
-    let few : hops_in s t dst d < k = (few_hops dir k (digit_of s t d) (digit_of s dst d) r.way (digit_below s trip.accepted t d low) (digit_below s trip.accepted dst d low) small).1 in
+    let few : hops_in s t dst d < k =
+    (few_hops dir k (digit_of s t d) (digit_of s dst d) r.way (digit_below s trip.accepted t d low) (digit_below s trip.accepted dst d low) small).1 in
     let is : (i : ℕ) → i < k → key s src (hop_of s t dir d class i) ≡ 1 + (8 * d + i) = λ i less. key-hop s src dst d i dir class r less in
     record {
       first = omega arith;
@@ -143,7 +149,8 @@ key_rises s src dst class d trip low =
       up = λ i less. omega (arith, is i (omega arith), is (i + 1) (omega arith));
     }
 
-pub route_distinct : (s : Shape) → IsAccepted s → (src dst : ℕ) → src < tiles_of s → dst < tiles_of s → (class : Class) → AllPairs (λ x y. x ≢ y) (route_of s src dst class)
+pub route_distinct : (s : Shape) → IsAccepted s → (src dst : ℕ) → src < tiles_of s → dst < tiles_of s → (class : Class)
+    → AllPairs (λ x y. x ≢ y) (route_of s src dst class)
 route_distinct s h src dst from to class =
     let trip : IsTrip s src dst = record { accepted = h; from = from; to = to } in
     let rises : RisesAlong s src dst class (key s src) (λ e. 1 + 8 * e) = record {
@@ -151,7 +158,8 @@ route_distinct s h src dst from to class =
       hops = λ d low. key_rises s src dst class d trip low;
       last = omega (arith, h.dims_high);
     } in
-    distinct (key s src) (route_of s src dst class) (climbs_increase (key s src) 0 (route_of s src dst class) 26 (climbs_route s src dst class (key s src) (λ e. 1 + 8 * e) rises))
+    distinct (key s src) (route_of s src dst class)
+    (climbs_increase (key s src) 0 (route_of s src dst class) 26 (climbs_route s src dst class (key s src) (λ e. 1 + 8 * e) rises))
 
 pub route_long : (s : Shape) (src dst : ℕ) (class : Class) → 2 ≤ length (route_of s src dst class)
 route_long s src dst class = omega (arith, length-append (hops_below s src dst class (dims_of s)) (ejection dst class ∷ []))

@@ -12,7 +12,8 @@ use Rattle.dateline_route.specs.Walk.{LeadsTo, IsChannel, IsInside}
 use Rattle.dateline_route.proofs.Tiles.{with_digit_moved, moved_hop}
 
 -- a tile with a digit changed by one hop is the neighbour
-pub hop_is : (s : Shape) → IsAccepted s → (t d : ℕ) (dir : Dir) → t < tiles_of s → d < dims_of s → IsNeighbour s t d dir (with_digit s t d (one_hop dir (radix_of s d) (digit_of s t d)))
+pub hop_is : (s : Shape) → IsAccepted s → (t d : ℕ) (dir : Dir) → t < tiles_of s → d < dims_of s
+    → IsNeighbour s t d dir (with_digit s t d (one_hop dir (radix_of s d) (digit_of s t d)))
 hop_is s h t d dir low inside =
     let k : ℕ = radix_of s d in
     let two = h.radix_low d inside in

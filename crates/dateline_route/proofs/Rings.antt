@@ -29,8 +29,10 @@ mod_cases n k high = elim (cases_lt n k) [ inl small ↦ inl (small, mod_small n
 
 -- the digit that hops lead to, one hop further
 pub one_hop-digit_after : (dir : Dir) (k x i : ℕ) → x < k → i < k → one_hop dir k (digit_after dir k x i) ≡ digit_after dir k x (i + 1)
-one_hop-digit_after Plus k x i below few = let w0 = mod_cases (x + i) k (omega arith) in let w1 = mod_cases ((x + i) % k + 1) k (omega arith) in let w2 = mod_cases (x + (i + 1)) k (omega arith) in grind arith
-one_hop-digit_after Minus k x i below few = let w0 = mod_cases (x + (k - i)) k (omega arith) in let w1 = mod_cases ((x + (k - i)) % k + (k - 1)) k (omega arith) in let w2 = mod_cases (x + (k - (i + 1))) k (omega arith) in grind arith
+one_hop-digit_after Plus k x i below few = let w0 = mod_cases (x + i) k (omega arith) in let w1 = mod_cases ((x + i) % k + 1) k (omega arith) in
+    let w2 = mod_cases (x + (i + 1)) k (omega arith) in grind arith
+one_hop-digit_after Minus k x i below few = let w0 = mod_cases (x + (k - i)) k (omega arith) in
+    let w1 = mod_cases ((x + (k - i)) % k + (k - 1)) k (omega arith) in let w2 = mod_cases (x + (k - (i + 1))) k (omega arith) in grind arith
 
 pub digit_after-zero : (dir : Dir) (k x : ℕ) → x < k → digit_after dir k x 0 ≡ x
 digit_after-zero Plus k x below = let w0 = mod_cases (x + 0) k (omega arith) in grind arith
@@ -46,18 +48,24 @@ hops_by_below Minus k x y here there = let w0 = mod_cases (x + (k - y)) k (omega
 
 -- that many hops lead to the digit
 pub digit_after-hops_by : (dir : Dir) (k x y : ℕ) → x < k → y < k → digit_after dir k x (hops_by dir k x y) ≡ y
-digit_after-hops_by Plus k x y here there = let w0 = mod_cases (y + (k - x)) k (omega arith) in let w1 = mod_cases (x + (y + (k - x)) % k) k (omega arith) in grind arith
-digit_after-hops_by Minus k x y here there = let w0 = mod_cases (x + (k - y)) k (omega arith) in let w1 = mod_cases (x + (k - (x + (k - y)) % k)) k (omega arith) in grind arith
+digit_after-hops_by Plus k x y here there = let w0 = mod_cases (y + (k - x)) k (omega arith) in let w1 = mod_cases (x + (y + (k - x)) % k) k (omega arith) in
+    grind arith
+digit_after-hops_by Minus k x y here there = let w0 = mod_cases (x + (k - y)) k (omega arith) in
+    let w1 = mod_cases (x + (k - (x + (k - y)) % k)) k (omega arith) in grind arith
 
 -- no fewer hops do
 pub hops_by-digit_after : (dir : Dir) (k x i : ℕ) → x < k → i < k → hops_by dir k x (digit_after dir k x i) ≡ i
-hops_by-digit_after Plus k x i here few = let w0 = mod_cases (x + i) k (omega arith) in let w1 = mod_cases ((x + i) % k + (k - x)) k (omega arith) in grind arith
-hops_by-digit_after Minus k x i here few = let w0 = mod_cases (x + (k - i)) k (omega arith) in let w1 = mod_cases (x + (k - (x + (k - i)) % k)) k (omega arith) in grind arith
+hops_by-digit_after Plus k x i here few = let w0 = mod_cases (x + i) k (omega arith) in let w1 = mod_cases ((x + i) % k + (k - x)) k (omega arith) in
+    grind arith
+hops_by-digit_after Minus k x i here few = let w0 = mod_cases (x + (k - i)) k (omega arith) in
+    let w1 = mod_cases (x + (k - (x + (k - i)) % k)) k (omega arith) in grind arith
 
 -- after i of them, as many fewer are left
 pub hops_by_after : (dir : Dir) (k x y i : ℕ) → x < k → y < k → i ≤ hops_by dir k x y → hops_by dir k (digit_after dir k x i) y + i ≡ hops_by dir k x y
-hops_by_after Plus k x y i here there few = let w0 = mod_cases (y + (k - x)) k (omega arith) in let w1 = mod_cases (x + i) k (omega arith) in let w2 = mod_cases (y + (k - (x + i) % k)) k (omega arith) in grind arith
-hops_by_after Minus k x y i here there few = let w0 = mod_cases (x + (k - y)) k (omega arith) in let w1 = mod_cases (x + (k - i)) k (omega arith) in let w2 = mod_cases ((x + (k - i)) % k + (k - y)) k (omega arith) in grind arith
+hops_by_after Plus k x y i here there few = let w0 = mod_cases (y + (k - x)) k (omega arith) in let w1 = mod_cases (x + i) k (omega arith) in
+    let w2 = mod_cases (y + (k - (x + i) % k)) k (omega arith) in grind arith
+hops_by_after Minus k x y i here there few = let w0 = mod_cases (x + (k - y)) k (omega arith) in let w1 = mod_cases (x + (k - i)) k (omega arith) in
+    let w2 = mod_cases ((x + (k - i)) % k + (k - y)) k (omega arith) in grind arith
 
 -- the two ways round make the whole ring
 pub hops_both : (k x y : ℕ) → x < k → y < k → x ≢ y → hops_by Plus k x y + hops_by Minus k x y ≡ k
@@ -113,7 +121,8 @@ apart_before dir k x y i here there few same =
     omega arith
 
 -- and the shorter way stays the same
-way_stays : (k x y z : ℕ) (dir : Dir) → x < k → y < k → z < k → x ≢ y → z ≢ y → hops_by dir k z y ≤ hops_by dir k x y → IsShorter k x y dir → IsShorter k z y dir
+way_stays : (k x y z : ℕ) (dir : Dir) → x < k → y < k → z < k → x ≢ y → z ≢ y → hops_by dir k z y ≤ hops_by dir k x y → IsShorter k x y dir
+    → IsShorter k z y dir
 way_stays k x y z Plus here there now apart apart' less h = omega (arith, hops_both k x y here there apart, hops_both k z y now there apart')
 way_stays k x y z Minus here there now apart apart' less h = omega (arith, hops_both k x y here there apart, hops_both k z y now there apart')
 
@@ -122,17 +131,20 @@ shorter_stays dir k x y i here there h few =
     let short : i ≤ k = omega (arith, hops_by_below dir k x y here there) in
     let apart : x ≢ y = λ same. (let none : hops_by dir k x y ≡ 0 = ap (hops_by dir k x) (sym same) ∙ hops_by-same dir k x here in omega arith) in
     let left : hops_by dir k (digit_after dir k x i) y + i ≡ hops_by dir k x y = hops_by_after dir k x y i here there (omega arith) in
-    way_stays k x y (digit_after dir k x i) dir here there (digit_after_below dir k x i here short) apart (apart_before dir k x y i here there few) (omega arith) h
+    way_stays k x y (digit_after dir k x i) dir here there (digit_after_below dir k x i here short) apart (apart_before dir k x y i here there few)
+    (omega arith) h
 
 -- a range of numbers, one longer
 pub range_more : (a n j : ℕ) → a + n ≡ j → range_with_len a (n + 1) ≡ range_with_len a n ++ j ∷ []
 range_more a n j e = sym (map-id (range_with_len a (n + 1))) ∙ map-range_with_len_more (λ m. m) a n j e ∙ ap (λ ms. ms ++ j ∷ []) (map-id (range_with_len a n))
 
 -- whether the dateline is crossed, one hop further
-pub is_crossed_more : (dir : Dir) (k z x i : ℕ) → is_crossed dir k z x (i + 1) ≡ (is_crossed dir k z x i || (digit_after dir k x (i + 1) == dateline_out_of dir k z))
+pub is_crossed_more : (dir : Dir) (k z x i : ℕ)
+    → is_crossed dir k z x (i + 1) ≡ (is_crossed dir k z x i || (digit_after dir k x (i + 1) == dateline_out_of dir k z))
 is_crossed_more dir k z x i =
     let p : ℕ → Bool = λ j. digit_after dir k x j == dateline_out_of dir k z in
-    ap (list_any p) (range_more 0 (i + 1) (i + 1) (omega arith)) ∙ list_any-append p (range_with_len 0 (i + 1)) ((i + 1) ∷ []) ∙ ap (λ b. is_crossed dir k z x i || b) (or-false (p (i + 1)))
+    ap (list_any p) (range_more 0 (i + 1) (i + 1) (omega arith)) ∙ list_any-append p (range_with_len 0 (i + 1)) ((i + 1) ∷ [])
+    ∙ ap (λ b. is_crossed dir k z x i || b) (or-false (p (i + 1)))
 
 pub is_crossed_first : (dir : Dir) (k z x : ℕ) → is_crossed dir k z x 0 ≡ (digit_after dir k x 0 == dateline_out_of dir k z)
 is_crossed_first dir k z x = or-false (digit_after dir k x 0 == dateline_out_of dir k z)

@@ -30,7 +30,8 @@ moved_is s h t d y u v m n =
     ])
 
 -- one hop on from there
-pub hop_moves : (s : Shape) → IsAccepted s → (t d y u v : ℕ) (dir : Dir) → IsMoved s t d y u → IsNeighbour s u d dir v → IsMoved s t d (one_hop dir (radix_of s d) y) v
+pub hop_moves : (s : Shape) → IsAccepted s → (t d y u v : ℕ) (dir : Dir) → IsMoved s t d y u → IsNeighbour s u d dir v
+    → IsMoved s t d (one_hop dir (radix_of s d) y) v
 hop_moves s h t d y u v dir m n = record {
   tile = n.tile;
   moved = n.moved ∙ ap (one_hop dir (radix_of s d)) m.moved;
@@ -50,7 +51,8 @@ pub record IsCorrected (s : Shape) (src dst d u : ℕ) : Type 0 where
   pub below : (e : ℕ) → e < d → digit_of s u e ≡ digit_of s dst e
   pub above : (e : ℕ) → e < dims_of s → d ≤ e → digit_of s u e ≡ digit_of s src e
 
-pub corrected_is : (s : Shape) → IsAccepted s → (src dst d : ℕ) → src < tiles_of s → dst < tiles_of s → d ≤ dims_of s → IsCorrected s src dst d (corrected s src dst d)
+pub corrected_is : (s : Shape) → IsAccepted s → (src dst d : ℕ) → src < tiles_of s → dst < tiles_of s → d ≤ dims_of s
+    → IsCorrected s src dst d (corrected s src dst d)
 corrected_is s h src dst zero from to low = record {
   tile = from;
   below = λ e under. absurd (omega arith);
@@ -59,7 +61,8 @@ corrected_is s h src dst zero from to low = record {
 corrected_is s h src dst (suc d) from to low =
     let before : IsCorrected s src dst d (corrected s src dst d) = corrected_is s h src dst d from to (omega arith) in
     let inside : d < dims_of s = omega arith in
-    let m : IsMoved s (corrected s src dst d) d (digit_of s dst d) (corrected s src dst (suc d)) = with_digit_moved s h (corrected s src dst d) d (digit_of s dst d) before.tile inside (digit_below s h dst d inside) in
+    let m : IsMoved s (corrected s src dst d) d (digit_of s dst d) (corrected s src dst (suc d)) =
+    with_digit_moved s h (corrected s src dst d) d (digit_of s dst d) before.tile inside (digit_below s h dst d inside) in
     record {
       tile = m.tile;
       below = λ e under. elim (cases_eq e d) [

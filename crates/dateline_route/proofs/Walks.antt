@@ -20,7 +20,8 @@ use Rattle.dateline_route.specs.Next.{next_of, came_on_one, is_dateline_hop, hop
 use Rattle.dateline_route.specs.Route.{with_digit, corrected, hop_of, hops_in, way_in, dimension_hops, hops_below, route_of}
 use Rattle.dateline_route.specs.Walk.{LeadsTo, Follows, WalksOn, IsWalk, input_of, kind_of}
 use Rattle.dateline_route.proofs.First.{next_hops, next_ejects}
-use Rattle.dateline_route.proofs.Rings.{IsShorter, shorter, shorter_way-is, shorter_stays, apart_before, hops_by_below, one_hop-digit_after, digit_after_below, digit_after-hops_by}
+use Rattle.dateline_route.proofs.Rings.{IsShorter, shorter, shorter_way-is, shorter_stays, apart_before, hops_by_below, one_hop-digit_after}
+use Rattle.dateline_route.proofs.Rings.{digit_after_below, digit_after-hops_by}
 use Rattle.dateline_route.proofs.Dimensions.{IsAfter, crossed_in, crossed_more, after_none, after_is, hops_below_more, corrected_more}
 use Rattle.dateline_route.proofs.Tiles.{IsCorrected, corrected_is, corrected_all, with_digit_moved, moved_hop}
 
@@ -38,11 +39,13 @@ pub last-snoc : (x : Channel) (ys : List Channel) (z : Channel) → last x (ys +
 last-snoc x [] z = refl
 last-snoc x (y ∷ ys) z = last-snoc y ys z
 
-pub chain_snoc : (s : Shape) (dst : ℕ) (x : Channel) (ys : List Channel) (z : Channel) → Chain s dst x ys → Follows s dst (last x ys) z → Chain s dst x (ys ++ z ∷ [])
+pub chain_snoc : (s : Shape) (dst : ℕ) (x : Channel) (ys : List Channel) (z : Channel) → Chain s dst x ys → Follows s dst (last x ys) z
+    → Chain s dst x (ys ++ z ∷ [])
 chain_snoc s dst x [] z c f = (f, tt)
 chain_snoc s dst x (y ∷ ys) z c f = (c.0, chain_snoc s dst y ys z c.1 f)
 
-pub walks_on : (s : Shape) (dst : ℕ) (x : Channel) (ys : List Channel) (z : Channel) → Chain s dst x ys → Follows s dst (last x ys) z → z.kind ≡ Ejection → WalksOn s dst x (ys ++ z ∷ [])
+pub walks_on : (s : Shape) (dst : ℕ) (x : Channel) (ys : List Channel) (z : Channel) → Chain s dst x ys → Follows s dst (last x ys) z → z.kind ≡ Ejection
+    → WalksOn s dst x (ys ++ z ∷ [])
 walks_on s dst x [] z c f e = (f, e)
 walks_on s dst x (y ∷ ys) z c f e = (c.0, walks_on s dst y ys z c.1 f e)
 
@@ -98,9 +101,13 @@ pub after_at : (s : Shape) (src dst d t : ℕ) (dir : Dir) (i : ℕ) → InDimen
 after_at s src dst d t dir i r few =
     let x : ℕ = digit_of s t d in
     let here : x < radix_of s d = digit_below s r.accepted t d r.low in
-    record { moved = with_digit_moved s r.accepted t d (digit_after dir (radix_of s d) x i) r.start.tile r.low (digit_after_below dir (radix_of s d) x i here few) }
+    record {
+      moved = with_digit_moved s r.accepted t d (digit_after dir (radix_of s d) x i) r.start.tile r.low
+          (digit_after_below dir (radix_of s d) x i here few);
+    }
 
-hop_further : (s : Shape) (src dst d t : ℕ) (dir : Dir) (i : ℕ) → InDimension s src dst d t dir → i < radix_of s d → IsNeighbour s (tile_at s t dir d i) d dir (tile_at s t dir d (i + 1))
+hop_further : (s : Shape) (src dst d t : ℕ) (dir : Dir) (i : ℕ) → InDimension s src dst d t dir → i < radix_of s d
+    → IsNeighbour s (tile_at s t dir d i) d dir (tile_at s t dir d (i + 1))
 hop_further s src dst d t dir i r few =
     let k : ℕ = radix_of s d in
     let x : ℕ = digit_of s t d in
@@ -111,7 +118,8 @@ hop_further s src dst d t dir i r few =
     (subst P (sym (one_hop-digit_after dir k x i (digit_below s r.accepted t d r.low) few)) b.moved)
 
 -- there `next` goes on in the same way
-next_in_dimension : (s : Shape) (src dst d t : ℕ) (dir : Dir) (i : ℕ) → InDimension s src dst d t dir → i < hops_by dir (radix_of s d) (digit_of s t d) (digit_of s dst d) →
+next_in_dimension : (s : Shape) (src dst d t : ℕ) (dir : Dir) (i : ℕ) → InDimension s src dst d t dir
+    → i < hops_by dir (radix_of s d) (digit_of s t d) (digit_of s dst d) →
     (came : Input) → came_on_one came d ≡ crossed_in s t dir d i →
     next_of s (tile_at s t dir d i) came dst ≡ To d dir (is_crossed dir (radix_of s d) (dateline_of s d) (digit_of s t d) i)
 next_in_dimension s src dst d t dir i r few came bit =
@@ -135,12 +143,14 @@ next_in_dimension s src dst d t dir i r few came bit =
 
 -- the hops of a dimension, one by one
 abbrev pub AfterHops : Shape → ℕ → Channel → List Channel → ℕ → Dir → Class → ℕ → ℕ → Type 0
-AfterHops s dst first before t dir class d i = Here s dst first (before ++ map (hop_of s t dir d class) (range_with_len 0 i)) (tile_at s t dir d i) class d (crossed_in s t dir d i)
+AfterHops s dst first before t dir class d i =
+    Here s dst first (before ++ map (hop_of s t dir d class) (range_with_len 0 i)) (tile_at s t dir d i) class d (crossed_in s t dir d i)
 
 dimension_walks : (s : Shape) (src dst d t : ℕ) (dir : Dir) (first : Channel) (before : List Channel) (class : Class) (i : ℕ) → InDimension s src dst d t dir →
     Here s dst first before t class d false → i ≤ hops_by dir (radix_of s d) (digit_of s t d) (digit_of s dst d) → AfterHops s dst first before t dir class d i
 dimension_walks s src dst d t dir first before class zero r h few =
-    let still : t ≡ tile_at s t dir d 0 = after_is s r.accepted t d 0 t dir r.start.tile r.low (omega arith) (after_none s r.accepted t d dir r.start.tile r.low) in
+    let still : t ≡ tile_at s t dir d 0 =
+    after_is s r.accepted t d 0 t dir r.start.tile r.low (omega arith) (after_none s r.accepted t d dir r.start.tile r.low) in
     let P : ℕ → Type 0 = λ u. Here s dst first (before ++ []) u class d false in
     let Q : List Channel → Type 0 = λ xs. Here s dst first xs t class d false in
     subst P still (subst Q (sym (append-nil before)) h)
@@ -151,7 +161,8 @@ dimension_walks s src dst d t dir first before class (suc i) r h few =
     let so_far : AfterHops s dst first before t dir class d i = dimension_walks s src dst d t dir first before class i r h (omega arith) in
     let short : i < k = omega (arith, hops_by_below dir k x (digit_of s dst d) (digit_below s r.accepted t d r.low) (digit_below s r.accepted dst d r.low)) in
     let more : Here s dst first ((before ++ map f (range_with_len 0 i)) ++ f i ∷ []) (tile_at s t dir d (i + 1)) class d (crossed_in s t dir d (i + 1)) =
-    here_hop s dst first (before ++ map f (range_with_len 0 i)) (tile_at s t dir d i) class d (crossed_in s t dir d i) (is_crossed dir k (dateline_of s d) x i) dir (tile_at s t dir d (i + 1))
+    here_hop s dst first (before ++ map f (range_with_len 0 i)) (tile_at s t dir d i) class d (crossed_in s t dir d i) (is_crossed dir k (dateline_of s d) x i)
+    dir (tile_at s t dir d (i + 1))
     so_far (next_in_dimension s src dst d t dir i r (omega arith)) (hop_further s src dst d t dir i r short) in
     let list : (before ++ map f (range_with_len 0 i)) ++ f i ∷ [] ≡ before ++ map f (range_with_len 0 (i + 1)) =
     append_assoc before (map f (range_with_len 0 i)) (f i ∷ []) ∙ ap (λ xs. before ++ xs) (sym (map-range_with_len_more f 0 i i (omega arith))) in
@@ -166,7 +177,8 @@ pub record IsTrip (s : Shape) (src dst : ℕ) : Type 0 where
   pub from : src < tiles_of s
   pub to : dst < tiles_of s
 
-pub in_dimension : (s : Shape) (src dst d : ℕ) → IsTrip s src dst → d < dims_of s → InDimension s src dst d (corrected s src dst d) (way_in s (corrected s src dst d) dst d)
+pub in_dimension : (s : Shape) (src dst d : ℕ) → IsTrip s src dst → d < dims_of s
+    → InDimension s src dst d (corrected s src dst d) (way_in s (corrected s src dst d) dst d)
 in_dimension s src dst d trip low = record {
   accepted = trip.accepted;
   to = trip.to;
@@ -182,7 +194,8 @@ abbrev pub ejection : ℕ → Class → Channel
 ejection t class = record { tile = t; class = class; kind = Ejection }
 
 -- on to the next dimension
-next_dimension : (s : Shape) (dst : ℕ) (first : Channel) (xs : List Channel) (t : ℕ) (class : Class) (d : ℕ) (b : Bool) → Here s dst first xs t class d b → Here s dst first xs t class (d + 1) false
+next_dimension : (s : Shape) (dst : ℕ) (first : Channel) (xs : List Channel) (t : ℕ) (class : Class) (d : ℕ) (b : Bool) → Here s dst first xs t class d b
+    → Here s dst first xs t class (d + 1) false
 next_dimension s dst first xs t class d b h = record {
   chain = h.chain;
   tile = h.tile;
@@ -192,7 +205,8 @@ next_dimension s dst first xs t class d b h = record {
 }
 
 -- the hops below a dimension, one dimension after another
-hops_walk : (s : Shape) (src dst : ℕ) (class : Class) (d : ℕ) → IsTrip s src dst → d ≤ dims_of s → Here s dst (injection src class) (hops_below s src dst class d) (corrected s src dst d) class d false
+hops_walk : (s : Shape) (src dst : ℕ) (class : Class) (d : ℕ) → IsTrip s src dst → d ≤ dims_of s
+    → Here s dst (injection src class) (hops_below s src dst class d) (corrected s src dst d) class d false
 hops_walk s src dst class zero trip low = record {
   chain = tt;
   tile = refl;
@@ -210,10 +224,12 @@ hops_walk s src dst class (suc d) trip low =
     let dir : Dir = way_in s t dst d in
     let r : InDimension s src dst d t dir = in_dimension s src dst d trip inside in
     let before : Here s dst first (hops_below s src dst class d) t class d false = hops_walk s src dst class d trip (omega arith) in
-    let after = next_dimension s dst first (hops_below s src dst class d ++ dimension_hops s t dst class d) (tile_at s t dir d (hops_in s t dst d)) class d (crossed_in s t dir d (hops_in s t dst d))
+    let after = next_dimension s dst first (hops_below s src dst class d ++ dimension_hops s t dst class d) (tile_at s t dir d (hops_in s t dst d)) class d
+    (crossed_in s t dir d (hops_in s t dst d))
     (dimension_walks s src dst d t dir first (hops_below s src dst class d) class (hops_in s t dst d) r before (omega arith)) in
     let leads : tile_at s t dir d (hops_in s t dst d) ≡ corrected s src dst (d + 1) =
-    ap (with_digit s t d) (digit_after-hops_by dir k x y (digit_below s trip.accepted t d inside) (digit_below s trip.accepted dst d inside)) ∙ sym (corrected_more s src dst d) in
+    ap (with_digit s t d) (digit_after-hops_by dir k x y (digit_below s trip.accepted t d inside) (digit_below s trip.accepted dst d inside))
+    ∙ sym (corrected_more s src dst d) in
     let P : List Channel → Type 0 = λ xs. Here s dst first xs (tile_at s t dir d (hops_in s t dst d)) class (d + 1) false in
     let Q : ℕ → Type 0 = λ u. Here s dst first (hops_below s src dst class (d + 1)) u class (d + 1) false in
     let R : ℕ → Type 0 = λ m. Here s dst first (hops_below s src dst class m) (corrected s src dst m) class m false in
@@ -264,7 +280,8 @@ one_way_on s h dst x (y ∷ ys) (z ∷ zs) a b =
     ap (λ w. w ∷ ys) head ∙ ap (λ ws. z ∷ ws) (one_way_on s h dst z ys zs (let Q : Channel → Type 0 = λ w. WalksOn s dst w ys in subst Q head a.1) b.1)
 
 -- there is one walk
-pub one_walk : (s : Shape) → IsAccepted s → (src dst : ℕ) (class : Class) (xs ys : List Channel) → IsWalk s src dst class xs → IsWalk s src dst class ys → xs ≡ ys
+pub one_walk : (s : Shape) → IsAccepted s → (src dst : ℕ) (class : Class) (xs ys : List Channel) → IsWalk s src dst class xs → IsWalk s src dst class ys
+    → xs ≡ ys
 one_walk s h src dst class [] ys a b = absurd a
 one_walk s h src dst class (x ∷ xs) [] a b = absurd b
 one_walk s h src dst class (x ∷ xs) (y ∷ ys) a b =
@@ -272,7 +289,8 @@ one_walk s h src dst class (x ∷ xs) (y ∷ ys) a b =
     let P : Channel → Type 0 = λ w. WalksOn s dst w xs in
     ap (λ w. w ∷ xs) head ∙ ap (λ ws. y ∷ ws) (one_way_on s h dst y xs ys (subst P head a.1) b.1)
 
-pub walk_is_route : (s : Shape) → IsAccepted s → (src dst : ℕ) → src < tiles_of s → dst < tiles_of s → (class : Class) (xs : List Channel) → IsWalk s src dst class xs ↔ (xs ≡ route_of s src dst class)
+pub walk_is_route : (s : Shape) → IsAccepted s → (src dst : ℕ) → src < tiles_of s → dst < tiles_of s → (class : Class) (xs : List Channel)
+    → IsWalk s src dst class xs ↔ (xs ≡ route_of s src dst class)
 walk_is_route s h src dst from to class xs =
     let whole : IsWalk s src dst class (route_of s src dst class) = route_walks s src dst class (record { accepted = h; from = from; to = to }) in
     let P : List Channel → Type 0 = λ ys. IsWalk s src dst class ys in

@@ -18,19 +18,24 @@ came_on_one (From e dir bit) d = (e == d) && bit
 abbrev pub is_dateline_hop : Shape → ℕ → ℕ → Dir → Bool
 is_dateline_hop s t d dir = digit_of s t d == dateline_out_of dir (radix_of s d) (dateline_of s d)
 
--- the first dimension in which two tiles' digits differ (Dally and Towles, chapter 8: dimension-order routing)
+-- the first dimension in which two tiles' digits differ (Dally and Towles, chapter 8:
+-- dimension-order routing)
 abbrev pub first_apart : Shape → ℕ → ℕ → Option ℕ
-first_apart s t dst = find (λ d. not (digit_of s t d == digit_of s dst d)) (range_with_len 0 (dims_of s))
+first_apart s t dst = find (λ d. not (digit_of s t d == digit_of s dst d))
+    (range_with_len 0 (dims_of s))
 
--- the hop in a direction, on bit 1 where it is the dateline hop or the packet came in this dimension on bit 1 (Dally and Towles, chapter 14)
+-- the hop in a direction, on bit 1 where it is the dateline hop or the packet came in this
+-- dimension on bit 1 (Dally and Towles, chapter 14)
 abbrev pub hop_to : Shape → ℕ → Input → ℕ → Dir → Output
 hop_to s t came d dir = To d dir (is_dateline_hop s t d dir || came_on_one came d)
 
 -- ejection, or the hop the shorter way in a dimension (Dally and Towles, chapter 8)
 abbrev pub output_in : Shape → ℕ → Input → ℕ → Option ℕ → Output
 output_in s t came dst None = Eject
-output_in s t came dst (Some d) = hop_to s t came d (shorter_way (radix_of s d) (digit_of s t d) (digit_of s dst d))
+output_in s t came dst (Some d) =
+    hop_to s t came d (shorter_way (radix_of s d) (digit_of s t d) (digit_of s dst d))
 
--- the output to which a packet goes next that came by this input (Dally and Towles, chapters 8 and 14)
+-- the output to which a packet goes next that came by this input (Dally and Towles, chapters 8 and
+-- 14)
 abbrev pub next_of : Shape → ℕ → Input → ℕ → Output
 next_of s t came dst = output_in s t came dst (first_apart s t dst)

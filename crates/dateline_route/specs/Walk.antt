@@ -11,7 +11,8 @@ use Rattle.dateline_route.specs.declared.channel.Output.{Output}
 use Rattle.dateline_route.specs.declared.channel.Output.TheVariants.{Eject, Hop as To}
 use Rattle.dateline_route.specs.Next.{next_of}
 
--- a hop lies in a dimension of the torus; an injection or an ejection in none (Dally and Towles, chapter 5)
+-- a hop lies in a dimension of the torus; an injection or an ejection in none (Dally and Towles,
+-- chapter 5)
 abbrev pub IsInside : Shape → Kind → Type 0
 IsInside s (Hop d dir bit) = d < dims_of s
 IsInside s _ = Unit {0}
@@ -27,7 +28,8 @@ IsHop (Hop d dir bit) = Unit {0}
 IsHop _ = ⊥
 
 -- the channels out of tile t of this kind lead to the router of tile u:
--- an injection to its own, a hop to its neighbour's, an ejection to none (Dally and Towles, chapter 5)
+-- an injection to its own, a hop to its neighbour's, an ejection to none (Dally and Towles, chapter
+-- 5)
 abbrev pub LeadsTo : Shape → ℕ → Kind → ℕ → Type 0
 LeadsTo s t Injection u = u ≡ t
 LeadsTo s t (Hop d dir bit) u = IsNeighbour s t d dir u
@@ -44,18 +46,22 @@ abbrev pub kind_of : Output → Kind
 kind_of Eject = Ejection
 kind_of (To d dir bit) = Hop d dir bit
 
--- a packet for tile dst that took channel x takes channel y next: the router to which x leads chooses it (Dally and Towles, chapter 8)
+-- a packet for tile dst that took channel x takes channel y next: the router to which x leads
+-- chooses it (Dally and Towles, chapter 8)
 pub record Follows (s : Shape) (dst : ℕ) (x y : Channel) : Type 0 where
   pub tile : LeadsTo s x.tile x.kind y.tile
   pub choice : kind_of (next_of s y.tile (input_of x.kind) dst) ≡ y.kind
   pub class : y.class ≡ x.class
 
--- a packet for tile dst that took channel x takes these channels in turn, up to an ejection (Dally and Towles, chapter 8)
+-- a packet for tile dst that took channel x takes these channels in turn, up to an ejection (Dally
+-- and Towles, chapter 8)
 abbrev pub WalksOn : Shape → ℕ → Channel → List Channel → Type 0
 WalksOn s dst x [] = x.kind ≡ Ejection
 WalksOn s dst x (y ∷ ys) = Follows s dst x y × WalksOn s dst y ys
 
--- a packet that is injected at tile src for tile dst takes these channels in turn, up to an ejection (Dally and Towles, chapter 8)
+-- a packet that is injected at tile src for tile dst takes these channels in turn, up to an
+-- ejection (Dally and Towles, chapter 8)
 abbrev pub IsWalk : Shape → ℕ → ℕ → Class → List Channel → Type 0
 IsWalk s src dst class [] = ⊥
-IsWalk s src dst class (x ∷ xs) = (x ≡ record { tile = src; class = class; kind = Injection }) × WalksOn s dst x xs
+IsWalk s src dst class (x ∷ xs) =
+    (x ≡ record { tile = src; class = class; kind = Injection }) × WalksOn s dst x xs

@@ -55,7 +55,8 @@ fn push_hops(
     requires dst { dst < tiles_of torus.now }
     requires dimension { dim < dims_of torus.now }
     requires room { length channels.old.items + 4 ≤ 14 }
-    ensures hops { channels.new.items ≡ channels.old.items ++ dimension_hops torus.now start dst class dim }
+    ensures hops { channels.new.items
+        ≡ channels.old.items ++ dimension_hops torus.now start dst class dim }
     ensures tile { result ≡ with_digit torus.now start dim (digit_of torus.now dst dim) }
     ensures few { length channels.new.items ≤ length channels.old.items + 4 }
 {

@@ -1,5 +1,6 @@
 -- The end: what a seat that has every tile leaves when it is closed, and what is read there.
-use Rattle.std.proofs.Common.{◌≡◌, ℕ, zero, suc, ◌+◌, ◌*◌, ◌<◌, ◌≤◌, List, [], ◌∷◌, length, get_or, get_or-take, Option, Some, None, refl, sym, ap, ◌∙◌, subst, arith, vec_len, inl}
+use Rattle.std.proofs.Common.{◌≡◌, ℕ, zero, suc, ◌+◌, ◌*◌, ◌<◌, ◌≤◌, List, [], ◌∷◌, length, get_or, get_or-take, Option, Some, None, refl, sym, ap, ◌∙◌}
+use Rattle.std.proofs.Common.{subst, arith, vec_len, inl}
 use Rattle.std.specs.Prelude.{Vec, slice_get}
 use Rattle.std.proofs.Math.Seq.{take-length}
 use Rattle.std.proofs.lemmas.Option.{same_Some, slice_get_past, slice_get_within, slice_get-get_or}
@@ -10,17 +11,17 @@ use Rattle.atomic_table.specs.Table.{State}
 use Rattle.torus.specs.Shape.{Shape, tiles_of}
 use Rattle.torus.specs.declared.step.Step.{Step}
 use Rattle.channel_number.specs.Order.{channel_count}
-use Rattle.runs.specs.Observed.{Observed}
-use Rattle.fabric_laws.specs.tile_agents.specs.Placed.{PlacedTile}
-use Rattle.fabric_laws.specs.core_laws.specs.Core.{Load, after, show}
-use Rattle.fabric_laws.specs.core_laws.specs.Runs.{IsAccepted}
-use Rattle.fabric_laws.specs.machine_laws.proofs.Lawful.{lawful}
-use Rattle.fabric_laws.specs.Known.{Shows, word_after, row_length}
-use Rattle.fabric_laws.specs.View.{View}
-use Rattle.fabric_laws.specs.Groups.{In, with_groups, note}
-use Rattle.fabric_laws.specs.Rule.{Kept}
-use Rattle.fabric_laws.proofs.Ending as ending
-use Rattle.fabric_laws.proofs.Runs.{word_shown}
+use Rattle.one_order.specs.Observed.{Observed}
+use Rattle.fabric_rule.specs.tile.specs.Placed.{PlacedTile}
+use Rattle.fabric_rule.specs.core_laws.specs.Core.{Load, after, show}
+use Rattle.fabric_rule.specs.core_laws.specs.Runs.{IsAccepted}
+use Rattle.fabric_rule.specs.core_machine.proofs.Lawful.{lawful}
+use Rattle.fabric_rule.specs.Known.{Shows, word_after, row_length}
+use Rattle.fabric_rule.specs.View.{View}
+use Rattle.fabric_rule.specs.Groups.{In, with_groups, note}
+use Rattle.fabric_rule.specs.Rule.{Kept}
+use Rattle.fabric_rule.proofs.Ending as ending
+use Rattle.fabric_rule.proofs.Runs.{word_shown}
 use Rattle.fabric.specs.Table.{Holds}
 use Rattle.fabric.specs.Seats.{Knowing, seat_knows, Seated, IsWhole, StandsAt}
 use Rattle.fabric.specs.Ending.{Ended, ended, IsLongest, WasLongest, shown_after, HasAll, IsEnd}
@@ -40,15 +41,18 @@ longest k whole words views r id other v u kept at same tiles there =
     (begins.0, sym same ∙ (ending.ends k.load words views r id v kept at all ∙ begins.1))
 
 -- the row at the end, shown by the table's last state, where the seat has every tile
-whole_row : (load : Load) (slots : List (Option PlacedTile)) (s n : S) (st : State (Unit {0}) View) → Seated slots s → s.me.0.load ≡ load → n.me.0 ≡ with_groups s.me.0 s.me.0.groups → IsWhole (seat_knows s)
+whole_row : (load : Load) (slots : List (Option PlacedTile)) (s n : S) (st : State (Unit {0}) View) → Seated slots s → s.me.0.load ≡ load
+    → n.me.0 ≡ with_groups s.me.0 s.me.0.groups → IsWhole (seat_knows s)
     → Holds load st → get_elem? st.views n.id ≡ some n.me.0 → Shows s.me.0.load st.words s.me.0.run
 whole_row load slots s n st k same e whole h at =
     let all : (t : ℕ) → t < tiles_of load.shape → In n.me.0.groups t
-    = λ t lt. subst (λ (v : View). In v.groups t) (sym e) (in_group s.me.0.groups t k.one_group (whole t (subst (λ (l : Load). t < tiles_of l.shape) (sym same) lt))) in
+    = λ t lt. subst (λ (v : View). In v.groups t) (sym e)
+    (in_group s.me.0.groups t k.one_group (whole t (subst (λ (l : Load). t < tiles_of l.shape) (sym same) lt))) in
     subst (λ (l : Load). Shows l st.words s.me.0.run) (sym same) (subst (λ (v : View). Shows load st.words v.run) e (ends load n.id n.me.0 st h at all))
 
 -- what is kept when a seat that has every tile is closed: n is the seat then, and b a seat that was told of its run
-pub is_end : (load : Load) (slots : List (Option PlacedTile)) (s n b : S) (st : State (Unit {0}) View) (v : Knowing) (start : ℕ) (shape : Shape) (first : List ℕ) → seat_knows s ≡ v → Seated slots s → v.load ≡ load → IsWhole v
+pub is_end : (load : Load) (slots : List (Option PlacedTile)) (s n b : S) (st : State (Unit {0}) View) (v : Knowing) (start : ℕ) (shape : Shape)
+    (first : List ℕ) → seat_knows s ≡ v → Seated slots s → v.load ≡ load → IsWhole v
     → n.me.0 ≡ with_groups s.me.0 s.me.0.groups → b.me.0 ≡ note s.me.0 → Holds load st → get_elem? st.views n.id ≡ some n.me.0
     → start ≡ channel_count load.shape * load.depth → shape ≡ load.shape → first ≡ load.opening → IsEnd (ended b.me.0) slots st.words start shape first
 is_end load slots s n b st v start shape first is k loaded whole e f h at base built words =
@@ -65,7 +69,8 @@ is_end load slots s n b st v start shape first is k loaded whole e f h at base b
     subst (λ (u : View). IsEnd (ended u) slots st.words start shape first) (sym f) here
 
 -- the table's last state keeps the rule, with the run of a seat that has every tile as the longest: n is the seat then
-pub was_longest : (load : Load) (slots : List (Option PlacedTile)) (s n : S) (st : State (Unit {0}) View) (v : Knowing) → seat_knows s ≡ v → Seated slots s → v.load ≡ load → IsWhole v
+pub was_longest : (load : Load) (slots : List (Option PlacedTile)) (s n : S) (st : State (Unit {0}) View) (v : Knowing) → seat_knows s ≡ v → Seated slots s
+    → v.load ≡ load → IsWhole v
     → n.me.0 ≡ with_groups s.me.0 s.me.0.groups → Holds load st → get_elem? st.views n.id ≡ some n.me.0 → WasLongest v
 was_longest load slots s n st v is k loaded whole e h at =
     let loads : n.me.0.load ≡ v.load = ap (λ (u : View). u.load) e ∙ ap (λ (u : Knowing). u.load) is in
@@ -97,13 +102,15 @@ module _ (slots : List (Option PlacedTile)) (last : Ended) where
       empty : {x : PlacedTile} → None ≡ Some x → ⊥
       empty e = cc
 
-  pub tile_there : (end : Ended) (t : ℕ) (o : Option PlacedTile) → last ≡ end → HasAll slots last.load last.run → slice_get slots t ≡ Some o → t < tiles_of end.load.shape
+  pub tile_there : (end : Ended) (t : ℕ) (o : Option PlacedTile) → last ≡ end → HasAll slots last.load last.run → slice_get slots t ≡ Some o
+      → t < tiles_of end.load.shape
   tile_there end t o is all at =
       let n = all.room in
       let lt = slice_get_within slots t o at in
       subst (λ (e : Ended). t < tiles_of e.load.shape) is (omega (arith, n, lt))
 
-  pub tile_stands : (end : Ended) (t : ℕ) (y : PlacedTile) → last ≡ end → HasAll slots last.load last.run → slice_get slots t ≡ Some (Some y) → StandsAt end.load end.run t y
+  pub tile_stands : (end : Ended) (t : ℕ) (y : PlacedTile) → last ≡ end → HasAll slots last.load last.run → slice_get slots t ≡ Some (Some y)
+      → StandsAt end.load end.run t y
   tile_stands end t y is all at =
       let n = all.room in
       let x = all.each t (let lt = slice_get_within slots t (Some y) at in omega (arith, n, lt)) in
@@ -118,13 +125,19 @@ elem_index (x ∷ l) (suc i) a e = elem_index l i a e
 
 -- the memory that is shown stands in the row behind the places
 memory_count : (load : Load) (run : List Step) → IsAccepted load → length (shown_after load run).memory ≡ length load.opening
-memory_count load run ok = subst (λ (s : Observed). length s.memory ≡ length load.opening) (ap (λ (xs : List Step). show (length load.opening) (after load xs)) (take-length run)) (lawful load ok run).order.shown.size
+memory_count load run ok =
+    subst (λ (s : Observed). length s.memory ≡ length load.opening) (ap (λ (xs : List Step). show (length load.opening) (after load xs)) (take-length run))
+    (lawful load ok run).order.shown.size
 
-pub word_at : (load : Load) (run : List Step) (row : List ℕ) (start a n : ℕ) → IsAccepted load → Shows load row run → start ≡ channel_count load.shape * load.depth → a < length load.opening → get_elem? row (start + a) ≡ some n → Some n ≡ slice_get (shown_after load run).memory a
+pub word_at : (load : Load) (run : List Step) (row : List ℕ) (start a n : ℕ) → IsAccepted load → Shows load row run
+    → start ≡ channel_count load.shape * load.depth → a < length load.opening → get_elem? row (start + a) ≡ some n
+    → Some n ≡ slice_get (shown_after load run).memory a
 unfolding word_after
 word_at load run row start a n ok shows base h at =
     let m = memory_count load run ok in
-    ap Some (elem_index row (start + a) n at ∙ (ap (λ (k : ℕ). get_or row (k + a) 0) base ∙ (word_shown load ok row run shows a ∙ sym (get_or-take (length load.opening) (after load run).around.words a 0 h))))
+    ap Some (elem_index row (start + a) n at
+    ∙ (ap (λ (k : ℕ). get_or row (k + a) 0) base
+    ∙ (word_shown load ok row run shows a ∙ sym (get_or-take (length load.opening) (after load run).around.words a 0 h))))
     ∙ sym (slice_get-get_or (shown_after load run).memory a 0 (omega (arith, m, h)))
 
 pub no_word_at : (load : Load) (run : List Step) (a : ℕ) → IsAccepted load → length load.opening ≤ a → None ≡ slice_get (shown_after load run).memory a

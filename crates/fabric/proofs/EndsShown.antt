@@ -1,5 +1,6 @@
 -- What a seat's slots show of the run that it knows, and what a seat that has every tile leaves at the end.
-use Rattle.std.proofs.Common.{◌≡◌, ◌↔◌, ℕ, zero, suc, ◌<◌, ◌≤◌, Bool, true, true≢false, List, [], ◌∷◌, length, Option, Some, None, refl, sym, ap, ◌∙◌, subst, arith, get_or, vec_len}
+use Rattle.std.proofs.Common.{◌≡◌, ◌↔◌, ℕ, zero, suc, ◌<◌, ◌≤◌, Bool, true, true≢false, List, [], ◌∷◌, length, Option, Some, None, refl, sym, ap, ◌∙◌, subst}
+use Rattle.std.proofs.Common.{arith, get_or, vec_len}
 use Rattle.std.specs.Prelude.{Vec, slice_get, is_some, option_map, ◌&&◌}
 use Rattle.std.specs.List.{list_all}
 use Rattle.std.proofs.lemmas.List.Folds.{list_all-map}
@@ -7,18 +8,18 @@ use Rattle.std.proofs.lemmas.Option.{same_Some, slice_get-map, slice_get_past, s
 use Rattle.atomic_table.specs.declared.shared.Seat.{Seat}
 use Rattle.torus.specs.Shape.{tiles_of}
 use Rattle.torus.specs.declared.step.Step.{Step}
-use Rattle.fabric_laws.specs.net_interface.specs.Following.{is_finished}
-use Rattle.fabric_laws.specs.net_interface.specs.ProcessorRecord.{ProcessorRecord}
-use Rattle.fabric_laws.specs.tile.specs.Tile.{TileState}
-use Rattle.fabric_laws.specs.tile.specs.Agents.{TilePlace, tile_placed}
-use Rattle.fabric_laws.specs.tile_agents.specs.Placed.{PlacedTile}
-use Rattle.fabric_laws.specs.core_laws.specs.Core.{Load, design_of, after, records_of}
-use Rattle.fabric_laws.specs.core_laws.specs.Runs.{IsAccepted}
-use Rattle.fabric_laws.specs.core_row.proofs.Reached.{tiles_there, all_steps}
-use Rattle.fabric_laws.specs.machine_laws.specs.Core.{all_finished}
-use Rattle.fabric_laws.specs.Known.{known}
-use Rattle.fabric_laws.specs.View.{View}
-use Rattle.fabric_laws.specs.Groups.{Owns}
+use Rattle.fabric_rule.specs.script_follower.specs.Following.{is_finished}
+use Rattle.fabric_rule.specs.script_follower.specs.ProcessorRecord.{ProcessorRecord}
+use Rattle.fabric_rule.specs.tile_laws.specs.Tile.{TileState}
+use Rattle.fabric_rule.specs.tile_laws.specs.Agents.{TilePlace, tile_placed}
+use Rattle.fabric_rule.specs.tile.specs.Placed.{PlacedTile}
+use Rattle.fabric_rule.specs.core_laws.specs.Core.{Load, design_of, after, records_of}
+use Rattle.fabric_rule.specs.core_laws.specs.Runs.{IsAccepted}
+use Rattle.fabric_rule.specs.core_row.proofs.Reached.{tiles_there, all_steps}
+use Rattle.fabric_rule.specs.core_machine.specs.Core.{all_finished}
+use Rattle.fabric_rule.specs.Known.{known}
+use Rattle.fabric_rule.specs.View.{View}
+use Rattle.fabric_rule.specs.Groups.{Owns}
 use Rattle.fabric.specs.Seats.{Knowing, seat_knows, Seated, IsWhole}
 use Rattle.fabric.specs.Ending.{shown_after, HasAll, slot_finished}
 
@@ -39,22 +40,27 @@ of_state : (load : Load) (run : List Step) (t : ℕ) (p : TilePlace) → known l
 unfolding known
 of_state load run t p e = by_tile (slice_get (after load run).tiles t) refl e
   where
-    by_tile : (o : Option TileState) → slice_get (after load run).tiles t ≡ o → option_map (λ (s : TileState). tile_placed (design_of load) t s (after load run).around) o ≡ Some p → IsOfState load run t p
+    by_tile : (o : Option TileState) → slice_get (after load run).tiles t ≡ o
+        → option_map (λ (s : TileState). tile_placed (design_of load) t s (after load run).around) o ≡ Some p → IsOfState load run t p
     by_tile None is e = absurd (cc)
     by_tile (Some s) is e = record { tile = s; there = is; placed = sym (same_Some _ _ e) }
 
-record_at : (load : Load) (run : List Step) (t : ℕ) (o : Option TileState) → slice_get (after load run).tiles t ≡ o → slice_get (records_of (after load run)) t ≡ option_map (λ (s : TileState). s.processor.operations) o
-record_at load run t o e = slice_get-map (λ (s : TileState). s.processor.operations) (after load run).tiles t ∙ ap (option_map (λ (s : TileState). s.processor.operations)) e
+record_at : (load : Load) (run : List Step) (t : ℕ) (o : Option TileState) → slice_get (after load run).tiles t ≡ o
+    → slice_get (records_of (after load run)) t ≡ option_map (λ (s : TileState). s.processor.operations) o
+record_at load run t o e =
+    slice_get-map (λ (s : TileState). s.processor.operations) (after load run).tiles t ∙ ap (option_map (λ (s : TileState). s.processor.operations)) e
 
 -- the answers and the entries that are shown of a known tile
-pub answers_known : (load : Load) (run : List Step) (t : ℕ) (p : TilePlace) → known load run t ≡ Some p → slice_get (shown_after load run).answers t ≡ Some p.processor.state.operations.answers
+pub answers_known : (load : Load) (run : List Step) (t : ℕ) (p : TilePlace) → known load run t ≡ Some p
+    → slice_get (shown_after load run).answers t ≡ Some p.processor.state.operations.answers
 answers_known load run t p e =
     let k = of_state load run t p e in
     slice_get-map (λ (b : ProcessorRecord). b.answers) (records_of (after load run)) t
     ∙ (ap (option_map (λ (b : ProcessorRecord). b.answers)) (record_at load run t (Some k.tile) k.there)
     ∙ ap (λ (q : TilePlace). Some q.processor.state.operations.answers) (sym k.placed))
 
-pub entries_known : (load : Load) (run : List Step) (t : ℕ) (p : TilePlace) → known load run t ≡ Some p → slice_get (shown_after load run).entries t ≡ Some p.bank.state.entries
+pub entries_known : (load : Load) (run : List Step) (t : ℕ) (p : TilePlace) → known load run t ≡ Some p
+    → slice_get (shown_after load run).entries t ≡ Some p.bank.state.entries
 entries_known load run t p e =
     let k = of_state load run t p e in
     slice_get-map (λ (s : TileState). s.bank.entries) (after load run).tiles t
@@ -77,13 +83,15 @@ no_entries load run t ok past =
     ∙ ap (option_map (λ (s : TileState). s.bank.entries)) (slice_get_past (after load run).tiles t (omega (arith, n, past)))
 
 -- each slot has a tile
-all_some : (slots : List (Option PlacedTile)) → list_all is_some slots ≡ true → (k : ℕ) → k < length slots → (x : PlacedTile) × (slice_get slots k ≡ Some (Some x))
+all_some : (slots : List (Option PlacedTile)) → list_all is_some slots ≡ true → (k : ℕ) → k < length slots
+    → (x : PlacedTile) × (slice_get slots k ≡ Some (Some x))
 all_some [] e k lt = absurd (omega (arith, lt))
 all_some (None ∷ slots) e k lt = absurd (true≢false (sym e))
 all_some (Some x ∷ slots) e zero lt = (x, refl)
 all_some (Some x ∷ slots) e (suc k) lt = all_some slots e k (omega (arith, lt))
 
-some_all : (slots : List (Option PlacedTile)) → ((k : ℕ) → k < length slots → (x : PlacedTile) × (slice_get slots k ≡ Some (Some x))) → list_all is_some slots ≡ true
+some_all : (slots : List (Option PlacedTile)) → ((k : ℕ) → k < length slots → (x : PlacedTile) × (slice_get slots k ≡ Some (Some x)))
+    → list_all is_some slots ≡ true
 some_all [] all = refl
 some_all (None ∷ slots) all = absurd (empty (all 0 (omega arith)).1)
   where
@@ -109,7 +117,8 @@ module _ (slots : List (Option PlacedTile)) (s : S) (v : Knowing) (is : seat_kno
   pub slot_owned : (t : ℕ) (x : PlacedTile) → slice_get slots t ≡ Some (Some x) → Owns v.tiles t
   slot_owned t x e = subst (λ (u : Knowing). Owns u.tiles t) is (seated.tied.own t x e).0
 
-  pub slot_answers : (t : ℕ) (x : PlacedTile) → slice_get slots t ≡ Some (Some x) → slice_get (shown_after v.load v.run).answers t ≡ Some x.place.processor.state.operations.answers
+  pub slot_answers : (t : ℕ) (x : PlacedTile) → slice_get slots t ≡ Some (Some x)
+      → slice_get (shown_after v.load v.run).answers t ≡ Some x.place.processor.state.operations.answers
   slot_answers t x e = subst (λ (u : Knowing). slice_get (shown_after u.load u.run).answers t ≡ Some x.place.processor.state.operations.answers) is
       (answers_known s.me.0.load s.me.0.run t x.place (seated.tied.own t x e).1.place)
 
@@ -120,16 +129,22 @@ module _ (slots : List (Option PlacedTile)) (s : S) (v : Knowing) (is : seat_kno
   unowned t none o = let p = owned_slot t o in none p.0 p.1
 
 -- whether all scripts are finished, told by the slots
-pub finished_slots : (slots : List (Option PlacedTile)) (load : Load) (run : List Step) → IsAccepted load → HasAll slots load run → all_finished (after load run) ≡ list_all slot_finished slots
+pub finished_slots : (slots : List (Option PlacedTile)) (load : Load) (run : List Step) → IsAccepted load → HasAll slots load run
+    → all_finished (after load run) ≡ list_all slot_finished slots
 finished_slots slots load run ok all =
     list_all-map (λ (b : ProcessorRecord). is_finished b.following) (λ (s : TileState). s.processor.operations) (after load run).tiles
     ∙ same_all (after load run).tiles slots (let n = tile_count load run ok in let m = all.room in omega (arith, n, m)) (λ t tile at.
     let x = all.each t (let n = tile_count load run ok in let lt = slice_get_within (after load run).tiles t tile at in omega (arith, n, lt)) in
-    let k = of_state load run t x.0.place x.2.place in
-    (x.0, x.1, ap (λ (q : TilePlace). q.processor.state.operations.following) k.placed ∙ ap (λ (s : TileState). s.processor.operations.following) (same_Some _ _ (sym k.there ∙ at))))
+    let k = of_state load run t x.0.place x.2.place in (
+      x.0,
+      x.1,
+      ap (λ (q : TilePlace). q.processor.state.operations.following) k.placed
+          ∙ ap (λ (s : TileState). s.processor.operations.following) (same_Some _ _ (sym k.there ∙ at)),
+    ))
   where
     same_all : (tiles : List TileState) (slots : List (Option PlacedTile)) → length tiles ≡ length slots
-        → ((t : ℕ) (tile : TileState) → slice_get tiles t ≡ Some tile → (x : PlacedTile) × (slice_get slots t ≡ Some (Some x)) × (x.place.processor.state.operations.following ≡ tile.processor.operations.following))
+        → ((t : ℕ) (tile : TileState) → slice_get tiles t ≡ Some tile
+        → (x : PlacedTile) × (slice_get slots t ≡ Some (Some x)) × (x.place.processor.state.operations.following ≡ tile.processor.operations.following))
         → list_all (λ (s : TileState). is_finished s.processor.operations.following) tiles ≡ list_all slot_finished slots
     same_all [] [] n each = refl
     same_all [] (o ∷ slots) n each = absurd (omega (arith, n))
@@ -141,4 +156,5 @@ finished_slots slots load run ok all =
     same_all (tile ∷ tiles) (Some y ∷ slots) n each =
         let x = each 0 tile refl in
         let e = same_Some _ _ (same_Some _ _ x.1) in
-        (λ i. is_finished ((sym x.2 ∙ ap (λ (z : PlacedTile). z.place.processor.state.operations.following) (sym e)) i) && same_all tiles slots (omega (arith, n)) (λ t s at. each (suc t) s at) i)
+        (λ i. is_finished ((sym x.2 ∙ ap (λ (z : PlacedTile). z.place.processor.state.operations.following) (sym e)) i) && same_all tiles slots
+        (omega (arith, n)) (λ t s at. each (suc t) s at) i)

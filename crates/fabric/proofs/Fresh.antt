@@ -10,17 +10,17 @@ use Rattle.atomic_table.specs.declared.shared.Seat.{Seat}
 use Rattle.torus.specs.Shape.{tiles_of}
 use Rattle.torus.specs.declared.step.Step.{Step}
 use Rattle.channel_number.specs.Order.{channel_count}
-use Rattle.fabric_laws.specs.tile_agents.specs.Placed.{PlacedTile}
-use Rattle.fabric_laws.specs.core_laws.specs.Core.{Load, design_of, after}
-use Rattle.fabric_laws.specs.core_laws.specs.Runs.{IsAccepted}
-use Rattle.fabric_laws.specs.core_row.proofs.Reached.{at_most}
-use Rattle.fabric_laws.specs.machine_laws.specs.Core.{Core, IsAfter}
-use Rattle.fabric_laws.specs.machine_seen.specs.Seen.{IsShown}
+use Rattle.fabric_rule.specs.tile.specs.Placed.{PlacedTile}
+use Rattle.fabric_rule.specs.core_laws.specs.Core.{Load, design_of, after}
+use Rattle.fabric_rule.specs.core_laws.specs.Runs.{IsAccepted}
+use Rattle.fabric_rule.specs.core_row.proofs.Reached.{at_most}
+use Rattle.fabric_rule.specs.core_machine.specs.Core.{Core, IsAfter}
+use Rattle.fabric_rule.specs.core_seen.specs.Seen.{IsShown}
 use Rattle.machine_core.specs.Inside.{HaveRoom}
-use Rattle.fabric_laws.specs.Known.{Shows, known, row_length}
-use Rattle.fabric_laws.specs.View.{View}
-use Rattle.fabric_laws.specs.Groups.{first_group, first_half, with_groups}
-use Rattle.fabric_laws.proofs.Runs.{row_size}
+use Rattle.fabric_rule.specs.Known.{Shows, known, row_length}
+use Rattle.fabric_rule.specs.View.{View}
+use Rattle.fabric_rule.specs.Groups.{first_group, first_half, with_groups}
+use Rattle.fabric_rule.proofs.Runs.{row_size}
 use Rattle.fabric.specs.Key.{Opening, first_view, count_up, ranges, Rises}
 use Rattle.fabric.specs.Table.{Holds}
 use Rattle.fabric.specs.Seats.{seat_knows, StandsAt, Tied, Placed, Seated}
@@ -32,8 +32,10 @@ abbrev S : Type 0
 S = Seat (Unit {0}) View
 
 -- the tiles that were taken from all of them
-pub tied_start : (load : Load) (all slots : List (Option PlacedTile)) (from to : ℕ) → from < to → to ≤ tiles_of load.shape → Rest load all from → length slots ≡ length all
-    → ((t : ℕ) → from ≤ t → t < to → slice_get slots t ≡ slice_get all t) → ((t : ℕ) (x : PlacedTile) → slice_get slots t ≡ Some (Some x) → (from ≤ t) × (t < to)) → Tied slots load [] (count_up from (to - from))
+pub tied_start : (load : Load) (all slots : List (Option PlacedTile)) (from to : ℕ) → from < to → to ≤ tiles_of load.shape → Rest load all from
+    → length slots ≡ length all
+    → ((t : ℕ) → from ≤ t → t < to → slice_get slots t ≡ slice_get all t)
+    → ((t : ℕ) (x : PlacedTile) → slice_get slots t ≡ Some (Some x) → (from ≤ t) × (t < to)) → Tied slots load [] (count_up from (to - from))
 tied_start load all slots from to lt le rest len inside outside = record {
   room = len ∙ rest.room;
   own = λ t x e. let w = outside t x e in let lo = w.0 in let hi = w.1 in
@@ -44,7 +46,8 @@ tied_start load all slots from to lt le rest len inside outside = record {
       (y.0, inside t lo (omega arith) ∙ y.1);
 }
 
-pub rest_later : (load : Load) (all now : List (Option PlacedTile)) (from to : ℕ) → from < to → length now ≡ length all → ((t : ℕ) → to ≤ t → slice_get now t ≡ slice_get all t) → Rest load all from → Rest load now to
+pub rest_later : (load : Load) (all now : List (Option PlacedTile)) (from to : ℕ) → from < to → length now ≡ length all
+    → ((t : ℕ) → to ≤ t → slice_get now t ≡ slice_get all t) → Rest load all from → Rest load now to
 rest_later load all now from to lt len same k = record {
   room = len ∙ k.room;
   here = λ t lo hi. let y = k.here t (omega arith) hi in (y.0, same t lo ∙ y.1, y.2);
@@ -60,7 +63,8 @@ placed_half s z gs table held e p = record {
   accepted = subst IsAccepted (ap (λ (v : View). v.load) (sym e)) p.accepted;
 }
 
-pub rest_half : (z : TableId) (s q : S) (gs : List (List ℕ)) → HasRest z s.me.0.load s.me.0.groups s → q.table_id ≡ s.table_id → q.me.1 ≡ [] → q.me.0 ≡ with_groups s.me.0 gs → HasRest z s.me.0.load gs q
+pub rest_half : (z : TableId) (s q : S) (gs : List (List ℕ)) → HasRest z s.me.0.load s.me.0.groups s → q.table_id ≡ s.table_id → q.me.1 ≡ []
+    → q.me.0 ≡ with_groups s.me.0 gs → HasRest z s.me.0.load gs q
 rest_half z s q gs h table held e = record {
   table = table ∙ h.table;
   placed = placed_half s q gs table held e h.placed;
@@ -69,7 +73,8 @@ rest_half z s q gs h table held e = record {
   grouped = ap (λ (v : View). v.groups) e;
 }
 
-pub seated_start : (z : TableId) (s q : S) (slots : List (Option PlacedTile)) (from to : ℕ) → HasRest z s.me.0.load s.me.0.groups s → q.table_id ≡ s.table_id → q.me.1 ≡ [] → q.me.0 ≡ first_half s.me.0
+pub seated_start : (z : TableId) (s q : S) (slots : List (Option PlacedTile)) (from to : ℕ) → HasRest z s.me.0.load s.me.0.groups s → q.table_id ≡ s.table_id
+    → q.me.1 ≡ [] → q.me.0 ≡ first_half s.me.0
     → first_group s.me.0.groups ≡ count_up from (to - from) → Tied slots s.me.0.load [] (count_up from (to - from)) → Seated slots q
 seated_start z s q slots from to h table held e group tied = record {
   placed = placed_half s q (first_group s.me.0.groups ∷ []) table held e h.placed;
@@ -78,7 +83,8 @@ seated_start z s q slots from to h table held e group tied = record {
       (subst (λ (p : List Step × List ℕ). Tied slots s.me.0.load p.0 p.1) (λ i. (sym h.run i, sym group i)) tied);
 }
 
-pub fresh_half : (z : TableId) (s q : S) (from to : ℕ) → HasRest z s.me.0.load s.me.0.groups s → q.table_id ≡ s.table_id → q.me.0 ≡ first_half s.me.0 → first_group s.me.0.groups ≡ count_up from (to - from)
+pub fresh_half : (z : TableId) (s q : S) (from to : ℕ) → HasRest z s.me.0.load s.me.0.groups s → q.table_id ≡ s.table_id → q.me.0 ≡ first_half s.me.0
+    → first_group s.me.0.groups ≡ count_up from (to - from)
     → seat_knows q ≡ fresh z s.me.0.load (count_up from (to - from))
 fresh_half z s q from to h table e group =
     (λ i. record { table = (table ∙ h.table) i; load = (e i).load; run = (e i).run; tiles = first_group (e i).groups })
@@ -104,7 +110,8 @@ unfolding known
 known_first load row tiles shown t x at =
     sym (shown.tiles t) ∙ (slice_get-map (λ (v : PlacedTile). v.place) tiles t ∙ ap (option_map (λ (v : PlacedTile). v.place)) at)
 
-shows_first : (load : Load) (row : List ℕ) (tiles : List PlacedTile) → IsShown (design_of load) (after load []) (map (λ v. v.place) tiles) row → Shows load row []
+shows_first : (load : Load) (row : List ℕ) (tiles : List PlacedTile) → IsShown (design_of load) (after load []) (map (λ v. v.place) tiles) row
+    → Shows load row []
 unfolding Shows
 shows_first load row tiles shown = shown.row_is
 
@@ -121,7 +128,8 @@ is_fresh load c row tiles k count shown rooms = record {
 pub holds_first : (k : Opening) (row : List ℕ) → Shows k.load row [] → Rises 0 k.cuts (tiles_of k.load.shape) → Holds k.load (opening row [] (first_view k))
 holds_first k row shown r = begins k.load row (first_view k) shown refl refl refl (ranges_apart 0 k.cuts (tiles_of k.load.shape) r)
 
-pub first_seat : (k : Opening) (row : List ℕ) (z : TableId) (s : S) → IsAccepted k.load → Shows k.load row [] → s.table_id ≡ z → z.words ≡ length row → s.me ≡ (first_view k, [])
+pub first_seat : (k : Opening) (row : List ℕ) (z : TableId) (s : S) → IsAccepted k.load → Shows k.load row [] → s.table_id ≡ z → z.words ≡ length row
+    → s.me ≡ (first_view k, [])
     → HasRest z s.me.0.load (ranges 0 k.cuts (tiles_of k.load.shape)) s × (0 < z.words)
 first_seat k row z s accepted shown table words me =
     let n = row_size k.load accepted row [] shown in
@@ -142,9 +150,11 @@ first_seat k row z s accepted shown table words me =
       omega arith,
     )
 
-pub rest_at : (k : Opening) (row : List ℕ) (tiles : List PlacedTile) (all : List (Option PlacedTile)) (s : S) → IsFresh k.load row tiles → s.me ≡ (first_view k, []) → all ≡ map (λ (y : PlacedTile). Some y) tiles → Rest s.me.0.load all 0
+pub rest_at : (k : Opening) (row : List ℕ) (tiles : List PlacedTile) (all : List (Option PlacedTile)) (s : S) → IsFresh k.load row tiles
+    → s.me ≡ (first_view k, []) → all ≡ map (λ (y : PlacedTile). Some y) tiles → Rest s.me.0.load all 0
 rest_at k row tiles all s fresh me e =
-    subst (λ (l : Load). Rest l all 0) (ap (λ m. m.0.load) (sym me)) (subst (λ (a : List (Option PlacedTile)). Rest k.load a 0) (sym e) (rest_first k.load row tiles fresh))
+    subst (λ (l : Load). Rest l all 0) (ap (λ m. m.0.load) (sym me))
+    (subst (λ (a : List (Option PlacedTile)). Rest k.load a 0) (sym e) (rest_first k.load row tiles fresh))
 
 -- the row is short
 pub base_short : (load : Load) → IsAccepted load → (row : List ℕ) → Shows load row [] → channel_count load.shape * load.depth + length load.opening < 2 ^ 32
@@ -161,7 +171,8 @@ pub fresh_as : (k o : Opening) (c : Core) (row : List ℕ) (tiles : List PlacedT
 fresh_as k o c row tiles e h count shown rooms =
     subst (λ (x : Opening). IsFresh x.load row tiles) (sym e) (is_fresh o.load c row tiles h count (shown o.load [] h) (rooms o.load h))
 
-pub rises_as : (k o : Opening) (cuts : List ℕ) (c : Core) → k ≡ o → o.cuts ≡ cuts → IsAfter o.load c [] → Rises 0 cuts (tiles_of c.shape) → Rises 0 k.cuts (tiles_of k.load.shape)
+pub rises_as : (k o : Opening) (cuts : List ℕ) (c : Core) → k ≡ o → o.cuts ≡ cuts → IsAfter o.load c [] → Rises 0 cuts (tiles_of c.shape)
+    → Rises 0 k.cuts (tiles_of k.load.shape)
 rises_as k o cuts c e same h rise =
     subst (λ (x : Opening). Rises 0 x.cuts (tiles_of x.load.shape)) (sym e)
     (subst (λ (n : ℕ). Rises 0 o.cuts n) (ap tiles_of h.shape) (subst (λ (xs : List ℕ). Rises 0 xs (tiles_of c.shape)) (sym same) rise))

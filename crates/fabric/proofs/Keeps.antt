@@ -10,24 +10,26 @@ use Rattle.packet.specs.Memory.{new_word}
 use Rattle.flit_buffer.specs.Words.{word_of, effect_of}
 use Rattle.flit_buffer.specs.declared.word_op.WordOp.{WordOp}
 use Rattle.flit_buffer.specs.declared.word_op.WordOp.TheVariants.{Load as Read, Store, Swap, Cas, Add, And, Or, Xor, Max, Min}
-use Rattle.fabric_laws.specs.tile.specs.Agents.{TilePlace}
-use Rattle.fabric_laws.specs.core_laws.specs.Core.{Load}
-use Rattle.fabric_laws.specs.core_laws.specs.Runs.{IsAccepted}
-use Rattle.fabric_laws.specs.Known.{tile_of, known, Shows, op_of, moves}
-use Rattle.fabric_laws.specs.Told.{grown, made}
-use Rattle.fabric_laws.specs.View.{View}
-use Rattle.fabric_laws.specs.Groups.{In, Told, knowing}
-use Rattle.fabric_laws.specs.Rule.{Kept, Attempted, Looked}
-use Rattle.fabric_laws.proofs.Stores.{blind_moves, blind_left, blind_suits}
-use Rattle.fabric_laws.proofs.Growing.{kept_grow}
-use Rattle.fabric_laws.proofs.Attempts.{step_kept, step_told}
+use Rattle.fabric_rule.specs.tile_laws.specs.Agents.{TilePlace}
+use Rattle.fabric_rule.specs.core_laws.specs.Core.{Load}
+use Rattle.fabric_rule.specs.core_laws.specs.Runs.{IsAccepted}
+use Rattle.fabric_rule.specs.Known.{tile_of, known, Shows, op_of, moves}
+use Rattle.fabric_rule.specs.Told.{grown, made}
+use Rattle.fabric_rule.specs.View.{View}
+use Rattle.fabric_rule.specs.Groups.{In, Told, knowing}
+use Rattle.fabric_rule.specs.Rule.{Kept, Attempted, Looked}
+use Rattle.fabric_rule.proofs.Stores.{blind_moves, blind_left, blind_suits}
+use Rattle.fabric_rule.proofs.Growing.{kept_grow}
+use Rattle.fabric_rule.proofs.Attempts.{step_kept, step_told}
 use Rattle.fabric.specs.Table.{Holds, attempted}
 
 -- an operation on a word, which is a step of the seat's own tile
 module _ (load : Load) (slots id : ℕ) (me : Me (Unit {0}) View) (c : Step) (x : TilePlace) (o : WordOp) (f : ℕ → ℕ)
-    (accepted : IsAccepted me.0.load) (live : me.0.live ≡ true) (quiet : me.0.told ≡ []) (mine : In me.0.groups (tile_of c)) (here : known me.0.load me.0.run (tile_of c) ≡ Some x) (op : op_of x c ≡ Some o)
+    (accepted : IsAccepted me.0.load) (live : me.0.live ≡ true) (quiet : me.0.told ≡ []) (mine : In me.0.groups (tile_of c))
+    (here : known me.0.load me.0.run (tile_of c) ≡ Some x) (op : op_of x c ≡ Some o)
     (same : (n : ℕ) → f n ≡ new_word (effect_of o) n) where
-  pub steps_on : (told : ℕ → Me (Unit {0}) View → Type 0) → ((n : ℕ) (m : Me (Unit {0}) View) → Attempted c x me.0 n m.0 → m.1 ≡ me.1 → told n m) → Allows (Holds load) slots id me (word_of o) f told
+  pub steps_on : (told : ℕ → Me (Unit {0}) View → Type 0) → ((n : ℕ) (m : Me (Unit {0}) View) → Attempted c x me.0 n m.0 → m.1 ≡ me.1 → told n m)
+      → Allows (Holds load) slots id me (word_of o) f told
   steps_on told tells s h _ at small =
       let fit = h.1.fits id me.0 at in
       let loaded : me.0.load ≡ load = fit.same_load live in
@@ -56,7 +58,8 @@ blind c x w a n m v u op t = let e : moves x c n ≡ moves x c m = blind_moves x
 
 -- by a seat that still knows v
 module _ (load : Load) (slots id : ℕ) (me : Me (Unit {0}) View) (c : Step) (x : TilePlace) (v : View) (turning : me.0 ≡ v)
-    (accepted' : IsAccepted v.load) (live' : v.live ≡ true) (quiet' : v.told ≡ []) (mine' : In v.groups (tile_of c)) (here' : known v.load v.run (tile_of c) ≡ Some x) where
+    (accepted' : IsAccepted v.load) (live' : v.live ≡ true) (quiet' : v.told ≡ []) (mine' : In v.groups (tile_of c))
+    (here' : known v.load v.run (tile_of c) ≡ Some x) where
   accepted : IsAccepted me.0.load
   accepted = subst (λ (u : View). IsAccepted u.load) (sym turning) accepted'
 
@@ -76,14 +79,16 @@ module _ (load : Load) (slots id : ℕ) (me : Me (Unit {0}) View) (c : Step) (x 
   Asks o = op_of x c ≡ Some o
 
   -- an operation whose answer is the word that it found
-  tried : (o : WordOp) (f : ℕ → ℕ) → Asks o → ((n : ℕ) → f n ≡ new_word (effect_of o) n) → (st : TableStep (Unit {0})) → Allows (Holds load) slots id me (word_of o) f (attempted v c x st me)
+  tried : (o : WordOp) (f : ℕ → ℕ) → Asks o → ((n : ℕ) → f n ≡ new_word (effect_of o) n) → (st : TableStep (Unit {0}))
+      → Allows (Holds load) slots id me (word_of o) f (attempted v c x st me)
   tried o f op same st = steps_on load slots id me c x o f accepted live quiet mine here op same (attempted v c x st me) (λ n m t e. (turning, t, e))
 
   pub loads : (w : ℕ) → Asks (Read w) → Allows (Holds load) slots id me w (λ n. n) (attempted v c x (step slots w 0 0 none) me)
   loads w op = tried (Read w) (λ n. n) op (λ n. refl) (step slots w 0 0 none)
 
   pub stores : (w a : ℕ) → Asks (Store w a) → Allows (Holds load) slots id me w (λ _. a) (λ _. attempted v c x (step slots w a 0 none) me a)
-  stores w a op = steps_on load slots id me c x (Store w a) (λ _. a) accepted live quiet mine here op (λ n. refl) (λ _. attempted v c x (step slots w a 0 none) me a) (λ n m t e. (turning, blind c x w a n a me.0 m.0 op t, e))
+  stores w a op = steps_on load slots id me c x (Store w a) (λ _. a) accepted live quiet mine here op (λ n. refl)
+      (λ _. attempted v c x (step slots w a 0 none) me a) (λ n m t e. (turning, blind c x w a n a me.0 m.0 op t, e))
 
   pub swaps : (w a : ℕ) → Asks (Swap w a) → Allows (Holds load) slots id me w (λ _. a) (attempted v c x (step slots w a 0 none) me)
   swaps w a op = tried (Swap w a) (λ _. a) op (λ n. refl) (step slots w a 0 none)
@@ -122,7 +127,8 @@ looks load slots id i me live quiet s h _ at small =
     let w : View = knowing me.0 (h.0 ++ []) in
     let same : set s.words i n ≡ s.words = set-get_or s.words i 0 in
     let here : Shows load s.words (h.0 ++ []) = subst (λ (l : List Step). Shows load s.words l) (sym (append-nil h.0)) h.1.shown in
-    let kept = kept_grow load s.words (set s.words i n) s.views h.0 [] id me.0 w h.1 at (subst (λ (l : List ℕ). Shows load l (h.0 ++ [])) (sym same) here) tt tt refl fit.same_load (λ t i. i) fit.apart (subst (Told (h.0 ++ []) me.0.groups) (sym quiet) tt) in (
+    let kept = kept_grow load s.words (set s.words i n) s.views h.0 [] id me.0 w h.1 at (subst (λ (l : List ℕ). Shows load l (h.0 ++ [])) (sym same) here) tt tt
+    refl fit.same_load (λ t i. i) fit.apart (subst (Told (h.0 ++ []) me.0.groups) (sym quiet) tt) in (
       w,
       keeps,
       tt,

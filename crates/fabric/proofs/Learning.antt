@@ -4,15 +4,15 @@ use Rattle.std.specs.Prelude.{slice_get}
 use Rattle.std.proofs.lemmas.List.{append-nil}
 use Rattle.atomic_table.specs.declared.shared.Seat.{Seat}
 use Rattle.torus.specs.declared.step.Step.{Step}
-use Rattle.fabric_laws.specs.tile_agents.specs.Placed.{PlacedTile}
-use Rattle.fabric_laws.specs.core_laws.specs.Core.{Load}
-use Rattle.fabric_laws.specs.core_laws.specs.Runs.{IsAccepted}
-use Rattle.fabric_laws.specs.Known.{tile_of, known, row_length}
-use Rattle.fabric_laws.specs.View.{View}
-use Rattle.fabric_laws.specs.Groups.{Owns, In, Others, GoesOn, Begins, flat, first_group, other_groups, with_groups, first_half, second_half, both, knowing}
-use Rattle.fabric_laws.specs.Rule.{Learned}
-use Rattle.fabric_laws.proofs.Groups.{away, owns_append, owns_left, owns_right}
-use Rattle.fabric_laws.proofs.Runs.{known_away}
+use Rattle.fabric_rule.specs.tile.specs.Placed.{PlacedTile}
+use Rattle.fabric_rule.specs.core_laws.specs.Core.{Load}
+use Rattle.fabric_rule.specs.core_laws.specs.Runs.{IsAccepted}
+use Rattle.fabric_rule.specs.Known.{tile_of, known, row_length}
+use Rattle.fabric_rule.specs.View.{View}
+use Rattle.fabric_rule.specs.Groups.{Owns, In, Others, GoesOn, Begins, flat, first_group, other_groups, with_groups, first_half, second_half, both, knowing}
+use Rattle.fabric_rule.specs.Rule.{Learned}
+use Rattle.fabric_rule.proofs.Groups.{away, owns_append, owns_left, owns_right}
+use Rattle.fabric_rule.proofs.Runs.{known_away}
 use Rattle.fabric.specs.Seats.{Knowing, seat_knows, with_run, Tied, Placed, Seated, Looking, Learns, JoinsTo, mix_at}
 use Rattle.fabric.proofs.Seating.{tied_grow, in_group}
 
@@ -32,11 +32,14 @@ placed_on s z run on p = record {
   accepted = subst (λ (l : Load). IsAccepted l) (ap (λ (v : View). v.load) (sym on.2)) p.accepted;
 }
 
-pub seated_on : (slots : List (Option PlacedTile)) (s z : S) (run : List Step) → IsOn s run z → GoesOn s.me.0.groups run s.me.0.run → Seated slots s → Seated slots z
+pub seated_on : (slots : List (Option PlacedTile)) (s z : S) (run : List Step) → IsOn s run z → GoesOn s.me.0.groups run s.me.0.run → Seated slots s
+    → Seated slots z
 seated_on slots s z run on go k =
     let p = k.placed in
-    let grown = tied_grow slots s.me.0.load s.me.0.run (s.me.0.run ++ go.0) (first_group s.me.0.groups) k.tied (λ u o. known_away s.me.0.load p.accepted s.me.0.run go.0 u (away s.me.0.groups u go.0 (in_group s.me.0.groups u k.one_group o) go.2)) in
-    let now : Tied slots s.me.0.load run (first_group s.me.0.groups) = subst (λ (l : List Step). Tied slots s.me.0.load l (first_group s.me.0.groups)) (sym go.1) grown in
+    let grown = tied_grow slots s.me.0.load s.me.0.run (s.me.0.run ++ go.0) (first_group s.me.0.groups) k.tied
+    (λ u o. known_away s.me.0.load p.accepted s.me.0.run go.0 u (away s.me.0.groups u go.0 (in_group s.me.0.groups u k.one_group o) go.2)) in
+    let now : Tied slots s.me.0.load run (first_group s.me.0.groups) =
+    subst (λ (l : List Step). Tied slots s.me.0.load l (first_group s.me.0.groups)) (sym go.1) grown in
     record {
       placed = placed_on s z run on k.placed;
       one_group = subst (λ (v : View). v.groups ≡ first_group v.groups ∷ []) (sym on.2) k.one_group;
@@ -85,16 +88,20 @@ bare_others (st ∷ more) = (none, bare_others more)
 pub bare_goes : (gs : List (List ℕ)) (r a : List Step) → gs ≡ [] → GoesOn gs r a → GoesOn (first_group gs ∷ []) r a
 bare_goes gs r a none go = (go.0, go.1, subst (λ (h : List (List ℕ)). Others (first_group h ∷ []) go.0) (sym none) (bare_others go.0))
 
-pub learns_said : (s o z : S) (v u : Knowing) → seat_knows s ≡ v → seat_knows o ≡ u → seat_knows z ≡ with_run (seat_knows s) z.me.0.run → GoesOn (first_group s.me.0.groups ∷ []) z.me.0.run s.me.0.run → Begins z.me.0.run o.me.0.run → Learns v u (seat_knows z)
-learns_said s o z v u e f known go begins = subst (λ (k : Knowing). Learns k u (seat_knows z)) e (subst (λ (k : Knowing). Learns (seat_knows s) k (seat_knows z)) f (known, go, begins))
+pub learns_said : (s o z : S) (v u : Knowing) → seat_knows s ≡ v → seat_knows o ≡ u → seat_knows z ≡ with_run (seat_knows s) z.me.0.run
+    → GoesOn (first_group s.me.0.groups ∷ []) z.me.0.run s.me.0.run → Begins z.me.0.run o.me.0.run → Learns v u (seat_knows z)
+learns_said s o z v u e f known go begins =
+    subst (λ (k : Knowing). Learns k u (seat_knows z)) e (subst (λ (k : Knowing). Learns (seat_knows s) k (seat_knows z)) f (known, go, begins))
 
 -- what a seat learned that was put together with another
-pub learns_on : (s o z : S) (v u : Knowing) (run : List Step) (gs : List (List ℕ)) → IsOn s run z → seat_knows s ≡ v → seat_knows o ≡ u → s.me.0.groups ≡ first_group s.me.0.groups ∷ []
+pub learns_on : (s o z : S) (v u : Knowing) (run : List Step) (gs : List (List ℕ)) → IsOn s run z → seat_knows s ≡ v → seat_knows o ≡ u
+    → s.me.0.groups ≡ first_group s.me.0.groups ∷ []
     → GoesOn s.me.0.groups run s.me.0.run → GoesOn gs run o.me.0.run → Learns v u (seat_knows z)
 learns_on s o z v u run gs on e f one own other =
     let same : z.me.0.run ≡ run = ap (λ (x : View). x.run) on.2 in
     learns_said s o z v u e f (knows_on s z run on ∙ ap (with_run (seat_knows s)) (sym same))
-    (subst (λ (l : List Step). GoesOn (first_group s.me.0.groups ∷ []) l s.me.0.run) (sym same) (subst (λ (hs : List (List ℕ)). GoesOn hs run s.me.0.run) one own))
+    (subst (λ (l : List Step). GoesOn (first_group s.me.0.groups ∷ []) l s.me.0.run) (sym same)
+    (subst (λ (hs : List (List ℕ)). GoesOn hs run s.me.0.run) one own))
     (subst (λ (l : List Step). Begins l o.me.0.run) (sym same) (other.0, other.1))
 
 -- of two beginnings of one list, one begins with the other
@@ -118,7 +125,8 @@ mix_left p (Some (Some y)) x e = (y, refl)
 mix_right : (p q : Option (Option PlacedTile)) (x : PlacedTile) → q ≡ Some (Some x) → (y : PlacedTile) × (mix_at p q ≡ Some (Some y))
 mix_right p q x e = (x, ap (mix_at p) e)
 
-tied_mix : (one other slots : List (Option PlacedTile)) (load : Load) (run : List Step) (a b : List ℕ) → Tied one load run a → Tied other load run b → length slots ≡ length one → ((k : ℕ) → slice_get slots k ≡ mix_at (slice_get one k) (slice_get other k))
+tied_mix : (one other slots : List (Option PlacedTile)) (load : Load) (run : List Step) (a b : List ℕ) → Tied one load run a → Tied other load run b
+    → length slots ≡ length one → ((k : ℕ) → slice_get slots k ≡ mix_at (slice_get one k) (slice_get other k))
     → Tied slots load run (a ++ b)
 tied_mix one other slots load run a b k m len at = record {
   room = len ∙ k.room;
@@ -132,18 +140,22 @@ tied_mix one other slots load run a b k m len at = record {
       (owns_append a b t o);
 }
 
-grown_tied : (slots : List (Option PlacedTile)) (s : S) (run : List Step) → GoesOn s.me.0.groups run s.me.0.run → Seated slots s → Tied slots s.me.0.load run (first_group s.me.0.groups)
+grown_tied : (slots : List (Option PlacedTile)) (s : S) (run : List Step) → GoesOn s.me.0.groups run s.me.0.run → Seated slots s
+    → Tied slots s.me.0.load run (first_group s.me.0.groups)
 grown_tied slots s run go k = let p = k.placed in subst (λ (l : List Step). Tied slots s.me.0.load l (first_group s.me.0.groups)) (sym go.1)
-    (tied_grow slots s.me.0.load s.me.0.run (s.me.0.run ++ go.0) (first_group s.me.0.groups) k.tied (λ u o. known_away s.me.0.load p.accepted s.me.0.run go.0 u (away s.me.0.groups u go.0 (in_group s.me.0.groups u k.one_group o) go.2)))
+    (tied_grow slots s.me.0.load s.me.0.run (s.me.0.run ++ go.0) (first_group s.me.0.groups) k.tied
+    (λ u o. known_away s.me.0.load p.accepted s.me.0.run go.0 u (away s.me.0.groups u go.0 (in_group s.me.0.groups u k.one_group o) go.2)))
 
 pub flat_two : (gs hs : List (List ℕ)) → gs ≡ first_group gs ∷ [] → hs ≡ first_group hs ∷ [] → flat (gs ++ hs) ≡ first_group gs ++ first_group hs
 flat_two gs hs e f = (λ i. flat (e i ++ f i)) ∙ ap (λ (l : List ℕ). first_group gs ++ l) (append-nil (first_group hs))
 
-pub seated_joined : (one other slots : List (Option PlacedTile)) (s o z : S) → Seated one s → Seated other o → s.me.0.load ≡ o.me.0.load → Learned (both s.me.0 o.me.0) (flat (s.me.0.groups ++ o.me.0.groups) ∷ []) z.me.0 → z.table_id ≡ s.table_id → z.me.1 ≡ []
+pub seated_joined : (one other slots : List (Option PlacedTile)) (s o z : S) → Seated one s → Seated other o → s.me.0.load ≡ o.me.0.load
+    → Learned (both s.me.0 o.me.0) (flat (s.me.0.groups ++ o.me.0.groups) ∷ []) z.me.0 → z.table_id ≡ s.table_id → z.me.1 ≡ []
     → length slots ≡ length one → ((k : ℕ) → slice_get slots k ≡ mix_at (slice_get one k) (slice_get other k)) → Seated slots z
 seated_joined one other slots s o z k m same l table held len at =
     let t1 = grown_tied one s z.me.0.run (from_one s.me.0 o.me.0 z.me.0 _ l) k in
-    let t2 = subst (λ (x : Load). Tied other x z.me.0.run (first_group o.me.0.groups)) (sym same) (grown_tied other o z.me.0.run (from_other s.me.0 o.me.0 z.me.0 _ l) m) in
+    let t2 = subst (λ (x : Load). Tied other x z.me.0.run (first_group o.me.0.groups)) (sym same)
+    (grown_tied other o z.me.0.run (from_other s.me.0 o.me.0 z.me.0 _ l) m) in
     let t = tied_mix one other slots s.me.0.load z.me.0.run (first_group s.me.0.groups) (first_group o.me.0.groups) t1 t2 len at in
     record {
       placed = let p = k.placed in record {
@@ -158,12 +170,14 @@ seated_joined one other slots s o z k m same l table held len at =
           (subst (λ (g : List ℕ). Tied slots s.me.0.load z.me.0.run g) (sym (flat_two s.me.0.groups o.me.0.groups k.one_group m.one_group)) t);
     }
 
-pub joins_said : (s o z : S) (v u : Knowing) → seat_knows s ≡ v → seat_knows o ≡ u → s.me.0.groups ≡ first_group s.me.0.groups ∷ [] → o.me.0.groups ≡ first_group o.me.0.groups ∷ [] → Learned (both s.me.0 o.me.0) (flat (s.me.0.groups ++ o.me.0.groups) ∷ []) z.me.0
+pub joins_said : (s o z : S) (v u : Knowing) → seat_knows s ≡ v → seat_knows o ≡ u → s.me.0.groups ≡ first_group s.me.0.groups ∷ []
+    → o.me.0.groups ≡ first_group o.me.0.groups ∷ [] → Learned (both s.me.0 o.me.0) (flat (s.me.0.groups ++ o.me.0.groups) ∷ []) z.me.0
     → z.table_id ≡ s.table_id → JoinsTo v u (seat_knows z)
-joins_said s o z v u e f g h l table = subst (λ (k : Knowing). JoinsTo k u (seat_knows z)) e (subst (λ (k : Knowing). JoinsTo (seat_knows s) k (seat_knows z)) f (
-  table,
-  ap (λ (x : View). x.load) l.view,
-  ap (λ (x : View). first_group x.groups) l.view ∙ flat_two s.me.0.groups o.me.0.groups g h,
-  (let a = from_one s.me.0 o.me.0 z.me.0 _ l in (a.0, a.1, subst (λ (gs : List (List ℕ)). Others gs a.0) g a.2)),
-  (let a = from_other s.me.0 o.me.0 z.me.0 _ l in (a.0, a.1, subst (λ (gs : List (List ℕ)). Others gs a.0) h a.2)),
-))
+joins_said s o z v u e f g h l table =
+    subst (λ (k : Knowing). JoinsTo k u (seat_knows z)) e (subst (λ (k : Knowing). JoinsTo (seat_knows s) k (seat_knows z)) f (
+      table,
+      ap (λ (x : View). x.load) l.view,
+      ap (λ (x : View). first_group x.groups) l.view ∙ flat_two s.me.0.groups o.me.0.groups g h,
+      (let a = from_one s.me.0 o.me.0 z.me.0 _ l in (a.0, a.1, subst (λ (gs : List (List ℕ)). Others gs a.0) g a.2)),
+      (let a = from_other s.me.0 o.me.0 z.me.0 _ l in (a.0, a.1, subst (λ (gs : List (List ℕ)). Others gs a.0) h a.2)),
+    ))

@@ -4,17 +4,17 @@ use Rattle.std.proofs.Math.Seq.{take-append_seam, take-length}
 use Rattle.std.proofs.lemmas.Bool.{cases_lt}
 use Rattle.atomic_table.specs.declared.shared.Seat.{Seat}
 use Rattle.torus.specs.declared.step.Step.{Step}
-use Rattle.runs.specs.declared.answer.Answer.{Answer}
-use Rattle.runs.specs.Observed.{Observed, Run, list_at, HasIssued, HasAnswered, IsAnsweredAt}
-use Rattle.runs.specs.Order.{LinearizationPoint, IsLegalOrder, StandsBefore}
-use Rattle.runs.specs.Growth.{OnlyGrows}
-use Rattle.runs.proofs.Growth.{kept_along, length_kept}
-use Rattle.runs.proofs.EventNumbers.{real_time}
-use Rattle.fabric_laws.specs.core_laws.specs.Core.{Load, after, show, run_of}
-use Rattle.fabric_laws.specs.core_laws.specs.Runs.{IsAccepted}
-use Rattle.fabric_laws.specs.machine_laws.proofs.Lawful.{lawful}
-use Rattle.fabric_laws.specs.Groups.{Begins}
-use Rattle.fabric_laws.specs.View.{View}
+use Rattle.one_order.specs.declared.answer.Answer.{Answer}
+use Rattle.one_order.specs.Observed.{Observed, Run, list_at, HasIssued, HasAnswered, IsAnsweredAt}
+use Rattle.one_order.specs.Order.{LinearizationPoint, IsLegalOrder, StandsBefore}
+use Rattle.one_order.specs.Growth.{OnlyGrows}
+use Rattle.one_order.proofs.Growth.{kept_along, length_kept}
+use Rattle.one_order.proofs.EventNumbers.{real_time}
+use Rattle.fabric_rule.specs.core_laws.specs.Core.{Load, after, show, run_of}
+use Rattle.fabric_rule.specs.core_laws.specs.Runs.{IsAccepted}
+use Rattle.fabric_rule.specs.core_machine.proofs.Lawful.{lawful}
+use Rattle.fabric_rule.specs.Groups.{Begins}
+use Rattle.fabric_rule.specs.View.{View}
 use Rattle.fabric.specs.Seats.{Knowing, seat_knows, Learns, JoinsTo}
 use Rattle.fabric.specs.Ending.{shown_after}
 use Rattle.fabric.specs.Lawful.{HasLawfulRun, IsAnsweredIn, KeepsAnswersFirst, KeepsBothFirst}
@@ -35,12 +35,15 @@ module _ (opening : List ℕ) (run : Run) (n : ℕ) (grows : OnlyGrows opening r
 
   issue_stays : (p i : ℕ) → HasIssued (run j) p i → HasIssued (run k) p i
   issue_stays p i h =
-      let longer = length_kept (list_at (run j).issued p) (list_at (run k).issued p) (λ i o. kept_along (λ (t : ℕ). list_at (run t).issued p) n (λ t i o b. grows.issues_stay t p i o b) j k i o l m) in
+      let longer = length_kept (list_at (run j).issued p) (list_at (run k).issued p)
+      (λ i o. kept_along (λ (t : ℕ). list_at (run t).issued p) n (λ t i o b. grows.issues_stay t p i o b) j k i o l m) in
       omega (arith, h, longer)
 
 -- what is answered by step m precedes what isn't issued by step m
-module _ (opening : List ℕ) (run : Run) (n m : ℕ) (order : List LinearizationPoint) (legal : IsLegalOrder opening run n order) (grows : OnlyGrows opening run n) (le : m ≤ n) where
-  pub answers_first : (k p i : ℕ) (y : LinearizationPoint) → slice_get order k ≡ Some y → (HasIssued (run m) y.source y.index → ⊥) → HasAnswered (run m) p i → StandsBefore order k p i
+module _ (opening : List ℕ) (run : Run) (n m : ℕ) (order : List LinearizationPoint) (legal : IsLegalOrder opening run n order) (grows : OnlyGrows opening run n)
+    (le : m ≤ n) where
+  pub answers_first : (k p i : ℕ) (y : LinearizationPoint) → slice_get order k ≡ Some y → (HasIssued (run m) y.source y.index → ⊥) → HasAnswered (run m) p i
+      → StandsBefore order k p i
   answers_first k p i y there new old =
       let effect = legal.answered p old.0 old.1 (answer_stays opening run n grows m n le (omega arith) p old.0 old.1 old.2) in
       let t : ℕ = effect.at in
@@ -48,7 +51,8 @@ module _ (opening : List ℕ) (run : Run) (n m : ℕ) (order : List Linearizatio
       let issue = legal.issued k y there in
       let u : ℕ = issue.at in
       let early : t ≤ m = ⊎_elim (λ (late : m < t). absurd (answered.not_before m late old)) (λ (ok : t ≤ m). ok) (cases_lt m t) in
-      let late : m < u = ⊎_elim (λ (ok : m < u). ok) (λ (soon : u ≤ m). absurd (new (issue_stays opening run n grows u m soon le y.source y.index issue.issued.holds))) (cases_lt m u) in
+      let late : m < u = ⊎_elim (λ (ok : m < u). ok)
+      (λ (soon : u ≤ m). absurd (new (issue_stays opening run n grows u m soon le y.source y.index issue.issued.holds))) (cases_lt m u) in
       real_time opening run n order legal grows p i k y there (t, u, answered, issue.issued, omega (arith, early, late))
 
 pub known_first : (load : Load) (run : List Step) → IsAccepted load → KeepsAnswersFirst load run
@@ -69,8 +73,10 @@ answered_on load run later p i ok begins old =
     let shown : run_of load later (length run) ≡ shown_after load run = ap (λ (l : List Step). run_of load l (length run)) whole ∙ shown_first load run rest in
     let le : length run ≤ length later = (let e = ap length whole in let f = length-append run rest in omega (arith, e, f)) in
     let here : HasAnswered (run_of load later (length run)) p i = subst (λ (s : Observed). HasAnswered s p i) (sym shown) old in
-    let there = answer_stays load.opening (run_of load later) (length later) (only_grows load later ok) (length run) (length later) le (omega arith) p here.0 here.1 here.2 in
-    let last : run_of load later (length later) ≡ shown_after load later = ap (λ (xs : List Step). show (length load.opening) (after load xs)) (take-length later) in
+    let there = answer_stays load.opening (run_of load later) (length later) (only_grows load later ok) (length run) (length later) le (omega arith) p here.0
+    here.1 here.2 in
+    let last : run_of load later (length later) ≡ shown_after load later =
+    ap (λ (xs : List Step). show (length load.opening) (after load xs)) (take-length later) in
     subst (λ (s : Observed). HasAnswered s p i) last (here.0, here.1, there, here.3)
 
 -- and so for a seat that knows what either knew
@@ -78,12 +84,15 @@ told_both : (v u w : Knowing) (p i : ℕ) → IsAccepted v.load → u.load ≡ v
     → IsAnsweredIn v.load v.run p i ⊎ IsAnsweredIn u.load u.run p i → IsAnsweredIn w.load w.run p i
 told_both v u w p i ok same kept one other either =
     subst (λ (l : Load). IsAnsweredIn l w.run p i) (sym kept)
-    (⊎_elim (answered_on v.load v.run w.run p i ok one) (λ h. answered_on v.load u.run w.run p i ok other (subst (λ (l : Load). IsAnsweredIn l u.run p i) same h)) either)
+    (⊎_elim (answered_on v.load v.run w.run p i ok one)
+    (λ h. answered_on v.load u.run w.run p i ok other (subst (λ (l : Load). IsAnsweredIn l u.run p i) same h)) either)
 
-pub met : (v u w : Knowing) (p i : ℕ) → IsAccepted v.load → u.load ≡ v.load → Learns v u w → IsAnsweredIn v.load v.run p i ⊎ IsAnsweredIn u.load u.run p i → IsAnsweredIn w.load w.run p i
+pub met : (v u w : Knowing) (p i : ℕ) → IsAccepted v.load → u.load ≡ v.load → Learns v u w → IsAnsweredIn v.load v.run p i ⊎ IsAnsweredIn u.load u.run p i
+    → IsAnsweredIn w.load w.run p i
 met v u w p i ok same learns = told_both v u w p i ok same (ap (λ (k : Knowing). k.load) learns.0) (learns.1.0, learns.1.1) learns.2
 
-pub joined : (v u w : Knowing) (p i : ℕ) → IsAccepted v.load → u.load ≡ v.load → JoinsTo v u w → IsAnsweredIn v.load v.run p i ⊎ IsAnsweredIn u.load u.run p i → IsAnsweredIn w.load w.run p i
+pub joined : (v u w : Knowing) (p i : ℕ) → IsAccepted v.load → u.load ≡ v.load → JoinsTo v u w → IsAnsweredIn v.load v.run p i ⊎ IsAnsweredIn u.load u.run p i
+    → IsAnsweredIn w.load w.run p i
 joined v u w p i ok same joins = told_both v u w p i ok same joins.1 (joins.3.0, joins.3.1) (joins.4.0, joins.4.1)
 
 -- so the run that a seat knows is lawful, and the one that is known after a view changed
@@ -97,7 +106,8 @@ lawful_view v w ok same = every_run w.load w.run (subst IsAccepted (sym same) ok
 -- either knew as answered
 pub met_first : (v u w : Knowing) → IsAccepted v.load → u.load ≡ v.load → Learns v u w → KeepsBothFirst v u w
 met_first v u w ok same learns later order begins legal k p i y there new either =
-    known_first w.load w.run (subst IsAccepted (ap (λ (x : Knowing). x.load) (sym learns.0)) ok) later order begins legal k p i y there new (met v u w p i ok same learns either)
+    known_first w.load w.run (subst IsAccepted (ap (λ (x : Knowing). x.load) (sym learns.0)) ok) later order begins legal k p i y there new
+    (met v u w p i ok same learns either)
 
 pub joined_first : (v u w : Knowing) → IsAccepted v.load → u.load ≡ v.load → JoinsTo v u w → KeepsBothFirst v u w
 joined_first v u w ok same joins later order begins legal k p i y there new either =

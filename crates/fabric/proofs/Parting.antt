@@ -1,15 +1,16 @@
 -- One range of tiles more has its seat; and the fields of a fabric, as it is made.
-use Rattle.std.proofs.Common.{◌≡◌, ℕ, zero, suc, ◌+◌, ◌-◌, ◌*◌, ◌<◌, ◌≤◌, List, [], ◌∷◌, ◌++◌, length, map, drop, Option, refl, sym, ap, ◌∙◌, subst, arith, append_assoc}
+use Rattle.std.proofs.Common.{◌≡◌, ℕ, zero, suc, ◌+◌, ◌-◌, ◌*◌, ◌<◌, ◌≤◌, List, [], ◌∷◌, ◌++◌, length, map, drop, Option, refl, sym, ap, ◌∙◌, subst, arith}
+use Rattle.std.proofs.Common.{append_assoc}
 use Rattle.std.specs.Prelude.{◌^◌}
 use Rattle.atomic_table.specs.Seated.{TableId}
 use Rattle.torus.specs.Shape.{Shape, dims_of}
-use Rattle.fabric_laws.specs.tile_agents.specs.Placed.{PlacedTile}
+use Rattle.fabric_rule.specs.tile.specs.Placed.{PlacedTile}
 use Rattle.channel_number.specs.Order.{channel_count}
 use Rattle.channel_number.specs.Ports.{port_count}
-use Rattle.fabric_laws.specs.core_laws.specs.Core.{Load}
-use Rattle.fabric_laws.specs.machine_laws.specs.Core.{Core, IsAfter}
-use Rattle.fabric_laws.specs.Known.{Shows, row_length}
-use Rattle.fabric_laws.proofs.Runs.{row_size}
+use Rattle.fabric_rule.specs.core_laws.specs.Core.{Load}
+use Rattle.fabric_rule.specs.core_machine.specs.Core.{Core, IsAfter}
+use Rattle.fabric_rule.specs.Known.{Shows, row_length}
+use Rattle.fabric_rule.proofs.Runs.{row_size}
 use Rattle.fabric.specs.Key.{Opening, count_up, ranges}
 use Rattle.fabric.specs.Seats.{Knowing}
 use Rattle.fabric.specs.Opening.{fresh, Rest}
@@ -50,7 +51,8 @@ IsSound l base words row_words slots ports torus opening =
     (base ≡ channel_count l.shape * l.depth) × (words ≡ length l.opening) × (row_words ≡ row_length l) × (slots ≡ 0)
     × (base + words < 2 ^ 32) × (ports ≡ port_count (dims_of l.shape)) × (torus ≡ l.shape) × (opening ≡ l.opening)
 
-pub sound_made : (key o : Opening) (c : Core) (row : List ℕ) (base words row_words slots ports depth : ℕ) (torus : Shape) (opening : List ℕ) → key ≡ o → IsAfter o.load c []
+pub sound_made : (key o : Opening) (c : Core) (row : List ℕ) (base words row_words slots ports depth : ℕ) (torus : Shape) (opening : List ℕ) → key ≡ o
+    → IsAfter o.load c []
     → Shows o.load row [] → torus ≡ c.shape → depth ≡ c.depth → opening ≡ c.opening
     → base ≡ channel_count torus * depth → words ≡ length opening → row_words ≡ length row → slots ≡ 0 → ports ≡ port_count (dims_of torus)
     → IsSound key.load base words row_words slots ports torus opening

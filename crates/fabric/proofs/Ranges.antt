@@ -3,7 +3,7 @@ use Rattle.std.proofs.Common.{◌≡◌, ⊎_elim, inl, inr, ℕ, zero, suc, ◌
 use Rattle.std.proofs.lemmas.Bool.{cases_lt}
 use mathlib.Core.Logic.{dite}
 use native.Mathlib.Decide.{ℕ_discrete}
-use Rattle.fabric_laws.specs.Groups.{Owns, In, Apart, first_group}
+use Rattle.fabric_rule.specs.Groups.{Owns, In, Apart, first_group}
 use Rattle.fabric.specs.Key.{count_up, ranges, Rises}
 
 pub owns_count : (a k t : ℕ) → Owns (count_up a k) t → (a ≤ t) × (t < a + k)

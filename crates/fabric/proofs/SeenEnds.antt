@@ -2,13 +2,13 @@
 use Rattle.std.proofs.Common.{◌≡◌, ℕ, ◌<◌, ◌≤◌, true, List, length, Option, Some, subst, arith}
 use Rattle.std.proofs.lemmas.Option.{slice_get_within}
 use Rattle.atomic_table.specs.declared.shared.Seat.{Seat}
-use Rattle.fabric_laws.specs.tile.specs.Agents.{TilePlace}
-use Rattle.fabric_laws.specs.tile_agents.specs.Placed.{PlacedTile}
-use Rattle.fabric_laws.specs.Known.{known}
-use Rattle.fabric_laws.specs.View.{View}
-use Rattle.fabric_laws.specs.Groups.{Owns}
-use Rattle.fabric_laws.specs.Ended.{AreAllFinished}
-use Rattle.fabric_laws.proofs.Ends.{all_ended}
+use Rattle.fabric_rule.specs.tile_laws.specs.Agents.{TilePlace}
+use Rattle.fabric_rule.specs.tile.specs.Placed.{PlacedTile}
+use Rattle.fabric_rule.specs.Known.{known}
+use Rattle.fabric_rule.specs.View.{View}
+use Rattle.fabric_rule.specs.Groups.{Owns}
+use Rattle.fabric_rule.specs.Ended.{AreAllFinished}
+use Rattle.fabric_rule.proofs.Ends.{all_ended}
 use Rattle.fabric.specs.Seats.{Knowing, seat_knows, Seated}
 
 -- the processors of those of the seat's tiles that are below a number have seen the end

@@ -6,20 +6,20 @@ use Rattle.torus.specs.Shape.{tiles_of}
 use Rattle.torus.specs.declared.step.Step.{Step}
 use Rattle.torus.specs.declared.step.Stepped.{Stepped}
 use Rattle.torus.specs.declared.step.Stepped.TheVariants.{Moved, Idle}
-use Rattle.fabric_laws.specs.flights.specs.Room.{home_room}
+use Rattle.fabric_rule.specs.order_abstract.specs.Room.{home_room}
 use Rattle.flit_buffer.specs.declared.word_op.WordOp.{WordOp}
 use Rattle.flit_buffer.specs.Words.{word_of}
-use Rattle.fabric_laws.specs.tile.specs.Agents.{TilePlace, agent_numbered, tile_next_op, tile_absorbed}
-use Rattle.fabric_laws.specs.tile_agents.specs.Placed.{PlacedTile, with_place, IsAcceptableTo, HasRoomFor}
-use Rattle.fabric_laws.specs.core_laws.specs.Core.{Load}
-use Rattle.fabric_laws.specs.core_laws.specs.Runs.{IsAccepted}
-use Rattle.fabric_laws.specs.Known.{tile_of, known, op_of, moves, left_by, Suits, row_length}
-use Rattle.fabric_laws.specs.Told.{Away, grown}
-use Rattle.fabric_laws.specs.View.{View}
-use Rattle.fabric_laws.specs.Groups.{knowing, Begins, Others}
-use Rattle.fabric_laws.specs.Rule.{Attempted}
-use Rattle.fabric_laws.proofs.Groups.{away}
-use Rattle.fabric_laws.proofs.Runs.{known_away, tells, row_size, shown_row, row_shows}
+use Rattle.fabric_rule.specs.tile_laws.specs.Agents.{TilePlace, agent_numbered, tile_next_op, tile_absorbed}
+use Rattle.fabric_rule.specs.tile.specs.Placed.{PlacedTile, with_place, IsAcceptableTo, HasRoomFor}
+use Rattle.fabric_rule.specs.core_laws.specs.Core.{Load}
+use Rattle.fabric_rule.specs.core_laws.specs.Runs.{IsAccepted}
+use Rattle.fabric_rule.specs.Known.{tile_of, known, op_of, moves, left_by, Suits, row_length}
+use Rattle.fabric_rule.specs.Told.{Away, grown}
+use Rattle.fabric_rule.specs.View.{View}
+use Rattle.fabric_rule.specs.Groups.{knowing, Begins, Others}
+use Rattle.fabric_rule.specs.Rule.{Attempted}
+use Rattle.fabric_rule.proofs.Groups.{away}
+use Rattle.fabric_rule.proofs.Runs.{known_away, tells, row_size, shown_row, row_shows}
 use Rattle.fabric.specs.Turns.{ready, SeesIdle, StepMoves, StepIdles, OnlyTile}
 use Rattle.fabric.specs.Seats.{StandsAt}
 
@@ -27,12 +27,16 @@ sees : (c : Step) (x : TilePlace) (v w : View) (n : ℕ) (t : Attempted c x v n 
 sees c x v w n t true e f = absurd (cc)
 sees c x v w n t false e f = (t.between, t.others, t.enabled_there ∙ e, t.view ∙ ap (λ (q : Bool). knowing v (grown q (v.run ++ t.between) c)) e)
 
-ready_known : (load : Load) (run : List Step) (c : Step) (x : TilePlace) (q : Option WordOp) → known load run (tile_of c) ≡ Some x → op_of x c ≡ q → ready load run c ≡ is_some q
+ready_known : (load : Load) (run : List Step) (c : Step) (x : TilePlace) (q : Option WordOp) → known load run (tile_of c) ≡ Some x → op_of x c ≡ q
+    → ready load run c ≡ is_some q
 unfolding ready
-ready_known load run c x q is op = ap (λ (o : Option TilePlace). is_some (option_and_then (λ (y : TilePlace). op_of y c) o)) is ∙ ap (λ (o : Option WordOp). is_some o) op
+ready_known load run c x q is op =
+    ap (λ (o : Option TilePlace). is_some (option_and_then (λ (y : TilePlace). op_of y c) o)) is ∙ ap (λ (o : Option WordOp). is_some o) op
 
-pub idles : (c : Step) (x : TilePlace) (v w : View) (n : ℕ) (o : WordOp) → known v.load v.run (tile_of c) ≡ Some x → op_of x c ≡ Some o → Attempted c x v n w → moves x c n ≡ false → StepIdles v c w
-idles c x v w n o here op t f = subst (λ (q : Bool). MatchBool q (SeesIdle v c w) (w ≡ v)) (sym (ready_known v.load v.run c x (Some o) here op)) (sees c x v w n t (moves x c n) refl f)
+pub idles : (c : Step) (x : TilePlace) (v w : View) (n : ℕ) (o : WordOp) → known v.load v.run (tile_of c) ≡ Some x → op_of x c ≡ Some o → Attempted c x v n w
+    → moves x c n ≡ false → StepIdles v c w
+idles c x v w n o here op t f =
+    subst (λ (q : Bool). MatchBool q (SeesIdle v c w) (w ≡ v)) (sym (ready_known v.load v.run c x (Some o) here op)) (sees c x v w n t (moves x c n) refl f)
 
 pub idles_before : (c : Step) (x : TilePlace) (v : View) → known v.load v.run (tile_of c) ≡ Some x → op_of x c ≡ None → StepIdles v c v
 idles_before c x v here op = subst (λ (q : Bool). MatchBool q (SeesIdle v c v) (v ≡ v)) (sym (ready_known v.load v.run c x None here op)) refl
@@ -52,7 +56,8 @@ pub accepts : (load : Load) (p : TilePlace) (c : Step) (n : ℕ) → Suits load 
 unfolding Suits
 accepts load p c n k = k.0
 
-pub has_room : (load : Load) (v : PlacedTile) (c : Step) (n : ℕ) → v.room ≡ home_room (tiles_of load.shape) (tile_of c) load.scripts → Suits load v.place c n → HasRoomFor v (agent_numbered (c.agent % 3)) c.choice
+pub has_room : (load : Load) (v : PlacedTile) (c : Step) (n : ℕ) → v.room ≡ home_room (tiles_of load.shape) (tile_of c) load.scripts → Suits load v.place c n
+    → HasRoomFor v (agent_numbered (c.agent % 3)) c.choice
 unfolding Suits
 has_room load v c n room k =
     let P : ℕ → Type 0 = λ m. HasRoomFor (record { place = v.place; room = m }) (agent_numbered (c.agent % 3)) c.choice in
@@ -67,7 +72,8 @@ pub absorbed_is : (v : PlacedTile) (c : Step) (n : ℕ) (answer : Stepped) (w : 
 unfolding left_by
 absorbed_is v c n answer w k = by_tile (tile_absorbed v.place c n) k
   where
-    by_tile : (o : Option TilePlace) → MatchOption o ((answer ≡ Idle) × (w ≡ v)) (λ p. (answer ≡ Moved) × (w ≡ with_place v p)) → w ≡ with_place v (unwrap_or o v.place)
+    by_tile : (o : Option TilePlace) → MatchOption o ((answer ≡ Idle) × (w ≡ v)) (λ p. (answer ≡ Moved) × (w ≡ with_place v p))
+        → w ≡ with_place v (unwrap_or o v.place)
     by_tile None k = k.1
     by_tile (Some p) k = k.1
 
@@ -95,24 +101,28 @@ pub accepted_before : (v u : View) → v ≡ u → IsAccepted u.load → IsAccep
 accepted_before v u e a = subst (λ (w : View). IsAccepted w.load) (sym e) a
 
 -- the tile in code after an attempt stands as after the run that its seat knows then
-pub stands_then : (c : Step) (v : PlacedTile) (a b : View) (n : ℕ) (answer : Stepped) (w : PlacedTile) → StandsAt a.load a.run (tile_of c) v → Attempted c v.place a n b → Absorbs v c n answer w → StandsAt b.load b.run (tile_of c) w
+pub stands_then : (c : Step) (v : PlacedTile) (a b : View) (n : ℕ) (answer : Stepped) (w : PlacedTile) → StandsAt a.load a.run (tile_of c) v
+    → Attempted c v.place a n b → Absorbs v c n answer w → StandsAt b.load b.run (tile_of c) w
 stands_then c v a b n answer w here t k =
     let is = absorbed_is v c n answer w k in
     let P : PlacedTile → Type 0 = λ x. StandsAt b.load b.run (tile_of c) x in
     subst P (sym is) record { place = t.tile; room = here.room ∙ ap (λ (u : View). home_room (tiles_of u.load.shape) (tile_of c) u.load.scripts) (sym t.view) }
 
 -- the word of an operation is one of the row
-pub word_in_row : (load : Load) (run : List Step) (c : Step) (x : TilePlace) (o : WordOp) → IsAccepted load → known load run (tile_of c) ≡ Some x → op_of x c ≡ Some o → word_of o < row_length load
+pub word_in_row : (load : Load) (run : List Step) (c : Step) (x : TilePlace) (o : WordOp) → IsAccepted load → known load run (tile_of c) ≡ Some x
+    → op_of x c ≡ Some o → word_of o < row_length load
 word_in_row load run c x o ok here asks =
     let row : List ℕ = shown_row load run in
     let k = tells load ok row run c x o (row_shows load run) here asks in
     subst (λ (m : ℕ). word_of o < m) (row_size load ok row run (row_shows load run)) k.within
 
 -- what a turn picked is what it attempts
-pub as_picked : (v : View) (s c : Step) (p : TilePlace) (x : PlacedTile) (o : WordOp) → s ≡ c → p ≡ x.place → IsAccepted v.load → StandsAt v.load v.run (tile_of c) x → Some o ≡ tile_next_op x.place c
+pub as_picked : (v : View) (s c : Step) (p : TilePlace) (x : PlacedTile) (o : WordOp) → s ≡ c → p ≡ x.place → IsAccepted v.load
+    → StandsAt v.load v.run (tile_of c) x → Some o ≡ tile_next_op x.place c
     → (known v.load v.run (tile_of s) ≡ Some p) × (op_of p s ≡ Some o) × (word_of o < row_length v.load)
 as_picked v s c p x o step place ok here op =
-    let here' : known v.load v.run (tile_of s) ≡ Some p = ap (λ (y : Step). known v.load v.run (tile_of y)) step ∙ here.place ∙ ap (λ (q : TilePlace). Some q) (sym place) in
+    let here' : known v.load v.run (tile_of s) ≡ Some p =
+    ap (λ (y : Step). known v.load v.run (tile_of y)) step ∙ here.place ∙ ap (λ (q : TilePlace). Some q) (sym place) in
     let next : Some o ≡ tile_next_op p s = op ∙ sym (ap (λ (q : TilePlace). tile_next_op q c) place) ∙ sym (ap (λ (y : Step). tile_next_op p y) step) in
     let asks = op_is p s (Some o) next in
     (here', asks, word_in_row v.load v.run s p o ok here' asks)
@@ -125,7 +135,8 @@ away_one t [] c a ne = (ne, tt)
 away_one t (x ∷ xs) c a ne = (a.0, away_one t xs c a.1 ne)
 
 -- with b, the step c after the others
-only_by : (b : Bool) (c : Step) (v w : View) (between : List Step) → IsAccepted v.load → Others v.groups between → w ≡ knowing v (grown b (v.run ++ between) c) → OnlyTile v (tile_of c) w
+only_by : (b : Bool) (c : Step) (v w : View) (between : List Step) → IsAccepted v.load → Others v.groups between → w ≡ knowing v (grown b (v.run ++ between) c)
+    → OnlyTile v (tile_of c) w
 only_by true c v w between accepted o e = record {
   same = e ∙ ap (λ (u : View). knowing v u.run) (sym e);
   later = (between ++ c ∷ [], ap (λ (u : View). u.run) e ∙ append_assoc v.run between (c ∷ []));

@@ -5,15 +5,15 @@ use lib.ListN.{get_elem?}
 use Rattle.torus.specs.Shape.{Shape, tiles_of}
 use Rattle.torus.specs.declared.step.Step.{Step}
 use Rattle.channel_number.specs.Order.{channel_count}
-use Rattle.runs.specs.Observed.{Observed}
-use Rattle.fabric_laws.specs.tile_agents.specs.Placed.{PlacedTile}
-use Rattle.fabric_laws.specs.net_interface.specs.Following.{is_finished}
-use Rattle.fabric_laws.specs.core_laws.specs.Core.{Load, after, show}
-use Rattle.fabric_laws.specs.core_laws.specs.Runs.{IsAccepted}
-use Rattle.fabric_laws.specs.Known.{Shows}
-use Rattle.fabric_laws.specs.View.{View}
-use Rattle.fabric_laws.specs.Groups.{Begins}
-use Rattle.fabric_laws.specs.Rule.{Kept}
+use Rattle.one_order.specs.Observed.{Observed}
+use Rattle.fabric_rule.specs.tile.specs.Placed.{PlacedTile}
+use Rattle.fabric_rule.specs.script_follower.specs.Following.{is_finished}
+use Rattle.fabric_rule.specs.core_laws.specs.Core.{Load, after, show}
+use Rattle.fabric_rule.specs.core_laws.specs.Runs.{IsAccepted}
+use Rattle.fabric_rule.specs.Known.{Shows}
+use Rattle.fabric_rule.specs.View.{View}
+use Rattle.fabric_rule.specs.Groups.{Begins}
+use Rattle.fabric_rule.specs.Rule.{Kept}
 use Rattle.fabric.specs.Seats.{Knowing, StandsAt}
 
 -- what was loaded, and the run that has ended (this project's own format)
@@ -25,20 +25,22 @@ pub record Ended : Type 0 where
 abbrev pub ended : View → Ended
 ended v = record { load = v.load; run = v.run }
 
--- No seat's run exceeds the one that k knows: wherever the rule of the row is kept, and the view of k is among the views
--- of all seats, every seat's run is a beginning of it. That the rule is kept between any two operations on the row is
--- what its table has proved.
+-- No seat's run exceeds the one that k knows: wherever the rule of the row is kept, and the view of
+-- k is among the views of all seats, every seat's run is a beginning of it. That the rule is kept
+-- between any two operations on the row is what its table has proved.
 abbrev pub IsLongest : Knowing → Type 0
-IsLongest k = (words : List ℕ) (views : List View) (r : List Step) (id other : ℕ) (v u : View) → Kept k.load words views r
-    → get_elem? views id ≡ some v → v.run ≡ k.run → v.groups ≡ k.tiles ∷ [] → get_elem? views other ≡ some u
+IsLongest k = (words : List ℕ) (views : List View) (r : List Step) (id other : ℕ) (v u : View)
+    → Kept k.load words views r
+    → get_elem? views id ≡ some v → v.run ≡ k.run → v.groups ≡ k.tiles ∷ []
+    → get_elem? views other ≡ some u
     → Begins k.run u.run
 
 -- a view as a seat that knows k has it
 abbrev pub IsViewOf : Knowing → View → Type 0
 IsViewOf k v = (v.load ≡ k.load) × (v.run ≡ k.run) × (v.groups ≡ k.tiles ∷ [])
 
--- There are words and views of which the rule of the row is kept, with the run that k knows as the longest: the view of k
--- is among the views, and each view's run is a beginning of its run.
+-- There are words and views of which the rule of the row is kept, with the run that k knows as the
+-- longest: the view of k is among the views, and each view's run is a beginning of its run.
 pub record WasLongest (k : Knowing) : Type 0 where
   pub words : List ℕ
   pub views : List View
@@ -46,7 +48,8 @@ pub record WasLongest (k : Knowing) : Type 0 where
   pub own : (id : ℕ) × (v : View) × (get_elem? views id ≡ some v) × IsViewOf k v
   pub longest : (id : ℕ) (u : View) → get_elem? views id ≡ some u → Begins k.run u.run
 
--- what is shown after a run: operations issued, answers, entries of the banks, and the words by address
+-- what is shown after a run: operations issued, answers, entries of the banks, and the words by
+-- address
 abbrev pub shown_after : Load → List Step → Observed
 shown_after load run = show (length load.opening) (after load run)
 
@@ -61,9 +64,10 @@ abbrev pub slot_finished : Option PlacedTile → Bool
 slot_finished None = true
 slot_finished (Some x) = is_finished x.place.processor.state.operations.following
 
--- what is kept at the end: all tiles, the row, where the words of the memory begin in it, the torus, and the opening
--- words (this project's own format)
-pub record IsEnd (last : Ended) (slots : List (Option PlacedTile)) (words : List ℕ) (start : ℕ) (shape : Shape) (first : List ℕ) : Type 0 where
+-- what is kept at the end: all tiles, the row, where the words of the memory begin in it, the
+-- torus, and the opening words (this project's own format)
+pub record IsEnd (last : Ended) (slots : List (Option PlacedTile)) (words : List ℕ) (start : ℕ)
+    (shape : Shape) (first : List ℕ) : Type 0 where
   pub accepted : IsAccepted last.load
   pub tiles : HasAll slots last.load last.run
   pub row : Shows last.load words last.run

@@ -3,10 +3,10 @@ use Rattle.std.specs.Prelude.{ℕ, zero, suc, ◌-◌, ◌<◌, List, [], ◌∷
 use Rattle.torus.specs.Shape.{tiles_of}
 use Rattle.torus.specs.declared.step.Step.{Step}
 use Rattle.torus.specs.declared.step.Choice.TheVariants.{Send}
-use Rattle.fabric_laws.specs.tile.specs.Agents.{TilePlace}
-use Rattle.fabric_laws.specs.tile.specs.Beginning.{new_tile}
-use Rattle.fabric_laws.specs.core_laws.specs.Core.{Load, design_of, first_tile}
-use Rattle.fabric_laws.specs.View.{View, no_load}
+use Rattle.fabric_rule.specs.tile_laws.specs.Agents.{TilePlace}
+use Rattle.fabric_rule.specs.tile_laws.specs.Beginning.{new_tile}
+use Rattle.fabric_rule.specs.core_laws.specs.Core.{Load, design_of, first_tile}
+use Rattle.fabric_rule.specs.View.{View, no_load}
 
 -- what is loaded, and at which tiles the tiles are cut into ranges (this project's own format)
 pub record Opening : Type 0 where
@@ -30,7 +30,13 @@ Rises a (c ∷ cs) n = (a < c) × Rises c cs n
 
 -- the first seat knows the empty run, and has all tiles
 abbrev pub first_view : Opening → View
-first_view k = record { live = true; load = k.load; run = []; groups = ranges 0 k.cuts (tiles_of k.load.shape); told = [] }
+first_view k = record {
+  live = true;
+  load = k.load;
+  run = [];
+  groups = ranges 0 k.cuts (tiles_of k.load.shape);
+  told = [];
+}
 
 -- stands for a step, and for a tile in its place, where nothing was picked
 abbrev pub no_step : Step

@@ -1,5 +1,5 @@
-pub use Rattle.fabric_laws.specs.core_laws
-pub use Rattle.fabric_laws
+pub use Rattle.fabric_rule.specs.core_laws
+pub use Rattle.fabric_rule
 pub mod Key
 pub mod Table
 pub mod Turns

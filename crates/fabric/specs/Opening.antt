@@ -1,13 +1,14 @@
 -- What is made where a fabric is opened.
-use Rattle.std.specs.Prelude.{◌≡◌, ℕ, ◌<◌, ◌≤◌, nat_lt, ◌&&◌, Bool, false, if◌then◌else◌, List, [], ◌∷◌, length, slice_get, Some, Option}
+use Rattle.std.specs.Prelude.{◌≡◌, ℕ, ◌<◌, ◌≤◌, nat_lt, ◌&&◌, Bool, false, if◌then◌else◌, List, [], ◌∷◌, length}
+use Rattle.std.specs.Prelude.{slice_get, Some, Option}
 use Rattle.atomic_table.specs.Seated.{TableId}
 use Rattle.atomic_table.specs.declared.shared.Seat.{Seat}
 use Rattle.torus.specs.Shape.{tiles_of}
-use Rattle.fabric_laws.specs.tile_agents.specs.Placed.{PlacedTile}
-use Rattle.fabric_laws.specs.core_laws.specs.Core.{Load}
-use Rattle.fabric_laws.specs.core_laws.specs.Runs.{IsAccepted}
-use Rattle.fabric_laws.specs.Known.{Shows}
-use Rattle.fabric_laws.specs.View.{View}
+use Rattle.fabric_rule.specs.tile.specs.Placed.{PlacedTile}
+use Rattle.fabric_rule.specs.core_laws.specs.Core.{Load}
+use Rattle.fabric_rule.specs.core_laws.specs.Runs.{IsAccepted}
+use Rattle.fabric_rule.specs.Known.{Shows}
+use Rattle.fabric_rule.specs.View.{View}
 use Rattle.fabric.specs.Key.{Rises}
 use Rattle.fabric.specs.Seats.{Knowing, Placed, StandsAt}
 
@@ -20,8 +21,8 @@ rises a (c ∷ cs) n = if nat_lt a c then rises c cs n else false
 abbrev pub can_deal : List ℕ → ℕ → ℕ → Bool
 can_deal cuts probes n = nat_lt (length cuts) 16 && nat_lt probes 17 && rises 0 cuts n
 
--- as many seats may be dealt of n tiles: the cuts rise strictly within 1 to n - 1, and there are at most 15 cuts and 16
--- probes (this project's own limits)
+-- as many seats may be dealt of n tiles: the cuts rise strictly within 1 to n - 1, and there are at
+-- most 15 cuts and 16 probes (this project's own limits)
 pub record CanDeal (cuts : List ℕ) (probes n : ℕ) : Type 0 where
   pub rise : Rises 0 cuts n
   pub few_cuts : length cuts ≤ 15
@@ -31,7 +32,8 @@ pub record CanDeal (cuts : List ℕ) (probes n : ℕ) : Type 0 where
 abbrev pub fresh : TableId → Load → List ℕ → Knowing
 fresh z load tiles = record { table = z; load = load; run = []; tiles = tiles }
 
--- a freshly loaded machine in its parts: the row shows the state after no step, and so stand the tiles
+-- a freshly loaded machine in its parts: the row shows the state after no step, and so stand the
+-- tiles
 pub record IsFresh (load : Load) (row : List ℕ) (tiles : List PlacedTile) : Type 0 where
   pub accepted : IsAccepted load
   pub shows : Shows load row []
@@ -45,7 +47,8 @@ pub record Rest (load : Load) (all : List (Option PlacedTile)) (from : ℕ) : Ty
       → (x : PlacedTile) × (slice_get all t ≡ Some (Some x)) × StandsAt load [] t x
 
 -- a seat of the table z that knows the empty run of the load, and has these groups
-pub record HasRest (z : TableId) (load : Load) (groups : List (List ℕ)) (s : Seat (Unit {0}) View) : Type 0 where
+pub record HasRest (z : TableId) (load : Load) (groups : List (List ℕ))
+    (s : Seat (Unit {0}) View) : Type 0 where
   pub table : s.table_id ≡ z
   pub placed : Placed s
   pub loaded : s.me.0.load ≡ load

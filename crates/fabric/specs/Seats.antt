@@ -1,19 +1,21 @@
 -- What callers see of a seat and of the fabric.
-use Rattle.std.specs.Prelude.{◌≡◌, ◌⊎◌, ℕ, ◌<◌, true, false, List, [], ◌∷◌, ◌++◌, length, slice_get, Option, None, Some, MatchBool}
+use Rattle.std.specs.Prelude.{◌≡◌, ◌⊎◌, ℕ, ◌<◌, true, false, List, [], ◌∷◌, ◌++◌, length, slice_get, Option, None}
+use Rattle.std.specs.Prelude.{Some, MatchBool}
 use Rattle.atomic_table.specs.Seated.{TableId}
 use Rattle.atomic_table.specs.declared.shared.Seat.{Seat}
 use Rattle.torus.specs.Shape.{tiles_of}
 use Rattle.torus.specs.declared.step.Step.{Step}
-use Rattle.fabric_laws.specs.flights.specs.Room.{home_room}
-use Rattle.fabric_laws.specs.tile_agents.specs.Placed.{PlacedTile}
-use Rattle.fabric_laws.specs.core_laws.specs.Core.{Load}
-use Rattle.fabric_laws.specs.core_laws.specs.Runs.{IsAccepted}
-use Rattle.fabric_laws.specs.Known.{tile_of, known, enabled, row_length}
-use Rattle.fabric_laws.specs.View.{View}
-use Rattle.fabric_laws.specs.Groups.{Owns, Others, GoesOn, Begins, first_group}
+use Rattle.fabric_rule.specs.order_abstract.specs.Room.{home_room}
+use Rattle.fabric_rule.specs.tile.specs.Placed.{PlacedTile}
+use Rattle.fabric_rule.specs.core_laws.specs.Core.{Load}
+use Rattle.fabric_rule.specs.core_laws.specs.Runs.{IsAccepted}
+use Rattle.fabric_rule.specs.Known.{tile_of, known, enabled, row_length}
+use Rattle.fabric_rule.specs.View.{View}
+use Rattle.fabric_rule.specs.Groups.{Owns, Others, GoesOn, Begins, first_group}
 use Rattle.fabric.specs.Turns.{ready, has_choice}
 
--- what a seat knows: which fabric it is of, what was loaded, a run of it, and which tiles are its own
+-- what a seat knows: which fabric it is of, what was loaded, a run of it, and which tiles are its
+-- own
 pub record Knowing : Type 0 where
   pub table : TableId
   pub load : Load
@@ -21,20 +23,28 @@ pub record Knowing : Type 0 where
   pub tiles : List ℕ
 
 abbrev pub seat_knows : Seat (Unit {0}) View → Knowing
-seat_knows s = record { table = s.table_id; load = s.me.0.load; run = s.me.0.run; tiles = first_group s.me.0.groups }
+seat_knows s = record {
+  table = s.table_id;
+  load = s.me.0.load;
+  run = s.me.0.run;
+  tiles = first_group s.me.0.groups;
+}
 
 abbrev pub with_run : Knowing → List Step → Knowing
 with_run k run = record { table = k.table; load = k.load; run = run; tiles = k.tiles }
 
--- a tile in code stands as after a run, and its bank has as much room as the scripts have operations for it
+-- a tile in code stands as after a run, and its bank has as much room as the scripts have
+-- operations for it
 pub record StandsAt (load : Load) (run : List Step) (t : ℕ) (x : PlacedTile) : Type 0 where
   pub place : known load run t ≡ Some x.place
   pub room : x.room ≡ home_room (tiles_of load.shape) t load.scripts
 
 -- the tiles in a seat's slots are its own, and stand as after the run that it knows
-pub record Tied (slots : List (Option PlacedTile)) (load : Load) (run : List Step) (tiles : List ℕ) : Type 0 where
+pub record Tied (slots : List (Option PlacedTile)) (load : Load) (run : List Step)
+    (tiles : List ℕ) : Type 0 where
   pub room : length slots ≡ tiles_of load.shape
-  pub own : (t : ℕ) (x : PlacedTile) → slice_get slots t ≡ Some (Some x) → Owns tiles t × StandsAt load run t x
+  pub own : (t : ℕ) (x : PlacedTile) → slice_get slots t ≡ Some (Some x)
+      → Owns tiles t × StandsAt load run t x
   pub all : (t : ℕ) → Owns tiles t → (x : PlacedTile) × (slice_get slots t ≡ Some (Some x))
 
 -- a seat that is still there, and was told of nothing that it hasn't learned
@@ -58,16 +68,20 @@ pub record Looking (s : Seat (Unit {0}) View) : Type 0 where
 
 -- after steps of others the step was made, enabled there
 abbrev pub Moves : Knowing → Step → Knowing → Type 0
-Moves v c w = (between : List Step) × Others (v.tiles ∷ []) between × (enabled v.load (v.run ++ between) c ≡ true)
+Moves v c w = (between : List Step) × Others (v.tiles ∷ []) between
+    × (enabled v.load (v.run ++ between) c ≡ true)
     × (w ≡ with_run v ((v.run ++ between) ++ c ∷ []))
 
 -- steps of others were seen
 abbrev pub Grows : Knowing → Knowing → Type 0
-Grows v w = (between : List Step) × Others (v.tiles ∷ []) between × (w ≡ with_run v (v.run ++ between))
+Grows v w = (between : List Step) × Others (v.tiles ∷ []) between
+    × (w ≡ with_run v (v.run ++ between))
 
--- where the agent's own condition failed nothing changed; else steps of others were seen, and then the step is not enabled
+-- where the agent's own condition failed nothing changed; else steps of others were seen, and then
+-- the step is not enabled
 abbrev pub Idles : Knowing → Step → Knowing → Type 0
-Idles v c w = MatchBool (ready v.load v.run c) (Grows v w × (enabled w.load w.run c ≡ false)) (w ≡ v)
+Idles v c w = MatchBool (ready v.load v.run c) (Grows v w × (enabled w.load w.run c ≡ false))
+    (w ≡ v)
 
 -- the step is of no agent of the seat, or of one without that choice
 abbrev pub IsNotMine : Knowing → Step → Type 0

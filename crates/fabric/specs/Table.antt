@@ -2,18 +2,18 @@
 use Rattle.std.specs.Prelude.{◌≡◌, ℕ, List, [], ◌∷◌}
 use Rattle.atomic_table.specs.Table as table
 use Rattle.torus.specs.declared.step.Step.{Step}
-use Rattle.fabric_laws.specs.tile.specs.Agents.{TilePlace}
-use Rattle.fabric_laws.specs.core_laws.specs.Core.{Load}
-use Rattle.fabric_laws.specs.View.{View}
-use Rattle.fabric_laws.specs.Groups.{flat}
-use Rattle.fabric_laws.specs.Rule.{Kept, Attempted, Looked, Learned}
+use Rattle.fabric_rule.specs.tile_laws.specs.Agents.{TilePlace}
+use Rattle.fabric_rule.specs.core_laws.specs.Core.{Load}
+use Rattle.fabric_rule.specs.View.{View}
+use Rattle.fabric_rule.specs.Groups.{flat}
+use Rattle.fabric_rule.specs.Rule.{Kept, Attempted, Looked, Learned}
 
 -- the rule: some run is the longest that any seat knows
 abbrev pub Holds : Load → table.State (Unit {0}) View → Type 0
 Holds load s = (r : List Step) × Kept load s.words s.views r
 
--- what a step of the table tells its seat: of an attempt, of a look, and of a look by a seat that was told of others,
--- whose groups stay or become one
+-- what a step of the table tells its seat: of an attempt, of a look, and of a look by a seat that
+-- was told of others, whose groups stay or become one
 abbrev pub Told : Type 1
 Told = table.Step (Unit {0}) → table.Me (Unit {0}) View → ℕ → table.Me (Unit {0}) View → Type 0
 

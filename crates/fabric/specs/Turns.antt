@@ -1,17 +1,19 @@
 -- What a turn makes of a view.
-use Rattle.std.specs.Prelude.{◌≡◌, ◌≢◌, ℕ, ◌%◌, Bool, true, false, List, [], ◌∷◌, ◌++◌, MatchBool, is_some, option_and_then}
+use Rattle.std.specs.Prelude.{◌≡◌, ◌≢◌, ℕ, ◌%◌, Bool, true, false, List, [], ◌∷◌, ◌++◌, MatchBool, is_some}
+use Rattle.std.specs.Prelude.{option_and_then}
 use Rattle.atomic_table.specs.declared.shared.Seat.{Seat}
 use Rattle.torus.specs.Shape.{Shape, dims_of}
 use Rattle.torus.specs.declared.step.Step.{Step}
 use Rattle.torus.specs.Choices.{has_choice as numbered_has}
 use Rattle.channel_number.specs.Ports.{port_count}
-use Rattle.fabric_laws.specs.core_laws.specs.Core.{Load}
-use Rattle.fabric_laws.specs.Known.{tile_of, known, enabled, op_of}
-use Rattle.fabric_laws.specs.View.{View}
-use Rattle.fabric_laws.specs.Groups.{In, Others, Begins, both, knowing}
-use Rattle.fabric_laws.specs.Rule.{Learned}
+use Rattle.fabric_rule.specs.core_laws.specs.Core.{Load}
+use Rattle.fabric_rule.specs.Known.{tile_of, known, enabled, op_of}
+use Rattle.fabric_rule.specs.View.{View}
+use Rattle.fabric_rule.specs.Groups.{In, Others, Begins, both, knowing}
+use Rattle.fabric_rule.specs.Rule.{Learned}
 
--- whether the step's agent has its choice, by the number of the router's ports (this project's own format)
+-- whether the step's agent has its choice, by the number of the router's ports (this project's own
+-- format)
 abbrev pub has_choice : Shape → Step → Bool
 has_choice s attempt = numbered_has (port_count (dims_of s)) (attempt.agent % 3) attempt.choice
 
@@ -21,12 +23,14 @@ ready load run c = is_some (option_and_then (λ p. op_of p c) (known load run (t
 
 -- after steps of others the step was made, enabled there
 abbrev pub StepMoves : View → Step → View → Type 0
-StepMoves v c w = (between : List Step) × Others v.groups between × (enabled v.load (v.run ++ between) c ≡ true)
+StepMoves v c w = (between : List Step) × Others v.groups between
+    × (enabled v.load (v.run ++ between) c ≡ true)
     × (w ≡ knowing v ((v.run ++ between) ++ c ∷ []))
 
 -- steps of others were seen, after which the step is not enabled
 abbrev pub SeesIdle : View → Step → View → Type 0
-SeesIdle v c w = (between : List Step) × Others v.groups between × (enabled v.load (v.run ++ between) c ≡ false)
+SeesIdle v c w = (between : List Step) × Others v.groups between
+    × (enabled v.load (v.run ++ between) c ≡ false)
     × (w ≡ knowing v (v.run ++ between))
 
 -- where the agent's own condition failed, nothing changed

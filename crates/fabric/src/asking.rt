@@ -2,9 +2,9 @@
 ghost use Rattle.std.specs.Prelude.{◌≡◌, ◌≤◌, ◌<◌, ◌↔◌, ℕ, IsTrue, IfNone, IfSome};
 ghost use Rattle.torus.specs.Shape.{dims_of, tiles_of};
 ghost use Rattle.channel_number.specs.Ports.{port_count};
-ghost use Rattle.fabric_laws.specs.core_laws.specs.Runs.{IsAccepted};
-ghost use Rattle.fabric_laws.specs.Groups.{Owns};
-ghost use Rattle.fabric_laws.specs.Ended.{AreAllFinished};
+ghost use Rattle.fabric_rule.specs.core_laws.specs.Runs.{IsAccepted};
+ghost use Rattle.fabric_rule.specs.Groups.{Owns};
+ghost use Rattle.fabric_rule.specs.Ended.{AreAllFinished};
 ghost use Rattle.fabric.specs.Asking.{HasSeen, IsNextTile};
 ghost use Rattle.fabric.specs.Lawful.{HasLawfulRun};
 

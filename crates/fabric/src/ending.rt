@@ -2,11 +2,11 @@
 ghost use Rattle.std.specs.Prelude.{◌≡◌, ◌↔◌, ◌≤◌, true, IsNone, IsTrue, IfSome, Some, length, slice_get, is_some};
 ghost use Rattle.std.specs.Option.{option_copied};
 ghost use Rattle.torus.specs.Shape.{tiles_of};
-ghost use Rattle.fabric_laws.specs.flights.specs.Scripts.{AreFinished};
-ghost use Rattle.fabric_laws.specs.core_laws.specs.Core.{after, run_of};
-ghost use Rattle.fabric_laws.specs.core_laws.specs.Runs.{IsAccepted};
-ghost use Rattle.fabric_laws.specs.machine_laws.specs.Core.{all_finished};
-ghost use Rattle.fabric_laws.specs.Groups.{Owns};
+ghost use Rattle.fabric_rule.specs.order_abstract.specs.Scripts.{AreFinished};
+ghost use Rattle.fabric_rule.specs.core_laws.specs.Core.{after, run_of};
+ghost use Rattle.fabric_rule.specs.core_laws.specs.Runs.{IsAccepted};
+ghost use Rattle.fabric_rule.specs.core_machine.specs.Core.{all_finished};
+ghost use Rattle.fabric_rule.specs.Groups.{Owns};
 ghost use Rattle.fabric.specs.Seats.{IsOf, IsWhole, StandsAt};
 ghost use Rattle.fabric.specs.Ending.{IsLongest, WasLongest, shown_after, slot_finished};
 ghost use Rattle.fabric.specs.Lawful.{HasLawfulRun};
@@ -17,7 +17,7 @@ use crate::view::Knowledge;
 use atomic_table::{Closed, Seat};
 use home_bank::Entry;
 use machine_core::TileAgents;
-use runs::Answer;
+use one_order::Answer;
 use std::alloc::{Allocator, Global};
 use std::marker::Model;
 use torus::Torus;
@@ -38,7 +38,9 @@ impl<A: Allocator> TileSeat<A> {
     /// `None` exactly where its tile isn't the seat's.
     pub fn answers(&self, processor: u32) -> Option<&[Answer]>
         ensures none { IsNone result ↔ (Owns self.now.tiles processor → ⊥) }
-        ensures some { IfSome result (λ r. slice_get (shown_after self.now.load self.now.run).answers processor ≡ Some r.now) }
+        ensures some { IfSome result
+            (λ r. slice_get (shown_after self.now.load self.now.run).answers processor
+            ≡ Some r.now) }
     {
         let number = processor as usize;
         if number >= self.slots.len() {
@@ -97,15 +99,17 @@ pub struct Final<A: Allocator = Global> {
 impl<A: Allocator> Model for Final<A> {
     ghost use Rattle.std.specs.Prelude.{◌≡◌};
     ghost use Rattle.std.specs.Slots.{slots_items, slots_len, IsFull};
-    ghost use Rattle.fabric_laws.specs.Known.{row_length};
+    ghost use Rattle.fabric_rule.specs.Known.{row_length};
     ghost use Rattle.fabric.specs.Ending.{Ended, ended, IsEnd};
 
     ghost Value = { Ended };
 
     ghost view = { λ f. ended f.behind.me.0 };
 
-    ghost invariant = { λ f. IsEnd (ended f.behind.me.0) f.slots.items (slots_items f.closed.words) f.base f.torus f.opening.items
-        × (slots_len f.closed.slots ≡ 0) × IsFull f.closed.words × (slots_len f.closed.words ≡ row_length f.behind.me.0.load) };
+    ghost invariant = { λ f. IsEnd (ended f.behind.me.0) f.slots.items (slots_items f.closed.words)
+        f.base f.torus f.opening.items
+        × (slots_len f.closed.slots ≡ 0) × IsFull f.closed.words
+        × (slots_len f.closed.words ≡ row_length f.behind.me.0.load) };
 }
 
 impl<A: Allocator> Drop for Final<A> {
@@ -179,7 +183,8 @@ impl<A: Allocator> Final<A> {
     /// A processor's answers, in the order of answering; `None` exactly where there is no such
     /// processor.
     pub fn answers(&self, processor: u32) -> Option<&[Answer]>
-        ensures { option_copied result ≡ slice_get (shown_after self.now.load self.now.run).answers processor }
+        ensures { option_copied result
+            ≡ slice_get (shown_after self.now.load self.now.run).answers processor }
     {
         let Some(tile) = self.tile(processor) else {
             return None;
@@ -189,7 +194,8 @@ impl<A: Allocator> Final<A> {
 
     /// A bank's entries, in the order of its services; `None` exactly where there is no such bank.
     pub fn bank(&self, bank: u32) -> Option<&[Entry]>
-        ensures { option_copied result ≡ slice_get (shown_after self.now.load self.now.run).entries bank }
+        ensures { option_copied result
+            ≡ slice_get (shown_after self.now.load self.now.run).entries bank }
     {
         let Some(tile) = self.tile(bank) else {
             return None;
@@ -213,7 +219,9 @@ impl<A: Allocator> Final<A> {
     /// wants another load.
     pub fn finished(&self) -> bool
         ensures value { result ≡ all_finished (after self.now.load self.now.run) }
-        ensures law { IsTrue result ↔ AreFinished (run_of self.now.load self.now.run) (length self.now.run) self.now.load.scripts }
+        ensures law { IsTrue result
+            ↔ AreFinished (run_of self.now.load self.now.run) (length self.now.run)
+            self.now.load.scripts }
     {
         self.slots.iter().all(
             |slot|

@@ -2,9 +2,9 @@
 
 ghost use Rattle.std.specs.Prelude.{◌≡◌, ◌⊎◌, ◌<◌, ℕ, List};
 ghost use Rattle.torus.specs.declared.step.Step.{Step};
-ghost use Rattle.fabric_laws.specs.core_laws.specs.Core.{Load};
-ghost use Rattle.fabric_laws.specs.core_laws.specs.Runs.{IsAccepted};
-ghost use Rattle.fabric_laws.specs.Groups.{In, Apart};
+ghost use Rattle.fabric_rule.specs.core_laws.specs.Core.{Load};
+ghost use Rattle.fabric_rule.specs.core_laws.specs.Runs.{IsAccepted};
+ghost use Rattle.fabric_rule.specs.Groups.{In, Apart};
 ghost use Rattle.fabric.specs.Key.{Rises, ranges};
 ghost use Rattle.fabric.specs.Seats.{Knowing, Learns, JoinsTo};
 ghost use Rattle.fabric.specs.Lawful.{HasLawfulRun, IsAnsweredIn, KeepsAnswersFirst};
@@ -12,7 +12,8 @@ ghost use Rattle.fabric.specs.Lawful.{HasLawfulRun, IsAnsweredIn, KeepsAnswersFi
 /// Of the ranges into which cuts part n tiles, each tile is in one, and in no other; and no other tile is.
 pub fn ranges_have_each_tile_once()
     ensures every { (cuts : List ℕ) (n t : ℕ) → Rises 0 cuts n → t < n → In (ranges 0 cuts n) t }
-    ensures no_others { (cuts : List ℕ) (n t : ℕ) → Rises 0 cuts n → In (ranges 0 cuts n) t → t < n }
+    ensures no_others { (cuts : List ℕ) (n t : ℕ) → Rises 0 cuts n → In (ranges 0 cuts n) t
+        → t < n }
     ensures once { (cuts : List ℕ) (n : ℕ) → Rises 0 cuts n → Apart (ranges 0 cuts n) }
 {}
 
@@ -32,7 +33,10 @@ pub fn known_answers_come_first()
 /// answered before. So what is issued after a meeting stands, once served, after all of that.
 pub fn meetings_tell_all_answers()
     ensures met { (v u w : Knowing) (p i : ℕ) → IsAccepted v.load → u.load ≡ v.load → Learns v u w
-        → IsAnsweredIn v.load v.run p i ⊎ IsAnsweredIn u.load u.run p i → IsAnsweredIn w.load w.run p i }
-    ensures joined { (v u w : Knowing) (p i : ℕ) → IsAccepted v.load → u.load ≡ v.load → JoinsTo v u w
-        → IsAnsweredIn v.load v.run p i ⊎ IsAnsweredIn u.load u.run p i → IsAnsweredIn w.load w.run p i }
+        → IsAnsweredIn v.load v.run p i ⊎ IsAnsweredIn u.load u.run p i
+        → IsAnsweredIn w.load w.run p i }
+    ensures joined { (v u w : Knowing) (p i : ℕ) → IsAccepted v.load → u.load ≡ v.load
+        → JoinsTo v u w
+        → IsAnsweredIn v.load v.run p i ⊎ IsAnsweredIn u.load u.run p i
+        → IsAnsweredIn w.load w.run p i }
 {}

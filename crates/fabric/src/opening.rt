@@ -4,9 +4,9 @@ ghost use Rattle.torus.specs.Shape.{tiles_of, dims_of};
 ghost use Rattle.torus.specs.declared.fault.Fault.TheVariants as fault;
 ghost use Rattle.channel_number.specs.Order.{channel_count};
 ghost use Rattle.channel_number.specs.Ports.{port_count};
-ghost use Rattle.fabric_laws.specs.core_laws.specs.Core.{Load};
-ghost use Rattle.fabric_laws.specs.machine_laws.specs.Core.{IsAfter};
-ghost use Rattle.fabric_laws.specs.Groups.{first_group, other_groups};
+ghost use Rattle.fabric_rule.specs.core_laws.specs.Core.{Load};
+ghost use Rattle.fabric_rule.specs.core_machine.specs.Core.{IsAfter};
+ghost use Rattle.fabric_rule.specs.Groups.{first_group, other_groups};
 ghost use Rattle.fabric.specs.Key.{ranges, Rises, count_up};
 ghost use Rattle.fabric.specs.Opening.{fresh, rises, can_deal, CanDeal, Rest, HasRest};
 
@@ -31,11 +31,15 @@ fn cut_off<A: Allocator + Copy>(
     from: usize,
     to: usize,
 ) -> Result<(TileSeat<A>, Seat<(), Knowledge>), AllocError>
-    requires seat { HasRest row.now.table_id seat.me.0.load seat.me.0.groups seat × (0 < row.now.table_id.words) }
-    requires group { (first_group seat.me.0.groups ≡ count_up from (to - from)) × (from < to) × (to ≤ tiles_of seat.me.0.load.shape) }
+    requires seat { HasRest row.now.table_id seat.me.0.load seat.me.0.groups seat
+        × (0 < row.now.table_id.words) }
+    requires group { (first_group seat.me.0.groups ≡ count_up from (to - from)) × (from < to)
+        × (to ≤ tiles_of seat.me.0.load.shape) }
     requires all { Rest seat.me.0.load all.old.items from }
-    ensures seat { IfOk result (λ r. r.0 ≡ fresh row.now.table_id seat.me.0.load (count_up from (to - from))) }
-    ensures left { IfOk result (λ r. HasRest row.now.table_id seat.me.0.load (other_groups seat.me.0.groups) r.1) }
+    ensures seat { IfOk result
+        (λ r. r.0 ≡ fresh row.now.table_id seat.me.0.load (count_up from (to - from))) }
+    ensures left { IfOk result
+        (λ r. HasRest row.now.table_id seat.me.0.load (other_groups seat.me.0.groups) r.1) }
     ensures all { Rest seat.me.0.load all.new.items to }
 {
     let other = row.split_seat::<Halves>(&mut seat);
@@ -52,10 +56,12 @@ fn deal<A: Allocator + Copy>(
     cuts: &[usize],
     count: usize,
 ) -> Result<(Vec<TileSeat<A>, A>, Seat<(), Knowledge>), AllocError>
-    requires seat { HasRest row.now.table_id seat.me.0.load (ranges 0 cuts.now count) seat × (0 < row.now.table_id.words) }
+    requires seat { HasRest row.now.table_id seat.me.0.load (ranges 0 cuts.now count) seat
+        × (0 < row.now.table_id.words) }
     requires cuts { Rises 0 cuts.now count × (count ≡ tiles_of seat.me.0.load.shape) }
     requires all { Rest seat.me.0.load all.old.items 0 }
-    ensures seats { IfOk result (λ r. r.0.items ≡ map (fresh row.now.table_id seat.me.0.load) (ranges 0 cuts.now count)) }
+    ensures seats { IfOk result
+        (λ r. r.0.items ≡ map (fresh row.now.table_id seat.me.0.load) (ranges 0 cuts.now count)) }
     ensures left { IfOk result (λ r. HasRest row.now.table_id seat.me.0.load [] r.1) }
 {
     let mut seats = Vec::new(alloc);
@@ -79,8 +85,10 @@ fn lookers<A: Allocator + Copy>(
     seat: &mut Seat<(), Knowledge>,
     probes: usize,
 ) -> Result<Vec<ProbeSeat, A>, AllocError>
-    requires { HasRest row.now.table_id seat.old.me.0.load [] seat.old × (0 < row.now.table_id.words) }
-    ensures { IfOk result (λ r. r.items ≡ replicate probes (fresh row.now.table_id seat.old.me.0.load [])) }
+    requires { HasRest row.now.table_id seat.old.me.0.load [] seat.old
+        × (0 < row.now.table_id.words) }
+    ensures { IfOk result
+        (λ r. r.items ≡ replicate probes (fresh row.now.table_id seat.old.me.0.load [])) }
 {
     let mut seats = Vec::new(alloc);
     for _ in 0..probes {
@@ -137,8 +145,11 @@ impl<A: Allocator + Copy> Fabric<A> {
         requires load { IsAfter B.opening.load machine [] }
         requires cuts { (B.opening.cuts ≡ cuts.now) × Rises 0 cuts.now (tiles_of machine.shape) }
         ensures load { IfOk result (λ r. IsAfter r.0.load machine []) }
-        ensures seats { IfOk result (λ r. r.1.items ≡ map (fresh r.0.table r.0.load) (ranges 0 cuts.now (tiles_of machine.shape))) }
-        ensures probes { IfOk result (λ r. r.2.items ≡ replicate probes (fresh r.0.table r.0.load [])) }
+        ensures seats { IfOk result
+            (λ r. r.1.items ≡ map (fresh r.0.table r.0.load)
+            (ranges 0 cuts.now (tiles_of machine.shape))) }
+        ensures probes { IfOk result
+            (λ r. r.2.items ≡ replicate probes (fresh r.0.table r.0.load [])) }
     {
         let dealing = named::<A, B>(alloc)?;
         let Parts {
@@ -183,10 +194,15 @@ impl<A: Allocator + Copy> Fabric<A> {
     ) -> Result<(Fabric<A>, Vec<TileSeat<A>, A>, Vec<ProbeSeat, A>), Fault>
         requires fresh { (l : Load) × IsAfter l machine [] }
         ensures load { IfOk result (λ r. IsAfter r.0.load machine []) }
-        ensures seats { IfOk result (λ r. r.1.items ≡ map (fresh r.0.table r.0.load) (ranges 0 cuts.now (tiles_of machine.shape))) }
-        ensures probes { IfOk result (λ r. r.2.items ≡ replicate probes (fresh r.0.table r.0.load [])) }
-        ensures range { (result ≡ Err fault.Range) ↔ (CanDeal cuts.now probes (tiles_of machine.shape) → ⊥) }
-        ensures fault { IfErr result (λ refused. (refused ≡ fault.Range) ⊎ (refused ≡ fault.Memory)) }
+        ensures seats { IfOk result
+            (λ r. r.1.items ≡ map (fresh r.0.table r.0.load)
+            (ranges 0 cuts.now (tiles_of machine.shape))) }
+        ensures probes { IfOk result
+            (λ r. r.2.items ≡ replicate probes (fresh r.0.table r.0.load [])) }
+        ensures range { (result ≡ Err fault.Range)
+            ↔ (CanDeal cuts.now probes (tiles_of machine.shape) → ⊥) }
+        ensures fault { IfErr result
+            (λ refused. (refused ≡ fault.Range) ⊎ (refused ≡ fault.Memory)) }
     {
         let count = machine.torus().tiles() as usize;
         if !can_deal(cuts, probes, count) {

@@ -1,9 +1,10 @@
 //! Seats, and the calls that step by them.
 ghost use Rattle.std.specs.Prelude.{◌≡◌, ◌≤◌, ◌↔◌, ◌⊎◌, ℕ, IsNone, IfSome, length, slice_get};
-ghost use Rattle.fabric_laws.specs.Known.{word_after};
-ghost use Rattle.fabric_laws.specs.Groups.{Begins};
+ghost use Rattle.fabric_rule.specs.Known.{word_after};
+ghost use Rattle.fabric_rule.specs.Groups.{Begins};
 ghost use Rattle.fabric.specs.Turns.{Sees};
-ghost use Rattle.fabric.specs.Seats.{Moves, Idles, Grows, IsNotMine, IsOf, Learns, JoinsTo, Placed, mix_at, seat_knows, with_run};
+ghost use Rattle.fabric.specs.Seats.{Moves, Idles, Grows, IsNotMine, IsOf, Learns, JoinsTo, Placed, mix_at};
+ghost use Rattle.fabric.specs.Seats.{seat_knows, with_run};
 ghost use Rattle.fabric.specs.Lawful.{HasLawfulRun, KeepsBothFirst};
 ghost use Rattle.fabric.specs.declared.steps.Turned.TheVariants.{Moved, Idle, NotMine};
 
@@ -34,17 +35,24 @@ impl<A: Allocator> Model for Fabric<A> {
     ghost use Rattle.torus.specs.Shape.{dims_of};
     ghost use Rattle.channel_number.specs.Order.{channel_count};
     ghost use Rattle.channel_number.specs.Ports.{port_count};
-    ghost use Rattle.fabric_laws.specs.Known.{row_length};
+    ghost use Rattle.fabric_rule.specs.Known.{row_length};
     ghost use Rattle.fabric.specs.Seats.{Origin};
 
     ghost Value = { Origin };
 
-    ghost view = { λ f. record { table = f.table.shared.table_id; load = f.table.shared.key.load } };
+    ghost view = { λ f. record {
+      table = f.table.shared.table_id;
+      load = f.table.shared.key.load;
+    } };
 
-    ghost invariant = { λ f. (f.base ≡ channel_count f.table.shared.key.load.shape * f.table.shared.key.load.depth)
-        × (f.words ≡ length f.table.shared.key.load.opening) × (f.table.shared.table_id.words ≡ row_length f.table.shared.key.load)
-        × (f.table.shared.table_id.slots ≡ 0) × (f.base + f.words < 2 ^ 32) × (f.ports ≡ port_count (dims_of f.table.shared.key.load.shape))
-        × (f.torus ≡ f.table.shared.key.load.shape) × (f.opening.items ≡ f.table.shared.key.load.opening) };
+    ghost invariant = { λ f.
+        (f.base ≡ channel_count f.table.shared.key.load.shape * f.table.shared.key.load.depth)
+        × (f.words ≡ length f.table.shared.key.load.opening)
+        × (f.table.shared.table_id.words ≡ row_length f.table.shared.key.load)
+        × (f.table.shared.table_id.slots ≡ 0) × (f.base + f.words < 2 ^ 32)
+        × (f.ports ≡ port_count (dims_of f.table.shared.key.load.shape))
+        × (f.torus ≡ f.table.shared.key.load.shape)
+        × (f.opening.items ≡ f.table.shared.key.load.opening) };
 }
 
 /// Some tiles, and what is known of the row. Contracts see what it knows.
@@ -111,7 +119,8 @@ impl<A: Allocator> Fabric<A> {
         requires own { IsOf self.now (seat_knows seat.old) }
         requires placed { Placed seat.old }
         ensures none { IsNone result ↔ (length self.now.load.opening ≤ address) }
-        ensures word { IfSome result (λ n. n ≡ word_after seat.new.me.0.load seat.new.me.0.run address) }
+        ensures word { IfSome result
+            (λ n. n ≡ word_after seat.new.me.0.load seat.new.me.0.run address) }
         ensures sees { Sees seat.old seat.new }
     {
         if address >= self.words {
@@ -150,7 +159,8 @@ impl<A: Allocator> Fabric<A> {
         requires { IsOf self.now one × IsOf self.now other }
         ensures one { Learns one other result.0 }
         ensures other { Learns other one result.1 }
-        ensures lawful { HasLawfulRun result.0.load result.0.run × HasLawfulRun result.1.load result.1.run }
+        ensures lawful { HasLawfulRun result.0.load result.0.run
+            × HasLawfulRun result.1.load result.1.run }
         ensures answers_first { KeepsBothFirst one other result.0 × KeepsBothFirst one other result.1 }
     {
         let TileSeat { slots, mut seat } = one;
@@ -219,7 +229,8 @@ fn mix<T: Drop, A: Allocator>(
 ) -> Vec<Option<T>, A>
     requires { length left.items ≡ length right.items }
     ensures len { length result.items ≡ length left.items }
-    ensures slots { (k : ℕ) → slice_get result.items k ≡ mix_at (slice_get left.items k) (slice_get right.items k) }
+    ensures slots { (k : ℕ)
+        → slice_get result.items k ≡ mix_at (slice_get left.items k) (slice_get right.items k) }
 {
     for i in 0..left.len() {
         if let Some(tile) = right[i].take() {

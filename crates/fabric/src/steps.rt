@@ -1,10 +1,10 @@
 //! The atomic operations on the row.
 ghost use Rattle.std.specs.Prelude.{◌≡◌, ◌≢◌, ◌<◌, true, Some, []};
-ghost use Rattle.fabric_laws.specs.tile.specs.Agents.{tile_next_op};
-ghost use Rattle.fabric_laws.specs.core_laws.specs.Runs.{IsAccepted};
-ghost use Rattle.fabric_laws.specs.Known.{tile_of, row_length};
-ghost use Rattle.fabric_laws.specs.Groups.{In};
-ghost use Rattle.fabric_laws.specs.Rule.{Attempted};
+ghost use Rattle.fabric_rule.specs.tile_laws.specs.Agents.{tile_next_op};
+ghost use Rattle.fabric_rule.specs.core_laws.specs.Runs.{IsAccepted};
+ghost use Rattle.fabric_rule.specs.Known.{tile_of, row_length};
+ghost use Rattle.fabric_rule.specs.Groups.{In};
+ghost use Rattle.fabric_rule.specs.Rule.{Attempted};
 ghost use Rattle.fabric.specs.Seats.{StandsAt};
 ghost use Rattle.fabric.specs.Turns.{StepMoves, StepIdles, OnlyTile, LearnsBoth};
 ghost use Rattle.fabric.specs.declared.steps.Turned.TheVariants.{Moved, Idle, NotMine};
@@ -37,8 +37,8 @@ pub type Row = Shared<(), Knowledge, Dealing, OneRun>;
 /// its run may have grown, so it has none for a second.
 pub trait Turning {
     ghost use Rattle.torus.specs.declared.step.Step.{Step};
-    ghost use Rattle.fabric_laws.specs.tile.specs.Agents.{TilePlace};
-    ghost use Rattle.fabric_laws.specs.View.{View};
+    ghost use Rattle.fabric_rule.specs.tile_laws.specs.Agents.{TilePlace};
+    ghost use Rattle.fabric_rule.specs.View.{View};
 
     ghost view: { View };
 
@@ -48,7 +48,7 @@ pub trait Turning {
 }
 
 impl Turning for Brand {
-    ghost use Rattle.fabric_laws.specs.View.{blank};
+    ghost use Rattle.fabric_rule.specs.View.{blank};
     ghost use Rattle.fabric.specs.Key.{no_step, no_place};
 
     ghost view = { blank };
@@ -78,12 +78,14 @@ fn perform<A: Allocator, B: Turning>(
 ) -> u64
     requires turning { seat.old.me.0 ≡ B.view }
     requires picked { (B.step ≡ step) × (B.place ≡ tile.now.place) }
-    requires table { (seat.old.table_id ≡ row.now.table_id) × (row.now.table_id.words ≡ row_length B.view.load) }
+    requires table { (seat.old.table_id ≡ row.now.table_id)
+        × (row.now.table_id.words ≡ row_length B.view.load) }
     requires load { IsAccepted B.view.load }
     requires seat { (B.view.live ≡ true) × (B.view.told ≡ []) × In B.view.groups (tile_of B.step) }
     requires tile { StandsAt B.view.load B.view.run (tile_of step) tile.now }
     requires op { Some op ≡ tile_next_op tile.now.place step }
-    ensures seat { (seat.new.table_id ≡ seat.old.table_id) × (seat.new.id ≡ seat.old.id) × (seat.new.me.1 ≡ seat.old.me.1) }
+    ensures seat { (seat.new.table_id ≡ seat.old.table_id) × (seat.new.id ≡ seat.old.id)
+        × (seat.new.me.1 ≡ seat.old.me.1) }
     ensures told { Attempted B.step B.place seat.old.me.0 result seat.new.me.0 }
 {
     let _ = step;
@@ -127,11 +129,13 @@ pub(crate) fn turn_tile<A: Allocator, B: Turning>(
 ) -> Turned
     requires turning { seat.old.me.0 ≡ B.view }
     requires picked { (B.step ≡ step) × (B.place ≡ tile.old.place) }
-    requires table { (seat.old.table_id ≡ row.now.table_id) × (row.now.table_id.words ≡ row_length B.view.load) }
+    requires table { (seat.old.table_id ≡ row.now.table_id)
+        × (row.now.table_id.words ≡ row_length B.view.load) }
     requires load { IsAccepted B.view.load }
     requires seat { (B.view.live ≡ true) × (B.view.told ≡ []) × In B.view.groups (tile_of B.step) }
     requires tile { StandsAt B.view.load B.view.run (tile_of step) tile.old }
-    ensures seat { (seat.new.table_id ≡ seat.old.table_id) × (seat.new.id ≡ seat.old.id) × (seat.new.me.1 ≡ seat.old.me.1) }
+    ensures seat { (seat.new.table_id ≡ seat.old.table_id) × (seat.new.id ≡ seat.old.id)
+        × (seat.new.me.1 ≡ seat.old.me.1) }
     ensures tile { StandsAt seat.new.me.0.load seat.new.me.0.run (tile_of step) tile.new }
     ensures moved { result ≡ Moved → StepMoves seat.old.me.0 step seat.new.me.0 }
     ensures idle { result ≡ Idle → StepIdles seat.old.me.0 step seat.new.me.0 }
@@ -177,7 +181,7 @@ impl Play<(), Knowledge> for Merge {
 pub(crate) struct Halves;
 
 impl Split<Knowledge> for Halves {
-    ghost use Rattle.fabric_laws.specs.Groups.{first_half, second_half};
+    ghost use Rattle.fabric_rule.specs.Groups.{first_half, second_half};
 
     ghost left = { first_half };
 
@@ -187,7 +191,7 @@ impl Split<Knowledge> for Halves {
 pub(crate) struct Note;
 
 impl Split<Knowledge> for Note {
-    ghost use Rattle.fabric_laws.specs.Groups.{with_groups, note};
+    ghost use Rattle.fabric_rule.specs.Groups.{with_groups, note};
 
     ghost left = { λ v. with_groups v v.groups };
 
@@ -197,8 +201,8 @@ impl Split<Knowledge> for Note {
 pub(crate) struct Both;
 
 impl Join<Knowledge> for Both {
-    ghost use Rattle.fabric_laws.specs.Groups.{both};
-    ghost use Rattle.fabric_laws.specs.View.{blank};
+    ghost use Rattle.fabric_rule.specs.Groups.{both};
+    ghost use Rattle.fabric_rule.specs.View.{blank};
 
     ghost both = { both };
 

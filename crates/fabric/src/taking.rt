@@ -42,8 +42,10 @@ pub(crate) fn taken<T: Drop, A: Allocator + Copy>(
     to: usize,
 ) -> Result<Vec<Option<T>, A>, AllocError>
     ensures len { IfOk result (λ v. length v.items ≡ length all.old.items) }
-    ensures inside { IfOk result (λ v. (t : ℕ) → from ≤ t → t < to → slice_get v.items t ≡ slice_get all.old.items t) }
-    ensures outside { IfOk result (λ v. (t : ℕ) (x : T) → slice_get v.items t ≡ Some (Some x) → (from ≤ t) × (t < to)) }
+    ensures inside { IfOk result
+        (λ v. (t : ℕ) → from ≤ t → t < to → slice_get v.items t ≡ slice_get all.old.items t) }
+    ensures outside { IfOk result
+        (λ v. (t : ℕ) (x : T) → slice_get v.items t ≡ Some (Some x) → (from ≤ t) × (t < to)) }
     ensures same { length all.new.items ≡ length all.old.items }
     ensures rest { (t : ℕ) → to ≤ t → slice_get all.new.items t ≡ slice_get all.old.items t }
 {

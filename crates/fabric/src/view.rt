@@ -9,7 +9,7 @@ pub struct Knowledge {
 }
 
 impl Model for Knowledge {
-    ghost use Rattle.fabric_laws.specs.View.{View, blank};
+    ghost use Rattle.fabric_rule.specs.View.{View, blank};
 
     ghost Value = { View };
 

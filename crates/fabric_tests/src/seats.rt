@@ -4,8 +4,8 @@ use crate::fixtures::{Call, PAIR, Pair, Whole, deal, deal_pair, deal_whole, hold
 use fabric::{Fabric, Final, ProbeSeat, TileSeat, Turned};
 use home_bank::Entry;
 use linked_list_allocator::LocalHeap;
+use one_order::Answer;
 use packet::{Op, Reply};
-use runs::Answer;
 use std::alloc::{Allocator, Global};
 use std::test::Fail;
 use std::thread;

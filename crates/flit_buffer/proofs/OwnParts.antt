@@ -30,7 +30,8 @@ module _ (a b : Surroundings) (same : SameChannels a b) where
   same_granted wiring (Access word op) = ap (λ ws. Some (told_by op (slice_index ws word))) same.words
   same_granted wiring (Await word value) = ap (λ ws. if slice_index ws word == value then Some value else None) same.words
 
-  same_changed : (x : ℕ) (f : Ring → Ring) (g : ChannelState → ChannelState) → ((r : Ring) → (f r).channel ≡ g r.channel) → SameChannels (changed a x f) (changed b x f)
+  same_changed : (x : ℕ) (f : Ring → Ring) (g : ChannelState → ChannelState) → ((r : Ring) → (f r).channel ≡ g r.channel)
+      → SameChannels (changed a x f) (changed b x f)
   same_changed x f g is = record {
     count = length-set a.rings x _ ∙ same.count ∙ sym (length-set b.rings x _);
     channels = λ y. elim (cases_lt x (length a.rings)) [
@@ -54,7 +55,8 @@ module _ (a b : Surroundings) (same : SameChannels a b) where
   same_after depth wiring (Take i) = same_changed (slice_index wiring.inputs i) (take_from_ring depth) take (λ r. refl)
   same_after depth wiring (Put o flit) = same_changed (slice_index wiring.outputs o) (put_in_ring flit) (put flit) (λ r. refl)
   same_after depth wiring (Credit o) = same_changed (slice_index wiring.outputs o) credit_of_ring credit (λ r. refl)
-  same_after depth wiring (Access word op) = record { count = same.count; channels = same.channels; words = ap (λ ws. set ws word (new_word op (slice_index ws word))) same.words }
+  same_after depth wiring (Access word op) =
+      record { count = same.count; channels = same.channels; words = ap (λ ws. set ws word (new_word op (slice_index ws word))) same.words }
   same_after depth wiring (Await word value) = same
 
 abbrev where_some : ℕ → Option ℕ
@@ -75,7 +77,8 @@ module _ (a b : Surroundings) (wiring : Wiring) where
     abbrev own : Option (S × Surroundings) → Option S
     own step = option_map (λ (p : S × Surroundings). p.0) step
 
-    by_granted : (want : Want) (g : Option ℕ) → own (step_with wants after depth wiring state a choice want g) ≡ own (step_with wants after depth wiring state b choice want g)
+    by_granted : (want : Want) (g : Option ℕ)
+        → own (step_with wants after depth wiring state a choice want g) ≡ own (step_with wants after depth wiring state b choice want g)
     by_granted want None = refl
     by_granted want (Some learned) = refl
 
@@ -99,7 +102,8 @@ module _ (depth : ℕ) (around : Surroundings) (wiring : Wiring) where
   other_rings (Access word op) y other = refl
   other_rings (Await word value) y other = refl
 
-  pub other_words : (want : Want) (n : ℕ) → written_word want ≢ Some n → slice_index (surroundings_after depth around wiring want).words n ≡ slice_index around.words n
+  pub other_words : (want : Want) (n : ℕ) → written_word want ≢ Some n
+      → slice_index (surroundings_after depth around wiring want).words n ≡ slice_index around.words n
   other_words (Take i) n other = refl
   other_words (Put o flit) n other = refl
   other_words (Credit o) n other = refl

@@ -1,5 +1,6 @@
 -- The ends of channels after a granted want, and tests in small.
-use Rattle.std.proofs.Common.{◌≡◌, ℕ, ◌*◌, ◌<◌, ◌≤◌, Bool, true, false, List, [], ◌∷◌, length, get_or, set, map, Some, None, inl, inr, sym, ap, ◌∙◌, refl, subst, arith, length-set, nat_lt, if◌then◌else◌}
+use Rattle.std.proofs.Common.{◌≡◌, ℕ, ◌*◌, ◌<◌, ◌≤◌, Bool, true, false, List, [], ◌∷◌, length, get_or, set, map, Some, None, inl, inr, sym, ap, ◌∙◌, refl}
+use Rattle.std.proofs.Common.{subst, arith, length-set, nat_lt, if◌then◌else◌}
 use Rattle.std.proofs.lemmas.Bool.{cases_eq}
 use Rattle.std.proofs.lemmas.Bool.Decides.{nat_tests}
 use Rattle.flit_buffer.specs.Channel.{first_of}
@@ -85,7 +86,8 @@ module _ (depth : ℕ) (w : Surroundings) where
 
 module _ (depth : ℕ) (w : Surroundings) (x : ℕ) (f : Ring → Ring) (wiring : Wiring) (here : x < length w.rings) where
   -- an agent's inputs after a change that leaves the receiving end, and its outputs after one that leaves the sending end
-  pub ins_kept : receiving (x * depth) depth (f (ring w.rings x)) ≡ in_end depth w x → map (in_end depth (changed w x f)) wiring.inputs ≡ map (in_end depth w) wiring.inputs
+  pub ins_kept : receiving (x * depth) depth (f (ring w.rings x)) ≡ in_end depth w x
+      → map (in_end depth (changed w x f)) wiring.inputs ≡ map (in_end depth w) wiring.inputs
   ins_kept e = map_same (in_end depth w) (in_end depth (changed w x f)) wiring.inputs (λ j h. kept (get_or wiring.inputs j 0)) where
     kept : (y : ℕ) → in_end depth (changed w x f) y ≡ in_end depth w y
     kept y = elim (cases_eq y x) [
@@ -94,7 +96,8 @@ module _ (depth : ℕ) (w : Surroundings) (x : ℕ) (f : Ring → Ring) (wiring 
       | inr other ↦ ap (λ c. receiving (y * depth) depth c) (changed_other w x f y other)
     ]
 
-  pub outs_kept : sending (x * depth) depth (f (ring w.rings x)) ≡ out_end depth w x → map (out_end depth (changed w x f)) wiring.outputs ≡ map (out_end depth w) wiring.outputs
+  pub outs_kept : sending (x * depth) depth (f (ring w.rings x)) ≡ out_end depth w x
+      → map (out_end depth (changed w x f)) wiring.outputs ≡ map (out_end depth w) wiring.outputs
   outs_kept e = map_same (out_end depth w) (out_end depth (changed w x f)) wiring.outputs (λ j h. kept (get_or wiring.outputs j 0)) where
     kept : (y : ℕ) → out_end depth (changed w x f) y ≡ out_end depth w y
     kept y = elim (cases_eq y x) [
@@ -105,24 +108,29 @@ module _ (depth : ℕ) (w : Surroundings) (x : ℕ) (f : Ring → Ring) (wiring 
 
 module _ (depth : ℕ) (w : Surroundings) (f : Ring → Ring) (wiring : Wiring) (wired : IsWired (length w.rings) wiring) where
   -- and the one end that changes
-  pub in_changed : (i : ℕ) (end : ReceivingEnd) → i < length wiring.inputs → let x = get_or wiring.inputs i 0 in receiving (x * depth) depth (f (ring w.rings x)) ≡ end
+  pub in_changed : (i : ℕ) (end : ReceivingEnd) → i < length wiring.inputs → let x = get_or wiring.inputs i 0 in
+      receiving (x * depth) depth (f (ring w.rings x)) ≡ end
       → map (in_end depth (changed w (get_or wiring.inputs i 0) f)) wiring.inputs ≡ set (map (in_end depth w) wiring.inputs) i end
   in_changed i end there e =
       let x = get_or wiring.inputs i 0 in
-      map_changed (in_end depth w) (in_end depth (changed w x f)) wiring.inputs i there (λ j h ne. wired.inputs_apart j i h there ne) (λ y other. ap (λ c. receiving (y * depth) depth c) (changed_other w x f y other))
+      map_changed (in_end depth w) (in_end depth (changed w x f)) wiring.inputs i there (λ j h ne. wired.inputs_apart j i h there ne)
+      (λ y other. ap (λ c. receiving (y * depth) depth c) (changed_other w x f y other))
       ∙ ap (λ r. set (map (in_end depth w) wiring.inputs) i r) (ap (λ c. receiving (x * depth) depth c) (changed_here w x f (wired.inputs_within i there)) ∙ e)
 
-  pub out_changed : (o : ℕ) (end : SendingEnd) → o < length wiring.outputs → let x = get_or wiring.outputs o 0 in sending (x * depth) depth (f (ring w.rings x)) ≡ end
+  pub out_changed : (o : ℕ) (end : SendingEnd) → o < length wiring.outputs → let x = get_or wiring.outputs o 0 in
+      sending (x * depth) depth (f (ring w.rings x)) ≡ end
       → map (out_end depth (changed w (get_or wiring.outputs o 0) f)) wiring.outputs ≡ set (map (out_end depth w) wiring.outputs) o end
   out_changed o end there e =
       let x = get_or wiring.outputs o 0 in
-      map_changed (out_end depth w) (out_end depth (changed w x f)) wiring.outputs o there (λ j h ne. wired.outputs_apart j o h there ne) (λ y other. ap (λ c. sending (y * depth) depth c) (changed_other w x f y other))
+      map_changed (out_end depth w) (out_end depth (changed w x f)) wiring.outputs o there (λ j h ne. wired.outputs_apart j o h there ne)
+      (λ y other. ap (λ c. sending (y * depth) depth c) (changed_other w x f y other))
       ∙ ap (λ r. set (map (out_end depth w) wiring.outputs) o r) (ap (λ c. sending (x * depth) depth c) (changed_here w x f (wired.outputs_within o there)) ∙ e)
 
 -- what holds of the surroundings alone, whatever a row shows
 module _ (depth : ℕ) (w : Surroundings) (wiring : Wiring) (is : AreRings depth w) (wired : IsWired (length w.rings) wiring) where
   -- an enabled want leaves channels of the same depth
-  pub rings_kept : (want : Want) (learned : ℕ) → IsPossible w wiring want → granted w wiring want ≡ Some learned → AreRings depth (surroundings_after depth w wiring want)
+  pub rings_kept : (want : Want) (learned : ℕ) → IsPossible w wiring want → granted w wiring want ≡ Some learned
+      → AreRings depth (surroundings_after depth w wiring want)
   rings_kept (Take i) learned possible e =
       let x = get_or wiring.inputs i 0 in
       let here : x < length w.rings = wired.inputs_within i possible in
@@ -151,7 +159,9 @@ module _ (depth : ℕ) (w : Surroundings) (wiring : Wiring) (is : AreRings depth
       let here : x < length w.rings = wired.inputs_within i possible in
       let r = ring w.rings x in
       same_ports _ _ _ _ _ _
-      (map_same (in_end depth w) (in_end depth (changed w x (take_from_ring depth))) other.inputs (λ j h. ap (λ c. receiving (get_or other.inputs j 0 * depth) depth c) (changed_other w x (take_from_ring depth) (get_or other.inputs j 0) (apart j h))))
+      (map_same (in_end depth w) (in_end depth (changed w x (take_from_ring depth))) other.inputs
+      (λ j h. ap (λ c. receiving (get_or other.inputs j 0 * depth) depth c)
+      (changed_other w x (take_from_ring depth) (get_or other.inputs j 0) (apart j h))))
       (outs_kept depth w x (take_from_ring depth) other here (law.take_ends (x * depth) depth r (is x here) (first_flit r.channel.flits learned e).0))
       (ap (λ n. n * depth) (length-set w.rings x (take_from_ring depth r)))
   others_kept other (Put o flit) learned possible apart e =
@@ -160,7 +170,8 @@ module _ (depth : ℕ) (w : Surroundings) (wiring : Wiring) (is : AreRings depth
       let r = ring w.rings x in
       same_ports _ _ _ _ _ _
       (ins_kept depth w x (put_in_ring flit) other here refl)
-      (map_same (out_end depth w) (out_end depth (changed w x (put_in_ring flit))) other.outputs (λ j h. ap (λ c. sending (get_or other.outputs j 0 * depth) depth c) (changed_other w x (put_in_ring flit) (get_or other.outputs j 0) (apart j h))))
+      (map_same (out_end depth w) (out_end depth (changed w x (put_in_ring flit))) other.outputs
+      (λ j h. ap (λ c. sending (get_or other.outputs j 0 * depth) depth c) (changed_other w x (put_in_ring flit) (get_or other.outputs j 0) (apart j h))))
       (ap (λ n. n * depth) (length-set w.rings x (put_in_ring flit r)))
   others_kept other (Credit o) learned possible apart e =
       let x = get_or wiring.outputs o 0 in
@@ -168,7 +179,8 @@ module _ (depth : ℕ) (w : Surroundings) (wiring : Wiring) (is : AreRings depth
       let r = ring w.rings x in
       same_ports _ _ _ _ _ _
       (ins_kept depth w x credit_of_ring other here refl)
-      (map_same (out_end depth w) (out_end depth (changed w x credit_of_ring)) other.outputs (λ j h. ap (λ c. sending (get_or other.outputs j 0 * depth) depth c) (changed_other w x credit_of_ring (get_or other.outputs j 0) (apart j h))))
+      (map_same (out_end depth w) (out_end depth (changed w x credit_of_ring)) other.outputs
+      (λ j h. ap (λ c. sending (get_or other.outputs j 0 * depth) depth c) (changed_other w x credit_of_ring (get_or other.outputs j 0) (apart j h))))
       (ap (λ n. n * depth) (length-set w.rings x (credit_of_ring r)))
   others_kept other (Access word o) learned possible apart e = refl
   others_kept other (Await word value) learned possible apart e = refl

@@ -34,7 +34,8 @@ module _ (depth count : ℕ) (words : List ℕ) (some : 0 < depth) where
 
   zero_at : (p : ℕ) → p < count * depth → get_or row p 0 ≡ 0
   unfolding row
-  zero_at p low = get_or_append_left (replicate (count * depth) 0) words 0 p (omega (arith, length-replicate {A = ℕ} (count * depth) 0)) ∙ get_or-replicate (count * depth) p 0 0 low
+  zero_at p low = get_or_append_left (replicate (count * depth) 0) words 0 p (omega (arith, length-replicate {A = ℕ} (count * depth) 0))
+      ∙ get_or-replicate (count * depth) p 0 0 low
 
   empty_shown : (x : ℕ) → x < count → Shows row (x * depth) depth (empty_ring depth)
   empty_shown x low = record {

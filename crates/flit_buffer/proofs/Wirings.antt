@@ -49,7 +49,8 @@ module _ (depth : ℕ) (around : Surroundings) (v w : Wiring) where
   granted_right (Access word op) = refl
   granted_right (Await word value) = refl
 
-  pub left_right : (want : Want) → surroundings_after depth around (joined_wiring v w) (shifted (length v.inputs) (length v.outputs) want) ≡ surroundings_after depth around w want
+  pub left_right : (want : Want)
+      → surroundings_after depth around (joined_wiring v w) (shifted (length v.inputs) (length v.outputs) want) ≡ surroundings_after depth around w want
   left_right (Take i) = ap (λ x. changed around x (take_from_ring depth)) (get_or-append-add v.inputs w.inputs i 0)
   left_right (Put o flit) = ap (λ x. changed around x (put_in_ring flit)) (get_or-append-add v.outputs w.outputs o 0)
   left_right (Credit o) = ap (λ x. changed around x credit_of_ring) (get_or-append-add v.outputs w.outputs o 0)
@@ -57,20 +58,26 @@ module _ (depth : ℕ) (around : Surroundings) (v w : Wiring) where
   left_right (Await word value) = refl
 
   pub ports_joined : ports_of depth around (joined_wiring v w) ≡ joined (ports_of depth around v) (ports_of depth around w)
-  ports_joined = rw (map-append (λ x. receiving (x * depth) depth (ring around.rings x)) v.inputs w.inputs, map-append (λ x. sending (x * depth) depth (ring around.rings x)) v.outputs w.outputs) refl
+  ports_joined = rw (
+    map-append (λ x. receiving (x * depth) depth (ring around.rings x)) v.inputs w.inputs,
+    map-append
+        (λ x. sending (x * depth) depth (ring around.rings x)) v.outputs w.outputs,
+  ) refl
 
 -- two lists of different numbers below a bound, none of which stands in both
 module _ (count : ℕ) (xs ys : List ℕ) where
   at_right : (i : ℕ) → length xs ≤ i → get_or (xs ++ ys) i 0 ≡ get_or ys (i - length xs) 0
   at_right i high = ap (λ k. get_or (xs ++ ys) k 0) (omega arith) ∙ get_or-append-add xs ys (i - length xs) 0
 
-  within : ((i : ℕ) → i < length xs → get_or xs i 0 < count) → ((i : ℕ) → i < length ys → get_or ys i 0 < count) → (i : ℕ) → i < length (xs ++ ys) → get_or (xs ++ ys) i 0 < count
+  within : ((i : ℕ) → i < length xs → get_or xs i 0 < count) → ((i : ℕ) → i < length ys → get_or ys i 0 < count) → (i : ℕ) → i < length (xs ++ ys)
+      → get_or (xs ++ ys) i 0 < count
   within left right i h = elim (cases_lt i (length xs)) [
     | inl low ↦ omega (arith, get_or_append_left xs ys 0 i low, left i low)
     | inr high ↦ omega (arith, at_right i high, right (i - length xs) (omega (arith, length-append xs ys)))
   ]
 
-  apart : ((i j : ℕ) → i < length xs → j < length xs → i ≢ j → get_or xs i 0 ≢ get_or xs j 0) → ((i j : ℕ) → i < length ys → j < length ys → i ≢ j → get_or ys i 0 ≢ get_or ys j 0)
+  apart : ((i j : ℕ) → i < length xs → j < length xs → i ≢ j → get_or xs i 0 ≢ get_or xs j 0)
+      → ((i j : ℕ) → i < length ys → j < length ys → i ≢ j → get_or ys i 0 ≢ get_or ys j 0)
       → ((i j : ℕ) → i < length xs → j < length ys → get_or xs i 0 ≢ get_or ys j 0)
       → (i j : ℕ) → i < length (xs ++ ys) → j < length (xs ++ ys) → i ≢ j → get_or (xs ++ ys) i 0 ≢ get_or (xs ++ ys) j 0
   apart left right across i j hi hj ne e = elim (cases_lt i (length xs)) [
@@ -108,5 +115,6 @@ module _ (row : List ℕ) (depth : ℕ) (around : Surroundings) (wiring : Wiring
       let P : WordOp → Type 0 = λ x. outcome want (get_or row (word_of x) 0) ≡ Some learned in
       subst P (some_injective (sym m.asks ∙ asks)) m.learns
 
-  pub tells : MatchOption (want_op (ports_of depth around wiring) want) (granted around wiring want ≡ None) (λ op. outcome want (get_or row (word_of op) 0) ≡ granted around wiring want)
+  pub tells : MatchOption (want_op (ports_of depth around wiring) want) (granted around wiring want ≡ None)
+      (λ op. outcome want (get_or row (word_of op) 0) ≡ granted around wiring want)
   tells = tells_by (want_op (ports_of depth around wiring) want) (granted around wiring want) refl refl

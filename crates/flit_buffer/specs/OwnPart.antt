@@ -10,7 +10,8 @@ pub record SameChannels (a b : Surroundings) : Type 0 where
   pub channels : (x : ℕ) → (ring a.rings x).channel ≡ (ring b.rings x).channel
   pub words : a.words ≡ b.words
 
--- the number of the channel that a want has to do with; None where it is about a word (this project's own format)
+-- the number of the channel that a want has to do with; None where it is about a word (this
+-- project's own format)
 abbrev pub channel_of : Wiring → Want → Option ℕ
 channel_of wiring (Take i) = Some (slice_index wiring.inputs i)
 channel_of wiring (Put o flit) = Some (slice_index wiring.outputs o)
@@ -26,10 +27,18 @@ written_word (Credit o) = None
 written_word (Access word op) = Some word
 written_word (Await word value) = None
 
--- two surroundings are the same where a want looks: a take at the flits of its channel, a put at the credits held of its channel, a credit at those returning, an access or a look at its word (Dally and Towles, chapter 13)
+-- two surroundings are the same where a want looks: a take at the flits of its channel, a put at
+-- the credits held of its channel, a credit at those returning, an access or a look at its word
+-- (Dally and Towles, chapter 13)
 abbrev pub SameWhereWanted : Surroundings → Surroundings → Wiring → Want → Type 0
-SameWhereWanted a b wiring (Take i) = (ring a.rings (slice_index wiring.inputs i)).channel.flits ≡ (ring b.rings (slice_index wiring.inputs i)).channel.flits
-SameWhereWanted a b wiring (Put o flit) = (ring a.rings (slice_index wiring.outputs o)).channel.held ≡ (ring b.rings (slice_index wiring.outputs o)).channel.held
-SameWhereWanted a b wiring (Credit o) = (ring a.rings (slice_index wiring.outputs o)).channel.returning ≡ (ring b.rings (slice_index wiring.outputs o)).channel.returning
+SameWhereWanted a b wiring (Take i) =
+    (ring a.rings (slice_index wiring.inputs i)).channel.flits
+    ≡ (ring b.rings (slice_index wiring.inputs i)).channel.flits
+SameWhereWanted a b wiring (Put o flit) =
+    (ring a.rings (slice_index wiring.outputs o)).channel.held
+    ≡ (ring b.rings (slice_index wiring.outputs o)).channel.held
+SameWhereWanted a b wiring (Credit o) =
+    (ring a.rings (slice_index wiring.outputs o)).channel.returning
+    ≡ (ring b.rings (slice_index wiring.outputs o)).channel.returning
 SameWhereWanted a b wiring (Access word op) = slice_index a.words word ≡ slice_index b.words word
 SameWhereWanted a b wiring (Await word value) = slice_index a.words word ≡ slice_index b.words word

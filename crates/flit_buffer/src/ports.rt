@@ -25,7 +25,11 @@ impl<A: Allocator> Model for Ports<A> {
 
     ghost Value = { PortEnds };
 
-    ghost view = { λ p. record { inputs = p.inputs.items; outputs = p.outputs.items; words = p.words } };
+    ghost view = { λ p. record {
+      inputs = p.inputs.items;
+      outputs = p.outputs.items;
+      words = p.words;
+    } };
 
     ghost invariant = { λ p. p.words ≤ 2 ^ 32 };
 }
@@ -34,7 +38,11 @@ impl<A: Allocator> Ports<A> {
     /// Ports with these ends. The words stand from a position of at most 2^32 on.
     pub fn new(inputs: Vec<Receiver, A>, outputs: Vec<Sender, A>, words: usize) -> Self
         requires { words ≤ 2 ^ 32 }
-        ensures { result ≡ record { inputs = inputs.items; outputs = outputs.items; words = words } }
+        ensures { result ≡ record {
+          inputs = inputs.items;
+          outputs = outputs.items;
+          words = words;
+        } }
     {
         Ports {
             inputs,
@@ -79,7 +87,8 @@ impl<A: Allocator> Ports<A> {
         requires port { HasPort self.old want }
         requires tried { IsSome (want_op self.old want) }
         ensures learned { result ≡ outcome want got }
-        ensures after { self.new ≡ (if is_some (outcome want got) then ports_after self.old want else self.old) }
+        ensures after { self.new
+            ≡ (if is_some (outcome want got) then ports_after self.old want else self.old) }
     {
         match want {
             Want::Take(input) => self.inputs[input as usize].take_got(got),
@@ -106,7 +115,9 @@ impl<A: Allocator> Ports<A> {
         requires port { HasPort self.old want }
         requires room { IfSome (want_op self.old want) (λ o. word_of o < vec_len row.old) }
         ensures learned { result ≡ tried self.old row.old.items want }
-        ensures after { self.new ≡ (if is_some (tried self.old row.old.items want) then ports_after self.old want else self.old) }
+        ensures after { self.new
+            ≡ (if is_some (tried self.old row.old.items want) then ports_after self.old want
+            else self.old) }
         ensures row { row.new.items ≡ performed_by row.old.items (want_op self.old want) }
     {
         match want {

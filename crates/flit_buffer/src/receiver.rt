@@ -67,7 +67,9 @@ impl Receiver {
     pub fn take<A: Allocator>(&mut self, row: &mut Vec<u64, A>) -> Option<u64>
         requires { take_place self.old < vec_len row.old }
         ensures flit { result ≡ flit_in (slice_index row.old.items (take_place self.old)) }
-        ensures after { self.new ≡ (if slice_index row.old.items (take_place self.old) == 0 then self.old else after_take self.old) }
+        ensures after { self.new
+            ≡ (if slice_index row.old.items (take_place self.old) == 0 then self.old
+            else after_take self.old) }
         ensures row { row.new.items ≡ slice_set row.old.items (take_place self.old) 0 }
     {
         let place = self.base + self.next;

@@ -23,9 +23,15 @@ impl Model for Sender {
 
     ghost Value = { SendingEnd };
 
-    ghost view = { λ s. record { base = s.base; depth = s.depth; next = s.next; credits = s.credits } };
+    ghost view = { λ s. record {
+      base = s.base;
+      depth = s.depth;
+      next = s.next;
+      credits = s.credits;
+    } };
 
-    ghost invariant = { λ s. (s.next < s.depth) × (s.credits ≤ s.depth) × (s.depth ≤ 8) × (s.base ≤ 2 ^ 32) };
+    ghost invariant = { λ s. (s.next < s.depth) × (s.credits ≤ s.depth) × (s.depth ≤ 8)
+        × (s.base ≤ 2 ^ 32) };
 }
 
 impl Sender {
@@ -96,8 +102,11 @@ impl Sender {
     pub fn put<A: Allocator>(&mut self, flit: u64, row: &mut Vec<u64, A>) -> bool
         requires { 0 < self.old.credits → put_place self.old < vec_len row.old }
         ensures done { result ≡ nat_lt 0 self.old.credits }
-        ensures after { self.new ≡ (if nat_lt 0 self.old.credits then after_put self.old else self.old) }
-        ensures row { row.new.items ≡ (if nat_lt 0 self.old.credits then slice_set row.old.items (put_place self.old) flit else row.old.items) }
+        ensures after { self.new
+            ≡ (if nat_lt 0 self.old.credits then after_put self.old else self.old) }
+        ensures row { row.new.items
+            ≡ (if nat_lt 0 self.old.credits then slice_set row.old.items (put_place self.old) flit
+            else row.old.items) }
     {
         if self.credits == 0 {
             return false;
@@ -112,7 +121,8 @@ impl Sender {
     pub fn credit<A: Allocator>(&mut self, row: &Vec<u64, A>) -> bool
         requires { self.old.credits < self.old.depth → credit_place self.old < vec_len row.now }
         ensures came { result ≡ is_credited self.old row.now.items }
-        ensures after { self.new ≡ (if is_credited self.old row.now.items then after_credit self.old else self.old) }
+        ensures after { self.new
+            ≡ (if is_credited self.old row.now.items then after_credit self.old else self.old) }
     {
         if self.credits == self.depth {
             return false;

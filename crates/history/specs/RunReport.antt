@@ -5,8 +5,10 @@ use Rattle.report_lines.specs.declared.line.ReportLine.{ReportLine}
 use Rattle.machine_report.specs.Report.{report_of}
 use Rattle.worker_run.specs.fabric.specs.core_laws.specs.Core.{Load, after}
 use Rattle.worker_run.specs.fabric.specs.Ending.{shown_after}
-use Rattle.machine_laws.specs.Core.{all_finished}
+use Rattle.core_machine.specs.Core.{all_finished}
 
--- the report of the run of a list of steps from a load: what it shows at its end, without order lines
+-- the report of the run of a list of steps from a load: what it shows at its end, without order
+-- lines
 abbrev pub run_report : Load → List Step → List ReportLine
-run_report load run = report_of load.shape load.opening (shown_after load run) [] (all_finished (after load run))
+run_report load run = report_of load.shape load.opening (shown_after load run) []
+    (all_finished (after load run))

@@ -54,12 +54,14 @@ module _ (s : Shape) (t : ℕ) (low : t < tiles_of s) where
         let e : ℕ = ejection_channel s t Request in
         let x : ℕ = injection_channel s t Reply in
         let mk : ReceivingEnd → SendingEnd → ℕ → PortEnds = λ i o w. record { inputs = i ∷ []; outputs = o ∷ []; words = w } in
-        let input : receiving (e * depth) depth (empty_ring depth) ≡ receiving (e * depth) depth (ring around.rings e) = ap (receiving (e * depth) depth) (sym (empty_at e (ejection_below Request))) in
+        let input : receiving (e * depth) depth (empty_ring depth) ≡ receiving (e * depth) depth (ring around.rings e) =
+        ap (receiving (e * depth) depth) (sym (empty_at e (ejection_below Request))) in
         let output : new_sending (x * depth) 0 ≡ sending (x * depth) depth (ring around.rings x) =
         ap (new_sending (x * depth)) (sym first_place) ∙ ap (sending (x * depth) depth) (sym (empty_at x (injection_below Reply))) in
         ap (λ i. mk i (new_sending (x * depth) 0) (channel_count s * depth)) input
         ∙ ap (λ o. mk (receiving (e * depth) depth (ring around.rings e)) o (channel_count s * depth)) output
-        ∙ ap (λ n. mk (receiving (e * depth) depth (ring around.rings e)) (sending (x * depth) depth (ring around.rings x)) (n * depth)) (sym (length-replicate (channel_count s) (empty_ring depth)))
+        ∙ ap (λ n. mk (receiving (e * depth) depth (ring around.rings e)) (sending (x * depth) depth (ring around.rings x)) (n * depth))
+        (sym (length-replicate (channel_count s) (empty_ring depth)))
 
 pub ports_shown : (s : Shape) (t depth : ℕ) (words : List ℕ) → t < tiles_of s → 0 < depth
     → new_ports s t depth ≡ ports_of depth (record { rings = replicate (channel_count s) (empty_ring depth); words = words }) (bank_wiring s t)

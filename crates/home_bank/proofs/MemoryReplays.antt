@@ -1,5 +1,6 @@
 -- A bank's entries replay on the memory, from the beginning on and after each step.
-use Rattle.std.proofs.Common.{◌≡◌, ℕ, ◌%◌, ◌<◌, ◌≤◌, ◌∙◌, List, [], ◌∷◌, ◌++◌, length, map, Option, Some, None, inl, inr, refl, sym, ap, subst, arith, length-set, length-append, get_or, set, get_or-set_same, get_or-set_other}
+use Rattle.std.proofs.Common.{◌≡◌, ℕ, ◌%◌, ◌<◌, ◌≤◌, ◌∙◌, List, [], ◌∷◌, ◌++◌, length, map, Option, Some, None, inl, inr, refl, sym, ap, subst, arith}
+use Rattle.std.proofs.Common.{length-set, length-append, get_or, set, get_or-set_same, get_or-set_other}
 use Rattle.std.specs.Prelude.{IfSome, is_none, option_map, ◌&&◌, slice_index}
 use Rattle.std.proofs.lemmas.Bool.{cases_eq}
 use Rattle.std.proofs.lemmas.Option.{same_Some}
@@ -34,7 +35,8 @@ at_start tiles tile opening more = record {
   words_left = λ a low home. get_or_append_left opening more 0 a low;
 }
 
-pub others_kept : (tiles tile : ℕ) (opening words left : List ℕ) (entries : List Entry) → ReplayInMemory tiles tile opening words entries → length words ≤ length left
+pub others_kept : (tiles tile : ℕ) (opening words left : List ℕ) (entries : List Entry) → ReplayInMemory tiles tile opening words entries
+    → length words ≤ length left
     → ((a : ℕ) → a < length opening → a % tiles ≡ tile → slice_index left a ≡ slice_index words a) → ReplayInMemory tiles tile opening left entries
 others_kept tiles tile opening words left entries known long same = record {
   size = omega (arith, known.size, long);
@@ -85,7 +87,8 @@ module _ (tiles tile : ℕ) (opening words : List ℕ) (entries : List Entry) (b
     replies_more : replies (map operation_of (entries ++ e ∷ [])) opening ≡ replies (map operation_of entries) opening ++ reply_of_one o m ∷ []
     replies_more = ap (λ os. replies os opening) (map-append operation_of entries (e ∷ [])) ∙ replies-append (map operation_of entries) (o ∷ []) opening
 
-    word_left : (x : ℕ) → x < length opening → x % tiles ≡ tile → slice_index (set words a (new_word r.op (slice_index words a))) x ≡ slice_index (memory_after_one o m) x
+    word_left : (x : ℕ) → x < length opening → x % tiles ≡ tile
+        → slice_index (set words a (new_word r.op (slice_index words a))) x ≡ slice_index (memory_after_one o m) x
     word_left x there home = elim (cases_eq x a) [
       | inl same ↦
           ap (λ k. get_or (set words a (new_word r.op (slice_index words a))) k 0) same
@@ -126,10 +129,12 @@ module _ (tiles tile depth : ℕ) (wiring : Wiring) (opening : List ℕ) (b : Ba
       let told : told_by r.op found ≡ learned = same_Some _ _ (ap (granted around wiring) want_is ∙ grants) in
       let reply_is : reply_to r.op found ≡ reply_to r.op learned = sym (told_reply r.op found) ∙ ap (reply_to r.op) told in
       subst (λ (w : Want). Kept w (served tiles tile b (Some r) learned)) want_is
-      (subst (λ reply. ReplayInMemory tiles tile opening (set around.words (address_of tile tiles r.word) (new_word r.op found)) (b.entries ++ entry_of tile tiles r reply ∷ [])) reply_is
+      (subst (λ reply. ReplayInMemory tiles tile opening (set around.words (address_of tile tiles r.word) (new_word r.op found))
+      (b.entries ++ entry_of tile tiles r reply ∷ [])) reply_is
       (after_service tiles tile opening around.words b.entries below known r low))
 
-  kept_by : (choice : Choice) (want : Want) (learned : ℕ) → bank_wants tiles tile b choice ≡ Some want → granted around wiring want ≡ Some learned → Kept want (bank_after tiles tile b choice want learned)
+  kept_by : (choice : Choice) (want : Want) (learned : ℕ) → bank_wants tiles tile b choice ≡ Some want → granted around wiring want ≡ Some learned
+      → Kept want (bank_after tiles tile b choice want learned)
   kept_by choice.Take want learned e grants = subst (λ (w : Want). Kept w b) (if_wanted (is_none b.waiting && is_nil b.to_put) (Take 0) want e) known
   kept_by choice.Serve want learned e grants = service_kept b.waiting want learned word e grants
   kept_by choice.Send want learned e grants = put_kept (first_of b.to_put) want e where

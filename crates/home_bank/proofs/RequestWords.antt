@@ -27,7 +27,8 @@ named_by h flits r names s =
     omega (arith, place, low t.class)
 
 -- a request that came whole names a word that may be
-pub request_word : (so_far : List ℕ) (flit : ℕ) (r : Request) → BeginsAtWord so_far → NamesWord flit → Spells (packet.Request r) (so_far ++ flit ∷ []) → r.word < 65536
+pub request_word : (so_far : List ℕ) (flit : ℕ) (r : Request) → BeginsAtWord so_far → NamesWord flit → Spells (packet.Request r) (so_far ++ flit ∷ [])
+    → r.word < 65536
 request_word [] flit r begun names s = named_by flit [] r names s
 request_word (h ∷ flits) flit r begun names s = named_by h (flits ++ flit ∷ []) r begun s
 

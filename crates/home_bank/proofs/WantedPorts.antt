@@ -1,5 +1,6 @@
 -- A bank wants no port and no word that isn't there.
-use Rattle.std.proofs.Common.{◌≡◌, ◌≢◌, ℕ, ◌+◌, ◌*◌, ◌/◌, ◌%◌, ◌^◌, ◌<◌, ◌≤◌, Bool, true, false, List, [], ◌∷◌, ◌++◌, length, Option, Some, None, refl, subst, arith, if◌then◌else◌}
+use Rattle.std.proofs.Common.{◌≡◌, ◌≢◌, ℕ, ◌+◌, ◌*◌, ◌/◌, ◌%◌, ◌^◌, ◌<◌, ◌≤◌, Bool, true, false, List, [], ◌∷◌, ◌++◌, length, Option, Some, None, refl, subst}
+use Rattle.std.proofs.Common.{arith, if◌then◌else◌}
 use Rattle.std.specs.Prelude.{All, IfSome, is_none, option_map, ◌&&◌}
 use Rattle.std.proofs.lemmas.Option.{same_Some}
 use Rattle.std.proofs.lemmas.List.Elements.{All-nil, All-cons, All-head, All-tail}
@@ -31,8 +32,10 @@ pub if_wanted : (b : Bool) (want other : Want) → (if b then Some want else Non
 if_wanted true want other e = same_Some want other e
 if_wanted false want other e = cc
 
-module _ (tiles tile words : ℕ) (around : Surroundings) (wiring : Wiring) (inputs : length wiring.inputs ≡ 1) (outputs : length wiring.outputs ≡ 1) (there : words ≤ length around.words) where
-  put_possible : (flits : List ℕ) (want : Want) → All IsFlit flits → option_map (λ flit. Put 0 flit) (first_of flits) ≡ Some want → IsPossible around wiring want
+module _ (tiles tile words : ℕ) (around : Surroundings) (wiring : Wiring) (inputs : length wiring.inputs ≡ 1) (outputs : length wiring.outputs ≡ 1)
+    (there : words ≤ length around.words) where
+  put_possible : (flits : List ℕ) (want : Want) → All IsFlit flits → option_map (λ flit. Put 0 flit) (first_of flits) ≡ Some want
+      → IsPossible around wiring want
   put_possible [] want all e = cc
   put_possible (flit ∷ flits) want all e =
       let port : 0 < length wiring.outputs = omega (arith, outputs) in
@@ -45,7 +48,8 @@ module _ (tiles tile words : ℕ) (around : Surroundings) (wiring : Wiring) (inp
       let low : address_of tile tiles r.word < length around.words = omega (arith, word, there) in
       subst (IsPossible around wiring) (same_Some (Access (address_of tile tiles r.word) r.op) want e) low
 
-  pub possible_there : (b : BankState) (choice : Choice) (want : Want) → IsBankState tiles tile words b → bank_wants tiles tile b choice ≡ Some want → IsPossible around wiring want
+  pub possible_there : (b : BankState) (choice : Choice) (want : Want) → IsBankState tiles tile words b → bank_wants tiles tile b choice ≡ Some want
+      → IsPossible around wiring want
   possible_there b choices.Take want is e =
       let port : 0 < length wiring.inputs = omega (arith, inputs) in
       subst (IsPossible around wiring) (if_wanted (is_none b.waiting && is_nil b.to_put) (Take 0) want e) port
@@ -61,8 +65,10 @@ module _ (tiles tile words : ℕ) (around : Surroundings) (wiring : Wiring) (inp
   possible_there b choices.Look want is e = cc
 
 pub possible : (tiles tile words : ℕ) (b : BankState) (choice : Choice) (want : Want) (around : Surroundings) (wiring : Wiring) → IsBankState tiles tile words b
-    → length wiring.inputs ≡ 1 → length wiring.outputs ≡ 1 → words ≤ length around.words → bank_wants tiles tile b choice ≡ Some want → IsPossible around wiring want
-possible tiles tile words b choice want around wiring is inputs outputs there e = possible_there tiles tile words around wiring inputs outputs there b choice want is e
+    → length wiring.inputs ≡ 1 → length wiring.outputs ≡ 1 → words ≤ length around.words → bank_wants tiles tile b choice ≡ Some want
+    → IsPossible around wiring want
+possible tiles tile words b choice want around wiring is inputs outputs there e =
+    possible_there tiles tile words around wiring inputs outputs there b choice want is e
 
 pub at_start : (tiles tile words : ℕ) → IsBankState tiles tile words empty_bank
 at_start tiles tile words = record { word = tt; flits = All-nil IsFlit }
@@ -84,14 +90,16 @@ low_flit v tail = above (tail + 2 ^ 61) (v % 2 ^ 32) (omega arith)
 some_flits : (head : ℕ) (values : List ℕ) → head ≢ 0 → All IsFlit (flits_for head values)
 some_flits head [] some = All-cons IsFlit (2 ^ 62 + head) [] (above (2 ^ 62) head (omega arith)) (All-nil IsFlit)
 some_flits head (v ∷ []) some =
-    All-cons IsFlit head (value_flits true v) some (some_values (2 ^ 61 + v / 2 ^ 32) (2 ^ 62 + 2 ^ 61 + v % 2 ^ 32) [] (high_flit v) (low_flit v (2 ^ 62)) (All-nil IsFlit))
+    All-cons IsFlit head (value_flits true v) some
+    (some_values (2 ^ 61 + v / 2 ^ 32) (2 ^ 62 + 2 ^ 61 + v % 2 ^ 32) [] (high_flit v) (low_flit v (2 ^ 62)) (All-nil IsFlit))
 some_flits head (v ∷ w ∷ more) some =
     All-cons IsFlit head (value_flits false v ++ value_flits true w) some
     (some_values (2 ^ 61 + v / 2 ^ 32) (0 + 2 ^ 61 + v % 2 ^ 32) (value_flits true w) (high_flit v) (low_flit v 0)
     (some_values (2 ^ 61 + w / 2 ^ 32) (2 ^ 62 + 2 ^ 61 + w % 2 ^ 32) [] (high_flit w) (low_flit w (2 ^ 62)) (All-nil IsFlit)))
 
 some_head : (told : Heading) → head_flit told ≢ 0
-some_head told = above (2 ^ 63 + 2 ^ 61 + told.operation % 8 * 2 ^ 58 + told.class * 2 ^ 57 + told.destination * 2 ^ 51 + told.source * 2 ^ 45 + told.tag * 2 ^ 41 + told.operation / 8 * 2 ^ 40) told.place (omega arith)
+some_head told = above (2 ^ 63 + 2 ^ 61 + told.operation % 8 * 2 ^ 58 + told.class * 2 ^ 57 + told.destination * 2 ^ 51 + told.source * 2 ^ 45
+    + told.tag * 2 ^ 41 + told.operation / 8 * 2 ^ 40) told.place (omega arith)
 
 pub packet_flits : (p : Packet) → All IsFlit (flits_of p)
 unfolding flits_of

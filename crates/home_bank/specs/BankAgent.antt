@@ -1,4 +1,5 @@
--- The bank of a tile as an agent: where it is, and what it asks of a flit that it takes and of its room.
+-- The bank of a tile as an agent: where it is, and what it asks of a flit that it takes and of its
+-- room.
 use Rattle.std.specs.Prelude.{◌≡◌, ℕ, ◌<◌, length, IfSome}
 use Rattle.torus.specs.declared.shape.Class.TheVariants.{Request}
 use Rattle.torus.specs.declared.step.Choice.{Choice}
@@ -8,7 +9,8 @@ use Rattle.packet.specs.Flits.{head_of}
 use Rattle.flit_buffer.specs.Agent.{Agent}
 use Rattle.home_bank.specs.BankTable.{BankState}
 
--- how many tiles there are, the bank's tile, for how many entries it has room, and the agent that it is (this
+-- how many tiles there are, the bank's tile, for how many entries it has room, and the agent that
+-- it is (this
 -- project's own format)
 pub record BankPlace : Type 0 where
   pub tiles : ℕ
@@ -20,11 +22,13 @@ pub record BankPlace : Type 0 where
 abbrev pub with_agent : BankPlace → Agent BankState → BankPlace
 with_agent b a = record { tiles = b.tiles; tile = b.tile; room = b.room; agent = a }
 
--- a head flit of a request names a word below 65536, for no memory has more words (this project's own limits)
+-- a head flit of a request names a word below 65536, for no memory has more words (this project's
+-- own limits)
 abbrev pub NamesWord : ℕ → Type 0
 NamesWord flit = IfSome (head_of flit) (λ head. head.class ≡ Request → field flit 0 32 < 65536)
 
--- what the word found may be: where a flit is taken, one that names a word that may be (this project's own format)
+-- what the word found may be: where a flit is taken, one that names a word that may be (this
+-- project's own format)
 abbrev pub IsAcceptable : Choice → ℕ → Type 0
 IsAcceptable choice.Take found = NamesWord found
 IsAcceptable _ found = Unit {0}

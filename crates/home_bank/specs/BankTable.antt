@@ -16,8 +16,10 @@ use Rattle.home_bank.specs.declared.entry.Entry.{Entry}
 use Rattle.home_bank.specs.ServiceList.{address_of, entry_of, response_of}
 use Rattle.packet.specs.Flits.{offered, flits_of}
 
--- the state of a home bank: its entries, one for each service (the linearization points, Herlihy and Wing);
--- the flits so far of the request that comes in; the whole request that waits to be served; and the flits
+-- the state of a home bank: its entries, one for each service (the linearization points, Herlihy
+-- and Wing);
+-- the flits so far of the request that comes in; the whole request that waits to be served; and the
+-- flits
 -- of the reply in course that are not put yet
 pub record BankState : Type 0 where
   pub entries : List Entry
@@ -37,7 +39,8 @@ module _ (tiles tile : ℕ) where
   waiting_offered w (Whole (packet.Request r)) = Some r
   waiting_offered w _ = w
 
-  -- the bank after the service of the request that waits, whose word held `found`: one entry more, and its reply
+  -- the bank after the service of the request that waits, whose word held `found`: one entry more,
+  -- and its reply
   -- in course (the service is the operation's linearization point, Herlihy and Wing)
   abbrev pub served : BankState → Option Request → ℕ → BankState
   served b None found = b
@@ -45,7 +48,8 @@ module _ (tiles tile : ℕ) where
     entries = b.entries ++ entry_of tile tiles r (reply_to r.op found) ∷ [];
     so_far = b.so_far;
     waiting = None;
-    to_put = flits_of (packet.Response (response_of tile (length b.entries) r (reply_to r.op found)));
+    to_put = flits_of (packet.Response
+        (response_of tile (length b.entries) r (reply_to r.op found)));
   }
 
   -- what a bank's choice wants (this project's own format)

@@ -10,9 +10,13 @@ use Rattle.home_bank.specs.BankTable.{BankState}
 
 -- the channels of a bank: it receives requests and sends replies (Dally and Towles, chapter 20)
 abbrev pub bank_wiring : Shape → ℕ → Wiring
-bank_wiring s t = record { inputs = ejection_channel s t Request ∷ []; outputs = injection_channel s t Reply ∷ [] }
+bank_wiring s t = record {
+  inputs = ejection_channel s t Request ∷ [];
+  outputs = injection_channel s t Reply ∷ [];
+}
 
--- a bank in the beginning: no entry, no flit of a request, none waiting, and no reply in course (this project's
+-- a bank in the beginning: no entry, no flit of a request, none waiting, and no reply in course
+-- (this project's
 -- own format)
 abbrev pub empty_bank : BankState
 empty_bank = record { entries = []; so_far = []; waiting = None; to_put = [] }
@@ -22,6 +26,11 @@ empty_bank = record { entries = []; so_far = []; waiting = None; to_put = [] }
 abbrev pub new_ports : Shape → ℕ → ℕ → PortEnds
 new_ports s t depth = record {
   inputs = record { base = ejection_channel s t Request * depth; depth = depth; next = 0 } ∷ [];
-  outputs = record { base = injection_channel s t Reply * depth; depth = depth; next = 0; credits = depth } ∷ [];
+  outputs = record {
+    base = injection_channel s t Reply * depth;
+    depth = depth;
+    next = 0;
+    credits = depth;
+  } ∷ [];
   words = channel_count s * depth;
 }

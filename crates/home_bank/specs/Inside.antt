@@ -22,7 +22,12 @@ bank_place_of b = record {
   tile = b.services.tile;
   room = b.services.room;
   agent = record {
-    state = record { entries = b.services.entries; so_far = b.assembler; waiting = b.waiting; to_put = b.to_put };
+    state = record {
+      entries = b.services.entries;
+      so_far = b.assembler;
+      waiting = b.waiting;
+      to_put = b.to_put;
+    };
     ports = b.ports;
   };
 }
@@ -32,7 +37,8 @@ abbrev pub BeginsAtWord : List ℕ → Type 0
 BeginsAtWord [] = Unit {0}
 BeginsAtWord (head ∷ flits) = NamesWord head
 
--- one input and one output; the request that comes in, and the one that waits, name words that may be; the reply
+-- one input and one output; the request that comes in, and the one that waits, name words that may
+-- be; the reply
 -- to it can be spelled (this project's own format)
 pub record IsBankAgent {A : Type 0} (b : BankAgentInside A) : Type 0 where
   pub limits : IsServiceList b.services

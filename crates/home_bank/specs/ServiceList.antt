@@ -6,7 +6,8 @@ use Rattle.packet.specs.declared.kinds.Reply.{Reply}
 use Rattle.packet.specs.Kinds.{code_of}
 use Rattle.home_bank.specs.declared.entry.Entry.{Entry}
 
--- the tile whose bank's services they are, of how many tiles; an entry for each service, in their order;
+-- the tile whose bank's services they are, of how many tiles; an entry for each service, in their
+-- order;
 -- and for how many entries there is room
 pub record Services : Type 0 where
   pub tile : ℕ
@@ -30,7 +31,8 @@ entry_of tile tiles r reply =
       reply = reply;
     }
 
--- the packet that brings the reply to a request back to its source, with the place of its entry in the service list
+-- the packet that brings the reply to a request back to its source, with the place of its entry in
+-- the service list
 abbrev pub response_of : ℕ → ℕ → Request → Reply → Response
 response_of tile place r reply =
     record {
@@ -46,7 +48,8 @@ response_of tile place r reply =
 abbrev pub recorded : Services → Request → Reply → Services
 recorded h r reply = record h { entries = h.entries ++ entry_of h.tile h.tiles r reply ∷ [] }
 
--- what is true of every service list: a tile among at most 64, and at most 65536 entries (this project's own limits)
+-- what is true of every service list: a tile among at most 64, and at most 65536 entries (this
+-- project's own limits)
 pub record IsServiceList (h : Services) : Type 0 where
   pub tile : h.tile < h.tiles
   pub tiles : h.tiles ≤ 64

@@ -1,6 +1,7 @@
 //! The bank of a tile, as an agent.
 
-ghost use Rattle.std.specs.Prelude.{◌≡◌, ◌<◌, ◌≤◌, ◌↔◌, ◌*◌, length, IsTrue, IfOk, IfSome, IsSome, MatchOption, vec_len, slice_index, Some, is_some};
+ghost use Rattle.std.specs.Prelude.{◌≡◌, ◌<◌, ◌≤◌, ◌↔◌, ◌*◌, length, IsTrue, IfOk, IfSome, IsSome, MatchOption};
+ghost use Rattle.std.specs.Prelude.{vec_len, slice_index, Some, is_some};
 ghost use Rattle.torus.specs.Shape.{tiles_of};
 ghost use Rattle.torus.specs.declared.step.Choice.TheVariants as choice;
 ghost use Rattle.torus.specs.declared.step.Stepped.TheVariants as stepped;
@@ -125,7 +126,13 @@ impl<A: Allocator + Copy> BankAgent<A> {
         requires some { 0 < depth }
         requires few { depth ≤ 8 }
         requires room { room ≤ 65536 }
-        ensures { IfOk result (λ b. b ≡ record { tiles = tiles_of torus.now; tile = tile; room = room; agent = record { state = empty_bank; ports = new_ports torus.now tile depth } }) }
+        ensures { IfOk result
+            (λ b. b ≡ record {
+              tiles = tiles_of torus.now;
+              tile = tile;
+              room = room;
+              agent = record { state = empty_bank; ports = new_ports torus.now tile depth };
+            }) }
     {
         let services = ServiceList::new(alloc, tile, torus.tiles(), room)?;
         let ports = new_ports(alloc, torus, tile, depth)?;
@@ -143,7 +150,8 @@ impl<A: Allocator> BankAgent<A> {
     /// What a choice wants.
     #[inline(always)]
     fn wants(&self, choice: Choice) -> Option<Want>
-        ensures value { result ≡ bank_wants self.now.tiles self.now.tile self.now.agent.state choice }
+        ensures value { result
+            ≡ bank_wants self.now.tiles self.now.tile self.now.agent.state choice }
         ensures port { IfSome result (HasPort self.now.agent.ports) }
     {
         match choice {
@@ -180,10 +188,15 @@ impl<A: Allocator> BankAgent<A> {
     /// Takes the word that the operation of a choice found. A head flit of a request that is taken
     /// names a word below 65536 (`is_acceptable`), and a service has room for its entry (`is_full`).
     pub fn absorb(&mut self, choice: Choice, got: u64) -> Stepped
-        requires tried { IsSome (next_op (bank_wants self.old.tiles self.old.tile) self.old.agent choice) }
+        requires tried { IsSome
+            (next_op (bank_wants self.old.tiles self.old.tile) self.old.agent choice) }
         requires flit { IsAcceptable choice got }
         requires entries { HasRoom self.old choice }
-        ensures { MatchOption (absorbed (bank_wants self.old.tiles self.old.tile) (bank_after self.old.tiles self.old.tile) self.old.agent choice got) ((result ≡ stepped.Idle) × (self.new ≡ self.old)) (λ a. (result ≡ stepped.Moved) × (self.new ≡ with_agent self.old a)) }
+        ensures { MatchOption
+            (absorbed (bank_wants self.old.tiles self.old.tile)
+            (bank_after self.old.tiles self.old.tile) self.old.agent choice got)
+            ((result ≡ stepped.Idle) × (self.new ≡ self.old))
+            (λ a. (result ≡ stepped.Moved) × (self.new ≡ with_agent self.old a)) }
     {
         let Some(want) = self.wants(choice) else {
             return Stepped::Idle;
@@ -199,12 +212,21 @@ impl<A: Allocator> BankAgent<A> {
     /// found.
     #[inline(always)]
     pub fn attempt<B: Allocator>(&mut self, choice: Choice, row: &mut Vec<u64, B>) -> Stepped
-        requires room { IfSome (next_op (bank_wants self.old.tiles self.old.tile) self.old.agent choice) (λ o. word_of o < vec_len row.old) }
-        requires flit { IfSome (next_op (bank_wants self.old.tiles self.old.tile) self.old.agent choice)
+        requires room { IfSome
+            (next_op (bank_wants self.old.tiles self.old.tile) self.old.agent choice)
+            (λ o. word_of o < vec_len row.old) }
+        requires flit { IfSome
+            (next_op (bank_wants self.old.tiles self.old.tile) self.old.agent choice)
             (λ o. IsAcceptable choice (slice_index row.old.items (word_of o))) }
         requires entries { HasRoom self.old choice }
-        ensures row { row.new.items ≡ performed_by row.old.items (next_op (bank_wants self.old.tiles self.old.tile) self.old.agent choice) }
-        ensures step { MatchOption (attempted (bank_wants self.old.tiles self.old.tile) (bank_after self.old.tiles self.old.tile) self.old.agent choice row.old.items) ((result ≡ stepped.Idle) × (self.new ≡ self.old)) (λ a. (result ≡ stepped.Moved) × (self.new ≡ with_agent self.old a)) }
+        ensures row { row.new.items
+            ≡ performed_by row.old.items
+            (next_op (bank_wants self.old.tiles self.old.tile) self.old.agent choice) }
+        ensures step { MatchOption
+            (attempted (bank_wants self.old.tiles self.old.tile)
+            (bank_after self.old.tiles self.old.tile) self.old.agent choice row.old.items)
+            ((result ≡ stepped.Idle) × (self.new ≡ self.old))
+            (λ a. (result ≡ stepped.Moved) × (self.new ≡ with_agent self.old a)) }
     {
         let Some(want) = self.wants(choice) else {
             return Stepped::Idle;
@@ -219,8 +241,12 @@ impl<A: Allocator> BankAgent<A> {
     /// Whether an attempt of a choice over a row would move. Nothing changes.
     #[inline(always)]
     pub fn would_move<B: Allocator>(&self, choice: Choice, row: &Vec<u64, B>) -> bool
-        requires room { IfSome (next_op (bank_wants self.now.tiles self.now.tile) self.now.agent choice) (λ o. word_of o < vec_len row.now) }
-        ensures { result ≡ is_some (attempted (bank_wants self.now.tiles self.now.tile) (bank_after self.now.tiles self.now.tile) self.now.agent choice row.now.items) }
+        requires room { IfSome
+            (next_op (bank_wants self.now.tiles self.now.tile) self.now.agent choice)
+            (λ o. word_of o < vec_len row.now) }
+        ensures { result ≡ is_some
+            (attempted (bank_wants self.now.tiles self.now.tile)
+            (bank_after self.now.tiles self.now.tile) self.now.agent choice row.now.items) }
     {
         match self.wants(choice) {
             Some(want) => self.ports.would_grant(want, row),
@@ -233,7 +259,12 @@ impl<A: Allocator> BankAgent<A> {
         requires flit { IsAcceptable choice learned }
         requires entries { HasRoom self.old choice }
         ensures { (want : Want)
-            → self.new ≡ with_agent self.old (record { state = bank_after self.old.tiles self.old.tile self.old.agent.state choice want learned; ports = self.old.agent.ports }) }
+            → self.new ≡ with_agent self.old
+            (record {
+              state = bank_after self.old.tiles self.old.tile self.old.agent.state choice
+                  want learned;
+              ports = self.old.agent.ports;
+            }) }
     {
         match choice {
             Choice::Take => self.take_in(learned),
@@ -247,7 +278,13 @@ impl<A: Allocator> BankAgent<A> {
     #[inline(never)]
     fn take_in(&mut self, flit: u64)
         requires { NamesWord flit }
-        ensures { self.new ≡ with_agent self.old (record { state = bank_after self.old.tiles self.old.tile self.old.agent.state choice.Take (wants_to.Take 0) flit; ports = self.old.agent.ports }) }
+        ensures { self.new
+            ≡ with_agent self.old (record {
+              state =
+                  bank_after self.old.tiles self.old.tile self.old.agent.state choice.Take
+                  (wants_to.Take 0) flit;
+              ports = self.old.agent.ports;
+            }) }
     {
         if let Offered::Whole(Packet::Request(request)) = self.assembler.offer(flit) {
             self.waiting = Some(request);
@@ -259,7 +296,13 @@ impl<A: Allocator> BankAgent<A> {
     #[inline(never)]
     fn serve(&mut self, found: u64)
         requires { length self.old.agent.state.entries < self.old.room }
-        ensures { self.new ≡ with_agent self.old (record { state = served self.old.tiles self.old.tile self.old.agent.state self.old.agent.state.waiting found; ports = self.old.agent.ports }) }
+        ensures { self.new
+            ≡ with_agent self.old (record {
+              state =
+                  served self.old.tiles self.old.tile self.old.agent.state
+                  self.old.agent.state.waiting found;
+              ports = self.old.agent.ports;
+            }) }
     {
         let Some(request) = self.waiting else {
             return;

@@ -34,7 +34,8 @@ impl<A: Allocator> ServiceList<A> {
         requires tile { tile < tiles }
         requires tiles { tiles ≤ 64 }
         requires room { room ≤ 65536 }
-        ensures { IfOk result (λ h. h ≡ record { tile = tile; tiles = tiles; entries = []; room = room }) }
+        ensures { IfOk result
+            (λ h. h ≡ record { tile = tile; tiles = tiles; entries = []; room = room }) }
     {
         let entries = Vec::with_capacity(alloc, room)?;
         Ok(ServiceList {
@@ -50,7 +51,8 @@ impl<A: Allocator> ServiceList<A> {
         requires word { request.word < 65536 }
         requires room { length self.old.entries < self.old.room }
         ensures services { self.new ≡ recorded self.old request reply }
-        ensures response { result ≡ response_of self.old.tile (length self.old.entries) request reply }
+        ensures response { result
+            ≡ response_of self.old.tile (length self.old.entries) request reply }
     {
         let place = self.entries.len() as u32;
         let entry = Entry {

@@ -11,26 +11,26 @@ use Rattle.torus.specs.declared.step.Choice.{Choice}
 use Rattle.torus.specs.declared.step.Step.{Step}
 use Rattle.torus.specs.declared.step.Stepped.{Stepped}
 use Rattle.torus.specs.declared.step.Stepped.TheVariants.{Moved, Idle}
-use Rattle.runs.proofs.Lists.{get_set_same}
+use Rattle.one_order.proofs.Lists.{get_set_same}
 use Rattle.flit_buffer.specs.Agent.{Agent as WithPorts, absorbed}
 use Rattle.flit_buffer.specs.Surroundings.{Surroundings}
 use Rattle.flit_buffer.specs.Tries.{performed_by}
 use Rattle.flit_buffer.specs.Words.{word_of}
 use Rattle.flit_buffer.specs.declared.word_op.WordOp.{WordOp}
-use Rattle.wake_flags.specs.flights.specs.EventBook.{EventBook}
-use Rattle.wake_flags.specs.net_interface.specs.ProcessorRecord.{ProcessorRecord}
-use Rattle.wake_flags.specs.net_interface.specs.ProcessorTable.{ProcessorState}
+use Rattle.machine_wake.specs.order_abstract.specs.EventBook.{EventBook}
+use Rattle.machine_wake.specs.script_follower.specs.ProcessorRecord.{ProcessorRecord}
+use Rattle.machine_wake.specs.script_follower.specs.ProcessorTable.{ProcessorState}
 use Rattle.home_bank.specs.BankTable.{BankState}
 use Rattle.router.specs.Table.{RouterState, router_wants, router_after}
-use Rattle.event_book.specs.RoomyBook.{RoomyBook, KeepsRoom}
-use Rattle.wake_flags.specs.tile.specs.Tile.{Design, TileState, Agent, Router}
-use Rattle.wake_flags.specs.tile.specs.Agents.{TilePlace, agent_numbered, state_of, tile_placed, tile_next_op, agent_op, agent_absorbed}
-use Rattle.wake_flags.specs.tile_agents.specs.Placed.{PlacedTile, IsAcceptableTo, with_place, agent_attempted, tile_attempted}
-use Rattle.wake_flags.specs.tile_agents.proofs.OwnAttempts.{own_attempt}
-use Rattle.wake_flags.specs.core_laws.specs.Core.{design_of, after}
-use Rattle.wake_flags.specs.machine_seen.specs.Notes.{book_noted}
-use Rattle.wake_flags.specs.machine_laws.specs.Core.{Core, Steps}
-use Rattle.wake_flags.specs.Awake.{Awake, woken}
+use Rattle.order_book.specs.RoomyBook.{RoomyBook, KeepsRoom}
+use Rattle.machine_wake.specs.tile_laws.specs.Tile.{Design, TileState, Agent, Router}
+use Rattle.machine_wake.specs.tile_laws.specs.Agents.{TilePlace, agent_numbered, state_of, tile_placed, tile_next_op, agent_op, agent_absorbed}
+use Rattle.machine_wake.specs.tile.specs.Placed.{PlacedTile, IsAcceptableTo, with_place, agent_attempted, tile_attempted}
+use Rattle.machine_wake.specs.tile.proofs.OwnAttempts.{own_attempt}
+use Rattle.machine_wake.specs.core_laws.specs.Core.{design_of, after}
+use Rattle.machine_wake.specs.core_seen.specs.Notes.{book_noted}
+use Rattle.machine_wake.specs.core_machine.specs.Core.{Core, Steps}
+use Rattle.machine_wake.specs.Awake.{Awake, woken}
 use Rattle.machine_core.specs.declared.machine.Machine.TheInside.{Inside}
 use Rattle.machine_core.specs.Noted.{HasRoomToNote, IsOfFullBank, counts_of, records_in}
 use Rattle.machine_core.specs.Inside.{core_of, IsMachine}
@@ -48,7 +48,8 @@ pub of_kind : (n t k : ℕ) → n ≡ 3 * t + k → k < 3 → n % 3 ≡ k
 of_kind n t k is small = ap (λ (m : ℕ). m % 3) (let e : n ≡ t * 3 + k = omega (arith, is) in e) ∙ mod-mul-add t 3 k small
 
 -- a tile in its place has its number
-placed_at : (d : Design) (t : ℕ) (around : Surroundings) (o : Option TileState) (p : TilePlace) → option_map (λ tile. tile_placed d t tile around) o ≡ Some p → p.tile ≡ t
+placed_at : (d : Design) (t : ℕ) (around : Surroundings) (o : Option TileState) (p : TilePlace) → option_map (λ tile. tile_placed d t tile around) o ≡ Some p
+    → p.tile ≡ t
 placed_at d t around None p h = absurd (cc)
 placed_at d t around (Some tile) p h = ap (λ (q : TilePlace). q.tile) (sym (same_Some _ _ h))
 
@@ -73,7 +74,8 @@ router_alone p q choice row = by_op (agent_op p Router choice)
 
 -- so nothing is noted of it
 nothing_noted : (t : ℕ) (records : List ProcessorRecord) (v : PlacedTile) (q : TilePlace) (g : EventBook) → RouterAlone v.place q
-    → g ≡ book_noted t records (length v.place.processor.state.operations.issued) (length v.place.processor.state.operations.answers) (length v.place.bank.state.entries) (state_of q) g
+    → g ≡ book_noted t records (length v.place.processor.state.operations.issued) (length v.place.processor.state.operations.answers)
+    (length v.place.bank.state.entries) (state_of q) g
 nothing_noted t records v q g alone =
     sym (noted_as_nothing t records (counts_of v) (state_of q) g
     (omega (arith, ap (λ (x : WithPorts ProcessorState). length x.state.operations.issued) alone.processor))
@@ -98,7 +100,9 @@ module _ {A : Type 0} (a : Inside A) (is : IsMachine a) (attempt : Step) (tile k
     here = ap (slice_get a.tiles.items) at ∙ there
 
     own : attempt.agent / 3 ≡ v.place.tile
-    own = sym (placed_at (design_of is.load) (attempt.agent / 3) (after is.load is.steps).around (slice_get (after is.load is.steps).tiles (attempt.agent / 3)) v.place (sym (is.seen.tiles (attempt.agent / 3)) ∙ slice_get-map (λ (w : PlacedTile). w.place) a.tiles.items (attempt.agent / 3) ∙ ap (option_map (λ (w : PlacedTile). w.place)) here))
+    own = sym (placed_at (design_of is.load) (attempt.agent / 3) (after is.load is.steps).around (slice_get (after is.load is.steps).tiles (attempt.agent / 3))
+        v.place (sym (is.seen.tiles (attempt.agent / 3)) ∙ slice_get-map (λ (w : PlacedTile). w.place) a.tiles.items (attempt.agent / 3)
+        ∙ ap (option_map (λ (w : PlacedTile). w.place)) here))
 
     own_op : tile_next_op v.place attempt ≡ agent_op v.place (agent_numbered (attempt.agent % 3)) attempt.choice
     own_op = cond-true _ _ _ (eq-eqb _ _ own)
@@ -115,8 +119,11 @@ module _ {A : Type 0} (a : Inside A) (is : IsMachine a) (attempt : Step) (tile k
 
     pub agent_fits : IfSome (agent_op v.place agent attempt.choice) (λ o. IsAcceptableTo v.place agent attempt.choice (slice_index a.row.items (word_of o)))
     agent_fits =
-        subst (λ (n : ℕ). IfSome (agent_op v.place (agent_numbered n) attempt.choice) (λ o. IsAcceptableTo v.place (agent_numbered n) attempt.choice (slice_index a.row.items (word_of o)))) which
-        (subst (λ (x : Option WordOp). IfSome x (λ o. IsAcceptableTo v.place (agent_numbered (attempt.agent % 3)) attempt.choice (slice_index a.row.items (word_of o)))) own_op (word_fits a is attempt v here))
+        subst (λ (n : ℕ). IfSome (agent_op v.place (agent_numbered n) attempt.choice)
+        (λ o. IsAcceptableTo v.place (agent_numbered n) attempt.choice (slice_index a.row.items (word_of o)))) which
+        (subst (λ (x : Option WordOp). IfSome x
+        (λ o. IsAcceptableTo v.place (agent_numbered (attempt.agent % 3)) attempt.choice (slice_index a.row.items (word_of o)))) own_op
+        (word_fits a is attempt v here))
 
     -- an attempt without an operation isn't enabled
     pub agent_without_op : agent_op v.place agent attempt.choice ≡ None → Steps (core_of a) (core_of a) Idle attempt
@@ -130,34 +137,39 @@ module _ {A : Type 0} (a : Inside A) (is : IsMachine a) (attempt : Step) (tile k
         idle a is attempt v here tiles row (attempted_is ∙ none) w same
         (tiles_are ∙ ap (λ (n : ℕ). slice_set a.tiles.items n w) (sym at)) (row_is ∙ ap (performed_by a.row.items) (sym op_is))
 
-    module _ (q : TilePlace) (attempted : agent_attempted v.place agent attempt.choice a.row.items ≡ Some q) (w : PlacedTile) (new_tile : w ≡ with_place v q) where
-      -- the book has room for what is noted
-      pub agent_can_note : (tiles : List PlacedTile) → tiles ≡ slice_set a.tiles.items tile w
-          → (row : List ℕ) → row ≡ performed_by a.row.items (agent_op v.place agent attempt.choice) → HasRoomToNote tiles tile (counts_of v) a.book
-      agent_can_note tiles tiles_are row row_is =
-          subst (λ (n : ℕ). HasRoomToNote tiles n (counts_of v) a.book) at
-          (can_note a is attempt v here q (attempted_is ∙ attempted) w new_tile tiles
-          (tiles_are ∙ ap (λ (n : ℕ). slice_set a.tiles.items n w) (sym at)) row (row_is ∙ ap (performed_by a.row.items) (sym op_is)))
+    module _ (q : TilePlace) (attempted : agent_attempted v.place agent attempt.choice a.row.items ≡ Some q) (w : PlacedTile) (new_tile : w ≡ with_place v q)
+      where
+        -- the book has room for what is noted
+        pub agent_can_note : (tiles : List PlacedTile) → tiles ≡ slice_set a.tiles.items tile w
+            → (row : List ℕ) → row ≡ performed_by a.row.items (agent_op v.place agent attempt.choice) → HasRoomToNote tiles tile (counts_of v) a.book
+        agent_can_note tiles tiles_are row row_is =
+            subst (λ (n : ℕ). HasRoomToNote tiles n (counts_of v) a.book) at
+            (can_note a is attempt v here q (attempted_is ∙ attempted) w new_tile tiles
+            (tiles_are ∙ ap (λ (n : ℕ). slice_set a.tiles.items n w) (sym at)) row (row_is ∙ ap (performed_by a.row.items) (sym op_is)))
 
-      -- a move is left
-      pub agent_left : (tiles : List PlacedTile) → tiles ≡ slice_set a.tiles.items tile w
-          → (row : List ℕ) → row ≡ performed_by a.row.items (agent_op v.place agent attempt.choice) → 0 < a.left
-      agent_left tiles tiles_are row row_is =
-          one_left a is attempt v here q (attempted_is ∙ attempted) w new_tile tiles
-          (tiles_are ∙ ap (λ (n : ℕ). slice_set a.tiles.items n w) (sym at)) row (row_is ∙ ap (performed_by a.row.items) (sym op_is))
+        -- a move is left
+        pub agent_left : (tiles : List PlacedTile) → tiles ≡ slice_set a.tiles.items tile w
+            → (row : List ℕ) → row ≡ performed_by a.row.items (agent_op v.place agent attempt.choice) → 0 < a.left
+        agent_left tiles tiles_are row row_is =
+            one_left a is attempt v here q (attempted_is ∙ attempted) w new_tile tiles
+            (tiles_are ∙ ap (λ (n : ℕ). slice_set a.tiles.items n w) (sym at)) row (row_is ∙ ap (performed_by a.row.items) (sym op_is))
 
-      -- the fields after an attempt that is enabled
-      pub agent_moved : (tiles : Vec PlacedTile A) → tiles.items ≡ slice_set a.tiles.items tile w
-          → (row : Vec ℕ A) → row.items ≡ performed_by a.row.items (agent_op v.place agent attempt.choice)
-          → (g : RoomyBook) → KeepsRoom a.book g
-          → ((x : PlacedTile) → slice_get tiles.items tile ≡ Some x → g.book ≡ book_noted tile (records_in tiles.items) (length v.place.processor.state.operations.issued) (length v.place.processor.state.operations.answers) (length v.place.bank.state.entries) (state_of x.place) a.book.book)
-          → (op : WordOp) → agent_op v.place agent attempt.choice ≡ Some op → (awake : Awake) → awake ≡ woken a.awake op
-          → Led a (with_parts a tiles row g awake (a.left - 1)) Moved attempt
-      agent_moved tiles tiles_are row row_is g keeps noted op asked awake awake_is =
-          moved a is attempt v here q (attempted_is ∙ attempted) w new_tile tiles
-          (tiles_are ∙ ap (λ (n : ℕ). slice_set a.tiles.items n w) (sym at)) row (row_is ∙ ap (performed_by a.row.items) (sym op_is)) g keeps
-          (subst (λ (n : ℕ). (x : PlacedTile) → slice_get tiles.items n ≡ Some x → g.book ≡ book_noted n (records_in tiles.items) (length v.place.processor.state.operations.issued) (length v.place.processor.state.operations.answers) (length v.place.bank.state.entries) (state_of x.place) a.book.book) (sym at) noted)
-          op (op_is ∙ asked) awake awake_is
+        -- the fields after an attempt that is enabled
+        pub agent_moved : (tiles : Vec PlacedTile A) → tiles.items ≡ slice_set a.tiles.items tile w
+            → (row : Vec ℕ A) → row.items ≡ performed_by a.row.items (agent_op v.place agent attempt.choice)
+            → (g : RoomyBook) → KeepsRoom a.book g
+            → ((x : PlacedTile) → slice_get tiles.items tile ≡ Some x
+            → g.book ≡ book_noted tile (records_in tiles.items) (length v.place.processor.state.operations.issued)
+            (length v.place.processor.state.operations.answers) (length v.place.bank.state.entries) (state_of x.place) a.book.book)
+            → (op : WordOp) → agent_op v.place agent attempt.choice ≡ Some op → (awake : Awake) → awake ≡ woken a.awake op
+            → Led a (with_parts a tiles row g awake (a.left - 1)) Moved attempt
+        agent_moved tiles tiles_are row row_is g keeps noted op asked awake awake_is =
+            moved a is attempt v here q (attempted_is ∙ attempted) w new_tile tiles
+            (tiles_are ∙ ap (λ (n : ℕ). slice_set a.tiles.items n w) (sym at)) row (row_is ∙ ap (performed_by a.row.items) (sym op_is)) g keeps
+            (subst (λ (n : ℕ). (x : PlacedTile) → slice_get tiles.items n ≡ Some x
+            → g.book ≡ book_noted n (records_in tiles.items) (length v.place.processor.state.operations.issued)
+            (length v.place.processor.state.operations.answers) (length v.place.bank.state.entries) (state_of x.place) a.book.book) (sym at) noted)
+            op (op_is ∙ asked) awake awake_is
 
 -- the fields after a router's move: the book stays
 module _ {A : Type 0} (a : Inside A) (is : IsMachine a) (attempt : Step) (tile : ℕ) (at : attempt.agent / 3 ≡ tile) (which : attempt.agent % 3 ≡ 1) where
@@ -168,11 +180,15 @@ module _ {A : Type 0} (a : Inside A) (is : IsMachine a) (attempt : Step) (tile :
       → (op : WordOp) → agent_op v.place Router attempt.choice ≡ Some op → (awake : Awake) → awake ≡ woken a.awake op
       → Led a (with_parts a tiles row a.book awake (a.left - 1)) Moved attempt
   router_moved v there q attempted w new_tile tiles tiles_are row row_is op asked awake awake_is =
-      let new_there : slice_get tiles.items tile ≡ Some (with_place v q) = ap (λ (vs : List PlacedTile). slice_get vs tile) (tiles_are ∙ ap (slice_set a.tiles.items tile) new_tile)
+      let new_there : slice_get tiles.items tile ≡ Some (with_place v q) =
+      ap (λ (vs : List PlacedTile). slice_get vs tile) (tiles_are ∙ ap (slice_set a.tiles.items tile) new_tile)
       ∙ get_set_same a.tiles.items tile (with_place v q) (slice_get_within a.tiles.items tile v there) in
       agent_moved a is attempt tile 1 at which v there q attempted w new_tile tiles tiles_are row row_is a.book (keeps_room a.book)
-      (λ x at_x. subst (λ (y : PlacedTile). a.book.book ≡ book_noted tile (records_in tiles.items) (length v.place.processor.state.operations.issued) (length v.place.processor.state.operations.answers) (length v.place.bank.state.entries) (state_of y.place) a.book.book)
-      (same_Some _ _ (sym new_there ∙ at_x)) (nothing_noted tile (records_in tiles.items) v q a.book.book (router_alone v.place q attempt.choice a.row.items attempted)))
+      (λ x at_x. subst (λ (y : PlacedTile). a.book.book
+      ≡ book_noted tile (records_in tiles.items) (length v.place.processor.state.operations.issued) (length v.place.processor.state.operations.answers)
+      (length v.place.bank.state.entries) (state_of y.place) a.book.book)
+      (same_Some _ _ (sym new_there ∙ at_x))
+      (nothing_noted tile (records_in tiles.items) v q a.book.book (router_alone v.place q attempt.choice a.row.items attempted)))
       op asked awake awake_is
 
 -- a bank that has no room serves nothing
@@ -189,5 +205,6 @@ tile_within a is c view tile low =
     omega (arith, low, shape, counted, long)
 
 -- an attempt by the number of its agent
-pub as_attempt : (old new : Core) (stepped : Stepped) (attempt : Step) (n : ℕ) → attempt.agent ≡ n → Steps old new stepped (record { agent = n; choice = attempt.choice }) → Steps old new stepped attempt
+pub as_attempt : (old new : Core) (stepped : Stepped) (attempt : Step) (n : ℕ) → attempt.agent ≡ n
+    → Steps old new stepped (record { agent = n; choice = attempt.choice }) → Steps old new stepped attempt
 as_attempt old new stepped attempt n e h = subst (λ (k : ℕ). Steps old new stepped (record { agent = k; choice = attempt.choice })) (sym e) h

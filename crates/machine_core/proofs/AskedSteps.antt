@@ -5,22 +5,22 @@ use Rattle.std.specs.Prelude.{MatchOption, is_some}
 use Rattle.std.specs.Option.{IsSome}
 use Rattle.torus.specs.declared.step.Step.{Step}
 use Rattle.flit_buffer.specs.Tries.{performed_by}
-use Rattle.wake_flags.specs.tile.specs.Tile.{Design}
-use Rattle.wake_flags.specs.tile.specs.Agents.{TilePlace, tile_next_op}
-use Rattle.wake_flags.specs.tile_agents.specs.Placed.{PlacedTile, tile_attempted}
-use Rattle.wake_flags.specs.core_laws.specs.Core.{Load, State, design_of, step, after}
-use Rattle.wake_flags.specs.core_laws.specs.Runs.{state_after}
-use Rattle.wake_flags.specs.core_row.proofs.Reached.{all_steps}
-use Rattle.wake_flags.specs.core_progress.specs.Moves.{enabled_step, IsLive}
-use Rattle.wake_flags.specs.core_progress.proofs.Live.{is_live}
-use Rattle.wake_flags.specs.core_progress.proofs.OfRound.{found_is, none_is}
-use Rattle.wake_flags.specs.machine_seen.specs.Seen.{IsShown}
-use Rattle.wake_flags.specs.machine_laws.specs.Core.{Core, IsAfter, built_to, all_finished}
+use Rattle.machine_wake.specs.tile_laws.specs.Tile.{Design}
+use Rattle.machine_wake.specs.tile_laws.specs.Agents.{TilePlace, tile_next_op}
+use Rattle.machine_wake.specs.tile.specs.Placed.{PlacedTile, tile_attempted}
+use Rattle.machine_wake.specs.core_laws.specs.Core.{Load, State, design_of, step, after}
+use Rattle.machine_wake.specs.core_laws.specs.Runs.{state_after}
+use Rattle.machine_wake.specs.core_row.proofs.Reached.{all_steps}
+use Rattle.machine_wake.specs.core_progress.specs.Moves.{enabled_step, IsLive}
+use Rattle.machine_wake.specs.core_progress.proofs.Live.{is_live}
+use Rattle.machine_wake.specs.core_progress.proofs.OfRound.{found_is, none_is}
+use Rattle.machine_wake.specs.core_seen.specs.Seen.{IsShown}
+use Rattle.machine_wake.specs.core_machine.specs.Core.{Core, IsAfter, built_to, all_finished}
 use Rattle.machine_core.specs.declared.machine.Machine.TheInside.{Inside}
 use Rattle.machine_core.specs.Inside.{core_of, places_in, IsMachine}
 use Rattle.machine_core.proofs.Standing.{none_past}
 use Rattle.machine_core.proofs.Attempting.{leads, step_is}
-use Rattle.wake_flags.specs.machine_laws.proofs.Moves.{built, same_finished}
+use Rattle.machine_wake.specs.core_machine.proofs.Moves.{built, same_finished}
 
 module _ {A : Type 0} (a : Inside A) (is : IsMachine a) (attempt : Step) where
   -- a tile that isn't there makes no step
@@ -33,8 +33,10 @@ module _ {A : Type 0} (a : Inside A) (is : IsMachine a) (attempt : Step) where
   tile_asked v there = by_tile (tile_attempted v.place attempt a.row.items) (leads a is attempt v there) ∙ ap is_some (sym (step_is a is attempt))
     where
       by_tile : (o : Option TilePlace)
-          → MatchOption o ((step (design_of is.load) (after is.load is.steps) attempt ≡ None) × (performed_by a.row.items (tile_next_op v.place attempt) ≡ a.row.items))
-          (λ q. (next : State) × (step (design_of is.load) (after is.load is.steps) attempt ≡ Some next) × IsShown (design_of is.load) next (slice_set (places_in a) (attempt.agent / 3) q) (performed_by a.row.items (tile_next_op v.place attempt)))
+          → MatchOption o ((step (design_of is.load) (after is.load is.steps) attempt ≡ None)
+          × (performed_by a.row.items (tile_next_op v.place attempt) ≡ a.row.items))
+          (λ q. (next : State) × (step (design_of is.load) (after is.load is.steps) attempt ≡ Some next)
+          × IsShown (design_of is.load) next (slice_set (places_in a) (attempt.agent / 3) q) (performed_by a.row.items (tile_next_op v.place attempt)))
           → is_some o ≡ is_some (step (design_of is.load) (after is.load is.steps) attempt)
       by_tile None h = sym (ap is_some h.0)
       by_tile (Some q) h = sym (ap is_some h.1)

@@ -6,19 +6,19 @@ use Rattle.std.specs.Option.{option_map, IfSome}
 use Rattle.std.proofs.lemmas.Option.{slice_get-map}
 use Rattle.torus.specs.declared.step.Step.{Step}
 use Rattle.torus.specs.declared.step.Stepped.TheVariants.{Idle}
-use Rattle.runs.specs.Events.{Event}
+use Rattle.one_order.specs.Events.{Event}
 use Rattle.flit_buffer.specs.Tries.{performed_by}
 use Rattle.flit_buffer.specs.Words.{word_of}
 use Rattle.flit_buffer.specs.declared.word_op.WordOp.{WordOp}
-use Rattle.wake_flags.specs.tile.specs.Tile.{Design}
-use Rattle.wake_flags.specs.tile.specs.Agents.{TilePlace, agent_numbered, tile_next_op, tile_absorbed}
-use Rattle.wake_flags.specs.tile_agents.specs.Placed.{PlacedTile, IsAcceptableTo, tile_attempted}
-use Rattle.wake_flags.specs.core_laws.specs.Core.{Load, State, design_of, step, after}
-use Rattle.wake_flags.specs.machine_seen.specs.Seen.{IsShown, LeadsOn, state_seen}
-use Rattle.wake_flags.specs.machine_seen.proofs.Attempts.{leads_on}
-use Rattle.wake_flags.specs.machine_laws.specs.Core.{Core, IsAfter, Steps, built_to, event_in}
-use Rattle.wake_flags.specs.machine_seen.proofs.Tries.{word_there, word_asked}
-use Rattle.wake_flags.specs.machine_seen.proofs.Room.{full_shown}
+use Rattle.machine_wake.specs.tile_laws.specs.Tile.{Design}
+use Rattle.machine_wake.specs.tile_laws.specs.Agents.{TilePlace, agent_numbered, tile_next_op, tile_absorbed}
+use Rattle.machine_wake.specs.tile.specs.Placed.{PlacedTile, IsAcceptableTo, tile_attempted}
+use Rattle.machine_wake.specs.core_laws.specs.Core.{Load, State, design_of, step, after}
+use Rattle.machine_wake.specs.core_seen.specs.Seen.{IsShown, LeadsOn, state_seen}
+use Rattle.machine_wake.specs.core_seen.proofs.Attempts.{leads_on}
+use Rattle.machine_wake.specs.core_machine.specs.Core.{Core, IsAfter, Steps, built_to, event_in}
+use Rattle.machine_wake.specs.core_seen.proofs.Tries.{word_there, word_asked}
+use Rattle.machine_wake.specs.core_seen.proofs.Room.{full_shown}
 use Rattle.machine_core.specs.declared.machine.Machine.TheInside.{Inside}
 use Rattle.machine_core.specs.Noted.{IsOfFullBank}
 use Rattle.machine_core.specs.Inside.{design_in, places_in, core_of, HaveRoom, IsMachine}
@@ -54,7 +54,8 @@ module _ {A : Type 0} (a : Inside A) (is : IsMachine a) where
       word_in = subst (λ (n : ℕ). IfSome (tile_next_op v.place attempt) (λ o. word_of o < n)) (sym a.row.ok.0)
           (word_there l is.after.accepted is.steps (length is.steps) (places_in a) a.row.items (shown_now a is) attempt v.place place_there)
 
-      pub word_fits : IfSome (tile_next_op v.place attempt) (λ o. IsAcceptableTo v.place (agent_numbered (attempt.agent % 3)) attempt.choice (slice_index a.row.items (word_of o)))
+      pub word_fits : IfSome (tile_next_op v.place attempt)
+          (λ o. IsAcceptableTo v.place (agent_numbered (attempt.agent % 3)) attempt.choice (slice_index a.row.items (word_of o)))
       word_fits = word_asked l is.after.accepted is.steps (length is.steps) (places_in a) a.row.items (shown_now a is) attempt v.place place_there
 
       -- a full bank serves nothing
@@ -70,7 +71,8 @@ module _ {A : Type 0} (a : Inside A) (is : IsMachine a) where
 
       idles : (o : Option TilePlace) → o ≡ None
           → MatchOption o ((step (design_of l) s attempt ≡ None) × (performed_by a.row.items (tile_next_op v.place attempt) ≡ a.row.items))
-          (λ q. (next : State) × (step (design_of l) s attempt ≡ Some next) × IsShown (design_of l) next (slice_set (places_in a) t q) (performed_by a.row.items (tile_next_op v.place attempt)))
+          (λ q. (next : State) × (step (design_of l) s attempt ≡ Some next)
+          × IsShown (design_of l) next (slice_set (places_in a) t q) (performed_by a.row.items (tile_next_op v.place attempt)))
           → (step (design_of l) s attempt ≡ None) × (performed_by a.row.items (tile_next_op v.place attempt) ≡ a.row.items)
       idles None e h = h
       idles (Some q) e h = absurd (cc)
@@ -78,7 +80,8 @@ module _ {A : Type 0} (a : Inside A) (is : IsMachine a) where
       -- an attempt without an operation isn't enabled
       pub without_op : tile_next_op v.place attempt ≡ None → Steps (core_of a) (core_of a) Idle attempt
       without_op none =
-          let idle : tile_attempted v.place attempt a.row.items ≡ None = ap (option_and_then (λ (o : WordOp). tile_absorbed v.place attempt (slice_index a.row.items (word_of o)))) none in
+          let idle : tile_attempted v.place attempt a.row.items ≡ None =
+          ap (option_and_then (λ (o : WordOp). tile_absorbed v.place attempt (slice_index a.row.items (word_of o)))) none in
           stays (core_of a) attempt (step_is ∙ (idles (tile_attempted v.place attempt a.row.items) idle leads).0)
 
       -- the fields after an attempt that isn't enabled

@@ -1,34 +1,35 @@
 -- The fields that `load` makes are those of a machine that has made no step.
-use Rattle.std.proofs.Common.{◌≡◌, ℕ, ◌-◌, ◌*◌, ◌<◌, ◌≤◌, List, [], ◌∷◌, ◌++◌, length, map, replicate, true, Option, Some, None, refl, sym, ◌∙◌, ap, subst, arith, slice_get, take, get_or, get_or-take}
+use Rattle.std.proofs.Common.{◌≡◌, ℕ, ◌-◌, ◌*◌, ◌<◌, ◌≤◌, List, [], ◌∷◌, ◌++◌, length, map, replicate, true, Option, Some, None, refl, sym, ◌∙◌, ap, subst}
+use Rattle.std.proofs.Common.{arith, slice_get, take, get_or, get_or-take}
 use Rattle.std.specs.Prelude.{option_map}
 use Rattle.std.proofs.lemmas.Option.{slice_get-map, slice_get_within, slice_get-get_or, get_or_from_slice_get}
 use Rattle.std.proofs.lemmas.List.{length-take}
-use Rattle.script_rooms.proofs.Counts.{home_within}
-use Rattle.event_book.specs.RoomyBook.{RoomyBook}
+use Rattle.order_rooms.proofs.Counts.{home_within}
+use Rattle.order_book.specs.RoomyBook.{RoomyBook}
 use Rattle.torus.specs.Shape.{Shape, tiles_of, dims_of}
 use Rattle.script.specs.Machine.{MachineSpec, IsAcceptedMachine}
 use Rattle.script.specs.Scripts.{ScriptsSpec, AreAcceptedScripts, Fit, operation_count, script_of, total_count}
 use Rattle.script.specs.declared.line.Line.{Line}
 use Rattle.channel_number.specs.Order.{channel_count}
-use Rattle.wake_flags.specs.flights.specs.Load.{load_of}
-use Rattle.wake_flags.specs.flights.specs.Room.{home_room}
-use Rattle.wake_flags.specs.flights.specs.EventBook.{EventBook, first_book}
-use Rattle.wake_flags.specs.flights.proofs.LoadingAccepted.{accepted_load}
-use Rattle.wake_flags.specs.tile.specs.Tile.{TileState}
-use Rattle.wake_flags.specs.tile.specs.Agents.{tile_placed}
-use Rattle.wake_flags.specs.tile_agents.specs.Placed.{PlacedTile, first_tile}
-use Rattle.wake_flags.specs.core_laws.specs.Core.{Load, design_of, first_state, first_tile as first_tile_state}
-use Rattle.wake_flags.specs.core_laws.specs.Runs.{IsAccepted}
-use Rattle.wake_flags.specs.core_row.specs.Attempts.{tile_in}
-use Rattle.wake_flags.specs.core_row.proofs.First.{first_row, first_tiles as first_places}
-use Rattle.wake_flags.specs.core_progress.specs.Moves.{most_moves}
-use Rattle.wake_flags.specs.machine_laws.specs.Core.{IsAfter, IsLawful}
-use Rattle.wake_flags.specs.machine_laws.proofs.Lawful.{lawful}
-use Rattle.wake_flags.specs.machine_seen.specs.Seen.{IsShown}
-use Rattle.wake_flags.specs.machine_seen.proofs.Reached.{seen_state}
-use Rattle.wake_flags.specs.Awake.{Awake, is_awake}
-use Rattle.wake_flags.specs.wakefulness.specs.Sleep.{OthersSleep}
-use Rattle.wake_flags.proofs.KeptSleepers.{fresh}
+use Rattle.machine_wake.specs.order_abstract.specs.Load.{load_of}
+use Rattle.machine_wake.specs.order_abstract.specs.Room.{home_room}
+use Rattle.machine_wake.specs.order_abstract.specs.EventBook.{EventBook, first_book}
+use Rattle.machine_wake.specs.order_abstract.proofs.LoadingAccepted.{accepted_load}
+use Rattle.machine_wake.specs.tile_laws.specs.Tile.{TileState}
+use Rattle.machine_wake.specs.tile_laws.specs.Agents.{tile_placed}
+use Rattle.machine_wake.specs.tile.specs.Placed.{PlacedTile, first_tile}
+use Rattle.machine_wake.specs.core_laws.specs.Core.{Load, design_of, first_state, first_tile as first_tile_state}
+use Rattle.machine_wake.specs.core_laws.specs.Runs.{IsAccepted}
+use Rattle.machine_wake.specs.core_row.specs.Attempts.{tile_in}
+use Rattle.machine_wake.specs.core_row.proofs.First.{first_row, first_tiles as first_places}
+use Rattle.machine_wake.specs.core_progress.specs.Moves.{most_moves}
+use Rattle.machine_wake.specs.core_machine.specs.Core.{IsAfter, IsLawful}
+use Rattle.machine_wake.specs.core_machine.proofs.Lawful.{lawful}
+use Rattle.machine_wake.specs.core_seen.specs.Seen.{IsShown}
+use Rattle.machine_wake.specs.core_seen.proofs.Reached.{seen_state}
+use Rattle.machine_wake.specs.Awake.{Awake, is_awake}
+use Rattle.machine_wake.specs.core_wake.specs.Sleep.{OthersSleep}
+use Rattle.machine_wake.proofs.KeptSleepers.{fresh}
 use Rattle.machine_core.specs.declared.machine.Machine.TheInside.{Inside}
 use Rattle.machine_core.specs.Inside.{design_in, places_in, core_of, HaveRoom, HasRoomFor, IsMachine}
 use Rattle.machine_core.specs.Loaded.{first_tiles}
@@ -56,7 +57,8 @@ module _ (l : Load) (ok : IsAccepted l) (rooms : ℕ → ℕ) where
   first_at t lines = first_tile (design_of l) t l.tags lines (rooms t)
 
   -- each tile in its place, as the state before any step has it
-  place_of : (t : ℕ) (o : Option (List Line)) → slice_get l.scripts t ≡ o → option_map (λ v. v.place) (option_map (first_at t) o) ≡ tile_in (design_of l) (first_state l) t
+  place_of : (t : ℕ) (o : Option (List Line)) → slice_get l.scripts t ≡ o
+      → option_map (λ v. v.place) (option_map (first_at t) o) ≡ tile_in (design_of l) (first_state l) t
   place_of t (Some lines) e = sym (first_places l ok t lines e)
   place_of t None e =
       sym (ap (option_map (λ (tile : TileState). tile_placed (design_of l) t tile (first_state l).around))
@@ -68,13 +70,15 @@ module _ (l : Load) (ok : IsAccepted l) (rooms : ℕ → ℕ) where
       ∙ (ap (option_map (λ v. v.place)) (at (design_of l) l.tags rooms t l.scripts) ∙ place_of t (slice_get l.scripts t) refl)
 
   -- and with its room
-  room_of : (t : ℕ) (v : PlacedTile) (o : Option (List Line)) → slice_get l.scripts t ≡ o → option_map (first_at t) o ≡ Some v → (t < tiles_of l.shape) × (v.room ≡ rooms t)
+  room_of : (t : ℕ) (v : PlacedTile) (o : Option (List Line)) → slice_get l.scripts t ≡ o → option_map (first_at t) o ≡ Some v
+      → (t < tiles_of l.shape) × (v.room ≡ rooms t)
   room_of t v None e h = absurd (cc)
   room_of t v (Some lines) e h =
       let same : first_at t lines ≡ v = cc in
       (subst (λ (k : ℕ). t < k) ok.processors (slice_get_within l.scripts t lines e), sym (ap (λ (x : PlacedTile). x.room) same))
 
-  pub first_room : (t : ℕ) (v : PlacedTile) → slice_get (first_tiles (design_of l) l.tags rooms l.scripts) t ≡ Some v → (t < tiles_of l.shape) × (v.room ≡ rooms t)
+  pub first_room : (t : ℕ) (v : PlacedTile) → slice_get (first_tiles (design_of l) l.tags rooms l.scripts) t ≡ Some v
+      → (t < tiles_of l.shape) × (v.room ≡ rooms t)
   first_room t v h = room_of t v (slice_get l.scripts t) refl (sym (at (design_of l) l.tags rooms t l.scripts) ∙ h)
 
 module _ {A : Type 0} (a : Inside A) (scripts : List (List Line)) (ok : IsAccepted (load_in a scripts)) (b : Begun a scripts) where
@@ -111,7 +115,8 @@ module _ {A : Type 0} (a : Inside A) (scripts : List (List Line)) (ok : IsAccept
     banks = have_room;
     room = b.room;
     built = ap (λ (w : Awake). w.design) b.awake;
-    sleepers = subst (λ (w : Awake). OthersSleep (design_in a) (first_state (load_in a scripts)) (is_awake w)) (sym b.awake) (fresh (design_in a) (first_state (load_in a scripts)));
+    sleepers = subst (λ (w : Awake). OthersSleep (design_in a) (first_state (load_in a scripts)) (is_awake w)) (sym b.awake)
+        (fresh (design_in a) (first_state (load_in a scripts)));
   }
 
 -- a part of a list is its first elements
@@ -132,13 +137,16 @@ part_count n xs enough = let size = length-take n xs in omega arith
 
 -- tiles, row and book, said of what they were made from
 pub tiles_as : (shape : Shape) (depth tags k words : ℕ) (rooms : ℕ → ℕ) (scripts : List (List Line)) (tiles : List PlacedTile) → k ≡ words
-    → tiles ≡ first_tiles (record { shape = shape; depth = depth; words = k }) tags rooms scripts → tiles ≡ first_tiles (record { shape = shape; depth = depth; words = words }) tags rooms scripts
-tiles_as shape depth tags k words rooms scripts tiles same is = is ∙ ap (λ (n : ℕ). first_tiles (record { shape = shape; depth = depth; words = n }) tags rooms scripts) same
+    → tiles ≡ first_tiles (record { shape = shape; depth = depth; words = k }) tags rooms scripts
+    → tiles ≡ first_tiles (record { shape = shape; depth = depth; words = words }) tags rooms scripts
+tiles_as shape depth tags k words rooms scripts tiles same is =
+    is ∙ ap (λ (n : ℕ). first_tiles (record { shape = shape; depth = depth; words = n }) tags rooms scripts) same
 
 pub row_as : (shape : Shape) (depth channels : ℕ) (opening words row : List ℕ) → channels ≡ channel_count shape → words ≡ opening
     → row ≡ replicate (channels * depth) 0 ++ (words ++ 0 ∷ []) → row ≡ replicate (channel_count shape * depth) 0 ++ (opening ++ 0 ∷ [])
 row_as shape depth channels opening words row same same_words is =
-    is ∙ (ap (λ (k : ℕ). replicate (k * depth) 0 ++ (words ++ 0 ∷ [])) same ∙ ap (λ (xs : List ℕ). replicate (channel_count shape * depth) 0 ++ (xs ++ 0 ∷ [])) same_words)
+    is ∙ (ap (λ (k : ℕ). replicate (k * depth) 0 ++ (words ++ 0 ∷ [])) same
+    ∙ ap (λ (xs : List ℕ). replicate (channel_count shape * depth) 0 ++ (xs ++ 0 ∷ [])) same_words)
 
 pub book_as : (tiles n : ℕ) (issues : List ℕ) (g : EventBook) → n ≡ tiles → n ≤ length issues → g ≡ first_book (length (take n issues)) → g ≡ first_book tiles
 book_as tiles n issues g same there is = is ∙ ap first_book (part_count n issues there ∙ same)
@@ -151,19 +159,24 @@ homes_as tiles n entries scripts lists same same_lists homes b low =
     (subst (λ (k : ℕ). get_or entries b 0 ≡ home_room k b lists) same (homes b (subst (λ (k : ℕ). b < k) (sym same) low)))
 
 -- and is at most that of all operations
-pub home_small : (l : Load) → IsAccepted l → (entries : List ℕ) → ((b : ℕ) → b < tiles_of l.shape → get_or entries b 0 ≡ home_room (tiles_of l.shape) b l.scripts)
+pub home_small : (l : Load) → IsAccepted l → (entries : List ℕ)
+    → ((b : ℕ) → b < tiles_of l.shape → get_or entries b 0 ≡ home_room (tiles_of l.shape) b l.scripts)
     → (b : ℕ) → b < tiles_of l.shape → get_or entries b 0 ≤ 65536
 home_small l ok entries homes b low =
     let all = ok.scripts.total in
     omega (arith, homes b low, home_within (tiles_of l.shape) b l.scripts)
 
-pub part_small : (n : ℕ) (entries : List ℕ) → ((b : ℕ) → b < n → get_or entries b 0 ≤ 65536) → (b room : ℕ) → slice_get (take n entries) b ≡ Some room → room ≤ 65536
+pub part_small : (n : ℕ) (entries : List ℕ) → ((b : ℕ) → b < n → get_or entries b 0 ≤ 65536) → (b room : ℕ) → slice_get (take n entries) b ≡ Some room
+    → room ≤ 65536
 part_small n entries small b room there = let is = part_at n entries b room there in omega (arith, is.1, small b is.0)
 
 -- a book that was made with the rooms that the scripts can ask has room for them
-pub has_room : (l : Load) → IsAccepted l → (n rows : ℕ) (issues entries : List ℕ) (g : RoomyBook) → n ≡ tiles_of l.shape → n ≤ length issues → n ≤ length entries
-    → ((p : ℕ) → get_or issues p 0 ≡ operation_count (script_of l.scripts p)) → ((b : ℕ) → b < tiles_of l.shape → get_or entries b 0 ≡ home_room (tiles_of l.shape) b l.scripts) → rows ≡ total_count l.scripts
-    → ((p room : ℕ) → slice_get (take n issues) p ≡ Some room → room ≤ get_or g.issues p 0) → ((b room : ℕ) → slice_get (take n entries) b ≡ Some room → room ≤ get_or g.positions b 0) → rows ≤ g.rows
+pub has_room : (l : Load) → IsAccepted l → (n rows : ℕ) (issues entries : List ℕ) (g : RoomyBook) → n ≡ tiles_of l.shape → n ≤ length issues
+    → n ≤ length entries
+    → ((p : ℕ) → get_or issues p 0 ≡ operation_count (script_of l.scripts p))
+    → ((b : ℕ) → b < tiles_of l.shape → get_or entries b 0 ≡ home_room (tiles_of l.shape) b l.scripts) → rows ≡ total_count l.scripts
+    → ((p room : ℕ) → slice_get (take n issues) p ≡ Some room → room ≤ get_or g.issues p 0)
+    → ((b room : ℕ) → slice_get (take n entries) b ≡ Some room → room ≤ get_or g.positions b 0) → rows ≤ g.rows
     → HasRoomFor l g
 has_room l ok n rows issues entries g same enough_issues enough_entries issues_are homes all issues_kept entries_kept rows_kept = record {
   issues = λ p lines there.
@@ -177,7 +190,8 @@ has_room l ok n rows issues entries g same enough_issues enough_entries issues_a
   rows = omega (arith, all, rows_kept);
 }
 
-same_load : (m : MachineSpec) (s : ScriptsSpec) (shape : Shape) (depth tags : ℕ) (opening : List ℕ) (scripts : List (List Line)) → shape ≡ m.shape → depth ≡ m.depth → tags ≡ m.tags → opening ≡ m.opening → scripts ≡ s.lists
+same_load : (m : MachineSpec) (s : ScriptsSpec) (shape : Shape) (depth tags : ℕ) (opening : List ℕ) (scripts : List (List Line)) → shape ≡ m.shape
+    → depth ≡ m.depth → tags ≡ m.tags → opening ≡ m.opening → scripts ≡ s.lists
     → ◌≡◌ {A = Load} (record { shape = shape; depth = depth; tags = tags; opening = opening; scripts = scripts }) (load_of m s)
 same_load m s shape depth tags opening scripts hs hd ht ho hl =
     ap (λ (x : Shape). record { shape = x; depth = depth; tags = tags; opening = opening; scripts = scripts }) hs
@@ -187,6 +201,9 @@ same_load m s shape depth tags opening scripts hs hd ht ho hl =
     ∙ ap (λ (x : List (List Line)). record { shape = m.shape; depth = m.depth; tags = m.tags; opening = m.opening; scripts = x }) hl)))
 
 -- what is loaded is accepted, said of its parts
-pub accepted_as : (m : MachineSpec) (s : ScriptsSpec) (shape : Shape) (depth tags : ℕ) (opening : List ℕ) (scripts : List (List Line)) → IsAcceptedMachine m → AreAcceptedScripts s → Fit s m
-    → shape ≡ m.shape → depth ≡ m.depth → tags ≡ m.tags → opening ≡ m.opening → scripts ≡ s.lists → IsAccepted (record { shape = shape; depth = depth; tags = tags; opening = opening; scripts = scripts })
-accepted_as m s shape depth tags opening scripts machine script fit hs hd ht ho hl = subst IsAccepted (sym (same_load m s shape depth tags opening scripts hs hd ht ho hl)) (accepted_load m s machine script fit)
+pub accepted_as : (m : MachineSpec) (s : ScriptsSpec) (shape : Shape) (depth tags : ℕ) (opening : List ℕ) (scripts : List (List Line)) → IsAcceptedMachine m
+    → AreAcceptedScripts s → Fit s m
+    → shape ≡ m.shape → depth ≡ m.depth → tags ≡ m.tags → opening ≡ m.opening → scripts ≡ s.lists
+    → IsAccepted (record { shape = shape; depth = depth; tags = tags; opening = opening; scripts = scripts })
+accepted_as m s shape depth tags opening scripts machine script fit hs hd ht ho hl =
+    subst IsAccepted (sym (same_load m s shape depth tags opening scripts hs hd ht ho hl)) (accepted_load m s machine script fit)

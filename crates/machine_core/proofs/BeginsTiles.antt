@@ -6,8 +6,8 @@ use Rattle.std.proofs.lemmas.Option.{slice_get-map, slice_get_within}
 use Rattle.script.specs.declared.line.Line.{Line}
 use Rattle.script.specs.declared.lists.LineList.{LineList}
 use Rattle.script.specs.ScriptViews.{lists_of}
-use Rattle.wake_flags.specs.tile.specs.Tile.{Design}
-use Rattle.wake_flags.specs.tile_agents.specs.Placed.{PlacedTile, first_tile}
+use Rattle.machine_wake.specs.tile_laws.specs.Tile.{Design}
+use Rattle.machine_wake.specs.tile.specs.Placed.{PlacedTile, first_tile}
 use Rattle.machine_core.specs.Loaded.{tiles_from, first_tiles}
 
 module _ (d : Design) (tags : ℕ) (room : ℕ → ℕ) where
@@ -49,7 +49,8 @@ module _ (d : Design) (tags : ℕ) (room : ℕ → ℕ) where
       more_from 0 scripts lines ∙ ap (λ u. first_tiles d tags room scripts ++ made u lines ∷ []) e
 
 -- of as many scripts as there are tiles, and one more
-module _ {A : Type 0} (d : Design) (tags : ℕ) (room : ℕ → ℕ) (tiles : List PlacedTile) (xs : List (LineList A)) (is : tiles ≡ first_tiles d tags room (lists_of xs)) where
+module _ {A : Type 0} (d : Design) (tags : ℕ) (room : ℕ → ℕ) (tiles : List PlacedTile) (xs : List (LineList A))
+    (is : tiles ≡ first_tiles d tags room (lists_of xs)) where
   pub as_many : length tiles ≡ length xs
   as_many = ap length is ∙ (count d tags room (lists_of xs) ∙ length-map xs (λ list. list.lines.items))
 
@@ -83,8 +84,10 @@ pub fewer : {A : Type 0} (all xs left rest : List (LineList A)) (x : LineList A)
 fewer all xs left rest x e n = slice_get_within (lists_of all) (length xs) x.lines.items (next_lines all xs left rest x e n)
 
 -- so the next one's number is below the number of tiles
-pub below : {A : Type 0} (d : Design) (tags : ℕ) (room : ℕ → ℕ) (tiles : List PlacedTile) (all xs left rest : List (LineList A)) (x : LineList A) (n len count : ℕ)
-    → n ≡ len → len ≡ length tiles → tiles ≡ first_tiles d tags room (lists_of xs) → all ≡ xs ++ left → left ≡ x ∷ rest → length (lists_of all) ≡ count → n < count
+pub below : {A : Type 0} (d : Design) (tags : ℕ) (room : ℕ → ℕ) (tiles : List PlacedTile) (all xs left rest : List (LineList A)) (x : LineList A)
+    (n len count : ℕ)
+    → n ≡ len → len ≡ length tiles → tiles ≡ first_tiles d tags room (lists_of xs) → all ≡ xs ++ left → left ≡ x ∷ rest → length (lists_of all) ≡ count
+    → n < count
 below d tags room tiles all xs left rest x n len count is counted made_of e first number =
     let low = fewer all xs left rest x e first in
     let same = as_many d tags room tiles xs made_of in

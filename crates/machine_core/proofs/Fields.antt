@@ -7,24 +7,24 @@ use Rattle.std.proofs.lemmas.Option.{same_Some}
 use Rattle.torus.specs.declared.step.Step.{Step}
 use Rattle.torus.specs.declared.step.Stepped.{Stepped}
 use Rattle.torus.specs.declared.step.Stepped.TheVariants.{Moved, Idle}
-use Rattle.wake_flags.specs.net_interface.specs.ProcessorRecord.{ProcessorRecord}
-use Rattle.wake_flags.specs.flights.specs.EventBook.{EventBook}
+use Rattle.machine_wake.specs.script_follower.specs.ProcessorRecord.{ProcessorRecord}
+use Rattle.machine_wake.specs.order_abstract.specs.EventBook.{EventBook}
 use Rattle.flit_buffer.specs.Surroundings.{Surroundings}
-use Rattle.event_book.specs.RoomyBook.{RoomyBook}
-use Rattle.wake_flags.specs.tile.specs.Tile.{Design, TileState}
-use Rattle.wake_flags.specs.tile.specs.Agents.{TilePlace, state_of, tile_placed}
-use Rattle.wake_flags.specs.tile_agents.specs.Placed.{PlacedTile, with_place}
-use Rattle.wake_flags.specs.core_laws.specs.Core.{Load, State, step}
-use Rattle.wake_flags.specs.machine_seen.specs.Seen.{IsShown}
-use Rattle.wake_flags.specs.machine_laws.specs.Core.{Core, IsAfter, Steps, built_to, told, event_in, core_with}
-use Rattle.wake_flags.specs.machine_laws.proofs.Machines.{after_step}
-use Rattle.wake_flags.specs.machine_seen.specs.Notes.{book_noted}
+use Rattle.order_book.specs.RoomyBook.{RoomyBook}
+use Rattle.machine_wake.specs.tile_laws.specs.Tile.{Design, TileState}
+use Rattle.machine_wake.specs.tile_laws.specs.Agents.{TilePlace, state_of, tile_placed}
+use Rattle.machine_wake.specs.tile.specs.Placed.{PlacedTile, with_place}
+use Rattle.machine_wake.specs.core_laws.specs.Core.{Load, State, step}
+use Rattle.machine_wake.specs.core_seen.specs.Seen.{IsShown}
+use Rattle.machine_wake.specs.core_machine.specs.Core.{Core, IsAfter, Steps, built_to, told, event_in, core_with}
+use Rattle.machine_wake.specs.core_machine.proofs.Machines.{after_step}
+use Rattle.machine_wake.specs.core_seen.specs.Notes.{book_noted}
 use Rattle.machine_core.proofs.NotedBooks.{seen_at}
 use Rattle.machine_core.specs.declared.noting.Counts.{Counts}
 use Rattle.machine_core.specs.declared.machine.Machine.TheInside.{Inside}
 use Rattle.machine_core.specs.Noted.{records_in}
 use Rattle.machine_core.specs.Inside.{core_of, IsMachine}
-use Rattle.wake_flags.specs.Awake.{Awake}
+use Rattle.machine_wake.specs.Awake.{Awake}
 
 -- a step from where some steps led leads on
 pub follows : (old new : Core) (stepped : Stepped) (attempt : Step) → Steps old new stepped attempt
@@ -82,8 +82,10 @@ pub noted_same : (xs ys : List PlacedTile) (b c : Counts) (t : ℕ) (g h : Event
     → ((x : PlacedTile) → slice_get xs t ≡ Some x → g ≡ book_noted t (records_in xs) b.issued b.answers b.entries (state_of x.place) h)
     → (x : PlacedTile) → slice_get ys t ≡ Some x → g ≡ book_noted t (records_in ys) c.issued c.answers c.entries (state_of x.place) h
 noted_same xs ys b c t g h e f k =
-    subst (λ (zs : List PlacedTile). (x : PlacedTile) → slice_get zs t ≡ Some x → g ≡ book_noted t (records_in zs) c.issued c.answers c.entries (state_of x.place) h) e
-    (subst (λ (d : Counts). (x : PlacedTile) → slice_get xs t ≡ Some x → g ≡ book_noted t (records_in xs) d.issued d.answers d.entries (state_of x.place) h) f k)
+    subst (λ (zs : List PlacedTile). (x : PlacedTile) → slice_get zs t ≡ Some x
+    → g ≡ book_noted t (records_in zs) c.issued c.answers c.entries (state_of x.place) h) e
+    (subst (λ (d : Counts). (x : PlacedTile) → slice_get xs t ≡ Some x → g ≡ book_noted t (records_in xs) d.issued d.answers d.entries (state_of x.place) h) f
+    k)
 
 -- a machine's fields with other tiles, another row, another book and others awake, and with so many moves left
 abbrev pub with_parts : {A : Type 0} → Inside A → Vec PlacedTile A → Vec ℕ A → RoomyBook → Awake → ℕ → Inside A

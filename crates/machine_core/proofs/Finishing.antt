@@ -1,21 +1,22 @@
 -- Rounds finish every script of a machine that is reached.
-use Rattle.std.proofs.Common.{◌≡◌, inl, inr, ℕ, zero, suc, ◌+◌, ◌<◌, ◌≤◌, Bool, true, false, List, [], ◌∷◌, ◌++◌, length, Option, Some, None, refl, sym, ◌∙◌, ap, subst, arith, append_assoc}
+use Rattle.std.proofs.Common.{◌≡◌, inl, inr, ℕ, zero, suc, ◌+◌, ◌<◌, ◌≤◌, Bool, true, false, List, [], ◌∷◌, ◌++◌, length, Option, Some, None, refl, sym, ◌∙◌}
+use Rattle.std.proofs.Common.{ap, subst, arith, append_assoc}
 use Rattle.std.proofs.lemmas.List.{append-nil}
 use Rattle.std.proofs.lemmas.Bool.{cases_lt, false≢true}
 use Rattle.torus.specs.Shape.{Shape}
 use Rattle.torus.specs.declared.step.Step.{Step}
-use Rattle.runs.specs.Events.{Event}
-use Rattle.wake_flags.specs.flights.specs.Scripts.{AreFinished}
+use Rattle.one_order.specs.Events.{Event}
+use Rattle.machine_wake.specs.order_abstract.specs.Scripts.{AreFinished}
 use Rattle.rounds.specs.Rounds.{or_same, after_attempts, after_rounds, Finishes}
-use Rattle.wake_flags.specs.tile.specs.Tile.{Design}
-use Rattle.wake_flags.specs.core_laws.specs.Core.{Load, State, design_of, step, round, run_of}
-use Rattle.wake_flags.specs.core_laws.specs.Runs.{state_after}
-use Rattle.wake_flags.specs.core_row.proofs.Reached.{all_steps}
-use Rattle.wake_flags.specs.core_progress.specs.Moves.{all_finished as tiles_finished, moves_left}
-use Rattle.wake_flags.specs.core_progress.proofs.Finish.{run_finishes}
-use Rattle.wake_flags.specs.machine_laws.specs.Core.{Core, IsAfter, built_to, event_in, core_with, core_next, core_after, all_finished}
-use Rattle.wake_flags.specs.machine_laws.proofs.Machines.{after_steps, finished_of_machine}
-use Rattle.wake_flags.specs.machine_laws.proofs.Moves.{built, same_finished}
+use Rattle.machine_wake.specs.tile_laws.specs.Tile.{Design}
+use Rattle.machine_wake.specs.core_laws.specs.Core.{Load, State, design_of, step, round, run_of}
+use Rattle.machine_wake.specs.core_laws.specs.Runs.{state_after}
+use Rattle.machine_wake.specs.core_row.proofs.Reached.{all_steps}
+use Rattle.machine_wake.specs.core_progress.specs.Moves.{all_finished as tiles_finished, moves_left}
+use Rattle.machine_wake.specs.core_progress.proofs.Finish.{run_finishes}
+use Rattle.machine_wake.specs.core_machine.specs.Core.{Core, IsAfter, built_to, event_in, core_with, core_next, core_after, all_finished}
+use Rattle.machine_wake.specs.core_machine.proofs.Machines.{after_steps, finished_of_machine}
+use Rattle.machine_wake.specs.core_machine.proofs.Moves.{built, same_finished}
 use Rattle.machine_core.specs.Rounds.{rounds_of}
 use Rattle.machine_core.proofs.Rounds.{core_append}
 
@@ -75,7 +76,8 @@ busy_now start now k made is j low = elim (cases_lt j k) [
 kept_shape : (start now : Core) (k : ℕ) → HasMade start now k → now.shape ≡ start.shape
 kept_shape start now k made = ap (λ (x : Core). x.shape) made.so_far ∙ ap (λ (d : Design). d.shape) (after_built start (rounds_of start.shape k))
 
-pub has_more : (start now next : Core) (k : ℕ) → HasMade start now k → all_finished now.state ≡ false → next ≡ core_after now (round now.shape) → HasMade start next (k + 1)
+pub has_more : (start now next : Core) (k : ℕ) → HasMade start now k → all_finished now.state ≡ false → next ≡ core_after now (round now.shape)
+    → HasMade start next (k + 1)
 has_more start now next k made is e = record {
   so_far =
       e
@@ -123,5 +125,7 @@ module _ (l : Load) (c : Core) (steps : List Step) (h : IsAfter l c steps) where
       omega (arith, few, left)
 
   -- and every script of the run is finished
-  pub finished_run : (k : ℕ) → finished_after c k ≡ true → AreFinished (run_of l (steps ++ rounds_of c.shape k)) (length (steps ++ rounds_of c.shape k)) l.scripts
-  finished_run k is = (finished_of_machine l (core_after c (rounds_of c.shape k)) (steps ++ rounds_of c.shape k) (after_steps l c steps (rounds_of c.shape k) h)).0 is
+  pub finished_run : (k : ℕ) → finished_after c k ≡ true
+      → AreFinished (run_of l (steps ++ rounds_of c.shape k)) (length (steps ++ rounds_of c.shape k)) l.scripts
+  finished_run k is = (finished_of_machine l (core_after c (rounds_of c.shape k)) (steps ++ rounds_of c.shape k)
+      (after_steps l c steps (rounds_of c.shape k) h)).0 is

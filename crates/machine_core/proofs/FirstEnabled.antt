@@ -7,8 +7,8 @@ use Rattle.std.proofs.lemmas.List.{map-append}
 use Rattle.torus.specs.declared.step.Step.{Step}
 use Rattle.torus.specs.declared.step.Choice.{Choice}
 use Rattle.rounds.specs.Rounds.{if_enabled}
-use Rattle.wake_flags.specs.core_laws.specs.Core.{State, step, attempts_of, round_at}
-use Rattle.wake_flags.specs.machine_laws.specs.Core.{Core, built_to}
+use Rattle.machine_wake.specs.core_laws.specs.Core.{State, step, attempts_of, round_at}
+use Rattle.machine_wake.specs.core_machine.specs.Core.{Core, built_to}
 use Rattle.machine_core.specs.Rounds.{processor_choices, bank_choices, takes_of_all, puts_of_all, credits_of_all, first_in}
 
 -- an alternative, by whether there is a first
@@ -97,7 +97,8 @@ module _ (c : Core) where
     tile_past high = let e : tiles - t ≡ 0 = omega arith in ap (λ n. first_in c (flat_map (round_at ports) (range_with_len t n))) e
 
   -- the first at a tile is that of the first part that has one
-  routed : (agent : ℕ) (xs ys : List Choice) → first_in c (attempts_of agent (xs ++ ys)) ≡ option_or (first_in c (attempts_of agent xs)) (first_in c (attempts_of agent ys))
+  routed : (agent : ℕ) (xs ys : List Choice)
+      → first_in c (attempts_of agent (xs ++ ys)) ≡ option_or (first_in c (attempts_of agent xs)) (first_in c (attempts_of agent ys))
   routed agent xs ys =
       ap (first_in c) (map-append (λ (choice : Choice). record { agent = agent; choice = choice }) xs ys)
       ∙ first_append (attempts_of agent xs) (attempts_of agent ys)

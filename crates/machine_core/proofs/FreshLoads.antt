@@ -6,13 +6,13 @@ use Rattle.torus.specs.Shape.{dims_of}
 use Rattle.script.specs.declared.line.Line.{Line}
 use Rattle.script.specs.declared.line.Line.TheVariants as line
 use Rattle.script.specs.Scripts.{operations_of, operation_count, script_of, total_count, IsAcceptedScript}
-use Rattle.wake_flags.specs.net_interface.specs.Following.{past_fences, first_of}
-use Rattle.wake_flags.specs.net_interface.specs.Homes.{line_home_count, script_home_count}
-use Rattle.wake_flags.specs.net_interface.proofs.Places.{count_past_fences}
-use Rattle.wake_flags.specs.flights.specs.Room.{home_room}
-use Rattle.wake_flags.specs.tile.specs.Tile.{TileState}
-use Rattle.wake_flags.specs.core_laws.specs.Core.{Load, first_state, first_tile}
-use Rattle.wake_flags.specs.core_laws.specs.Runs.{IsAccepted}
+use Rattle.machine_wake.specs.script_follower.specs.Following.{past_fences, first_of}
+use Rattle.machine_wake.specs.script_follower.specs.Homes.{line_home_count, script_home_count}
+use Rattle.machine_wake.specs.script_follower.proofs.Places.{count_past_fences}
+use Rattle.machine_wake.specs.order_abstract.specs.Room.{home_room}
+use Rattle.machine_wake.specs.tile_laws.specs.Tile.{TileState}
+use Rattle.machine_wake.specs.core_laws.specs.Core.{Load, first_state, first_tile}
+use Rattle.machine_wake.specs.core_laws.specs.Runs.{IsAccepted}
 
 -- the load without the fences in front of its scripts
 abbrev pub bare : Load → Load
@@ -41,7 +41,15 @@ script_is (lines ∷ scripts) (suc p) = script_is scripts p
 
 pub total_is : (scripts : List (List Line)) → total_count (map past_fences scripts) ≡ total_count scripts
 total_is [] = refl
-total_is (lines ∷ scripts) = omega (arith, total_is scripts, count_past_fences lines, sum_by-cons operation_count (past_fences lines) (map past_fences scripts), sum_by-cons operation_count lines scripts)
+total_is (lines ∷ scripts) =
+    omega (
+      arith,
+      total_is scripts,
+      count_past_fences lines,
+      sum_by-cons operation_count (past_fences lines) (map past_fences scripts),
+      sum_by-cons
+          operation_count lines scripts,
+    )
 
 pub bare_accepted : (l : Load) → IsAccepted l → IsAccepted (bare l)
 bare_accepted l ok = record {
@@ -53,7 +61,8 @@ bare_accepted l ok = record {
   processors = length-map l.scripts past_fences ∙ ok.processors;
   scripts = record {
     tiles = let n = length-map l.scripts past_fences in let few = ok.scripts.tiles in omega arith;
-    each = λ p. subst (IsAcceptedScript (length l.opening)) (sym (script_is l.scripts p)) (script_accepted (length l.opening) (script_of l.scripts p) (ok.scripts.each p));
+    each = λ p. subst (IsAcceptedScript (length l.opening)) (sym (script_is l.scripts p))
+        (script_accepted (length l.opening) (script_of l.scripts p) (ok.scripts.each p));
     total = let n = total_is l.scripts in let few = ok.scripts.total in omega arith;
   };
 }
@@ -71,7 +80,10 @@ tiles_same dims tags (lines ∷ scripts) =
     (λ i. first_as (past_again lines i) ∷ tiles_same dims tags scripts i)
   where
     first_as : List Line → TileState
-    first_as ahead = record (first_tile dims tags lines) { processor = record (first_tile dims tags lines).processor { operations = record (first_tile dims tags lines).processor.operations { following = record (first_of lines) { ahead = ahead } } } }
+    first_as ahead = record (first_tile dims tags lines) {
+      processor = record (first_tile dims tags lines).processor
+          { operations = record (first_tile dims tags lines).processor.operations { following = record (first_of lines) { ahead = ahead } } };
+    }
 
 pub first_same : (l : Load) → first_state (bare l) ≡ first_state l
 first_same l = ap (λ (tiles : List TileState). record (first_state l) { tiles = tiles }) (tiles_same (dims_of l.shape) l.tags l.scripts)
@@ -93,7 +105,8 @@ room_same tiles b (lines ∷ scripts) = omega (
 )
 
 -- what is ahead in the first state
-pub ahead_first : (dims tags : ℕ) (scripts : List (List Line)) → map (λ (tile : TileState). tile.processor.operations.following.ahead) (map (first_tile dims tags) scripts) ≡ map past_fences scripts
+pub ahead_first : (dims tags : ℕ) (scripts : List (List Line))
+    → map (λ (tile : TileState). tile.processor.operations.following.ahead) (map (first_tile dims tags) scripts) ≡ map past_fences scripts
 unfolding first_of
 ahead_first dims tags [] = refl
 ahead_first dims tags (lines ∷ scripts) = ap (λ (ls : List (List Line)). past_fences lines ∷ ls) (ahead_first dims tags scripts)

@@ -1,24 +1,25 @@
 -- What a machine tells of each load from which it stands freshly loaded; and what its parts show.
-use Rattle.std.proofs.Common.{◌≡◌, ℕ, zero, suc, ◌+◌, ◌-◌, ◌*◌, List, [], ◌∷◌, map, length, Some, None, refl, sym, ◌∙◌, ap, subst, arith, slice_get, length-set, slice_index_or}
+use Rattle.std.proofs.Common.{◌≡◌, ℕ, zero, suc, ◌+◌, ◌-◌, ◌*◌, List, [], ◌∷◌, map, length, Some, None, refl, sym, ◌∙◌, ap, subst, arith, slice_get}
+use Rattle.std.proofs.Common.{length-set, slice_index_or}
 use Rattle.std.proofs.lemmas.List.{length_push}
 use Rattle.std.proofs.lemmas.Option.{slice_get_within}
 use Rattle.torus.specs.Shape.{tiles_of, dims_of}
 use Rattle.torus.specs.declared.step.Step.{Step}
 use Rattle.script.specs.declared.line.Line.{Line}
-use Rattle.wake_flags.specs.net_interface.specs.Scripts.{Invocation}
-use Rattle.wake_flags.specs.net_interface.specs.Following.{Following, ShowsPast, starts, issues, answers, first_of, past_fences}
-use Rattle.wake_flags.specs.net_interface.specs.ProcessorRecord.{ProcessorRecord, no_processor}
-use Rattle.runs.specs.Observed.{list_at}
-use Rattle.wake_flags.specs.flights.specs.EventBook.{EventBook}
-use Rattle.wake_flags.specs.flights.specs.Room.{home_room}
-use Rattle.wake_flags.specs.tile.specs.Tile.{Design, TileState}
-use Rattle.wake_flags.specs.core_laws.specs.Core.{Load, State, design_of, first_state, first_tile, after, after_from, records_of}
-use Rattle.wake_flags.specs.core_laws.specs.Runs.{state_after}
-use Rattle.wake_flags.specs.core_laws.proofs.OnTheWay.{shows_operations}
-use Rattle.wake_flags.specs.core_row.proofs.Reached.{all_steps}
-use Rattle.wake_flags.specs.machine_laws.specs.Core.{Core, IsAfter, IsLawful}
-use Rattle.wake_flags.specs.machine_laws.proofs.Lawful.{lawful}
-use Rattle.wake_flags.specs.machine_seen.specs.Seen.{IsShown}
+use Rattle.machine_wake.specs.script_follower.specs.Scripts.{Invocation}
+use Rattle.machine_wake.specs.script_follower.specs.Following.{Following, ShowsPast, starts, issues, answers, first_of, past_fences}
+use Rattle.machine_wake.specs.script_follower.specs.ProcessorRecord.{ProcessorRecord, no_processor}
+use Rattle.one_order.specs.Observed.{list_at}
+use Rattle.machine_wake.specs.order_abstract.specs.EventBook.{EventBook}
+use Rattle.machine_wake.specs.order_abstract.specs.Room.{home_room}
+use Rattle.machine_wake.specs.tile_laws.specs.Tile.{Design, TileState}
+use Rattle.machine_wake.specs.core_laws.specs.Core.{Load, State, design_of, first_state, first_tile, after, after_from, records_of}
+use Rattle.machine_wake.specs.core_laws.specs.Runs.{state_after}
+use Rattle.machine_wake.specs.core_laws.proofs.OnTheWay.{shows_operations}
+use Rattle.machine_wake.specs.core_row.proofs.Reached.{all_steps}
+use Rattle.machine_wake.specs.core_machine.specs.Core.{Core, IsAfter, IsLawful}
+use Rattle.machine_wake.specs.core_machine.proofs.Lawful.{lawful}
+use Rattle.machine_wake.specs.core_seen.specs.Seen.{IsShown}
 use Rattle.machine_core.specs.declared.machine.Machine.TheInside.{Inside}
 use Rattle.machine_core.specs.Inside.{core_of, places_in, HaveRoom, IsMachine}
 use Rattle.machine_core.specs.Fresh.{told_load}
@@ -28,11 +29,14 @@ use Rattle.machine_core.proofs.FreshLoads.{bare, bare_accepted, first_same, room
 -- a follower that shows no operation is at the start
 at_start : (lines : List Line) (past : List Invocation) (f : Following) → ShowsPast lines past f → length past ≡ 0 → f ≡ first_of lines
 at_start lines past f starts none = refl
-at_start lines past f (issues before g o t h next answered) none = absurd (let n = length_push before (record { operation = o; issue = t; answer = None }) in omega arith)
-at_start lines past f (answers before g i o t reply h at open_) none = absurd (let n = length-set before i (record o { answer = Some (t, reply) }) in let low = slice_get_within before i o at in omega arith)
+at_start lines past f (issues before g o t h next answered) none =
+    absurd (let n = length_push before (record { operation = o; issue = t; answer = None }) in omega arith)
+at_start lines past f (answers before g i o t reply h at open_) none =
+    absurd (let n = length-set before i (record o { answer = Some (t, reply) }) in let low = slice_get_within before i o at in omega arith)
 
 -- the first state has issued nothing, and its followers are at the start
-none_first : (dims tags : ℕ) (scripts : List (List Line)) (p : ℕ) → list_at (map (λ (b : ProcessorRecord). b.issued) (map (λ (t : TileState). t.processor.operations) (map (first_tile dims tags) scripts))) p ≡ []
+none_first : (dims tags : ℕ) (scripts : List (List Line)) (p : ℕ)
+    → list_at (map (λ (b : ProcessorRecord). b.issued) (map (λ (t : TileState). t.processor.operations) (map (first_tile dims tags) scripts))) p ≡ []
 none_first dims tags [] p = refl
 none_first dims tags (lines ∷ scripts) zero = refl
 none_first dims tags (lines ∷ scripts) (suc p) = none_first dims tags scripts p
@@ -47,7 +51,8 @@ same_start : (xs ys : List Line) → first_of xs ≡ first_of ys → past_fences
 unfolding first_of
 same_start xs ys e = ap (λ (f : Following). f.ahead) e
 
-same_map : {X Y : Type 0} (f : X → Y) (xs ys : List X) → length xs ≡ length ys → ((p : ℕ) (x y : X) → slice_get xs p ≡ Some x → slice_get ys p ≡ Some y → f x ≡ f y) → map f xs ≡ map f ys
+same_map : {X Y : Type 0} (f : X → Y) (xs ys : List X) → length xs ≡ length ys
+    → ((p : ℕ) (x y : X) → slice_get xs p ≡ Some x → slice_get ys p ≡ Some y → f x ≡ f y) → map f xs ≡ map f ys
 same_map f [] [] n same = refl
 same_map f [] (y ∷ ys) n same = absurd (omega arith)
 same_map f (x ∷ xs) [] n same = absurd (omega arith)
@@ -63,7 +68,8 @@ module _ (l k : Load) (steps : List Step) (c : Core) (fresh : IsAfter l c []) (l
       let shows = shows_operations k led.accepted steps (length steps) p xs at_k in
       let none : list_at (map (λ (b : ProcessorRecord). b.issued) (records_of (state_after k steps (length steps)))) p ≡ []
       = ap (λ (s : State). list_at (map (λ (b : ProcessorRecord). b.issued) (records_of s)) p) first_is ∙ none_first (dims_of l.shape) l.tags l.scripts p in
-      let begun = at_start xs shows.past (slice_index_or (records_of (state_after k steps (length steps))) p no_processor).following shows.shows (shows.are.count ∙ ap length none) in
+      let begun = at_start xs shows.past (slice_index_or (records_of (state_after k steps (length steps))) p no_processor).following shows.shows
+      (shows.are.count ∙ ap length none) in
       same_start xs ys (sym begun
       ∙ (ap (λ (s : State). (slice_index_or (records_of s) p no_processor).following) first_is ∙ follower_first (dims_of l.shape) l.tags l.scripts p ys at_l))
 
@@ -94,7 +100,8 @@ module _ (l : Load) (c : Core) (k : IsAfter l c []) where
   told_is : told_load c ≡ bare l
   told_is =
       let scripts : map (λ (tile : TileState). tile.processor.operations.following.ahead) c.state.tiles ≡ map past_fences l.scripts
-      = ap (λ (s : State). map (λ (tile : TileState). tile.processor.operations.following.ahead) s.tiles) k.state ∙ ahead_first (dims_of l.shape) l.tags l.scripts in
+      = ap (λ (s : State). map (λ (tile : TileState). tile.processor.operations.following.ahead) s.tiles) k.state
+      ∙ ahead_first (dims_of l.shape) l.tags l.scripts in
       λ i. record { shape = k.shape i; depth = k.depth i; tags = k.tags i; opening = k.opening i; scripts = scripts i }
 
   pub told_after : IsAfter (told_load c) c []

@@ -10,38 +10,38 @@ use Rattle.torus.specs.declared.step.Step.{Step}
 use Rattle.torus.specs.declared.step.Stepped.TheVariants.{Moved}
 use Rattle.script.specs.Scripts.{operation_count}
 use Rattle.home_bank.specs.declared.entry.Entry.{Entry}
-use Rattle.runs.specs.declared.answer.Answer.{Answer}
-use Rattle.runs.specs.Events.{Event}
-use Rattle.runs.specs.Observed.{list_at}
-use Rattle.runs.proofs.Lists.{get_set_same, get_set_other}
-use Rattle.wake_flags.specs.net_interface.specs.ProcessorRecord.{ProcessorRecord}
-use Rattle.wake_flags.specs.flights.specs.EventBook.{EventBook, noted_event}
-use Rattle.wake_flags.specs.flights.specs.Room.{home_room}
+use Rattle.one_order.specs.declared.answer.Answer.{Answer}
+use Rattle.one_order.specs.Events.{Event}
+use Rattle.one_order.specs.Observed.{list_at}
+use Rattle.one_order.proofs.Lists.{get_set_same, get_set_other}
+use Rattle.machine_wake.specs.script_follower.specs.ProcessorRecord.{ProcessorRecord}
+use Rattle.machine_wake.specs.order_abstract.specs.EventBook.{EventBook, noted_event}
+use Rattle.machine_wake.specs.order_abstract.specs.Room.{home_room}
 use Rattle.flit_buffer.specs.Tries.{performed_by}
 use Rattle.flit_buffer.specs.declared.word_op.WordOp.{WordOp}
-use Rattle.wake_flags.specs.core_row.specs.Attempts.{step_op}
-use Rattle.event_book.specs.RoomyBook.{RoomyBook, KeepsRoom}
+use Rattle.machine_wake.specs.core_row.specs.Attempts.{step_op}
+use Rattle.order_book.specs.RoomyBook.{RoomyBook, KeepsRoom}
 use Rattle.rounds.specs.Rounds.{moves_in, one_if_moved}
-use Rattle.wake_flags.specs.tile.specs.Tile.{Design}
-use Rattle.wake_flags.specs.tile.specs.Agents.{TilePlace, state_of, tile_next_op}
-use Rattle.wake_flags.specs.tile_agents.specs.Placed.{PlacedTile, with_place, tile_attempted}
-use Rattle.wake_flags.specs.core_laws.specs.Core.{Load, State, design_of, step, or_same, first_state, after, records_of}
-use Rattle.wake_flags.specs.machine_seen.specs.Seen.{IsShown, state_seen}
-use Rattle.wake_flags.specs.machine_seen.proofs.Reached.{seen_state}
-use Rattle.wake_flags.specs.machine_laws.specs.Core.{Core, IsAfter, built_to, told, event_in, core_with, core_next}
-use Rattle.wake_flags.specs.machine_laws.proofs.Books.{after_append}
-use Rattle.wake_flags.specs.machine_laws.proofs.Machines.{after_step}
-use Rattle.wake_flags.specs.machine_laws.proofs.Moves.{most_left}
-use Rattle.wake_flags.specs.machine_seen.specs.Notes.{FitsLoad, RoomToNoteService, RoomToNoteAnswer, book_noted, index_served}
-use Rattle.wake_flags.specs.machine_seen.proofs.Notes.{book_fits, noted_is, room_to_issue, room_to_serve, room_to_answer}
+use Rattle.machine_wake.specs.tile_laws.specs.Tile.{Design}
+use Rattle.machine_wake.specs.tile_laws.specs.Agents.{TilePlace, state_of, tile_next_op}
+use Rattle.machine_wake.specs.tile.specs.Placed.{PlacedTile, with_place, tile_attempted}
+use Rattle.machine_wake.specs.core_laws.specs.Core.{Load, State, design_of, step, or_same, first_state, after, records_of}
+use Rattle.machine_wake.specs.core_seen.specs.Seen.{IsShown, state_seen}
+use Rattle.machine_wake.specs.core_seen.proofs.Reached.{seen_state}
+use Rattle.machine_wake.specs.core_machine.specs.Core.{Core, IsAfter, built_to, told, event_in, core_with, core_next}
+use Rattle.machine_wake.specs.core_machine.proofs.Books.{after_append}
+use Rattle.machine_wake.specs.core_machine.proofs.Machines.{after_step}
+use Rattle.machine_wake.specs.core_machine.proofs.Moves.{most_left}
+use Rattle.machine_wake.specs.core_seen.specs.Notes.{FitsLoad, RoomToNoteService, RoomToNoteAnswer, book_noted, index_served}
+use Rattle.machine_wake.specs.core_seen.proofs.Notes.{book_fits, noted_is, room_to_issue, room_to_serve, room_to_answer}
 use Rattle.machine_core.specs.declared.machine.Machine.TheInside.{Inside}
 use Rattle.machine_core.specs.Noted.{HasRoomForIssue, HasRoomForService, HasRoomToNote, counts_of, records_in}
 use Rattle.machine_core.specs.Inside.{design_in, places_in, core_of, HaveRoom, HasRoomFor as HasRoomForScripts, IsMachine}
-use Rattle.wake_flags.specs.Awake.{Awake, is_awake, woken}
-use Rattle.wake_flags.specs.wakefulness.specs.Sleep.{OthersSleep}
+use Rattle.machine_wake.specs.Awake.{Awake, is_awake, woken}
+use Rattle.machine_wake.specs.core_wake.specs.Sleep.{OthersSleep}
 use Rattle.machine_core.proofs.Fields.{Led, state_at, records_shown, with_parts, core_by}
 use Rattle.machine_core.proofs.Standing.{design_is, book_is, tiles_counted}
-use Rattle.wake_flags.proofs.KeptSleepers as kept
+use Rattle.machine_wake.proofs.KeptSleepers as kept
 use Rattle.machine_core.proofs.Attempting.{step_is, event_is, place_there, leads}
 
 module _ {A : Type 0} (a : Inside A) (is : IsMachine a) where
@@ -61,15 +61,23 @@ module _ {A : Type 0} (a : Inside A) (is : IsMachine a) where
     module _ (v : PlacedTile) (there : slice_get a.tiles.items t ≡ Some v) where
       moves : (o : Option TilePlace) (q : TilePlace) → o ≡ Some q
           → MatchOption o ((step (design_of l) s attempt ≡ None) × (performed_by a.row.items (tile_next_op v.place attempt) ≡ a.row.items))
-          (λ q. (next : State) × (step (design_of l) s attempt ≡ Some next) × IsShown (design_of l) next (slice_set (places_in a) t q) (performed_by a.row.items (tile_next_op v.place attempt)))
-          → (next : State) × (step (design_of l) s attempt ≡ Some next) × IsShown (design_of l) next (slice_set (places_in a) t q) (performed_by a.row.items (tile_next_op v.place attempt))
+          (λ q. (next : State) × (step (design_of l) s attempt ≡ Some next)
+          × IsShown (design_of l) next (slice_set (places_in a) t q) (performed_by a.row.items (tile_next_op v.place attempt)))
+          → (next : State) × (step (design_of l) s attempt ≡ Some next)
+          × IsShown (design_of l) next (slice_set (places_in a) t q) (performed_by a.row.items (tile_next_op v.place attempt))
       moves None q e h = absurd (cc)
-      moves (Some p) q e h = (h.0, h.1, subst (λ (x : TilePlace). IsShown (design_of l) h.0 (slice_set (places_in a) t x) (performed_by a.row.items (tile_next_op v.place attempt))) (same_Some _ _ e) h.2)
+      moves (Some p) q e h = (
+        h.0,
+        h.1,
+        subst (λ (x : TilePlace). IsShown (design_of l) h.0 (slice_set (places_in a) t x) (performed_by a.row.items (tile_next_op v.place attempt)))
+            (same_Some _ _ e) h.2,
+      )
 
       module _ (q : TilePlace) (attempted : tile_attempted v.place attempt a.row.items ≡ Some q) (w : PlacedTile) (new_tile : w ≡ with_place v q)
           (tiles : List PlacedTile) (tiles_are : tiles ≡ slice_set a.tiles.items t w)
           (row : List ℕ) (row_is : row ≡ performed_by a.row.items (tile_next_op v.place attempt)) where
-        led : (next : State) × (step (design_of l) s attempt ≡ Some next) × IsShown (design_of l) next (slice_set (places_in a) t q) (performed_by a.row.items (tile_next_op v.place attempt))
+        led : (next : State) × (step (design_of l) s attempt ≡ Some next)
+            × IsShown (design_of l) next (slice_set (places_in a) t q) (performed_by a.row.items (tile_next_op v.place attempt))
         led = moves (tile_attempted v.place attempt a.row.items) q attempted (leads a is attempt v there)
 
         abbrev next : State
@@ -158,9 +166,14 @@ module _ {A : Type 0} (a : Inside A) (is : IsMachine a) where
         -- the book has room for what is noted
         pub can_note : HasRoomToNote tiles t (counts_of v) a.book
         can_note = record {
-          issue = λ x at more. can_issue (subst (λ (y : PlacedTile). length v.place.processor.state.operations.issued < length y.place.processor.state.operations.issued) (at_new x at) more);
-          answer = λ x at e new. can_answer e (ap (λ (y : PlacedTile). slice_get y.place.processor.state.operations.answers (length v.place.processor.state.operations.answers)) (sym (at_new x at)) ∙ new);
-          service = λ x at e new. can_serve e (ap (λ (y : PlacedTile). slice_get y.place.bank.state.entries (length v.place.bank.state.entries)) (sym (at_new x at)) ∙ new);
+          issue = λ x at more. can_issue
+              (subst (λ (y : PlacedTile). length v.place.processor.state.operations.issued < length y.place.processor.state.operations.issued) (at_new x at)
+              more);
+          answer = λ x at e new. can_answer e
+              (ap (λ (y : PlacedTile). slice_get y.place.processor.state.operations.answers (length v.place.processor.state.operations.answers))
+              (sym (at_new x at)) ∙ new);
+          service = λ x at e new. can_serve e
+              (ap (λ (y : PlacedTile). slice_get y.place.bank.state.entries (length v.place.bank.state.entries)) (sym (at_new x at)) ∙ new);
           events = let fits = book_fits_now in omega (arith, fits.events, fits.operations);
         }
           where
@@ -169,11 +182,14 @@ module _ {A : Type 0} (a : Inside A) (is : IsMachine a) where
 
         -- the book with what is noted is that of the event
         book_led : (g : RoomyBook)
-            → ((x : PlacedTile) → slice_get tiles t ≡ Some x → g.book ≡ book_noted t (records_in tiles) (length v.place.processor.state.operations.issued) (length v.place.processor.state.operations.answers) (length v.place.bank.state.entries) (state_of x.place) a.book.book)
+            → ((x : PlacedTile) → slice_get tiles t ≡ Some x
+            → g.book ≡ book_noted t (records_in tiles) (length v.place.processor.state.operations.issued)
+            (length v.place.processor.state.operations.answers) (length v.place.bank.state.entries) (state_of x.place) a.book.book)
             → g.book ≡ noted_event (tiles_of l.shape) a.book.book event
         book_led g noted =
             noted (with_place v q) new_there
-            ∙ (ap (λ (bs : List ProcessorRecord). book_noted t bs (length v.place.processor.state.operations.issued) (length v.place.processor.state.operations.answers) (length v.place.bank.state.entries) (state_of q) a.book.book) records_are
+            ∙ (ap (λ (bs : List ProcessorRecord). book_noted t bs (length v.place.processor.state.operations.issued)
+            (length v.place.processor.state.operations.answers) (length v.place.bank.state.entries) (state_of q) a.book.book) records_are
             ∙ noted_is l is.after.accepted is.steps attempt next led.1 (state_of v.place) (state_of q) old_state new_state a.book.book)
 
         next_is : step (built_to (core_of a)) (core_of a).state attempt ≡ Some next
@@ -182,15 +198,18 @@ module _ {A : Type 0} (a : Inside A) (is : IsMachine a) where
         -- a move is left
         pub one_left : 0 < a.left
         one_left =
-            let most : moves_in (step (built_to (core_of a))) (core_of a).state (attempt ∷ []) ≤ a.left = most_left l (core_of a) is.steps is.after (attempt ∷ []) in
+            let most : moves_in (step (built_to (core_of a))) (core_of a).state (attempt ∷ []) ≤ a.left =
+            most_left l (core_of a) is.steps is.after (attempt ∷ []) in
             let one : one_if_moved (step (built_to (core_of a)) (core_of a).state attempt) ≡ 1 = ap one_if_moved next_is in
             omega (arith, most, one)
 
         core_led : (g : EventBook) → g ≡ noted_event (tiles_of l.shape) a.book.book event
             → core_by a (state_seen (design_in a) (map (λ (x : PlacedTile). x.place) tiles) row) g (a.left - 1) ≡ core_next (core_of a) attempt
         core_led g noted =
-            ap (λ (x : State). core_by a x g (a.left - 1)) (ap (λ (d : Design). state_seen d (map (λ (x : PlacedTile). x.place) tiles) row) (design_is a is) ∙ next_seen)
-            ∙ (ap (λ (b : EventBook). core_by a next b (a.left - 1)) (noted ∙ (ap (λ (x : Shape). noted_event (tiles_of x) a.book.book event) (sym is.after.shape)
+            ap (λ (x : State). core_by a x g (a.left - 1))
+            (ap (λ (d : Design). state_seen d (map (λ (x : PlacedTile). x.place) tiles) row) (design_is a is) ∙ next_seen)
+            ∙ (ap (λ (b : EventBook). core_by a next b (a.left - 1))
+            (noted ∙ (ap (λ (x : Shape). noted_event (tiles_of x) a.book.book event) (sym is.after.shape)
             ∙ ap (noted_event (tiles_of a.torus) a.book.book) (sym (event_is a is attempt))))
             ∙ sym (ap (core_with (core_of a) (event_in (built_to (core_of a)) (core_of a).state attempt)) next_is))
 
@@ -210,9 +229,11 @@ module _ {A : Type 0} (a : Inside A) (is : IsMachine a) where
         }
 
         -- who doesn't count as awake is asleep
-        sleepers_led : (op : WordOp) → tile_next_op v.place attempt ≡ Some op → (awake : Awake) → awake ≡ woken a.awake op → OthersSleep (design_of l) (after l (is.steps ++ attempt ∷ [])) (is_awake awake)
+        sleepers_led : (op : WordOp) → tile_next_op v.place attempt ≡ Some op → (awake : Awake) → awake ≡ woken a.awake op
+            → OthersSleep (design_of l) (after l (is.steps ++ attempt ∷ [])) (is_awake awake)
         sleepers_led op asked awake awake_is =
-            let by : step_op (design_of l) s attempt ≡ Some op = ap (option_and_then (λ (p : TilePlace). tile_next_op p attempt)) (sym (is.seen.tiles t) ∙ (place_there a is attempt v there)) ∙ asked in
+            let by : step_op (design_of l) s attempt ≡ Some op =
+            ap (option_and_then (λ (p : TilePlace). tile_next_op p attempt)) (sym (is.seen.tiles t) ∙ (place_there a is attempt v there)) ∙ asked in
             subst (λ (x : State). OthersSleep (design_of l) x (is_awake awake)) (sym next_after)
             (subst (λ (w : Awake). OthersSleep (design_of l) next (is_awake w)) (sym awake_is)
             (kept.moved l is.after.accepted is.steps attempt op next a.awake is.built is.sleepers by led.1))
@@ -222,12 +243,15 @@ module _ {A : Type 0} (a : Inside A) (is : IsMachine a) where
           → (tiles : Vec PlacedTile A) → tiles.items ≡ slice_set a.tiles.items t w
           → (row : Vec ℕ A) → row.items ≡ performed_by a.row.items (tile_next_op v.place attempt)
           → (g : RoomyBook) → KeepsRoom a.book g
-          → ((x : PlacedTile) → slice_get tiles.items t ≡ Some x → g.book ≡ book_noted t (records_in tiles.items) (length v.place.processor.state.operations.issued) (length v.place.processor.state.operations.answers) (length v.place.bank.state.entries) (state_of x.place) a.book.book)
+          → ((x : PlacedTile) → slice_get tiles.items t ≡ Some x
+          → g.book ≡ book_noted t (records_in tiles.items) (length v.place.processor.state.operations.issued)
+          (length v.place.processor.state.operations.answers) (length v.place.bank.state.entries) (state_of x.place) a.book.book)
           → (op : WordOp) → tile_next_op v.place attempt ≡ Some op → (awake : Awake) → awake ≡ woken a.awake op
           → Led a (with_parts a tiles row g awake (a.left - 1)) Moved attempt
       moved q attempted w new_tile tiles tiles_are row row_is g keeps noted op asked awake awake_is =
           let change : core_of (with_parts a tiles row g awake (a.left - 1)) ≡ core_next (core_of a) attempt =
-          core_led q attempted w new_tile tiles.items tiles_are row.items row_is g.book (book_led q attempted w new_tile tiles.items tiles_are row.items row_is g noted) in
+          core_led q attempted w new_tile tiles.items tiles_are row.items row_is g.book
+          (book_led q attempted w new_tile tiles.items tiles_are row.items row_is g noted) in
           record {
             machine = record {
               load = l;

@@ -4,12 +4,12 @@ use Rattle.std.proofs.lemmas.Bool.{cond-true, cond-false, lt-ltb, le-ltb, ltb-tr
 use Rattle.std.proofs.lemmas.Option.{slice_get-get_or, slice_get_past, slice_get-map, get_or_from_slice_get}
 use Rattle.std.specs.Option.{option_map}
 use Rattle.home_bank.specs.declared.entry.Entry.{Entry}
-use Rattle.runs.specs.declared.answer.Answer.{Answer}
-use Rattle.wake_flags.specs.net_interface.specs.ProcessorRecord.{ProcessorRecord, no_processor, index_of}
-use Rattle.wake_flags.specs.flights.specs.EventBook.{EventBook, noted_issue, noted_service, noted_answer}
-use Rattle.wake_flags.specs.tile.specs.Tile.{TileState}
-use Rattle.wake_flags.specs.tile_agents.specs.Placed.{PlacedTile}
-use Rattle.wake_flags.specs.machine_seen.specs.Notes.{book_noted, answer_noted, service_noted, index_served}
+use Rattle.one_order.specs.declared.answer.Answer.{Answer}
+use Rattle.machine_wake.specs.script_follower.specs.ProcessorRecord.{ProcessorRecord, no_processor, index_of}
+use Rattle.machine_wake.specs.order_abstract.specs.EventBook.{EventBook, noted_issue, noted_service, noted_answer}
+use Rattle.machine_wake.specs.tile_laws.specs.Tile.{TileState}
+use Rattle.machine_wake.specs.tile.specs.Placed.{PlacedTile}
+use Rattle.machine_wake.specs.core_seen.specs.Notes.{book_noted, answer_noted, service_noted, index_served}
 use Rattle.machine_core.specs.declared.noting.Counts.{Counts}
 use Rattle.machine_core.specs.Noted.{records_in}
 
@@ -41,7 +41,8 @@ module _ (t : ℕ) (records : List ProcessorRecord) (before : Counts) (after : T
       → noted ≡ service_noted t records (slice_get after.bank.entries before.entries) g
   without_answer h k =
       without_issue h
-      ∙ ap (λ (o : Option Answer). answer_noted t records o (slice_get after.bank.entries before.entries) g) (slice_get_past after.processor.operations.answers before.answers k)
+      ∙ ap (λ (o : Option Answer). answer_noted t records o (slice_get after.bank.entries before.entries) g)
+      (slice_get_past after.processor.operations.answers before.answers k)
 
   pub noted_as_service : length after.processor.operations.issued ≤ before.issued → length after.processor.operations.answers ≤ before.answers
       → (e : Entry) → slice_get after.bank.entries before.entries ≡ Some e → noted ≡ noted_service t e.source (index_served records e) g
@@ -56,5 +57,7 @@ pub served_at : (tiles : List PlacedTile) (e : Entry) (v : PlacedTile) → slice
     → index_of v.place.processor.state.operations e.tag.0 ≡ index_served (records_in tiles) e
 served_at tiles e v there =
     let record_there : slice_get (records_in tiles) e.source ≡ Some v.place.processor.state.operations =
-    slice_get-map (λ (w : PlacedTile). w.place.processor.state.operations) tiles e.source ∙ ap (option_map (λ (w : PlacedTile). w.place.processor.state.operations)) there in
-    ap (λ (b : ProcessorRecord). index_of b e.tag.0) (sym (get_or_from_slice_get (records_in tiles) e.source v.place.processor.state.operations no_processor record_there))
+    slice_get-map (λ (w : PlacedTile). w.place.processor.state.operations) tiles e.source
+    ∙ ap (option_map (λ (w : PlacedTile). w.place.processor.state.operations)) there in
+    ap (λ (b : ProcessorRecord). index_of b e.tag.0)
+    (sym (get_or_from_slice_get (records_in tiles) e.source v.place.processor.state.operations no_processor record_there))

@@ -8,9 +8,9 @@ use Rattle.torus.specs.Shape.{Shape, dims_of, tiles_of}
 use Rattle.torus.specs.declared.step.Step.{Step}
 use Rattle.torus.specs.declared.step.Choice.{Choice}
 use Rattle.channel_number.specs.Ports.{port_count}
-use Rattle.runs.specs.Events.{Event}
-use Rattle.wake_flags.specs.core_laws.specs.Core.{State, step, attempts_of, round_at, round}
-use Rattle.wake_flags.specs.machine_laws.specs.Core.{Core, built_to, event_in, core_with, core_next, core_after}
+use Rattle.one_order.specs.Events.{Event}
+use Rattle.machine_wake.specs.core_laws.specs.Core.{State, step, attempts_of, round_at, round}
+use Rattle.machine_wake.specs.core_machine.specs.Core.{Core, built_to, event_in, core_with, core_next, core_after}
 use Rattle.machine_core.specs.Rounds.{processor_choices, bank_choices, takes_of_all, puts_of_all, credits_of_all, router_choices}
 
 -- attempts, one after the other
@@ -35,7 +35,8 @@ pub tile_stays_once : (t : ℕ) (c now : Core) (x : Step) → now ≡ core_next 
 tile_stays_once t c now x is h = tile_stays t c now (x ∷ []) is h
 
 -- one attempt more
-pub attempt_more : (start now after : Core) (xs : List Step) (x : Step) → now ≡ core_after start xs → after ≡ core_next now x → after ≡ core_after start (xs ++ x ∷ [])
+pub attempt_more : (start now after : Core) (xs : List Step) (x : Step) → now ≡ core_after start xs → after ≡ core_next now x
+    → after ≡ core_after start (xs ++ x ∷ [])
 attempt_more start now after xs x so_far is = is ∙ (ap (λ (v : Core). core_next v x) so_far ∙ sym (core_append start xs (x ∷ [])))
 
 -- one attempt more of a choice for each port

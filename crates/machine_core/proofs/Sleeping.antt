@@ -6,14 +6,14 @@ use Rattle.torus.specs.declared.step.Step.{Step}
 use Rattle.torus.specs.declared.step.Choice.{Choice}
 use Rattle.channel_number.specs.Ports.{port_count}
 use Rattle.rounds.specs.Rounds.{one_if_moved, moves_in, or_same}
-use Rattle.wake_flags.specs.tile.specs.Tile.{Design}
-use Rattle.wake_flags.specs.core_laws.specs.Core.{State, agent_numbered, design_of, step, or_same as state_or, after, attempts_of}
-use Rattle.wake_flags.specs.machine_laws.specs.Core.{Core, IsAfter, built_to, core_after}
-use Rattle.wake_flags.specs.machine_laws.proofs.Moves.{left_after}
-use Rattle.wake_flags.specs.Awake.{Awake, is_awake, rested}
-use Rattle.wake_flags.specs.wakefulness.specs.Sleep.{IsAsleep, OthersSleep, choices_of, attempts_at, has_moved}
-use Rattle.wake_flags.specs.wakefulness.proofs.Sleepers.{falls, same_machine}
-use Rattle.wake_flags.proofs.KeptSleepers.{rests}
+use Rattle.machine_wake.specs.tile_laws.specs.Tile.{Design}
+use Rattle.machine_wake.specs.core_laws.specs.Core.{State, agent_numbered, design_of, step, or_same as state_or, after, attempts_of}
+use Rattle.machine_wake.specs.core_machine.specs.Core.{Core, IsAfter, built_to, core_after}
+use Rattle.machine_wake.specs.core_machine.proofs.Moves.{left_after}
+use Rattle.machine_wake.specs.Awake.{Awake, is_awake, rested}
+use Rattle.machine_wake.specs.core_wake.specs.Sleep.{IsAsleep, OthersSleep, choices_of, attempts_at, has_moved}
+use Rattle.machine_wake.specs.core_wake.proofs.Sleepers.{falls, same_machine}
+use Rattle.machine_wake.proofs.KeptSleepers.{rests}
 use Rattle.machine_core.specs.declared.machine.Machine.TheInside.{Inside}
 use Rattle.machine_core.specs.Inside.{core_of, IsMachine}
 use Rattle.machine_core.specs.Rounds.{processor_choices, bank_choices, router_choices}
@@ -76,7 +76,8 @@ module _ {A : Type 0} (start : Inside A) (is : IsMachine start) (c : Core) (view
       let left : (core_after c (attempts_of agent choices)).moves_left ≡ c.moves_left =
       ap (λ (x : Core). x.moves_left) (sym made) ∙ (ap (λ (x : Core). x.moves_left) (sym view_b) ∙ (same ∙ ap (λ (x : Core). x.moves_left) view)) in
       let still = idle left in
-      let at_all : has_moved (built_to c) c.state (attempts_at c.shape agent) ≡ false = subst (λ (xs : List Step). has_moved (built_to c) c.state xs ≡ false) all still in
+      let at_all : has_moved (built_to c) c.state (attempts_at c.shape agent) ≡ false =
+      subst (λ (xs : List Step). has_moved (built_to c) c.state xs ≡ false) all still in
       let stays : core_after c (attempts_of agent choices) ≡ c = same_machine c agent choices (falls (built_to c) c.state agent at_all) in
       let unchanged : c ≡ core_of b = sym (view_b ∙ (made ∙ stays)) in
       let in_b : has_moved (built_to (core_of b)) (core_of b).state (attempts_at (built_to (core_of b)).shape agent) ≡ false =

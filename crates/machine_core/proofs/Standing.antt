@@ -5,13 +5,13 @@ use Rattle.std.proofs.lemmas.List.{length-map, take_all}
 use Rattle.std.proofs.lemmas.Option.{slice_get_past}
 use Rattle.torus.specs.Shape.{Shape, tiles_of}
 use Rattle.torus.specs.declared.step.Step.{Step}
-use Rattle.wake_flags.specs.tile.specs.Agents.{state_of}
-use Rattle.wake_flags.specs.tile_agents.specs.Placed.{PlacedTile}
-use Rattle.wake_flags.specs.core_laws.specs.Core.{Load, State, design_of, step, after}
-use Rattle.wake_flags.specs.core_laws.specs.Runs.{state_after}
-use Rattle.wake_flags.specs.core_laws.proofs.EveryRun.{holds_in}
-use Rattle.wake_flags.specs.machine_seen.specs.Seen.{IsShown}
-use Rattle.wake_flags.specs.machine_laws.specs.Core.{built_to, book_after}
+use Rattle.machine_wake.specs.tile_laws.specs.Agents.{state_of}
+use Rattle.machine_wake.specs.tile.specs.Placed.{PlacedTile}
+use Rattle.machine_wake.specs.core_laws.specs.Core.{Load, State, design_of, step, after}
+use Rattle.machine_wake.specs.core_laws.specs.Runs.{state_after}
+use Rattle.machine_wake.specs.core_laws.proofs.EveryRun.{holds_in}
+use Rattle.machine_wake.specs.core_seen.specs.Seen.{IsShown}
+use Rattle.machine_wake.specs.core_machine.specs.Core.{built_to, book_after}
 use Rattle.machine_core.specs.declared.machine.Machine.TheInside.{Inside}
 use Rattle.machine_core.specs.Inside.{design_in, places_in, core_of, IsMachine}
 
@@ -49,7 +49,8 @@ module _ {A : Type 0} (a : Inside A) (is : IsMachine a) where
       ∙ (ap (λ (x : State). length x.tiles) state_is ∙ counted))
     where
       counted : length s.tiles ≡ tiles_of l.shape
-      counted = subst (λ (xs : List Step). length (after l xs).tiles ≡ tiles_of l.shape) all_steps (holds_in l is.after.accepted is.steps (length is.steps)).stands.tiles
+      counted = subst (λ (xs : List Step). length (after l xs).tiles ≡ tiles_of l.shape) all_steps
+          (holds_in l is.after.accepted is.steps (length is.steps)).stands.tiles
 
   pub few_tiles : length a.tiles.items ≤ 64
   few_tiles = let h = is.after.accepted.shape.tiles in let e = tiles_counted in omega arith

@@ -1,20 +1,21 @@
 -- What a machine's fields show: of its tiles, and of its row.
-use Rattle.std.proofs.Common.{◌≡◌, ℕ, ◌+◌, ◌*◌, ◌<◌, ◌≤◌, List, length, map, take, drop, get_or, get_or-take, Option, Some, None, refl, sym, ◌∙◌, ap, subst, arith, slice_get, vec_len, length-take, length-drop}
+use Rattle.std.proofs.Common.{◌≡◌, ℕ, ◌+◌, ◌*◌, ◌<◌, ◌≤◌, List, length, map, take, drop, get_or, get_or-take, Option, Some, None, refl, sym, ◌∙◌, ap, subst}
+use Rattle.std.proofs.Common.{arith, slice_get, vec_len, length-take, length-drop}
 use Rattle.std.specs.Prelude.{Vec, option_map}
 use Rattle.std.proofs.lemmas.List.{get_or-drop}
 use Rattle.std.specs.List.{list_all}
 use Rattle.std.proofs.lemmas.List.Folds.{list_all-map}
 use Rattle.std.proofs.lemmas.Option.{slice_get-map, slice_get-get_or, slice_get_past}
 use Rattle.channel_number.specs.Order.{channel_count}
-use Rattle.wake_flags.specs.net_interface.specs.Following.{is_finished}
-use Rattle.wake_flags.specs.net_interface.specs.ProcessorRecord.{ProcessorRecord}
-use Rattle.wake_flags.specs.tile.specs.Tile.{TileState}
-use Rattle.wake_flags.specs.tile.specs.Agents.{TilePlace, state_of}
-use Rattle.wake_flags.specs.tile_agents.specs.Placed.{PlacedTile}
-use Rattle.wake_flags.specs.core_laws.specs.Core.{Load, State, design_of, records_of}
-use Rattle.wake_flags.specs.core_row.specs.Row.{row_of}
-use Rattle.wake_flags.specs.core_row.proofs.Reached.{all_steps, size}
-use Rattle.wake_flags.specs.machine_laws.specs.Core.{shown, all_finished}
+use Rattle.machine_wake.specs.script_follower.specs.Following.{is_finished}
+use Rattle.machine_wake.specs.script_follower.specs.ProcessorRecord.{ProcessorRecord}
+use Rattle.machine_wake.specs.tile_laws.specs.Tile.{TileState}
+use Rattle.machine_wake.specs.tile_laws.specs.Agents.{TilePlace, state_of}
+use Rattle.machine_wake.specs.tile.specs.Placed.{PlacedTile}
+use Rattle.machine_wake.specs.core_laws.specs.Core.{Load, State, design_of, records_of}
+use Rattle.machine_wake.specs.core_row.specs.Row.{row_of}
+use Rattle.machine_wake.specs.core_row.proofs.Reached.{all_steps, size}
+use Rattle.machine_wake.specs.core_machine.specs.Core.{shown, all_finished}
 use Rattle.machine_core.specs.declared.machine.Machine.TheInside.{Inside}
 use Rattle.machine_core.specs.Inside.{core_of, places_in, IsMachine}
 
@@ -24,10 +25,12 @@ told_at : {X : Type 0} {A : Type 0} (f : TileState → X) (a : Inside A) (t : �
 told_at f a t o h =
     slice_get-map f (core_of a).state.tiles t
     ∙ (ap (option_map f) (slice_get-map state_of (places_in a) t)
-    ∙ (ap (λ (p : Option TilePlace). option_map f (option_map state_of p)) (slice_get-map (λ (v : PlacedTile). v.place) a.tiles.items t ∙ ap (option_map (λ (v : PlacedTile). v.place)) h)
+    ∙ (ap (λ (p : Option TilePlace). option_map f (option_map state_of p))
+    (slice_get-map (λ (v : PlacedTile). v.place) a.tiles.items t ∙ ap (option_map (λ (v : PlacedTile). v.place)) h)
     ∙ maps o))
   where
-    maps : (o : Option PlacedTile) → option_map f (option_map state_of (option_map (λ (v : PlacedTile). v.place) o)) ≡ option_map (λ (v : PlacedTile). f (state_of v.place)) o
+    maps : (o : Option PlacedTile)
+        → option_map f (option_map state_of (option_map (λ (v : PlacedTile). v.place) o)) ≡ option_map (λ (v : PlacedTile). f (state_of v.place)) o
     maps None = refl
     maps (Some v) = refl
 
@@ -57,13 +60,15 @@ pub row_length : {A : Type 0} (a : Inside A) → IsMachine a → length a.row.it
 row_length a is =
     let l : Load = is.load in
     let e : length a.row.items ≡ channel_count l.shape * l.depth + length l.opening + 1
-    = ap length is.seen.row_is ∙ (ap (λ (s : State). length (row_of (design_of l) s)) (sym (all_steps l is.steps)) ∙ size l is.after.accepted is.steps (length is.steps)) in
+    = ap length is.seen.row_is
+    ∙ (ap (λ (s : State). length (row_of (design_of l) s)) (sym (all_steps l is.steps)) ∙ size l is.after.accepted is.steps (length is.steps)) in
     e ∙ (ap (λ s. channel_count s * l.depth + length l.opening + 1) (sym is.after.shape)
     ∙ (ap (λ (n : ℕ). channel_count a.torus * n + length l.opening + 1) (sym is.after.depth)
     ∙ ap (λ (xs : List ℕ). channel_count a.torus * a.depth + length xs + 1) (sym is.after.opening)))
 
 -- so many words behind so many others
-word_behind : (row : List ℕ) (base words k : ℕ) → k < words → base + words ≤ length row → slice_get (take words (drop base row)) k ≡ Some (get_or row (base + k) 0)
+word_behind : (row : List ℕ) (base words k : ℕ) → k < words → base + words ≤ length row
+    → slice_get (take words (drop base row)) k ≡ Some (get_or row (base + k) 0)
 word_behind row base words k h long =
     let d = length-drop base row in
     let t = length-take words (drop base row) in
@@ -78,14 +83,16 @@ word_there a is k h =
 
 -- and of no address
 pub no_word_there : {A : Type 0} (a : Inside A) (k : ℕ) → length a.opening.items ≤ k → slice_get (shown (core_of a)).memory k ≡ None
-no_word_there a k h = slice_get_past (shown (core_of a)).memory k (let n = length-take (length a.opening.items) (core_of a).state.around.words in omega (arith, n))
+no_word_there a k h = slice_get_past (shown (core_of a)).memory k
+    (let n = length-take (length a.opening.items) (core_of a).state.around.words in omega (arith, n))
 
 -- the words are few
 pub few_words : {A : Type 0} (a : Inside A) → IsMachine a → length a.opening.items ≤ 65536
 few_words a is = subst (λ (xs : List ℕ). length xs ≤ 65536) (sym is.after.opening) is.after.accepted.size.1
 
 -- whether all scripts are finished, told of the tiles
-pub finished_tiles : {A : Type 0} (a : Inside A) → all_finished (core_of a).state ≡ list_all (λ (v : PlacedTile). is_finished v.place.processor.state.operations.following) a.tiles.items
+pub finished_tiles : {A : Type 0} (a : Inside A)
+    → all_finished (core_of a).state ≡ list_all (λ (v : PlacedTile). is_finished v.place.processor.state.operations.following) a.tiles.items
 finished_tiles a =
     list_all-map (λ (b : ProcessorRecord). is_finished b.following) (λ (s : TileState). s.processor.operations) (core_of a).state.tiles
     ∙ (list_all-map (λ (s : TileState). is_finished s.processor.operations.following) state_of (places_in a)

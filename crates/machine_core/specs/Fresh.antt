@@ -1,10 +1,10 @@
 -- What a freshly loaded machine tells of its load.
 use Rattle.std.specs.Prelude.{map}
-use Rattle.wake_flags.specs.core_laws.specs.Core.{Load}
-use Rattle.wake_flags.specs.machine_laws.specs.Core.{Core}
+use Rattle.machine_wake.specs.core_laws.specs.Core.{Load}
+use Rattle.machine_wake.specs.core_machine.specs.Core.{Core}
 
--- the load that a freshly loaded machine tells: what was loaded, without the fences in front of each script, which hold
--- nothing back (this project's own format)
+-- the load that a freshly loaded machine tells: what was loaded, without the fences in front of
+-- each script, which hold nothing back (this project's own format)
 abbrev pub told_load : Core → Load
 told_load c = record {
   shape = c.shape;

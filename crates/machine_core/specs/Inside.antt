@@ -4,16 +4,16 @@ use Rattle.torus.specs.Shape.{tiles_of}
 use Rattle.torus.specs.declared.step.Step.{Step}
 use Rattle.script.specs.declared.line.Line.{Line}
 use Rattle.script.specs.Scripts.{operation_count, total_count}
-use Rattle.wake_flags.specs.flights.specs.Room.{home_room}
-use Rattle.event_book.specs.RoomyBook.{RoomyBook}
-use Rattle.wake_flags.specs.tile.specs.Tile.{Design}
-use Rattle.wake_flags.specs.tile.specs.Agents.{TilePlace}
-use Rattle.wake_flags.specs.tile_agents.specs.Placed.{PlacedTile}
-use Rattle.wake_flags.specs.core_laws.specs.Core.{Load, design_of, after as state_after_steps}
-use Rattle.wake_flags.specs.machine_seen.specs.Seen.{IsShown, state_seen}
-use Rattle.wake_flags.specs.machine_laws.specs.Core.{Core, IsAfter}
-use Rattle.wake_flags.specs.wakefulness.specs.Sleep.{OthersSleep}
-use Rattle.wake_flags.specs.Awake.{is_awake}
+use Rattle.machine_wake.specs.order_abstract.specs.Room.{home_room}
+use Rattle.order_book.specs.RoomyBook.{RoomyBook}
+use Rattle.machine_wake.specs.tile_laws.specs.Tile.{Design}
+use Rattle.machine_wake.specs.tile_laws.specs.Agents.{TilePlace}
+use Rattle.machine_wake.specs.tile.specs.Placed.{PlacedTile}
+use Rattle.machine_wake.specs.core_laws.specs.Core.{Load, design_of, after as state_after_steps}
+use Rattle.machine_wake.specs.core_seen.specs.Seen.{IsShown, state_seen}
+use Rattle.machine_wake.specs.core_machine.specs.Core.{Core, IsAfter}
+use Rattle.machine_wake.specs.core_wake.specs.Sleep.{OthersSleep}
+use Rattle.machine_wake.specs.Awake.{is_awake}
 use Rattle.machine_core.specs.declared.machine.Machine.TheInside.{Inside}
 
 -- what the machine is built to
@@ -37,16 +37,19 @@ core_of a = record {
 
 -- each bank has room for the operations of all scripts that can come to it, and no more
 abbrev pub HaveRoom : Load → List PlacedTile → Type 0
-HaveRoom l tiles = (b : ℕ) (v : PlacedTile) → slice_get tiles b ≡ Some v → v.room ≡ home_room (tiles_of l.shape) b l.scripts
+HaveRoom l tiles = (b : ℕ) (v : PlacedTile) → slice_get tiles b ≡ Some v
+    → v.room ≡ home_room (tiles_of l.shape) b l.scripts
 
 -- the book has room for all that the scripts can ask
 pub record HasRoomFor (l : Load) (g : RoomyBook) : Type 0 where
-  pub issues : (p : ℕ) (lines : List Line) → slice_get l.scripts p ≡ Some lines → operation_count lines ≤ slice_index g.issues p
-  pub positions : (b : ℕ) → b < tiles_of l.shape → home_room (tiles_of l.shape) b l.scripts ≤ slice_index g.positions b
+  pub issues : (p : ℕ) (lines : List Line) → slice_get l.scripts p ≡ Some lines
+      → operation_count lines ≤ slice_index g.issues p
+  pub positions : (b : ℕ) → b < tiles_of l.shape
+      → home_room (tiles_of l.shape) b l.scripts ≤ slice_index g.positions b
   pub rows : total_count l.scripts ≤ g.rows
 
--- every machine stands where some list of steps leads from an accepted load; its tiles and its row show the state
--- there; and no choice is enabled there of an agent that doesn't count as awake
+-- every machine stands where some list of steps leads from an accepted load; its tiles and its row
+-- show the state there; and no choice is enabled there of an agent that doesn't count as awake
 pub record IsMachine {A : Type 0} (a : Inside A) : Type 0 where
   pub load : Load
   pub steps : List Step

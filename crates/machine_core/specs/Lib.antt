@@ -1,6 +1,6 @@
-pub use Rattle.wake_flags.specs.machine_laws
-pub use Rattle.wake_flags.specs.core_laws
-pub use Rattle.wake_flags.specs.flights
+pub use Rattle.machine_wake.specs.core_machine
+pub use Rattle.machine_wake.specs.core_laws
+pub use Rattle.machine_wake.specs.order_abstract
 pub mod Inside
 pub mod Loaded
 pub mod Rounds

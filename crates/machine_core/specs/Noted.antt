@@ -1,14 +1,15 @@
--- What a step's code asks of its tile before, and the room that the book of events has for what it notes of the step.
+-- What a step's code asks of its tile before, and the room that the book of events has for what it
+-- notes of the step.
 use Rattle.std.specs.Prelude.{◌≡◌, ℕ, ◌<◌, List, length, map, Some, slice_get, slice_index}
 use Rattle.torus.specs.declared.step.Choice.TheVariants.{Serve}
 use Rattle.torus.specs.declared.step.Choice.{Choice}
 use Rattle.home_bank.specs.declared.entry.Entry.{Entry}
-use Rattle.runs.specs.declared.answer.Answer.{Answer}
-use Rattle.runs.specs.Observed.{list_at}
-use Rattle.wake_flags.specs.net_interface.specs.ProcessorRecord.{ProcessorRecord}
-use Rattle.event_book.specs.RoomyBook.{RoomyBook}
-use Rattle.wake_flags.specs.tile_agents.specs.Placed.{PlacedTile}
-use Rattle.wake_flags.specs.machine_seen.specs.Notes.{RoomToNoteAnswer, index_served}
+use Rattle.one_order.specs.declared.answer.Answer.{Answer}
+use Rattle.one_order.specs.Observed.{list_at}
+use Rattle.machine_wake.specs.script_follower.specs.ProcessorRecord.{ProcessorRecord}
+use Rattle.order_book.specs.RoomyBook.{RoomyBook}
+use Rattle.machine_wake.specs.tile.specs.Placed.{PlacedTile}
+use Rattle.machine_wake.specs.core_seen.specs.Notes.{RoomToNoteAnswer, index_served}
 use Rattle.machine_core.specs.declared.noting.Counts.{Counts}
 
 -- the records of the tiles' processors
@@ -20,7 +21,8 @@ pub record IsOfFullBank (v : PlacedTile) (choice : Choice) : Type 0 where
   pub service : choice ≡ Serve
   pub full : length v.place.bank.state.entries ≡ v.room
 
--- how many operations a tile's processor has issued and had answered, and how many requests its bank has served
+-- how many operations a tile's processor has issued and had answered, and how many requests its
+-- bank has served
 abbrev pub counts_of : PlacedTile → Counts
 counts_of v = record {
   issued = length v.place.processor.state.operations.issued;
@@ -44,7 +46,8 @@ pub record HasRoomForService (g : RoomyBook) (b p i : ℕ) : Type 0 where
   pub rows : length g.book.rows < 65536
 
 -- the book has room for what a tile has more than it had before
-pub record HasRoomToNote (tiles : List PlacedTile) (t : ℕ) (before : Counts) (g : RoomyBook) : Type 0 where
+pub record HasRoomToNote (tiles : List PlacedTile) (t : ℕ) (before : Counts) (g : RoomyBook) : Type
+    0 where
   pub issue : (v : PlacedTile) → slice_get tiles t ≡ Some v
       → before.issued < length v.place.processor.state.operations.issued → HasRoomForIssue g t
   pub answer : (v : PlacedTile) → slice_get tiles t ≡ Some v
@@ -52,5 +55,6 @@ pub record HasRoomToNote (tiles : List PlacedTile) (t : ℕ) (before : Counts) (
       → RoomToNoteAnswer g.book a.bank a.place
   pub service : (v : PlacedTile) → slice_get tiles t ≡ Some v
       → (e : Entry) → slice_get v.place.bank.state.entries before.entries ≡ Some e
-      → (e.source < length tiles) × HasRoomForService g t e.source (index_served (records_in tiles) e)
+      → (e.source < length tiles)
+      × HasRoomForService g t e.source (index_served (records_in tiles) e)
   pub events : g.book.events < 4294967295

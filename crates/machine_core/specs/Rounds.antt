@@ -1,4 +1,5 @@
--- The parts of a round, that is the choices that an agent is asked for, in order; and rounds, one after the other.
+-- The parts of a round, that is the choices that an agent is asked for, in order; and rounds, one
+-- after the other.
 use Rattle.std.specs.Prelude.{◌≡◌, ℕ, zero, suc, ◌<◌, true, false, List, [], ◌∷◌, ◌++◌, map, Option}
 use Rattle.std.specs.List.{range_with_len}
 use Rattle.torus.specs.Shape.{Shape}
@@ -6,8 +7,8 @@ use Rattle.torus.specs.declared.step.Step.{Step}
 use Rattle.torus.specs.declared.step.Choice.{Choice}
 use Rattle.torus.specs.declared.step.Choice.TheVariants.{Send, Take, TakeFrom, Put, Credit, CreditOf, Serve, Done, Look}
 use Rattle.rounds.specs.Rounds.{first_enabled}
-use Rattle.wake_flags.specs.core_laws.specs.Core.{step, round}
-use Rattle.wake_flags.specs.machine_laws.specs.Core.{Core, built_to, core_after, all_finished}
+use Rattle.machine_wake.specs.core_laws.specs.Core.{step, round}
+use Rattle.machine_wake.specs.core_machine.specs.Core.{Core, built_to, core_after, all_finished}
 
 -- a processor's choices, and a bank's (this project's own format)
 abbrev pub processor_choices : List Choice
@@ -16,8 +17,8 @@ processor_choices = Send ∷ Take ∷ Credit ∷ Done ∷ Look ∷ []
 abbrev pub bank_choices : List Choice
 bank_choices = Take ∷ Serve ∷ Send ∷ Credit ∷ []
 
--- a router's choices of so many ports: a take and a put of each input, and a credit of each output (this project's own
--- format)
+-- a router's choices of so many ports: a take and a put of each input, and a credit of each output
+-- (this project's own format)
 abbrev pub takes_of_all : ℕ → List Choice
 takes_of_all ports = map (λ i. TakeFrom i) (range_with_len 0 ports)
 
@@ -40,7 +41,8 @@ abbrev pub rounds_of : Shape → ℕ → List Step
 rounds_of s zero = []
 rounds_of s (suc k) = round s ++ rounds_of s k
 
--- the least number of rounds after which every script of a machine is finished (this project's own format)
+-- the least number of rounds after which every script of a machine is finished (this project's own
+-- format)
 pub record NeedsRounds (c : Core) (k : ℕ) : Type 0 where
   pub done : all_finished (core_after c (rounds_of c.shape k)).state ≡ true
   pub least : (j : ℕ) → j < k → all_finished (core_after c (rounds_of c.shape j)).state ≡ false

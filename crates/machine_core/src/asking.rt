@@ -2,9 +2,9 @@
 
 ghost use Rattle.std.specs.Prelude.{◌≡◌, ◌<◌, ◌↔◌, IsSome, None, false, is_some};
 ghost use Rattle.torus.specs.declared.step.Step.{Step};
-ghost use Rattle.wake_flags.specs.core_laws.specs.Core.{step, attempts_of, round_at};
-ghost use Rattle.wake_flags.specs.core_progress.specs.Moves.{enabled_step};
-ghost use Rattle.wake_flags.specs.machine_laws.specs.Core.{built_to, all_finished};
+ghost use Rattle.machine_wake.specs.core_laws.specs.Core.{step, attempts_of, round_at};
+ghost use Rattle.machine_wake.specs.core_progress.specs.Moves.{enabled_step};
+ghost use Rattle.machine_wake.specs.core_machine.specs.Core.{built_to, all_finished};
 ghost use Rattle.machine_core.specs.Rounds.{takes_of_all, puts_of_all, credits_of_all, first_in};
 
 use crate::machine::Machine;
@@ -39,7 +39,8 @@ impl<A: Allocator> Machine<A> {
     /// enabled, of any agent. While some script isn't finished there is one.
     pub fn enabled_step(&self) -> Option<Step>
         ensures value { result ≡ enabled_step (built_to self.now) self.now.state }
-        ensures none { (result ≡ None) ↔ ((attempt : Step) → step (built_to self.now) self.now.state attempt ≡ None) }
+        ensures none { (result ≡ None)
+            ↔ ((attempt : Step) → step (built_to self.now) self.now.state attempt ≡ None) }
         ensures live { all_finished self.now.state ≡ false → IsSome result }
     {
         let ports = 8 * self.torus.dims() + 2;

@@ -6,9 +6,11 @@ ghost use Rattle.torus.specs.Shape.{tiles_of, dims_of};
 ghost use Rattle.torus.specs.declared.step.Step.{Step};
 ghost use Rattle.channel_number.specs.Ports.{port_count};
 ghost use Rattle.rounds.specs.Rounds.{moves_in};
-ghost use Rattle.wake_flags.specs.core_laws.specs.Core.{Load, step, attempts_of, round_at, round};
-ghost use Rattle.wake_flags.specs.machine_laws.specs.Core.{IsAfter, MakesMove, Steps, core_after, built_to, all_finished};
-ghost use Rattle.machine_core.specs.Rounds.{processor_choices, bank_choices, takes_of_all, puts_of_all, credits_of_all, router_choices};
+ghost use Rattle.machine_wake.specs.core_laws.specs.Core.{Load, step, attempts_of, round_at, round};
+ghost use Rattle.machine_wake.specs.core_machine.specs.Core.{IsAfter, MakesMove, Steps, core_after, built_to};
+ghost use Rattle.machine_wake.specs.core_machine.specs.Core.{all_finished};
+ghost use Rattle.machine_core.specs.Rounds.{processor_choices, bank_choices, takes_of_all, puts_of_all};
+ghost use Rattle.machine_core.specs.Rounds.{credits_of_all, router_choices};
 
 use crate::machine::Machine;
 use crate::noting::{Counts, lacks_room, note};
@@ -41,7 +43,8 @@ impl<A: Allocator> Machine<A> {
     #[inline(always)]
     pub(crate) fn step_router(&mut self, tile: usize, choice: Choice) -> Stepped
         requires { tile < tiles_of self.old.shape }
-        ensures { Steps self.old self.new result (record { agent = 3 * tile + 1; choice = choice }) }
+        ensures { Steps self.old self.new result
+            (record { agent = 3 * tile + 1; choice = choice }) }
     {
         let Some(op) = self.tiles[tile].router_op(choice) else {
             return Stepped::Idle;
@@ -60,7 +63,8 @@ impl<A: Allocator> Machine<A> {
     #[inline(always)]
     pub(crate) fn step_bank(&mut self, tile: usize, choice: Choice) -> Stepped
         requires { tile < tiles_of self.old.shape }
-        ensures { Steps self.old self.new result (record { agent = 3 * tile + 2; choice = choice }) }
+        ensures { Steps self.old self.new result
+            (record { agent = 3 * tile + 2; choice = choice }) }
     {
         if lacks_room(&self.tiles[tile], choice) {
             return Stepped::Idle;
@@ -84,9 +88,13 @@ impl<A: Allocator> Machine<A> {
     /// script isn't finished, the round makes a move.
     pub fn round(&mut self)
         ensures state { self.new ≡ core_after self.old (round self.old.shape) }
-        ensures moves { self.new.moves_left + moves_in (step (built_to self.old)) self.old.state (round self.old.shape) ≡ self.old.moves_left }
-        ensures live { all_finished self.old.state ≡ false → MakesMove self.old (round self.old.shape) }
-        ensures law { (l : Load) (before : List Step) → IsAfter l self.old before → IsAfter l self.new (before ++ round self.old.shape) }
+        ensures moves { self.new.moves_left
+            + moves_in (step (built_to self.old)) self.old.state (round self.old.shape)
+            ≡ self.old.moves_left }
+        ensures live { all_finished self.old.state ≡ false
+            → MakesMove self.old (round self.old.shape) }
+        ensures law { (l : Load) (before : List Step) → IsAfter l self.old before
+            → IsAfter l self.new (before ++ round self.old.shape) }
     {
         let ports = 8 * self.torus.dims() + 2;
         for tile in 0..self.torus.tiles() {
@@ -126,7 +134,8 @@ impl<A: Allocator> Machine<A> {
     fn turn_router(&mut self, tile: usize, ports: u32)
         requires tile { tile < tiles_of self.old.shape }
         requires ports { ports ≡ port_count (dims_of self.old.shape) }
-        ensures { self.new ≡ core_after self.old (attempts_of (3 * tile + 1) (router_choices ports)) }
+        ensures { self.new
+            ≡ core_after self.old (attempts_of (3 * tile + 1) (router_choices ports)) }
     {
         if !self.awake.is_awake(3 * tile + 1) {
             return;
@@ -190,7 +199,8 @@ impl<A: Allocator> Machine<A> {
     /// Attempts to find a credit of each output of a tile's router, in order.
     fn attempt_credits(&mut self, tile: usize, ports: u32)
         requires { tile < tiles_of self.old.shape }
-        ensures { self.new ≡ core_after self.old (attempts_of (3 * tile + 1) (credits_of_all ports)) }
+        ensures { self.new
+            ≡ core_after self.old (attempts_of (3 * tile + 1) (credits_of_all ports)) }
     {
         for output in 0..ports {
             let _ = self.step_router(tile, Choice::CreditOf(output));

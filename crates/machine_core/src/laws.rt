@@ -2,8 +2,8 @@
 
 ghost use Rattle.std.specs.Prelude.{◌≡◌, List, []};
 ghost use Rattle.torus.specs.declared.step.Step.{Step};
-ghost use Rattle.wake_flags.specs.core_laws.specs.Core.{Load, after};
-ghost use Rattle.wake_flags.specs.machine_laws.specs.Core.{Core, IsAfter};
+ghost use Rattle.machine_wake.specs.core_laws.specs.Core.{Load, after};
+ghost use Rattle.machine_wake.specs.core_machine.specs.Core.{Core, IsAfter};
 ghost use Rattle.machine_core.specs.Shown.{ShowsRow};
 ghost use Rattle.machine_core.specs.Fresh.{told_load};
 
@@ -17,5 +17,6 @@ pub fn rows_show_machines()
 /// load is such a load.
 pub fn fresh_machines_tell_their_load()
     ensures told { (l : Load) (c : Core) → IsAfter l c [] → IsAfter (told_load c) c [] }
-    ensures alike { (l k : Load) (c : Core) → IsAfter l c [] → IsAfter k c [] → (steps : List Step) → after l steps ≡ after k steps }
+    ensures alike { (l k : Load) (c : Core) → IsAfter l c [] → IsAfter k c [] → (steps : List Step)
+        → after l steps ≡ after k steps }
 {}

@@ -11,6 +11,6 @@ pub mod parts;
 
 pub use home_bank::Entry;
 pub use machine::Machine;
+pub use machine_wake::TileAgents;
+pub use one_order::{Answer, Ordered};
 pub use parts::Parts;
-pub use runs::{Answer, Ordered};
-pub use wake_flags::TileAgents;

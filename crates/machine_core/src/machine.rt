@@ -1,30 +1,31 @@
-ghost use Rattle.std.specs.Prelude.{◌≡◌, ◌+◌, ◌<◌, ◌≤◌, ◌↔◌, false, List, [], ◌∷◌, ◌++◌, IsTrue, IfOk, IfErr, length, slice_get};
+ghost use Rattle.std.specs.Prelude.{◌≡◌, ◌+◌, ◌<◌, ◌≤◌, ◌↔◌, false, List, [], ◌∷◌, ◌++◌, IsTrue, IfOk, IfErr, length};
+ghost use Rattle.std.specs.Prelude.{slice_get};
 ghost use Rattle.std.specs.Option.{option_copied};
 ghost use Rattle.torus.specs.declared.step.Step.{Step};
 ghost use Rattle.script.specs.Scripts.{Fit};
 ghost use Rattle.script.specs.ScriptViews.{lists_of};
-ghost use Rattle.wake_flags.specs.net_interface.specs.Following.{is_finished};
-ghost use Rattle.wake_flags.specs.flights.specs.Load.{load_of};
-ghost use Rattle.wake_flags.specs.flights.specs.Scripts.{AreFinished};
+ghost use Rattle.machine_wake.specs.script_follower.specs.Following.{is_finished};
+ghost use Rattle.machine_wake.specs.order_abstract.specs.Load.{load_of};
+ghost use Rattle.machine_wake.specs.order_abstract.specs.Scripts.{AreFinished};
 ghost use Rattle.rounds.specs.Rounds.{moves_in};
-ghost use Rattle.wake_flags.specs.core_laws.specs.Core.{Load, run_of, step};
-ghost use Rattle.wake_flags.specs.core_laws.specs.Runs.{IsAccepted};
-ghost use Rattle.wake_flags.specs.core_row.specs.Row.{row_of};
-ghost use Rattle.wake_flags.specs.machine_laws.specs.Core.{IsAfter, Steps, core_after, shown, built_to, all_finished};
-ghost use Rattle.wake_flags.specs.core_progress.specs.Moves.{IsLive, moves_left};
+ghost use Rattle.machine_wake.specs.core_laws.specs.Core.{Load, run_of, step};
+ghost use Rattle.machine_wake.specs.core_laws.specs.Runs.{IsAccepted};
+ghost use Rattle.machine_wake.specs.core_row.specs.Row.{row_of};
+ghost use Rattle.machine_wake.specs.core_machine.specs.Core.{IsAfter, Steps, core_after, shown, built_to, all_finished};
+ghost use Rattle.machine_wake.specs.core_progress.specs.Moves.{IsLive, moves_left};
 ghost use Rattle.machine_core.specs.Rounds.{rounds_of, NeedsRounds};
 
 use crate::loading::{first_row, first_tiles, most_moves};
 use channel_number::channel_count;
-use event_book::EventBook;
 use home_bank::Entry;
-use runs::{Answer, Ordered};
+use machine_wake::{TileAgents, WakeFlags};
+use one_order::{Answer, Ordered};
+use order_book::EventBook;
+use order_rooms::{all_room, home_rooms, processor_rooms};
 use script::{LineList, MachineText, Scripts};
-use script_rooms::{all_room, home_rooms, processor_rooms};
 use std::alloc::{AllocError, Allocator, Global};
 use std::marker::Model;
 use torus::{Fault, Step, Stepped, Torus};
-use wake_flags::{TileAgents, WakeFlags};
 
 /// A machine: the agents of all tiles, the row of words that they share (the places of the
 /// channels, the memory, and the done word), the book of the events so far, how many moves its scripts
@@ -43,7 +44,7 @@ pub struct Machine<A: Allocator = Global> {
 }
 
 impl<A: Allocator> Model for Machine<A> {
-    ghost use Rattle.wake_flags.specs.machine_laws.specs.Core.{Core};
+    ghost use Rattle.machine_wake.specs.core_machine.specs.Core.{Core};
 
     ghost Value = { Core };
 
@@ -64,8 +65,22 @@ impl<A: Allocator + Copy> Machine<A> {
         opening: Vec<u64, A>,
         lists: Vec<LineList<A>, A>,
     ) -> Result<Machine<A>, AllocError>
-        requires { IsAccepted (record { shape = torus; depth = depth; tags = tags; opening = opening.items; scripts = lists_of lists.items }) }
-        ensures { IfOk result (λ m. IsAfter (record { shape = torus; depth = depth; tags = tags; opening = opening.items; scripts = lists_of lists.items }) m []) }
+        requires { IsAccepted
+            (record {
+              shape = torus;
+              depth = depth;
+              tags = tags;
+              opening = opening.items;
+              scripts = lists_of lists.items;
+            }) }
+        ensures { IfOk result
+            (λ m. IsAfter (record {
+              shape = torus;
+              depth = depth;
+              tags = tags;
+              opening = opening.items;
+              scripts = lists_of lists.items;
+            }) m []) }
     {
         let tiles = torus.tiles() as usize;
         let issues = processor_rooms(lists.as_slice());
@@ -117,7 +132,8 @@ impl<A: Allocator> Machine<A> {
     /// that the agent doesn't have, is `Idle`.
     pub fn step(&mut self, step: Step) -> Stepped
         ensures step { Steps self.old self.new result step }
-        ensures after { (l : Load) (steps : List Step) → IsAfter l self.old steps → IsAfter l self.new (steps ++ step ∷ []) }
+        ensures after { (l : Load) (steps : List Step) → IsAfter l self.old steps
+            → IsAfter l self.new (steps ++ step ∷ []) }
     {
         let tile = (step.agent / 3) as usize;
         if tile >= self.tiles.len() {
@@ -134,7 +150,8 @@ impl<A: Allocator> Machine<A> {
     /// lead on: the run of both has one legal order, and every processor has followed its script.
     pub fn run(&mut self, steps: &[Step])
         ensures state { self.new ≡ core_after self.old steps.now }
-        ensures law { (l : Load) (before : List Step) → IsAfter l self.old before → IsAfter l self.new (before ++ steps.now) }
+        ensures law { (l : Load) (before : List Step) → IsAfter l self.old before
+            → IsAfter l self.new (before ++ steps.now) }
     {
         for step in steps {
             let _ = self.step(*step);
@@ -146,11 +163,14 @@ impl<A: Allocator> Machine<A> {
     pub fn finish(&mut self) -> u64
         ensures state { self.new ≡ core_after self.old (rounds_of self.old.shape result) }
         ensures needed { NeedsRounds self.old result }
-        ensures few { (l : Load) (steps : List Step) → IsAfter l self.old steps → result ≤ moves_left l steps (length steps) }
+        ensures few { (l : Load) (steps : List Step) → IsAfter l self.old steps
+            → result ≤ moves_left l steps (length steps) }
         ensures left { result ≤ self.old.moves_left }
-        ensures law { (l : Load) (before : List Step) → IsAfter l self.old before → IsAfter l self.new (before ++ rounds_of self.old.shape result) }
+        ensures law { (l : Load) (before : List Step) → IsAfter l self.old before
+            → IsAfter l self.new (before ++ rounds_of self.old.shape result) }
         ensures scripts { (l : Load) (before : List Step) → IsAfter l self.old before
-            → AreFinished (run_of l (before ++ rounds_of self.old.shape result)) (length (before ++ rounds_of self.old.shape result)) l.scripts }
+            → AreFinished (run_of l (before ++ rounds_of self.old.shape result))
+            (length (before ++ rounds_of self.old.shape result)) l.scripts }
     {
         self.reached();
         let mut rounds = 0;
@@ -239,8 +259,10 @@ impl<A: Allocator> Machine<A> {
     /// tile, less the moves made. No list of steps makes more.
     pub fn moves_left(&self) -> u64
         ensures value { result ≡ self.now.moves_left }
-        ensures law { (l : Load) (steps : List Step) → IsAfter l self.now steps → result ≡ moves_left l steps (length steps) }
-        ensures most { (more : List Step) → moves_in (step (built_to self.now)) self.now.state more ≤ result }
+        ensures law { (l : Load) (steps : List Step) → IsAfter l self.now steps
+            → result ≡ moves_left l steps (length steps) }
+        ensures most { (more : List Step)
+            → moves_in (step (built_to self.now)) self.now.state more ≤ result }
     {
         self.left
     }
@@ -250,11 +272,13 @@ impl<A: Allocator> Machine<A> {
     pub fn finished(&self) -> bool
         ensures value { result ≡ all_finished self.now.state }
         ensures live { result ≡ false → IsLive (built_to self.now) self.now.state }
-        ensures law { (l : Load) (steps : List Step) → IsAfter l self.now steps → IsTrue result ↔ AreFinished (run_of l steps) (length steps) l.scripts }
+        ensures law { (l : Load) (steps : List Step) → IsAfter l self.now steps
+            → IsTrue result ↔ AreFinished (run_of l steps) (length steps) l.scripts }
     {
         self.tiles.iter().all(
             |agents|
-                ensures { result ≡ is_finished agents.now.place.processor.state.operations.following }
+                ensures { result
+                    ≡ is_finished agents.now.place.processor.state.operations.following }
             { agents.is_finished() },
         )
     }

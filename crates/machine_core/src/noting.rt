@@ -2,19 +2,19 @@
 //! entries its tile had before it.
 
 ghost use Rattle.std.specs.Prelude.{◌≡◌, ◌<◌, length, false, IsTrue, Some, slice_get};
-ghost use Rattle.wake_flags.specs.net_interface.specs.ProcessorRecord.{index_of};
-ghost use Rattle.wake_flags.specs.tile.specs.Tile.{Bank};
-ghost use Rattle.wake_flags.specs.tile.specs.Agents.{state_of};
-ghost use Rattle.event_book.specs.RoomyBook.{KeepsRoom};
-ghost use Rattle.wake_flags.specs.tile_agents.specs.Placed.{HasRoomFor, PlacedTile};
-ghost use Rattle.wake_flags.specs.machine_seen.specs.Notes.{book_noted};
+ghost use Rattle.machine_wake.specs.script_follower.specs.ProcessorRecord.{index_of};
+ghost use Rattle.machine_wake.specs.tile_laws.specs.Tile.{Bank};
+ghost use Rattle.machine_wake.specs.tile_laws.specs.Agents.{state_of};
+ghost use Rattle.order_book.specs.RoomyBook.{KeepsRoom};
+ghost use Rattle.machine_wake.specs.tile.specs.Placed.{HasRoomFor, PlacedTile};
+ghost use Rattle.machine_wake.specs.core_seen.specs.Notes.{book_noted};
 ghost use Rattle.machine_core.specs.Noted.{HasRoomToNote, IsOfFullBank, counts_of, records_in};
 
-use event_book::EventBook;
+use machine_wake::TileAgents;
+use order_book::EventBook;
 use std::alloc::Allocator;
 use tag_table::{OpId, Tag};
 use torus::Choice;
-use wake_flags::TileAgents;
 
 /// Whether a choice of a bank is a service for the entry of which it has no room.
 #[inline(always)]
@@ -70,7 +70,9 @@ pub fn note<A: Allocator>(
     requires tile { tile < length tiles.now }
     requires tiles { tile < 64 }
     requires room { HasRoomToNote tiles.now tile before book.old }
-    ensures book { (v : PlacedTile) → slice_get tiles.now tile ≡ Some v → book.new.book ≡ book_noted tile (records_in tiles.now) before.issued before.answers before.entries (state_of v.place) book.old.book }
+    ensures book { (v : PlacedTile) → slice_get tiles.now tile ≡ Some v
+        → book.new.book ≡ book_noted tile (records_in tiles.now) before.issued before.answers
+        before.entries (state_of v.place) book.old.book }
     ensures room { KeepsRoom book.old book.new }
 {
     let agents = &tiles[tile];

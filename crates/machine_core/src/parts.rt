@@ -2,15 +2,15 @@
 ghost use Rattle.std.specs.Prelude.{◌≡◌, List, [], length, map};
 ghost use Rattle.torus.specs.Shape.{tiles_of};
 ghost use Rattle.torus.specs.declared.step.Step.{Step};
-ghost use Rattle.wake_flags.specs.core_laws.specs.Core.{Load, design_of, after};
-ghost use Rattle.wake_flags.specs.machine_laws.specs.Core.{IsAfter};
-ghost use Rattle.wake_flags.specs.machine_seen.specs.Seen.{IsShown};
+ghost use Rattle.machine_wake.specs.core_laws.specs.Core.{Load, design_of, after};
+ghost use Rattle.machine_wake.specs.core_machine.specs.Core.{IsAfter};
+ghost use Rattle.machine_wake.specs.core_seen.specs.Seen.{IsShown};
 ghost use Rattle.machine_core.specs.Inside.{HaveRoom};
 
 use crate::machine::Machine;
+use machine_wake::TileAgents;
 use std::alloc::{Allocator, Global};
 use torus::Torus;
-use wake_flags::TileAgents;
 
 /// What a machine is made of: what was loaded, but for the scripts, the tiles by number, and the row
 /// of words that they share.
@@ -35,9 +35,12 @@ impl<A: Allocator> Machine<A> {
     /// and where it stands freshly loaded, each bank has as much room as the scripts have operations
     /// for it.
     pub fn into_parts(self) -> Parts<A>
-        ensures loaded { (result.torus ≡ self.shape) × (result.depth ≡ self.depth) × (result.tags ≡ self.tags) × (result.opening.items ≡ self.opening) }
+        ensures loaded { (result.torus ≡ self.shape) × (result.depth ≡ self.depth)
+            × (result.tags ≡ self.tags) × (result.opening.items ≡ self.opening) }
         ensures count { length result.tiles.items ≡ tiles_of self.shape }
-        ensures shown { (l : Load) (steps : List Step) → IsAfter l self steps → IsShown (design_of l) (after l steps) (map (λ v. v.place) result.tiles.items) result.row.items }
+        ensures shown { (l : Load) (steps : List Step) → IsAfter l self steps
+            → IsShown (design_of l) (after l steps) (map (λ v. v.place) result.tiles.items)
+            result.row.items }
         ensures rooms { (l : Load) → IsAfter l self [] → HaveRoom l result.tiles.items }
     {
         let Machine {

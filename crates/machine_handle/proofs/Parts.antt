@@ -1,6 +1,7 @@
 -- What a full slot owns, in parts, and how the parts make it whole again with any machine. Assumes `Logic`.
 use Rattle.std.specs.Prelude.{◌≡◌, ℕ, List, [], ◌∷◌, true}
-use Rattle.machine_handle.proofs.Steps.{refl, sym, full_share, Fml, fsep, Val, ‵, ◌$◌, ◌∵◌, !, qed, done, move, fjoin, rewrite, ent, Ptr, block_ptr, lies_at, cell_at}
+use Rattle.machine_handle.proofs.Steps.{refl, sym, full_share, Fml, fsep, Val, ‵, ◌$◌, ◌∵◌, !, qed, done, move, fjoin, rewrite, ent, Ptr, block_ptr, lies_at}
+use Rattle.machine_handle.proofs.Steps.{cell_at}
 use seplogic.Ra.Ura.{Ura}
 use mir.Raw.{raw}
 use base.Logic.{SProp, sep, emp}
@@ -13,7 +14,7 @@ use denote.RawPtr.{ptr_val}
 use mir.Val.{vbool}
 use Rattle.machine_handle.proofs.slot.Slot.TheLaws.{lowers}
 use Rattle.std.specs.contracts.impls.GlobalAllocator.TheImpl.{ghosts}
-use Rattle.machine_core.specs.machine_laws.specs.Core.{Core}
+use Rattle.machine_core.specs.core_machine.specs.Core.{Core}
 use Rattle.machine_handle.specs.declared.slot.Slot.{Slot}
 use Rattle.machine_handle.specs.contracts.slot.Slot.{the_row as R, the_type}
 use Rattle.machine_handle.specs.Row.{machine_row as T, heap}
@@ -34,7 +35,8 @@ word s = lowers.lowered s ∷ []
 module _ {M : Type 1} {𝓤 : Ura M} (𝓛 : Logic 𝓤) where
   -- the fields' part is plain, so it is had of any slot
   pub fields_made : (s : Slot) → ent 𝓤 (emp 𝓤) (sem 𝓛 (Fields s (word s)))
-  fields_made s = Struct-Makes 𝓛 (shape the_type) ((λ _ _. tt), ((λ _ _. tt), tt)) (to the_type s) (word s) ((vbool s.full ∷ [], (ptr_val s.at ∷ [], tt)), (refl, (refl, (refl, tt))))
+  fields_made s = Struct-Makes 𝓛 (shape the_type) ((λ _ _. tt), ((λ _ _. tt), tt)) (to the_type s) (word s)
+      ((vbool s.full ∷ [], (ptr_val s.at ∷ [], tt)), (refl, (refl, (refl, tt))))
 
   -- what a full slot at (b, o) owns beside the machine
   abbrev pub Rest : Slot → List Val → ℕ → ℕ → SProp 𝓤

@@ -10,7 +10,8 @@ pub use mir.Syntax.{named}
 pub use mir.Val.{Val, vunit}
 pub use contract.Monad.{fact, fact_i}
 pub use contract.Running.{tables}
-pub use types.Kit.{‵, raw, ◌⊛◌, some, later, at_ret, ◌$◌, ◌∵◌, !, qed, done, by, move, keep, drop, use0, use1, split, join, fsplit, fsplit3, fjoin, feq_i, feq_l, pick, await, rewrite, suffices, frame, group}
+pub use types.Kit.{‵, raw, ◌⊛◌, some, later, at_ret, ◌$◌, ◌∵◌, !, qed, done, by, move, keep, drop, use0, use1, split, join, fsplit, fsplit3, fjoin, feq_i}
+pub use types.Kit.{feq_l, pick, await, rewrite, suffices, frame, group}
 pub use types.Run.{enter, of_opd, unit_lit, true_lit, addr, load, stop, fld, no_more, and_then, assigns, first, blocks, exec, returns}
 pub use types.ByLocal.{alloc_all, pass_all, free_all, look_at, get, through, sets, sets_last, lands_as, env}
 pub use types.Part.{whole, sub, look_in}

@@ -1,7 +1,7 @@
 -- What a handle holds, and what it and its slot end as once their machine is lent.
 use Rattle.std.specs.Prelude.{true, Option, if◌then◌else◌, Some, None}
 use Rattle.std.specs.Borrow.{Lends, LendsIf, MutBor, Fml}
-use Rattle.machine_core.specs.machine_laws.specs.Core.{Core}
+use Rattle.machine_core.specs.core_machine.specs.Core.{Core}
 use Rattle.machine_handle.specs.Row.{machine_row}
 use Rattle.machine_handle.specs.declared.slot.Slot.{Slot}
 use Rattle.machine_handle.specs.declared.handle.Handle.{Handle}

@@ -1,4 +1,4 @@
 pub use Rattle.machine_core
-pub use Rattle.machine_core.specs.machine_laws
+pub use Rattle.machine_core.specs.core_machine
 pub mod Row
 pub mod Held

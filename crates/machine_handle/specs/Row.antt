@@ -5,7 +5,7 @@ use Rattle.std.specs.Box.Ownership.{box_owns}
 use Rattle.std.specs.Global.{Global}
 use Rattle.std.specs.contracts.alloc.Global as global
 use Rattle.std.specs.contracts.impls.GlobalAllocator.TheImpl.{ghosts}
-use Rattle.machine_core.specs.machine_laws.specs.Core.{Core}
+use Rattle.machine_core.specs.core_machine.specs.Core.{Core}
 use Rattle.machine_core.specs.contracts.machine.Machine.{the_row}
 use denote.RawPtr.{Ptr}
 
@@ -17,7 +17,8 @@ machine_row = the_row global.the_row ghosts
 abbrev pub heap : Global
 heap = record { memory = record { seal = tt } }
 
--- a full slot owns the machine behind its pointer and the right to free its block, and an empty one nothing
+-- a full slot owns the machine behind its pointer and the right to free its block, and an empty one
+-- nothing
 abbrev pub slot_owns : Bool → Ptr → Core → Fml
 slot_owns true at core = box_owns (ghosts.dealloc_token heap) machine_row at core
 slot_owns false at core = ftrue

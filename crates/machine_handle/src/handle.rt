@@ -19,7 +19,8 @@ impl Handle {
     #[inline(always)]
     pub fn machine(&mut self) -> Option<&mut Machine>
         ensures* writes_back { sem 𝓛 (LendsHeld self.entry result) }
-        ensures value { MatchOption result (held self.old ≡ None) (λ m. held self.old ≡ Some m.now) }
+        ensures value { MatchOption result (held self.old ≡ None)
+            (λ m. held self.old ≡ Some m.now) }
     {
         if self.slot.is_full() {
             Some(self.slot.get_mut())

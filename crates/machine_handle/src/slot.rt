@@ -1,6 +1,6 @@
 ghost use Rattle.std.specs.Prelude.{◌≡◌, IsTrue, true, false};
 ghost use Rattle.std.specs.Borrow.{sem};
-ghost use Rattle.machine_core.specs.machine_laws.specs.Core.{Core};
+ghost use Rattle.machine_core.specs.core_machine.specs.Core.{Core};
 ghost use Rattle.machine_handle.specs.Row.{machine_row};
 
 use machine_core::Machine;

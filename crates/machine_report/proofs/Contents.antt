@@ -7,15 +7,17 @@ use Rattle.std.proofs.lemmas.Option.{slice_get_within}
 use Rattle.packet.specs.declared.kinds.Operation.{Operation}
 use Rattle.packet.specs.Memory.{memory_after, replies}
 use Rattle.home_bank.specs.declared.entry.Entry.{Entry}
-use Rattle.runs.specs.declared.answer.Answer.{Answer}
-use Rattle.runs.specs.declared.ordered.Ordered.{Ordered}
-use Rattle.runs.specs.Observed.{Observed, list_at, total, HasIssued}
-use Rattle.runs.specs.Consequences.{AnswersAreNumbered, AnswersNameEntries, AreEventNumbers, EntryStands, EventKind, Issue, NameEntries, ReplaysByBank, Response, Service, event_number, operation_of}
-use Rattle.runs.proofs.Lists.{within_length}
+use Rattle.one_order.specs.declared.answer.Answer.{Answer}
+use Rattle.one_order.specs.declared.ordered.Ordered.{Ordered}
+use Rattle.one_order.specs.Observed.{Observed, list_at, total, HasIssued}
+use Rattle.one_order.specs.Consequences.{AnswersAreNumbered, AnswersNameEntries, AreEventNumbers, EntryStands, EventKind, Issue, NameEntries, ReplaysByBank}
+use Rattle.one_order.specs.Consequences.{Response, Service, event_number, operation_of}
+use Rattle.one_order.proofs.Lists.{within_length}
 use Rattle.report_lines.specs.declared.line.OrderLine.{OrderLine}
 use Rattle.report_lines.specs.declared.parts.EntryRow.{EntryRow}
 use Rattle.report_lines.specs.declared.parts.AnswerRow.{AnswerRow}
-use Rattle.report_facts.specs.Facts.{operation_in, rows_at, AnswersAreTold, AreAnswers, AreEntries, AreNumbered, AreOrdered, HasAnswer, HasNumber, NamesRow, StandsIn}
+use Rattle.report_good.specs.Facts.{operation_in, rows_at, AnswersAreTold, AreAnswers, AreEntries, AreNumbered, AreOrdered, HasAnswer, HasNumber, NamesRow}
+use Rattle.report_good.specs.Facts.{StandsIn}
 use Rattle.machine_report.specs.Report.{answer_row, entry_row, order_line}
 use Rattle.machine_report.proofs.Mapped.{all_count, all_rows, count_rows, element_at, element_of, map_twice, row_at, row_count, row_of}
 
@@ -26,10 +28,13 @@ abbrev answer_rows : Observed → List (List AnswerRow)
 answer_rows s = map (map answer_row) s.answers
 
 operations_are : (s : Observed) → map operation_in (flat_map (λ es. es) (entry_rows s)) ≡ map operation_of (flat_map (λ es. es) s.entries)
-operations_are s = ap (map operation_in) (all_rows entry_row s.entries) ∙ map_twice entry_row operation_in operation_of (λ e. refl) (flat_map (λ es. es) s.entries)
+operations_are s = ap (map operation_in) (all_rows entry_row s.entries)
+    ∙ map_twice entry_row operation_in operation_of (λ e. refl) (flat_map (λ es. es) s.entries)
 
-replies_are : (s : Observed) → map (λ (e : EntryRow). e.reply) (flat_map (λ es. es) (entry_rows s)) ≡ map (λ (e : Entry). e.reply) (flat_map (λ es. es) s.entries)
-replies_are s = ap (map (λ (e : EntryRow). e.reply)) (all_rows entry_row s.entries) ∙ map_twice entry_row (λ (e : EntryRow). e.reply) (λ (e : Entry). e.reply) (λ e. refl) (flat_map (λ es. es) s.entries)
+replies_are : (s : Observed)
+    → map (λ (e : EntryRow). e.reply) (flat_map (λ es. es) (entry_rows s)) ≡ map (λ (e : Entry). e.reply) (flat_map (λ es. es) s.entries)
+replies_are s = ap (map (λ (e : EntryRow). e.reply)) (all_rows entry_row s.entries)
+    ∙ map_twice entry_row (λ (e : EntryRow). e.reply) (λ (e : Entry). e.reply) (λ e. refl) (flat_map (λ es. es) s.entries)
 
 pub entered : (tiles tags : ℕ) (opening : List ℕ) (s : Observed) → tags ≤ 16 → total s.entries ≤ 65536
     → ((b place : ℕ) (e : Entry) → slice_get (list_at s.entries b) place ≡ Some e → EntryStands tiles tags (length opening) b e) → ReplaysByBank opening s
@@ -39,7 +44,8 @@ entered tiles tags opening s few_tags few stands replay =
       stand = λ b place row there.
           let e = element_at entry_row s.entries b place row there in
           let h = stands b place e.0 e.1 in
-          subst (StandsIn tiles (length opening) b) e.2 (record { bank = h.bank; source = h.source; tag = omega (arith, h.tagged, few_tags); address = h.address; home = h.home });
+          subst (StandsIn tiles (length opening) b) e.2
+          (record { bank = h.bank; source = h.source; tag = omega (arith, h.tagged, few_tags); address = h.address; home = h.home });
       few =
           let rows = ap length (all_rows entry_row s.entries) in
           let same = length-map (flat_map (λ es. es) s.entries) entry_row in
@@ -65,7 +71,8 @@ answered s are low =
       named = λ p i r there.
           let a = element_at answer_row s.answers p i r there in
           let n = are.named p i a.0 a.1 in
-          subst (NamesRow (entry_rows s) p) a.2 (record { entry = entry_row n.entry; there = row_at entry_row s.entries a.0.bank a.0.place n.entry n.there; source = n.source; reply = n.reply });
+          subst (NamesRow (entry_rows s) p) a.2
+          (record { entry = entry_row n.entry; there = row_at entry_row s.entries a.0.bank a.0.place n.entry n.there; source = n.source; reply = n.reply });
       low = λ p i r there.
           let a = element_at answer_row s.answers p i r there in
           let n = are.named p i a.0 a.1 in
@@ -79,7 +86,8 @@ answered s are low =
       apart = λ p q i j r u there also bank place.
           let a = element_at answer_row s.answers p i r there in
           let b = element_at answer_row s.answers q j u also in
-          are.apart p q i j a.0 b.0 a.1 b.1 (same_bank a.0 r a.2 ∙ bank ∙ sym (same_bank b.0 u b.2)) (same_place a.0 r a.2 ∙ place ∙ sym (same_place b.0 u b.2));
+          are.apart p q i j a.0 b.0 a.1 b.1 (same_bank a.0 r a.2 ∙ bank ∙ sym (same_bank b.0 u b.2))
+          (same_place a.0 r a.2 ∙ place ∙ sym (same_place b.0 u b.2));
     }
 
 -- the order
@@ -147,7 +155,8 @@ numbered rows n few numbers =
     }
 
 -- an answer of an entry
-has_answer : (s : Observed) (p i : ℕ) (a : Answer) (bank place : ℕ) → slice_get (list_at s.answers p) i ≡ Some a → a.bank ≡ bank → a.place ≡ place → HasAnswer (answer_rows s) bank place
+has_answer : (s : Observed) (p i : ℕ) (a : Answer) (bank place : ℕ) → slice_get (list_at s.answers p) i ≡ Some a → a.bank ≡ bank → a.place ≡ place
+    → HasAnswer (answer_rows s) bank place
 has_answer s p i a bank place there same also = (p, i, answer_row a, row_at answer_row s.answers p i a there, same, also)
 
 pub told : (s : Observed) (rows : List Ordered) → AnswersAreNumbered s rows → AnswersAreTold (answer_rows s) (map order_line rows)
@@ -167,14 +176,18 @@ told s rows are =
     }
 
 -- where no row is without an answer, each entry has one
-pub complete : (s : Observed) (rows : List Ordered) → NameEntries s rows → AnswersAreNumbered s rows → ((k : ℕ) (row : Ordered) → slice_get rows k ≡ Some row → row.answered ≡ None → ⊥) → (bank place : ℕ) → place < length (rows_at (entry_rows s) bank) → HasAnswer (answer_rows s) bank place
+pub complete : (s : Observed) (rows : List Ordered) → NameEntries s rows → AnswersAreNumbered s rows
+    → ((k : ℕ) (row : Ordered) → slice_get rows k ≡ Some row → row.answered ≡ None → ⊥) → (bank place : ℕ) → place < length (rows_at (entry_rows s) bank)
+    → HasAnswer (answer_rows s) bank place
 complete s rows names are none bank place inside =
     let count = row_count entry_row s.entries bank in
     let e = within_length (list_at s.entries bank) place (omega (arith, inside, count)) in
     let r = names.every bank place e.0 e.1 in
     by_answer s rows are r.0 r.1 bank place r.1.answered refl r.2 (none r.0 r.1 r.2) r.3 r.4
   where
-    by_answer : (s : Observed) (rows : List Ordered) → AnswersAreNumbered s rows → (k : ℕ) (row : Ordered) (bank place : ℕ) (number : Option ℕ) → row.answered ≡ number → slice_get rows k ≡ Some row → (row.answered ≡ None → ⊥) → row.bank ≡ bank → row.place ≡ place → HasAnswer (answer_rows s) bank place
+    by_answer : (s : Observed) (rows : List Ordered) → AnswersAreNumbered s rows → (k : ℕ) (row : Ordered) (bank place : ℕ) (number : Option ℕ)
+        → row.answered ≡ number → slice_get rows k ≡ Some row → (row.answered ≡ None → ⊥) → row.bank ≡ bank → row.place ≡ place
+        → HasAnswer (answer_rows s) bank place
     by_answer s rows are k row bank place None is there none same also = absurd (none is)
     by_answer s rows are k row bank place (Some event) is there none same also =
         let a = are.answered k event row there is in

@@ -1,11 +1,12 @@
 -- Rows of lists, each mapped.
-use Rattle.std.proofs.Common.{◌≡◌, ℕ, zero, suc, ◌+◌, cond, Bool, List, [], ◌∷◌, ◌++◌, length, map, take, flat_map, Some, slice_get, refl, sym, ap, ◌∙◌, length-append}
+use Rattle.std.proofs.Common.{◌≡◌, ℕ, zero, suc, ◌+◌, cond, Bool, List, [], ◌∷◌, ◌++◌, length, map, take, flat_map, Some, slice_get, refl, sym, ap, ◌∙◌}
+use Rattle.std.proofs.Common.{length-append}
 use Rattle.std.specs.Prelude.{count_by}
 use Rattle.std.proofs.lemmas.List.{length-map, map-append}
 use Rattle.std.proofs.lemmas.List.Sums.{sum_by-cons}
 use Rattle.std.proofs.lemmas.Option.{same_Some}
-use Rattle.runs.specs.Observed.{list_at, total}
-use Rattle.report_facts.specs.Facts.{rows_at}
+use Rattle.one_order.specs.Observed.{list_at, total}
+use Rattle.report_good.specs.Facts.{rows_at}
 
 -- a row is of an element
 pub element_of : {X Y : Type 0} (f : X → Y) (xs : List X) (k : ℕ) (y : Y) → slice_get (map f xs) k ≡ Some y → (x : X) × (slice_get xs k ≡ Some x) × (f x ≡ y)
@@ -23,10 +24,12 @@ rows_are f [] b = refl
 rows_are f (xs ∷ xss) zero = refl
 rows_are f (xs ∷ xss) (suc b) = rows_are f xss b
 
-pub element_at : {X Y : Type 0} (f : X → Y) (xss : List (List X)) (b k : ℕ) (y : Y) → slice_get (rows_at (map (map f) xss) b) k ≡ Some y → (x : X) × (slice_get (list_at xss b) k ≡ Some x) × (f x ≡ y)
+pub element_at : {X Y : Type 0} (f : X → Y) (xss : List (List X)) (b k : ℕ) (y : Y) → slice_get (rows_at (map (map f) xss) b) k ≡ Some y
+    → (x : X) × (slice_get (list_at xss b) k ≡ Some x) × (f x ≡ y)
 element_at {X} {Y} f xss b k y there = element_of f (list_at xss b) k y (ap (λ (ys : List Y). slice_get ys k) (sym (rows_are f xss b)) ∙ there)
 
-pub row_at : {X Y : Type 0} (f : X → Y) (xss : List (List X)) (b k : ℕ) (x : X) → slice_get (list_at xss b) k ≡ Some x → slice_get (rows_at (map (map f) xss) b) k ≡ Some (f x)
+pub row_at : {X Y : Type 0} (f : X → Y) (xss : List (List X)) (b k : ℕ) (x : X) → slice_get (list_at xss b) k ≡ Some x
+    → slice_get (rows_at (map (map f) xss) b) k ≡ Some (f x)
 row_at {X} {Y} f xss b k x there = ap (λ (ys : List Y). slice_get ys k) (rows_are f xss b) ∙ row_of f (list_at xss b) k x there
 
 pub row_count : {X Y : Type 0} (f : X → Y) (xss : List (List X)) (b : ℕ) → length (rows_at (map (map f) xss) b) ≡ length (list_at xss b)

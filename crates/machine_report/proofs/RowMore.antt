@@ -16,7 +16,8 @@ none_past (x ∷ xs) zero below none = none-some x none
 none_past (x ∷ xs) (suc k) below none = none_past xs k (omega (arith, below)) none
 
 -- the row of one list more
-pub row_more : {X Y A : Type 0} (f : X → Y) (xss : List (List X)) (vs new : List (Vec Y A)) (k : ℕ) (xs : List X) (v : Vec Y A) → Some xs ≡ slice_get xss k → v.items ≡ map f xs → new ≡ vs ++ v ∷ []
+pub row_more : {X Y A : Type 0} (f : X → Y) (xss : List (List X)) (vs new : List (Vec Y A)) (k : ℕ) (xs : List X) (v : Vec Y A) → Some xs ≡ slice_get xss k
+    → v.items ≡ map f xs → new ≡ vs ++ v ∷ []
     → items_of vs ≡ map (map f) (take k xss) → items_of new ≡ map (map f) (take (k + 1) xss)
 row_more {X} {Y} {A} f xss vs new k xs v there is grown so_far =
     ap items_of grown

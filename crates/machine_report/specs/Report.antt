@@ -2,32 +2,47 @@
 use Rattle.std.specs.Prelude.{◌≡◌, ◌≤◌, ◌⊎◌, ℕ, All, Bool, List, [], length, map}
 use Rattle.torus.specs.Shape.{Shape, tiles_of}
 use Rattle.home_bank.specs.declared.entry.Entry.{Entry}
-use Rattle.runs.specs.declared.answer.Answer.{Answer}
-use Rattle.runs.specs.declared.ordered.Ordered.{Ordered}
+use Rattle.one_order.specs.declared.answer.Answer.{Answer}
+use Rattle.one_order.specs.declared.ordered.Ordered.{Ordered}
 use Rattle.report_lines.specs.declared.line.OrderLine.{OrderLine}
 use Rattle.report_lines.specs.declared.line.ReportLine.{ReportLine}
 use Rattle.report_lines.specs.declared.parts.EntryRow.{EntryRow}
 use Rattle.report_lines.specs.declared.parts.AnswerRow.{AnswerRow}
 use Rattle.report_lines.specs.declared.parts.Parts.{Parts}
 use Rattle.report_lines.specs.Contents.{items_of, report_lines_of}
-use Rattle.runs.specs.Observed.{Observed, event_count}
-use Rattle.machine_laws.specs.Core.{Core, shown, all_finished}
+use Rattle.one_order.specs.Observed.{Observed, event_count}
+use Rattle.core_machine.specs.Core.{Core, shown, all_finished}
 
 -- what is reported of a service
 abbrev pub entry_row : Entry → EntryRow
-entry_row e = record { source = e.source; tag = e.tag.0; address = e.address; op = e.op; reply = e.reply }
+entry_row e = record {
+  source = e.source;
+  tag = e.tag.0;
+  address = e.address;
+  op = e.op;
+  reply = e.reply;
+}
 
 -- what is reported of an answer
 abbrev pub answer_row : Answer → AnswerRow
 answer_row a = record { index = a.index; bank = a.bank; place = a.place; reply = a.reply }
 
--- what is reported of an operation's place in the one order: the service, and the numbers of its events
+-- what is reported of an operation's place in the one order: the service, and the numbers of its
+-- events
 abbrev pub order_line : Ordered → OrderLine
-order_line r = record { bank = r.bank; place = r.place; issued = r.issued; served = r.served; answered = r.answered }
+order_line r = record {
+  bank = r.bank;
+  place = r.place;
+  issued = r.issued;
+  served = r.served;
+  answered = r.answered;
+}
 
--- the report of a run: the torus, the opening words, the entries, answers and words that are shown, the rows of the one order, if they are told, and whether every script is finished
+-- the report of a run: the torus, the opening words, the entries, answers and words that are shown,
+-- the rows of the one order, if they are told, and whether every script is finished
 abbrev pub report_of : Shape → List ℕ → Observed → List Ordered → Bool → List ReportLine
-report_of shape opening seen rows finished = report_lines_of shape opening (map (map entry_row) seen.entries)
+report_of shape opening seen rows finished =
+    report_lines_of shape opening (map (map entry_row) seen.entries)
     (map (map answer_row) seen.answers) seen.memory (map order_line rows) finished
 
 -- the report of a machine
@@ -44,16 +59,19 @@ abbrev pub IsReportOf : Core → List ReportLine → Type 0
 IsReportOf c lines = (lines ≡ report_with c []) ⊎ (lines ≡ machine_report c)
 
 -- these are the parts of the report of a machine, with these order lines
-pub record IsMadeOf {A : Type 0} (c : Core) (lines : List OrderLine) (parts : Parts A) : Type 0 where
-  pub torus : parts.torus ≡ c.shape
-  pub opening : parts.opening.items ≡ c.opening
-  pub entries : items_of parts.entries.items ≡ map (map entry_row) (shown c).entries
-  pub answers : items_of parts.answers.items ≡ map (map answer_row) (shown c).answers
-  pub last : parts.last.items ≡ (shown c).memory
-  pub order : parts.order.items ≡ lines
-  pub finished : parts.finished ≡ all_finished c.state
+pub record IsMadeOf {A : Type 0} (c : Core) (lines : List OrderLine) (parts : Parts A) : Type 0
+  where
+    pub torus : parts.torus ≡ c.shape
+    pub opening : parts.opening.items ≡ c.opening
+    pub entries : items_of parts.entries.items ≡ map (map entry_row) (shown c).entries
+    pub answers : items_of parts.answers.items ≡ map (map answer_row) (shown c).answers
+    pub last : parts.last.items ≡ (shown c).memory
+    pub order : parts.order.items ≡ lines
+    pub finished : parts.finished ≡ all_finished c.state
 
--- a machine has a bank and a processor for each of at most 64 tiles, a word for each of at most 65536 addresses, at most 65536 entries in each bank, and at most 196608 events (this project's own format)
+-- a machine has a bank and a processor for each of at most 64 tiles, a word for each of at most
+-- 65536 addresses, at most 65536 entries in each bank, and at most 196608 events (this project's
+-- own format)
 pub record IsWithinLimits (c : Core) : Type 0 where
   pub tiles : tiles_of c.shape ≤ 64
   pub banks : length (shown c).entries ≡ tiles_of c.shape

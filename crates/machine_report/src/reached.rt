@@ -2,11 +2,11 @@
 
 ghost use Rattle.std.specs.Prelude.{◌≡◌, length, slice_get};
 ghost use Rattle.std.specs.Option.{option_copied};
-ghost use Rattle.machine_laws.specs.Core.{Core, all_finished, shown};
-ghost use Rattle.machine_laws.specs.Reported.{ReportsWell};
+ghost use Rattle.core_machine.specs.Core.{Core, all_finished, shown};
+ghost use Rattle.core_machine.specs.Reported.{ReportsWell};
 
+use core_machine::laws::reached_machines_report_well;
 use machine_core::{Answer, Entry, Machine};
-use machine_laws::laws::reached_machines_report_well;
 use std::alloc::Allocator;
 use torus::Torus;
 

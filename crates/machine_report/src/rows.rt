@@ -2,7 +2,7 @@
 
 ghost use Rattle.std.specs.Prelude.{◌≡◌, IfOk, length, map};
 ghost use Rattle.report_lines.specs.Contents.{items_of};
-ghost use Rattle.machine_laws.specs.Core.{shown};
+ghost use Rattle.core_machine.specs.Core.{shown};
 ghost use Rattle.machine_report.specs.Report.{answer_row, entry_row, order_line};
 
 use crate::reached::Reached;
@@ -77,7 +77,8 @@ pub fn bank_rows<A: Allocator + Copy, S: Reached>(
     banks: u32,
 ) -> Result<Vec<Vec<EntryRow, A>, A>, AllocError>
     requires { length (shown (S.core reached.now)).entries ≡ banks }
-    ensures { IfOk result (λ rows. items_of rows.items ≡ map (map entry_row) (shown (S.core reached.now)).entries) }
+    ensures { IfOk result
+        (λ rows. items_of rows.items ≡ map (map entry_row) (shown (S.core reached.now)).entries) }
 {
     let mut rows = Vec::new(alloc);
     for bank in 0..banks {
@@ -121,7 +122,8 @@ pub fn processor_rows<A: Allocator + Copy, S: Reached>(
     processors: u32,
 ) -> Result<Vec<Vec<AnswerRow, A>, A>, AllocError>
     requires { length (shown (S.core reached.now)).answers ≡ processors }
-    ensures { IfOk result (λ rows. items_of rows.items ≡ map (map answer_row) (shown (S.core reached.now)).answers) }
+    ensures { IfOk result
+        (λ rows. items_of rows.items ≡ map (map answer_row) (shown (S.core reached.now)).answers) }
 {
     let mut rows = Vec::new(alloc);
     for processor in 0..processors {

@@ -2,7 +2,7 @@
 use Rattle.std.proofs.Common.{◌≡◌, ℕ, List, Ok, refl}
 use Rattle.script.specs.Machine.{MachineSpec, machine_of}
 use Rattle.script.specs.Scripts.{ScriptsSpec, scripts_of}
-use Rattle.machine_core.specs.flights.specs.Load.{load_of}
+use Rattle.machine_core.specs.order_abstract.specs.Load.{load_of}
 use Rattle.machine_texts.specs.Loading.{load_by}
 
 -- what both texts ask for, where each is read

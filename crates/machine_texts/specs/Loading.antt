@@ -4,18 +4,20 @@ use Rattle.torus.specs.declared.fault.Fault.TheVariants as fault
 use Rattle.script.specs.declared.fault.LineFault.{LineFault}
 use Rattle.script.specs.Machine.{machine_of}
 use Rattle.script.specs.Scripts.{scripts_of}
-use Rattle.machine_core.specs.flights.specs.Load.{Load, load_of}
-use Rattle.machine_core.specs.machine_laws.specs.Core.{Core, IsAfter}
+use Rattle.machine_core.specs.order_abstract.specs.Load.{Load, load_of}
+use Rattle.machine_core.specs.core_machine.specs.Core.{Core, IsAfter}
 
 -- what is read next, unless the texts before have a fault
 infixl 10 ◌then◌
-abbrev pub ◌then◌ : {A B : Type 0} → Result A LineFault → (A → Result B LineFault) → Result B LineFault
+abbrev pub ◌then◌ : {A B : Type 0} → Result A LineFault → (A → Result B LineFault)
+    → Result B LineFault
 (Ok x) then next = next x
 (Err e) then next = Err e
 
 -- what two texts ask for, or the first fault; they are taken in this order
 abbrev pub load_by : List (List ℕ) → List (List ℕ) → Result Load LineFault
-load_by machine scripts = machine_of machine then λ m. scripts_of m scripts then λ s. Ok (load_of m s)
+load_by machine scripts =
+    machine_of machine then λ m. scripts_of m scripts then λ s. Ok (load_of m s)
 
 -- a machine stands where what is asked for is loaded, and no step is made
 pub record HasLoaded (asked : Result Load LineFault) (c : Core) : Type 0 where

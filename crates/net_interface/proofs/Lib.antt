@@ -1,12 +1,6 @@
-pub mod Histories
-pub mod Operations
-pub mod Residual
-pub mod Places
-pub mod Shown
-pub mod Kept
-pub mod Followable
-pub mod Homes
-pub mod Ended
-pub mod Values
-mod Examples
-mod WrongOnes
+pub mod Recorded
+pub mod Counted
+pub mod Course
+pub mod Arriving
+pub mod EmptyChannels
+pub mod WantedPorts

@@ -1,8 +1,6 @@
-pub use Rattle.runs
-pub use Rattle.runs.specs.home_bank
-pub mod Scripts
-pub mod Homes
-pub mod Following
+pub use Rattle.script_follower
+pub use Rattle.script_follower.specs.home_bank
+pub mod Place
+pub mod Beginning
 pub mod Inside
-pub mod ProcessorRecord
-pub mod ProcessorTable
+pub mod Reach

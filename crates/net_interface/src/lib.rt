@@ -1,11 +1,10 @@
-//! The processor side of a tile: which operation of its script comes next.
+//! The processor of a tile, as an agent.
 #![tactic(auto)]
 
-pub mod follower;
 pub mod laws;
-mod spin;
-#[cfg(test)]
-mod tests;
+pub mod processor;
+mod record;
+mod start;
 
-pub use follower::Follower;
-pub use runs::Answer;
+pub use processor::Processor;
+pub use script_follower::Answer;

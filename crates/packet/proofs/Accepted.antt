@@ -1,5 +1,6 @@
 -- The lists of flits that an assembler takes are the spellings and what begins one.
-use Rattle.std.proofs.Common.{◌≡◌, ◌⊎◌, ℕ, zero, suc, ◌+◌, ◌*◌, ◌/◌, ◌%◌, ◌^◌, ◌<◌, ◌≤◌, ◌∙◌, List, [], ◌∷◌, length, get_or, sym, ap, refl, subst, arith, inl, inr}
+use Rattle.std.proofs.Common.{◌≡◌, ◌⊎◌, ℕ, zero, suc, ◌+◌, ◌*◌, ◌/◌, ◌%◌, ◌^◌, ◌<◌, ◌≤◌, ◌∙◌, List, [], ◌∷◌, length, get_or, sym, ap, refl, subst, arith, inl}
+use Rattle.std.proofs.Common.{inr}
 use Rattle.std.specs.Prelude.{◌==◌, if◌then◌else◌}
 use Rattle.packet.specs.declared.kinds.Code.{Code}
 use Rattle.packet.specs.declared.kinds.Code.TheVariants as code
@@ -95,7 +96,9 @@ pub record IsPacketOf (told : Heading) (v w : ℕ) (p : Packet) : Type 0 where
   pub sound : IsSound p
   pub counts : Counts v w (values_of p) (if told.class == 0 then flits_of_request told.operation else flits_of_reply told.operation)
 
-IsPacketOf-request : (o d s g p v w : ℕ) → o ≤ 9 → IsPacketOf (record { operation = o; class = 0; destination = d; source = s; tag = g; place = p }) v w (packet_with (record { operation = o; class = 0; destination = d; source = s; tag = g; place = p }) v w)
+IsPacketOf-request : (o d s g p v w : ℕ) → o ≤ 9
+    → IsPacketOf (record { operation = o; class = 0; destination = d; source = s; tag = g; place = p }) v w
+    (packet_with (record { operation = o; class = 0; destination = d; source = s; tag = g; place = p }) v w)
 IsPacketOf-request o d s g p v w known =
     let c = code_numbered o in
     let n : code_number c ≡ o = code_number-code_numbered o known in
@@ -106,7 +109,9 @@ IsPacketOf-request o d s g p v w known =
       counts = subst (λ (k : ℕ). Counts v w (values_of_op (op_with c v w)) (flits_of_request k)) n (counts-request c v w);
     }
 
-IsPacketOf-reply : (o d s g p v w : ℕ) → o ≤ 9 → IsPacketOf (record { operation = o; class = 1; destination = d; source = s; tag = g; place = p }) v w (packet_with (record { operation = o; class = 1; destination = d; source = s; tag = g; place = p }) v w)
+IsPacketOf-reply : (o d s g p v w : ℕ) → o ≤ 9
+    → IsPacketOf (record { operation = o; class = 1; destination = d; source = s; tag = g; place = p }) v w
+    (packet_with (record { operation = o; class = 1; destination = d; source = s; tag = g; place = p }) v w)
 IsPacketOf-reply o d s g p v w known =
     let c = code_numbered o in
     let n : code_number c ≡ o = code_number-code_numbered o known in
@@ -125,8 +130,10 @@ zero_or_one (suc (suc n)) h = absurd (omega arith)
 pub IsPacketOf-told : (told : Heading) (v w : ℕ) → told.class < 2 → told.operation ≤ 9 → IsPacketOf told v w (packet_with told v w)
 IsPacketOf-told told v w small known =
     elim (zero_or_one told.class small) [
-      | inl e ↦ subst (λ (k : ℕ). IsPacketOf (record told { class = k }) v w (packet_with (record told { class = k }) v w)) (sym e) (IsPacketOf-request told.operation told.destination told.source told.tag told.place v w known)
-      | inr e ↦ subst (λ (k : ℕ). IsPacketOf (record told { class = k }) v w (packet_with (record told { class = k }) v w)) (sym e) (IsPacketOf-reply told.operation told.destination told.source told.tag told.place v w known)
+      | inl e ↦ subst (λ (k : ℕ). IsPacketOf (record told { class = k }) v w (packet_with (record told { class = k }) v w)) (sym e)
+          (IsPacketOf-request told.operation told.destination told.source told.tag told.place v w known)
+      | inr e ↦ subst (λ (k : ℕ). IsPacketOf (record told { class = k }) v w (packet_with (record told { class = k }) v w)) (sym e)
+          (IsPacketOf-reply told.operation told.destination told.source told.tag told.place v w known)
     ]
 
 -- an accepted head flit tells its heading
@@ -163,7 +170,8 @@ low-told tail a b s =
     subst (λ (k : ℕ). IsPayloadFlit tail k b) (low_half (field a 0 32) (field b 0 32) _ refl (field_below b 0 32)) s
 
 -- a whole packet is spelled with its values
-spelled-counts : (xs vs : List ℕ) (n : ℕ) → IsWhole xs → flits_told (get_or xs 0 0) ≡ n → Counts (value_at xs 1) (value_at xs 3) vs n → SpellsWith (heading_told (get_or xs 0 0)) vs xs
+spelled-counts : (xs vs : List ℕ) (n : ℕ) → IsWhole xs → flits_told (get_or xs 0 0) ≡ n → Counts (value_at xs 1) (value_at xs 3) vs n
+    → SpellsWith (heading_told (get_or xs 0 0)) vs xs
 spelled-counts (h ∷ []) vs n w e c =
     elim c as (λ us k _. flits_told h ≡ k → SpellsWith (heading_told h) us (h ∷ [])) [
       | none ↦ λ _. IsHeadFlit-accepted 1 h w.0
@@ -222,8 +230,15 @@ whole-counts : (told : Heading) (vs xs : List ℕ) → SpellsWith told vs xs →
 whole-counts told [] (h ∷ []) s known e = (IsAcceptedHead-spelled told 1 h s known, e)
 whole-counts told (v ∷ []) (h ∷ a ∷ b ∷ []) s known e =
     (IsAcceptedHead-spelled told 0 h s.0 known, e, IsAcceptedPayload-spelled 0 _ a s.1, IsAcceptedPayload-spelled 1 _ b s.2)
-whole-counts told (v ∷ w ∷ []) (h ∷ a ∷ b ∷ c ∷ d ∷ []) s known e =
-    (IsAcceptedHead-spelled told 0 h s.0 known, e, IsAcceptedPayload-spelled 0 _ a s.1, IsAcceptedPayload-spelled 0 _ b s.2, IsAcceptedPayload-spelled 0 _ c s.3, IsAcceptedPayload-spelled 1 _ d s.4)
+whole-counts told (v ∷ w ∷ []) (h ∷ a ∷ b ∷ c ∷ d ∷ []) s known e = (
+  IsAcceptedHead-spelled told 0 h s.0 known,
+  e,
+  IsAcceptedPayload-spelled 0 _ a s.1,
+  IsAcceptedPayload-spelled 0 _ b s.2,
+  IsAcceptedPayload-spelled 0 _ c
+      s.3,
+  IsAcceptedPayload-spelled 1 _ d s.4,
+)
 whole-counts told vs xs s known e = absurd s
 
 -- a spelling is a whole packet

@@ -23,13 +23,16 @@ IsTaken-head : (f tail n : ℕ) → IsAcceptedHead tail f → flits_told f ≡ n
 IsTaken-head f tail n a e t =
     let wanted : tail_wanted f 0 ≡ (if 1 == n then 1 else 0) = ap (λ (k : ℕ). if 1 == k then 1 else 0) e in
     record {
-      taken = none-start _ _ _ _ _ _ (record { flit = a.flit_bit; begun = a.head_bit; known = a.operation; empty = a.zeros; last = a.tail_bit ∙ t ∙ sym wanted });
+      taken = none-start _ _ _ _ _ _
+          (record { flit = a.flit_bit; begun = a.head_bit; known = a.operation; empty = a.zeros; last = a.tail_bit ∙ t ∙ sym wanted });
       tail_bit = a.tail_bit;
     }
 
-IsTaken-payload : (h : ℕ) (rest : List ℕ) (f tail n : ℕ) → IsAcceptedPayload tail f → flits_told h ≡ n → tail ≡ (if length (h ∷ rest) + 1 == n then 1 else 0) → IsTaken (h ∷ rest) f tail
+IsTaken-payload : (h : ℕ) (rest : List ℕ) (f tail n : ℕ) → IsAcceptedPayload tail f → flits_told h ≡ n → tail ≡ (if length (h ∷ rest) + 1 == n then 1 else 0)
+    → IsTaken (h ∷ rest) f tail
 IsTaken-payload h rest f tail n a e t =
-    let wanted : tail_wanted h (length (h ∷ rest)) ≡ (if length (h ∷ rest) + 1 == n then 1 else 0) = ap (λ (k : ℕ). if length (h ∷ rest) + 1 == k then 1 else 0) e in
+    let wanted : tail_wanted h (length (h ∷ rest)) ≡ (if length (h ∷ rest) + 1 == n then 1 else 0) =
+    ap (λ (k : ℕ). if length (h ∷ rest) + 1 == k then 1 else 0) e in
     record {
       taken = none-inside _ _ _ _ _ (record { flit = a.flit_bit; inside = a.head_bit; empty = a.zeros; last = a.tail_bit ∙ t ∙ sym wanted });
       tail_bit = a.tail_bit;
@@ -88,12 +91,17 @@ IsAnswer-more xs f b small e t =
       refused = λ j. (λ h. cc, λ h. cc);
     }
 
-pub IsAnswer-whole : (xs : List ℕ) (f : ℕ) → IsBegun xs → f < 2 ^ 64 → refusal xs f ≡ None → field f 62 1 ≡ 1 → IsAnswer xs f (Whole (packet_told (xs ++ f ∷ [])))
+pub IsAnswer-whole : (xs : List ℕ) (f : ℕ) → IsBegun xs → f < 2 ^ 64 → refusal xs f ≡ None → field f 62 1 ≡ 1
+    → IsAnswer xs f (Whole (packet_told (xs ++ f ∷ [])))
 IsAnswer-whole xs f b small e t =
     let zs = xs ++ f ∷ [] in
     let s : Spells (packet_told zs) zs = Spells-whole zs (IsWhole-push xs f b small e t) in
     record {
-      whole = λ p. (λ h. (let same : packet_told zs ≡ p = cc in subst (λ (q : Packet). Spells q zs) same s), λ u. ap Whole (one_packet (packet_told zs) p zs s u));
+      whole = λ p. (
+        λ h. (let same : packet_told zs ≡ p = cc in subst (λ (q : Packet). Spells q zs) same s),
+        λ u. ap Whole
+            (one_packet (packet_told zs) p zs s u),
+      );
       more = (λ h. cc, λ b. let u : field f 62 1 ≡ 0 = (IsTaken-begins xs f b).tail_bit in absurd (omega arith));
       refused = λ j. (λ h. cc, λ h. cc);
     }

@@ -1,5 +1,6 @@
 -- What an assembler answers to a flit.
-use Rattle.std.proofs.Common.{◌≡◌, ◌≢◌, ◌⊎◌, ℕ, zero, suc, ◌+◌, ◌%◌, ◌^◌, ◌<◌, ◌≤◌, ◌∙◌, List, [], ◌∷◌, ◌++◌, length, sym, refl, arith, Bool, true, false, inl, inr, length-append}
+use Rattle.std.proofs.Common.{◌≡◌, ◌≢◌, ◌⊎◌, ℕ, zero, suc, ◌+◌, ◌%◌, ◌^◌, ◌<◌, ◌≤◌, ◌∙◌, List, [], ◌∷◌, ◌++◌, length, sym, refl, arith, Bool, true, false}
+use Rattle.std.proofs.Common.{inl, inr, length-append}
 use Rattle.std.specs.Prelude.{◌==◌, if◌then◌else◌, None, IsTrue}
 use Rattle.std.specs.List.{AllByRecursion}
 use Rattle.std.proofs.lemmas.Bool.{eqb-true, eqb-false, false≢true}
@@ -33,7 +34,8 @@ IsCount-five = record { odd = refl; most = omega arith }
 IsCount-told : (h : ℕ) → IsCount (flits_told h)
 IsCount-told h =
     let n = operation_told h in
-    IsCount-if (field h 57 1 == 0) (flits_of_request n) (flits_of_reply n) (IsCount-if (n == 0) 1 _ IsCount-one (IsCount-if (n == 3) 5 3 IsCount-five IsCount-three)) (IsCount-if (n == 1) 1 3 IsCount-one IsCount-three)
+    IsCount-if (field h 57 1 == 0) (flits_of_request n) (flits_of_reply n)
+    (IsCount-if (n == 0) 1 _ IsCount-one (IsCount-if (n == 3) 5 3 IsCount-five IsCount-three)) (IsCount-if (n == 1) 1 3 IsCount-one IsCount-three)
 
 -- the tail bit that is wanted tells whether this is the last flit
 last-wanted : (b : Bool) → ◌≡◌ {A = ℕ} (if b then 1 else 0) 1 → b ≡ true
@@ -54,7 +56,8 @@ not_last h k e = eqb-false (k + 1) (flits_told h) (not_last-wanted (k + 1 == fli
 starts : (f : ℕ) → refusal [] f ≡ None → PassesStart (field f 61 1) (field f 63 1) (operation_told f) (field f 32 8) (field f 62 1) (tail_wanted f 0)
 starts f e = PassesStart-none _ _ _ _ _ _ (field_below f 61 1) (field_below f 63 1) e
 
-goes_on : (h : ℕ) (rest : List ℕ) (f : ℕ) → refusal (h ∷ rest) f ≡ None → PassesInside (field f 61 1) (field f 63 1) (field f 32 29) (field f 62 1) (tail_wanted h (length (h ∷ rest)))
+goes_on : (h : ℕ) (rest : List ℕ) (f : ℕ) → refusal (h ∷ rest) f ≡ None
+    → PassesInside (field f 61 1) (field f 63 1) (field f 32 29) (field f 62 1) (tail_wanted h (length (h ∷ rest)))
 goes_on h rest f e = PassesInside-none _ _ _ _ _ (field_below f 61 1) (field_below f 63 1) e
 
 head_taken : (f tail : ℕ) → f < 2 ^ 64 → refusal [] f ≡ None → field f 62 1 ≡ tail → IsAcceptedHead tail f

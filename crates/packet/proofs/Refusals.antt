@@ -5,7 +5,9 @@ use Rattle.std.proofs.lemmas.Bool.{eqb-true, eqb-false, eq-eqb, ltb-false, le-lt
 use Rattle.packet.specs.declared.assembler.Kind.TheVariants.{NoFlit, NotBegun, Operation, Zeros, Tail, Inside}
 
 -- what the five tests of a flit at the start come to, where none of the first four and the last alone is met
-start-tests : (a b c d e : Bool) → (if a then Some NoFlit else if b then Some NotBegun else if c then Some Operation else if d then Some Zeros else if e then None else Some Tail) ≡ None → (a ≡ false) × (b ≡ false) × (c ≡ false) × (d ≡ false) × (e ≡ true)
+start-tests : (a b c d e : Bool)
+    → (if a then Some NoFlit else if b then Some NotBegun else if c then Some Operation else if d then Some Zeros else if e then None else Some Tail) ≡ None
+    → (a ≡ false) × (b ≡ false) × (c ≡ false) × (d ≡ false) × (e ≡ true)
 start-tests true b c d e h = cc
 start-tests false true c d e h = cc
 start-tests false false true d e h = cc
@@ -13,7 +15,8 @@ start-tests false false false true e h = cc
 start-tests false false false false true h = (refl, refl, refl, refl, refl)
 start-tests false false false false false h = cc
 
-inside-tests : (a b d e : Bool) → (if a then Some NoFlit else if b then Some Inside else if d then Some Zeros else if e then None else Some Tail) ≡ None → (a ≡ false) × (b ≡ false) × (d ≡ false) × (e ≡ true)
+inside-tests : (a b d e : Bool) → (if a then Some NoFlit else if b then Some Inside else if d then Some Zeros else if e then None else Some Tail) ≡ None
+    → (a ≡ false) × (b ≡ false) × (d ≡ false) × (e ≡ true)
 inside-tests true b d e h = cc
 inside-tests false true d e h = cc
 inside-tests false false true e h = cc
@@ -39,7 +42,9 @@ bit_set a small e = omega (arith, eqb-false a 0 e)
 bit_clear : (a : ℕ) → a < 2 → (a == 1) ≡ false → a ≡ 0
 bit_clear a small e = omega (arith, eqb-false a 1 e)
 
-pub PassesStart-none : (a b o z t w : ℕ) → a < 2 → b < 2 → (if a == 0 then Some NoFlit else if b == 0 then Some NotBegun else if nat_lt 9 o then Some Operation else if nat_lt 0 z then Some Zeros else if t == w then None else Some Tail) ≡ None → PassesStart a b o z t w
+pub PassesStart-none : (a b o z t w : ℕ) → a < 2 → b < 2
+    → (if a == 0 then Some NoFlit else if b == 0 then Some NotBegun else if nat_lt 9 o then Some Operation else if nat_lt 0 z then Some Zeros else if t == w
+    then None else Some Tail) ≡ None → PassesStart a b o z t w
 PassesStart-none a b o z t w sa sb h =
     let e = start-tests (a == 0) (b == 0) (nat_lt 9 o) (nat_lt 0 z) (t == w) h in
     record {
@@ -50,7 +55,9 @@ PassesStart-none a b o z t w sa sb h =
       last = eqb-true t w e.4;
     }
 
-pub PassesInside-none : (a b z t w : ℕ) → a < 2 → b < 2 → (if a == 0 then Some NoFlit else if b == 1 then Some Inside else if nat_lt 0 z then Some Zeros else if t == w then None else Some Tail) ≡ None → PassesInside a b z t w
+pub PassesInside-none : (a b z t w : ℕ) → a < 2 → b < 2
+    → (if a == 0 then Some NoFlit else if b == 1 then Some Inside else if nat_lt 0 z then Some Zeros else if t == w then None else Some Tail) ≡ None
+    → PassesInside a b z t w
 PassesInside-none a b z t w sa sb h =
     let e = inside-tests (a == 0) (b == 1) (nat_lt 0 z) (t == w) h in
     record {
@@ -60,8 +67,11 @@ PassesInside-none a b z t w sa sb h =
       last = eqb-true t w e.3;
     }
 
-pub none-start : (a b o z t w : ℕ) → PassesStart a b o z t w → (if a == 0 then Some NoFlit else if b == 0 then Some NotBegun else if nat_lt 9 o then Some Operation else if nat_lt 0 z then Some Zeros else if t == w then None else Some Tail) ≡ None
+pub none-start : (a b o z t w : ℕ) → PassesStart a b o z t w
+    → (if a == 0 then Some NoFlit else if b == 0 then Some NotBegun else if nat_lt 9 o then Some Operation else if nat_lt 0 z then Some Zeros else if t == w
+    then None else Some Tail) ≡ None
 none-start a b o z t w p = rw (p.flit, p.begun, le-ltb 9 o p.known, p.empty, eq-eqb t w p.last) refl
 
-pub none-inside : (a b z t w : ℕ) → PassesInside a b z t w → (if a == 0 then Some NoFlit else if b == 1 then Some Inside else if nat_lt 0 z then Some Zeros else if t == w then None else Some Tail) ≡ None
+pub none-inside : (a b z t w : ℕ) → PassesInside a b z t w
+    → (if a == 0 then Some NoFlit else if b == 1 then Some Inside else if nat_lt 0 z then Some Zeros else if t == w then None else Some Tail) ≡ None
 none-inside a b z t w p = rw (p.flit, p.inside, p.empty, eq-eqb t w p.last) refl

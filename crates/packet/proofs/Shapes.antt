@@ -105,7 +105,8 @@ at_most_three (Request r) xs s e = cc
 at_most_three (Response r) xs s e = omega (arith, length-spelled (Response r) xs s, one_at_most r.reply)
 
 -- what all flits of a spelling have
-all-with : (P : ℕ → Type 0) → ((told : Heading) (tail n : ℕ) → IsHeadFlit tail told n → P n) → ((tail half n : ℕ) → IsPayloadFlit tail half n → P n) → (told : Heading) (vs xs : List ℕ) → SpellsWith told vs xs → AllByRecursion P xs
+all-with : (P : ℕ → Type 0) → ((told : Heading) (tail n : ℕ) → IsHeadFlit tail told n → P n) → ((tail half n : ℕ) → IsPayloadFlit tail half n → P n)
+    → (told : Heading) (vs xs : List ℕ) → SpellsWith told vs xs → AllByRecursion P xs
 all-with P head payload told [] (h ∷ []) s = (head told 1 h s, tt)
 all-with P head payload told (v ∷ []) (h ∷ a ∷ b ∷ []) s =
     (head told 0 h s.0, (payload 0 _ a s.1, (payload 1 _ b s.2, tt)))
@@ -113,7 +114,8 @@ all-with P head payload told (v ∷ w ∷ []) (h ∷ a ∷ b ∷ c ∷ d ∷ [])
     (head told 0 h s.0, (payload 0 _ a s.1, (payload 0 _ b s.2, (payload 0 _ c s.3, (payload 1 _ d s.4, tt)))))
 all-with P head payload told vs xs s = absurd s
 
-all-spelled : (P : ℕ → Type 0) → ((told : Heading) (tail n : ℕ) → IsHeadFlit tail told n → P n) → ((tail half n : ℕ) → IsPayloadFlit tail half n → P n) → (p : Packet) (xs : List ℕ) → Spells p xs → All P xs
+all-spelled : (P : ℕ → Type 0) → ((told : Heading) (tail n : ℕ) → IsHeadFlit tail told n → P n) → ((tail half n : ℕ) → IsPayloadFlit tail half n → P n)
+    → (p : Packet) (xs : List ℕ) → Spells p xs → All P xs
 all-spelled P head payload p xs s =
     All-from_recursion P xs (all-with P head payload (heading_of p) (values_of p) xs s.bits)
 

@@ -50,7 +50,14 @@ few_values (Response r) = at_most_one r.reply
 
 pub FitsHead-packet : (p : Packet) → IsSpellable p → place_of p < 2 ^ 32 → FitsHead (heading_of p)
 FitsHead-packet (Request r) s w =
-    record { operation = omega (arith, code_number_below (code_in (Request r))); class = omega arith; destination = s.destination; source = s.source; tag = s.tag; place = w }
+    record {
+      operation = omega (arith, code_number_below (code_in (Request r)));
+      class = omega arith;
+      destination = s.destination;
+      source = s.source;
+      tag = s.tag;
+      place = w;
+    }
 FitsHead-packet (Response r) s w =
     record { operation = omega (arith, code_number_below r.code); class = omega arith; destination = s.destination; source = s.source; tag = s.tag; place = w }
 
@@ -61,15 +68,21 @@ high-written v small = IsPayloadFlit-written (v / 2 ^ 32) _ 0 (omega arith) (ome
 low-written : (v tail n : ℕ) → tail < 2 → n ≡ tail * 2 ^ 62 + 2 ^ 61 + v % 2 ^ 32 → IsPayloadFlit tail (v % 2 ^ 32) n
 low-written v tail n small is = IsPayloadFlit-written (v % 2 ^ 32) n tail (omega arith) small is
 
-pub SpellsWith-written : (told : Heading) (vs : List ℕ) → FitsHead told → All (λ v. v < 2 ^ 64) vs → length vs ≤ 2 → SpellsWith told vs (flits_for (head_flit told) vs)
+pub SpellsWith-written : (told : Heading) (vs : List ℕ) → FitsHead told → All (λ v. v < 2 ^ 64) vs → length vs ≤ 2
+    → SpellsWith told vs (flits_for (head_flit told) vs)
 SpellsWith-written told [] fits all few = IsHeadFlit-written told _ 1 fits (omega arith) (omega arith)
 SpellsWith-written told (v ∷ []) fits all few =
     let small : v < 2 ^ 64 = All-head (λ k. k < 2 ^ 64) v [] all in
     (IsHeadFlit-written told _ 0 fits (omega arith) (omega arith), high-written v small, low-written v 1 _ (omega arith) (omega arith))
 SpellsWith-written told (v ∷ w ∷ []) fits all few =
     let small : v < 2 ^ 64 = All-head (λ k. k < 2 ^ 64) v (w ∷ []) all in
-    let small' : w < 2 ^ 64 = All-head (λ k. k < 2 ^ 64) w [] (All-tail (λ k. k < 2 ^ 64) v (w ∷ []) all) in
-    (IsHeadFlit-written told _ 0 fits (omega arith) (omega arith), high-written v small, low-written v 0 _ (omega arith) (omega arith), high-written w small', low-written w 1 _ (omega arith) (omega arith))
+    let small' : w < 2 ^ 64 = All-head (λ k. k < 2 ^ 64) w [] (All-tail (λ k. k < 2 ^ 64) v (w ∷ []) all) in (
+      IsHeadFlit-written told _ 0 fits (omega arith) (omega arith),
+      high-written v small,
+      low-written v 0 _ (omega arith) (omega arith),
+      high-written w small',
+      low-written w 1 _ (omega arith) (omega arith),
+    )
 SpellsWith-written told (v ∷ w ∷ x ∷ xs) fits all few = absurd (omega arith)
 
 pub Spells-flits_of : (p : Packet) → IsSpellable p → IsOfWords p → Spells p (flits_of p)
@@ -111,8 +124,11 @@ fits-spelled : (told : Heading) (vs xs : List ℕ) → SpellsWith told vs xs →
 fits-spelled told [] (h ∷ []) s = (FitsHead-told told 1 h s, All-nil (λ k. k < 2 ^ 64))
 fits-spelled told (v ∷ []) (h ∷ a ∷ b ∷ []) s =
     (FitsHead-told told 0 h s.0, All-cons (λ k. k < 2 ^ 64) v [] (value_below v 0 a s.1) (All-nil (λ k. k < 2 ^ 64)))
-fits-spelled told (v ∷ w ∷ []) (h ∷ a ∷ b ∷ c ∷ d ∷ []) s =
-    (FitsHead-told told 0 h s.0, All-cons (λ k. k < 2 ^ 64) v (w ∷ []) (value_below v 0 a s.1) (All-cons (λ k. k < 2 ^ 64) w [] (value_below w 0 c s.3) (All-nil (λ k. k < 2 ^ 64))))
+fits-spelled told (v ∷ w ∷ []) (h ∷ a ∷ b ∷ c ∷ d ∷ []) s = (
+  FitsHead-told told 0 h s.0,
+  All-cons (λ k. k < 2 ^ 64) v (w ∷ []) (value_below v 0 a s.1)
+      (All-cons (λ k. k < 2 ^ 64) w [] (value_below w 0 c s.3) (All-nil (λ k. k < 2 ^ 64))),
+)
 fits-spelled told vs xs s = absurd s
 
 pub IsSpellable-spelled : (p : Packet) (xs : List ℕ) → Spells p xs → IsSpellable p

@@ -25,7 +25,8 @@ code_numbered-code_number code.Xor = refl
 code_numbered-code_number code.Max = refl
 code_numbered-code_number code.Min = refl
 
-same_heading : (a b : Heading) → a.operation ≡ b.operation → a.class ≡ b.class → a.destination ≡ b.destination → a.source ≡ b.source → a.tag ≡ b.tag → a.place ≡ b.place → a ≡ b
+same_heading : (a b : Heading) → a.operation ≡ b.operation → a.class ≡ b.class → a.destination ≡ b.destination → a.source ≡ b.source → a.tag ≡ b.tag
+    → a.place ≡ b.place → a ≡ b
 same_heading a b o c d s t p =
     ap (λ k. record a { operation = k }) o
     ∙ ap (λ k. record a { operation = b.operation; class = k }) c
@@ -40,7 +41,8 @@ joined n high low e f = omega arith
 
 pub heading_told-head : (told : Heading) (tail h : ℕ) → IsHeadFlit tail told h → heading_told h ≡ told
 heading_told-head told t h s =
-    same_heading (heading_told h) told (joined told.operation (field h 40 1) (field h 58 3) s.operation_low s.operation_high) s.class s.destination s.source s.tag s.place
+    same_heading (heading_told h) told (joined told.operation (field h 40 1) (field h 58 3) s.operation_low s.operation_high) s.class s.destination s.source
+    s.tag s.place
 
 pub heading_spelled : (told : Heading) (vs xs : List ℕ) → SpellsWith told vs xs → heading_told (get_or xs 0 0) ≡ told
 heading_spelled told [] (h ∷ []) s = heading_told-head told 1 h s

@@ -3,12 +3,14 @@ use Rattle.std.specs.Prelude.{◌≡◌, ℕ, ◌+◌, ◌*◌, ◌/◌, ◌%◌
 use Rattle.torus.specs.declared.shape.Class.{Class}
 use Rattle.torus.specs.declared.shape.Class.TheVariants.{Request, Reply}
 
--- the number that so many bits of a flit make, of which `low` is the lowest (Dally and Towles, Principles
+-- the number that so many bits of a flit make, of which `low` is the lowest (Dally and Towles,
+-- Principles
 -- and Practices of Interconnection Networks, chapter 12: the fields of a flit)
 unfoldable pub field : ℕ → ℕ → ℕ → ℕ
 field flit low width = flit / 2 ^ low % 2 ^ width
 
--- what a head flit tells: the number of an operation, a class, two tiles and a tag; and of a request the
+-- what a head flit tells: the number of an operation, a class, two tiles and a tag; and of a
+-- request the
 -- word, of a reply the place (this project's own format)
 pub record Heading : Type 0 where
   pub operation : ℕ
@@ -18,7 +20,8 @@ pub record Heading : Type 0 where
   pub tag : ℕ
   pub place : ℕ
 
--- a head flit with this tail bit that tells these things, bit by bit from the highest (this project's own format)
+-- a head flit with this tail bit that tells these things, bit by bit from the highest (this
+-- project's own format)
 pub record IsHeadFlit (tail : ℕ) (told : Heading) (flit : ℕ) : Type 0 where
   pub whole : flit < 2 ^ 64
   pub head_bit : field flit 63 1 ≡ 1
@@ -51,6 +54,7 @@ class_number Reply = 1
 abbrev pub class_numbered : ℕ → Class
 class_numbered class = if class == 0 then Request else Reply
 
--- the four bits of the operation in a head flit, of which bit 40 is the highest (this project's own format)
+-- the four bits of the operation in a head flit, of which bit 40 is the highest (this project's own
+-- format)
 abbrev pub operation_told : ℕ → ℕ
 operation_told flit = field flit 40 1 * 8 + field flit 58 3

@@ -38,7 +38,8 @@ code_numbered n =
     else if n == 8 then code.Max
     else code.Min
 
--- the operation of this name that brings these values, as many of them as it takes (this project's own format)
+-- the operation of this name that brings these values, as many of them as it takes (this project's
+-- own format)
 abbrev pub op_with : Code → ℕ → ℕ → Op
 op_with code.Load v w = Load
 op_with code.Store v w = Store v
@@ -86,7 +87,8 @@ value_at flits at = half_at flits at * 2 ^ 32 + half_at flits (at + 1)
 
 -- the packet that a head flit and the flits after it tell (this project's own format)
 abbrev pub packet_told : List ℕ → Packet
-packet_told flits = packet_with (heading_told (slice_index flits 0)) (value_at flits 1) (value_at flits 3)
+packet_told flits = packet_with (heading_told (slice_index flits 0)) (value_at flits 1)
+    (value_at flits 3)
 
 -- a head flit of an operation, with this tail bit (this project's own format)
 pub record IsAcceptedHead (tail : ℕ) (flit : ℕ) : Type 0 where
@@ -105,4 +107,5 @@ IsAcceptedPayload tail flit = IsPayloadFlit tail (field flit 0 32) flit
 abbrev pub IsBegun : List ℕ → Type 0
 IsBegun [] = Unit {0}
 IsBegun (head ∷ rest) =
-    IsAcceptedHead 0 head × AllByRecursion (IsAcceptedPayload 0) rest × (length rest + 1 < flits_told head)
+    IsAcceptedHead 0 head × AllByRecursion (IsAcceptedPayload 0) rest
+    × (length rest + 1 < flits_told head)

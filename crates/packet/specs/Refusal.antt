@@ -15,9 +15,11 @@ flits_of_reply operation = if operation == 1 then 1 else 3
 -- how many flits the packet has that a head flit begins (this project's own format)
 abbrev pub flits_told : ℕ → ℕ
 flits_told head =
-    if field head 57 1 == 0 then flits_of_request (operation_told head) else flits_of_reply (operation_told head)
+    if field head 57 1 == 0 then flits_of_request (operation_told head)
+    else flits_of_reply (operation_told head)
 
--- the tail bit that a flit has after so many flits of the packet that a head flit begins: 1 on the last, 0
+-- the tail bit that a flit has after so many flits of the packet that a head flit begins: 1 on the
+-- last, 0
 -- before (this project's own format)
 abbrev pub tail_wanted : ℕ → ℕ → ℕ
 tail_wanted head before = if before + 1 == flits_told head then 1 else 0
@@ -32,7 +34,8 @@ refusal_at_start flit =
     else if field flit 62 1 == tail_wanted flit 0 then None
     else Some Tail
 
--- the first thing wrong with a flit inside a packet, after a head flit and so many flits in all (this
+-- the first thing wrong with a flit inside a packet, after a head flit and so many flits in all
+-- (this
 -- project's own format)
 abbrev pub refusal_inside : ℕ → ℕ → ℕ → Option Kind
 refusal_inside head before flit =

@@ -96,7 +96,8 @@ abbrev pub IsSound : Packet → Type 0
 IsSound (Request r) = Unit {0}
 IsSound (Response r) = IsReplyOf r.code r.reply
 
--- flits for a heading and its values: a head alone, or a head and two flits for each value, the high half
+-- flits for a heading and its values: a head alone, or a head and two flits for each value, the
+-- high half
 -- first; only the last has the tail bit (this project's own format)
 abbrev pub SpellsWith : Heading → List ℕ → List ℕ → Type 0
 SpellsWith told [] (h ∷ []) = IsHeadFlit 1 told h
@@ -119,14 +120,16 @@ pub record ProperlyBegins (flits : List ℕ) : Type 0 where
   pub more : rest ≢ []
   pub spelled : Spells packet (flits ++ rest)
 
--- a packet that can be spelled: its tiles, its tag and its reply fit a head flit (this project's own format)
+-- a packet that can be spelled: its tiles, its tag and its reply fit a head flit (this project's
+-- own format)
 pub record IsSpellable (p : Packet) : Type 0 where
   pub destination : destination_of p < 64
   pub source : source_of p < 64
   pub tag : tag_of p < 16
   pub sound : IsSound p
 
--- a head flit tells where the packet goes, and its class (Dally and Towles, chapter 12: the head flit
+-- a head flit tells where the packet goes, and its class (Dally and Towles, chapter 12: the head
+-- flit
 -- carries the route information)
 pub record TellsPacket (p : Packet) (head : ℕ) : Type 0 where
   pub head_bit : field head 63 1 ≡ 1
@@ -139,7 +142,8 @@ abbrev pub tail_bit_before : List ℕ → ℕ
 tail_bit_before [] = 1
 tail_bit_before (flit ∷ flits) = 0
 
--- what follows a head flit: no flit has the head bit, and the last alone has the tail bit (Dally and
+-- what follows a head flit: no flit has the head bit, and the last alone has the tail bit (Dally
+-- and
 -- Towles, chapter 12: body and tail flits)
 abbrev pub IsTailShaped : List ℕ → Type 0
 IsTailShaped [] = Unit {0}

@@ -35,6 +35,8 @@ pub fn lengths_stay()
 
 /// An operation of 64-bit values leaves a 64-bit word, and replies one.
 pub fn operations_leave_words()
-    ensures word { (op : Op) (w : ℕ) → w < 2 ^ 64 → All (λ v. v < 2 ^ 64) (values_of_op op) → new_word op w < 2 ^ 64 }
-    ensures reply { (op : Op) (w : ℕ) → w < 2 ^ 64 → All (λ v. v < 2 ^ 64) (values_of_reply (reply_to op w)) }
+    ensures word { (op : Op) (w : ℕ) → w < 2 ^ 64 → All (λ v. v < 2 ^ 64) (values_of_op op)
+        → new_word op w < 2 ^ 64 }
+    ensures reply { (op : Op) (w : ℕ) → w < 2 ^ 64
+        → All (λ v. v < 2 ^ 64) (values_of_reply (reply_to op w)) }
 {}

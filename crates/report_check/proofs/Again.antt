@@ -1,5 +1,6 @@
 -- What is spelled is read again.
-use Rattle.std.proofs.Common.{◌≡◌, ◌≢◌, ◌<◌, ◌≤◌, ℕ, ◌+◌, ◌-◌, ◌*◌, ◌^◌, ◌/◌, ◌%◌, ◌==◌, ◌&&◌, zero, suc, nat_lt, true, false, List, [], ◌∷◌, ◌++◌, Option, Some, None, IfSome, decimal, codes, refl, sym, ap, subst, ◌∙◌, arith, ⊎_elim, append_assoc, lit<}
+use Rattle.std.proofs.Common.{◌≡◌, ◌≢◌, ◌<◌, ◌≤◌, ℕ, ◌+◌, ◌-◌, ◌*◌, ◌^◌, ◌/◌, ◌%◌, ◌==◌, ◌&&◌, zero, suc, nat_lt, true, false, List, [], ◌∷◌, ◌++◌, Option}
+use Rattle.std.proofs.Common.{Some, None, IfSome, decimal, codes, refl, sym, ap, subst, ◌∙◌, arith, ⊎_elim, append_assoc, lit<}
 use Rattle.std.specs.Char.{is_ascii_digit}
 use Rattle.std.proofs.lemmas.Bool.{and_parts, cases_Bool, eqb-true, eq-eqb, ne_eqb, lt-ltb}
 use Rattle.std.proofs.lemmas.Bool.Decides.{nat_tests}
@@ -17,7 +18,8 @@ use Rattle.report_lines.specs.declared.line.ReportLine.{ReportLine}
 use Rattle.report_lines.specs.declared.line.ReportLine.TheVariants.{Header, Shape, Init, Entry, Answer, Word, Order, End}
 use Rattle.report_check.specs.Fits.{FitsLine, FitsEntry, FitsAnswer, FitsOrder, FitsOp, FitsReply, FitsRadices}
 use Rattle.report_check.specs.Spelled.{reply_then, event_then, pair_then, op_then, radices_then, line_then}
-use Rattle.report_check.specs.Reading.{behind, digits_on, number_at, index_at, reply_at, event_at, pair_at, load_at, cas_at, newer_at, op_at, entry_at, answer_at, order_at, uniform_at, two_at, three_at, radices_at, shape_at, end_at, line_at}
+use Rattle.report_check.specs.Reading.{behind, digits_on, number_at, index_at, reply_at, event_at, pair_at, load_at, cas_at, newer_at, op_at, entry_at}
+use Rattle.report_check.specs.Reading.{answer_at, order_at, uniform_at, two_at, three_at, radices_at, shape_at, end_at, line_at}
 
 digit_true : (d : ℕ) → d < 10 → is_ascii_digit (48 + d) ≡ true
 digit_true d small = grind (arith, nat_tests)
@@ -121,7 +123,12 @@ op_again Load a rest fits small = rw (index_again 32 a rest refl small)
 op_again (Store v) a rest fits small = rw (pair_again 32 a v rest refl small fits)
 op_again (Swap v) a rest fits small = rw (pair_again 32 a v rest refl small fits)
 op_again (Cas e n) a rest fits small =
-    rw (index_again 32 a (decimal e ++ 32 ∷ (decimal n ++ 32 ∷ rest)) refl small, number_again 32 e (decimal n ++ 32 ∷ rest) refl fits.0, number_again 32 n rest refl fits.1)
+    rw (
+      index_again 32 a (decimal e ++ 32 ∷ (decimal n ++ 32 ∷ rest)) refl small,
+      number_again 32 e (decimal n ++ 32 ∷ rest) refl fits.0,
+      number_again 32 n rest
+          refl fits.1,
+    )
 op_again (Add v) a rest fits small = rw (pair_again 32 a v rest refl small fits)
 op_again (And v) a rest fits small = rw (pair_again 32 a v rest refl small fits)
 op_again (Or v) a rest fits small = rw (pair_again 32 a v rest refl small fits)
@@ -129,7 +136,10 @@ op_again (Xor v) a rest fits small = rw (pair_again 32 a v rest refl small fits)
 op_again (Max v) a rest fits small = rw (pair_again 32 a v rest refl small fits)
 op_again (Min v) a rest fits small = rw (pair_again 32 a v rest refl small fits)
 
-entry_again : (e : EntryLine) (rest : List ℕ) → FitsEntry e → entry_at (decimal e.bank ++ 32 ∷ (decimal e.place ++ 32 ∷ (decimal e.source ++ 32 ∷ (decimal e.tag ++ 32 ∷ op_then e.op e.address (reply_then e.reply rest))))) ≡ Some (Entry e, rest)
+entry_again : (e : EntryLine) (rest : List ℕ) → FitsEntry e
+    → entry_at (decimal e.bank
+    ++ 32 ∷ (decimal e.place ++ 32 ∷ (decimal e.source ++ 32 ∷ (decimal e.tag ++ 32 ∷ op_then e.op e.address (reply_then e.reply rest)))))
+    ≡ Some (Entry e, rest)
 unfolding entry_at
 entry_again e rest fits =
     let last : List ℕ = op_then e.op e.address (reply_then e.reply rest) in
@@ -142,7 +152,9 @@ entry_again e rest fits =
       reply_again e.reply rest fits.reply,
     )
 
-answer_again : (a : AnswerLine) (rest : List ℕ) → FitsAnswer a → answer_at (decimal a.processor ++ 32 ∷ (decimal a.index ++ 32 ∷ (decimal a.bank ++ 32 ∷ (decimal a.place ++ 32 ∷ reply_then a.reply rest)))) ≡ Some (Answer a, rest)
+answer_again : (a : AnswerLine) (rest : List ℕ) → FitsAnswer a
+    → answer_at (decimal a.processor ++ 32 ∷ (decimal a.index ++ 32 ∷ (decimal a.bank ++ 32 ∷ (decimal a.place ++ 32 ∷ reply_then a.reply rest))))
+    ≡ Some (Answer a, rest)
 unfolding answer_at
 answer_again a rest fits =
     let last : List ℕ = reply_then a.reply rest in
@@ -154,7 +166,9 @@ answer_again a rest fits =
       reply_again a.reply rest fits.reply,
     )
 
-order_again : (o : OrderLine) (rest : List ℕ) → FitsOrder o → order_at (decimal o.bank ++ 32 ∷ (decimal o.place ++ 32 ∷ (decimal o.issued ++ 32 ∷ (decimal o.served ++ 32 ∷ event_then o.answered rest)))) ≡ Some (Order o, rest)
+order_again : (o : OrderLine) (rest : List ℕ) → FitsOrder o
+    → order_at (decimal o.bank ++ 32 ∷ (decimal o.place ++ 32 ∷ (decimal o.issued ++ 32 ∷ (decimal o.served ++ 32 ∷ event_then o.answered rest))))
+    ≡ Some (Order o, rest)
 unfolding order_at
 order_again o rest fits =
     let last : List ℕ = event_then o.answered rest in
@@ -183,7 +197,8 @@ not_uniform : (j : ℕ) (rest : List ℕ) → j < 2 ^ 32 → uniform_at (decimal
 unfolding uniform_at
 not_uniform j rest small = rw (index_stops 32 120 j rest refl (λ h. cc) small)
 
-two_again : (j k : ℕ) (rest : List ℕ) → j < 2 ^ 32 → k < 2 ^ 32 → (j == k) ≡ false → two_at (decimal j ++ 120 ∷ (decimal k ++ 32 ∷ (codes "2 " ++ rest))) ≡ Some (Two j k, rest)
+two_again : (j k : ℕ) (rest : List ℕ) → j < 2 ^ 32 → k < 2 ^ 32 → (j == k) ≡ false
+    → two_at (decimal j ++ 120 ∷ (decimal k ++ 32 ∷ (codes "2 " ++ rest))) ≡ Some (Two j k, rest)
 unfolding two_at behind
 two_again j k rest small_j small_k apart =
     rw (index_again 120 j (decimal k ++ 32 ∷ (codes "2 " ++ rest)) refl small_j, index_again 32 k (codes "2 " ++ rest) refl small_k, apart)
@@ -192,11 +207,17 @@ not_two : (j k : ℕ) (rest : List ℕ) → j < 2 ^ 32 → k < 2 ^ 32 → two_at
 unfolding two_at
 not_two j k rest small_j small_k = rw (index_again 120 j (decimal k ++ 120 ∷ rest) refl small_j, index_stops 32 120 k rest refl (λ h. cc) small_k)
 
-three_again : (j k l : ℕ) (rest : List ℕ) → j < 2 ^ 32 → k < 2 ^ 32 → l < 2 ^ 32 → ((j == k) && (k == l)) ≡ false → three_at (decimal j ++ 120 ∷ (decimal k ++ 120 ∷ (decimal l ++ 32 ∷ (codes "3 " ++ rest)))) ≡ Some (Three j k l, rest)
+three_again : (j k l : ℕ) (rest : List ℕ) → j < 2 ^ 32 → k < 2 ^ 32 → l < 2 ^ 32 → ((j == k) && (k == l)) ≡ false
+    → three_at (decimal j ++ 120 ∷ (decimal k ++ 120 ∷ (decimal l ++ 32 ∷ (codes "3 " ++ rest)))) ≡ Some (Three j k l, rest)
 unfolding three_at behind
 three_again j k l rest small_j small_k small_l apart =
     let last : List ℕ = decimal l ++ 32 ∷ (codes "3 " ++ rest) in
-    rw (index_again 120 j (decimal k ++ 120 ∷ last) refl small_j, index_again 120 k last refl small_k, index_again 32 l (codes "3 " ++ rest) refl small_l, apart)
+    rw (
+      index_again 120 j (decimal k ++ 120 ∷ last) refl small_j,
+      index_again 120 k last refl small_k,
+      index_again 32 l (codes "3 " ++ rest) refl small_l,
+      apart,
+    )
 
 radices_again : (r : Radices) (rest : List ℕ) → FitsRadices r → radices_at (radices_then r rest) ≡ Some (r, rest)
 unfolding radices_at
@@ -218,7 +239,8 @@ radices_again (Three j k l) rest fits =
     rw (apart, not_uniform j (decimal k ++ 120 ∷ last) fits.0, not_two j k last fits.0 fits.1, three_again j k l rest fits.0 fits.1 fits.2 apart))
     (cases_Bool ((j == k) && (k == l)))
 
-shape_again : (r : Radices) (words : ℕ) (rest : List ℕ) → FitsRadices r → words < 2 ^ 32 → shape_at (radices_then r (decimal words ++ 10 ∷ rest)) ≡ Some (Shape r words, rest)
+shape_again : (r : Radices) (words : ℕ) (rest : List ℕ) → FitsRadices r → words < 2 ^ 32
+    → shape_at (radices_then r (decimal words ++ 10 ∷ rest)) ≡ Some (Shape r words, rest)
 unfolding shape_at
 shape_again r words rest fits small = rw (radices_again r (decimal words ++ 10 ∷ rest) fits, index_again 10 words rest refl small)
 

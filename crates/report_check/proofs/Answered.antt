@@ -1,5 +1,6 @@
 -- The answers of a good report name its entries, each once, and all of them where it is complete.
-use Rattle.std.proofs.Common.{◌≡◌, ◌≤◌, ◌<◌, ◌⊎◌, ℕ, zero, suc, ◌+◌, ◌==◌, ◌&&◌, Bool, true, false, List, [], ◌∷◌, ◌++◌, Option, Some, None, inl, inr, length, get_or, fold, refl, sym, ap, ap₂, subst, ◌∙◌, arith, slice_get, ⊎_elim}
+use Rattle.std.proofs.Common.{◌≡◌, ◌≤◌, ◌<◌, ◌⊎◌, ℕ, zero, suc, ◌+◌, ◌==◌, ◌&&◌, Bool, true, false, List, [], ◌∷◌, ◌++◌, Option, Some, None, inl, inr, length}
+use Rattle.std.proofs.Common.{get_or, fold, refl, sym, ap, ap₂, subst, ◌∙◌, arith, slice_get, ⊎_elim}
 use Rattle.std.specs.List.{list_any, Any}
 use Rattle.std.proofs.lemmas.Bool.{and_parts, eq-eqb, eqb-true}
 use Rattle.std.proofs.lemmas.List.Folds.{Any-from_list_any, list_any_at}
@@ -24,7 +25,8 @@ abbrev names : ℕ → ℕ → AnswerLine → Bool
 names bank place a = (a.bank == bank) && (a.place == place)
 
 -- an answer of the list answers its entry
-answered_by : (answers : List AnswerLine) (i bank place : ℕ) (a : AnswerLine) → slice_get answers i ≡ Some a → a.bank ≡ bank → a.place ≡ place → is_answered answers bank place ≡ true
+answered_by : (answers : List AnswerLine) (i bank place : ℕ) (a : AnswerLine) → slice_get answers i ≡ Some a → a.bank ≡ bank → a.place ≡ place
+    → is_answered answers bank place ≡ true
 answered_by answers i bank place a there of at =
     let found : get_or answers i a ≡ a = get_or_from_slice_get answers i a a there in
     let passes : names bank place a ≡ true = ap₂ (λ (x y : Bool). x && y) (eq-eqb a.bank bank of) (eq-eqb a.place place at) in
@@ -55,7 +57,8 @@ record Answers (s : Seen) : Type 0 where
 -- no answer line yet
 answers_none : (s : Seen) → s.answers ≡ [] → Answers s
 answers_none s none =
-    let nothing : (i : ℕ) (a : AnswerLine) → slice_get s.answers i ≡ Some a → ⊥ = λ i a h. let got : ◌≡◌ {A = Option AnswerLine} None (Some a) = ap (λ (xs : List AnswerLine). slice_get xs i) (sym none) ∙ h in absurd (cc) in
+    let nothing : (i : ℕ) (a : AnswerLine) → slice_get s.answers i ≡ Some a → ⊥ = λ i a h. let got : ◌≡◌ {A = Option AnswerLine} None (Some a) =
+    ap (λ (xs : List AnswerLine). slice_get xs i) (sym none) ∙ h in absurd (cc) in
     record {
       named = λ i a h. absurd (nothing i a h);
       once = λ i j a b h g of at. absurd (nothing i a h);
@@ -65,7 +68,8 @@ answers_none s none =
 -- a line behind the entries that is no answer
 answers_stay : (s t : Seen) → t.entries ≡ s.entries → t.answers ≡ s.answers → (t.section ≤ 4 → s.section ≤ 4) → Answers s → Answers t
 answers_stay s t entries answers early x =
-    let back : (i : ℕ) (a : AnswerLine) → slice_get t.answers i ≡ Some a → slice_get s.answers i ≡ Some a = λ i a h. ap (λ (xs : List AnswerLine). slice_get xs i) (sym answers) ∙ h in
+    let back : (i : ℕ) (a : AnswerLine) → slice_get t.answers i ≡ Some a → slice_get s.answers i ≡ Some a =
+    λ i a h. ap (λ (xs : List AnswerLine). slice_get xs i) (sym answers) ∙ h in
     record {
       named = λ i a h.
           let of : NamesEntry s a = x.named i a (back i a h) in
@@ -94,19 +98,23 @@ answers_push s a may x =
       reply = n.reply;
     } in
     let apart : (i : ℕ) (b : AnswerLine) → slice_get s.answers i ≡ Some b → b.bank ≡ a.bank → b.place ≡ a.place → ⊥ =
-    λ i b there of at. let both : ◌≡◌ {A = Bool} true false = sym (answered_by s.answers i a.bank a.place b there of at) ∙ may.allowed.names.once in absurd (cc) in
+    λ i b there of at. let both : ◌≡◌ {A = Bool} true false = sym (answered_by s.answers i a.bank a.place b there of at) ∙ may.allowed.names.once in
+    absurd (cc) in
     record {
-      named = λ i b h. ⊎_elim (λ (old : slice_get s.answers i ≡ Some b). other b (x.named i b old)) (λ (last : (i ≡ length s.answers) × (a ≡ b)). subst (NamesEntry (after s (Answer a))) last.1 new) (in_pushed s.answers a b i h);
+      named = λ i b h. ⊎_elim (λ (old : slice_get s.answers i ≡ Some b). other b (x.named i b old))
+          (λ (last : (i ≡ length s.answers) × (a ≡ b)). subst (NamesEntry (after s (Answer a))) last.1 new) (in_pushed s.answers a b i h);
       once = λ i j b c h g of at.
           ⊎_elim
           (λ (old : slice_get s.answers i ≡ Some b).
           ⊎_elim
           (λ (too : slice_get s.answers j ≡ Some c). x.once i j b c old too of at)
-          (λ (last : (j ≡ length s.answers) × (a ≡ c)). absurd (apart i b old (of ∙ ap (λ (y : AnswerLine). y.bank) (sym last.1)) (at ∙ ap (λ (y : AnswerLine). y.place) (sym last.1))))
+          (λ (last : (j ≡ length s.answers) × (a ≡ c)). absurd
+          (apart i b old (of ∙ ap (λ (y : AnswerLine). y.bank) (sym last.1)) (at ∙ ap (λ (y : AnswerLine). y.place) (sym last.1))))
           (in_pushed s.answers a c j g))
           (λ (last : (i ≡ length s.answers) × (a ≡ b)).
           ⊎_elim
-          (λ (too : slice_get s.answers j ≡ Some c). absurd (apart j c too (sym of ∙ ap (λ (y : AnswerLine). y.bank) (sym last.1)) (sym at ∙ ap (λ (y : AnswerLine). y.place) (sym last.1))))
+          (λ (too : slice_get s.answers j ≡ Some c). absurd
+          (apart j c too (sym of ∙ ap (λ (y : AnswerLine). y.bank) (sym last.1)) (sym at ∙ ap (λ (y : AnswerLine). y.place) (sym last.1))))
           (λ (both : (j ≡ length s.answers) × (a ≡ c)). last.0 ∙ sym both.0)
           (in_pushed s.answers a c j g))
           (in_pushed s.answers a b i h);
@@ -134,7 +142,8 @@ complete_end s (line ∷ before) stand = complete_end (after s line) before stan
 pub answers_entries : (lines : List ReportLine) → AreGood lines → AnswersEntries lines
 answers_entries lines good =
     let s : Seen = seen_of lines in
-    let known : Answers s = kept_by_all (λ x line. x) (λ (x : Unit {0}) (t : Seen). Answers t) answers_after tt nothing_seen lines good.each (answers_none nothing_seen refl) in
+    let known : Answers s = kept_by_all (λ x line. x) (λ (x : Unit {0}) (t : Seen). Answers t) answers_after tt nothing_seen lines good.each
+    (answers_none nothing_seen refl) in
     record {
       named = known.named;
       once = known.once;

@@ -1,5 +1,6 @@
 -- The lists of the banks.
-use Rattle.std.proofs.Common.{◌≡◌, ℕ, ◌<◌, List, [], ◌∷◌, ◌++◌, ◌+◌, ◌==◌, ◌&&◌, ◌||◌, ◌≢◌, zero, suc, refl, false, set, length, get_or, map, sym, ◌∙◌, ap, Vec, subst, Option, Bool, true, Some, None, slice_get, option_map, ⊎_elim, arith}
+use Rattle.std.proofs.Common.{◌≡◌, ℕ, ◌<◌, List, [], ◌∷◌, ◌++◌, ◌+◌, ◌==◌, ◌&&◌, ◌||◌, ◌≢◌, zero, suc, refl, false, set, length, get_or, map, sym, ◌∙◌, ap}
+use Rattle.std.proofs.Common.{Vec, subst, Option, Bool, true, Some, None, slice_get, option_map, ⊎_elim, arith}
 use Rattle.std.proofs.lemmas.List.{get_or-map, map-set, get_or-set_same, get_or-set_other, length-map, length_push, append-nil}
 use Rattle.std.proofs.lemmas.List.Elements.{filter-append}
 use Rattle.std.proofs.lemmas.List.Sums.{fold_push}
@@ -18,19 +19,25 @@ pub bank_of_read : {A : Type 0} → (banks : List (Vec Served A)) (i : ℕ) (v :
 bank_of_read {A} banks i v inside read = get_or-map (λ (w : Vec Served A). w.items) banks i v [] inside ∙ ap (λ (w : Vec Served A). w.items) (sym read)
 
 -- each entry has an answer, in the words of the banks and of the lines
-pub all_answered : {A : Type 0} → (entries : List EntryLine) (answers : List AnswerLine) (last count : ℕ) (newer : Bool) (banks : List (Vec Served A)) → EntriesShown entries answers last count newer banks → ((bank : ℕ) → IsAnswered (bank_of banks bank)) → (bank place : ℕ) → place < length (entries_at entries bank) → is_answered answers bank place ≡ true
+pub all_answered : {A : Type 0} → (entries : List EntryLine) (answers : List AnswerLine) (last count : ℕ) (newer : Bool) (banks : List (Vec Served A))
+    → EntriesShown entries answers last count newer banks → ((bank : ℕ) → IsAnswered (bank_of banks bank)) → (bank place : ℕ)
+    → place < length (entries_at entries bank) → is_answered answers bank place ≡ true
 all_answered {A} entries answers last count newer banks shown all bank place inside =
     let here : (e : EntryLine) → slice_get (entries_at entries bank) place ≡ Some e → is_answered answers bank place ≡ true =
     λ e is. all bank place (kept answers bank place e) (shown.each bank place ∙ ap (option_map (kept answers bank place)) is) in
     ⊎_elim (λ w. here w.0 w.2) (λ w. absurd (omega (arith, w.0))) (slice_get_cases (entries_at entries bank) place).1
 
 -- and back
-pub all_kept_answered : {A : Type 0} → (entries : List EntryLine) (answers : List AnswerLine) (last count : ℕ) (newer : Bool) (banks : List (Vec Served A)) → EntriesShown entries answers last count newer banks → ((bank place : ℕ) → place < length (entries_at entries bank) → is_answered answers bank place ≡ true) → (bank : ℕ) → IsAnswered (bank_of banks bank)
+pub all_kept_answered : {A : Type 0} → (entries : List EntryLine) (answers : List AnswerLine) (last count : ℕ) (newer : Bool) (banks : List (Vec Served A))
+    → EntriesShown entries answers last count newer banks
+    → ((bank place : ℕ) → place < length (entries_at entries bank) → is_answered answers bank place ≡ true) → (bank : ℕ) → IsAnswered (bank_of banks bank)
 all_kept_answered {A} entries answers last count newer banks shown all bank place k is =
     let inside : place < length (bank_of banks bank) = slice_get_within (bank_of banks bank) place k is in
     let e_inside : place < length (entries_at entries bank) = omega (arith, shown.sized bank) in
     let here : (e : EntryLine) → slice_get (entries_at entries bank) place ≡ Some e → k.answered ≡ true =
-    λ e found. ap (λ (w : Served). w.answered) (same_Some k (kept answers bank place e) (sym is ∙ shown.each bank place ∙ ap (option_map (kept answers bank place)) found)) ∙ all bank place e_inside in
+    λ e found. ap (λ (w : Served). w.answered)
+    (same_Some k (kept answers bank place e) (sym is ∙ shown.each bank place ∙ ap (option_map (kept answers bank place)) found))
+    ∙ all bank place e_inside in
     ⊎_elim (λ w. here w.0 w.2) (λ w. absurd (omega (arith, w.0))) (slice_get_cases (entries_at entries bank) place).1
 
 -- a write to one bank
@@ -45,7 +52,9 @@ bank_of_set_other {A} banks i j v apart =
     ∙ get_or-set_other (map (λ (w : Vec Served A). w.items) banks) i j v.items [] apart
 
 -- two lists that agree place by place do so with one more element
-each_pushed : {X Y : Type 0} (f : ℕ → X → Y) (xs : List X) (ys : List Y) (x : X) (y : Y) → length ys ≡ length xs → ((p : ℕ) → slice_get ys p ≡ option_map (f p) (slice_get xs p)) → y ≡ f (length xs) x → (p : ℕ) → slice_get (ys ++ y ∷ []) p ≡ option_map (f p) (slice_get (xs ++ x ∷ []) p)
+each_pushed : {X Y : Type 0} (f : ℕ → X → Y) (xs : List X) (ys : List Y) (x : X) (y : Y) → length ys ≡ length xs
+    → ((p : ℕ) → slice_get ys p ≡ option_map (f p) (slice_get xs p)) → y ≡ f (length xs) x → (p : ℕ)
+    → slice_get (ys ++ y ∷ []) p ≡ option_map (f p) (slice_get (xs ++ x ∷ []) p)
 each_pushed f [] [] x y l h e zero = ap Some e
 each_pushed f [] [] x y l h e (suc p) = refl
 each_pushed f [] (b ∷ ys) x y l h e p = absurd (omega (arith, l))
@@ -77,7 +86,11 @@ kept_first : (answers : List AnswerLine) (bank place : ℕ) (e : EntryLine) → 
 kept_first answers bank place e none =
     let P : List AnswerLine → Type 0 = λ a. unanswered e ≡ kept a bank place e in subst P (sym none) refl
 
-pub entry_shown : {A : Type 0} → (entries : List EntryLine) (answers : List AnswerLine) (last count : ℕ) (newer : Bool) (banks new : List (Vec Served A)) (e : EntryLine) (now : Bool) → now ≡ (newer || is_newer e.op) → EntriesShown entries answers last count newer banks → answers ≡ [] → e.place ≡ length (entries_at entries e.bank) → bank_of new e.bank ≡ bank_of banks e.bank ++ unanswered e ∷ [] → ((other : ℕ) → other ≢ e.bank → bank_of new other ≡ bank_of banks other) → EntriesShown (entries ++ e ∷ []) answers e.bank (count + 1) now new
+pub entry_shown : {A : Type 0}
+    → (entries : List EntryLine) (answers : List AnswerLine) (last count : ℕ) (newer : Bool) (banks new : List (Vec Served A)) (e : EntryLine) (now : Bool)
+    → now ≡ (newer || is_newer e.op) → EntriesShown entries answers last count newer banks → answers ≡ [] → e.place ≡ length (entries_at entries e.bank)
+    → bank_of new e.bank ≡ bank_of banks e.bank ++ unanswered e ∷ [] → ((other : ℕ) → other ≢ e.bank → bank_of new other ≡ bank_of banks other)
+    → EntriesShown (entries ++ e ∷ []) answers e.bank (count + 1) now new
 entry_shown {A} entries answers last count newer banks new e now is shown none next here others = record {
   last_bank = sym (fold_push (λ _ x. x.bank) 0 entries e);
   count_is = omega (arith, shown.count_is, length_push entries e);
@@ -85,7 +98,9 @@ entry_shown {A} entries answers last count newer banks new e now is shown none n
   sized = λ bank.
       let P : ℕ → Type 0 = λ b. length (bank_of new b) ≡ length (entries_at (entries ++ e ∷ []) b) in
       ⊎_elim
-      (λ same. subst P (sym same) (ap length here ∙ length_push (bank_of banks e.bank) (unanswered e) ∙ ap (λ n. n + 1) (shown.sized e.bank) ∙ sym (ap length (entries_at_here entries e) ∙ length_push (entries_at entries e.bank) e)))
+      (λ same. subst P (sym same)
+      (ap length here ∙ length_push (bank_of banks e.bank) (unanswered e) ∙ ap (λ n. n + 1) (shown.sized e.bank)
+      ∙ sym (ap length (entries_at_here entries e) ∙ length_push (entries_at entries e.bank) e)))
       (λ apart. ap length (others bank apart) ∙ shown.sized bank ∙ sym (ap length (entries_at_other entries e bank apart)))
       (cases_eq bank e.bank);
   each = λ bank place.
@@ -95,14 +110,17 @@ entry_shown {A} entries answers last count newer banks new e now is shown none n
       ⊎_elim
       (λ same. subst P (sym same)
       (ap of_served here
-      ∙ each_pushed (kept answers e.bank) (entries_at entries e.bank) (bank_of banks e.bank) e (unanswered e) (shown.sized e.bank) (shown.each e.bank) (kept_first answers e.bank (length (entries_at entries e.bank)) e none) place
+      ∙ each_pushed (kept answers e.bank) (entries_at entries e.bank) (bank_of banks e.bank) e (unanswered e) (shown.sized e.bank) (shown.each e.bank)
+      (kept_first answers e.bank (length (entries_at entries e.bank)) e none) place
       ∙ sym (ap (of_entries e.bank) (entries_at_here entries e))))
       (λ apart. ap of_served (others bank apart) ∙ shown.each bank place ∙ sym (ap (of_entries bank) (entries_at_other entries e bank apart)))
       (cases_eq bank e.bank);
 }
 
 -- what is kept of an entry that was found
-pub kept_of : {A : Type 0} → (entries : List EntryLine) (answers : List AnswerLine) (last count : ℕ) (newer : Bool) (banks : List (Vec Served A)) → EntriesShown entries answers last count newer banks → (bank place : ℕ) (k : Served) → slice_get (bank_of banks bank) place ≡ Some k → (e : EntryLine) × (slice_get (entries_at entries bank) place ≡ Some e) × (k ≡ kept answers bank place e)
+pub kept_of : {A : Type 0} → (entries : List EntryLine) (answers : List AnswerLine) (last count : ℕ) (newer : Bool) (banks : List (Vec Served A))
+    → EntriesShown entries answers last count newer banks → (bank place : ℕ) (k : Served) → slice_get (bank_of banks bank) place ≡ Some k
+    → (e : EntryLine) × (slice_get (entries_at entries bank) place ≡ Some e) × (k ≡ kept answers bank place e)
 kept_of {A} entries answers last count newer banks shown bank place k is =
     let inside : place < length (entries_at entries bank) = omega (arith, shown.sized bank, slice_get_within (bank_of banks bank) place k is) in
     ⊎_elim
@@ -110,7 +128,8 @@ kept_of {A} entries answers last count newer banks shown bank place k is =
     (λ w. absurd (omega (arith, w.0)))
     (slice_get_cases (entries_at entries bank) place).1
 
-pub marked_set : (ks : List Served) (place : ℕ) (d : Served) → place < length ks → marked ks place ≡ set ks place (record (get_or ks place d) { answered = true })
+pub marked_set : (ks : List Served) (place : ℕ) (d : Served) → place < length ks
+    → marked ks place ≡ set ks place (record (get_or ks place d) { answered = true })
 marked_set [] place d inside = absurd (omega (arith, inside))
 marked_set (k ∷ ks) zero d inside = refl
 marked_set (k ∷ ks) (suc place) d inside = ap (λ r. k ∷ r) (marked_set ks place d (omega (arith, inside)))
@@ -121,7 +140,8 @@ length-marked (k ∷ ks) zero = refl
 length-marked (k ∷ ks) (suc place) = ap suc (length-marked ks place)
 
 -- the place that is marked, and the others
-pub get-marked_here : (ks : List Served) (place : ℕ) (k : Served) → slice_get ks place ≡ Some k → slice_get (marked ks place) place ≡ Some (record k { answered = true })
+pub get-marked_here : (ks : List Served) (place : ℕ) (k : Served) → slice_get ks place ≡ Some k
+    → slice_get (marked ks place) place ≡ Some (record k { answered = true })
 get-marked_here [] place k is = absurd (cc)
 get-marked_here (x ∷ ks) zero k is = ap (λ (w : Served). Some (record w { answered = true })) (same_Some x k is)
 get-marked_here (x ∷ ks) (suc place) k is = get-marked_here ks place k is
@@ -143,7 +163,8 @@ or_false : (b : Bool) → (b || (false || false)) ≡ b
 or_false true = refl
 or_false false = refl
 
-answered_other : (answers : List AnswerLine) (a : AnswerLine) (bank place : ℕ) → ((a.bank == bank) && (a.place == place)) ≡ false → is_answered (answers ++ a ∷ []) bank place ≡ is_answered answers bank place
+answered_other : (answers : List AnswerLine) (a : AnswerLine) (bank place : ℕ) → ((a.bank == bank) && (a.place == place)) ≡ false
+    → is_answered (answers ++ a ∷ []) bank place ≡ is_answered answers bank place
 answered_other answers a bank place apart =
     list_any-append (λ x. (x.bank == bank) && (x.place == place)) answers (a ∷ [])
     ∙ rw apart (or_false _)
@@ -152,36 +173,53 @@ abbrev as_kept : EntryLine → Bool → Served
 as_kept e t = record { source = e.source; reply = e.reply; answered = t }
 
 -- what is kept is the same where the answer is
-kept_same : (old new : List AnswerLine) (bank place : ℕ) → is_answered new bank place ≡ is_answered old bank place → (o : Option EntryLine) → option_map (kept old bank place) o ≡ option_map (kept new bank place) o
+kept_same : (old new : List AnswerLine) (bank place : ℕ) → is_answered new bank place ≡ is_answered old bank place → (o : Option EntryLine)
+    → option_map (kept old bank place) o ≡ option_map (kept new bank place) o
 kept_same old new bank place same None = refl
 kept_same old new bank place same (Some e) = ap (λ (t : Bool). Some (as_kept e t)) (sym same)
 
-answer_at : {A : Type 0} → (entries : List EntryLine) (answers : List AnswerLine) (last count : ℕ) (newer : Bool) (banks : List (Vec Served A)) (a : AnswerLine) → EntriesShown entries answers last count newer banks → a.place < length (bank_of banks a.bank) → slice_get (marked (bank_of banks a.bank) a.place) a.place ≡ option_map (kept (answers ++ a ∷ []) a.bank a.place) (slice_get (entries_at entries a.bank) a.place)
+answer_at : {A : Type 0} → (entries : List EntryLine) (answers : List AnswerLine) (last count : ℕ) (newer : Bool) (banks : List (Vec Served A)) (a : AnswerLine)
+    → EntriesShown entries answers last count newer banks → a.place < length (bank_of banks a.bank)
+    → slice_get (marked (bank_of banks a.bank) a.place) a.place
+    ≡ option_map (kept (answers ++ a ∷ []) a.bank a.place) (slice_get (entries_at entries a.bank) a.place)
 answer_at {A} entries answers last count newer banks a shown inside =
     let within : a.place < length (entries_at entries a.bank) = omega (arith, shown.sized a.bank) in
-    let named : (e : EntryLine) → slice_get (entries_at entries a.bank) a.place ≡ Some e → slice_get (marked (bank_of banks a.bank) a.place) a.place ≡ option_map (kept (answers ++ a ∷ []) a.bank a.place) (slice_get (entries_at entries a.bank) a.place) =
-    λ e is. get-marked_here (bank_of banks a.bank) a.place (kept answers a.bank a.place e) (shown.each a.bank a.place ∙ ap (option_map (kept answers a.bank a.place)) is)
+    let named : (e : EntryLine) → slice_get (entries_at entries a.bank) a.place ≡ Some e
+    → slice_get (marked (bank_of banks a.bank) a.place) a.place
+    ≡ option_map (kept (answers ++ a ∷ []) a.bank a.place) (slice_get (entries_at entries a.bank) a.place) =
+    λ e is. get-marked_here (bank_of banks a.bank) a.place (kept answers a.bank a.place e)
+    (shown.each a.bank a.place ∙ ap (option_map (kept answers a.bank a.place)) is)
     ∙ ap (λ (t : Bool). Some (as_kept e t)) (sym (answered_here answers a))
     ∙ sym (ap (option_map (kept (answers ++ a ∷ []) a.bank a.place)) is) in
     ⊎_elim (λ w. named w.0 w.2) (λ w. absurd (omega (arith, w.0))) (slice_get_cases (entries_at entries a.bank) a.place).1
 
-answer_each : {A : Type 0} → (entries : List EntryLine) (answers : List AnswerLine) (last count : ℕ) (newer : Bool) (banks new : List (Vec Served A)) (a : AnswerLine) → EntriesShown entries answers last count newer banks → a.place < length (bank_of banks a.bank) → bank_of new a.bank ≡ marked (bank_of banks a.bank) a.place → ((other : ℕ) → other ≢ a.bank → bank_of new other ≡ bank_of banks other) → (bank place : ℕ) → slice_get (bank_of new bank) place ≡ option_map (kept (answers ++ a ∷ []) bank place) (slice_get (entries_at entries bank) place)
+answer_each : {A : Type 0}
+    → (entries : List EntryLine) (answers : List AnswerLine) (last count : ℕ) (newer : Bool) (banks new : List (Vec Served A)) (a : AnswerLine)
+    → EntriesShown entries answers last count newer banks → a.place < length (bank_of banks a.bank) → bank_of new a.bank ≡ marked (bank_of banks a.bank) a.place
+    → ((other : ℕ) → other ≢ a.bank → bank_of new other ≡ bank_of banks other) → (bank place : ℕ)
+    → slice_get (bank_of new bank) place ≡ option_map (kept (answers ++ a ∷ []) bank place) (slice_get (entries_at entries bank) place)
 answer_each {A} entries answers last count newer banks new a shown inside here others bank place =
     let P : ℕ → Type 0 = λ b. slice_get (bank_of new b) place ≡ option_map (kept (answers ++ a ∷ []) b place) (slice_get (entries_at entries b) place) in
     ⊎_elim
     (λ same_bank. subst P (sym same_bank) (ap (λ (ks : List Served). slice_get ks place) here ∙
     ⊎_elim
-    (λ same_place. let Q : ℕ → Type 0 = λ q. slice_get (marked (bank_of banks a.bank) a.place) q ≡ option_map (kept (answers ++ a ∷ []) a.bank q) (slice_get (entries_at entries a.bank) q) in
+    (λ same_place. let Q : ℕ → Type 0 =
+    λ q. slice_get (marked (bank_of banks a.bank) a.place) q ≡ option_map (kept (answers ++ a ∷ []) a.bank q) (slice_get (entries_at entries a.bank) q) in
     subst Q (sym same_place) (answer_at entries answers last count newer banks a shown inside))
     (λ other_place. get-marked_other (bank_of banks a.bank) a.place place other_place ∙ shown.each a.bank place
-    ∙ kept_same answers (answers ++ a ∷ []) a.bank place (answered_other answers a a.bank place (and_right _ _ (ne_eqb a.place place (λ h. other_place (sym h))))) (slice_get (entries_at entries a.bank) place))
+    ∙ kept_same answers (answers ++ a ∷ []) a.bank place
+    (answered_other answers a a.bank place (and_right _ _ (ne_eqb a.place place (λ h. other_place (sym h))))) (slice_get (entries_at entries a.bank) place))
     (cases_eq place a.place)))
     (λ other_bank. ap (λ (ks : List Served). slice_get ks place) (others bank other_bank) ∙ shown.each bank place
-    ∙ kept_same answers (answers ++ a ∷ []) bank place (answered_other answers a bank place (and_left _ _ (ne_eqb a.bank bank (λ h. other_bank (sym h))))) (slice_get (entries_at entries bank) place))
+    ∙ kept_same answers (answers ++ a ∷ []) bank place (answered_other answers a bank place (and_left _ _ (ne_eqb a.bank bank (λ h. other_bank (sym h)))))
+    (slice_get (entries_at entries bank) place))
     (cases_eq bank a.bank)
 
 -- one more answer
-pub answer_shown : {A : Type 0} → (entries : List EntryLine) (answers : List AnswerLine) (last count : ℕ) (newer : Bool) (banks new : List (Vec Served A)) (a : AnswerLine) → EntriesShown entries answers last count newer banks → a.place < length (bank_of banks a.bank) → bank_of new a.bank ≡ marked (bank_of banks a.bank) a.place → ((other : ℕ) → other ≢ a.bank → bank_of new other ≡ bank_of banks other) → EntriesShown entries (answers ++ a ∷ []) last count newer new
+pub answer_shown : {A : Type 0}
+    → (entries : List EntryLine) (answers : List AnswerLine) (last count : ℕ) (newer : Bool) (banks new : List (Vec Served A)) (a : AnswerLine)
+    → EntriesShown entries answers last count newer banks → a.place < length (bank_of banks a.bank) → bank_of new a.bank ≡ marked (bank_of banks a.bank) a.place
+    → ((other : ℕ) → other ≢ a.bank → bank_of new other ≡ bank_of banks other) → EntriesShown entries (answers ++ a ∷ []) last count newer new
 answer_shown {A} entries answers last count newer banks new a shown inside here others = record {
   last_bank = shown.last_bank;
   count_is = shown.count_is;
@@ -202,12 +240,15 @@ bank_inside {A} (v ∷ banks) zero place h = omega arith
 bank_inside {A} (v ∷ banks) (suc bank) place h = omega (arith, bank_inside banks bank place h)
 
 -- one more entry in a bank
-pub bank_pushed : {A : Type 0} → (banks : List (Vec Served A)) (bank : ℕ) (old new : Vec Served A) (k : Served) → bank < length banks → old ≡ get_or banks bank old → new.items ≡ old.items ++ k ∷ [] → bank_of (set banks bank new) bank ≡ bank_of banks bank ++ k ∷ []
+pub bank_pushed : {A : Type 0} → (banks : List (Vec Served A)) (bank : ℕ) (old new : Vec Served A) (k : Served) → bank < length banks
+    → old ≡ get_or banks bank old → new.items ≡ old.items ++ k ∷ [] → bank_of (set banks bank new) bank ≡ bank_of banks bank ++ k ∷ []
 bank_pushed {A} banks bank old new k inside read pushed =
     bank_of_set banks bank new inside ∙ pushed ∙ ap (λ (xs : List Served). xs ++ k ∷ []) (sym (bank_of_read banks bank old inside read))
 
 -- an entry that has an answer from now on
-pub bank_marked : {A : Type 0} → (banks : List (Vec Served A)) (bank place : ℕ) (old new : Vec Served A) (k : Served) → place < length (bank_of banks bank) → old ≡ get_or banks bank old → k ≡ get_or old.items place k → new.items ≡ set old.items place (record k { answered = true }) → bank_of (set banks bank new) bank ≡ marked (bank_of banks bank) place
+pub bank_marked : {A : Type 0} → (banks : List (Vec Served A)) (bank place : ℕ) (old new : Vec Served A) (k : Served) → place < length (bank_of banks bank)
+    → old ≡ get_or banks bank old → k ≡ get_or old.items place k → new.items ≡ set old.items place (record k { answered = true })
+    → bank_of (set banks bank new) bank ≡ marked (bank_of banks bank) place
 bank_marked {A} banks bank place old new k there read is written =
     let inside : bank < length banks = bank_inside banks bank place there in
     let was : bank_of banks bank ≡ old.items = bank_of_read banks bank old inside read in

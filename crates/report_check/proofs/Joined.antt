@@ -1,5 +1,6 @@
 -- A line from left to right is the printing of its words.
-use Rattle.std.proofs.Common.{◌≡◌, ◌<◌, ℕ, ◌+◌, ◌==◌, ◌&&◌, true, false, List, [], ◌∷◌, ◌++◌, Option, Some, None, length, decimal, codes, refl, sym, ap, ◌∙◌, arith, ⊎_elim, append_assoc, length-append, lit<}
+use Rattle.std.proofs.Common.{◌≡◌, ◌<◌, ℕ, ◌+◌, ◌==◌, ◌&&◌, true, false, List, [], ◌∷◌, ◌++◌, Option, Some, None, length, decimal, codes, refl, sym, ap, ◌∙◌}
+use Rattle.std.proofs.Common.{arith, ⊎_elim, append_assoc, length-append, lit<}
 use Rattle.std.specs.List.{join_with_byte}
 use Rattle.std.proofs.lemmas.Bool.{cases_Bool}
 use Rattle.std.proofs.lemmas.List.{append-nil}
@@ -37,7 +38,8 @@ event_is : (e : Option ℕ) (rest : List ℕ) → event_word e ++ 10 ∷ rest �
 event_is None rest = refl
 event_is (Some n) rest = refl
 
-op_is : (tag : List ℕ) (o : Op) (a : ℕ) (r : Reply) (rest : List ℕ) → ended tag (op_words o a (reply_word r ∷ [])) rest ≡ tag ++ 32 ∷ op_then o a (reply_then r rest)
+op_is : (tag : List ℕ) (o : Op) (a : ℕ) (r : Reply) (rest : List ℕ)
+    → ended tag (op_words o a (reply_word r ∷ [])) rest ≡ tag ++ 32 ∷ op_then o a (reply_then r rest)
 unfolding ended
 op_is tag Load a r rest = ap (λ (t : List ℕ). tag ++ 32 ∷ op_then Load a t) (reply_is r rest)
 op_is tag (Store v) a r rest = ap (λ (t : List ℕ). tag ++ 32 ∷ op_then (Store v) a t) (reply_is r rest)
@@ -50,10 +52,13 @@ op_is tag (Xor v) a r rest = ap (λ (t : List ℕ). tag ++ 32 ∷ op_then (Xor v
 op_is tag (Max v) a r rest = ap (λ (t : List ℕ). tag ++ 32 ∷ op_then (Max v) a t) (reply_is r rest)
 op_is tag (Min v) a r rest = ap (λ (t : List ℕ). tag ++ 32 ∷ op_then (Min v) a t) (reply_is r rest)
 
-entry_is : (e : EntryLine) (rest : List ℕ) → ended (codes "entry") (decimal e.bank ∷ decimal e.place ∷ decimal e.source ∷ decimal e.tag ∷ op_words e.op e.address (reply_word e.reply ∷ [])) rest ≡ line_then (Entry e) rest
+entry_is : (e : EntryLine) (rest : List ℕ)
+    → ended (codes "entry") (decimal e.bank ∷ decimal e.place ∷ decimal e.source ∷ decimal e.tag ∷ op_words e.op e.address (reply_word e.reply ∷ [])) rest
+    ≡ line_then (Entry e) rest
 unfolding ended
 entry_is e rest =
-    ap (λ (t : List ℕ). codes "entry " ++ (decimal e.bank ++ 32 ∷ (decimal e.place ++ 32 ∷ (decimal e.source ++ 32 ∷ t)))) (op_is (decimal e.tag) e.op e.address e.reply rest)
+    ap (λ (t : List ℕ). codes "entry " ++ (decimal e.bank ++ 32 ∷ (decimal e.place ++ 32 ∷ (decimal e.source ++ 32 ∷ t))))
+    (op_is (decimal e.tag) e.op e.address e.reply rest)
 
 -- numbers joined by `x`, from left to right
 crossed_two : (j k rest : List ℕ) → (j ++ ((120 ∷ k) ++ [])) ++ rest ≡ j ++ 120 ∷ (k ++ rest)
@@ -73,14 +78,16 @@ radices_is (Two j k) rest =
     ⊎_elim
     (λ (same : (j == k) ≡ true). rw same (ap (λ (d : List ℕ). decimal j ++ 32 ∷ (d ++ 32 ∷ rest)) two))
     (λ (apart : (j == k) ≡ false).
-    rw apart (crossed_two (decimal j) (decimal k) (32 ∷ (decimal 2 ++ 32 ∷ rest)) ∙ ap (λ (d : List ℕ). decimal j ++ 120 ∷ (decimal k ++ 32 ∷ (d ++ 32 ∷ rest))) two))
+    rw apart (crossed_two (decimal j) (decimal k) (32 ∷ (decimal 2 ++ 32 ∷ rest))
+    ∙ ap (λ (d : List ℕ). decimal j ++ 120 ∷ (decimal k ++ 32 ∷ (d ++ 32 ∷ rest))) two))
     (cases_Bool (j == k))
 radices_is (Three j k l) rest =
     let three : decimal 3 ≡ codes "3" = decimal_digit 3 (lit< tt) in
     ⊎_elim
     (λ (same : ((j == k) && (k == l)) ≡ true). rw same (ap (λ (d : List ℕ). decimal j ++ 32 ∷ (d ++ 32 ∷ rest)) three))
     (λ (apart : ((j == k) && (k == l)) ≡ false).
-    rw apart (crossed_three (decimal j) (decimal k) (decimal l) (32 ∷ (decimal 3 ++ 32 ∷ rest)) ∙ ap (λ (d : List ℕ). decimal j ++ 120 ∷ (decimal k ++ 120 ∷ (decimal l ++ 32 ∷ (d ++ 32 ∷ rest)))) three))
+    rw apart (crossed_three (decimal j) (decimal k) (decimal l) (32 ∷ (decimal 3 ++ 32 ∷ rest))
+    ∙ ap (λ (d : List ℕ). decimal j ++ 120 ∷ (decimal k ++ 120 ∷ (decimal l ++ 32 ∷ (d ++ 32 ∷ rest)))) three))
     (cases_Bool ((j == k) && (k == l)))
 
 line_ended : (line : ReportLine) (rest : List ℕ) → line_text line ++ rest ≡ line_then line rest
@@ -91,14 +98,17 @@ line_ended (Shape radices words) rest =
     ∙ ap (λ (t : List ℕ). codes "shape " ++ t) (radices_is radices (decimal words ++ 10 ∷ rest))
 line_ended (Init address value) rest = join_ended (codes "init") (decimal address ∷ decimal value ∷ []) rest
 line_ended (Entry e) rest =
-    join_ended (codes "entry") (decimal e.bank ∷ decimal e.place ∷ decimal e.source ∷ decimal e.tag ∷ op_words e.op e.address (reply_word e.reply ∷ [])) rest ∙ entry_is e rest
+    join_ended (codes "entry") (decimal e.bank ∷ decimal e.place ∷ decimal e.source ∷ decimal e.tag ∷ op_words e.op e.address (reply_word e.reply ∷ [])) rest
+    ∙ entry_is e rest
 line_ended (Answer a) rest =
     join_ended (codes "answer") (decimal a.processor ∷ decimal a.index ∷ decimal a.bank ∷ decimal a.place ∷ reply_word a.reply ∷ []) rest
-    ∙ ap (λ (t : List ℕ). codes "answer " ++ (decimal a.processor ++ 32 ∷ (decimal a.index ++ 32 ∷ (decimal a.bank ++ 32 ∷ (decimal a.place ++ 32 ∷ t))))) (reply_is a.reply rest)
+    ∙ ap (λ (t : List ℕ). codes "answer " ++ (decimal a.processor ++ 32 ∷ (decimal a.index ++ 32 ∷ (decimal a.bank ++ 32 ∷ (decimal a.place ++ 32 ∷ t)))))
+    (reply_is a.reply rest)
 line_ended (Word address value) rest = join_ended (codes "word") (decimal address ∷ decimal value ∷ []) rest
 line_ended (Order o) rest =
     join_ended (codes "order") (decimal o.bank ∷ decimal o.place ∷ decimal o.issued ∷ decimal o.served ∷ event_word o.answered ∷ []) rest
-    ∙ ap (λ (t : List ℕ). codes "order " ++ (decimal o.bank ++ 32 ∷ (decimal o.place ++ 32 ∷ (decimal o.issued ++ 32 ∷ (decimal o.served ++ 32 ∷ t))))) (event_is o.answered rest)
+    ∙ ap (λ (t : List ℕ). codes "order " ++ (decimal o.bank ++ 32 ∷ (decimal o.place ++ 32 ∷ (decimal o.issued ++ 32 ∷ (decimal o.served ++ 32 ∷ t)))))
+    (event_is o.answered rest)
 line_ended (End true) rest = join_ended (codes "end") (codes "complete" ∷ []) rest
 line_ended (End false) rest = join_ended (codes "end") (codes "incomplete" ∷ []) rest
 

@@ -1,5 +1,6 @@
 -- The order lines of a good report give one order of its entries.
-use Rattle.std.proofs.Common.{◌≡◌, ◌≢◌, ◌≤◌, ◌<◌, ℕ, zero, suc, ◌+◌, List, [], ◌∷◌, ◌++◌, All, IfSome, Option, Some, None, length, get_or, map, fold, slice_index, refl, sym, ap, subst, ◌∙◌, arith, ⊎_elim}
+use Rattle.std.proofs.Common.{◌≡◌, ◌≢◌, ◌≤◌, ◌<◌, ℕ, zero, suc, ◌+◌, List, [], ◌∷◌, ◌++◌, All, IfSome, Option, Some, None, length, get_or, map, fold}
+use Rattle.std.proofs.Common.{slice_index, refl, sym, ap, subst, ◌∙◌, arith, ⊎_elim}
 use Rattle.std.specs.List.{range_with_len}
 use Rattle.std.specs.List.Sorted.{IsStrictlyIncreasing}
 use Rattle.std.proofs.lemmas.Bool.{cases_eq, cases_lt}
@@ -86,7 +87,8 @@ timely_answer (Some n) s served h = h.0
 timely_of : (o : OrderLine) (s : Seen) → MayStand s (Order o) → IsTimely o
 timely_of o s may = (may.allowed.events.issued_first, timely_answer o.answered s o.served may.allowed.events.answered)
 
-places_push : (s : Seen) (o : OrderLine) (bank : ℕ) → o.place ≡ length (orders_at s.orders o.bank) → Orders s → map place_in (orders_at (s.orders ++ o ∷ []) bank) ≡ range_with_len 0 (length (orders_at (s.orders ++ o ∷ []) bank))
+places_push : (s : Seen) (o : OrderLine) (bank : ℕ) → o.place ≡ length (orders_at s.orders o.bank) → Orders s
+    → map place_in (orders_at (s.orders ++ o ∷ []) bank) ≡ range_with_len 0 (length (orders_at (s.orders ++ o ∷ []) bank))
 places_push s o bank next os =
     let P : ℕ → Type 0 = λ b. map place_in (orders_at (s.orders ++ o ∷ []) b) ≡ range_with_len 0 (length (orders_at (s.orders ++ o ∷ []) b)) in
     let mine : List OrderLine = orders_at s.orders o.bank in
@@ -109,18 +111,22 @@ orders_push : (s : Seen) (o : OrderLine) → MayStand s (Order o) → Orders s �
 orders_push s o may os =
     record {
       places = λ bank. places_push s o bank may.allowed.next.next os;
-      rises = subst IsStrictlyIncreasing (sym (map-append served_in s.orders (o ∷ []))) (rises-push (map served_in s.orders) o.served os.rises may.allowed.rises);
+      rises = subst IsStrictlyIncreasing (sym (map-append served_in s.orders (o ∷ [])))
+          (rises-push (map served_in s.orders) o.served os.rises may.allowed.rises);
       timely = All-push IsTimely s.orders o os.timely (timely_of o s may);
       none = λ is. absurd (omega (arith, is));
       whole = λ is. absurd (omega (arith, is));
     }
 
 orders_after : (x : Unit {0}) (s : Seen) (line : ReportLine) → MayStand s line → Orders s → Orders (after s line)
-orders_after x s (Header version) may os = orders_stay s (after s (Header version)) refl (λ _. omega (arith, may.allowed.first)) (λ is. absurd (omega (arith, is))) os
+orders_after x s (Header version) may os =
+    orders_stay s (after s (Header version)) refl (λ _. omega (arith, may.allowed.first)) (λ is. absurd (omega (arith, is))) os
 orders_after x s (Shape radices words) may os = orders_none (after s (Shape radices words)) refl (λ is. absurd (omega (arith, is)))
-orders_after x s (Init a v) may os = orders_stay s (after s (Init a v)) refl (λ _. omega (arith, may.allowed.section.early)) (λ is. absurd (omega (arith, is))) os
+orders_after x s (Init a v) may os =
+    orders_stay s (after s (Init a v)) refl (λ _. omega (arith, may.allowed.section.early)) (λ is. absurd (omega (arith, is))) os
 orders_after x s (Entry e) may os = orders_stay s (after s (Entry e)) refl (λ _. omega (arith, may.allowed.section.early)) (λ is. absurd (omega (arith, is))) os
-orders_after x s (Answer a) may os = orders_stay s (after s (Answer a)) refl (λ _. omega (arith, may.allowed.section.section.early)) (λ is. absurd (omega (arith, is))) os
+orders_after x s (Answer a) may os =
+    orders_stay s (after s (Answer a)) refl (λ _. omega (arith, may.allowed.section.section.early)) (λ is. absurd (omega (arith, is))) os
 orders_after x s (Word a v) may os = orders_stay s (after s (Word a v)) refl (λ _. may.allowed.section.section.early) (λ is. absurd (omega (arith, is))) os
 orders_after x s (Order o) may os = orders_push s o may os
 orders_after x s (End complete) may os = orders_stay s (after s (End complete)) refl (λ is. absurd (omega (arith, is))) (λ _. may.allowed.orders) os
@@ -128,9 +134,11 @@ orders_after x s (End complete) may os = orders_stay s (after s (End complete)) 
 pub orders_whole : (lines : List ReportLine) → AreGood lines → (seen_of lines).orders ≢ [] → OrdersEntries (seen_of lines)
 orders_whole lines good some =
     let s : Seen = seen_of lines in
-    let os : Orders s = kept_by_all (λ x line. x) (λ (x : Unit {0}) (t : Seen). Orders t) orders_after tt nothing_seen lines good.each (orders_none nothing_seen refl (λ is. absurd (omega (arith, is)))) in
+    let os : Orders s = kept_by_all (λ x line. x) (λ (x : Unit {0}) (t : Seen). Orders t) orders_after tt nothing_seen lines good.each
+    (orders_none nothing_seen refl (λ is. absurd (omega (arith, is)))) in
     let counts : (bank : ℕ) → length (orders_at s.orders bank) ≡ length (entries_at s.entries bank) =
-    ⊎_elim (λ (none : s.orders ≡ []). absurd (some none)) (λ (all : (bank : ℕ) → length (orders_at s.orders bank) ≡ length (entries_at s.entries bank)). all) (os.whole good.ended) in
+    ⊎_elim (λ (none : s.orders ≡ []). absurd (some none)) (λ (all : (bank : ℕ) → length (orders_at s.orders bank) ≡ length (entries_at s.entries bank)). all)
+    (os.whole good.ended) in
     record {
       places = λ bank. os.places bank ∙ ap (range_with_len 0) (counts bank);
       rises = os.rises;

@@ -1,5 +1,6 @@
 -- One more order line.
-use Rattle.std.proofs.Common.{◌≡◌, ◌≢◌, ◌<◌, ℕ, ◌+◌, ◌==◌, ◌||◌, Bool, false, List, [], ◌∷◌, ◌++◌, length, flat_map, set, slice_index, slice_index_or, sym, refl, ap, subst, ◌∙◌, ⊎_elim}
+use Rattle.std.proofs.Common.{◌≡◌, ◌≢◌, ◌<◌, ℕ, ◌+◌, ◌==◌, ◌||◌, Bool, false, List, [], ◌∷◌, ◌++◌, length, flat_map, set, slice_index, slice_index_or, sym}
+use Rattle.std.proofs.Common.{refl, ap, subst, ◌∙◌, ⊎_elim}
 use Rattle.std.specs.List.{list_any}
 use Rattle.std.proofs.lemmas.List.{length_push, append-nil, get_or-set_same, get_or-set_other}
 use Rattle.std.proofs.lemmas.List.Elements.{filter-append}
@@ -19,14 +20,18 @@ orders_at_other orders o bank apart =
     let test : (o.bank == bank) ≡ false = ne_eqb o.bank bank (λ h. apart (sym h)) in
     filter-append (λ x. x.bank == bank) orders (o ∷ []) ∙ rw test (append-nil _)
 
-is_named_push : (orders : List OrderLine) (o : OrderLine) (event : ℕ) → is_named (orders ++ o ∷ []) event ≡ (is_named orders event || list_any (λ n. n == event) (events_in o))
+is_named_push : (orders : List OrderLine) (o : OrderLine) (event : ℕ)
+    → is_named (orders ++ o ∷ []) event ≡ (is_named orders event || list_any (λ n. n == event) (events_in o))
 is_named_push orders o event =
     let test = λ (ns : List ℕ). list_any (λ n. n == event) ns in
     ap test (flat_map-append events_in orders (o ∷ []))
     ∙ list_any-append (λ n. n == event) (flat_map events_in orders) (flat_map events_in (o ∷ []))
     ∙ ap (λ (ns : List ℕ). is_named orders event || list_any (λ n. n == event) ns) (append-nil (events_in o))
 
-pub order_shown : (orders : List OrderLine) (next : ℕ) (ordered : List ℕ) (used new : List Bool) (o : OrderLine) (count : ℕ) → count ≡ o.place → OrdersShown orders next ordered used → o.bank < length ordered → slice_index ordered o.bank ≡ o.place → ((other : ℕ) → slice_index_or new other false ≡ (slice_index_or used other false || list_any (λ n. n == other) (events_in o))) → OrdersShown (orders ++ o ∷ []) (o.served + 1) (set ordered o.bank (count + 1)) new
+pub order_shown : (orders : List OrderLine) (next : ℕ) (ordered : List ℕ) (used new : List Bool) (o : OrderLine) (count : ℕ) → count ≡ o.place
+    → OrdersShown orders next ordered used → o.bank < length ordered → slice_index ordered o.bank ≡ o.place
+    → ((other : ℕ) → slice_index_or new other false ≡ (slice_index_or used other false || list_any (λ n. n == other) (events_in o)))
+    → OrdersShown (orders ++ o ∷ []) (o.served + 1) (set ordered o.bank (count + 1)) new
 order_shown orders next ordered used new o count is shown inside few named = record {
   next_is = sym (above_map_push (λ x. x.served) orders o);
   at_bank = λ bank.
@@ -37,7 +42,8 @@ order_shown orders next ordered used new o count is shown inside few named = rec
       ∙ sym (ap length (orders_at_here orders o) ∙ length_push (orders_at orders o.bank) o)))
       (λ apart. get_or-set_other ordered o.bank bank (count + 1) 0 apart ∙ shown.at_bank bank ∙ sym (ap length (orders_at_other orders o bank apart)))
       (cases_eq bank o.bank);
-  named = λ event low. named event ∙ ap (λ (b : Bool). b || list_any (λ n. n == event) (events_in o)) (shown.named event low) ∙ sym (is_named_push orders o event);
+  named = λ event low. named event ∙ ap (λ (b : Bool). b || list_any (λ n. n == event) (events_in o)) (shown.named event low)
+      ∙ sym (is_named_push orders o event);
 }
 
 pub not_empty : {X : Type 0} (xs : List X) (x : X) → xs ++ x ∷ [] ≢ []

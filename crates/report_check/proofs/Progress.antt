@@ -27,7 +27,8 @@ pub record Progress {A : Type 0} (text rest : List ℕ) (number : ℕ) (c : Chec
 pub progress_start : {A : Type 0} (text : List ℕ) (c : Checker A) → Shows nothing_seen c → Progress text text 1 c
 progress_start text c shows = record { lines = []; printed = refl; each = tt; counted = refl; shows = shows }
 
-pub all_stand_push : (s : Seen) (lines : List ReportLine) (line : ReportLine) → AllStand s lines → MayStand (fold after s lines) line → AllStand s (lines ++ line ∷ [])
+pub all_stand_push : (s : Seen) (lines : List ReportLine) (line : ReportLine) → AllStand s lines → MayStand (fold after s lines) line
+    → AllStand s (lines ++ line ∷ [])
 all_stand_push s [] line each may = (may, tt)
 all_stand_push s (l ∷ lines) line each may = (each.0, all_stand_push (after s l) lines line each.1 may)
 
@@ -37,7 +38,9 @@ text_of_push lines line rest =
     ∙ append_assoc (text_of lines) (line_text line) rest
 
 -- a line that may stand
-pub progress_more : {A : Type 0} (text rest more : List ℕ) (number : ℕ) (c new : Checker A) (line : ReportLine) (p : Progress text rest number c) → rest ≡ line_then line more → FitsLine line → Allowed (seen_of p.lines) line × Shows (after (seen_of p.lines) line) new → Progress text more (number + 1) new
+pub progress_more : {A : Type 0} (text rest more : List ℕ) (number : ℕ) (c new : Checker A) (line : ReportLine) (p : Progress text rest number c)
+    → rest ≡ line_then line more → FitsLine line → Allowed (seen_of p.lines) line × Shows (after (seen_of p.lines) line) new
+    → Progress text more (number + 1) new
 progress_more text rest more number c new line p cut fits taken =
     let now : seen_of (p.lines ++ line ∷ []) ≡ after (seen_of p.lines) line = fold_push after nothing_seen p.lines line in
     let P : Seen → Type 0 = λ s. Shows s new in
@@ -61,7 +64,8 @@ stuck_unread s rest unread left = record {
   not_good = left;
 }
 
-pub stuck_refused : (s : Seen) (rest more : List ℕ) (line : ReportLine) → line_at rest ≡ Some (line, more) → rest ≡ line_then line more → (Allowed s line → ⊥) → IsStuck s rest
+pub stuck_refused : (s : Seen) (rest more : List ℕ) (line : ReportLine) → line_at rest ≡ Some (line, more) → rest ≡ line_then line more → (Allowed s line → ⊥)
+    → IsStuck s rest
 stuck_refused s rest more line read is refused = record {
   none = λ other behind may same.
       let one : (line, more) ≡ (other, behind) = same_Some (line, more) (other, behind) (sym read ∙ read_of other behind rest may.fits same) in
@@ -70,7 +74,8 @@ stuck_refused s rest more line read is refused = record {
   not_good = λ ended empty. absurd (omega (arith, line_some line more, ap length (sym empty ∙ is ∙ line_then-is line more)));
 }
 
-pub first_bad : {A : Type 0} (text rest : List ℕ) (number : ℕ) (c : Checker A) (p : Progress text rest number c) → IsStuck (seen_of p.lines) rest → FirstBad text number
+pub first_bad : {A : Type 0} (text rest : List ℕ) (number : ℕ) (c : Checker A) (p : Progress text rest number c) → IsStuck (seen_of p.lines) rest
+    → FirstBad text number
 first_bad text rest number c p stuck = record { lines = p.lines; rest = rest; printed = p.printed; each = p.each; counted = p.counted; stuck = stuck }
 
 pub good_report : {A : Type 0} (text rest : List ℕ) (number : ℕ) (c : Checker A) → Progress text rest number c → c.section ≡ 8 → rest ≡ [] → GoodReport text

@@ -1,5 +1,6 @@
 -- The entries of a good report replay.
-use Rattle.std.proofs.Common.{◌≡◌, ◌≢◌, ◌≤◌, ◌<◌, ℕ, ◌+◌, ◌%◌, List, [], ◌∷◌, ◌++◌, length, take, get_or, set, map, fold, flat_map, replicate, slice_index, slice_set, refl, sym, ap, subst, ◌∙◌, arith, ⊎_elim, append_assoc}
+use Rattle.std.proofs.Common.{◌≡◌, ◌≢◌, ◌≤◌, ◌<◌, ℕ, ◌+◌, ◌%◌, List, [], ◌∷◌, ◌++◌, length, take, get_or, set, map, fold, flat_map, replicate, slice_index}
+use Rattle.std.proofs.Common.{slice_set, refl, sym, ap, subst, ◌∙◌, arith, ⊎_elim, append_assoc}
 use Rattle.std.proofs.lemmas.Bool.{cases_eq, cases_lt}
 use Rattle.std.proofs.lemmas.List.{append-nil, get_or-set_same, get_or-set_other, length-set, length-replicate, map-append, take_all}
 use Rattle.std.proofs.lemmas.List.Sums.{fold_push}
@@ -25,11 +26,14 @@ abbrev operations : List EntryLine → List Operation
 operations es = map operation_of es
 
 -- one more entry
-replies-push : (es : List EntryLine) (e : EntryLine) (m : List ℕ) → replies (operations (es ++ e ∷ [])) m ≡ replies (operations es) m ++ reply_of_one (operation_of e) (memory_after (operations es) m) ∷ []
+replies-push : (es : List EntryLine) (e : EntryLine) (m : List ℕ)
+    → replies (operations (es ++ e ∷ [])) m ≡ replies (operations es) m ++ reply_of_one (operation_of e) (memory_after (operations es) m) ∷ []
 replies-push es e m = ap (λ (os : List Operation). replies os m) (map-append operation_of es (e ∷ [])) ∙ replies-append (operations es) (operation_of e ∷ []) m
 
-memory_after-push : (es : List EntryLine) (e : EntryLine) (m : List ℕ) → memory_after (operations (es ++ e ∷ [])) m ≡ memory_after_one (operation_of e) (memory_after (operations es) m)
-memory_after-push es e m = ap (λ (os : List Operation). memory_after os m) (map-append operation_of es (e ∷ [])) ∙ memory_after-append (operations es) (operation_of e ∷ []) m
+memory_after-push : (es : List EntryLine) (e : EntryLine) (m : List ℕ)
+    → memory_after (operations (es ++ e ∷ [])) m ≡ memory_after_one (operation_of e) (memory_after (operations es) m)
+memory_after-push es e m =
+    ap (λ (os : List Operation). memory_after os m) (map-append operation_of es (e ∷ [])) ∙ memory_after-append (operations es) (operation_of e ∷ []) m
 
 record Replays (m : List ℕ) (s : Seen) : Type 0 where
   whole : map reply_in s.entries ≡ replies (operations s.entries) m
@@ -80,7 +84,8 @@ record BankReplays (bank : ℕ) (m : List ℕ) (s : Seen) : Type 0 where
 bank_first : (bank : ℕ) (m : List ℕ) (s : Seen) → Replays m s → s.entries ≡ [] → BankReplays bank m s
 bank_first bank m s r none =
     let P : List EntryLine → Type 0 = λ es. map reply_in (entries_at es bank) ≡ replies (operations (entries_at es bank)) m in
-    let Q : List EntryLine → Type 0 = λ es. (a : ℕ) → slice_index (memory_after (operations es) m) a ≡ slice_index (memory_after (operations (entries_at es bank)) m) a in
+    let Q : List EntryLine → Type 0 =
+    λ es. (a : ℕ) → slice_index (memory_after (operations es) m) a ≡ slice_index (memory_after (operations (entries_at es bank)) m) a in
     record {
       replays = r;
       here = subst P (sym none) refl;
@@ -91,17 +96,21 @@ length-replayed : (es : List EntryLine) (m : List ℕ) → length (memory_after 
 length-replayed es m = length-memory_after (operations es) m
 
 -- the same operation on two memories that agree at its address
-same_effect : (e : EntryLine) (x y : List ℕ) (a : ℕ) → e.address < length x → e.address < length y → slice_index x e.address ≡ slice_index y e.address → slice_index x a ≡ slice_index y a → slice_index (memory_after_one (operation_of e) x) a ≡ slice_index (memory_after_one (operation_of e) y) a
+same_effect : (e : EntryLine) (x y : List ℕ) (a : ℕ) → e.address < length x → e.address < length y → slice_index x e.address ≡ slice_index y e.address
+    → slice_index x a ≡ slice_index y a → slice_index (memory_after_one (operation_of e) x) a ≡ slice_index (memory_after_one (operation_of e) y) a
 same_effect e x y a in_x in_y at here =
     let P : ℕ → Type 0 = λ k. slice_index (memory_after_one (operation_of e) x) k ≡ slice_index (memory_after_one (operation_of e) y) k in
     ⊎_elim
     (λ (same : a ≡ e.address). subst P (sym same)
-    (get_or-set_same x e.address (new_word e.op (slice_index x e.address)) 0 in_x ∙ ap (new_word e.op) at ∙ sym (get_or-set_same y e.address (new_word e.op (slice_index y e.address)) 0 in_y)))
+    (get_or-set_same x e.address (new_word e.op (slice_index x e.address)) 0 in_x ∙ ap (new_word e.op) at
+    ∙ sym (get_or-set_same y e.address (new_word e.op (slice_index y e.address)) 0 in_y)))
     (λ (other : a ≢ e.address).
-    get_or-set_other x e.address a (new_word e.op (slice_index x e.address)) 0 other ∙ here ∙ sym (get_or-set_other y e.address a (new_word e.op (slice_index y e.address)) 0 other))
+    get_or-set_other x e.address a (new_word e.op (slice_index x e.address)) 0 other ∙ here
+    ∙ sym (get_or-set_other y e.address a (new_word e.op (slice_index y e.address)) 0 other))
     (cases_eq a e.address)
 
-bank_own : (m : List ℕ) (s : Seen) (e : EntryLine) → e.address < s.words → e.address % s.tiles ≡ e.bank → e.reply ≡ reply_of_one (operation_of e) s.memory → BankReplays e.bank m s → BankReplays e.bank m (after s (Entry e))
+bank_own : (m : List ℕ) (s : Seen) (e : EntryLine) → e.address < s.words → e.address % s.tiles ≡ e.bank → e.reply ≡ reply_of_one (operation_of e) s.memory
+    → BankReplays e.bank m s → BankReplays e.bank m (after s (Entry e))
 bank_own m s e inside home reply b =
     let es : List EntryLine = entries_at s.entries e.bank in
     let now : entries_at (s.entries ++ e ∷ []) e.bank ≡ es ++ e ∷ [] = entries_at_here s.entries e in
@@ -117,10 +126,12 @@ bank_own m s e inside home reply b =
           ∙ sym (ap (λ (xs : List EntryLine). replies (operations xs) m) now ∙ replies-push es e m);
       words = λ a low at_home.
           same_effect e s.memory own a in_all in_own at (b.words a low at_home)
-          ∙ sym (ap (λ (xs : List EntryLine). slice_index (memory_after (operations xs) m) a) now ∙ ap (λ (x : List ℕ). slice_index x a) (memory_after-push es e m));
+          ∙ sym (ap (λ (xs : List EntryLine). slice_index (memory_after (operations xs) m) a) now
+          ∙ ap (λ (x : List ℕ). slice_index x a) (memory_after-push es e m));
     }
 
-bank_other : (bank : ℕ) (m : List ℕ) (s : Seen) (e : EntryLine) → bank ≢ e.bank → e.address % s.tiles ≡ e.bank → e.reply ≡ reply_of_one (operation_of e) s.memory → BankReplays bank m s → BankReplays bank m (after s (Entry e))
+bank_other : (bank : ℕ) (m : List ℕ) (s : Seen) (e : EntryLine) → bank ≢ e.bank → e.address % s.tiles ≡ e.bank
+    → e.reply ≡ reply_of_one (operation_of e) s.memory → BankReplays bank m s → BankReplays bank m (after s (Entry e))
 bank_other bank m s e apart home reply b =
     let now : entries_at (s.entries ++ e ∷ []) bank ≡ entries_at s.entries bank = entries_at_other s.entries e bank apart in
     record {
@@ -140,10 +151,13 @@ bank_entry bank m s e may b =
     (λ (apart : bank ≢ e.bank). bank_other bank m s e apart may.allowed.home.home may.allowed.reply b)
     (cases_eq bank e.bank)
 
-bank_after : (bank : ℕ) (m : List ℕ) (s : Seen) (line : ReportLine) → MayStand s line → BankReplays bank m s → BankReplays bank (opening_after m line) (after s line)
+bank_after : (bank : ℕ) (m : List ℕ) (s : Seen) (line : ReportLine) → MayStand s line → BankReplays bank m s
+    → BankReplays bank (opening_after m line) (after s line)
 bank_after bank m s (Header version) may b = record { replays = replays_after m s (Header version) may b.replays; here = b.here; words = b.words }
-bank_after bank m s (Shape radices words) may b = bank_first bank (replicate words 0) (after s (Shape radices words)) (replays_after m s (Shape radices words) may b.replays) refl
-bank_after bank m s (Init a v) may b = bank_first bank (slice_set m a v) (after s (Init a v)) (replays_after m s (Init a v) may b.replays) (b.replays.none may.allowed.section.early)
+bank_after bank m s (Shape radices words) may b =
+    bank_first bank (replicate words 0) (after s (Shape radices words)) (replays_after m s (Shape radices words) may b.replays) refl
+bank_after bank m s (Init a v) may b =
+    bank_first bank (slice_set m a v) (after s (Init a v)) (replays_after m s (Init a v) may b.replays) (b.replays.none may.allowed.section.early)
 bank_after bank m s (Entry e) may b = bank_entry bank m s e may b
 bank_after bank m s (Answer a) may b = record { replays = replays_after m s (Answer a) may b.replays; here = b.here; words = b.words }
 bank_after bank m s (Word a v) may b = record { replays = replays_after m s (Word a v) may b.replays; here = b.here; words = b.words }
@@ -184,10 +198,20 @@ tells_after told s (Header version) may t =
 tells_after told s (Shape radices words) may t =
     let none : s.told ≡ [] = t.none (omega (arith, may.allowed.behind_header)) in
     let P : List ℕ → Type 0 = λ ns. told ++ [] ≡ set_words (take (above_last ns) s.memory) in
-    record { so_far = subst P none (nothing_told told s s.memory t none); none = λ _. refl; sized = length-replicate words 0; whole = λ is. absurd (omega (arith, is)) }
+    record {
+      so_far = subst P none (nothing_told told s s.memory t none);
+      none = λ _. refl;
+      sized = length-replicate words 0;
+      whole = λ is. absurd (omega (arith, is));
+    }
 tells_after told s (Init a v) may t =
     let none : s.told ≡ [] = t.none (omega (arith, may.allowed.section.early)) in
-    record { so_far = nothing_told told s (slice_set s.memory a v) t none; none = λ _. none; sized = length-set s.memory a v ∙ t.sized; whole = λ is. absurd (omega (arith, is)) }
+    record {
+      so_far = nothing_told told s (slice_set s.memory a v) t none;
+      none = λ _. none;
+      sized = length-set s.memory a v ∙ t.sized;
+      whole = λ is. absurd (omega (arith, is));
+    }
 tells_after told s (Entry e) may t =
     let none : s.told ≡ [] = t.none (omega (arith, may.allowed.section.early)) in
     record {
@@ -197,7 +221,12 @@ tells_after told s (Entry e) may t =
       whole = λ is. absurd (omega (arith, is));
     }
 tells_after told s (Answer a) may t =
-    record { so_far = append-nil told ∙ t.so_far; none = λ _. t.none may.allowed.section.section.early; sized = t.sized; whole = λ is. absurd (omega (arith, is)) }
+    record {
+      so_far = append-nil told ∙ t.so_far;
+      none = λ _. t.none may.allowed.section.section.early;
+      sized = t.sized;
+      whole = λ is. absurd (omega (arith, is));
+    }
 tells_after told s (Word a v) may t = tells_word told s a v may t
 tells_after told s (Order o) may t =
     record { so_far = append-nil told ∙ t.so_far; none = λ is. absurd (omega (arith, is)); sized = t.sized; whole = λ is. absurd (omega (arith, is)) }

@@ -1,5 +1,6 @@
 -- What is read is spelled so.
-use Rattle.std.proofs.Common.{◌≡◌, ◌≢◌, ◌<◌, ◌≤◌, ℕ, ◌+◌, ◌-◌, ◌*◌, ◌^◌, ◌/◌, ◌%◌, ◌==◌, nat_lt, true, false, List, [], ◌∷◌, ◌++◌, Option, Some, None, IfSome, decimal, refl, sym, ap, subst, ◌∙◌, arith, ⊎_elim, append_assoc, lit<}
+use Rattle.std.proofs.Common.{◌≡◌, ◌≢◌, ◌<◌, ◌≤◌, ℕ, ◌+◌, ◌-◌, ◌*◌, ◌^◌, ◌/◌, ◌%◌, ◌==◌, nat_lt, true, false, List, [], ◌∷◌, ◌++◌, Option, Some, None, IfSome}
+use Rattle.std.proofs.Common.{decimal, refl, sym, ap, subst, ◌∙◌, arith, ⊎_elim, append_assoc, lit<}
 use Rattle.std.specs.Char.{is_ascii_digit}
 use Rattle.std.proofs.lemmas.Bool.{cases_Bool, cases_eq, eqb-false, eqb-true, eq-eqb, ne_eqb, ltb-true}
 use Rattle.std.proofs.lemmas.Bool.Decides.{nat_tests}
@@ -8,7 +9,8 @@ use Rattle.std.proofs.lemmas.Option.{none-some, same_Some}
 use Rattle.report_check.specs.Reading.{Gives, behind, digits_on, number_at}
 
 -- what a function returned has what each reading has
-pub gives_some : {X Y : Type 0} (view : X → Y) (r : Option X) (read : Option Y) (P : Y → Type 0) → Gives view r read → ((y : Y) → read ≡ Some y → P y) → IfSome r (λ x. P (view x))
+pub gives_some : {X Y : Type 0} (view : X → Y) (r : Option X) (read : Option Y) (P : Y → Type 0) → Gives view r read → ((y : Y) → read ≡ Some y → P y)
+    → IfSome r (λ x. P (view x))
 gives_some view None read P gives each = tt
 gives_some view (Some x) read P gives each = each (view x) gives
 
@@ -74,7 +76,8 @@ digits_sound end n (b ∷ text) m some small h =
     (cases_Bool (is_ascii_digit b))
 
 -- a first digit that is not 0, and those behind it
-digits_alone : (end b : ℕ) (text : List ℕ) (m : ℕ × List ℕ) → (b == 48) ≡ false → is_ascii_digit b ≡ true → digits_on end (b - 48) text ≡ Some m → IsSpelled end (b ∷ text) m
+digits_alone : (end b : ℕ) (text : List ℕ) (m : ℕ × List ℕ) → (b == 48) ≡ false → is_ascii_digit b ≡ true → digits_on end (b - 48) text ≡ Some m
+    → IsSpelled end (b ∷ text) m
 digits_alone end b text m some digit h =
     let range = digit_range b digit in
     let apart : b ≢ 48 = eqb-false b 48 some in
@@ -110,7 +113,10 @@ number_zero end b (c ∷ text) n zero h =
     let first : b ≡ 48 = eqb-true b 48 zero in
     let second : c ≡ end = eqb-true c end same in
     let none : decimal 0 ≡ 48 ∷ [] = decimal_digit 0 (lit< tt) in
-    subst P is (record { small = lit< tt; spelled = ap (λ x. x ∷ c ∷ text) first ∙ ap (λ x. 48 ∷ x ∷ text) second ∙ ap (λ (d : List ℕ). d ++ end ∷ text) (sym none) }))
+    subst P is (record {
+      small = lit< tt;
+      spelled = ap (λ x. x ∷ c ∷ text) first ∙ ap (λ x. 48 ∷ x ∷ text) second ∙ ap (λ (d : List ℕ). d ++ end ∷ text) (sym none);
+    }))
     (λ (apart : (c == end) ≡ false).
     let none : number_at end (b ∷ c ∷ text) ≡ None = rw (zero, apart) in absurd (none-some n (sym none ∙ h)))
     (cases_Bool (c == end))

@@ -1,5 +1,6 @@
 -- The words that are not 0, up to an address.
-use Rattle.std.proofs.Common.{◌≡◌, ◌≢◌, ◌≤◌, ◌<◌, ℕ, zero, suc, ◌+◌, ◌-◌, ◌==◌, not, List, [], ◌∷◌, ◌++◌, true, false, length, take, get_or, filter, slice_index, refl, sym, ap, subst, ◌∙◌, arith, ⊎_elim}
+use Rattle.std.proofs.Common.{◌≡◌, ◌≢◌, ◌≤◌, ◌<◌, ℕ, zero, suc, ◌+◌, ◌-◌, ◌==◌, not, List, [], ◌∷◌, ◌++◌, true, false, length, take, get_or, filter}
+use Rattle.std.proofs.Common.{slice_index, refl, sym, ap, subst, ◌∙◌, arith, ⊎_elim}
 use Rattle.std.specs.List.{enumerate_from}
 use Rattle.std.proofs.lemmas.Bool.{cases_lt, eq-eqb, ne_eqb}
 use Rattle.std.proofs.lemmas.List.{append-nil, length-take-le, take_all, take_more}
@@ -13,11 +14,13 @@ enumerate_from-push n (y ∷ xs) x =
     ap (λ ps. (n, y) ∷ ps) (enumerate_from-push (n + 1) xs x ∙ ap (λ k. enumerate_from (n + 1) xs ++ (k, x) ∷ []) one)
 
 -- one more word
-set_words-more : (m : List ℕ) (a : ℕ) → a < length m → set_words (take (a + 1) m) ≡ set_words (take a m) ++ filter (λ w. not (w.1 == 0)) ((a, get_or m a 0) ∷ [])
+set_words-more : (m : List ℕ) (a : ℕ) → a < length m
+    → set_words (take (a + 1) m) ≡ set_words (take a m) ++ filter (λ w. not (w.1 == 0)) ((a, get_or m a 0) ∷ [])
 set_words-more m a inside =
     let is : 0 + length (take a m) ≡ a = omega (arith, length-take-le a m (omega (arith, inside))) in
     ap set_words (take_more m a 0 inside)
-    ∙ ap (λ (ps : List (ℕ × ℕ)). filter (λ w. not (w.1 == 0)) ps) (enumerate_from-push 0 (take a m) (get_or m a 0) ∙ ap (λ k. enumerate_from 0 (take a m) ++ (k, get_or m a 0) ∷ []) is)
+    ∙ ap (λ (ps : List (ℕ × ℕ)). filter (λ w. not (w.1 == 0)) ps)
+    (enumerate_from-push 0 (take a m) (get_or m a 0) ∙ ap (λ k. enumerate_from 0 (take a m) ++ (k, get_or m a 0) ∷ []) is)
     ∙ filter-append (λ w. not (w.1 == 0)) (enumerate_from 0 (take a m)) ((a, get_or m a 0) ∷ [])
 
 pub set_words-push : (m : List ℕ) (a v : ℕ) → a < length m → slice_index m a ≡ v → 0 < v → set_words (take a m) ++ (a, v) ∷ [] ≡ set_words (take (a + 1) m)

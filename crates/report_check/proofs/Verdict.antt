@@ -1,5 +1,6 @@
 -- A text has one verdict.
-use Rattle.std.proofs.Common.{◌≡◌, ◌≢◌, ◌<◌, ℕ, ◌+◌, List, [], ◌∷◌, ◌++◌, Result, IfErr, length, suc, fold, Some, sym, refl, ap, subst, ◌∙◌, arith, append_assoc}
+use Rattle.std.proofs.Common.{◌≡◌, ◌≢◌, ◌<◌, ℕ, ◌+◌, List, [], ◌∷◌, ◌++◌, Result, IfErr, length, suc, fold, Some, sym, refl, ap, subst, ◌∙◌, arith}
+use Rattle.std.proofs.Common.{append_assoc}
 use Rattle.std.proofs.lemmas.List.{append-nil}
 use Rattle.std.proofs.lemmas.Option.{same_Some}
 use Rattle.std.proofs.lemmas.Result.{IfErr-weaker}
@@ -22,7 +23,8 @@ same_first l o x y fits other is =
 shift : (l : ReportLine) (ls : List ReportLine) (x : List ℕ) → text_of (l ∷ ls) ++ x ≡ line_text l ++ (text_of ls ++ x)
 shift l ls x = append_assoc (line_text l) (text_of ls) x
 
-pub same_count : (s : Seen) (lines others : List ReportLine) (x y : List ℕ) → AllStand s lines → AllStand s others → IsStuck (fold after s lines) x → IsStuck (fold after s others) y → text_of lines ++ x ≡ text_of others ++ y → length lines ≡ length others
+pub same_count : (s : Seen) (lines others : List ReportLine) (x y : List ℕ) → AllStand s lines → AllStand s others → IsStuck (fold after s lines) x
+    → IsStuck (fold after s others) y → text_of lines ++ x ≡ text_of others ++ y → length lines ≡ length others
 same_count s [] [] x y a b h k e = refl
 same_count s [] (o ∷ os) x y a b h k e = absurd (h.none o (text_of os ++ y) b.0 (e ∙ shift o os y))
 same_count s (l ∷ ls) [] x y a b h k e = absurd (k.none l (text_of ls ++ x) a.0 (sym e ∙ shift l ls x))
@@ -32,7 +34,8 @@ same_count s (l ∷ ls) (o ∷ os) x y a b h k e =
     let Q : ReportLine → Type 0 = λ z. IsStuck (fold after (after s z) os) y in
     ap suc (same_count (after s l) ls os x y a.1 (subst P (sym first.0) b.1) h (subst Q (sym first.0) k) first.1)
 
-pub not_both : (s : Seen) (lines others : List ReportLine) (y : List ℕ) → AllStand s lines → AllStand s others → (fold after s lines).section ≡ 8 → IsStuck (fold after s others) y → text_of lines ++ [] ≡ text_of others ++ y → ⊥
+pub not_both : (s : Seen) (lines others : List ReportLine) (y : List ℕ) → AllStand s lines → AllStand s others → (fold after s lines).section ≡ 8
+    → IsStuck (fold after s others) y → text_of lines ++ [] ≡ text_of others ++ y → ⊥
 not_both s [] [] y a b ended k e = k.not_good ended (sym e)
 not_both s [] (o ∷ os) y a b ended k e = absurd (omega (arith, line_some o (text_of os ++ y), ap length (e ∙ shift o os y)))
 not_both s (l ∷ ls) [] y a b ended k e = k.none l (text_of ls ++ []) a.0 (sym e ∙ shift l ls [])
@@ -55,5 +58,6 @@ only_fault : (text : List ℕ) (fault : CheckFault) → GoodReport text → HasF
 only_fault text (BadReport n) good has = absurd (good_or_bad text n good has)
 only_fault text Memory good has = refl
 
-pub only_memory : {T : Type 0} (text : List ℕ) (r : Result T CheckFault) → GoodReport text → IfErr r (λ fault. HasFault text fault) → IfErr r (λ fault. fault ≡ Memory)
+pub only_memory : {T : Type 0} (text : List ℕ) (r : Result T CheckFault) → GoodReport text → IfErr r (λ fault. HasFault text fault)
+    → IfErr r (λ fault. fault ≡ Memory)
 only_memory text r good has = IfErr-weaker r (λ fault. HasFault text fault) (λ fault. fault ≡ Memory) (λ fault h. only_fault text fault good h) has

@@ -1,5 +1,6 @@
 -- Words at the beginning of a text.
-use Rattle.std.proofs.Common.{◌≡◌, ◌≢◌, ◌<◌, ◌≤◌, ℕ, ◌*◌, ◌^◌, nat_lt, get_or, ◌+◌, ◌-◌, ◌==◌, true, false, Bool, List, [], ◌∷◌, ◌++◌, length, take, drop, Option, Some, None, refl, sym, ap, ◌∙◌, arith, ⊎_elim}
+use Rattle.std.proofs.Common.{◌≡◌, ◌≢◌, ◌<◌, ◌≤◌, ℕ, ◌*◌, ◌^◌, nat_lt, get_or, ◌+◌, ◌-◌, ◌==◌, true, false, Bool, List, [], ◌∷◌, ◌++◌, length, take, drop}
+use Rattle.std.proofs.Common.{Option, Some, None, refl, sym, ap, ◌∙◌, arith, ⊎_elim}
 use Rattle.std.specs.Prelude.{nat_eq}
 use Rattle.std.specs.List.{starts_with}
 use Rattle.std.specs.Char.{is_ascii_digit}
@@ -31,27 +32,31 @@ behind-false (b ∷ word) (c ∷ text) h =
     (cases_eq c b)
 
 -- a number's digits, one byte at a time
-pub digits_on-digit : (end n i : ℕ) (text : List ℕ) → i < length text → is_ascii_digit (get_or text i 0) ≡ true → 10 * n + (get_or text i 0 - 48) < 2 ^ 64 → digits_on end n (drop i text) ≡ digits_on end (10 * n + (get_or text i 0 - 48)) (drop (i + 1) text)
+pub digits_on-digit : (end n i : ℕ) (text : List ℕ) → i < length text → is_ascii_digit (get_or text i 0) ≡ true → 10 * n + (get_or text i 0 - 48) < 2 ^ 64
+    → digits_on end n (drop i text) ≡ digits_on end (10 * n + (get_or text i 0 - 48)) (drop (i + 1) text)
 unfolding digits_on
 digits_on-digit end n i text inside digit small =
     let b : ℕ = get_or text i 0 in
     let test : nat_lt (10 * n + (b - 48)) (2 ^ 64) ≡ true = lt-ltb (10 * n + (b - 48)) (2 ^ 64) small in
     ap (digits_on end n) (drop_more text i 0 inside) ∙ rw (digit, test)
 
-pub digits_on-much : (end n i : ℕ) (text : List ℕ) → i < length text → is_ascii_digit (get_or text i 0) ≡ true → 2 ^ 64 ≤ 10 * n + (get_or text i 0 - 48) → digits_on end n (drop i text) ≡ None
+pub digits_on-much : (end n i : ℕ) (text : List ℕ) → i < length text → is_ascii_digit (get_or text i 0) ≡ true → 2 ^ 64 ≤ 10 * n + (get_or text i 0 - 48)
+    → digits_on end n (drop i text) ≡ None
 unfolding digits_on
 digits_on-much end n i text inside digit much =
     let b : ℕ = get_or text i 0 in
     let test : nat_lt (10 * n + (b - 48)) (2 ^ 64) ≡ false = le-ltb (10 * n + (b - 48)) (2 ^ 64) much in
     ap (digits_on end n) (drop_more text i 0 inside) ∙ rw (digit, test)
 
-pub digits_on-end : (end n i : ℕ) (text : List ℕ) → i < length text → is_ascii_digit (get_or text i 0) ≡ false → get_or text i 0 ≡ end → digits_on end n (drop i text) ≡ Some (n, drop (i + 1) text)
+pub digits_on-end : (end n i : ℕ) (text : List ℕ) → i < length text → is_ascii_digit (get_or text i 0) ≡ false → get_or text i 0 ≡ end
+    → digits_on end n (drop i text) ≡ Some (n, drop (i + 1) text)
 unfolding digits_on
 digits_on-end end n i text inside digit is =
     let test : (get_or text i 0 == end) ≡ true = eq-eqb (get_or text i 0) end is in
     ap (digits_on end n) (drop_more text i 0 inside) ∙ rw (digit, test)
 
-pub digits_on-other : (end n i : ℕ) (text : List ℕ) → i < length text → is_ascii_digit (get_or text i 0) ≡ false → get_or text i 0 ≢ end → digits_on end n (drop i text) ≡ None
+pub digits_on-other : (end n i : ℕ) (text : List ℕ) → i < length text → is_ascii_digit (get_or text i 0) ≡ false → get_or text i 0 ≢ end
+    → digits_on end n (drop i text) ≡ None
 unfolding digits_on
 digits_on-other end n i text inside digit apart =
     let test : (get_or text i 0 == end) ≡ false = ne_eqb (get_or text i 0) end apart in

@@ -1,5 +1,6 @@
 -- The good reports, and the first bad line of any other text (this project's own format).
-use Rattle.std.specs.Prelude.{◌≡◌, ◌≢◌, ◌⊎◌, ℕ, ◌+◌, ◌%◌, ◌<◌, ◌≤◌, List, [], ◌∷◌, ◌++◌, length, map, Bool, true, false, Some, IsTrue, IfSome, is_some, slice_index, slice_get}
+use Rattle.std.specs.Prelude.{◌≡◌, ◌≢◌, ◌⊎◌, ℕ, ◌+◌, ◌%◌, ◌<◌, ◌≤◌, List, [], ◌∷◌, ◌++◌, length, map, Bool, true}
+use Rattle.std.specs.Prelude.{false, Some, IsTrue, IfSome, is_some, slice_index, slice_get}
 use Rattle.std.specs.List.{AllByRecursion}
 use Rattle.torus.specs.Shape.{product}
 use Rattle.packet.specs.Memory.{reply_of_one}
@@ -10,11 +11,13 @@ use Rattle.report_lines.specs.declared.line.EntryLine.{EntryLine}
 use Rattle.report_lines.specs.declared.line.AnswerLine.{AnswerLine}
 use Rattle.report_lines.specs.declared.line.OrderLine.{OrderLine}
 use Rattle.report_lines.specs.declared.line.ReportLine.{ReportLine}
-use Rattle.report_lines.specs.declared.line.ReportLine.TheVariants.{Header, Shape, Init, Entry, Answer, Word, Order, End}
+use Rattle.report_lines.specs.declared.line.ReportLine.TheVariants.{Header, Shape, Init, Entry, Answer, Word, Order}
+use Rattle.report_lines.specs.declared.line.ReportLine.TheVariants.{End}
 use Rattle.report_check.specs.declared.fault.CheckFault.{CheckFault}
 use Rattle.report_check.specs.declared.fault.CheckFault.TheVariants.{BadReport, Memory}
 use Rattle.report_check.specs.Fits.{FitsLine}
-use Rattle.report_check.specs.Seen.{Seen, nothing_seen, after, seen_of, above_last, last_bank, entries_at, has_newer, is_answered, key_of, operation_of, orders_at, is_named}
+use Rattle.report_check.specs.Seen.{Seen, nothing_seen, after, seen_of, above_last, last_bank, entries_at, has_newer}
+use Rattle.report_check.specs.Seen.{is_answered, key_of, operation_of, orders_at, is_named}
 
 -- behind the shape, and not behind a line of a later kind
 pub record InSection (s : Seen) (latest : ℕ) : Type 0 where
@@ -129,13 +132,17 @@ pub record AllowedOrder (s : Seen) (o : OrderLine) : Type 0 where
 
 -- no order line, or one for each entry of each bank
 abbrev pub IsWholeOrder : Seen → Type 0
-IsWholeOrder s = (s.orders ≡ []) ⊎ ((bank : ℕ) → length (orders_at s.orders bank) ≡ length (entries_at s.entries bank))
+IsWholeOrder s = (s.orders ≡ [])
+    ⊎ ((bank : ℕ) → length (orders_at s.orders bank) ≡ length (entries_at s.entries bank))
 
 -- each entry has an answer
 abbrev pub IsAllAnswered : List EntryLine → List AnswerLine → Type 0
-IsAllAnswered entries answers = (bank place : ℕ) → place < length (entries_at entries bank) → is_answered answers bank place ≡ true
+IsAllAnswered entries answers =
+    (bank place : ℕ) → place < length (entries_at entries bank)
+    → is_answered answers bank place ≡ true
 
--- the last line: every word is told, the order is whole, and behind `end complete` each entry has an answer
+-- the last line: every word is told, the order is whole, and behind `end complete` each entry has
+-- an answer
 pub record AllowedEnd (s : Seen) (complete : Bool) : Type 0 where
   pub section : BehindEntries s 7
   pub told : ToldBelow s.told s.memory s.words

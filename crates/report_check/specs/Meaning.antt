@@ -1,5 +1,6 @@
 -- What a good report says, in the terms of one memory (this project's own format).
-use Rattle.std.specs.Prelude.{◌≡◌, ℕ, ◌<◌, true, List, [], ◌∷◌, ◌++◌, Some, length, replicate, slice_get, slice_set, fold, map, flat_map, All, IfSome}
+use Rattle.std.specs.Prelude.{◌≡◌, ℕ, ◌<◌, true, List, [], ◌∷◌, ◌++◌, Some, length, replicate, slice_get, slice_set}
+use Rattle.std.specs.Prelude.{fold, map, flat_map, All, IfSome}
 use Rattle.std.specs.List.{range_with_len}
 use Rattle.std.specs.List.Sorted.{IsStrictlyIncreasing}
 use Rattle.packet.specs.Memory.{memory_after, replies}
@@ -8,7 +9,8 @@ use Rattle.report_lines.specs.declared.line.EntryLine.{EntryLine}
 use Rattle.report_lines.specs.declared.line.AnswerLine.{AnswerLine}
 use Rattle.report_lines.specs.declared.line.OrderLine.{OrderLine}
 use Rattle.report_lines.specs.declared.line.ReportLine.{ReportLine}
-use Rattle.report_lines.specs.declared.line.ReportLine.TheVariants.{Header, Shape, Init, Entry, Answer, Word, Order, End}
+use Rattle.report_lines.specs.declared.line.ReportLine.TheVariants.{Header, Shape, Init, Entry, Answer, Word, Order}
+use Rattle.report_lines.specs.declared.line.ReportLine.TheVariants.{End}
 use Rattle.report_check.specs.Seen.{Seen, seen_of, entries_at, operation_of, orders_at}
 
 -- the opening words with one more line: all 0 behind the shape, and those that `init` lines name
@@ -41,20 +43,26 @@ word_in (End complete) = []
 abbrev pub told_words : List ReportLine → List (ℕ × ℕ)
 told_words lines = flat_map word_in lines
 
--- the entries replay on one memory from the opening words, in the order of the report and in each bank by itself, and the `word` lines tell the words that are not 0 of the memory that they leave (Herlihy and Wing, TOPLAS 12(3), 1990: a legal sequential history)
+-- the entries replay on one memory from the opening words, in the order of the report and in each
+-- bank by itself, and the `word` lines tell the words that are not 0 of the memory that they leave
+-- (Herlihy and Wing, TOPLAS 12(3), 1990: a legal sequential history)
 pub record EntriesReplay (lines : List ReportLine) : Type 0 where
-  pub whole : map (λ e. e.reply) (seen_of lines).entries ≡ replies (map operation_of (seen_of lines).entries) (opening_of lines)
+  pub whole : map (λ e. e.reply) (seen_of lines).entries
+      ≡ replies (map operation_of (seen_of lines).entries) (opening_of lines)
   pub banks : (bank : ℕ) → map (λ e. e.reply) (entries_at (seen_of lines).entries bank)
       ≡ replies (map operation_of (entries_at (seen_of lines).entries bank)) (opening_of lines)
-  pub last : told_words lines ≡ set_words (memory_after (map operation_of (seen_of lines).entries) (opening_of lines))
+  pub last : told_words lines
+      ≡ set_words (memory_after (map operation_of (seen_of lines).entries) (opening_of lines))
 
 -- an entry is issued, then served, then answered
 abbrev pub IsTimely : OrderLine → Type 0
 IsTimely o = (o.issued < o.served) × IfSome o.answered (λ n. o.served < n)
 
--- the order lines give one order of the entries: each once, the places of a bank rising, by rising numbers of service
+-- the order lines give one order of the entries: each once, the places of a bank rising, by rising
+-- numbers of service
 pub record OrdersEntries (s : Seen) : Type 0 where
-  pub places : (bank : ℕ) → map (λ o. o.place) (orders_at s.orders bank) ≡ range_with_len 0 (length (entries_at s.entries bank))
+  pub places : (bank : ℕ) → map (λ o. o.place) (orders_at s.orders bank)
+      ≡ range_with_len 0 (length (entries_at s.entries bank))
   pub rises : IsStrictlyIncreasing (map (λ o. o.served) s.orders)
   pub timely : All IsTimely s.orders
 
@@ -73,11 +81,14 @@ pub record IsNamed (s : Seen) (bank place : ℕ) : Type 0 where
   pub bank_is : answer.bank ≡ bank
   pub place_is : answer.place ≡ place
 
--- each answer names an entry of its processor and has its reply, no two name one entry, and where the last line says that
--- all is complete, each entry has its answer (Herlihy and Wing, TOPLAS 12(3), 1990: a response answers one invocation)
+-- each answer names an entry of its processor and has its reply, no two name one entry, and where
+-- the last line says that all is complete, each entry has its answer (Herlihy and Wing, TOPLAS
+-- 12(3), 1990: a response answers one invocation)
 pub record AnswersEntries (lines : List ReportLine) : Type 0 where
-  pub named : (i : ℕ) (a : AnswerLine) → slice_get (seen_of lines).answers i ≡ Some a → NamesEntry (seen_of lines) a
+  pub named : (i : ℕ) (a : AnswerLine) → slice_get (seen_of lines).answers i ≡ Some a
+      → NamesEntry (seen_of lines) a
   pub once : (i j : ℕ) (a b : AnswerLine) → slice_get (seen_of lines).answers i ≡ Some a
       → slice_get (seen_of lines).answers j ≡ Some b → a.bank ≡ b.bank → a.place ≡ b.place → i ≡ j
   pub complete : (before : List ReportLine) → lines ≡ before ++ End true ∷ [] → (bank place : ℕ)
-      → place < length (entries_at (seen_of lines).entries bank) → IsNamed (seen_of lines) bank place
+      → place < length (entries_at (seen_of lines).entries bank)
+      → IsNamed (seen_of lines) bank place

@@ -1,5 +1,6 @@
 -- Reading a line at the beginning of a text.
-use Rattle.std.specs.Prelude.{◌≡◌, ℕ, ◌+◌, ◌-◌, ◌*◌, ◌^◌, ◌==◌, ◌&&◌, if◌then◌else◌, List, [], ◌∷◌, Option, Some, None, true, false, nat_lt, codes}
+use Rattle.std.specs.Prelude.{◌≡◌, ℕ, ◌+◌, ◌-◌, ◌*◌, ◌^◌, ◌==◌, ◌&&◌, if◌then◌else◌, List, [], ◌∷◌, Option, Some}
+use Rattle.std.specs.Prelude.{None, true, false, nat_lt, codes}
 use Rattle.std.specs.Char.{is_ascii_digit}
 use Rattle.std.specs.Option.{option_or}
 use Rattle.packet.specs.declared.kinds.Op.{Op}
@@ -9,7 +10,8 @@ use Rattle.packet.specs.declared.kinds.Reply.TheVariants.{Old, Ok as Stored}
 use Rattle.report_lines.specs.declared.line.Radices.{Radices}
 use Rattle.report_lines.specs.declared.line.Radices.TheVariants.{One, Two, Three}
 use Rattle.report_lines.specs.declared.line.ReportLine.{ReportLine}
-use Rattle.report_lines.specs.declared.line.ReportLine.TheVariants.{Header, Shape, Init, Entry, Answer, Word, Order, End}
+use Rattle.report_lines.specs.declared.line.ReportLine.TheVariants.{Header, Shape, Init, Entry, Answer, Word, Order}
+use Rattle.report_lines.specs.declared.line.ReportLine.TheVariants.{End}
 
 infixl 10 ◌>>=◌
 -- what is read after something was read
@@ -32,7 +34,8 @@ behind (b ∷ bytes) (c ∷ text) = if c == b then behind bytes text else None
 unfoldable pub digits_on : ℕ → ℕ → List ℕ → Option (ℕ × List ℕ)
 digits_on end n [] = None
 digits_on end n (b ∷ text) =
-    if is_ascii_digit b then (if nat_lt (10 * n + (b - 48)) (2 ^ 64) then digits_on end (10 * n + (b - 48)) text else None)
+    if is_ascii_digit b then (if nat_lt (10 * n + (b - 48)) (2 ^ 64)
+    then digits_on end (10 * n + (b - 48)) text else None)
     else (if b == end then Some (n, text) else None)
 
 -- a number of 64 bits up to an end, and what stands behind that
@@ -55,11 +58,13 @@ instead (Some x) f other = f x
 
 -- a reply at the end of a line
 unfoldable pub reply_at : List ℕ → Option (Reply × List ℕ)
-reply_at text = instead (behind (codes "ok\n") text) (λ rest. Some (Stored, rest)) (number_at 10 text >>= λ n. Some (Old n.0, n.1))
+reply_at text = instead (behind (codes "ok\n") text) (λ rest. Some (Stored, rest))
+    (number_at 10 text >>= λ n. Some (Old n.0, n.1))
 
 -- an event number or a dash at the end of a line
 unfoldable pub event_at : List ℕ → Option (Option ℕ × List ℕ)
-event_at text = instead (behind (codes "-\n") text) (λ rest. Some (None, rest)) (index_at 10 text >>= λ n. Some (Some n.0, n.1))
+event_at text = instead (behind (codes "-\n") text) (λ rest. Some (None, rest))
+    (index_at 10 text >>= λ n. Some (Some n.0, n.1))
 
 -- an address and a value up to an end
 unfoldable pub pair_at : ℕ → List ℕ → Option (ℕ × ℕ × List ℕ)
@@ -87,19 +92,25 @@ unfoldable pub newer_at : List ℕ → Option (Op × ℕ × List ℕ)
 newer_at text =
     instead (behind (codes "and ") text) (λ rest. pair_at 32 rest >>= λ p. Some (And p.1, p.0, p.2))
     (instead (behind (codes "or ") text) (λ rest. pair_at 32 rest >>= λ p. Some (Or p.1, p.0, p.2))
-    (instead (behind (codes "xor ") text) (λ rest. pair_at 32 rest >>= λ p. Some (Xor p.1, p.0, p.2))
-    (instead (behind (codes "max ") text) (λ rest. pair_at 32 rest >>= λ p. Some (Max p.1, p.0, p.2))
-    (instead (behind (codes "min ") text) (λ rest. pair_at 32 rest >>= λ p. Some (Min p.1, p.0, p.2))
+    (instead (behind (codes "xor ") text)
+    (λ rest. pair_at 32 rest >>= λ p. Some (Xor p.1, p.0, p.2))
+    (instead (behind (codes "max ") text)
+    (λ rest. pair_at 32 rest >>= λ p. Some (Max p.1, p.0, p.2))
+    (instead (behind (codes "min ") text)
+    (λ rest. pair_at 32 rest >>= λ p. Some (Min p.1, p.0, p.2))
     None))))
 
 -- an operation with its address, up to the space behind them
 unfoldable pub op_at : List ℕ → Option (Op × ℕ × List ℕ)
 op_at text =
     instead (behind (codes "load ") text) load_at
-    (instead (behind (codes "store ") text) (λ rest. pair_at 32 rest >>= λ p. Some (Store p.1, p.0, p.2))
-    (instead (behind (codes "swap ") text) (λ rest. pair_at 32 rest >>= λ p. Some (Swap p.1, p.0, p.2))
+    (instead (behind (codes "store ") text)
+    (λ rest. pair_at 32 rest >>= λ p. Some (Store p.1, p.0, p.2))
+    (instead (behind (codes "swap ") text)
+    (λ rest. pair_at 32 rest >>= λ p. Some (Swap p.1, p.0, p.2))
     (instead (behind (codes "cas ") text) cas_at
-    (instead (behind (codes "add ") text) (λ rest. pair_at 32 rest >>= λ p. Some (Add p.1, p.0, p.2))
+    (instead (behind (codes "add ") text)
+    (λ rest. pair_at 32 rest >>= λ p. Some (Add p.1, p.0, p.2))
     (newer_at text)))))
 
 -- what stands behind `entry `
@@ -111,7 +122,18 @@ entry_at text = do
   tag ← index_at 32 source.1
   op ← op_at tag.1
   reply ← reply_at op.2
-  Some (Entry (record { bank = bank.0; place = place.0; source = source.0; tag = tag.0; address = op.1; op = op.0; reply = reply.0 }), reply.1)
+  Some (
+    Entry (record {
+      bank = bank.0;
+      place = place.0;
+      source = source.0;
+      tag = tag.0;
+      address = op.1;
+      op = op.0;
+      reply = reply.0;
+    }),
+    reply.1,
+  )
 
 -- what stands behind `answer `
 unfoldable pub answer_at : List ℕ → Option (ReportLine × List ℕ)
@@ -121,7 +143,16 @@ answer_at text = do
   bank ← index_at 32 index.1
   place ← index_at 32 bank.1
   reply ← reply_at place.1
-  Some (Answer (record { processor = processor.0; index = index.0; bank = bank.0; place = place.0; reply = reply.0 }), reply.1)
+  Some (
+    Answer (record {
+      processor = processor.0;
+      index = index.0;
+      bank = bank.0;
+      place = place.0;
+      reply = reply.0;
+    }),
+    reply.1,
+  )
 
 -- what stands behind `order `
 unfoldable pub order_at : List ℕ → Option (ReportLine × List ℕ)
@@ -131,7 +162,16 @@ order_at text = do
   issued ← index_at 32 place.1
   served ← index_at 32 issued.1
   answered ← event_at served.1
-  Some (Order (record { bank = bank.0; place = place.0; issued = issued.0; served = served.0; answered = answered.0 }), answered.1)
+  Some (
+    Order (record {
+      bank = bank.0;
+      place = place.0;
+      issued = issued.0;
+      served = served.0;
+      answered = answered.0;
+    }),
+    answered.1,
+  )
 
 -- radices that are all the same, and their number
 unfoldable pub uniform_at : List ℕ → Option (Radices × List ℕ)
@@ -182,9 +222,12 @@ line_at text =
     instead (behind (codes "entry ") text) entry_at
     (instead (behind (codes "answer ") text) answer_at
     (instead (behind (codes "order ") text) order_at
-    (instead (behind (codes "word ") text) (λ rest. pair_at 10 rest >>= λ p. Some (Word p.0 p.1, p.2))
-    (instead (behind (codes "init ") text) (λ rest. pair_at 10 rest >>= λ p. Some (Init p.0 p.1, p.2))
+    (instead (behind (codes "word ") text)
+    (λ rest. pair_at 10 rest >>= λ p. Some (Word p.0 p.1, p.2))
+    (instead (behind (codes "init ") text)
+    (λ rest. pair_at 10 rest >>= λ p. Some (Init p.0 p.1, p.2))
     (instead (behind (codes "end ") text) end_at
     (instead (behind (codes "shape ") text) shape_at
-    (instead (behind (codes "torusmem ") text) (λ rest. index_at 10 rest >>= λ n. Some (Header n.0, n.1))
+    (instead (behind (codes "torusmem ") text)
+    (λ rest. index_at 10 rest >>= λ n. Some (Header n.0, n.1))
     None)))))))

@@ -1,5 +1,6 @@
 -- What the lines of a report so far say (this project's own format).
-use Rattle.std.specs.Prelude.{ℕ, ◌+◌, ◌*◌, ◌==◌, ◌&&◌, List, [], ◌∷◌, ◌++◌, Bool, slice_set, slice_index, replicate, filter, fold, flat_map}
+use Rattle.std.specs.Prelude.{ℕ, ◌+◌, ◌*◌, ◌==◌, ◌&&◌, List, [], ◌∷◌, ◌++◌, Bool, slice_set, slice_index, replicate}
+use Rattle.std.specs.Prelude.{filter, fold, flat_map}
 use Rattle.std.specs.List.{list_any}
 use Rattle.std.specs.Option.{option_to_list}
 use Rattle.torus.specs.Shape.{product}
@@ -11,7 +12,8 @@ use Rattle.report_lines.specs.declared.line.EntryLine.{EntryLine}
 use Rattle.report_lines.specs.declared.line.AnswerLine.{AnswerLine}
 use Rattle.report_lines.specs.declared.line.OrderLine.{OrderLine}
 use Rattle.report_lines.specs.declared.line.ReportLine.{ReportLine}
-use Rattle.report_lines.specs.declared.line.ReportLine.TheVariants.{Header, Shape, Init, Entry, Answer, Word, Order, End}
+use Rattle.report_lines.specs.declared.line.ReportLine.TheVariants.{Header, Shape, Init, Entry, Answer, Word, Order}
+use Rattle.report_lines.specs.declared.line.ReportLine.TheVariants.{End}
 
 -- the lines so far by their kinds, and the memory after them
 pub record Seen : Type 0 where
@@ -32,11 +34,34 @@ pub record Seen : Type 0 where
 
 -- before the first line
 abbrev pub nothing_seen : Seen
-nothing_seen = record { section = 0; version = 0; tiles = 0; words = 0; memory = []; inits = []; entries = []; answers = []; told = []; orders = [] }
+nothing_seen = record {
+  section = 0;
+  version = 0;
+  tiles = 0;
+  words = 0;
+  memory = [];
+  inits = [];
+  entries = [];
+  answers = [];
+  told = [];
+  orders = [];
+}
 
 -- behind the shape: every word is 0
 abbrev pub shaped_seen : ℕ → ℕ → ℕ → Seen
-shaped_seen version tiles words = record { section = 2; version = version; tiles = tiles; words = words; memory = replicate words 0; inits = []; entries = []; answers = []; told = []; orders = [] }
+shaped_seen version tiles words =
+    record {
+      section = 2;
+      version = version;
+      tiles = tiles;
+      words = words;
+      memory = replicate words 0;
+      inits = [];
+      entries = [];
+      answers = [];
+      told = [];
+      orders = [];
+    }
 
 -- the operation of an entry line
 abbrev pub operation_of : EntryLine → Operation
@@ -46,8 +71,17 @@ operation_of e = record { address = e.address; op = e.op }
 abbrev pub after : Seen → ReportLine → Seen
 after s (Header version) = record s { section = 1; version = version }
 after s (Shape radices words) = shaped_seen s.version (product (radix_list radices)) words
-after s (Init address value) = record s { section = 3; inits = s.inits ++ address ∷ []; memory = slice_set s.memory address value }
-after s (Entry e) = record s { section = 4; entries = s.entries ++ e ∷ []; memory = memory_after_one (operation_of e) s.memory }
+after s (Init address value) =
+    record s {
+      section = 3;
+      inits = s.inits ++ address ∷ [];
+      memory = slice_set s.memory address value;
+    }
+after s (Entry e) = record s {
+  section = 4;
+  entries = s.entries ++ e ∷ [];
+  memory = memory_after_one (operation_of e) s.memory;
+}
 after s (Answer a) = record s { section = 5; answers = s.answers ++ a ∷ [] }
 after s (Word address value) = record s { section = 6; told = s.told ++ address ∷ [] }
 after s (Order o) = record s { section = 7; orders = s.orders ++ o ∷ [] }
@@ -57,7 +91,8 @@ after s (End complete) = record s { section = 8 }
 abbrev pub seen_of : List ReportLine → Seen
 seen_of lines = fold after nothing_seen lines
 
--- one more than the last of some numbers, or 0: a number rises above them exactly when it is not below this
+-- one more than the last of some numbers, or 0: a number rises above them exactly when it is not
+-- below this
 abbrev pub above_last : List ℕ → ℕ
 above_last numbers = fold (λ _ n. n + 1) 0 numbers
 

@@ -1,17 +1,20 @@
 -- What the checker keeps of the lines so far.
-use Rattle.std.specs.Prelude.{◌≡◌, ◌≢◌, ℕ, ◌≤◌, List, [], ◌∷◌, length, map, Bool, true, false, zero, suc, Some, slice_index, slice_index_or, slice_get, option_map, Vec}
+use Rattle.std.specs.Prelude.{◌≡◌, ◌≢◌, ℕ, ◌≤◌, List, [], ◌∷◌, length, map, Bool, true, false, zero, suc, Some}
+use Rattle.std.specs.Prelude.{slice_index, slice_index_or, slice_get, option_map, Vec}
 use Rattle.report_lines.specs.declared.line.EntryLine.{EntryLine}
 use Rattle.report_lines.specs.declared.line.AnswerLine.{AnswerLine}
 use Rattle.report_lines.specs.declared.line.OrderLine.{OrderLine}
 use Rattle.report_lines.specs.declared.line.ReportLine.{ReportLine}
 use Rattle.report_check.specs.declared.checker.Served.{Served}
 use Rattle.report_check.specs.declared.checker.Checker.{Checker}
-use Rattle.report_check.specs.Seen.{Seen, after, above_last, last_bank, entries_at, has_newer, is_answered, key_of, orders_at, is_named}
+use Rattle.report_check.specs.Seen.{Seen, after, above_last, last_bank, entries_at, has_newer, is_answered, key_of}
+use Rattle.report_check.specs.Seen.{orders_at, is_named}
 use Rattle.report_check.specs.Good.{Allowed, ToldBelow}
 
 -- what is kept of an entry
 abbrev pub kept : List AnswerLine → ℕ → ℕ → EntryLine → Served
-kept answers bank place e = record { source = e.source; reply = e.reply; answered = is_answered answers bank place }
+kept answers bank place e =
+    record { source = e.source; reply = e.reply; answered = is_answered answers bank place }
 
 -- what is kept of the entries of a bank
 abbrev pub bank_of : {A : Type 0} → List (Vec Served A) → ℕ → List Served
@@ -28,16 +31,20 @@ marked (k ∷ ks) zero = record k { answered = true } ∷ ks
 marked (k ∷ ks) (suc place) = k ∷ marked ks place
 
 -- the entries and their answers
-pub record EntriesShown {A : Type 0} (entries : List EntryLine) (answers : List AnswerLine) (last count : ℕ)
+pub record EntriesShown {A : Type 0} (entries : List EntryLine) (answers : List AnswerLine)
+    (last count : ℕ)
     (newer : Bool) (banks : List (Vec Served A)) : Type 0 where
   pub last_bank : last ≡ last_bank entries
   pub count_is : count ≡ length entries
   pub newer_is : newer ≡ has_newer entries
   pub sized : (bank : ℕ) → length (bank_of banks bank) ≡ length (entries_at entries bank)
-  pub each : (bank place : ℕ) → slice_get (bank_of banks bank) place ≡ option_map (kept answers bank place) (slice_get (entries_at entries bank) place)
+  pub each : (bank place : ℕ)
+      → slice_get (bank_of banks bank) place
+      ≡ option_map (kept answers bank place) (slice_get (entries_at entries bank) place)
 
 -- the order lines and their events
-pub record OrdersShown (orders : List OrderLine) (next : ℕ) (ordered : List ℕ) (used : List Bool) : Type 0 where
+pub record OrdersShown (orders : List OrderLine) (next : ℕ) (ordered : List ℕ)
+    (used : List Bool) : Type 0 where
   pub next_is : next ≡ above_last (map (λ x. x.served) orders)
   pub at_bank : (bank : ℕ) → slice_index ordered bank ≡ length (orders_at orders bank)
   pub named : (event : ℕ) → event ≤ 196608 → slice_index_or used event false ≡ is_named orders event

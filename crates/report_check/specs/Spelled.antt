@@ -1,5 +1,6 @@
 -- The bytes of a line and what stands behind it, from left to right.
-use Rattle.std.specs.Prelude.{ℕ, ◌==◌, ◌&&◌, if◌then◌else◌, List, ◌∷◌, ◌++◌, true, false, Option, Some, None, codes, decimal}
+use Rattle.std.specs.Prelude.{ℕ, ◌==◌, ◌&&◌, if◌then◌else◌, List, ◌∷◌, ◌++◌, true, false, Option, Some, None, codes}
+use Rattle.std.specs.Prelude.{decimal}
 use Rattle.packet.specs.declared.kinds.Op.{Op}
 use Rattle.packet.specs.declared.kinds.Op.TheVariants.{Load, Store, Swap, Cas, Add, And, Or, Xor, Max, Min}
 use Rattle.packet.specs.declared.kinds.Reply.{Reply}
@@ -7,7 +8,8 @@ use Rattle.packet.specs.declared.kinds.Reply.TheVariants.{Old, Ok as Stored}
 use Rattle.report_lines.specs.declared.line.Radices.{Radices}
 use Rattle.report_lines.specs.declared.line.Radices.TheVariants.{One, Two, Three}
 use Rattle.report_lines.specs.declared.line.ReportLine.{ReportLine}
-use Rattle.report_lines.specs.declared.line.ReportLine.TheVariants.{Header, Shape, Init, Entry, Answer, Word, Order, End}
+use Rattle.report_lines.specs.declared.line.ReportLine.TheVariants.{Header, Shape, Init, Entry, Answer, Word, Order}
+use Rattle.report_lines.specs.declared.line.ReportLine.TheVariants.{End}
 
 -- a reply at the end of a line
 abbrev pub reply_then : Reply → List ℕ → List ℕ
@@ -28,7 +30,8 @@ abbrev pub op_then : Op → ℕ → List ℕ → List ℕ
 op_then Load address rest = codes "load " ++ (decimal address ++ 32 ∷ rest)
 op_then (Store value) address rest = codes "store " ++ pair_then 32 address value rest
 op_then (Swap value) address rest = codes "swap " ++ pair_then 32 address value rest
-op_then (Cas expected new) address rest = codes "cas " ++ (decimal address ++ 32 ∷ (decimal expected ++ 32 ∷ (decimal new ++ 32 ∷ rest)))
+op_then (Cas expected new) address rest =
+    codes "cas " ++ (decimal address ++ 32 ∷ (decimal expected ++ 32 ∷ (decimal new ++ 32 ∷ rest)))
 op_then (Add value) address rest = codes "add " ++ pair_then 32 address value rest
 op_then (And value) address rest = codes "and " ++ pair_then 32 address value rest
 op_then (Or value) address rest = codes "or " ++ pair_then 32 address value rest
@@ -39,17 +42,32 @@ op_then (Min value) address rest = codes "min " ++ pair_then 32 address value re
 -- the radices and their number
 abbrev pub radices_then : Radices → List ℕ → List ℕ
 radices_then (One k) rest = decimal k ++ 32 ∷ (codes "1 " ++ rest)
-radices_then (Two j k) rest = if j == k then decimal j ++ 32 ∷ (codes "2 " ++ rest) else decimal j ++ 120 ∷ (decimal k ++ 32 ∷ (codes "2 " ++ rest))
-radices_then (Three j k l) rest = if (j == k) && (k == l) then decimal j ++ 32 ∷ (codes "3 " ++ rest) else decimal j ++ 120 ∷ (decimal k ++ 120 ∷ (decimal l ++ 32 ∷ (codes "3 " ++ rest)))
+radices_then (Two j k) rest =
+    if j == k then decimal j ++ 32 ∷ (codes "2 " ++ rest)
+    else decimal j ++ 120 ∷ (decimal k ++ 32 ∷ (codes "2 " ++ rest))
+radices_then (Three j k l) rest =
+    if (j == k) && (k == l) then decimal j ++ 32 ∷ (codes "3 " ++ rest)
+    else decimal j ++ 120 ∷ (decimal k ++ 120 ∷ (decimal l ++ 32 ∷ (codes "3 " ++ rest)))
 
 -- a line (this project's own format: what `line_text` says, without joining)
 abbrev pub line_then : ReportLine → List ℕ → List ℕ
 line_then (Header version) rest = codes "torusmem " ++ (decimal version ++ 10 ∷ rest)
-line_then (Shape radices words) rest = codes "shape " ++ radices_then radices (decimal words ++ 10 ∷ rest)
+line_then (Shape radices words) rest =
+    codes "shape " ++ radices_then radices (decimal words ++ 10 ∷ rest)
 line_then (Init address value) rest = codes "init " ++ pair_then 10 address value rest
-line_then (Entry e) rest = codes "entry " ++ (decimal e.bank ++ 32 ∷ (decimal e.place ++ 32 ∷ (decimal e.source ++ 32 ∷ (decimal e.tag ++ 32 ∷ op_then e.op e.address (reply_then e.reply rest)))))
-line_then (Answer a) rest = codes "answer " ++ (decimal a.processor ++ 32 ∷ (decimal a.index ++ 32 ∷ (decimal a.bank ++ 32 ∷ (decimal a.place ++ 32 ∷ reply_then a.reply rest))))
+line_then (Entry e) rest =
+    codes "entry " ++ (decimal e.bank
+    ++ 32 ∷ (decimal e.place ++ 32
+    ∷ (decimal e.source ++ 32
+    ∷ (decimal e.tag ++ 32 ∷ op_then e.op e.address (reply_then e.reply rest)))))
+line_then (Answer a) rest =
+    codes "answer " ++ (decimal a.processor
+    ++ 32 ∷ (decimal a.index ++ 32
+    ∷ (decimal a.bank ++ 32 ∷ (decimal a.place ++ 32 ∷ reply_then a.reply rest))))
 line_then (Word address value) rest = codes "word " ++ pair_then 10 address value rest
-line_then (Order o) rest = codes "order " ++ (decimal o.bank ++ 32 ∷ (decimal o.place ++ 32 ∷ (decimal o.issued ++ 32 ∷ (decimal o.served ++ 32 ∷ event_then o.answered rest))))
+line_then (Order o) rest =
+    codes "order " ++ (decimal o.bank
+    ++ 32 ∷ (decimal o.place ++ 32
+    ∷ (decimal o.issued ++ 32 ∷ (decimal o.served ++ 32 ∷ event_then o.answered rest))))
 line_then (End true) rest = codes "end " ++ (codes "complete\n" ++ rest)
 line_then (End false) rest = codes "end " ++ (codes "incomplete\n" ++ rest)

@@ -18,7 +18,8 @@ fn take_line<A: Allocator + Copy>(
     alloc: A,
     line: &ReportLine,
 ) -> Result<bool, AllocError>
-    ensures { IfOk result (λ taken. (s : Seen) → Shows s checker.old → Checks s line.now taken checker.new) }
+    ensures { IfOk result
+        (λ taken. (s : Seen) → Shows s checker.old → Checks s line.now taken checker.new) }
 {
     match line {
         ReportLine::Header(version) => Ok(checker.take_header(*version)),

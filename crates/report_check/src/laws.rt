@@ -19,7 +19,8 @@ pub fn entries_replay()
 
 /// The order lines of a good report, where it has any, give one order of its entries.
 pub fn orders_are_whole()
-    ensures { (lines : List ReportLine) → AreGood lines → (seen_of lines).orders ≢ [] → OrdersEntries (seen_of lines) }
+    ensures { (lines : List ReportLine) → AreGood lines → (seen_of lines).orders ≢ []
+        → OrdersEntries (seen_of lines) }
 {}
 
 /// Each answer of a good report names an entry of its processor, and has its reply; no two name one

@@ -30,7 +30,8 @@ impl<A: Allocator> Checker<A> {
 
     /// Takes the first line.
     pub fn take_header(&mut self, version: u32) -> bool
-        ensures { (s : Seen) → Shows s self.old → Checks s (ReportLine.Header version) result self.new }
+        ensures { (s : Seen) → Shows s self.old
+            → Checks s (ReportLine.Header version) result self.new }
     {
         if self.section != 0 || (version != 1 && version != 2) {
             return false;
@@ -42,7 +43,8 @@ impl<A: Allocator> Checker<A> {
 
     /// Takes an `init` line.
     pub fn take_init(&mut self, address: u32, value: u64) -> bool
-        ensures { (s : Seen) → Shows s self.old → Checks s (ReportLine.Init address value) result self.new }
+        ensures { (s : Seen) → Shows s self.old
+            → Checks s (ReportLine.Init address value) result self.new }
     {
         if !self.is_in_section(3)
             || address < self.next_init
@@ -60,7 +62,9 @@ impl<A: Allocator> Checker<A> {
     /// Whether each word from the next one on, below the end, is 0.
     pub fn is_told_below(&self, end: u32) -> bool
         requires { end ≤ self.now.words }
-        ensures { IsTrue result ↔ ((k : ℕ) → self.now.next_word ≤ k → k < end → slice_index self.now.memory.items k ≡ 0) }
+        ensures { IsTrue result
+            ↔ ((k : ℕ) → self.now.next_word ≤ k → k < end
+            → slice_index self.now.memory.items k ≡ 0) }
     {
         let memory = self.memory.as_slice();
         for k in self.next_word..end {
@@ -73,7 +77,8 @@ impl<A: Allocator> Checker<A> {
 
     /// Takes a `word` line.
     pub fn take_word(&mut self, address: u32, value: u64) -> bool
-        ensures { (s : Seen) → Shows s self.old → Checks s (ReportLine.Word address value) result self.new }
+        ensures { (s : Seen) → Shows s self.old
+            → Checks s (ReportLine.Word address value) result self.new }
     {
         if !self.is_behind_entries(6)
             || address < self.next_word
@@ -92,7 +97,8 @@ impl<A: Allocator> Checker<A> {
 
     /// Whether each word that is not 0 has its line.
     pub fn is_told(&self) -> bool
-        ensures { (s : Seen) → Shows s self.now → IsTrue result ↔ ToldBelow s.told s.memory s.words }
+        ensures { (s : Seen) → Shows s self.now
+            → IsTrue result ↔ ToldBelow s.told s.memory s.words }
     {
         self.section == 7 || self.is_told_below(self.words)
     }
@@ -107,7 +113,9 @@ impl<A: Allocator> Checker<A> {
 
     /// Whether each bank has as many order lines as entries.
     fn is_each_ordered(&self) -> bool
-        ensures { IsTrue result ↔ ((bank : ℕ) → slice_index self.now.ordered.items bank ≡ length (bank_of self.now.banks.items bank)) }
+        ensures { IsTrue result
+            ↔ ((bank : ℕ) → slice_index self.now.ordered.items bank
+            ≡ length (bank_of self.now.banks.items bank)) }
     {
         for bank in 0..self.tiles {
             if self.ordered[bank as usize] != self.count_at(bank) as u64 {
@@ -139,14 +147,16 @@ impl<A: Allocator> Checker<A> {
 
     /// Whether each entry has an answer, where that is said.
     fn may_be_complete(&self, complete: bool) -> bool
-        ensures { (s : Seen) → Shows s self.now → IsTrue result ↔ (IsTrue complete → IsAllAnswered s.entries s.answers) }
+        ensures { (s : Seen) → Shows s self.now
+            → IsTrue result ↔ (IsTrue complete → IsAllAnswered s.entries s.answers) }
     {
         !complete || self.is_all_answered()
     }
 
     /// Takes the last line.
     pub fn take_end(&mut self, complete: bool) -> bool
-        ensures { (s : Seen) → Shows s self.old → Checks s (ReportLine.End complete) result self.new }
+        ensures { (s : Seen) → Shows s self.old
+            → Checks s (ReportLine.End complete) result self.new }
     {
         if !self.is_behind_entries(7) || !self.is_told() || !self.has_whole_order() {
             return false;
@@ -162,7 +172,9 @@ impl<A: Allocator> Checker<A> {
 impl<A: Allocator + Copy> Checker<A> {
     /// Takes the shape, and makes room for the words and the banks.
     pub fn take_shape(&mut self, alloc: A, radices: Radices, words: u32) -> Result<bool, AllocError>
-        ensures { IfOk result (λ taken. (s : Seen) → Shows s self.old → Checks s (ReportLine.Shape radices words) taken self.new) }
+        ensures { IfOk result
+            (λ taken. (s : Seen) → Shows s self.old
+            → Checks s (ReportLine.Shape radices words) taken self.new) }
     {
         if self.section != 1 || words < 1 || 65536 < words {
             return Ok(false);
@@ -197,7 +209,8 @@ fn is_radix(k: u32) -> bool
 /// The number of tiles, where the radices are in range and there are at most 64 tiles.
 fn tiles_of(radices: Radices) -> Option<u32>
     ensures { MatchOption result (AreRadices (radix_list radices) → ⊥)
-        (λ tiles. AreRadices (radix_list radices) × (tiles ≡ product (radix_list radices)) × (tiles ≤ 64)) }
+        (λ tiles. AreRadices (radix_list radices) × (tiles ≡ product (radix_list radices))
+        × (tiles ≤ 64)) }
 {
     let tiles = match radices {
         Radices::One(k) => {

@@ -3,7 +3,10 @@
 ghost use Rattle.std.specs.Prelude.{◌≡◌, ◌<◌, ◌≤◌, ◌+◌, ◌-◌, ◌*◌, ◌^◌, ◌∷◌, ◌++◌, IfSome, MatchOption, codes, decimal};
 ghost use Rattle.report_check.specs.Fits.{FitsLine, FitsOp, FitsRadices, FitsReply};
 ghost use Rattle.report_check.specs.Spelled.{event_then, line_then, op_then, pair_then, radices_then, reply_then};
-ghost use Rattle.report_check.specs.Reading.{Gives, behind, digits_on, number_at, index_at, reply_at, event_at, pair_at, load_at, cas_at, newer_at, op_at, entry_at, answer_at, order_at, uniform_at, two_at, three_at, radices_at, shape_at, end_at, line_at};
+ghost use Rattle.report_check.specs.Reading.{Gives, behind, digits_on, number_at, index_at, reply_at, event_at};
+ghost use Rattle.report_check.specs.Reading.{pair_at, load_at, cas_at, newer_at, op_at, entry_at, answer_at};
+ghost use Rattle.report_check.specs.Reading.{order_at, uniform_at, two_at, three_at, radices_at, shape_at, end_at};
+ghost use Rattle.report_check.specs.Reading.{line_at};
 
 use packet::{Op, Reply};
 use report_lines::{AnswerLine, EntryLine, OrderLine, Radices, ReportLine};
@@ -23,7 +26,8 @@ fn behind<'a>(text: &'a [u8], word: &str) -> Option<&'a [u8]>
 /// The number with one more digit, if that has 64 bits.
 fn with_digit(number: u64, digit: u8) -> Option<u64>
     requires { 48 ≤ digit }
-    ensures { MatchOption result (2 ^ 64 ≤ 10 * number + (digit - 48)) (λ n. (n ≡ 10 * number + (digit - 48)) × (n < 2 ^ 64)) }
+    ensures { MatchOption result (2 ^ 64 ≤ 10 * number + (digit - 48))
+        (λ n. (n ≡ 10 * number + (digit - 48)) × (n < 2 ^ 64)) }
 {
     number.checked_mul(10)?.checked_add(u64::from(digit - b'0'))
 }
@@ -69,7 +73,8 @@ fn parsed_number(text: &[u8], end: u8) -> Option<(u64, &[u8])>
 /// A number of 64 bits up to an end, without leading zeros, and what stands behind the end.
 fn read_number(text: &[u8], end: u8) -> Option<(u64, &[u8])>
     ensures reads { Gives (λ x. (x.0, x.1.now)) result (number_at end text.now) }
-    ensures found { IfSome result (λ x. (x.0 < 2 ^ 64) × (text.now ≡ decimal x.0 ++ end ∷ x.1.now)) }
+    ensures found { IfSome result
+        (λ x. (x.0 < 2 ^ 64) × (text.now ≡ decimal x.0 ++ end ∷ x.1.now)) }
 {
     parsed_number(text, end)
 }
@@ -78,7 +83,8 @@ fn read_number(text: &[u8], end: u8) -> Option<(u64, &[u8])>
 #[tactic(auto, unfolding(crate::specs::Reading::index_at))]
 fn read_index(text: &[u8], end: u8) -> Option<(u32, &[u8])>
     ensures reads { Gives (λ x. (x.0, x.1.now)) result (index_at end text.now) }
-    ensures found { IfSome result (λ x. (x.0 < 2 ^ 32) × (text.now ≡ decimal x.0 ++ end ∷ x.1.now)) }
+    ensures found { IfSome result
+        (λ x. (x.0 < 2 ^ 32) × (text.now ≡ decimal x.0 ++ end ∷ x.1.now)) }
 {
     let (number, rest) = read_number(text, end)?;
     if number < 0x1_0000_0000 {
@@ -105,7 +111,8 @@ fn read_reply(text: &[u8]) -> Option<(Reply, &[u8])>
 #[tactic(auto, unfolding(crate::specs::Reading::event_at))]
 fn read_event(text: &[u8]) -> Option<(Option<u32>, &[u8])>
     ensures reads { Gives (λ x. (x.0, x.1.now)) result (event_at text.now) }
-    ensures found { IfSome result (λ x. IfSome x.0 (λ n. n < 2 ^ 32) × (text.now ≡ event_then x.0 x.1.now)) }
+    ensures found { IfSome result
+        (λ x. IfSome x.0 (λ n. n < 2 ^ 32) × (text.now ≡ event_then x.0 x.1.now)) }
 {
     if let Some(rest) = behind(text, "-\n") {
         return Some((None, rest));
@@ -118,7 +125,8 @@ fn read_event(text: &[u8]) -> Option<(Option<u32>, &[u8])>
 #[tactic(auto, unfolding(crate::specs::Reading::pair_at))]
 fn read_pair(text: &[u8], end: u8) -> Option<(u32, u64, &[u8])>
     ensures reads { Gives (λ x. (x.0, x.1, x.2.now)) result (pair_at end text.now) }
-    ensures found { IfSome result (λ x. (x.0 < 2 ^ 32) × (x.1 < 2 ^ 64) × (text.now ≡ pair_then end x.0 x.1 x.2.now)) }
+    ensures found { IfSome result
+        (λ x. (x.0 < 2 ^ 32) × (x.1 < 2 ^ 64) × (text.now ≡ pair_then end x.0 x.1 x.2.now)) }
 {
     let (address, rest) = read_index(text, b' ')?;
     let (value, rest) = read_number(rest, end)?;
@@ -128,7 +136,8 @@ fn read_pair(text: &[u8], end: u8) -> Option<(u32, u64, &[u8])>
 #[tactic(auto, unfolding(crate::specs::Reading::load_at))]
 fn read_load(text: &[u8]) -> Option<(Op, u32, &[u8])>
     ensures reads { Gives (λ x. (x.0, x.1, x.2.now)) result (load_at text.now) }
-    ensures found { IfSome result (λ x. FitsOp x.0 × (x.1 < 2 ^ 32) × (codes "load " ++ text.now ≡ op_then x.0 x.1 x.2.now)) }
+    ensures found { IfSome result
+        (λ x. FitsOp x.0 × (x.1 < 2 ^ 32) × (codes "load " ++ text.now ≡ op_then x.0 x.1 x.2.now)) }
 {
     let (address, rest) = read_index(text, b' ')?;
     Some((Op::Load, address, rest))
@@ -137,7 +146,8 @@ fn read_load(text: &[u8]) -> Option<(Op, u32, &[u8])>
 #[tactic(auto, unfolding(crate::specs::Reading::cas_at))]
 fn read_cas(text: &[u8]) -> Option<(Op, u32, &[u8])>
     ensures reads { Gives (λ x. (x.0, x.1, x.2.now)) result (cas_at text.now) }
-    ensures found { IfSome result (λ x. FitsOp x.0 × (x.1 < 2 ^ 32) × (codes "cas " ++ text.now ≡ op_then x.0 x.1 x.2.now)) }
+    ensures found { IfSome result
+        (λ x. FitsOp x.0 × (x.1 < 2 ^ 32) × (codes "cas " ++ text.now ≡ op_then x.0 x.1 x.2.now)) }
 {
     let (address, rest) = read_index(text, b' ')?;
     let (expected, rest) = read_number(rest, b' ')?;
@@ -148,7 +158,8 @@ fn read_cas(text: &[u8]) -> Option<(Op, u32, &[u8])>
 #[tactic(auto, unfolding(crate::specs::Reading::newer_at))]
 fn read_newer(text: &[u8]) -> Option<(Op, u32, &[u8])>
     ensures reads { Gives (λ x. (x.0, x.1, x.2.now)) result (newer_at text.now) }
-    ensures found { IfSome result (λ x. FitsOp x.0 × (x.1 < 2 ^ 32) × (text.now ≡ op_then x.0 x.1 x.2.now)) }
+    ensures found { IfSome result
+        (λ x. FitsOp x.0 × (x.1 < 2 ^ 32) × (text.now ≡ op_then x.0 x.1 x.2.now)) }
 {
     if let Some(rest) = behind(text, "and ") {
         let (address, value, rest) = read_pair(rest, b' ')?;
@@ -177,7 +188,8 @@ fn read_newer(text: &[u8]) -> Option<(Op, u32, &[u8])>
 #[tactic(auto, unfolding(crate::specs::Reading::op_at))]
 fn read_op(text: &[u8]) -> Option<(Op, u32, &[u8])>
     ensures reads { Gives (λ x. (x.0, x.1, x.2.now)) result (op_at text.now) }
-    ensures found { IfSome result (λ x. FitsOp x.0 × (x.1 < 2 ^ 32) × (text.now ≡ op_then x.0 x.1 x.2.now)) }
+    ensures found { IfSome result
+        (λ x. FitsOp x.0 × (x.1 < 2 ^ 32) × (text.now ≡ op_then x.0 x.1 x.2.now)) }
 {
     if let Some(rest) = behind(text, "load ") {
         return read_load(rest);
@@ -203,7 +215,8 @@ fn read_op(text: &[u8]) -> Option<(Op, u32, &[u8])>
 #[tactic(auto, unfolding(crate::specs::Reading::entry_at))]
 fn read_entry(text: &[u8]) -> Option<(ReportLine, &[u8])>
     ensures reads { Gives (λ x. (x.0, x.1.now)) result (entry_at text.now) }
-    ensures found { IfSome result (λ x. FitsLine x.0 × (codes "entry " ++ text.now ≡ line_then x.0 x.1.now)) }
+    ensures found { IfSome result
+        (λ x. FitsLine x.0 × (codes "entry " ++ text.now ≡ line_then x.0 x.1.now)) }
 {
     let (bank, rest) = read_index(text, b' ')?;
     let (place, rest) = read_index(rest, b' ')?;
@@ -226,7 +239,8 @@ fn read_entry(text: &[u8]) -> Option<(ReportLine, &[u8])>
 #[tactic(auto, unfolding(crate::specs::Reading::answer_at))]
 fn read_answer(text: &[u8]) -> Option<(ReportLine, &[u8])>
     ensures reads { Gives (λ x. (x.0, x.1.now)) result (answer_at text.now) }
-    ensures found { IfSome result (λ x. FitsLine x.0 × (codes "answer " ++ text.now ≡ line_then x.0 x.1.now)) }
+    ensures found { IfSome result
+        (λ x. FitsLine x.0 × (codes "answer " ++ text.now ≡ line_then x.0 x.1.now)) }
 {
     let (processor, rest) = read_index(text, b' ')?;
     let (index, rest) = read_index(rest, b' ')?;
@@ -246,7 +260,8 @@ fn read_answer(text: &[u8]) -> Option<(ReportLine, &[u8])>
 #[tactic(auto, unfolding(crate::specs::Reading::order_at))]
 fn read_order(text: &[u8]) -> Option<(ReportLine, &[u8])>
     ensures reads { Gives (λ x. (x.0, x.1.now)) result (order_at text.now) }
-    ensures found { IfSome result (λ x. FitsLine x.0 × (codes "order " ++ text.now ≡ line_then x.0 x.1.now)) }
+    ensures found { IfSome result
+        (λ x. FitsLine x.0 × (codes "order " ++ text.now ≡ line_then x.0 x.1.now)) }
 {
     let (bank, rest) = read_index(text, b' ')?;
     let (place, rest) = read_index(rest, b' ')?;
@@ -331,7 +346,8 @@ fn read_radices(text: &[u8]) -> Option<(Radices, &[u8])>
 #[tactic(auto, unfolding(crate::specs::Reading::shape_at))]
 fn read_shape(text: &[u8]) -> Option<(ReportLine, &[u8])>
     ensures reads { Gives (λ x. (x.0, x.1.now)) result (shape_at text.now) }
-    ensures found { IfSome result (λ x. FitsLine x.0 × (codes "shape " ++ text.now ≡ line_then x.0 x.1.now)) }
+    ensures found { IfSome result
+        (λ x. FitsLine x.0 × (codes "shape " ++ text.now ≡ line_then x.0 x.1.now)) }
 {
     let (radices, rest) = read_radices(text)?;
     let (words, rest) = read_index(rest, b'\n')?;
@@ -341,7 +357,8 @@ fn read_shape(text: &[u8]) -> Option<(ReportLine, &[u8])>
 #[tactic(auto, unfolding(crate::specs::Reading::end_at))]
 fn read_end(text: &[u8]) -> Option<(ReportLine, &[u8])>
     ensures reads { Gives (λ x. (x.0, x.1.now)) result (end_at text.now) }
-    ensures found { IfSome result (λ x. FitsLine x.0 × (codes "end " ++ text.now ≡ line_then x.0 x.1.now)) }
+    ensures found { IfSome result
+        (λ x. FitsLine x.0 × (codes "end " ++ text.now ≡ line_then x.0 x.1.now)) }
 {
     if let Some(rest) = behind(text, "complete\n") {
         return Some((ReportLine::End(true), rest));

@@ -1,6 +1,8 @@
 //! One more line: an entry, an answer, or the order of an entry.
 
-ghost use Rattle.std.specs.Prelude.{◌≡◌, ◌≢◌, ℕ, ◌↔◌, ◌+◌, ◌≤◌, ◌<◌, ◌^◌, ◌==◌, ◌||◌, ◌∷◌, ◌++◌, [], true, false, IsTrue, IfOk, IfSome, OnOk, length, slice_get, slice_index, slice_index_or, vec_len};
+ghost use Rattle.std.specs.Prelude.{◌≡◌, ◌≢◌, ℕ, ◌↔◌, ◌+◌, ◌≤◌, ◌<◌, ◌^◌, ◌==◌, ◌||◌, ◌∷◌, ◌++◌, [], true, false};
+ghost use Rattle.std.specs.Prelude.{IsTrue, IfOk, IfSome, OnOk, length, slice_get, slice_index, slice_index_or};
+ghost use Rattle.std.specs.Prelude.{vec_len};
 ghost use Rattle.std.specs.List.{list_any};
 ghost use Rattle.report_lines.specs.Contents.{is_newer};
 ghost use Rattle.report_check.specs.Seen.{Seen, events_in, key_of as key};
@@ -46,14 +48,17 @@ impl<A: Allocator> Checker<A> {
 
     /// Whether the version of the report has the operation.
     fn has_version(&self, op: Op) -> bool
-        ensures { (s : Seen) → Shows s self.now → IsTrue result ↔ (is_newer op ≡ true → s.version ≡ 2) }
+        ensures { (s : Seen) → Shows s self.now
+            → IsTrue result ↔ (is_newer op ≡ true → s.version ≡ 2) }
     {
         !is_newer(op) || self.version == 2
     }
 
     /// Takes an `entry` line.
     pub fn take_entry(&mut self, entry: &EntryLine) -> Result<bool, AllocError>
-        ensures { IfOk result (λ taken. (s : Seen) → Shows s self.old → Checks s (ReportLine.Entry entry.now) taken self.new) }
+        ensures { IfOk result
+            (λ taken. (s : Seen) → Shows s self.old
+            → Checks s (ReportLine.Entry entry.now) taken self.new) }
     {
         if !self.is_in_section(4) || !self.is_next(entry) || !self.is_home(entry) {
             return Ok(false);
@@ -81,8 +86,10 @@ impl<A: Allocator> Checker<A> {
 
     /// Whether the answer names an entry that has none yet.
     fn names_entry(&self, answer: &AnswerLine) -> bool
-        ensures named { (s : Seen) → Shows s self.now → IsTrue result ↔ NamesUnansweredEntry s answer.now }
-        ensures inside { IsTrue result → answer.now.place < length (bank_of self.now.banks.items answer.now.bank) }
+        ensures named { (s : Seen) → Shows s self.now
+            → IsTrue result ↔ NamesUnansweredEntry s answer.now }
+        ensures inside { IsTrue result
+            → answer.now.place < length (bank_of self.now.banks.items answer.now.bank) }
     {
         match self.kept_at(answer.bank, answer.place) {
             None => false,
@@ -96,7 +103,8 @@ impl<A: Allocator> Checker<A> {
 
     /// Takes an `answer` line.
     pub fn take_answer(&mut self, answer: &AnswerLine) -> bool
-        ensures { (s : Seen) → Shows s self.old → Checks s (ReportLine.Answer answer.now) result self.new }
+        ensures { (s : Seen) → Shows s self.old
+            → Checks s (ReportLine.Answer answer.now) result self.new }
     {
         let key = key_of(answer);
         if !self.is_behind_entries(5) || 4096 <= answer.index || key < self.next_answer {
@@ -124,7 +132,8 @@ impl<A: Allocator> Checker<A> {
     fn orders_next(&self, order: &OrderLine) -> bool
         ensures next { (s : Seen) → Shows s self.now → IsTrue result ↔ OrdersNext s order.now }
         ensures inside { IsTrue result → order.now.bank < self.now.tiles }
-        ensures few { IsTrue result → slice_index self.now.ordered.items order.now.bank ≡ order.now.place }
+        ensures few { IsTrue result
+            → slice_index self.now.ordered.items order.now.bank ≡ order.now.place }
     {
         match self.kept_at(order.bank, order.place) {
             None => false,
@@ -157,7 +166,8 @@ impl<A: Allocator> Checker<A> {
 
     /// Takes an `order` line.
     pub fn take_order(&mut self, order: &OrderLine) -> bool
-        ensures { (s : Seen) → Shows s self.old → Checks s (ReportLine.Order order.now) result self.new }
+        ensures { (s : Seen) → Shows s self.old
+            → Checks s (ReportLine.Order order.now) result self.new }
     {
         if !self.is_behind_entries(7) || !self.is_told() || order.served < self.next_served {
             return false;
@@ -196,8 +206,11 @@ fn push_served<A: Allocator>(
 ) -> Result<(), AllocError>
     requires { bank < vec_len banks.old }
     ensures sized { vec_len banks.new ≡ vec_len banks.old }
-    ensures here { OnOk result (bank_of banks.new.items bank ≡ bank_of banks.old.items bank ++ served ∷ []) }
-    ensures others { OnOk result ((other : ℕ) → other ≢ bank → bank_of banks.new.items other ≡ bank_of banks.old.items other) }
+    ensures here { OnOk result
+        (bank_of banks.new.items bank ≡ bank_of banks.old.items bank ++ served ∷ []) }
+    ensures others { OnOk result
+        ((other : ℕ) → other ≢ bank
+        → bank_of banks.new.items other ≡ bank_of banks.old.items other) }
 {
     banks[bank].push(served)?;
     Ok(())
@@ -208,7 +221,8 @@ fn mark_answered<A: Allocator>(banks: &mut Vec<Vec<Served, A>, A>, bank: usize, 
     requires { place < length (bank_of banks.old.items bank) }
     ensures sized { vec_len banks.new ≡ vec_len banks.old }
     ensures here { bank_of banks.new.items bank ≡ marked (bank_of banks.old.items bank) place }
-    ensures others { (other : ℕ) → other ≢ bank → bank_of banks.new.items other ≡ bank_of banks.old.items other }
+    ensures others { (other : ℕ) → other ≢ bank
+        → bank_of banks.new.items other ≡ bank_of banks.old.items other }
 {
     banks[bank][place].answered = true;
 }
@@ -217,7 +231,9 @@ fn mark_answered<A: Allocator>(banks: &mut Vec<Vec<Served, A>, A>, bank: usize, 
 fn mark_event<A: Allocator>(used: &mut Vec<bool, A>, event: u32)
     requires { event < vec_len used.old }
     ensures sized { vec_len used.new ≡ vec_len used.old }
-    ensures named { (other : ℕ) → slice_index_or used.new.items other false ≡ (slice_index_or used.old.items other false || (event == other)) }
+    ensures named { (other : ℕ)
+        → slice_index_or used.new.items other false
+        ≡ (slice_index_or used.old.items other false || (event == other)) }
 {
     used[event as usize] = true;
 }
@@ -230,7 +246,9 @@ fn mark_events<A: Allocator>(used: &mut Vec<bool, A>, order: &OrderLine)
     requires answered { IfSome order.now.answered (λ n. n ≤ 196608) }
     ensures sized { vec_len used.new ≡ vec_len used.old }
     ensures named { (other : ℕ)
-        → slice_index_or used.new.items other false ≡ (slice_index_or used.old.items other false || list_any (λ n. n == other) (events_in order.now)) }
+        → slice_index_or used.new.items other false
+        ≡ (slice_index_or used.old.items other false || list_any (λ n. n == other)
+        (events_in order.now)) }
 {
     mark_event(used, order.issued);
     mark_event(used, order.served);

@@ -1,5 +1,6 @@
 -- The lines of what is left of a list.
-use Rattle.std.proofs.Common.{◌≡◌, ◌<◌, ◌==◌, ℕ, ◌+◌, Bool, true, false, List, [], ◌∷◌, ◌++◌, length, get_or, drop, not, filter, map, flat_map, Vec, sym, ap, ◌∙◌, append_assoc, arith}
+use Rattle.std.proofs.Common.{◌≡◌, ◌<◌, ◌==◌, ℕ, ◌+◌, Bool, true, false, List, [], ◌∷◌, ◌++◌, length, get_or, drop, not, filter, map, flat_map, Vec, sym, ap}
+use Rattle.std.proofs.Common.{◌∙◌, append_assoc, arith}
 use Rattle.std.specs.List.{enumerate_from, list_any}
 use Rattle.std.proofs.lemmas.List.{drop_more, get_or-map, length-map}
 use Rattle.report_lines.specs.declared.line.ReportLine.{ReportLine}
@@ -23,7 +24,8 @@ length-items_of : {X A : Type 0} (vs : List (Vec X A)) → length (items_of vs) 
 length-items_of vs = rw length-map
 
 -- the lists that are left after one more
-pub drop-items_of : {X A : Type 0} (vs : List (Vec X A)) (i : ℕ) (v : Vec X A) → i < length vs → v ≡ get_or vs i v → drop i (items_of vs) ≡ v.items ∷ drop (i + 1) (items_of vs)
+pub drop-items_of : {X A : Type 0} (vs : List (Vec X A)) (i : ℕ) (v : Vec X A) → i < length vs → v ≡ get_or vs i v
+    → drop i (items_of vs) ≡ v.items ∷ drop (i + 1) (items_of vs)
 drop-items_of vs i v inside read =
     drop_more (items_of vs) i [] (omega (arith, length-items_of vs)) ∙ ap (λ x. x ∷ drop (i + 1) (items_of vs)) (get_or-items_of vs i v inside read)
 
@@ -31,7 +33,9 @@ drop-items_of vs i v inside read =
 abbrev pub pieces_from : {X : Type 0} → (ℕ → List X → List ReportLine) → ℕ → List (List X) → List ReportLine
 pieces_from piece n xss = flat_map (λ x. piece x.0 x.1) (enumerate_from n xss)
 
-pub pieces_next : {X A : Type 0} (piece : ℕ → List X → List ReportLine) (before now whole : List ReportLine) (vs : List (Vec X A)) (i : ℕ) (v : Vec X A) → i < length vs → v ≡ get_or vs i v → now ≡ before ++ piece i v.items → before ++ pieces_from piece i (drop i (items_of vs)) ≡ whole → now ++ pieces_from piece (i + 1) (drop (i + 1) (items_of vs)) ≡ whole
+pub pieces_next : {X A : Type 0} (piece : ℕ → List X → List ReportLine) (before now whole : List ReportLine) (vs : List (Vec X A)) (i : ℕ) (v : Vec X A)
+    → i < length vs → v ≡ get_or vs i v → now ≡ before ++ piece i v.items → before ++ pieces_from piece i (drop i (items_of vs)) ≡ whole
+    → now ++ pieces_from piece (i + 1) (drop (i + 1) (items_of vs)) ≡ whole
 pieces_next piece before now whole vs i v inside read is all =
     ap (λ ls. ls ++ pieces_from piece (i + 1) (drop (i + 1) (items_of vs))) is
     ∙ append_assoc before (piece i v.items) (pieces_from piece (i + 1) (drop (i + 1) (items_of vs)))
@@ -39,12 +43,14 @@ pieces_next piece before now whole vs i v inside read is all =
     ∙ all
 
 -- a list that has none of them is passed over
-pub list_any-passed : {X A : Type 0} (p : List X → Bool) (vs : List (Vec X A)) (i : ℕ) (v : Vec X A) (whole : Bool) → i < length vs → v ≡ get_or vs i v → p v.items ≡ false → list_any p (drop i (items_of vs)) ≡ whole → list_any p (drop (i + 1) (items_of vs)) ≡ whole
+pub list_any-passed : {X A : Type 0} (p : List X → Bool) (vs : List (Vec X A)) (i : ℕ) (v : Vec X A) (whole : Bool) → i < length vs → v ≡ get_or vs i v
+    → p v.items ≡ false → list_any p (drop i (items_of vs)) ≡ whole → list_any p (drop (i + 1) (items_of vs)) ≡ whole
 list_any-passed p vs i v whole inside read none all =
     let here : list_any p (v.items ∷ drop (i + 1) (items_of vs)) ≡ list_any p (drop (i + 1) (items_of vs)) = rw none in
     sym here ∙ ap (list_any p) (sym (drop-items_of vs i v inside read)) ∙ all
 
-pub list_any-found : {X A : Type 0} (p : List X → Bool) (vs : List (Vec X A)) (i : ℕ) (v : Vec X A) (whole : Bool) → i < length vs → v ≡ get_or vs i v → p v.items ≡ true → list_any p (drop i (items_of vs)) ≡ whole → true ≡ whole
+pub list_any-found : {X A : Type 0} (p : List X → Bool) (vs : List (Vec X A)) (i : ℕ) (v : Vec X A) (whole : Bool) → i < length vs → v ≡ get_or vs i v
+    → p v.items ≡ true → list_any p (drop i (items_of vs)) ≡ whole → true ≡ whole
 list_any-found p vs i v whole inside read found all =
     let here : list_any p (v.items ∷ drop (i + 1) (items_of vs)) ≡ true = rw found in
     sym here ∙ ap (list_any p) (sym (drop-items_of vs i v inside read)) ∙ all

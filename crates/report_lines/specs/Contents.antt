@@ -1,5 +1,6 @@
 -- Which lines the report of given contents has (this project's own format).
-use Rattle.std.specs.Prelude.{ℕ, ◌+◌, ◌==◌, ◌<◌, List, [], ◌∷◌, ◌++◌, Bool, true, false, not, if◌then◌else◌, Option, Some, None, filter, map, flat_map, fold, max, length, Vec}
+use Rattle.std.specs.Prelude.{ℕ, ◌+◌, ◌==◌, ◌<◌, List, [], ◌∷◌, ◌++◌, Bool, true, false, not, if◌then◌else◌, Option}
+use Rattle.std.specs.Prelude.{Some, None, filter, map, flat_map, fold, max, length, Vec}
 use Rattle.std.specs.List.{list_any, enumerate_from, range_with_len, find}
 use Rattle.std.specs.Option.{option_to_list}
 use Rattle.torus.specs.Shape.{Shape}
@@ -57,7 +58,16 @@ word_lines last = map (λ w. lines.Word w.0 w.1) (set_words last)
 
 -- the line of an entry
 abbrev pub entry_line : ℕ → ℕ → EntryRow → ReportLine
-entry_line bank place e = lines.Entry (record { bank = bank; place = place; source = e.source; tag = e.tag; address = e.address; op = e.op; reply = e.reply })
+entry_line bank place e =
+    lines.Entry (record {
+      bank = bank;
+      place = place;
+      source = e.source;
+      tag = e.tag;
+      address = e.address;
+      op = e.op;
+      reply = e.reply;
+    })
 
 -- a line for each entry of a bank, places rising
 abbrev pub bank_lines : ℕ → List EntryRow → List ReportLine
@@ -69,7 +79,14 @@ entry_lines entries = flat_map (λ b. bank_lines b.0 b.1) (enumerate_from 0 entr
 
 -- the line of an answer
 abbrev pub answer_line : ℕ → AnswerRow → ReportLine
-answer_line processor a = lines.Answer (record { processor = processor; index = a.index; bank = a.bank; place = a.place; reply = a.reply })
+answer_line processor a =
+    lines.Answer (record {
+      processor = processor;
+      index = a.index;
+      bank = a.bank;
+      place = a.place;
+      reply = a.reply;
+    })
 
 -- one more than the greatest index, or 0
 abbrev pub index_count : List AnswerRow → ℕ
@@ -81,18 +98,22 @@ answer_row_of answers index = find (λ a. a.index == index) answers
 
 -- the answers of a processor, indexes rising
 abbrev pub by_index : List AnswerRow → List AnswerRow
-by_index answers = flat_map (λ i. option_to_list (answer_row_of answers i)) (range_with_len 0 (index_count answers))
+by_index answers = flat_map (λ i. option_to_list (answer_row_of answers i))
+    (range_with_len 0 (index_count answers))
 
 -- a line for each answer, processors rising, and those of a processor by their indexes
 abbrev pub answer_lines : List (List AnswerRow) → List ReportLine
-answer_lines answers = flat_map (λ p. map (answer_line p.0) (by_index p.1)) (enumerate_from 0 answers)
+answer_lines answers = flat_map (λ p. map (answer_line p.0) (by_index p.1))
+    (enumerate_from 0 answers)
 
 -- a line for each entry in the order of service; none where that is not wanted
 abbrev pub order_lines : List OrderLine → List ReportLine
 order_lines order = map lines.Order order
 
--- the lines of the report of a shape with its opening words, the entries of each bank, the answers of each processor, its last words, the order of service, and whether every script is finished
-abbrev pub report_lines_of : Shape → List ℕ → List (List EntryRow) → List (List AnswerRow) → List ℕ → List OrderLine → Bool → List ReportLine
+-- the lines of the report of a shape with its opening words, the entries of each bank, the answers
+-- of each processor, its last words, the order of service, and whether every script is finished
+abbrev pub report_lines_of : Shape → List ℕ → List (List EntryRow) → List (List AnswerRow) → List ℕ
+    → List OrderLine → Bool → List ReportLine
 report_lines_of shape opening entries answers last order finished =
     lines.Header (version_of entries) ∷ lines.Shape (radices_of shape.radices) (length opening) ∷ []
     ++ init_lines opening

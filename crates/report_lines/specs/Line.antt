@@ -1,5 +1,6 @@
 -- What each line of a report spells (this project's own format).
-use Rattle.std.specs.Prelude.{ℕ, List, [], ◌∷◌, ◌++◌, ◌==◌, ◌&&◌, true, false, if◌then◌else◌, Option, Some, None, codes, decimal, length}
+use Rattle.std.specs.Prelude.{ℕ, List, [], ◌∷◌, ◌++◌, ◌==◌, ◌&&◌, true, false, if◌then◌else◌, Option, Some, None}
+use Rattle.std.specs.Prelude.{codes, decimal, length}
 use Rattle.std.specs.List.{join_with_byte, flat_map}
 use Rattle.packet.specs.declared.kinds.Op.{Op}
 use Rattle.packet.specs.declared.kinds.Op.TheVariants.{Load, Store, Swap, Cas, Add, And, Or, Xor, Max, Min}
@@ -8,7 +9,8 @@ use Rattle.packet.specs.declared.kinds.Reply.TheVariants.{Old, Ok as Stored}
 use Rattle.report_lines.specs.declared.line.Radices.{Radices}
 use Rattle.report_lines.specs.declared.line.Radices.TheVariants.{One, Two, Three}
 use Rattle.report_lines.specs.declared.line.ReportLine.{ReportLine}
-use Rattle.report_lines.specs.declared.line.ReportLine.TheVariants.{Header, Shape, Init, Entry, Answer, Word, Order, End}
+use Rattle.report_lines.specs.declared.line.ReportLine.TheVariants.{Header, Shape, Init, Entry, Answer, Word, Order}
+use Rattle.report_lines.specs.declared.line.ReportLine.TheVariants.{End}
 
 -- the radix of each dimension, as a list
 abbrev pub radix_list : Radices → List ℕ
@@ -36,7 +38,8 @@ abbrev pub op_words : Op → ℕ → List (List ℕ) → List (List ℕ)
 op_words Load address more = codes "load" ∷ decimal address ∷ more
 op_words (Store value) address more = codes "store" ∷ decimal address ∷ decimal value ∷ more
 op_words (Swap value) address more = codes "swap" ∷ decimal address ∷ decimal value ∷ more
-op_words (Cas expected new) address more = codes "cas" ∷ decimal address ∷ decimal expected ∷ decimal new ∷ more
+op_words (Cas expected new) address more =
+    codes "cas" ∷ decimal address ∷ decimal expected ∷ decimal new ∷ more
 op_words (Add value) address more = codes "add" ∷ decimal address ∷ decimal value ∷ more
 op_words (And value) address more = codes "and" ∷ decimal address ∷ decimal value ∷ more
 op_words (Or value) address more = codes "or" ∷ decimal address ∷ decimal value ∷ more
@@ -52,12 +55,16 @@ event_word (Some number) = decimal number
 -- the words of a line (this project's own format)
 abbrev pub words_of : ReportLine → List (List ℕ)
 words_of (Header version) = codes "torusmem" ∷ decimal version ∷ []
-words_of (Shape radices words) = codes "shape" ∷ radix_word radices ∷ decimal (length (radix_list radices)) ∷ decimal words ∷ []
+words_of (Shape radices words) =
+    codes "shape" ∷ radix_word radices ∷ decimal (length (radix_list radices)) ∷ decimal words ∷ []
 words_of (Init address value) = codes "init" ∷ decimal address ∷ decimal value ∷ []
-words_of (Entry e) = codes "entry" ∷ decimal e.bank ∷ decimal e.place ∷ decimal e.source ∷ decimal e.tag ∷ op_words e.op e.address (reply_word e.reply ∷ [])
-words_of (Answer a) = codes "answer" ∷ decimal a.processor ∷ decimal a.index ∷ decimal a.bank ∷ decimal a.place ∷ reply_word a.reply ∷ []
+words_of (Entry e) = codes "entry" ∷ decimal e.bank ∷ decimal e.place ∷ decimal e.source
+    ∷ decimal e.tag ∷ op_words e.op e.address (reply_word e.reply ∷ [])
+words_of (Answer a) = codes "answer" ∷ decimal a.processor ∷ decimal a.index ∷ decimal a.bank
+    ∷ decimal a.place ∷ reply_word a.reply ∷ []
 words_of (Word address value) = codes "word" ∷ decimal address ∷ decimal value ∷ []
-words_of (Order o) = codes "order" ∷ decimal o.bank ∷ decimal o.place ∷ decimal o.issued ∷ decimal o.served ∷ event_word o.answered ∷ []
+words_of (Order o) = codes "order" ∷ decimal o.bank ∷ decimal o.place ∷ decimal o.issued
+    ∷ decimal o.served ∷ event_word o.answered ∷ []
 words_of (End true) = codes "end" ∷ codes "complete" ∷ []
 words_of (End false) = codes "end" ∷ codes "incomplete" ∷ []
 

@@ -6,5 +6,6 @@ use Rattle.report_lines.specs.Contents.{items_of, report_lines_of}
 
 -- the lines of the report of these parts
 abbrev pub lines_of_parts : {A : Type 0} → Parts A → List ReportLine
-lines_of_parts parts = report_lines_of parts.torus parts.opening.items (items_of parts.entries.items)
+lines_of_parts parts = report_lines_of parts.torus parts.opening.items
+    (items_of parts.entries.items)
     (items_of parts.answers.items) parts.last.items parts.order.items parts.finished

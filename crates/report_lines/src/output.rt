@@ -18,7 +18,8 @@ pub trait Out {
     fn put(&mut self, bytes: &[u8]) -> usize
         ensures bound { result ≤ length bytes.now }
         ensures bytes { Appends (taken self.old) (taken self.new) (take result bytes.now) }
-        ensures count { failures self.new ≡ failures_after (failures self.old) (length bytes.now) result };
+        ensures count { failures self.new
+            ≡ failures_after (failures self.old) (length bytes.now) result };
 }
 
 /// An output over any writer. An error takes no byte, and the write is not tried again.

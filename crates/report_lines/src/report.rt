@@ -73,7 +73,8 @@ pub fn write_report<W: Out, A: Allocator>(
     report: &Report<A>,
 ) -> Result<(), OutputFailed>
     ensures ok { OnOk result (Appends (W.taken out.old) (W.taken out.new) (text_of report.now)) }
-    ensures err { OnErr result (AppendsFront (W.taken out.old) (W.taken out.new) (text_of report.now)) }
+    ensures err { OnErr result
+        (AppendsFront (W.taken out.old) (W.taken out.new) (text_of report.now)) }
     ensures quiet { OnOk result (W.failures out.new ≡ W.failures out.old) }
     ensures failed { OnErr result (Rose (W.failures out.old) (W.failures out.new)) }
 {

@@ -2,7 +2,8 @@
 
 ghost use Rattle.std.specs.Prelude.{◌≡◌, ◌≤◌, ◌++◌, All, OnOk, length, vec_len};
 ghost use Rattle.std.specs.List.{list_any};
-ghost use Rattle.report_lines.specs.Contents.{bank_lines, entry_lines, init_lines, is_newer, items_of, order_lines, version_of, word_lines};
+ghost use Rattle.report_lines.specs.Contents.{bank_lines, entry_lines, init_lines, is_newer, items_of, order_lines};
+ghost use Rattle.report_lines.specs.Contents.{version_of, word_lines};
 
 use crate::line::{EntryLine, OrderLine, ReportLine};
 use crate::parts::EntryRow;
@@ -94,7 +95,8 @@ pub fn push_entries<A: Allocator>(
 ) -> Result<(), AllocError>
     requires banks { length entries.now ≤ 64 }
     requires places { All (λ v. vec_len v ≤ 65536) entries.now }
-    ensures { OnOk result (lines.new.items ≡ lines.old.items ++ entry_lines (items_of entries.now)) }
+    ensures { OnOk result
+        (lines.new.items ≡ lines.old.items ++ entry_lines (items_of entries.now)) }
 {
     for (bank, entries) in entries.iter().enumerate() {
         push_bank(lines, bank as u32, entries)?;

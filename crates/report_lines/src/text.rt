@@ -1,7 +1,8 @@
 ghost use Rattle.std.specs.Prelude.{◌≡◌, ℕ, List, ◌+◌, ◌≤◌, ◌∷◌, ◌++◌, length, decimal, [], codes, flat_map};
 ghost use Rattle.std.specs.List.{join_with_byte};
 ghost use Rattle.arrayvec.specs.ArrayString.{array_string_len};
-ghost use Rattle.report_lines.specs.Line.{crossed, joined_on, line_text, words_of, op_words, radix_word, reply_word, event_word};
+ghost use Rattle.report_lines.specs.Line.{crossed, joined_on, line_text, words_of, op_words, radix_word, reply_word};
+ghost use Rattle.report_lines.specs.Line.{event_word};
 
 use crate::line::{AnswerLine, EntryLine, OrderLine, Radices, ReportLine};
 use arrayvec::ArrayString;
@@ -113,7 +114,8 @@ fn put_event(line: &mut LineText, number: Option<u32>)
 fn put_change(line: &mut LineText, name: &str, address: u32, value: u64)
     requires room { array_string_len line.old + 38 ≤ 128 }
     requires short { length name.now ≤ 5 }
-    ensures text { line.new.bytes ≡ line.old.bytes ++ (32 ∷ name.now) ++ (32 ∷ decimal address) ++ (32 ∷ decimal value) }
+    ensures text { line.new.bytes
+        ≡ line.old.bytes ++ (32 ∷ name.now) ++ (32 ∷ decimal address) ++ (32 ∷ decimal value) }
     ensures len { array_string_len line.new ≤ array_string_len line.old + 38 }
 {
     put_word(line, name);
@@ -124,7 +126,9 @@ fn put_change(line: &mut LineText, name: &str, address: u32, value: u64)
 /// Adds the operation with its address and its values.
 fn put_op(line: &mut LineText, op: Op, address: u32)
     requires { array_string_len line.old + 57 ≤ 128 }
-    ensures text { (more : List (List ℕ)) → line.new.bytes ++ joined_on more ≡ line.old.bytes ++ joined_on (op_words op address more) }
+    ensures text { (more : List (List ℕ))
+        → line.new.bytes ++ joined_on more
+        ≡ line.old.bytes ++ joined_on (op_words op address more) }
     ensures len { array_string_len line.new ≤ array_string_len line.old + 57 }
 {
     match op {
@@ -199,7 +203,8 @@ fn put_shape(line: &mut LineText, radices: Radices, words: u32)
 /// Adds an address and a value.
 fn put_pair(line: &mut LineText, address: u32, value: u64)
     requires { array_string_len line.old ≤ 8 }
-    ensures text { line.new.bytes ≡ line.old.bytes ++ (32 ∷ decimal address) ++ (32 ∷ decimal value) }
+    ensures text { line.new.bytes
+        ≡ line.old.bytes ++ (32 ∷ decimal address) ++ (32 ∷ decimal value) }
     ensures len { array_string_len line.new ≤ 127 }
 {
     put_index(line, address);

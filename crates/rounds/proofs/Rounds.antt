@@ -29,7 +29,8 @@ module _ {S C : Type 0} (step : S → C → Option S) where
   none_enabled s t d [] found on enabled = on_none d on
   none_enabled s t d (c ∷ cs) found on enabled = none_cases s t c d cs (none_enabled s t d cs) (step s c) refl found on enabled
 
-  found_cases : (s : S) (c d : C) (cs : List C) → (first_enabled step s cs ≡ Some d → IsOn d cs × ((t : S) × (step s d ≡ Some t))) → (o : Option S) → step s c ≡ o
+  found_cases : (s : S) (c d : C) (cs : List C) → (first_enabled step s cs ≡ Some d → IsOn d cs × ((t : S) × (step s d ≡ Some t))) → (o : Option S)
+      → step s c ≡ o
       → if_enabled step c (first_enabled step s cs) o ≡ Some d → IsOn d (c ∷ cs) × ((t : S) × (step s d ≡ Some t))
   found_cases s c d cs ih None is found = let at = ih found in (on_tail c d cs at.0, at.1)
   found_cases s c d cs ih (Some t) is found =
@@ -43,7 +44,8 @@ module _ {S C : Type 0} (step : S → C → Option S) where
 
   module _ (cs : List C) (finished : S → Bool) (Inv : S → Type 0) (left : S → ℕ)
       (kept : (s : S) → Inv s → Inv (after_attempts step s cs)) (falls : (s : S) → Inv s → finished s ≡ false → left (after_attempts step s cs) < left s) where
-    by_finished : (m : ℕ) (s : S) → ((t : S) → Inv t → left t < m → Finishes step cs finished left t) → Inv s → left s < suc m → (b : Bool) → finished s ≡ b → Finishes step cs finished left s
+    by_finished : (m : ℕ) (s : S) → ((t : S) → Inv t → left t < m → Finishes step cs finished left t) → Inv s → left s < suc m → (b : Bool) → finished s ≡ b
+        → Finishes step cs finished left s
     by_finished m s ih inv low true is = record { rounds = 0; few = omega arith; is = record { done = is; least = λ j h. absurd (omega arith) } }
     by_finished m s ih inv low false is =
         let lower = falls s inv is in
@@ -87,7 +89,8 @@ module _ {S C : Type 0} (step : S → C → Option S) where
     round_falls s [] inv = omega arith
     round_falls s (c ∷ ds) inv =
         let first : left (or_same s (step s c)) + one_if_moved (step s c) ≤ left s = or_falls s c (step s c) refl inv in
-        let rest : left (after_attempts step (or_same s (step s c)) ds) + moves_in step (or_same s (step s c)) ds ≤ left (or_same s (step s c)) = round_falls (or_same s (step s c)) ds (or_kept s c (step s c) refl inv) in
+        let rest : left (after_attempts step (or_same s (step s c)) ds) + moves_in step (or_same s (step s c)) ds ≤ left (or_same s (step s c)) =
+        round_falls (or_same s (step s c)) ds (or_kept s c (step s c) refl inv) in
         omega arith
 
   -- while it isn't finished one of a round's choices is enabled: so rounds finish, after at most as many as what is left
@@ -99,7 +102,8 @@ module _ {S C : Type 0} (step : S → C → Option S) where
       (λ t at busy. let c = lives t at busy in let some = round_moves t c.0 cs c.1 in let all = round_falls Inv left kept falls t cs at in omega arith) s inv
 
   -- an enabled choice of the round is found, the same or one before it
-  some_found : (s : S) (c : C) (cs : List C) → IsOn c cs → IsEnabled step s c → (o : Option C) → first_enabled step s cs ≡ o → (d : C) × (first_enabled step s cs ≡ Some d)
+  some_found : (s : S) (c : C) (cs : List C) → IsOn c cs → IsEnabled step s c → (o : Option C) → first_enabled step s cs ≡ o
+      → (d : C) × (first_enabled step s cs ≡ Some d)
   some_found s c cs on enabled (Some d) is = (d, is)
   some_found s c cs on enabled None is = absurd (none_enabled s enabled.0 c cs is on enabled.1)
 

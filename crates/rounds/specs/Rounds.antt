@@ -1,5 +1,6 @@
 -- Rounds of attempts, of any machine whose steps are a partial function.
-use Rattle.std.specs.Prelude.{◌≡◌, ℕ, zero, suc, ◌+◌, ◌<◌, ◌≤◌, Bool, true, false, List, [], ◌∷◌, ◌++◌, Option, Some, None}
+use Rattle.std.specs.Prelude.{◌≡◌, ℕ, zero, suc, ◌+◌, ◌<◌, ◌≤◌, Bool, true, false, List, [], ◌∷◌, ◌++◌, Option, Some}
+use Rattle.std.specs.Prelude.{None}
 
 -- an item is on a list
 abbrev pub IsOn : {A : Type 0} → A → List A → Type 0
@@ -57,9 +58,12 @@ module _ {S C : Type 0} (step : S → C → Option S) where
     pub few : rounds ≤ left s
     pub is : IsLeast cs finished s rounds
 
-  -- what work there is: enabled steps lower what is left, in the states of which a test holds and which they keep; and
+  -- what work there is: enabled steps lower what is left, in the states of which a test holds and
+  -- which they keep; and
   -- while the machine isn't finished, a choice of the round is enabled
-  pub record IsBoundedWork (cs : List C) (finished : S → Bool) (reached : S → Bool) (left : S → ℕ) : Type 0 where
+  pub record IsBoundedWork (cs : List C) (finished : S → Bool) (reached : S → Bool)
+      (left : S → ℕ) : Type 0 where
     pub kept : (s t : S) (c : C) → reached s ≡ true → step s c ≡ Some t → reached t ≡ true
     pub falls : (s t : S) (c : C) → reached s ≡ true → step s c ≡ Some t → left t < left s
-    pub lives : (s : S) → reached s ≡ true → finished s ≡ false → (c : C) × IsOn c cs × IsEnabled s c
+    pub lives : (s : S) → reached s ≡ true → finished s ≡ false
+        → (c : C) × IsOn c cs × IsEnabled s c

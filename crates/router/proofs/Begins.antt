@@ -26,7 +26,8 @@ module _ (s : Shape) (is : IsAccepted s) (t d u : ℕ) (low : t < tiles_of s) (i
   source_of_minus (suc p) e n = neighbour_is Plus n
 
 -- ports whose ends are the new ones are the new ports
-pub ports_are_new : (s : Shape) (t depth words : ℕ) (inputs : List ReceivingEnd) (outputs : List SendingEnd) (p : PortEnds) → length inputs ≡ port_count (dims_of s) → length outputs ≡ port_count (dims_of s)
+pub ports_are_new : (s : Shape) (t depth words : ℕ) (inputs : List ReceivingEnd) (outputs : List SendingEnd) (p : PortEnds)
+    → length inputs ≡ port_count (dims_of s) → length outputs ≡ port_count (dims_of s)
     → ((i : ℕ) → i < port_count (dims_of s) → get_or inputs i no_input ≡ new_input s t depth i)
     → ((o : ℕ) → o < port_count (dims_of s) → get_or outputs o no_output ≡ new_output s t depth o)
     → p ≡ record { inputs = inputs; outputs = outputs; words = words }

@@ -34,7 +34,8 @@ module _ (s : Shape) (is : IsAccepted s) (t : ℕ) (low : t < tiles_of s) where
       let small : i < port_count (dims_of s) = omega (arith, length-map-range_with_len (input_channel s t) 0 (port_count (dims_of s))) in
       (small, get_or-map-range_with_len (input_channel s t) 0 (port_count (dims_of s)) i i 0 small (omega arith))
 
-  pub output_at : (o : ℕ) → o < length (router_wiring s t).outputs → (o < port_count (dims_of s)) × (get_or (router_wiring s t).outputs o 0 ≡ output_channel s t o)
+  pub output_at : (o : ℕ) → o < length (router_wiring s t).outputs
+      → (o < port_count (dims_of s)) × (get_or (router_wiring s t).outputs o 0 ≡ output_channel s t o)
   output_at o h =
       let small : o < port_count (dims_of s) = omega (arith, length-map-range_with_len (output_channel s t) 0 (port_count (dims_of s))) in
       (small, get_or-map-range_with_len (output_channel s t) 0 (port_count (dims_of s)) o o 0 small (omega arith))
@@ -86,7 +87,8 @@ module _ (s : Shape) (is : IsAccepted s) (t : ℕ) (low : t < tiles_of s) where
         ∙ ap (λ z. mk (ports_of depth around (router_wiring s t)).inputs (ports_of depth around (router_wiring s t)).outputs (z * depth))
         (sym (length-replicate (channel_count s) (empty_ring depth)))
 
-pub ports_shown : (s : Shape) → IsAccepted s → (t depth : ℕ) (words : List ℕ) → t < tiles_of s → 0 < depth → new_ports s t depth ≡ ports_of depth (empty_surroundings s depth words) (router_wiring s t)
+pub ports_shown : (s : Shape) → IsAccepted s → (t depth : ℕ) (words : List ℕ) → t < tiles_of s → 0 < depth
+    → new_ports s t depth ≡ ports_of depth (empty_surroundings s depth words) (router_wiring s t)
 unfolding around
 ports_shown s is t depth words low some = shown s is t low depth words some
 

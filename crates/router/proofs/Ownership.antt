@@ -1,5 +1,6 @@
 -- Which input owns which output, after a write.
-use Rattle.std.proofs.Common.{◌≡◌, ◌≢◌, ℕ, zero, suc, ◌<◌, ◌⊎◌, List, [], ◌∷◌, length, get_or, set, Option, Some, None, true, false, inl, inr, refl, sym, ap, ◌∙◌, arith, length-set, get_or-set_same, get_or-set_other}
+use Rattle.std.proofs.Common.{◌≡◌, ◌≢◌, ℕ, zero, suc, ◌<◌, ◌⊎◌, List, [], ◌∷◌, length, get_or, set, Option, Some, None, true, false, inl, inr, refl, sym, ap}
+use Rattle.std.proofs.Common.{◌∙◌, arith, length-set, get_or-set_same, get_or-set_other}
 use Rattle.std.specs.Prelude.{is_some, IfSome}
 use Rattle.std.proofs.lemmas.Bool.{cases_eq, cases_lt}
 use Rattle.std.proofs.lemmas.Bool.Decides.{eqb_tells}
@@ -47,14 +48,16 @@ noted xs ys i o all free low j p e = elim (read_back xs i j p (Some o) e) [
       get_or-set_other ys o p (Some i) None differ ∙ said
 ]
 
-pub inverse-freed : (owned owner : List (Option ℕ)) (i o : ℕ) → AreInverse owned owner → get_or owned i None ≡ Some o → AreInverse (set owned i None) (set owner o None)
+pub inverse-freed : (owned owner : List (Option ℕ)) (i o : ℕ) → AreInverse owned owner → get_or owned i None ≡ Some o
+    → AreInverse (set owned i None) (set owner o None)
 inverse-freed owned owner i o is e = record {
   counts = length-set owner o None ∙ is.counts ∙ sym (length-set owned i None);
   forth = cleared owned owner i o is.forth (is.forth i o e);
   back = cleared owner owned o i is.back e;
 }
 
-inverse-given : (owned owner : List (Option ℕ)) (i o : ℕ) → AreInverse owned owner → i < length owned → o < length owned → get_or owned i None ≡ None → get_or owner o None ≡ None
+inverse-given : (owned owner : List (Option ℕ)) (i o : ℕ) → AreInverse owned owner → i < length owned → o < length owned → get_or owned i None ≡ None
+    → get_or owner o None ≡ None
     → AreInverse (set owned i (Some o)) (set owner o (Some i))
 inverse-given owned owner i o is input output none free = record {
   counts = length-set owner o (Some i) ∙ is.counts ∙ sym (length-set owned i (Some o));
@@ -70,7 +73,8 @@ is_owned-by : (owned : List (Option ℕ)) (i o : ℕ) → get_or owned i None �
 is_owned-by owned i o e = list_any_at (λ k. is_output k o) owned i None (some_within owned i o e) (ap (λ k. is_output k o) e ∙ is_output-self o)
 
 -- once an input has given back what it owned, the second list has no owner of an output that was free
-still_free : (xs owned owner : List (Option ℕ)) (i o : ℕ) → AreInverse owned owner → owned ≡ set xs i None → is_among xs o ≡ false → (x : Option ℕ) → get_or owner o None ≡ x → x ≡ None
+still_free : (xs owned owner : List (Option ℕ)) (i o : ℕ) → AreInverse owned owner → owned ≡ set xs i None → is_among xs o ≡ false → (x : Option ℕ)
+    → get_or owner o None ≡ x → x ≡ None
 still_free xs owned owner i o is was free None e = refl
 still_free xs owned owner i o is was free (Some j) e =
     elim (read_back xs i j o None (ap (λ l. get_or l j None) (sym was) ∙ is.back o j e)) [
@@ -78,7 +82,8 @@ still_free xs owned owner i o is was free (Some j) e =
       | inr there ↦ let wrong : true ≡ false = sym (is_owned-by xs j o there.1) ∙ free in cc
     ]
 
-pub inverse-replaced : (xs owned owner : List (Option ℕ)) (i o : ℕ) → AreInverse owned owner → owned ≡ set xs i None → i < length xs → o < length xs → is_among xs o ≡ false
+pub inverse-replaced : (xs owned owner : List (Option ℕ)) (i o : ℕ) → AreInverse owned owner → owned ≡ set xs i None → i < length xs → o < length xs
+    → is_among xs o ≡ false
     → AreInverse (set owned i (Some o)) (set owner o (Some i))
 inverse-replaced xs owned owner i o is was input output free =
     let len : length owned ≡ length xs = ap length was ∙ length-set xs i None in
@@ -96,11 +101,13 @@ module _ (owned owner : List (Option ℕ)) (is : AreInverse owned owner) (o : �
   ]
 
   pub is_owned-told : (x : Option ℕ) → get_or owner o None ≡ x → is_among owned o ≡ is_some x
-  is_owned-told None e = list_any_none (λ k. is_output k o) owned (All-from_get_or (λ k. is_output k o ≡ false) owned None (λ i h. no_input e (get_or owned i None) i refl))
+  is_owned-told None e = list_any_none (λ k. is_output k o) owned
+      (All-from_get_or (λ k. is_output k o ≡ false) owned None (λ i h. no_input e (get_or owned i None) i refl))
   is_owned-told (Some i) e = is_owned-by owned i o (is.back o i e)
 
 -- the owned output of an input is one of the outputs
-pub owned_within : (owned owner : List (Option ℕ)) → AreInverse owned owner → (i : ℕ) (x : Option ℕ) → x ≡ get_or owned i None → IfSome x (λ o. o < length owned)
+pub owned_within : (owned owner : List (Option ℕ)) → AreInverse owned owner → (i : ℕ) (x : Option ℕ) → x ≡ get_or owned i None
+    → IfSome x (λ o. o < length owned)
 owned_within owned owner is i None e = tt
 owned_within owned owner is i (Some o) e = omega (arith, is.counts, some_within owner o i (is.forth i o (sym e)))
 

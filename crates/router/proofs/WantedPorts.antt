@@ -1,5 +1,6 @@
 -- A router wants no port that isn't there.
-use Rattle.std.proofs.Common.{◌≡◌, ◌≢◌, ℕ, ◌<◌, Bool, true, false, List, length, get_or, set, replicate, Option, Some, None, inl, inr, refl, sym, ap, ◌∙◌, arith, subst, length-set, get_or-set_same, get_or-set_other, nat_lt, if◌then◌else◌}
+use Rattle.std.proofs.Common.{◌≡◌, ◌≢◌, ℕ, ◌<◌, Bool, true, false, List, length, get_or, set, replicate, Option, Some, None, inl, inr, refl, sym, ap, ◌∙◌}
+use Rattle.std.proofs.Common.{arith, subst, length-set, get_or-set_same, get_or-set_other, nat_lt, if◌then◌else◌}
 use Rattle.std.specs.Prelude.{option_map, not, ◌==◌}
 use Rattle.std.proofs.lemmas.Bool.{cases_eq, cases_lt}
 use Rattle.std.proofs.lemmas.Bool.Decides.{nat_tests}
@@ -68,13 +69,15 @@ module _ (s : Shape) (tile : ℕ) where
       pub there : output < port_count (dims_of s)
       pub is_flit : flit ≢ 0
 
-    put_mapped : (i flit : ℕ) (o : Option ℕ) (want : Want) → flit ≢ 0 → ((n : ℕ) → o ≡ Some n → n < port_count (dims_of s)) → option_map (λ n. Put n flit) o ≡ Some want → Puts i want
+    put_mapped : (i flit : ℕ) (o : Option ℕ) (want : Want) → flit ≢ 0 → ((n : ℕ) → o ≡ Some n → n < port_count (dims_of s))
+        → option_map (λ n. Put n flit) o ≡ Some want → Puts i want
     put_mapped i flit None want word low e = cc
     put_mapped i flit (Some n) want word low e = record { output = n; flit = flit; is_put = sym (some_same e); there = low n refl; is_flit = word }
 
     put_latched : (i : ℕ) (latch : Option ℕ) (want : Want) → latch_of r i ≡ latch → wants_to_put s tile r i latch ≡ Some want → Puts i want
     put_latched i None want held e = cc
-    put_latched i (Some flit) want held e = put_mapped i flit (output_for s tile r i (head_of flit)) want (is.flits i flit held) (λ n h. output_within i (head_of flit) n h) e
+    put_latched i (Some flit) want held e =
+        put_mapped i flit (output_for s tile r i (head_of flit)) want (is.flits i flit held) (λ n h. output_within i (head_of flit) n h) e
 
     put_tested : (i : ℕ) (b : Bool) (want : Want) → (if b then wants_to_put s tile r i (latch_of r i) else None) ≡ Some want → Puts i want
     put_tested i true want e = put_latched i (latch_of r i) want refl e
@@ -85,15 +88,18 @@ module _ (s : Shape) (tile : ℕ) where
     take_latched i None want e = sym (some_same e)
     take_latched i (Some flit) want e = cc
 
-    take_tested : (i : ℕ) (b : Bool) (want : Want) → nat_lt i (port_count (dims_of s)) ≡ b → (if b then wants_to_take s tile i (latch_of r i) else None) ≡ Some want → (i < port_count (dims_of s)) × (want ≡ Take i)
+    take_tested : (i : ℕ) (b : Bool) (want : Want) → nat_lt i (port_count (dims_of s)) ≡ b
+        → (if b then wants_to_take s tile i (latch_of r i) else None) ≡ Some want → (i < port_count (dims_of s)) × (want ≡ Take i)
     take_tested i true want low e = (grind (arith, nat_tests), take_latched i (latch_of r i) want e)
     take_tested i false want low e = cc
 
-    credit_tested : (o : ℕ) (b : Bool) (want : Want) → nat_lt o (port_count (dims_of s)) ≡ b → (if b then Some (Credit o) else None) ≡ Some want → (o < port_count (dims_of s)) × (want ≡ Credit o)
+    credit_tested : (o : ℕ) (b : Bool) (want : Want) → nat_lt o (port_count (dims_of s)) ≡ b → (if b then Some (Credit o) else None) ≡ Some want
+        → (o < port_count (dims_of s)) × (want ≡ Credit o)
     credit_tested o true want low e = (grind (arith, nat_tests), sym (some_same e))
     credit_tested o false want low e = cc
 
-pub possible : (s : Shape) (tile : ℕ) (r : RouterState) (choice : Choice) (want : Want) (around : Surroundings) (wiring : Wiring) → IsRouterState (port_count (dims_of s)) r
+pub possible : (s : Shape) (tile : ℕ) (r : RouterState) (choice : Choice) (want : Want) (around : Surroundings) (wiring : Wiring)
+    → IsRouterState (port_count (dims_of s)) r
     → length wiring.inputs ≡ port_count (dims_of s) → length wiring.outputs ≡ port_count (dims_of s)
     → router_wants s tile r choice ≡ Some want → IsPossible around wiring want
 possible s tile r (choice.TakeFrom i) want around wiring is inputs outputs e =

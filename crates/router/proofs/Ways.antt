@@ -1,5 +1,6 @@
 -- The output of a packet, by that of one that was injected at the same tile.
-use Rattle.std.proofs.Common.{◌≡◌, ℕ, suc, ◌*◌, ◌/◌, ◌%◌, ◌<◌, Bool, true, false, cond, List, [], ◌∷◌, length, get_or, Option, Some, None, inl, inr, refl, sym, ap, subst, ◌∙◌, arith}
+use Rattle.std.proofs.Common.{◌≡◌, ℕ, suc, ◌*◌, ◌/◌, ◌%◌, ◌<◌, Bool, true, false, cond, List, [], ◌∷◌, length, get_or, Option, Some, None, inl, inr, refl}
+use Rattle.std.proofs.Common.{sym, ap, subst, ◌∙◌, arith}
 use Rattle.std.specs.Prelude.{◌==◌, ◌||◌, ◌&&◌, not, IfSome}
 use Rattle.std.specs.List.{find, range_with_len}
 use Rattle.std.proofs.lemmas.Bool.{cases_lt, lt-ltb, le-ltb, ne_eqb}
@@ -60,7 +61,8 @@ module _ (s : Shape) (t i dst : ℕ) where
   onward_is_output = output_in_is (first_apart s t dst) refl
 
 -- what the code found out is the way
-pub way_told : (s : Shape) (t i : ℕ) (head : Head) (way out : Output) (number : ℕ) → way ≡ next_of s t Inject head.destination → out ≡ onward i way → number ≡ output_number (dims_of s) head.class out
+pub way_told : (s : Shape) (t i : ℕ) (head : Head) (way out : Output) (number : ℕ) → way ≡ next_of s t Inject head.destination → out ≡ onward i way
+    → number ≡ output_number (dims_of s) head.class out
     → number ≡ way_of s t i head
 way_told s t i head way out number is_next is_out is_number =
     is_number ∙ ap (output_number (dims_of s) head.class) (is_out ∙ ap (onward i) is_next ∙ sym (next_onward s t i head.destination))

@@ -18,17 +18,25 @@ router_wiring s t = record {
 
 -- all channels of a torus, empty, and the words (this project's own format)
 abbrev pub empty_surroundings : Shape → ℕ → List ℕ → Surroundings
-empty_surroundings s depth words = record { rings = replicate (channel_count s) (empty_ring depth); words = words }
+empty_surroundings s depth words =
+    record { rings = replicate (channel_count s) (empty_ring depth); words = words }
 
 -- the receiving end of the empty channel at an input (this project's own format)
 abbrev pub new_input : Shape → ℕ → ℕ → ℕ → ReceivingEnd
 new_input s t depth i = record { base = input_channel s t i * depth; depth = depth; next = 0 }
 
--- the sending end of the empty channel at an output: it holds all credits (this project's own format)
+-- the sending end of the empty channel at an output: it holds all credits (this project's own
+-- format)
 abbrev pub new_output : Shape → ℕ → ℕ → ℕ → SendingEnd
-new_output s t depth o = record { base = output_channel s t o * depth; depth = depth; next = 0; credits = depth }
+new_output s t depth o = record {
+  base = output_channel s t o * depth;
+  depth = depth;
+  next = 0;
+  credits = depth;
+}
 
--- a router's ports in the beginning, where all channels are empty; the words stand behind the places of all channels (this project's own format)
+-- a router's ports in the beginning, where all channels are empty; the words stand behind the
+-- places of all channels (this project's own format)
 abbrev pub new_ports : Shape → ℕ → ℕ → PortEnds
 new_ports s t depth = record {
   inputs = map (new_input s t depth) (range_with_len 0 (port_count (dims_of s)));

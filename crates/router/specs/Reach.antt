@@ -2,7 +2,8 @@
 use Rattle.std.specs.Prelude.{◌≡◌, ◌≢◌, ℕ, ◌<◌, length, Some}
 use Rattle.router.specs.Table.{RouterState, latch_of, output_owned}
 
--- with this many inputs and outputs: no latched word is 0, and each output that an input owns is there (this project's own format)
+-- with this many inputs and outputs: no latched word is 0, and each output that an input owns is
+-- there (this project's own format)
 pub record IsRouterState (ports : ℕ) (r : RouterState) : Type 0 where
   pub latches : length r.latches ≡ ports
   pub owned : length r.owned ≡ ports

@@ -3,7 +3,8 @@ use Rattle.std.specs.Prelude.{ℕ, ◌<◌, ◌==◌, ◌/◌, ◌%◌, ◌||◌
 use Rattle.dateline_route.specs.declared.channel.Output.{Output}
 use Rattle.dateline_route.specs.declared.channel.Output.TheVariants.{Eject, Hop as To}
 
--- the way of a packet that came by an input, by that of one injected: on bit 1 also where it came on bit 1 in the same dimension (Dally and Towles, chapter 14)
+-- the way of a packet that came by an input, by that of one injected: on bit 1 also where it came
+-- on bit 1 in the same dimension (Dally and Towles, chapter 14)
 abbrev pub onward : ℕ → Output → Output
 onward i Eject = Eject
 onward i (To d dir bit) = To d dir (bit || ((i / 8 == d) && (i % 2 == 1)))

@@ -1,4 +1,5 @@
-ghost use Rattle.std.specs.Prelude.{◌≡◌, ℕ, ◌<◌, ◌≤◌, length, IsTrue, ◌↔◌, vec_len, slice_index, slice_index_or, Some, IfOk, IfSome, IsSome, MatchOption, is_some};
+ghost use Rattle.std.specs.Prelude.{◌≡◌, ℕ, ◌<◌, ◌≤◌, length, IsTrue, ◌↔◌, vec_len, slice_index, slice_index_or};
+ghost use Rattle.std.specs.Prelude.{Some, IfOk, IfSome, IsSome, MatchOption, is_some};
 ghost use Rattle.torus.specs.Shape.{tiles_of, dims_of};
 ghost use Rattle.torus.specs.declared.step.Stepped.TheVariants as stepped;
 ghost use Rattle.flit_buffer.specs.Agent.{next_op, absorbed, attempted};
@@ -11,7 +12,8 @@ ghost use Rattle.dateline_route.specs.Next.{next_of};
 ghost use Rattle.packet.specs.Flits.{head_of};
 ghost use Rattle.channel_number.specs.Ports.{port_count, output_number};
 ghost use Rattle.router.specs.Beginning.{new_ports};
-ghost use Rattle.router.specs.Table.{empty_router, output_for, router_wants, router_after, IsRoutable, NamesTile, with_agent};
+ghost use Rattle.router.specs.Table.{empty_router, output_for, router_wants, router_after, IsRoutable, NamesTile};
+ghost use Rattle.router.specs.Table.{with_agent};
 ghost use Rattle.router.specs.Ways.{onward, HasDimension};
 
 use crate::owners::Owners;
@@ -55,7 +57,10 @@ fn ways_from<A: Allocator + Copy>(
     tile: u32,
 ) -> Result<Vec<Output, A>, AllocError>
     requires { tile < tiles_of torus.now }
-    ensures { IfOk result (λ ways. (length ways.items ≡ tiles_of torus.now) × ((dst : ℕ) → dst < tiles_of torus.now → slice_index_or ways.items dst Eject ≡ next_of torus.now tile Inject dst)) }
+    ensures { IfOk result
+        (λ ways. (length ways.items ≡ tiles_of torus.now)
+        × ((dst : ℕ) → dst < tiles_of torus.now
+        → slice_index_or ways.items dst Eject ≡ next_of torus.now tile Inject dst)) }
 {
     let mut ways = Vec::new(alloc);
     for dst in 0..torus.tiles() {
@@ -117,7 +122,15 @@ impl<A: Allocator + Copy> Router<A> {
         requires tile { tile < tiles_of torus }
         requires some { 0 < depth }
         requires few { depth ≤ 8 }
-        ensures { IfOk result (λ r. r ≡ record { torus = torus; tile = tile; agent = record { state = empty_router (port_count (dims_of torus)); ports = new_ports torus tile depth } }) }
+        ensures { IfOk result
+            (λ r. r ≡ record {
+              torus = torus;
+              tile = tile;
+              agent = record {
+                state = empty_router (port_count (dims_of torus));
+                ports = new_ports torus tile depth;
+              };
+            }) }
     {
         let count = 8 * torus.dims() as usize + 2;
         let latches = vec![in alloc; None; count]?;
@@ -141,7 +154,8 @@ impl<A: Allocator> Router<A> {
     fn output_for(&self, input: u32, flit: u64) -> Option<u32>
         requires input { input < port_count (dims_of self.now.torus) }
         requires flit { NamesTile self.now.torus flit }
-        ensures value { result ≡ output_for self.now.torus self.now.tile self.now.agent.state input (head_of flit) }
+        ensures value { result
+            ≡ output_for self.now.torus self.now.tile self.now.agent.state input (head_of flit) }
         ensures within { IfSome result (λ output. output < port_count (dims_of self.now.torus)) }
     {
         let Some(head) = head(flit) else {
@@ -159,7 +173,8 @@ impl<A: Allocator> Router<A> {
     /// What a choice wants.
     #[inline(always)]
     fn wants(&self, choice: Choice) -> Option<Want>
-        ensures value { result ≡ router_wants self.now.torus self.now.tile self.now.agent.state choice }
+        ensures value { result
+            ≡ router_wants self.now.torus self.now.tile self.now.agent.state choice }
         ensures port { IfSome result (HasPort self.now.agent.ports) }
     {
         match choice {
@@ -194,7 +209,8 @@ impl<A: Allocator> Router<A> {
     /// fails.
     #[inline(always)]
     pub fn next_op(&self, choice: Choice) -> Option<WordOp>
-        ensures { result ≡ next_op (router_wants self.now.torus self.now.tile) self.now.agent choice }
+        ensures { result ≡ next_op (router_wants self.now.torus self.now.tile) self.now.agent
+            choice }
     {
         let want = self.wants(choice)?;
         self.ports.op(want)
@@ -212,9 +228,13 @@ impl<A: Allocator> Router<A> {
 
     /// Takes the word that the operation of a choice found. A head flit that is taken names a tile.
     pub fn absorb(&mut self, choice: Choice, got: u64) -> Stepped
-        requires tried { IsSome (next_op (router_wants self.old.torus self.old.tile) self.old.agent choice) }
+        requires tried { IsSome
+            (next_op (router_wants self.old.torus self.old.tile) self.old.agent choice) }
         requires flit { IsRoutable self.old.torus choice got }
-        ensures { MatchOption (absorbed (router_wants self.old.torus self.old.tile) router_after self.old.agent choice got) ((result ≡ stepped.Idle) × (self.new ≡ self.old)) (λ a. (result ≡ stepped.Moved) × (self.new ≡ with_agent self.old a)) }
+        ensures { MatchOption
+            (absorbed (router_wants self.old.torus self.old.tile) router_after self.old.agent choice
+            got) ((result ≡ stepped.Idle) × (self.new ≡ self.old))
+            (λ a. (result ≡ stepped.Moved) × (self.new ≡ with_agent self.old a)) }
     {
         let Some(want) = self.wants(choice) else {
             return Stepped::Idle;
@@ -230,11 +250,19 @@ impl<A: Allocator> Router<A> {
     /// found.
     #[inline(always)]
     pub fn attempt<B: Allocator>(&mut self, choice: Choice, row: &mut Vec<u64, B>) -> Stepped
-        requires room { IfSome (next_op (router_wants self.old.torus self.old.tile) self.old.agent choice) (λ o. word_of o < vec_len row.old) }
-        requires flit { IfSome (next_op (router_wants self.old.torus self.old.tile) self.old.agent choice)
+        requires room { IfSome
+            (next_op (router_wants self.old.torus self.old.tile) self.old.agent choice)
+            (λ o. word_of o < vec_len row.old) }
+        requires flit { IfSome
+            (next_op (router_wants self.old.torus self.old.tile) self.old.agent choice)
             (λ o. IsRoutable self.old.torus choice (slice_index row.old.items (word_of o))) }
-        ensures row { row.new.items ≡ performed_by row.old.items (next_op (router_wants self.old.torus self.old.tile) self.old.agent choice) }
-        ensures step { MatchOption (attempted (router_wants self.old.torus self.old.tile) router_after self.old.agent choice row.old.items) ((result ≡ stepped.Idle) × (self.new ≡ self.old)) (λ a. (result ≡ stepped.Moved) × (self.new ≡ with_agent self.old a)) }
+        ensures row { row.new.items
+            ≡ performed_by row.old.items
+            (next_op (router_wants self.old.torus self.old.tile) self.old.agent choice) }
+        ensures step { MatchOption
+            (attempted (router_wants self.old.torus self.old.tile) router_after self.old.agent
+            choice row.old.items) ((result ≡ stepped.Idle) × (self.new ≡ self.old))
+            (λ a. (result ≡ stepped.Moved) × (self.new ≡ with_agent self.old a)) }
     {
         let Some(want) = self.wants(choice) else {
             return Stepped::Idle;
@@ -249,8 +277,12 @@ impl<A: Allocator> Router<A> {
     /// Whether an attempt of a choice over a row would move. Nothing changes.
     #[inline(always)]
     pub fn would_move<B: Allocator>(&self, choice: Choice, row: &Vec<u64, B>) -> bool
-        requires room { IfSome (next_op (router_wants self.now.torus self.now.tile) self.now.agent choice) (λ o. word_of o < vec_len row.now) }
-        ensures { result ≡ is_some (attempted (router_wants self.now.torus self.now.tile) router_after self.now.agent choice row.now.items) }
+        requires room { IfSome
+            (next_op (router_wants self.now.torus self.now.tile) self.now.agent choice)
+            (λ o. word_of o < vec_len row.now) }
+        ensures { result ≡ is_some
+            (attempted (router_wants self.now.torus self.now.tile) router_after self.now.agent
+            choice row.now.items) }
     {
         match self.wants(choice) {
             Some(want) => self.ports.would_grant(want, row),
@@ -260,10 +292,16 @@ impl<A: Allocator> Router<A> {
 
     /// What follows in the router once a want of a choice is granted.
     fn note(&mut self, choice: Choice, want: Want, learned: u64)
-        requires wanted { router_wants self.old.torus self.old.tile self.old.agent.state choice ≡ Some want }
+        requires wanted { router_wants self.old.torus self.old.tile self.old.agent.state choice
+            ≡ Some want }
         requires port { HasPort self.old.agent.ports want }
         requires flit { IsRoutable self.old.torus choice learned }
-        ensures { self.new ≡ with_agent self.old (record { state = router_after self.old.agent.state choice want learned; ports = self.old.agent.ports }) }
+        ensures { self.new
+            ≡ with_agent self.old (record {
+              state =
+                  router_after self.old.agent.state choice want learned;
+              ports = self.old.agent.ports;
+            }) }
     {
         match (choice, want) {
             (Choice::TakeFrom(input), _) => self.latches[input as usize] = Some(learned),

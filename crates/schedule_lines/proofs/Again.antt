@@ -1,12 +1,13 @@
 -- The text of a schedule is read as its moves.
-use Rattle.std.proofs.Common.{◌≡◌, ◌<◌, ◌≤◌, ◌+◌, ◌*◌, ◌%◌, ◌^◌, ℕ, Bool, true, false, List, [], ◌∷◌, ◌++◌, length, decimal, codes, refl, sym, ap, ◌∙◌, arith, Ok, append_assoc, append-nil, map, flat_map}
+use Rattle.std.proofs.Common.{◌≡◌, ◌<◌, ◌≤◌, ◌+◌, ◌*◌, ◌%◌, ◌^◌, ℕ, Bool, true, false, List, [], ◌∷◌, ◌++◌, length, decimal, codes, refl, sym, ap, ◌∙◌, arith}
+use Rattle.std.proofs.Common.{Ok, append_assoc, append-nil, map, flat_map}
 use Rattle.std.specs.List.{All, join_with_byte}
 use Rattle.std.specs.Str.Lines.{lines}
 use Rattle.std.proofs.lemmas.List.Elements.{All-nil, All-cons, All-head, All-tail, All-append}
 use Rattle.torus.specs.declared.step.Step.{Step}
 use Rattle.torus.specs.Shape.{Shape, IsAccepted, tiles_of, dims_of}
+use Rattle.lexer.specs.Words.{words_of as cut}
 use Rattle.script.specs.Machine.{MachineSpec}
-use Rattle.script.specs.Words.{words_of as cut}
 use Rattle.script.specs.Steps.{after_words, steps_from, steps_of}
 use Rattle.schedule_lines.specs.declared.line.ScheduleLine.{ScheduleLine}
 use Rattle.schedule_lines.specs.declared.line.ScheduleLine.TheVariants.{Round, Move, End}
@@ -116,7 +117,8 @@ rounds_moves number (steps ∷ rounds) =
     ∙ ap (λ (moves : List Step). moves ++ moves_among (lines_of_rounds (number + 1) rounds)) (round_moves number steps)
     ∙ ap (λ (more : List Step). steps ++ more) (rounds_moves (number + 1) rounds)
 
-rounds_of_torus : (s : Shape) (number : ℕ) (rounds : List (List Step)) → number + length rounds ≤ 2 ^ 64 → All (All (IsStepOf s)) rounds → All (IsOfTorus s) (lines_of_rounds number rounds)
+rounds_of_torus : (s : Shape) (number : ℕ) (rounds : List (List Step)) → number + length rounds ≤ 2 ^ 64 → All (All (IsStepOf s)) rounds
+    → All (IsOfTorus s) (lines_of_rounds number rounds)
 rounds_of_torus s number [] low all = All-nil (IsOfTorus s)
 rounds_of_torus s number (steps ∷ rounds) low all =
     All-append (IsOfTorus s) (round_lines number steps) (lines_of_rounds (number + 1) rounds)
@@ -129,7 +131,8 @@ pub rounds_read_back : (machine : MachineSpec) (rounds : List (List Step)) (fini
     → steps_of machine (lines (text_of (schedule_of rounds finished))) ≡ Ok (flat_map (λ steps. steps) rounds)
 rounds_read_back machine rounds finished is all few =
     lines_read_back machine (schedule_of rounds finished) is
-    (All-append (IsOfTorus machine.shape) (lines_of_rounds 1 rounds) (End finished ∷ []) (rounds_of_torus machine.shape 1 rounds (omega (arith, few)) all) (end_of_torus machine.shape finished))
+    (All-append (IsOfTorus machine.shape) (lines_of_rounds 1 rounds) (End finished ∷ []) (rounds_of_torus machine.shape 1 rounds (omega (arith, few)) all)
+    (end_of_torus machine.shape finished))
     ∙ ap Ok (moves_among-append (lines_of_rounds 1 rounds) (End finished ∷ []) ∙ append-nil (moves_among (lines_of_rounds 1 rounds)) ∙ rounds_moves 1 rounds)
 
 -- the schedule of moves is read as these

@@ -80,7 +80,8 @@ of_processor tiles dims agent steps Done low there kind h = rw (an_index-decimal
 of_processor tiles dims agent steps Look low there kind h = rw (an_index-decimal agent low, there, kind)
 
 of_router : (tiles dims agent : ℕ) (steps : List Step) (c : Choice) → agent < 2 ^ 31 → nat_lt agent (3 * tiles) ≡ true → agent % 3 ≡ 1 → IsSmall c
-    → is_of_router (8 * dims + 2) c ≡ true → take_step tiles dims steps (decimal agent ∷ choice_words c) ≡ Ok (steps ++ record { agent = agent; choice = c } ∷ [])
+    → is_of_router (8 * dims + 2) c ≡ true
+    → take_step tiles dims steps (decimal agent ∷ choice_words c) ≡ Ok (steps ++ record { agent = agent; choice = c } ∷ [])
 of_router tiles dims agent steps Send low there kind few h = absurd (cc)
 of_router tiles dims agent steps Take low there kind few h = absurd (cc)
 of_router tiles dims agent steps (TakeFrom n) low there kind few h = rw (an_index-decimal agent low, an_index-decimal n few, there, kind, h)
@@ -103,8 +104,10 @@ of_bank tiles dims agent steps Serve low there kind h = rw (an_index-decimal age
 of_bank tiles dims agent steps Done low there kind h = absurd (cc)
 of_bank tiles dims agent steps Look low there kind h = absurd (cc)
 
-of_agent : (tiles dims agent kind : ℕ) (steps : List Step) (c : Choice) → agent % 3 ≡ kind → kind < 3 → agent < 2 ^ 31 → nat_lt agent (3 * tiles) ≡ true → IsSmall c
-    → has_choice (8 * dims + 2) kind c ≡ true → take_step tiles dims steps (decimal agent ∷ choice_words c) ≡ Ok (steps ++ record { agent = agent; choice = c } ∷ [])
+of_agent : (tiles dims agent kind : ℕ) (steps : List Step) (c : Choice) → agent % 3 ≡ kind → kind < 3 → agent < 2 ^ 31 → nat_lt agent (3 * tiles) ≡ true
+    → IsSmall c
+    → has_choice (8 * dims + 2) kind c ≡ true
+    → take_step tiles dims steps (decimal agent ∷ choice_words c) ≡ Ok (steps ++ record { agent = agent; choice = c } ∷ [])
 of_agent tiles dims agent zero steps c is below low there few h = of_processor tiles dims agent steps c low there is h
 of_agent tiles dims agent (suc zero) steps c is below low there few h = of_router tiles dims agent steps c low there is few h
 of_agent tiles dims agent (suc (suc zero)) steps c is below low there few h = of_bank tiles dims agent steps c low there is h
@@ -112,6 +115,7 @@ of_agent tiles dims agent (suc (suc (suc k))) steps c is below low there few h =
 
 -- the words of a step add the step, of an agent and a choice that the torus has
 pub take_step-again : (tiles dims agent : ℕ) (steps : List Step) (c : Choice) → agent < 2 ^ 31 → agent < 3 * tiles → IsSmall c
-    → has_choice (8 * dims + 2) (agent % 3) c ≡ true → take_step tiles dims steps (decimal agent ∷ choice_words c) ≡ Ok (steps ++ record { agent = agent; choice = c } ∷ [])
+    → has_choice (8 * dims + 2) (agent % 3) c ≡ true
+    → take_step tiles dims steps (decimal agent ∷ choice_words c) ≡ Ok (steps ++ record { agent = agent; choice = c } ∷ [])
 take_step-again tiles dims agent steps c low there few h =
     of_agent tiles dims agent (agent % 3) steps c refl (omega arith) low (lt-ltb agent (3 * tiles) there) few h

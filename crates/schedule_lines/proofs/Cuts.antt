@@ -7,7 +7,7 @@ use Rattle.std.proofs.lemmas.Bool.{ne_eqb, ltb-true}
 use Rattle.std.proofs.lemmas.List.Elements.{All-nil, All-cons, All-head, All-tail, All-append, All-weaker, All-get_or}
 use Rattle.std.proofs.lemmas.List.Splits.{slice_split_at, slice_split_none, length-slice_split}
 use Rattle.std.proofs.lemmas.List.Sums.{AllPass-from_list_all}
-use Rattle.script.specs.Words.{is_blank, words_of}
+use Rattle.lexer.specs.Words.{is_blank, words_of}
 
 -- a word: at least one byte, and each above the space
 pub record IsWord (word : List ℕ) : Type 0 where
@@ -81,7 +81,8 @@ strip_carriage_return-printed (b ∷ bs) h =
 -- a text begins with its first line
 pub lines-ended : (line rest : List ℕ) → All (λ b. 31 < b) line → lines (line ++ 10 ∷ rest) ≡ line ∷ lines rest
 lines-ended line rest h =
-    let none : All (λ b. is_feed b ≡ false) line = All-weaker (λ b. 31 < b) (λ b. is_feed b ≡ false) (λ b above. ne_eqb b 10 (λ e. absurd (omega (arith, e, above)))) line h in
+    let none : All (λ b. is_feed b ≡ false) line =
+    All-weaker (λ b. 31 < b) (λ b. is_feed b ≡ false) (λ b above. ne_eqb b 10 (λ e. absurd (omega (arith, e, above)))) line h in
     ap lines_of_parts (slice_split_at is_feed line 10 rest none refl)
     ∙ parts_more line (slice_split is_feed rest) (omega (arith, length-slice_split is_feed rest))
     ∙ ap (λ (l : List ℕ). l ∷ lines rest) (strip_carriage_return-printed line h)

@@ -7,7 +7,7 @@ use Rattle.std.proofs.lemmas.Bool.{ne_eqb}
 use Rattle.std.proofs.lemmas.Fmt.{decimal_is_IsNumeral, digits_decimal}
 use Rattle.std.proofs.lemmas.List.Elements.{All-from_get_or}
 use Rattle.std.proofs.lemmas.Str.Parse.{IsNumeralModel, numerals_by_value, tells_all_ascii_digits, digit_at}
-use Rattle.script.specs.Words.{begins_comment}
+use Rattle.lexer.specs.Words.{begins_comment}
 use Rattle.script.specs.Settings.{an_index}
 use Rattle.schedule_lines.proofs.Cuts.{IsWord}
 

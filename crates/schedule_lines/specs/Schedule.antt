@@ -16,7 +16,8 @@ abbrev pub lines_of_rounds : ℕ → List (List Step) → List ScheduleLine
 lines_of_rounds number [] = []
 lines_of_rounds number (steps ∷ rounds) = round_lines number steps ++ lines_of_rounds (number + 1) rounds
 
--- the schedule of rounds, of which the first is round 1; the last line says whether every script is finished
+-- the schedule of rounds, of which the first is round 1; the last line says whether every script is
+-- finished
 abbrev pub schedule_of : List (List Step) → Bool → List ScheduleLine
 schedule_of rounds finished = lines_of_rounds 1 rounds ++ End finished ∷ []
 
@@ -35,7 +36,8 @@ abbrev pub moves_among : List ScheduleLine → List Step
 moves_among [] = []
 moves_among (line ∷ lines) = with_move line (moves_among lines)
 
--- a torus has the agent, and the agent the choice, whose router has 8 n + 2 inputs and as many outputs
+-- a torus has the agent, and the agent the choice, whose router has 8 n + 2 inputs and as many
+-- outputs
 pub record IsStepOf (s : Shape) (step : Step) : Type 0 where
   pub agent : step.agent < 3 * tiles_of s
   pub choice : has_choice (8 * dims_of s + 2) (step.agent % 3) step.choice ≡ true

@@ -11,11 +11,11 @@ use Rattle.channel_number.specs.Ports.{port_count}
 use Rattle.flit_buffer.specs.Surroundings.{Surroundings}
 use Rattle.rounds.specs.Rounds as rounds
 use Rattle.schedule_lines.specs.Schedule.{IsStepOf}
-use Rattle.machine_laws.specs.tile.specs.Tile.{Design, TileState}
-use Rattle.machine_laws.specs.core_laws.specs.Core.{State, step}
-use Rattle.machine_laws.specs.core_laws.proofs.AgentSteps.{option_map_some}
-use Rattle.machine_laws.specs.core_laws.proofs.AgentChoices.{own_choice, numbered}
-use Rattle.moves_alone.specs.Enabled.{ahead_if_moved, enabled_of}
+use Rattle.core_machine.specs.tile_laws.specs.Tile.{Design, TileState}
+use Rattle.core_machine.specs.core_laws.specs.Core.{State, step}
+use Rattle.core_machine.specs.core_laws.proofs.AgentSteps.{option_map_some}
+use Rattle.core_machine.specs.core_laws.proofs.AgentChoices.{own_choice, numbered}
+use Rattle.core_moves.specs.Enabled.{ahead_if_moved, enabled_of}
 
 module _ (d : Design) (s : State) (x : Step) (t : State) (is : step d s x ≡ Some t) where
   pub inside : x.agent / 3 < length s.tiles

@@ -37,19 +37,22 @@ of_router ports n Serve c low h = absurd (cc)
 of_router ports n Done c low h = absurd (cc)
 of_router ports n Look c low h = absurd (cc)
 
-of_none : (ports kind : ℕ) (word : ChoiceWord) (c : Choice) (a b : Bool) → (kind == 0) ≡ a → (kind == 2) ≡ b → cond a (processor_choice word) (cond b (bank_choice word) None) ≡ Some c
+of_none : (ports kind : ℕ) (word : ChoiceWord) (c : Choice) (a b : Bool) → (kind == 0) ≡ a → (kind == 2) ≡ b
+    → cond a (processor_choice word) (cond b (bank_choice word) None) ≡ Some c
     → has_choice ports kind c ≡ true
 of_none ports kind word c true b is other h = subst (λ (k : ℕ). has_choice ports k c ≡ true) (sym (eqb-true kind 0 is)) (of_processor word c h)
 of_none ports kind word c false true other is h = subst (λ (k : ℕ). has_choice ports k c ≡ true) (sym (eqb-true kind 2 is)) (of_bank word c h)
 of_none ports kind word c false false other is h = absurd (cc)
 
-of_some : (ports kind n : ℕ) (word : ChoiceWord) (c : Choice) (a b : Bool) → (kind == 1) ≡ a → nat_lt n ports ≡ b → cond (a && b) (router_choice word n) None ≡ Some c
+of_some : (ports kind n : ℕ) (word : ChoiceWord) (c : Choice) (a b : Bool) → (kind == 1) ≡ a → nat_lt n ports ≡ b
+    → cond (a && b) (router_choice word n) None ≡ Some c
     → has_choice ports kind c ≡ true
 of_some ports kind n word c true true is low h = subst (λ (k : ℕ). has_choice ports k c ≡ true) (sym (eqb-true kind 1 is)) (of_router ports n word c low h)
 of_some ports kind n word c true false is low h = absurd (cc)
 of_some ports kind n word c false b is low h = absurd (cc)
 
 -- what a line names is a choice of its agent
-pub of_agent : (dims kind : ℕ) (word : ChoiceWord) (number : Option ℕ) (c : Choice) → agent_choice dims kind word number ≡ Some c → has_choice (8 * dims + 2) kind c ≡ true
+pub of_agent : (dims kind : ℕ) (word : ChoiceWord) (number : Option ℕ) (c : Choice) → agent_choice dims kind word number ≡ Some c
+    → has_choice (8 * dims + 2) kind c ≡ true
 of_agent dims kind word None c h = of_none (8 * dims + 2) kind word c (kind == 0) (kind == 2) refl refl h
 of_agent dims kind word (Some n) c h = of_some (8 * dims + 2) kind n word c (kind == 1) (nat_lt n (8 * dims + 2)) refl refl h

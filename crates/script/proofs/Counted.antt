@@ -1,5 +1,6 @@
 -- The counts of operations, and what is true of accepted scripts, when a line is added.
-use Rattle.std.proofs.Common.{◌≡◌, ◌≢◌, ℕ, suc, zero, ◌+◌, ◌<◌, ◌≤◌, true, List, [], ◌∷◌, ◌++◌, length, take, get_or, replicate, sym, ◌∙◌, ap, refl, inl, inr, arith, subst, Some, ◌⊎◌}
+use Rattle.std.proofs.Common.{◌≡◌, ◌≢◌, ℕ, suc, zero, ◌+◌, ◌<◌, ◌≤◌, true, List, [], ◌∷◌, ◌++◌, length, take, get_or, replicate, sym, ◌∙◌, ap, refl, inl, inr}
+use Rattle.std.proofs.Common.{arith, subst, Some, ◌⊎◌}
 use Rattle.std.specs.Prelude.{slice_set, slice_get, slice_index}
 use Rattle.std.proofs.lemmas.List.{get_or-set_same, get_or-set_other, length-set, take-append-le, take_at, length-append, length-replicate, get_or-replicate}
 use Rattle.std.proofs.lemmas.List.Sums.{sum_by_push, sum_by-set}
@@ -59,7 +60,8 @@ counted_push words lists counts total p x count operations h low good count_is o
     let new : List Line = script_of lists p ++ x ∷ [] in
     let here : count ≡ operation_count (script_of lists p) = count_is ∙ h.each p low in
     let new_count : operation_count new ≡ count + operations = omega (arith, sum_by_push operations_of (script_of lists p) x) in
-    let script : IsAcceptedScript words new = script_push words (script_of lists p) x (h.accepted.each p) good (λ e. let l = later e in omega arith) (omega arith) in
+    let script : IsAcceptedScript words new =
+    script_push words (script_of lists p) x (h.accepted.each p) good (λ e. let l = later e in omega arith) (omega arith) in
     let sums : total_count (slice_set lists p new) ≡ total + operations = omega (arith, sum_by-set operation_count lists p new [] low, h.all) in
     let roomy : p < length counts = omega (arith, h.room) in
     let long : length (slice_set lists p new) ≡ length lists = length-set lists p new in
@@ -124,5 +126,6 @@ counted_none words tiles few =
       all = sym (no_total tiles);
     }
 
-pub counted_at_first : (words tiles : ℕ) (lists : List (List Line)) (counts : List ℕ) → tiles ≤ 64 → lists ≡ replicate tiles [] → counts ≡ replicate tiles 0 → AreCounted words lists counts 0
+pub counted_at_first : (words tiles : ℕ) (lists : List (List Line)) (counts : List ℕ) → tiles ≤ 64 → lists ≡ replicate tiles [] → counts ≡ replicate tiles 0
+    → AreCounted words lists counts 0
 counted_at_first words tiles lists counts few lists_are counts_are = rw (lists_are, counts_are) (counted_none words tiles few)

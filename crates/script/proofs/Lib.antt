@@ -1,8 +1,5 @@
-pub mod LineCuts
-pub mod WordCuts
-pub mod Numbers
 pub mod Checks
 pub mod LineLists
 pub mod Counted
-pub mod SixWords
+pub mod SevenWords
 pub mod AgentChoices

@@ -13,7 +13,8 @@ pub pushed : {A : Type 0} (items : List (LineList A)) (p : ℕ) (old new : LineL
     new.lines.items ≡ old.lines.items ++ line ∷ [] → lists_of (slice_set items p new) ≡ slice_set (lists_of items) p (script_of (lists_of items) p ++ line ∷ [])
 pushed items p old new line low is grown =
     map-set (λ list. list.lines.items) items p new
-    ∙ ap (slice_set (lists_of items) p) (grown ∙ ap (λ ls. ls ++ line ∷ []) (sym (get_or-map (λ list. list.lines.items) items p old [] low ∙ ap (λ list. list.lines.items) (sym is))))
+    ∙ ap (slice_set (lists_of items) p)
+    (grown ∙ ap (λ ls. ls ++ line ∷ []) (sym (get_or-map (λ list. list.lines.items) items p old [] low ∙ ap (λ list. list.lines.items) (sym is))))
 
 -- one list as it was
 pub kept : {A : Type 0} (items : List (LineList A)) (p : ℕ) (old new : LineList A) → old ≡ get_or items p old →

@@ -1,8 +1,11 @@
--- The lines of a script text: their shape, and the checks of their numbers in order (this project's own format).
-use Rattle.std.specs.Prelude.{ℕ, ◌^◌, ◌&&◌, nat_le, nat_lt, List, [], ◌∷◌, Option, Some, None, ok_or, option_map, Result, Ok, Err, if◌then◌else◌, codes}
+-- The lines of a script text: their shape, and the checks of their numbers in order (this project's
+-- own format).
+use Rattle.std.specs.Prelude.{ℕ, ◌^◌, ◌&&◌, nat_le, nat_lt, List, [], ◌∷◌, Option, Some, None, ok_or, option_map}
+use Rattle.std.specs.Prelude.{Result, Ok, Err, if◌then◌else◌, codes}
 use Rattle.std.specs.Str.{bytes_eq}
 use Rattle.torus.specs.declared.fault.Fault.{Fault}
 use Rattle.torus.specs.declared.fault.Fault.TheVariants as fault
+use Rattle.lexer.specs.Numbers.{value_of}
 use Rattle.script.specs.declared.line.Line.{Line}
 use Rattle.script.specs.declared.line.Line.TheVariants as line
 use Rattle.script.specs.declared.line.Value.{Value}
@@ -14,12 +17,12 @@ use Rattle.script.specs.declared.form.Update.TheVariants.{Store, Swap, Add, And,
 use Rattle.script.specs.declared.form.Form.{Form}
 use Rattle.script.specs.declared.form.Form.TheVariants as form
 use Rattle.script.specs.Outcome.{◌>>=◌}
-use Rattle.script.specs.Words.{value_of}
 use Rattle.script.specs.Settings.{an_index}
 
 -- a value of an operation: a number or the word `last`
 abbrev pub operand_of : List ℕ → Result Operand Fault
-operand_of word = if bytes_eq word (codes "last") then Ok Last else ok_or (option_map Number (value_of word)) fault.Line
+operand_of word = if bytes_eq word (codes "last") then Ok Last
+    else ok_or (option_map Number (value_of word)) fault.Line
 
 -- the operations of an address and one value
 abbrev pub one_value : List ℕ → Option Update
@@ -44,7 +47,8 @@ cas_form a e n = an_index a >>= λ a. operand_of e >>= λ e. operand_of n >>= λ
 
 -- the words after `spin`, where no `last` may stand
 abbrev pub spin_form : List ℕ → List ℕ → List ℕ → Result Form Fault
-spin_form a v m = an_index a >>= λ a. ok_or (value_of v) fault.Line >>= λ v. an_index m >>= λ m. Ok (form.Spin a v m)
+spin_form a v m = an_index a >>= λ a. ok_or (value_of v) fault.Line >>= λ v. an_index m >>= λ m. Ok
+    (form.Spin a v m)
 
 -- an unknown keyword is a wrong shape
 abbrev pub if_known : Option Update → (Update → Result Form Fault) → Result Form Fault
@@ -56,7 +60,8 @@ abbrev pub one_word : List ℕ → Result Form Fault
 one_word keyword = if bytes_eq keyword (codes "fence") then Ok form.Fence else Err fault.Line
 
 abbrev pub two_words : List ℕ → List ℕ → Result Form Fault
-two_words keyword a = if bytes_eq keyword (codes "load") then (an_index a >>= λ a. Ok (form.Load a)) else Err fault.Line
+two_words keyword a = if bytes_eq keyword (codes "load") then (an_index a >>= λ a. Ok (form.Load a))
+    else Err fault.Line
 
 abbrev pub three_words : List ℕ → List ℕ → List ℕ → Result Form Fault
 three_words keyword a v = if_known (one_value keyword) (λ update. update_form update a v)
@@ -67,7 +72,8 @@ four_words keyword a x y =
     else (if bytes_eq keyword (codes "spin") then spin_form a x y
     else Err fault.Line)
 
--- the shape of what stands after the processor: a known keyword, the right count of words, and numbers (or `last`) where they belong
+-- the shape of what stands after the processor: a known keyword, the right count of words, and
+-- numbers (or `last`) where they belong
 abbrev pub form_of : List (List ℕ) → Result Form Fault
 form_of [] = Err fault.Line
 form_of (keyword ∷ []) = one_word keyword
@@ -98,11 +104,15 @@ update_line Xor a v = line.Xor a v
 update_line Max a v = line.Max a v
 update_line Min a v = line.Min a v
 
--- the line of a shape: the address is below the number of words, each number is a word, from left to right, and a spin has 1 to 4096 loads
+-- the line of a shape: the address is below the number of words, each number is a word, from left
+-- to right, and a spin has 1 to 4096 loads
 abbrev pub line_of_form : ℕ → Form → Result Line Fault
 line_of_form words form.Fence = Ok line.Fence
 line_of_form words (form.Load a) = below a words >>= λ _. Ok (line.Load a)
-line_of_form words (form.Update update a v) = below a words >>= λ _. checked_value v >>= λ v. Ok (update_line update a v)
-line_of_form words (form.Cas a e n) = below a words >>= λ _. checked_value e >>= λ e. checked_value n >>= λ n. Ok (line.Cas a e n)
+line_of_form words (form.Update update a v) =
+    below a words >>= λ _. checked_value v >>= λ v. Ok (update_line update a v)
+line_of_form words (form.Cas a e n) =
+    below a words >>= λ _. checked_value e >>= λ e. checked_value n >>= λ n. Ok (line.Cas a e n)
 line_of_form words (form.Spin a v m) =
-    below a words >>= λ _. checked_word v >>= λ v. if nat_le 1 m && nat_le m 4096 then Ok (line.Spin a v m) else Err fault.Range
+    below a words >>= λ _. checked_word v >>= λ v. if nat_le 1 m && nat_le m 4096
+    then Ok (line.Spin a v m) else Err fault.Range

@@ -1,4 +1,3 @@
-pub mod Words
 pub mod Outcome
 pub mod Settings
 pub mod Machine

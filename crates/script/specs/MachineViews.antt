@@ -6,7 +6,11 @@ use Rattle.script.specs.Views.{settings_of}
 use Rattle.script.specs.Machine.{Reading}
 
 abbrev pub reading_of : {A : Type 0} → reading.Reading A → Reading
-reading_of r = record { settings = settings_of r.settings; opening = r.opening.items; named = r.named.items }
+reading_of r = record {
+  settings = settings_of r.settings;
+  opening = r.opening.items;
+  named = r.named.items;
+}
 
 -- what the checks leave true of what is read
 pub record IsChecked (r : Reading) : Type 0 where

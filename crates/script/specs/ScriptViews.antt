@@ -9,11 +9,12 @@ abbrev pub lists_of : {A : Type 0} → List (LineList A) → List (List Line)
 lists_of lists = map (λ list. list.lines.items) lists
 
 -- the counts go with the scripts, which are accepted
-pub record AreCounted (words : ℕ) (lists : List (List Line)) (counts : List ℕ) (total : ℕ) : Type 0 where
-  pub accepted : AreAcceptedScripts (record { words = words; lists = lists })
-  pub room : length counts ≡ length lists
-  pub each : (p : ℕ) → p < length lists → slice_index counts p ≡ operation_count (script_of lists p)
-  pub all : total ≡ total_count lists
+pub record AreCounted (words : ℕ) (lists : List (List Line)) (counts : List ℕ) (total : ℕ) : Type 0
+  where
+    pub accepted : AreAcceptedScripts (record { words = words; lists = lists })
+    pub room : length counts ≡ length lists
+    pub each : (p : ℕ) → p < length lists → slice_index counts p ≡ operation_count (script_of lists p)
+    pub all : total ≡ total_count lists
 
 abbrev pub IsCounted : {A : Type 0} → Progress A → Type 0
 IsCounted p = AreCounted p.words (lists_of p.lists.items) p.counts.items p.total

@@ -1,4 +1,5 @@
--- The script text: what each line makes of what the lines before it made, and what the whole text is.
+-- The script text: what each line makes of what the lines before it made, and what the whole text
+-- is.
 use Rattle.std.specs.Prelude.{◌≡◌, ℕ, ◌+◌, ◌^◌, ◌<◌, ◌≤◌, ◌&&◌, ◌||◌, ◌==◌, Bool, true, false, nat_le, nat_lt, List}
 use Rattle.std.specs.Prelude.{[], ◌∷◌, ◌++◌, length, take, replicate, sum_by, slice_get, slice_set, Some, Result, Ok}
 use Rattle.std.specs.Prelude.{Err, if◌then◌else◌}
@@ -6,23 +7,26 @@ use Rattle.std.specs.List.{slice_index_or}
 use Rattle.torus.specs.declared.fault.Fault.{Fault}
 use Rattle.torus.specs.declared.fault.Fault.TheVariants as fault
 use Rattle.torus.specs.Shape.{tiles_of}
+use Rattle.lexer.specs.Words.{words_of, begins_comment}
 use Rattle.script.specs.declared.fault.LineFault.{LineFault}
 use Rattle.script.specs.declared.line.Line.{Line}
-use Rattle.script.specs.declared.line.Line.TheVariants.{Load, Store, Swap, Cas, Add, And, Or, Xor, Max, Min, Fence, Spin}
+use Rattle.script.specs.declared.line.Line.TheVariants.{Load, Store, Swap, Cas, Add, And, Or, Xor, Max, Min, Fence}
+use Rattle.script.specs.declared.line.Line.TheVariants.{Spin}
 use Rattle.script.specs.declared.line.Value.{Value as Operand}
 use Rattle.script.specs.declared.line.Value.TheVariants.{Number, Last}
 use Rattle.script.specs.Outcome.{◌>>=◌, then_lines}
-use Rattle.script.specs.Words.{words_of, begins_comment}
 use Rattle.script.specs.Settings.{an_index}
 use Rattle.script.specs.Form.{form_of, line_of_form}
 use Rattle.script.specs.Machine.{MachineSpec}
 
--- the scripts of all processors by tile, and the number of words of the memory that they were read for
+-- the scripts of all processors by tile, and the number of words of the memory that they were read
+-- for
 pub record ScriptsSpec : Type 0 where
   pub words : ℕ
   pub lists : List (List Line)
 
--- the most operations that a line issues: one, none for a fence, the greatest number of its loads for a spin
+-- the most operations that a line issues: one, none for a fence, the greatest number of its loads
+-- for a spin
 abbrev pub operations_of : Line → ℕ
 operations_of (Load a) = 1
 operations_of (Store a v) = 1
@@ -68,41 +72,52 @@ mentions_last (Spin a v m) = false
 abbrev pub script_of : List (List Line) → ℕ → List Line
 script_of lists p = slice_index_or lists p []
 
--- a line at the end of the script of a processor: no `last` where no operation came before, and no more than 4096 operations of the processor and 65536 in all
+-- a line at the end of the script of a processor: no `last` where no operation came before, and no
+-- more than 4096 operations of the processor and 65536 in all
 abbrev pub add_line : List (List Line) → ℕ → Line → Result (List (List Line)) Fault
 add_line lists p line =
     if mentions_last line && (operation_count (script_of lists p) == 0) then Err fault.Last
-    else (if nat_le (operation_count (script_of lists p) + operations_of line) 4096 && nat_le (total_count lists + operations_of line) 65536
+    else (if nat_le (operation_count (script_of lists p) + operations_of line) 4096 && nat_le
+    (total_count lists + operations_of line) 65536
     then Ok (slice_set lists p (script_of lists p ++ line ∷ []))
     else Err fault.Length)
 
--- what the words of a line make of the scripts; a line without words and a comment are skipped. After the shape
+-- what the words of a line make of the scripts; a line without words and a comment are skipped.
+-- After the shape
 -- come the processor, the address, the numbers, `last` and the count
-abbrev pub take_line : ℕ → List (List Line) → List ℕ → List (List ℕ) → Result (List (List Line)) Fault
+abbrev pub take_line : ℕ → List (List Line) → List ℕ → List (List ℕ)
+    → Result (List (List Line)) Fault
 take_line words lists processor rest =
     an_index processor >>= λ p. form_of rest >>= λ form.
-    if nat_lt p (length lists) then (line_of_form words form >>= λ line. add_line lists p line) else Err fault.Processor
+    if nat_lt p (length lists) then (line_of_form words form >>= λ line. add_line lists p line)
+    else Err fault.Processor
 
 abbrev pub after_words : ℕ → List (List Line) → List (List ℕ) → Result (List (List Line)) Fault
 after_words words lists [] = Ok lists
-after_words words lists (processor ∷ rest) = if begins_comment processor then Ok lists else take_line words lists processor rest
+after_words words lists (processor ∷ rest) =
+    if begins_comment processor then Ok lists else take_line words lists processor rest
 
--- the scripts of these lines, of which the first has this number, after those read; or the fault of the first bad line
+-- the scripts of these lines, of which the first has this number, after those read; or the fault of
+-- the first bad line
 abbrev pub scripts_from : ℕ → List (List Line) → ℕ → List (List ℕ) → Result ScriptsSpec LineFault
 scripts_from words lists number [] = Ok (record { words = words; lists = lists })
-scripts_from words lists number (line ∷ lines) = then_lines number (after_words words lists (words_of line))
+scripts_from words lists number (line ∷ lines) =
+    then_lines number (after_words words lists (words_of line))
     (λ next. scripts_from words next (number + 1) lines)
 
--- the scripts of a text for a machine, given as the list of its lines; a processor without lines has the empty script
+-- the scripts of a text for a machine, given as the list of its lines; a processor without lines
+-- has the empty script
 abbrev pub scripts_of : MachineSpec → List (List ℕ) → Result ScriptsSpec LineFault
-scripts_of machine lines = scripts_from (length machine.opening) (replicate (tiles_of machine.shape) []) 1 lines
+scripts_of machine lines =
+    scripts_from (length machine.opening) (replicate (tiles_of machine.shape) []) 1 lines
 
 -- a value is a word of 64 bits
 abbrev pub IsWord : Operand → Type 0
 IsWord (Number n) = n < 2 ^ 64
 IsWord Last = Unit {0}
 
--- the address of a line is below the number of words, its values are words, and a spin has 1 to 4096 loads
+-- the address of a line is below the number of words, its values are words, and a spin has 1 to
+-- 4096 loads
 abbrev pub IsAcceptedLine : ℕ → Line → Type 0
 IsAcceptedLine words (Load a) = a < words
 IsAcceptedLine words (Store a v) = (a < words) × IsWord v
@@ -117,10 +132,12 @@ IsAcceptedLine words (Min a v) = (a < words) × IsWord v
 IsAcceptedLine words Fence = Unit {0}
 IsAcceptedLine words (Spin a v m) = (a < words) × (v < 2 ^ 64) × (1 ≤ m) × (m ≤ 4096)
 
--- an accepted script: each line is accepted, a `last` has an operation before it, and the operations are at most 4096
+-- an accepted script: each line is accepted, a `last` has an operation before it, and the
+-- operations are at most 4096
 pub record IsAcceptedScript (words : ℕ) (lines : List Line) : Type 0 where
   pub each : (i : ℕ) (line : Line) → slice_get lines i ≡ Some line → IsAcceptedLine words line
-  pub lasts : (i : ℕ) (line : Line) → slice_get lines i ≡ Some line → mentions_last line ≡ true → 0 < operation_count (take i lines)
+  pub lasts : (i : ℕ) (line : Line) → slice_get lines i ≡ Some line → mentions_last line ≡ true
+      → 0 < operation_count (take i lines)
   pub count : operation_count lines ≤ 4096
 
 -- accepted scripts: each is, and the operations are at most 65536 in all

@@ -8,8 +8,8 @@ use Rattle.torus.specs.declared.fault.Fault.{Fault}
 use Rattle.torus.specs.declared.fault.Fault.TheVariants as fault
 use Rattle.torus.specs.Refusal.{is_radix, is_dims, are_below}
 use Rattle.torus.specs.Shape.{product}
+use Rattle.lexer.specs.Numbers.{index_of}
 use Rattle.script.specs.Outcome.{◌>>=◌}
-use Rattle.script.specs.Words.{index_of}
 
 -- the number that a word spells where one belongs
 abbrev pub an_index : List ℕ → Result ℕ Fault
@@ -25,7 +25,8 @@ one_index (a ∷ b ∷ more) = Err fault.Line
 abbrev pub few_indexes : List (List ℕ) → Result (List ℕ) Fault
 few_indexes (a ∷ []) = an_index a >>= λ x. Ok (x ∷ [])
 few_indexes (a ∷ b ∷ []) = an_index a >>= λ x. an_index b >>= λ y. Ok (x ∷ y ∷ [])
-few_indexes (a ∷ b ∷ c ∷ []) = an_index a >>= λ x. an_index b >>= λ y. an_index c >>= λ z. Ok (x ∷ y ∷ z ∷ [])
+few_indexes (a ∷ b ∷ c ∷ []) =
+    an_index a >>= λ x. an_index b >>= λ y. an_index c >>= λ z. Ok (x ∷ y ∷ z ∷ [])
 few_indexes [] = Err fault.Line
 few_indexes (a ∷ b ∷ c ∷ d ∷ more) = Err fault.Line
 
@@ -90,12 +91,14 @@ after_datelines s datelines =
 abbrev pub after_depth : Settings → ℕ → Result Settings Fault
 after_depth s depth =
     if is_some s.depth then Err fault.Setting
-    else (if nat_le 1 depth && nat_le depth 8 then Ok (record s { depth = Some depth }) else Err fault.Range)
+    else (if nat_le 1 depth && nat_le depth 8 then Ok (record s { depth = Some depth })
+    else Err fault.Range)
 
 abbrev pub after_tags : Settings → ℕ → Result Settings Fault
 after_tags s tags =
     if is_some s.tags then Err fault.Setting
-    else (if nat_le 1 tags && nat_le tags 16 then Ok (record s { tags = Some tags }) else Err fault.Range)
+    else (if nat_le 1 tags && nat_le tags 16 then Ok (record s { tags = Some tags })
+    else Err fault.Range)
 
 -- the settings after a line of this keyword and these values
 abbrev pub after_setting : Settings → List ℕ → List (List ℕ) → Result Settings Fault
@@ -109,9 +112,12 @@ after_setting s keyword values =
 
 -- what the checks leave true of the settings
 pub record AreChecked (s : Settings) : Type 0 where
-  pub radices : IfSome s.radices (λ radices. (1 ≤ length radices) × (length radices ≤ 3) × (list_all is_radix radices ≡ true))
+  pub radices : IfSome s.radices
+      (λ radices. (1 ≤ length radices) × (length radices ≤ 3) × (list_all is_radix radices ≡ true))
   pub dims : IfSome s.dims (λ dims. is_dims dims ≡ true)
   pub together : together s.radices s.dims ≡ Ok tt
-  pub datelines : IfSome s.datelines (λ datelines. IsSomeAnd s.radices (λ radices. IsSomeAnd s.dims (λ dims. dated datelines (spread dims radices) ≡ Ok tt)))
+  pub datelines : IfSome s.datelines
+      (λ datelines. IsSomeAnd s.radices
+      (λ radices. IsSomeAnd s.dims (λ dims. dated datelines (spread dims radices) ≡ Ok tt)))
   pub depth : IfSome s.depth (λ depth. (1 ≤ depth) × (depth ≤ 8))
   pub tags : IfSome s.tags (λ tags. (1 ≤ tags) × (tags ≤ 16))

@@ -1,5 +1,7 @@
--- The steps text: what each line makes of what the lines before it made, and what the whole text is (this project's own format).
-use Rattle.std.specs.Prelude.{ℕ, ◌+◌, ◌*◌, ◌%◌, ◌&&◌, ◌==◌, nat_lt, List, [], ◌∷◌, ◌++◌, Option, Some, None, ok_or, Result, Ok, Err, if◌then◌else◌, codes}
+-- The steps text: what each line makes of what the lines before it made, and what the whole text is
+-- (this project's own format).
+use Rattle.std.specs.Prelude.{ℕ, ◌+◌, ◌*◌, ◌%◌, ◌&&◌, ◌==◌, nat_lt, List, [], ◌∷◌, ◌++◌, Option, Some, None, ok_or}
+use Rattle.std.specs.Prelude.{Result, Ok, Err, if◌then◌else◌, codes}
 use Rattle.std.specs.Str.{bytes_eq}
 use Rattle.torus.specs.declared.fault.Fault.{Fault}
 use Rattle.torus.specs.declared.fault.Fault.TheVariants as fault
@@ -7,12 +9,12 @@ use Rattle.torus.specs.declared.step.Step.{Step}
 use Rattle.torus.specs.declared.step.Choice.{Choice}
 use Rattle.torus.specs.declared.step.Choice.TheVariants as choice
 use Rattle.torus.specs.Shape.{tiles_of, dims_of}
+use Rattle.lexer.specs.Words.{words_of, begins_comment}
 use Rattle.script.specs.declared.fault.LineFault.{LineFault}
 use Rattle.script.specs.declared.attempt.ChoiceWord.{ChoiceWord}
 use Rattle.script.specs.declared.attempt.ChoiceWord.TheVariants.{Send, Take, Put, Credit, Serve, Done, Look}
 use Rattle.script.specs.declared.attempt.Attempt.{Attempt}
 use Rattle.script.specs.Outcome.{◌>>=◌, then_lines}
-use Rattle.script.specs.Words.{words_of, begins_comment}
 use Rattle.script.specs.Settings.{an_index}
 use Rattle.script.specs.Machine.{MachineSpec}
 
@@ -34,8 +36,12 @@ a_choice word = ok_or (choice_word word) fault.Line
 
 -- the shape of a line: an agent, a choice word, and a number or none
 abbrev pub attempt_of : List (List ℕ) → Result Attempt Fault
-attempt_of (agent ∷ word ∷ []) = an_index agent >>= λ a. a_choice word >>= λ w. Ok (record { agent = a; word = w; number = None })
-attempt_of (agent ∷ word ∷ number ∷ []) = an_index agent >>= λ a. a_choice word >>= λ w. an_index number >>= λ n. Ok (record { agent = a; word = w; number = Some n })
+attempt_of (agent ∷ word ∷ []) =
+    an_index agent >>= λ a. a_choice word >>= λ w. Ok
+    (record { agent = a; word = w; number = None })
+attempt_of (agent ∷ word ∷ number ∷ []) =
+    an_index agent >>= λ a. a_choice word >>= λ w. an_index number >>= λ n. Ok
+    (record { agent = a; word = w; number = Some n })
 attempt_of [] = Err fault.Line
 attempt_of (agent ∷ []) = Err fault.Line
 attempt_of (agent ∷ word ∷ number ∷ other ∷ more) = Err fault.Line
@@ -70,13 +76,15 @@ bank_choice Serve = Some choice.Serve
 bank_choice Done = None
 bank_choice Look = None
 
--- the choice of the agents of a tile: processor 0, router 1, bank 2. A router's have the number of one of its 8 n + 2 inputs or outputs, the others have none
+-- the choice of the agents of a tile: processor 0, router 1, bank 2. A router's have the number of
+-- one of its 8 n + 2 inputs or outputs, the others have none
 abbrev pub agent_choice : ℕ → ℕ → ChoiceWord → Option ℕ → Option Choice
 agent_choice dims kind word None =
     if kind == 0 then processor_choice word
     else (if kind == 2 then bank_choice word
     else None)
-agent_choice dims kind word (Some n) = if (kind == 1) && nat_lt n (8 * dims + 2) then router_choice word n else None
+agent_choice dims kind word (Some n) =
+    if (kind == 1) && nat_lt n (8 * dims + 2) then router_choice word n else None
 
 -- the step of a choice that the agent has
 abbrev pub step_with : ℕ → Option Choice → Result Step Fault
@@ -86,21 +94,26 @@ step_with agent (Some c) = Ok (record { agent = agent; choice = c })
 -- the step of a line: there is such an agent, and it has such a choice
 abbrev pub step_of : ℕ → ℕ → Attempt → Result Step Fault
 step_of tiles dims t =
-    if nat_lt t.agent (3 * tiles) then step_with t.agent (agent_choice dims (t.agent % 3) t.word t.number) else Err fault.Step
+    if nat_lt t.agent (3 * tiles)
+    then step_with t.agent (agent_choice dims (t.agent % 3) t.word t.number) else Err fault.Step
 
 -- what the words of a line make of the steps; a line without words and a comment are skipped
 abbrev pub take_step : ℕ → ℕ → List Step → List (List ℕ) → Result (List Step) Fault
-take_step tiles dims steps words = attempt_of words >>= λ t. step_of tiles dims t >>= λ s. Ok (steps ++ s ∷ [])
+take_step tiles dims steps words =
+    attempt_of words >>= λ t. step_of tiles dims t >>= λ s. Ok (steps ++ s ∷ [])
 
 abbrev pub after_words : ℕ → ℕ → List Step → List (List ℕ) → Result (List Step) Fault
 after_words tiles dims steps [] = Ok steps
-after_words tiles dims steps (agent ∷ rest) = if begins_comment agent then Ok steps else take_step tiles dims steps (agent ∷ rest)
+after_words tiles dims steps (agent ∷ rest) =
+    if begins_comment agent then Ok steps else take_step tiles dims steps (agent ∷ rest)
 
--- the steps of these lines, of which the first has this number, after those read; or the fault of the first bad line
+-- the steps of these lines, of which the first has this number, after those read; or the fault of
+-- the first bad line
 abbrev pub steps_from : ℕ → ℕ → List Step → ℕ → List (List ℕ) → Result (List Step) LineFault
 steps_from tiles dims steps number [] = Ok steps
 steps_from tiles dims steps number (line ∷ lines) =
-    then_lines number (after_words tiles dims steps (words_of line)) (λ next. steps_from tiles dims next (number + 1) lines)
+    then_lines number (after_words tiles dims steps (words_of line))
+    (λ next. steps_from tiles dims next (number + 1) lines)
 
 -- the steps of a text for a machine, given as the list of its lines
 abbrev pub steps_of : MachineSpec → List (List ℕ) → Result (List Step) LineFault

@@ -11,4 +11,10 @@ few_list (Two a b) = a ∷ b ∷ []
 few_list (Three a b c) = a ∷ b ∷ c ∷ []
 
 abbrev pub settings_of : settings.Settings → Settings
-settings_of s = record { radices = option_map few_list s.radices; dims = s.dims; datelines = option_map few_list s.datelines; depth = s.depth; tags = s.tags }
+settings_of s = record {
+  radices = option_map few_list s.radices;
+  dims = s.dims;
+  datelines = option_map few_list s.datelines;
+  depth = s.depth;
+  tags = s.tags;
+}

@@ -1,5 +1,6 @@
 ghost use Rattle.std.specs.Prelude.{◌≡◌, ◌≤◌, ◌∷◌, [], map};
-ghost use Rattle.script.specs.Steps.{choice_word, a_choice, attempt_of, processor_choice, router_choice, bank_choice, agent_choice, step_of};
+ghost use Rattle.script.specs.Steps.{choice_word, a_choice, attempt_of, processor_choice, router_choice, bank_choice};
+ghost use Rattle.script.specs.Steps.{agent_choice, step_of};
 
 use crate::number::an_index;
 use torus::{Choice, Fault, Step};

@@ -86,7 +86,8 @@ impl Few {
     pub(crate) fn spread(self, dims: u32) -> Few
         requires { is_dims dims ≡ true }
         ensures list { few_list result ≡ spread dims (few_list self) }
-        ensures radices { list_all is_radix (few_list self) ≡ true → list_all is_radix (few_list result) ≡ true }
+        ensures radices { list_all is_radix (few_list self) ≡ true
+            → list_all is_radix (few_list result) ≡ true }
     {
         match self {
             Few::One(a) => match dims {

@@ -4,8 +4,9 @@ ghost use Rattle.script.specs.Form.{spin_form, one_value, operand_of, checked_wo
 ghost use Rattle.script.specs.Form.{line_of_form, below};
 ghost use Rattle.script.specs.Scripts.{IsAcceptedLine};
 
-use crate::number::{a_value, an_index, value};
+use crate::number::{a_value, an_index};
 use crate::{Line, Value};
+use lexer::value;
 use torus::Fault;
 
 /// A value as a line gives it, before it is checked to be a word.

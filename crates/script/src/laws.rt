@@ -9,6 +9,7 @@ ghost use Rattle.script.specs.Steps.{agent_choice};
 /// The words of a line name only choices that the agent has, whose router has 8 n + 2 inputs and as
 /// many outputs.
 pub fn lines_name_choices_of_their_agents()
-    ensures { (dims kind : ℕ) (word : ChoiceWord) (number : Option ℕ) (choice : Choice) → agent_choice dims kind word number ≡ Some choice
+    ensures { (dims kind : ℕ) (word : ChoiceWord) (number : Option ℕ) (choice : Choice)
+        → agent_choice dims kind word number ≡ Some choice
         → has_choice (8 * dims + 2) kind choice ≡ true }
 {}

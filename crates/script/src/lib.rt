@@ -15,7 +15,6 @@ mod reading;
 pub mod scripts;
 mod settings;
 pub mod steps;
-mod words;
 
 pub use fault::LineFault;
 pub use line::{Line, Value};

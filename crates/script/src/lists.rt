@@ -1,4 +1,5 @@
-ghost use Rattle.std.specs.Prelude.{◌≡◌, ◌<◌, ◌≤◌, ◌∷◌, ◌++◌, [], length, replicate, slice_set, IfOk, if◌then◌else◌, is_ok, vec_len, IfErr};
+ghost use Rattle.std.specs.Prelude.{◌≡◌, ◌<◌, ◌≤◌, ◌∷◌, ◌++◌, [], length, replicate, slice_set, IfOk, if◌then◌else◌};
+ghost use Rattle.std.specs.Prelude.{is_ok, vec_len, IfErr};
 ghost use Rattle.script.specs.Scripts.{operations_of, mentions_last, is_last, script_of};
 ghost use Rattle.script.specs.ScriptViews.{lists_of};
 
@@ -92,7 +93,9 @@ pub(crate) fn push_line<A: Allocator>(
     line: Line,
 ) -> Result<(), Fault>
     requires { p < vec_len lists.old }
-    ensures value { lists_of lists.new.items ≡ (if is_ok result then slice_set (lists_of lists.old.items) p (script_of (lists_of lists.old.items) p ++ line ∷ []) else lists_of lists.old.items) }
+    ensures value { lists_of lists.new.items
+        ≡ (if is_ok result then slice_set (lists_of lists.old.items) p
+        (script_of (lists_of lists.old.items) p ++ line ∷ []) else lists_of lists.old.items) }
     ensures tiles { vec_len lists.new ≡ vec_len lists.old }
     ensures memory { IfErr result (λ e. e ≡ Fault.Memory) }
 {

@@ -8,7 +8,7 @@ ghost use Rattle.script.specs.Outcome.{Agrees, Gives};
 use crate::LineFault;
 use crate::fault::fault_at;
 use crate::reading::Reading;
-use crate::words::{first_words, next_line};
+use lexer::{first_words, next_line};
 use std::alloc::{Allocator, Global};
 use std::marker::Model;
 use torus::{Fault, Torus};
@@ -42,7 +42,12 @@ impl<A: Allocator> MachineText<A> {
         requires depth { (1 ≤ depth) × (depth ≤ 8) }
         requires tags { (1 ≤ tags) × (tags ≤ 16) }
         requires words { (1 ≤ vec_len opening) × (vec_len opening ≤ 65536) }
-        ensures { result ≡ record { shape = torus; depth = depth; tags = tags; opening = opening.items } }
+        ensures { result ≡ record {
+          shape = torus;
+          depth = depth;
+          tags = tags;
+          opening = opening.items;
+        } }
     {
         MachineText {
             torus,

@@ -44,7 +44,9 @@ impl<A: Allocator + Copy> Progress<A> {
     /// Takes what the words of a line say.
     pub(crate) fn take(&mut self, words: &[&[u8]]) -> Result<(), Fault>
         requires { IsCounted self.old }
-        ensures value { Makes (lists_of self.new.lists.items) result (after_words self.old.words (lists_of self.old.lists.items) (map (λ word. word.now) words.now)) }
+        ensures value { Makes (lists_of self.new.lists.items) result
+            (after_words self.old.words (lists_of self.old.lists.items)
+            (map (λ word. word.now) words.now)) }
         ensures words { self.new.words ≡ self.old.words }
         ensures tiles { vec_len self.new.lists ≡ vec_len self.old.lists }
         ensures counted { OnOk result (IsCounted self.new) }
@@ -59,7 +61,9 @@ impl<A: Allocator + Copy> Progress<A> {
     /// Takes the line of a processor.
     fn take_line(&mut self, processor: &[u8], rest: &[&[u8]]) -> Result<(), Fault>
         requires { IsCounted self.old }
-        ensures value { Makes (lists_of self.new.lists.items) result (take_line self.old.words (lists_of self.old.lists.items) processor.now (map (λ word. word.now) rest.now)) }
+        ensures value { Makes (lists_of self.new.lists.items) result
+            (take_line self.old.words (lists_of self.old.lists.items) processor.now
+            (map (λ word. word.now) rest.now)) }
         ensures words { self.new.words ≡ self.old.words }
         ensures tiles { vec_len self.new.lists ≡ vec_len self.old.lists }
         ensures counted { OnOk result (IsCounted self.new) }
@@ -79,7 +83,8 @@ impl<A: Allocator + Copy> Progress<A> {
         requires counted { IsCounted self.old }
         requires tile { p < vec_len self.old.lists }
         requires line { IsAcceptedLine self.old.words line }
-        ensures value { Makes (lists_of self.new.lists.items) result (add_line (lists_of self.old.lists.items) p line) }
+        ensures value { Makes (lists_of self.new.lists.items) result
+            (add_line (lists_of self.old.lists.items) p line) }
         ensures words { self.new.words ≡ self.old.words }
         ensures tiles { vec_len self.new.lists ≡ vec_len self.old.lists }
         ensures counted { OnOk result (IsCounted self.new) }

@@ -1,5 +1,6 @@
 ghost use Rattle.std.specs.Prelude.{◌≡◌, map, OnOk};
-ghost use Rattle.script.specs.Machine.{after_words, after_count, after_init, after_init_values, are_given, nothing_read};
+ghost use Rattle.script.specs.Machine.{after_words, after_count, after_init, after_init_values, are_given};
+ghost use Rattle.script.specs.Machine.{nothing_read};
 ghost use Rattle.script.specs.MachineViews.{reading_of, IsChecked};
 ghost use Rattle.script.specs.Outcome.{Makes};
 
@@ -35,7 +36,8 @@ impl<A: Allocator + Copy> Reading<A> {
     /// Takes what the words of a line give.
     pub(crate) fn take(&mut self, alloc: A, words: &[&[u8]]) -> Result<(), Fault>
         requires { IsChecked (reading_of self.old) }
-        ensures value { Makes (reading_of self.new) result (after_words (reading_of self.old) (map (λ word. word.now) words.now)) }
+        ensures value { Makes (reading_of self.new) result
+            (after_words (reading_of self.old) (map (λ word. word.now) words.now)) }
         ensures checked { OnOk result (IsChecked (reading_of self.new)) }
     {
         match words {
@@ -57,7 +59,8 @@ impl<A: Allocator + Copy> Reading<A> {
     /// Takes the number of words.
     fn take_count(&mut self, alloc: A, words: u32) -> Result<(), Fault>
         requires { IsChecked (reading_of self.old) }
-        ensures value { Makes (reading_of self.new) result (after_count (reading_of self.old) words) }
+        ensures value { Makes (reading_of self.new) result
+            (after_count (reading_of self.old) words) }
         ensures checked { OnOk result (IsChecked (reading_of self.new)) }
     {
         if !self.opening.is_empty() {
@@ -80,7 +83,8 @@ impl<A: Allocator + Copy> Reading<A> {
     /// Takes the address and the value of an opening word.
     fn take_init(&mut self, values: &[&[u8]]) -> Result<(), Fault>
         requires { IsChecked (reading_of self.old) }
-        ensures value { Makes (reading_of self.new) result (after_init_values (reading_of self.old) (map (λ value. value.now) values.now)) }
+        ensures value { Makes (reading_of self.new) result
+            (after_init_values (reading_of self.old) (map (λ value. value.now) values.now)) }
         ensures checked { OnOk result (IsChecked (reading_of self.new)) }
     {
         match values {
@@ -96,7 +100,8 @@ impl<A: Allocator + Copy> Reading<A> {
     /// Sets an opening word.
     fn set_word(&mut self, address: u32, value: u128) -> Result<(), Fault>
         requires { IsChecked (reading_of self.old) }
-        ensures value { Makes (reading_of self.new) result (after_init (reading_of self.old) address value) }
+        ensures value { Makes (reading_of self.new) result
+            (after_init (reading_of self.old) address value) }
         ensures checked { OnOk result (IsChecked (reading_of self.new)) }
     {
         if !self.are_given() {

@@ -8,8 +8,8 @@ ghost use Rattle.script.specs.ScriptViews.{lists_of};
 use crate::fault::{fault_at, out_of_memory};
 use crate::lists::LineList;
 use crate::progress::Progress;
-use crate::words::{first_words, next_line};
 use crate::{Line, LineFault, MachineText};
+use lexer::{first_words, next_line};
 use std::alloc::{Allocator, Global};
 use std::marker::Model;
 
@@ -85,7 +85,8 @@ fn read_lists<A: Allocator + Copy>(
     words: u32,
 ) -> Result<Scripts<A>, LineFault>
     requires { tiles ≤ 64 }
-    ensures value { Gives (λ s. s) result (scripts_from words (replicate tiles []) 1 (lines text.now)) }
+    ensures value { Gives (λ s. s) result
+        (scripts_from words (replicate tiles []) 1 (lines text.now)) }
     ensures fit { IfOk result (λ s. (length s.lists ≡ tiles) × (s.words ≡ words)) }
 {
     let Ok(mut progress) = Progress::none(alloc, tiles, words) else {

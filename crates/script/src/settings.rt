@@ -1,6 +1,7 @@
 ghost use Rattle.std.specs.Prelude.{◌≡◌, map, IfOk};
 ghost use Rattle.script.specs.Outcome.{Agrees};
-ghost use Rattle.script.specs.Settings.{AreChecked, after_radix, after_dims, after_datelines, after_depth, after_tags, after_setting, no_settings};
+ghost use Rattle.script.specs.Settings.{AreChecked, after_radix, after_dims, after_datelines, after_depth};
+ghost use Rattle.script.specs.Settings.{after_tags, after_setting, no_settings};
 ghost use Rattle.script.specs.Views.{few_list, settings_of};
 
 use crate::few::{Few, few_indexes, one_index};
@@ -33,7 +34,8 @@ impl Settings {
 
     fn after_radix(self, radices: Few) -> Result<Settings, Fault>
         requires { AreChecked (settings_of self) }
-        ensures value { Agrees settings_of result (after_radix (settings_of self) (few_list radices)) }
+        ensures value { Agrees settings_of result
+            (after_radix (settings_of self) (few_list radices)) }
         ensures checked { IfOk result (λ s. AreChecked (settings_of s)) }
     {
         if self.radices.is_some() {
@@ -73,7 +75,8 @@ impl Settings {
 
     fn after_datelines(self, datelines: Few) -> Result<Settings, Fault>
         requires { AreChecked (settings_of self) }
-        ensures value { Agrees settings_of result (after_datelines (settings_of self) (few_list datelines)) }
+        ensures value { Agrees settings_of result
+            (after_datelines (settings_of self) (few_list datelines)) }
         ensures checked { IfOk result (λ s. AreChecked (settings_of s)) }
     {
         if self.datelines.is_some() {
@@ -131,7 +134,8 @@ impl Settings {
     /// The settings after a line of this keyword and these values.
     pub(crate) fn after(self, keyword: &[u8], values: &[&[u8]]) -> Result<Settings, Fault>
         requires { AreChecked (settings_of self) }
-        ensures value { Agrees settings_of result (after_setting (settings_of self) keyword.now (map (λ value. value.now) values.now)) }
+        ensures value { Agrees settings_of result
+            (after_setting (settings_of self) keyword.now (map (λ value. value.now) values.now)) }
         ensures checked { IfOk result (λ s. AreChecked (settings_of s)) }
     {
         if keyword == b"radix".as_slice() {

@@ -5,8 +5,8 @@ ghost use Rattle.script.specs.Steps.{after_words, take_step, steps_from, steps_o
 
 use crate::attempt::attempt_of;
 use crate::fault::fault_at;
-use crate::words::{first_words, next_line};
 use crate::{LineFault, MachineText};
+use lexer::{first_words, next_line};
 use std::alloc::Allocator;
 use torus::{Fault, Step};
 
@@ -58,7 +58,8 @@ fn take_words<A: Allocator>(
 ) -> Result<(), Fault>
     requires tiles { tiles ≤ 64 }
     requires dims { dims ≤ 3 }
-    ensures { Makes steps.new.items result (after_words tiles dims steps.old.items (map (λ word. word.now) words.now)) }
+    ensures { Makes steps.new.items result
+        (after_words tiles dims steps.old.items (map (λ word. word.now) words.now)) }
 {
     match words {
         [] => Ok(()),
@@ -76,7 +77,8 @@ fn take_step<A: Allocator>(
 ) -> Result<(), Fault>
     requires tiles { tiles ≤ 64 }
     requires dims { dims ≤ 3 }
-    ensures { Makes steps.new.items result (take_step tiles dims steps.old.items (map (λ word. word.now) words.now)) }
+    ensures { Makes steps.new.items result
+        (take_step tiles dims steps.old.items (map (λ word. word.now) words.now)) }
 {
     let step = attempt_of(words)?.step(tiles, dims)?;
     match steps.push(step) {

@@ -1,5 +1,6 @@
 -- Where all walks arrive, there is a cycle of dependencies or there are numbers that rise.
-use Rattle.std.proofs.Common.{◌≡◌, ◌⊎◌, inl, inr, ℕ, zero, suc, ◌+◌, ◌-◌, ◌<◌, ◌≤◌, ◌&&◌, ◌||◌, Bool, true, false, not, cond, eqb, List, [], ◌∷◌, length, refl, sym, ◌∙◌, ap, subst, arith}
+use Rattle.std.proofs.Common.{◌≡◌, ◌⊎◌, inl, inr, ℕ, zero, suc, ◌+◌, ◌-◌, ◌<◌, ◌≤◌, ◌&&◌, ◌||◌, Bool, true, false, not, cond, eqb, List, [], ◌∷◌, length}
+use Rattle.std.proofs.Common.{refl, sym, ◌∙◌, ap, subst, arith}
 use Rattle.std.specs.Prelude.{◌==◌, slice_index, map}
 use Rattle.std.proofs.lemmas.List.{length-map, get_or-map}
 use Rattle.std.proofs.lemmas.Bool.{cases_lt, cases_order, cases_Bool, eqb-true, eq-eqb, ne_eqb, and_parts, and_from, or_left, or_right}
@@ -93,11 +94,13 @@ steps_are t i j n w =
 
 -- whether packets to ejection channel j go through channel x and on
 abbrev passes : Table → ℕ → ℕ → Bool
-passes t x j = any (λ p. eqb (join_at t p).to j && any (λ k. eqb (place t (join_at t p).to (join_at t p).from k) x) (steps_of t (join_at t p).from (join_at t p).to)) (length t.joins)
+passes t x j = any (λ p. eqb (join_at t p).to j && any (λ k. eqb (place t (join_at t p).to (join_at t p).from k) x)
+    (steps_of t (join_at t p).from (join_at t p).to)) (length t.joins)
 
 from_passes : (t : Table) → AllArrive t → (x j : ℕ) → passes t x j ≡ true → Passes t x j
 from_passes t arrive x j e =
-    let a = any_from (λ p. eqb (join_at t p).to j && any (λ k. eqb (place t (join_at t p).to (join_at t p).from k) x) (steps_of t (join_at t p).from (join_at t p).to)) (length t.joins) e in
+    let a = any_from (λ p. eqb (join_at t p).to j && any (λ k. eqb (place t (join_at t p).to (join_at t p).from k) x)
+    (steps_of t (join_at t p).from (join_at t p).to)) (length t.joins) e in
     let i : ℕ = (join_at t a.0).from in
     let h : ℕ = (join_at t a.0).to in
     let both = and_parts (eqb h j) (any (λ k. eqb (place t h i k) x) (steps_of t i h)) a.2 in
@@ -125,7 +128,8 @@ to_passes t arrive x j s =
     let n : steps_of t i h ≡ s.steps = ap (λ z. steps_of t z h) p.1.from ∙ (ap (λ z. steps_of t s.from z) p.1.to ∙ steps_are t s.from j s.steps s.way) in
     let here : place t h i s.step ≡ x = ap (λ z. place t h z s.step) p.1.from ∙ (ap (λ z. place t z s.from s.step) p.1.to ∙ s.here) in
     let low = s.before in
-    any_at (λ q. eqb (join_at t q).to j && any (λ k. eqb (place t (join_at t q).to (join_at t q).from k) x) (steps_of t (join_at t q).from (join_at t q).to)) (length t.joins) p.0 p.1.below
+    any_at (λ q. eqb (join_at t q).to j && any (λ k. eqb (place t (join_at t q).to (join_at t q).from k) x) (steps_of t (join_at t q).from (join_at t q).to))
+    (length t.joins) p.0 p.1.below
     (and_from (eqb h j) (any (λ k. eqb (place t h i k) x) (steps_of t i h)) (eq-eqb h j p.1.to)
     (any_at (λ k. eqb (place t h i k) x) (steps_of t i h) s.step (omega arith) (eq-eqb (place t h i s.step) x here)))
 
@@ -367,7 +371,8 @@ cycle_or_numbers t replies are arrive =
           (reply_edge replies (channels_of t) (channels_of t) (passes t) (next_of t) x y is);
       net = λ depth flits. is_net t (slice_index numbers) (channels_of t) depth flits arrive r.bound
           (λ x j y d. (let p = dependency_passes t arrive x j y d in
-          let hx : x < channels_of t = subst (λ z. z < channels_of t) p.0.here (within_way t p.0.from j p.0.steps p.0.step p.0.way (let b = p.0.before in omega arith)) in
+          let hx : x < channels_of t =
+          subst (λ z. z < channels_of t) p.0.here (within_way t p.0.from j p.0.steps p.0.step p.0.way (let b = p.0.before in omega arith)) in
           let hy : y < channels_of t = subst (λ z. z < channels_of t) p.1 (next_within t x j p.0) in
           r.up x y hx hy (dependency_edge t replies arrive x j y p.0 p.1)));
     }

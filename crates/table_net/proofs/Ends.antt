@@ -1,5 +1,6 @@
 -- The columns of ejection channels.
-use Rattle.std.proofs.Common.{◌≡◌, inl, inr, ℕ, zero, suc, ◌+◌, ◌-◌, ◌<◌, ◌≤◌, true, false, Some, List, [], ◌∷◌, ◌++◌, length, get_or, take, refl, sym, ◌∙◌, ap, subst, arith}
+use Rattle.std.proofs.Common.{◌≡◌, inl, inr, ℕ, zero, suc, ◌+◌, ◌-◌, ◌<◌, ◌≤◌, true, false, Some, List, [], ◌∷◌, ◌++◌, length, get_or, take, refl, sym, ◌∙◌}
+use Rattle.std.proofs.Common.{ap, subst, arith}
 use Rattle.std.specs.List.{count_by}
 use Rattle.std.proofs.lemmas.Bool.{cases_lt, cases_order, cases_Bool}
 use Rattle.std.proofs.lemmas.List.{take_all, length_push, get_or_push, get_or_append_left}
@@ -13,7 +14,8 @@ use Rattle.table_net.specs.Columns.{IsEnd, AreEnds}
 
 -- the ejection channels before the first n channels grow in number
 grows : (kinds : List Kind) (m d n : ℕ) → n ≡ m + d → n ≤ length kinds → count_by ejects (take m kinds) ≤ count_by ejects (take n kinds)
-grows kinds m zero n e low = let same : n ≡ m = omega arith in let z : count_by ejects (take n kinds) ≡ count_by ejects (take m kinds) = ap (λ k. count_by ejects (take k kinds)) same in omega arith
+grows kinds m zero n e low = let same : n ≡ m = omega arith in
+    let z : count_by ejects (take n kinds) ≡ count_by ejects (take m kinds) = ap (λ k. count_by ejects (take k kinds)) same in omega arith
 grows kinds m (suc d) zero e low = absurd (omega arith)
 grows kinds m (suc d) (suc n) e low =
     let before = grows kinds m d n (omega arith) (omega arith) in

@@ -1,5 +1,6 @@
 -- Networks have routes, and tables one kind of verdict.
-use Rattle.std.proofs.Common.{◌≡◌, ◌≢◌, ℕ, zero, suc, ◌-◌, ◌<◌, ◌≤◌, Bool, true, false, cond, eqb, get_or, Option, Some, None, List, [], ◌∷◌, ◌++◌, refl, sym, ◌∙◌, ap, arith}
+use Rattle.std.proofs.Common.{◌≡◌, ◌≢◌, ℕ, zero, suc, ◌-◌, ◌<◌, ◌≤◌, Bool, true, false, cond, eqb, get_or, Option, Some, None, List, [], ◌∷◌, ◌++◌, refl, sym}
+use Rattle.std.proofs.Common.{◌∙◌, ap, arith}
 use Rattle.std.proofs.lemmas.Bool.{eqb-false}
 use Rattle.std.proofs.lemmas.Option.{slice_get-get_or}
 use Rattle.table_net.specs.declared.table.Kind.{Kind}
@@ -35,7 +36,8 @@ walk_stop t j x (suc f) (b ∷ before) y after e = by (eqb x j) refl (λ tail. w
   where
     by : (c : Bool) → eqb x j ≡ c → (walk t j (next_of t x j) f ≡ before ++ y ∷ after → Stop t j (next_of t x j) f y) → Stop t j x (suc f) y
     by true g rest =
-        let none : [] ≡ before ++ y ∷ after = (let one : x ∷ [] ≡ (b ∷ before) ++ y ∷ after = ap (λ c. x ∷ cond c [] (walk t j (next_of t x j) f)) (sym g) ∙ e in cc) in
+        let none : [] ≡ before ++ y ∷ after =
+        (let one : x ∷ [] ≡ (b ∷ before) ++ y ∷ after = ap (λ c. x ∷ cond c [] (walk t j (next_of t x j) f)) (sym g) ∙ e in cc) in
         empty before none
       where
         empty : (xs : List ℕ) → [] ≡ xs ++ y ∷ after → Stop t j x (suc f) y
@@ -89,7 +91,8 @@ network_arrives t number top depth flits net i j joined =
     λ a b l m. (let d : ℕ = b - suc a in
     let first : places t j i b ≡ places t j i a ++ places t j (place t j i a) (suc d) = places_cut t j i a (suc d) b (omega arith) in
     let whole : places t j i (suc n) ≡ places t j i b ++ places t j (place t j i b) (suc (n - b)) = places_cut t j i b (suc (n - b)) (suc n) (omega arith) in
-    net.rises i j (place t j i a) (place t j i b) (places t j i a) (places t j (next_of t (place t j i a) j) d) (places t j (next_of t (place t j i b) j) (n - b)) joined
+    net.rises i j (place t j i a) (place t j i b) (places t j i a) (places t j (next_of t (place t j i a) j) d)
+    (places t j (next_of t (place t j i b) j) (n - b)) joined
     (route ∙ (whole ∙ ap (λ xs. xs ++ places t j (place t j i b) (suc (n - b))) first))) in
     let same : (a b : ℕ) → a < b → b ≤ n → place t j i a ≡ place t j i b → ⊥ =
     λ a b l m e. (let u = up a b l m in let z : number (place t j i a) ≡ number (place t j i b) = ap number e in omega arith) in (

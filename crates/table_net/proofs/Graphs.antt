@@ -82,12 +82,14 @@ cycle_with t replies channels columns f h to looks links depends c l =
       some = omega arith;
       each = λ k low. (let there = l.each (k + 1) (omega arith) in
           joined (link_at links k) (link_at links (k + 1)).channel (look_at looks k) (l.each k (omega arith))
-          (subst (λ z. LeadsTo (graph_with channels columns f h replies) (look_at looks k) z) (sym (ap (λ (v : Link). v.channel) there)) (c.each k (omega arith))));
+          (subst (λ z. LeadsTo (graph_with channels columns f h replies) (look_at looks k) z) (sym (ap (λ (v : Link). v.channel) there))
+          (c.each k (omega arith))));
       last = (let there = l.each 0 (omega arith) in
           let same : length looks - 1 ≡ length links - 1 = omega arith in
           joined (link_at links (length links - 1)) (link_at links 0).channel (look_at looks (length links - 1)) (l.each (length links - 1) (omega arith))
           (subst (λ z. LeadsTo (graph_with channels columns f h replies) (look_at looks z) (link_at links 0).channel) same
-          (subst (λ z. LeadsTo (graph_with channels columns f h replies) (look_at looks (length looks - 1)) z) (sym (ap (λ (v : Link). v.channel) there)) c.last)));
+          (subst (λ z. LeadsTo (graph_with channels columns f h replies) (look_at looks (length looks - 1)) z) (sym (ap (λ (v : Link). v.channel) there))
+          c.last)));
     }
   where
     leads : (look : Look) (y : ℕ) → LeadsTo (graph_with channels columns f h replies) look y → Leads t replies look.channel (by_of columns to look.column) y

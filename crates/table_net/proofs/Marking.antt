@@ -1,5 +1,6 @@
 -- Marks of many routes.
-use Rattle.std.proofs.Common.{◌≡◌, inl, inr, ℕ, zero, suc, ◌+◌, ◌/◌, ◌%◌, ◌<◌, ◌==◌, ◌&&◌, eqb, Bool, true, Some, List, ◌∷◌, length, refl, sym, ◌∙◌, ap, subst, arith}
+use Rattle.std.proofs.Common.{◌≡◌, inl, inr, ℕ, zero, suc, ◌+◌, ◌/◌, ◌%◌, ◌<◌, ◌==◌, ◌&&◌, eqb, Bool, true, Some, List, ◌∷◌, length, refl, sym, ◌∙◌, ap}
+use Rattle.std.proofs.Common.{subst, arith}
 use Rattle.std.proofs.lemmas.Bool.{cases_lt, eq-eqb, eqb-true, and_from, and_parts}
 use Rattle.std.proofs.lemmas.Nat.{div-mul-add, mod-mul-add}
 use Rattle.std.proofs.lemmas.List.{get_or_default}
@@ -121,7 +122,8 @@ is_used t used r x j y d =
     let s : Split t j d.from (suc n) x (y ∷ d.after) =
     split t j d.from (suc n) d.before x (y ∷ d.after) (sym (route_is t d.from j n marked.way) ∙ d.neighbours) in
     let all = s.all in
-    let more : (m : ℕ) → s.more ≡ m → (s.step < n) × (next_of t x j ≡ y) = λ m e. further t x j y d.after s.step n m (omega (arith, e)) (s.rest ∙ ap (places t j (next_of t x j)) e) in
+    let more : (m : ℕ) → s.more ≡ m → (s.step < n) × (next_of t x j ≡ y) =
+    λ m e. further t x j y d.after s.step n m (omega (arith, e)) (s.rest ∙ ap (places t j (next_of t x j)) e) in
     let low = more s.more refl in
     let passes : Passes t x j = record {
       from = d.from;

@@ -1,8 +1,10 @@
 -- The steps of a search in depth.
-use Rattle.std.proofs.Common.{◌≡◌, ◌≢◌, inl, inr, ℕ, zero, suc, ◌+◌, ◌-◌, ◌*◌, ◌<◌, ◌≤◌, Bool, true, false, cond, List, [], ◌∷◌, ◌++◌, length, get_or, set, take, drop, refl, sym, ◌∙◌, ap, subst, arith}
+use Rattle.std.proofs.Common.{◌≡◌, ◌≢◌, inl, inr, ℕ, zero, suc, ◌+◌, ◌-◌, ◌*◌, ◌<◌, ◌≤◌, Bool, true, false, cond, List, [], ◌∷◌, ◌++◌, length, get_or, set}
+use Rattle.std.proofs.Common.{take, drop, refl, sym, ◌∙◌, ap, subst, arith}
 use Rattle.std.specs.List.{count_by, sum_by}
 use Rattle.std.proofs.lemmas.Bool.{cases_lt, cases_eq}
-use Rattle.std.proofs.lemmas.List.{length-set, length-take-le, length-drop, length_push, get_or-set_same, get_or-set_other, get_or-take, get_or-drop, get_or_push, get_or_read, get_or_append_left, take_more, take_all}
+use Rattle.std.proofs.lemmas.List.{length-set, length-take-le, length-drop, length_push, get_or-set_same, get_or-set_other, get_or-take, get_or-drop}
+use Rattle.std.proofs.lemmas.List.{get_or_push, get_or_read, get_or_append_left, take_more, take_all}
 use Rattle.std.proofs.lemmas.List.Sums.{sum_by-set, sum_by_push}
 use Rattle.table_net.specs.declared.search.Look.{Look}
 use Rattle.table_net.specs.declared.search.Mark.{Mark}
@@ -47,7 +49,8 @@ channels_kept path last x to more low e k =
     let v : Look = record { channel = x; column = more } in
     elim (cases_eq k last) [
       | inl same ↦ (let one : look_at (set path last v) last ≡ v = get_or-set_same path last v (record { channel = 0; column = 0 }) low in
-          ap (λ z. (look_at (set path last v) z).channel) same ∙ (ap (λ (l : Look). l.channel) one ∙ (sym (ap (λ (l : Look). l.channel) e) ∙ ap (λ z. (look_at path z).channel) (sym same))))
+          ap (λ z. (look_at (set path last v) z).channel) same
+          ∙ (ap (λ (l : Look). l.channel) one ∙ (sym (ap (λ (l : Look). l.channel) e) ∙ ap (λ z. (look_at path z).channel) (sym same))))
       | inr apart ↦ ap (λ (l : Look). l.channel) (links_kept path last v k apart)
     ]
 

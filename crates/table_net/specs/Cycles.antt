@@ -9,7 +9,8 @@ use Rattle.table_net.specs.Table.{Table, joins_of}
 use Rattle.table_net.specs.Ways.{route_of}
 use Rattle.table_net.specs.Replies.{IsReply}
 
--- a dependency: some packets to ejection channel j go from channel x on to channel y (Dally and Seitz: an edge of the
+-- a dependency: some packets to ejection channel j go from channel x on to channel y (Dally and
+-- Seitz: an edge of the
 -- dependency graph)
 pub record Depends (t : Table) (x j y : ℕ) : Type 0 where
   pub from : ℕ
@@ -18,7 +19,8 @@ pub record Depends (t : Table) (x j y : ℕ) : Type 0 where
   pub after : List ℕ
   pub neighbours : route_of t from j ≡ before ++ x ∷ y ∷ after
 
--- how channel x leads on to channel y: some packets go on so, or packets from the one are answered on the other (Dally
+-- how channel x leads on to channel y: some packets go on so, or packets from the one are answered
+-- on the other (Dally
 -- and Seitz: an edge of the dependency graph)
 abbrev pub Leads : Table → List Reply → ℕ → By → ℕ → Type 0
 Leads t replies x (To j) y = Depends t x j y
@@ -28,10 +30,13 @@ Leads t replies x Replied y = IsReply replies x y
 abbrev pub link_at : List Link → ℕ → Link
 link_at links k = slice_index_or links k (record { channel = 0; by = Replied })
 
--- each channel leads on to that of the next link, and the last one to that of the first (Dally and Seitz: a cycle)
+-- each channel leads on to that of the next link, and the last one to that of the first (Dally and
+-- Seitz: a cycle)
 pub record IsCycle (t : Table) (replies : List Reply) (links : List Link) : Type 0 where
   pub some : 0 < length links
   pub each : (k : ℕ) → k + 1 < length links
-      → Leads t replies (link_at links k).channel (link_at links k).by (link_at links (k + 1)).channel
-  pub last : Leads t replies (link_at links (length links - 1)).channel (link_at links (length links - 1)).by
+      → Leads t replies (link_at links k).channel (link_at links k).by
+      (link_at links (k + 1)).channel
+  pub last : Leads t replies (link_at links (length links - 1)).channel
+      (link_at links (length links - 1)).by
       (link_at links 0).channel

@@ -5,7 +5,8 @@ use Rattle.table_net.specs.Replies.{reply_at}
 use Rattle.table_net.specs.Marks.{flag}
 use Rattle.table_net.specs.Table.{Table, channels_of, columns_of}
 
--- channels, each with as many columns; whether a channel leads on in a column, and to which (Dally and Seitz: the
+-- channels, each with as many columns; whether a channel leads on in a column, and to which (Dally
+-- and Seitz: the
 -- dependency graph)
 pub record Graph : Type 0 where
   pub channels : ℕ
@@ -24,13 +25,16 @@ flag_at columns used x c = flag used (x * columns + c)
 abbrev pub choice_at : ℕ → List ℕ → ℕ → ℕ → ℕ
 choice_at columns choices x c = slice_index choices (x * columns + c)
 
--- whether a channel leads on in a column of the flags, or in one of the columns behind them, one for each reply
+-- whether a channel leads on in a column of the flags, or in one of the columns behind them, one
+-- for each reply
 abbrev pub leads_of : ℕ → List Bool → List Reply → ℕ → ℕ → Bool
-leads_of columns used replies x = either columns (flag_at columns used x) (λ p. (reply_at replies p).from == x)
+leads_of columns used replies x =
+    either columns (flag_at columns used x) (λ p. (reply_at replies p).from == x)
 
 -- and to which channel
 abbrev pub after_of : ℕ → List ℕ → List Reply → ℕ → ℕ → ℕ
-after_of columns choices replies x = either columns (choice_at columns choices x) (λ p. (reply_at replies p).to)
+after_of columns choices replies x =
+    either columns (choice_at columns choices x) (λ p. (reply_at replies p).to)
 
 -- the graph of two functions and of replies
 abbrev pub graph_with : ℕ → ℕ → (ℕ → ℕ → Bool) → (ℕ → ℕ → ℕ) → List Reply → Graph

@@ -17,6 +17,7 @@ abbrev pub link_of : ℕ → (ℕ → ℕ) → Look → Link
 link_of columns end look = record { channel = look.channel; by = by_of columns end look.column }
 
 -- that of each place of the path
-pub record AreLinks (columns : ℕ) (end : ℕ → ℕ) (looks : List Look) (links : List Link) : Type 0 where
-  pub size : length links ≡ length looks
-  pub each : (k : ℕ) → k < length looks → link_at links k ≡ link_of columns end (look_at looks k)
+pub record AreLinks (columns : ℕ) (end : ℕ → ℕ) (looks : List Look) (links : List Link) : Type 0
+  where
+    pub size : length links ≡ length looks
+    pub each : (k : ℕ) → k < length looks → link_at links k ≡ link_of columns end (look_at looks k)

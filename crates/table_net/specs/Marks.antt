@@ -21,7 +21,8 @@ pub record IsTraced (t : Table) (i j n : ℕ) (old new : List Bool) : Type 0 whe
   pub size : length new ≡ length old
   pub kept : (m : ℕ) → flag old m ≡ true → flag new m ≡ true
   pub marked : (k : ℕ) → k < n → flag new (cell_of t i j k) ≡ true
-  pub only : (m : ℕ) → flag new m ≡ true → (flag old m ≡ true) ⊎ ((k : ℕ) × (k < n) × (m ≡ cell_of t i j k))
+  pub only : (m : ℕ) → flag new m ≡ true
+      → (flag old m ≡ true) ⊎ ((k : ℕ) × (k < n) × (m ≡ cell_of t i j k))
 
 -- the pair at this place of the list has a route, and the flags are marked along it
 pub record HasTraced (t : Table) (p : ℕ) (old new : List Bool) : Type 0 where
@@ -55,4 +56,5 @@ pub record IsMarked (t : Table) (i j : ℕ) (used : List Bool) : Type 0 where
 pub record AreMarked (t : Table) (pairs : ℕ) (used : List Bool) : Type 0 where
   pub size : length used ≡ channels_of t * columns_of t
   pub each : (p : ℕ) → p < pairs → IsMarked t (join_at t p).from (join_at t p).to used
-  pub only : (x column : ℕ) → column < columns_of t → flag used (cell t x column) ≡ true → PassesIn t x column
+  pub only : (x column : ℕ) → column < columns_of t → flag used (cell t x column) ≡ true
+      → PassesIn t x column

@@ -49,12 +49,15 @@ pub record IsSearch (g : Graph) (marks : List Mark) (path : List Look) (finished
   pub size : length marks ≡ g.channels
   -- the channels of the path are open, and no others, each with its place
   pub path_open : (k : ℕ) → k < length path → mark_at marks (look_at path k).channel ≡ Open k
-  pub open_path : (x k : ℕ) → mark_at marks x ≡ Open k → (k < length path) × ((look_at path k).channel ≡ x)
+  pub open_path : (x k : ℕ) → mark_at marks x ≡ Open k
+      → (k < length path) × ((look_at path k).channel ≡ x)
   -- each leads to the next
-  pub leads : (k : ℕ) → k + 1 < length path → LeadsTo g (look_at path k) (look_at path (k + 1)).channel
+  pub leads : (k : ℕ) → k + 1 < length path
+      → LeadsTo g (look_at path k) (look_at path (k + 1)).channel
   -- the channels behind those of the path are done with, as far as the search has come
   pub ends : (k : ℕ) → k < length path → (look_at path k).column ≤ g.columns
-  pub behind : (k : ℕ) → k < length path → AreBelow g marks (look_at path k).channel (look_at path k).column finished
+  pub behind : (k : ℕ) → k < length path
+      → AreBelow g marks (look_at path k).channel (look_at path k).column finished
   -- the channels behind those that are done with are done with, at lower heights
   pub done : (x h : ℕ) → mark_at marks x ≡ Done h → (h < finished) × AreBelow g marks x g.columns h
   -- each channel is done with, on the path or new
@@ -67,7 +70,8 @@ StayDone old new = (x h : ℕ) → mark_at old x ≡ Done h → mark_at new x �
 -- channels that lead around, each in its column
 pub record IsCircle (g : Graph) (looks : List Look) : Type 0 where
   pub some : 0 < length looks
-  pub each : (k : ℕ) → k + 1 < length looks → LeadsTo g (look_at looks k) (look_at looks (k + 1)).channel
+  pub each : (k : ℕ) → k + 1 < length looks
+      → LeadsTo g (look_at looks k) (look_at looks (k + 1)).channel
   pub last : LeadsTo g (look_at looks (length looks - 1)) (look_at looks 0).channel
 
 -- what a search from a channel finds: it is done with, or there is a circle
@@ -99,4 +103,5 @@ pub record AreRanked (g : Graph) (marks : List Mark) : Type 0 where
 -- numbers from the heights: the higher the height, the lower the number
 pub record AreNumbers (marks : List Mark) (numbers : List ℕ) : Type 0 where
   pub size : length numbers ≡ length marks
-  pub each : (x : ℕ) → x < length marks → slice_index numbers x + height (mark_at marks x) + 1 ≡ length marks
+  pub each : (x : ℕ) → x < length marks
+      → slice_index numbers x + height (mark_at marks x) + 1 ≡ length marks

@@ -1,4 +1,5 @@
--- A network as its user writes it down: tables of its channels, of who sends to whom, and of the routers' choices.
+-- A network as its user writes it down: tables of its channels, of who sends to whom, and of the
+-- routers' choices.
 use Rattle.std.specs.Prelude.{◌≡◌, ℕ, ◌+◌, ◌*◌, ◌==◌, ◌&&◌, Bool, true, false, Option, Some, None, List, length, take}
 use Rattle.std.specs.Prelude.{slice_index, slice_get}
 use Rattle.std.specs.List.{count_by, list_any}
@@ -6,7 +7,8 @@ use Rattle.table_net.specs.declared.table.Kind.{Kind}
 use Rattle.table_net.specs.declared.table.Kind.TheVariants.{Injection, Hop, Ejection}
 use Rattle.table_net.specs.declared.table.Join.{Join}
 
--- a network's tables: the kind of each channel, the pairs that packets go between, and the routers' choices, which have
+-- a network's tables: the kind of each channel, the pairs that packets go between, and the routers'
+-- choices, which have
 -- a row for each channel and in it a column for each ejection channel (this project's own format)
 pub record Table : Type 0 where
   pub kinds : List Kind
@@ -43,7 +45,8 @@ column_of t j = count_by ejects (take j t.kinds)
 abbrev pub choice_of : Table → ℕ → ℕ → ℕ
 choice_of t x column = slice_index t.choices (x * columns_of t + column)
 
--- the channel that the router behind a channel chooses for packets to an ejection channel (Dally and Towles, chapter 8)
+-- the channel that the router behind a channel chooses for packets to an ejection channel (Dally
+-- and Towles, chapter 8)
 abbrev pub next_of : Table → ℕ → ℕ → ℕ
 next_of t x j = choice_of t x (column_of t j)
 

@@ -17,7 +17,8 @@ use Rattle.wormhole.specs.Net.{IsNet}
 abbrev pub AllArrive : Table → Type 0
 AllArrive t = (i j : ℕ) → joins_of t i j ≡ true → (n : ℕ) × IsWay t i j n
 
--- with these numbers, which rise over replies, it is a wormhole network, whatever the depth and the flits
+-- with these numbers, which rise over replies, it is a wormhole network, whatever the depth and the
+-- flits
 pub record IsNumbered (t : Table) (replies : List Reply) (numbers : List ℕ) : Type 0 where
   pub count : length numbers ≡ channels_of t
   pub above : RiseOver replies (slice_index numbers)

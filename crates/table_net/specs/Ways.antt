@@ -10,7 +10,8 @@ abbrev pub place : Table → ℕ → ℕ → ℕ → ℕ
 place t j x zero = x
 place t j x (suc n) = place t j (next_of t x j) n
 
--- so far the walk goes from an injection channel over hops: at each step below n but the first it is at a hop
+-- so far the walk goes from an injection channel over hops: at each step below n but the first it
+-- is at a hop
 pub record IsUnderWay (t : Table) (i j n : ℕ) : Type 0 where
   pub sender : kind_of t i ≡ Some Injection
   pub receiver : kind_of t j ≡ Some Ejection
@@ -27,7 +28,8 @@ abbrev pub walk : Table → ℕ → ℕ → ℕ → List ℕ
 walk t j x zero = []
 walk t j x (suc n) = x ∷ cond (x == j) [] (walk t j (next_of t x j) n)
 
--- the route from channel i to ejection channel j: the walk, of one more channels at most than there are
+-- the route from channel i to ejection channel j: the walk, of one more channels at most than there
+-- are
 abbrev pub route_of : Table → ℕ → ℕ → List ℕ
 route_of t i j = walk t j i (suc (channels_of t))
 
@@ -38,5 +40,6 @@ Fails t i j NoReceiver = kind_of t j ≢ Some Ejection
 Fails t i j (Leaves n) = IsUnderWay t i j n × (0 < n) × (kind_of t (place t j i n) ≡ None)
 Fails t i j (Ejects n) =
     IsUnderWay t i j n × (0 < n) × (kind_of t (place t j i n) ≡ Some Ejection) × (place t j i n ≢ j)
-Fails t i j (Injects n) = IsUnderWay t i j n × (0 < n) × (kind_of t (place t j i n) ≡ Some Injection)
+Fails t i j (Injects n) =
+    IsUnderWay t i j n × (0 < n) × (kind_of t (place t j i n) ≡ Some Injection)
 Fails t i j Round = (n : ℕ) → IsUnderWay t i j n

@@ -102,9 +102,11 @@ pub fn visit<A: Allocator + Copy>(
     requires within { StayWithin (graph_of count columns choices.now used.now replies.now) }
     requires start { start < count }
     requires new { mark_at marks.old start ≡ Mark.New }
-    requires search { IsSearch (graph_of count columns choices.now used.now replies.now) marks.old [] finished }
+    requires search { IsSearch (graph_of count columns choices.now used.now replies.now) marks.old
+        [] finished }
     ensures { IfOk result
-        (IsVisited (graph_of count columns choices.now used.now replies.now) marks.old marks.new start) }
+        (IsVisited (graph_of count columns choices.now used.now replies.now) marks.old marks.new
+        start) }
 {
     let width = columns + replies.len();
     let mut finished = finished;

@@ -6,8 +6,8 @@ use Rattle.wormhole.specs.State.{State}
 use Rattle.wormhole.specs.Routes.{between}
 use Rattle.wormhole.specs.Delivery.{IsReached, whole, whole_of}
 use Rattle.wormhole.proofs.Reached.{words_reached, routes_reached}
-use Rattle.progress.specs.Ends.{Tiles, AreTiles, IsQuiet}
-use Rattle.progress.proofs.Come.{all_come}
+use Rattle.wormhole_progress.specs.Ends.{Tiles, AreTiles, IsQuiet}
+use Rattle.wormhole_progress.proofs.Come.{all_come}
 use Rattle.table_net.specs.declared.table.Kind.TheVariants.{Injection, Hop, Ejection}
 use Rattle.table_net.specs.declared.table.Kind.{Kind}
 use Rattle.table_net.specs.declared.table.Reply.{Reply}

@@ -5,7 +5,7 @@ ghost use Rattle.std.specs.Prelude.{◌≡◌, ◌⊎◌, ℕ, ◌<◌, true, Li
 ghost use Rattle.wormhole.specs.State.{State};
 ghost use Rattle.wormhole.specs.Routes.{between};
 ghost use Rattle.wormhole.specs.Delivery.{IsReached, whole, IsDelivered, WasSentTo};
-ghost use Rattle.progress.specs.Ends.{Tiles, AreTiles, IsQuiet};
+ghost use Rattle.wormhole_progress.specs.Ends.{Tiles, AreTiles, IsQuiet};
 ghost use Rattle.table_net.specs.declared.table.Reply.{Reply};
 ghost use Rattle.table_net.specs.Table.{Table, channels_of, joins_of};
 ghost use Rattle.table_net.specs.Replies.{AreReplies};
@@ -39,10 +39,12 @@ pub fn judged_networks_never_lock_up()
 /// Packets of a judged network come whole, once and in the order in which they were sent, and none is
 /// invented: a packet that is whole was sent, to where it is.
 pub fn judged_networks_deliver()
-    ensures order { (t : Table) (replies : List Reply) (numbers : List ℕ) → IsNumbered t replies numbers
+    ensures order { (t : Table) (replies : List Reply) (numbers : List ℕ)
+        → IsNumbered t replies numbers
         → (depth : ℕ) (flits : Flits) (s : State) → IsReached (numbered t numbers depth flits) s
         → (i j : ℕ) → joins_of t i j ≡ true → IsDelivered s i j }
-    ensures sent { (t : Table) (replies : List Reply) (numbers : List ℕ) → IsNumbered t replies numbers
+    ensures sent { (t : Table) (replies : List Reply) (numbers : List ℕ)
+        → IsNumbered t replies numbers
         → (depth : ℕ) (flits : Flits) (s : State) → IsReached (numbered t numbers depth flits) s
         → (x : ℕ) → All (WasSentTo (numbered t numbers depth flits) s x) (whole s x) }
 {}

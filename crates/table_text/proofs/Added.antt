@@ -18,7 +18,12 @@ added t replies a b from to are = λ x y r.
     elim (cases_lt r.place (length replies)) [
       | inl low ↦ (
           let same : reply_at (replies ++ z ∷ []) r.place ≡ reply_at replies r.place = get_or_append_left replies (z ∷ []) none r.place low in
-          are x y (record { place = r.place; here = low; from = sym (ap (λ (q : Reply). q.from) same) ∙ r.from; to = sym (ap (λ (q : Reply). q.to) same) ∙ r.to }))
+          are x y (record {
+            place = r.place;
+            here = low;
+            from = sym (ap (λ (q : Reply). q.from) same) ∙ r.from;
+            to = sym (ap (λ (q : Reply). q.to) same) ∙ r.to;
+          }))
       | inr high ↦ (
           let here = r.here in
           let size = length_push replies z in

@@ -39,7 +39,8 @@ cell_at old r x j at low ends is read here =
     let many = read.channels in
     let low_cell = cell_low (length r.kinds.items) (count_by ejects r.kinds.items) x at (omega arith) (omega arith) in
     let rows : x * r.ejections ≡ x * count_by ejects r.kinds.items = ap (λ w. x * w) width in
-    let most : length r.kinds.items * count_by ejects r.kinds.items ≤ 16384 * count_by ejects r.kinds.items = mul-le-mul_right (count_by ejects r.kinds.items) many in
+    let most : length r.kinds.items * count_by ejects r.kinds.items ≤ 16384 * count_by ejects r.kinds.items =
+    mul-le-mul_right (count_by ejects r.kinds.items) many in
     record {
       cell = ap (λ w. x * w + at) width ∙ ap (λ z. x * count_by ejects r.kinds.items + z) column
           ∙ ap (λ k. x * count_by ejects k + count_by ejects (take j k)) kinds;

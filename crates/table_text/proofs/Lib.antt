@@ -1,4 +1,4 @@
-pub mod SixWords
+pub mod SevenWords
 pub mod Hops
 pub mod Added
 pub mod Fresh

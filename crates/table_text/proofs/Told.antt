@@ -2,7 +2,8 @@
 use Rattle.std.proofs.Common.{◌≡◌, ◌⊎◌, inl, inr, ℕ, List, refl, sym, ◌∙◌, ap, subst}
 use Rattle.std.specs.Prelude.{Result, Err, slice_get}
 use Rattle.torus.specs.declared.fault.Fault.{Fault}
-use Rattle.torus.specs.declared.fault.Fault.TheVariants.{Radix, Dimensions, Tiles, Line, Setting, Range, Address, Processor, Length, Last, Step, Memory, Count, Dateline}
+use Rattle.torus.specs.declared.fault.Fault.TheVariants.{Radix, Dimensions, Tiles, Line, Setting, Range, Address, Processor, Length, Last, Step, Memory}
+use Rattle.torus.specs.declared.fault.Fault.TheVariants.{Count, Dateline}
 use Rattle.script.specs.declared.fault.LineFault.{LineFault}
 use Rattle.script.specs.Outcome.{line_of_fault}
 use Rattle.table_net.specs.declared.table.Reply.{Reply}

@@ -5,9 +5,13 @@ use Rattle.table_text.specs.declared.network.Network.TheInside.{Inside}
 use Rattle.table_text.specs.Network.{NetworkSpec}
 
 abbrev pub network_of_fields : {A : Type 0} → Inside A → NetworkSpec
-network_of_fields n = record { table = table_of n.kinds.items n.joins.items n.choices.items; replies = n.replies.items }
+network_of_fields n = record {
+  table = table_of n.kinds.items n.joins.items n.choices.items;
+  replies = n.replies.items;
+}
 
--- there is a choice for each channel and ejection channel, and each reply is from an ejection to an injection channel
+-- there is a choice for each channel and ejection channel, and each reply is from an ejection to an
+-- injection channel
 pub record IsNetwork {A : Type 0} (n : Inside A) : Type 0 where
   pub full : IsFull (network_of_fields n).table
   pub replies : AreReplies (network_of_fields n).table (network_of_fields n).replies

@@ -1,22 +1,24 @@
--- The network text: what each line makes of what the lines before it made, and what the whole text is (this project's
--- own format).
-use Rattle.std.specs.Prelude.{◌≡◌, ◌⊎◌, ℕ, ◌+◌, ◌*◌, ◌==◌, ◌&&◌, Bool, true, false, not, nat_le, nat_lt, List, [], ◌∷◌, ◌++◌}
+-- The network text: what each line makes of what the lines before it made, and what the whole text
+-- is (this project's own format).
+use Rattle.std.specs.Prelude.{◌≡◌, ◌⊎◌, ℕ, ◌+◌, ◌*◌, ◌==◌, ◌&&◌, Bool, true, false, not, nat_le, nat_lt, List, []}
+use Rattle.std.specs.Prelude.{◌∷◌, ◌++◌}
 use Rattle.std.specs.Prelude.{length, replicate, slice_index, slice_index_or, slice_get, slice_set}
 use Rattle.std.specs.Prelude.{Result, Ok, Err, if◌then◌else◌, codes}
 use Rattle.std.specs.List.{list_any}
 use Rattle.std.specs.Str.{bytes_eq}
 use Rattle.torus.specs.declared.fault.Fault.{Fault}
 use Rattle.torus.specs.declared.fault.Fault.TheVariants as fault
+use Rattle.lexer.specs.Words.{words_of, begins_comment}
 use Rattle.script.specs.declared.fault.LineFault.{LineFault}
 use Rattle.script.specs.Outcome.{◌>>=◌, then_lines}
 use Rattle.script.specs.Settings.{an_index}
-use Rattle.script.specs.Words.{words_of, begins_comment}
 use Rattle.table_net.specs.declared.table.Kind.{Kind}
 use Rattle.table_net.specs.declared.table.Kind.TheVariants.{Injection, Hop, Ejection}
 use Rattle.table_net.specs.declared.table.Reply.{Reply}
 use Rattle.table_net.specs.Table.{Table, table_of, columns_of, column_of, is_injection, is_ejection}
 
--- what is read so far: the tables, the replies, and whether a choice was given yet; there are no choices before
+-- what is read so far: the tables, the replies, and whether a choice was given yet; there are no
+-- choices before
 pub record Reading : Type 0 where
   pub table : Table
   pub replies : List Reply
@@ -39,7 +41,8 @@ abbrev pub after_channels : Reading → ℕ → Result Reading Fault
 after_channels r count =
     if not (count_of r == 0) then Err fault.Setting
     else (if nat_le 1 count && nat_le count 16384
-    then Ok (reading_with (table_of (replicate count Hop) r.table.joins r.table.choices) r.replies r.begun)
+    then Ok (reading_with (table_of (replicate count Hop) r.table.joins r.table.choices) r.replies
+    r.begun)
     else Err fault.Range)
 
 -- whether a kind is that of hops
@@ -51,7 +54,8 @@ is_hop Ejection = false
 -- a channel is of this kind
 abbrev pub with_kind : Reading → ℕ → Kind → Reading
 with_kind r x kind =
-    reading_with (table_of (slice_set r.table.kinds x kind) r.table.joins r.table.choices) r.replies r.begun
+    reading_with (table_of (slice_set r.table.kinds x kind) r.table.joins r.table.choices) r.replies
+    r.begun
 
 -- a channel is made an injection channel, once
 abbrev pub after_inject : Reading → ℕ → Result Reading Fault
@@ -78,13 +82,15 @@ after_join r i j =
     else (if not (nat_lt i (count_of r)) then Err fault.Range
     else (if not (nat_lt j (count_of r)) then Err fault.Range
     else (if nat_le 1048576 (length r.table.joins) then Err fault.Length
-    else Ok (reading_with (table_of r.table.kinds (r.table.joins ++ record { from = i; to = j } ∷ []) r.table.choices)
+    else Ok (reading_with (table_of r.table.kinds
+    (r.table.joins ++ record { from = i; to = j } ∷ []) r.table.choices)
     r.replies r.begun))))
 
 -- with choices: none yet behind any channel for any ejection channel
 abbrev pub started : Reading → Reading
 started r =
-    reading_with (table_of r.table.kinds r.table.joins (replicate (count_of r * columns_of r.table) (count_of r)))
+    reading_with (table_of r.table.kinds r.table.joins
+    (replicate (count_of r * columns_of r.table) (count_of r)))
     r.replies true
 
 -- with choices, if none was given
@@ -99,7 +105,8 @@ cell_of r x j = x * columns_of r.table + column_of r.table j
 abbrev pub after_choice : Reading → ℕ → ℕ → Result Reading Fault
 after_choice r cell y =
     if not (slice_index r.table.choices cell == count_of r) then Err fault.Setting
-    else Ok (reading_with (table_of r.table.kinds r.table.joins (slice_set r.table.choices cell y)) r.replies r.begun)
+    else Ok (reading_with (table_of r.table.kinds r.table.joins (slice_set r.table.choices cell y))
+    r.replies r.begun)
 
 -- the choice behind a channel for packets to an ejection channel
 abbrev pub after_next : Reading → ℕ → ℕ → ℕ → Result Reading Fault
@@ -171,8 +178,9 @@ abbrev pub MakesNetwork : Result NetworkSpec Fault → Result NetworkSpec Fault 
 MakesNetwork (Ok n) made = made ≡ Ok n
 MakesNetwork (Err e) made = (e ≡ fault.Memory) ⊎ (made ≡ Err e)
 
--- the network of these lines, of which the first has this number, after what was read; or the fault of the first
--- bad line. Where the number of channels is missing, it shows at the line after the last
+-- the network of these lines, of which the first has this number, after what was read; or the fault
+-- of the first bad line. Where the number of channels is missing, it shows at the line after the
+-- last
 abbrev pub network_from : Reading → ℕ → List (List ℕ) → Result NetworkSpec LineFault
 network_from r number [] = then_lines number (network_with r) Ok
 network_from r number (line ∷ lines) =

@@ -7,9 +7,11 @@ use Rattle.table_text.specs.declared.reading.Reading as reading
 use Rattle.table_text.specs.Network.{Reading, reading_with}
 
 abbrev pub reading_of : {A : Type 0} → reading.Reading A → Reading
-reading_of r = reading_with (table_of r.kinds.items r.joins.items r.choices.items) r.replies.items r.begun
+reading_of r = reading_with (table_of r.kinds.items r.joins.items r.choices.items) r.replies.items
+    r.begun
 
--- the ejection channels are counted, the choices and their columns stand as they must, and so do the replies
+-- the ejection channels are counted, the choices and their columns stand as they must, and so do
+-- the replies
 pub record IsRead {A : Type 0} (r : reading.Reading A) : Type 0 where
   pub channels : length r.kinds.items ≤ 16384
   pub ejections : r.ejections ≡ columns_of (reading_of r).table

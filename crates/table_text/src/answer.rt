@@ -2,11 +2,12 @@
 
 ghost use Rattle.std.specs.Prelude.{◌≡◌, ◌++◌, ◌<◌, length, codes, decimal, IfOk, OnOk};
 ghost use Rattle.std.specs.Str.Lines.{lines};
+ghost use Rattle.table_net.specs.Verdicts.{IsVerdict};
 ghost use Rattle.table_text.specs.Answer.{Answers, verdict_text, is_rising, first_lines, pair_line};
 ghost use Rattle.table_text.specs.Answer.{number_line, why_words, by_line, link_line, next_place, no_route_line};
 
 use crate::fault::out_of_memory;
-use crate::network::read_network;
+use crate::network::{Network, read_network};
 use itoa::Buffer;
 use script::LineFault;
 use std::alloc::{AllocError, Allocator, Global};
@@ -30,7 +31,8 @@ fn put_pair<A: Allocator>(
     b: usize,
     behind: &str,
 ) -> Result<(), AllocError>
-    ensures { OnOk result (out.new.items ≡ out.old.items ++ pair_line before.now a between.now b behind.now) }
+    ensures { OnOk result
+        (out.new.items ≡ out.old.items ++ pair_line before.now a between.now b behind.now) }
 {
     let mut digits = Buffer::new();
     out.extend_from_slice(before.as_bytes())?;
@@ -75,7 +77,8 @@ fn put_no_route<A: Allocator>(out: &mut Vec<u8, A>, r: &NoRoute) -> Result<(), A
 /// Adds the line of each channel with its number.
 fn put_numbers<A: Allocator>(out: &mut Vec<u8, A>, numbers: &[usize]) -> Result<(), AllocError>
     ensures { OnOk result
-        (out.new.items ≡ out.old.items ++ first_lines (number_line numbers.now) (length numbers.now)) }
+        (out.new.items ≡ out.old.items
+        ++ first_lines (number_line numbers.now) (length numbers.now)) }
 {
     for x in 0..numbers.len() {
         put_pair(out, "number ", x, " ", numbers[x], "\n")?;
@@ -163,6 +166,24 @@ fn is_rising<A: Allocator>(verdict: &Verdict<A>) -> bool
     }
 }
 
+/// Judges the network of a text.
+///
+/// Errors: memory.
+pub fn judge_network<A: Allocator + Copy>(
+    alloc: A,
+    network: &Network<A>,
+) -> Result<Verdict<A>, AllocError>
+    ensures { IfOk result (IsVerdict network.now.table network.now.replies) }
+{
+    judge(
+        alloc,
+        network.kinds(),
+        network.joins(),
+        network.replies(),
+        network.choices(),
+    )
+}
+
 /// Reads a network text, judges the network and answers with the text of the verdict.
 ///
 /// Errors: the first fault of the text and its line, or `Fault::Memory` at line 0.
@@ -170,13 +191,7 @@ pub fn network_answer<A: Allocator + Copy>(alloc: A, text: &[u8]) -> Result<Answ
     ensures { Answers (lines text.now) result }
 {
     let network = read_network(alloc, text)?;
-    let Ok(verdict) = judge(
-        alloc,
-        network.kinds(),
-        network.joins(),
-        network.replies(),
-        network.choices(),
-    ) else {
+    let Ok(verdict) = judge_network(alloc, &network) else {
         return Err(out_of_memory());
     };
     let Ok(text) = verdict_text(alloc, &verdict) else {

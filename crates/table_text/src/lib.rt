@@ -7,7 +7,6 @@ mod fault;
 pub mod network;
 mod number;
 mod reading;
-mod words;
 
-pub use answer::{Answer, network_answer, verdict_text};
+pub use answer::{Answer, judge_network, network_answer, verdict_text};
 pub use network::{Network, read_network};

@@ -11,7 +11,7 @@ ghost use Rattle.table_text.specs.Reading.{reading_of, IsRead};
 
 use crate::fault::fault_at;
 use crate::reading::Reading;
-use crate::words::{first_words, next_line};
+use lexer::{first_words, next_line};
 use script::LineFault;
 use std::alloc::{Allocator, Global};
 use std::marker::Model;

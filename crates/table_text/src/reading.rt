@@ -82,7 +82,8 @@ impl<A: Allocator + Copy> Reading<A> {
     /// Takes the number of channels.
     fn take_channels(&mut self, alloc: A, count: u32) -> Result<(), Fault>
         requires { IsRead self.old }
-        ensures value { Makes (reading_of self.new) result (after_channels (reading_of self.old) count) }
+        ensures value { Makes (reading_of self.new) result
+            (after_channels (reading_of self.old) count) }
         ensures read { OnOk result (IsRead self.new) }
     {
         if !self.kinds.is_empty() {
@@ -121,7 +122,8 @@ impl<A: Allocator + Copy> Reading<A> {
     /// Takes an injection channel.
     fn take_inject(&mut self, channel: u32) -> Result<(), Fault>
         requires { IsRead self.old }
-        ensures value { Makes (reading_of self.new) result (after_inject (reading_of self.old) channel) }
+        ensures value { Makes (reading_of self.new) result
+            (after_inject (reading_of self.old) channel) }
         ensures read { OnOk result (IsRead self.new) }
     {
         let x = channel as usize;
@@ -141,7 +143,8 @@ impl<A: Allocator + Copy> Reading<A> {
     /// Takes an ejection channel.
     fn take_eject(&mut self, channel: u32) -> Result<(), Fault>
         requires { IsRead self.old }
-        ensures value { Makes (reading_of self.new) result (after_eject (reading_of self.old) channel) }
+        ensures value { Makes (reading_of self.new) result
+            (after_eject (reading_of self.old) channel) }
         ensures read { OnOk result (IsRead self.new) }
     {
         let x = channel as usize;
@@ -168,7 +171,8 @@ impl<A: Allocator + Copy> Reading<A> {
     /// Takes a pair that packets go between.
     fn take_join(&mut self, from: u32, to: u32) -> Result<(), Fault>
         requires { IsRead self.old }
-        ensures value { Makes (reading_of self.new) result (after_join (reading_of self.old) from to) }
+        ensures value { Makes (reading_of self.new) result
+            (after_join (reading_of self.old) from to) }
         ensures read { OnOk result (IsRead self.new) }
     {
         let from = from as usize;
@@ -219,7 +223,8 @@ impl<A: Allocator + Copy> Reading<A> {
     fn take_choice(&mut self, cell: usize, choice: u32) -> Result<(), Fault>
         requires read { IsRead self.old }
         requires cell { cell < length self.old.choices.items }
-        ensures value { Makes (reading_of self.new) result (after_choice (reading_of self.old) cell choice) }
+        ensures value { Makes (reading_of self.new) result
+            (after_choice (reading_of self.old) cell choice) }
         ensures read { OnOk result (IsRead self.new) }
     {
         if self.choices[cell] as usize != self.kinds.len() {
@@ -232,7 +237,8 @@ impl<A: Allocator + Copy> Reading<A> {
     /// Takes a choice.
     fn take_next(&mut self, alloc: A, channel: u32, to: u32, choice: u32) -> Result<(), Fault>
         requires { IsRead self.old }
-        ensures value { Makes (reading_of self.new) result (after_next (reading_of self.old) channel to choice) }
+        ensures value { Makes (reading_of self.new) result
+            (after_next (reading_of self.old) channel to choice) }
         ensures read { OnOk result (IsRead self.new) }
     {
         let x = channel as usize;
@@ -257,7 +263,8 @@ impl<A: Allocator + Copy> Reading<A> {
     /// Takes where packets from an ejection channel are answered.
     fn take_reply(&mut self, from: u32, to: u32) -> Result<(), Fault>
         requires { IsRead self.old }
-        ensures value { Makes (reading_of self.new) result (after_reply (reading_of self.old) from to) }
+        ensures value { Makes (reading_of self.new) result
+            (after_reply (reading_of self.old) from to) }
         ensures read { OnOk result (IsRead self.new) }
     {
         let from = from as usize;
@@ -283,7 +290,8 @@ impl<A: Allocator + Copy> Reading<A> {
     /// Takes what the words of a line give.
     pub(crate) fn take(&mut self, alloc: A, words: &[&[u8]]) -> Result<(), Fault>
         requires { IsRead self.old }
-        ensures value { Makes (reading_of self.new) result (after_words (reading_of self.old) (map (λ word. word.now) words.now)) }
+        ensures value { Makes (reading_of self.new) result
+            (after_words (reading_of self.old) (map (λ word. word.now) words.now)) }
         ensures read { OnOk result (IsRead self.new) }
     {
         match words {
@@ -316,7 +324,9 @@ impl<A: Allocator + Copy> Reading<A> {
     /// Takes the number after `channels`.
     fn channels_line(&mut self, alloc: A, values: &[&[u8]]) -> Result<(), Fault>
         requires { IsRead self.old }
-        ensures value { Makes (reading_of self.new) result (after_one (after_channels (reading_of self.old)) (map (λ value. value.now) values.now)) }
+        ensures value { Makes (reading_of self.new) result
+            (after_one (after_channels (reading_of self.old))
+            (map (λ value. value.now) values.now)) }
         ensures read { OnOk result (IsRead self.new) }
     {
         match values {
@@ -331,7 +341,8 @@ impl<A: Allocator + Copy> Reading<A> {
     /// Takes the number after `inject`.
     fn inject_line(&mut self, values: &[&[u8]]) -> Result<(), Fault>
         requires { IsRead self.old }
-        ensures value { Makes (reading_of self.new) result (after_one (after_inject (reading_of self.old)) (map (λ value. value.now) values.now)) }
+        ensures value { Makes (reading_of self.new) result
+            (after_one (after_inject (reading_of self.old)) (map (λ value. value.now) values.now)) }
         ensures read { OnOk result (IsRead self.new) }
     {
         match values {
@@ -346,7 +357,8 @@ impl<A: Allocator + Copy> Reading<A> {
     /// Takes the number after `eject`.
     fn eject_line(&mut self, values: &[&[u8]]) -> Result<(), Fault>
         requires { IsRead self.old }
-        ensures value { Makes (reading_of self.new) result (after_one (after_eject (reading_of self.old)) (map (λ value. value.now) values.now)) }
+        ensures value { Makes (reading_of self.new) result
+            (after_one (after_eject (reading_of self.old)) (map (λ value. value.now) values.now)) }
         ensures read { OnOk result (IsRead self.new) }
     {
         match values {
@@ -361,7 +373,8 @@ impl<A: Allocator + Copy> Reading<A> {
     /// Takes the numbers after `join`.
     fn join_line(&mut self, values: &[&[u8]]) -> Result<(), Fault>
         requires { IsRead self.old }
-        ensures value { Makes (reading_of self.new) result (after_two (after_join (reading_of self.old)) (map (λ value. value.now) values.now)) }
+        ensures value { Makes (reading_of self.new) result
+            (after_two (after_join (reading_of self.old)) (map (λ value. value.now) values.now)) }
         ensures read { OnOk result (IsRead self.new) }
     {
         match values {
@@ -377,7 +390,8 @@ impl<A: Allocator + Copy> Reading<A> {
     /// Takes the numbers after `next`.
     fn next_line(&mut self, alloc: A, values: &[&[u8]]) -> Result<(), Fault>
         requires { IsRead self.old }
-        ensures value { Makes (reading_of self.new) result (after_three (after_next (reading_of self.old)) (map (λ value. value.now) values.now)) }
+        ensures value { Makes (reading_of self.new) result
+            (after_three (after_next (reading_of self.old)) (map (λ value. value.now) values.now)) }
         ensures read { OnOk result (IsRead self.new) }
     {
         match values {
@@ -394,7 +408,8 @@ impl<A: Allocator + Copy> Reading<A> {
     /// Takes the numbers after `reply`.
     fn reply_line(&mut self, values: &[&[u8]]) -> Result<(), Fault>
         requires { IsRead self.old }
-        ensures value { Makes (reading_of self.new) result (after_two (after_reply (reading_of self.old)) (map (λ value. value.now) values.now)) }
+        ensures value { Makes (reading_of self.new) result
+            (after_two (after_reply (reading_of self.old)) (map (λ value. value.now) values.now)) }
         ensures read { OnOk result (IsRead self.new) }
     {
         match values {

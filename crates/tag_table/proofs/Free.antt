@@ -42,7 +42,8 @@ free_tag-found tags t e =
 
 pub free_tag-lowest : (tags : List (Option OpId)) (t : ℕ) → IsLowestFree tags t → free_tag tags ≡ Some t
 free_tag-lowest tags t lowest =
-    let at : position_or_len is_none tags ≡ t = position_or_len_is is_none tags t None (omega arith) (λ u lower. held (holder_of tags u) (lowest.lower_out u lower)) (λ _. ap is_none lowest.free) in
+    let at : position_or_len is_none tags ≡ t =
+    position_or_len_is is_none tags t None (omega arith) (λ u lower. held (holder_of tags u) (lowest.lower_out u lower)) (λ _. ap is_none lowest.free) in
     found_below (position_or_len is_none tags) (length tags) (omega arith) ∙ ap Some at
 
 pub free_tag-none : (tags : List (Option OpId)) → free_tag tags ≡ None → AreAllOut tags
@@ -51,7 +52,8 @@ free_tag-none tags e t below =
 
 pub free_tag-all_out : (tags : List (Option OpId)) → AreAllOut tags → free_tag tags ≡ None
 free_tag-all_out tags all =
-    let at : position_or_len is_none tags ≡ length tags = position_or_len_is is_none tags (length tags) None (omega arith) (λ u lower. held (holder_of tags u) (all u lower)) (λ past. absurd (omega arith)) in
+    let at : position_or_len is_none tags ≡ length tags =
+    position_or_len_is is_none tags (length tags) None (omega arith) (λ u lower. held (holder_of tags u) (all u lower)) (λ past. absurd (omega arith)) in
     absent_from (position_or_len is_none tags) (length tags) (omega arith)
 
 pub none_exactly : (tags : List (Option OpId)) (found : Option ℕ) → found ≡ free_tag tags → IsNone found ↔ AreAllOut tags

@@ -14,7 +14,8 @@ held_exists (x ∷ xs) zero id e = omega arith
 held_exists (x ∷ xs) (suc t) id e = omega (arith, held_exists xs t id e)
 
 -- who holds tag s after tag t went to an operation: that operation, or whoever held it before
-holder-taken : (tags : List (Option OpId)) (t s : ℕ) (id other : OpId) → holder_of (set tags t (Some id)) s ≡ Some other → ((s ≡ t) × (id ≡ other)) ⊎ (holder_of tags s ≡ Some other)
+holder-taken : (tags : List (Option OpId)) (t s : ℕ) (id other : OpId) → holder_of (set tags t (Some id)) s ≡ Some other
+    → ((s ≡ t) × (id ≡ other)) ⊎ (holder_of tags s ≡ Some other)
 holder-taken [] t s id other e = inr e
 holder-taken (x ∷ xs) zero zero id other e = inl (refl, cc)
 holder-taken (x ∷ xs) zero (suc s) id other e = inr e

@@ -1,9 +1,12 @@
--- The tags of a processor. A tag is out while a request that carries it has no answer yet (this project's own format).
-use Rattle.std.specs.Prelude.{◌≡◌, ◌≢◌, ◌<◌, ◌≤◌, ◌+◌, ℕ, List, length, Option, None, Some, IsSome, is_none, is_some, position, count_by, slice_index_or}
+-- The tags of a processor. A tag is out while a request that carries it has no answer yet (this
+-- project's own format).
+use Rattle.std.specs.Prelude.{◌≡◌, ◌≢◌, ◌<◌, ◌≤◌, ◌+◌, ℕ, List, length, Option, None, Some, IsSome, is_none, is_some}
+use Rattle.std.specs.Prelude.{position, count_by, slice_index_or}
 use Rattle.torus.specs.declared.step.Tag.{Tag}
 use Rattle.torus.specs.declared.step.OpId.{OpId}
 
--- a table of tags is a list: for each tag, by its number, the operation that holds it, or None while it is
+-- a table of tags is a list: for each tag, by its number, the operation that holds it, or None
+-- while it is
 -- free; this is the holder of tag t, None too where there is no such tag
 abbrev pub holder_of : List (Option OpId) → ℕ → Option OpId
 holder_of tags t = slice_index_or tags t None
@@ -33,7 +36,8 @@ pub record IsLowestFree (tags : List (Option OpId)) (t : ℕ) : Type 0 where
 
 -- no operation holds two tags
 abbrev pub HoldDistinctTags : List (Option OpId) → Type 0
-HoldDistinctTags tags = (s t : ℕ) (id : OpId) → holder_of tags s ≡ Some id → holder_of tags t ≡ Some id → s ≡ t
+HoldDistinctTags tags = (s t : ℕ) (id : OpId) → holder_of tags s ≡ Some id
+    → holder_of tags t ≡ Some id → s ≡ t
 
 -- the operation holds no tag
 abbrev pub HoldsNone : List (Option OpId) → OpId → Type 0

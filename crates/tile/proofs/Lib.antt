@@ -1,5 +1,1 @@
-pub mod Channels
-pub mod OneAgent
-pub mod Tiles
-pub mod NewTiles
-pub mod OwnSteps
+pub mod OwnAttempts

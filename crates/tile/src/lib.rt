@@ -1,6 +1,6 @@
-//! A tile: its three agents at their channels.
+//! The agents of a tile, at their channels.
 #![tactic(auto)]
 
-pub mod laws;
+pub mod agents;
 
-pub use processor::{Answer, Processor};
+pub use agents::TileAgents;

@@ -1,5 +1,6 @@
 -- One hop changes one digit and keeps the others; tiles and their digits determine each other.
-use Rattle.std.proofs.Common.{◌≡◌, ◌≢◌, ℕ, ◌+◌, ◌-◌, ◌*◌, ◌/◌, ◌%◌, ◌<◌, ◌≤◌, zero, suc, List, [], ◌∷◌, length, take, refl, sym, ◌∙◌, ap, arith, inl, inr, add-one, zero-add}
+use Rattle.std.proofs.Common.{◌≡◌, ◌≢◌, ℕ, ◌+◌, ◌-◌, ◌*◌, ◌/◌, ◌%◌, ◌<◌, ◌≤◌, zero, suc, List, [], ◌∷◌, length, take, refl, sym, ◌∙◌, ap, arith, inl, inr}
+use Rattle.std.proofs.Common.{add-one, zero-add}
 use Rattle.std.specs.Prelude.{slice_index, slice_set}
 use Rattle.std.proofs.lemmas.List.{get_or-set_same, get_or-set_other}
 use Rattle.std.proofs.lemmas.Grind.{same_number_lists}
@@ -10,7 +11,8 @@ use Rattle.torus.specs.Shape.{Shape, product, dims_of, tiles_of, radix_of, digit
 use Rattle.torus.specs.Digits.{AreDigits, AreInRange}
 use Rattle.torus.specs.declared.shape.Dir.{Dir}
 use Rattle.torus.specs.declared.shape.Dir.TheVariants.{Plus, Minus}
-use Rattle.torus.proofs.MixedRadix.{digits, value, InRange, AllPositive, all_positive, product_positive, digits_in_range, digits-value, value-digits, value_below, digit_at, length-digits, value-set, in_range_set, in_range}
+use Rattle.torus.proofs.MixedRadix.{digits, value, InRange, AllPositive, all_positive, product_positive, digits_in_range, digits-value, value-digits}
+use Rattle.torus.proofs.MixedRadix.{value_below, digit_at, length-digits, value-set, in_range_set, in_range}
 
 pub positive : (s : Shape) → IsAccepted s → AllPositive s.radices
 positive s h = all_positive s.radices h.radix_low
@@ -82,7 +84,8 @@ hop_is s h t d dir here there stride below low here_is there_is small stride_is 
     let given : product (take d s.radices) * there ≡ stride * there = cc in
     let sum : ((t - here * stride) + there * stride) + product (take d s.radices) * digit_of s t d ≡ t + product (take d s.radices) * there =
     omega (arith, mul_comm stride here, mul_comm stride there) in
-    let moved : IsMoved s t d there ((t - here * stride) + there * stride) = moved_by_sum s h t d there ((t - here * stride) + there * stride) below low small sum in
+    let moved : IsMoved s t d there ((t - here * stride) + there * stride) =
+    moved_by_sum s h t d there ((t - here * stride) + there * stride) below low small sum in
     record {
       tile = moved.tile;
       moved = moved.moved ∙ there_is ∙ ap (one_hop dir (radix_of s d)) here_is;

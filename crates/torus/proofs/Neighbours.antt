@@ -18,7 +18,8 @@ neighbour s h t d dir below low =
     let stride : ℕ = product (take d s.radices) in
     let two = h.radix_low d low in (
       (t - here * stride) + there * stride,
-      hop_is s h t d dir here there stride below low refl refl (one_hop_below dir (radix_of s d) here (omega arith)) refl (digit_within t stride (radix_of s d)),
+      hop_is s h t d dir here there stride below low refl refl (one_hop_below dir (radix_of s d) here (omega arith)) refl
+          (digit_within t stride (radix_of s d)),
     )
 
 one_hop_moves : (dir : Dir) (k x : ℕ) → 2 ≤ k → x < k → one_hop dir k x ≢ x

@@ -50,7 +50,8 @@ ne_test a b h = grind (arith, nat_tests)
 pub mixed-tiles : (ks zs : List ℕ) → 1 ≤ length ks → length ks ≤ 3 → list_all is_radix ks ≡ true → 64 < product ks → mixed_of ks zs ≡ Err Tiles
 mixed-tiles ks zs low high radices many = rw (dims_test (length ks) low high, radices, gt_test (product ks) 64 many) refl
 
-pub mixed-count : (ks zs : List ℕ) → 1 ≤ length ks → length ks ≤ 3 → list_all is_radix ks ≡ true → product ks ≤ 64 → length zs ≢ length ks → mixed_of ks zs ≡ Err Count
+pub mixed-count : (ks zs : List ℕ) → 1 ≤ length ks → length ks ≤ 3 → list_all is_radix ks ≡ true → product ks ≤ 64 → length zs ≢ length ks
+    → mixed_of ks zs ≡ Err Count
 mixed-count ks zs low high radices few other =
     rw (dims_test (length ks) low high, radices, le_test (product ks) 64 few, ne_test (length zs) (length ks) other) refl
 

@@ -12,7 +12,8 @@ is_of_processor Done = true
 is_of_processor Look = true
 is_of_processor _ = false
 
--- the choices of a router with so many inputs and as many outputs: one for each of them (this project's own format)
+-- the choices of a router with so many inputs and as many outputs: one for each of them (this
+-- project's own format)
 abbrev pub is_of_router : ℕ → Choice → Bool
 is_of_router ports (TakeFrom input) = nat_lt input ports
 is_of_router ports (Put input) = nat_lt input ports
@@ -27,7 +28,8 @@ is_of_bank Send = true
 is_of_bank Credit = true
 is_of_bank _ = false
 
--- whether agent k of a tile has a choice: agent 0 is its processor, 1 its router, with so many inputs and as many
+-- whether agent k of a tile has a choice: agent 0 is its processor, 1 its router, with so many
+-- inputs and as many
 -- outputs, 2 its bank (this project's own format)
 abbrev pub has_choice : ℕ → ℕ → Choice → Bool
 has_choice ports zero choice = is_of_processor choice

@@ -8,7 +8,11 @@ abbrev pub shape_of : Inside → Shape
 shape_of t = record { radices = take t.dims t.radices; datelines = take t.dims t.datelines }
 
 abbrev pub fields_of : Shape → Inside
-fields_of s = record { dims = length s.radices; radices = filled 1 s.radices; datelines = filled 0 s.datelines }
+fields_of s = record {
+  dims = length s.radices;
+  radices = filled 1 s.radices;
+  datelines = filled 0 s.datelines;
+}
 
 pub record IsTorus (t : Inside) : Type 0 where
   pub accepted : IsAccepted (shape_of t)

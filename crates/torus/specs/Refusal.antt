@@ -1,5 +1,6 @@
 -- Which shape is made of given numbers, or which fault is given.
-use Rattle.std.specs.Prelude.{ℕ, ◌-◌, ◌==◌, ◌&&◌, Bool, not, nat_le, nat_lt, List, length, replicate, Result, Ok, Err, if◌then◌else◌}
+use Rattle.std.specs.Prelude.{ℕ, ◌-◌, ◌==◌, ◌&&◌, Bool, not, nat_le, nat_lt, List, length, replicate, Result, Ok, Err}
+use Rattle.std.specs.Prelude.{if◌then◌else◌}
 use Rattle.std.specs.List.{list_all, zip}
 use Rattle.torus.specs.declared.fault.Fault.{Fault}
 use Rattle.torus.specs.declared.fault.Fault.TheVariants.{Radix, Dimensions, Tiles, Count, Dateline}
@@ -17,7 +18,8 @@ is_dims n = nat_le 1 n && nat_le n 3
 abbrev pub are_below : List ℕ → List ℕ → Bool
 are_below datelines radices = list_all (λ p. nat_lt p.0 p.1) (zip datelines radices)
 
--- the torus of these radices and datelines, or the first fault: dimensions, radices, tiles, one dateline
+-- the torus of these radices and datelines, or the first fault: dimensions, radices, tiles, one
+-- dateline
 -- for each dimension, each below its radix
 abbrev pub mixed_of : List ℕ → List ℕ → Result Shape Fault
 mixed_of radices datelines =
@@ -28,7 +30,8 @@ mixed_of radices datelines =
     else (if not (are_below datelines radices) then Err Dateline
     else Ok (record { radices = radices; datelines = datelines })))))
 
--- the torus of n dimensions of radix k, every dateline at the last digit, or the first fault: radix, dimensions, tiles
+-- the torus of n dimensions of radix k, every dateline at the last digit, or the first fault:
+-- radix, dimensions, tiles
 abbrev pub uniform_of : ℕ → ℕ → Result Shape Fault
 uniform_of k n =
     if not (is_radix k) then Err Radix

@@ -3,7 +3,8 @@ use Rattle.std.specs.Prelude.{◌≡◌, ℕ, ◌+◌, ◌-◌, ◌*◌, ◌/◌
 use Rattle.torus.specs.declared.shape.Dir.{Dir}
 use Rattle.torus.specs.declared.shape.Dir.TheVariants.{Plus, Minus}
 
--- the radix and the dateline digit of each dimension, dimension 0 first (Dally and Towles, Principles and
+-- the radix and the dateline digit of each dimension, dimension 0 first (Dally and Towles,
+-- Principles and
 -- Practices of Interconnection Networks, chapters 5 and 14)
 pub record Shape : Type 0 where
   pub radices : List ℕ
@@ -26,7 +27,8 @@ tiles_of s = product s.radices
 abbrev pub radix_of : Shape → ℕ → ℕ
 radix_of s d = slice_index s.radices d
 
--- the dateline digit of dimension d: the plus hop out of it is the dateline hop (Dally and Towles, chapter 14)
+-- the dateline digit of dimension d: the plus hop out of it is the dateline hop (Dally and Towles,
+-- chapter 14)
 abbrev pub dateline_of : Shape → ℕ → ℕ
 dateline_of s d = slice_index s.datelines d
 
@@ -39,14 +41,16 @@ abbrev pub one_hop : Dir → ℕ → ℕ → ℕ
 one_hop Plus k x = (x + 1) % k
 one_hop Minus k x = (x + (k - 1)) % k
 
--- tile u lies one hop from tile t in dimension d: that digit is one more (one less) modulo its radix, and
+-- tile u lies one hop from tile t in dimension d: that digit is one more (one less) modulo its
+-- radix, and
 -- every other digit is the same (Dally and Towles, chapter 5)
 pub record IsNeighbour (s : Shape) (t d : ℕ) (dir : Dir) (u : ℕ) : Type 0 where
   pub tile : u < tiles_of s
   pub moved : digit_of s u d ≡ one_hop dir (radix_of s d) (digit_of s t d)
   pub kept : (e : ℕ) → e < dims_of s → e ≢ d → digit_of s u e ≡ digit_of s t e
 
--- low-order interleaving: the bank of an address and its word there (Dally and Towles, chapter 3; this
+-- low-order interleaving: the bank of an address and its word there (Dally and Towles, chapter 3;
+-- this
 -- project's own format)
 abbrev pub home_of : Shape → ℕ → ℕ × ℕ
 home_of s a = (a % tiles_of s, a / tiles_of s)

@@ -2,7 +2,8 @@ ghost use Rattle.std.specs.Prelude.{◌≡◌, ◌<◌, ◌≤◌, true, length,
 ghost use Rattle.torus.specs.Refusal.{mixed_of, uniform_of, is_radix, are_below};
 ghost use Rattle.std.specs.List.{list_all};
 ghost use Rattle.torus.specs.Filled.{filled};
-ghost use Rattle.torus.specs.Shape.{one_hop, product, tiles_of, dims_of, radix_of, dateline_of, digit_of, home_of, IsNeighbour, IsAccepted};
+ghost use Rattle.torus.specs.Shape.{one_hop, product, tiles_of, dims_of, radix_of, dateline_of, digit_of, home_of};
+ghost use Rattle.torus.specs.Shape.{IsNeighbour, IsAccepted};
 
 use crate::Fault;
 use std::marker::Model;

@@ -2,8 +2,8 @@
 use Rattle.std.proofs.Common.{◌≡◌}
 use Rattle.std.specs.Prelude.{Option, None, Result}
 use Rattle.script.specs.declared.fault.LineFault.{LineFault}
-use Rattle.machine_handle.specs.machine_core.specs.flights.specs.Load.{Load}
-use Rattle.machine_handle.specs.machine_laws.specs.Core.{Core}
+use Rattle.machine_handle.specs.machine_core.specs.order_abstract.specs.Load.{Load}
+use Rattle.machine_handle.specs.core_machine.specs.Core.{Core}
 use Rattle.machine_texts.specs.Loading.{IsLoadFault}
 use Rattle.torusmem_c.specs.declared.outcome.Outcome.{Outcome}
 use Rattle.torusmem_c.specs.Texts.{Loads, fault_outcome}

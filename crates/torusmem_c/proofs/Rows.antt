@@ -1,5 +1,6 @@
 -- The row of a machine, word by word.
-use Rattle.std.proofs.Common.{◌≡◌, ℕ, zero, suc, ◌+◌, ◌*◌, ◌<◌, ◌≤◌, true, false, List, [], ◌∷◌, ◌++◌, length, take, drop, set, slice_get, Option, Some, None, is_some, refl, sym, ◌∙◌, ap, subst, arith}
+use Rattle.std.proofs.Common.{◌≡◌, ℕ, zero, suc, ◌+◌, ◌*◌, ◌<◌, ◌≤◌, true, false, List, [], ◌∷◌, ◌++◌, length, take, drop, set, slice_get, Option, Some, None}
+use Rattle.std.proofs.Common.{is_some, refl, sym, ◌∙◌, ap, subst, arith}
 use Rattle.std.proofs.Math.Nat.{mul-le-mul}
 use Rattle.std.specs.Option.{unwrap_or}
 use Rattle.std.proofs.lemmas.List.{length-set}
@@ -8,7 +9,7 @@ use Rattle.torus.specs.declared.step.Step.{Step}
 use Rattle.channel_number.specs.Order.{channel_count}
 use Rattle.core_row.specs.Row.{row_of}
 use Rattle.machine_handle.specs.machine_core.specs.core_laws.specs.Core.{Load}
-use Rattle.machine_handle.specs.machine_laws.specs.Core.{Core, IsAfter, built_to}
+use Rattle.machine_handle.specs.core_machine.specs.Core.{Core, IsAfter, built_to}
 use Rattle.machine_handle.specs.machine_core.proofs.ShownRows.{shows_row}
 
 -- a row has at most as many words as 1792 channels of 8 places, 65536 addresses and the done word
@@ -50,6 +51,8 @@ pub puts_more : (row out now : List ℕ) (i word : ℕ) → i < length row → l
 puts_more row out now i word there size low is read = (
   length-set now i word ∙ size,
   ap (λ (n : ℕ). set now i n) read
-      ∙ (ap (λ (xs : List ℕ). set xs i (unwrap_or (slice_get row i) 0)) is ∙ subst (λ (n : ℕ). set (take i row ++ drop i out) i (unwrap_or (slice_get row i) 0) ≡ take n row ++ drop n out) (let next : suc i ≡ i + 1 = omega arith in next)
+      ∙ (ap (λ (xs : List ℕ). set xs i (unwrap_or (slice_get row i) 0)) is
+      ∙ subst (λ (n : ℕ). set (take i row ++ drop i out) i (unwrap_or (slice_get row i) 0) ≡ take n row ++ drop n out)
+      (let next : suc i ≡ i + 1 = omega arith in next)
       (word_more row out i there (omega (arith, size, low)))),
 )

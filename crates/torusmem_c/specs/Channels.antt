@@ -1,5 +1,6 @@
 -- The channels of routes, as C sees them (this project's own format).
-use Rattle.std.specs.Prelude.{◌≡◌, ℕ, List, [], ◌∷◌, ◌&&◌, nat_lt, if◌then◌else◌, map, Option, Some, None, option_map, slice_get}
+use Rattle.std.specs.Prelude.{◌≡◌, ℕ, List, [], ◌∷◌, ◌&&◌, nat_lt, if◌then◌else◌, map, Option, Some, None, option_map}
+use Rattle.std.specs.Prelude.{slice_get}
 use Rattle.torus.specs.Shape.{Shape, tiles_of}
 use Rattle.torus.specs.declared.shape.Class.{Class}
 use Rattle.torus.specs.declared.shape.Class.TheVariants.{Request, Reply}
@@ -9,14 +10,15 @@ use Rattle.dateline_route.specs.declared.channel.Kind.TheVariants.{Injection, Ho
 use Rattle.dateline_route.specs.Route.{route_of}
 use Rattle.channel_number.specs.Number.{number_of}
 use Rattle.channel_number.specs.Order.{bit_place, dir_place}
-use Rattle.machine_handle.specs.machine_laws.specs.Core.{Core}
+use Rattle.machine_handle.specs.core_machine.specs.Core.{Core}
 use Rattle.torusmem_c.specs.declared.outcome.Outcome.{Outcome}
 use Rattle.torusmem_c.specs.declared.outcome.Code.TheVariants as code
 use Rattle.torusmem_c.specs.declared.routes.ChannelRecord.{ChannelRecord}
 use Rattle.torusmem_c.specs.Outcome.{outcome}
 use Rattle.torusmem_c.specs.Room.{put_over, put_outcome}
 
--- the number by which C knows a kind of channel; for a hop its dimension, whether it goes minus, and its bit, else 0
+-- the number by which C knows a kind of channel; for a hop its dimension, whether it goes minus,
+-- and its bit, else 0
 abbrev pub kind_number : Kind → ℕ
 kind_number Injection = 0
 kind_number (Hop dim dir bit) = 1
@@ -56,7 +58,8 @@ records_of s src dst class = map (channel_record s) (route_of s src dst class)
 -- the route of a class that has a number, where there are such tiles and such a class
 abbrev pub route_named : Shape → ℕ → ℕ → ℕ → Option (List ChannelRecord)
 route_named s src dst class =
-    if nat_lt src (tiles_of s) && nat_lt dst (tiles_of s) then option_map (records_of s src dst) (class_named class) else None
+    if nat_lt src (tiles_of s) && nat_lt dst (tiles_of s)
+    then option_map (records_of s src dst) (class_named class) else None
 
 -- a buffer with that route at its front
 abbrev pub put_found : {A : Type 0} → Option (List A) → List A → List A
@@ -74,7 +77,8 @@ abbrev pub route_outcome : Shape → ℕ → ℕ → ℕ → List ChannelRecord 
 route_outcome s src dst class out = found_outcome (route_named s src dst class) out
 
 -- the route is put into a buffer, and nothing of the machine changes
-pub record PutsRoute (src dst class : ℕ) (before after : List ChannelRecord) (old new : Core) (r : Outcome) : Type 0 where
+pub record PutsRoute (src dst class : ℕ) (before after : List ChannelRecord) (old new : Core)
+    (r : Outcome) : Type 0 where
   pub same : new ≡ old
   pub buffer : after ≡ put_route old.shape src dst class before
   pub answer : r ≡ route_outcome old.shape src dst class before

@@ -5,7 +5,7 @@ use Rattle.packet.specs.declared.kinds.Op.TheVariants.{Load, Store, Swap, Cas, A
 use Rattle.packet.specs.declared.kinds.Reply.{Reply}
 use Rattle.packet.specs.declared.kinds.Reply.TheVariants.{Ok as Stored, Old}
 use Rattle.home_bank.specs.declared.entry.Entry.{Entry}
-use Rattle.runs.specs.declared.answer.Answer.{Answer}
+use Rattle.one_order.specs.declared.answer.Answer.{Answer}
 use Rattle.torusmem_c.specs.declared.outcome.Code.{Code}
 use Rattle.torusmem_c.specs.declared.outcome.Code.TheVariants as code
 use Rattle.torusmem_c.specs.declared.records.AnswerRecord.{AnswerRecord}

@@ -6,9 +6,11 @@ use Rattle.torusmem_c.specs.Outcome.{outcome}
 
 -- a buffer with these at its front; one that is too short for all stays as it was
 abbrev pub put_over : {A : Type 0} → List A → List A → List A
-put_over found out = if nat_lt (length out) (length found) then out else found ++ drop (length found) out
+put_over found out = if nat_lt (length out) (length found) then out
+    else found ++ drop (length found) out
 
 -- how many they are, and whether they were put
 abbrev pub put_outcome : {A : Type 0} → List A → List A → Outcome
 put_outcome found out =
-    if nat_lt (length out) (length found) then outcome code.Short (length found) else outcome code.Done (length found)
+    if nat_lt (length out) (length found) then outcome code.Short (length found)
+    else outcome code.Done (length found)

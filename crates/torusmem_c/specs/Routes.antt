@@ -5,10 +5,12 @@ use Rattle.dateline_route.specs.Next.{next_of}
 use Rattle.channel_number.specs.Order.{class_of_place}
 use Rattle.channel_number.specs.Ports.{input_numbered, output_number, port_count}
 
--- the number of the output of tile at's router by which a packet for tile dst goes on that came by an input
+-- the number of the output of tile at's router by which a packet for tile dst goes on that came by
+-- an input
 abbrev pub output_after : Shape → ℕ → ℕ → ℕ → ℕ
 output_after s at input dst =
-    output_number (dims_of s) (class_of_place (dims_of s) input) (next_of s at (input_numbered (dims_of s) input) dst)
+    output_number (dims_of s) (class_of_place (dims_of s) input)
+    (next_of s at (input_numbered (dims_of s) input) dst)
 
 -- that number, where there are such tiles and such an input
 abbrev pub next_number : Shape → ℕ → ℕ → ℕ → Option ℕ

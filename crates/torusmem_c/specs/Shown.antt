@@ -1,7 +1,7 @@
 -- What C is told of a machine (this project's own format).
 use Rattle.std.specs.Prelude.{◌≡◌, ℕ, List, length, Option, Some, None, option_and_then, slice_get}
 use Rattle.torus.specs.Shape.{tiles_of}
-use Rattle.machine_handle.specs.machine_laws.specs.Core.{Core, built_to, shown}
+use Rattle.machine_handle.specs.core_machine.specs.Core.{Core, built_to, shown}
 use Rattle.core_row.specs.Row.{row_of}
 use Rattle.torusmem_c.specs.declared.outcome.Outcome.{Outcome}
 use Rattle.torusmem_c.specs.declared.outcome.Code.TheVariants as code
@@ -49,7 +49,8 @@ answers_told processor c = count_outcome (slice_get (shown c).answers processor)
 
 abbrev pub answer_told : ℕ → ℕ → Core → AnswerRecord
 answer_told processor i c =
-    answer_or_none (option_and_then (λ answers. slice_get answers i) (slice_get (shown c).answers processor))
+    answer_or_none (option_and_then (λ answers. slice_get answers i)
+    (slice_get (shown c).answers processor))
 
 -- how many entries a bank has, and entry i of them
 abbrev pub entries_told : ℕ → Core → Outcome
@@ -57,7 +58,8 @@ entries_told bank c = count_outcome (slice_get (shown c).entries bank)
 
 abbrev pub entry_told : ℕ → ℕ → Core → EntryRecord
 entry_told bank i c =
-    entry_or_none (option_and_then (λ entries. slice_get entries i) (slice_get (shown c).entries bank))
+    entry_or_none (option_and_then (λ entries. slice_get entries i)
+    (slice_get (shown c).entries bank))
 
 -- the number of the output by which a packet goes on
 abbrev pub next_told : ℕ → ℕ → ℕ → Core → Outcome

@@ -1,15 +1,17 @@
 -- Steps and rounds, as C sees them.
-use Rattle.std.specs.Prelude.{◌≡◌, ℕ, ◌+◌, ◌≤◌, ◌↔◌, ◌++◌, [], ◌∷◌, List, Bool, false, IsTrue, Option, Some, None, is_some, length}
+use Rattle.std.specs.Prelude.{◌≡◌, ℕ, ◌+◌, ◌≤◌, ◌↔◌, ◌++◌, [], ◌∷◌, List, Bool, false, IsTrue, Option, Some, None}
+use Rattle.std.specs.Prelude.{is_some, length}
 use Rattle.std.specs.List.{filter_map}
 use Rattle.torus.specs.declared.step.Step.{Step}
 use Rattle.torus.specs.declared.step.Stepped.{Stepped}
 use Rattle.torus.specs.declared.step.Stepped.TheVariants.{Moved, Idle}
 use Rattle.rounds.specs.Rounds.{moves_in}
-use Rattle.machine_handle.specs.machine_core.specs.flights.specs.Scripts.{AreFinished}
+use Rattle.machine_handle.specs.machine_core.specs.order_abstract.specs.Scripts.{AreFinished}
 use Rattle.machine_handle.specs.machine_core.specs.core_laws.specs.Core.{Load, run_of, step, round}
-use Rattle.machine_handle.specs.machine_laws.specs.Core.{Core, IsAfter, MakesMove, Steps, core_after, built_to, all_finished}
+use Rattle.machine_handle.specs.core_machine.specs.Core.{Core, IsAfter, MakesMove, Steps, core_after, built_to}
+use Rattle.machine_handle.specs.core_machine.specs.Core.{all_finished}
 use Rattle.machine_handle.specs.machine_core.specs.Rounds.{rounds_of, NeedsRounds}
-use Rattle.machine_handle.specs.machine_laws.specs.core_progress.specs.Moves.{IsLive, moves_left}
+use Rattle.machine_handle.specs.core_machine.specs.core_progress.specs.Moves.{IsLive, moves_left}
 use Rattle.torusmem_c.specs.declared.outcome.Outcome.{Outcome}
 use Rattle.torusmem_c.specs.declared.outcome.Code.TheVariants as code
 use Rattle.torusmem_c.specs.declared.stepping.AttemptRecord.{AttemptRecord}
@@ -22,13 +24,14 @@ abbrev pub moved : Stepped → ℕ
 moved Moved = 1
 moved Idle = 0
 
--- the machine makes a step, which does exactly what its choice says; after any steps that led to the machine from a load
--- it leads on
+-- the machine makes a step, which does exactly what its choice says; after any steps that led to
+-- the machine from a load it leads on
 pub record MakesStep (attempt : Step) (old new : Core) (r : Outcome) : Type 0 where
   pub stepped : Stepped
   pub step : Steps old new stepped attempt
   pub answer : r ≡ outcome code.Done (moved stepped)
-  pub law : (l : Load) (before : List Step) → IsAfter l old before → IsAfter l new (before ++ attempt ∷ [])
+  pub law : (l : Load) (before : List Step) → IsAfter l old before
+      → IsAfter l new (before ++ attempt ∷ [])
 
 -- the machine makes the step that is named, and none where none is (this project's own format)
 abbrev pub Attempts : Option Step → Core → Core → Outcome → Type 0
@@ -39,8 +42,8 @@ Attempts (Some attempt) old new r = MakesStep attempt old new r
 abbrev pub steps_named : List AttemptRecord → List Step
 steps_named attempts = filter_map (λ it. attempt_named it.agent it.choice it.number) attempts
 
--- the machine makes these steps, one after the other, and how many of them moved is answered; after any steps that led
--- to the machine from a load they lead on
+-- the machine makes these steps, one after the other, and how many of them moved is answered; after
+-- any steps that led to the machine from a load they lead on
 pub record MakesSteps (steps : List Step) (old new : Core) (r : Outcome) : Type 0 where
   pub state : new ≡ core_after old steps
   pub answer : r ≡ outcome code.Done (moves_in (step (built_to old)) old.state steps)
@@ -59,22 +62,28 @@ TellsEnabled attempt = Tells (λ c. outcome code.Done (flag (is_enabled attempt 
 -- the machine makes one round; where some script isn't finished, the round makes a move
 pub record MakesRound (old new : Core) (r : Outcome) : Type 0 where
   pub state : new ≡ core_after old (round old.shape)
-  pub moves : new.moves_left + moves_in (step (built_to old)) old.state (round old.shape) ≡ old.moves_left
+  pub moves : new.moves_left + moves_in (step (built_to old)) old.state (round old.shape)
+      ≡ old.moves_left
   pub live : all_finished old.state ≡ false → MakesMove old (round old.shape)
-  pub law : (l : Load) (before : List Step) → IsAfter l old before → IsAfter l new (before ++ round old.shape)
+  pub law : (l : Load) (before : List Step) → IsAfter l old before
+      → IsAfter l new (before ++ round old.shape)
   pub answer : r ≡ outcome code.Done 0
 
--- the machine makes the least number of rounds after which every script is finished, and that number is answered
+-- the machine makes the least number of rounds after which every script is finished, and that
+-- number is answered
 pub record Finishes (old new : Core) (r : Outcome) : Type 0 where
   pub rounds : ℕ
   pub answer : r ≡ outcome code.Done rounds
   pub state : new ≡ core_after old (rounds_of old.shape rounds)
   pub needed : NeedsRounds old rounds
-  pub few : (l : Load) (steps : List Step) → IsAfter l old steps → rounds ≤ moves_left l steps (length steps)
+  pub few : (l : Load) (steps : List Step) → IsAfter l old steps
+      → rounds ≤ moves_left l steps (length steps)
   pub left : rounds ≤ old.moves_left
-  pub law : (l : Load) (before : List Step) → IsAfter l old before → IsAfter l new (before ++ rounds_of old.shape rounds)
+  pub law : (l : Load) (before : List Step) → IsAfter l old before
+      → IsAfter l new (before ++ rounds_of old.shape rounds)
   pub scripts : (l : Load) (before : List Step) → IsAfter l old before
-      → AreFinished (run_of l (before ++ rounds_of old.shape rounds)) (length (before ++ rounds_of old.shape rounds)) l.scripts
+      → AreFinished (run_of l (before ++ rounds_of old.shape rounds))
+      (length (before ++ rounds_of old.shape rounds)) l.scripts
 
 -- it is told whether every script is finished; until then some step of a round is enabled
 pub record TellsFinished (old new : Core) (r : Outcome) : Type 0 where
@@ -88,5 +97,6 @@ pub record TellsFinished (old new : Core) (r : Outcome) : Type 0 where
 pub record TellsMovesLeft (old new : Core) (r : Outcome) : Type 0 where
   pub same : new ≡ old
   pub answer : r ≡ outcome code.Done old.moves_left
-  pub law : (l : Load) (steps : List Step) → IsAfter l old steps → old.moves_left ≡ moves_left l steps (length steps)
+  pub law : (l : Load) (steps : List Step) → IsAfter l old steps
+      → old.moves_left ≡ moves_left l steps (length steps)
   pub exact : (more : List Step) → moves_in (step (built_to old)) old.state more ≤ old.moves_left

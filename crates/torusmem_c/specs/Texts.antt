@@ -2,8 +2,8 @@
 use Rattle.std.specs.Prelude.{◌≡◌, ◌⊎◌, ℕ, List, Result, Option, Some, None}
 use Rattle.torus.specs.declared.fault.Fault.TheVariants as fault
 use Rattle.script.specs.declared.fault.LineFault.{LineFault}
-use Rattle.machine_handle.specs.machine_core.specs.flights.specs.Load.{Load}
-use Rattle.machine_handle.specs.machine_laws.specs.Core.{Core}
+use Rattle.machine_handle.specs.machine_core.specs.order_abstract.specs.Load.{Load}
+use Rattle.machine_handle.specs.core_machine.specs.Core.{Core}
 use Rattle.report_lines.specs.Line.{text_of}
 use Rattle.report_check.specs.Good.{GoodReport, HasFault}
 use Rattle.report_check.specs.declared.fault.CheckFault.{CheckFault}
@@ -28,8 +28,8 @@ abbrev pub check_outcome : CheckFault → Outcome
 check_outcome (BadReport line) = outcome code.BadReport line
 check_outcome Memory = no_memory
 
--- what an empty handle holds after a load: nothing, and the answer is the first fault of the texts or that memory was
--- refused; or the machine that the texts ask for, which has made no step
+-- what an empty handle holds after a load: nothing, and the answer is the first fault of the texts
+-- or that memory was refused; or the machine that the texts ask for, which has made no step
 abbrev pub LoadsEmpty : Result Load LineFault → Option Core → Outcome → Type 0
 LoadsEmpty asked None r = (f : LineFault) × IsLoadFault asked f × (r ≡ fault_outcome f)
 LoadsEmpty asked (Some c) r = HasLoaded asked c × (r ≡ outcome code.Done 0)
@@ -50,7 +50,8 @@ pub record LacksMemory (before after : List ℕ) (r : Outcome) : Type 0 where
   pub buffer : after ≡ before
   pub answer : r ≡ no_memory
 
--- a machine's report is put into a buffer, or memory was refused; and nothing of the machine changes
+-- a machine's report is put into a buffer, or memory was refused; and nothing of the machine
+-- changes
 pub record PutsReport (before after : List ℕ) (old new : Core) (r : Outcome) : Type 0 where
   pub same : new ≡ old
   pub put : PutsText old before after r ⊎ LacksMemory before after r

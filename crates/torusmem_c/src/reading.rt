@@ -3,11 +3,12 @@
 ghost use Rattle.std.specs.Prelude.{◌≡◌, None, length};
 ghost use Rattle.core_row.specs.Row.{row_of};
 ghost use Rattle.machine_handle.specs.Held.{held};
-ghost use Rattle.machine_handle.specs.machine_laws.specs.Core.{built_to};
+ghost use Rattle.machine_handle.specs.core_machine.specs.Core.{built_to};
 ghost use Rattle.torusmem_c.specs.Room.{put_over, put_outcome};
 ghost use Rattle.torusmem_c.specs.Held.{OfHeld, OnHeld, Tells};
 ghost use Rattle.torusmem_c.specs.Records.{no_answer, no_entry};
-ghost use Rattle.torusmem_c.specs.Shown.{PutsRow, answer_told, answers_told, entries_told, entry_told, next_told, number_outcome, row_told, tiles_told, word_told, words_told};
+ghost use Rattle.torusmem_c.specs.Shown.{PutsRow, answer_told, answers_told, entries_told, entry_told, next_told};
+ghost use Rattle.torusmem_c.specs.Shown.{number_outcome, row_told, tiles_told, word_told, words_told};
 ghost use Rattle.torusmem_c.specs.declared.outcome.Code.TheVariants as code;
 
 use crate::outcome::{Code, Outcome};
@@ -127,7 +128,8 @@ pub extern "C" fn torusmem_answers(handle: &mut Handle, processor: u32) -> Outco
 /// Answer i of a processor, from 0 in the order of answering.
 #[unsafe(no_mangle)]
 pub extern "C" fn torusmem_answer_at(handle: &mut Handle, processor: u32, i: u32) -> AnswerRecord
-    ensures { OfHeld (no_answer code.Empty) (Tells (answer_told processor i)) (held handle.old) (held handle.new) result }
+    ensures { OfHeld (no_answer code.Empty) (Tells (answer_told processor i)) (held handle.old)
+        (held handle.new) result }
 {
     match handle.machine() {
         Some(machine) => answer_of(machine, processor, i),
@@ -162,7 +164,8 @@ pub extern "C" fn torusmem_entries(handle: &mut Handle, bank: u32) -> Outcome
 /// Entry i of a bank, from 0 in the order of its services.
 #[unsafe(no_mangle)]
 pub extern "C" fn torusmem_entry_at(handle: &mut Handle, bank: u32, i: u32) -> EntryRecord
-    ensures { OfHeld (no_entry code.Empty) (Tells (entry_told bank i)) (held handle.old) (held handle.new) result }
+    ensures { OfHeld (no_entry code.Empty) (Tells (entry_told bank i)) (held handle.old)
+        (held handle.new) result }
 {
     match handle.machine() {
         Some(machine) => entry_of(machine, bank, i),

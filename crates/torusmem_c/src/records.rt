@@ -2,7 +2,9 @@
 
 ghost use Rattle.std.specs.Prelude.{◌≡◌};
 ghost use Rattle.torusmem_c.specs.Outcome.{flag, number_of};
-ghost use Rattle.torusmem_c.specs.Records.{operation_number, first_value, second_value, has_old, old_word, answer_record, no_answer, answer_or_none, entry_record, no_entry, entry_or_none};
+ghost use Rattle.torusmem_c.specs.Records.{operation_number, first_value, second_value, has_old, old_word};
+ghost use Rattle.torusmem_c.specs.Records.{answer_record, no_answer, answer_or_none, entry_record, no_entry};
+ghost use Rattle.torusmem_c.specs.Records.{entry_or_none};
 
 use crate::outcome::Code;
 use machine_report::{Answer, Entry};

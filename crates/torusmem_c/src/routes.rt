@@ -111,7 +111,8 @@ pub extern "C" fn torusmem_route(
     class: u32,
     out: &mut [ChannelRecord],
 ) -> Outcome
-    ensures held { OnHeld (PutsRoute src dst class out.old out.new) (held handle.old) (held handle.new) result }
+    ensures held { OnHeld (PutsRoute src dst class out.old out.new) (held handle.old)
+        (held handle.new) result }
     ensures empty { held handle.old ≡ None → out.new ≡ out.old }
 {
     match handle.machine() {

@@ -5,7 +5,8 @@ ghost use Rattle.machine_handle.specs.Held.{held};
 ghost use Rattle.torusmem_c.specs.Choices.{attempt_named};
 ghost use Rattle.torusmem_c.specs.Held.{OnHeld};
 ghost use Rattle.torusmem_c.specs.Outcome.{outcome};
-ghost use Rattle.torusmem_c.specs.Steps.{Attempts, Finishes, MakesRound, MakesSteps, TellsEnabled, TellsFinished, TellsMovesLeft, is_enabled, moved, steps_named};
+ghost use Rattle.torusmem_c.specs.Steps.{Attempts, Finishes, MakesRound, MakesSteps, TellsEnabled, TellsFinished};
+ghost use Rattle.torusmem_c.specs.Steps.{TellsMovesLeft, is_enabled, moved, steps_named};
 
 use crate::choice::attempt_named;
 use crate::outcome::{Code, Outcome};
@@ -21,7 +22,8 @@ pub extern "C" fn torusmem_step(
     choice: u32,
     number: u32,
 ) -> Outcome
-    ensures { OnHeld (Attempts (attempt_named agent choice number)) (held handle.old) (held handle.new) result }
+    ensures { OnHeld (Attempts (attempt_named agent choice number)) (held handle.old)
+        (held handle.new) result }
 {
     match handle.machine() {
         Some(machine) => made(machine, attempt_named(agent, choice, number)),
@@ -64,7 +66,8 @@ pub struct AttemptRecord {
 /// Attempts choices of agents, one after the other, and answers how many of them moved.
 #[unsafe(no_mangle)]
 pub extern "C" fn torusmem_run(handle: &mut Handle, attempts: &[AttemptRecord]) -> Outcome
-    ensures { OnHeld (MakesSteps (steps_named attempts.now)) (held handle.old) (held handle.new) result }
+    ensures { OnHeld (MakesSteps (steps_named attempts.now)) (held handle.old) (held handle.new)
+        result }
 {
     match handle.machine() {
         Some(machine) => Outcome::done(made_all(machine, attempts)),
@@ -75,7 +78,8 @@ pub extern "C" fn torusmem_run(handle: &mut Handle, attempts: &[AttemptRecord]) 
 /// Makes the steps that are named, one after the other, and answers how many of them moved: each move
 /// takes one from the moves that are left.
 fn made_all(machine: &mut Machine, attempts: &[AttemptRecord]) -> u64
-    ensures { MakesSteps (steps_named attempts.now) machine.old machine.new (outcome Code.Done result) }
+    ensures { MakesSteps (steps_named attempts.now) machine.old machine.new
+        (outcome Code.Done result) }
 {
     machine.reached();
     let left = machine.moves_left();
@@ -95,7 +99,8 @@ pub extern "C" fn torusmem_enabled(
     choice: u32,
     number: u32,
 ) -> Outcome
-    ensures { OnHeld (TellsEnabled (attempt_named agent choice number)) (held handle.old) (held handle.new) result }
+    ensures { OnHeld (TellsEnabled (attempt_named agent choice number)) (held handle.old)
+        (held handle.new) result }
 {
     match handle.machine() {
         Some(machine) => Outcome::told(is_enabled(machine, attempt_named(agent, choice, number))),

@@ -8,7 +8,8 @@ ghost use Rattle.machine_texts.specs.Loading.{load_by};
 ghost use Rattle.report_check.specs.Good.{GoodReport};
 ghost use Rattle.report_lines.specs.Line.{text_of};
 ghost use Rattle.torusmem_c.specs.Held.{OnHeld};
-ghost use Rattle.torusmem_c.specs.Texts.{IsAccepted, IsVerdict, LacksMemory, Loads, PutsReport, PutsText, check_outcome, fault_outcome, no_memory};
+ghost use Rattle.torusmem_c.specs.Texts.{IsAccepted, IsVerdict, LacksMemory, Loads, PutsReport, PutsText};
+ghost use Rattle.torusmem_c.specs.Texts.{check_outcome, fault_outcome, no_memory};
 
 use crate::outcome::{Code, Outcome};
 use crate::room::put_over;
@@ -81,7 +82,8 @@ pub extern "C" fn torusmem_load(
     machine: &[u8],
     scripts: &[u8],
 ) -> Outcome
-    ensures { Loads (load_by (lines machine.now) (lines scripts.now)) (held handle.old) (held handle.new) result }
+    ensures { Loads (load_by (lines machine.now) (lines scripts.now)) (held handle.old)
+        (held handle.new) result }
 {
     if let Some(_held) = handle.machine() {
         return Outcome::of(Code::Full, 0);

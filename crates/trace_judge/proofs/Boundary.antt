@@ -59,7 +59,8 @@ boundary_good opening trace good bad middle l is was = record { apart = l; withi
 pub boundary_bad : (opening : List ℕ) (trace : List Event) (good bad middle : ℕ) → good < middle → middle ≤ bad
     → (IsLinearizable opening (take middle trace) → ⊥) → Boundary opening trace good bad
     → Boundary opening trace good middle
-boundary_bad opening trace good bad middle l m not_so was = record { apart = l; within = let w = was.within in omega arith; before = was.before; behind = not_so }
+boundary_bad opening trace good bad middle l m not_so was =
+    record { apart = l; within = let w = was.within in omega arith; before = was.before; behind = not_so }
 
 pub boundary_found : (opening : List ℕ) (trace : List Event) (good bad : ℕ) → bad ≤ good + 1
     → Boundary opening trace good bad

@@ -1,5 +1,7 @@
 -- What the judge holds, over one event.
-use Rattle.std.proofs.Common.{◌≡◌, ◌≢◌, ⊎_elim, ℕ, zero, suc, ◌+◌, ◌<◌, ◌≤◌, ◌==◌, Bool, true, false, List, [], ◌∷◌, length, Option, Some, None, Vec, MatchOption, refl, sym, ◌∙◌, ap, subst, arith, slice_get, set, map, get_or, replicate, add-one, get_or-set_same, get_or-set_other, length-set, vec_len, not}
+use Rattle.std.proofs.Common.{◌≡◌, ◌≢◌, ⊎_elim, ℕ, zero, suc, ◌+◌, ◌<◌, ◌≤◌, ◌==◌, Bool, true, false, List, [], ◌∷◌, length, Option, Some, None, Vec}
+use Rattle.std.proofs.Common.{MatchOption, refl, sym, ◌∙◌, ap, subst, arith, slice_get, set, map, get_or, replicate, add-one, get_or-set_same}
+use Rattle.std.proofs.Common.{get_or-set_other, length-set, vec_len, not}
 use Rattle.std.proofs.lemmas.Bool.{cases_eq, cases_lt, eqb-true, eqb-false}
 use Rattle.std.proofs.lemmas.List.{map-set, length-map, length-replicate, get_or-map, nil_from_length}
 use Rattle.packet.specs.declared.kinds.Reply.{Reply}
@@ -222,7 +224,8 @@ pub seen_answer : {A : Type 0} (opening : List ℕ) (trace : List Event) (k : �
     → ((b : Branch) → IsIn view b → IsTaken b.config slot → IsIn later.items
     (record { config = release b.config slot; trail = b.trail }))
     → IsSearched opening trace (suc k) table.items (sets_of words.items) nodes.items
-seen_answer {A} opening trace k s table words nodes slot a id reply one two old middle view later t now e1 e2 e3 at holds was emptied written on closed sound from released =
+seen_answer {A} opening trace k s table words nodes slot a id reply one two old middle view later t now e1 e2 e3 at holds was emptied written on closed sound
+    from released =
     holds_answer {A = A} opening trace k s table words nodes slot a id reply old middle later t now at.1
     (subst (λ (ts : List (Option Open)). IsAt ts slot a) e1 at.0) holds was emptied written on
     (subst (λ (ts : List (Option Open)). (c : Config) → IsIn (configs_of middle) c → IsLeft c slot

@@ -7,7 +7,8 @@ use Rattle.trace_search.specs.Searches.{Picks}
 
 -- nodes lead back to earlier ones
 abbrev pub AreNodes : List Node → Type 0
-AreNodes nodes = (i j : ℕ) (node : Node) → slice_get nodes i ≡ Some node → node.before ≡ Some j → j < i
+AreNodes nodes = (i j : ℕ) (node : Node) → slice_get nodes i ≡ Some node → node.before ≡ Some j
+    → j < i
 
 -- a node that there is, or none
 abbrev pub IsBelow : List Node → Option ℕ → Type 0

@@ -8,7 +8,8 @@ use Rattle.trace_judge.specs.declared.search.Search.{Search}
 use Rattle.trace_judge.specs.Sets.{sets_of}
 
 -- it knows what a search knows before event k, and each word has a branch
-pub record Holds {A : Type 0} (opening : List ℕ) (trace : List Event) (k : ℕ) (s : Search A) : Type 0 where
+pub record Holds {A : Type 0} (opening : List ℕ) (trace : List Event) (k : ℕ) (s : Search A) : Type
+    0 where
   pub sized : length s.words.items ≡ length opening
   pub slots : length s.table.items ≡ 64
   pub searched : IsSearched opening trace k s.table.items (sets_of s.words.items) s.nodes.items

@@ -1,5 +1,6 @@
 -- Sets of branches, as lists that grow at their ends.
-use Rattle.std.specs.Prelude.{◌≡◌, ◌⊎◌, ◌<◌, ℕ, List, [], ◌∷◌, ◌++◌, Option, Some, Vec, length, map, slice_index_or, cond, ◌==◌}
+use Rattle.std.specs.Prelude.{◌≡◌, ◌⊎◌, ◌<◌, ℕ, List, [], ◌∷◌, ◌++◌, Option, Some, Vec, length, map, slice_index_or}
+use Rattle.std.specs.Prelude.{cond, ◌==◌}
 use Rattle.trace_order.specs.declared.event.Event.{Event}
 use Rattle.trace_search.specs.declared.opened.Open.{Open}
 use Rattle.trace_search.specs.declared.opened.Config.{Config}
@@ -13,18 +14,21 @@ use Rattle.trace_search.specs.Searches.{IsTable, IsSound}
 abbrev pub GoesOn : {A : Type 0} → List A → List A → Type 0
 GoesOn {A} old new = (more : List A) × (new ≡ old ++ more)
 
--- a branch in which this operation took effect is there with its node, or both lists are as they were
-abbrev pub Adds : Branch → Open → Config → List Branch → List Node → List Branch → List Node → Type 0
+-- a branch in which this operation took effect is there with its node, or both lists are as they
+-- were
+abbrev pub Adds : Branch → Open → Config → List Branch → List Node → List Branch → List Node
+    → Type 0
 Adds from opened config found nodes more longer = ((more ≡ found) × (longer ≡ nodes))
     ⊎ ((more ≡ found ++ record { config = config; trail = Some (length nodes) } ∷ [])
     × (longer ≡ nodes ++ record { call = opened.call; before = from.trail } ∷ []))
 
 -- what a place of the table holds may take effect
-pub record TakesEffect (place : Option Open) (word : ℕ) (c : Config) (s : ℕ) (o : Open) : Type 0 where
-  pub there : place ≡ Some o
-  pub here : o.call.operation.address ≡ word
-  pub left : IsLeft c s
-  pub agrees : Agrees o c.word
+pub record TakesEffect (place : Option Open) (word : ℕ) (c : Config) (s : ℕ) (o : Open) : Type 0
+  where
+    pub there : place ≡ Some o
+    pub here : o.call.operation.address ≡ word
+    pub left : IsLeft c s
+    pub agrees : Agrees o c.word
 
 -- the branches of each word
 abbrev pub sets_of : {A : Type 0} → List (Vec Branch A) → ℕ → List Branch
@@ -35,8 +39,11 @@ abbrev pub with_set : (ℕ → List Branch) → ℕ → List Branch → ℕ → 
 with_set sets w branches v = cond (v == w) branches (sets v)
 
 -- where the search was sound with the old branches of a word, it is with the new ones
-abbrev pub StaysSound : List (Option Open) → ℕ → List Branch → List Node → List Branch → List Node → Type 0
+abbrev pub StaysSound : List (Option Open) → ℕ → List Branch → List Node → List Branch → List Node
+    → Type 0
 StaysSound table w old nodes new more =
-    (opening : List ℕ) (trace : List Event) (k : ℕ) (sets : ℕ → List Branch) → IsTrace (length opening) trace
-    → IsTable trace k table → w < length opening → IsSound opening trace k table (with_set sets w old) nodes
+    (opening : List ℕ) (trace : List Event) (k : ℕ) (sets : ℕ → List Branch)
+    → IsTrace (length opening) trace
+    → IsTable trace k table → w < length opening
+    → IsSound opening trace k table (with_set sets w old) nodes
     → IsSound opening trace k table (with_set sets w new) more

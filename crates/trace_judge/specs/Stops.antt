@@ -7,11 +7,13 @@ use Rattle.trace_order.specs.Traces.{IsIssuedAt, IsAnsweredAt, IsUnanswered}
 use Rattle.trace_judge.specs.declared.undecided.Undecided.{Undecided}
 use Rattle.trace_judge.specs.declared.undecided.Undecided.TheVariants.{Memory, Configurations, Operations}
 
--- 64 operations are open before event k (Herlihy and Wing, TOPLAS 12(3), 1990: pending), which issues another
+-- 64 operations are open before event k (Herlihy and Wing, TOPLAS 12(3), 1990: pending), which
+-- issues another
 pub record IsCrowded (trace : List Event) (k : ℕ) : Type 0 where
   pub calls : List Call
   pub many : length calls ≡ 64
-  pub issued : (s : ℕ) (c : Call) → slice_get calls s ≡ Some c → (i : ℕ) × (i < k) × IsIssuedAt trace i c
+  pub issued : (s : ℕ) (c : Call) → slice_get calls s ≡ Some c
+      → (i : ℕ) × (i < k) × IsIssuedAt trace i c
   pub pending : (s : ℕ) (c : Call) → slice_get calls s ≡ Some c → IsUnanswered trace k c.id
   pub distinct : (s u : ℕ) (c d : Call) → slice_get calls s ≡ Some c → slice_get calls u ≡ Some d
       → c.id ≡ d.id → s ≡ u
@@ -21,7 +23,8 @@ pub record IsCrowded (trace : List Event) (k : ℕ) : Type 0 where
 abbrev pub IsAnAnswer : List Event → ℕ → Type 0
 IsAnAnswer trace k = (id : ℕ) × (reply : Reply) × IsAnsweredAt trace k id reply
 
--- why a trace is not decided: there are too many open operations at an event, or configurations of a word, or no memory
+-- why a trace is not decided: there are too many open operations at an event, or configurations of
+-- a word, or no memory
 abbrev pub IsUndecided : List Event → Undecided → Type 0
 IsUndecided trace Memory = Unit {0}
 IsUndecided trace (Configurations event) = IsAnAnswer trace event

@@ -158,7 +158,8 @@ fn expand<A: Allocator>(
 ) -> Result<(), Full>
     requires small { length table.now ≤ 64 }
     requires there { IsIn found.old.items from }
-    ensures expanded { OnOk result (IsExpanded table.now address (configs_of found.new.items) from.config) }
+    ensures expanded { OnOk result
+        (IsExpanded table.now address (configs_of found.new.items) from.config) }
     ensures grows { OnOk result (GoesOn found.old.items found.new.items) }
     ensures bounded { OnOk result (length found.new.items ≤ max bound (length found.old.items)) }
     ensures sound { OnOk result (StaysSound table.now address found.old.items nodes.old.items

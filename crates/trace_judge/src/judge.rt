@@ -1,6 +1,7 @@
 //! The decision, with an order or with the first event that has none.
 
-ghost use Rattle.std.specs.Prelude.{◌≡◌, ◌<◌, ◌+◌, ℕ, List, true, false, replicate, IfOk, IfErr, MatchOption, length, Some};
+ghost use Rattle.std.specs.Prelude.{◌≡◌, ◌<◌, ◌+◌, ℕ, List, true, false, replicate, IfOk, IfErr, MatchOption, length};
+ghost use Rattle.std.specs.Prelude.{Some};
 ghost use Rattle.trace_order.specs.Traces.{IsTrace};
 ghost use Rattle.trace_order.specs.Orders.{IsOrder, IsLinearizable};
 ghost use Rattle.trace_search.specs.Searches.{IsTrail, order_of};
@@ -53,7 +54,8 @@ fn mark(marks: &mut [bool], nodes: &[Node], last: Option<usize>)
     requires sized { length marks.old ≡ length nodes.now }
     requires back { AreNodes nodes.now }
     requires below { IsBelow nodes.now last }
-    ensures { (trail : List ℕ) × IsTrail nodes.now last trail × AreMarked marks.old trail marks.new }
+    ensures { (trail : List ℕ) × IsTrail nodes.now last trail
+        × AreMarked marks.old trail marks.new }
 {
     let mut next = last;
     while let Some(i) = next {

@@ -1,6 +1,7 @@
 //! The search over the events of a trace.
 
-ghost use Rattle.std.specs.Prelude.{◌≡◌, ◌<◌, ◌+◌, ◌∷◌, ℕ, [], true, false, None, IfOk, IfErr, OnOk, length, replicate, slice_index};
+ghost use Rattle.std.specs.Prelude.{◌≡◌, ◌<◌, ◌+◌, ◌∷◌, ℕ, [], true, false, None, IfOk, IfErr, OnOk, length};
+ghost use Rattle.std.specs.Prelude.{replicate, slice_index};
 ghost use Rattle.trace_order.specs.Traces.{IsTrace, IsIssuedAt, IsAnsweredAt};
 ghost use Rattle.trace_order.specs.Orders.{IsLinearizable};
 ghost use Rattle.trace_search.specs.Searches.{first_branch};

@@ -7,12 +7,14 @@ use Rattle.trace_order.specs.declared.event.Event.{Event}
 use Rattle.trace_order.specs.Traces.{IsIssuedAt, IsAnsweredAt}
 use Rattle.trace_order.specs.Orders.{IsOn, memory_of}
 
--- An order of operations that were issued before event k, among them all that were answered before it, with the
--- replies that the whole trace tells (Herlihy and Wing, TOPLAS 12(3), 1990: a linearization, of a beginning).
+-- An order of operations that were issued before event k, among them all that were answered before
+-- it, with the replies that the whole trace tells (Herlihy and Wing, TOPLAS 12(3), 1990: a
+-- linearization, of a beginning).
 pub record Legal (opening : List ℕ) (trace : List Event) (k : ℕ) (order : List Call) : Type 0 where
   pub once : (x y : ℕ) (c d : Call) → slice_get order x ≡ Some c → slice_get order y ≡ Some d
       → c.id ≡ d.id → x ≡ y
-  pub issued : (x : ℕ) (c : Call) → slice_get order x ≡ Some c → (i : ℕ) × (i < k) × IsIssuedAt trace i c
+  pub issued : (x : ℕ) (c : Call) → slice_get order x ≡ Some c
+      → (i : ℕ) × (i < k) × IsIssuedAt trace i c
   pub answered : (i id : ℕ) (reply : Reply) → i < k → IsAnsweredAt trace i id reply → IsOn order id
   pub real_time : (i j x y : ℕ) (c d : Call) (reply : Reply) → i < j
       → IsAnsweredAt trace i c.id reply → IsIssuedAt trace j d

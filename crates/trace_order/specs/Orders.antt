@@ -11,8 +11,8 @@ use Rattle.trace_order.specs.Traces.{IsIssuedAt, IsAnsweredAt}
 abbrev pub operations_of : List Call → List Operation
 operations_of order = map (λ c. c.operation) order
 
--- the memory that an order's operations leave, one after the other (Herlihy and Wing, TOPLAS 12(3), 1990: a
--- sequential history)
+-- the memory that an order's operations leave, one after the other (Herlihy and Wing, TOPLAS 12(3),
+-- 1990: a sequential history)
 abbrev pub memory_of : List ℕ → List Call → List ℕ
 memory_of opening order = memory_after (operations_of order) opening
 
@@ -20,9 +20,10 @@ memory_of opening order = memory_after (operations_of order) opening
 abbrev pub IsOn : List Call → ℕ → Type 0
 IsOn order id = (x : ℕ) × (c : Call) × (slice_get order x ≡ Some c) × (c.id ≡ id)
 
--- An order explains a trace (Herlihy and Wing: a linearization): each operation stands in it at most once, and is
--- issued in the trace; every answered operation is in it; one that is answered before another is issued stands
--- before it; and each answer tells the reply of the one sequential memory at its operation's place.
+-- An order explains a trace (Herlihy and Wing: a linearization): each operation stands in it at
+-- most once, and is issued in the trace; every answered operation is in it; one that is answered
+-- before another is issued stands before it; and each answer tells the reply of the one sequential
+-- memory at its operation's place.
 pub record IsOrder (opening : List ℕ) (trace : List Event) (order : List Call) : Type 0 where
   pub once : (x y : ℕ) (c d : Call) → slice_get order x ≡ Some c → slice_get order y ≡ Some d
       → c.id ≡ d.id → x ≡ y

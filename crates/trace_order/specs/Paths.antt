@@ -1,4 +1,5 @@
--- A trace as the path of a transition system: events happen, and between them open operations take effect.
+-- A trace as the path of a transition system: events happen, and between them open operations take
+-- effect.
 use Rattle.std.specs.Prelude.{◌≡◌, ◌⊎◌, ◌<◌, ℕ, suc, List, [], ◌∷◌, ◌++◌, Some, length, take, slice_get}
 use Rattle.packet.specs.declared.kinds.Reply.{Reply}
 use Rattle.packet.specs.Memory.{reply_of_one}
@@ -7,8 +8,8 @@ use Rattle.trace_order.specs.declared.event.Event.{Event}
 use Rattle.trace_order.specs.Traces.{IsIssuedAt, IsAnsweredAt, IsUnanswered}
 use Rattle.trace_order.specs.Orders.{IsOn, memory_of}
 
--- a move: the next event of the trace happens, or an operation takes effect (Herlihy and Wing, TOPLAS 12(3), 1990:
--- instantaneously, between its invocation and its response)
+-- a move: the next event of the trace happens, or an operation takes effect (Herlihy and Wing,
+-- TOPLAS 12(3), 1990: instantaneously, between its invocation and its response)
 pub data Move : Type 0 where
   Happens : Move
   Takes : (call : Call) → Move
@@ -24,15 +25,16 @@ MayHappen opening trace k order = ((call : Call) × IsIssuedAt trace k call)
     ⊎ ((id : ℕ) × (reply : Reply) × IsAnsweredAt trace k id reply × Replied opening order id reply)
 
 -- an operation may take effect once, between its issue and its answer (Herlihy and Wing)
-pub record MayTakeEffect (trace : List Event) (k : ℕ) (order : List Call) (call : Call) : Type 0 where
-  pub at : ℕ
-  pub early : at < k
-  pub issue : IsIssuedAt trace at call
-  pub unanswered : IsUnanswered trace k call.id
-  pub new : IsOn order call.id → ⊥
+pub record MayTakeEffect (trace : List Event) (k : ℕ) (order : List Call) (call : Call) : Type 0
+  where
+    pub at : ℕ
+    pub early : at < k
+    pub issue : IsIssuedAt trace at call
+    pub unanswered : IsUnanswered trace k call.id
+    pub new : IsOn order call.id → ⊥
 
--- from before event k, with these operations having taken effect in this order, moves lead to the end of the trace
--- with the last order
+-- from before event k, with these operations having taken effect in this order, moves lead to the
+-- end of the trace with the last order
 abbrev pub IsPath : List ℕ → List Event → List Move → ℕ → List Call → List Call → Type 0
 IsPath opening trace [] k order last = (k ≡ length trace) × (order ≡ last)
 IsPath opening trace (Happens ∷ moves) k order last =

@@ -21,10 +21,12 @@ WasIssued trace j id = (i : ℕ) × (call : Call) × (i < j) × (call.id ≡ id)
 abbrev pub IsUnanswered : List Event → ℕ → ℕ → Type 0
 IsUnanswered trace k id = (i : ℕ) (reply : Reply) → IsAnsweredAt trace i id reply → k ≤ i
 
--- A trace is well-formed (Herlihy and Wing: a well-formed history): operations are numbered upwards, what is
--- answered was issued before, nothing is answered twice, and all are on words of the memory.
+-- A trace is well-formed (Herlihy and Wing: a well-formed history): operations are numbered
+-- upwards, what is answered was issued before, nothing is answered twice, and all are on words of
+-- the memory.
 pub record IsTrace (words : ℕ) (trace : List Event) : Type 0 where
   pub rising : (i j : ℕ) (a b : Call) → i < j → IsIssuedAt trace i a → IsIssuedAt trace j b → a.id < b.id
   pub issued : (j id : ℕ) (reply : Reply) → IsAnsweredAt trace j id reply → WasIssued trace j id
-  pub once : (i j id : ℕ) (r s : Reply) → IsAnsweredAt trace i id r → IsAnsweredAt trace j id s → i ≡ j
+  pub once : (i j id : ℕ) (r s : Reply) → IsAnsweredAt trace i id r → IsAnsweredAt trace j id s
+      → i ≡ j
   pub inside : (i : ℕ) (call : Call) → IsIssuedAt trace i call → call.operation.address < words

@@ -27,5 +27,6 @@ pub fn orders_are_paths()
 /// it does on each word is.
 pub fn linearizability_is_local()
     ensures { (opening : List ℕ) (trace : List Event) → IsTrace (length opening) trace
-        → IsLinearizable opening trace ↔ ((w : ℕ) → w < length opening → IsLinearizableOn w opening trace) }
+        → IsLinearizable opening trace
+        ↔ ((w : ℕ) → w < length opening → IsLinearizableOn w opening trace) }
 {}

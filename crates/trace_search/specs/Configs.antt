@@ -1,4 +1,5 @@
--- Configurations of one word: which of the open operations on it have taken effect, and what they left.
+-- Configurations of one word: which of the open operations on it have taken effect, and what they
+-- left.
 use Rattle.std.specs.Prelude.{◌≡◌, ◌*◌, ◌%◌, ◌^◌, ◌-◌, ℕ, List, Option, Some, bit_and, bit_or, slice_get, IfSome}
 use Rattle.std.specs.Int.{bit_at}
 use Rattle.packet.specs.Memory.{new_word, reply_to}
@@ -30,12 +31,13 @@ IsTaken c s = bit_at c.taken s ≡ 1
 abbrev pub Agrees : Open → ℕ → Type 0
 Agrees o word = IfSome o.promise (λ reply. reply_to o.call.operation.op word ≡ reply)
 
--- the operation in slot s may take effect (Lowe, Testing for linearizability, Concurrency and Computation 29(4), 2017:
--- just-in-time linearization)
-pub record MayTake (table : List (Option Open)) (word : ℕ) (c : Config) (s : ℕ) (o : Open) : Type 0 where
-  pub pending : IsOpen table word s o
-  pub left : IsLeft c s
-  pub agrees : Agrees o c.word
+-- the operation in slot s may take effect (Lowe, Testing for linearizability, Concurrency and
+-- Computation 29(4), 2017: just-in-time linearization)
+pub record MayTake (table : List (Option Open)) (word : ℕ) (c : Config) (s : ℕ) (o : Open) : Type 0
+  where
+    pub pending : IsOpen table word s o
+    pub left : IsLeft c s
+    pub agrees : Agrees o c.word
 
 -- it takes effect
 abbrev pub effect : Config → ℕ → Open → Config
@@ -51,4 +53,5 @@ IsIn xs x = (k : ℕ) × (slice_get xs k ≡ Some x)
 
 -- every operation that may take effect in c has, with the result among these
 abbrev pub IsExpanded : List (Option Open) → ℕ → List Config → Config → Type 0
-IsExpanded table word configs c = (s : ℕ) (o : Open) → MayTake table word c s o → IsIn configs (effect c s o)
+IsExpanded table word configs c =
+    (s : ℕ) (o : Open) → MayTake table word c s o → IsIn configs (effect c s o)

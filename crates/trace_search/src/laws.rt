@@ -1,6 +1,7 @@
 //! Laws of searches for the order of a trace, each the contract of a function that does nothing.
 
-ghost use Rattle.std.specs.Prelude.{◌≡◌, ◌<◌, ◌≤◌, ◌∷◌, ℕ, Bool, List, None, Option, [], length, replicate, slice_index};
+ghost use Rattle.std.specs.Prelude.{◌≡◌, ◌<◌, ◌≤◌, ◌∷◌, ℕ, Bool, List, None, Option, [], length, replicate};
+ghost use Rattle.std.specs.Prelude.{slice_index};
 ghost use Rattle.trace_order.specs.declared.event.Event.{Event};
 ghost use Rattle.trace_order.specs.Orders.{IsLinearizable, IsOrder};
 ghost use Rattle.trace_search.specs.declared.opened.Branch.{Branch};
@@ -19,15 +20,18 @@ pub fn searches_begin()
 /// At the end, whatever branches are picked, one for each word: the operations on the ways to them,
 /// in the order in which their nodes were made, explain the trace.
 pub fn branches_give_an_order()
-    ensures { (opening : List ℕ) (trace : List Event) (k : ℕ) (table : List (Option Open)) (sets : ℕ → List Branch) (nodes : List Node)
+    ensures { (opening : List ℕ) (trace : List Event) (k : ℕ) (table : List (Option Open))
+        (sets : ℕ → List Branch) (nodes : List Node)
         → IsSearched opening trace k table sets nodes → length trace ≤ k
         → (pick : ℕ → Branch) (trails : ℕ → List ℕ) (marks : List Bool)
-        → Picks (length opening) sets nodes pick trails marks → IsOrder opening trace (order_of nodes marks) }
+        → Picks (length opening) sets nodes pick trails marks
+        → IsOrder opening trace (order_of nodes marks) }
 {}
 
 /// Where a word has no branch, at any event, no order explains the trace.
 pub fn words_without_branches_have_no_order()
-    ensures { (opening : List ℕ) (trace : List Event) (k : ℕ) (table : List (Option Open)) (sets : ℕ → List Branch) (nodes : List Node)
+    ensures { (opening : List ℕ) (trace : List Event) (k : ℕ) (table : List (Option Open))
+        (sets : ℕ → List Branch) (nodes : List Node)
         → IsSearched opening trace k table sets nodes → (w : ℕ) → w < length opening
         → ((b : Branch) → IsIn (sets w) b → ⊥) → IsLinearizable opening trace → ⊥ }
 {}

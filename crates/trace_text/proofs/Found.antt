@@ -1,5 +1,6 @@
 -- What is found of a trace with places for addresses is so of the trace as it is written.
-use Rattle.std.proofs.Common.{◌≡◌, ⊎_elim, ℕ, zero, suc, ◌+◌, ◌<◌, ◌≤◌, List, [], ◌∷◌, length, Some, None, sym, ◌∙◌, ap, subst, arith, slice_get, take, get_or, map}
+use Rattle.std.proofs.Common.{◌≡◌, ⊎_elim, ℕ, zero, suc, ◌+◌, ◌<◌, ◌≤◌, List, [], ◌∷◌, length, Some, None, sym, ◌∙◌, ap, subst, arith, slice_get, take}
+use Rattle.std.proofs.Common.{get_or, map}
 use Rattle.std.specs.Prelude.{unwrap_or}
 use Rattle.std.proofs.lemmas.Bool.{cases_lt}
 use Rattle.std.proofs.lemmas.List.{length-map}
@@ -218,7 +219,8 @@ pub no_given : (r : Reading) → IsKept r → (ws : List ℕ) (es : List Event) 
     × IsLinearizable (opening_of (trace_read r)) (take n r.events)
     × (IsLinearizable (opening_of (trace_read r)) (take (n + 1) r.events) → ⊥)
 no_given r k ws es w e event line tells l =
-    let moved_tells : (event < length (moved r)) × IsLinearizable (others r) (take event (moved r)) × (IsLinearizable (others r) (take (event + 1) (moved r)) → ⊥) =
+    let moved_tells : (event < length (moved r)) × IsLinearizable (others r) (take event (moved r))
+    × (IsLinearizable (others r) (take (event + 1) (moved r)) → ⊥) =
     subst (λ (v : List ℕ). (event < length (moved r)) × IsLinearizable v (take event (moved r)) × (IsLinearizable v (take (event + 1) (moved r)) → ⊥)) w
     (subst (λ (f : List Event). (event < length f) × IsLinearizable ws (take event f) × (IsLinearizable ws (take (event + 1) f) → ⊥)) e tells) in
     let found = found_no r k event moved_tells.0 moved_tells.1 moved_tells.2 in

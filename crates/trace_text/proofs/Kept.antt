@@ -1,5 +1,6 @@
 -- What each line of a trace text keeps true.
-use Rattle.std.proofs.Common.{◌≡◌, ◌≢◌, ◌⊎◌, ⊎_elim, ℕ, ◌<◌, ◌≤◌, ◌^◌, ◌==◌, ◌&&◌, ◌+◌, true, false, List, [], ◌∷◌, ◌++◌, length, Some, None, refl, sym, ◌∙◌, ap, subst, arith, slice_get}
+use Rattle.std.proofs.Common.{◌≡◌, ◌≢◌, ◌⊎◌, ⊎_elim, ℕ, ◌<◌, ◌≤◌, ◌^◌, ◌==◌, ◌&&◌, ◌+◌, true, false, List, [], ◌∷◌, ◌++◌, length, Some, None, refl, sym, ◌∙◌}
+use Rattle.std.proofs.Common.{ap, subst, arith, slice_get}
 use Rattle.std.specs.Prelude.{Bool, Option, slice_set, nat_lt, nat_le, not, is_some, Ok, Err, if◌then◌else◌}
 use Rattle.std.proofs.lemmas.Bool.{cases_eq}
 use Rattle.std.proofs.lemmas.Bool.Decides.{nat_tests}
@@ -12,12 +13,13 @@ use Rattle.trace_order.specs.declared.event.Event.{Event}
 use Rattle.trace_order.specs.declared.event.Event.TheVariants.{Issue, Answer}
 use Rattle.trace_order.specs.Traces.{IsTrace, IsAnsweredAt, WasIssued}
 use Rattle.trace_order.proofs.Lists.{get_push_cases, get_append_left, get_push, get_within, set_get_same, get_set_other}
+use Rattle.lexer.specs.Words.{begins_comment}
 use Rattle.script.specs.Form.{below, checked_word}
 use Rattle.trace_text.specs.declared.issued.Issued.{Issued}
 use Rattle.trace_text.specs.declared.form.Form.{Form}
 use Rattle.trace_text.specs.Form.{a_number, form_of, operation_of, told_of, reply_of}
-use Rattle.trace_text.specs.Traced.{Reading, nothing_read, value_at, with_value, numbers_of, noted, with_issue, placed, after_issue_line, goes_with, after_answer_line, after_init_line, after_words_line, after_title, after_keyword, after_words}
-use Rattle.script.specs.Words.{begins_comment}
+use Rattle.trace_text.specs.Traced.{Reading, nothing_read, value_at, with_value, numbers_of, noted, with_issue, placed, after_issue_line, goes_with}
+use Rattle.trace_text.specs.Traced.{after_answer_line, after_init_line, after_words_line, after_title, after_keyword, after_words}
 use Rattle.packet.specs.Kinds.{code_of}
 use Rattle.packet.specs.Reading.{op_with}
 use Rattle.std.specs.Str.{bytes_eq}
@@ -148,7 +150,8 @@ new_place r k a low = record {
   issued = k.issued;
   replied = k.replied;
   placed = λ i c h. let q = k.placed i c h in ⊎_elim
-      (λ (e : c.operation.address ≡ a). (length r.addresses, ap (value_at (with_value r.places a (length r.addresses))) e ∙ value_new r.places a (length r.addresses)))
+      (λ (e : c.operation.address ≡ a).
+      (length r.addresses, ap (value_at (with_value r.places a (length r.addresses))) e ∙ value_new r.places a (length r.addresses)))
       (λ (ne : c.operation.address ≢ a). (q.0, value_old r.places a (length r.addresses) c.operation.address ne ∙ q.1))
       (cases_eq c.operation.address a);
   addressed = λ b p h. ⊎_elim {C = slice_get (r.addresses ++ a ∷ []) p ≡ Some b}

@@ -4,7 +4,6 @@ pub mod Found
 pub mod Kept
 pub mod Mapped
 pub mod NumberLists
-pub mod Numbers
 pub mod Outcomes
 pub mod Renumbered
 pub mod SevenWords

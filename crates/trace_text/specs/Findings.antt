@@ -25,7 +25,13 @@ words_of inits addresses = map (λ a. unwrap_or (value_at inits a) 0) addresses
 
 -- the trace that was read
 abbrev pub trace_read : Reading → TraceSpec
-trace_read r = record { words = r.words; inits = r.inits; issued = r.issued; events = r.events; lines = r.lines }
+trace_read r = record {
+  words = r.words;
+  inits = r.inits;
+  issued = r.issued;
+  events = r.events;
+  lines = r.lines;
+}
 
 -- why a trace is not judged, with the line of the event
 abbrev pub unfound_at : List ℕ → Undecided → Unfound
@@ -33,15 +39,19 @@ unfound_at lines undecided.Memory = Memory
 unfound_at lines (undecided.Configurations event) = Configurations (slice_index_or lines event 0)
 unfound_at lines (undecided.Operations event) = Operations (slice_index_or lines event 0)
 
--- an order that explains the trace as it is written; or the line of the first event up to which none does
+-- an order that explains the trace as it is written; or the line of the first event up to which
+-- none does
 abbrev pub Tells : {A : Type 0} → TraceSpec → Finding A → Type 0
 Tells t (Linearizable order) = IsOrder (opening_of t) t.events order.items
 Tells t (No line) = (event : ℕ) × (slice_get t.lines event ≡ Some line)
     × IsLinearizable (opening_of t) (take event t.events)
     × (IsLinearizable (opening_of t) (take (event + 1) t.events) → ⊥)
 
--- the line of an answer at which a word has too many configurations, or of an issue beside 64 open operations
+-- the line of an answer at which a word has too many configurations, or of an issue beside 64 open
+-- operations
 abbrev pub IsUnfound : TraceSpec → Unfound → Type 0
 IsUnfound t Memory = Unit {0}
-IsUnfound t (Configurations line) = (event : ℕ) × (slice_get t.lines event ≡ Some line) × IsAnAnswer t.events event
-IsUnfound t (Operations line) = (event : ℕ) × (slice_get t.lines event ≡ Some line) × IsCrowded t.events event
+IsUnfound t (Configurations line) =
+    (event : ℕ) × (slice_get t.lines event ≡ Some line) × IsAnAnswer t.events event
+IsUnfound t (Operations line) =
+    (event : ℕ) × (slice_get t.lines event ≡ Some line) × IsCrowded t.events event

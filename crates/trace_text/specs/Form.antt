@@ -1,4 +1,5 @@
--- What stands after the processor of an issue and after the index of an answer (this project's own format).
+-- What stands after the processor of an issue and after the index of an answer (this project's own
+-- format).
 use Rattle.std.specs.Prelude.{ℕ, List, [], ◌∷◌, Option, Some, None, ok_or, Result, Ok, Err, if◌then◌else◌, codes}
 use Rattle.std.specs.Str.{bytes_eq}
 use Rattle.torus.specs.declared.fault.Fault.{Fault}
@@ -9,8 +10,8 @@ use Rattle.packet.specs.declared.kinds.Operation.{Operation}
 use Rattle.packet.specs.declared.kinds.Reply.{Reply}
 use Rattle.packet.specs.declared.kinds.Reply.TheVariants.{Old, Ok as Stored}
 use Rattle.packet.specs.Reading.{op_with}
+use Rattle.lexer.specs.Numbers.{value_of}
 use Rattle.script.specs.Outcome.{◌>>=◌}
-use Rattle.script.specs.Words.{value_of}
 use Rattle.script.specs.Form.{below, checked_word}
 use Rattle.trace_text.specs.declared.form.Form.{Form}
 
@@ -39,7 +40,8 @@ two_words keyword a =
     else Err fault.Line
 
 abbrev pub three_words : List ℕ → List ℕ → List ℕ → Result Form Fault
-three_words keyword a v = ok_or (changed_by keyword) fault.Line >>= λ code. a_number a >>= λ a. a_number v >>= λ v.
+three_words keyword a v =
+    ok_or (changed_by keyword) fault.Line >>= λ code. a_number a >>= λ a. a_number v >>= λ v.
     Ok (record { code = code; address = a; first = v; second = 0 })
 
 abbrev pub four_words : List ℕ → List ℕ → List ℕ → List ℕ → Result Form Fault
@@ -49,7 +51,8 @@ four_words keyword a x y =
     Ok (record { code = Cas; address = a; first = x; second = y }))
     else Err fault.Line
 
--- the form of an operation: a known keyword, the right count of words, and numbers where they belong
+-- the form of an operation: a known keyword, the right count of words, and numbers where they
+-- belong
 abbrev pub form_of : List (List ℕ) → Result Form Fault
 form_of [] = Err fault.Line
 form_of (keyword ∷ []) = Err fault.Line
@@ -58,7 +61,8 @@ form_of (keyword ∷ a ∷ v ∷ []) = three_words keyword a v
 form_of (keyword ∷ a ∷ x ∷ y ∷ []) = four_words keyword a x y
 form_of (keyword ∷ a ∷ x ∷ y ∷ z ∷ more) = Err fault.Line
 
--- the operation of a form: the address is below the number of words, and each value is a word, from left to right
+-- the operation of a form: the address is below the number of words, and each value is a word, from
+-- left to right
 abbrev pub operation_of : ℕ → Form → Result Operation Fault
 operation_of words form = below form.address words >>= λ _.
     checked_word form.first >>= λ first. checked_word form.second >>= λ second.

@@ -8,13 +8,15 @@ use Rattle.trace_text.specs.Traced.{Reading, value_at}
 
 -- the operation of this number is known as it was issued
 abbrev pub IsKnownAs : List Issued → Call → Type 0
-IsKnownAs issued call = (k : Issued) × (slice_get issued call.id ≡ Some k) × (k.operation ≡ call.operation)
+IsKnownAs issued call = (k : Issued) × (slice_get issued call.id ≡ Some k)
+    × (k.operation ≡ call.operation)
 
 -- the operation of this number is known with its reply
 abbrev pub IsRepliedTo : List Issued → ℕ → Reply → Type 0
 IsRepliedTo issued id reply = (k : Issued) × (slice_get issued id ≡ Some k) × (k.reply ≡ Some reply)
 
--- events make a trace, each has its line, what is issued is known with its reply, and has a place of its own
+-- events make a trace, each has its line, what is issued is known with its reply, and has a place
+-- of its own
 pub record IsKept (r : Reading) : Type 0 where
   pub words : r.words ≤ 2 ^ 32
   pub processors : length r.numbers ≡ 4096
@@ -22,7 +24,8 @@ pub record IsKept (r : Reading) : Type 0 where
   pub lines : length r.lines ≡ length r.events
   pub known : (i : ℕ) (call : Call) → IsIssuedAt r.events i call → IsKnownAs r.issued call
   pub issued : (n : ℕ) → n < length r.issued → WasIssued r.events (length r.events) n
-  pub replied : (i id : ℕ) (reply : Reply) → IsAnsweredAt r.events i id reply → IsRepliedTo r.issued id reply
+  pub replied : (i id : ℕ) (reply : Reply) → IsAnsweredAt r.events i id reply
+      → IsRepliedTo r.issued id reply
   pub placed : (i : ℕ) (call : Call) → IsIssuedAt r.events i call
       → (p : ℕ) × (value_at r.places call.operation.address ≡ Some p)
   pub addressed : (a p : ℕ) → value_at r.places a ≡ Some p → slice_get r.addresses p ≡ Some a

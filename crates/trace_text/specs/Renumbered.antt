@@ -7,17 +7,23 @@ use Rattle.trace_order.specs.Traces.{IsIssuedAt}
 
 -- an operation on the word of another number
 abbrev pub moved_call : (ℕ → ℕ) → Call → Call
-moved_call place c = record { id = c.id; operation = record { address = place c.operation.address; op = c.operation.op } }
+moved_call place c = record {
+  id = c.id;
+  operation = record { address = place c.operation.address; op = c.operation.op };
+}
 
 -- an event of which the operation is on the word of another number
 abbrev pub moved_event : (ℕ → ℕ) → Event → Event
 moved_event place (Issue c) = Issue (moved_call place c)
 moved_event place (Answer id reply) = Answer id reply
 
--- the addresses of a trace's operations have places of their own in another memory, where the same words stand
-pub record IsRenumbering (place back : ℕ → ℕ) (opening others : List ℕ) (trace : List Event) : Type 0 where
+-- the addresses of a trace's operations have places of their own in another memory, where the same
+-- words stand
+pub record IsRenumbering (place back : ℕ → ℕ) (opening others : List ℕ) (trace : List Event) : Type
+    0 where
   pub inside : (i : ℕ) (c : Call) → IsIssuedAt trace i c → c.operation.address < length opening
   pub placed : (i : ℕ) (c : Call) → IsIssuedAt trace i c → place c.operation.address < length others
   pub word : (i : ℕ) (c : Call) → IsIssuedAt trace i c
       → slice_index others (place c.operation.address) ≡ slice_index opening c.operation.address
-  pub inverse : (i : ℕ) (c : Call) → IsIssuedAt trace i c → back (place c.operation.address) ≡ c.operation.address
+  pub inverse : (i : ℕ) (c : Call) → IsIssuedAt trace i c
+      → back (place c.operation.address) ≡ c.operation.address

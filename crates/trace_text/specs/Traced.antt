@@ -1,6 +1,9 @@
--- The trace text: what each line makes of what the lines before it made, and what the whole text is (this project's own format).
-use Rattle.std.specs.Prelude.{ℕ, ◌+◌, ◌^◌, ◌&&◌, ◌==◌, Bool, true, false, not, nat_le, nat_lt, List, [], ◌∷◌, ◌++◌, length, map}
-use Rattle.std.specs.Prelude.{replicate, slice_get, slice_set, Option, Some, None, is_some, ok_or, unwrap_or, Result, Ok, Err}
+-- The trace text: what each line makes of what the lines before it made, and what the whole text is
+-- (this project's own format).
+use Rattle.std.specs.Prelude.{ℕ, ◌+◌, ◌^◌, ◌&&◌, ◌==◌, Bool, true, false, not, nat_le, nat_lt, List, [], ◌∷◌, ◌++◌}
+use Rattle.std.specs.Prelude.{length, map}
+use Rattle.std.specs.Prelude.{replicate, slice_get, slice_set, Option, Some, None, is_some, ok_or, unwrap_or, Result}
+use Rattle.std.specs.Prelude.{Ok, Err}
 use Rattle.std.specs.Prelude.{if◌then◌else◌, codes}
 use Rattle.std.specs.List.{slice_index_or, range_with_len}
 use Rattle.std.specs.Str.{bytes_eq}
@@ -14,9 +17,9 @@ use Rattle.packet.specs.declared.kinds.Operation.{Operation}
 use Rattle.packet.specs.Kinds.{code_of, is_store}
 use Rattle.trace_order.specs.declared.event.Event.{Event}
 use Rattle.trace_order.specs.declared.event.Event.TheVariants.{Issue, Answer}
+use Rattle.lexer.specs.Words.{words_of, begins_comment}
 use Rattle.script.specs.declared.fault.LineFault.{LineFault}
 use Rattle.script.specs.Outcome.{◌>>=◌, then_lines}
-use Rattle.script.specs.Words.{words_of, begins_comment}
 use Rattle.trace_text.specs.declared.form.Form.{Form}
 use Rattle.trace_text.specs.declared.issued.Issued.{Issued}
 use Rattle.trace_text.specs.Form.{a_number, form_of, operation_of, told_of, reply_of}
@@ -29,8 +32,9 @@ value_at entries address = lookup (is_at (nat_cmp address)) entries
 abbrev pub with_value : {X : Type 0} → List (ℕ × X) → ℕ → X → List (ℕ × X)
 with_value entries address x = insert_entry nat_cmp entries address x
 
--- a trace as its text gives it: the words of the memory, those that `init` lines named with their opening values, the
--- operations in the order of issue, the events (an issue has the number of issues before it), and the line of each event
+-- a trace as its text gives it: the words of the memory, those that `init` lines named with their
+-- opening values, the operations in the order of issue, the events (an issue has the number of
+-- issues before it), and the line of each event
 pub record TraceSpec : Type 0 where
   pub words : ℕ
   pub inits : List (ℕ × ℕ)
@@ -42,8 +46,9 @@ pub record TraceSpec : Type 0 where
 abbrev pub opening_of : TraceSpec → List ℕ
 opening_of t = map (λ a. unwrap_or (value_at t.inits a) 0) (range_with_len 0 t.words)
 
--- what the lines so far gave: beside the trace whether its first line came, the addresses of its operations, each with the
--- number of those that came before it, and for each processor the numbers of its issues
+-- what the lines so far gave: beside the trace whether its first line came, the addresses of its
+-- operations, each with the number of those that came before it, and for each processor the numbers
+-- of its issues
 pub record Reading : Type 0 where
   pub begun : Bool
   pub words : ℕ
@@ -72,7 +77,8 @@ nothing_read = record {
 -- the first line is `trace 1`
 abbrev pub after_title : Reading → List ℕ → List (List ℕ) → Result Reading Fault
 after_title r keyword (version ∷ []) =
-    if bytes_eq keyword (codes "trace") && bytes_eq version (codes "1") then Ok (record r { begun = true }) else Err fault.Line
+    if bytes_eq keyword (codes "trace") && bytes_eq version (codes "1")
+    then Ok (record r { begun = true }) else Err fault.Line
 after_title r keyword [] = Err fault.Line
 after_title r keyword (version ∷ other ∷ more) = Err fault.Line
 
@@ -80,15 +86,16 @@ after_title r keyword (version ∷ other ∷ more) = Err fault.Line
 abbrev pub after_count : Reading → ℕ → Result Reading Fault
 after_count r words =
     if not (r.words == 0) then Err fault.Setting
-    else (if nat_le 1 words && nat_le words (2 ^ 32) then Ok (record r { words = words }) else Err fault.Range)
+    else (if nat_le 1 words && nat_le words (2 ^ 32) then Ok (record r { words = words })
+    else Err fault.Range)
 
 abbrev pub after_words_line : Reading → List (List ℕ) → Result Reading Fault
 after_words_line r (count ∷ []) = a_number count >>= after_count r
 after_words_line r [] = Err fault.Line
 after_words_line r (count ∷ other ∷ more) = Err fault.Line
 
--- an opening word: the number of words is given and nothing is issued yet, the address is below it, the value is a word, and
--- no line before named the address
+-- an opening word: the number of words is given and nothing is issued yet, the address is below it,
+-- the value is a word, and no line before named the address
 abbrev pub after_init : Reading → ℕ → ℕ → Result Reading Fault
 after_init r address value =
     if not (not (r.words == 0) && (length r.issued == 0)) then Err fault.Setting
@@ -98,7 +105,8 @@ after_init r address value =
     else Ok (record r { inits = with_value r.inits address value }))))
 
 abbrev pub after_init_line : Reading → List (List ℕ) → Result Reading Fault
-after_init_line r (address ∷ value ∷ []) = a_number address >>= λ a. a_number value >>= λ v. after_init r a v
+after_init_line r (address ∷ value ∷ []) =
+    a_number address >>= λ a. a_number value >>= λ v. after_init r a v
 after_init_line r [] = Err fault.Line
 after_init_line r (address ∷ []) = Err fault.Line
 after_init_line r (address ∷ value ∷ other ∷ more) = Err fault.Line
@@ -108,7 +116,10 @@ abbrev pub placed : Reading → ℕ → Result Reading Fault
 placed r address =
     if is_some (value_at r.places address) then Ok r
     else (if not (nat_lt (length r.addresses) (2 ^ 20)) then Err fault.Length
-    else Ok (record r { places = with_value r.places address (length r.addresses); addresses = r.addresses ++ address ∷ [] }))
+    else Ok (record r {
+      places = with_value r.places address (length r.addresses);
+      addresses = r.addresses ++ address ∷ [];
+    }))
 
 -- the numbers of the issues of a processor
 abbrev pub numbers_of : Reading → ℕ → List ℕ
@@ -122,7 +133,12 @@ noted r line event = record r { events = r.events ++ event ∷ []; lines = r.lin
 abbrev pub with_issue : Reading → ℕ → ℕ → Operation → Reading
 with_issue r line p o = noted (record r {
   numbers = slice_set r.numbers p (numbers_of r p ++ length r.issued ∷ []);
-  issued = r.issued ++ record { processor = p; index = length (numbers_of r p); operation = o; reply = None } ∷ [];
+  issued = r.issued ++ record {
+    processor = p;
+    index = length (numbers_of r p);
+    operation = o;
+    reply = None;
+  } ∷ [];
 }) line (Issue (record { id = length r.issued; operation = o }))
 
 -- no more than 2^22 operations are issued, on no more than 2^20 addresses
@@ -131,7 +147,8 @@ add_issue r line p o =
     if not (nat_lt (length r.issued) (2 ^ 22)) then Err fault.Length
     else (placed r o.address >>= λ next. Ok (with_issue next line p o))
 
--- an issue: the number of words is given, the processor is below 4096, and the address and the values are in their ranges
+-- an issue: the number of words is given, the processor is below 4096, and the address and the
+-- values are in their ranges
 abbrev pub after_issue : Reading → ℕ → ℕ → Form → Result Reading Fault
 after_issue r line p form =
     if r.words == 0 then Err fault.Setting
@@ -139,13 +156,15 @@ after_issue r line p form =
     else (operation_of r.words form >>= add_issue r line p))
 
 abbrev pub after_issue_line : Reading → ℕ → List (List ℕ) → Result Reading Fault
-after_issue_line r line (processor ∷ rest) = a_number processor >>= λ p. form_of rest >>= after_issue r line p
+after_issue_line r line (processor ∷ rest) =
+    a_number processor >>= λ p. form_of rest >>= after_issue r line p
 after_issue_line r line [] = Err fault.Line
 
 -- one answer more, at a line, to the operation of a number
 abbrev pub with_answer : Reading → ℕ → ℕ → Issued → Option ℕ → Result Reading Fault
 with_answer r line n i told = reply_of told >>= λ reply.
-    Ok (noted (record r { issued = slice_set r.issued n (record i { reply = Some reply }) }) line (Answer n reply))
+    Ok (noted (record r { issued = slice_set r.issued n (record i { reply = Some reply }) }) line
+    (Answer n reply))
 
 -- `ok` goes with a store, and a number with every other operation
 abbrev pub goes_with : Code → Option ℕ → Bool
@@ -159,7 +178,8 @@ add_answer r line n i told =
     else (if is_some i.reply then Err fault.Setting
     else with_answer r line n i told)
 
--- an answer: the number of words is given, the processor is below 4096, and it has issued an operation of this index
+-- an answer: the number of words is given, the processor is below 4096, and it has issued an
+-- operation of this index
 abbrev pub after_answer : Reading → ℕ → ℕ → ℕ → Option ℕ → Result Reading Fault
 after_answer r line p index told =
     if r.words == 0 then Err fault.Setting
@@ -188,21 +208,29 @@ after_keyword r line keyword values =
 -- what the words of a line make of it; a line without words and a comment are skipped
 abbrev pub after_words : Reading → ℕ → List (List ℕ) → Result Reading Fault
 after_words r line [] = Ok r
-after_words r line (keyword ∷ values) = if begins_comment keyword then Ok r else after_keyword r line keyword values
+after_words r line (keyword ∷ values) =
+    if begins_comment keyword then Ok r else after_keyword r line keyword values
 
 -- the trace of a text that ends here: its first line came, and the number of words
 abbrev pub trace_with : Reading → Result TraceSpec Fault
 trace_with r =
     if not r.begun then Err fault.Line
     else (if r.words == 0 then Err fault.Setting
-    else Ok (record { words = r.words; inits = r.inits; issued = r.issued; events = r.events; lines = r.lines }))
+    else Ok (record {
+      words = r.words;
+      inits = r.inits;
+      issued = r.issued;
+      events = r.events;
+      lines = r.lines;
+    }))
 
--- the trace of these lines, of which the first has this number, after what was read; or the fault of the first bad line.
--- What is missing shows at the line after the last
+-- the trace of these lines, of which the first has this number, after what was read; or the fault
+-- of the first bad line. What is missing shows at the line after the last
 abbrev pub trace_from : Reading → ℕ → List (List ℕ) → Result TraceSpec LineFault
 trace_from r number [] = then_lines number (trace_with r) Ok
 trace_from r number (line ∷ lines) =
-    then_lines number (after_words r number (words_of line)) (λ next. trace_from next (number + 1) lines)
+    then_lines number (after_words r number (words_of line))
+    (λ next. trace_from next (number + 1) lines)
 
 -- the trace of a text, given as the list of its lines
 abbrev pub trace_of : List (List ℕ) → Result TraceSpec LineFault

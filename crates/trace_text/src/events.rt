@@ -1,9 +1,11 @@
 //! Issues and answers as a trace text gives them.
 
-ghost use Rattle.std.specs.Prelude.{◌≡◌, ◌≤◌, ◌<◌, ◌^◌, ◌++◌, ◌∷◌, [], Some, map, OnOk, IfErr, vec_len, slice_get, slice_set};
+ghost use Rattle.std.specs.Prelude.{◌≡◌, ◌≤◌, ◌<◌, ◌^◌, ◌++◌, ◌∷◌, [], Some, map, OnOk, IfErr, vec_len, slice_get};
+ghost use Rattle.std.specs.Prelude.{slice_set};
 ghost use Rattle.std.specs.List.{slice_index_or};
 ghost use Rattle.script.specs.Outcome.{Makes};
-ghost use Rattle.trace_text.specs.Traced.{after_issue_line, after_issue, add_issue, after_answer_line, after_answer, add_answer, goes_with, placed, noted};
+ghost use Rattle.trace_text.specs.Traced.{after_issue_line, after_issue, add_issue, after_answer_line, after_answer};
+ghost use Rattle.trace_text.specs.Traced.{add_answer, goes_with, placed, noted};
 ghost use Rattle.trace_text.specs.Views.{reading_of, lists_of};
 
 use crate::form::{Form, form_of, reply_of, told_of};
@@ -22,7 +24,8 @@ fn push_number<A: Allocator>(
     number: u32,
 ) -> Result<(), Fault>
     requires { p < vec_len numbers.old }
-    ensures value { OnOk result (lists_of numbers.new.items ≡ slice_set (lists_of numbers.old.items) p
+    ensures value { OnOk result
+        (lists_of numbers.new.items ≡ slice_set (lists_of numbers.old.items) p
         (slice_index_or (lists_of numbers.old.items) p [] ++ number ∷ [])) }
     ensures memory { IfErr result (λ e. e ≡ Fault.Memory) }
 {
@@ -82,7 +85,8 @@ impl<A: Allocator + Copy> Reading<A> {
     fn issue(&mut self, line: u64, p: u128, form: Form) -> Result<(), Fault>
         requires words { self.old.words ≤ 2 ^ 32 }
         requires processors { vec_len self.old.numbers ≡ 4096 }
-        ensures { Makes (reading_of self.new) result (after_issue (reading_of self.old) line p form) }
+        ensures { Makes (reading_of self.new) result
+            (after_issue (reading_of self.old) line p form) }
     {
         if self.words == 0 {
             return Err(Fault::Setting);
@@ -98,7 +102,8 @@ impl<A: Allocator + Copy> Reading<A> {
     fn add_issue(&mut self, line: u64, p: u32, operation: Operation) -> Result<(), Fault>
         requires processors { vec_len self.old.numbers ≡ 4096 }
         requires processor { p < 4096 }
-        ensures { Makes (reading_of self.new) result (add_issue (reading_of self.old) line p operation) }
+        ensures { Makes (reading_of self.new) result
+            (add_issue (reading_of self.old) line p operation) }
     {
         let number = self.issued.len();
         if number >= 1 << 22 {
@@ -174,7 +179,8 @@ impl<A: Allocator + Copy> Reading<A> {
     /// An operation is answered.
     fn answer(&mut self, line: u64, p: u128, index: u128, told: Option<u128>) -> Result<(), Fault>
         requires processors { vec_len self.old.numbers ≡ 4096 }
-        ensures { Makes (reading_of self.new) result (after_answer (reading_of self.old) line p index told) }
+        ensures { Makes (reading_of self.new) result
+            (after_answer (reading_of self.old) line p index told) }
     {
         if self.words == 0 {
             return Err(Fault::Setting);
@@ -200,7 +206,8 @@ impl<A: Allocator + Copy> Reading<A> {
         told: Option<u128>,
     ) -> Result<(), Fault>
         requires { slice_get self.old.issued.items number ≡ Some issued }
-        ensures { Makes (reading_of self.new) result (add_answer (reading_of self.old) line number issued told) }
+        ensures { Makes (reading_of self.new) result
+            (add_answer (reading_of self.old) line number issued told) }
     {
         if !goes_with(issued.operation.op.code(), told) {
             return Err(Fault::Line);

@@ -3,7 +3,8 @@
 ghost use Rattle.std.specs.Prelude.{◌≡◌, ◌≤◌, ◌^◌, map};
 ghost use Rattle.packet.specs.Reading.{op_with};
 ghost use Rattle.script.specs.Form.{checked_word};
-ghost use Rattle.trace_text.specs.Form.{changed_by, form_of, two_words, three_words, four_words, told_of, operation_of, reply_of};
+ghost use Rattle.trace_text.specs.Form.{changed_by, form_of, two_words, three_words, four_words, told_of};
+ghost use Rattle.trace_text.specs.Form.{operation_of, reply_of};
 
 use crate::number::a_number;
 use packet::{Code, Op, Operation, Reply};

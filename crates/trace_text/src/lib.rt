@@ -9,7 +9,6 @@ pub mod linearize;
 mod number;
 mod reading;
 pub mod text;
-mod words;
 
 pub use issued::Issued;
 pub use linearize::{Finding, Unfound};

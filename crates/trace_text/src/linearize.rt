@@ -79,7 +79,8 @@ fn moved_events<A: Allocator + Copy>(
     places: &BTreeMap<u32, u32, A>,
     events: &[Event],
 ) -> Result<Vec<Event, A>, AllocError>
-    ensures { IfOk result (λ v. v.items ≡ map (moved_event (place_of places.now.entries)) events.now) }
+    ensures { IfOk result
+        (λ v. v.items ≡ map (moved_event (place_of places.now.entries)) events.now) }
 {
     let mut all = Vec::new(alloc);
     for i in 0..events.len() {

@@ -2,7 +2,8 @@
 
 ghost use Rattle.std.specs.Prelude.{◌≡◌, ◌≤◌, ◌^◌, [], map, replicate, IfOk, vec_len};
 ghost use Rattle.script.specs.Outcome.{Makes};
-ghost use Rattle.trace_text.specs.Traced.{after_words, after_keyword, after_title, after_count, after_words_line, after_init, after_init_line, nothing_read};
+ghost use Rattle.trace_text.specs.Traced.{after_words, after_keyword, after_title, after_count, after_words_line};
+ghost use Rattle.trace_text.specs.Traced.{after_init, after_init_line, nothing_read};
 ghost use Rattle.trace_text.specs.Views.{reading_of, lists_of};
 
 use crate::issued::Issued;
@@ -67,7 +68,8 @@ impl<A: Allocator + Copy> Reading<A> {
     pub(crate) fn take(&mut self, line: u64, words: &[&[u8]]) -> Result<(), Fault>
         requires words { self.old.words ≤ 2 ^ 32 }
         requires processors { vec_len self.old.numbers ≡ 4096 }
-        ensures { Makes (reading_of self.new) result (after_words (reading_of self.old) line (map (λ word. word.now) words.now)) }
+        ensures { Makes (reading_of self.new) result
+            (after_words (reading_of self.old) line (map (λ word. word.now) words.now)) }
     {
         match words {
             [] => Ok(()),
@@ -80,7 +82,9 @@ impl<A: Allocator + Copy> Reading<A> {
     fn take_keyword(&mut self, line: u64, keyword: &[u8], values: &[&[u8]]) -> Result<(), Fault>
         requires words { self.old.words ≤ 2 ^ 32 }
         requires processors { vec_len self.old.numbers ≡ 4096 }
-        ensures { Makes (reading_of self.new) result (after_keyword (reading_of self.old) line keyword.now (map (λ value. value.now) values.now)) }
+        ensures { Makes (reading_of self.new) result
+            (after_keyword (reading_of self.old) line keyword.now
+            (map (λ value. value.now) values.now)) }
     {
         if !self.begun {
             return self.take_title(keyword, values);
@@ -102,7 +106,8 @@ impl<A: Allocator + Copy> Reading<A> {
 
     /// Takes the first line.
     fn take_title(&mut self, keyword: &[u8], values: &[&[u8]]) -> Result<(), Fault>
-        ensures { Makes (reading_of self.new) result (after_title (reading_of self.old) keyword.now (map (λ value. value.now) values.now)) }
+        ensures { Makes (reading_of self.new) result
+            (after_title (reading_of self.old) keyword.now (map (λ value. value.now) values.now)) }
     {
         match values {
             [version] => {
@@ -118,7 +123,8 @@ impl<A: Allocator + Copy> Reading<A> {
 
     /// Takes the number of words.
     fn take_words(&mut self, values: &[&[u8]]) -> Result<(), Fault>
-        ensures { Makes (reading_of self.new) result (after_words_line (reading_of self.old) (map (λ value. value.now) values.now)) }
+        ensures { Makes (reading_of self.new) result
+            (after_words_line (reading_of self.old) (map (λ value. value.now) values.now)) }
     {
         match values {
             [count] => {
@@ -139,7 +145,8 @@ impl<A: Allocator + Copy> Reading<A> {
     /// Takes the address and the value of an opening word.
     fn take_init(&mut self, values: &[&[u8]]) -> Result<(), Fault>
         requires { self.old.words ≤ 2 ^ 32 }
-        ensures { Makes (reading_of self.new) result (after_init_line (reading_of self.old) (map (λ value. value.now) values.now)) }
+        ensures { Makes (reading_of self.new) result
+            (after_init_line (reading_of self.old) (map (λ value. value.now) values.now)) }
     {
         match values {
             [a, v] => {
@@ -154,7 +161,8 @@ impl<A: Allocator + Copy> Reading<A> {
     /// Sets an opening word.
     fn set_word(&mut self, address: u128, value: u128) -> Result<(), Fault>
         requires { self.old.words ≤ 2 ^ 32 }
-        ensures { Makes (reading_of self.new) result (after_init (reading_of self.old) address value) }
+        ensures { Makes (reading_of self.new) result
+            (after_init (reading_of self.old) address value) }
     {
         if !(self.words != 0 && self.issued.is_empty()) {
             return Err(Fault::Setting);

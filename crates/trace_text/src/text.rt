@@ -9,7 +9,7 @@ ghost use Rattle.trace_text.specs.Traced.{trace_of};
 use crate::issued::Issued;
 use crate::linearize::{Finding, Unfound};
 use crate::reading::Reading;
-use crate::words::{first_words, next_line};
+use lexer::{first_words, next_line};
 use script::LineFault;
 use std::alloc::{Allocator, Global};
 use std::marker::Model;

@@ -14,7 +14,8 @@ use Rattle.worker_run.specs.Places.{IsFirst, IsWithin, Follows}
 use Rattle.worker_run.specs.Working.{Grew, Turns, IsAt, Attempts, HasTurned}
 use Rattle.worker_run.specs.declared.place.Place.{Place}
 
-pub turned : (r : Turned) (v w : Knowing) (c : Step) → (r ≡ Moved → Moves v c w) → (r ≡ Idle → Idles v c w) → ((r ≡ NotMine) ↔ IsNotMine v c) → (r ≡ NotMine → w ≡ v) → Turns v c w
+pub turned : (r : Turned) (v w : Knowing) (c : Step) → (r ≡ Moved → Moves v c w) → (r ≡ Idle → Idles v c w) → ((r ≡ NotMine) ↔ IsNotMine v c)
+    → (r ≡ NotMine → w ≡ v) → Turns v c w
 turned Moved v w c moves idles mine same = inl (moves refl)
 turned Idle v w c moves idles mine same = inr (inl (idles refl))
 turned NotMine v w c moves idles mine same = inr (inr (mine.0 refl, same refl))
@@ -46,7 +47,8 @@ pub record IsUnderWay (ports made : ℕ) (v w : Knowing) (first last : Place) : 
 pub begun : (ports : ℕ) (v : Knowing) (p : Place) → IsUnderWay ports 0 v v p p
 begun ports v p = record { steps = []; count = refl; attempts = (refl, refl); grew = grew_not v }
 
-pub goes_on : (ports made : ℕ) (v w u : Knowing) (first q r : Place) (c : Step) → IsUnderWay ports made v w first q → IsAt ports q c → Turns w c u → Grew w u → Follows ports w.tiles q r
+pub goes_on : (ports made : ℕ) (v w u : Knowing) (first q r : Place) (c : Step) → IsUnderWay ports made v w first q → IsAt ports q c → Turns w c u → Grew w u
+    → Follows ports w.tiles q r
     → IsUnderWay ports (made + 1) v u first r
 goes_on ports made v w u first q r c so_far at turns grew follows = record {
   steps = so_far.steps ++ c ∷ [];
@@ -70,7 +72,8 @@ turned_none stops turns v first start seen = record {
 }
 
 -- the turns so far, where they end
-pub turned_until : (stops : Step → Type 0) (turns ports made : ℕ) (v w : Knowing) (first last : Place) → IsFirst v.tiles first → ports ≡ port_count (dims_of v.load.shape)
+pub turned_until : (stops : Step → Type 0) (turns ports made : ℕ) (v w : Knowing) (first last : Place) → IsFirst v.tiles first
+    → ports ≡ port_count (dims_of v.load.shape)
     → IsUnderWay ports made v w first last → made ≤ turns → (HasSeen v → ⊥)
     → HasSeen w ⊎ (made ≡ turns) ⊎ ((c : Step) × IsAt ports last c × stops c) → HasTurned stops turns v w
 turned_until stops turns ports made v w first last start is so_far few not_yet until = record {

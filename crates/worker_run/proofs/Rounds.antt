@@ -72,7 +72,8 @@ credit_choice ports i le lt =
     ∙ from_0 (λ o. CreditOf o) ports (i - 2 * ports) (omega (arith, le, lt))
 
 -- the step of an agent's choice
-chosen : (agent : ℕ) (choices : List Choice) (i : ℕ) (c : Choice) → slice_get choices i ≡ Some c → slice_get (attempts_of agent choices) i ≡ Some (record { agent = agent; choice = c })
+chosen : (agent : ℕ) (choices : List Choice) (i : ℕ) (c : Choice) → slice_get choices i ≡ Some c
+    → slice_get (attempts_of agent choices) i ≡ Some (record { agent = agent; choice = c })
 chosen agent choices i c e =
     let v : Choice → Step = λ x. record { agent = agent; choice = x } in
     slice_get-map v choices i ∙ ap (option_map v) e
@@ -97,8 +98,10 @@ module _ (ports t i : ℕ) (c : Choice) where
       behind (attempts_of (3 * t) processor_choices) _ 5 i refl le
       ∙ front (attempts_of (3 * t + 1) (router_choices ports)) _ (i - 5) _ (chosen (3 * t + 1) (router_choices ports) (i - 5) c e)
 
-  pub bank_step : 5 + 3 * ports ≤ i → slice_get bank_choices (i - 5 - 3 * ports) ≡ Some c → slice_get (round_at ports t) i ≡ Some (record { agent = 3 * t + 2; choice = c })
+  pub bank_step : 5 + 3 * ports ≤ i → slice_get bank_choices (i - 5 - 3 * ports) ≡ Some c
+      → slice_get (round_at ports t) i ≡ Some (record { agent = 3 * t + 2; choice = c })
   bank_step le e =
       behind (attempts_of (3 * t) processor_choices) _ 5 i refl (omega (arith, le))
-      ∙ (behind (attempts_of (3 * t + 1) (router_choices ports)) _ (3 * ports) (i - 5) (attempt_count (3 * t + 1) (router_choices ports) ∙ router_count ports) (omega (arith, le))
+      ∙ (behind (attempts_of (3 * t + 1) (router_choices ports)) _ (3 * ports) (i - 5) (attempt_count (3 * t + 1) (router_choices ports) ∙ router_count ports)
+      (omega (arith, le))
       ∙ chosen (3 * t + 2) bank_choices (i - 5 - 3 * ports) c e)

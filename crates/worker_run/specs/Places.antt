@@ -3,11 +3,12 @@ use Rattle.std.specs.Prelude.{◌≡◌, ◌⊎◌, ℕ, ◌+◌, ◌*◌, ◌<�
 use Rattle.std.specs.List.{range_with_len}
 use Rattle.torus.specs.declared.step.Choice.{Choice}
 use Rattle.torus.specs.declared.step.Choice.TheVariants.{Send, Take, TakeFrom, Put, Credit, CreditOf, Serve, Done, Look}
-use Rattle.fabric.specs.fabric_laws.specs.Groups.{Owns}
+use Rattle.fabric.specs.fabric_rule.specs.Groups.{Owns}
 use Rattle.fabric.specs.Asking.{IsNextTile}
 use Rattle.worker_run.specs.declared.place.Place.{Place}
 
--- the choices of a tile's agents in the order of a round, where the router has so many ports (this project's own format)
+-- the choices of a tile's agents in the order of a round, where the router has so many ports (this
+-- project's own format)
 abbrev pub processor_choices : List Choice
 processor_choices = Send ∷ Take ∷ Credit ∷ Done ∷ Look ∷ []
 
@@ -20,7 +21,8 @@ router_choices ports =
 abbrev pub bank_choices : List Choice
 bank_choices = Take ∷ Serve ∷ Send ∷ Credit ∷ []
 
--- how many choices the agents of a tile have, whose router has so many ports (this project's own format)
+-- how many choices the agents of a tile have, whose router has so many ports (this project's own
+-- format)
 abbrev pub choice_count : ℕ → ℕ
 choice_count ports = 9 + 3 * ports
 
@@ -29,14 +31,17 @@ pub record IsWithin (ports : ℕ) (p : Place) : Type 0 where
   pub tile : p.tile < 64
   pub at : p.at < choice_count ports
 
--- the first place of the rounds of these tiles: at the first choice of the least tile (this project's own format)
+-- the first place of the rounds of these tiles: at the first choice of the least tile (this
+-- project's own format)
 abbrev pub IsFirst : List ℕ → Place → Type 0
 IsFirst tiles p = (p.at ≡ 0) × (IsNextTile tiles 0 p.tile ⊎ ((t : ℕ) → Owns tiles t → ⊥))
 
--- a place follows another in the rounds of these tiles: at the next choice of its tile; after the last, at the first
--- of the next tile; and after the last tile, at the first place (this project's own format)
+-- a place follows another in the rounds of these tiles: at the next choice of its tile; after the
+-- last, at the first of the next tile; and after the last tile, at the first place (this project's
+-- own format)
 abbrev pub Follows : ℕ → List ℕ → Place → Place → Type 0
 Follows ports tiles p q =
     ((p.at + 1 < choice_count ports) × (q.tile ≡ p.tile) × (q.at ≡ p.at + 1))
     ⊎ ((choice_count ports ≤ p.at + 1) × (q.at ≡ 0) × IsNextTile tiles (p.tile + 1) q.tile)
-    ⊎ ((choice_count ports ≤ p.at + 1) × ((t : ℕ) → p.tile < t → Owns tiles t → ⊥) × IsFirst tiles q)
+    ⊎ ((choice_count ports ≤ p.at + 1) × ((t : ℕ) → p.tile < t → Owns tiles t → ⊥)
+    × IsFirst tiles q)

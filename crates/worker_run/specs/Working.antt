@@ -4,8 +4,8 @@ use Rattle.torus.specs.Shape.{dims_of}
 use Rattle.torus.specs.declared.step.Step.{Step}
 use Rattle.channel_number.specs.Ports.{port_count}
 use Rattle.fabric.specs.core_laws.specs.Core.{round_at}
-use Rattle.fabric.specs.fabric_laws.specs.Groups.{Begins}
-use Rattle.fabric.specs.fabric_laws.specs.Ended.{AreAllFinished}
+use Rattle.fabric.specs.fabric_rule.specs.Groups.{Begins}
+use Rattle.fabric.specs.fabric_rule.specs.Ended.{AreAllFinished}
 use Rattle.fabric.specs.Seats.{Knowing, Moves, Idles, IsNotMine, with_run}
 use Rattle.fabric.specs.Asking.{HasSeen}
 use Rattle.fabric.specs.Lawful.{HasLawfulRun}
@@ -23,7 +23,8 @@ pub record Working : Type 0 where
 abbrev pub Grew : Knowing → Knowing → Type 0
 Grew v w = (w ≡ with_run v w.run) × Begins w.run v.run
 
--- what one turn makes of a seat: its step moved, or was idle, or was of no tile of the seat, which is then as it was
+-- what one turn makes of a seat: its step moved, or was idle, or was of no tile of the seat, which
+-- is then as it was
 abbrev pub Turns : Knowing → Step → Knowing → Type 0
 Turns v c w = Moves v c w ⊎ Idles v c w ⊎ (IsNotMine v c × (w ≡ v))
 
@@ -31,15 +32,17 @@ Turns v c w = Moves v c w ⊎ Idles v c w ⊎ (IsNotMine v c × (w ≡ v))
 abbrev pub IsAt : ℕ → Place → Step → Type 0
 IsAt ports p c = slice_get (round_at ports p.tile) p.at ≡ Some c
 
--- the steps from a place of a seat's rounds on, one a turn, lead the seat from what it knew to what it knows, and to
--- another place
+-- the steps from a place of a seat's rounds on, one a turn, lead the seat from what it knew to what
+-- it knows, and to another place
 abbrev pub Attempts : ℕ → Knowing → Place → List Step → Knowing → Place → Type 0
 Attempts ports v p [] w q = (w ≡ v) × (q ≡ p)
 Attempts ports v p (c ∷ more) w q =
-    (u : Knowing) × (r : Place) × IsAt ports p c × Turns v c u × Follows ports v.tiles p r × Attempts ports u r more w q
+    (u : Knowing) × (r : Place) × IsAt ports p c × Turns v c u × Follows ports v.tiles p r
+    × Attempts ports u r more w q
 
--- Turns were made in the order of rounds, from a round's start: none if the seat's processors had seen the end; else
--- until they have, or so many are made, or the gate may stop the worker before the step that is next.
+-- Turns were made in the order of rounds, from a round's start: none if the seat's processors had
+-- seen the end; else until they have, or so many are made, or the gate may stop the worker before
+-- the step that is next.
 pub record HasTurned (stops : Step → Type 0) (turns : ℕ) (v w : Knowing) : Type 0 where
   pub grew : Grew v w
   pub steps : List Step
@@ -52,15 +55,18 @@ pub record HasTurned (stops : Step → Type 0) (turns : ℕ) (v w : Knowing) : T
   pub until : HasSeen w ⊎ (length steps ≡ turns)
       ⊎ ((c : Step) × IsAt (port_count (dims_of v.load.shape)) last c × stops c)
 
--- how a worker ended: held back by the gate with its seat as it was; or it made turns, and its processors have seen the
--- end, and every script is finished; or they haven't
+-- how a worker ended: held back by the gate with its seat as it was; or it made turns, and its
+-- processors have seen the end, and every script is finished; or they haven't
 abbrev pub EndsAs : Type 0 → (Step → Type 0) → ℕ → Knowing → Option End → Knowing → Type 0
 EndsAs holds stops turns v None w = ⊥
 EndsAs holds stops turns v (Some Held) w = holds × (w ≡ v)
-EndsAs holds stops turns v (Some Finished) w = HasTurned stops turns v w × HasSeen w × AreAllFinished w.load w.run
+EndsAs holds stops turns v (Some Finished) w =
+    HasTurned stops turns v w × HasSeen w × AreAllFinished w.load w.run
 EndsAs holds stops turns v (Some Stopped) w = HasTurned stops turns v w × (HasSeen w → ⊥)
 
--- what a run makes of a worker: its knowledge only grew, it has an end, and the run that its seat knows is lawful
+-- what a run makes of a worker: its knowledge only grew, it has an end, and the run that its seat
+-- knows is lawful
 abbrev pub HasWorked : Type 0 → (Step → Type 0) → ℕ → Working → Working → Type 0
-HasWorked holds stops turns v w = Grew v.knows w.knows × EndsAs holds stops turns v.knows w.ended w.knows
+HasWorked holds stops turns v w =
+    Grew v.knows w.knows × EndsAs holds stops turns v.knows w.ended w.knows
     × HasLawfulRun w.knows.load w.knows.run

@@ -31,7 +31,8 @@ pub fn run_workers<R: Threads + Wait + Sync, A: Allocator + Send + Sync, G: Gate
     requires most { turns ≤ 1000000000 }
     ensures count { length workers.new ≡ length workers.old }
     ensures worked { (i : ℕ) (d : Working) → i < length workers.old
-        → HasWorked (G.holds gate.now i) (G.stops gate.now i) turns (slice_index_or workers.old i d) (slice_index_or workers.new i d) }
+        → HasWorked (G.holds gate.now i) (G.stops gate.now i) turns (slice_index_or workers.old i d)
+        (slice_index_or workers.new i d) }
 {
     thread::for_each_mut(
         rt,
@@ -39,7 +40,8 @@ pub fn run_workers<R: Threads + Wait + Sync, A: Allocator + Send + Sync, G: Gate
         16,
         &|i: usize, worker: &mut Worker<A>|
             requires { IsOf fabric.now worker.old.knows }
-            ensures { HasWorked (G.holds gate.entry.now i) (G.stops gate.entry.now i) turns worker.old worker.new }
+            ensures { HasWorked (G.holds gate.entry.now i) (G.stops gate.entry.now i) turns
+                worker.old worker.new }
         { work(fabric, worker, gate, i, turns) },
     );
 }
@@ -53,7 +55,8 @@ fn work<A: Allocator, G: Gate>(
     turns: u64,
 )
     requires { IsOf fabric.now worker.old.knows }
-    ensures { HasWorked (G.holds gate.now number) (G.stops gate.now number) turns worker.old worker.new }
+    ensures { HasWorked (G.holds gate.now number) (G.stops gate.now number) turns worker.old
+        worker.new }
 {
     worker.seat.accepted();
     if !gate.begin(number) {

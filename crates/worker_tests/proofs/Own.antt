@@ -22,4 +22,5 @@ own_probes f n seats e = All-same (λ (k : Knowing). IsOf f k) seats (replicate 
 pub own_workers : (f : Origin) (xs ys : List Working) → length ys ≡ length xs
     → ((i : ℕ) (d : Working) → i < length xs → Grew (slice_index_or xs i d).knows (slice_index_or ys i d).knows)
     → All (λ (w : Working). IsOf f w.knows) xs → All (λ (w : Working). IsOf f w.knows) ys
-own_workers f xs ys len grew own = λ k d lt. own_after f (slice_index_or xs k d).knows (slice_index_or ys k d).knows (own k d (omega (arith, len))) (grew k d (omega (arith, len))).0
+own_workers f xs ys len grew own =
+    λ k d lt. own_after f (slice_index_or xs k d).knows (slice_index_or ys k d).knows (own k d (omega (arith, len))) (grew k d (omega (arith, len))).0

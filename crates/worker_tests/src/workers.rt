@@ -1,8 +1,8 @@
 use crate::bench::{Door, Rendezvous, deal, deal_workers};
 use history::{End, Final, Open, Piped, check_report, of_final, write_report};
 use linked_list_allocator::LocalHeap;
+use one_order::Answer;
 use packet::Reply;
-use runs::Answer;
 use std::alloc::{AllocError, Global};
 use std::test::Fail;
 

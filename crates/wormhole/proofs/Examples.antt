@@ -61,8 +61,68 @@ arrived = (refl, refl, refl, refl, refl, refl)
 
 -- each of these events may happen where it does
 may : CanAllHappen row (empty row) events
-may =
-    (record { here = omega arith; injects = refl; idle = refl; credit = omega arith; parcel = record { joined = refl; head = refl; told = refl; alone = refl; tail = (refl, refl, (refl, refl, tt)) }; source = refl }, (record { here = omega arith; input = refl; free = refl; first = refl }, (record { here = omega arith; input = refl; full = refl; head = refl; output = refl; free = refl; credit = omega arith }, (record { here = omega arith; injects = refl; course = refl; credit = omega arith }, (record { here = omega arith; input = refl; free = refl; first = refl }, (record { here = omega arith; input = refl; full = refl; head = refl; output = refl; free = refl; credit = omega arith }, (record { here = omega arith; injects = refl; course = refl; credit = omega arith }, (record { here = omega arith; input = refl; free = refl; first = refl }, (record { here = omega arith; input = refl; full = refl; rest = refl; owned = refl; credit = omega arith }, (record { here = omega arith; ejects = refl; first = refl; head = refl }, (record { here = omega arith; input = refl; free = refl; first = refl }, (record { here = omega arith; input = refl; full = refl; rest = refl; owned = refl; credit = omega arith }, (record { here = omega arith; input = refl; free = refl; first = refl }, (record { here = omega arith; input = refl; full = refl; rest = refl; owned = refl; credit = omega arith }, (record { here = omega arith; input = refl; free = refl; first = refl }, (record { here = omega arith; input = refl; full = refl; rest = refl; owned = refl; credit = omega arith }, (record { here = omega arith; ejects = refl; first = refl; head = refl }, (record { here = omega arith; ejects = refl; first = refl; head = refl }, (record { here = omega arith; returns = omega arith }, tt)))))))))))))))))))
+may = (
+  record {
+    here = omega arith;
+    injects = refl;
+    idle = refl;
+    credit = omega arith;
+    parcel = record { joined = refl; head = refl; told = refl; alone = refl; tail = (refl, refl, (refl, refl, tt)) };
+    source = refl;
+  },
+  (
+    record { here = omega arith; input = refl; free = refl; first = refl },
+    (
+      record { here = omega arith; input = refl; full = refl; head = refl; output = refl; free = refl; credit = omega arith },
+      (
+        record { here = omega arith; injects = refl; course = refl; credit = omega arith },
+        (
+          record { here = omega arith; input = refl; free = refl; first = refl },
+          (
+            record { here = omega arith; input = refl; full = refl; head = refl; output = refl; free = refl; credit = omega arith },
+            (
+              record { here = omega arith; injects = refl; course = refl; credit = omega arith },
+              (
+                record { here = omega arith; input = refl; free = refl; first = refl },
+                (
+                  record { here = omega arith; input = refl; full = refl; rest = refl; owned = refl; credit = omega arith },
+                  (
+                    record { here = omega arith; ejects = refl; first = refl; head = refl },
+                    (
+                      record { here = omega arith; input = refl; free = refl; first = refl },
+                      (
+                        record { here = omega arith; input = refl; full = refl; rest = refl; owned = refl; credit = omega arith },
+                        (
+                          record { here = omega arith; input = refl; free = refl; first = refl },
+                          (
+                            record { here = omega arith; input = refl; full = refl; rest = refl; owned = refl; credit = omega arith },
+                            (
+                              record { here = omega arith; input = refl; free = refl; first = refl },
+                              (
+                                record { here = omega arith; input = refl; full = refl; rest = refl; owned = refl; credit = omega arith },
+                                (
+                                  record { here = omega arith; ejects = refl; first = refl; head = refl },
+                                  (
+                                    record { here = omega arith; ejects = refl; first = refl; head = refl },
+                                    (record { here = omega arith; returns = omega arith }, tt),
+                                  ),
+                                ),
+                              ),
+                            ),
+                          ),
+                        ),
+                      ),
+                    ),
+                  ),
+                ),
+              ),
+            ),
+          ),
+        ),
+      ),
+    ),
+  ),
+)
 
 -- so such a state is reached
 reached : IsReached row end

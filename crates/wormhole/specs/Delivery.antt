@@ -1,4 +1,5 @@
--- Delivery: packets arrive whole, once and in the order in which they were sent, and no flit is refused.
+-- Delivery: packets arrive whole, once and in the order in which they were sent, and no flit is
+-- refused.
 use Rattle.std.specs.Prelude.{◌≡◌, ◌≢◌, ◌<◌, ℕ, Bool, true, false, List, [], ◌∷◌, ◌++◌, Some}
 use Rattle.wormhole.specs.Net.{Net, Parcel, IsParcel, IsOn, flits_of, is_empty}
 use Rattle.wormhole.specs.State.{State, empty}
@@ -16,7 +17,8 @@ abbrev pub whole_of : List ℕ → List Parcel → List Parcel
 whole_of [] ks = ks
 whole_of (flit ∷ flits) ks = without_last ks
 
--- the packets that are whole at the receiver of an ejection channel, in the order in which they became so
+-- the packets that are whole at the receiver of an ejection channel, in the order in which they
+-- became so
 abbrev pub whole : State → ℕ → List Parcel
 whole s x = whole_of (s.notes x).awaited (s.notes x).begun
 
@@ -24,7 +26,8 @@ whole s x = whole_of (s.notes x).awaited (s.notes x).begun
 abbrev pub Begins : {A : Type 0} → List A → List A → Type 0
 Begins {A} xs ys = (rest : List A) × (ys ≡ xs ++ rest)
 
--- between two ends the whole packets are a beginning of the sent ones: none is doubled, mixed or overtaken
+-- between two ends the whole packets are a beginning of the sent ones: none is doubled, mixed or
+-- overtaken
 abbrev pub IsDelivered : State → ℕ → ℕ → Type 0
 IsDelivered s i j = Begins (between i j (whole s j)) (between i j (s.notes i).sent)
 
@@ -34,7 +37,8 @@ pub record WasSentTo (n : Net) (s : State) (x : ℕ) (k : Parcel) : Type 0 where
   pub destination : k.destination ≡ x
   pub sent : IsOn k (s.notes k.source).sent
 
--- a flit offered to a receiver goes on with a packet sent to it, and has the tail bit just if it is the packet's last
+-- a flit offered to a receiver goes on with a packet sent to it, and has the tail bit just if it is
+-- the packet's last
 pub record IsTaken (n : Net) (s : State) (x flit : ℕ) : Type 0 where
   pub packet : Parcel
   pub rest : List ℕ
@@ -44,7 +48,8 @@ pub record IsTaken (n : Net) (s : State) (x flit : ℕ) : Type 0 where
   pub flits : flits_of packet ≡ (s.lines x).so_far ++ flit ∷ rest
   pub tail : n.is_tail flit ≡ is_empty rest
 
--- a head flit behind a channel is of a packet that was sent: this channel and the router's choice are on its route
+-- a head flit behind a channel is of a packet that was sent: this channel and the router's choice
+-- are on its route
 pub record IsRouted (n : Net) (s : State) (x flit : ℕ) : Type 0 where
   pub packet : Parcel
   pub parcel : IsParcel n packet
@@ -64,7 +69,8 @@ pub record HasOutput (s : State) (x : ℕ) : Type 0 where
 abbrev pub StayWhole : Net → State → State → Type 0
 StayWhole n s t = (x : ℕ) → n.ejects x ≡ true → whole t x ≡ whole s x
 
--- with a flit one packet becomes whole, at its receiver: the next of those that its sender sent there
+-- with a flit one packet becomes whole, at its receiver: the next of those that its sender sent
+-- there
 pub record Arrives (n : Net) (s t : State) (x flit : ℕ) : Type 0 where
   pub packet : Parcel
   pub parcel : IsParcel n packet
@@ -72,7 +78,8 @@ pub record Arrives (n : Net) (s t : State) (x flit : ℕ) : Type 0 where
   pub flits : flits_of packet ≡ (s.lines x).so_far ++ flit ∷ []
   pub more : whole t x ≡ whole s x ++ packet ∷ []
   pub others : (z : ℕ) → z ≢ x → whole t z ≡ whole s z
-  pub turn : Begins (between packet.source x (whole s x) ++ packet ∷ []) (between packet.source x (s.notes packet.source).sent)
+  pub turn : Begins (between packet.source x (whole s x) ++ packet ∷ [])
+      (between packet.source x (s.notes packet.source).sent)
 
 -- an event by which a receiver takes a flit
 abbrev pub IsAccept : Event → Type 0

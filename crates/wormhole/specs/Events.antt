@@ -4,7 +4,8 @@ use Rattle.std.specs.Prelude.{take, drop}
 use Rattle.wormhole.specs.Net.{Net, Parcel, IsParcel}
 use Rattle.wormhole.specs.State.{Line, Note, State, update}
 
--- one flit moves from or to channel x, from x to y, or one credit comes back (Dally and Towles, chapters 13 and 16)
+-- one flit moves from or to channel x, from x to y, or one credit comes back (Dally and Towles,
+-- chapters 13 and 16)
 pub data Event : Type 0 where
   -- a sender puts the head flit of a packet into its injection channel
   InjectHead : (x : ℕ) (k : Parcel) → Event
@@ -23,7 +24,8 @@ pub data Event : Type 0 where
   -- a credit comes back to a channel's sending end
   Return : (x : ℕ) → Event
 
--- a sender may begin a packet if none is in course and it holds a credit (Dally and Towles, chapter 13)
+-- a sender may begin a packet if none is in course and it holds a credit (Dally and Towles, chapter
+-- 13)
 pub record CanInjectHead (n : Net) (l : Line) (x : ℕ) (k : Parcel) : Type 0 where
   pub here : x < n.channels
   pub injects : n.injects x ≡ true
@@ -39,14 +41,16 @@ pub record CanInjectRest (n : Net) (l : Line) (x flit : ℕ) (more : List ℕ) :
   pub course : l.rest ≡ flit ∷ more
   pub credit : 0 < l.held
 
--- a router may take the first flit of an input if the latch behind it is empty (Dally and Towles, chapter 16)
+-- a router may take the first flit of an input if the latch behind it is empty (Dally and Towles,
+-- chapter 16)
 pub record CanLatch (n : Net) (l : Line) (x flit : ℕ) (more : List ℕ) : Type 0 where
   pub here : x < n.channels
   pub input : n.ejects x ≡ false
   pub free : l.latch ≡ None
   pub first : l.flits ≡ flit ∷ more
 
--- a head flit may go to the router's choice for it, if no input owns that output and a credit is held (chapter 16)
+-- a head flit may go to the router's choice for it, if no input owns that output and a credit is
+-- held (chapter 16)
 pub record CanForwardHead (n : Net) (l m : Line) (x y flit : ℕ) : Type 0 where
   pub here : x < n.channels
   pub input : n.ejects x ≡ false
@@ -88,21 +92,25 @@ CanHappen n ls (AcceptHead x flit more) = CanAccept n (ls x) x flit more true
 CanHappen n ls (AcceptRest x flit more) = CanAccept n (ls x) x flit more false
 CanHappen n ls (Return x) = CanReturn n (ls x) x
 
--- a channel after a put: the flit is its last, and one credit less is held (Dally and Towles, chapter 13)
+-- a channel after a put: the flit is its last, and one credit less is held (Dally and Towles,
+-- chapter 13)
 abbrev pub put : ℕ → Line → Line
 put flit l = record l { flits = l.flits ++ flit ∷ []; held = l.held - 1 }
 
--- a channel after its first flit was taken: the flit's credit returns (Dally and Towles, chapter 13)
+-- a channel after its first flit was taken: the flit's credit returns (Dally and Towles, chapter
+-- 13)
 abbrev pub taken : List ℕ → Line → Line
 taken more l = record l { flits = more; returning = l.returning + 1 }
 
--- an output after a put from an input: the input owns it until the tail flit (Dally and Towles, chapter 16)
+-- an output after a put from an input: the input owns it until the tail flit (Dally and Towles,
+-- chapter 16)
 abbrev pub forwarded : Net → ℕ → ℕ → Line → Line
 forwarded n x flit m = record (put flit m) { owner = if n.is_tail flit then None else Some x }
 
 -- an ejection channel after its receiver took a flit: with a tail flit the packet is whole
 abbrev pub accepted : Net → ℕ → List ℕ → Line → Line
-accepted n flit more l = record (taken more l) { so_far = if n.is_tail flit then [] else l.so_far ++ flit ∷ [] }
+accepted n flit more l = record (taken more l)
+    { so_far = if n.is_tail flit then [] else l.so_far ++ flit ∷ [] }
 
 -- an input after its latched flit was put
 abbrev pub unlatched : Line → Line
@@ -116,9 +124,12 @@ credited l = record l { held = l.held + 1; returning = l.returning - 1 }
 abbrev pub lines_after : Net → (ℕ → Line) → Event → ℕ → Line
 lines_after n ls (InjectHead x k) = update ls x (record (put k.head (ls x)) { rest = k.tail })
 lines_after n ls (InjectRest x flit more) = update ls x (record (put flit (ls x)) { rest = more })
-lines_after n ls (Latch x flit more) = update ls x (record (taken more (ls x)) { latch = Some flit })
-lines_after n ls (ForwardHead x y flit) = update (update ls x (unlatched (ls x))) y (forwarded n x flit (ls y))
-lines_after n ls (ForwardRest x y flit) = update (update ls x (unlatched (ls x))) y (forwarded n x flit (ls y))
+lines_after n ls (Latch x flit more) =
+    update ls x (record (taken more (ls x)) { latch = Some flit })
+lines_after n ls (ForwardHead x y flit) =
+    update (update ls x (unlatched (ls x))) y (forwarded n x flit (ls y))
+lines_after n ls (ForwardRest x y flit) =
+    update (update ls x (unlatched (ls x))) y (forwarded n x flit (ls y))
 lines_after n ls (AcceptHead x flit more) = update ls x (accepted n flit more (ls x))
 lines_after n ls (AcceptRest x flit more) = update ls x (accepted n flit more (ls x))
 lines_after n ls (Return x) = update ls x (credited (ls x))
@@ -128,24 +139,31 @@ abbrev pub first_tail : List Parcel → List ℕ
 first_tail [] = []
 first_tail (k ∷ ks) = k.tail
 
--- what is noted of a channel after a head flit came out of it: the other flits of its first packet are awaited
+-- what is noted of a channel after a head flit came out of it: the other flits of its first packet
+-- are awaited
 abbrev pub popped : Note → Note
 popped h = record h { parcels = drop 1 h.parcels; awaited = first_tail h.parcels }
 
--- what is noted of a channel after the head flit of the first of some packets was put into it: its others are owed
+-- what is noted of a channel after the head flit of the first of some packets was put into it: its
+-- others are owed
 abbrev pub pushed : List Parcel → Note → Note
 pushed ks h = record h { parcels = h.parcels ++ take 1 ks; owed = first_tail ks }
 
 -- what is noted after an event
 abbrev pub notes_after : (ℕ → Note) → Event → ℕ → Note
-notes_after ns (InjectHead x k) = update ns x (record (pushed (k ∷ []) (ns x)) { sent = (ns x).sent ++ k ∷ [] })
+notes_after ns (InjectHead x k) =
+    update ns x (record (pushed (k ∷ []) (ns x)) { sent = (ns x).sent ++ k ∷ [] })
 notes_after ns (InjectRest x flit more) = update ns x (record (ns x) { owed = more })
 notes_after ns (Latch x flit more) = ns
-notes_after ns (ForwardHead x y flit) = update (update ns x (popped (ns x))) y (pushed (ns x).parcels (ns y))
+notes_after ns (ForwardHead x y flit) =
+    update (update ns x (popped (ns x))) y (pushed (ns x).parcels (ns y))
 notes_after ns (ForwardRest x y flit) =
-    update (update ns x (record (ns x) { awaited = drop 1 (ns x).awaited })) y (record (ns y) { owed = drop 1 (ns y).owed })
-notes_after ns (AcceptHead x flit more) = update ns x (record (popped (ns x)) { begun = (ns x).begun ++ take 1 (ns x).parcels })
-notes_after ns (AcceptRest x flit more) = update ns x (record (ns x) { awaited = drop 1 (ns x).awaited })
+    update (update ns x (record (ns x) { awaited = drop 1 (ns x).awaited })) y
+    (record (ns y) { owed = drop 1 (ns y).owed })
+notes_after ns (AcceptHead x flit more) =
+    update ns x (record (popped (ns x)) { begun = (ns x).begun ++ take 1 (ns x).parcels })
+notes_after ns (AcceptRest x flit more) =
+    update ns x (record (ns x) { awaited = drop 1 (ns x).awaited })
 notes_after ns (Return x) = ns
 
 -- the network after an event

@@ -9,8 +9,11 @@ pub record AreHolds (holds : ℕ → Option ℕ) (ls : ℕ → Line) : Type 0 wh
   pub owned : (x y : ℕ) → holds x ≡ Some y → (ls y).owner ≡ Some x
   pub held : (x y : ℕ) → (ls y).owner ≡ Some x → holds x ≡ Some y
 
--- what inputs hold after an event: an input holds the output of its last flit, until the tail flit (chapter 16)
+-- what inputs hold after an event: an input holds the output of its last flit, until the tail flit
+-- (chapter 16)
 abbrev pub holds_after : Net → (ℕ → Option ℕ) → Event → ℕ → Option ℕ
-holds_after n holds (ForwardHead x y flit) = update holds x (if n.is_tail flit then None else Some y)
-holds_after n holds (ForwardRest x y flit) = update holds x (if n.is_tail flit then None else Some y)
+holds_after n holds (ForwardHead x y flit) =
+    update holds x (if n.is_tail flit then None else Some y)
+holds_after n holds (ForwardRest x y flit) =
+    update holds x (if n.is_tail flit then None else Some y)
 holds_after n holds _ = holds

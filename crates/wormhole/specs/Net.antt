@@ -2,7 +2,8 @@
 -- Chapters are those of Dally and Towles, Principles and Practices of Interconnection Networks.
 use Rattle.std.specs.Prelude.{◌≡◌, ℕ, ◌<◌, Bool, true, false, List, [], ◌∷◌, ◌++◌}
 
--- a network: its channels, its routes and what its flits tell (Dally and Towles, chapters 8, 12 and 14)
+-- a network: its channels, its routes and what its flits tell (Dally and Towles, chapters 8, 12 and
+-- 14)
 pub record Net : Type 0 where
   -- how many channels there are, numbered from 0
   pub channels : ℕ
@@ -30,7 +31,8 @@ pub record Net : Type 0 where
 abbrev pub IsOn : {A : Type 0} → A → List A → Type 0
 IsOn {A} x xs = (before : List A) × (after : List A) × (xs ≡ before ++ x ∷ after)
 
--- a wormhole network whose channels' numbers rise along its routes (Dally and Towles, chapters 8 and 14)
+-- a wormhole network whose channels' numbers rise along its routes (Dally and Towles, chapters 8
+-- and 14)
 pub record IsNet (n : Net) : Type 0 where
   -- packets go from injection channels to ejection channels
   pub senders : (i j : ℕ) → n.joins i j ≡ true → n.injects i ≡ true
@@ -55,12 +57,15 @@ abbrev pub is_empty : List ℕ → Bool
 is_empty [] = true
 is_empty (flit ∷ flits) = false
 
--- body flits and a tail flit, or none: no head bit, and the tail bit on the last alone (Dally and Towles, chapter 12)
+-- body flits and a tail flit, or none: no head bit, and the tail bit on the last alone (Dally and
+-- Towles, chapter 12)
 abbrev pub IsTailShaped : Net → List ℕ → Type 0
 IsTailShaped n [] = Unit {0}
-IsTailShaped n (flit ∷ flits) = (n.is_head flit ≡ false) × (n.is_tail flit ≡ is_empty flits) × IsTailShaped n flits
+IsTailShaped n (flit ∷ flits) =
+    (n.is_head flit ≡ false) × (n.is_tail flit ≡ is_empty flits) × IsTailShaped n flits
 
--- a packet: the channels that it goes from and to, a number that its sender gives it, its head flit and those after it
+-- a packet: the channels that it goes from and to, a number that its sender gives it, its head flit
+-- and those after it
 pub record Parcel : Type 0 where
   pub source : ℕ
   pub destination : ℕ
@@ -77,7 +82,8 @@ abbrev pub flits_of_all : List Parcel → List ℕ
 flits_of_all [] = []
 flits_of_all (k ∷ ks) = flits_of k ++ flits_of_all ks
 
--- a packet of the network (Dally and Towles, chapter 12): its head flit alone has the head bit, and tells where it goes
+-- a packet of the network (Dally and Towles, chapter 12): its head flit alone has the head bit, and
+-- tells where it goes
 pub record IsParcel (n : Net) (k : Parcel) : Type 0 where
   pub joined : n.joins k.source k.destination ≡ true
   pub head : n.is_head k.head ≡ true

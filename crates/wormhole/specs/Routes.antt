@@ -1,4 +1,5 @@
--- What holds of the packets: they are on their routes, and none overtakes another between the same two ends.
+-- What holds of the packets: they are on their routes, and none overtakes another between the same
+-- two ends.
 use Rattle.std.specs.Prelude.{◌≡◌, ℕ, ◌<◌, ◌==◌, ◌&&◌, true, List, [], ◌∷◌, ◌++◌, Some, All, filter}
 use Rattle.wormhole.specs.Net.{Net, Parcel, IsParcel, IsOn}
 use Rattle.wormhole.specs.State.{State}
@@ -12,7 +13,8 @@ abbrev pub on_the_way : ℕ → ℕ → (ℕ → List Parcel) → List ℕ → L
 on_the_way i j parcels [] = []
 on_the_way i j parcels (x ∷ xs) = on_the_way i j parcels xs ++ between i j (parcels x)
 
--- the packets of two ends: those begun at the receiver, then those on the way, are those sent, in that order
+-- the packets of two ends: those begun at the receiver, then those on the way, are those sent, in
+-- that order
 abbrev pub IsFlow : Net → State → ℕ → ℕ → Type 0
 IsFlow n s i j =
     between i j (s.notes j).begun ++ on_the_way i j (λ x. (s.notes x).parcels) (n.route i j)
@@ -28,7 +30,8 @@ pub record IsBegunHere (n : Net) (x : ℕ) (k : Parcel) : Type 0 where
   pub parcel : IsParcel n k
   pub destination : k.destination ≡ x
 
--- packets are on their routes and in order, and from owner to owned the numbers rise (Dally and Towles, chapter 14)
+-- packets are on their routes and in order, and from owner to owned the numbers rise (Dally and
+-- Towles, chapter 14)
 pub record Routes (n : Net) (s : State) : Type 0 where
   pub on_route : (x : ℕ) → All (λ k. IsOn x (n.route k.source k.destination)) (s.notes x).parcels
   pub rising : (x y : ℕ) → (s.lines y).owner ≡ Some x → n.number x < n.number y

@@ -13,9 +13,11 @@ pub record Line : Type 0 where
   pub latch : Option ℕ
   -- the input that owns it, where it leaves a router
   pub owner : Option ℕ
-  -- the flits of the packet in course that its sender has yet to put, where it is an injection channel
+  -- the flits of the packet in course that its sender has yet to put, where it is an injection
+  -- channel
   pub rest : List ℕ
-  -- the flits that its receiver has of a packet that isn't whole yet, where it is an ejection channel
+  -- the flits that its receiver has of a packet that isn't whole yet, where it is an ejection
+  -- channel
   pub so_far : List ℕ
 
 -- what is noted of a channel's packets; no condition of an event looks at it

@@ -3,11 +3,13 @@ use Rattle.std.specs.Prelude.{◌≡◌, ◌≢◌, ◌⊎◌, ℕ, ◌+◌, ◌
 use Rattle.wormhole.specs.Net.{Net, IsParcel, IsTailShaped, flits_of, flits_of_all, Parcel}
 use Rattle.wormhole.specs.State.{Line, Note, State, in_line}
 
--- a channel's flits: the rest of a packet, then whole packets, and of the last of them what isn't owed
+-- a channel's flits: the rest of a packet, then whole packets, and of the last of them what isn't
+-- owed
 abbrev pub IsContiguous : Line → Note → Type 0
 IsContiguous l k = k.awaited ++ flits_of_all k.parcels ≡ in_line l ++ k.owed
 
--- an input of a router owns an output: the packet that is coming out of the one is going into the other
+-- an input of a router owns an output: the packet that is coming out of the one is going into the
+-- other
 pub record IsHeld (n : Net) (s : State) (x y : ℕ) : Type 0 where
   pub input : n.ejects x ≡ false
   pub output : n.injects y ≡ false
@@ -29,10 +31,12 @@ HasBeginning l k =
 abbrev pub IsAssembling : Line → Note → Type 0
 IsAssembling l k = ((k.awaited ≡ []) × (l.so_far ≡ [])) ⊎ HasBeginning l k
 
--- no credit is lost, flits keep their order, and no two packets mix (Dally and Towles, chapters 13 and 16)
+-- no credit is lost, flits keep their order, and no two packets mix (Dally and Towles, chapters 13
+-- and 16)
 pub record Words (n : Net) (s : State) : Type 0 where
   -- credits and flits are together as many as the channel holds
-  pub credits : (x : ℕ) → (s.lines x).held + length (s.lines x).flits + (s.lines x).returning ≡ n.depth
+  pub credits : (x : ℕ) → (s.lines x).held + length (s.lines x).flits + (s.lines x).returning
+      ≡ n.depth
   pub contiguous : (x : ℕ) → IsContiguous (s.lines x) (s.notes x)
   pub parcels : (x : ℕ) → All (IsParcel n) (s.notes x).parcels
   pub awaited : (x : ℕ) → IsTailShaped n (s.notes x).awaited
@@ -42,7 +46,8 @@ pub record Words (n : Net) (s : State) : Type 0 where
   pub free : (y : ℕ) → n.injects y ≡ false → (s.lines y).owner ≡ None → (s.notes y).owed ≡ []
   -- an input owns one output at most, and one while a packet is coming out of it
   pub single : (x y z : ℕ) → (s.lines y).owner ≡ Some x → (s.lines z).owner ≡ Some x → y ≡ z
-  pub owning : (x : ℕ) → n.ejects x ≡ false → ((s.notes x).awaited ≡ []) ⊎ ((y : ℕ) × ((s.lines y).owner ≡ Some x))
+  pub owning : (x : ℕ) → n.ejects x ≡ false
+      → ((s.notes x).awaited ≡ []) ⊎ ((y : ℕ) × ((s.lines y).owner ≡ Some x))
   pub inside : IsInside n s
   -- the ends: what senders have yet to put, and what receivers have so far
   pub senders : (x : ℕ) → n.injects x ≡ true → (s.notes x).owed ≡ (s.lines x).rest

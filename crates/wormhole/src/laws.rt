@@ -29,10 +29,12 @@ pub fn events_keep_words_and_routes()
 /// that were sent: none is doubled, mixed or overtaken. And none is invented: a packet that is
 /// whole was sent, to where it is.
 pub fn packets_are_delivered_in_order()
-    ensures kept { (n : Net) (s : State) → Routes n s → (i j : ℕ) → n.joins i j ≡ true → IsDelivered s i j }
+    ensures kept { (n : Net) (s : State) → Routes n s → (i j : ℕ) → n.joins i j ≡ true
+        → IsDelivered s i j }
     ensures reached { (n : Net) → IsNet n → (s : State) → IsReached n s
         → (i j : ℕ) → n.joins i j ≡ true → IsDelivered s i j }
-    ensures sent { (n : Net) (s : State) → Routes n s → (x : ℕ) → All (WasSentTo n s x) (whole s x) }
+    ensures sent { (n : Net) (s : State) → Routes n s → (x : ℕ)
+        → All (WasSentTo n s x) (whole s x) }
     ensures reached_sent { (n : Net) → IsNet n → (s : State) → IsReached n s
         → (x : ℕ) → All (WasSentTo n s x) (whole s x) }
 {}
@@ -61,9 +63,11 @@ pub fn packets_become_whole_in_turn()
 /// the one output that its input owns.
 pub fn latched_flits_have_outputs()
     ensures head { (n : Net) → IsNet n → (s : State) → Words n s → Routes n s → (x flit : ℕ)
-        → n.ejects x ≡ false → (s.lines x).latch ≡ Some flit → n.is_head flit ≡ true → IsRouted n s x flit }
+        → n.ejects x ≡ false → (s.lines x).latch ≡ Some flit → n.is_head flit ≡ true
+        → IsRouted n s x flit }
     ensures rest { (n : Net) (s : State) → Words n s → (x flit : ℕ)
-        → n.ejects x ≡ false → (s.lines x).latch ≡ Some flit → n.is_head flit ≡ false → HasOutput s x }
+        → n.ejects x ≡ false → (s.lines x).latch ≡ Some flit → n.is_head flit ≡ false
+        → HasOutput s x }
 {}
 
 /// Owners can be told by the inputs, each holding the output that it owns, in place of by the

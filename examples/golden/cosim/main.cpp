@@ -1,31 +1,25 @@
-// cosim MACHINE SCRIPT TILE SEED [+mistake]: steps a router in Verilog beside the library's.
+// cosim MACHINE SCRIPT SEED MISTAKE TILE..: steps routers in Verilog beside the library's. MISTAKE is 0 or 1, and a TILE
+// may be the word `all`.
 //
-// All agents of the machine make drawn steps in the library. A step of the router of TILE is also made by the
+// All agents of the machine make drawn steps in the library. A step of the router of a TILE is also made by its
 // Verilog router, by its operation on one word of a row of the driver's own, which is the library's before the step.
 // Then both must have moved or not, and the two rows must be the same. The first step after which they are not is
-// printed with each word and its channel, and the status is 1.
+// printed with each word and its channel, and the status is 1. Drawn steps finish every script, as no machine is dead
+// before.
 #include <cinttypes>
 #include <cstdio>
-#include <cstdlib>
 #include <cstring>
 #include <fstream>
 #include <iterator>
+#include <memory>
 #include <string>
 #include <vector>
-#include "Vrouter.h"
+#include "router.h"
 #include "torusmem.h"
-#include "verilated.h"
 
 namespace {
 
-// The ring of machine.txt: router.v is written for it.
-constexpr uint32_t TILES = 4, PORTS = 10, CHANNELS = 12, DEPTH = 2;
-constexpr uint32_t PLACES = TILES * CHANNELS * DEPTH;
-constexpr uint32_t MOST_DRAWS = 1000000;
-
-enum Operation { NONE, SWAP, STORE, LOAD };
-
-// What the choices of a router are in router.v.
+// The choices of agents, by their numbers in these lists; those of a router are router.v's too.
 constexpr uint32_t ROUTER_CHOICES[] = {TORUSMEM_TAKE_FROM, TORUSMEM_PUT, TORUSMEM_CREDIT_OF};
 constexpr uint32_t PROCESSOR_CHOICES[] = {TORUSMEM_SEND, TORUSMEM_TAKE, TORUSMEM_CREDIT, TORUSMEM_DONE, TORUSMEM_LOOK};
 constexpr uint32_t BANK_CHOICES[] = {TORUSMEM_TAKE, TORUSMEM_SERVE, TORUSMEM_SEND, TORUSMEM_CREDIT};
@@ -47,10 +41,25 @@ struct Step {
   uint32_t agent, choice, number;
 };
 
-Step drawn(Numbers &numbers) {
-  uint32_t agent = numbers.below(3 * TILES);
+// What the library tells of a machine's shape.
+struct Shape {
+  uint32_t tiles, ports = 0, channels, places, depth;
+
+  explicit Shape(torusmem_machine *m) {
+    tiles = static_cast<uint32_t>(torusmem_tiles(m).value);
+    while (torusmem_next(m, 0, ports, 0).code == TORUSMEM_OK) ports++;
+    channels = ports + 2;
+    uint64_t words = torusmem_words(m).value;
+    places = static_cast<uint32_t>(torusmem_rows(m, nullptr, 0).value - words - 1);
+    depth = places / (tiles * channels);
+  }
+};
+
+Step drawn(Numbers &numbers, const Shape &shape) {
+  uint32_t agent = numbers.below(3 * shape.tiles);
   uint32_t choices = agent % 3 == 0 ? 5 : agent % 3 == 1 ? 3 : 4;
-  return {agent, numbers.below(choices), numbers.below(PORTS)};
+  uint32_t choice = numbers.below(choices);
+  return {agent, choice, numbers.below(shape.ports)};
 }
 
 torusmem_outcome made(torusmem_machine *m, const Step &step) {
@@ -58,75 +67,58 @@ torusmem_outcome made(torusmem_machine *m, const Step &step) {
   return torusmem_step(m, step.agent, choices[step.agent % 3][step.choice], step.number);
 }
 
-std::vector<uint64_t> row_of(torusmem_machine *m) {
-  std::vector<uint64_t> row(PLACES);
-  for (uint32_t at = 0; at < PLACES; at++) row[at] = torusmem_row(m, at).value;
-  return row;
-}
-
-// Makes a step of the Verilog router over the row, and answers whether it moved.
-bool made_in_verilog(Vrouter &router, const Step &step, std::vector<uint64_t> &row) {
-  router.choice = step.choice;
-  router.number = step.number;
-  router.eval();
-  uint32_t place = router.place;
-  if (router.operation != NONE && place >= PLACES) return false;
-  router.found = router.operation == NONE ? 0 : row[place];
-  router.eval();
-  bool moves = router.moves;
-  if (router.operation == SWAP) row[place] = 0;
-  if (router.operation == STORE) row[place] = router.value;
-  router.clock = 1;
-  router.eval();
-  router.clock = 0;
-  router.eval();
-  return moves;
-}
-
 // The name of the channel of a place in the row.
-std::string channel_name(uint32_t place) {
-  uint32_t at = place / DEPTH % CHANNELS;
-  std::string name = "tile " + std::to_string(place / DEPTH / CHANNELS);
-  if (at >= 8) return name + (at % 2 ? ", reply " : ", request ") + (at < 10 ? "injection" : "ejection");
-  return name + (at / 4 ? ", hop minus, " : ", hop plus, ") + (at / 2 % 2 ? "replies" : "requests") + ", bit " +
+std::string channel_name(const Shape &shape, uint32_t place) {
+  uint32_t at = place / shape.depth % shape.channels, hops = shape.ports - 2;
+  std::string name = "tile " + std::to_string(place / shape.depth / shape.channels);
+  if (at >= hops) return name + (at % 2 ? ", reply " : ", request ") + (at < shape.ports ? "injection" : "ejection");
+  if (hops > 8) name += ", dimension " + std::to_string(at / 8);
+  return name + (at / 4 % 2 ? ", hop minus, " : ", hop plus, ") + (at / 2 % 2 ? "replies" : "requests") + ", bit " +
          std::to_string(at % 2);
 }
 
-// Prints where the rows differ, and answers how many words do.
-int differences(const std::vector<uint64_t> &library, const std::vector<uint64_t> &verilog) {
-  int count = 0;
-  for (uint32_t at = 0; at < PLACES; at++)
-    if (library[at] != verilog[at] && ++count)
+// Prints where the places of all channels differ.
+void print_differences(const Shape &shape, const std::vector<uint64_t> &library, const std::vector<uint64_t> &verilog) {
+  for (uint32_t at = 0; at < shape.places; at++)
+    if (library[at] != verilog[at])
       std::printf("  channel %" PRIu32 " (%s), place %" PRIu32 ": library %016" PRIX64 ", Verilog %016" PRIX64 "\n",
-                  at / DEPTH, channel_name(at).c_str(), at % DEPTH, library[at], verilog[at]);
-  return count;
+                  at / shape.depth, channel_name(shape, at).c_str(), at % shape.depth, library[at], verilog[at]);
 }
 
-// Makes drawn steps till every script is finished; false at the first step that the routers make otherwise.
-bool run(torusmem_machine *m, Vrouter &router, uint32_t tile, Numbers numbers) {
-  uint32_t draws = 0, steps = 0, moves = 0;
-  std::vector<uint64_t> row = row_of(m);
-  for (; draws < MOST_DRAWS && torusmem_finished(m).value == 0; draws++) {
-    Step step = drawn(numbers);
-    torusmem_outcome said = made(m, step);
-    bool is_tested = step.agent == 3 * tile + 1;
-    if (!is_tested && said.value == 0) continue;
-    std::vector<uint64_t> after = row_of(m);
-    if (is_tested) {
-      bool moved = made_in_verilog(router, step, row);
-      steps++;
-      moves += moved;
-      if (moved != (said.value == 1) || row != after) {
-        std::printf("step %" PRIu32 ", %s %" PRIu32 " of the router of tile %" PRIu32 ": library %s, Verilog %s\n", draws,
-                    NAMES[step.choice], step.number, tile, said.value ? "moves" : "idle", moved ? "moves" : "idle");
-        differences(after, row);
+// A router that is stepped beside the library's, and how often.
+struct Tested {
+  std::unique_ptr<Router> router;
+  uint64_t steps = 0, moves = 0;
+};
+
+// Makes drawn steps till every script is finished; false at the first step that a router makes otherwise.
+bool run(torusmem_machine *m, const Shape &shape, std::vector<Tested> &tested, Numbers numbers) {
+  std::vector<uint64_t> row(torusmem_rows(m, nullptr, 0).value), after;
+  torusmem_rows(m, row.data(), row.size());
+  after = row;
+  for (uint64_t draws = 0; torusmem_finished(m).value == 0; draws++) {
+    Step step = drawn(numbers, shape);
+    bool moved = made(m, step).value == 1;
+    if (moved) torusmem_rows(m, after.data(), after.size());
+    Tested &it = tested[step.agent / 3];
+    if (step.agent % 3 == 1 && it.router) {
+      bool moved_too = it.router->attempt(step.choice, step.number, row.data(), shape.places);
+      it.steps++;
+      it.moves += moved_too;
+      if (moved != moved_too || (moved && row != after)) {
+        std::printf("step %" PRIu64 ", %s %" PRIu32 " of the router of tile %" PRIu32 ": library %s, Verilog %s\n", draws,
+                    NAMES[step.choice], step.number, step.agent / 3, moved ? "moves" : "idle", moved_too ? "moves" : "idle");
+        print_differences(shape, after, row);
         return false;
       }
     }
-    row = after;
+    if (moved) row.swap(after);
   }
-  std::printf("tile %" PRIu32 ": %" PRIu32 " steps of its router, %" PRIu32 " of them moves: no difference\n", tile, steps, moves);
-  return torusmem_finished(m).value == 1;
+  for (size_t tile = 0; tile < tested.size(); tile++)
+    if (tested[tile].router)
+      std::printf("tile %zu: %" PRIu64 " steps of its router, %" PRIu64 " of them moves: no difference\n", tile,
+                  tested[tile].steps, tested[tile].moves);
+  return true;
 }
 
 // The number that a word spells; false if it spells none below 2^64.
@@ -139,42 +131,64 @@ bool read_number(const char *word, uint64_t &number) {
   return *word != 0;
 }
 
-std::string read_file(const char *name) {
+bool read_file(const char *name, std::string &text) {
   std::ifstream file(name, std::ios::binary);
-  return {std::istreambuf_iterator<char>(file), {}};
+  text.assign(std::istreambuf_iterator<char>(file), {});
+  if (!file) std::fprintf(stderr, "cosim: cannot read %s\n", name);
+  return bool(file);
+}
+
+// The routers of the tiles that the words name; none at all where a word names no tile.
+std::vector<Tested> named(char **words, int count, uint32_t tiles, bool mistake) {
+  std::vector<Tested> tested(tiles);
+  auto add = [&](uint64_t tile) { tested[tile].router.reset(new Router(static_cast<uint32_t>(tile), mistake)); };
+  for (int at = 0; at < count; at++) {
+    uint64_t tile;
+    if (std::strcmp(words[at], "all") == 0) {
+      for (tile = 0; tile < tiles; tile++) add(tile);
+      continue;
+    }
+    if (!read_number(words[at], tile) || tile >= tiles) {
+      std::fprintf(stderr, "cosim: there is no tile '%s': the tiles are 0 to %" PRIu32 "\n", words[at], tiles - 1);
+      return {};
+    }
+    add(tile);
+  }
+  return tested;
+}
+
+int cosim(torusmem_machine *m, char **words, int count) {
+  uint64_t seed, mistake;
+  if (!read_number(words[3], seed) || !read_number(words[4], mistake) || mistake > 1) {
+    std::fprintf(stderr, "cosim: SEED is a number below 2^64, and MISTAKE is 0 or 1\n");
+    return 2;
+  }
+  std::string machine, script;
+  if (!read_file(words[1], machine) || !read_file(words[2], script)) return 2;
+  torusmem_outcome loaded = torusmem_load(m, reinterpret_cast<const uint8_t *>(machine.data()), machine.size(),
+                                          reinterpret_cast<const uint8_t *>(script.data()), script.size());
+  if (loaded.code != TORUSMEM_OK) {
+    std::fprintf(stderr, "cosim: load: fault F%" PRIu32 " at line %" PRIu64 "\n", loaded.code, loaded.value);
+    return 2;
+  }
+  Shape shape(m);
+  std::vector<Tested> tested = named(words + 5, count - 5, shape.tiles, mistake == 1);
+  if (tested.empty()) return 2;
+  bool is_same = run(m, shape, tested, Numbers{seed});
+  bool is_printed = std::fflush(stdout) == 0 && !std::ferror(stdout);
+  if (!is_printed) std::fprintf(stderr, "cosim: output failed\n");
+  return is_same && is_printed ? 0 : 1;
 }
 
 }  // namespace
 
 int main(int count, char **words) {
-  Verilated::commandArgs(count, words);
-  if (count < 5) {
-    std::fprintf(stderr, "give MACHINE SCRIPT TILE SEED, and +mistake for the planted mistake\n");
+  if (count < 6) {
+    std::fprintf(stderr, "cosim: give MACHINE SCRIPT SEED MISTAKE TILE..\n");
     return 2;
   }
-  uint64_t tile, seed;
-  if (!read_number(words[3], tile) || tile >= TILES || !read_number(words[4], seed)) {
-    std::fprintf(stderr, "TILE is a number below %" PRIu32 ", SEED one below 2^64, not %s %s\n", TILES, words[3], words[4]);
-    return 2;
-  }
-  if (count > 6 || (count == 6 && std::strcmp(words[5], "+mistake") != 0)) {
-    std::fprintf(stderr, "there is no mistake but +mistake\n");
-    return 2;
-  }
-  std::string machine = read_file(words[1]), script = read_file(words[2]);
   torusmem_machine m = TORUSMEM_MACHINE_INIT;
-  torusmem_outcome loaded = torusmem_load(&m, reinterpret_cast<const uint8_t *>(machine.data()), machine.size(),
-                                          reinterpret_cast<const uint8_t *>(script.data()), script.size());
-  if (loaded.code != TORUSMEM_OK || torusmem_tiles(&m).value != TILES) {
-    std::fprintf(stderr, "load: code %" PRIu32 ", value %" PRIu64 "\n", loaded.code, loaded.value);
-    torusmem_free(&m);
-    return 2;
-  }
-  Vrouter router;
-  router.tile = static_cast<uint32_t>(tile);
-  bool is_same = run(&m, router, static_cast<uint32_t>(tile), Numbers{seed});
+  int status = cosim(&m, words, count);
   torusmem_free(&m);
-  bool is_printed = std::fflush(stdout) == 0 && !std::ferror(stdout);
-  if (!is_printed) std::fprintf(stderr, "output failed\n");
-  return is_same && is_printed ? 0 : 1;
+  return status;
 }

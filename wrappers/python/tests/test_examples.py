@@ -226,6 +226,7 @@ class Refusals(unittest.TestCase):
             with self.assertRaises(BadReport) as caught:
                 torusmem.check(text, "some.txt")
             self.assertEqual((caught.exception.file, caught.exception.line), ("some.txt", line))
+            self.assertEqual(str(caught.exception), f"some.txt, line {line}: {caught.exception.reason}")
         self.assertIn("line 8", str(pickle.loads(pickle.dumps(BadReport("some.txt", 8)))))
 
     def test_a_closed_machine(self):

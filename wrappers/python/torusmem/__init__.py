@@ -94,11 +94,12 @@ class TextFault(ValueError):
 
 
 class BadReport(ValueError):
-    """A text is no good report: `file`, and `line`, the first bad line, from 1."""
+    """A text is no good report: `file`; `line`, the first bad line, from 1; and the `reason`, which says just this."""
 
     def __init__(self, file: str, line: int) -> None:
         self.file, self.line = file, line
-        super().__init__(f"{file}, line {line}: this is the first bad line of the report")
+        self.reason = "this is the first bad line of the report"
+        super().__init__(f"{file}, line {line}: {self.reason}")
 
     def __reduce__(self) -> Any:
         return BadReport, (self.file, self.line)

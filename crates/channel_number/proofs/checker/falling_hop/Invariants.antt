@@ -8,5 +8,6 @@ abbrev pub invariant-loop-hop : goal.invariant-loop-hop
 invariant-loop-hop l = record {
   low : 1 ≤ l.hop;
   before : l.before ≡ slice_index (along l.torus l.numbers l.fn.class l.src l.dst) (l.hop - 1);
-  rise : (k : ℕ) → k + 1 < l.hop → slice_index (along l.torus l.numbers l.fn.class l.src l.dst) k < slice_index (along l.torus l.numbers l.fn.class l.src l.dst) (k + 1);
+  rise : (k : ℕ) → k + 1 < l.hop
+      → slice_index (along l.torus l.numbers l.fn.class l.src l.dst) k < slice_index (along l.torus l.numbers l.fn.class l.src l.dst) (k + 1);
 }

@@ -8,7 +8,8 @@ use Rattle.commands.proofs.ByWorkers.{IsCrew, crew_made, crew_whole, made_by_wor
 use Rattle.commands.proofs.by_workers.closed_run.Goals as goal
 
 pub worked-requires-clause-own : goal.worked-requires-clause-own
-worked-requires-clause-own g c κs within = seats_own c.in_ok-fabric.fabric c.tiles-tiles.result c.crew_of-crew.result c.in_ok-fabric.seats.items c.in_ok-fabric.ensures.seats
+worked-requires-clause-own g c κs within =
+    seats_own c.in_ok-fabric.fabric c.tiles-tiles.result c.crew_of-crew.result c.in_ok-fabric.seats.items c.in_ok-fabric.ensures.seats
 
 pub worked-requires-clause-few : goal.worked-requires-clause-few
 worked-requires-clause-few g c κs within =
@@ -31,9 +32,14 @@ close-requires g c =
     let count = c.in-Ok.ensures.count ∙ sym (length-map seats new_worker) in
     let worked = c.in-Ok.ensures.worked in
     let k : IsCrew c.in_ok-fabric.fabric c.tiles-tiles.result c.crew_of-crew.result c.args.turns whole =
-    crew_made c.in_ok-fabric.fabric c.tiles-tiles.result c.crew_of-crew.result c.args.turns whole seats (map new_worker seats) c.in-Ok.workers.items c.joined-whole.ensures.own
-    c.in_ok-fabric.ensures.seats refl count (λ i d lt. (let many = length-map seats new_worker in worked i d (omega (arith, lt, many)))) c.joined-whole.ensures.all in
-    (k.own, crew_whole c.in_ok-fabric.fabric c.tiles-tiles.result c.crew_of-crew.result c.args.turns whole k c.crew_of-crew.ensures.within.0 c.crew_of-crew.ensures.within.2 size)
+    crew_made c.in_ok-fabric.fabric c.tiles-tiles.result c.crew_of-crew.result c.args.turns whole seats (map new_worker seats) c.in-Ok.workers.items
+    c.joined-whole.ensures.own
+    c.in_ok-fabric.ensures.seats refl count (λ i d lt. (let many = length-map seats new_worker in worked i d (omega (arith, lt, many))))
+    c.joined-whole.ensures.all in (
+      k.own,
+      crew_whole c.in_ok-fabric.fabric c.tiles-tiles.result c.crew_of-crew.result c.args.turns whole k c.crew_of-crew.ensures.within.0
+          c.crew_of-crew.ensures.within.2 size,
+    )
 
 pub returns-clause-run : goal.returns-clause-run
 returns-clause-run g c = λ l from.
@@ -43,9 +49,12 @@ returns-clause-run g c = λ l from.
     let count = c.in-Ok.ensures.count ∙ sym (length-map seats new_worker) in
     let worked = c.in-Ok.ensures.worked in
     let k : IsCrew c.in_ok-fabric.fabric c.tiles-tiles.result c.crew_of-crew.result c.args.turns whole =
-    crew_made c.in_ok-fabric.fabric c.tiles-tiles.result c.crew_of-crew.result c.args.turns whole seats (map new_worker seats) c.in-Ok.workers.items c.joined-whole.ensures.own
-    c.in_ok-fabric.ensures.seats refl count (λ i d lt. (let many = length-map seats new_worker in worked i d (omega (arith, lt, many)))) c.joined-whole.ensures.all in
+    crew_made c.in_ok-fabric.fabric c.tiles-tiles.result c.crew_of-crew.result c.args.turns whole seats (map new_worker seats) c.in-Ok.workers.items
+    c.joined-whole.ensures.own
+    c.in_ok-fabric.ensures.seats refl count (λ i d lt. (let many = length-map seats new_worker in worked i d (omega (arith, lt, many))))
+    c.joined-whole.ensures.all in
     let is : c.close.result ≡ record { load = whole.load; run = whole.run } = search rules in
-    made_by_workers c.in_ok-fabric.fabric c.tiles-tiles.result c.crew_of-crew.result c.args.turns whole k c.crew_of-crew.ensures.within.0 c.crew_of-crew.ensures.within.2
+    made_by_workers c.in_ok-fabric.fabric c.tiles-tiles.result c.crew_of-crew.result c.args.turns whole k c.crew_of-crew.ensures.within.0
+    c.crew_of-crew.ensures.within.2
     l c.args.machine from c.in_ok-fabric.ensures.load size c.args.workers c.crew_of-crew.ensures.is c.close.result is
     c.steps_lead_to_a_machine.ensures.reports c.steps_lead_on.ensures.steps c.steps_decide_the_machine.ensures.named

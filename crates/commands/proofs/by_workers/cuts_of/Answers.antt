@@ -11,5 +11,6 @@ loop-before-preserved c =
     let next : 1 + k ≡ k + 1 = omega arith in
     record {
       count = c.push.ensures.len ∙ ap (λ (n : ℕ). n + 1) c.loop-before.invariant.count;
-      cuts = c.push.ensures.items ∙ (ap (λ (l : List ℕ). l ++ first (k + 1) ∷ []) c.loop-before.invariant.cuts ∙ sym (map-range_with_len_more first 1 k (k + 1) next));
+      cuts = c.push.ensures.items
+          ∙ (ap (λ (l : List ℕ). l ++ first (k + 1) ∷ []) c.loop-before.invariant.cuts ∙ sym (map-range_with_len_more first 1 k (k + 1) next));
     }

@@ -13,16 +13,20 @@ loop-worker-init g c =
 pub join-whole-requires : goal.join-whole-requires
 join-whole-requires g c =
     let k = c.loop-worker.invariant in
-    let own = joins_own c.args.fabric.now c.args.workers.items c.loop-worker.workers.items c.pop-in-loop-worker.new.self.items c.loop-worker.whole c.in-Some-pop.worker k c.in-Some-pop.ensures.items in
+    let own = joins_own c.args.fabric.now c.args.workers.items c.loop-worker.workers.items c.pop-in-loop-worker.new.self.items c.loop-worker.whole
+    c.in-Some-pop.worker k c.in-Some-pop.ensures.items in
     (k.own, rw c.into_seat.ensures own)
 
 pub loop-worker-preserved : goal.loop-worker-preserved
 loop-worker-preserved g c =
     let k = c.loop-worker.invariant in
-    joins_more c.args.fabric.now c.args.workers.items c.loop-worker.workers.items c.pop-in-loop-worker.new.self.items c.loop-worker.whole c.in-Some-pop.worker k c.in-Some-pop.ensures.items
+    joins_more c.args.fabric.now c.args.workers.items c.loop-worker.workers.items c.pop-in-loop-worker.new.self.items c.loop-worker.whole c.in-Some-pop.worker k
+    c.in-Some-pop.ensures.items
     c.join-whole.result (rw (sym c.into_seat.ensures) c.join-whole.ensures.both)
 
 pub returns-clause-all : goal.returns-clause-all
 returns-clause-all g c =
-    let none : c.loop-worker.workers.items ≡ [] = nil_from_length c.loop-worker.workers.items (let size = c.loop-worker.workers.ok.0 in let k = c.in_default-pop.ensures.cases in let e = k.0 in omega (arith, size, e)) in
+    let none : c.loop-worker.workers.items ≡ [] =
+    nil_from_length c.loop-worker.workers.items
+    (let size = c.loop-worker.workers.ok.0 in let k = c.in_default-pop.ensures.cases in let e = k.0 in omega (arith, size, e)) in
     joins_all c.args.fabric.now c.args.workers.items c.loop-worker.workers.items c.loop-worker.whole c.loop-worker.invariant none

@@ -2,7 +2,7 @@
 use Rattle.std.proofs.Common.{Result}
 use Rattle.std.specs.Str.Lines.{lines}
 use Rattle.script.specs.declared.fault.LineFault.{LineFault}
-use Rattle.machine_texts.specs.flights.specs.Load.{Load}
+use Rattle.machine_texts.specs.order_abstract.specs.Load.{Load}
 use Rattle.commands.specs.Run.{IsNoFault, IsTextsFault}
 use Rattle.machine_texts.specs.Loading.{HasLoaded, load_by}
 use Rattle.commands.specs.Workers.{IsMadeByWorkers, IsOfEnded, IsWorkersText}

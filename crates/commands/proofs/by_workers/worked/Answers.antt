@@ -12,7 +12,8 @@ use Rattle.commands.proofs.by_workers.worked.Goals as goal
 pub run_workers-requires-clause-own : goal.run_workers-requires-clause-own
 run_workers-requires-clause-own g c κs within =
     let is = c.as_mut_slice.ensures.value ∙ c.in_ok-workers.ensures in
-    subst (All (λ (w : Working). IsOf c.args.fabric.now w.knows)) (sym is) (All-map (λ (w : Working). IsOf c.args.fabric.now w.knows) new_worker c.args.seats.items c.requires.own)
+    subst (All (λ (w : Working). IsOf c.args.fabric.now w.knows)) (sym is)
+    (All-map (λ (w : Working). IsOf c.args.fabric.now w.knows) new_worker c.args.seats.items c.requires.own)
 
 pub run_workers-requires-clause-few : goal.run_workers-requires-clause-few
 run_workers-requires-clause-few g c κs within =
@@ -32,9 +33,11 @@ returns-clause-own g c =
     let new : List Working = c.run_workers.new.workers in
     let size : length old ≡ v.len = (let n = v.ok.0 in omega (arith, n)) in
     let is = c.as_mut_slice.ensures.value ∙ c.in_ok-workers.ensures in
-    let own : All (λ (w : Working). IsOf c.args.fabric.now w.knows) c.as_mut_slice.result.now = subst (All (λ (w : Working). IsOf c.args.fabric.now w.knows)) (sym is)
+    let own : All (λ (w : Working). IsOf c.args.fabric.now w.knows) c.as_mut_slice.result.now =
+    subst (All (λ (w : Working). IsOf c.args.fabric.now w.knows)) (sym is)
     (All-map (λ (w : Working). IsOf c.args.fabric.now w.knows) new_worker c.args.seats.items c.requires.own) in
-    subst (All (λ (w : Working). IsOf c.args.fabric.now w.knows)) (sym (back v.len old c.as_mut_slice.result.now new size c.as_mut_slice.ensures.value c.run_workers.ensures.count))
+    subst (All (λ (w : Working). IsOf c.args.fabric.now w.knows))
+    (sym (back v.len old c.as_mut_slice.result.now new size c.as_mut_slice.ensures.value c.run_workers.ensures.count))
     (own_after c.args.fabric.now c.args.turns c.as_mut_slice.result.now new c.run_workers.ensures.count own
     (λ i d lt. worked_open (g.G.Gate.holds c.args.gate.now) (g.G.Gate.stops c.args.gate.now) c.args.turns i
     (slice_index_or c.as_mut_slice.result.now i d) (slice_index_or new i d) c.requires.gate (c.run_workers.ensures.worked i d lt)))
@@ -57,6 +60,7 @@ returns-clause-worked g c = λ i d lt.
     let is = c.as_mut_slice.ensures.value ∙ c.in_ok-workers.ensures in
     let many = ap length is ∙ length-map c.args.seats.items new_worker in
     let same = back v.len old c.as_mut_slice.result.now new size c.as_mut_slice.ensures.value c.run_workers.ensures.count in
-    subst (λ (p : List Working × List Working). HasWorked ⊥ (λ step. ⊥) c.args.turns (slice_index_or p.0 i d) (slice_index_or p.1 i d)) (λ j. (is j, sym same j))
+    subst (λ (p : List Working × List Working). HasWorked ⊥ (λ step. ⊥) c.args.turns (slice_index_or p.0 i d) (slice_index_or p.1 i d))
+    (λ j. (is j, sym same j))
     (worked_open (g.G.Gate.holds c.args.gate.now) (g.G.Gate.stops c.args.gate.now) c.args.turns i
     (slice_index_or c.as_mut_slice.result.now i d) (slice_index_or new i d) c.requires.gate (c.run_workers.ensures.worked i d (omega (arith, lt, many))))

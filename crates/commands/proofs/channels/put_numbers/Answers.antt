@@ -1,7 +1,7 @@
 -- What was taken of the last line comes behind the lines of the channels; the check says whether there is one.
 use Rattle.std.specs.Prelude.{codes}
 use Rattle.std.proofs.lemmas.Result.{err_from_is_err_and}
-use Rattle.commands.specs.Done.{output}
+use Rattle.program_fault.specs.Done.{output}
 use Rattle.commands.specs.Lines.{IsNumbersText, all_lines}
 use Rattle.commands.proofs.Numbers.{checked_text, last_line, puts_last}
 use Rattle.commands.proofs.Pieces.{front_of_more}

@@ -2,8 +2,8 @@
 use Rattle.std.proofs.Common.{◌≡◌, ◌<◌, sym, ◌∙◌, ap, arith, length}
 use Rattle.std.specs.Option.{option_copied}
 use Rattle.torus.specs.Shape.{tiles_of}
-use Rattle.machine_laws.specs.Core.{shown}
-use Rattle.machine_laws.specs.Reported.{ReportsWell}
+use Rattle.core_machine.specs.Core.{shown}
+use Rattle.core_machine.specs.Reported.{ReportsWell}
 use Rattle.history.specs.machine_report.proofs.RowMore.{none_past}
 use Rattle.commands.proofs.Counted.{count_more}
 use Rattle.commands.proofs.in_rounds.answered.Goals.{in-Some, in_default}
@@ -11,7 +11,8 @@ use Rattle.commands.proofs.in_rounds.answered.Goals as goal
 
 pub loop-processor-preserved : goal.loop-processor-preserved
 loop-processor-preserved g c =
-    let well : ReportsWell c.args.machine.now = c.reached_machines_report_well.ensures c.reached.ensures.0 c.args.machine.now c.reached.ensures.1 c.reached.ensures.2 in
+    let well : ReportsWell c.args.machine.now =
+    c.reached_machines_report_well.ensures c.reached.ensures.0 c.args.machine.now c.reached.ensures.1 c.reached.ensures.2 in
     let test = c.loop-processor-test.true in
     let tiles = c.tiles-processor-end.ensures.value in
     let count : length (shown c.args.machine.now).answers ≡ tiles_of c.torus.result.now = well.shows.sizes.answerers ∙ sym (ap tiles_of c.torus.ensures) in
@@ -20,5 +21,6 @@ loop-processor-preserved g c =
       | in-Some w ↦ w.count-is ∙ (w.saturating_add-count.ensures
           ∙ count_more (shown c.args.machine.now).answers c.loop-processor.processor c.loop-processor.count w.in-Some.answers.now
           (sym (ap option_copied (sym w.in-Some.is) ∙ c.answers.ensures)) c.loop-processor.invariant)
-      | in_default w ↦ absurd (none_past (shown c.args.machine.now).answers c.loop-processor.processor inside (ap option_copied (sym w.in_default.is) ∙ c.answers.ensures))
+      | in_default w ↦ absurd (none_past (shown c.args.machine.now).answers c.loop-processor.processor inside
+          (ap option_copied (sym w.in_default.is) ∙ c.answers.ensures))
     ]

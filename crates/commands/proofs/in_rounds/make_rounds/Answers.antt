@@ -1,7 +1,7 @@
 -- The rounds stop where every script is finished, or where no more are allowed; who watches is told of each, and changes nothing of it.
 use Rattle.std.proofs.Common.{◌≡◌, ℕ, ◌+◌, [], refl, sym, subst, ◌∙◌, arith}
-use Rattle.machine_texts.specs.flights.specs.Load.{Load}
-use Rattle.machine_laws.specs.Core.{IsAfter}
+use Rattle.machine_texts.specs.order_abstract.specs.Load.{Load}
+use Rattle.core_machine.specs.Core.{IsAfter}
 use Rattle.commands.specs.Rounds.{AreFewest}
 use Rattle.commands.specs.Telling.{AreCallsOf}
 use Rattle.commands.proofs.InRounds.{HasMade, as_allowed, enough, none_made, one_more}
@@ -23,7 +23,8 @@ loop-before-preserved g c =
     record {
       made = more;
       told = λ l start.
-          round_heard l k c.round.new.self (g.P.Progress.heard c.args.progress.now) (g.P.Progress.heard c.loop-before.progress) (g.P.Progress.heard c.tell_round.new.progress)
+          round_heard l k c.round.new.self (g.P.Progress.heard c.args.progress.now) (g.P.Progress.heard c.loop-before.progress)
+          (g.P.Progress.heard c.tell_round.new.progress)
           (c.loop-before.invariant.told l start) (more l start).after c.steps_decide_the_machine.ensures.named c.tell_round.ensures;
     }
 
@@ -31,7 +32,8 @@ pub returns-then-finished : goal.returns-then-finished
 returns-then-finished g c =
     let k : ℕ = c.loop-before.before in
     let finished = sym c.if-finished.true ∙ c.finished.ensures.value in
-    let fewest : (l : Load) → IsAfter l c.args.machine.now [] → AreFewest l c.args.rounds k = λ l start. enough l c.args.rounds k c.loop-before.machine (c.loop-before.invariant.made l start) c.loop-before-test.true finished in
+    let fewest : (l : Load) → IsAfter l c.args.machine.now [] → AreFewest l c.args.rounds k =
+    λ l start. enough l c.args.rounds k c.loop-before.machine (c.loop-before.invariant.made l start) c.loop-before-test.true finished in
     record {
       made = λ l start. record { rounds = k; fewest = fewest l start; after = (c.loop-before.invariant.made l start).after };
       told = λ l start. (let h = c.loop-before.invariant.told l start in (h.0, record { rounds = k; fewest = fewest l start; each = h.1 }, h.2));
@@ -40,8 +42,10 @@ returns-then-finished g c =
 pub returns : goal.returns
 returns g c =
     let end : c.loop-before.before ≡ c.args.rounds = omega arith in
-    let made : (l : Load) → IsAfter l c.args.machine.now [] → HasMade l c.args.rounds c.loop-before.machine = λ l start. subst (λ (k : ℕ). HasMade l k c.loop-before.machine) end (c.loop-before.invariant.made l start) in
-    let fewest : (l : Load) → IsAfter l c.args.machine.now [] → AreFewest l c.args.rounds c.args.rounds = λ l start. as_allowed l c.args.rounds c.loop-before.machine (made l start) in
+    let made : (l : Load) → IsAfter l c.args.machine.now [] → HasMade l c.args.rounds c.loop-before.machine =
+    λ l start. subst (λ (k : ℕ). HasMade l k c.loop-before.machine) end (c.loop-before.invariant.made l start) in
+    let fewest : (l : Load) → IsAfter l c.args.machine.now [] → AreFewest l c.args.rounds c.args.rounds =
+    λ l start. as_allowed l c.args.rounds c.loop-before.machine (made l start) in
     record {
       made = λ l start. record { rounds = c.args.rounds; fewest = fewest l start; after = (made l start).after };
       told = λ l start.

@@ -3,7 +3,7 @@ use Rattle.std.proofs.Common.{Result, subst, sym}
 use Rattle.std.proofs.lemmas.Result.{err_from_is_err_and}
 use Rattle.std.specs.Str.Lines.{lines}
 use Rattle.script.specs.declared.fault.LineFault.{LineFault}
-use Rattle.machine_texts.specs.flights.specs.Load.{Load}
+use Rattle.machine_texts.specs.order_abstract.specs.Load.{Load}
 use Rattle.commands.specs.Run.{IsNoFault, IsOfMachine, IsReadFault, IsTextsFault}
 use Rattle.machine_texts.specs.Loading.{HasLoaded, load_by}
 use Rattle.commands.specs.Rounds.{HasMadeRounds, IsRoundText}
@@ -24,7 +24,8 @@ returns-clause-prints g c =
     let loaded : HasLoaded asked c.in_ok-machine.machine = c.in_ok-machine.ensures.ok in
     let made : HasMadeRounds loaded.load c.args.rounds c.make_rounds.new.machine = c.make_rounds.ensures.made loaded.load loaded.after in
     does_more (IsOfMachine c.make_rounds.new.machine) (IsRoundText asked c.args.rounds) IsNoFault (IsTextsFault asked) _ _ c.print_run.result
-    (λ finished text printed. rounds_printed asked c.args.rounds c.in_ok-machine.machine c.make_rounds.new.machine finished text loaded made c.steps_decide_the_machine.ensures.named printed)
+    (λ finished text printed. rounds_printed asked c.args.rounds c.in_ok-machine.machine c.make_rounds.new.machine finished text loaded made
+    c.steps_decide_the_machine.ensures.named printed)
     (λ e h. absurd h) c.print_run.ensures
 
 pub returns-clause-told : goal.returns-clause-told

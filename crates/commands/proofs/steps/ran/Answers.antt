@@ -2,8 +2,8 @@
 use Rattle.std.proofs.Common.{List, [], subst}
 use Rattle.std.specs.Str.Lines.{lines}
 use Rattle.torus.specs.declared.step.Step.{Step}
-use Rattle.machine_texts.specs.flights.specs.Load.{Load, load_of}
-use Rattle.machine_laws.specs.Core.{IsAfter}
+use Rattle.machine_texts.specs.order_abstract.specs.Load.{Load, load_of}
+use Rattle.core_machine.specs.Core.{IsAfter}
 use Rattle.commands.proofs.Asked.{all_read}
 use Rattle.commands.proofs.steps.ran.Goals as goal
 
@@ -15,7 +15,8 @@ returns-clause-ok g c =
     (c.run.ensures.law load [] c.in_ok-machine-2.ensures.start) in
     record {
       run = record { load = load; steps = steps };
-      read = all_read (lines c.args.machine.now) (lines c.args.scripts.now) (lines c.args.steps.now) c.in_ok-machine.machine c.in_ok-scripts.scripts c.in_ok-steps.steps.items c.in_ok-machine.ensures c.in_ok-scripts.ensures.value c.in_ok-steps.ensures;
+      read = all_read (lines c.args.machine.now) (lines c.args.scripts.now) (lines c.args.steps.now) c.in_ok-machine.machine c.in_ok-scripts.scripts
+          c.in_ok-steps.steps.items c.in_ok-machine.ensures c.in_ok-scripts.ensures.value c.in_ok-steps.ensures;
       after = after;
       reached = c.steps_decide_the_machine.ensures.named load c.run.new.self steps after;
     }

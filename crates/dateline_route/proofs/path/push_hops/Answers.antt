@@ -19,7 +19,8 @@ push-requires c =
     let few = hops_few c.args.torus.now c.radix_of-radix.ensures.accepted c.args.start c.args.dst c.args.dim c.requires.dimension
     c.shorter_way-dir.result c.radix_of-radix.result c.digit-here.result c.digit-there.result c.hops_by-hop-end.result
     c.radix_of-radix.ensures.value c.digit-here.ensures.value c.digit-there.ensures.value c.shorter_way-dir.ensures c.hops_by-hop-end.ensures in
-    let long = length-pushed (hop_of c.args.torus.now c.args.start c.shorter_way-dir.result c.args.dim c.args.class) c.args.channels.now.items c.loop-hop.channels.items c.loop-hop._hop c.loop-hop.invariant.made in
+    let long = length-pushed (hop_of c.args.torus.now c.args.start c.shorter_way-dir.result c.args.dim c.args.class) c.args.channels.now.items
+    c.loop-hop.channels.items c.loop-hop._hop c.loop-hop.invariant.made in
     (lit< tt, omega arith)
 
 pub loop-hop-preserved : goal.loop-hop-preserved
@@ -33,14 +34,16 @@ loop-hop-preserved c =
     let few = hops_few s h t c.args.dst d c.requires.dimension
     dir c.radix_of-radix.result c.digit-here.result c.digit-there.result c.hops_by-hop-end.result
     c.radix_of-radix.ensures.value c.digit-here.ensures.value c.digit-there.ensures.value c.shorter_way-dir.ensures c.hops_by-hop-end.ensures in
-    let bit = ap (λ b. c.loop-hop.bit || b) c.is_dateline_hop-bit.ensures ∙ ap (λ b. b || is_dateline_hop s c.loop-hop.at d dir) c.loop-hop.invariant.bit ∙ crossed_more s t d i c.loop-hop.at dir c.loop-hop.invariant.after in
+    let bit = ap (λ b. c.loop-hop.bit || b) c.is_dateline_hop-bit.ensures ∙ ap (λ b. b || is_dateline_hop s c.loop-hop.at d dir) c.loop-hop.invariant.bit
+    ∙ crossed_more s t d i c.loop-hop.at dir c.loop-hop.invariant.after in
     record {
       after = after_more s h t d i c.loop-hop.at c.neighbour-at.result dir c.requires.dimension (omega arith) c.loop-hop.invariant.after c.neighbour-at.ensures;
       bit = bit;
       made = made_more (hop_of s t dir d c.args.class) c.args.channels.now.items c.loop-hop.channels.items c.push.new.self.items i
           (record { tile = c.loop-hop.at; class = c.args.class; kind = Hop d dir (c.loop-hop.bit || c.is_dateline_hop-bit.result) })
           c.loop-hop.invariant.made c.push.ensures.items
-          (hop_is s h t d i c.loop-hop.at dir c.args.class (c.loop-hop.bit || c.is_dateline_hop-bit.result) c.requires.start c.requires.dimension (omega arith) c.loop-hop.invariant.after bit);
+          (hop_is s h t d i c.loop-hop.at dir c.args.class (c.loop-hop.bit || c.is_dateline_hop-bit.result) c.requires.start c.requires.dimension (omega arith)
+          c.loop-hop.invariant.after bit);
     }
 
 pub returns-clause-hops : goal.returns-clause-hops
@@ -62,5 +65,6 @@ returns-clause-few c =
     let few = hops_few c.args.torus.now c.radix_of-radix.ensures.accepted c.args.start c.args.dst c.args.dim c.requires.dimension
     c.shorter_way-dir.result c.radix_of-radix.result c.digit-here.result c.digit-there.result c.hops_by-hop-end.result
     c.radix_of-radix.ensures.value c.digit-here.ensures.value c.digit-there.ensures.value c.shorter_way-dir.ensures c.hops_by-hop-end.ensures in
-    let long = length-pushed (hop_of c.args.torus.now c.args.start c.shorter_way-dir.result c.args.dim c.args.class) c.args.channels.now.items c.loop-hop.channels.items c.loop-hop._hop c.loop-hop.invariant.made in
+    let long = length-pushed (hop_of c.args.torus.now c.args.start c.shorter_way-dir.result c.args.dim c.args.class) c.args.channels.now.items
+    c.loop-hop.channels.items c.loop-hop._hop c.loop-hop.invariant.made in
     omega arith

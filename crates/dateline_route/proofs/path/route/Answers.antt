@@ -37,7 +37,8 @@ returns c =
     let s = c.args.torus.now in
     let all : c.loop-dim.dim ≡ dims_of s = omega arith in
     let is : c.push-2.new.self.items ≡ route_of s c.args.src c.args.dst c.args.class =
-    whole (record { tile = c.args.src; class = c.args.class; kind = Injection }) (record { tile = c.args.dst; class = c.args.class; kind = Ejection }) s c.args.src c.args.dst c.args.class
+    whole (record { tile = c.args.src; class = c.args.class; kind = Injection }) (record { tile = c.args.dst; class = c.args.class; kind = Ejection }) s
+    c.args.src c.args.dst c.args.class
     c.loop-dim.dim c.loop-dim.channels.items c.push-2.new.self.items all c.loop-dim.invariant.made c.push-2.ensures.items in
     let h = c.dims-dim-end.ensures.accepted in
     let P : List Channel → Type 0 = λ xs. All (IsChannel s) xs in

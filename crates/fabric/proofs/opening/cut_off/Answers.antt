@@ -1,6 +1,6 @@
 use Rattle.std.proofs.Common.{ap, ◌∙◌}
 use Rattle.fabric.proofs.Sharing.{halves}
-use Rattle.fabric_laws.specs.Groups.{other_groups}
+use Rattle.fabric_rule.specs.Groups.{other_groups}
 use Rattle.fabric.proofs.Fresh.{tied_start, seated_start, rest_later, fresh_half, rest_half}
 use Rattle.fabric.proofs.opening.cut_off.Goals as goal
 
@@ -13,7 +13,8 @@ invariant_of-result g c =
     let t = c.in_ok-slots.ensures in
     seated_start c.args.row.now.table_id c.args.seat c.split_seat-other.new.seat c.in_ok-slots.slots.items c.args.from c.args.to c.requires.seat.0 s.0
     (ap (λ m. m.1) s.2 ∙ c.requires.seat.0.placed.no_slot) (ap (λ m. m.0) s.2) c.requires.group.0
-    (tied_start c.args.seat.me.0.load c.args.all.now.items c.in_ok-slots.slots.items c.args.from c.args.to c.requires.group.1 c.requires.group.2 c.requires.all t.len t.inside t.outside)
+    (tied_start c.args.seat.me.0.load c.args.all.now.items c.in_ok-slots.slots.items c.args.from c.args.to c.requires.group.1 c.requires.group.2 c.requires.all
+    t.len t.inside t.outside)
 
 pub returns-in_err-slots-clause-all : goal.returns-in_err-slots-clause-all
 returns-in_err-slots-clause-all g c = rest_later _ c.args.all.now.items _ _ _ c.requires.group.1 c.taken.ensures.same c.taken.ensures.rest c.requires.all
@@ -24,9 +25,11 @@ returns-clause-all g c = rest_later _ c.args.all.now.items _ _ _ c.requires.grou
 pub returns-clause-seat : goal.returns-clause-seat
 returns-clause-seat g c =
     let s = c.split_seat-other.ensures in
-    fresh_half c.args.row.now.table_id c.args.seat c.split_seat-other.new.seat c.args.from c.args.to c.requires.seat.0 s.0 (ap (λ m. m.0) s.2) c.requires.group.0
+    fresh_half c.args.row.now.table_id c.args.seat c.split_seat-other.new.seat c.args.from c.args.to c.requires.seat.0 s.0 (ap (λ m. m.0) s.2)
+    c.requires.group.0
 
 pub returns-clause-left : goal.returns-clause-left
 returns-clause-left g c =
     let s = c.split_seat-other.ensures in
-    rest_half c.args.row.now.table_id c.args.seat c.split_seat-other.result (other_groups c.args.seat.me.0.groups) c.requires.seat.0 s.3 (ap (λ m. m.1) s.4) (ap (λ m. m.0) s.4)
+    rest_half c.args.row.now.table_id c.args.seat c.split_seat-other.result (other_groups c.args.seat.me.0.groups) c.requires.seat.0 s.3 (ap (λ m. m.1) s.4)
+    (ap (λ m. m.0) s.4)

@@ -1,8 +1,8 @@
 use Rattle.std.proofs.Common.{rules, arith, refl, ◌≡◌, ℕ, List, [], ◌∷◌, ◌++◌, drop, ap, ◌∙◌, subst}
 use Rattle.std.proofs.lemmas.List.{drop_more}
 use Rattle.torus.specs.Shape.{tiles_of}
-use Rattle.fabric_laws.specs.core_laws.specs.Core.{Load}
-use Rattle.fabric_laws.specs.Groups.{other_groups}
+use Rattle.fabric_rule.specs.core_laws.specs.Core.{Load}
+use Rattle.fabric_rule.specs.Groups.{other_groups}
 use Rattle.fabric.specs.Key.{ranges, Rises}
 use Rattle.fabric.specs.Opening.{fresh, HasRest}
 use Rattle.fabric.proofs.Ranges.{range_here}
@@ -29,7 +29,8 @@ loop-cut-preserved g c =
           (λ j. (i.seat.loaded j, ap other_groups (i.seat.grouped ∙ ap (λ (l : List ℕ). ranges c.loop-cut.from l c.args.count) more) j)) k.left;
       rises = (subst (λ (l : List ℕ). Rises c.loop-cut.from l c.args.count) more i.rises).1;
       all = rest_as_loaded c.cut_off.ensures.all i.seat.loaded;
-      seats = part_more (fresh c.args.row.now.table_id c.args.seat.me.0.load) c.loop-cut.seats.items c.push.new.self.items c.in_ok-one.one c.loop-cut.from _ c.args.count _ _ push
+      seats = part_more (fresh c.args.row.now.table_id c.args.seat.me.0.load) c.loop-cut.seats.items c.push.new.self.items c.in_ok-one.one c.loop-cut.from _
+          c.args.count _ _ push
           (fresh_as_loaded k.seat i.seat.loaded) i.seats _ more;
     }
 
@@ -39,7 +40,8 @@ returns-clause-seats g c =
     let k = c.in_ok-one-2.ensures in
     let none : drop c.loop-cut.cut-index c.args.cuts.now ≡ [] = drop_none c.args.cuts.now c.loop-cut.cut-index (omega arith) in
     let push : c.push-2.new.self.items ≡ c.loop-cut.seats.items ++ c.in_ok-one-2.one ∷ [] = search rules in
-    part_last (fresh c.args.row.now.table_id c.args.seat.me.0.load) c.loop-cut.seats.items c.push-2.new.self.items c.in_ok-one-2.one c.loop-cut.from c.args.count c.args.count _ _ push
+    part_last (fresh c.args.row.now.table_id c.args.seat.me.0.load) c.loop-cut.seats.items c.push-2.new.self.items c.in_ok-one-2.one c.loop-cut.from
+    c.args.count c.args.count _ _ push
     (fresh_as_loaded k.seat i.seat.loaded) i.seats refl none
 
 pub returns-clause-left : goal.returns-clause-left

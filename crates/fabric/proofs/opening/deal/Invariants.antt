@@ -8,5 +8,6 @@ invariant-loop-cut g l = record {
   seat : HasRest l.row.table_id l.fn.seat.me.0.load (ranges l.from (drop l.cut-index l.cuts) l.count) l.rest;
   rises : Rises l.from (drop l.cut-index l.cuts) l.count;
   all : Rest l.fn.seat.me.0.load l.all.items l.from;
-  seats : l.seats.items ++ map (fresh l.row.table_id l.fn.seat.me.0.load) (ranges l.from (drop l.cut-index l.cuts) l.count) ≡ map (fresh l.row.table_id l.fn.seat.me.0.load) (ranges 0 l.cuts l.count);
+  seats : l.seats.items ++ map (fresh l.row.table_id l.fn.seat.me.0.load) (ranges l.from (drop l.cut-index l.cuts) l.count)
+      ≡ map (fresh l.row.table_id l.fn.seat.me.0.load) (ranges 0 l.cuts l.count);
 }

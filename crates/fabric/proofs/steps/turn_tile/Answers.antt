@@ -1,6 +1,7 @@
 use Rattle.std.proofs.Common.{subst}
 use Rattle.torus.specs.declared.step.Stepped.{Stepped}
-use Rattle.fabric.proofs.Turning.{makes, idles, idles_before, Absorbs, op_is, accepts, has_room, moved_is, idle_is, stands_then, only_tile, before, accepted_before, told_of}
+use Rattle.fabric.proofs.Turning.{makes, idles, idles_before, Absorbs, op_is, accepts, has_room, moved_is, idle_is, stands_then, only_tile, before}
+use Rattle.fabric.proofs.Turning.{accepted_before, told_of}
 use Rattle.fabric.proofs.steps.turn_tile.Goals as goal
 
 pub returns-in_default-clause-idle : goal.returns-in_default-clause-idle
@@ -13,26 +14,40 @@ pub absorb-requires-clause-flit : goal.absorb-requires-clause-flit
 absorb-requires-clause-flit g c = let t = told_of _ _ _ _ _ _ _ c.requires.picked.0 c.requires.picked.1 c.perform-found.ensures.told in accepts _ _ _ _ t.suits
 
 pub absorb-requires-clause-entries : goal.absorb-requires-clause-entries
-absorb-requires-clause-entries g c = let t = told_of _ _ _ _ _ _ _ c.requires.picked.0 c.requires.picked.1 c.perform-found.ensures.told in has_room _ _ _ _ (before _ _ _ _ c.requires.turning c.requires.tile).room t.suits
+absorb-requires-clause-entries g c = let t = told_of _ _ _ _ _ _ _ c.requires.picked.0 c.requires.picked.1 c.perform-found.ensures.told in
+    has_room _ _ _ _ (before _ _ _ _ c.requires.turning c.requires.tile).room t.suits
 
 pub returns-in-Moved-clause-tile : goal.returns-in-Moved-clause-tile
-returns-in-Moved-clause-tile g c = stands_then c.args.step c.args.tile.now c.args.seat.now.me.0 c.perform-found.new.seat.me.0 c.perform-found.result c.absorb.result c.absorb.new.self (before _ _ _ _ c.requires.turning c.requires.tile) (told_of _ _ _ _ _ _ _ c.requires.picked.0 c.requires.picked.1 c.perform-found.ensures.told) c.absorb.ensures
+returns-in-Moved-clause-tile g c =
+    stands_then c.args.step c.args.tile.now c.args.seat.now.me.0 c.perform-found.new.seat.me.0 c.perform-found.result c.absorb.result c.absorb.new.self
+    (before _ _ _ _ c.requires.turning c.requires.tile) (told_of _ _ _ _ _ _ _ c.requires.picked.0 c.requires.picked.1 c.perform-found.ensures.told)
+    c.absorb.ensures
 
 pub returns-in-Moved-clause-moved : goal.returns-in-Moved-clause-moved
 returns-in-Moved-clause-moved g c = λ _.
     let absorbs = subst (λ (a : Stepped). Absorbs c.args.tile.now c.args.step c.perform-found.result a c.absorb.new.self) c.in-Moved.is c.absorb.ensures in
-    makes c.args.step c.args.tile.now.place c.args.seat.now.me.0 c.perform-found.new.seat.me.0 c.perform-found.result (told_of _ _ _ _ _ _ _ c.requires.picked.0 c.requires.picked.1 c.perform-found.ensures.told) (moved_is _ _ _ c.absorb.new.self absorbs)
+    makes c.args.step c.args.tile.now.place c.args.seat.now.me.0 c.perform-found.new.seat.me.0 c.perform-found.result
+    (told_of _ _ _ _ _ _ _ c.requires.picked.0 c.requires.picked.1 c.perform-found.ensures.told) (moved_is _ _ _ c.absorb.new.self absorbs)
 
 pub returns-in-Moved-clause-rest : goal.returns-in-Moved-clause-rest
-returns-in-Moved-clause-rest g c = only_tile _ _ _ _ _ (accepted_before _ _ c.requires.turning c.requires.load) (told_of _ _ _ _ _ _ _ c.requires.picked.0 c.requires.picked.1 c.perform-found.ensures.told)
+returns-in-Moved-clause-rest g c =
+    only_tile _ _ _ _ _ (accepted_before _ _ c.requires.turning c.requires.load)
+    (told_of _ _ _ _ _ _ _ c.requires.picked.0 c.requires.picked.1 c.perform-found.ensures.told)
 
 pub returns-in-Idle-clause-tile : goal.returns-in-Idle-clause-tile
-returns-in-Idle-clause-tile g c = stands_then c.args.step c.args.tile.now c.args.seat.now.me.0 c.perform-found.new.seat.me.0 c.perform-found.result c.absorb.result c.absorb.new.self (before _ _ _ _ c.requires.turning c.requires.tile) (told_of _ _ _ _ _ _ _ c.requires.picked.0 c.requires.picked.1 c.perform-found.ensures.told) c.absorb.ensures
+returns-in-Idle-clause-tile g c =
+    stands_then c.args.step c.args.tile.now c.args.seat.now.me.0 c.perform-found.new.seat.me.0 c.perform-found.result c.absorb.result c.absorb.new.self
+    (before _ _ _ _ c.requires.turning c.requires.tile) (told_of _ _ _ _ _ _ _ c.requires.picked.0 c.requires.picked.1 c.perform-found.ensures.told)
+    c.absorb.ensures
 
 pub returns-in-Idle-clause-idle : goal.returns-in-Idle-clause-idle
 returns-in-Idle-clause-idle g c = λ _.
     let absorbs = subst (λ (a : Stepped). Absorbs c.args.tile.now c.args.step c.perform-found.result a c.absorb.new.self) c.in-Idle.is c.absorb.ensures in
-    idles c.args.step c.args.tile.now.place c.args.seat.now.me.0 c.perform-found.new.seat.me.0 c.perform-found.result c.in-Some.op (before _ _ _ _ c.requires.turning c.requires.tile).place (op_is _ _ _ c.in-Some.ensures) (told_of _ _ _ _ _ _ _ c.requires.picked.0 c.requires.picked.1 c.perform-found.ensures.told) (idle_is _ _ _ c.absorb.new.self absorbs)
+    idles c.args.step c.args.tile.now.place c.args.seat.now.me.0 c.perform-found.new.seat.me.0 c.perform-found.result c.in-Some.op
+    (before _ _ _ _ c.requires.turning c.requires.tile).place (op_is _ _ _ c.in-Some.ensures)
+    (told_of _ _ _ _ _ _ _ c.requires.picked.0 c.requires.picked.1 c.perform-found.ensures.told) (idle_is _ _ _ c.absorb.new.self absorbs)
 
 pub returns-in-Idle-clause-rest : goal.returns-in-Idle-clause-rest
-returns-in-Idle-clause-rest g c = only_tile _ _ _ _ _ (accepted_before _ _ c.requires.turning c.requires.load) (told_of _ _ _ _ _ _ _ c.requires.picked.0 c.requires.picked.1 c.perform-found.ensures.told)
+returns-in-Idle-clause-rest g c =
+    only_tile _ _ _ _ _ (accepted_before _ _ c.requires.turning c.requires.load)
+    (told_of _ _ _ _ _ _ _ c.requires.picked.0 c.requires.picked.1 c.perform-found.ensures.told)

@@ -2,8 +2,8 @@ use Rattle.std.proofs.Common.{◌≡◌, ◌<◌, ◌≤◌, length, slice_index
 use Rattle.std.specs.Vec.Iter.{into_iter_items, into_iter_len}
 use Rattle.torus.specs.Shape.{tiles_of}
 use Rattle.script.specs.Scripts.{operation_count}
-use Rattle.wake_flags.specs.net_interface.specs.Scripts.{IsFollowable}
-use Rattle.wake_flags.specs.tile.specs.Tile.{Design}
+use Rattle.machine_wake.specs.script_follower.specs.Scripts.{IsFollowable}
+use Rattle.machine_wake.specs.tile_laws.specs.Tile.{Design}
 use Rattle.machine_core.proofs.BeginsTiles.{as_many, one_more, one_taken, below, next_lines, none_left, all_made}
 use Rattle.machine_core.proofs.loading.first_tiles.Given.{Over}
 use Rattle.machine_core.proofs.loading.first_tiles.Goals as goal
@@ -14,8 +14,10 @@ built g c = record { shape = c.args.torus; depth = c.args.depth; words = c.args.
 
 -- the number of the next tile is below the number of tiles
 low_cast : (g : Over) (c : goal.After-len-tile g) → c.len-tile.result < tiles_of c.args.torus
-low_cast g c = below (record { shape = c.args.torus; depth = c.args.depth; words = c.args.words }) c.args.tags (slice_index c.args.rooms.now) c.loop-script.tiles.items c.args.scripts.items c.loop-script.yielded
-    (into_iter_items c.loop-script.script-iterator) (into_iter_items c.next.new.self) c.in-Some.script c.len-tile.result (vec_len c.loop-script.tiles) (tiles_of c.args.torus)
+low_cast g c = below (record { shape = c.args.torus; depth = c.args.depth; words = c.args.words }) c.args.tags (slice_index c.args.rooms.now)
+    c.loop-script.tiles.items c.args.scripts.items c.loop-script.yielded
+    (into_iter_items c.loop-script.script-iterator) (into_iter_items c.next.new.self) c.in-Some.script c.len-tile.result (vec_len c.loop-script.tiles)
+    (tiles_of c.args.torus)
     c.len-tile.ensures c.loop-script.tiles.ok.0 c.loop-script.invariant.tiles c.loop-script.invariant.scripts c.in-Some.ensures.steps.0 c.requires.tiles
 
 pub overflow_cast-tile : goal.overflow_cast-tile
@@ -25,8 +27,10 @@ pub offset_bounds-rooms-tile : goal.offset_bounds-rooms-tile
 offset_bounds-rooms-tile g c = omega (arith, low_cast g c, c.requires.few_tiles)
 
 low_index : (g : Over) (c : goal.After-way_told-1 g) → c.len-tile.result < tiles_of c.args.torus
-low_index g c = below (record { shape = c.args.torus; depth = c.args.depth; words = c.args.words }) c.args.tags (slice_index c.args.rooms.now) c.loop-script.tiles.items c.args.scripts.items c.loop-script.yielded
-    (into_iter_items c.loop-script.script-iterator) (into_iter_items c.next.new.self) c.in-Some.script c.len-tile.result (vec_len c.loop-script.tiles) (tiles_of c.args.torus)
+low_index g c = below (record { shape = c.args.torus; depth = c.args.depth; words = c.args.words }) c.args.tags (slice_index c.args.rooms.now)
+    c.loop-script.tiles.items c.args.scripts.items c.loop-script.yielded
+    (into_iter_items c.loop-script.script-iterator) (into_iter_items c.next.new.self) c.in-Some.script c.len-tile.result (vec_len c.loop-script.tiles)
+    (tiles_of c.args.torus)
     c.len-tile.ensures c.loop-script.tiles.ok.0 c.loop-script.invariant.tiles c.loop-script.invariant.scripts c.in-Some.ensures.steps.0 c.requires.tiles
 
 pub bounds-rooms-tile : goal.bounds-rooms-tile
@@ -34,7 +38,8 @@ bounds-rooms-tile g c = omega (arith, low_index g c, c.requires.few_tiles)
 
 low : (g : Over) (c : goal.After-room-1 g) → c.len-tile.result < tiles_of c.args.torus
 low g c = below (built g c) c.args.tags (slice_index c.args.rooms.now) c.loop-script.tiles.items c.args.scripts.items c.loop-script.yielded
-    (into_iter_items c.loop-script.script-iterator) (into_iter_items c.next.new.self) c.in-Some.script c.len-tile.result (vec_len c.loop-script.tiles) (tiles_of c.args.torus)
+    (into_iter_items c.loop-script.script-iterator) (into_iter_items c.next.new.self) c.in-Some.script c.len-tile.result (vec_len c.loop-script.tiles)
+    (tiles_of c.args.torus)
     c.len-tile.ensures c.loop-script.tiles.ok.0 c.loop-script.invariant.tiles c.loop-script.invariant.scripts c.in-Some.ensures.steps.0 c.requires.tiles
 
 pub new-requires-clause-tile : goal.new-requires-clause-tile
@@ -70,7 +75,8 @@ loop-script-preserved g c =
     let same = as_many d c.args.tags (slice_index c.args.rooms.now) c.loop-script.tiles.items c.loop-script.yielded c.loop-script.invariant.tiles in
     let number : c.len-tile.result ≡ length c.loop-script.yielded = omega (arith, c.len-tile.ensures) in
     record {
-      scripts = one_taken c.args.scripts.items c.loop-script.yielded (into_iter_items c.loop-script.script-iterator) (into_iter_items c.next.new.self) c.in-Some.script
+      scripts = one_taken c.args.scripts.items c.loop-script.yielded (into_iter_items c.loop-script.script-iterator) (into_iter_items c.next.new.self)
+          c.in-Some.script
           c.loop-script.invariant.scripts c.in-Some.ensures.steps.0;
       left = left_after g c;
       tiles = one_more d c.args.tags (slice_index c.args.rooms.now) c.loop-script.tiles.items c.loop-script.yielded c.loop-script.invariant.tiles
@@ -80,6 +86,7 @@ loop-script-preserved g c =
 -- all scripts were taken
 pub returns : goal.returns
 returns g c =
-    all_made (record { shape = c.args.torus; depth = c.args.depth; words = c.args.words }) c.args.tags (slice_index c.args.rooms.now) c.loop-script.tiles.items c.args.scripts.items c.loop-script.yielded
+    all_made (record { shape = c.args.torus; depth = c.args.depth; words = c.args.words }) c.args.tags (slice_index c.args.rooms.now) c.loop-script.tiles.items
+    c.args.scripts.items c.loop-script.yielded
     (into_iter_items c.loop-script.script-iterator) c.loop-script.invariant.tiles c.loop-script.invariant.scripts
     (none_left (into_iter_items c.loop-script.script-iterator) (sym c.loop-script.invariant.left ∙ c.in-None.ensures.steps.0))

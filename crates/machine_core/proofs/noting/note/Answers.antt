@@ -1,22 +1,25 @@
 use Rattle.std.proofs.Common.{◌≡◌, ◌<◌, ℕ, length, sym, ◌∙◌, ap, arith, slice_get}
 use Rattle.std.proofs.lemmas.Option.{same_Some}
-use Rattle.wake_flags.specs.flights.specs.EventBook.{noted_service}
-use Rattle.wake_flags.specs.tile.specs.Agents.{state_of}
-use Rattle.wake_flags.specs.tile_agents.specs.Placed.{PlacedTile}
-use Rattle.wake_flags.specs.machine_seen.specs.Notes.{RoomToNoteAnswer, index_served}
+use Rattle.machine_wake.specs.order_abstract.specs.EventBook.{noted_service}
+use Rattle.machine_wake.specs.tile_laws.specs.Agents.{state_of}
+use Rattle.machine_wake.specs.tile.specs.Placed.{PlacedTile}
+use Rattle.machine_wake.specs.core_seen.specs.Notes.{RoomToNoteAnswer, index_served}
 use Rattle.machine_core.specs.Noted.{HasRoomForIssue, HasRoomForService, records_in}
 use Rattle.machine_core.proofs.NotedBooks.{seen_at, looked_up, noted_as_issue, noted_as_answer, noted_as_service, noted_as_nothing, served_at}
 use Rattle.machine_core.proofs.noting.note.Given.{Over}
 use Rattle.machine_core.proofs.noting.note.Goals as goal
 
 issues : (g : Over) (c : goal.After-note_issue-arg-1 g) → HasRoomForIssue c.args.book.now c.args.tile
-issues g c = c.requires.room.issue c.index-tiles-tile.result (seen_at c.args.tiles.now c.args.tile c.index-tiles-tile.result c.requires.tile c.index-tiles-tile.is)
+issues g c = c.requires.room.issue c.index-tiles-tile.result
+    (seen_at c.args.tiles.now c.args.tile c.index-tiles-tile.result c.requires.tile c.index-tiles-tile.is)
     (omega (arith, ap length c.issued.ensures))
 
 answers : (g : Over) (c : goal.After-note_answer-arg-1 g) → RoomToNoteAnswer c.args.book.now.book c.in-Some.answer.now.bank c.in-Some.answer.now.place
-answers g c = c.requires.room.answer c.index-tiles-tile.result (seen_at c.args.tiles.now c.args.tile c.index-tiles-tile.result c.requires.tile c.index-tiles-tile.is)
+answers g c = c.requires.room.answer c.index-tiles-tile.result
+    (seen_at c.args.tiles.now c.args.tile c.index-tiles-tile.result c.requires.tile c.index-tiles-tile.is)
     c.in-Some.answer.now
-    (looked_up c.index-tiles-tile.result.place.processor.state.operations.answers c.answers.result.now c.args.before.answers c.in-Some.answer.now c.answers.ensures c.in-Some.ensures.lookup.0 c.in-Some.ensures.lookup.1)
+    (looked_up c.index-tiles-tile.result.place.processor.state.operations.answers c.answers.result.now c.args.before.answers c.in-Some.answer.now
+    c.answers.ensures c.in-Some.ensures.lookup.0 c.in-Some.ensures.lookup.1)
 
 pub note_issue-requires-clause-processor : goal.note_issue-requires-clause-processor
 note_issue-requires-clause-processor g c = (issues g c).processor
@@ -40,15 +43,19 @@ pub note_answer-requires-clause-events : goal.note_answer-requires-clause-events
 note_answer-requires-clause-events g c = c.requires.room.events
 
 source : (g : Over) (c : goal.After-row_known-1 g) → c.in-Some-get.entry.now.source < length c.args.tiles.now
-source g c = (c.requires.room.service c.index-tiles-tile.result (seen_at c.args.tiles.now c.args.tile c.index-tiles-tile.result c.requires.tile c.index-tiles-tile.is)
+source g c = (c.requires.room.service c.index-tiles-tile.result
+    (seen_at c.args.tiles.now c.args.tile c.index-tiles-tile.result c.requires.tile c.index-tiles-tile.is)
     c.in-Some-get.entry.now
-    (looked_up c.index-tiles-tile.result.place.bank.state.entries c.entries.result.now c.args.before.entries c.in-Some-get.entry.now c.entries.ensures c.in-Some-get.ensures.lookup.0 c.in-Some-get.ensures.lookup.1)).0
+    (looked_up c.index-tiles-tile.result.place.bank.state.entries c.entries.result.now c.args.before.entries c.in-Some-get.entry.now c.entries.ensures
+    c.in-Some-get.ensures.lookup.0 c.in-Some-get.ensures.lookup.1)).0
 
 services : (g : Over) (c : goal.After-note_service-arg-1 g)
     → HasRoomForService c.args.book.now c.args.tile c.in-Some-get.entry.now.source (index_served (records_in c.args.tiles.now) c.in-Some-get.entry.now)
-services g c = (c.requires.room.service c.index-tiles-tile.result (seen_at c.args.tiles.now c.args.tile c.index-tiles-tile.result c.requires.tile c.index-tiles-tile.is)
+services g c = (c.requires.room.service c.index-tiles-tile.result
+    (seen_at c.args.tiles.now c.args.tile c.index-tiles-tile.result c.requires.tile c.index-tiles-tile.is)
     c.in-Some-get.entry.now
-    (looked_up c.index-tiles-tile.result.place.bank.state.entries c.entries.result.now c.args.before.entries c.in-Some-get.entry.now c.entries.ensures c.in-Some-get.ensures.lookup.0 c.in-Some-get.ensures.lookup.1)).1
+    (looked_up c.index-tiles-tile.result.place.bank.state.entries c.entries.result.now c.args.before.entries c.in-Some-get.entry.now c.entries.ensures
+    c.in-Some-get.ensures.lookup.0 c.in-Some-get.ensures.lookup.1)).1
 
 pub offset_bounds-tiles-entry : goal.offset_bounds-tiles-entry
 offset_bounds-tiles-entry g c = let h = source g c in omega arith
@@ -58,11 +65,14 @@ bounds-tiles-entry g c = source g c
 
 pub note_service-requires-clause-index : goal.note_service-requires-clause-index
 note_service-requires-clause-index g c =
-    let short = (c.requires.room.service c.index-tiles-tile.result (seen_at c.args.tiles.now c.args.tile c.index-tiles-tile.result c.requires.tile c.index-tiles-tile.is)
+    let short = (c.requires.room.service c.index-tiles-tile.result
+    (seen_at c.args.tiles.now c.args.tile c.index-tiles-tile.result c.requires.tile c.index-tiles-tile.is)
     c.in-Some-get.entry.now
-    (looked_up c.index-tiles-tile.result.place.bank.state.entries c.entries.result.now c.args.before.entries c.in-Some-get.entry.now c.entries.ensures c.in-Some-get.ensures.lookup.0 c.in-Some-get.ensures.lookup.1)).0 in
+    (looked_up c.index-tiles-tile.result.place.bank.state.entries c.entries.result.now c.args.before.entries c.in-Some-get.entry.now c.entries.ensures
+    c.in-Some-get.ensures.lookup.0 c.in-Some-get.ensures.lookup.1)).0 in
     let index : c.holder-index.result ≡ index_served (records_in c.args.tiles.now) c.in-Some-get.entry.now =
-    c.holder-index.ensures ∙ served_at c.args.tiles.now c.in-Some-get.entry.now c.index-tiles-entry.result (seen_at c.args.tiles.now c.in-Some-get.entry.now.source c.index-tiles-entry.result short c.index-tiles-entry.is) in
+    c.holder-index.ensures ∙ served_at c.args.tiles.now c.in-Some-get.entry.now c.index-tiles-entry.result
+    (seen_at c.args.tiles.now c.in-Some-get.entry.now.source c.index-tiles-entry.result short c.index-tiles-entry.is) in
     let within = (services g c).index in
     omega (arith, index, within)
 
@@ -99,7 +109,8 @@ pub returns-in-Some-clause-book : goal.returns-in-Some-clause-book
 returns-in-Some-clause-book g c = λ v at.
     let here = seen_at c.args.tiles.now c.args.tile c.index-tiles-tile.result c.requires.tile c.index-tiles-tile.is in
     let same : c.index-tiles-tile.result ≡ v = same_Some _ _ (sym here ∙ at) in
-    let found = looked_up c.index-tiles-tile.result.place.processor.state.operations.answers c.answers.result.now c.args.before.answers c.in-Some.answer.now c.answers.ensures c.in-Some.ensures.lookup.0 c.in-Some.ensures.lookup.1 in
+    let found = looked_up c.index-tiles-tile.result.place.processor.state.operations.answers c.answers.result.now c.args.before.answers c.in-Some.answer.now
+    c.answers.ensures c.in-Some.ensures.lookup.0 c.in-Some.ensures.lookup.1 in
     c.note_answer.ensures.book
     ∙ sym (noted_as_answer c.args.tile (records_in c.args.tiles.now) c.args.before (state_of v.place) c.args.book.now.book
     (omega (arith, ap length c.issued.ensures, c.if-before-issued.false, ap (λ (w : PlacedTile). length w.place.processor.state.operations.issued) same))
@@ -109,10 +120,12 @@ pub returns-in-Some-get-clause-book : goal.returns-in-Some-get-clause-book
 returns-in-Some-get-clause-book g c = λ v at.
     let here = seen_at c.args.tiles.now c.args.tile c.index-tiles-tile.result c.requires.tile c.index-tiles-tile.is in
     let same : c.index-tiles-tile.result ≡ v = same_Some _ _ (sym here ∙ at) in
-    let found = looked_up c.index-tiles-tile.result.place.bank.state.entries c.entries.result.now c.args.before.entries c.in-Some-get.entry.now c.entries.ensures c.in-Some-get.ensures.lookup.0 c.in-Some-get.ensures.lookup.1 in
+    let found = looked_up c.index-tiles-tile.result.place.bank.state.entries c.entries.result.now c.args.before.entries c.in-Some-get.entry.now
+    c.entries.ensures c.in-Some-get.ensures.lookup.0 c.in-Some-get.ensures.lookup.1 in
     let source = (c.requires.room.service c.index-tiles-tile.result here c.in-Some-get.entry.now found).0 in
     let index : c.holder-index.result ≡ index_served (records_in c.args.tiles.now) c.in-Some-get.entry.now =
-    c.holder-index.ensures ∙ served_at c.args.tiles.now c.in-Some-get.entry.now c.index-tiles-entry.result (seen_at c.args.tiles.now c.in-Some-get.entry.now.source c.index-tiles-entry.result source c.index-tiles-entry.is) in
+    c.holder-index.ensures ∙ served_at c.args.tiles.now c.in-Some-get.entry.now c.index-tiles-entry.result
+    (seen_at c.args.tiles.now c.in-Some-get.entry.now.source c.index-tiles-entry.result source c.index-tiles-entry.is) in
     c.note_service.ensures.book
     ∙ (ap (λ (i : ℕ). noted_service c.args.tile c.in-Some-get.entry.now.source i c.args.book.now.book) index
     ∙ sym (noted_as_service c.args.tile (records_in c.args.tiles.now) c.args.before (state_of v.place) c.args.book.now.book

@@ -10,5 +10,6 @@ loop-address-preserved g c =
     elim c.match-opening.branch [
       | in-Some+in_ok-push w ↦ word_more (g.S.Reached.core c.args.reached.now).opening c.loop-address.words.items _ c.loop-address.address w.in-Some.word
           (sym w.in-Some.is ∙ c.opening.ensures) (ap (λ v. v.items) w.words-is ∙ w.in_ok-push.ensures.items) c.loop-address.invariant
-      | in_default w ↦ absurd (none_past (g.S.Reached.core c.args.reached.now).opening c.loop-address.address (omega (arith, test, count)) (sym w.in_default.is ∙ c.opening.ensures))
+      | in_default w ↦ absurd (none_past (g.S.Reached.core c.args.reached.now).opening c.loop-address.address (omega (arith, test, count))
+          (sym w.in_default.is ∙ c.opening.ensures))
     ]

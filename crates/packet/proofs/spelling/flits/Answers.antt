@@ -14,7 +14,8 @@ returns c =
     let values : All (λ v. v < 2 ^ 64) (values_of p) = All-same (λ v. v < 2 ^ 64) _ _ (sym told) c.flits_for.ensures.words in
     let list : c.flits_for.result.items ≡ flits_of p = cc (c.flits_for.ensures.flits, told, c.head_flit_of.ensures.bits) in
     record {
-      spells = subst (λ (xs : List ℕ). Spells p xs) (sym list) (Spells-flits_of p c.requires (record { place = c.head_flit_of.ensures.place; values = values }));
+      spells = subst (λ (xs : List ℕ). Spells p xs) (sym list)
+          (Spells-flits_of p c.requires (record { place = c.head_flit_of.ensures.place; values = values }));
       alone = λ other s. spelling_only p other s ∙ sym list;
       list = list;
     }

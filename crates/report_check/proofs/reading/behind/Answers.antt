@@ -16,8 +16,10 @@ returns-then-starts_with-clause-reads c =
 
 pub returns-then-starts_with-clause-found : goal.returns-then-starts_with-clause-found
 returns-then-starts_with-clause-found c =
-    behind_sound c.args.word.now c.args.text.now _ (behind-true c.args.word.now c.args.text.now (begins c) ∙ ap Some (sym (take_rest c.args.text.now (length c.args.word.now))))
+    behind_sound c.args.word.now c.args.text.now _
+    (behind-true c.args.word.now c.args.text.now (begins c) ∙ ap Some (sym (take_rest c.args.text.now (length c.args.word.now))))
 
 pub returns-else-starts_with-clause-reads : goal.returns-else-starts_with-clause-reads
 returns-else-starts_with-clause-reads c =
-    behind-false c.args.word.now c.args.text.now (ap (λ (w : List ℕ). starts_with nat_eq c.args.text.now w) (sym c.as_bytes.ensures.value) ∙ sym c.starts_with.ensures.value ∙ c.if-starts_with.false)
+    behind-false c.args.word.now c.args.text.now
+    (ap (λ (w : List ℕ). starts_with nat_eq c.args.text.now w) (sym c.as_bytes.ensures.value) ∙ sym c.starts_with.ensures.value ∙ c.if-starts_with.false)

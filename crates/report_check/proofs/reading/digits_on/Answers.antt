@@ -7,23 +7,27 @@ use Rattle.report_check.proofs.reading.digits_on.Goals as goal
 pub returns-then-byte-end : goal.returns-then-byte-end
 returns-then-byte-end c =
     sym c.loop-at.invariant
-    ∙ digits_on-end c.args.end c.loop-at.number c.loop-at.at c.args.text.now c.loop-at-test.true (sym c.is_ascii_digit.ensures.value ∙ c.if-not-is_ascii_digit.true) c.if-byte-end.true
+    ∙ digits_on-end c.args.end c.loop-at.number c.loop-at.at c.args.text.now c.loop-at-test.true
+    (sym c.is_ascii_digit.ensures.value ∙ c.if-not-is_ascii_digit.true) c.if-byte-end.true
     ∙ ap (λ rest. Some (c.loop-at.number, rest)) (sym (take_rest c.args.text.now (c.loop-at.at + 1)))
 
 pub returns-else-byte-end : goal.returns-else-byte-end
 returns-else-byte-end c =
     sym c.loop-at.invariant
-    ∙ digits_on-other c.args.end c.loop-at.number c.loop-at.at c.args.text.now c.loop-at-test.true (sym c.is_ascii_digit.ensures.value ∙ c.if-not-is_ascii_digit.true) c.if-byte-end.false
+    ∙ digits_on-other c.args.end c.loop-at.number c.loop-at.at c.args.text.now c.loop-at-test.true
+    (sym c.is_ascii_digit.ensures.value ∙ c.if-not-is_ascii_digit.true) c.if-byte-end.false
 
 pub returns-in_default : goal.returns-in_default
 returns-in_default c =
     sym c.loop-at.invariant
-    ∙ digits_on-much c.args.end c.loop-at.number c.loop-at.at c.args.text.now c.loop-at-test.true (sym c.is_ascii_digit.ensures.value ∙ c.if-not-is_ascii_digit.false) c.in_default.ensures
+    ∙ digits_on-much c.args.end c.loop-at.number c.loop-at.at c.args.text.now c.loop-at-test.true
+    (sym c.is_ascii_digit.ensures.value ∙ c.if-not-is_ascii_digit.false) c.in_default.ensures
 
 pub loop-at-preserved : goal.loop-at-preserved
 loop-at-preserved c =
     ap (λ n. digits_on c.args.end n (drop (c.loop-at.at + 1) c.args.text.now)) c.in-Some.ensures.0
-    ∙ sym (digits_on-digit c.args.end c.loop-at.number c.loop-at.at c.args.text.now c.loop-at-test.true (sym c.is_ascii_digit.ensures.value ∙ c.if-not-is_ascii_digit.false) (omega (arith, c.in-Some.ensures.0, c.in-Some.ensures.1)))
+    ∙ sym (digits_on-digit c.args.end c.loop-at.number c.loop-at.at c.args.text.now c.loop-at-test.true
+    (sym c.is_ascii_digit.ensures.value ∙ c.if-not-is_ascii_digit.false) (omega (arith, c.in-Some.ensures.0, c.in-Some.ensures.1)))
     ∙ c.loop-at.invariant
 
 pub returns : goal.returns

@@ -5,7 +5,8 @@ use Rattle.report_check.proofs.taking.push_served.Goals as goal
 pub returns-clause-here : goal.returns-clause-here
 returns-clause-here g c =
     let inside : c.args.bank < length c.args.banks.now.items = omega (arith, c.args.banks.now.ok) in
-    bank_pushed c.args.banks.now.items c.args.bank c.index_mut.result.now c.push.new.self c.args.served inside c.index_mut.ensures.value c.in_ok-push.ensures.items
+    bank_pushed c.args.banks.now.items c.args.bank c.index_mut.result.now c.push.new.self c.args.served inside c.index_mut.ensures.value
+    c.in_ok-push.ensures.items
 
 pub returns-clause-others : goal.returns-clause-others
 returns-clause-others g c other apart = bank_of_set_other c.args.banks.now.items c.args.bank other c.push.new.self apart

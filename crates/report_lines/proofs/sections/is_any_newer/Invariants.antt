@@ -5,4 +5,6 @@ use Rattle.report_lines.proofs.sections.is_any_newer.Given as goal
 
 -- the banks so far have none
 abbrev pub invariant-loop-bank : goal.invariant-loop-bank
-invariant-loop-bank g l = list_any (λ es. list_any (λ e. is_newer e.op) es) (drop l.bank-index (items_of l.entries)) ≡ list_any (λ es. list_any (λ e. is_newer e.op) es) (items_of l.entries)
+invariant-loop-bank g l =
+    list_any (λ es. list_any (λ e. is_newer e.op) es) (drop l.bank-index (items_of l.entries))
+    ≡ list_any (λ es. list_any (λ e. is_newer e.op) es) (items_of l.entries)

@@ -1,7 +1,7 @@
 use Rattle.std.proofs.Common.{◌∙◌, arith, map, take}
 use Rattle.std.specs.Str.Lines.{lines}
 use Rattle.script.specs.ScriptViews.{lists_of}
-use Rattle.script.proofs.SixWords.{scripts_step}
+use Rattle.script.proofs.SevenWords.{scripts_step}
 use Rattle.script.proofs.scripts.read_lists.Goals as goal
 
 pub loop-line-preserved : goal.loop-line-preserved
@@ -11,7 +11,8 @@ loop-line-preserved g c = record {
   counted = c.in_default-take.ensures.counted;
   words = c.in_default-take.ensures.words ∙ c.loop-line.invariant.words;
   tiles = c.in_default-take.ensures.tiles ∙ c.loop-line.invariant.tiles;
-  reads = scripts_step c.args.words c.loop-line.progress.words c.loop-line.number (lists_of c.loop-line.progress.lists.items) (lists_of c.take.new.self.lists.items)
+  reads = scripts_step c.args.words c.loop-line.progress.words c.loop-line.number (lists_of c.loop-line.progress.lists.items)
+      (lists_of c.take.new.self.lists.items)
       c.in-Some.line.now (lines c.loop-line.rest.now) (lines c.in-Some.after.now)
       (map (λ word. word.now) (take c.first_words-count.result.1 c.first_words-count.result.0)) _
       c.in-Some.ensures.some c.first_words-count.ensures.words c.loop-line.invariant.words c.in_default-take.ensures.value c.loop-line.invariant.reads;

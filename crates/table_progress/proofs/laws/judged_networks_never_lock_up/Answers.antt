@@ -1,5 +1,5 @@
 use Rattle.std.proofs.Common.{⊎_elim, ℕ, ◌<◌}
-use Rattle.progress.specs.Ends.{IsQuiet}
+use Rattle.wormhole_progress.specs.Ends.{IsQuiet}
 use Rattle.table_net.specs.Table.{channels_of}
 use Rattle.table_net.specs.TableNet.{numbered}
 use Rattle.table_progress.specs.Receivers.{Move}

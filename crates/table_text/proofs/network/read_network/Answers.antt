@@ -2,7 +2,7 @@ use Rattle.std.proofs.Common.{ℕ, inl, inr, arith}
 use Rattle.std.specs.Str.Lines.{lines}
 use Rattle.table_text.specs.Network.{network_of}
 use Rattle.table_text.specs.Reading.{reading_of}
-use Rattle.table_text.proofs.SixWords.{network_step, network_fault}
+use Rattle.table_text.proofs.SevenWords.{network_step, network_fault}
 use Rattle.table_text.proofs.Told.{told}
 use Rattle.table_text.proofs.network.read_network.Goals as goal
 

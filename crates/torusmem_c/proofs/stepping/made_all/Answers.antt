@@ -3,8 +3,8 @@ use Rattle.std.proofs.lemmas.List.{at_drop_all}
 use Rattle.torus.specs.declared.step.Step.{Step}
 use Rattle.rounds.specs.Rounds.{moves_in}
 use Rattle.machine_handle.specs.machine_core.specs.core_laws.specs.Core.{step}
-use Rattle.machine_handle.specs.machine_laws.specs.Core.{Core, IsAfter, built_to, core_after}
-use Rattle.machine_handle.specs.machine_laws.proofs.Machines.{after_steps}
+use Rattle.machine_handle.specs.core_machine.specs.Core.{Core, IsAfter, built_to, core_after}
+use Rattle.machine_handle.specs.core_machine.proofs.Machines.{after_steps}
 use Rattle.torusmem_c.specs.declared.outcome.Code.TheVariants as code
 use Rattle.torusmem_c.specs.declared.stepping.AttemptRecord.{AttemptRecord}
 use Rattle.torusmem_c.specs.Outcome.{outcome}
@@ -20,7 +20,8 @@ led c =
     ∙ c.loop-it.invariant
 
 -- the moves that are made and those that are left
-made : (c : goal.After-moves_left) → c.moves_left.result + moves_in (step (built_to c.args.machine.now)) c.args.machine.now.state (steps_named c.args.attempts.now) ≡ c.moves_left-left.result
+made : (c : goal.After-moves_left)
+    → c.moves_left.result + moves_in (step (built_to c.args.machine.now)) c.args.machine.now.state (steps_named c.args.attempts.now) ≡ c.moves_left-left.result
 made c =
     let now : Core = c.args.machine.now in
     let all : c.loop-it.machine.moves_left + moves_in (step (built_to now)) now.state (steps_named c.args.attempts.now) ≡ now.moves_left

@@ -10,4 +10,5 @@ use Rattle.torusmem_c.proofs.texts.torusmem_load.Goals as goal
 pub returns-in-Err-hold : goal.returns-in-Err-hold
 returns-in-Err-hold c =
     nothing_kept (load_by (lines c.args.machine.now) (lines c.args.scripts.now)) (held c.args.handle.now) (held c.hold.new.self) c.no_memory.result
-    (record { fault = fault.Memory; line = 0 }) c.in_default.ensures.value (ap held c.in-Err-hold.ensures.unchanged ∙ c.in_default.ensures.value) (inr refl) c.no_memory.ensures
+    (record { fault = fault.Memory; line = 0 }) c.in_default.ensures.value (ap held c.in-Err-hold.ensures.unchanged ∙ c.in_default.ensures.value) (inr refl)
+    c.no_memory.ensures

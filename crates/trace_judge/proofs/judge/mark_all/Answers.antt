@@ -21,8 +21,10 @@ pub mark-requires-clause-below : goal.mark-requires-clause-below
 mark-requires-clause-below g c = λ i e.
     let l : c.loop-word.word < length c.args.search.now.words.items = omega arith in
     let m : c.loop-word.word < length c.args.opening.now = let e = c.requires.sized in omega arith in
-    let some = filled_length c.args.search.now.words.items c.loop-word.word c.index-branches.result.now l c.index-branches.ensures (c.requires.filled c.loop-word.word m) in
-    let in' = head_in c.args.search.now.words.items c.loop-word.word c.index-branches.result.now c.index.result.now l c.index-branches.ensures some c.index.ensures in
+    let some = filled_length c.args.search.now.words.items c.loop-word.word c.index-branches.result.now l c.index-branches.ensures
+    (c.requires.filled c.loop-word.word m) in
+    let in' = head_in c.args.search.now.words.items c.loop-word.word c.index-branches.result.now c.index.result.now l c.index-branches.ensures some
+    c.index.ensures in
     subst (λ (ns : List Node). i < length ns) (sym c.deref.ensures.value)
     (c.requires.searched.sound.inside c.loop-word.word i c.index.result.now m in' e)
 
@@ -38,7 +40,8 @@ loop-word-preserved g c =
     subst (λ (ms : List Bool). PicksSoFar (firsts c.args.search.now.words.items) (c.loop-word.word + 1)
     (sets_of c.args.search.now.words.items) c.args.search.now.nodes.items ms)
     (sym (with_items_is c.loop-word.marks c.mark.new.marks long))
-    (picks_word words w c.args.search.now.nodes.items c.deref.result.now c.loop-word.marks.items c.deref_mut.result.now c.mark.new.marks c.index-branches.result.now c.index.result.now
+    (picks_word words w c.args.search.now.nodes.items c.deref.result.now c.loop-word.marks.items c.deref_mut.result.now c.mark.new.marks
+    c.index-branches.result.now c.index.result.now
     l c.index-branches.ensures some c.index.ensures c.deref.ensures.value c.deref_mut.ensures.value c.mark.ensures len c.loop-word.invariant)
 
 pub returns : goal.returns

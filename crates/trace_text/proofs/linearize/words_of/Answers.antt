@@ -8,7 +8,8 @@ use Rattle.trace_text.proofs.linearize.words_of.Goals as goal
 pub loop-i-preserved : goal.loop-i-preserved
 loop-i-preserved g c =
     let low : c.loop-i.i < length c.args.addresses.now = omega arith in
-    mapped_more (λ a. unwrap_or (value_at c.args.inits.now.entries a) 0) c.args.addresses.now c.loop-i.i _ c.loop-i.words.items c.word_at.result c.push.new.self.items
+    mapped_more (λ a. unwrap_or (value_at c.args.inits.now.entries a) 0) c.args.addresses.now c.loop-i.i _ c.loop-i.words.items c.word_at.result
+    c.push.new.self.items
     low c.word_at.ensures c.loop-i.invariant c.in_ok-push.ensures.items
 
 pub returns : goal.returns

@@ -3,19 +3,22 @@ use Rattle.worker_run.proofs.Moving.{turned, turned_none, turned_until, begun, g
 use Rattle.worker_run.proofs.working.make_turns.Goals as goal
 
 pub returns-then-has_seen : goal.returns-then-has_seen
-returns-then-has_seen g c = turned_none _ c.args.turns c.args.seat.now c.first-place.result c.first-place.ensures.first (c.has_seen.ensures.seen.0 c.if-has_seen.true)
+returns-then-has_seen g c =
+    turned_none _ c.args.turns c.args.seat.now c.first-place.result c.first-place.ensures.first (c.has_seen.ensures.seen.0 c.if-has_seen.true)
 
 pub loop-made-init : goal.loop-made-init
 loop-made-init g c = record {
   own = c.requires;
-  within = within_ports _ _ c.first-place.result (ports_are c.ports-ports.result c.args.fabric.now c.args.seat.now c.ports-ports.ensures c.requires) c.first-place.ensures.within;
+  within = within_ports _ _ c.first-place.result (ports_are c.ports-ports.result c.args.fabric.now c.args.seat.now c.ports-ports.ensures c.requires)
+      c.first-place.ensures.within;
   so_far = begun c.ports-ports.result c.args.seat.now c.first-place.result;
 }
 
 pub returns-then-not-before : goal.returns-then-not-before
 returns-then-not-before g c =
     let k = c.loop-made.invariant in
-    turned_until _ c.args.turns c.ports-ports.result c.loop-made.made c.args.seat.now c.loop-made.seat c.first-place.result c.loop-made.place c.first-place.ensures.first
+    turned_until _ c.args.turns c.ports-ports.result c.loop-made.made c.args.seat.now c.loop-made.seat c.first-place.result c.loop-made.place
+    c.first-place.ensures.first
     (ports_are c.ports-ports.result c.args.fabric.now c.args.seat.now c.ports-ports.ensures c.requires)
     k.so_far (omega arith)
     (λ h. (let t = c.has_seen.ensures.seen.1 h in let f = c.if-has_seen.false in cc))
@@ -30,8 +33,10 @@ returns-then-has_seen-2 g c =
     let t = c.turn.ensures in
     turned_until _ c.args.turns c.ports-ports.result _ c.args.seat.now c.turn.new.seat c.first-place.result c.after-next.result c.first-place.ensures.first
     (ports_are c.ports-ports.result c.args.fabric.now c.args.seat.now c.ports-ports.ensures c.requires)
-    (goes_on c.ports-ports.result c.loop-made.made c.args.seat.now c.loop-made.seat c.turn.new.seat c.first-place.result c.loop-made.place c.after-next.result c.step-step.result k.so_far c.step-step.ensures
-    (turned c.turn.result c.loop-made.seat c.turn.new.seat c.step-step.result t.moved t.idle t.not_mine t.unchanged) (t.same, t.later) c.after-next.ensures.follows)
+    (goes_on c.ports-ports.result c.loop-made.made c.args.seat.now c.loop-made.seat c.turn.new.seat c.first-place.result c.loop-made.place c.after-next.result
+    c.step-step.result k.so_far c.step-step.ensures
+    (turned c.turn.result c.loop-made.seat c.turn.new.seat c.step-step.result t.moved t.idle t.not_mine t.unchanged) (t.same, t.later)
+    c.after-next.ensures.follows)
     (omega arith)
     (λ h. (let t = c.has_seen.ensures.seen.1 h in let f = c.if-has_seen.false in cc))
     (inl (c.has_seen-then-is_look.ensures.seen.0 c.if-has_seen-2.true))
@@ -42,15 +47,19 @@ loop-made-preserved g c =
     let t = c.turn.ensures in
     record {
       own = own_on c.args.fabric.now c.loop-made.seat c.turn.new.seat k.own t.same;
-      within = within_ports _ _ c.after-next.result (ports_are c.ports-ports.result c.args.fabric.now c.loop-made.seat c.ports-ports.ensures k.own) c.after-next.ensures.within;
-      so_far = goes_on c.ports-ports.result c.loop-made.made c.args.seat.now c.loop-made.seat c.turn.new.seat c.first-place.result c.loop-made.place c.after-next.result c.step-step.result k.so_far c.step-step.ensures
-          (turned c.turn.result c.loop-made.seat c.turn.new.seat c.step-step.result t.moved t.idle t.not_mine t.unchanged) (t.same, t.later) c.after-next.ensures.follows;
+      within = within_ports _ _ c.after-next.result (ports_are c.ports-ports.result c.args.fabric.now c.loop-made.seat c.ports-ports.ensures k.own)
+          c.after-next.ensures.within;
+      so_far = goes_on c.ports-ports.result c.loop-made.made c.args.seat.now c.loop-made.seat c.turn.new.seat c.first-place.result c.loop-made.place
+          c.after-next.result c.step-step.result k.so_far c.step-step.ensures
+          (turned c.turn.result c.loop-made.seat c.turn.new.seat c.step-step.result t.moved t.idle t.not_mine t.unchanged) (t.same, t.later)
+          c.after-next.ensures.follows;
     }
 
 pub returns : goal.returns
 returns g c =
     let k = c.loop-made.invariant in
-    turned_until _ c.args.turns c.ports-ports.result c.loop-made.made c.args.seat.now c.loop-made.seat c.first-place.result c.loop-made.place c.first-place.ensures.first
+    turned_until _ c.args.turns c.ports-ports.result c.loop-made.made c.args.seat.now c.loop-made.seat c.first-place.result c.loop-made.place
+    c.first-place.ensures.first
     (ports_are c.ports-ports.result c.args.fabric.now c.args.seat.now c.ports-ports.ensures c.requires)
     k.so_far (omega arith)
     (λ h. (let t = c.has_seen.ensures.seen.1 h in let f = c.if-has_seen.false in cc))

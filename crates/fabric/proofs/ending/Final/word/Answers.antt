@@ -7,7 +7,8 @@ pub returns-then-at-len : goal.returns-then-at-len
 returns-then-at-len g c =
     let n = c.self.inside.opening.ok.0 in
     let same = ap length c.self.invariant.0.opening in
-    rw (← c.self.view_is) (no_word_at c.self.inside.behind.me.0.load c.self.inside.behind.me.0.run c.args.address c.self.invariant.0.accepted (omega (arith, n, same)))
+    rw (← c.self.view_is) (no_word_at c.self.inside.behind.me.0.load c.self.inside.behind.me.0.run c.args.address c.self.invariant.0.accepted
+    (omega (arith, n, same)))
 
 pub overflow_add-place : goal.overflow_add-place
 overflow_add-place g c =
@@ -30,4 +31,5 @@ pub returns : goal.returns
 returns g c =
     let n = c.self.inside.opening.ok.0 in
     let same = ap length c.self.invariant.0.opening in
-    rw (← c.self.view_is) (word_at c.self.inside.behind.me.0.load c.self.inside.behind.me.0.run _ c.self.inside.base c.args.address _ c.self.invariant.0.accepted c.self.invariant.0.row c.self.invariant.0.base (omega (arith, n, same)) c.word.ensures)
+    rw (← c.self.view_is) (word_at c.self.inside.behind.me.0.load c.self.inside.behind.me.0.run _ c.self.inside.base c.args.address _
+    c.self.invariant.0.accepted c.self.invariant.0.row c.self.invariant.0.base (omega (arith, n, same)) c.word.ensures)

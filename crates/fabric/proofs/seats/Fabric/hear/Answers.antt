@@ -1,7 +1,7 @@
 use Rattle.std.proofs.Common.{arith, [], sym, ap, ◌∙◌, refl}
 use Rattle.std.proofs.lemmas.List.{append-nil}
-use Rattle.fabric_laws.specs.Groups.{both, note}
-use Rattle.fabric_laws.specs.Rule.{Learned}
+use Rattle.fabric_rule.specs.Groups.{both, note}
+use Rattle.fabric_rule.specs.Rule.{Learned}
 use Rattle.fabric.specs.Seats.{Knowing, Origin}
 use Rattle.fabric.proofs.Sharing.{notes}
 use Rattle.fabric.proofs.Learning.{IsOn, looking_on, seated_on, knows_on, learned_at, from_one, from_other, bare_is, bare_goes, learns_said}
@@ -24,7 +24,9 @@ take_in-requires-clause-tables g c = (
 pub take_in-requires-clause-none_held : goal.take_in-requires-clause-none_held
 take_in-requires-clause-none_held g c = ap (λ m. m.1) c.split_seat-told.ensures.4
 
-learned_here : (g : Over) (c : goal.After-take_in g) → Learned (both c.probe.inside.seat.me.0 (note c.other.inside.seat.me.0)) (both c.probe.inside.seat.me.0 (note c.other.inside.seat.me.0)).groups c.take_in.new.seat.me.0
+learned_here : (g : Over) (c : goal.After-take_in g)
+    → Learned (both c.probe.inside.seat.me.0 (note c.other.inside.seat.me.0)) (both c.probe.inside.seat.me.0 (note c.other.inside.seat.me.0)).groups
+    c.take_in.new.seat.me.0
 learned_here g c = learned_at _ _ _ (ap (λ m. both c.probe.inside.seat.me.0 m.0) c.split_seat-told.ensures.4) c.take_in.ensures.learned
 
 probe_on : (g : Over) (c : goal.After-take_in g) → IsOn c.probe.inside.seat c.take_in.new.seat.me.0.run c.take_in.new.seat
@@ -40,8 +42,10 @@ invariant_of-probe g c = looking_on c.probe.inside.seat _ _ (probe_on g c) c.pro
 pub returns-clause-probe : goal.returns-clause-probe
 returns-clause-probe g c =
     let other = from_other c.probe.inside.seat.me.0 (note c.other.inside.seat.me.0) c.take_in.new.seat.me.0 _ (learned_here g c) in
-    learns_said c.probe.inside.seat c.other.inside.seat c.take_in.new.seat _ _ c.probe.view_is c.other.view_is (knows_on c.probe.inside.seat c.take_in.new.seat _ (probe_on g c))
-    (bare_goes _ _ _ c.probe.invariant.none_owned (from_one c.probe.inside.seat.me.0 (note c.other.inside.seat.me.0) c.take_in.new.seat.me.0 _ (learned_here g c))) (other.0, other.1)
+    learns_said c.probe.inside.seat c.other.inside.seat c.take_in.new.seat _ _ c.probe.view_is c.other.view_is
+    (knows_on c.probe.inside.seat c.take_in.new.seat _ (probe_on g c))
+    (bare_goes _ _ _ c.probe.invariant.none_owned
+    (from_one c.probe.inside.seat.me.0 (note c.other.inside.seat.me.0) c.take_in.new.seat.me.0 _ (learned_here g c))) (other.0, other.1)
 
 -- the teller is as it was
 pub invariant_of-other : goal.invariant_of-other

@@ -1,8 +1,8 @@
 use Rattle.std.proofs.Common.{arith, ◌⊎◌, [], ◌∷◌, ◌++◌, sym, ap, ◌∙◌, subst}
-use Rattle.fabric_laws.specs.View.{View}
-use Rattle.fabric_laws.specs.Groups.{both, flat, Begins}
-use Rattle.fabric_laws.specs.Rule.{Learned}
-use Rattle.fabric_laws.specs.core_laws.specs.Runs.{IsAccepted}
+use Rattle.fabric_rule.specs.View.{View}
+use Rattle.fabric_rule.specs.Groups.{both, flat, Begins}
+use Rattle.fabric_rule.specs.Rule.{Learned}
+use Rattle.fabric_rule.specs.core_laws.specs.Runs.{IsAccepted}
 use Rattle.fabric.specs.Seats.{Knowing, Origin, JoinsTo, seat_knows}
 use Rattle.fabric.proofs.Meetings.{lawful_view, joined_first}
 use Rattle.fabric.proofs.Sharing.{joins, merges}
@@ -26,16 +26,20 @@ load-requires g c = (
   merges c.self.inside.table.shared.key.load _ _ _ c.join_seat.new.seat.me,
 )
 
-learned_here : (g : Over) (c : goal.After-mix-slots g) → Learned (both c.one.inside.seat.me.0 c.other.inside.seat.me.0) (flat (c.one.inside.seat.me.0.groups ++ c.other.inside.seat.me.0.groups) ∷ []) c.load.new.seat.me.0
+learned_here : (g : Over) (c : goal.After-mix-slots g)
+    → Learned (both c.one.inside.seat.me.0 c.other.inside.seat.me.0) (flat (c.one.inside.seat.me.0.groups ++ c.other.inside.seat.me.0.groups) ∷ [])
+    c.load.new.seat.me.0
 learned_here g c = subst (λ (u : View). Learned u (flat u.groups ∷ []) c.load.new.seat.me.0) (ap (λ m. m.0) c.join_seat.ensures.2) c.load.ensures.2.0
 
 pub invariant_of-result : goal.invariant_of-result
 invariant_of-result g c = seated_joined _ _ c.mix-slots.result.items c.one.inside.seat c.other.inside.seat c.load.new.seat c.one.invariant c.other.invariant
     (ap (λ (k : Knowing). k.load) c.one.view_is ∙ c.requires.0.1 ∙ sym c.requires.1.1 ∙ sym (ap (λ (k : Knowing). k.load) c.other.view_is))
-    (learned_here g c) (c.load.ensures.0 ∙ c.join_seat.ensures.0) (c.load.ensures.2.1 ∙ ap (λ m. m.1) c.join_seat.ensures.2 ∙ c.one.invariant.placed.no_slot) c.mix-slots.ensures.len c.mix-slots.ensures.slots
+    (learned_here g c) (c.load.ensures.0 ∙ c.join_seat.ensures.0) (c.load.ensures.2.1 ∙ ap (λ m. m.1) c.join_seat.ensures.2 ∙ c.one.invariant.placed.no_slot)
+    c.mix-slots.ensures.len c.mix-slots.ensures.slots
 
 joined_here : (g : Over) (c : goal.After-mix-slots g) → JoinsTo c.args.one c.args.other (seat_knows c.load.new.seat)
-joined_here g c = joins_said c.one.inside.seat c.other.inside.seat c.load.new.seat _ _ c.one.view_is c.other.view_is c.one.invariant.one_group c.other.invariant.one_group (learned_here g c) (c.load.ensures.0 ∙ c.join_seat.ensures.0)
+joined_here g c = joins_said c.one.inside.seat c.other.inside.seat c.load.new.seat _ _ c.one.view_is c.other.view_is c.one.invariant.one_group
+    c.other.invariant.one_group (learned_here g c) (c.load.ensures.0 ∙ c.join_seat.ensures.0)
 
 pub returns-clause-both : goal.returns-clause-both
 returns-clause-both g c = joined_here g c
@@ -45,10 +49,12 @@ returns-clause-ordered g c =
     let a = from_one c.one.inside.seat.me.0 c.other.inside.seat.me.0 c.load.new.seat.me.0 _ (learned_here g c) in
     let b = from_other c.one.inside.seat.me.0 c.other.inside.seat.me.0 c.load.new.seat.me.0 _ (learned_here g c) in
     subst (λ (k : Knowing). Begins k.run c.args.other.run ⊎ Begins c.args.other.run k.run) c.one.view_is
-    (subst (λ (k : Knowing). Begins c.one.inside.seat.me.0.run k.run ⊎ Begins k.run c.one.inside.seat.me.0.run) c.other.view_is (two_begins _ a.0 _ b.0 (sym a.1 ∙ b.1)))
+    (subst (λ (k : Knowing). Begins c.one.inside.seat.me.0.run k.run ⊎ Begins k.run c.one.inside.seat.me.0.run) c.other.view_is
+    (two_begins _ a.0 _ b.0 (sym a.1 ∙ b.1)))
 
 pub returns-clause-lawful : goal.returns-clause-lawful
-returns-clause-lawful g c = lawful_view c.one.inside.seat.me.0 c.load.new.seat.me.0 c.one.invariant.placed.accepted (ap (λ (v : View). v.load) (learned_here g c).view)
+returns-clause-lawful g c =
+    lawful_view c.one.inside.seat.me.0 c.load.new.seat.me.0 c.one.invariant.placed.accepted (ap (λ (v : View). v.load) (learned_here g c).view)
 
 pub returns-clause-answers_first : goal.returns-clause-answers_first
 returns-clause-answers_first g c =

@@ -1,6 +1,6 @@
 use Rattle.std.proofs.Common.{◌≡◌, arith, sym, ap, ◌∙◌, subst}
-use Rattle.fabric_laws.specs.core_laws.specs.Runs.{IsAccepted}
-use Rattle.fabric_laws.specs.View.{View}
+use Rattle.fabric_rule.specs.core_laws.specs.Runs.{IsAccepted}
+use Rattle.fabric_rule.specs.View.{View}
 use Rattle.fabric.specs.Seats.{Knowing, Origin, Learns, seat_knows}
 use Rattle.fabric.proofs.Sharing.{halves}
 use Rattle.fabric.proofs.Meetings.{lawful_view, met_first, swap_first}
@@ -31,30 +31,39 @@ first_on : (g : Over) (c : goal.After-split_seat-other_seat g) → IsOn c.one.in
 first_on g c = (
   c.split_seat-other_seat.ensures.0 ∙ c.take_in.ensures.seat.0,
   ap (λ m. m.1) c.split_seat-other_seat.ensures.2 ∙ c.take_in.ensures.seat.1 ∙ c.one.invariant.placed.no_slot,
-  ap (λ m. m.0) c.split_seat-other_seat.ensures.2 ∙ first_is c.one.inside.seat.me.0 c.other.inside.seat.me.0 c.take_in.new.seat.me.0 c.take_in.ensures.learned c.one.invariant.one_group,
+  ap (λ m. m.0) c.split_seat-other_seat.ensures.2
+      ∙ first_is c.one.inside.seat.me.0 c.other.inside.seat.me.0 c.take_in.new.seat.me.0 c.take_in.ensures.learned c.one.invariant.one_group,
 )
 
 pub invariant_of-one : goal.invariant_of-one
-invariant_of-one g c = seated_on _ c.one.inside.seat _ _ (first_on g c) (from_one c.one.inside.seat.me.0 c.other.inside.seat.me.0 c.take_in.new.seat.me.0 _ c.take_in.ensures.learned) c.one.invariant
+invariant_of-one g c = seated_on _ c.one.inside.seat _ _ (first_on g c)
+    (from_one c.one.inside.seat.me.0 c.other.inside.seat.me.0 c.take_in.new.seat.me.0 _ c.take_in.ensures.learned) c.one.invariant
 
 second_on : (g : Over) (c : goal.After-split_seat-other_seat g) → IsOn c.other.inside.seat c.take_in.new.seat.me.0.run c.split_seat-other_seat.result
 second_on g c = (
-  c.split_seat-other_seat.ensures.3 ∙ c.take_in.ensures.seat.0 ∙ ap (λ (k : Knowing). k.table) c.one.view_is ∙ c.requires.0.0 ∙ sym c.requires.1.0 ∙ sym (ap (λ (k : Knowing). k.table) c.other.view_is),
+  c.split_seat-other_seat.ensures.3 ∙ c.take_in.ensures.seat.0 ∙ ap (λ (k : Knowing). k.table) c.one.view_is ∙ c.requires.0.0 ∙ sym c.requires.1.0
+      ∙ sym (ap (λ (k : Knowing). k.table) c.other.view_is),
   ap (λ m. m.1) c.split_seat-other_seat.ensures.4,
   ap (λ m. m.0) c.split_seat-other_seat.ensures.4
-      ∙ second_is c.one.inside.seat.me.0 c.other.inside.seat.me.0 c.take_in.new.seat.me.0 c.take_in.ensures.learned c.one.invariant.one_group (c.one.invariant.placed.live ∙ sym c.other.invariant.placed.live) (same_loads g c),
+      ∙ second_is c.one.inside.seat.me.0 c.other.inside.seat.me.0 c.take_in.new.seat.me.0 c.take_in.ensures.learned c.one.invariant.one_group
+      (c.one.invariant.placed.live ∙ sym c.other.invariant.placed.live) (same_loads g c),
 )
 
 pub invariant_of-other : goal.invariant_of-other
-invariant_of-other g c = seated_on _ c.other.inside.seat _ _ (second_on g c) (from_other c.one.inside.seat.me.0 c.other.inside.seat.me.0 c.take_in.new.seat.me.0 _ c.take_in.ensures.learned) c.other.invariant
+invariant_of-other g c = seated_on _ c.other.inside.seat _ _ (second_on g c)
+    (from_other c.one.inside.seat.me.0 c.other.inside.seat.me.0 c.take_in.new.seat.me.0 _ c.take_in.ensures.learned) c.other.invariant
 
 first_learns : (g : Over) (c : goal.After-split_seat-other_seat g) → Learns c.args.one c.args.other (seat_knows c.split_seat-other_seat.new.seat)
-first_learns g c = learns_on c.one.inside.seat c.other.inside.seat c.split_seat-other_seat.new.seat _ _ c.take_in.new.seat.me.0.run _ (first_on g c) c.one.view_is c.other.view_is c.one.invariant.one_group
-    (from_one c.one.inside.seat.me.0 c.other.inside.seat.me.0 c.take_in.new.seat.me.0 _ c.take_in.ensures.learned) (from_other c.one.inside.seat.me.0 c.other.inside.seat.me.0 c.take_in.new.seat.me.0 _ c.take_in.ensures.learned)
+first_learns g c = learns_on c.one.inside.seat c.other.inside.seat c.split_seat-other_seat.new.seat _ _ c.take_in.new.seat.me.0.run _ (first_on g c)
+    c.one.view_is c.other.view_is c.one.invariant.one_group
+    (from_one c.one.inside.seat.me.0 c.other.inside.seat.me.0 c.take_in.new.seat.me.0 _ c.take_in.ensures.learned)
+    (from_other c.one.inside.seat.me.0 c.other.inside.seat.me.0 c.take_in.new.seat.me.0 _ c.take_in.ensures.learned)
 
 second_learns : (g : Over) (c : goal.After-split_seat-other_seat g) → Learns c.args.other c.args.one (seat_knows c.split_seat-other_seat.result)
-second_learns g c = learns_on c.other.inside.seat c.one.inside.seat c.split_seat-other_seat.result _ _ c.take_in.new.seat.me.0.run _ (second_on g c) c.other.view_is c.one.view_is c.other.invariant.one_group
-    (from_other c.one.inside.seat.me.0 c.other.inside.seat.me.0 c.take_in.new.seat.me.0 _ c.take_in.ensures.learned) (from_one c.one.inside.seat.me.0 c.other.inside.seat.me.0 c.take_in.new.seat.me.0 _ c.take_in.ensures.learned)
+second_learns g c = learns_on c.other.inside.seat c.one.inside.seat c.split_seat-other_seat.result _ _ c.take_in.new.seat.me.0.run _ (second_on g c)
+    c.other.view_is c.one.view_is c.other.invariant.one_group
+    (from_other c.one.inside.seat.me.0 c.other.inside.seat.me.0 c.take_in.new.seat.me.0 _ c.take_in.ensures.learned)
+    (from_one c.one.inside.seat.me.0 c.other.inside.seat.me.0 c.take_in.new.seat.me.0 _ c.take_in.ensures.learned)
 
 pub returns-clause-one : goal.returns-clause-one
 returns-clause-one g c = first_learns g c
@@ -74,5 +83,6 @@ returns-clause-answers_first g c =
     let other : IsAccepted c.args.other.load = subst IsAccepted (ap (λ (k : Knowing). k.load) c.other.view_is) c.other.invariant.placed.accepted in
     let same : c.args.other.load ≡ c.args.one.load = c.requires.1.1 ∙ sym c.requires.0.1 in (
       met_first c.args.one c.args.other (seat_knows c.split_seat-other_seat.new.seat) one same (first_learns g c),
-      swap_first c.args.one c.args.other (seat_knows c.split_seat-other_seat.result) (met_first c.args.other c.args.one (seat_knows c.split_seat-other_seat.result) other (sym same) (second_learns g c)),
+      swap_first c.args.one c.args.other (seat_knows c.split_seat-other_seat.result)
+          (met_first c.args.other c.args.one (seat_knows c.split_seat-other_seat.result) other (sym same) (second_learns g c)),
     )

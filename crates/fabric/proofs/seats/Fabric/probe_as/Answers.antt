@@ -1,5 +1,5 @@
 use Rattle.std.proofs.Common.{ap, ◌∙◌}
-use Rattle.fabric_laws.specs.View.{View}
+use Rattle.fabric_rule.specs.View.{View}
 use Rattle.fabric.specs.Seats.{Knowing}
 use Rattle.fabric.proofs.Meetings.{lawful_view}
 use Rattle.fabric.proofs.Seating.{seated_look, seated_grows}
@@ -15,4 +15,5 @@ pub returns-clause-later : goal.returns-clause-later
 returns-clause-later g c = seated_grows c.seat.inside.seat c.look.new.seat c.look.ensures.sees _ c.seat.inside.slots.items c.seat.view_is c.seat.invariant
 
 pub returns-clause-lawful : goal.returns-clause-lawful
-returns-clause-lawful g c = lawful_view c.seat.inside.seat.me.0 c.look.new.seat.me.0 c.seat.invariant.placed.accepted (ap (λ (v : View). v.load) c.look.ensures.sees.view)
+returns-clause-lawful g c =
+    lawful_view c.seat.inside.seat.me.0 c.look.new.seat.me.0 c.seat.invariant.placed.accepted (ap (λ (v : View). v.load) c.look.ensures.sees.view)

@@ -2,7 +2,7 @@ use Rattle.std.proofs.Common.{◌≡◌, Some, ◌/◌, ap, arith}
 use Rattle.std.specs.Prelude.{slice_get}
 use Rattle.std.proofs.lemmas.Grind.{common_steps}
 use Rattle.std.proofs.lemmas.Option.{gets}
-use Rattle.fabric_laws.specs.View.{View}
+use Rattle.fabric_rule.specs.View.{View}
 use Rattle.fabric.proofs.Meetings.{every_run, knows_lawful, lawful_view}
 use Rattle.fabric.proofs.Seating.{seated_turn}
 use Rattle.fabric.proofs.seats.Fabric.turn.Goals as goal
@@ -15,7 +15,8 @@ turn_tile-requires-clause-tile g c =
 pub invariant_of-seat-2 : goal.invariant_of-seat-2
 invariant_of-seat-2 g c =
     let at : slice_get c.seat.inside.slots.items (c.args.step.agent / 3) ≡ Some (Some c.in-Some.tile) = grind (arith, common_steps, gets) in
-    seated_turn _ c.seat.inside.seat c.turn_tile.new.seat _ c.in-Some.tile _ c.seat.invariant at c.turn_tile.ensures.seat.0 c.turn_tile.ensures.seat.2 c.turn_tile.ensures.tile c.turn_tile.ensures.rest
+    seated_turn _ c.seat.inside.seat c.turn_tile.new.seat _ c.in-Some.tile _ c.seat.invariant at c.turn_tile.ensures.seat.0 c.turn_tile.ensures.seat.2
+    c.turn_tile.ensures.tile c.turn_tile.ensures.rest
 
 pub returns-then-number-len-clause-lawful : goal.returns-then-number-len-clause-lawful
 returns-then-number-len-clause-lawful g c = knows_lawful c.seat.inside.seat _ c.seat.view_is c.seat.invariant.placed.accepted

@@ -11,4 +11,5 @@ returns-clause-none g c = (
 
 pub returns-clause-some : goal.returns-clause-some
 returns-clause-some g c = slot_answers c.self.inside.slots.items c.self.inside.seat _ c.self.view_is c.self.invariant c.args.processor c.in-Some.own
-    (slot_at c.self.inside.slots c.args.processor c.index.result.now (Some c.in-Some.own) (omega arith) c.index.ensures c.in-Some.is) ∙ ap Some (sym c.answers.ensures)
+    (slot_at c.self.inside.slots c.args.processor c.index.result.now (Some c.in-Some.own) (omega arith) c.index.ensures c.in-Some.is)
+    ∙ ap Some (sym c.answers.ensures)

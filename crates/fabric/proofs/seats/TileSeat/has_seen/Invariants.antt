@@ -1,7 +1,7 @@
 use Rattle.std.proofs.Common.{◌≡◌, ℕ, ◌<◌, true, false, Some}
-use Rattle.fabric_laws.specs.tile.specs.Agents.{TilePlace}
-use Rattle.fabric_laws.specs.Known.{known}
-use Rattle.fabric_laws.specs.Groups.{Owns}
+use Rattle.fabric_rule.specs.tile_laws.specs.Agents.{TilePlace}
+use Rattle.fabric_rule.specs.Known.{known}
+use Rattle.fabric_rule.specs.Groups.{Owns}
 use Rattle.fabric.proofs.seats.TileSeat.has_seen.Given as goal
 
 -- of the tiles looked at those of the seat have seen the end, and `some` tells whether there are any

@@ -1,5 +1,5 @@
 use Rattle.std.proofs.Common.{ℕ, ◌<◌, ◌≤◌}
-use Rattle.fabric_laws.specs.Groups.{Owns}
+use Rattle.fabric_rule.specs.Groups.{Owns}
 use Rattle.fabric.proofs.seats.TileSeat.next_tile.Given as goal
 
 -- none of the seat's tiles is among those looked at

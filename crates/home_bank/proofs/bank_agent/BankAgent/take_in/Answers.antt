@@ -11,7 +11,8 @@ pub invariant_of-self : goal.invariant_of-self
 invariant_of-self g c =
     let b = c.self.inside in
     let r = c.in-Whole-Request.request in
-    let spelled : Spells (packet.Request r) (b.assembler ++ c.args.flit ∷ []) = (c.offer.ensures.whole (packet.Request r)).0 (c.in-Whole-Request.is ∙ ap Whole c.in-Whole-Request.field-0-is) in
+    let spelled : Spells (packet.Request r) (b.assembler ++ c.args.flit ∷ []) =
+    (c.offer.ensures.whole (packet.Request r)).0 (c.in-Whole-Request.is ∙ ap Whole c.in-Whole-Request.field-0-is) in
     record {
       limits = c.self.invariant.limits;
       inputs = c.self.invariant.inputs;

@@ -4,7 +4,11 @@ use Rattle.machine_core.proofs.Views.{answers_there, vec_past}
 use Rattle.machine_core.proofs.machine.Machine.answers.Goals as goal
 
 pub returns-then-at-len : goal.returns-then-at-len
-returns-then-at-len g c = rw (← c.self.view_is) (ap Some c.answers.ensures ∙ sym (answers_there c.self.inside c.args.processor (Some c.index.result.now) (vec_at c.self.inside.tiles c.args.processor c.index.result.now (omega arith) c.index.ensures)))
+returns-then-at-len g c =
+    rw (← c.self.view_is) (ap Some c.answers.ensures
+    ∙ sym (answers_there c.self.inside c.args.processor (Some c.index.result.now)
+    (vec_at c.self.inside.tiles c.args.processor c.index.result.now (omega arith) c.index.ensures)))
 
 pub returns-else-at-len : goal.returns-else-at-len
-returns-else-at-len g c = rw (← c.self.view_is) (sym (answers_there c.self.inside c.args.processor None (vec_past c.self.inside.tiles c.args.processor (omega arith))))
+returns-else-at-len g c =
+    rw (← c.self.view_is) (sym (answers_there c.self.inside c.args.processor None (vec_past c.self.inside.tiles c.args.processor (omega arith))))

@@ -2,8 +2,8 @@ use Rattle.std.proofs.Common.{◌+◌, ◌*◌, List, [], ◌∷◌, refl}
 use Rattle.torus.specs.declared.step.Step.{Step}
 use Rattle.torus.specs.declared.step.Choice.{Choice}
 use Rattle.torus.specs.declared.step.Choice.TheVariants.{Take, Serve, Send, Credit}
-use Rattle.wake_flags.specs.core_laws.specs.Core.{attempts_of}
-use Rattle.wake_flags.specs.machine_laws.specs.Core.{Core}
+use Rattle.machine_wake.specs.core_laws.specs.Core.{attempts_of}
+use Rattle.machine_wake.specs.core_machine.specs.Core.{Core}
 use Rattle.machine_core.proofs.Rounds.{attempt_more, tile_stays_once}
 use Rattle.machine_core.proofs.machine.Machine.attempt_bank.Goals as goal
 
@@ -19,15 +19,21 @@ returns g c =
 
 pub step_bank-requires-2 : goal.step_bank-requires-2
 step_bank-requires-2 g c =
-    tile_stays_once c.args.tile c.args.self.now c.step_bank.new.self (record { agent = 3 * c.args.tile + 2; choice = Take }) c.step_bank.ensures.change c.requires
+    tile_stays_once c.args.tile c.args.self.now c.step_bank.new.self (record { agent = 3 * c.args.tile + 2; choice = Take }) c.step_bank.ensures.change
+    c.requires
 
 pub step_bank-requires-3 : goal.step_bank-requires-3
 step_bank-requires-3 g c =
-    let low_2 = tile_stays_once c.args.tile c.args.self.now c.step_bank.new.self (record { agent = 3 * c.args.tile + 2; choice = Take }) c.step_bank.ensures.change c.requires in
-    tile_stays_once c.args.tile c.step_bank.new.self c.step_bank-2.new.self (record { agent = 3 * c.args.tile + 2; choice = Serve }) c.step_bank-2.ensures.change low_2
+    let low_2 = tile_stays_once c.args.tile c.args.self.now c.step_bank.new.self (record { agent = 3 * c.args.tile + 2; choice = Take })
+    c.step_bank.ensures.change c.requires in
+    tile_stays_once c.args.tile c.step_bank.new.self c.step_bank-2.new.self (record { agent = 3 * c.args.tile + 2; choice = Serve })
+    c.step_bank-2.ensures.change low_2
 
 pub step_bank-requires-4 : goal.step_bank-requires-4
 step_bank-requires-4 g c =
-    let low_2 = tile_stays_once c.args.tile c.args.self.now c.step_bank.new.self (record { agent = 3 * c.args.tile + 2; choice = Take }) c.step_bank.ensures.change c.requires in
-    let low_3 = tile_stays_once c.args.tile c.step_bank.new.self c.step_bank-2.new.self (record { agent = 3 * c.args.tile + 2; choice = Serve }) c.step_bank-2.ensures.change low_2 in
-    tile_stays_once c.args.tile c.step_bank-2.new.self c.step_bank-3.new.self (record { agent = 3 * c.args.tile + 2; choice = Send }) c.step_bank-3.ensures.change low_3
+    let low_2 = tile_stays_once c.args.tile c.args.self.now c.step_bank.new.self (record { agent = 3 * c.args.tile + 2; choice = Take })
+    c.step_bank.ensures.change c.requires in
+    let low_3 = tile_stays_once c.args.tile c.step_bank.new.self c.step_bank-2.new.self (record { agent = 3 * c.args.tile + 2; choice = Serve })
+    c.step_bank-2.ensures.change low_2 in
+    tile_stays_once c.args.tile c.step_bank-2.new.self c.step_bank-3.new.self (record { agent = 3 * c.args.tile + 2; choice = Send })
+    c.step_bank-3.ensures.change low_3

@@ -5,23 +5,40 @@ use Rattle.script.specs.declared.lists.LineList.{LineList}
 use Rattle.script.specs.declared.line.Line.{Line}
 use Rattle.script.specs.Scripts.{operation_count, script_of, total_count}
 use Rattle.script.specs.ScriptViews.{lists_of}
-use Rattle.wake_flags.specs.flights.proofs.LoadingAccepted.{followable}
-use Rattle.wake_flags.specs.core_laws.specs.Core.{Load}
+use Rattle.machine_wake.specs.order_abstract.proofs.LoadingAccepted.{followable}
+use Rattle.machine_wake.specs.core_laws.specs.Core.{Load}
 use Rattle.machine_core.proofs.Begins.{Begun, is_machine, is_after_none, has_room, home_small, homes_as, tiles_as, row_as, book_as, part_small}
 use Rattle.machine_core.proofs.machine.Machine.begin.Given.{Over}
 use Rattle.machine_core.proofs.machine.Machine.begin.Goals as goal
 
 begun : (g : Over) (c : goal.After-most_moves-left g) → Begun
-    (record { torus = c.args.torus; depth = c.args.depth; tags = c.args.tags; opening = c.args.opening; tiles = c.in_ok-tiles.tiles; row = c.in_ok-row.row; book = c.in_ok-book.book; left = c.most_moves-left.result; awake = c.in_ok-awake.awake })
+    (record {
+      torus = c.args.torus;
+      depth = c.args.depth;
+      tags = c.args.tags;
+      opening = c.args.opening;
+      tiles = c.in_ok-tiles.tiles;
+      row = c.in_ok-row.row;
+      book = c.in_ok-book.book;
+      left = c.most_moves-left.result;
+      awake = c.in_ok-awake.awake;
+    })
     (lists_of c.args.lists.items)
 begun g c =
-    let l : Load = record { shape = c.args.torus; depth = c.args.depth; tags = c.args.tags; opening = c.args.opening.items; scripts = lists_of c.args.lists.items } in
+    let l : Load = record {
+      shape = c.args.torus;
+      depth = c.args.depth;
+      tags = c.args.tags;
+      opening = c.args.opening.items;
+      scripts = lists_of c.args.lists.items;
+    } in
     let lists = ap (λ (xs : List (LineList _)). lists_of xs) c.as_slice.ensures.value in
     let lists_2 = ap (λ (xs : List (LineList _)). lists_of xs) c.as_slice-2.ensures.value in
     let lists_3 = ap (λ (xs : List (LineList _)). lists_of xs) c.as_slice-3.ensures.value in
     let counted = c.args.opening.ok.0 in
     let words : c.len-words.result ≡ length c.args.opening.items = omega (arith, c.len-words.ensures) in
-    let homes = homes_as (tiles_of c.args.torus) c.tiles.result c.home_rooms-entries.result (lists_of c.args.lists.items) (lists_of c.as_slice-2.result.now) c.tiles.ensures.value lists_2 c.home_rooms-entries.ensures in
+    let homes = homes_as (tiles_of c.args.torus) c.tiles.result c.home_rooms-entries.result (lists_of c.args.lists.items) (lists_of c.as_slice-2.result.now)
+    c.tiles.ensures.value lists_2 c.home_rooms-entries.ensures in
     let issue_count : length c.processor_rooms-issues.result ≡ 64 = c.processor_rooms-issues.type_inv.1.0.1 in
     let entry_count : length c.home_rooms-entries.result ≡ 64 = c.home_rooms-entries.type_inv.1.0.1 in
     let few = c.requires.shape.tiles in
@@ -29,12 +46,16 @@ begun g c =
     let entries_there : c.tiles-tiles.result ≤ length c.home_rooms-entries.result = omega (arith, c.tiles-tiles.ensures.value) in
     record {
       rooms = slice_index c.home_rooms-entries.result;
-      tiles = tiles_as c.args.torus c.args.depth c.args.tags c.len-words.result (length c.args.opening.items) (slice_index c.home_rooms-entries.result) (lists_of c.args.lists.items) c.in_ok-tiles.tiles.items
+      tiles = tiles_as c.args.torus c.args.depth c.args.tags c.len-words.result (length c.args.opening.items) (slice_index c.home_rooms-entries.result)
+          (lists_of c.args.lists.items) c.in_ok-tiles.tiles.items
           words c.in_ok-tiles.ensures;
       homes = homes;
-      row = row_as c.args.torus c.args.depth c.channel_count.result c.args.opening.items c.as_slice-4.result.now c.in_ok-row.row.items c.channel_count.ensures.value c.as_slice-4.ensures.value c.in_ok-row.ensures;
-      book = book_as (tiles_of c.args.torus) c.tiles-tiles.result c.processor_rooms-issues.result c.in_ok-book.book.book c.tiles-tiles.ensures.value issues_there c.in_ok-book.ensures.book;
-      room = has_room l c.requires c.tiles-tiles.result c.all_room-rows.result c.processor_rooms-issues.result c.home_rooms-entries.result c.in_ok-book.book c.tiles-tiles.ensures.value issues_there entries_there
+      row = row_as c.args.torus c.args.depth c.channel_count.result c.args.opening.items c.as_slice-4.result.now c.in_ok-row.row.items
+          c.channel_count.ensures.value c.as_slice-4.ensures.value c.in_ok-row.ensures;
+      book = book_as (tiles_of c.args.torus) c.tiles-tiles.result c.processor_rooms-issues.result c.in_ok-book.book.book c.tiles-tiles.ensures.value
+          issues_there c.in_ok-book.ensures.book;
+      room = has_room l c.requires c.tiles-tiles.result c.all_room-rows.result c.processor_rooms-issues.result c.home_rooms-entries.result c.in_ok-book.book
+          c.tiles-tiles.ensures.value issues_there entries_there
           (λ p. c.processor_rooms-issues.ensures p ∙ ap (λ (xs : List (List Line)). operation_count (script_of xs p)) lists)
           homes (c.all_room-rows.ensures ∙ ap total_count lists_3)
           c.in_ok-book.ensures.issues c.in_ok-book.ensures.positions c.in_ok-book.ensures.rows;
@@ -55,9 +76,16 @@ most_moves-left-requires g c =
 pub new-requires-clause-positions : goal.new-requires-clause-positions
 new-requires-clause-positions g c =
     let lists_2 = ap (λ (xs : List (LineList _)). lists_of xs) c.as_slice-2.ensures.value in
-    let homes = homes_as (tiles_of c.args.torus) c.tiles.result c.home_rooms-entries.result (lists_of c.args.lists.items) (lists_of c.as_slice-2.result.now) c.tiles.ensures.value lists_2 c.home_rooms-entries.ensures in
+    let homes = homes_as (tiles_of c.args.torus) c.tiles.result c.home_rooms-entries.result (lists_of c.args.lists.items) (lists_of c.as_slice-2.result.now)
+    c.tiles.ensures.value lists_2 c.home_rooms-entries.ensures in
     part_small c.tiles-tiles.result c.home_rooms-entries.result
-    (λ b low. home_small (record { shape = c.args.torus; depth = c.args.depth; tags = c.args.tags; opening = c.args.opening.items; scripts = lists_of c.args.lists.items }) c.requires c.home_rooms-entries.result homes b
+    (λ b low. home_small (record {
+      shape = c.args.torus;
+      depth = c.args.depth;
+      tags = c.args.tags;
+      opening = c.args.opening.items;
+      scripts = lists_of c.args.lists.items;
+    }) c.requires c.home_rooms-entries.result homes b
     (omega (arith, c.tiles-tiles.ensures.value)))
 
 pub first_row-requires-clause-places : goal.first_row-requires-clause-places
@@ -67,13 +95,26 @@ first_row-requires-clause-places g c =
 
 pub first_tiles-requires-clause-accepted : goal.first_tiles-requires-clause-accepted
 first_tiles-requires-clause-accepted g c =
-    followable (record { shape = c.args.torus; depth = c.args.depth; tags = c.args.tags; opening = c.args.opening.items; scripts = lists_of c.args.lists.items }) c.requires
+    followable (record {
+      shape = c.args.torus;
+      depth = c.args.depth;
+      tags = c.args.tags;
+      opening = c.args.opening.items;
+      scripts = lists_of c.args.lists.items;
+    }) c.requires
 
 pub first_tiles-requires-clause-rooms : goal.first_tiles-requires-clause-rooms
 first_tiles-requires-clause-rooms g c =
     let lists_2 = ap (λ (xs : List (LineList _)). lists_of xs) c.as_slice-2.ensures.value in
-    home_small (record { shape = c.args.torus; depth = c.args.depth; tags = c.args.tags; opening = c.args.opening.items; scripts = lists_of c.args.lists.items }) c.requires c.home_rooms-entries.result
-    (homes_as (tiles_of c.args.torus) c.tiles.result c.home_rooms-entries.result (lists_of c.args.lists.items) (lists_of c.as_slice-2.result.now) c.tiles.ensures.value lists_2 c.home_rooms-entries.ensures)
+    home_small (record {
+      shape = c.args.torus;
+      depth = c.args.depth;
+      tags = c.args.tags;
+      opening = c.args.opening.items;
+      scripts = lists_of c.args.lists.items;
+    }) c.requires c.home_rooms-entries.result
+    (homes_as (tiles_of c.args.torus) c.tiles.result c.home_rooms-entries.result (lists_of c.args.lists.items) (lists_of c.as_slice-2.result.now)
+    c.tiles.ensures.value lists_2 c.home_rooms-entries.ensures)
 
 pub invariant_of-result : goal.invariant_of-result
 invariant_of-result g c = is_machine _ (lists_of c.args.lists.items) c.requires (begun g c)

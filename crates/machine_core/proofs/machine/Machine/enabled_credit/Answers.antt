@@ -8,12 +8,14 @@ loop-output-init g c = port_start c.args.self.now (λ (k : ℕ). CreditOf k) c.a
 
 pub loop-output-preserved : goal.loop-output-preserved
 loop-output-preserved g c =
-    sym (port_skipped c.args.self.now (λ (k : ℕ). CreditOf k) c.args.agent c.args.ports c.loop-output.output (omega arith) (sym c.enabled.ensures ∙ c.if-enabled.false))
+    sym (port_skipped c.args.self.now (λ (k : ℕ). CreditOf k) c.args.agent c.args.ports c.loop-output.output (omega arith)
+    (sym c.enabled.ensures ∙ c.if-enabled.false))
     ∙ c.loop-output.invariant
 
 pub returns-then-enabled : goal.returns-then-enabled
 returns-then-enabled g c =
-    sym (port_found c.args.self.now (λ (k : ℕ). CreditOf k) c.args.agent c.args.ports c.loop-output.output (omega arith) (sym c.enabled.ensures ∙ c.if-enabled.true))
+    sym (port_found c.args.self.now (λ (k : ℕ). CreditOf k) c.args.agent c.args.ports c.loop-output.output (omega arith)
+    (sym c.enabled.ensures ∙ c.if-enabled.true))
     ∙ c.loop-output.invariant
 
 pub returns : goal.returns

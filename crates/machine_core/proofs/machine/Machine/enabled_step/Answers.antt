@@ -1,8 +1,8 @@
 use Rattle.std.proofs.Common.{◌≡◌, ◌+◌, ◌*◌, ◌<◌, ◌≤◌, None, refl, sym, ◌∙◌, ap, subst, arith}
 use Rattle.std.specs.Prelude.{is_some}
 use Rattle.torus.specs.Shape.{Shape, dims_of, tiles_of}
-use Rattle.wake_flags.specs.core_progress.specs.Moves.{enabled_step}
-use Rattle.wake_flags.specs.machine_laws.specs.Core.{Core, IsAfter, built_to}
+use Rattle.machine_wake.specs.core_progress.specs.Moves.{enabled_step}
+use Rattle.machine_wake.specs.core_machine.specs.Core.{Core, IsAfter, built_to}
 use Rattle.machine_core.specs.Rounds.{first_in}
 use Rattle.machine_core.proofs.Rounds.{all_parts}
 use Rattle.machine_core.proofs.FirstEnabled.{picks, passes, tile_next, tile_past, tile_start}
@@ -23,7 +23,8 @@ loop-tile-preserved g c =
     let tiles = c.tiles-tile-end.ensures.value in
     let within = c.loop-tile-test.true in
     let low : c.loop-tile.tile < tiles_of now.shape = subst (λ (s : Shape). c.loop-tile.tile < tiles_of s) shape (omega (arith, tiles, within)) in
-    sym (passes _ _ _ c.enabled_at-found.result (tile_next now (8 * c.dims.result + 2) (tiles_of now.shape) c.loop-tile.tile low) c.enabled_at-found.ensures (sym c.is_some.ensures ∙ c.if-is_some.false))
+    sym (passes _ _ _ c.enabled_at-found.result (tile_next now (8 * c.dims.result + 2) (tiles_of now.shape) c.loop-tile.tile low) c.enabled_at-found.ensures
+    (sym c.is_some.ensures ∙ c.if-is_some.false))
     ∙ c.loop-tile.invariant
 
 pub returns-then-is_some-clause-value : goal.returns-then-is_some-clause-value
@@ -33,7 +34,8 @@ returns-then-is_some-clause-value g c =
     let tiles = c.tiles-tile-end.ensures.value in
     let within = c.loop-tile-test.true in
     let low : c.loop-tile.tile < tiles_of now.shape = subst (λ (s : Shape). c.loop-tile.tile < tiles_of s) shape (omega (arith, tiles, within)) in
-    picks _ _ _ c.enabled_at-found.result (tile_next now (8 * c.dims.result + 2) (tiles_of now.shape) c.loop-tile.tile low) c.enabled_at-found.ensures (sym c.is_some.ensures ∙ c.if-is_some.true)
+    picks _ _ _ c.enabled_at-found.result (tile_next now (8 * c.dims.result + 2) (tiles_of now.shape) c.loop-tile.tile low) c.enabled_at-found.ensures
+    (sym c.is_some.ensures ∙ c.if-is_some.true)
     ∙ c.loop-tile.invariant
 
 pub returns-then-is_some-clause-none : goal.returns-then-is_some-clause-none

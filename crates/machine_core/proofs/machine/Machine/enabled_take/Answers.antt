@@ -8,12 +8,14 @@ loop-input-init g c = port_start c.args.self.now (λ (k : ℕ). TakeFrom k) c.ar
 
 pub loop-input-preserved : goal.loop-input-preserved
 loop-input-preserved g c =
-    sym (port_skipped c.args.self.now (λ (k : ℕ). TakeFrom k) c.args.agent c.args.ports c.loop-input.input (omega arith) (sym c.enabled.ensures ∙ c.if-enabled.false))
+    sym (port_skipped c.args.self.now (λ (k : ℕ). TakeFrom k) c.args.agent c.args.ports c.loop-input.input (omega arith)
+    (sym c.enabled.ensures ∙ c.if-enabled.false))
     ∙ c.loop-input.invariant
 
 pub returns-then-enabled : goal.returns-then-enabled
 returns-then-enabled g c =
-    sym (port_found c.args.self.now (λ (k : ℕ). TakeFrom k) c.args.agent c.args.ports c.loop-input.input (omega arith) (sym c.enabled.ensures ∙ c.if-enabled.true))
+    sym (port_found c.args.self.now (λ (k : ℕ). TakeFrom k) c.args.agent c.args.ports c.loop-input.input (omega arith)
+    (sym c.enabled.ensures ∙ c.if-enabled.true))
     ∙ c.loop-input.invariant
 
 pub returns : goal.returns

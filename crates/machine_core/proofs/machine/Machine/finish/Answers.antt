@@ -1,6 +1,6 @@
 use Rattle.std.proofs.Common.{◌≡◌, ◌++◌, true, sym, ◌∙◌, ap, subst, arith}
-use Rattle.wake_flags.specs.machine_laws.specs.Core.{Core, IsAfter, all_finished}
-use Rattle.wake_flags.specs.machine_laws.proofs.Machines.{after_steps}
+use Rattle.machine_wake.specs.core_machine.specs.Core.{Core, IsAfter, all_finished}
+use Rattle.machine_wake.specs.core_machine.proofs.Machines.{after_steps}
 use Rattle.machine_core.specs.Rounds.{rounds_of}
 use Rattle.machine_core.proofs.Finishing.{finished_after, has_none, has_more, few_rounds, few_now, still_few, finished_run}
 use Rattle.machine_core.proofs.machine.Machine.finish.Goals as goal
@@ -10,16 +10,19 @@ loop-self-init g c = has_none c.args.self.now
 
 pub loop-self-preserved : goal.loop-self-preserved
 loop-self-preserved g c =
-    has_more c.args.self.now c.loop-self.self c.round.new.self c.loop-self.rounds c.loop-self.invariant (sym c.finished.ensures.value ∙ c.loop-self-test.true) c.round.ensures.state
+    has_more c.args.self.now c.loop-self.self c.round.new.self c.loop-self.rounds c.loop-self.invariant (sym c.finished.ensures.value ∙ c.loop-self-test.true)
+    c.round.ensures.state
 
 pub loop-self-smaller : goal.loop-self-smaller
 loop-self-smaller g c =
-    let low = still_few c.reached.ensures.0 c.args.self.now c.reached.ensures.1 c.reached.ensures.2 c.loop-self.self c.loop-self.rounds c.loop-self.invariant (sym c.finished.ensures.value ∙ c.loop-self-test.true) in
+    let low = still_few c.reached.ensures.0 c.args.self.now c.reached.ensures.1 c.reached.ensures.2 c.loop-self.self c.loop-self.rounds c.loop-self.invariant
+    (sym c.finished.ensures.value ∙ c.loop-self-test.true) in
     omega (arith, low)
 
 pub overflow_add-rounds : goal.overflow_add-rounds
 overflow_add-rounds g c =
-    let low = still_few c.reached.ensures.0 c.args.self.now c.reached.ensures.1 c.reached.ensures.2 c.loop-self.self c.loop-self.rounds c.loop-self.invariant (sym c.finished.ensures.value ∙ c.loop-self-test.true) in
+    let low = still_few c.reached.ensures.0 c.args.self.now c.reached.ensures.1 c.reached.ensures.2 c.loop-self.self c.loop-self.rounds c.loop-self.invariant
+    (sym c.finished.ensures.value ∙ c.loop-self-test.true) in
     omega (arith, low)
 
 pub returns : goal.returns

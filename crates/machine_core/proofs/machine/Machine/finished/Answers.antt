@@ -1,21 +1,22 @@
 use Rattle.std.proofs.Common.{rules, ◌≡◌, ◌↔◌, Bool, true, length, sym, ◌∙◌, ap, subst}
 use Rattle.std.proofs.lemmas.Iterator.{YieldsList-from_slice}
 use Rattle.std.proofs.lemmas.Iterator.Search.{all_from_yields_List}
-use Rattle.wake_flags.specs.net_interface.specs.Following.{is_finished}
-use Rattle.wake_flags.specs.flights.specs.Scripts.{AreFinished}
-use Rattle.wake_flags.specs.tile_agents.specs.Placed.{PlacedTile}
-use Rattle.wake_flags.specs.core_laws.specs.Core.{run_of}
-use Rattle.wake_flags.specs.core_progress.specs.Moves.{IsLive}
-use Rattle.wake_flags.specs.machine_laws.specs.Core.{Core, built_to, all_finished}
-use Rattle.wake_flags.specs.machine_laws.proofs.Machines.{finished_of_machine}
-use Rattle.wake_flags.specs.machine_laws.proofs.Moves.{lives}
+use Rattle.machine_wake.specs.script_follower.specs.Following.{is_finished}
+use Rattle.machine_wake.specs.order_abstract.specs.Scripts.{AreFinished}
+use Rattle.machine_wake.specs.tile.specs.Placed.{PlacedTile}
+use Rattle.machine_wake.specs.core_laws.specs.Core.{run_of}
+use Rattle.machine_wake.specs.core_progress.specs.Moves.{IsLive}
+use Rattle.machine_wake.specs.core_machine.specs.Core.{Core, built_to, all_finished}
+use Rattle.machine_wake.specs.core_machine.proofs.Machines.{finished_of_machine}
+use Rattle.machine_wake.specs.core_machine.proofs.Moves.{lives}
 use Rattle.machine_core.specs.Inside.{core_of}
 use Rattle.machine_core.proofs.Views.{finished_tiles}
 use Rattle.machine_core.proofs.machine.Machine.finished.Goals as goal
 
 pub returns-clause-value : goal.returns-clause-value
 returns-clause-value g c =
-    let all = all_from_yields_List (λ (v : PlacedTile). is_finished v.place.processor.state.operations.following) _ _ c.all.result c.all.ensures.ran (YieldsList-from_slice c.self.inside.tiles.items (c.iter.ensures.rest ∙ c.deref.ensures.value)) (λ x b q k. search rules) in
+    let all = all_from_yields_List (λ (v : PlacedTile). is_finished v.place.processor.state.operations.following) _ _ c.all.result c.all.ensures.ran
+    (YieldsList-from_slice c.self.inside.tiles.items (c.iter.ensures.rest ∙ c.deref.ensures.value)) (λ x b q k. search rules) in
     rw (← c.self.view_is) (all ∙ sym (finished_tiles c.self.inside))
 
 pub returns-clause-live : goal.returns-clause-live

@@ -2,10 +2,10 @@ use Rattle.std.proofs.Common.{◌≡◌, ℕ, ◌<◌, ◌+◌, ◌*◌, ◌++�
 use Rattle.std.specs.List.{flat_map, range_with_len}
 use Rattle.torus.specs.Shape.{Shape, dims_of, tiles_of}
 use Rattle.rounds.specs.Rounds.{moves_in}
-use Rattle.wake_flags.specs.core_laws.specs.Core.{step, round_at, round}
-use Rattle.wake_flags.specs.machine_laws.specs.Core.{Core, IsAfter, built_to, core_after}
-use Rattle.wake_flags.specs.machine_laws.proofs.Machines.{after_steps}
-use Rattle.wake_flags.specs.machine_laws.proofs.Moves.{left_after, round_moves}
+use Rattle.machine_wake.specs.core_laws.specs.Core.{step, round_at, round}
+use Rattle.machine_wake.specs.core_machine.specs.Core.{Core, IsAfter, built_to, core_after}
+use Rattle.machine_wake.specs.core_machine.proofs.Machines.{after_steps}
+use Rattle.machine_wake.specs.core_machine.proofs.Moves.{left_after, round_moves}
 use Rattle.machine_core.proofs.Rounds.{part_more, all_parts, tile_stays, same_shape}
 use Rattle.machine_core.proofs.machine.Machine.round.Given.{Over}
 use Rattle.machine_core.proofs.machine.Machine.round.Goals as goal
@@ -49,7 +49,8 @@ pub round_at-requires-clause-tile : goal.round_at-requires-clause-tile
 round_at-requires-clause-tile g c =
     let shape : c.self.inside.torus ≡ c.args.self.now.shape = ap (λ (v : Core). v.shape) c.self.view_is in
     let low : c.loop-tile.tile < tiles_of c.args.self.now.shape = subst (λ (s : Shape). c.loop-tile.tile < tiles_of s) shape (omega arith) in
-    tile_stays c.loop-tile.tile c.args.self.now c.loop-tile.self (flat_map (round_at (8 * c.dims.result + 2)) (range_with_len 0 c.loop-tile.tile)) c.loop-tile.invariant low
+    tile_stays c.loop-tile.tile c.args.self.now c.loop-tile.self (flat_map (round_at (8 * c.dims.result + 2)) (range_with_len 0 c.loop-tile.tile))
+    c.loop-tile.invariant low
 
 pub round_at-requires-clause-ports : goal.round_at-requires-clause-ports
 round_at-requires-clause-ports g c =

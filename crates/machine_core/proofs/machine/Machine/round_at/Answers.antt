@@ -1,8 +1,8 @@
 use Rattle.std.proofs.Common.{◌+◌, ◌*◌, sym, ◌∙◌, ap}
 use Rattle.torus.specs.Shape.{Shape, dims_of}
 use Rattle.channel_number.specs.Ports.{port_count}
-use Rattle.wake_flags.specs.core_laws.specs.Core.{attempts_of}
-use Rattle.wake_flags.specs.machine_laws.specs.Core.{Core}
+use Rattle.machine_wake.specs.core_laws.specs.Core.{attempts_of}
+use Rattle.machine_wake.specs.core_machine.specs.Core.{Core}
 use Rattle.machine_core.specs.Rounds.{processor_choices, router_choices}
 use Rattle.machine_core.proofs.Rounds.{tile_parts, tile_stays, same_shape}
 use Rattle.machine_core.proofs.machine.Machine.round_at.Goals as goal
@@ -23,5 +23,7 @@ turn_router-requires-clause-ports g c =
 
 pub turn_bank-requires : goal.turn_bank-requires
 turn_bank-requires g c =
-    let low = tile_stays c.args.tile c.args.self.now c.turn_processor.new.self (attempts_of (3 * c.args.tile) processor_choices) c.turn_processor.ensures c.requires.tile in
-    tile_stays c.args.tile c.turn_processor.new.self c.turn_router.new.self (attempts_of (3 * c.args.tile + 1) (router_choices c.args.ports)) c.turn_router.ensures low
+    let low = tile_stays c.args.tile c.args.self.now c.turn_processor.new.self (attempts_of (3 * c.args.tile) processor_choices) c.turn_processor.ensures
+    c.requires.tile in
+    tile_stays c.args.tile c.turn_processor.new.self c.turn_router.new.self (attempts_of (3 * c.args.tile + 1) (router_choices c.args.ports))
+    c.turn_router.ensures low

@@ -1,7 +1,7 @@
 use Rattle.std.proofs.Common.{◌≡◌, ◌≤◌, ◌++◌, ◌+◌, length, refl, sym, ◌∙◌, ap, subst, drop}
 use Rattle.std.proofs.lemmas.List.{at_drop_all, at_drop_more}
-use Rattle.wake_flags.specs.machine_laws.specs.Core.{Core, IsAfter, core_after}
-use Rattle.wake_flags.specs.machine_laws.proofs.Machines.{after_steps}
+use Rattle.machine_wake.specs.core_machine.specs.Core.{Core, IsAfter, core_after}
+use Rattle.machine_wake.specs.core_machine.proofs.Machines.{after_steps}
 use Rattle.machine_core.proofs.machine.Machine.run.Goals as goal
 
 pub loop-step-init : goal.loop-step-init
@@ -21,5 +21,6 @@ returns-clause-state g c =
 pub returns-clause-law : goal.returns-clause-law
 returns-clause-law g c = λ l before h.
     let end : length c.args.steps.now ≤ c.loop-step.step-index = c.loop-step-test.false in
-    let e : c.loop-step.self ≡ core_after c.args.self.now c.args.steps.now = sym (at_drop_all (core_after c.loop-step.self) c.args.steps.now c.loop-step.step-index end) ∙ c.loop-step.invariant in
+    let e : c.loop-step.self ≡ core_after c.args.self.now c.args.steps.now =
+    sym (at_drop_all (core_after c.loop-step.self) c.args.steps.now c.loop-step.step-index end) ∙ c.loop-step.invariant in
     subst (λ (x : Core). IsAfter l x (before ++ c.args.steps.now)) (sym e) (after_steps l c.args.self.now before c.args.steps.now h)

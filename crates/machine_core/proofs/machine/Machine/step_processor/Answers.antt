@@ -3,22 +3,31 @@ use Rattle.std.specs.Vec.{with_item}
 use Rattle.std.proofs.lemmas.List.{length-set}
 use Rattle.std.proofs.lemmas.Option.{same_Some}
 use Rattle.torus.specs.declared.step.Stepped.TheVariants.{Moved}
-use Rattle.wake_flags.specs.tile.specs.Tile.{Processor}
-use Rattle.wake_flags.specs.tile.specs.Agents.{agent_op}
-use Rattle.wake_flags.specs.tile_agents.specs.Placed.{PlacedTile, agent_attempted}
+use Rattle.machine_wake.specs.tile_laws.specs.Tile.{Processor}
+use Rattle.machine_wake.specs.tile_laws.specs.Agents.{agent_op}
+use Rattle.machine_wake.specs.tile.specs.Placed.{PlacedTile, agent_attempted}
 use Rattle.machine_core.specs.declared.noting.Counts.{Counts}
 use Rattle.machine_core.specs.Noted.{HasRoomToNote, counts_of}
 use Rattle.machine_core.proofs.Fields.{Led, vec_at, with_parts, moved_tile, idle_tile, noted_same}
 use Rattle.machine_core.proofs.Standing.{few_tiles}
-use Rattle.machine_core.proofs.Agents.{of_tile, of_kind, tile_within, agent_word, agent_fits, agent_without_op, agent_idle, agent_can_note, agent_left, agent_moved}
+use Rattle.machine_core.proofs.Agents.{of_tile, of_kind, tile_within, agent_word, agent_fits, agent_without_op, agent_idle, agent_can_note, agent_left}
+use Rattle.machine_core.proofs.Agents.{agent_moved}
 use Rattle.machine_core.proofs.machine.Machine.step_processor.Given.{Over}
 use Rattle.machine_core.proofs.machine.Machine.step_processor.Goals as goal
 
 pub attempt_processor-requires-clause-room : goal.attempt_processor-requires-clause-room
-attempt_processor-requires-clause-room g c = agent_word c.self.inside c.self.invariant (record { agent = 3 * c.args.tile; choice = c.args.choice }) c.args.tile 0 (of_tile (3 * c.args.tile) c.args.tile 0 (omega arith) (omega arith)) (of_kind (3 * c.args.tile) c.args.tile 0 (omega arith) (omega arith)) c.index_mut.result.now (vec_at c.self.inside.tiles c.args.tile c.index_mut.result.now (tile_within c.self.inside c.self.invariant c.args.self.now c.self.view_is c.args.tile c.requires) c.index_mut.ensures.value)
+attempt_processor-requires-clause-room g c =
+    agent_word c.self.inside c.self.invariant (record { agent = 3 * c.args.tile; choice = c.args.choice }) c.args.tile 0
+    (of_tile (3 * c.args.tile) c.args.tile 0 (omega arith) (omega arith)) (of_kind (3 * c.args.tile) c.args.tile 0 (omega arith) (omega arith))
+    c.index_mut.result.now (vec_at c.self.inside.tiles c.args.tile c.index_mut.result.now
+    (tile_within c.self.inside c.self.invariant c.args.self.now c.self.view_is c.args.tile c.requires) c.index_mut.ensures.value)
 
 pub attempt_processor-requires-clause-flit : goal.attempt_processor-requires-clause-flit
-attempt_processor-requires-clause-flit g c = agent_fits c.self.inside c.self.invariant (record { agent = 3 * c.args.tile; choice = c.args.choice }) c.args.tile 0 (of_tile (3 * c.args.tile) c.args.tile 0 (omega arith) (omega arith)) (of_kind (3 * c.args.tile) c.args.tile 0 (omega arith) (omega arith)) c.index_mut.result.now (vec_at c.self.inside.tiles c.args.tile c.index_mut.result.now (tile_within c.self.inside c.self.invariant c.args.self.now c.self.view_is c.args.tile c.requires) c.index_mut.ensures.value)
+attempt_processor-requires-clause-flit g c =
+    agent_fits c.self.inside c.self.invariant (record { agent = 3 * c.args.tile; choice = c.args.choice }) c.args.tile 0
+    (of_tile (3 * c.args.tile) c.args.tile 0 (omega arith) (omega arith)) (of_kind (3 * c.args.tile) c.args.tile 0 (omega arith) (omega arith))
+    c.index_mut.result.now (vec_at c.self.inside.tiles c.args.tile c.index_mut.result.now
+    (tile_within c.self.inside c.self.invariant c.args.self.now c.self.view_is c.args.tile c.requires) c.index_mut.ensures.value)
 
 pub note-requires-clause-tile : goal.note-requires-clause-tile
 note-requires-clause-tile g c =
@@ -38,39 +47,65 @@ note-requires-clause-tiles g c =
 pub note-requires-clause-room : goal.note-requires-clause-room
 note-requires-clause-room g c =
     let v : PlacedTile = c.index_mut.result.now in
-    let at : slice_get c.self.inside.tiles.items c.args.tile ≡ Some v = vec_at c.self.inside.tiles c.args.tile c.index_mut.result.now (tile_within c.self.inside c.self.invariant c.args.self.now c.self.view_is c.args.tile c.requires) c.index_mut.ensures.value in
-    let counted : slice_get c.self.inside.tiles.items c.args.tile ≡ Some c.index-2.result.now = vec_at c.self.inside.tiles c.args.tile c.index-2.result.now (tile_within c.self.inside c.self.invariant c.args.self.now c.self.view_is c.args.tile c.requires) c.index-2.ensures in
+    let at : slice_get c.self.inside.tiles.items c.args.tile ≡ Some v =
+    vec_at c.self.inside.tiles c.args.tile c.index_mut.result.now
+    (tile_within c.self.inside c.self.invariant c.args.self.now c.self.view_is c.args.tile c.requires) c.index_mut.ensures.value in
+    let counted : slice_get c.self.inside.tiles.items c.args.tile ≡ Some c.index-2.result.now =
+    vec_at c.self.inside.tiles c.args.tile c.index-2.result.now
+    (tile_within c.self.inside c.self.invariant c.args.self.now c.self.view_is c.args.tile c.requires) c.index-2.ensures in
     let before : c.of-before.result ≡ counts_of v = c.of-before.ensures ∙ ap counts_of (same_Some _ _ (sym counted ∙ at)) in
-    let k = moved_tile (agent_attempted v.place Processor c.args.choice c.self.inside.row.items) c.attempt_processor.result v c.attempt_processor.new.self c.attempt_processor.ensures.step c.in-Moved.is in
+    let k = moved_tile (agent_attempted v.place Processor c.args.choice c.self.inside.row.items) c.attempt_processor.result v c.attempt_processor.new.self
+    c.attempt_processor.ensures.step c.in-Moved.is in
     subst (λ (b : Counts). HasRoomToNote c.as_slice.result.now c.args.tile b c.self.inside.book) (sym before)
-    (agent_can_note c.self.inside c.self.invariant (record { agent = 3 * c.args.tile; choice = c.args.choice }) c.args.tile 0 (of_tile (3 * c.args.tile) c.args.tile 0 (omega arith) (omega arith)) (of_kind (3 * c.args.tile) c.args.tile 0 (omega arith) (omega arith)) v at k.0 k.1 c.attempt_processor.new.self k.2 c.as_slice.result.now c.as_slice.ensures.value c.attempt_processor.new.row.items c.attempt_processor.ensures.row)
+    (agent_can_note c.self.inside c.self.invariant (record { agent = 3 * c.args.tile; choice = c.args.choice }) c.args.tile 0
+    (of_tile (3 * c.args.tile) c.args.tile 0 (omega arith) (omega arith)) (of_kind (3 * c.args.tile) c.args.tile 0 (omega arith) (omega arith)) v at k.0
+    k.1 c.attempt_processor.new.self k.2 c.as_slice.result.now c.as_slice.ensures.value c.attempt_processor.new.row.items c.attempt_processor.ensures.row)
 
 -- the operation of the choice
 asked : (g : Over) (c : goal.After-self-in-Moved-1 g) → agent_op c.index_mut.result.now.place Processor c.args.choice ≡ Some c.in-Some.op
 asked g c =
-    let at : slice_get c.self.inside.tiles.items c.args.tile ≡ Some c.index_mut.result.now = vec_at c.self.inside.tiles c.args.tile c.index_mut.result.now (tile_within c.self.inside c.self.invariant c.args.self.now c.self.view_is c.args.tile c.requires) c.index_mut.ensures.value in
-    let first : slice_get c.self.inside.tiles.items c.args.tile ≡ Some c.index.result.now = vec_at c.self.inside.tiles c.args.tile c.index.result.now (tile_within c.self.inside c.self.invariant c.args.self.now c.self.view_is c.args.tile c.requires) c.index.ensures in
+    let at : slice_get c.self.inside.tiles.items c.args.tile ≡ Some c.index_mut.result.now =
+    vec_at c.self.inside.tiles c.args.tile c.index_mut.result.now
+    (tile_within c.self.inside c.self.invariant c.args.self.now c.self.view_is c.args.tile c.requires) c.index_mut.ensures.value in
+    let first : slice_get c.self.inside.tiles.items c.args.tile ≡ Some c.index.result.now =
+    vec_at c.self.inside.tiles c.args.tile c.index.result.now
+    (tile_within c.self.inside c.self.invariant c.args.self.now c.self.view_is c.args.tile c.requires) c.index.ensures in
     ap (λ (w : PlacedTile). agent_op w.place Processor c.args.choice) (same_Some _ _ (sym at ∙ first)) ∙ sym c.in-Some.ensures
 
 led : (g : Over) (c : goal.After-self-in-Moved-1 g)
-    → Led c.self.inside (with_parts c.self.inside (with_item c.self.inside.tiles c.args.tile c.attempt_processor.new.self) c.attempt_processor.new.row c.note.new.book c.wake.new.self (c.self.inside.left - 1)) Moved (record { agent = 3 * c.args.tile; choice = c.args.choice })
+    → Led c.self.inside (with_parts c.self.inside (with_item c.self.inside.tiles c.args.tile c.attempt_processor.new.self) c.attempt_processor.new.row
+    c.note.new.book c.wake.new.self (c.self.inside.left - 1)) Moved (record { agent = 3 * c.args.tile; choice = c.args.choice })
 led g c =
     let v : PlacedTile = c.index_mut.result.now in
-    let at : slice_get c.self.inside.tiles.items c.args.tile ≡ Some v = vec_at c.self.inside.tiles c.args.tile c.index_mut.result.now (tile_within c.self.inside c.self.invariant c.args.self.now c.self.view_is c.args.tile c.requires) c.index_mut.ensures.value in
-    let counted : slice_get c.self.inside.tiles.items c.args.tile ≡ Some c.index-2.result.now = vec_at c.self.inside.tiles c.args.tile c.index-2.result.now (tile_within c.self.inside c.self.invariant c.args.self.now c.self.view_is c.args.tile c.requires) c.index-2.ensures in
+    let at : slice_get c.self.inside.tiles.items c.args.tile ≡ Some v =
+    vec_at c.self.inside.tiles c.args.tile c.index_mut.result.now
+    (tile_within c.self.inside c.self.invariant c.args.self.now c.self.view_is c.args.tile c.requires) c.index_mut.ensures.value in
+    let counted : slice_get c.self.inside.tiles.items c.args.tile ≡ Some c.index-2.result.now =
+    vec_at c.self.inside.tiles c.args.tile c.index-2.result.now
+    (tile_within c.self.inside c.self.invariant c.args.self.now c.self.view_is c.args.tile c.requires) c.index-2.ensures in
     let before : c.of-before.result ≡ counts_of v = c.of-before.ensures ∙ ap counts_of (same_Some _ _ (sym counted ∙ at)) in
-    let k = moved_tile (agent_attempted v.place Processor c.args.choice c.self.inside.row.items) c.attempt_processor.result v c.attempt_processor.new.self c.attempt_processor.ensures.step c.in-Moved.is in
+    let k = moved_tile (agent_attempted v.place Processor c.args.choice c.self.inside.row.items) c.attempt_processor.result v c.attempt_processor.new.self
+    c.attempt_processor.ensures.step c.in-Moved.is in
     let tiles = with_item c.self.inside.tiles c.args.tile c.attempt_processor.new.self in
-    agent_moved c.self.inside c.self.invariant (record { agent = 3 * c.args.tile; choice = c.args.choice }) c.args.tile 0 (of_tile (3 * c.args.tile) c.args.tile 0 (omega arith) (omega arith)) (of_kind (3 * c.args.tile) c.args.tile 0 (omega arith) (omega arith)) v at k.0 k.1 c.attempt_processor.new.self k.2 tiles refl c.attempt_processor.new.row c.attempt_processor.ensures.row c.note.new.book c.note.ensures.room
-    (noted_same c.as_slice.result.now tiles.items c.of-before.result (counts_of v) c.args.tile c.note.new.book.book c.self.inside.book.book c.as_slice.ensures.value before c.note.ensures.book)
+    agent_moved c.self.inside c.self.invariant (record { agent = 3 * c.args.tile; choice = c.args.choice }) c.args.tile 0
+    (of_tile (3 * c.args.tile) c.args.tile 0 (omega arith) (omega arith)) (of_kind (3 * c.args.tile) c.args.tile 0 (omega arith) (omega arith)) v at k.0 k.1
+    c.attempt_processor.new.self k.2 tiles refl c.attempt_processor.new.row c.attempt_processor.ensures.row c.note.new.book c.note.ensures.room
+    (noted_same c.as_slice.result.now tiles.items c.of-before.result (counts_of v) c.args.tile c.note.new.book.book c.self.inside.book.book
+    c.as_slice.ensures.value before c.note.ensures.book)
     c.in-Some.op (asked g c) c.wake.new.self c.wake.ensures
 
 pub overflow_sub-self : goal.overflow_sub-self
 overflow_sub-self g c =
     let v : PlacedTile = c.index_mut.result.now in
-    let at : slice_get c.self.inside.tiles.items c.args.tile ≡ Some v = vec_at c.self.inside.tiles c.args.tile c.index_mut.result.now (tile_within c.self.inside c.self.invariant c.args.self.now c.self.view_is c.args.tile c.requires) c.index_mut.ensures.value in
-    let k = moved_tile (agent_attempted v.place Processor c.args.choice c.self.inside.row.items) c.attempt_processor.result v c.attempt_processor.new.self c.attempt_processor.ensures.step c.in-Moved.is in
-    let some = agent_left c.self.inside c.self.invariant (record { agent = 3 * c.args.tile; choice = c.args.choice }) c.args.tile 0 (of_tile (3 * c.args.tile) c.args.tile 0 (omega arith) (omega arith)) (of_kind (3 * c.args.tile) c.args.tile 0 (omega arith) (omega arith)) v at k.0 k.1 c.attempt_processor.new.self k.2 (slice_set c.self.inside.tiles.items c.args.tile c.attempt_processor.new.self) refl c.attempt_processor.new.row.items c.attempt_processor.ensures.row in
+    let at : slice_get c.self.inside.tiles.items c.args.tile ≡ Some v =
+    vec_at c.self.inside.tiles c.args.tile c.index_mut.result.now
+    (tile_within c.self.inside c.self.invariant c.args.self.now c.self.view_is c.args.tile c.requires) c.index_mut.ensures.value in
+    let k = moved_tile (agent_attempted v.place Processor c.args.choice c.self.inside.row.items) c.attempt_processor.result v c.attempt_processor.new.self
+    c.attempt_processor.ensures.step c.in-Moved.is in
+    let some = agent_left c.self.inside c.self.invariant (record { agent = 3 * c.args.tile; choice = c.args.choice }) c.args.tile 0
+    (of_tile (3 * c.args.tile) c.args.tile 0 (omega arith) (omega arith)) (of_kind (3 * c.args.tile) c.args.tile 0 (omega arith) (omega arith)) v at k.0
+    k.1 c.attempt_processor.new.self k.2 (slice_set c.self.inside.tiles.items c.args.tile c.attempt_processor.new.self) refl
+    c.attempt_processor.new.row.items c.attempt_processor.ensures.row in
     omega (arith, some)
 
 pub invariant_of-self : goal.invariant_of-self
@@ -82,19 +117,34 @@ returns-in-Moved g c = rw (← c.self.view_is) (led g c).steps
 pub invariant_of-self-in-Idle : goal.invariant_of-self-in-Idle
 invariant_of-self-in-Idle g c =
     let v : PlacedTile = c.index_mut.result.now in
-    let at : slice_get c.self.inside.tiles.items c.args.tile ≡ Some v = vec_at c.self.inside.tiles c.args.tile c.index_mut.result.now (tile_within c.self.inside c.self.invariant c.args.self.now c.self.view_is c.args.tile c.requires) c.index_mut.ensures.value in
-    let k = idle_tile (agent_attempted v.place Processor c.args.choice c.self.inside.row.items) c.attempt_processor.result v c.attempt_processor.new.self c.attempt_processor.ensures.step c.in-Idle.is in
-    (agent_idle c.self.inside c.self.invariant (record { agent = 3 * c.args.tile; choice = c.args.choice }) c.args.tile 0 (of_tile (3 * c.args.tile) c.args.tile 0 (omega arith) (omega arith)) (of_kind (3 * c.args.tile) c.args.tile 0 (omega arith) (omega arith)) v at (with_item c.self.inside.tiles c.args.tile c.attempt_processor.new.self) c.attempt_processor.new.row k.0 c.attempt_processor.new.self k.1 refl c.attempt_processor.ensures.row).machine
+    let at : slice_get c.self.inside.tiles.items c.args.tile ≡ Some v =
+    vec_at c.self.inside.tiles c.args.tile c.index_mut.result.now
+    (tile_within c.self.inside c.self.invariant c.args.self.now c.self.view_is c.args.tile c.requires) c.index_mut.ensures.value in
+    let k = idle_tile (agent_attempted v.place Processor c.args.choice c.self.inside.row.items) c.attempt_processor.result v c.attempt_processor.new.self
+    c.attempt_processor.ensures.step c.in-Idle.is in
+    (agent_idle c.self.inside c.self.invariant (record { agent = 3 * c.args.tile; choice = c.args.choice }) c.args.tile 0
+    (of_tile (3 * c.args.tile) c.args.tile 0 (omega arith) (omega arith)) (of_kind (3 * c.args.tile) c.args.tile 0 (omega arith) (omega arith)) v at
+    (with_item c.self.inside.tiles c.args.tile c.attempt_processor.new.self) c.attempt_processor.new.row k.0 c.attempt_processor.new.self k.1 refl
+    c.attempt_processor.ensures.row).machine
 
 pub returns-in-Idle : goal.returns-in-Idle
 returns-in-Idle g c =
     let v : PlacedTile = c.index_mut.result.now in
-    let at : slice_get c.self.inside.tiles.items c.args.tile ≡ Some v = vec_at c.self.inside.tiles c.args.tile c.index_mut.result.now (tile_within c.self.inside c.self.invariant c.args.self.now c.self.view_is c.args.tile c.requires) c.index_mut.ensures.value in
-    let k = idle_tile (agent_attempted v.place Processor c.args.choice c.self.inside.row.items) c.attempt_processor.result v c.attempt_processor.new.self c.attempt_processor.ensures.step c.in-Idle.is in
-    rw (← c.self.view_is) (agent_idle c.self.inside c.self.invariant (record { agent = 3 * c.args.tile; choice = c.args.choice }) c.args.tile 0 (of_tile (3 * c.args.tile) c.args.tile 0 (omega arith) (omega arith)) (of_kind (3 * c.args.tile) c.args.tile 0 (omega arith) (omega arith)) v at (with_item c.self.inside.tiles c.args.tile c.attempt_processor.new.self) c.attempt_processor.new.row k.0 c.attempt_processor.new.self k.1 refl c.attempt_processor.ensures.row).steps
+    let at : slice_get c.self.inside.tiles.items c.args.tile ≡ Some v =
+    vec_at c.self.inside.tiles c.args.tile c.index_mut.result.now
+    (tile_within c.self.inside c.self.invariant c.args.self.now c.self.view_is c.args.tile c.requires) c.index_mut.ensures.value in
+    let k = idle_tile (agent_attempted v.place Processor c.args.choice c.self.inside.row.items) c.attempt_processor.result v c.attempt_processor.new.self
+    c.attempt_processor.ensures.step c.in-Idle.is in
+    rw (← c.self.view_is) (agent_idle c.self.inside c.self.invariant (record { agent = 3 * c.args.tile; choice = c.args.choice }) c.args.tile 0
+    (of_tile (3 * c.args.tile) c.args.tile 0 (omega arith) (omega arith)) (of_kind (3 * c.args.tile) c.args.tile 0 (omega arith) (omega arith)) v at
+    (with_item c.self.inside.tiles c.args.tile c.attempt_processor.new.self) c.attempt_processor.new.row k.0 c.attempt_processor.new.self k.1 refl
+    c.attempt_processor.ensures.row).steps
 
 -- a choice without an operation isn't enabled
 pub returns-in_default : goal.returns-in_default
 returns-in_default g c =
-    rw (← c.self.view_is) (agent_without_op c.self.inside c.self.invariant (record { agent = 3 * c.args.tile; choice = c.args.choice }) c.args.tile 0 (of_tile (3 * c.args.tile) c.args.tile 0 (omega arith) (omega arith)) (of_kind (3 * c.args.tile) c.args.tile 0 (omega arith) (omega arith)) c.index.result.now
-    (vec_at c.self.inside.tiles c.args.tile c.index.result.now (tile_within c.self.inside c.self.invariant c.args.self.now c.self.view_is c.args.tile c.requires) c.index.ensures) (sym c.in_default.ensures))
+    rw (← c.self.view_is) (agent_without_op c.self.inside c.self.invariant (record { agent = 3 * c.args.tile; choice = c.args.choice }) c.args.tile 0
+    (of_tile (3 * c.args.tile) c.args.tile 0 (omega arith) (omega arith)) (of_kind (3 * c.args.tile) c.args.tile 0 (omega arith) (omega arith))
+    c.index.result.now
+    (vec_at c.self.inside.tiles c.args.tile c.index.result.now
+    (tile_within c.self.inside c.self.invariant c.args.self.now c.self.view_is c.args.tile c.requires) c.index.ensures) (sym c.in_default.ensures))

@@ -1,6 +1,6 @@
 use Rattle.std.proofs.Common.{◌≡◌, ◌*◌, sym, ◌∙◌, subst, arith}
-use Rattle.wake_flags.specs.core_laws.specs.Core.{attempts_of}
-use Rattle.wake_flags.specs.machine_laws.specs.Core.{Core, core_after}
+use Rattle.machine_wake.specs.core_laws.specs.Core.{attempts_of}
+use Rattle.machine_wake.specs.core_machine.specs.Core.{Core, core_after}
 use Rattle.machine_core.specs.Rounds.{processor_choices}
 use Rattle.machine_core.proofs.Standing.{few_tiles}
 use Rattle.machine_core.proofs.Agents.{tile_within}
@@ -30,5 +30,7 @@ rest-requires g c =
 -- one of which no choice moved falls asleep
 pub invariant_of-self : goal.invariant_of-self
 invariant_of-self g c =
-    falls_asleep c.self.inside c.self.invariant c.args.self.now c.self.view_is (3 * c.args.tile) processor_choices (of_processor c.args.self.now.shape c.args.tile)
-    c.self-2.inside c.self-2.invariant c.attempt_processor.new.self c.self-2.view_is c.attempt_processor.ensures c.if-self-left.true c.rest.new.self c.rest.ensures
+    falls_asleep c.self.inside c.self.invariant c.args.self.now c.self.view_is (3 * c.args.tile) processor_choices
+    (of_processor c.args.self.now.shape c.args.tile)
+    c.self-2.inside c.self-2.invariant c.attempt_processor.new.self c.self-2.view_is c.attempt_processor.ensures c.if-self-left.true c.rest.new.self
+    c.rest.ensures

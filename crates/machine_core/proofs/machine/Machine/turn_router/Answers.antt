@@ -1,6 +1,6 @@
 use Rattle.std.proofs.Common.{◌≡◌, ◌+◌, ◌*◌, sym, ◌∙◌, subst, arith}
-use Rattle.wake_flags.specs.core_laws.specs.Core.{attempts_of}
-use Rattle.wake_flags.specs.machine_laws.specs.Core.{Core, core_after}
+use Rattle.machine_wake.specs.core_laws.specs.Core.{attempts_of}
+use Rattle.machine_wake.specs.core_machine.specs.Core.{Core, core_after}
 use Rattle.machine_core.specs.Rounds.{router_choices, takes_of_all, puts_of_all}
 use Rattle.machine_core.proofs.Standing.{few_tiles}
 use Rattle.machine_core.proofs.Agents.{tile_within}
@@ -29,22 +29,33 @@ rest-requires g c =
     omega (arith, few, long, low)
 
 pub attempt_puts-requires : goal.attempt_puts-requires
-attempt_puts-requires g c = tile_stays c.args.tile c.args.self.now c.attempt_takes.new.self (attempts_of (3 * c.args.tile + 1) (takes_of_all c.args.ports)) c.attempt_takes.ensures c.requires.tile
+attempt_puts-requires g c =
+    tile_stays c.args.tile c.args.self.now c.attempt_takes.new.self (attempts_of (3 * c.args.tile + 1) (takes_of_all c.args.ports)) c.attempt_takes.ensures
+    c.requires.tile
 
 pub attempt_credits-requires : goal.attempt_credits-requires
 attempt_credits-requires g c =
-    let low = tile_stays c.args.tile c.args.self.now c.attempt_takes.new.self (attempts_of (3 * c.args.tile + 1) (takes_of_all c.args.ports)) c.attempt_takes.ensures c.requires.tile in
-    tile_stays c.args.tile c.attempt_takes.new.self c.attempt_puts.new.self (attempts_of (3 * c.args.tile + 1) (puts_of_all c.args.ports)) c.attempt_puts.ensures low
+    let low = tile_stays c.args.tile c.args.self.now c.attempt_takes.new.self (attempts_of (3 * c.args.tile + 1) (takes_of_all c.args.ports))
+    c.attempt_takes.ensures c.requires.tile in
+    tile_stays c.args.tile c.attempt_takes.new.self c.attempt_puts.new.self (attempts_of (3 * c.args.tile + 1) (puts_of_all c.args.ports))
+    c.attempt_puts.ensures low
 
 -- the three parts of the turn
 pub returns-then-self-left : goal.returns-then-self-left
-returns-then-self-left g c = c.self-2.view_is ∙ router_parts c.args.ports c.args.tile c.args.self.now c.attempt_takes.new.self c.attempt_puts.new.self c.attempt_credits.new.self c.attempt_takes.ensures c.attempt_puts.ensures c.attempt_credits.ensures
+returns-then-self-left g c =
+    c.self-2.view_is ∙ router_parts c.args.ports c.args.tile c.args.self.now c.attempt_takes.new.self c.attempt_puts.new.self c.attempt_credits.new.self
+    c.attempt_takes.ensures c.attempt_puts.ensures c.attempt_credits.ensures
 
 pub returns-else-self-left : goal.returns-else-self-left
-returns-else-self-left g c = router_parts c.args.ports c.args.tile c.args.self.now c.attempt_takes.new.self c.attempt_puts.new.self c.attempt_credits.new.self c.attempt_takes.ensures c.attempt_puts.ensures c.attempt_credits.ensures
+returns-else-self-left g c =
+    router_parts c.args.ports c.args.tile c.args.self.now c.attempt_takes.new.self c.attempt_puts.new.self c.attempt_credits.new.self c.attempt_takes.ensures
+    c.attempt_puts.ensures c.attempt_credits.ensures
 
 -- one of which no choice moved falls asleep
 pub invariant_of-self : goal.invariant_of-self
 invariant_of-self g c =
-    falls_asleep c.self.inside c.self.invariant c.args.self.now c.self.view_is (3 * c.args.tile + 1) (router_choices c.args.ports) (of_router c.args.self.now.shape c.args.tile c.args.ports c.requires.ports)
-    c.self-2.inside c.self-2.invariant c.attempt_credits.new.self c.self-2.view_is (router_parts c.args.ports c.args.tile c.args.self.now c.attempt_takes.new.self c.attempt_puts.new.self c.attempt_credits.new.self c.attempt_takes.ensures c.attempt_puts.ensures c.attempt_credits.ensures) c.if-self-left.true c.rest.new.self c.rest.ensures
+    falls_asleep c.self.inside c.self.invariant c.args.self.now c.self.view_is (3 * c.args.tile + 1) (router_choices c.args.ports)
+    (of_router c.args.self.now.shape c.args.tile c.args.ports c.requires.ports)
+    c.self-2.inside c.self-2.invariant c.attempt_credits.new.self c.self-2.view_is
+    (router_parts c.args.ports c.args.tile c.args.self.now c.attempt_takes.new.self c.attempt_puts.new.self c.attempt_credits.new.self
+    c.attempt_takes.ensures c.attempt_puts.ensures c.attempt_credits.ensures) c.if-self-left.true c.rest.new.self c.rest.ensures

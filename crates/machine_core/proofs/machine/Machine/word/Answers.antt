@@ -35,7 +35,8 @@ returns g c =
     let n = c.self.inside.opening.ok.0 in
     let m = c.self.inside.row.ok.0 in
     let e = row_length c.self.inside c.self.invariant in
-    let at : c.len.result - c.len-words.result - 1 + c.args.address ≡ channel_count c.self.inside.torus * c.self.inside.depth + c.args.address = omega (arith, n, m, e) in
+    let at : c.len.result - c.len-words.result - 1 + c.args.address ≡ channel_count c.self.inside.torus * c.self.inside.depth + c.args.address =
+    omega (arith, n, m, e) in
     rw (← c.self.view_is)
     (ap Some (get_or_read c.self.inside.row.items _ _ (omega (arith, n, m, e)) c.index.ensures 0 ∙ ap (λ k. get_or c.self.inside.row.items k 0) at)
     ∙ sym (word_there c.self.inside c.self.invariant c.args.address (omega (arith, n))))

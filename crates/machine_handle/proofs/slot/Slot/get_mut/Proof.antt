@@ -1,5 +1,10 @@
 -- `get_mut` meets its contract: a walk of its MIR by hand, which opens the slot and lends on the machine behind its pointer.
-use Rattle.machine_handle.proofs.Steps.{◌≡◌, List, [], ◌∷◌, refl, sym, ap, ◌∙◌, proved, full_share, id⊢, ftrue, flft, named, Val, tables, ‵, raw, ◌⊛◌, at_ret, some, later, ◌$◌, ◌∵◌, !, qed, done, move, keep, use1, split, join, fsplit, fsplit3, pick, await, rewrite, suffices, frame, group, enter, of_opd, addr, load, stop, fld, first, blocks, exec, returns, alloc_all, pass_all, free_all, look_at, get, through, sets, sets_last, env, whole, sub, look_in, shows, cell_at, fact, Ptr, lies_at, in_a_block, MutRef, mut_vals, mut_Tells, plain, nothing, heard, opens, peeks, Stays, walk_of, says, stay_dropped, Goes-spent_ref, ends_at, after, Bool, true}
+use Rattle.machine_handle.proofs.Steps.{◌≡◌, List, [], ◌∷◌, refl, sym, ap, ◌∙◌, proved, full_share, id⊢, ftrue, flft, named, Val, tables, ‵, raw, ◌⊛◌, at_ret}
+use Rattle.machine_handle.proofs.Steps.{some, later, ◌$◌, ◌∵◌, !, qed, done, move, keep, use1, split, join, fsplit, fsplit3, pick, await, rewrite, suffices}
+use Rattle.machine_handle.proofs.Steps.{frame, group, enter, of_opd, addr, load, stop, fld, first, blocks, exec, returns, alloc_all, pass_all, free_all}
+use Rattle.machine_handle.proofs.Steps.{look_at, get, through, sets, sets_last, env, whole, sub, look_in, shows, cell_at, fact, Ptr, lies_at, in_a_block}
+use Rattle.machine_handle.proofs.Steps.{MutRef, mut_vals, mut_Tells, plain, nothing, heard, opens, peeks, Stays, walk_of, says, stay_dropped, Goes-spent_ref}
+use Rattle.machine_handle.proofs.Steps.{ends_at, after, Bool, true}
 use mir.Val.{vptr}
 use base.Fml.{GName}
 use denote.Follow.{follows, lends_Part}
@@ -50,4 +55,5 @@ get_mut_spec 𝓤 𝓛 𝓜 𝓡 wired =
     -- [the token; what follows the machine; the machine's `&mut`; ..]
     returns ! (look_at ! 0 refl) $ free_all ! refl $
     suffices ! _ (ends_at 𝓛 f.ended stayed c y (vptr b' o') (record { ref_ptr = (b', o'); ghost_name = γ; now = s.core }) (tt, tt) (tt, tt)) $
-    move ! (2 ∷ []) $ nothing ! $ nothing ! $ join ! $ nothing ! $ move ! (3 ∷ 0 ∷ []) $ join ! $ group ! 3 $ frame ! $ says ! refl $ keep ! (0 ∷ []) $ done !)))))))
+    move ! (2 ∷ []) $ nothing ! $ nothing ! $ join ! $ nothing ! $ move ! (3 ∷ 0 ∷ []) $ join ! $ group ! 3 $ frame ! $ says ! refl $ keep ! (0 ∷ []) $ done
+    !)))))))

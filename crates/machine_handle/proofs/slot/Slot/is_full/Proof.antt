@@ -1,5 +1,8 @@
 -- `is_full` meets its contract: a walk of its MIR by hand, which opens the slot, reads one field of it and shuts it as it was.
-use Rattle.machine_handle.proofs.Steps.{List, [], ◌∷◌, refl, sym, proved, full_share, ftrue, flft, named, Val, ‵, ◌⊛◌, ◌$◌, ◌∵◌, !, qed, move, keep, split, join, fsplit3, rewrite, suffices, frame, group, enter, of_opd, load, stop, fld, returns, alloc_all, pass_all, free_all, look_at, through, sets, whole, sub, look_in, bool, shows, bool_Makes, cell_at, MutRef, mut_vals, mut_Tells, plain, nothing, owned, opens, closes, peeks, Stays, walk_of, says, stay_ref, Goes-ref, ends_at}
+use Rattle.machine_handle.proofs.Steps.{List, [], ◌∷◌, refl, sym, proved, full_share, ftrue, flft, named, Val, ‵, ◌⊛◌, ◌$◌, ◌∵◌, !, qed, move, keep, split}
+use Rattle.machine_handle.proofs.Steps.{join, fsplit3, rewrite, suffices, frame, group, enter, of_opd, load, stop, fld, returns, alloc_all, pass_all}
+use Rattle.machine_handle.proofs.Steps.{free_all, look_at, through, sets, whole, sub, look_in, bool, shows, bool_Makes, cell_at, MutRef, mut_vals, mut_Tells}
+use Rattle.machine_handle.proofs.Steps.{plain, nothing, owned, opens, closes, peeks, Stays, walk_of, says, stay_ref, Goes-ref, ends_at}
 use mir.Val.{vbool}
 use types.Kit.{by}
 use contract.Monad.{fact_i}

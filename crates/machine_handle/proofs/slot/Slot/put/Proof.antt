@@ -1,5 +1,11 @@
 -- `put` meets its contract: a walk of its MIR by hand, which gives the slot what `Box::into_raw` gives.
-use Rattle.machine_handle.proofs.Steps.{◌≡◌, List, [], ◌∷◌, refl, ap, proved, full_share, id⊢, ftrue, use0, yes, flft, named, Val, tables, ‵, raw, ◌⊛◌, some, later, ◌$◌, ◌∵◌, !, qed, by, move, keep, drop, use1, feq_i, feq_l, only, unit_lit, true_lit, vunit, lands_as, split, join, fsplit, fsplit3, fjoin, pick, await, rewrite, suffices, frame, group, enter, of_opd, stop, fld, no_more, and_then, assigns, returns, alloc_all, pass_all, free_all, look_at, get, through, sets, whole, sub, shows, cell_at, fact, fact_i, Ptr, RawPtr, rawptr_Lawful, MutRef, mut_vals, mut_Tells, plain, nothing, heard, opens, closes, peeks, calls_at, lasts, triple_of, framed, Stays, walk_of, says, stay_ref, stay_dropped, Goes-ref, Goes-dropped, ends_at, Bool, true, false}
+use Rattle.machine_handle.proofs.Steps.{◌≡◌, List, [], ◌∷◌, refl, ap, proved, full_share, id⊢, ftrue, use0, yes, flft, named, Val, tables, ‵, raw, ◌⊛◌, some}
+use Rattle.machine_handle.proofs.Steps.{later, ◌$◌, ◌∵◌, !, qed, by, move, keep, drop, use1, feq_i, feq_l, only, unit_lit, true_lit, vunit, lands_as, split}
+use Rattle.machine_handle.proofs.Steps.{join, fsplit, fsplit3, fjoin, pick, await, rewrite, suffices, frame, group, enter, of_opd, stop, fld, no_more}
+use Rattle.machine_handle.proofs.Steps.{and_then, assigns, returns, alloc_all, pass_all, free_all, look_at, get, through, sets, whole, sub, shows, cell_at}
+use Rattle.machine_handle.proofs.Steps.{fact, fact_i, Ptr, RawPtr, rawptr_Lawful, MutRef, mut_vals, mut_Tells, plain, nothing, heard, opens, closes, peeks}
+use Rattle.machine_handle.proofs.Steps.{calls_at, lasts, triple_of, framed, Stays, walk_of, says, stay_ref, stay_dropped, Goes-ref, Goes-dropped, ends_at}
+use Rattle.machine_handle.proofs.Steps.{Bool, true, false}
 use types.Tokens.{lft_new}
 use types.Part.{store_in}
 use contract.BorrowLft.{◌⊑◌, ⊑_static}
@@ -43,16 +49,19 @@ put_spec {M} 𝓤 𝓛 𝓜 𝓡 wired =
     let dropping = code.calls-machine_handle::machine_core++machine++Machine+Destruct::drop 𝓡.env wired in
     let glued : glue.Met 𝓛 𝓜 𝓡 𝓡.env Passed drops =
     widened 𝓤 𝓛.H (triple_of 𝓛 (glue.signature Passed) (glue.spent 𝓛 Passed)) 𝓜 𝓡 𝓡.env
-    (𝓡.env (drop_name (bounded (a_type ∷ []) (Heap, tt) (dcons dict (dcons no_drop dnil))))) (𝓡.env (method drops 0 no_args)) (as_method 𝓡.env dropping (method drops 0 no_args) refl)
+    (𝓡.env (drop_name (bounded (a_type ∷ []) (Heap, tt) (dcons dict (dcons no_drop dnil))))) (𝓡.env (method drops 0 no_args))
+    (as_method 𝓡.env dropping (method drops 0 no_args) refl)
     (drop.met 𝓤 𝓛 𝓜 𝓡 dropping Heap heap_laws ghosts dict no_drop heap_met heap_glue) in
-    let known = met 𝓤 𝓛 𝓜 𝓡 (code.calls-std_alloc::boxed::Box::into_raw 𝓡.env wired) Passed Heap passed_laws heap_laws ghosts dict no_drop drops heap_met heap_glue glued in
+    let known = met 𝓤 𝓛 𝓜 𝓡 (code.calls-std_alloc::boxed::Box::into_raw 𝓡.env wired) Passed Heap passed_laws heap_laws ghosts dict no_drop drops heap_met
+    heap_glue glued in
     let S = triple_of 𝓛 (g.signature Passed Heap ghosts dict no_drop drops) (g.spec Passed Heap ghosts dict no_drop drops 𝓛 𝓜.mem 𝓡.returns) in
     proved 𝓛 f.ended stayed c 𝓜 𝓡 (Goes-ref 𝓛 1 0 tt (plain (λ _. R)), (Goes-dropped 𝓛 1 (plain (λ _. B)) yes (λ κs x w. refl), tt))
     f.Key.name code.function (code.unfolded 𝓤 𝓛.H 𝓜 𝓡 wired)
     (λ κs. (mut_vals, (box_word, tt))) (λ κs. (mut_Tells (named 0) κs.0 R, (box_tells, tt))) (λ κs qs bounds a _ are.
     let b = a.0.ref_ptr.0 in let o = a.0.ref_ptr.1 in let vs = mut_vals a.0 in let r = a.1.0 in
     let y : W.Ghost = ((κs, qs, bounds, a, (vs, (box_word r, tt))), tt) in
-    qed 𝓛 (((‵ (flft κs.0 qs.0) ⊛ ‵ ftrue) ⊛ (‵ ((MutRef (named 0) κs.0 R).own_val a.0 vs) ⊛ (‵ (B.own_val r (box_word r)) ⊛ ‵ ftrue))) ∷ raw (fact 𝓤 (a.0.now.full ≡ false)) ∷ []) ∵
+    qed 𝓛 (((‵ (flft κs.0 qs.0) ⊛ ‵ ftrue) ⊛ (‵ ((MutRef (named 0) κs.0 R).own_val a.0 vs) ⊛ (‵ (B.own_val r (box_word r)) ⊛ ‵ ftrue)))
+    ∷ raw (fact 𝓤 (a.0.now.full ≡ false)) ∷ []) ∵
     move ! (1 ∷ []) $ heard ! _ (λ is_empty. split ! $ split ! $ move ! (2 ∷ []) $ split ! $ move ! (1 ∷ []) $ split ! $ keep ! (2 ∷ 3 ∷ 0 ∷ []) $
     let s = record a.0.now { full = false } in
     rewrite ! 0 (λ (t : Bool). ‵ ((MutRef (named 0) κs.0 R).own_val (record a.0 { now = record a.0.now { full = t } }) vs)) is_empty refl $

@@ -1,5 +1,11 @@
 -- `take` meets its contract: a walk of its MIR by hand, which hands what the slot owns to `Box::from_raw`.
-use Rattle.machine_handle.proofs.Steps.{◌≡◌, List, [], ◌∷◌, refl, proved, full_share, id⊢, ftrue, use0, owned, rawptr_Makes, yes, flft, named, Val, tables, ‵, raw, ◌⊛◌, at_ret, some, later, ◌$◌, ◌∵◌, !, qed, by, move, keep, drop, use1, split, join, fsplit, fsplit3, fjoin, pick, await, rewrite, suffices, frame, group, enter, of_opd, load, stop, fld, first, blocks, exec, no_more, and_then, assigns, returns, alloc_all, pass_all, free_all, look_at, get, through, sets, env, whole, sub, look_in, shows, cell_at, fact, fact_i, RawPtr, rawptr_vals, rawptr_Lawful, MutRef, mut_vals, mut_Tells, plain, nothing, heard, opens, closes, peeks, lasts, triple_of, framed, Stays, walk_of, says, stay_ref, stay_dropped, Goes-ref, Goes-dropped, ends_at, after, Bool, true, false}
+use Rattle.machine_handle.proofs.Steps.{◌≡◌, List, [], ◌∷◌, refl, proved, full_share, id⊢, ftrue, use0, owned, rawptr_Makes, yes, flft, named, Val, tables, ‵}
+use Rattle.machine_handle.proofs.Steps.{raw, ◌⊛◌, at_ret, some, later, ◌$◌, ◌∵◌, !, qed, by, move, keep, drop, use1, split, join, fsplit, fsplit3, fjoin}
+use Rattle.machine_handle.proofs.Steps.{pick, await, rewrite, suffices, frame, group, enter, of_opd, load, stop, fld, first, blocks, exec, no_more, and_then}
+use Rattle.machine_handle.proofs.Steps.{assigns, returns, alloc_all, pass_all, free_all, look_at, get, through, sets, env, whole, sub, look_in, shows}
+use Rattle.machine_handle.proofs.Steps.{cell_at, fact, fact_i, RawPtr, rawptr_vals, rawptr_Lawful, MutRef, mut_vals, mut_Tells, plain, nothing, heard, opens}
+use Rattle.machine_handle.proofs.Steps.{closes, peeks, lasts, triple_of, framed, Stays, walk_of, says, stay_ref, stay_dropped, Goes-ref, Goes-dropped}
+use Rattle.machine_handle.proofs.Steps.{ends_at, after, Bool, true, false}
 use types.Tokens.{lft_new}
 use types.Part.{store_in}
 use types.Run.{false_lit}
@@ -44,7 +50,8 @@ take_spec {M} 𝓤 𝓛 𝓜 𝓡 wired =
     (λ κs. (mut_vals, ((λ x. global_lowers.lowered x ∷ []), tt))) (λ κs. (mut_Tells (named 0) κs.0 R, (global_lowers.val_is, tt))) (λ κs qs bounds a _ are.
     let b = a.0.ref_ptr.0 in let o = a.0.ref_ptr.1 in let vs = mut_vals a.0 in let alloc = a.1.0 in let heap = global_lowers.lowered alloc ∷ [] in
     let y : W.Ghost = ((κs, qs, bounds, a, (vs, (heap, tt))), tt) in
-    qed 𝓛 (((‵ (flft κs.0 qs.0) ⊛ ‵ ftrue) ⊛ (‵ ((MutRef (named 0) κs.0 R).own_val a.0 vs) ⊛ (‵ (G.own_val alloc heap) ⊛ ‵ ftrue))) ∷ raw (fact 𝓤 (a.0.now.full ≡ true)) ∷ []) ∵
+    qed 𝓛 (((‵ (flft κs.0 qs.0) ⊛ ‵ ftrue) ⊛ (‵ ((MutRef (named 0) κs.0 R).own_val a.0 vs) ⊛ (‵ (G.own_val alloc heap) ⊛ ‵ ftrue)))
+    ∷ raw (fact 𝓤 (a.0.now.full ≡ true)) ∷ []) ∵
     move ! (1 ∷ []) $ heard ! _ (λ is_full. split ! $ split ! $ move ! (2 ∷ []) $ split ! $ move ! (1 ∷ []) $ split ! $ keep ! (2 ∷ 3 ∷ 0 ∷ []) $
     let s = record a.0.now { full = true } in
     rewrite ! 0 (λ (t : Bool). ‵ ((MutRef (named 0) κs.0 R).own_val (record a.0 { now = record a.0.now { full = t } }) vs)) is_full refl $
@@ -69,7 +76,8 @@ take_spec {M} 𝓤 𝓛 𝓜 𝓡 wired =
     use1 𝓛 (raw (S.pre z)) (id⊢ 𝓤 _) $
     calls_at_last ! (framed 𝓤 𝓛.H 𝓜 𝓣) S known z (and_then ! (get ! refl) (and_then ! (get ! refl) (no_more !))) (λ v.
     use1 𝓛 (later (some (λ (r : B.Denot). ((‵ (flft (α ∷ []) full_share) ⊛ (‵ (flft (β ∷ []) full_share) ⊛ ‵ ftrue)) ⊛ ‵ (B.own_val r (v ∷ []))) ⊛
-    some (λ (ws : Lasts ended z.0.0 z.0.3). ‵ (lasts ended z.0.0 z.0.3 ws) ⊛ (raw (fact 𝓤 (r.value ≡ s.core)) ⊛ raw (fact 𝓤 (box_allocator r ≡ alloc))))))) (id⊢ 𝓤 _) $
+    some (λ (ws : Lasts ended z.0.0 z.0.3). ‵ (lasts ended z.0.0 z.0.3 ws) ⊛ (raw (fact 𝓤 (r.value ≡ s.core)) ⊛ raw (fact 𝓤 (box_allocator r ≡ alloc)))))))
+    (id⊢ 𝓤 _) $
     await ! tt $ pick ! (λ r. split ! $ move ! (1 ∷ []) $ pick ! (λ ws. split ! $ drop ! $ split ! $ heard ! _ (λ same. drop ! $ split ! $ drop ! $
     peeks ! B _ (shows 𝓛 B) r (v ∷ []) (λ is_box. let box_fits = ((box_lawful 𝓛).typed r (v ∷ []) is_box).0 in
     lands_last ! refl box_fits $

@@ -31,7 +31,8 @@ pub invariant_of-self : goal.invariant_of-self
 invariant_of-self c =
     let xs = c.self.inside.flits.items in
     let e : refusal xs c.args.flit ≡ None = cc (c.refusal.ensures, c.deref.ensures.0, c.in_default.is) in
-    subst IsBegun (sym c.push.ensures.items) (IsBegun-push xs c.args.flit c.self.invariant c.ranges.flit.fits e (no_tail c.args.flit c.if-not-is_tail.ensures.bit.1))
+    subst IsBegun (sym c.push.ensures.items)
+    (IsBegun-push xs c.args.flit c.self.invariant c.ranges.flit.fits e (no_tail c.args.flit c.if-not-is_tail.ensures.bit.1))
 
 -- so is `More`
 more : (c : goal.Then-not-is_tail) → IsAnswer c.args.self.now c.args.flit More
@@ -56,7 +57,8 @@ whole c =
     let f = c.args.flit in
     let b : IsBegun xs = subst IsBegun c.self.view_is c.self.invariant in
     let e : refusal xs f ≡ None = cc (c.refusal.ensures, c.deref.ensures.0, c.self.view_is, c.in_default.is) in
-    let told : packet_told (xs ++ f ∷ []) ≡ c.packet_told-packet.result = cc (c.packet_told-packet.ensures, c.deref-2.ensures.0, c.push.ensures.items, c.self.view_is) in
+    let told : packet_told (xs ++ f ∷ []) ≡ c.packet_told-packet.result =
+    cc (c.packet_told-packet.ensures, c.deref-2.ensures.0, c.push.ensures.items, c.self.view_is) in
     subst (λ p. IsAnswer xs f (Whole p)) told (IsAnswer-whole xs f b c.ranges.flit.fits e (c.if-not-is_tail.ensures.bit.0 refl))
 
 pub returns-clause-whole : goal.returns-clause-whole

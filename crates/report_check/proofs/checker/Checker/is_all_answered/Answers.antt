@@ -20,7 +20,8 @@ returns-then-not-is_bank_answered g c =
     let i : ℕ = c.loop-bank.bank-index in
     let inside : i < length xs = omega arith in
     let same : bank_of xs i ≡ c.as_slice.result.now = bank_of_read xs i c.bank-item.result inside c.bank-item.is ∙ sym c.as_slice.ensures.value in
-    let whole : bank_of xs i ≡ bank_of c.args.self.now.banks.items i = ap (λ (bs : List (Vec Served g.row.A.Denot)). bank_of bs i) c.deref-bank-items.ensures.value in (
+    let whole : bank_of xs i ≡ bank_of c.args.self.now.banks.items i =
+    ap (λ (bs : List (Vec Served g.row.A.Denot)). bank_of bs i) c.deref-bank-items.ensures.value in (
       λ h. cc,
       λ all. sym c.if-not-is_bank_answered.true ∙ c.is_bank_answered.ensures.1 (subst IsAnswered (sym whole ∙ same) (all i)),
     )

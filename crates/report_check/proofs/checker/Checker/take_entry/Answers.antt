@@ -13,9 +13,11 @@ returns g c s shows =
     let next : IsNext s e = (c.is_next.ensures.next s shows).0 c.if-not-is_next.false in
     let home : IsHome s e = (c.is_home.ensures.home s shows).0 c.if-not-is_home.false in
     let section : InSection s 4 = record { shaped = omega (arith, shows.section, early); early = omega (arith, shows.section, early) } in
-    let inside : e.address < length c.args.self.now.memory.items = omega (arith, c.args.self.now.memory.ok, home.inside, shows.words, c.args.self.now.memory_sized) in
+    let inside : e.address < length c.args.self.now.memory.items =
+    omega (arith, c.args.self.now.memory.ok, home.inside, shows.words, c.args.self.now.memory_sized) in
     let word : c.index.result.now ≡ slice_index s.memory e.address =
-    get_or_read c.args.self.now.memory.items e.address c.index.result.now inside c.index.ensures 0 ∙ ap (λ (m : List ℕ). slice_index m e.address) shows.memory in
+    get_or_read c.args.self.now.memory.items e.address c.index.result.now inside c.index.ensures 0
+    ∙ ap (λ (m : List ℕ). slice_index m e.address) shows.memory in
     let value : c.apply-word.result.0 ≡ new_word e.op (slice_index s.memory e.address) = ap (λ p. p.0) c.apply-word.ensures ∙ ap (new_word e.op) word in (
       record {
         section = section;
@@ -29,9 +31,11 @@ returns g c s shows =
         version = shows.version;
         tiles = shows.tiles;
         words = shows.words;
-        memory = ap (λ (v : ℕ). slice_set c.args.self.now.memory.items e.address v) value ∙ ap (λ (m : List ℕ). slice_set m e.address (new_word e.op (slice_index s.memory e.address))) shows.memory;
+        memory = ap (λ (v : ℕ). slice_set c.args.self.now.memory.items e.address v) value
+            ∙ ap (λ (m : List ℕ). slice_set m e.address (new_word e.op (slice_index s.memory e.address))) shows.memory;
         next_init = shows.next_init;
-        entries = entry_shown _ _ _ _ _ _ _ e _ (ap (λ (b : Bool). c.args.self.now.has_newer || b) c.is_newer.ensures) shows.entries (shows.unanswered section.early) next.next c.in_ok-push_served.ensures.here c.in_ok-push_served.ensures.others;
+        entries = entry_shown _ _ _ _ _ _ _ e _ (ap (λ (b : Bool). c.args.self.now.has_newer || b) c.is_newer.ensures) shows.entries
+            (shows.unanswered section.early) next.next c.in_ok-push_served.ensures.here c.in_ok-push_served.ensures.others;
         next_answer = shows.next_answer;
         next_word = shows.next_word;
         orders = shows.orders;

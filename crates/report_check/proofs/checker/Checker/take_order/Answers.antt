@@ -9,7 +9,8 @@ returns g c s shows =
     let told : ToldBelow s.told s.memory s.words = (c.is_told.ensures s shows).0 c.if-not-is_told.false in
     let next : OrdersNext s c.args.order.now = (c.orders_next.ensures.next s shows).0 c.if-not-orders_next.false in
     let events : HasNewEvents s c.args.order.now = (c.has_new_events.ensures.new s shows).0 c.if-not-has_new_events.false in
-    let inside : c.args.order.now.bank < length c.args.self.now.ordered.items = omega (arith, c.orders_next.ensures.inside c.if-not-orders_next.false, c.args.self.now.ordered.ok, c.args.self.now.ordered_sized) in (
+    let inside : c.args.order.now.bank < length c.args.self.now.ordered.items =
+    omega (arith, c.orders_next.ensures.inside c.if-not-orders_next.false, c.args.self.now.ordered.ok, c.args.self.now.ordered_sized) in (
       record {
         section = behind;
         told = told;
@@ -27,7 +28,8 @@ returns g c s shows =
         entries = shows.entries;
         next_answer = shows.next_answer;
         next_word = shows.next_word;
-        orders = order_shown _ _ _ _ _ c.args.order.now c.from.result c.from.ensures shows.orders inside (c.orders_next.ensures.few c.if-not-orders_next.false) c.mark_events.ensures.named;
+        orders = order_shown _ _ _ _ _ c.args.order.now c.from.result c.from.ensures shows.orders inside (c.orders_next.ensures.few c.if-not-orders_next.false)
+            c.mark_events.ensures.named;
         unanswered = λ is. absurd (omega (arith, is));
         unordered = λ is. absurd (omega (arith, is));
         ordered = λ is. not_empty s.orders c.args.order.now;

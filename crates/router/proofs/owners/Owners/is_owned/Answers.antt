@@ -10,5 +10,6 @@ returns g c =
     let same : s.owned.items ≡ c.args.self.now = c.self.view_is in
     let low : c.args.output < length s.owner.items = omega (arith, ap length same, c.self.invariant.counts) in
     c.is_some.ensures
-    ∙ sym (is_owned-told s.owned.items s.owner.items c.self.invariant c.args.output c.index.result.now (sym (get_or_read s.owner.items _ _ low c.index.ensures None)))
+    ∙ sym (is_owned-told s.owned.items s.owner.items c.self.invariant c.args.output c.index.result.now
+    (sym (get_or_read s.owner.items _ _ low c.index.ensures None)))
     ∙ ap (λ l. is_among l c.args.output) same

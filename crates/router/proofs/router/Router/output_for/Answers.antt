@@ -32,9 +32,11 @@ returns-then-is_owned-clause-value g c =
     let way : c.index.result.now ≡ next_of s.torus s.tile Inject c.in-Some.head.destination =
     get_or_read s.ways.items _ _ (omega (arith, low, c.self.invariant.ways)) c.index.ensures Eject ∙ c.self.invariant.ways_are_next _ low in
     let is : c.output_number-output.result ≡ way_of s.torus s.tile c.args.input c.in-Some.head =
-    way_told s.torus s.tile c.args.input c.in-Some.head _ _ _ way c.onward-output.ensures (c.output_number-output.ensures.value ∙ ap (λ n. output_number n c.in-Some.head.class c.onward-output.result) c.dims.ensures.value) in
+    way_told s.torus s.tile c.args.input c.in-Some.head _ _ _ way c.onward-output.ensures
+    (c.output_number-output.ensures.value ∙ ap (λ n. output_number n c.in-Some.head.class c.onward-output.result) c.dims.ensures.value) in
     subst (λ (p : Place). None ≡ output_for p.torus p.tile p.agent.state c.args.input (head_of c.args.flit)) c.self.view_is
-    (owned_way s.torus s.tile (record { latches = s.latches.items; owned = s.owners }) c.args.input c.in-Some.head c.output_number-output.result is (sym c.is_owned.ensures ∙ c.if-is_owned.true)
+    (owned_way s.torus s.tile (record { latches = s.latches.items; owned = s.owners }) c.args.input c.in-Some.head c.output_number-output.result is
+    (sym c.is_owned.ensures ∙ c.if-is_owned.true)
     ∙ ap (output_for s.torus s.tile (record { latches = s.latches.items; owned = s.owners }) c.args.input) (sym headed))
 
 pub returns-else-is_owned-clause-value : goal.returns-else-is_owned-clause-value
@@ -46,7 +48,9 @@ returns-else-is_owned-clause-value g c =
     let way : c.index.result.now ≡ next_of s.torus s.tile Inject c.in-Some.head.destination =
     get_or_read s.ways.items _ _ (omega (arith, low, c.self.invariant.ways)) c.index.ensures Eject ∙ c.self.invariant.ways_are_next _ low in
     let is : c.output_number-output.result ≡ way_of s.torus s.tile c.args.input c.in-Some.head =
-    way_told s.torus s.tile c.args.input c.in-Some.head _ _ _ way c.onward-output.ensures (c.output_number-output.ensures.value ∙ ap (λ n. output_number n c.in-Some.head.class c.onward-output.result) c.dims.ensures.value) in
+    way_told s.torus s.tile c.args.input c.in-Some.head _ _ _ way c.onward-output.ensures
+    (c.output_number-output.ensures.value ∙ ap (λ n. output_number n c.in-Some.head.class c.onward-output.result) c.dims.ensures.value) in
     subst (λ (p : Place). Some c.output_number-output.result ≡ output_for p.torus p.tile p.agent.state c.args.input (head_of c.args.flit)) c.self.view_is
-    (free_way s.torus s.tile (record { latches = s.latches.items; owned = s.owners }) c.args.input c.in-Some.head c.output_number-output.result is (sym c.is_owned.ensures ∙ c.if-is_owned.false)
+    (free_way s.torus s.tile (record { latches = s.latches.items; owned = s.owners }) c.args.input c.in-Some.head c.output_number-output.result is
+    (sym c.is_owned.ensures ∙ c.if-is_owned.false)
     ∙ ap (output_for s.torus s.tile (record { latches = s.latches.items; owned = s.owners }) c.args.input) (sym headed))

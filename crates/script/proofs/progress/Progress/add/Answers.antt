@@ -8,7 +8,8 @@ use Rattle.script.proofs.progress.Progress.add.Goals.{else-mentions_last-via-the
 
 pub returns-clause-counted : goal.returns-clause-counted
 returns-clause-counted g c =
-    let low : c.args.p < length (lists_of c.args.self.now.lists.items) = omega (arith, length-map c.args.self.now.lists.items (λ list. list.lines.items), c.requires.tile) in
+    let low : c.args.p < length (lists_of c.args.self.now.lists.items) =
+    omega (arith, length-map c.args.self.now.lists.items (λ list. list.lines.items), c.requires.tile) in
     let later : mentions_last c.args.line ≡ true → 0 < c.index-count.result.now = λ e. elim c.else-mentions_last.branch [
       | else-mentions_last-via-then-mentions_last+else-count-eq0 w ↦ omega arith
       | else-mentions_last-via-else-mentions_last w ↦ absurd (cc (c.mentions_last.ensures, w.if-mentions_last.false, e))

@@ -12,11 +12,19 @@ within t stride k here e = rw e (digit_within t stride k)
 
 pub overflow_mul-result-2 : goal.overflow_mul-result-2
 overflow_mul-result-2 c =
-    omega (arith, small c.one_hop-there.result c.radix_of-radix.result c.stride-stride.result c.one_hop-there.ensures.below (omega arith) c.stride-stride.ensures.small)
+    omega (
+      arith,
+      small c.one_hop-there.result c.radix_of-radix.result c.stride-stride.result c.one_hop-there.ensures.below (omega arith)
+          c.stride-stride.ensures.small,
+    )
 
 pub overflow_add-result : goal.overflow_add-result
 overflow_add-result c =
-    omega (arith, small c.one_hop-there.result c.radix_of-radix.result c.stride-stride.result c.one_hop-there.ensures.below (omega arith) c.stride-stride.ensures.small)
+    omega (
+      arith,
+      small c.one_hop-there.result c.radix_of-radix.result c.stride-stride.result c.one_hop-there.ensures.below (omega arith)
+          c.stride-stride.ensures.small,
+    )
 
 pub returns : goal.returns
 returns c =

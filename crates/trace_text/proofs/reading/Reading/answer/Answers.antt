@@ -15,5 +15,6 @@ returns g c =
     ∙ (ap (λ ns. slice_get ns c.args.index) (sym c.deref.ensures.value) ∙ (sym c.number_at.ensures ∙ c.in-Some.is)) in
     let there : slice_get (reading_of c.args.self.now).issued c.in-Some.number ≡ Some c.in-Some-issued_at.issued =
     ap (λ is. slice_get is c.in-Some.number) (sym c.deref-2.ensures.value) ∙ (sym c.issued_at.ensures ∙ c.in-Some-issued_at.is) in
-    rw (answer_reaches (reading_of c.args.self.now) c.args.line c.args.p c.args.index c.in-Some.number c.in-Some-issued_at.issued c.args.told given below number there)
+    rw (answer_reaches (reading_of c.args.self.now) c.args.line c.args.p c.args.index c.in-Some.number c.in-Some-issued_at.issued c.args.told given below number
+    there)
     c.add_answer.ensures

@@ -3,4 +3,12 @@ use Rattle.trace_text.proofs.reading.Reading.none.Goals as goal
 
 pub returns : goal.returns
 returns g c =
-    rw (c.new.ensures.empty, c.new-2.ensures.empty, c.new-3.ensures.items, c.new-4.ensures.items, c.new-5.ensures.items, c.new-6.ensures.items, c.in_ok-no_numbers.ensures) refl
+    rw (
+      c.new.ensures.empty,
+      c.new-2.ensures.empty,
+      c.new-3.ensures.items,
+      c.new-4.ensures.items,
+      c.new-5.ensures.items,
+      c.new-6.ensures.items,
+      c.in_ok-no_numbers.ensures,
+    ) refl

@@ -1,0 +1,34 @@
+-- The command line is one of which clap says all.
+use Rattle.std.specs.Prelude.{◌≡◌, true, List, Option, Some, None, IfSome, option_map}
+use Rattle.std.proofs.Common.{refl, ap, sym, subst, ◌∙◌}
+use Rattle.clap.specs.Simple.{App, HasMatchesOf, is_simple, subcommand_of, subcommand_rows_of}
+use Rattle.clap.specs.Matches.{subcommand_name_of}
+use Rattle.clap.specs.Walk.{Row, Text}
+use Rattle.clap.specs.declared.parser.matches.ArgMatches.{ArgMatches}
+use Rattle.clap.specs.declared.parser.matches.ArgMatches.TheViews.{out-ArgMatches}
+use Rattle.command_line.specs.CommandLine.{name_by, rows_by, torusmem_app}
+use Rattle.command_line.specs.Job.{rows_in}
+
+pub torusmem_is_simple : is_simple torusmem_app ≡ true
+torusmem_is_simple = refl
+
+-- what the matches of the words name is what the command line says of them
+pub found_rows : (a : App) (words : List Text) (m : ArgMatches) → a ≡ torusmem_app → HasMatchesOf a words m
+    → subcommand_rows_of m ≡ subcommand_of torusmem_app words
+found_rows a words m e has = (subst (λ b. HasMatchesOf b words m) e has torusmem_is_simple).1
+
+-- one map after another
+maps : {X Y Z : Type 0} (f : X → Y) (g : Y → Z) (o : Option X) → option_map (λ x. g (f x)) o ≡ option_map g (option_map f o)
+maps f g None = refl
+maps f g (Some x) = refl
+
+pub name_found : (m : ArgMatches) → subcommand_name_of m ≡ option_map (λ f. f.0) (subcommand_rows_of m)
+name_found m = maps _ (λ f. f.0) (out-ArgMatches m).subcommand
+
+pub name_is : (a : App) (words : List Text) (m : ArgMatches) (name : Text) → a ≡ torusmem_app → HasMatchesOf a words m
+    → subcommand_name_of m ≡ Some name → name_by words ≡ Some name
+name_is a words m name e has named = ap (option_map (λ f. f.0)) (sym (found_rows a words m e has)) ∙ (sym (name_found m) ∙ named)
+
+pub rows_are : (a : App) (words : List Text) (m : ArgMatches) (P : List Row → Type 0) → a ≡ torusmem_app → HasMatchesOf a words m
+    → IfSome (rows_in (subcommand_rows_of m)) P → IfSome (rows_by words) P
+rows_are a words m P e has given = subst (λ o. IfSome (rows_in o) P) (found_rows a words m e has) given

@@ -1,0 +1,9 @@
+pub use Rattle.core_growth
+pub use Rattle.core_growth.specs.core_laws
+pub use Rattle.core_growth.specs.core_progress
+pub use Rattle.core_growth.specs.order_abstract
+pub use Rattle.core_growth.specs.core_machine
+pub use Rattle.core_growth.specs.core_moves
+pub use Rattle.core_growth.specs.script_follower
+pub use Rattle.core_growth.specs.tile_laws
+pub mod Reopened

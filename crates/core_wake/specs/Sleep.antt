@@ -1,0 +1,39 @@
+-- Agents that are asleep: no choice of theirs is enabled.
+use Rattle.std.specs.Prelude.{◌≡◌, ℕ, ◌%◌, ◌||◌, Bool, false, List, [], ◌∷◌, ◌++◌, map, None, is_some}
+use Rattle.std.specs.List.{range_with_len}
+use Rattle.torus.specs.Shape.{Shape, dims_of}
+use Rattle.torus.specs.declared.step.Step.{Step}
+use Rattle.torus.specs.declared.step.Choice.{Choice}
+use Rattle.torus.specs.declared.step.Choice.TheVariants.{Send, Take, TakeFrom, Put, Credit, CreditOf, Serve, Done, Look}
+use Rattle.channel_number.specs.Ports.{port_count}
+use Rattle.core_seen.specs.tile_laws.specs.Tile.{Design, Agent, Processor, Router, Bank}
+use Rattle.core_seen.specs.core_laws.specs.Core.{State, step, next, agent_numbered, attempts_of}
+
+-- no choice of the agent is enabled (this project's own format)
+abbrev pub IsAsleep : Design → State → ℕ → Type 0
+IsAsleep d s agent = (choice : Choice) → step d s (record { agent = agent; choice = choice }) ≡ None
+
+-- every agent that isn't counted among those awake is asleep (this project's own format)
+abbrev pub OthersSleep : Design → State → (ℕ → Bool) → Type 0
+OthersSleep d s awake = (agent : ℕ) → awake agent ≡ false → IsAsleep d s agent
+
+-- the choices of an agent in the order of a round, where the router has so many inputs and as many
+-- outputs (this project's own format)
+abbrev pub choices_of : ℕ → Agent → List Choice
+choices_of ports Processor = Send ∷ Take ∷ Credit ∷ Done ∷ Look ∷ []
+choices_of ports Router =
+    map (λ i. TakeFrom i) (range_with_len 0 ports)
+    ++ map (λ i. Put i) (range_with_len 0 ports) ++ map (λ o. CreditOf o) (range_with_len 0 ports)
+choices_of ports Bank = Take ∷ Serve ∷ Send ∷ Credit ∷ []
+
+-- the attempts of a round by the agent of a number: each of its choices once (this project's own
+-- format)
+abbrev pub attempts_at : Shape → ℕ → List Step
+attempts_at s agent = attempts_of agent
+    (choices_of (port_count (dims_of s)) (agent_numbered (agent % 3)))
+
+-- whether any of a list of attempts is enabled where it comes
+abbrev pub has_moved : Design → State → List Step → Bool
+has_moved d s [] = false
+has_moved d s (attempt ∷ attempts) =
+    is_some (step d s attempt) || has_moved d (next d s attempt) attempts

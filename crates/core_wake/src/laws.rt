@@ -1,0 +1,109 @@
+//! Laws of who is awake, each the contract of a function that does nothing.
+
+ghost use Rattle.std.specs.Prelude.{◌≡◌, ◌≢◌, ◌↔◌, ◌<◌, ◌+◌, ◌*◌, ◌%◌, ◌||◌, [], ◌∷◌, ℕ, Bool, List, Some, None};
+ghost use Rattle.std.specs.Prelude.{true, false, length, slice_index};
+ghost use Rattle.torus.specs.Shape.{Shape, IsAccepted as IsAcceptedShape, tiles_of};
+ghost use Rattle.torus.specs.declared.step.Step.{Step};
+ghost use Rattle.torus.specs.declared.step.Choice.{Choice};
+ghost use Rattle.torus.specs.declared.step.Choice.TheVariants.{Serve};
+ghost use Rattle.flit_buffer.specs.declared.word_op.WordOp.{WordOp};
+ghost use Rattle.core_seen.specs.tile_laws.specs.Tile.{Design, Agent, Bank};
+ghost use Rattle.core_seen.specs.tile_laws.specs.Agents.{wiring_of};
+ghost use Rattle.core_seen.specs.core_laws.specs.Core.{Load, State, design_of, agent_numbered, step, after_from};
+ghost use Rattle.core_seen.specs.core_laws.specs.Core.{after, attempts_of, round};
+ghost use Rattle.core_seen.specs.core_laws.specs.Runs.{IsAccepted};
+ghost use Rattle.core_seen.specs.core_row.specs.Attempts.{step_op};
+ghost use Rattle.core_seen.specs.core_machine.specs.Core.{Core, built_to, core_after};
+ghost use Rattle.core_wake.specs.Waking.{place_of, receiver_of, sender_of, Disturbs, woken, is_woken};
+ghost use Rattle.core_wake.specs.Sleep.{IsAsleep, OthersSleep, attempts_at, has_moved};
+ghost use Rattle.core_wake.specs.Operations.{woken_by_operation};
+ghost use Rattle.core_wake.specs.Watch.{Watch, round_awake};
+
+/// A step leaves the choices of another agent that look at nothing that it changes enabled, or not
+/// enabled, as they were.
+pub fn steps_leave_distant_choices()
+    ensures { (l : Load) → IsAccepted l → (steps : List Step) (attempt other : Step) (next : State)
+        → step (design_of l) (after l steps) attempt ≡ Some next → other.agent ≢ attempt.agent
+        → (Disturbs (design_of l) (after l steps) attempt other → ⊥)
+        → (step (design_of l) next other ≡ None)
+        ↔ (step (design_of l) (after l steps) other ≡ None) }
+{}
+
+/// Each input of an agent is at a channel that it receives from, and each output at one that it sends on.
+pub fn channels_have_two_agents()
+    ensures receiver { (s : Shape) → IsAcceptedShape s → (t : ℕ) (a : Agent) (i : ℕ)
+        → t < tiles_of s → i < length (wiring_of s t a).inputs
+        → receiver_of s (slice_index (wiring_of s t a).inputs i) ≡ 3 * t + place_of a }
+    ensures sender { (s : Shape) → IsAcceptedShape s → (t : ℕ) (a : Agent) (o : ℕ) → t < tiles_of s
+        → o < length (wiring_of s t a).outputs
+        → sender_of s (slice_index (wiring_of s t a).outputs o) ≡ 3 * t + place_of a }
+{}
+
+/// A move wakes its own agent, and besides at most the agent at the other end of the channel that it
+/// changed, or, where it changed the done word, the processors: every other agent that had no enabled
+/// choice has none after it. A service wakes no other agent.
+pub fn moves_wake_few()
+    ensures disturbed { (l : Load) → IsAccepted l → (steps : List Step) (attempt other : Step)
+        → Disturbs (design_of l) (after l steps) attempt other
+        → is_woken (design_of l) (after l steps) attempt other.agent ≡ true }
+    ensures others { (l : Load) → IsAccepted l
+        → (steps : List Step) (attempt : Step) (next : State) (agent : ℕ)
+        → step (design_of l) (after l steps) attempt ≡ Some next
+        → is_woken (design_of l) (after l steps) attempt agent ≡ false
+        → IsAsleep (design_of l) (after l steps) agent → IsAsleep (design_of l) next agent }
+    ensures services { (l : Load) → IsAccepted l → (steps : List Step) (agent : ℕ)
+        → agent_numbered (agent % 3) ≡ Bank
+        → woken (design_of l) (after l steps) (record { agent = agent; choice = Serve })
+        ≡ agent ∷ [] }
+{}
+
+/// The operation of an attempt tells whom it wakes: a swap at a place of a channel its sender, a store
+/// there its receiver, an addition to the done word the processors, and any other nobody.
+pub fn operations_tell_whom_they_wake()
+    ensures { (l : Load) → IsAccepted l → (steps : List Step) (attempt : Step) (op : WordOp)
+        → step_op (design_of l) (after l steps) attempt ≡ Some op
+        → woken (design_of l) (after l steps) attempt
+        ≡ attempt.agent ∷ woken_by_operation (design_of l) op }
+{}
+
+/// An agent whose choices were attempted one after the other, and none moved, is asleep; and attempts
+/// of an agent that is asleep change nothing, of the state and of the machine with its book.
+pub fn sleepers_stay_asleep()
+    ensures falls { (d : Design) (s : State) (agent : ℕ)
+        → has_moved d s (attempts_at d.shape agent) ≡ false → IsAsleep d s agent }
+    ensures still { (d : Design) (s : State) (attempts : List Step) → has_moved d s attempts ≡ false
+        → after_from d s attempts ≡ s }
+    ensures unmoved { (d : Design) (s : State) (agent : ℕ) (choices : List Choice)
+        → IsAsleep d s agent → has_moved d s (attempts_of agent choices) ≡ false }
+    ensures same { (d : Design) (s : State) (agent : ℕ) (choices : List Choice) → IsAsleep d s agent
+        → after_from d s (attempts_of agent choices) ≡ s }
+    ensures machine { (c : Core) (agent : ℕ) (choices : List Choice)
+        → IsAsleep (built_to c) c.state agent → core_after c (attempts_of agent choices) ≡ c }
+{}
+
+/// That all agents but those counted as awake are asleep holds of all agents, and of more; and a move
+/// keeps it, where those that it wakes are counted too.
+pub fn moves_keep_sleepers()
+    ensures all { (d : Design) (s : State) → OthersSleep d s (λ agent. true) }
+    ensures more { (d : Design) (s : State) (awake more : ℕ → Bool) → OthersSleep d s awake
+        → ((agent : ℕ) → more agent ≡ false → awake agent ≡ false) → OthersSleep d s more }
+    ensures kept { (l : Load) → IsAccepted l
+        → (steps : List Step) (attempt : Step) (next : State) (awake : ℕ → Bool)
+        → OthersSleep (design_of l) (after l steps) awake
+        → step (design_of l) (after l steps) attempt ≡ Some next
+        → OthersSleep (design_of l) next
+        (λ agent. awake agent || is_woken (design_of l) (after l steps) attempt agent) }
+{}
+
+/// A round that leaves out the agents that aren't awake when their turn comes leads where the round
+/// leads, and all agents but those then awake are asleep there.
+pub fn rounds_may_skip_sleepers()
+    ensures state { (l : Load) → IsAccepted l → (steps : List Step) (awake : ℕ → Bool)
+        → OthersSleep (design_of l) (after l steps) awake
+        → (round_awake (design_of l) (record { state = after l steps; awake = awake })).state
+        ≡ after_from (design_of l) (after l steps) (round l.shape) }
+    ensures awake { (l : Load) → IsAccepted l → (steps : List Step) (awake : ℕ → Bool)
+        → OthersSleep (design_of l) (after l steps) awake
+        → OthersSleep (design_of l) (after_from (design_of l) (after l steps) (round l.shape))
+        (round_awake (design_of l) (record { state = after l steps; awake = awake })).awake }
+{}

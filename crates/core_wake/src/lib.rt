@@ -1,0 +1,6 @@
+//! Which agents a move can wake, and rounds that look only at agents that are awake.
+#![tactic(auto)]
+
+pub mod laws;
+
+pub use core_seen::TileAgents;

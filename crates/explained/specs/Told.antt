@@ -1,0 +1,83 @@
+-- What a sentence tells of the texts of a command.
+use Rattle.std.specs.Prelude.{◌≡◌, ◌≢◌, ◌⊎◌, ℕ, ◌≤◌, ◌<◌, true, List, Option, Some, None, Result}
+use Rattle.std.specs.Prelude.{Ok, Err, is_ok}
+use Rattle.std.specs.Str.Lines.{lines}
+use Rattle.torus.specs.declared.fault.Fault.TheVariants as fault
+use Rattle.torus.specs.declared.step.Step.{Step}
+use Rattle.torus.specs.Shape.{tiles_of}
+use Rattle.script.specs.declared.fault.LineFault.{LineFault}
+use Rattle.script.specs.Machine.{MachineSpec, machine_of}
+use Rattle.script.specs.Scripts.{ScriptsSpec, scripts_of}
+use Rattle.script.specs.Steps.{steps_of}
+use Rattle.fault_reasons.specs.Reasons.{fault_of}
+use Rattle.explained.specs.declared.sentence.Sentence.{Sentence}
+use Rattle.explained.specs.declared.texts.Named.{Named}
+use Rattle.explained.specs.declared.sentence.TileSentence.{TileSentence}
+
+-- the fault that a sentence is about
+abbrev pub fault_in : Sentence → LineFault
+fault_in s = record { fault = fault_of s.reason; line = s.line }
+
+-- a sentence is about the first fault of what is read, or about want of memory; there is none
+-- where no text has a fault
+abbrev pub Tells : {A : Type 0} → Result A LineFault → Option Sentence → Type 0
+Tells read None = is_ok read ≡ true
+Tells read (Some s) = (read ≡ Err (fault_in s)) ⊎ (fault_in s ≡ record { fault = fault.Memory; line = 0 })
+
+-- what is read next, unless the texts before have a fault
+abbrev pub after : {A B : Type 0} → Result A LineFault → (A → Result B LineFault) → Result B LineFault
+after (Ok x) next = next x
+after (Err e) next = Err e
+
+-- the scripts of a machine text and a script text
+abbrev pub scripts_read : List (List ℕ) → List (List ℕ) → Result ScriptsSpec LineFault
+scripts_read machine scripts = after (machine_of machine) (λ m. scripts_of m scripts)
+
+-- the steps of a machine text, a script text and a steps text
+abbrev pub steps_read : List (List ℕ) → List (List ℕ) → List (List ℕ) → Result (List Step) LineFault
+steps_read machine scripts steps = after (machine_of machine) (λ m. after (scripts_of m scripts) (λ s. steps_of m steps))
+
+-- a sentence has the name and the bytes of a text
+pub record IsAbout (t : Named) (s : Sentence) : Type 0 where
+  pub name : s.name.now ≡ t.name.now
+  pub text : s.text.now ≡ t.text.now
+
+-- a sentence is about this fault of this text
+pub record IsOf (found : LineFault) (t : Named) (s : Sentence) : Type 0 where
+  pub fault : fault_in s ≡ found
+  pub about : IsAbout t s
+
+-- a sentence is about a text where that has a fault, and else about what is said of the texts
+-- behind it
+abbrev pub IsFrom : {A : Type 0} → Result A LineFault → Named → (A → Type 0) → Sentence → Type 0
+IsFrom (Err e) t behind s = IsAbout t s
+IsFrom (Ok x) t behind s = behind x
+
+-- it is about the first text with a fault, of a machine text and a script text; or memory was
+-- refused
+abbrev pub IsFromScripts : Named → Named → Sentence → Type 0
+IsFromScripts machine scripts s = (fault_of s.reason ≡ fault.Memory)
+    ⊎ IsFrom (machine_of (lines machine.text.now)) machine (λ _. IsAbout scripts s) s
+
+-- the same of a machine text, a script text and a steps text
+abbrev pub IsFromSteps : Named → Named → Named → Sentence → Type 0
+IsFromSteps machine scripts steps s = (fault_of s.reason ≡ fault.Memory)
+    ⊎ IsFrom (machine_of (lines machine.text.now)) machine
+    (λ m. IsFrom (scripts_of m (lines scripts.text.now)) scripts (λ _. IsAbout steps s) s) s
+
+-- a tile that a machine hasn't, and how many it has: the first of two
+pub record IsOutside (tiles src dst : ℕ) (t : TileSentence) : Type 0 where
+  pub tiles_are : t.tiles ≡ tiles
+  pub outside : tiles ≤ t.tile
+  pub first : (t.tile ≡ src) ⊎ ((t.tile ≡ dst) × (src < tiles))
+
+-- what is told of two tiles of a machine with so many
+abbrev pub TellsOf : ℕ → ℕ → ℕ → Option TileSentence → Type 0
+TellsOf tiles src dst None = (src < tiles) × (dst < tiles)
+TellsOf tiles src dst (Some t) = IsOutside tiles src dst t
+
+-- the same of the machine of a text, which has no fault
+pub record TellsTile (read : Result MachineSpec LineFault) (src dst : ℕ) (told : Option TileSentence) : Type 0 where
+  pub machine : MachineSpec
+  pub is : read ≡ Ok machine
+  pub tells : TellsOf (tiles_of machine.shape) src dst told

@@ -1,9 +1,0 @@
-use Rattle.machine_seen.specs.machine_laws.proofs.Lawful.{finishes}
-use Rattle.fabric_laws.proofs.Ends.{all_ended}
-use Rattle.fabric_laws.proofs.endings.ends_seen_are_ends.Goals as goal
-
-pub returns : goal.returns
-returns c = record {
-  followers = all_ended;
-  scripts = λ load ok run ended. (finishes load ok run).0 ended;
-}

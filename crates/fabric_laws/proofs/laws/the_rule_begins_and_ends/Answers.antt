@@ -1,5 +1,0 @@
-use Rattle.fabric_laws.proofs.Ending as ending
-use Rattle.fabric_laws.proofs.laws.the_rule_begins_and_ends.Goals as goal
-
-pub returns : goal.returns
-returns c = record { begins = ending.begins; ends = ending.ends }

@@ -1,7 +1,0 @@
-use Rattle.fabric_laws.proofs.Growing.{kept_grow}
-use Rattle.fabric_laws.proofs.Joining.{kept_joined}
-use Rattle.fabric_laws.proofs.Cutting.{kept_cut}
-use Rattle.fabric_laws.proofs.laws.views_keep_the_rule.Goals as goal
-
-pub returns : goal.returns
-returns c = record { grown = kept_grow; joined = kept_joined; cut = kept_cut }

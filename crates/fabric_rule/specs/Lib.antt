@@ -1,0 +1,14 @@
+pub use Rattle.core_seen.specs.tile
+pub use Rattle.core_seen.specs.core_laws
+pub use Rattle.core_seen.specs.core_row
+pub use Rattle.core_seen.specs.order_abstract
+pub use Rattle.core_seen.specs.core_machine
+pub use Rattle.core_seen
+pub use Rattle.core_seen.specs.script_follower
+pub use Rattle.core_seen.specs.tile_laws
+pub mod Known
+pub mod Told
+pub mod View
+pub mod Groups
+pub mod Rule
+pub mod Ended

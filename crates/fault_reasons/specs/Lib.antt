@@ -1,0 +1,5 @@
+pub mod Reasons
+pub mod Before
+pub mod Machine
+pub mod Scripts
+pub mod Steps

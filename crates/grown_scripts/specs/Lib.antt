@@ -1,9 +1,0 @@
-pub use Rattle.moves_alone
-pub use Rattle.moves_alone.specs.core_laws
-pub use Rattle.moves_alone.specs.core_progress
-pub use Rattle.moves_alone.specs.flights
-pub use Rattle.moves_alone.specs.machine_laws
-pub use Rattle.moves_alone.specs.net_interface
-pub use Rattle.moves_alone.specs.tile
-pub mod Appended
-pub mod Doings

@@ -1,0 +1,3 @@
+pub mod LineCuts
+pub mod Numbers
+pub mod WordCuts

@@ -1,0 +1,10 @@
+//! The lines of a text, the words of a line, and the numbers that words spell.
+#![tactic(auto)]
+
+pub mod lines;
+pub mod number;
+pub mod words;
+
+pub use lines::next_line;
+pub use number::{index, value};
+pub use words::first_words;

@@ -1,0 +1,37 @@
+//! What is said of a trace that is judged: a line of text, and the status that the program ends with.
+
+ghost use Rattle.std.specs.Prelude.{◌≡◌, option_map};
+ghost use Rattle.linearize_command.specs.Told.{status_of, verdict_text_of};
+
+use crate::Judged;
+use program_fault::{ProgramFault, status_of};
+use trace_answer::{LineText, not_linearizable, undecided};
+use trace_text::Unfound;
+
+/// What is said where no order was found, with at most so many configurations of a word at once: the
+/// line from which on there is none, or at which the trace isn't decided and why. It has no line feed.
+/// `None` where an order was printed.
+pub fn verdict_text(judged: Judged, configurations: u64) -> Option<LineText>
+    ensures { option_map (λ t. t.bytes) result ≡ verdict_text_of judged configurations }
+{
+    match judged {
+        Judged::Linearizable => None,
+        Judged::NotLinearizable { line } => Some(not_linearizable(line)),
+        Judged::TooMany { line } => undecided(Unfound::Configurations { line }, configurations),
+        Judged::TooOpen { line } => undecided(Unfound::Operations { line }, configurations),
+    }
+}
+
+/// The status that the program ends with: 0 where an order was printed, 1 where there is none or the
+/// text has a fault or memory was refused, 4 where the output failed, 5 where the trace isn't decided.
+pub fn status(answer: &Result<Judged, ProgramFault>) -> u8
+    ensures { result ≡ status_of answer.now }
+{
+    match answer {
+        Ok(Judged::Linearizable) => 0,
+        Ok(Judged::NotLinearizable { .. }) => 1,
+        Ok(Judged::TooMany { .. }) => 5,
+        Ok(Judged::TooOpen { .. }) => 5,
+        Err(fault) => status_of(&Err(*fault)),
+    }
+}

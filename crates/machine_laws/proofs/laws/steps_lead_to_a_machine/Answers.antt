@@ -1,9 +1,0 @@
-use Rattle.machine_laws.proofs.Machines.{stands_after, reports_well}
-use Rattle.machine_laws.specs.Core.{core_after_load}
-use Rattle.machine_laws.proofs.laws.steps_lead_to_a_machine.Goals as goal
-
-pub returns : goal.returns
-returns c = record {
-  after = stands_after;
-  reports = λ l steps ok. reports_well l (core_after_load l steps) steps (stands_after l steps ok);
-}

@@ -1,0 +1,83 @@
+-- The agents at the ends of a place, and that there are flags for them.
+use Rattle.std.proofs.Common.{◌≡◌, ℕ, ◌+◌, ◌*◌, ◌/◌, ◌<◌, ◌≤◌, Bool, List, sym, ◌∙◌, ap, subst, arith, slice_index_or, if◌then◌else◌}
+use Rattle.std.proofs.lemmas.Nat.{div_below}
+use Rattle.std.proofs.lemmas.List.FromFn.{get_or-map-range_with_len}
+use Rattle.torus.specs.Shape.{Shape, IsAccepted, IsNeighbour, tiles_of, dims_of, radix_of, digit_of, one_hop}
+use Rattle.torus.specs.declared.shape.Class.{Class}
+use Rattle.torus.specs.declared.shape.Class.TheVariants.{Request, Reply}
+use Rattle.torus.specs.declared.shape.Dir.{Dir}
+use Rattle.torus.proofs.Hops.{one_neighbour}
+use Rattle.dateline_route.specs.Route.{with_digit}
+use Rattle.dateline_route.specs.Walk.{IsInside}
+use Rattle.dateline_route.specs.declared.channel.Channel.{Channel}
+use Rattle.dateline_route.specs.declared.channel.Kind.{Kind}
+use Rattle.dateline_route.specs.declared.channel.Kind.TheVariants.{Injection, Hop, Ejection}
+use Rattle.dateline_route.proofs.Neighbours.{hop_is}
+use Rattle.channel_number.specs.Order.{channel_at, channel_count}
+use Rattle.channel_number.specs.Ports.{is_injection, is_ejection, tile_after}
+use Rattle.channel_number.proofs.Decoding.{decoded}
+use Rattle.core_wake.specs.Waking.{place_of, taker, speaker, receiver_of, sender_of}
+use Rattle.machine_wake.specs.Ends.{all_ends, ends_of}
+use Rattle.machine_wake.specs.declared.ends.Ends.{Ends}
+
+-- the agent at the far end of a channel of a tile, by its kind
+abbrev received_at : Shape → Channel → ℕ
+received_at s x = if is_ejection x.kind then 3 * x.tile + place_of (taker x.class) else 3 * tile_after s x.tile x.kind + 1
+
+-- that of a hop
+pub received_by_hop : (s : Shape) → IsAccepted s → (index d u : ℕ) (dir : Dir) (bit : Bool) (x : Channel) → x.tile < tiles_of s → d < dims_of s
+    → x ≡ channel_at s index → x.kind ≡ Hop d dir bit → IsNeighbour s x.tile d dir u → 3 * u + 1 ≡ receiver_of s index
+received_by_hop s ok index d u dir bit x low inside at is near =
+    ap (λ (v : ℕ). 3 * v + 1)
+    (one_neighbour s ok x.tile d u (with_digit s x.tile d (one_hop dir (radix_of s d) (digit_of s x.tile d))) dir near
+    (hop_is s ok x.tile d dir low inside))
+    ∙ (ap (λ (k : Kind). received_at s (record { tile = x.tile; class = x.class; kind = k })) (sym is)
+    ∙ ap (received_at s) at)
+
+-- an agent that is there
+small_speaker : (class : Class) → place_of (speaker class) ≤ 2
+small_speaker Request = omega arith
+small_speaker Reply = omega arith
+
+small_taker : (class : Class) → place_of (taker class) ≤ 2
+small_taker Request = omega arith
+small_taker Reply = omega arith
+
+module _ (s : Shape) (ok : IsAccepted s) where
+  sender_within : (t : ℕ) (class : Class) (kind : Kind) → t < tiles_of s
+      → (if is_injection kind then 3 * t + place_of (speaker class) else 3 * t + 1) < 3 * tiles_of s
+  sender_within t class Injection low = omega (arith, low, small_speaker class)
+  sender_within t class (Hop d dir bit) low = omega (arith, low)
+  sender_within t class Ejection low = omega (arith, low)
+
+  receiver_within : (t : ℕ) (class : Class) (kind : Kind) → t < tiles_of s → IsInside s kind
+      → received_at s (record { tile = t; class = class; kind = kind }) < 3 * tiles_of s
+  receiver_within t class Ejection low inside = omega (arith, low, small_taker class)
+  receiver_within t class Injection low inside = omega (arith, low)
+  receiver_within t class (Hop d dir bit) low inside = let there = (hop_is s ok t d dir low inside).tile in omega (arith, there)
+
+  pub sender_below : (x : ℕ) → x < channel_count s → sender_of s x < 192
+  sender_below x there =
+      let c = (decoded s x there).0 in
+      let few = ok.tiles in
+      let h = sender_within (channel_at s x).tile (channel_at s x).class (channel_at s x).kind c.tile in omega (arith, h, few)
+
+  pub receiver_below : (x : ℕ) → x < channel_count s → receiver_of s x < 192
+  receiver_below x there =
+      let c = (decoded s x there).0 in
+      let few = ok.tiles in
+      let h = receiver_within (channel_at s x).tile (channel_at s x).class (channel_at s x).kind c.tile c.kind in omega (arith, h, few)
+
+-- the ends of a place are those of its channel
+pub ends_at : (s : Shape) (depth word : ℕ) (ends : List Ends) (e : Ends) → ends ≡ all_ends s depth → word < channel_count s * depth
+    → e ≡ slice_index_or ends word e → e ≡ ends_of s (word / depth)
+ends_at s depth word ends e is low at =
+    at ∙ (ap (λ (xs : List Ends). slice_index_or xs word e) is
+    ∙ get_or-map-range_with_len (λ place. ends_of s (place / depth)) 0 (channel_count s * depth) word word e low (omega arith))
+
+pub channel_below : (s : Shape) (depth word : ℕ) → 0 < depth → word < channel_count s * depth → word / depth < channel_count s
+channel_below s depth word some low = div_below word depth (channel_count s) some low
+
+-- a hop within the torus is in one of its dimensions
+pub inside_of : (s : Shape) (k : Kind) (d : ℕ) (dir : Dir) (bit : Bool) → k ≡ Hop d dir bit → IsInside s k → d < dims_of s
+inside_of s k d dir bit is inside = subst (IsInside s) is inside

@@ -1,0 +1,13 @@
+pub use Rattle.core_wake
+pub use Rattle.core_wake.specs.core_laws
+pub use Rattle.core_wake.specs.core_progress
+pub use Rattle.core_wake.specs.core_row
+pub use Rattle.core_wake.specs.order_abstract
+pub use Rattle.core_wake.specs.core_machine
+pub use Rattle.core_wake.specs.core_seen
+pub use Rattle.core_wake.specs.script_follower
+pub use Rattle.core_wake.specs.tile_laws
+pub use Rattle.core_wake.specs.tile
+pub mod Ends
+pub mod Awake
+pub mod Inside

@@ -1,5 +1,0 @@
-use Rattle.net_interface.specs.Following.{issues}
-use Rattle.net_interface.proofs.laws.issue_shows_one_more.Goals as goal
-
-pub returns : goal.returns
-returns c = λ lines past f o t h next before. issues past f o t h next before

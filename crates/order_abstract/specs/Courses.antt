@@ -1,0 +1,40 @@
+-- Courses of a flight: from where nothing has happened, step by step, each a found move or nothing.
+use Rattle.std.specs.Prelude.{◌≡◌, ℕ, suc, ◌<◌, List, [], map, length, replicate, Option, Some, None}
+use Rattle.script.specs.declared.line.Line.{Line}
+use Rattle.script_follower.specs.Following.{first_of}
+use Rattle.one_order.specs.Observed.{Run}
+use Rattle.one_order.specs.Events.{Event}
+use Rattle.script_follower.specs.ProcessorRecord.{ProcessorRecord}
+use Rattle.order_abstract.specs.Flight.{Flight, Move, IsFound, moved_by, show, event_by}
+
+-- the record of a processor before any step, with so many tags
+abbrev pub first_record : ℕ → List Line → ProcessorRecord
+first_record tags lines =
+    record { following = first_of lines; tags = replicate tags None; issued = []; answers = [] }
+
+-- the flight before any step, of so many tiles with so many tags, these opening words and these
+-- scripts
+abbrev pub first_flight : ℕ → ℕ → List ℕ → List (List Line) → Flight
+first_flight tiles tags opening scripts = record {
+  processors = map (first_record tags) scripts;
+  entries = replicate tiles [];
+  memory = opening;
+  asked = [];
+  told = [];
+}
+
+-- the first n steps of a flight: each is a move that finds what it needs, or nothing
+pub record IsCourse (tiles tags : ℕ) (opening : List ℕ) (scripts : List (List Line))
+    (flight : ℕ → Flight) (move : ℕ → Option Move) (n : ℕ) : Type 0 where
+  pub processors : length scripts ≡ tiles
+  pub start : flight 0 ≡ first_flight tiles tags opening scripts
+  pub each : (k : ℕ) → k < n → flight (suc k) ≡ moved_by tiles (flight k) (move k)
+  pub found : (k : ℕ) (m : Move) → k < n → move k ≡ Some m → IsFound (length opening) (flight k) m
+
+-- what is shown after each step
+abbrev pub run_of : (ℕ → Flight) → Run
+run_of flight k = show (flight k)
+
+-- the event that each step is
+abbrev pub events_of : (ℕ → Flight) → (ℕ → Option Move) → ℕ → Event
+events_of flight move k = event_by (flight k) (move k)

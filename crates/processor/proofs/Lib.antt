@@ -1,6 +1,0 @@
-pub mod Recorded
-pub mod Counted
-pub mod Course
-pub mod Arriving
-pub mod EmptyChannels
-pub mod WantedPorts

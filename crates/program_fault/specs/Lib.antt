@@ -1,0 +1,3 @@
+pub mod Outcome
+pub mod Message
+pub mod Done

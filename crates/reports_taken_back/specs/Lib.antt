@@ -1,9 +1,0 @@
-pub use Rattle.grown_scripts
-pub use Rattle.grown_scripts.specs.core_laws
-pub use Rattle.grown_scripts.specs.core_progress
-pub use Rattle.grown_scripts.specs.flights
-pub use Rattle.grown_scripts.specs.machine_laws
-pub use Rattle.grown_scripts.specs.moves_alone
-pub use Rattle.grown_scripts.specs.net_interface
-pub use Rattle.grown_scripts.specs.tile
-pub mod Reopened

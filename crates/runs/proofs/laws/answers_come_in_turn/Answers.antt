@@ -1,5 +1,0 @@
-use Rattle.runs.proofs.AnswersInTurn.{answers_in_turn}
-use Rattle.runs.proofs.laws.answers_come_in_turn.Goals as goal
-
-pub returns : goal.returns
-returns c = answers_in_turn

@@ -1,5 +1,0 @@
-use Rattle.runs.proofs.InTurn.{serves_in_turn}
-use Rattle.runs.proofs.laws.banks_serve_in_turn.Goals as goal
-
-pub returns : goal.returns
-returns c = serves_in_turn

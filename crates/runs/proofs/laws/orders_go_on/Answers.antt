@@ -1,5 +1,0 @@
-use Rattle.runs.proofs.Beginnings.{rows_go_on}
-use Rattle.runs.proofs.laws.orders_go_on.Goals as goal
-
-pub returns : goal.returns
-returns c = rows_go_on

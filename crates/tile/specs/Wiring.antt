@@ -1,3 +1,0 @@
--- Which channels a tile's processor and bank have at their inputs and outputs: they stand beside the agents' code.
-pub use Rattle.processor.specs.Beginning.{processor_wiring}
-pub use Rattle.processor.specs.home_bank.specs.Beginning.{bank_wiring}

@@ -1,0 +1,323 @@
+ghost use Rattle.std.specs.Prelude.{◌≡◌, ◌<◌, ◌≤◌, ◌↔◌, ◌%◌, length, IsTrue, IfOk, IfSome, IsSome, MatchOption};
+ghost use Rattle.std.specs.Prelude.{vec_len, slice_index, is_some};
+ghost use Rattle.torus.specs.Shape.{tiles_of};
+ghost use Rattle.torus.specs.declared.step.Stepped.TheVariants as stepped;
+ghost use Rattle.script.specs.Scripts.{operation_count};
+ghost use Rattle.flit_buffer.specs.Tries.{performed_by};
+ghost use Rattle.flit_buffer.specs.Words.{word_of};
+ghost use Rattle.tag_table.specs.Tags.{holder_of};
+ghost use Rattle.tile_laws.specs.script_follower.specs.Scripts.{IsFollowable};
+ghost use Rattle.tile_laws.specs.script_follower.specs.Following.{is_finished};
+ghost use Rattle.tile_laws.specs.Tile.{Processor as ProcessorAgent, Router as RouterAgent, Bank as BankOfTile};
+ghost use Rattle.tile_laws.specs.Agents.{agent_numbered, agent_op, tile_next_op, tile_absorbed};
+ghost use Rattle.tile.specs.Placed.{with_place, first_tile, IsAcceptableTo, HasRoomFor, agent_attempted};
+ghost use Rattle.tile.specs.Placed.{tile_attempted};
+
+use flit_buffer::WordOp;
+use home_bank::{BankAgent, Entry};
+use packet::Operation;
+use router::Router;
+use script::Line;
+use std::alloc::{AllocError, Allocator, Global};
+use std::marker::Model;
+use tag_table::{OpId, Tag};
+use tile_laws::{Answer, Processor};
+use torus::{Choice, Step, Stepped, Torus};
+
+/// The three agents of a tile: its processor, its router and its bank, each with the ends of its
+/// channels. Tile t has the agents 3t, 3t + 1 and 3t + 2, in this order.
+#[derive(Drop)]
+pub struct TileAgents<A: Allocator = Global> {
+    tile: u32,
+    depth: u32,
+    processor: Processor<A>,
+    router: Router<A>,
+    bank: BankAgent<A>,
+}
+
+impl<A: Allocator> Model for TileAgents<A> {
+    ghost use Rattle.tile.specs.Placed.{PlacedTile};
+
+    ghost Value = { PlacedTile };
+
+    ghost use Rattle.tile.specs.Inside.{placed_of, AreOfOneTile};
+
+    ghost view = { placed_of };
+
+    ghost invariant = { AreOfOneTile };
+}
+
+impl<A: Allocator + Copy> TileAgents<A> {
+    /// A tile whose agents have made no step, over channels of this depth that are all empty, with so
+    /// many words in the memory, the script of its processor, and room for so many entries in its
+    /// bank. The depth is 1 to 8, the tags are 1 to 16, the script has at most 4096 operations, and
+    /// the room is at most 65536.
+    ///
+    /// Errors: `AllocError` where there is no memory; the steps take none.
+    pub fn new(
+        alloc: A,
+        torus: Torus,
+        words: u32,
+        tile: u32,
+        depth: u32,
+        tags: u32,
+        lines: Vec<Line, A>,
+        room: usize,
+    ) -> Result<TileAgents<A>, AllocError>
+        requires tile { tile < tiles_of torus }
+        requires some { 0 < depth }
+        requires few { depth ≤ 8 }
+        requires some_tags { 1 ≤ tags }
+        requires few_tags { tags ≤ 16 }
+        requires followable { IsFollowable lines.items }
+        requires count { operation_count lines.items ≤ 4096 }
+        requires room { room ≤ 65536 }
+        ensures { IfOk result
+            (λ v. v ≡ first_tile (record { shape = torus; depth = depth; words = words }) tile tags
+            lines.items room) }
+    {
+        let bank = BankAgent::new(alloc, &torus, tile, depth, room)?;
+        let processor = Processor::new(alloc, &torus, words, tile, depth, tags, lines)?;
+        let router = Router::new(alloc, torus, tile, depth)?;
+        Ok(TileAgents {
+            tile,
+            depth,
+            processor,
+            router,
+            bank,
+        })
+    }
+}
+
+impl<A: Allocator> TileAgents<A> {
+    /// The word operation of a step; None exactly when the step is of another tile, or its agent
+    /// hasn't that choice, or the choice's condition fails.
+    pub fn next_op(&self, step: Step) -> Option<WordOp>
+        ensures { result ≡ tile_next_op self.now.place step }
+    {
+        if step.agent / 3 != self.tile {
+            return None;
+        }
+        match step.agent % 3 {
+            0 => self.processor.next_op(step.choice),
+            1 => self.router.next_op(step.choice),
+            _ => self.bank.next_op(step.choice),
+        }
+    }
+
+    /// The word operation of a choice of the processor; None exactly where it hasn't that choice or the
+    /// choice's condition fails.
+    #[inline(always)]
+    pub fn processor_op(&self, choice: Choice) -> Option<WordOp>
+        ensures { result ≡ agent_op self.now.place ProcessorAgent choice }
+    {
+        self.processor.next_op(choice)
+    }
+
+    /// The word operation of a choice of the router.
+    #[inline(always)]
+    pub fn router_op(&self, choice: Choice) -> Option<WordOp>
+        ensures { result ≡ agent_op self.now.place RouterAgent choice }
+    {
+        self.router.next_op(choice)
+    }
+
+    /// The word operation of a choice of the bank.
+    #[inline(always)]
+    pub fn bank_op(&self, choice: Choice) -> Option<WordOp>
+        ensures { result ≡ agent_op self.now.place BankOfTile choice }
+    {
+        self.bank.next_op(choice)
+    }
+
+    /// Takes the word that the operation of a step found. What is taken is as the step's agent asks,
+    /// and a service has room for its entry.
+    pub fn absorb(&mut self, step: Step, got: u64) -> Stepped
+        requires tried { IsSome (tile_next_op self.old.place step) }
+        requires flit { IsAcceptableTo self.old.place (agent_numbered (step.agent % 3)) step.choice
+            got }
+        requires entries { HasRoomFor self.old (agent_numbered (step.agent % 3)) step.choice }
+        ensures { MatchOption (tile_absorbed self.old.place step got)
+            ((result ≡ stepped.Idle) × (self.new ≡ self.old))
+            (λ p. (result ≡ stepped.Moved) × (self.new ≡ with_place self.old p)) }
+    {
+        if step.agent / 3 != self.tile {
+            return Stepped::Idle;
+        }
+        match step.agent % 3 {
+            0 => self.processor.absorb(step.choice, got),
+            1 => self.router.absorb(step.choice, got),
+            _ => self.bank.absorb(step.choice, got),
+        }
+    }
+
+    /// Tries a choice of the processor over a row, at once: performs its operation, if it has one,
+    /// and takes the word found.
+    #[inline(always)]
+    pub fn attempt_processor<B: Allocator>(
+        &mut self,
+        choice: Choice,
+        row: &mut Vec<u64, B>,
+    ) -> Stepped
+        requires room { IfSome (agent_op self.old.place ProcessorAgent choice)
+            (λ o. word_of o < vec_len row.old) }
+        requires flit { IfSome (agent_op self.old.place ProcessorAgent choice)
+            (λ o. IsAcceptableTo self.old.place ProcessorAgent choice
+            (slice_index row.old.items (word_of o))) }
+        ensures row { row.new.items
+            ≡ performed_by row.old.items (agent_op self.old.place ProcessorAgent choice) }
+        ensures step { MatchOption
+            (agent_attempted self.old.place ProcessorAgent choice row.old.items)
+            ((result ≡ stepped.Idle) × (self.new ≡ self.old))
+            (λ p. (result ≡ stepped.Moved) × (self.new ≡ with_place self.old p)) }
+    {
+        self.processor.attempt(choice, row)
+    }
+
+    /// Tries a choice of the router over a row, at once.
+    #[inline(always)]
+    pub fn attempt_router<B: Allocator>(&mut self, choice: Choice, row: &mut Vec<u64, B>) -> Stepped
+        requires room { IfSome (agent_op self.old.place RouterAgent choice)
+            (λ o. word_of o < vec_len row.old) }
+        requires flit { IfSome (agent_op self.old.place RouterAgent choice)
+            (λ o. IsAcceptableTo self.old.place RouterAgent choice
+            (slice_index row.old.items (word_of o))) }
+        ensures row { row.new.items
+            ≡ performed_by row.old.items (agent_op self.old.place RouterAgent choice) }
+        ensures step { MatchOption (agent_attempted self.old.place RouterAgent choice row.old.items)
+            ((result ≡ stepped.Idle) × (self.new ≡ self.old))
+            (λ p. (result ≡ stepped.Moved) × (self.new ≡ with_place self.old p)) }
+    {
+        self.router.attempt(choice, row)
+    }
+
+    /// Tries a choice of the bank over a row, at once. A service has room for its entry.
+    #[inline(always)]
+    pub fn attempt_bank<B: Allocator>(&mut self, choice: Choice, row: &mut Vec<u64, B>) -> Stepped
+        requires room { IfSome (agent_op self.old.place BankOfTile choice)
+            (λ o. word_of o < vec_len row.old) }
+        requires flit { IfSome (agent_op self.old.place BankOfTile choice)
+            (λ o. IsAcceptableTo self.old.place BankOfTile choice
+            (slice_index row.old.items (word_of o))) }
+        requires entries { HasRoomFor self.old BankOfTile choice }
+        ensures row { row.new.items
+            ≡ performed_by row.old.items (agent_op self.old.place BankOfTile choice) }
+        ensures step { MatchOption (agent_attempted self.old.place BankOfTile choice row.old.items)
+            ((result ≡ stepped.Idle) × (self.new ≡ self.old))
+            (λ p. (result ≡ stepped.Moved) × (self.new ≡ with_place self.old p)) }
+    {
+        self.bank.attempt(choice, row)
+    }
+
+    /// Tries a step over a row, at once: performs its operation, if it has one, and takes the word
+    /// found. A step of another tile is idle.
+    pub fn attempt<B: Allocator>(&mut self, step: Step, row: &mut Vec<u64, B>) -> Stepped
+        requires room { IfSome (tile_next_op self.old.place step)
+            (λ o. word_of o < vec_len row.old) }
+        requires flit { IfSome (tile_next_op self.old.place step)
+            (λ o. IsAcceptableTo self.old.place (agent_numbered (step.agent % 3)) step.choice
+            (slice_index row.old.items (word_of o))) }
+        requires entries { HasRoomFor self.old (agent_numbered (step.agent % 3)) step.choice }
+        ensures row { row.new.items
+            ≡ performed_by row.old.items (tile_next_op self.old.place step) }
+        ensures step { MatchOption (tile_attempted self.old.place step row.old.items)
+            ((result ≡ stepped.Idle) × (self.new ≡ self.old))
+            (λ p. (result ≡ stepped.Moved) × (self.new ≡ with_place self.old p)) }
+    {
+        if step.agent / 3 != self.tile {
+            return Stepped::Idle;
+        }
+        let agent = step.agent % 3;
+        if agent == 0 {
+            self.attempt_processor(step.choice, row)
+        } else if agent == 1 {
+            self.attempt_router(step.choice, row)
+        } else {
+            self.attempt_bank(step.choice, row)
+        }
+    }
+
+    /// Whether an attempt of a step over a row would move; a step of another tile would not. Nothing
+    /// changes.
+    pub fn would_move<B: Allocator>(&self, step: Step, row: &Vec<u64, B>) -> bool
+        requires room { IfSome (tile_next_op self.now.place step)
+            (λ o. word_of o < vec_len row.now) }
+        ensures { result ≡ is_some (tile_attempted self.now.place step row.now.items) }
+    {
+        if step.agent / 3 != self.tile {
+            return false;
+        }
+        let agent: u32 = step.agent % 3;
+        if agent == 0 {
+            self.processor.would_move(step.choice, row)
+        } else if agent == 1 {
+            self.router.would_move(step.choice, row)
+        } else {
+            self.bank.would_move(step.choice, row)
+        }
+    }
+
+    /// The number of the tile.
+    pub fn tile(&self) -> u32
+        ensures { result ≡ self.now.place.tile }
+    {
+        self.tile
+    }
+
+    /// The depth of the channels.
+    pub fn depth(&self) -> u32
+        ensures { result ≡ self.now.place.design.depth }
+    {
+        self.depth
+    }
+
+    /// The operations that the processor has issued, in the order of issue.
+    pub fn issued(&self) -> &[Operation]
+        ensures { result.now ≡ self.now.place.processor.state.operations.issued }
+    {
+        self.processor.issued()
+    }
+
+    /// The answers that the processor has received, in the order of answering.
+    pub fn answers(&self) -> &[Answer]
+        ensures { result.now ≡ self.now.place.processor.state.operations.answers }
+    {
+        self.processor.answers()
+    }
+
+    /// The operation of the processor that holds a tag; None exactly where the tag isn't out.
+    pub fn holder(&self, tag: Tag) -> Option<OpId>
+        ensures { result ≡ holder_of self.now.place.processor.state.operations.tags tag.0 }
+    {
+        self.processor.holder(tag)
+    }
+
+    /// Whether the processor's script is finished.
+    pub fn is_finished(&self) -> bool
+        ensures { result ≡ is_finished self.now.place.processor.state.operations.following }
+    {
+        self.processor.is_finished()
+    }
+
+    /// Whether the processor has seen that all processors have reported.
+    pub fn has_seen(&self) -> bool
+        ensures { result ≡ self.now.place.processor.state.seen }
+    {
+        self.processor.has_seen()
+    }
+
+    /// The entries of the bank, in the order of the services.
+    pub fn entries(&self) -> &[Entry]
+        ensures { result.now ≡ self.now.place.bank.state.entries }
+    {
+        self.bank.entries()
+    }
+
+    /// Whether the bank has room for no further entry.
+    pub fn is_full(&self) -> bool
+        ensures full { IsTrue result ↔ (length self.now.place.bank.state.entries ≡ self.now.room) }
+        ensures within { length self.now.place.bank.state.entries ≤ self.now.room }
+    {
+        self.bank.is_full()
+    }
+}

@@ -1,3 +1,0 @@
-pub use Rattle.tile.specs.processor
-pub mod Placed
-pub mod Inside

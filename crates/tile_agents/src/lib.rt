@@ -1,6 +1,0 @@
-//! The agents of a tile, at their channels.
-#![tactic(auto)]
-
-pub mod agents;
-
-pub use agents::TileAgents;

@@ -1,0 +1,5 @@
+pub mod Channels
+pub mod OneAgent
+pub mod Tiles
+pub mod NewTiles
+pub mod OwnSteps

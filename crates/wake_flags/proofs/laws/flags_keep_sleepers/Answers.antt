@@ -1,5 +1,0 @@
-use Rattle.wake_flags.proofs.KeptSleepers as sleepers
-use Rattle.wake_flags.proofs.laws.flags_keep_sleepers.Goals as goal
-
-pub returns : goal.returns
-returns c = record { fresh = sleepers.fresh; moved = sleepers.moved; rested = sleepers.rests }

@@ -1,0 +1,41 @@
+// The Verilog router of one tile, over a row of words.
+#ifndef ROUTER_H
+#define ROUTER_H
+#include <cstddef>
+#include <cstdint>
+#include "Vrouter.h"
+#include "verilated.h"
+
+class Router {
+ public:
+  Router(uint32_t tile, bool mistake) {
+    verilog_.tile = static_cast<uint8_t>(tile);
+    verilog_.mistake = mistake;
+  }
+  Router(const Router &) = delete;
+  Router &operator=(const Router &) = delete;
+
+  // Makes a step, with its one operation on one word of the row; whether it moved. The choices are those of router.v:
+  // 0 takes a flit of an input, 1 puts it, 2 looks for a credit of an output.
+  bool attempt(uint32_t choice, uint32_t number, uint64_t *row, size_t length) {
+    verilog_.clock = 0;
+    verilog_.choice = static_cast<uint8_t>(choice);
+    verilog_.number = static_cast<uint8_t>(number);
+    verilog_.eval();
+    uint32_t place = verilog_.place;
+    if (verilog_.operation != NONE && place >= length) return false;
+    verilog_.found = verilog_.operation == NONE ? 0 : row[place];
+    verilog_.eval();
+    bool moves = verilog_.moves;
+    if (verilog_.operation == SWAP) row[place] = 0;
+    if (verilog_.operation == STORE) row[place] = verilog_.value;
+    verilog_.clock = 1;
+    verilog_.eval();
+    return moves;
+  }
+
+ private:
+  enum Operation { NONE, SWAP, STORE, LOAD };
+  Vrouter verilog_;
+};
+#endif
