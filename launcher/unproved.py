@@ -7,6 +7,7 @@ import re
 import shutil
 import subprocess
 import sys
+import tempfile
 from typing import Callable
 
 import words
@@ -18,6 +19,14 @@ SECONDS = 600
 # The lines of rt try that stand behind what the program wrote to standard error.
 ITS_OWN = re.compile(rb"^(?:interpreter|checked|races|rt|note|error|warning|run)[:=]", re.M)
 ENDED = re.compile(rb"^run=ended status=(\d+) .*proved=no\n\Z", re.M)
+
+
+def standard_input(folder: str) -> str:
+    """The path of a file with all that standard input has."""
+    path = f"{folder}/input"
+    with open(path, "wb") as file:
+        shutil.copyfileobj(sys.stdin.buffer, file)
+    return path
 
 
 def run(given: list[str], told: Callable[[words.Answer], int]) -> int:
@@ -40,12 +49,14 @@ def run(given: list[str], told: Callable[[words.Answer], int]) -> int:
         return 127
     say("NOTHING OF THIS IS PROVED. The program is compiled for this one run, which takes about a minute")
     line, files = [*asked.words], []
-    for place in asked.files:
-        # In its folder each file has a plain name, since its own may be no word of rt's.
-        files += ["--data", f"file{place}={os.path.abspath(line[place])}"]
-        line[place] = f"file{place}"
-    command = ["rt", "try", "--seconds", str(SECONDS), *files, "--", *line]
-    ran = subprocess.run(command, cwd=f"{ROOT}/crates/torusmem", stdin=subprocess.DEVNULL, capture_output=True)
+    with tempfile.TemporaryDirectory(prefix="torusmem-") as folder:
+        for place in asked.files:
+            # In its folder each file has a plain name, since its own may be no word of rt's.
+            path = os.path.abspath(line[place]) if line[place] != "-" else standard_input(folder)
+            files += ["--data", f"file{place}={path}"]
+            line[place] = f"file{place}"
+        command = ["rt", "try", "--seconds", str(SECONDS), *files, "--", *line]
+        ran = subprocess.run(command, cwd=f"{ROOT}/crates/torusmem", stdin=subprocess.DEVNULL, capture_output=True)
     ended = ENDED.search(ran.stderr)
     its_own = ITS_OWN.search(ran.stderr)
     errors = ran.stderr[: its_own.start()] if ended and its_own else ran.stderr

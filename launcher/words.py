@@ -223,9 +223,14 @@ def stray(name: str, word: str, options: list[str]) -> NoReturn:
 
 
 def unread(job: Job) -> Answer | None:
-    """The fault of the first file that can't be read. A pipe is left to the program, which reads it once."""
-    for place in job.files:
-        name = job.words[place]
+    """The fault of the first text that can't be read. A pipe is left to the program, which reads it once; so is
+    standard input, whose name is `-`, and which can be one text only."""
+    names = [job.words[place] for place in job.files]
+    for at, name in enumerate(names):
+        if name == "-":
+            if "-" in names[:at]:
+                return Answer("cannot read -\n", 1)
+            continue
         try:
             kind = os.stat(name).st_mode
             if stat.S_ISREG(kind):
