@@ -4,15 +4,18 @@
 ghost use Rattle.command_line.specs.Job.{IsWithinLimits};
 
 mod explaining;
+mod kept;
 mod progress_line;
+mod telling;
 mod texts;
 
 use command_line::{Job, Request, read_request};
 use commands::{
-    ProgramFault, channels_text, check_text, fault_text, finished, round_text_with, route_text,
-    run_text, status_of, steps_text,
+    ProgramFault, channels_text, check_text, fault_text, round_text_with, route_text, run_text,
+    status_of, steps_text,
 };
 use explaining::{explain, explain_unread};
+use kept::Kept;
 use linearize_command::{Judged, linearize_text, status, verdict_text};
 use network_command::network_text;
 use progress_line::ProgressLine;
@@ -23,14 +26,17 @@ use std::rt::{Clock, Env, Files};
 use std::sync::Wait;
 use std::thread::Threads;
 use std::{env, io};
+use telling::tell_end;
 use texts::{Failure, Texts, read_texts};
 use torus::Fault;
 
 /// What a job answers.
 #[derive(Drop)]
 enum Outcome {
-    /// Whether every script is finished; of a job without scripts that it is done.
-    Finished(bool),
+    /// That a job without scripts is done.
+    Done,
+    /// Whether every script is finished, and how many rounds were made, where it is run in rounds.
+    Ran(bool, u64),
     /// Whether the numbers of a network's channels rise.
     Rising(bool),
     /// What a trace is judged to be, with so many configurations at most.
@@ -87,7 +93,7 @@ fn done<R: Files + Input + Print + Eprint + Clock + AllocGlobal + Threads + Wait
         }
         Err(Failure::Fault(fault)) => return fault_told(rt, fault),
     };
-    match printed(rt, &request.job, &texts, is_seen) {
+    match printed(rt, request, &texts, is_seen) {
         Ok(answer) => status_told(rt, answer),
         Err(fault) => {
             let status = fault_told(rt, fault);
@@ -109,7 +115,8 @@ fn fault_told<R: Eprint>(rt: &R, fault: ProgramFault) -> u8 {
 /// The exit status of an answer. Where a trace has no order, standard error says so.
 fn status_told<R: Eprint>(rt: &R, answer: Outcome) -> u8 {
     match answer {
-        Outcome::Finished(finished) => status_of(&Ok(finished)),
+        Outcome::Done => 0,
+        Outcome::Ran(finished, _) => status_of(&Ok(finished)),
         Outcome::Rising(rising) => u8::from(!rising),
         Outcome::Judged(judged, configurations) => {
             if let Some(text) = verdict_text(judged, u64::from(configurations)) {
@@ -120,21 +127,28 @@ fn status_told<R: Eprint>(rt: &R, answer: Outcome) -> u8 {
     }
 }
 
-/// The answer of the job, whose output was written to its last byte.
+/// The answer of the job, whose output was written to its last byte. How a run ended is told behind
+/// its report, where that is asked for or standard error `is_seen`.
 fn printed<R: Print + Eprint + Clock + AllocGlobal + Threads + Wait + Sync>(
     rt: &R,
-    job: &Job,
+    request: &Request,
     texts: &Texts,
     is_seen: bool,
 ) -> Result<Outcome, ProgramFault>
-    requires { IsWithinLimits job.now }
+    requires { IsWithinLimits request.now.job }
 {
     let Ok(mut writer) = BufWriter::new(rt.alloc(), io::writer(rt)) else {
         return Err(ProgramFault::Fault(Fault::Memory));
     };
-    let answer = answer(rt, job, texts, is_seen, &mut Piped::new(&mut writer))?;
+    let is_told = request.explain || is_seen;
+    let mut out = Kept::new(Piped::new(&mut writer), Vec::new(rt.alloc()), is_told);
+    let answer = answer(rt, &request.job, texts, is_seen, &mut out)?;
+    let report = out.into_kept();
     if writer.flush().is_err() {
         return Err(ProgramFault::Output);
+    }
+    if let (Outcome::Ran(finished, rounds), Some(report)) = (&answer, report) {
+        tell_end(rt, &request.job, &texts.second, &report, *finished, *rounds);
     }
     Ok(answer)
 }
@@ -163,44 +177,49 @@ fn answer<R: Eprint + Clock + AllocGlobal + Threads + Wait + Sync, W: Out>(
             class,
             ..
         } => {
-            let answer = finished(route_text(alloc, first, src, dst, class, out))?;
-            Ok(Outcome::Finished(answer))
+            route_text(alloc, first, src, dst, class, out)?;
+            Ok(Outcome::Done)
         }
-        Job::Channels { .. } => Ok(Outcome::Finished(finished(channels_text(alloc, first, out))?)),
-        Job::Check { .. } => Ok(Outcome::Finished(finished(check_text(alloc, first, out))?)),
-        _ => Ok(Outcome::Finished(scripts_run(rt, job, texts, is_seen, out)?)),
+        Job::Channels { .. } => {
+            channels_text(alloc, first, out)?;
+            Ok(Outcome::Done)
+        }
+        Job::Check { .. } => {
+            check_text(alloc, first, out)?;
+            Ok(Outcome::Done)
+        }
+        _ => ran(rt, job, texts, is_seen, out),
     }
 }
 
 /// Runs the scripts of the job, and answers whether every script is finished.
-fn scripts_run<R: Eprint + Clock + AllocGlobal + Threads + Wait + Sync, W: Out>(
+fn ran<R: Eprint + Clock + AllocGlobal + Threads + Wait + Sync, W: Out>(
     rt: &R,
     job: &Job,
     texts: &Texts,
     is_seen: bool,
     out: &mut W,
-) -> Result<bool, ProgramFault>
+) -> Result<Outcome, ProgramFault>
     requires { IsWithinLimits job.now }
 {
     let alloc = rt.alloc();
     let (machine, script) = (texts.first.as_slice(), texts.second.as_slice());
     match *job {
-        Job::Steps { .. } => steps_text(alloc, machine, script, &texts.third, out),
+        Job::Steps { .. } => {
+            let finished = steps_text(alloc, machine, script, &texts.third, out)?;
+            Ok(Outcome::Ran(finished, 0))
+        }
         Job::Round { rounds, .. } => {
             let mut line = ProgressLine::new(rt, is_seen);
-            round_text_with(alloc, machine, script, u64::from(rounds), out, &mut line)
+            let rounds = u64::from(rounds);
+            let finished = round_text_with(alloc, machine, script, rounds, out, &mut line)?;
+            Ok(Outcome::Ran(finished, line.rounds_made()))
         }
         Job::Run { workers, turns, .. } => {
-            run_text(
-                rt,
-                alloc,
-                machine,
-                script,
-                workers as usize,
-                u64::from(turns),
-                out,
-            )
+            let (workers, turns) = (workers as usize, u64::from(turns));
+            let finished = run_text(rt, alloc, machine, script, workers, turns, out)?;
+            Ok(Outcome::Ran(finished, 0))
         }
-        _ => Ok(true),
+        _ => Ok(Outcome::Done),
     }
 }

@@ -14,6 +14,8 @@ const SECONDS_A_LINE: u64 = 1;
 pub(crate) struct ProgressLine<'a, R> {
     rt: &'a R,
     is_wanted: bool,
+    /// How many rounds were made.
+    rounds_made: u64,
     /// How many rounds were made since the last look at the clock.
     rounds: u32,
     /// When the line that stands there was written.
@@ -26,9 +28,15 @@ impl<'a, R: Eprint + Clock> ProgressLine<'a, R> {
         ProgressLine {
             rt,
             is_wanted,
+            rounds_made: 0,
             rounds: 0,
             written: None,
         }
+    }
+
+    /// How many rounds were made.
+    pub(crate) fn rounds_made(&self) -> u64 {
+        self.rounds_made
     }
 
     /// Whether the line is to be written, at a look at the clock; not where there is none.
@@ -48,6 +56,7 @@ impl<'a, R: Eprint + Clock> ProgressLine<'a, R> {
 
 impl<R: Eprint + Clock> Progress for ProgressLine<'_, R> {
     fn wants(&mut self) -> bool {
+        self.rounds_made = self.rounds_made.saturating_add(1);
         if !self.is_wanted {
             return false;
         }
