@@ -1,0 +1,51 @@
+-- Which fault has which reason, and what the keywords of a network text want (this project's own
+-- format).
+use Rattle.std.specs.Prelude.{ℕ, List, Option, Some, None, if◌then◌else◌, codes}
+use Rattle.std.specs.Str.{bytes_eq}
+use Rattle.torus.specs.declared.fault.Fault.{Fault}
+use Rattle.torus.specs.declared.fault.Fault.TheVariants as fault
+use Rattle.network_reasons.specs.declared.reason.Keyword.{Keyword}
+use Rattle.network_reasons.specs.declared.reason.Keyword.TheVariants.{Channels, Inject, Eject, Join}
+use Rattle.network_reasons.specs.declared.reason.Keyword.TheVariants.{Next, Reply}
+use Rattle.network_reasons.specs.declared.reason.NetworkReason.{NetworkReason}
+use Rattle.network_reasons.specs.declared.reason.NetworkReason.TheVariants as reason
+
+-- the fault that has a reason
+abbrev pub fault_of : NetworkReason → Fault
+fault_of reason.UnknownKeyword = fault.Line
+fault_of (reason.NumberCount keyword) = fault.Line
+fault_of (reason.NotNumber place) = fault.Line
+fault_of reason.ChannelsFirst = fault.Setting
+fault_of reason.ChannelsMissing = fault.Setting
+fault_of (reason.ChannelsTwice line) = fault.Setting
+fault_of reason.ChannelsLimits = fault.Range
+fault_of (reason.ChannelLimits place count) = fault.Range
+fault_of (reason.KindTwice line) = fault.Setting
+fault_of (reason.EjectionLate line) = fault.Setting
+fault_of reason.EjectionsLimits = fault.Length
+fault_of reason.JoinsLimits = fault.Length
+fault_of (reason.NotEjection place) = fault.Range
+fault_of (reason.NotInjection place) = fault.Range
+fault_of (reason.ChoiceTwice line) = fault.Setting
+fault_of (reason.ReplyTwice line) = fault.Setting
+fault_of reason.Memory = fault.Memory
+
+-- the keyword that a word spells
+abbrev pub keyword_of : List ℕ → Option Keyword
+keyword_of word =
+    if bytes_eq word (codes "channels") then Some Channels
+    else (if bytes_eq word (codes "inject") then Some Inject
+    else (if bytes_eq word (codes "eject") then Some Eject
+    else (if bytes_eq word (codes "join") then Some Join
+    else (if bytes_eq word (codes "next") then Some Next
+    else (if bytes_eq word (codes "reply") then Some Reply
+    else None)))))
+
+-- how many numbers stand behind a keyword
+abbrev pub takes : Keyword → ℕ
+takes Channels = 1
+takes Inject = 1
+takes Eject = 1
+takes Join = 2
+takes Next = 3
+takes Reply = 2

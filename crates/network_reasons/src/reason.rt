@@ -1,0 +1,122 @@
+ghost use Rattle.std.specs.Prelude.{◌≡◌};
+ghost use Rattle.network_reasons.specs.Reasons.{fault_of, keyword_of, takes};
+
+use torus::Fault;
+
+/// What a line of a network text begins with.
+#[derive(Clone, Copy)]
+pub enum Keyword {
+    Channels,
+    Inject,
+    Eject,
+    Join,
+    Next,
+    Reply,
+}
+
+/// Why a line of a network text has its fault. A word of the line is told by its place, from 0.
+#[derive(Clone, Copy)]
+pub enum NetworkReason {
+    /// The first word of the line is no keyword.
+    UnknownKeyword,
+    /// A keyword has too few or too many numbers behind it.
+    NumberCount(Keyword),
+    /// The word at this place is no number, where one belongs.
+    NotNumber(u32),
+    /// The line comes before the number of channels.
+    ChannelsFirst,
+    /// The text ends without the number of channels.
+    ChannelsMissing,
+    /// The number of channels is given already, at this line.
+    ChannelsTwice(u64),
+    /// The number of channels is not 1 to 16384.
+    ChannelsLimits,
+    /// The channel at this place is not below this number of channels.
+    ChannelLimits(u32, u32),
+    /// The channel was made an injection or an ejection channel already, at this line.
+    KindTwice(u64),
+    /// The ejection channel comes behind the first choice, which stands at this line.
+    EjectionLate(u64),
+    /// There are 1024 ejection channels already.
+    EjectionsLimits,
+    /// There are 1048576 pairs already.
+    JoinsLimits,
+    /// The channel at this place is no ejection channel.
+    NotEjection(u32),
+    /// The channel at this place is no injection channel.
+    NotInjection(u32),
+    /// The choice behind the channel for the ejection channel is given already, at this line.
+    ChoiceTwice(u64),
+    /// The reply is given already, at this line.
+    ReplyTwice(u64),
+    /// A request for memory was refused while the text was read.
+    Memory,
+}
+
+impl NetworkReason {
+    /// The fault that has this reason.
+    pub fn fault(self) -> Fault
+        ensures { result ≡ fault_of self }
+    {
+        match self {
+            NetworkReason::UnknownKeyword => Fault::Line,
+            NetworkReason::NumberCount(_) => Fault::Line,
+            NetworkReason::NotNumber(_) => Fault::Line,
+            NetworkReason::ChannelsFirst => Fault::Setting,
+            NetworkReason::ChannelsMissing => Fault::Setting,
+            NetworkReason::ChannelsTwice(_) => Fault::Setting,
+            NetworkReason::ChannelsLimits => Fault::Range,
+            NetworkReason::ChannelLimits(_, _) => Fault::Range,
+            NetworkReason::KindTwice(_) => Fault::Setting,
+            NetworkReason::EjectionLate(_) => Fault::Setting,
+            NetworkReason::EjectionsLimits => Fault::Length,
+            NetworkReason::JoinsLimits => Fault::Length,
+            NetworkReason::NotEjection(_) => Fault::Range,
+            NetworkReason::NotInjection(_) => Fault::Range,
+            NetworkReason::ChoiceTwice(_) => Fault::Setting,
+            NetworkReason::ReplyTwice(_) => Fault::Setting,
+            NetworkReason::Memory => Fault::Memory,
+        }
+    }
+}
+
+impl Keyword {
+    /// The keyword that a word spells.
+    pub fn of(word: &[u8]) -> Option<Keyword>
+        ensures { result ≡ keyword_of word.now }
+    {
+        if word == b"channels".as_slice() {
+            return Some(Keyword::Channels);
+        }
+        if word == b"inject".as_slice() {
+            return Some(Keyword::Inject);
+        }
+        if word == b"eject".as_slice() {
+            return Some(Keyword::Eject);
+        }
+        if word == b"join".as_slice() {
+            return Some(Keyword::Join);
+        }
+        if word == b"next".as_slice() {
+            return Some(Keyword::Next);
+        }
+        if word == b"reply".as_slice() {
+            return Some(Keyword::Reply);
+        }
+        None
+    }
+
+    /// How many numbers stand behind it.
+    pub fn takes(self) -> usize
+        ensures { result ≡ takes self }
+    {
+        match self {
+            Keyword::Channels => 1,
+            Keyword::Inject => 1,
+            Keyword::Eject => 1,
+            Keyword::Join => 2,
+            Keyword::Next => 3,
+            Keyword::Reply => 2,
+        }
+    }
+}
