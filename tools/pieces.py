@@ -191,8 +191,8 @@ def why_bad(row: Row, word: int, last: Optional[Row]) -> str:
     """What is wrong with an operation that found the word; nothing where it is right."""
     _, served, _, issued, answered, _, _, reply = row
     if reply not in ("ok", str(word)):
-        found = "the word opens with" if last is None else f"after line {last[LINE]} the word is"
-        return f"the reply is {reply}, but {found} {word}"
+        origin = "as it opens" if last is None else f"line {last[LINE]}"
+        return f"reply {reply}, but the word is {word} ({origin})"
     if served < issued:
         return f"served at {served}, but issued at {issued}"
     if answered is not None and answered < served:

@@ -7,6 +7,9 @@ use explained::{
     Named, Sentence, machine_sentence, scripts_sentence, steps_sentence, tile_sentence,
 };
 use std::alloc::Global;
+use explained::{Named, machine_sentence, scripts_sentence, steps_sentence, tile_sentence};
+use report_reasons::why_bad;
+use std::fs;
 use std::io::ErrorKind;
 
 /// Says why a text can't be read, where there is a word for it.
@@ -36,6 +39,9 @@ pub(crate) fn explain<R: Eprint + AllocGlobal>(
             }
         }
         ProgramFault::Tile => explain_tile(rt, job, texts),
+        ProgramFault::Line(_) => explain_line(rt, job),
+        ProgramFault::Tile => explain_tile(rt, job),
+        ProgramFault::Bad(_) => explain_report(rt, job),
         _ => {}
     }
 }
@@ -85,5 +91,18 @@ fn explain_tile<R: Eprint + AllocGlobal>(rt: &R, job: &Job, texts: &Texts) {
     };
     if let Ok(Some(sentence)) = tile_sentence(rt.alloc(), &texts.first, src, dst) {
         let _ = eprintln!(rt; "{sentence}");
+    }
+}
+
+/// Says which rule the first bad line of a report breaks.
+fn explain_report<R: Files + Eprint + AllocGlobal>(rt: &R, job: &Job) {
+    let Job::Check { report } = *job else {
+        return;
+    };
+    let Ok(text) = fs::read(rt, report) else {
+        return;
+    };
+    if let Ok(Some(bad)) = why_bad(rt.alloc(), &text) {
+        let _ = eprintln!(rt; "{report}:{}: {}", bad.line, bad.rule);
     }
 }

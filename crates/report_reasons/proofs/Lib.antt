@@ -1,0 +1,10 @@
+pub mod Firsts
+pub mod Tests
+pub mod Banked
+pub mod Heads
+pub mod Entries
+pub mod Answers
+pub mod Orders
+pub mod Allowed
+pub mod Going
+pub mod Reasons

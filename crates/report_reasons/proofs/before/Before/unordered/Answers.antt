@@ -1,0 +1,19 @@
+use Rattle.std.proofs.Common.{◌≡◌, ◌-◌, ◌∙◌, Some, None, ap, arith}
+use Rattle.report_reasons.specs.Kept.{seen}
+use Rattle.report_reasons.specs.Lists.{first_from}
+use Rattle.report_reasons.specs.Broken.{bank_unordered}
+use Rattle.report_reasons.proofs.Firsts.{first_from-hit, first_from-miss, first_from-start}
+use Rattle.report_reasons.proofs.before.Before.unordered.Goals as goal
+
+pub loop-bank-init : goal.loop-bank-init
+loop-bank-init c = first_from-start (bank_unordered (seen c.args.self)) c.args.self.tiles
+
+pub returns-in-Some : goal.returns-in-Some
+returns-in-Some c =
+    let hit : bank_unordered (seen c.args.self) c.loop-bank.bank ≡ Some c.in-Some.rule = cc in
+    first_from-hit (bank_unordered (seen c.args.self)) c.loop-bank.bank c.args.self.tiles _ _ (omega arith) hit c.loop-bank.invariant
+
+pub loop-bank-preserved : goal.loop-bank-preserved
+loop-bank-preserved c =
+    let miss : bank_unordered (seen c.args.self) c.loop-bank.bank ≡ None = cc in
+    first_from-miss (bank_unordered (seen c.args.self)) c.loop-bank.bank c.args.self.tiles _ (omega arith) miss c.loop-bank.invariant

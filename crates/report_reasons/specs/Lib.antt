@@ -1,0 +1,4 @@
+pub mod Lists
+pub mod Broken
+pub mod Kept
+pub mod Reason
