@@ -1,0 +1,4 @@
+pub mod Before
+pub mod Reasons
+pub mod Told
+pub mod Wrong
