@@ -243,11 +243,91 @@ static void answers_and_entries(torusmem_machine *m) {
   MUST(torusmem_answer_at(m, 0, 2).code == TORUSMEM_NONE && torusmem_entry_at(m, 1, 2).code == TORUSMEM_NONE);
 }
 
+/* What is told of two texts: the fault, its text and its line; and the sentence, where it fits, and not where a byte is
+   missing. */
+static void explains(const char *machine, const char *scripts, uint32_t fault, uint32_t in, uint64_t line,
+                     const char *sentence) {
+  const uint8_t *one = (const uint8_t *)machine, *two = (const uint8_t *)scripts;
+  size_t ones = strlen(machine), twos = strlen(scripts), length = strlen(sentence);
+  torusmem_explanation said;
+  memset(written.bytes, 0xAA, length + 8);
+  said = torusmem_explain(one, ones, two, twos, written.bytes, length - 1);
+  MUST(said.code == TORUSMEM_SHORT && said.fault == fault && said.text == in && said.line == line);
+  MUST(said.length == length && written.bytes[0] == 0xAA && live == 0);
+  said = torusmem_explain(one, ones, two, twos, NULL, 0);
+  MUST(said.code == TORUSMEM_SHORT && said.length == length && live == 0);
+  said = torusmem_explain(one, ones, two, twos, written.bytes, length + 1);
+  MUST(said.code == TORUSMEM_OK && said.fault == fault && said.text == in && said.line == line);
+  MUST(said.length == length && memcmp(written.bytes, sentence, length) == 0 && written.bytes[length] == 0xAA);
+  MUST(live == 0);
+}
+
+static void faults_are_explained(void) {
+  static const char two_tiles[] = "radix 2\ndims 1\ndepth 4\ntags 4\nwords 8\n";
+  torusmem_explanation said;
+  explains("\nradix 9\n", "0 load 8\n", 1, TORUSMEM_MACHINE_TEXT, 2, "machine:2: radix 9: a radix is 2 to 8");
+  explains(two_tiles, "0 load 7\n0 load 8\n", 7, TORUSMEM_SCRIPTS_TEXT, 2,
+           "scripts:2: address 8: the machine has the words 0 to 7");
+  explains(two_tiles, "2 load 0\n", 8, TORUSMEM_SCRIPTS_TEXT, 1,
+           "scripts:1: processor 2: the machine has the processors 0 to 1");
+  explains("", "", 5, TORUSMEM_MACHINE_TEXT, 1, "machine:1: the text ends without radix");
+  memset(written.bytes, 0xAA, 8);
+  said = torusmem_explain(NULL, 0, NULL, 0, written.bytes, 8);
+  MUST(said.code == TORUSMEM_SHORT && said.fault == 5 && said.text == TORUSMEM_MACHINE_TEXT && said.line == 1);
+  said = torusmem_explain((const uint8_t *)two_tiles, strlen(two_tiles), NULL, 0, written.bytes, 8);
+  MUST(said.code == TORUSMEM_OK && said.fault == 0 && said.text == TORUSMEM_NO_TEXT && said.line == 0);
+  MUST(said.length == 0 && written.bytes[0] == 0xAA && live == 0);
+}
+
+static torusmem_outcome judge(const char *network, size_t room) {
+  torusmem_outcome said;
+  memset(written.bytes, 0xAA, room + 8);
+  said = torusmem_network((const uint8_t *)network, strlen(network), written.bytes, room);
+  MUST(written.bytes[room] == 0xAA && live == 0);
+  return said;
+}
+
+/* A verdict with one of two texts of one length; a byte less is too short. */
+static void judges(const char *network, uint32_t code, const char *one, const char *other) {
+  size_t length = strlen(one);
+  MUST(says(judge(network, length - 1), TORUSMEM_SHORT, length) && written.bytes[0] == 0xAA);
+  MUST(says(judge(network, 0), TORUSMEM_SHORT, length) && says(judge(network, length), code, length));
+  MUST(memcmp(written.bytes, one, length) == 0 || memcmp(written.bytes, other, length) == 0);
+}
+
+/* A line of three channels; pairs without a route, for two reasons; a ring of two hops, of which each waits for the
+   other one; and a request that waits for the reply that comes behind it. */
+static void networks_are_judged(void) {
+  static const char line[] = "channels 3\ninject 0\neject 2\njoin 0 2\nnext 0 2 1\nnext 1 2 2\n";
+  static const char *pair = "channels 2\ninject 0\neject 1\njoin 0 1\n";
+  char rising[8] = "";
+  unsigned numbers[3] = { 0, 0, 0 };
+  torusmem_outcome said = judge(line, 100);
+  MUST(said.code == TORUSMEM_OK && said.value < 100 && written.bytes[said.value] == 0xAA);
+  written.bytes[said.value] = 0;
+  MUST(sscanf((const char *)written.bytes, "number 0 %u\nnumber 1 %u\nnumber 2 %u\n%7s", &numbers[0], &numbers[1],
+              &numbers[2], rising) == 4);
+  MUST(numbers[0] < numbers[1] && numbers[1] < numbers[2] && strcmp(rising, "rising") == 0);
+  judges(pair, TORUSMEM_NO_ROUTE, "no route 0 1: no channel at step 1\n", "");
+  judges("channels 2\ninject 0\neject 1\njoin 0 0\n", TORUSMEM_NO_ROUTE,
+         "no route 0 0: the second is no ejection channel\n", "");
+  judges("channels 6\ninject 0\ninject 1\neject 4\neject 5\njoin 0 5\njoin 1 4\nnext 0 5 2\nnext 2 5 3\n"
+         "next 3 5 5\nnext 1 4 3\nnext 3 4 2\nnext 2 4 4\n",
+         TORUSMEM_CYCLE, "cycle\n2 to 5\n3 to 4\n", "cycle\n3 to 4\n2 to 5\n");
+  judges("channels 2\ninject 0\neject 1\njoin 0 1\nnext 0 1 1\nreply 1 0\n", TORUSMEM_CYCLE,
+         "cycle\n0 to 1\n1 replies 0\n", "cycle\n1 replies 0\n0 to 1\n");
+  MUST(says(judge("channels 2\ninject 0\n\ninject 2\n", 100), 6, 4) && written.bytes[0] == 0xAA);
+  MUST(says(judge("lanes 2\n", 100), 4, 1) && says(judge("inject 0\n", 0), 5, 1) && says(judge("", 0), 5, 1));
+  MUST(says(torusmem_network(NULL, 0, NULL, 0), 5, 1));
+}
+
 static void codes(void) {
   torusmem_machine m = TORUSMEM_MACHINE_INIT, moved = TORUSMEM_MACHINE_INIT, other = TORUSMEM_MACHINE_INIT;
   every_call_says_empty(&m);
   faults_keep_nothing(&m);
   texts_that_meet(&other);
+  faults_are_explained();
+  networks_are_judged();
   MUST(says(load(&m), TORUSMEM_OK, 0) && m.full);
   what_is_not_there(&m);
   MUST(says(torusmem_step(&m, 0, TORUSMEM_SEND, 99), TORUSMEM_OK, 1));
@@ -271,12 +351,28 @@ static void codes(void) {
   MUST(live == 0);
 }
 
+/* An explanation and a verdict, for which memory may be refused. */
+static void explain_with_little_memory(void) {
+  static const char pair[] = "channels 2\ninject 0\neject 1\njoin 0 1\n";
+  torusmem_explanation said = torusmem_explain(machine_text.bytes, machine_text.length, (const uint8_t *)"0 x\n", 4,
+                                               written.bytes, MOST_BYTES);
+  torusmem_outcome judged = torusmem_network((const uint8_t *)pair, strlen(pair), written.bytes, MOST_BYTES);
+  bool was_read = said.fault == 4 && said.text == TORUSMEM_SCRIPTS_TEXT && said.line == 1;
+  bool was_refused = said.fault == TORUSMEM_FAULT_MEMORY && said.text == TORUSMEM_NO_TEXT && said.line == 0;
+  MUST(was_read || (refused != 0 && was_refused));
+  MUST(said.code == TORUSMEM_OK || (refused != 0 && said.code == TORUSMEM_FAULT_MEMORY && said.length == 0));
+  MUST(says(judged, TORUSMEM_NO_ROUTE, 35) || (refused != 0 && says(judged, TORUSMEM_FAULT_MEMORY, 0)));
+}
+
 /* A run in which a request for memory may be refused: each call works or says so, and what is asked again once there
    is memory is as it has to be. */
 static void run_with_little_memory(void) {
   torusmem_machine m = TORUSMEM_MACHINE_INIT;
   torusmem_channel route[14];
-  torusmem_outcome said = load(&m);
+  torusmem_outcome said;
+  explain_with_little_memory();
+  MUST(live == 0);
+  said = load(&m);
   if (said.code != TORUSMEM_OK) {
     MUST(says(said, TORUSMEM_FAULT_MEMORY, 0) && is_new(&m) && live == 0);
     return;

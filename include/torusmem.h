@@ -4,8 +4,8 @@
    freed. Each call is a function with a contract, and proved (docs/PROVED.md, "torusmem_c: the library for C").
    Nothing here prints, ends the process or starts a thread, and each call ends.
 
-   MEMORY. torusmem_load takes what the machine needs, and torusmem_free gives it back; torusmem_report and
-   torusmem_check take some, and give all of it back before they return. No other call takes any.
+   MEMORY. torusmem_load takes what the machine needs, and torusmem_free gives it back; torusmem_report, torusmem_check,
+   torusmem_explain and torusmem_network take some, and give all of it back before they return. No other call takes any.
 
    Link libtorusmem_c.a and torusmem_heap.c; or what `make install` makes of them, libtorusmem.so or libtorusmem.a, as
    `pkg-config --cflags --libs torusmem` says. In both of these are the three functions of torusmem_heap.c; those that a
@@ -58,7 +58,9 @@ enum {
   TORUSMEM_EMPTY = 16,      /* no machine is held: none was loaded, or it was freed */
   TORUSMEM_FULL = 17,       /* a machine is held already: free it first */
   TORUSMEM_NONE = 18,       /* there is no such tile, address, place or index */
-  TORUSMEM_SHORT = 19       /* the buffer is too short; value: how long it has to be */
+  TORUSMEM_SHORT = 19,      /* the buffer is too short; value: how long it has to be */
+  TORUSMEM_NO_ROUTE = 20,   /* a pair of a network has no route; value: the length of the verdict's text */
+  TORUSMEM_CYCLE = 21       /* a network can lock up: there is a cycle; value: the length of the verdict's text */
 };
 
 /* Choices of agents. Tile t has the agents 3t, its processor; 3t + 1, its router; and 3t + 2, its bank. */
@@ -99,6 +101,27 @@ enum { TORUSMEM_REQUEST = 0, TORUSMEM_REPLY = 1 };
    On anything but OK, *m is as it was and no memory is kept. The texts may go after the call. */
 torusmem_outcome torusmem_load(torusmem_machine *m, const uint8_t *machine, size_t machine_length,
                                const uint8_t *scripts, size_t scripts_length);
+
+/* Texts of a load. */
+enum { TORUSMEM_NO_TEXT = 0, TORUSMEM_MACHINE_TEXT = 1, TORUSMEM_SCRIPTS_TEXT = 2 };
+
+/* Why a load is refused. */
+typedef struct torusmem_explanation {
+  uint32_t code;   /* of the sentence: OK, SHORT or FAULT_MEMORY */
+  uint32_t fault;  /* 1 to 14, as torusmem_load answers it; 0: neither text has a fault, and the rest is 0 */
+  uint32_t text;   /* which one it is in; TORUSMEM_NO_TEXT where memory was refused */
+  uint64_t line;   /* of that text, from 1; 0 where memory was refused */
+  uint64_t length; /* of the sentence; 0 where there is none */
+} torusmem_explanation;
+
+/* Tells the first fault of a machine text and a scripts text, which is the one that torusmem_load answers, and puts a
+   sentence on it into a buffer, as "scripts:12: address 300: the machine has the words 0 to 255". It is ASCII without
+   an end of line, begins with `machine` or `scripts`, and quotes words of the line. Needs no machine, and reads the
+   texts once more, so that memory may be refused now and not before, or before and not now.
+   OK: the sentence is the first `length` bytes of out, and the bytes behind them are as they were.
+   SHORT: `length` is what it needs, and out is as it was; so is it on FAULT_MEMORY. */
+torusmem_explanation torusmem_explain(const uint8_t *machine, size_t machine_length, const uint8_t *scripts,
+                                      size_t scripts_length, uint8_t *out, size_t out_length);
 
 /* Frees what *m holds, if anything. It may be loaded again then. */
 void torusmem_free(torusmem_machine *m);
@@ -213,7 +236,19 @@ torusmem_outcome torusmem_route(torusmem_machine *m, uint32_t src, uint32_t dst,
    ports"). OK, value: the number of the router's output; NONE: no such tile or input; EMPTY. */
 torusmem_outcome torusmem_next(torusmem_machine *m, uint32_t at, uint32_t input, uint32_t dst);
 
-/* The library's own calls take no null pointer. So a C program that calls one of the six below has a call in front of
+/* Judges the network of a network text, whatever its routers and channels are (docs/FORMATS.md, "Network text"):
+   whether each pair that it joins has a route, and numbers of its channels can rise along every route and every reply,
+   so that it never locks up. Needs no machine. The verdict's text, which the program prints, is put into a buffer.
+   OK: the numbers rise; a line for each channel with its number, then `rising`.
+   NO_ROUTE: the line of the first pair without a route, with the step and the reason.
+   CYCLE: the line `cycle`, then a line for each channel of a cycle, with the packets that go on to the next one.
+   Of these three, value is the length of the text: it is the first `value` bytes of out, and those behind them are as
+   they were.
+   SHORT: value is that length, and out is as it was; so is it on a fault of the text, where value is its line, and on
+   FAULT_MEMORY. A verdict takes time; where a buffer was short, it is made again. */
+torusmem_outcome torusmem_network(const uint8_t *network, size_t network_length, uint8_t *out, size_t out_length);
+
+/* The library's own calls take no null pointer. So a C program that calls one of the eight below has a call in front of
    it, by which a pointer with the length 0 becomes one to an item that is not looked at. */
 static inline const uint8_t *torusmem_text_at(const uint8_t *at, size_t length) {
   static const uint8_t none = 0;
@@ -226,6 +261,16 @@ static inline torusmem_outcome torusmem_load_texts(torusmem_machine *m, const ui
                        torusmem_text_at(scripts, scripts_length), scripts_length);
 }
 #define torusmem_load torusmem_load_texts
+
+static inline torusmem_explanation torusmem_explain_texts(const uint8_t *machine, size_t machine_length,
+                                                          const uint8_t *scripts, size_t scripts_length, uint8_t *out,
+                                                          size_t out_length) {
+  uint8_t none = 0;
+  return torusmem_explain(torusmem_text_at(machine, machine_length), machine_length,
+                          torusmem_text_at(scripts, scripts_length), scripts_length, out_length > 0 ? out : &none,
+                          out_length);
+}
+#define torusmem_explain torusmem_explain_texts
 
 static inline torusmem_outcome torusmem_run_all(torusmem_machine *m, const torusmem_attempt *attempts,
                                                 size_t attempts_length) {
@@ -250,6 +295,14 @@ static inline torusmem_outcome torusmem_check_text(const uint8_t *report, size_t
   return torusmem_check(torusmem_text_at(report, report_length), report_length);
 }
 #define torusmem_check torusmem_check_text
+
+static inline torusmem_outcome torusmem_network_text(const uint8_t *network, size_t network_length, uint8_t *out,
+                                                     size_t out_length) {
+  uint8_t none = 0;
+  return torusmem_network(torusmem_text_at(network, network_length), network_length, out_length > 0 ? out : &none,
+                          out_length);
+}
+#define torusmem_network torusmem_network_text
 
 static inline torusmem_outcome torusmem_route_into(torusmem_machine *m, uint32_t src, uint32_t dst, uint32_t reply,
                                                    torusmem_channel *out, size_t out_length) {

@@ -293,6 +293,22 @@ static void next(kept *it) {
   else MUST(says(said, TORUSMEM_NONE, 0) || (said.code == TORUSMEM_OK && said.value < 26));
 }
 
+/* What is told of two texts is what a load answered; the sentence names the text that has the fault. */
+static void explain(const text *machine, const text *script, torusmem_outcome load) {
+  enum { MOST = 400 };
+  uint8_t out[MOST + BEHIND];
+  size_t given = calls % 2 ? MOST : calls % 60, put;
+  memset(out, CANARY, sizeof out);
+  torusmem_explanation why =
+      torusmem_explain(machine->bytes, machine->length, script->bytes, script->length, out, given);
+  MUST(why.fault == load.code && why.line == load.value && why.length < MOST);
+  MUST(why.code == (why.length > given ? TORUSMEM_SHORT : TORUSMEM_OK));
+  MUST((why.text == TORUSMEM_NO_TEXT) == (why.fault == 0) && (why.length == 0) == (why.fault == 0));
+  put = why.code == TORUSMEM_OK ? (size_t)why.length : 0;
+  MUST(put == 0 || memcmp(out, why.text == TORUSMEM_MACHINE_TEXT ? "machine:" : "scripts:", 8) == 0);
+  for (size_t at = put; at < sizeof out; at++) MUST(out[at] == CANARY);
+}
+
 /* Texts that are broken: a fault at a line of theirs, which leaves nothing; or a machine, which is run to its end. */
 static void load_broken(void) {
   kept other = { room(sizeof(torusmem_machine)), false, 0 };
@@ -300,6 +316,8 @@ static void load_broken(void) {
   text one = broken(is_machine ? &machine_text : &script_text);
   memset(other.m, 0, sizeof *other.m);
   torusmem_outcome said = is_machine ? load(other.m, &one, &script_text) : load(other.m, &machine_text, &one);
+  if (is_machine) explain(&one, &script_text, said);
+  else explain(&machine_text, &one, said);
   if (said.code == TORUSMEM_OK) {
     other.held = true;
     MUST(says(said, TORUSMEM_OK, 0) && torusmem_finish(other.m).code == TORUSMEM_OK);

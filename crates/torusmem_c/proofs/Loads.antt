@@ -6,7 +6,8 @@ use Rattle.machine_handle.specs.machine_core.specs.order_abstract.specs.Load.{Lo
 use Rattle.machine_handle.specs.core_machine.specs.Core.{Core}
 use Rattle.machine_texts.specs.Loading.{IsLoadFault}
 use Rattle.torusmem_c.specs.declared.outcome.Outcome.{Outcome}
-use Rattle.torusmem_c.specs.Texts.{Loads, fault_outcome}
+use Rattle.torusmem_c.specs.Outcome.{fault_outcome}
+use Rattle.torusmem_c.specs.Texts.{Loads}
 
 -- nothing is held before and after, and the fault is told
 pub nothing_kept : (asked : Result Load LineFault) (old new : Option Core) (r : Outcome) (f : LineFault)

@@ -8,3 +8,5 @@ pub mod Routes
 pub mod Shown
 pub mod Texts
 pub mod Channels
+pub mod Networks
+pub mod Explained

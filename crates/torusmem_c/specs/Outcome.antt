@@ -2,6 +2,7 @@
 use Rattle.std.specs.Prelude.{ℕ, Bool, true, false, Option, Some, None}
 use Rattle.torus.specs.declared.fault.Fault.{Fault}
 use Rattle.torus.specs.declared.fault.Fault.TheVariants as fault
+use Rattle.script.specs.declared.fault.LineFault.{LineFault}
 use Rattle.torusmem_c.specs.declared.outcome.Code.{Code}
 use Rattle.torusmem_c.specs.declared.outcome.Code.TheVariants as code
 use Rattle.torusmem_c.specs.declared.outcome.Outcome.{Outcome}
@@ -32,6 +33,8 @@ number_of code.Empty = 16
 number_of code.Full = 17
 number_of code.NoSuch = 18
 number_of code.Short = 19
+number_of code.NoRoute = 20
+number_of code.Cycle = 21
 
 -- a code, and the number that goes with it
 abbrev pub outcome : Code → ℕ → Outcome
@@ -46,3 +49,11 @@ flag false = 0
 abbrev pub counted : {A : Type 0} → Option A → (A → ℕ) → Outcome
 counted None count = outcome code.NoSuch 0
 counted (Some x) count = outcome code.Done (count x)
+
+-- memory was refused
+abbrev pub no_memory : Outcome
+no_memory = outcome (code.Fault fault.Memory) 0
+
+-- a fault of a text with its line; want of memory is at line 0
+abbrev pub fault_outcome : LineFault → Outcome
+fault_outcome found = outcome (code.Fault found.fault) found.line

@@ -1,6 +1,5 @@
 -- Loads, reports and their check, as C sees them (this project's own format).
 use Rattle.std.specs.Prelude.{◌≡◌, ◌⊎◌, ℕ, List, Result, Option, Some, None}
-use Rattle.torus.specs.declared.fault.Fault.TheVariants as fault
 use Rattle.script.specs.declared.fault.LineFault.{LineFault}
 use Rattle.machine_handle.specs.machine_core.specs.order_abstract.specs.Load.{Load}
 use Rattle.machine_handle.specs.core_machine.specs.Core.{Core}
@@ -12,16 +11,8 @@ use Rattle.machine_report.specs.Report.{machine_report}
 use Rattle.machine_texts.specs.Loading.{HasLoaded, IsLoadFault}
 use Rattle.torusmem_c.specs.declared.outcome.Outcome.{Outcome}
 use Rattle.torusmem_c.specs.declared.outcome.Code.TheVariants as code
-use Rattle.torusmem_c.specs.Outcome.{outcome}
-use Rattle.torusmem_c.specs.Room.{put_over, put_outcome}
-
--- memory was refused
-abbrev pub no_memory : Outcome
-no_memory = outcome (code.Fault fault.Memory) 0
-
--- a fault of a text with its line; want of memory is at line 0
-abbrev pub fault_outcome : LineFault → Outcome
-fault_outcome found = outcome (code.Fault found.fault) found.line
+use Rattle.torusmem_c.specs.Outcome.{fault_outcome, no_memory, outcome}
+use Rattle.torusmem_c.specs.Room.{LacksMemory, put_over, put_outcome}
 
 -- the first bad line of a report, or that memory was refused
 abbrev pub check_outcome : CheckFault → Outcome
@@ -44,11 +35,6 @@ pub record PutsText (c : Core) (before after : List ℕ) (r : Outcome) : Type 0 
   pub good : GoodReport (text_of (machine_report c))
   pub buffer : after ≡ put_over (text_of (machine_report c)) before
   pub answer : r ≡ put_outcome (text_of (machine_report c)) before
-
--- a buffer stays as it was, since memory was refused
-pub record LacksMemory (before after : List ℕ) (r : Outcome) : Type 0 where
-  pub buffer : after ≡ before
-  pub answer : r ≡ no_memory
 
 -- a machine's report is put into a buffer, or memory was refused; and nothing of the machine
 -- changes

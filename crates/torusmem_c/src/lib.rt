@@ -2,6 +2,8 @@
 #![tactic(auto)]
 
 mod choice;
+pub mod explaining;
+pub mod networks;
 pub mod outcome;
 mod ports;
 pub mod reading;

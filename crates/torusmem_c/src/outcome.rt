@@ -2,7 +2,9 @@
 
 ghost use Rattle.std.specs.Prelude.{◌≡◌, ◌≤◌};
 ghost use Rattle.torusmem_c.specs.Outcome.{fault_number, number_of, outcome, flag};
+ghost use Rattle.torusmem_c.specs.Outcome.{fault_outcome, no_memory};
 
+use script::LineFault;
 use torus::Fault;
 
 /// How a call went.
@@ -22,13 +24,17 @@ pub enum Code {
     NoSuch,
     /// The buffer is too short.
     Short,
+    /// A pair of a network has no route.
+    NoRoute,
+    /// A network's channels wait for one another in a circle.
+    Cycle,
 }
 
 impl Code {
     /// The number by which C knows it.
     pub fn number(self) -> u32
         ensures value { result ≡ number_of self }
-        ensures small { result ≤ 19 }
+        ensures small { result ≤ 21 }
     {
         match self {
             Code::Done => 0,
@@ -38,12 +44,14 @@ impl Code {
             Code::Full => 17,
             Code::NoSuch => 18,
             Code::Short => 19,
+            Code::NoRoute => 20,
+            Code::Cycle => 21,
         }
     }
 }
 
 /// The number of a fault's code: 1 for `F1`, up to 14 for `F14`.
-fn fault_number(fault: Fault) -> u32
+pub(crate) fn fault_number(fault: Fault) -> u32
     ensures value { result ≡ fault_number fault }
     ensures small { result ≤ 14 }
 {
@@ -111,4 +119,18 @@ impl Outcome {
     {
         Outcome::of(Code::NoSuch, 0)
     }
+}
+
+/// Memory was refused.
+pub(crate) fn no_memory() -> Outcome
+    ensures { result ≡ no_memory }
+{
+    Outcome::of(Code::Fault(Fault::Memory), 0)
+}
+
+/// What C sees of a fault of a text.
+pub(crate) fn fault_outcome(found: LineFault) -> Outcome
+    ensures { result ≡ fault_outcome found }
+{
+    Outcome::of(Code::Fault(found.fault), found.line)
 }

@@ -8,18 +8,17 @@ ghost use Rattle.machine_texts.specs.Loading.{load_by};
 ghost use Rattle.report_check.specs.Good.{GoodReport};
 ghost use Rattle.report_lines.specs.Line.{text_of};
 ghost use Rattle.torusmem_c.specs.Held.{OnHeld};
-ghost use Rattle.torusmem_c.specs.Texts.{IsAccepted, IsVerdict, LacksMemory, Loads, PutsReport, PutsText};
-ghost use Rattle.torusmem_c.specs.Texts.{check_outcome, fault_outcome, no_memory};
+ghost use Rattle.torusmem_c.specs.Room.{LacksMemory};
+ghost use Rattle.torusmem_c.specs.Texts.{IsAccepted, IsVerdict, Loads, PutsReport, PutsText};
+ghost use Rattle.torusmem_c.specs.Texts.{check_outcome};
 
-use crate::outcome::{Code, Outcome};
+use crate::outcome::{Code, Outcome, fault_outcome, no_memory};
 use crate::room::put_over;
 use machine_handle::Handle;
 use machine_report::{Machine, Out, check_report, of_run, write_report};
 use machine_texts::load;
 use report_check::CheckFault;
-use script::LineFault;
 use std::alloc::{AllocError, Global};
-use torus::Fault;
 
 /// A text that grows as it is written; its failed puts are those for which memory was refused.
 #[derive(Drop)]
@@ -45,20 +44,6 @@ impl Out for Text {
         }
         bytes.len()
     }
-}
-
-/// Memory was refused.
-fn no_memory() -> Outcome
-    ensures { result ≡ no_memory }
-{
-    Outcome::of(Code::Fault(Fault::Memory), 0)
-}
-
-/// What C sees of a fault of a text.
-fn fault_outcome(found: LineFault) -> Outcome
-    ensures { result ≡ fault_outcome found }
-{
-    Outcome::of(Code::Fault(found.fault), found.line)
 }
 
 /// What C sees of a fault of a report.

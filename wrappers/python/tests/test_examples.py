@@ -13,7 +13,8 @@ import unittest
 import warnings
 
 import torusmem
-from torusmem import Answer, BadReport, Channel, Choice, Closed, Entry, Kind, Machine, Operation, TextFault, WrongThread
+from torusmem import Answer, BadReport, Channel, Choice, Closed, Cycle, Entry, Kind, Link, Machine, NoRoute, Operation
+from torusmem import Rising, TextFault, WrongThread, network
 
 ROOT = os.path.dirname(os.path.dirname(os.path.dirname(os.path.dirname(os.path.realpath(__file__)))))
 EXAMPLES = os.path.join(ROOT, "examples")
@@ -211,8 +212,24 @@ class Refusals(unittest.TestCase):
             Machine.read(path("machine.txt"), path("machine.txt"))
         found = caught.exception
         self.assertEqual((found.file, found.line, found.fault), (path("machine.txt"), 1, 4))
-        self.assertEqual(found.reason, "a line is not understood")
+        self.assertEqual((found.text, found.reason), ("scripts", "radix: a number belongs there"))
+        self.assertEqual(found.sentence, f"{found.file}:1: radix: a number belongs there")
         self.assertRaises(FileNotFoundError, Machine.read, path("machine.txt"), path("none.txt"))
+
+    def test_faults_are_explained(self):
+        rows = [
+            ("\nradix 9\n", "0 load 8\n", "machine", "machine text:2: radix 9: a radix is 2 to 8"),
+            ("", "", "machine", "machine text:1: the text ends without radix"),
+            (SMALL, "0 load 8\n", "scripts", "scripts text:1: address 8: the machine has the words 0 to 7"),
+            (SMALL, "\n9 load 1\n", "scripts", "scripts text:2: processor 9: the machine has the processors 0 to 1"),
+        ]
+        for machine, scripts, text, sentence in rows:
+            with self.assertRaises(TextFault) as caught:
+                Machine(machine, scripts)
+            found = pickle.loads(pickle.dumps(caught.exception))
+            self.assertEqual((found.text, found.sentence), (text, sentence))
+            self.assertEqual(found.sentence, f"{found.file}:{found.line}: {found.reason}")
+            self.assertIn(found.reason, str(found))
 
     def test_reasons_are_those_of_the_formats(self):
         with open(os.path.join(ROOT, "docs/FORMATS.md"), encoding="utf-8") as file:
@@ -249,6 +266,58 @@ class Refusals(unittest.TestCase):
         machine = first()
         for copied in (copy.copy, copy.deepcopy, pickle.dumps):
             self.assertRaises(TypeError, copied, machine)
+
+
+class Networks(unittest.TestCase):
+    PAIR = "channels 4\ninject 0\neject 1\neject 2\ninject 3\n"
+    LINE = "channels 2\ninject 0\neject 1\njoin 0 1\nnext 0 1 1\n"
+    RING = (
+        "channels 6\ninject 0\ninject 1\neject 4\neject 5\njoin 0 5\njoin 1 4\nnext 0 5 2\nnext 2 5 3\nnext 3 5 5\n"
+        "next 1 4 3\nnext 3 4 2\nnext 2 4 4\n"
+    )
+
+    def test_pairs_without_a_route(self):
+        rows = [
+            ("join 1 2\n", NoRoute(1, 2, "the first is no injection channel", None)),
+            ("join 0 1\nnext 0 1 1\njoin 0 0\n", NoRoute(0, 0, "the second is no ejection channel", None)),
+            ("join 0 2\n", NoRoute(0, 2, "no channel", 1)),
+            ("join 3 2\nnext 3 2 1\n", NoRoute(3, 2, "another ejection channel", 1)),
+            ("join 3 2\nnext 3 2 0\nnext 0 2 2\n", NoRoute(3, 2, "an injection channel", 1)),
+        ]
+        for lines, wanted in rows:
+            self.assertEqual(network(self.PAIR + lines), wanted)
+            self.assertIsInstance(network(self.PAIR + lines), NoRoute)
+        text = "channels 4\ninject 0\neject 3\njoin 0 3\nnext 0 3 1\nnext 1 3 2\nnext 2 3 1\n"
+        self.assertEqual(network(text), NoRoute(0, 3, "round for ever", None))
+
+    def test_cycles(self):
+        there, back = Link(2, 5, None), Link(3, 4, None)
+        self.assertIn(network(self.RING), [Cycle((there, back)), Cycle((back, there))])
+        asked, answered = Link(0, 1, None), Link(1, None, 0)
+        found = network(self.LINE + "reply 1 0\n")
+        self.assertIn(found, [Cycle((asked, answered)), Cycle((answered, asked))])
+        self.assertIsInstance(found, Cycle)
+
+    def test_numbers_that_rise(self):
+        found = network(self.LINE.encode())
+        self.assertIsInstance(found, Rising)
+        self.assertEqual(len(found.numbers), 2)
+        self.assertLess(*found.numbers)
+        # A chain whose verdict doesn't fit at once.
+        last = 16383
+        hops = "".join(f"next {at} {last} {at + 1}\n" for at in range(last))
+        found = network(f"channels {last + 1}\ninject 0\neject {last}\njoin 0 {last}\n{hops}")
+        self.assertEqual(len(found.numbers), last + 1)
+        self.assertTrue(all(one < other for one, other in zip(found.numbers, found.numbers[1:])))
+
+    def test_faults(self):
+        for text, line, fault in (("", 1, 5), ("lanes 2\n", 1, 4), ("channels 2\n\ninject 2\n", 3, 6)):
+            with self.assertRaises(TextFault) as caught:
+                network(text, "some.net")
+            found = caught.exception
+            self.assertEqual((found.text, found.file, found.line, found.fault), ("network", "some.net", line, fault))
+            self.assertEqual(found.reason, torusmem.NETWORK_REASONS[fault])
+        self.assertRaises(TypeError, network, None)
 
 
 class Threads(unittest.TestCase):
@@ -316,7 +385,7 @@ class Words(unittest.TestCase):
     def test_everything_public_says_what_it_is(self):
         for name in torusmem.__all__:
             it = getattr(torusmem, name)
-            self.assertTrue(name == "REASONS" or it.__doc__, name)
+            self.assertTrue(name in ("NETWORK_REASONS", "REASONS", "Verdict") or it.__doc__, name)
         for name, it in vars(Machine).items():
             self.assertTrue(name.startswith("_") or (getattr(it, "__func__", it).__doc__), name)
 
@@ -328,7 +397,8 @@ class Words(unittest.TestCase):
             for it in names:
                 self.assertEqual(numbers.pop(it.name), it, it.name)
         library = torusmem._library
-        names = "OK FAULT_MEMORY BAD_REPORT EMPTY FULL NONE SHORT".split()
+        names = "OK FAULT_MEMORY BAD_REPORT EMPTY FULL NONE SHORT NO_ROUTE CYCLE".split()
+        names += ["NO_TEXT", "MACHINE_TEXT", "SCRIPTS_TEXT"]
         codes = {name: getattr(library, name) for name in names}
         self.assertEqual(numbers, {**codes, "REQUEST": 0, "REPLY": 1})
         calls = set(re.findall(r"(?m)^(?:void|torusmem_\w+) torusmem_(\w+)\(", header))

@@ -16,6 +16,8 @@ Texts, agents, choices, channels and reports are those of docs/FORMATS.md. Tile 
 3t + 1 (its router) and 3t + 2 (its bank). What refuses a text or a report is an exception with the file, the line and
 the reason: TextFault, BadReport.
 
+network() judges any network that is written down: whether its packets arrive, and whether it can lock up.
+
 The library beneath is proved; this package, which only passes numbers and texts on, is tested.
 """
 
@@ -39,17 +41,24 @@ __all__ = [
     "Channel",
     "Choice",
     "Closed",
+    "Cycle",
     "Entry",
     "Kind",
     "LibraryNotFound",
     "Line",
+    "Link",
     "Machine",
+    "NETWORK_REASONS",
+    "NoRoute",
     "Operation",
     "REASONS",
+    "Rising",
     "Steps",
     "TextFault",
+    "Verdict",
     "WrongThread",
     "check",
+    "network",
 ]
 
 Text = Union[str, bytes]
@@ -74,23 +83,35 @@ REASONS = {
     14: "a dateline is not below its radix",
 }
 
+# What they say of a network text.
+NETWORK_REASONS = {
+    4: "a line is not understood",
+    5: "the number of channels is missing, or something is given twice or too late",
+    6: "a number is out of its range, or its channel not of the kind that belongs there",
+    9: "more than 1024 ejection channels, or more than 1048576 pairs",
+}
+
 
 class TextFault(ValueError):
     """A text was refused: its first fault.
 
-    file: the file that it was read from, or `machine text` or `scripts text`
+    text: `machine`, `scripts` or `network`
+    file: the file that it was read from, or `machine text` and so on
     line: the line of the fault, from 1
     fault: its number, 1 for F1 and so on
-    reason: what the fault says (REASONS)
+    reason: why, as `address 300: the machine has the words 0 to 255`; of a network text, or where memory was refused
+        for that, what the fault says in general (NETWORK_REASONS, REASONS)
+    sentence: file, line and reason, as `script.txt:12: address 300: the machine has the words 0 to 255`
     """
 
-    def __init__(self, file: str, line: int, fault: int) -> None:
-        self.file, self.line, self.fault = file, line, fault
-        self.reason = REASONS.get(fault, "a fault that this version doesn't know")
+    def __init__(self, file: str, line: int, fault: int, text: str = "", reason: str = "") -> None:
+        self.file, self.line, self.fault, self.text = file, line, fault, text
+        self.reason = reason or REASONS.get(fault, "a fault that this version doesn't know")
+        self.sentence = f"{file}:{line}: {self.reason}"
         super().__init__(f"{file}, line {line}: F{fault}: {self.reason}")
 
     def __reduce__(self) -> Any:
-        return TextFault, (self.file, self.line, self.fault)
+        return TextFault, (self.file, self.line, self.fault, self.text, self.reason)
 
 
 class BadReport(ValueError):
@@ -250,6 +271,22 @@ def _bytes(text: Text, what: str) -> bytes:
     raise TypeError(f"{what} must be str or bytes, not {type(text).__name__}")
 
 
+def _fault(calls: Any, machine: bytes, scripts: bytes, files: Tuple[str, str]) -> Exception:
+    """Why the texts are refused, which are read once more."""
+    out = create_string_buffer(256)
+    said = calls.explain(machine, len(machine), scripts, len(scripts), out, len(out))
+    if said.code == _library.SHORT:
+        out = create_string_buffer(said.length)
+        said = calls.explain(machine, len(machine), scripts, len(scripts), out, len(out))
+    if said.text == _library.NO_TEXT:
+        return MemoryError(f"torusmem: {REASONS[12]} (F12)")
+    text = "machine" if said.text == _library.MACHINE_TEXT else "scripts"
+    reason = ""
+    if said.code == _library.OK:
+        reason = out.raw[: said.length].decode("ascii").partition(": ")[2]
+    return TextFault(files[said.text - 1], said.line, said.fault, text, reason)
+
+
 def _number(number: int, what: str) -> int:
     """A number that the library can be given: ctypes would cut off what is above 32 bits."""
     found = _whole(number)
@@ -298,12 +335,7 @@ class Machine:
             return
         if said.code == _library.FAULT_MEMORY:
             raise MemoryError(f"torusmem: {REASONS[12]} (F12)")
-        # The code doesn't tell which text it is. The machine text comes first, so it is its fault where it stays with
-        # scripts that have none.
-        alone = self._calls.load(self._at, machine, len(machine), b"", 0)
-        self._calls.free(self._at)
-        is_machine = (alone.code, alone.value) == (said.code, said.value)
-        raise TextFault(files[0 if is_machine else 1], said.value, said.code)
+        raise _fault(self._calls, machine, scripts, files)
 
     # What every call begins with, and what it makes of the code.
 
@@ -502,3 +534,74 @@ def check(report: Text, file: str = "report") -> None:
         raise BadReport(file, said.value)
     if said.code != _library.OK:
         raise MemoryError(f"torusmem: {REASONS[12]} (F12)")
+
+
+class Rising(NamedTuple):
+    """A network that never locks up: each pair has a route, and the numbers, by channel, rise along all of them."""
+
+    numbers: Tuple[int, ...]
+
+
+class NoRoute(NamedTuple):
+    """The first pair of a network, from channel src to channel dst, whose walk is no route: the reason, and the step at
+    which it shows, from 0, if it shows at one."""
+
+    src: int
+    dst: int
+    reason: str
+    step: Optional[int]
+
+
+class Link(NamedTuple):
+    """A channel of a cycle, which waits for the next one: by packets to the ejection channel `to`, or, where that is
+    None, by replies on the injection channel `replies`."""
+
+    channel: int
+    to: Optional[int]
+    replies: Optional[int]
+
+
+class Cycle(NamedTuple):
+    """A network that can lock up: the channels that can wait for one another in a circle, in their order."""
+
+    links: Tuple[Link, ...]
+
+
+Verdict = Union[Rising, NoRoute, Cycle]
+
+
+def network(text: Text, file: str = "network text") -> Verdict:
+    """Judges the network of a network text (docs/FORMATS.md, "Network text"): whether each pair that it joins has a
+    route, and whether its channels can wait for one another in a circle. TextFault tells the first fault of the text;
+    file is how it names the text.
+
+        >>> from torusmem import network
+        >>> network("channels 3\\ninject 0\\neject 2\\njoin 0 2\\nnext 0 2 1\\nnext 1 2 2\\n")
+        Rising(numbers=(0, 1, 2))
+        >>> network("channels 2\\ninject 0\\neject 1\\njoin 0 1\\n")
+        NoRoute(src=0, dst=1, reason='no channel', step=1)
+    """
+    given, calls = _bytes(text, "network"), _library.library()
+    out = create_string_buffer(1 << 16)
+    said = calls.network(given, len(given), out, len(out))
+    if said.code == _library.SHORT:
+        out = create_string_buffer(said.value)
+        said = calls.network(given, len(given), out, len(out))
+    if said.code == _library.FAULT_MEMORY:
+        raise MemoryError(f"torusmem: {REASONS[12]} (F12)")
+    if said.code not in (_library.OK, _library.NO_ROUTE, _library.CYCLE):
+        raise TextFault(file, said.value, said.code, "network", NETWORK_REASONS.get(said.code, ""))
+    lines = out.raw[: said.value].decode("ascii").splitlines()
+    if said.code == _library.OK:
+        return Rising(tuple(int(line.split()[2]) for line in lines[:-1]))
+    if said.code == _library.CYCLE:
+        return Cycle(tuple(_link(*line.split()) for line in lines[1:]))
+    pair, _, why = lines[0].partition(": ")
+    reason, _, step = why.partition(" at step ")
+    return NoRoute(int(pair.split()[2]), int(pair.split()[3]), reason, int(step) if step else None)
+
+
+def _link(channel: str, by: str, end: str) -> Link:
+    if by == "to":
+        return Link(int(channel), int(end), None)
+    return Link(int(channel), None, int(end))

@@ -10,7 +10,8 @@ from typing import Any, Iterator, List, Optional
 
 SONAME = "libtorusmem.so.0.1"
 # The number of calls, codes and limits that the header has.
-OK, FAULT_MEMORY, BAD_REPORT, EMPTY, FULL, NONE, SHORT = 0, 12, 15, 16, 17, 18, 19
+OK, FAULT_MEMORY, BAD_REPORT, EMPTY, FULL, NONE, SHORT, NO_ROUTE, CYCLE = 0, 12, 15, 16, 17, 18, 19, 20, 21
+NO_TEXT, MACHINE_TEXT, SCRIPTS_TEXT = 0, 1, 2
 LONGEST_ROUTE = 10
 
 
@@ -52,10 +53,17 @@ class RawChannel(Structure):
     _fields_ = [(it, c_uint32) for it in ("kind", "tile", "dim", "minus", "bit", "number")]
 
 
+class Explanation(Structure):
+    """Why a load is refused."""
+
+    _fields_ = [(it, c_uint32) for it in ("code", "fault", "text")] + [(it, c_uint64) for it in ("line", "length")]
+
+
 _M = POINTER(Held)
 # Each call: what it answers, and what it takes.
 CALLS = {
     "load": (Outcome, [_M, c_char_p, c_size_t, c_char_p, c_size_t]),
+    "explain": (Explanation, [c_char_p, c_size_t, c_char_p, c_size_t, c_void_p, c_size_t]),
     "free": (None, [_M]),
     "step": (Outcome, [_M, c_uint32, c_uint32, c_uint32]),
     "run": (Outcome, [_M, POINTER(Attempt), c_size_t]),
@@ -77,6 +85,7 @@ CALLS = {
     "check": (Outcome, [c_char_p, c_size_t]),
     "route": (Outcome, [_M, c_uint32, c_uint32, c_uint32, POINTER(RawChannel), c_size_t]),
     "next": (Outcome, [_M, c_uint32, c_uint32, c_uint32]),
+    "network": (Outcome, [c_char_p, c_size_t, c_void_p, c_size_t]),
 }
 
 

@@ -29,6 +29,8 @@ pub const TORUSMEM_EMPTY: u32 = 16;
 pub const TORUSMEM_FULL: u32 = 17;
 pub const TORUSMEM_NONE: u32 = 18;
 pub const TORUSMEM_SHORT: u32 = 19;
+pub const TORUSMEM_NO_ROUTE: u32 = 20;
+pub const TORUSMEM_CYCLE: u32 = 21;
 
 pub const TORUSMEM_SEND: u32 = 0;
 pub const TORUSMEM_TAKE: u32 = 1;
@@ -57,6 +59,10 @@ pub const TORUSMEM_EJECTION: u32 = 2;
 
 pub const TORUSMEM_REQUEST: u32 = 0;
 pub const TORUSMEM_REPLY: u32 = 1;
+
+pub const TORUSMEM_NO_TEXT: u32 = 0;
+pub const TORUSMEM_MACHINE_TEXT: u32 = 1;
+pub const TORUSMEM_SCRIPTS_TEXT: u32 = 2;
 
 /// An attempt: what `torusmem_step` takes.
 #[repr(C)]
@@ -109,6 +115,17 @@ pub struct torusmem_channel {
     pub number: u32,
 }
 
+/// Why a load is refused.
+#[repr(C)]
+#[derive(Clone, Copy, Debug)]
+pub struct torusmem_explanation {
+    pub code: u32,
+    pub fault: u32,
+    pub text: u32,
+    pub line: u64,
+    pub length: u64,
+}
+
 extern "C" {
     pub fn torusmem_load(
         m: *mut torusmem_machine,
@@ -117,6 +134,14 @@ extern "C" {
         scripts: *const u8,
         scripts_length: usize,
     ) -> torusmem_outcome;
+    pub fn torusmem_explain(
+        machine: *const u8,
+        machine_length: usize,
+        scripts: *const u8,
+        scripts_length: usize,
+        out: *mut u8,
+        out_length: usize,
+    ) -> torusmem_explanation;
     pub fn torusmem_free(m: *mut torusmem_machine);
     pub fn torusmem_step(m: *mut torusmem_machine, agent: u32, choice: u32, number: u32) -> torusmem_outcome;
     pub fn torusmem_run(
@@ -149,4 +174,10 @@ extern "C" {
         out_length: usize,
     ) -> torusmem_outcome;
     pub fn torusmem_next(m: *mut torusmem_machine, at: u32, input: u32, dst: u32) -> torusmem_outcome;
+    pub fn torusmem_network(
+        network: *const u8,
+        network_length: usize,
+        out: *mut u8,
+        out_length: usize,
+    ) -> torusmem_outcome;
 }

@@ -18,9 +18,11 @@
 //! The library beneath is proved; these bindings are not. They add nothing but types.
 #![deny(unsafe_code)]
 
+mod network;
 #[allow(unsafe_code)]
 mod raw;
 
+pub use network::{network, By, Link, Verdict, Why};
 use raw::Raw;
 use std::error::Error;
 use std::fmt;
@@ -48,6 +50,92 @@ impl fmt::Display for Fault {
 }
 
 impl Error for Fault {}
+
+/// One of the texts of a load.
+#[derive(Clone, Copy, Debug, PartialEq, Eq, Hash)]
+pub enum Text {
+    Machine,
+    Scripts,
+}
+
+/// Why texts are refused: what [`explain`] says of a [`Fault`] of [`Machine::load`].
+///
+/// ```
+/// use torusmem::{explain, Fault, Machine, Text};
+///
+/// let machine = b"radix 2\ndims 1\ndepth 4\ntags 4\nwords 8\n";
+/// let scripts = b"0 load 5\n0 load 8\n";
+/// assert_eq!(Machine::load(machine, scripts).err(), Some(Fault::Text { fault: 7, line: 2 }));
+/// let why = explain(machine, scripts).expect("a fault");
+/// assert_eq!((why.fault, why.text, why.line), (7, Some(Text::Scripts), 2));
+/// assert_eq!(why.to_string(), "scripts:2: address 8: the machine has the words 0 to 7");
+/// assert_eq!(why.named("script.txt"), "script.txt:2: address 8: the machine has the words 0 to 7");
+/// ```
+#[derive(Clone, Debug, PartialEq, Eq)]
+pub struct Explanation {
+    /// 1 for F1 and so on.
+    pub fault: u32,
+    /// The text that the fault is in; none where memory was refused (F12).
+    pub text: Option<Text>,
+    /// The line of that text, from 1; 0 where memory was refused.
+    pub line: u64,
+    /// The sentence on it: `machine` or `scripts`, the line, and the reason.
+    pub sentence: String,
+}
+
+impl Explanation {
+    /// What the sentence says behind the name and the line.
+    pub fn reason(&self) -> &str {
+        self.sentence.split_once(": ").map_or("", |parts| parts.1)
+    }
+
+    /// The sentence with a name in the place of `machine` or `scripts`, as that of a file.
+    pub fn named(&self, name: &str) -> String {
+        match self.line {
+            0 => format!("{name}: {}", self.reason()),
+            line => format!("{name}:{line}: {}", self.reason()),
+        }
+    }
+}
+
+impl fmt::Display for Explanation {
+    fn fmt(&self, f: &mut fmt::Formatter) -> fmt::Result {
+        f.write_str(&self.sentence)
+    }
+}
+
+impl Error for Explanation {}
+
+/// Why these texts are refused: the first fault of the first bad one, which it reads once more; None where they have
+/// none. Where memory is refused for the sentence, that says so in place of the reason.
+pub fn explain(machine: &[u8], scripts: &[u8]) -> Option<Explanation> {
+    let mut room = vec![0; 256];
+    let mut said = raw::explain(machine, scripts, &mut room);
+    while said.code == sys::TORUSMEM_SHORT {
+        room.resize(said.length as usize, 0);
+        said = raw::explain(machine, scripts, &mut room);
+    }
+    let text = match said.text {
+        sys::TORUSMEM_MACHINE_TEXT => Some(Text::Machine),
+        sys::TORUSMEM_SCRIPTS_TEXT => Some(Text::Scripts),
+        _ => None,
+    };
+    let sentence = match (said.code, text) {
+        (sys::TORUSMEM_OK, _) => String::from_utf8_lossy(&room[..said.length as usize]).into_owned(),
+        (_, Some(text)) => format!("{}:{}: {REFUSED}", name_of(text), said.line),
+        (_, None) => format!("machine: {REFUSED}"),
+    };
+    (said.fault != 0).then_some(Explanation { fault: said.fault, text, line: said.line, sentence })
+}
+
+const REFUSED: &str = "a request for memory was refused";
+
+fn name_of(text: Text) -> &'static str {
+    match text {
+        Text::Machine => "machine",
+        Text::Scripts => "scripts",
+    }
+}
 
 /// What an agent attempts. An input or output that isn't there makes it idle.
 #[derive(Clone, Copy, Debug, PartialEq, Eq, Hash)]
@@ -164,7 +252,7 @@ impl fmt::Debug for Machine {
 const LONGEST_ROUTE: usize = 10;
 
 impl Machine {
-    /// The machine of these texts, or the first fault of the first bad one.
+    /// The machine of these texts, or the first fault of the first bad one, of which [`explain`] tells more.
     pub fn load(machine: &[u8], scripts: &[u8]) -> Result<Machine, Fault> {
         let mut raw = Raw::empty();
         granted(raw.load(machine, scripts))?;

@@ -110,3 +110,14 @@ pub fn check(report: &[u8]) -> torusmem_outcome {
     // SAFETY: the slice has as many bytes as it says. There is no machine.
     unsafe { torusmem_check(text_at(report), report.len()) }
 }
+
+pub fn explain(machine: &[u8], scripts: &[u8], out: &mut [u8]) -> torusmem_explanation {
+    let (machine_at, scripts_at) = (text_at(machine), text_at(scripts));
+    // SAFETY: the slices have as many bytes as they say; what is written is nobody else's. There is no machine.
+    unsafe { torusmem_explain(machine_at, machine.len(), scripts_at, scripts.len(), buffer_at(out, &mut 0), out.len()) }
+}
+
+pub fn network(network: &[u8], out: &mut [u8]) -> torusmem_outcome {
+    // SAFETY: the slices have as many bytes as they say; what is written is nobody else's. There is no machine.
+    unsafe { torusmem_network(text_at(network), network.len(), buffer_at(out, &mut 0), out.len()) }
+}

@@ -2,7 +2,8 @@
 use std::fs;
 use std::path::{Path, PathBuf};
 use std::thread;
-use torusmem::{check, Answer, Channel, Choice, Class, Dir, Entry, Fault, Kind, Machine, Operation, Reply};
+use torusmem::{check, explain, network, Answer, By, Channel, Choice, Class, Dir, Entry, Fault, Kind, Link, Machine};
+use torusmem::{Operation, Reply, Text, Verdict, Why};
 
 fn path(name: &str) -> PathBuf {
     Path::new(env!("CARGO_MANIFEST_DIR")).join("../../..").join(name)
@@ -217,6 +218,73 @@ fn faults_of_texts() {
     assert_eq!(refused(&machine, b"0 load 8\n"), Fault::Text { fault: 7, line: 1 });
     assert_eq!(refused(&machine, b"\n0 jump 1\n").to_string(), "fault F4 at line 2");
     assert!(Machine::load(&machine, b"").is_ok_and(|mut machine| machine.finished()));
+}
+
+#[test]
+fn faults_are_explained() {
+    let machine = read("examples/machine.txt");
+    let rows: [(&[u8], &[u8], u32, Text, u64, &str); 4] = [
+        (b"\nradix 9\n", b"0 load 8\n", 1, Text::Machine, 2, "machine:2: radix 9: a radix is 2 to 8"),
+        (b"", b"", 5, Text::Machine, 1, "machine:1: the text ends without radix"),
+        (&machine, b"0 load 8\n", 7, Text::Scripts, 1, "scripts:1: address 8: the machine has the words 0 to 7"),
+        (
+            &machine,
+            b"\n9 load 1\n",
+            8,
+            Text::Scripts,
+            2,
+            "scripts:2: processor 9: the machine has the processors 0 to 1",
+        ),
+    ];
+    for (machine, scripts, fault, text, line, sentence) in rows {
+        let why = explain(machine, scripts).expect("a fault");
+        assert_eq!((why.fault, why.text, why.line), (fault, Some(text), line), "{sentence}");
+        assert_eq!(why.to_string(), sentence);
+        assert!(sentence.ends_with(&format!(":{line}: {}", why.reason())));
+        assert_eq!(Machine::load(machine, scripts).expect_err("a fault"), Fault::Text { fault, line });
+    }
+    assert_eq!(explain(&machine, b""), None);
+    let long = [b"0 ", "x".repeat(1000).as_bytes(), b"\n"].concat();
+    assert!(explain(&machine, &long).is_some_and(|why| why.named("a.txt").starts_with("a.txt:1: xxx")));
+}
+
+#[test]
+fn networks_are_judged() {
+    let judged = |text: &str| network(text.as_bytes()).expect("a network");
+    let pair = "channels 4\ninject 0\neject 1\neject 2\ninject 3\n";
+    let rows = [
+        ("join 1 2\n", 1, 2, Why::NoSender),
+        ("join 0 1\nnext 0 1 1\njoin 0 0\n", 0, 0, Why::NoReceiver),
+        ("join 0 2\n", 0, 2, Why::Leaves(1)),
+        ("join 3 2\nnext 3 2 1\n", 3, 2, Why::Ejects(1)),
+        ("join 3 2\nnext 3 2 0\nnext 0 2 2\n", 3, 2, Why::Injects(1)),
+    ];
+    for (lines, from, to, why) in rows {
+        assert_eq!(judged(&format!("{pair}{lines}")), Verdict::NoRoute { from, to, why }, "{lines}");
+    }
+    let round = "channels 4\ninject 0\neject 3\njoin 0 3\nnext 0 3 1\nnext 1 3 2\nnext 2 3 1\n";
+    assert_eq!(judged(round), Verdict::NoRoute { from: 0, to: 3, why: Why::Round });
+    let ring = "channels 6\ninject 0\ninject 1\neject 4\neject 5\njoin 0 5\njoin 1 4\nnext 0 5 2\nnext 2 5 3\n\
+                next 3 5 5\nnext 1 4 3\nnext 3 4 2\nnext 2 4 4\n";
+    let (there, back) = (Link { channel: 2, by: By::To(5) }, Link { channel: 3, by: By::To(4) });
+    assert!([vec![there, back], vec![back, there]].map(Verdict::Cycle).contains(&judged(ring)));
+    let line = "channels 2\ninject 0\neject 1\njoin 0 1\nnext 0 1 1\n";
+    let (asked, answered) = (Link { channel: 0, by: By::To(1) }, Link { channel: 1, by: By::Replies(0) });
+    let cycles = [vec![asked, answered], vec![answered, asked]].map(Verdict::Cycle);
+    assert!(cycles.contains(&judged(&format!("{line}reply 1 0\n"))));
+    assert!(matches!(judged(line), Verdict::Rising(numbers) if numbers.len() == 2 && numbers[0] < numbers[1]));
+    assert_eq!(network(b"channels 2\ninject 2\n"), Err(Fault::Text { fault: 6, line: 2 }));
+    assert_eq!(network(b""), Err(Fault::Text { fault: 5, line: 1 }));
+}
+
+/// A chain so long that its verdict doesn't fit at once: the numbers rise from the one end to the other.
+#[test]
+fn a_long_network_is_judged() {
+    let last = 16383;
+    let hops: String = (0..last).map(|at| format!("next {at} {last} {}\n", at + 1)).collect();
+    let text = format!("channels {}\ninject 0\neject {last}\njoin 0 {last}\n{hops}", last + 1);
+    let Ok(Verdict::Rising(numbers)) = network(text.as_bytes()) else { panic!("it rises") };
+    assert!(numbers.len() == 16384 && numbers.windows(2).all(|pair| pair[0] < pair[1]));
 }
 
 #[test]

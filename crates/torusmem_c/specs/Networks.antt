@@ -1,0 +1,35 @@
+-- The verdict on a network, as C sees it (this project's own format).
+use Rattle.std.specs.Prelude.{◌≡◌, ◌⊎◌, ℕ, List, Result, Ok, Err}
+use Rattle.script.specs.declared.fault.LineFault.{LineFault}
+use Rattle.table_net.specs.declared.table.Verdict.{Verdict}
+use Rattle.table_net.specs.declared.table.Verdict.TheVariants as verdict
+use Rattle.table_net.specs.Verdicts.{IsVerdict}
+use Rattle.table_text.specs.Network.{NetworkSpec}
+use Rattle.table_text.specs.Answer.{verdict_text}
+use Rattle.torusmem_c.specs.declared.outcome.Outcome.{Outcome}
+use Rattle.torusmem_c.specs.declared.outcome.Code.{Code}
+use Rattle.torusmem_c.specs.declared.outcome.Code.TheVariants as code
+use Rattle.torusmem_c.specs.Outcome.{fault_outcome}
+use Rattle.torusmem_c.specs.Room.{LacksMemory, put_over, put_as}
+
+-- the code of a verdict
+abbrev pub verdict_code : {A : Type 0} → Verdict A → Code
+verdict_code (verdict.Rising numbers) = code.Done
+verdict_code (verdict.NoRoute r) = code.NoRoute
+verdict_code (verdict.Cycle links) = code.Cycle
+
+-- the text of a verdict is put into a buffer, and its code is told
+pub record PutsVerdict {A : Type 0} (v : Verdict A) (before after : List ℕ) (r : Outcome) : Type 0
+    where
+  pub buffer : after ≡ put_over (verdict_text v) before
+  pub answer : r ≡ put_as (verdict_code v) (verdict_text v) before
+
+-- what is told of a network: the verdict that holds of it
+abbrev pub TellsNetwork : Type 0 → NetworkSpec → List ℕ → List ℕ → Outcome → Type 0
+TellsNetwork A n before after r =
+    (v : Verdict A) × IsVerdict n.table n.replies v × PutsVerdict v before after r
+
+-- what is told of a network text: of the network that it gives, or its first fault
+abbrev pub TellsText : Type 0 → Result NetworkSpec LineFault → List ℕ → List ℕ → Outcome → Type 0
+TellsText A (Ok n) before after r = TellsNetwork A n before after r
+TellsText A (Err found) before after r = (after ≡ before) × (r ≡ fault_outcome found)

@@ -1,0 +1,52 @@
+//! The judge of networks, as C sees it.
+
+ghost use Rattle.std.specs.Prelude.{◌≡◌, ◌⊎◌};
+ghost use Rattle.std.specs.Str.Lines.{lines};
+ghost use Rattle.table_text.specs.Network.{network_of};
+ghost use Rattle.torusmem_c.specs.Networks.{PutsVerdict, TellsText, verdict_code};
+ghost use Rattle.torusmem_c.specs.Room.{LacksMemory};
+
+use crate::outcome::{Code, Outcome, fault_outcome, no_memory};
+use crate::room::put_as;
+use std::alloc::Global;
+use table_net::Verdict;
+use table_text::{judge_network, read_network, verdict_text};
+
+/// The code of a verdict.
+fn verdict_code(verdict: &Verdict<Global>) -> Code
+    ensures { result ≡ verdict_code verdict.now }
+{
+    match verdict {
+        Verdict::Rising(_) => Code::Done,
+        Verdict::NoRoute(_) => Code::NoRoute,
+        Verdict::Cycle(_) => Code::Cycle,
+    }
+}
+
+/// Puts the text of a verdict into a buffer, unless memory is refused.
+fn put_verdict(alloc: Global, verdict: &Verdict<Global>, out: &mut [u8]) -> Outcome
+    ensures { PutsVerdict verdict.now out.old out.new result ⊎ LacksMemory out.old out.new result }
+{
+    match verdict_text(alloc, verdict) {
+        Ok(text) => put_as(verdict_code(verdict), text.as_slice(), out),
+        Err(_) => no_memory(),
+    }
+}
+
+/// Judges the network of a text, and puts the text of the verdict into a buffer.
+///
+/// Errors: the text's first fault, or want of memory. The buffer is as it was then.
+#[unsafe(no_mangle)]
+pub extern "C" fn torusmem_network(alloc: Global, network: &[u8], out: &mut [u8]) -> Outcome
+    ensures { TellsText Global (network_of (lines network.now)) out.old out.new result
+        ⊎ LacksMemory out.old out.new result }
+{
+    let network = match read_network(alloc, network) {
+        Ok(network) => network,
+        Err(fault) => return fault_outcome(fault),
+    };
+    match judge_network(alloc, &network) {
+        Ok(verdict) => put_verdict(alloc, &verdict, out),
+        Err(_) => no_memory(),
+    }
+}
