@@ -6,11 +6,13 @@ use commands::ProgramFault;
 use explained::{
     Named, Sentence, machine_sentence, scripts_sentence, steps_sentence, tile_sentence,
 };
-use std::alloc::Global;
-use explained::{Named, machine_sentence, scripts_sentence, steps_sentence, tile_sentence};
+use network_reasons::network_sentence;
 use report_reasons::why_bad;
-use std::fs;
+use std::alloc::Global;
+use std::fmt::Display;
 use std::io::ErrorKind;
+use torus::Fault;
+use trace_reasons::trace_sentence;
 
 /// Says why a text can't be read, where there is a word for it.
 pub(crate) fn explain_unread<R: Eprint>(rt: &R, name: &str, why: Unread) {
@@ -34,15 +36,54 @@ pub(crate) fn explain<R: Eprint + AllocGlobal>(
 ) {
     match fault {
         ProgramFault::Line(_) => {
-            if let Some(sentence) = sentence(rt.alloc(), job, texts) {
-                let _ = eprintln!(rt; "{sentence}");
-            }
+            let _ = explain_line(rt, job, texts);
         }
+        ProgramFault::Fault(Fault::Memory) => explain_memory(rt, job, texts),
         ProgramFault::Tile => explain_tile(rt, job, texts),
-        ProgramFault::Line(_) => explain_line(rt, job),
-        ProgramFault::Tile => explain_tile(rt, job),
-        ProgramFault::Bad(_) => explain_report(rt, job),
+        ProgramFault::Bad(_) => explain_report(rt, job, texts),
         _ => {}
+    }
+}
+
+/// Says which text of the job has the first fault, at which line, and why; answers whether one has.
+fn explain_line<R: Eprint + AllocGlobal>(rt: &R, job: &Job, texts: &Texts) -> bool {
+    let alloc = rt.alloc();
+    match *job {
+        Job::Network { network } => {
+            told(rt, network_sentence(alloc, named(network, &texts.first)))
+        }
+        Job::Linearize { trace, .. } => {
+            told(rt, trace_sentence(alloc, named(trace, &texts.first)))
+        }
+        _ => told(rt, sentence(alloc, job, texts)),
+    }
+}
+
+/// Says a sentence, if there is one, and answers whether there is.
+fn told<R: Eprint, S: Display + Drop>(rt: &R, sentence: Option<S>) -> bool {
+    let Some(sentence) = sentence else {
+        return false;
+    };
+    let _ = eprintln!(rt; "{sentence}");
+    true
+}
+
+/// Says while what a request for memory was refused: at the same text once more, or behind all.
+fn explain_memory<R: Eprint + AllocGlobal>(rt: &R, job: &Job, texts: &Texts) {
+    if !explain_line(rt, job, texts) {
+        let _ = eprintln!(rt;
+            "a request for memory was refused behind the texts, which have no fault"
+        );
+    }
+}
+
+/// Says which rule the first bad line of a report breaks.
+fn explain_report<R: Eprint + AllocGlobal>(rt: &R, job: &Job, texts: &Texts) {
+    let Job::Check { report } = *job else {
+        return;
+    };
+    if let Ok(Some(bad)) = why_bad(rt.alloc(), &texts.first) {
+        let _ = eprintln!(rt; "{report}:{}: {}", bad.line, bad.rule);
     }
 }
 
@@ -91,18 +132,5 @@ fn explain_tile<R: Eprint + AllocGlobal>(rt: &R, job: &Job, texts: &Texts) {
     };
     if let Ok(Some(sentence)) = tile_sentence(rt.alloc(), &texts.first, src, dst) {
         let _ = eprintln!(rt; "{sentence}");
-    }
-}
-
-/// Says which rule the first bad line of a report breaks.
-fn explain_report<R: Files + Eprint + AllocGlobal>(rt: &R, job: &Job) {
-    let Job::Check { report } = *job else {
-        return;
-    };
-    let Ok(text) = fs::read(rt, report) else {
-        return;
-    };
-    if let Ok(Some(bad)) = why_bad(rt.alloc(), &text) {
-        let _ = eprintln!(rt; "{report}:{}: {}", bad.line, bad.rule);
     }
 }
