@@ -15,7 +15,7 @@ verdict_text_of (TooMany line) bound =
     ++ (32 ∷ decimal bound) ++ codes " configurations")
 verdict_text_of (TooOpen line) bound =
     Some (codes "undecided at line" ++ (32 ∷ decimal line)
-    ++ codes ": more than 64 operations are open")
+    ++ codes ": more than 64 operations are open on one word")
 
 -- the status that the program ends with
 abbrev pub status_of : Result Judged ProgramFault → ℕ

@@ -20,7 +20,7 @@ pub enum Judged {
     NotLinearizable { line: u64 },
     /// It isn't decided: at the answer of this line a word has more configurations than were allowed.
     TooMany { line: u64 },
-    /// It isn't decided: at the issue of this line 64 other operations are open.
+    /// It isn't decided: at the issue of this line 64 other operations are open on its word.
     TooOpen { line: u64 },
 }
 

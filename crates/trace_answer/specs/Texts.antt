@@ -44,4 +44,4 @@ undecided_text (Configurations line) bound =
     ++ (32 ∷ decimal bound) ++ codes " configurations")
 undecided_text (Operations line) bound =
     Some (codes "undecided at line" ++ (32 ∷ decimal line)
-    ++ codes ": more than 64 operations are open")
+    ++ codes ": more than 64 operations are open on one word")

@@ -86,7 +86,7 @@ pub fn undecided(why: Unfound, bound: u64) -> Option<LineText>
             let mut text = LineText::new();
             text.push_str("undecided at line");
             put_value(&mut text, line);
-            text.push_str(": more than 64 operations are open");
+            text.push_str(": more than 64 operations are open on one word");
             Some(text)
         }
     }

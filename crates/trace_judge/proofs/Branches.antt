@@ -49,22 +49,23 @@ with_other sets w bs v ne = cond-false (v == w) bs (sets v) (ne_eqb v w ne)
 
 pub stays_same : (table : List (Option Open)) (w : ℕ) (old : List Branch) (nodes : List Node)
     → StaysSound table w old nodes old nodes
-stays_same table w old nodes = λ opening trace k sets t is l sound. sound
+stays_same table w old nodes = λ opening trace k tables sets t are e l sound. sound
 
 pub stays_more : (table : List (Option Open)) (w : ℕ) (a b c : List Branch) (l m n : List Node)
     → StaysSound table w a l b m → StaysSound table w b m c n → StaysSound table w a l c n
-stays_more table w a b c l m n f g = λ opening trace k sets t is inside sound. g opening trace k sets t is inside
-    (f opening trace k sets t is inside sound)
+stays_more table w a b c l m n f g = λ opening trace k tables sets t are e inside sound.
+    g opening trace k tables sets t are e inside (f opening trace k tables sets t are e inside sound)
 
 -- one that is added
 pub stays_added : (table : List (Option Open)) (w : ℕ) (old : List Branch) (nodes : List Node) (b : Branch) (s : ℕ)
     (o : Open)
     → IsIn old b → MayTake table w b.config s o
     → StaysSound table w old nodes (old ++ grown nodes b s o ∷ []) (nodes ++ node_of b o ∷ [])
-stays_added table w old nodes b s o in' may = λ opening trace k sets t is inside sound.
-    sound_add opening trace k table (with_set sets w old)
-    (with_set sets w (old ++ grown nodes b s o ∷ [])) nodes w b s o t is inside
-    (subst (λ (bs : List Branch). IsIn bs b) (sym (with_same sets w old)) in') may
+stays_added table w old nodes b s o in' may = λ opening trace k tables sets t are e inside sound.
+    sound_add opening trace k tables (with_set sets w old)
+    (with_set sets w (old ++ grown nodes b s o ∷ [])) nodes w b s o t are inside
+    (subst (λ (bs : List Branch). IsIn bs b) (sym (with_same sets w old)) in')
+    (subst (λ (ts : List (Option Open)). MayTake ts w b.config s o) (sym e) may)
     (λ c h. ⊎_elim
     (λ there. inl (subst (λ (bs : List Branch). IsIn bs c) (sym (with_same sets w old)) (h.0, there)))
     (λ (r : (h.0 ≡ length old) × (grown nodes b s o ≡ c)). inr (sym r.1))

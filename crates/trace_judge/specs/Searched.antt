@@ -5,12 +5,13 @@ use Rattle.trace_search.specs.declared.opened.Branch.{Branch}
 use Rattle.trace_search.specs.Configs.{IsIn}
 use Rattle.trace_search.specs.Searches.{IsSearched}
 use Rattle.trace_judge.specs.declared.search.Search.{Search}
-use Rattle.trace_judge.specs.Sets.{sets_of}
+use Rattle.trace_judge.specs.Sets.{lists_of}
 
 -- it knows what a search knows before event k, and each word has a branch
 pub record Holds {A : Type 0} (opening : List ℕ) (trace : List Event) (k : ℕ) (s : Search A) : Type
     0 where
   pub sized : length s.words.items ≡ length opening
-  pub slots : length s.table.items ≡ 64
-  pub searched : IsSearched opening trace k s.table.items (sets_of s.words.items) s.nodes.items
-  pub filled : (w : ℕ) → w < length opening → (b : Branch) × IsIn (sets_of s.words.items w) b
+  pub tabled : length s.tables.items ≡ length opening
+  pub searched : IsSearched opening trace k (lists_of s.tables.items) (lists_of s.words.items)
+      s.nodes.items
+  pub filled : (w : ℕ) → w < length opening → (b : Branch) × IsIn (lists_of s.words.items w) b

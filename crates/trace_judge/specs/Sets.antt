@@ -8,7 +8,7 @@ use Rattle.trace_search.specs.declared.opened.Branch.{Branch}
 use Rattle.trace_search.specs.declared.opened.Node.{Node}
 use Rattle.trace_order.specs.Traces.{IsTrace}
 use Rattle.trace_search.specs.Configs.{IsLeft, Agrees}
-use Rattle.trace_search.specs.Searches.{IsTable, IsSound}
+use Rattle.trace_search.specs.Searches.{AreTables, IsSound}
 
 -- a list goes on with more
 abbrev pub GoesOn : {A : Type 0} → List A → List A → Type 0
@@ -30,9 +30,9 @@ pub record TakesEffect (place : Option Open) (word : ℕ) (c : Config) (s : ℕ)
     pub left : IsLeft c s
     pub agrees : Agrees o c.word
 
--- the branches of each word
-abbrev pub sets_of : {A : Type 0} → List (Vec Branch A) → ℕ → List Branch
-sets_of words w = slice_index_or (map (λ v. v.items) words) w []
+-- what there is of each word
+abbrev pub lists_of : {X A : Type 0} → List (Vec X A) → ℕ → List X
+lists_of words w = slice_index_or (map (λ v. v.items) words) w []
 
 -- the branches of one word are others
 abbrev pub with_set : (ℕ → List Branch) → ℕ → List Branch → ℕ → List Branch
@@ -42,8 +42,8 @@ with_set sets w branches v = cond (v == w) branches (sets v)
 abbrev pub StaysSound : List (Option Open) → ℕ → List Branch → List Node → List Branch → List Node
     → Type 0
 StaysSound table w old nodes new more =
-    (opening : List ℕ) (trace : List Event) (k : ℕ) (sets : ℕ → List Branch)
-    → IsTrace (length opening) trace
-    → IsTable trace k table → w < length opening
-    → IsSound opening trace k table (with_set sets w old) nodes
-    → IsSound opening trace k table (with_set sets w new) more
+    (opening : List ℕ) (trace : List Event) (k : ℕ) (tables : ℕ → List (Option Open))
+    (sets : ℕ → List Branch) → IsTrace (length opening) trace
+    → AreTables (length opening) trace k tables → tables w ≡ table → w < length opening
+    → IsSound opening trace k tables (with_set sets w old) nodes
+    → IsSound opening trace k tables (with_set sets w new) more

@@ -7,24 +7,27 @@ use Rattle.trace_order.specs.Traces.{IsIssuedAt, IsAnsweredAt, IsUnanswered}
 use Rattle.trace_judge.specs.declared.undecided.Undecided.{Undecided}
 use Rattle.trace_judge.specs.declared.undecided.Undecided.TheVariants.{Memory, Configurations, Operations}
 
--- 64 operations are open before event k (Herlihy and Wing, TOPLAS 12(3), 1990: pending), which
--- issues another
+-- 64 operations are open on a word before event k (Herlihy and Wing, TOPLAS 12(3), 1990: pending),
+-- which issues another on it
 pub record IsCrowded (trace : List Event) (k : ℕ) : Type 0 where
+  pub another : Call
+  pub issue : IsIssuedAt trace k another
   pub calls : List Call
   pub many : length calls ≡ 64
   pub issued : (s : ℕ) (c : Call) → slice_get calls s ≡ Some c
       → (i : ℕ) × (i < k) × IsIssuedAt trace i c
   pub pending : (s : ℕ) (c : Call) → slice_get calls s ≡ Some c → IsUnanswered trace k c.id
+  pub here : (s : ℕ) (c : Call) → slice_get calls s ≡ Some c
+      → c.operation.address ≡ another.operation.address
   pub distinct : (s u : ℕ) (c d : Call) → slice_get calls s ≡ Some c → slice_get calls u ≡ Some d
       → c.id ≡ d.id → s ≡ u
-  pub another : (c : Call) × IsIssuedAt trace k c
 
 -- event k answers an operation
 abbrev pub IsAnAnswer : List Event → ℕ → Type 0
 IsAnAnswer trace k = (id : ℕ) × (reply : Reply) × IsAnsweredAt trace k id reply
 
--- why a trace is not decided: there are too many open operations at an event, or configurations of
--- a word, or no memory
+-- why a trace is not decided: there are too many open operations on a word, or configurations of
+-- it, or no memory
 abbrev pub IsUndecided : List Event → Undecided → Type 0
 IsUndecided trace Memory = Unit {0}
 IsUndecided trace (Configurations event) = IsAnAnswer trace event

@@ -9,7 +9,7 @@ ghost use Rattle.trace_judge.specs.Searched.{Holds};
 ghost use Rattle.trace_judge.specs.Stops.{IsUndecided, IsUnjudged};
 ghost use Rattle.trace_judge.specs.Verdicts.{Tells};
 ghost use Rattle.trace_judge.specs.Marks.{AreNodes, IsBelow, AreMarked, ArePicked};
-ghost use Rattle.trace_judge.specs.Sets.{sets_of};
+ghost use Rattle.trace_judge.specs.Sets.{lists_of};
 
 use crate::search::{Search, start};
 use crate::undecided::Undecided;
@@ -27,12 +27,13 @@ pub enum Verdict<A: Allocator> {
     No { event: usize },
 }
 
-/// Goes through the events, as long as each word has a branch.
+/// Goes through the events, as long as each word has a branch, and notes the event that left none.
 fn run<A: Allocator + Copy>(
     alloc: A,
     opening: &[u64],
     events: &[Event],
     bound: usize,
+    last: &mut usize,
 ) -> Result<Option<Search<A>>, Undecided>
     requires { IsTrace (length opening.now) events.now }
     ensures undecided { IfErr result (IsUndecided events.now) }
@@ -43,6 +44,7 @@ fn run<A: Allocator + Copy>(
     let mut search = start(alloc, opening, events)?;
     for k in 0..events.len() {
         if !search.step(alloc, opening, events, k, bound)? {
+            *last = k;
             return Ok(None);
         }
     }
@@ -79,7 +81,7 @@ fn mark_all<A: Allocator + Copy>(
     events: &[Event],
 ) -> Result<Vec<bool, A>, AllocError>
     requires { Holds opening.now events.now (length events.now) search.now }
-    ensures { IfOk result (λ v. ArePicked (length opening.now) (sets_of search.now.words.items)
+    ensures { IfOk result (λ v. ArePicked (length opening.now) (lists_of search.now.words.items)
         search.now.nodes.items v.items) }
 {
     let mut marks = no_marks(alloc, search.nodes.len())?;
@@ -108,9 +110,31 @@ fn collect<A: Allocator + Copy>(
     Ok(order)
 }
 
+/// An order that explains the trace, if there is one; else the event at which the search ended is noted.
+fn find_order<A: Allocator + Copy>(
+    alloc: A,
+    opening: &[u64],
+    events: &[Event],
+    bound: usize,
+    last: &mut usize,
+) -> Result<Option<Vec<Call, A>>, Undecided>
+    requires { IsTrace (length opening.now) events.now }
+    ensures undecided { IfErr result (IsUndecided events.now) }
+    ensures decided { IfOk result (λ found. MatchOption found
+        (IsLinearizable opening.now events.now → ⊥)
+        (λ order. IsOrder opening.now events.now order.items)) }
+{
+    let Some(search) = run(alloc, opening, events, bound, last)? else {
+        return Ok(None);
+    };
+    let marks = mark_all(alloc, &search, opening, events)?;
+    let order = collect(alloc, &search.nodes, &marks)?;
+    Ok(Some(order))
+}
+
 /// An order that explains the trace, if there is one, found with at most so many configurations of a
 /// word at once. An `Err` tells why it isn't decided, and where: an answer at which a word has more
-/// configurations, or an issue beside 64 open operations.
+/// configurations, or an issue beside 64 open operations on its word.
 pub fn decide<A: Allocator + Copy>(
     alloc: A,
     opening: &[u64],
@@ -123,12 +147,21 @@ pub fn decide<A: Allocator + Copy>(
         (IsLinearizable opening.now events.now → ⊥)
         (λ order. IsOrder opening.now events.now order.items)) }
 {
-    let Some(search) = run(alloc, opening, events, bound)? else {
-        return Ok(None);
-    };
-    let marks = mark_all(alloc, &search, opening, events)?;
-    let order = collect(alloc, &search.nodes, &marks)?;
-    Ok(Some(order))
+    let mut last = 0;
+    find_order(alloc, opening, events, bound, &mut last)
+}
+
+/// The beginning to look at next, between a good one and a bad one: one that is guessed, or half way.
+fn between(good: usize, bad: usize, guess: usize) -> usize
+    requires { good + 1 < bad }
+    ensures above { good < result }
+    ensures below { result < bad }
+{
+    if good < guess && guess < bad {
+        guess
+    } else {
+        good + (bad - good) / 2
+    }
 }
 
 /// Judges a trace over a memory that opens with these words, with at most so many configurations
@@ -144,15 +177,21 @@ pub fn judge<A: Allocator + Copy>(
     ensures unjudged { IfErr result (IsUnjudged events.now) }
     ensures judged { IfOk result (λ verdict. Tells opening.now events.now verdict) }
 {
-    if let Some(order) = decide(alloc, opening, events, bound)? {
+    let mut last = 0;
+    if let Some(order) = find_order(alloc, opening, events, bound, &mut last)? {
         return Ok(Verdict::Linearizable(order));
     }
+    // Most often the search ends at the first bad event: look there, and from there in growing steps.
+    let first = last;
+    let mut guess = first;
     let mut good = 0;
     let mut bad = events.len();
     while good + 1 < bad {
-        let middle = good + (bad - good) / 2;
+        let middle = between(good, bad, guess);
         if decide(alloc, opening, &events[..middle], bound)?.is_some() {
             good = middle;
+            let step = middle.saturating_sub(first).saturating_add(1);
+            guess = middle.saturating_add(step);
         } else {
             bad = middle;
         }

@@ -1,14 +1,12 @@
-//! Looks things up in a trace and in the table of open operations.
+//! Looks things up in a trace.
 
-ghost use Rattle.std.specs.Prelude.{◌≡◌, ◌≤◌, ℕ, Some, None, MatchOption, slice_get};
+ghost use Rattle.std.specs.Prelude.{◌≡◌, ◌<◌, ◌≤◌, ℕ, MatchOption, length};
 ghost use Rattle.packet.specs.declared.kinds.Reply.{Reply};
-ghost use Rattle.trace_search.specs.declared.opened.Open.{Open};
-ghost use Rattle.trace_order.specs.Traces.{IsAnsweredAt};
-ghost use Rattle.trace_search.specs.Searches.{IsAt};
+ghost use Rattle.trace_order.specs.declared.event.Call.{Call};
+ghost use Rattle.trace_order.specs.Traces.{IsAnsweredAt, IsIssuedAt};
 
 use packet::Reply;
-use trace_order::Event;
-use trace_search::Open;
+use trace_order::{Call, Event};
 
 /// The reply to the operation of this number, if it is answered from this event on.
 pub fn promise_of(events: &[Event], from: usize, id: u64) -> Option<Reply>
@@ -26,31 +24,20 @@ pub fn promise_of(events: &[Event], from: usize, id: u64) -> Option<Reply>
     None
 }
 
-/// A slot with nothing in it.
-pub fn free_slot(table: &[Option<Open>]) -> Option<usize>
+/// The operation of this number, if it was issued before event k.
+pub fn issue_of(events: &[Event], k: usize, id: u64) -> Option<Call>
+    requires { k ≤ length events.now }
     ensures { MatchOption result
-        ((s : ℕ) → slice_get table.now s ≡ Some None → ⊥)
-        (λ s. slice_get table.now s ≡ Some None) }
+        ((i : ℕ) (call : Call) → i < k → IsIssuedAt events.now i call → call.id ≡ id → ⊥)
+        (λ call. (i : ℕ) × (i < k) × IsIssuedAt events.now i call × (call.id ≡ id)) }
 {
-    for slot in 0..table.len() {
-        if table[slot].is_none() {
-            return Some(slot);
-        }
-    }
-    None
-}
-
-/// The operation of this number, with its slot.
-pub fn slot_of(table: &[Option<Open>], id: u64) -> Option<(usize, Open)>
-    ensures { MatchOption result
-        ((s : ℕ) (o : Open) → IsAt table.now s o → o.call.id ≡ id → ⊥)
-        (λ r. IsAt table.now r.0 r.1 × (r.1.call.id ≡ id)) }
-{
-    for slot in 0..table.len() {
-        if let Some(opened) = table[slot]
-            && opened.call.id == id
+    let mut i = k;
+    while i > 0 {
+        i -= 1;
+        if let Event::Issue(call) = events[i]
+            && call.id == id
         {
-            return Some((slot, opened));
+            return Some(call);
         }
     }
     None

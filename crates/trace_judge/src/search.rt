@@ -1,16 +1,18 @@
 //! The search over the events of a trace.
 
-ghost use Rattle.std.specs.Prelude.{◌≡◌, ◌<◌, ◌+◌, ◌∷◌, ℕ, [], true, false, None, IfOk, IfErr, OnOk, length};
-ghost use Rattle.std.specs.Prelude.{replicate, slice_index};
+ghost use Rattle.std.specs.Prelude.{◌≡◌, ◌<◌, ◌+◌, ◌∷◌, ℕ, [], true, false, IfOk, IfErr, OnOk, length};
+ghost use Rattle.std.specs.Prelude.{slice_index};
+ghost use Rattle.packet.specs.declared.kinds.Reply.{Reply};
 ghost use Rattle.trace_order.specs.Traces.{IsTrace, IsIssuedAt, IsAnsweredAt};
 ghost use Rattle.trace_order.specs.Orders.{IsLinearizable};
-ghost use Rattle.trace_search.specs.Searches.{first_branch};
-ghost use Rattle.trace_judge.specs.Sets.{sets_of};
+ghost use Rattle.trace_search.specs.Searches.{IsAt, first_branch};
+ghost use Rattle.trace_judge.specs.Sets.{lists_of};
 ghost use Rattle.trace_judge.specs.Searched.{Holds};
 ghost use Rattle.trace_judge.specs.Stops.{IsUndecided};
 
 use crate::closing::{close, keep};
-use crate::reading::{free_slot, promise_of, slot_of};
+use crate::reading::{issue_of, promise_of};
+use crate::slots::{free, put, slot_of};
 use crate::undecided::{Full, Undecided};
 use packet::Reply;
 use std::alloc::{AllocError, Allocator};
@@ -20,11 +22,11 @@ use trace_search::{Branch, Config, Node, Open};
 /// How many hints on configurations are kept at first.
 const HINTS: usize = 64;
 
-/// The open operations, the branches of each word, the nodes on the ways to them, and hints on where
-/// configurations are.
+/// Of each word the open operations and the branches, the nodes on the ways to these, and hints on
+/// where configurations are.
 #[derive(Drop)]
 pub struct Search<A: Allocator> {
-    pub table: Vec<Option<Open>, A>,
+    pub tables: Vec<Vec<Option<Open>, A>, A>,
     pub words: Vec<Vec<Branch, A>, A>,
     pub nodes: Vec<Node, A>,
     pub hints: Vec<usize, A>,
@@ -37,7 +39,7 @@ fn first_words<A: Allocator + Copy>(
 ) -> Result<Vec<Vec<Branch, A>, A>, AllocError>
     ensures sized { IfOk result (λ v. length v.items ≡ length opening.now) }
     ensures first { IfOk result (λ v. (w : ℕ) → w < length opening.now
-        → sets_of v.items w ≡ first_branch (slice_index opening.now w) ∷ []) }
+        → lists_of v.items w ≡ first_branch (slice_index opening.now w) ∷ []) }
 {
     let mut words = Vec::new(alloc);
     for word in opening {
@@ -54,15 +56,19 @@ fn first_words<A: Allocator + Copy>(
     Ok(words)
 }
 
-/// A table of free slots.
-fn empty_table<A: Allocator + Copy>(alloc: A) -> Result<Vec<Option<Open>, A>, AllocError>
-    ensures { IfOk result (λ v. v.items ≡ replicate 64 None) }
+/// No operation is open on any word.
+fn empty_tables<A: Allocator + Copy>(
+    alloc: A,
+    count: usize,
+) -> Result<Vec<Vec<Option<Open>, A>, A>, AllocError>
+    ensures sized { IfOk result (λ v. length v.items ≡ count) }
+    ensures empty { IfOk result (λ v. (w : ℕ) → lists_of v.items w ≡ []) }
 {
-    let mut table = Vec::new(alloc);
-    for _ in 0..64usize {
-        table.push(None)?;
+    let mut tables = Vec::new(alloc);
+    for _ in 0..count {
+        tables.push(Vec::new(alloc))?;
     }
-    Ok(table)
+    Ok(tables)
 }
 
 /// The search before the first event.
@@ -74,7 +80,7 @@ pub fn start<A: Allocator + Copy>(
     ensures { IfOk result (λ s. Holds opening.now events.now 0 s) }
 {
     Ok(Search {
-        table: empty_table(alloc)?,
+        tables: empty_tables(alloc, opening.len())?,
         words: first_words(alloc, opening)?,
         nodes: Vec::new(alloc),
         hints: vec![in alloc; 0usize; HINTS]?,
@@ -97,12 +103,33 @@ impl<A: Allocator + Copy> Search<A> {
         ensures holds { OnOk result (Holds opening.now events.now (k + 1) self.new) }
         ensures undecided { IfErr result (IsUndecided events.now) }
     {
-        let Some(slot) = free_slot(&self.table) else {
-            return Err(Undecided::Operations { event: k });
-        };
         let promise = promise_of(events, k + 1, call.id);
-        self.table[slot] = Some(Open { call, promise });
-        Ok(())
+        let word = call.operation.address as usize;
+        if put(&mut self.tables[word], Open { call, promise })? {
+            Ok(())
+        } else {
+            Err(Undecided::Operations { event: k })
+        }
+    }
+
+    /// The operation of this number, which is answered, and its slot.
+    fn place_of(&self, opening: &[u64], events: &[Event], k: usize, id: u64) -> (usize, Open)
+        requires trace { IsTrace (length opening.now) events.now }
+        requires inside { k < length events.now }
+        requires answered { (reply : Reply) × IsAnsweredAt events.now k id reply }
+        requires holds { Holds opening.now events.now k self.now }
+        ensures there { IsAt (lists_of self.now.tables.items result.1.call.operation.address)
+            result.0 result.1 }
+        ensures number { result.1.call.id ≡ id }
+        ensures inside { result.1.call.operation.address < length opening.now }
+    {
+        let Some(call) = issue_of(events, k, id) else {
+            unreachable!();
+        };
+        let Some(found) = slot_of(&self.tables[call.operation.address as usize], id) else {
+            unreachable!();
+        };
+        found
     }
 
     /// The operation of this number is answered. Says whether each word has a branch still.
@@ -117,15 +144,14 @@ impl<A: Allocator + Copy> Search<A> {
         bound: usize,
     ) -> Result<bool, Undecided>
         requires trace { IsTrace (length opening.now) events.now }
+        requires inside { k < length events.now }
         requires answered { IsAnsweredAt events.now k id reply }
         requires holds { Holds opening.now events.now k self.old }
         ensures yes { IfOk result (λ b. b ≡ true → Holds opening.now events.now (k + 1) self.new) }
         ensures no { IfOk result (λ b. b ≡ false → IsLinearizable opening.now events.now → ⊥) }
         ensures undecided { IfErr result (IsUndecided events.now) }
     {
-        let Some((slot, opened)) = slot_of(&self.table, id) else {
-            unreachable!();
-        };
+        let (slot, opened) = self.place_of(opening, events, k, id);
         let address = opened.call.operation.address;
         let word = address as usize;
         let closed = close(
@@ -133,7 +159,7 @@ impl<A: Allocator + Copy> Search<A> {
             &self.words[word],
             &mut self.nodes,
             &mut self.hints,
-            &self.table,
+            &self.tables[word],
             address,
             slot,
             bound,
@@ -145,7 +171,7 @@ impl<A: Allocator + Copy> Search<A> {
         };
         let later = keep(alloc, &middle, slot)?;
         let stands = !later.is_empty();
-        self.table[slot] = None;
+        free(&mut self.tables[word], slot);
         self.words[word] = later;
         Ok(stands)
     }

@@ -178,13 +178,13 @@ fn beside_pending_sums(
 #[test]
 fn bounds_are_kept(rt: HostRuntime) -> Result<(), Fail> {
     let alloc = rt.alloc();
-    // 64 operations are open at once, and one more.
-    let most = beside_pending_sums(alloc, 63, 1, 1000)?;
-    let more = beside_pending_sums(alloc, 64, 1, 1000)?;
+    // On another word 64 operations are open at once, and one more.
+    let most = beside_pending_sums(alloc, 64, 1, 1000)?;
+    let more = beside_pending_sums(alloc, 65, 1, 1000)?;
     // Of three others each may have taken effect or not, or only the answered one has: nine configurations.
     let nine = beside_pending_sums(alloc, 3, 0, 9)?;
     let eight = beside_pending_sums(alloc, 3, 0, 8)?;
-    assert!(rt; most == Seen::Yes(1) && more == Seen::Not(Undecided::Operations { event: 64 }));
+    assert!(rt; most == Seen::Yes(1) && more == Seen::Not(Undecided::Operations { event: 65 }));
     assert!(rt; nine == Seen::Yes(1) && eight == Seen::Not(Undecided::Configurations { event: 4 }));
     Ok(())
 }
@@ -211,7 +211,7 @@ fn memory_refused_at_every_budget(rt: HostRuntime) -> Result<(), Fail> {
     let mut suffices = false;
     let mut unlike = None;
     for steps in 0..70 {
-        let expected_now = match within(rt.alloc(), &events, steps * 8192)? {
+        let expected_now = match within(rt.alloc(), &events, steps * 256)? {
             Seen::Not(Undecided::Memory) => {
                 refused = steps;
                 !suffices

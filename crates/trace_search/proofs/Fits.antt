@@ -16,7 +16,7 @@ use Rattle.trace_order.proofs.Memory.{word_changed, word_kept}
 use Rattle.trace_search.proofs.Bits.{not_both, with_same, with_other, without_same, without_other}
 use Rattle.trace_order.proofs.Legal.{push_on}
 use Rattle.trace_order.proofs.Issues.{one_call, on_push}
-use Rattle.trace_search.proofs.Table.{at_within}
+use Rattle.trace_search.proofs.Table.{at_within, at_more, more_at}
 use Rattle.trace_search.specs.Searches.{IsAt, IsTable, Fits}
 
 pub fits_none : (opening : List ℕ) (table : List (Option Open)) (w : ℕ)
@@ -32,11 +32,11 @@ fits_none opening table w empty c word left = record {
 -- an open operation takes effect
 pub fits_effect : (opening : List ℕ) (trace : List Event) (k : ℕ) (table : List (Option Open)) (w : ℕ)
     (order : List Call) (c : Config) (s : ℕ) (o : Open)
-    → IsTable trace k table
+    → IsTable trace k w table
     → w < length opening → MayTake table w c s o → Fits opening table w order c
     → Fits opening table w (order ++ o.call ∷ []) (effect c s o)
 fits_effect opening trace k table w order c s o t inside may fits =
-    let l : s < 64 = at_within trace k table s o t may.pending.there in
+    let l : s < 64 = at_within trace k w table s o t may.pending.there in
     record {
       word = ap (λ (v : ℕ). new_word o.call.operation.op v) fits.word ∙ sym
           (word_changed opening order o.call w may.pending.here inside);
@@ -73,7 +73,7 @@ fits_effect opening trace k table w order c s o t inside may fits =
 -- an operation on another word does
 pub fits_other : (words : ℕ) (opening : List ℕ) (trace : List Event) (k : ℕ) (table : List (Option Open)) (w : ℕ)
     (order : List Call) (c : Config) (d : Call) (i : ℕ)
-    → IsTrace words trace → IsTable trace k table → IsIssuedAt trace i d → w ≢ d.operation.address
+    → IsTrace words trace → IsTable trace k w table → IsIssuedAt trace i d → w ≢ d.operation.address
     → Fits opening table w order c → Fits opening table w (order ++ d ∷ []) c
 fits_other words opening trace k table w order c d i tr t issue other fits = record {
   word = fits.word ∙ sym (word_kept opening order d w other);
@@ -125,6 +125,24 @@ fits_issue opening table w order c s b l empty new fits =
           (cases_eq u s);
     }
 
+-- so it is of each word
+pub fits_issued : (opening : List ℕ) (tables later : ℕ → List (Option Open)) (w : ℕ) (order : List Call) (c : Config)
+    (s : ℕ) (b : Open)
+    → s < 64 → slice_get (tables b.call.operation.address) s ≡ Some None
+    → later b.call.operation.address ≡ set (tables b.call.operation.address) s (Some b)
+    → ((v : ℕ) → v ≢ b.call.operation.address → later v ≡ tables v)
+    → (b.call.operation.address ≡ w → IsOn order b.call.id → ⊥) → Fits opening (tables w) w order c
+    → Fits opening (later w) w order c
+fits_issued opening tables later w order c s b l empty written same new fits = ⊎_elim {C = Fits opening (later w) w order c}
+    (λ (e : w ≡ b.call.operation.address).
+    let a : ℕ = b.call.operation.address in
+    subst (λ (u : ℕ). Fits opening (later u) u order c) (sym e)
+    (subst (λ (ts : List (Option Open)). Fits opening ts a order c) (sym written)
+    (fits_issue opening (tables a) a order c s b l empty (λ h. new (sym e))
+    (subst (λ (u : ℕ). Fits opening (tables u) u order c) e fits))))
+    (λ (ne : w ≢ b.call.operation.address). subst (λ (ts : List (Option Open)). Fits opening ts w order c) (sym (same w ne)) fits)
+    (cases_eq w b.call.operation.address)
+
 -- the operation in slot s is answered
 pub fits_answer : (opening : List ℕ) (table : List (Option Open)) (w : ℕ) (order : List Call) (c : Config) (s : ℕ)
     (a : Open)
@@ -159,31 +177,26 @@ fits_answer opening table w order c s a small there fits =
           (cases_eq u s);
     }
 
--- which is on another word
-pub fits_answer_other : (opening : List ℕ) (table : List (Option Open)) (w : ℕ) (order : List Call) (c : Config)
-    (s : ℕ) (a : Open)
-    → IsAt table s a
-    → w ≢ a.call.operation.address → Fits opening table w order c → Fits opening (set table s None) w order c
-fits_answer_other opening table w order c s a there away fits =
-    let other : (u : ℕ) (o : Open) → IsOpen (set table s None) w u o → u ≢ s =
-    λ u o h e.
-    let same : Some o ≡ None = get_set_same table s (Some a) None (Some o) there
-    (ap (λ (n : ℕ). slice_get (set table s None) n) (sym e) ∙ h.there) in
-    cc in
-    let old : (u : ℕ) (o : Open) → IsOpen (set table s None) w u o → IsOpen table w u o =
-    λ u o h. record { there = sym (get_set_other table s u None (other u o h)) ∙ h.there; here = h.here } in
-    record {
-      word = fits.word;
-      taken = λ u o h bit. fits.taken u o (old u o h) bit;
-      left = λ u o h bit on. fits.left u o (old u o h) bit on;
-      free = λ u m. ⊎_elim
-          (λ bit. inl bit)
-          (λ (r : (o : Open) × IsOpen table w u o). ⊎_elim
-          (λ (e : u ≡ s).
-          let at : slice_get table s ≡ Some (Some r.0) = ap (λ (n : ℕ). slice_get table n) (sym e) ∙ r.1.there in
-          let same : r.0 ≡ a = cc in
-          absurd (away (sym r.1.here ∙ ap (λ (q : Open). q.call.operation.address) same)))
-          (λ (ne : u ≢ s). inr (r.0, record { there = get_set_other table s u None ne ∙ r.1.there; here = r.1.here }))
-          (cases_eq u s))
-          (fits.free u m);
-    }
+-- the table has one more slot
+pub fits_more : (opening : List ℕ) (table : List (Option Open)) (w : ℕ) (order : List Call) (c : Config)
+    → Fits opening table w order c → Fits opening (table ++ None ∷ []) w order c
+fits_more opening table w order c fits = record {
+  word = fits.word;
+  taken = λ s o h b. fits.taken s o (record { there = at_more table s o h.there; here = h.here }) b;
+  left = λ s o h b on. fits.left s o (record { there = at_more table s o h.there; here = h.here }) b on;
+  free = λ s m. ⊎_elim
+      (λ bit. inl bit)
+      (λ (r : (o : Open) × IsOpen table w s o). inr
+      (r.0, record { there = more_at table s r.0 r.1.there; here = r.1.here }))
+      (fits.free s m);
+}
+
+pub fits_widened : (opening : List ℕ) (tables later : ℕ → List (Option Open)) (w : ℕ)
+    → later w ≡ tables w ++ None ∷ [] → ((v : ℕ) → v ≢ w → later v ≡ tables v)
+    → (v : ℕ) (order : List Call) (c : Config) → Fits opening (tables v) v order c → Fits opening (later v) v order c
+fits_widened opening tables later w new same v order c fits = ⊎_elim {C = Fits opening (later v) v order c}
+    (λ (e : v ≡ w). subst (λ (u : ℕ). Fits opening (later u) u order c) (sym e)
+    (subst (λ (ts : List (Option Open)). Fits opening ts w order c) (sym new)
+    (fits_more opening (tables w) w order c (subst (λ (u : ℕ). Fits opening (tables u) u order c) e fits))))
+    (λ (ne : v ≢ w). subst (λ (ts : List (Option Open)). Fits opening ts v order c) (sym (same v ne)) fits)
+    (cases_eq v w)

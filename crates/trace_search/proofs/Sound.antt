@@ -12,12 +12,12 @@ use Rattle.trace_search.specs.declared.opened.Branch.{Branch}
 use Rattle.trace_search.specs.declared.opened.Node.{Node}
 use Rattle.trace_order.specs.Traces.{IsTrace, IsIssuedAt, IsAnsweredAt}
 use Rattle.trace_order.specs.Orders.{IsOrder, memory_of}
-use Rattle.trace_search.specs.Configs.{MayTake, Agrees, IsIn, effect}
-use Rattle.trace_search.specs.Searches.{IsAt, IsTable, IsPending, Fits, order_of, IsTrail, Picks, IsExplained, IsSound, AreReleased}
+use Rattle.trace_search.specs.Configs.{MayTake, Agrees, IsIn, effect, release}
+use Rattle.trace_search.specs.Searches.{IsAt, AreTables, IsPending, Fits, order_of, IsTrail, Picks, IsExplained, IsSound, AreReleased}
 use Rattle.trace_order.proofs.Lists.{get_push_cases, get_append_left, get_push, get_within}
 use Rattle.trace_order.proofs.Legal.{legal_all, legal_issue, legal_answer, legal_effect}
 use Rattle.trace_order.proofs.Issues.{one_issue}
-use Rattle.trace_search.proofs.Fits.{fits_effect, fits_other, fits_issue, fits_answer, fits_answer_other}
+use Rattle.trace_search.proofs.Fits.{fits_effect, fits_other, fits_issued, fits_answer, fits_widened}
 
 -- a function with a new value at one place
 abbrev pub put : {A : Type 0} → (ℕ → A) → ℕ → A → ℕ → A
@@ -94,13 +94,15 @@ trail_old nodes node back (i ∷ trail) last low is =
           (λ j e. let m = back i j is.0 at e in omega arith) is.3,
     )
 
-pub sound_issue : (opening : List ℕ) (trace : List Event) (k : ℕ) (table : List (Option Open))
+pub sound_issue : (opening : List ℕ) (trace : List Event) (k : ℕ) (tables later : ℕ → List (Option Open))
     (sets : ℕ → List Branch) (nodes : List Node) (s : ℕ) (b : Open)
     → IsTrace (length opening) trace
-    → IsIssuedAt trace k b.call → s < 64 → slice_get table s ≡ Some None
-    → IsSound opening trace k table sets nodes
-    → IsSound opening trace (suc k) (set table s (Some b)) sets nodes
-sound_issue opening trace k table sets nodes s b t now l free sound = record {
+    → IsIssuedAt trace k b.call → s < 64 → slice_get (tables b.call.operation.address) s ≡ Some None
+    → later b.call.operation.address ≡ set (tables b.call.operation.address) s (Some b)
+    → ((v : ℕ) → v ≢ b.call.operation.address → later v ≡ tables v)
+    → IsSound opening trace k tables sets nodes
+    → IsSound opening trace (suc k) later sets nodes
+sound_issue opening trace k tables later sets nodes s b t now l free new same_table sound = record {
   back = sound.back;
   inside = sound.inside;
   explained = λ pick trails marks picks.
@@ -108,13 +110,29 @@ sound_issue opening trace k table sets nodes s b t now l free sound = record {
       let order = order_of nodes marks in
       record {
         legal = legal_issue opening trace k order b.call now was.legal;
-        fits = λ w inside. fits_issue opening table w order (pick w).config s b l free
+        fits = λ w inside. fits_issued opening tables later w order (pick w).config s b l free new same_table
             (λ here on.
             let r = was.legal.issued on.0 on.1 on.2 in
             let same = one_issue (length opening) trace t r.0 k on.1 b.call r.2 now on.3 in
             let early = r.1 in
             omega arith)
             (was.fits w inside);
+      };
+}
+
+-- the tables have more slots
+pub sound_more : (opening : List ℕ) (trace : List Event) (k : ℕ) (tables later : ℕ → List (Option Open))
+    (sets : ℕ → List Branch) (nodes : List Node) (w : ℕ) → later w ≡ tables w ++ None ∷ []
+    → ((v : ℕ) → v ≢ w → later v ≡ tables v)
+    → IsSound opening trace k tables sets nodes → IsSound opening trace k later sets nodes
+sound_more opening trace k tables later sets nodes w new same sound = record {
+  back = sound.back;
+  inside = sound.inside;
+  explained = λ pick trails marks picks.
+      let was = sound.explained pick trails marks picks in
+      record {
+        legal = was.legal;
+        fits = λ v l. fits_widened opening tables later w new same v (order_of nodes marks) (pick v).config (was.fits v l);
       };
 }
 
@@ -271,14 +289,14 @@ picks_new words sets later nodes node pick trails marks init m w b back inside e
     behind n rest i (suc k, at) ne = (k, at)
 
 -- An operation takes effect in one of the branches, which makes a node, and a new branch.
-pub sound_add : (opening : List ℕ) (trace : List Event) (k : ℕ) (table : List (Option Open))
+pub sound_add : (opening : List ℕ) (trace : List Event) (k : ℕ) (tables : ℕ → List (Option Open))
     (sets later : ℕ → List Branch) (nodes : List Node) (w : ℕ) (b : Branch) (s : ℕ) (o : Open)
-    → IsTrace (length opening) trace → IsTable trace k table → w < length opening → IsIn (sets w) b
-    → MayTake table w b.config s o
+    → IsTrace (length opening) trace → AreTables (length opening) trace k tables → w < length opening → IsIn (sets w) b
+    → MayTake (tables w) w b.config s o
     → ((c : Branch) → IsIn (later w) c → IsIn (sets w) c ⊎ (c ≡ grown nodes b s o))
     → ((v : ℕ) → v ≢ w → later v ≡ sets v)
-    → IsSound opening trace k table sets nodes → IsSound opening trace k table later (nodes ++ node_of b o ∷ [])
-sound_add opening trace k table sets later nodes w b s o t is inside in' may cases same sound = record {
+    → IsSound opening trace k tables sets nodes → IsSound opening trace k tables later (nodes ++ node_of b o ∷ [])
+sound_add opening trace k tables sets later nodes w b s o t is inside in' may cases same sound = record {
   back = λ i j n h e. ⊎_elim
       (λ old. sound.back i j n old e)
       (λ (r : (i ≡ length nodes) × (node_of b o ≡ n)).
@@ -300,7 +318,7 @@ sound_add opening trace k table sets later nodes w b s o t is inside in' may cas
   where
     go : (pick : ℕ → Branch) (trails : ℕ → List ℕ) (marks : List Bool)
         → Picks (length opening) later (nodes ++ node_of b o ∷ []) pick trails marks
-        → IsExplained opening trace k table pick (order_of (nodes ++ node_of b o ∷ []) marks)
+        → IsExplained opening trace k tables pick (order_of (nodes ++ node_of b o ∷ []) marks)
     go pick trails marks picks =
         let cut = split_last marks (length nodes) (picks.sized ∙ length-node_push nodes (node_of b o)) in
         let init : List Bool = cut.0 in
@@ -313,7 +331,7 @@ sound_add opening trace k table sets later nodes w b s o t is inside in' may cas
         λ n is. ap (λ (ms : List Bool). order_of (nodes ++ node_of b o ∷ []) ms) e ∙
         (order_push nodes (node_of b o) init m cut.3
         ∙ ap (λ (x : Bool). order_of nodes init ++ cond x (o.call ∷ []) []) is) in
-        ⊎_elim {C = IsExplained opening trace k table pick (order_of (nodes ++ node_of b o ∷ []) marks)}
+        ⊎_elim {C = IsExplained opening trace k tables pick (order_of (nodes ++ node_of b o ∷ []) marks)}
         (λ (old : IsIn (sets w) (pick w)).
         let all : (v : ℕ) → v < length opening → IsIn (sets v) (pick v) = λ v l. ⊎_elim {C = IsIn (sets v) (pick v)}
         (λ (here : v ≡ w). subst (λ (u : ℕ). IsIn (sets u) (pick u)) (sym here) old)
@@ -321,7 +339,7 @@ sound_add opening trace k table sets later nodes w b s o t is inside in' may cas
         (cases_eq v w) in
         let was = picks_old (length opening) sets later nodes
         (node_of b o) pick trails marks init m sound.back sound.inside e cut.3 all picks in
-        subst (λ (cs : List Call). IsExplained opening trace k table pick cs)
+        subst (λ (cs : List Call). IsExplained opening trace k tables pick cs)
         (sym (order false was.1 ∙ append-nil (order_of nodes init)))
         (sound.explained pick trails init was.0))
         (λ (new : pick w ≡ grown nodes b s o).
@@ -329,12 +347,12 @@ sound_add opening trace k table sets later nodes w b s o t is inside in' may cas
         (node_of b o) pick trails marks init m w b sound.back sound.inside e cut.3 inside in' refl
         (ap (λ (c : Branch). c.trail) new) others picks in
         let before : List Call = order_of nodes init in
-        let x : IsExplained opening trace k table (put pick w b) before = sound.explained (put pick w b)
+        let x : IsExplained opening trace k tables (put pick w b) before = sound.explained (put pick w b)
         (put trails w was.0) init was.1 in
-        let fits : Fits opening table w before b.config = subst
-        (λ (c : Branch). Fits opening table w before c.config) (put_same pick w b w refl) (x.fits w inside) in
-        let p : IsPending trace k o = is.pending s o may.pending.there in
-        subst (λ (cs : List Call). IsExplained opening trace k table pick cs) (sym (order true was.2))
+        let fits : Fits opening (tables w) w before b.config = subst
+        (λ (c : Branch). Fits opening (tables w) w before c.config) (put_same pick w b w refl) (x.fits w inside) in
+        let p : IsPending trace k o = (is w inside).pending s o may.pending.there in
+        subst (λ (cs : List Call). IsExplained opening trace k tables pick cs) (sym (order true was.2))
         (record {
           legal = legal_effect (length opening) opening trace t k before o.call p.at p.early p.issue p.unanswered
               (λ on. fits.left s o may.pending may.left on)
@@ -343,26 +361,29 @@ sound_add opening trace k table sets later nodes w b s o t is inside in' may cas
               ∙ ap (λ (v : ℕ). reply_to o.call.operation.op (get_or (memory_of opening before) v 0))
               (sym may.pending.here)))
               x.legal;
-          fits = λ v l. ⊎_elim {C = Fits opening table v (before ++ o.call ∷ []) (pick v).config}
-              (λ (here : v ≡ w). subst (λ (u : ℕ). Fits opening table u (before ++ o.call ∷ []) (pick u).config)
+          fits = λ v l. ⊎_elim {C = Fits opening (tables v) v (before ++ o.call ∷ []) (pick v).config}
+              (λ (here : v ≡ w). subst (λ (u : ℕ). Fits opening (tables u) u (before ++ o.call ∷ []) (pick u).config)
               (sym here)
-              (subst (λ (c : Branch). Fits opening table w (before ++ o.call ∷ []) c.config) (sym new)
-              (fits_effect opening trace k table w before b.config s o is inside may fits)))
-              (λ (ne : v ≢ w). fits_other (length opening) opening trace k table v before
-              (pick v).config o.call p.at t is p.issue (λ same. ne (same ∙ may.pending.here))
-              (subst (λ (c : Branch). Fits opening table v before c.config) (put_other pick w b v ne) (x.fits v l)))
+              (subst (λ (c : Branch). Fits opening (tables w) w (before ++ o.call ∷ []) c.config) (sym new)
+              (fits_effect opening trace k (tables w) w before b.config s o (is w inside) inside may fits)))
+              (λ (ne : v ≢ w). fits_other (length opening) opening trace k (tables v) v before
+              (pick v).config o.call p.at t (is v l) p.issue (λ same. ne (same ∙ may.pending.here))
+              (subst (λ (c : Branch). Fits opening (tables v) v before c.config) (put_other pick w b v ne) (x.fits v l)))
               (cases_eq v w);
         }))
         (cases (pick w) (picks.picked w inside))
 
-pub sound_answer : (opening : List ℕ) (trace : List Event) (k : ℕ) (table : List (Option Open))
+pub sound_answer : (opening : List ℕ) (trace : List Event) (k : ℕ) (tables emptied : ℕ → List (Option Open))
     (sets later : ℕ → List Branch) (nodes : List Node) (s : ℕ) (a : Open) (reply : Reply)
-    → IsTrace (length opening) trace → IsTable trace k table → IsAnsweredAt trace k a.call.id reply
-    → IsAt table s a
+    → IsTrace (length opening) trace → AreTables (length opening) trace k tables
+    → IsAnsweredAt trace k a.call.id reply → a.call.operation.address < length opening
+    → IsAt (tables a.call.operation.address) s a
+    → emptied a.call.operation.address ≡ set (tables a.call.operation.address) s None
+    → ((v : ℕ) → v ≢ a.call.operation.address → emptied v ≡ tables v)
     → AreReleased s (sets a.call.operation.address) (later a.call.operation.address)
     → ((v : ℕ) → v ≢ a.call.operation.address → later v ≡ sets v)
-    → IsSound opening trace k table sets nodes → IsSound opening trace (suc k) (set table s None) later nodes
-sound_answer opening trace k table sets later nodes s a reply t is now there released same sound = record {
+    → IsSound opening trace k tables sets nodes → IsSound opening trace (suc k) emptied later nodes
+sound_answer opening trace k tables emptied sets later nodes s a reply t is now inside there gone same_table released same sound = record {
   back = sound.back;
   inside = λ v i c l at e. ⊎_elim
       (λ (here : v ≡ w).
@@ -376,18 +397,15 @@ sound_answer opening trace k table sets later nodes s a reply t is now there rel
     w : ℕ
     w = a.call.operation.address
 
-    inside : a.call.operation.address < length opening
-    inside = let p = is.pending s a there in t.inside p.at a.call p.issue
-
     go : (pick : ℕ → Branch) (trails : ℕ → List ℕ) (marks : List Bool)
         → Picks (length opening) later nodes pick trails marks
-        → IsExplained opening trace (suc k) (set table s None) pick (order_of nodes marks)
+        → IsExplained opening trace (suc k) emptied pick (order_of nodes marks)
     go pick trails marks picks =
         let w : ℕ = a.call.operation.address in
         let from = released (pick w) (picks.picked w inside) in
         let b : Branch = from.0 in
         let order : List Call = order_of nodes marks in
-        let x : IsExplained opening trace k table (put pick w b) order = sound.explained (put pick w b) trails marks
+        let x : IsExplained opening trace k tables (put pick w b) order = sound.explained (put pick w b) trails marks
         (record {
           sized = picks.sized;
           picked = λ v l. ⊎_elim {C = IsIn (sets v) (put pick w b v)}
@@ -408,26 +426,27 @@ sound_answer opening trace k table sets later nodes s a reply t is now there rel
           marked = picks.marked;
           only = picks.only;
         }) in
-        let fits : Fits opening table w order b.config = subst (λ (c : Branch). Fits opening table w order c.config)
+        let fits : Fits opening (tables w) w order b.config = subst (λ (c : Branch). Fits opening (tables w) w order c.config)
         (put_same pick w b w refl) (x.fits w inside) in
         record {
           legal = legal_answer opening trace k order a.call.id reply now
               (fits.taken s a (record { there = there; here = refl }) from.2) x.legal;
-          fits = λ v l. ⊎_elim {C = Fits opening (set table s None) v order (pick v).config}
-              (λ (here : v ≡ w). subst (λ (u : ℕ). Fits opening (set table s None) u order (pick u).config) (sym here)
-              (subst (λ (c : Branch). Fits opening (set table s None) w order c.config) (sym from.3)
-              (fits_answer opening table w order b.config s a is.slots there fits)))
-              (λ (ne : v ≢ w). fits_answer_other opening table v order (pick v).config s a there ne
-              (subst (λ (c : Branch). Fits opening table v order c.config) (put_other pick w b v ne) (x.fits v l)))
+          fits = λ v l. ⊎_elim {C = Fits opening (emptied v) v order (pick v).config}
+              (λ (here : v ≡ w). subst (λ (u : ℕ). Fits opening (emptied u) u order (pick u).config) (sym here)
+              (subst (λ (c : Branch). Fits opening (emptied w) w order c.config) (sym from.3)
+              (subst (λ (ts : List (Option Open)). Fits opening ts w order (release b.config s)) (sym gone)
+              (fits_answer opening (tables w) w order b.config s a (is w inside).slots there fits))))
+              (λ (ne : v ≢ w). subst (λ (ts : List (Option Open)). Fits opening ts v order (pick v).config) (sym (same_table v ne))
+              (subst (λ (c : Branch). Fits opening (tables v) v order c.config) (put_other pick w b v ne) (x.fits v l)))
               (cases_eq v w);
         }
 
 -- at the end the order of the picked nodes explains the trace
-pub sound_all : (opening : List ℕ) (trace : List Event) (k : ℕ) (table : List (Option Open)) (sets : ℕ → List Branch)
+pub sound_all : (opening : List ℕ) (trace : List Event) (k : ℕ) (tables : ℕ → List (Option Open)) (sets : ℕ → List Branch)
     (nodes : List Node)
     → length trace ≤ k
-    → IsSound opening trace k table sets nodes → (pick : ℕ → Branch) (trails : ℕ → List ℕ) (marks : List Bool)
+    → IsSound opening trace k tables sets nodes → (pick : ℕ → Branch) (trails : ℕ → List ℕ) (marks : List Bool)
     → Picks (length opening) sets nodes pick trails marks
     → IsOrder opening trace (order_of nodes marks)
-sound_all opening trace k table sets nodes all sound pick trails marks picks =
+sound_all opening trace k tables sets nodes all sound pick trails marks picks =
     legal_all opening trace k (order_of nodes marks) all (sound.explained pick trails marks picks).legal

@@ -33,13 +33,19 @@ IsKnown trace k table call =
     ((i : ℕ) × (reply : Reply) × (i < k) × IsAnsweredAt trace i call.id reply)
     ⊎ ((s : ℕ) × (o : Open) × IsAt table s o × (o.call ≡ call))
 
--- the table's operations are those that are open before event k
-pub record IsTable (trace : List Event) (k : ℕ) (table : List (Option Open)) : Type 0 where
+-- the table's operations are those on word w that are open before event k
+pub record IsTable (trace : List Event) (k w : ℕ) (table : List (Option Open)) : Type 0 where
   pub slots : length table ≤ 64
   pub pending : (s : ℕ) (o : Open) → IsAt table s o → IsPending trace k o
+  pub here : (s : ℕ) (o : Open) → IsAt table s o → o.call.operation.address ≡ w
   pub distinct : (s u : ℕ) (o p : Open) → IsAt table s o → IsAt table u p → o.call.id ≡ p.call.id
       → s ≡ u
-  pub known : (i : ℕ) (call : Call) → i < k → IsIssuedAt trace i call → IsKnown trace k table call
+  pub known : (i : ℕ) (call : Call) → i < k → IsIssuedAt trace i call
+      → call.operation.address ≡ w → IsKnown trace k table call
+
+-- each word has a table
+abbrev pub AreTables : ℕ → List Event → ℕ → (ℕ → List (Option Open)) → Type 0
+AreTables words trace k tables = (w : ℕ) → w < words → IsTable trace k w (tables w)
 
 -- a configuration of word w tells what an order leaves of it, and which of the open operations on
 -- it are in the order
@@ -67,9 +73,10 @@ IsCovered opening trace k table w order configs =
 
 -- completeness: whatever order explains the trace, each word has a configuration that fits it up to
 -- a cut
-abbrev pub IsComplete : List ℕ → List Event → ℕ → List (Option Open) → (ℕ → List Config) → Type 0
-IsComplete opening trace k table sets = (order : List Call) → IsOrder opening trace order
-    → (w : ℕ) → w < length opening → IsCovered opening trace k table w order (sets w)
+abbrev pub IsComplete : List ℕ → List Event → ℕ → (ℕ → List (Option Open)) → (ℕ → List Config)
+    → Type 0
+IsComplete opening trace k tables sets = (order : List Call) → IsOrder opening trace order
+    → (w : ℕ) → w < length opening → IsCovered opening trace k (tables w) w order (sets w)
 
 -- the operations of the marked nodes, in the order in which the nodes were made
 abbrev pub order_of : List Node → List Bool → List Call
@@ -95,33 +102,33 @@ pub record Picks (words : ℕ) (sets : ℕ → List Branch) (nodes : List Node) 
   pub only : (i : ℕ) → slice_get marks i ≡ Some true → (w : ℕ) × (w < words) × IsIn (trails w) i
 
 -- an order of what was issued before event k fits the branches that are picked
-pub record IsExplained (opening : List ℕ) (trace : List Event) (k : ℕ) (table : List (Option Open))
-    (pick : ℕ → Branch) (order : List Call) : Type 0 where
+pub record IsExplained (opening : List ℕ) (trace : List Event) (k : ℕ)
+    (tables : ℕ → List (Option Open)) (pick : ℕ → Branch) (order : List Call) : Type 0 where
   pub legal : Legal opening trace k order
-  pub fits : (w : ℕ) → w < length opening → Fits opening table w order (pick w).config
+  pub fits : (w : ℕ) → w < length opening → Fits opening (tables w) w order (pick w).config
 
 -- Soundness: nodes lead back to earlier ones, branches to nodes that there are, and whatever
 -- branches are picked, one for each word, the order of the nodes that they lead back to explains
 -- the trace so far.
-pub record IsSound (opening : List ℕ) (trace : List Event) (k : ℕ) (table : List (Option Open))
-    (sets : ℕ → List Branch) (nodes : List Node) : Type 0 where
+pub record IsSound (opening : List ℕ) (trace : List Event) (k : ℕ)
+    (tables : ℕ → List (Option Open)) (sets : ℕ → List Branch) (nodes : List Node) : Type 0 where
   pub back : (i j : ℕ) (node : Node) → slice_get nodes i ≡ Some node → node.before ≡ Some j → j < i
   pub inside : (w i : ℕ) (b : Branch) → w < length opening → IsIn (sets w) b → b.trail ≡ Some i
       → i < length nodes
   pub explained : (pick : ℕ → Branch) (trails : ℕ → List ℕ) (marks : List Bool)
       → Picks (length opening) sets nodes pick trails marks
-      → IsExplained opening trace k table pick (order_of nodes marks)
+      → IsExplained opening trace k tables pick (order_of nodes marks)
 
 -- the configurations of some branches
 abbrev pub configs_of : List Branch → List Config
 configs_of branches = map (λ b. b.config) branches
 
 -- all that a search knows before event k, of the open operations and of the branches of each word
-pub record IsSearched (opening : List ℕ) (trace : List Event) (k : ℕ) (table : List (Option Open))
-    (sets : ℕ → List Branch) (nodes : List Node) : Type 0 where
-  pub tabled : IsTable trace k table
-  pub sound : IsSound opening trace k table sets nodes
-  pub complete : IsComplete opening trace k table (λ w. configs_of (sets w))
+pub record IsSearched (opening : List ℕ) (trace : List Event) (k : ℕ)
+    (tables : ℕ → List (Option Open)) (sets : ℕ → List Branch) (nodes : List Node) : Type 0 where
+  pub tabled : AreTables (length opening) trace k tables
+  pub sound : IsSound opening trace k tables sets nodes
+  pub complete : IsComplete opening trace k tables (λ w. configs_of (sets w))
 
 -- the branch from which a word's search begins
 abbrev pub first_branch : ℕ → Branch

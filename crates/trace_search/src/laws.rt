@@ -1,6 +1,6 @@
 //! Laws of searches for the order of a trace, each the contract of a function that does nothing.
 
-ghost use Rattle.std.specs.Prelude.{◌≡◌, ◌<◌, ◌≤◌, ◌∷◌, ℕ, Bool, List, None, Option, [], length, replicate};
+ghost use Rattle.std.specs.Prelude.{◌≡◌, ◌<◌, ◌≤◌, ◌∷◌, ℕ, Bool, List, Option, [], length};
 ghost use Rattle.std.specs.Prelude.{slice_index};
 ghost use Rattle.trace_order.specs.declared.event.Event.{Event};
 ghost use Rattle.trace_order.specs.Orders.{IsLinearizable, IsOrder};
@@ -12,17 +12,18 @@ ghost use Rattle.trace_search.specs.Searches.{IsSearched, Picks, first_branch, o
 
 /// Before the first event a search has nothing open, and of each word the opening word alone.
 pub fn searches_begin()
-    ensures { (opening : List ℕ) (trace : List Event) (sets : ℕ → List Branch)
+    ensures { (opening : List ℕ) (trace : List Event) (tables : ℕ → List (Option Open))
+        (sets : ℕ → List Branch) → ((w : ℕ) → w < length opening → tables w ≡ [])
         → ((w : ℕ) → w < length opening → sets w ≡ first_branch (slice_index opening w) ∷ [])
-        → IsSearched opening trace 0 (replicate 64 None) sets [] }
+        → IsSearched opening trace 0 tables sets [] }
 {}
 
 /// At the end, whatever branches are picked, one for each word: the operations on the ways to them,
 /// in the order in which their nodes were made, explain the trace.
 pub fn branches_give_an_order()
-    ensures { (opening : List ℕ) (trace : List Event) (k : ℕ) (table : List (Option Open))
+    ensures { (opening : List ℕ) (trace : List Event) (k : ℕ) (tables : ℕ → List (Option Open))
         (sets : ℕ → List Branch) (nodes : List Node)
-        → IsSearched opening trace k table sets nodes → length trace ≤ k
+        → IsSearched opening trace k tables sets nodes → length trace ≤ k
         → (pick : ℕ → Branch) (trails : ℕ → List ℕ) (marks : List Bool)
         → Picks (length opening) sets nodes pick trails marks
         → IsOrder opening trace (order_of nodes marks) }
@@ -30,8 +31,8 @@ pub fn branches_give_an_order()
 
 /// Where a word has no branch, at any event, no order explains the trace.
 pub fn words_without_branches_have_no_order()
-    ensures { (opening : List ℕ) (trace : List Event) (k : ℕ) (table : List (Option Open))
+    ensures { (opening : List ℕ) (trace : List Event) (k : ℕ) (tables : ℕ → List (Option Open))
         (sets : ℕ → List Branch) (nodes : List Node)
-        → IsSearched opening trace k table sets nodes → (w : ℕ) → w < length opening
+        → IsSearched opening trace k tables sets nodes → (w : ℕ) → w < length opening
         → ((b : Branch) → IsIn (sets w) b → ⊥) → IsLinearizable opening trace → ⊥ }
 {}

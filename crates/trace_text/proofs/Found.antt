@@ -167,7 +167,7 @@ crowd_in r k n event w =
     let same : moved_call back c ≡ b.0 =
     ap (moved_call back) (sym b.2) ∙ ap (λ (a : ℕ). record { id = b.0.id; operation = record { address = a; op = b.0.operation.op } }) inverse in
     (g.0, subst (λ (x : Call). IsIssuedAt r.events i x) (sym same) b.1) in
-    let now = issue event w.another.0 w.another.1 in
+    let now = issue event w.another w.issue in
     record {
       calls = map (moved_call back) w.calls;
       many = length-map w.calls (moved_call back) ∙ w.many;
@@ -189,7 +189,11 @@ crowd_in r k n event w =
           let g = get_map (moved_call back) w.calls s c h in
           let f = get_map (moved_call back) w.calls u d m in
           w.distinct s u g.0 f.0 g.1 f.1 (ap (λ (x : Call). x.id) g.2 ∙ (e ∙ sym (ap (λ (x : Call). x.id) f.2)));
-      another = (moved_call back w.another.0, now.1);
+      here = λ s c h.
+          let g = get_map (moved_call back) w.calls s c h in
+          ap (λ (x : Call). x.operation.address) (sym g.2) ∙ ap back (w.here s g.0 g.1);
+      another = moved_call back w.another;
+      issue = now.1;
     }
 
 -- why it is not judged
@@ -200,7 +204,7 @@ unfound r k (undecided.Configurations event) u =
     (event, line_is r k event (get_within r.events event (Answer a.0 a.1) a.2), a)
 unfound r k (undecided.Operations event) u =
     let w = crowd_in r k u.0 event u.1 in
-    (event, line_is r k event (get_within r.events event (Issue w.another.0) w.another.1), w)
+    (event, line_is r k event (get_within r.events event (Issue w.another) w.issue), w)
 
 -- the same, of the words and the events that the judge was given
 pub trace_given : (r : Reading) → IsKept r → (ws : List ℕ) (es : List Event) → ws ≡ others r → es ≡ moved r → IsTrace (length ws) es

@@ -47,8 +47,8 @@ Tells t (No line) = (event : ℕ) × (slice_get t.lines event ≡ Some line)
     × IsLinearizable (opening_of t) (take event t.events)
     × (IsLinearizable (opening_of t) (take (event + 1) t.events) → ⊥)
 
--- the line of an answer at which a word has too many configurations, or of an issue beside 64 open
--- operations
+-- the line of an answer at which a word has too many configurations, or of an issue beside 64
+-- operations that are open on its word
 abbrev pub IsUnfound : TraceSpec → Unfound → Type 0
 IsUnfound t Memory = Unit {0}
 IsUnfound t (Configurations line) =

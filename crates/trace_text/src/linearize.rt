@@ -32,7 +32,7 @@ pub enum Unfound {
     Memory,
     /// At the answer of this line a word has more configurations than were allowed.
     Configurations { line: u64 },
-    /// At the issue of this line more than 64 operations are open.
+    /// At the issue of this line more than 64 operations are open on one word.
     Operations { line: u64 },
 }
 

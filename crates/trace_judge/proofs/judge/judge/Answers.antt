@@ -8,8 +8,8 @@ pub loop-good-init : goal.loop-good-init
 loop-good-init g c = boundary_whole c.args.opening.now c.args.events.now
     (MatchOption-at_none {o = c.in_ok-order.field-0} _ _ c.in_default.is c.in_ok-order.ensures.decided)
 
-pub decide-requires-in-loop-good : goal.decide-requires-in-loop-good
-decide-requires-in-loop-good g c = trace_take (length c.args.opening.now) _ c.args.events.now c.requires
+pub decide-requires : goal.decide-requires
+decide-requires g c = trace_take (length c.args.opening.now) _ c.args.events.now c.requires
 
 pub returns-in_err-order-clause-unjudged : goal.returns-in_err-order-clause-unjudged
 returns-in_err-order-clause-unjudged g c =

@@ -1,7 +1,7 @@
 use Rattle.std.proofs.Common.{◌≡◌, ◌<◌, ◌+◌, ℕ, Bool, length, arith, sym, ◌∙◌, subst, List}
 use Rattle.trace_search.specs.declared.opened.Node.{Node}
 use Rattle.trace_search.specs.Searches.{Picks}
-use Rattle.trace_judge.specs.Sets.{sets_of}
+use Rattle.trace_judge.specs.Sets.{lists_of}
 use Rattle.std.proofs.lemmas.List.{with_items_is}
 use Rattle.trace_judge.proofs.Searching.{filled_length, head_in, firsts, picks_word}
 use Rattle.trace_judge.proofs.Marking.{picks_none, PicksSoFar}
@@ -9,7 +9,7 @@ use Rattle.trace_judge.proofs.judge.mark_all.Goals as goal
 
 pub loop-word-init : goal.loop-word-init
 loop-word-init g c = picks_none (firsts c.args.search.now.words.items)
-    (sets_of c.args.search.now.words.items) c.args.search.now.nodes.items c.len.result c.in_ok-marks.marks.items c.in_ok-marks.ensures (omega arith)
+    (lists_of c.args.search.now.words.items) c.args.search.now.nodes.items c.len.result c.in_ok-marks.marks.items c.in_ok-marks.ensures (omega arith)
 
 pub index-requires : goal.index-requires
 index-requires g c =
@@ -38,7 +38,7 @@ loop-word-preserved g c =
     let len : length c.mark.new.marks ≡ length c.deref_mut.result.now = c.mark.auto.marks in
     let long : length c.mark.new.marks ≡ c.loop-word.marks.len = len ∙ c.deref_mut.ensures.len in
     subst (λ (ms : List Bool). PicksSoFar (firsts c.args.search.now.words.items) (c.loop-word.word + 1)
-    (sets_of c.args.search.now.words.items) c.args.search.now.nodes.items ms)
+    (lists_of c.args.search.now.words.items) c.args.search.now.nodes.items ms)
     (sym (with_items_is c.loop-word.marks c.mark.new.marks long))
     (picks_word words w c.args.search.now.nodes.items c.deref.result.now c.loop-word.marks.items c.deref_mut.result.now c.mark.new.marks
     c.index-branches.result.now c.index.result.now
@@ -49,6 +49,6 @@ returns g c =
     let e : c.loop-word.word ≡ length c.args.opening.now = let e = c.requires.sized in omega arith in (
       firsts c.args.search.now.words.items,
       c.loop-word.invariant.0,
-      subst (λ (n : ℕ). Picks n (sets_of c.args.search.now.words.items) c.args.search.now.nodes.items
+      subst (λ (n : ℕ). Picks n (lists_of c.args.search.now.words.items) c.args.search.now.nodes.items
           (firsts c.args.search.now.words.items) c.loop-word.invariant.0 c.loop-word.marks.items) e c.loop-word.invariant.1,
     )

@@ -1,8 +1,8 @@
-use Rattle.trace_judge.specs.Sets.{sets_of}
+use Rattle.trace_judge.specs.Sets.{lists_of}
 use Rattle.trace_judge.proofs.Marking.{PicksSoFar}
 use Rattle.trace_judge.proofs.Searching.{firsts}
 use Rattle.trace_judge.proofs.judge.mark_all.Given as goal
 
 abbrev pub invariant-loop-word : goal.invariant-loop-word
 invariant-loop-word g l = PicksSoFar (firsts l.search.words.items) l.word
-    (sets_of l.search.words.items) l.search.nodes.items l.marks.items
+    (lists_of l.search.words.items) l.search.nodes.items l.marks.items

@@ -2,4 +2,4 @@ use Rattle.trace_search.proofs.Start.{searched_none}
 use Rattle.trace_search.proofs.laws.searches_begin.Goals as goal
 
 pub returns : goal.returns
-returns c = λ opening trace sets first. searched_none opening trace sets first
+returns c = λ opening trace tables sets empty first. searched_none opening trace tables sets empty first

@@ -1,60 +1,69 @@
-use Rattle.std.proofs.Common.{◌<◌, suc, ◌∙◌, length, length-set, Some, None, refl, arith}
+use Rattle.std.proofs.Common.{◌<◌, suc, ◌∙◌, length, length-set, refl, arith}
 use Rattle.std.specs.Vec.{with_item}
-use Rattle.trace_order.proofs.Lists.{get_within}
-use Rattle.trace_judge.proofs.Searching.{seen_answer, answer_yes, answer_no, slot_inside, read_set, stays_some, goes_none, at_seen}
+use Rattle.trace_search.proofs.Table.{at_within}
+use Rattle.trace_judge.specs.Sets.{lists_of}
+use Rattle.trace_judge.proofs.Searching.{seen_answer, answer_yes, answer_no, stays_some, goes_none, slot_low}
 use Rattle.trace_judge.proofs.search.Search.answer.Goals as goal
+
+pub close-closed-requires-clause-inside : goal.close-closed-requires-clause-inside
+close-closed-requires-clause-inside g c =
+    let a = c.place_of-slot.result.1 in
+    let w = a.call.operation.address in
+    at_within c.args.events.now c.args.k w (lists_of c.args.self.now.tables.items w) c.place_of-slot.result.0 a
+    (c.requires.holds.searched.tabled w c.place_of-slot.ensures.inside) c.place_of-slot.ensures.there
+
+pub keep-requires : goal.keep-requires
+keep-requires g c =
+    let a = c.place_of-slot.result.1 in
+    let w = a.call.operation.address in
+    at_within c.args.events.now c.args.k w (lists_of c.args.self.now.tables.items w) c.place_of-slot.result.0 a
+    (c.requires.holds.searched.tabled w c.place_of-slot.ensures.inside) c.place_of-slot.ensures.there
+
+pub free-requires : goal.free-requires
+free-requires g c =
+    let a = c.place_of-slot.result.1 in
+    let w = a.call.operation.address in
+    let far = c.place_of-slot.ensures.inside in
+    let inside : w < length c.args.self.now.tables.items = let e = c.requires.holds.tabled in omega arith in
+    slot_low c.args.self.now.tables.items w c.place_of-slot.result.0 a c.index_mut.result.now inside c.index_mut.ensures.value
+    c.place_of-slot.ensures.there
 
 pub returns-clause-yes : goal.returns-clause-yes
 returns-clause-yes g c = λ e.
     let s = c.args.self.now in
-    let slot = c.in-Some.slot in
-    let a = c.in-Some.opened in
+    let slot = c.place_of-slot.result.0 in
+    let a = c.place_of-slot.result.1 in
     let w = a.call.operation.address in
     let later = c.in_ok-later.later in
-    let t = with_item s.table slot None in
+    let ts = with_item s.tables w c.free.new.table in
     let ws = with_item s.words w later in
-    let at = at_seen s.table.items c.deref.result.now slot a c.args.id c.deref.ensures.value c.in-Some.ensures in
-    let inside = slot_inside c.args.opening.now c.args.events.now c.args.k s slot a c.requires.trace c.requires.holds at in
-    let done = seen_answer c.args.opening.now c.args.events.now c.args.k s t ws c.close-closed.new.nodes slot a c.args.id c.args.reply
-    c.deref.result.now c.deref-3.result.now c.deref-2.result.now c.in-Ok.middle.items c.deref-4.result.now later
-    c.requires.trace c.requires.answered c.deref.ensures.value c.deref-3.ensures.value c.deref-4.ensures.value c.in-Some.ensures c.requires.holds
-    (c.deref-2.ensures.value ∙ read_set s.words.items w c.index.result.now inside c.index.ensures) refl refl
+    let done = seen_answer c.args.opening.now c.args.events.now c.args.k s ts ws c.close-closed.new.nodes slot a c.args.id
+    c.args.reply c.index_mut.result.now c.index-2.result.now c.free.new.table c.deref-2.result.now c.index.result.now
+    c.deref.result.now c.in-Ok.middle.items c.deref-3.result.now later
+    c.requires.trace c.requires.answered c.place_of-slot.ensures.number c.place_of-slot.ensures.inside
+    c.place_of-slot.ensures.there c.requires.holds c.index_mut.ensures.value c.index-2.ensures c.deref-2.ensures.value
+    c.index.ensures c.deref.ensures.value c.deref-3.ensures.value refl c.free.ensures refl
     c.in-Ok.ensures.kept c.in-Ok.ensures.closed c.in-Ok.ensures.sound c.in_ok-later.ensures.from c.in_ok-later.ensures.released in
-    answer_yes c.args.opening.now c.args.events.now c.args.k s t ws c.close-closed.new.nodes _ w later inside
-    (stays_some later c.is_empty-stands.result c.is_empty-stands.ensures e) refl
-    (length-set s.table.items slot None) c.requires.holds done
+    answer_yes c.args.opening.now c.args.events.now c.args.k s ts ws c.close-closed.new.nodes _ w later
+    c.place_of-slot.ensures.inside (stays_some later c.is_empty-stands.result c.is_empty-stands.ensures e) refl
+    (length-set s.tables.items w c.free.new.table) c.requires.holds done
 
 pub returns-clause-no : goal.returns-clause-no
 returns-clause-no g c = λ e.
     let s = c.args.self.now in
-    let slot = c.in-Some.slot in
-    let a = c.in-Some.opened in
+    let slot = c.place_of-slot.result.0 in
+    let a = c.place_of-slot.result.1 in
     let w = a.call.operation.address in
     let later = c.in_ok-later.later in
-    let t = with_item s.table slot None in
+    let ts = with_item s.tables w c.free.new.table in
     let ws = with_item s.words w later in
-    let at = at_seen s.table.items c.deref.result.now slot a c.args.id c.deref.ensures.value c.in-Some.ensures in
-    let inside = slot_inside c.args.opening.now c.args.events.now c.args.k s slot a c.requires.trace c.requires.holds at in
-    let done = seen_answer c.args.opening.now c.args.events.now c.args.k s t ws c.close-closed.new.nodes slot a c.args.id c.args.reply
-    c.deref.result.now c.deref-3.result.now c.deref-2.result.now c.in-Ok.middle.items c.deref-4.result.now later
-    c.requires.trace c.requires.answered c.deref.ensures.value c.deref-3.ensures.value c.deref-4.ensures.value c.in-Some.ensures c.requires.holds
-    (c.deref-2.ensures.value ∙ read_set s.words.items w c.index.result.now inside c.index.ensures) refl refl
+    let done = seen_answer c.args.opening.now c.args.events.now c.args.k s ts ws c.close-closed.new.nodes slot a c.args.id
+    c.args.reply c.index_mut.result.now c.index-2.result.now c.free.new.table c.deref-2.result.now c.index.result.now
+    c.deref.result.now c.in-Ok.middle.items c.deref-3.result.now later
+    c.requires.trace c.requires.answered c.place_of-slot.ensures.number c.place_of-slot.ensures.inside
+    c.place_of-slot.ensures.there c.requires.holds c.index_mut.ensures.value c.index-2.ensures c.deref-2.ensures.value
+    c.index.ensures c.deref.ensures.value c.deref-3.ensures.value refl c.free.ensures refl
     c.in-Ok.ensures.kept c.in-Ok.ensures.closed c.in-Ok.ensures.sound c.in_ok-later.ensures.from c.in_ok-later.ensures.released in
-    let far : w < length c.args.opening.now = let n = c.requires.holds.sized in omega arith in
-    answer_no c.args.opening.now c.args.events.now
-    (suc c.args.k) t.items s.words.items ws.items c.close-closed.new.nodes.items w later inside far
-    (goes_none later c.is_empty-stands.result c.is_empty-stands.ensures e) refl done
-
-pub keep-requires : goal.keep-requires
-keep-requires g c =
-    let at = at_seen c.args.self.now.table.items c.deref.result.now c.in-Some.slot c.in-Some.opened c.args.id c.deref.ensures.value c.in-Some.ensures in
-    let low = get_within c.args.self.now.table.items c.in-Some.slot (Some c.in-Some.opened) at in
-    let many = c.requires.holds.slots in
-    omega arith
-
-pub index_mut-requires : goal.index_mut-requires
-index_mut-requires g c =
-    let at = at_seen c.args.self.now.table.items c.deref.result.now c.in-Some.slot c.in-Some.opened c.args.id c.deref.ensures.value c.in-Some.ensures in
-    let low = get_within c.args.self.now.table.items c.in-Some.slot (Some c.in-Some.opened) at in
-    let sized = c.args.self.now.table.ok.0 in
-    omega arith
+    answer_no c.args.opening.now c.args.events.now c.args.k s (lists_of ts.items) ws.items c.close-closed.new.nodes.items w later
+    c.place_of-slot.ensures.inside (goes_none later c.is_empty-stands.result c.is_empty-stands.ensures e) refl
+    c.requires.holds.sized done

@@ -1,29 +1,25 @@
-use Rattle.std.proofs.Common.{refl, subst, arith, ◌≡◌, ℕ, List, Option, Some, None, slice_get}
-use Rattle.std.proofs.lemmas.Option.{MatchOption-at_none, MatchOption-at_some}
+use Rattle.std.proofs.Common.{◌≡◌, ◌<◌, List, Option, length, refl, subst, arith}
 use Rattle.trace_search.specs.declared.opened.Open.{Open}
-use Rattle.trace_order.proofs.Lists.{get_within}
+use Rattle.trace_judge.specs.Slots.{IsFull}
+use Rattle.trace_judge.specs.Sets.{lists_of}
 use Rattle.trace_judge.proofs.Crowds.{crowded}
-use Rattle.trace_judge.proofs.Searching.{holds_issue}
+use Rattle.trace_judge.proofs.Searching.{holds_issue, read_set}
 use Rattle.trace_judge.proofs.search.Search.issue.Goals as goal
 
-pub returns-clause-holds : goal.returns-clause-holds
-returns-clause-holds g c =
-    holds_issue c.args.opening.now c.args.events.now c.args.k c.args.self.now _ c.in-Some.slot c.args.call c.promise_of-promise.result refl
-    c.requires.trace c.requires.issued
-    (subst (λ (ts : List (Option Open)). slice_get ts c.in-Some.slot ≡ Some None) c.deref.ensures.value
-    (MatchOption-at_some {o = c.free_slot.result} _ _ c.in-Some.slot c.in-Some.is c.free_slot.ensures)) c.promise_of-promise.ensures c.requires.holds
+pub returns-else-branch-clause-undecided : goal.returns-else-branch-clause-undecided
+returns-else-branch-clause-undecided g c =
+    let s = c.args.self.now in
+    let w = c.args.call.operation.address in
+    let far : w < length c.args.opening.now = c.requires.trace.inside c.args.k c.args.call c.requires.issued in
+    let inside : w < length s.tables.items = let e = c.requires.holds.tabled in omega arith in
+    crowded c.args.events.now c.args.k (lists_of s.tables.items w) c.args.call (c.requires.holds.searched.tabled w far)
+    (subst (λ (ts : List (Option Open)). IsFull ts)
+    (read_set s.tables.items w c.index_mut.result.now inside c.index_mut.ensures.value)
+    (c.in_ok-put.ensures.full c.if-branch.false))
+    c.requires.issued
 
-pub returns-in_default-clause-undecided : goal.returns-in_default-clause-undecided
-returns-in_default-clause-undecided g c =
-    crowded c.args.events.now c.args.k c.args.self.now.table.items c.args.call c.requires.holds.searched.tabled c.requires.holds.slots
-    (subst (λ (ts : List (Option Open)). (s : ℕ) → slice_get ts s ≡ Some None → ⊥) c.deref.ensures.value
-    (MatchOption-at_none {o = c.free_slot.result} _ _ c.in_default.is c.free_slot.ensures)) c.requires.issued
-
-pub index_mut-requires : goal.index_mut-requires
-index_mut-requires g c =
-    let at : slice_get c.args.self.now.table.items c.in-Some.slot ≡ Some None =
-    subst (λ (ts : List (Option Open)). slice_get ts c.in-Some.slot ≡ Some None) c.deref.ensures.value
-    (MatchOption-at_some {o = c.free_slot.result} _ _ c.in-Some.slot c.in-Some.is c.free_slot.ensures) in
-    let low = get_within c.args.self.now.table.items c.in-Some.slot None at in
-    let sized = c.args.self.now.table.ok.0 in
-    omega arith
+pub returns-then-branch-clause-holds : goal.returns-then-branch-clause-holds
+returns-then-branch-clause-holds g c =
+    holds_issue c.args.opening.now c.args.events.now c.args.k c.args.self.now _ c.index_mut.result.now c.put.new.table
+    c.args.call c.promise_of-promise.result c.index_mut.ensures.value refl c.requires.trace c.requires.issued
+    (c.in_ok-put.ensures.put c.if-branch.true) c.promise_of-promise.ensures c.requires.holds
