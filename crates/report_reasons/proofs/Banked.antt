@@ -32,9 +32,9 @@ next s (Order o) may b = record {
       let there = may.allowed.next.there in
       let apart : bank ≢ o.bank =
       λ h.
-          let past_too : s.tiles ≤ o.bank = omega (arith, past, h) in
-          let none : length (entries_at s.entries o.bank) ≡ 0 = ap length (b.entries o.bank past_too) in
-          absurd (omega (arith, there, none)) in
+      let past_too : s.tiles ≤ o.bank = omega (arith, past, h) in
+      let none : length (entries_at s.entries o.bank) ≡ 0 = ap length (b.entries o.bank past_too) in
+      absurd (omega (arith, there, none)) in
       orders_at_other s.orders o bank apart ∙ b.orders bank past;
 }
 next s (End complete) may b = record { entries = b.entries; orders = b.orders }

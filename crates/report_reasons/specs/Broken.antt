@@ -93,7 +93,7 @@ next_broken s e =
     unless (nat_lt e.bank s.tiles) (rule.Bank e.bank s.tiles)
     <|> unless (nat_le (last_bank s.entries) e.bank) (rule.BankOrder e.bank (last_bank s.entries))
     <|> unless (e.place == length (entries_at s.entries e.bank))
-        (rule.EntryPlace e.place (length (entries_at s.entries e.bank)))
+    (rule.EntryPlace e.place (length (entries_at s.entries e.bank)))
     <|> unless (nat_lt e.source s.tiles) (rule.Source e.source s.tiles)
     <|> unless (nat_lt e.tag 16) (rule.Tag e.tag)
     <|> unless (nat_lt (length s.entries) 65536) rule.EntryCount
@@ -137,7 +137,7 @@ answer_broken s a =
     behind_broken s 5 kind.Answer
     <|> unless (nat_lt a.index 4096) (rule.Index a.index)
     <|> unless (nat_le (above_last (map key_of s.answers)) (key_of a))
-        (rule.AnswerOrder a.processor a.index)
+    (rule.AnswerOrder a.processor a.index)
     <|> named_broken s a (slice_get (entries_at s.entries a.bank) a.place)
 
 -- an address whose word is not 0, and has no line
@@ -156,7 +156,7 @@ told_broken s address value =
     <|> word_broken s s.told address value
     <|> left_out s address
     <|> unless (slice_index s.memory address == value)
-        (rule.Word value (slice_index s.memory address))
+    (rule.Word value (slice_index s.memory address))
 
 -- an entry is answered behind its service, if it is
 abbrev pub answer_untimely : ℕ → Option ℕ → Option Rule
@@ -179,9 +179,9 @@ abbrev pub turn_broken : Seen → OrderLine → Option Rule
 turn_broken s o =
     unless (nat_lt o.place (length (entries_at s.entries o.bank))) (rule.NoEntry o.bank o.place)
     <|> unless (o.place == length (orders_at s.orders o.bank))
-        (rule.OrderPlace o.place (length (orders_at s.orders o.bank)))
+    (rule.OrderPlace o.place (length (orders_at s.orders o.bank)))
     <|> unless (is_same (is_some o.answered) (is_answered s.answers o.bank o.place))
-        (rule.Answered (is_some o.answered))
+    (rule.Answered (is_some o.answered))
 
 -- an entry is issued, then served, then answered; the numbers of service rise; no number is told
 -- twice
@@ -190,7 +190,7 @@ events_broken s o =
     unless (nat_lt o.issued o.served) (rule.ServedFirst o.served o.issued)
     <|> answer_untimely o.served o.answered
     <|> unless (nat_le (above_last (map (λ x. x.served) s.orders)) o.served)
-        (rule.ServiceOrder o.served (above_last (map (λ x. x.served) s.orders)))
+    (rule.ServiceOrder o.served (above_last (map (λ x. x.served) s.orders)))
     <|> event_broken s o.issued
     <|> event_broken s o.served
     <|> answer_event_broken s o.answered

@@ -11,8 +11,10 @@ ghost use Rattle.report_reasons.specs.Broken.{behind_broken, named_broken, answe
 ghost use Rattle.report_reasons.specs.Broken.{told_broken};
 
 use crate::before::Before;
-use crate::queries::{above_keys, above_last, entry_at, entry_count, has_newer, home_of, is_answered};
-use crate::queries::{key_of, last_bank, origin_of, same_reply, word_at};
+use crate::queries::{
+    above_keys, above_last, entry_at, entry_count, has_newer, home_of, is_answered, key_of,
+    last_bank, origin_of, same_reply, word_at,
+};
 use crate::rule::{Kind, Rule};
 use packet::apply;
 use report_lines::{AnswerLine, EntryLine, Radices, is_newer};
@@ -185,8 +187,10 @@ impl<'a> Before<'a> {
     pub(crate) fn behind_broken(self, latest: u8, found: Kind) -> Option<Rule>
         ensures { result ≡ behind_broken (seen self.entry) latest found }
     {
-        self.place_broken(latest, found)
-            .or(unless(self.version != 2 || has_newer(self.entries), Rule::NoneNewer))
+        self.place_broken(latest, found).or(unless(
+            self.version != 2 || has_newer(self.entries),
+            Rule::NoneNewer,
+        ))
     }
 
     /// Whether the answer is not that of an entry, or of one that has an answer.
@@ -214,7 +218,10 @@ impl<'a> Before<'a> {
         };
         unless(entry.source == answer.processor, processor)
             .or(unless(same_reply(entry.reply, answer.reply), reply))
-            .or(unless(!is_answered(self.answers, answer.bank, u64::from(answer.place)), twice))
+            .or(unless(
+                !is_answered(self.answers, answer.bank, u64::from(answer.place)),
+                twice,
+            ))
     }
 
     /// What rule an `answer` line breaks.

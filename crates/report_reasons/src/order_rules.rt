@@ -40,8 +40,10 @@ impl<'a> Before<'a> {
     fn event_broken(self, event: u32) -> Option<Rule>
         ensures { result ≡ event_broken (seen self.entry) event }
     {
-        unless(1 <= event && event <= 196608, Rule::Event(event))
-            .or(unless(!is_named(self.orders, event), Rule::EventTwice(event)))
+        unless(1 <= event && event <= 196608, Rule::Event(event)).or(unless(
+            !is_named(self.orders, event),
+            Rule::EventTwice(event),
+        ))
     }
 
     /// The same of the number of an answer, if there is one.
@@ -69,7 +71,10 @@ impl<'a> Before<'a> {
             found: order.place,
             expected,
         };
-        let answered = is_same(told, is_answered(self.answers, order.bank, u64::from(order.place)));
+        let answered = is_same(
+            told,
+            is_answered(self.answers, order.bank, u64::from(order.place)),
+        );
         unless(u64::from(order.place) < entries, there)
             .or(unless(u64::from(order.place) == expected, next))
             .or(unless(answered, Rule::Answered { told }))
@@ -136,7 +141,11 @@ impl<'a> Before<'a> {
     fn orders_broken(self) -> Option<Rule>
         ensures { result ≡ orders_broken (seen self.entry) }
     {
-        if self.orders.len() == 0 { None } else { self.unordered() }
+        if self.orders.len() == 0 {
+            None
+        } else {
+            self.unordered()
+        }
     }
 
     /// Whether the entry at a place of a bank has no answer.

@@ -179,7 +179,9 @@ pub(crate) fn is_named(orders: &[OrderLine], event: u32) -> bool
         if order.issued == event || order.served == event {
             return true;
         }
-        if let Some(answered) = order.answered && answered == event {
+        if let Some(answered) = order.answered
+            && answered == event
+        {
             return true;
         }
         rest = more;

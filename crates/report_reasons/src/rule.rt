@@ -51,25 +51,48 @@ pub enum Rule {
     /// There are 1 to 65536 words.
     Words(u32),
     /// An address is below the number of words.
-    Address { found: u32, words: u32 },
+    Address {
+        found: u32,
+        words: u32,
+    },
     /// Addresses rise: the least that may stand.
-    AddressOrder { found: u32, least: u64 },
+    AddressOrder {
+        found: u32,
+        least: u64,
+    },
     /// No line tells a word that is 0.
-    Zero { address: u32 },
+    Zero {
+        address: u32,
+    },
     /// A bank is below the number of tiles.
-    Bank { found: u32, tiles: u32 },
+    Bank {
+        found: u32,
+        tiles: u32,
+    },
     /// Banks do not fall: the bank of the entry before.
-    BankOrder { found: u32, last: u32 },
+    BankOrder {
+        found: u32,
+        last: u32,
+    },
     /// The places of a bank are 0, 1, 2 and so on.
-    EntryPlace { found: u32, expected: u64 },
+    EntryPlace {
+        found: u32,
+        expected: u64,
+    },
     /// A source is below the number of tiles.
-    Source { found: u32, tiles: u32 },
+    Source {
+        found: u32,
+        tiles: u32,
+    },
     /// A tag is below 16.
     Tag(u32),
     /// There are at most 65536 entries.
     EntryCount,
     /// The bank is the home of the address.
-    Home { found: u32, expected: u32 },
+    Home {
+        found: u32,
+        expected: u32,
+    },
     /// And, or, xor, max and min stand in version 2.
     Newer,
     /// The reply is what the operation gives on the memory so far, whose word has an origin.
@@ -83,37 +106,79 @@ pub enum Rule {
     /// An index is below 4096.
     Index(u32),
     /// Answers rise by processor and then by index.
-    AnswerOrder { processor: u32, index: u32 },
+    AnswerOrder {
+        processor: u32,
+        index: u32,
+    },
     /// An answer and an order line name an entry.
-    NoEntry { bank: u32, place: u32 },
+    NoEntry {
+        bank: u32,
+        place: u32,
+    },
     /// The processor of an answer is the source of its entry.
-    Processor { found: u32, expected: u32 },
+    Processor {
+        found: u32,
+        expected: u32,
+    },
     /// The reply of an answer is that of its entry.
-    AnswerReply { found: Reply, expected: Reply },
+    AnswerReply {
+        found: Reply,
+        expected: Reply,
+    },
     /// An entry has one answer.
-    AnsweredTwice { bank: u32, place: u32 },
+    AnsweredTwice {
+        bank: u32,
+        place: u32,
+    },
     /// Each word that is not 0 at the end has its line.
-    LeftOut { address: u32, word: u64 },
+    LeftOut {
+        address: u32,
+        word: u64,
+    },
     /// A `word` line tells the word that the entries leave.
-    Word { found: u64, expected: u64 },
+    Word {
+        found: u64,
+        expected: u64,
+    },
     /// An entry is served behind its issue.
-    ServedFirst { served: u32, issued: u32 },
+    ServedFirst {
+        served: u32,
+        issued: u32,
+    },
     /// An entry is answered behind its service.
-    AnsweredFirst { answered: u32, served: u32 },
+    AnsweredFirst {
+        answered: u32,
+        served: u32,
+    },
     /// The order lines of a bank have the places 0, 1, 2 and so on.
-    OrderPlace { found: u32, expected: u64 },
+    OrderPlace {
+        found: u32,
+        expected: u64,
+    },
     /// An order line has the number of an answer exactly where its entry has an answer line.
-    Answered { told: bool },
+    Answered {
+        told: bool,
+    },
     /// The numbers of service rise: the least that may stand.
-    ServiceOrder { found: u32, least: u64 },
+    ServiceOrder {
+        found: u32,
+        least: u64,
+    },
     /// Event numbers are 1 to 196608.
     Event(u32),
     /// No two events have one number.
     EventTwice(u32),
     /// A bank has no order line, or one for each entry, as the others have.
-    Unordered { bank: u32, found: u64, expected: u64 },
+    Unordered {
+        bank: u32,
+        found: u64,
+        expected: u64,
+    },
     /// Behind `end complete` each entry has an answer.
-    Unanswered { bank: u32, place: u64 },
+    Unanswered {
+        bank: u32,
+        place: u64,
+    },
 }
 
 /// The first bad line of a report, and the rule that it breaks.

@@ -69,7 +69,9 @@ impl fmt::Display for Rule {
     fn fmt<W: fmt::Write>(&self, f: &mut fmt::Formatter<W>) -> fmt::Result {
         match *self {
             Rule::BehindEnd => f.write_str("nothing stands behind the line of the end"),
-            Rule::NoEnd => f.write_str("the report ends without `end complete` or `end incomplete`"),
+            Rule::NoEnd => f.write_str(
+                "the report ends without `end complete` or `end incomplete`",
+            ),
             Rule::FirstLine => f.write_str("a report begins with `torusmem 1` or `torusmem 2`"),
             Rule::SecondLine => f.write_str("the second line of a report is its shape"),
             Rule::NoLineFeed => f.write_str("the line ends without a line feed"),
@@ -138,7 +140,10 @@ impl fmt::Display for Rule {
                 write!(f, "there is no entry at place {place} of bank {bank}")
             }
             Rule::Processor { found, expected } => {
-                write!(f, "processor {found}, but the entry is of processor {expected}")
+                write!(
+                    f,
+                    "processor {found}, but the entry is of processor {expected}"
+                )
             }
             Rule::AnswerReply { found, expected } => write!(
                 f,
@@ -151,7 +156,10 @@ impl fmt::Display for Rule {
                 "the entry at place {place} of bank {bank} has an answer already"
             ),
             Rule::LeftOut { address, word } => {
-                write!(f, "address {address}: its word is {word}, and no line tells it")
+                write!(
+                    f,
+                    "address {address}: its word is {word}, and no line tells it"
+                )
             }
             Rule::Word { found, expected } => write!(f, "word {found}, but it is {expected}"),
             Rule::ServedFirst { served, issued } => {

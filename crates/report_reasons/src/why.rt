@@ -74,7 +74,10 @@ impl<'a> Before<'a> {
 /// that the line breaks.
 ///
 /// Errors: memory was refused.
-pub fn why_bad<A: Allocator + Copy>(alloc: A, report: &[u8]) -> Result<Option<BadReport>, AllocError>
+pub fn why_bad<A: Allocator + Copy>(
+    alloc: A,
+    report: &[u8],
+) -> Result<Option<BadReport>, AllocError>
     // Nothing is told exactly of good reports.
     ensures good { IfOk result (λ found. IsNone found ↔ GoodReport report.now) }
     // The line is the first bad one.

@@ -20,9 +20,9 @@ verdict_code (verdict.Cycle links) = code.Cycle
 
 -- the text of a verdict is put into a buffer, and its code is told
 pub record PutsVerdict {A : Type 0} (v : Verdict A) (before after : List ℕ) (r : Outcome) : Type 0
-    where
-  pub buffer : after ≡ put_over (verdict_text v) before
-  pub answer : r ≡ put_as (verdict_code v) (verdict_text v) before
+  where
+    pub buffer : after ≡ put_over (verdict_text v) before
+    pub answer : r ≡ put_as (verdict_code v) (verdict_text v) before
 
 -- what is told of a network: the verdict that holds of it
 abbrev pub TellsNetwork : Type 0 → NetworkSpec → List ℕ → List ℕ → Outcome → Type 0
