@@ -14,15 +14,18 @@ HERE = os.path.dirname(os.path.realpath(__file__))
 VERSION = "torusmem 0.1.0\n"
 # The positional words of each command, and its options: the limits of a number, or None for a flag.
 COMMANDS: dict[str, tuple[list[str], dict[str, tuple[int, int] | None]]] = {
-    "steps": (["MACHINE", "SCRIPT", "STEPS"], {"explain": None}),
+    "steps": (["MACHINE", "SCRIPT", "STEPS"], {"moves": None, "explain": None}),
     "round": (["MACHINE", "SCRIPT"], {"rounds": (1, 1000000), "explain": None}),
     "run": (["MACHINE", "SCRIPT"], {"workers": (1, 16), "turns": (1, 1000000000), "explain": None}),
+    "schedule": (["MACHINE", "SCRIPT"], {"rounds": (1, 1000000), "explain": None}),
+    "draw": (["MACHINE", "SCRIPT"], {"seed": (0, 2**64 - 1), "steps": (0, 2**64 - 1), "explain": None}),
     "route": (["MACHINE", "SRC", "DST"], {"reply": None, "explain": None}),
     "channels": (["MACHINE"], {"explain": None}),
     "check": (["REPORT"], {"explain": None}),
     "network": (["NETWORK"], {"explain": None}),
     "linearize": (["TRACE"], {"configurations": (1, 4294967295), "explain": None}),
 }
+REQUIRED = {"draw": ["seed"]}  # the options that have to be given
 TILES = (0, 4294967295)
 FILES = ("MACHINE", "SCRIPT", "STEPS", "REPORT", "NETWORK", "TRACE")
 TRY = "\n\nFor more information, try '--help'.\n"
@@ -104,7 +107,7 @@ def number(text: str, shown: str, limits: tuple[int, int]) -> None:
         raise Unclear
     elif not re.fullmatch(r"\+?[0-9]+", text):
         why = "invalid digit found in string"
-    elif int(text) >= 2**63:
+    elif int(text) >= (2**63 if limits[1] < 2**63 else 2**64):
         why = "number too large to fit in target type"
     elif not limits[0] <= int(text) <= limits[1]:
         why = f"{text.lstrip('+')} is not in {limits[0]}..={limits[1]}"
@@ -175,7 +178,7 @@ def command(name: str, rest: list[str]) -> Answer | Job:
             if not word.startswith("--") or option not in options:
                 if given:
                     raise Unclear
-                stray(name, word, [*options, "help"])
+                stray(name, word, [*options, "help"], bool(found))
             limits = options[option]
             if limits is not None and not has_value:
                 if at == len(rest):
@@ -196,20 +199,24 @@ def command(name: str, rest: list[str]) -> Answer | Job:
         if needed[len(found)] not in FILES:
             number(word, f"<{needed[len(found)]}>", TILES)
         found.append(at - 1)
-    if len(found) < len(needed):
-        lines = "".join(f"\n  <{it}>" for it in needed[len(found) :])
+    missing = [f"--{it} <{it}>" for it in REQUIRED.get(name, []) if it not in given]
+    missing += [f"<{it}>" for it in needed[len(found) :]]
+    if missing:
+        lines = "".join(f"\n  {it}" for it in missing)
         raise Wrong(f"the following required arguments were not provided:{lines}{usage_with(name, given)}")
     return Job([name, *rest], [1 + place for place, it in zip(found, needed) if it in FILES])
 
 
 def usage_with(name: str, used: list[str]) -> str:
-    """The usage of a command, or of the program where the name is empty, with the options that were used or meant."""
+    """The usage of a command, or of the program where the name is empty, with the options that have to be given, and
+    those that were used or meant."""
     needed, options = COMMANDS[name] if name else (["COMMAND"], {})
-    shown = [f"--{it} <{it}>" if options.get(it) else f"--{it}" for it in used]
+    named = list(dict.fromkeys([*REQUIRED.get(name, []), *used]))
+    shown = [f"--{it} <{it}>" if options.get(it) else f"--{it}" for it in named]
     return "\n\nUsage: " + " ".join(["torusmem", *[name] * bool(name), *shown, *[f"<{it}>" for it in needed]])
 
 
-def stray(name: str, word: str, options: list[str]) -> NoReturn:
+def stray(name: str, word: str, options: list[str], is_behind_words: bool = False) -> NoReturn:
     """Says that the command, or the program where the name is empty, has no such option."""
     if not re.fullmatch(r"-\w|--[\w-]+", word):
         raise Unclear
@@ -219,7 +226,8 @@ def stray(name: str, word: str, options: list[str]) -> NoReturn:
             f"unexpected argument '{word}' found\n\n  tip: a similar argument exists: '--{close[-1]}'{usage_with(name, close[-1:])}"
         )
     tip = f"\n\n  tip: to pass '{word}' as a value, use '-- {word}'" if name else ""
-    raise Wrong(f"unexpected argument '{word}' found{tip}{usage_of(name)}")
+    usage = usage_with(name, []) if is_behind_words and word.startswith("--") else usage_of(name)
+    raise Wrong(f"unexpected argument '{word}' found{tip}{usage}")
 
 
 def unread(job: Job) -> Answer | None:

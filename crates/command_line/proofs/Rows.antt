@@ -1,9 +1,11 @@
 -- What clap says of a parse, said of its rows.
-use Rattle.std.specs.Prelude.{◌≡◌, ℕ, Bool, true, false, IfSome, Option, Some, None, Result, Ok, option_map}
+use Rattle.std.specs.Prelude.{◌≡◌, ℕ, Bool, true, false, IfSome, Option, Some, None, Result, is_some, option_map}
+use Rattle.std.specs.Prelude.{option_and_then, slice_get}
 use Rattle.std.specs.Str.Parse.{ParsesBool, ParsesUnsigned, digits_value, without_leading_plus}
 use Rattle.std.proofs.Common.{refl, ap, sym, ◌∙◌}
-use Rattle.clap.specs.Words.{ReadsOne, Text, first_of, first_value, one_of, one_text, rows_of}
+use Rattle.clap.specs.Words.{ReadsOne, Text, first_of, first_value, matched_of, one_of, one_text, read_as, rows_of}
 use Rattle.clap.specs.declared.parser.matches.Found.{Found}
+use Rattle.clap.specs.declared.parser.matches.MatchedArg.{MatchedArg}
 use Rattle.clap.proofs.WalkLemmas.{first_value-rows, one_text-rows}
 use Rattle.command_line.specs.Job.{flag_text, number_in}
 
@@ -12,20 +14,31 @@ pub first_value_rows : (f : Found) (id : Text) → first_value f id ≡ first_of
 first_value_rows f id = first_value-rows f id
 
 -- a number that was read is the one that is written
-pub number_of_text : {E : Type 0} (more other : Text → Result ℕ E → Type 0) (given : Option Text) (n : ℕ)
+pub number_of_text : {E : Type 0} (bits : ℕ) (more other : Text → Result ℕ E → Type 0) (given : Option Text) (n : ℕ)
     → (given ≡ None → Some n ≡ None)
-    → ((t : Text) → given ≡ Some t → ReadsOne (λ bs r. ParsesUnsigned 32 10 bs r × more bs r × other bs r) t (Some n))
+    → ((t : Text) → given ≡ Some t → ReadsOne (λ bs r. ParsesUnsigned bits 10 bs r × more bs r × other bs r) t (Some n))
     → option_map (λ t. digits_value 10 (without_leading_plus t)) given ≡ Some n
-number_of_text more other None n none value = let e : Some n ≡ None = none refl in cc
-number_of_text more other (Some t) n none value = ap Some (sym (value t refl).0.1)
+number_of_text bits more other None n none value = let e : Some n ≡ None = none refl in cc
+number_of_text bits more other (Some t) n none value = ap Some (sym (value t refl).0.1)
 
-pub number_read : {E : Type 0} (more other : Text → Result ℕ E → Type 0) (f : Found) (id : Text) (result : Option ℕ)
+pub number_read : {E : Type 0} (bits : ℕ) (more other : Text → Result ℕ E → Type 0) (f : Found) (id : Text) (result : Option ℕ)
     → (one_text f id ≡ None → result ≡ None)
-    → ((t : Text) → one_text f id ≡ Some t → ReadsOne (λ bs r. ParsesUnsigned 32 10 bs r × more bs r × other bs r) t result)
+    → ((t : Text) → one_text f id ≡ Some t → ReadsOne (λ bs r. ParsesUnsigned bits 10 bs r × more bs r × other bs r) t result)
     → IfSome result (λ n. number_in id (rows_of f) ≡ Some n)
-number_read more other f id None none value = tt
-number_read more other f id (Some n) none value =
-    ap (option_map (λ t. digits_value 10 (without_leading_plus t))) (sym (one_text-rows f id)) ∙ number_of_text more other (one_text f id) n none value
+number_read bits more other f id None none value = tt
+number_read bits more other f id (Some n) none value =
+    ap (option_map (λ t. digits_value 10 (without_leading_plus t))) (sym (one_text-rows f id))
+    ∙ number_of_text bits more other (one_text f id) n none value
+
+-- an argument that has no entry has no number
+pub no_text : (entry : Option MatchedArg) → is_some entry ≡ false
+    → option_and_then (λ a. option_map (λ s. read_as a.reading s.now) (slice_get a.vals.items 0)) entry ≡ None
+no_text None e = refl
+no_text (Some a) e = cc
+
+pub no_number : (f : Found) (id : Text) → is_some (matched_of f id) ≡ false → number_in id (rows_of f) ≡ None
+no_number f id e = ap (option_map (λ t. digits_value 10 (without_leading_plus t)))
+    (sym (one_text-rows f id) ∙ no_text (matched_of f id) e)
 
 -- a flag that was read is the one that is written
 pub flag_of_text : (E : Type 0) (given : Option Text) (b : Bool)

@@ -1,6 +1,7 @@
 -- The command line, in the words of `clap` (this project's own format).
-use Rattle.std.specs.Prelude.{ℕ, ℤ, pos, List, [], ◌∷◌, Option, Some, codes, true, option_map}
-use Rattle.clap.specs.Words.{App, Row, Rule, Text, new_app, new_rule, with_rule, with_subcommand, subcommand_of}
+use Rattle.std.specs.Prelude.{pos, List, [], ◌∷◌, Option, Some, codes, true, option_map}
+use Rattle.clap.specs.Words.{App, Row, Rule, Text, new_app, new_rule, subcommand_of}
+use Rattle.clap.specs.Words.{with_rule, with_subcommand}
 use Rattle.clap.specs.declared.builder.action.ArgAction.TheVariants.{SetTrue}
 use Rattle.clap.specs.declared.builder.value_parser.ValueParser.TheVariants as vp
 use Rattle.command_line.specs.Job.{rows_in}
@@ -20,6 +21,21 @@ rounds = record (new_rule (codes "rounds")) {
   long = Some (codes "rounds");
   parser = Some (vp.Signed (pos 1) (pos 1000000));
   defaults = codes "1000000" ∷ [];
+}
+
+-- the option for the seed of a drawn schedule, a number of 64 bits that has to be given
+abbrev pub seed : Rule
+seed = record (new_rule (codes "seed")) {
+  long = Some (codes "seed");
+  parser = Some (vp.Unsigned 0 18446744073709551615);
+  required = true;
+}
+
+-- the option for the most moves of a drawn schedule, a number of 64 bits; it has no default
+abbrev pub most_moves : Rule
+most_moves = record (new_rule (codes "steps")) {
+  long = Some (codes "steps");
+  parser = Some (vp.Unsigned 0 18446744073709551615);
 }
 
 -- the option for how many workers there are, a number from 1 to 16, which is 1 where it isn't given
@@ -61,9 +77,10 @@ abbrev pub loading_app : Text → App
 loading_app name = with_rule (with_rule (new_app name)
     (needed (codes "MACHINE"))) (needed (codes "SCRIPT"))
 
--- `steps MACHINE SCRIPT STEPS [--explain]`
+-- `steps MACHINE SCRIPT STEPS [--moves] [--explain]`
 abbrev pub steps_app : App
-steps_app = with_rule (with_rule (loading_app (codes "steps")) (needed (codes "STEPS"))) explain
+steps_app = with_rule (with_rule (with_rule (loading_app (codes "steps"))
+    (needed (codes "STEPS"))) (flag (codes "moves"))) explain
 
 -- `round MACHINE SCRIPT [--rounds R] [--explain]`
 abbrev pub round_app : App
@@ -72,6 +89,14 @@ round_app = with_rule (with_rule (loading_app (codes "round")) rounds) explain
 -- `run MACHINE SCRIPT [--workers W] [--turns T] [--explain]`
 abbrev pub run_app : App
 run_app = with_rule (with_rule (with_rule (loading_app (codes "run")) workers) turns) explain
+
+-- `schedule MACHINE SCRIPT [--rounds R] [--explain]`
+abbrev pub schedule_app : App
+schedule_app = with_rule (with_rule (loading_app (codes "schedule")) rounds) explain
+
+-- `draw MACHINE SCRIPT --seed S [--steps N] [--explain]`
+abbrev pub draw_app : App
+draw_app = with_rule (with_rule (with_rule (loading_app (codes "draw")) seed) most_moves) explain
 
 -- `route MACHINE SRC DST [--reply] [--explain]`
 abbrev pub route_app : App
@@ -109,9 +134,13 @@ stepping_app = with_subcommand (with_subcommand top_app steps_app.top) round_app
 abbrev pub running_app : App
 running_app = with_subcommand stepping_app run_app.top
 
+-- and with those that print schedules
+abbrev pub scheduling_app : App
+scheduling_app = with_subcommand (with_subcommand running_app schedule_app.top) draw_app.top
+
 -- and with those on routes
 abbrev pub routing_app : App
-routing_app = with_subcommand (with_subcommand running_app route_app.top) channels_app.top
+routing_app = with_subcommand (with_subcommand scheduling_app route_app.top) channels_app.top
 
 -- and with the one that checks reports
 abbrev pub checking_app : App

@@ -1,13 +1,14 @@
 -- What a job says of the values that the words of its subcommand give (this project's own format).
 use Rattle.std.specs.Prelude.{◌≡◌, ℕ, ◌≤◌, Bool, true, false, List, Option, Some, codes, option_map}
-use Rattle.std.specs.Option.{option_and_then}
 use Rattle.std.specs.Str.Parse.{digits_value, without_leading_plus}
 use Rattle.clap.specs.Words.{Row, Text, first_of, one_of}
 use Rattle.torus.specs.declared.shape.Class.{Class}
 use Rattle.torus.specs.declared.shape.Class.TheVariants.{Request, Reply}
 use Rattle.command_line.specs.declared.command.Job.{Job}
-use Rattle.command_line.specs.declared.command.Job.TheVariants.{Steps, Round, Run, Route, Channels, Check}
+use Rattle.command_line.specs.declared.command.Job.TheVariants.{Steps, Round, Run, Route}
+use Rattle.command_line.specs.declared.command.Job.TheVariants.{Channels, Check}
 use Rattle.command_line.specs.declared.command.Job.TheVariants.{Network, Linearize}
+use Rattle.command_line.specs.declared.command.Job.TheVariants.{Schedule, Draw, Moves}
 
 -- the values of a subcommand's arguments
 abbrev pub rows_in : Option (Text × List Row) → Option (List Row)
@@ -28,7 +29,7 @@ abbrev pub class_word : Class → Text
 class_word Request = flag_text false
 class_word Reply = flag_text true
 
--- the subcommand of a job
+-- the subcommand of a job: `steps` both of the report of a run, and of its moves
 abbrev pub name_of : Job → Text
 name_of (Steps machine script steps) = codes "steps"
 name_of (Round machine script rounds) = codes "round"
@@ -38,6 +39,9 @@ name_of (Channels machine) = codes "channels"
 name_of (Check report) = codes "check"
 name_of (Network network) = codes "network"
 name_of (Linearize trace configurations) = codes "linearize"
+name_of (Schedule machine script rounds) = codes "schedule"
+name_of (Draw machine script seed steps) = codes "draw"
+name_of (Moves machine script steps) = codes "steps"
 
 -- whether the flag of this name is given
 abbrev pub IsFlag : Text → Bool → List Row → Type 0
@@ -48,6 +52,7 @@ abbrev pub AreOf : Job → List Row → Type 0
 AreOf (Steps machine script steps) rows = (first_of (codes "MACHINE") rows ≡ Some machine.now)
     × (first_of (codes "SCRIPT") rows ≡ Some script.now)
     × (first_of (codes "STEPS") rows ≡ Some steps.now)
+    × IsFlag (codes "moves") false rows
 AreOf (Round machine script rounds) rows = (first_of (codes "MACHINE") rows ≡ Some machine.now)
     × (first_of (codes "SCRIPT") rows ≡ Some script.now)
     × (number_in (codes "rounds") rows ≡ Some rounds)
@@ -64,6 +69,16 @@ AreOf (Network network) rows = first_of (codes "NETWORK") rows ≡ Some network.
 AreOf (Linearize trace configurations) rows =
     (first_of (codes "TRACE") rows ≡ Some trace.now)
     × (number_in (codes "configurations") rows ≡ Some configurations)
+AreOf (Schedule machine script rounds) rows = (first_of (codes "MACHINE") rows ≡ Some machine.now)
+    × (first_of (codes "SCRIPT") rows ≡ Some script.now)
+    × (number_in (codes "rounds") rows ≡ Some rounds)
+AreOf (Draw machine script seed steps) rows = (first_of (codes "MACHINE") rows ≡ Some machine.now)
+    × (first_of (codes "SCRIPT") rows ≡ Some script.now)
+    × (number_in (codes "seed") rows ≡ Some seed) × (number_in (codes "steps") rows ≡ steps)
+AreOf (Moves machine script steps) rows = (first_of (codes "MACHINE") rows ≡ Some machine.now)
+    × (first_of (codes "SCRIPT") rows ≡ Some script.now)
+    × (first_of (codes "STEPS") rows ≡ Some steps.now)
+    × IsFlag (codes "moves") true rows
 
 -- the numbers of a job are within their limits: 1 to 1000000 rounds, 1 to 16 workers, 1 to
 -- 1000000000 turns, at least one configuration
@@ -72,4 +87,9 @@ IsWithinLimits (Round machine script rounds) = (1 ≤ rounds) × (rounds ≤ 100
 IsWithinLimits (Run machine script workers turns) =
     ((1 ≤ workers) × (workers ≤ 16)) × ((1 ≤ turns) × (turns ≤ 1000000000))
 IsWithinLimits (Linearize trace configurations) = 1 ≤ configurations
+IsWithinLimits (Schedule machine script rounds) = (1 ≤ rounds) × (rounds ≤ 1000000)
 IsWithinLimits _ = Unit {0}
+
+-- a job of the subcommand of this name, with the values of these rows, within its limits
+abbrev pub IsOf : Text → List Row → Job → Type 0
+IsOf name rows job = (name_of job ≡ name) × AreOf job rows × IsWithinLimits job

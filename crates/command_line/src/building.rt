@@ -5,7 +5,8 @@ ghost use Rattle.clap.specs.declared.builder.command.Command.TheViews.{out-Comma
 ghost use Rattle.command_line.specs.CommandLine.{steps_app, round_app, run_app};
 ghost use Rattle.command_line.specs.CommandLine.{route_app, channels_app, check_app};
 ghost use Rattle.command_line.specs.CommandLine.{network_app, linearize_app, loading_app};
-ghost use Rattle.command_line.specs.CommandLine.{stepping_app, running_app};
+ghost use Rattle.command_line.specs.CommandLine.{schedule_app, draw_app, seed, most_moves};
+ghost use Rattle.command_line.specs.CommandLine.{stepping_app, running_app, scheduling_app};
 ghost use Rattle.command_line.specs.CommandLine.{routing_app, checking_app, torusmem_app};
 ghost use Rattle.command_line.specs.CommandLine.{needed, tile, rounds, workers, turns, flag};
 ghost use Rattle.command_line.specs.CommandLine.{configurations, explain};
@@ -22,20 +23,31 @@ pub(crate) fn command<'a>(alloc: Global) -> Result<Command<'a>, AllocError>
         .subcommand(linearize_command(alloc)?)
 }
 
-/// The program with the subcommands that run scripts, those on routes, and the one that checks reports.
+/// The program with the subcommands that run scripts, those that print schedules, those on routes,
+/// and the one that checks reports.
 fn checking_command<'a>(alloc: Global) -> Result<Command<'a>, AllocError>
     ensures { IfOk result (λ c. (app_of c ≡ checking_app) × ((fields_of c).has_globals ≡ false)) }
 {
     routing_command(alloc)?.subcommand(check_command(alloc)?)
 }
 
-/// The program with the subcommands that run scripts, and those on routes.
+/// The program with the subcommands that run scripts, those that print schedules, and those on
+/// routes.
 fn routing_command<'a>(alloc: Global) -> Result<Command<'a>, AllocError>
     ensures { IfOk result (λ c. (app_of c ≡ routing_app) × ((fields_of c).has_globals ≡ false)) }
 {
-    running_command(alloc)?
+    scheduling_command(alloc)?
         .subcommand(route_command(alloc)?)?
         .subcommand(channels_command(alloc)?)
+}
+
+/// The program with the subcommands that run scripts, and those that print schedules.
+fn scheduling_command<'a>(alloc: Global) -> Result<Command<'a>, AllocError>
+    ensures { IfOk result (λ c. (app_of c ≡ scheduling_app) × ((fields_of c).has_globals ≡ false)) }
+{
+    running_command(alloc)?
+        .subcommand(schedule_command(alloc)?)?
+        .subcommand(draw_command(alloc)?)
 }
 
 /// The program with the subcommands that run scripts.
@@ -66,6 +78,8 @@ fn steps_command<'a>(alloc: Global) -> Result<Command<'a>, AllocError>
         "Runs the listed steps and prints the report",
     )?;
     let command = with_file(alloc, command, "STEPS", "The file of the steps")?;
+    let help = "Prints the steps that move, and not the report";
+    let command = with_flag(alloc, command, "moves", help)?;
     with_explain(alloc, command)
 }
 
@@ -85,6 +99,26 @@ fn run_command<'a>(alloc: Global) -> Result<Command<'a>, AllocError>
     let command = loading(alloc, "run", about)?;
     let command = with_workers(alloc, command)?;
     let command = with_turns(alloc, command)?;
+    with_explain(alloc, command)
+}
+
+fn schedule_command<'a>(alloc: Global) -> Result<Command<'a>, AllocError>
+    ensures { IfOk result (λ c. (app_of c ≡ schedule_app) × ((fields_of c).has_globals ≡ false)) }
+{
+    let about = "Runs in rounds until every script is finished, and prints the moves as steps";
+    let command = loading(alloc, "schedule", about)?;
+    let command = with_rounds(alloc, command)?;
+    with_explain(alloc, command)
+}
+
+fn draw_command<'a>(alloc: Global) -> Result<Command<'a>, AllocError>
+    ensures { IfOk result (λ c. (app_of c ≡ draw_app) × ((fields_of c).has_globals ≡ false)) }
+{
+    let about = "Draws the moves of a run until every script is finished, and prints them as steps";
+    let command = loading(alloc, "draw", about)?;
+    let command = command
+        .arg(seed_option(alloc))?
+        .arg(most_moves_option(alloc))?;
     with_explain(alloc, command)
 }
 
@@ -171,6 +205,27 @@ fn configurations_option<'a>(alloc: Global) -> Arg<'a>
         .value_parser(value_parser!(u32).range(1..=4294967295))
         .default_value("1000000")
         .help("The most configurations of a word at once, 1 to 4294967295")
+}
+
+fn seed_option<'a>(alloc: Global) -> Arg<'a>
+    ensures rule { rule_of result ≡ seed }
+    ensures local { result.global ≡ false }
+{
+    Arg::new(alloc, "seed")
+        .long("seed")
+        .required(true)
+        .value_parser(value_parser!(u64))
+        .help("The seed of the draws, 0 to 18446744073709551615")
+}
+
+fn most_moves_option<'a>(alloc: Global) -> Arg<'a>
+    ensures rule { rule_of result ≡ most_moves }
+    ensures local { result.global ≡ false }
+{
+    Arg::new(alloc, "steps")
+        .long("steps")
+        .value_parser(value_parser!(u64))
+        .help("The most moves, 0 to 18446744073709551615; no limit if not given")
 }
 
 /// A command of this name that takes no words as yet.

@@ -1,11 +1,14 @@
-ghost use Rattle.std.specs.Prelude.{◌≡◌, ◌≤◌, IfOk, IfSome, Some, map, codes, option_map};
-ghost use Rattle.clap.specs.Words.{found_of, first_of, one_of, rows_of, subcommand_name_of};
-ghost use Rattle.clap.specs.Words.{subcommand_rows_of};
+ghost use Rattle.std.specs.Prelude.{◌≡◌, IfOk, IfSome, Some, map, codes};
+ghost use Rattle.clap.specs.Words.{subcommand_name_of, subcommand_rows_of};
 ghost use Rattle.command_line.specs.CommandLine.{name_by, rows_by};
-ghost use Rattle.command_line.specs.Job.{AreOf, IsFlag, IsWithinLimits, class_word, name_of};
-ghost use Rattle.command_line.specs.Job.{number_in, rows_in};
+ghost use Rattle.command_line.specs.Job.{AreOf, IsFlag, IsWithinLimits, name_of, rows_in};
 
 use crate::building::command;
+use crate::jobs::{
+    channels_job, check_job, draw_job, linearize_job, network_job, round_job, route_job, run_job,
+    schedule_job, steps_job,
+};
+use crate::values::flag_of;
 use clap::error::ErrorKind;
 use clap::{ArgMatches, Error};
 use std::alloc::Global;
@@ -58,6 +61,26 @@ pub enum Job<'a> {
     Linearize {
         trace: &'a str,
         configurations: u32,
+    },
+    /// Print the moves of rounds, at most so many, until every script is finished.
+    Schedule {
+        machine: &'a str,
+        script: &'a str,
+        rounds: u32,
+    },
+    /// Print a schedule that is drawn by this seed, of at most so many moves where there is a
+    /// number, until every script is finished.
+    Draw {
+        machine: &'a str,
+        script: &'a str,
+        seed: u64,
+        steps: Option<u64>,
+    },
+    /// Print those of the listed steps that move.
+    Moves {
+        machine: &'a str,
+        script: &'a str,
+        steps: &'a str,
     },
 }
 
@@ -115,89 +138,18 @@ fn job_of<'a>(matches: &ArgMatches<'a>) -> Option<Job<'a>>
         (λ job. IfSome (rows_in (subcommand_rows_of matches.now)) (AreOf job)) }
     ensures limits { IfSome result IsWithinLimits }
 {
-    match matches.subcommand()? {
-        ("steps", given) => Some(Job::Steps {
-            machine: word(given, "MACHINE")?,
-            script: word(given, "SCRIPT")?,
-            steps: word(given, "STEPS")?,
-        }),
-        ("round", given) => Some(Job::Round {
-            machine: word(given, "MACHINE")?,
-            script: word(given, "SCRIPT")?,
-            rounds: number_within(given, "rounds", 1000000)?,
-        }),
-        ("run", given) => Some(Job::Run {
-            machine: word(given, "MACHINE")?,
-            script: word(given, "SCRIPT")?,
-            workers: number_within(given, "workers", 16)?,
-            turns: number_within(given, "turns", 1000000000)?,
-        }),
-        ("route", given) => Some(Job::Route {
-            machine: word(given, "MACHINE")?,
-            src: number(given, "SRC")?,
-            dst: number(given, "DST")?,
-            class: class(given)?,
-        }),
-        ("channels", given) => Some(Job::Channels {
-            machine: word(given, "MACHINE")?,
-        }),
-        ("check", given) => Some(Job::Check {
-            report: word(given, "REPORT")?,
-        }),
-        ("network", given) => Some(Job::Network {
-            network: word(given, "NETWORK")?,
-        }),
-        ("linearize", given) => Some(Job::Linearize {
-            trace: word(given, "TRACE")?,
-            configurations: number_within(given, "configurations", 4294967295)?,
-        }),
+    let (name, given) = matches.subcommand()?;
+    match name {
+        "steps" => steps_job(given),
+        "round" => round_job(given),
+        "run" => run_job(given),
+        "schedule" => schedule_job(given),
+        "draw" => draw_job(given),
+        "route" => route_job(given),
+        "channels" => channels_job(given),
+        "check" => check_job(given),
+        "network" => network_job(given),
+        "linearize" => linearize_job(given),
         _ => None,
-    }
-}
-
-/// The word that was given for an argument.
-#[tactic(auto, using(crate::proofs::Rows::first_value_rows))]
-fn word<'a>(given: &ArgMatches<'a>, id: &str) -> Option<&'a str>
-    ensures { option_map (λ s. s.now) result ≡ first_of id.now (rows_of (found_of given.now)) }
-{
-    given.get_str(id)
-}
-
-/// The number that was given for an argument.
-fn number(given: &ArgMatches<'_>, id: &str) -> Option<u32>
-    ensures { IfSome result (λ n. number_in id.now (rows_of (found_of given.now)) ≡ Some n) }
-{
-    given.get_one::<u32>(id)
-}
-
-/// The number that was given for an argument, from 1 to the most that is allowed.
-fn number_within(given: &ArgMatches<'_>, id: &str, most: u32) -> Option<u32>
-    ensures given { IfSome result
-        (λ n. number_in id.now (rows_of (found_of given.now)) ≡ Some n) }
-    ensures within { IfSome result (λ n. (1 ≤ n) × (n ≤ most)) }
-{
-    let number = number(given, id)?;
-    if number < 1 || number > most {
-        return None;
-    }
-    Some(number)
-}
-
-/// Whether the flag of this name is given.
-fn flag_of(given: &ArgMatches<'_>, id: &str) -> Option<bool>
-    ensures { IfSome result (λ is. IsFlag id.now is (rows_of (found_of given.now))) }
-{
-    given.get_one::<bool>(id)
-}
-
-/// The class of the packets of a route: that of replies where the words say so.
-fn class(given: &ArgMatches<'_>) -> Option<Class>
-    ensures { IfSome result
-        (λ class. one_of (codes "reply") (rows_of (found_of given.now)) ≡ Some (class_word class)) }
-{
-    if flag_of(given, "reply")? {
-        Some(Class::Reply)
-    } else {
-        Some(Class::Request)
     }
 }

@@ -3,5 +3,7 @@
 
 mod building;
 pub mod command;
+mod jobs;
+mod values;
 
 pub use command::{Job, Request, read_command, read_request};

@@ -94,31 +94,58 @@ fn sentence<'a>(alloc: Global, job: &Job<'a>, texts: &'a Texts) -> Option<Senten
             machine,
             script,
             steps,
-        } => {
-            let machine = named(machine, &texts.first);
-            let script = named(script, &texts.second);
-            steps_sentence(alloc, machine, script, named(steps, &texts.third))
-        }
+        } => of_steps(alloc, machine, script, steps, texts),
+        Job::Moves {
+            machine,
+            script,
+            steps,
+        } => of_steps(alloc, machine, script, steps, texts),
         Job::Round {
             machine,
             script,
             ..
-        } => {
-            let machine = named(machine, &texts.first);
-            scripts_sentence(alloc, machine, named(script, &texts.second))
-        }
+        } => of_scripts(alloc, machine, script, texts),
         Job::Run {
             machine,
             script,
             ..
-        } => {
-            let machine = named(machine, &texts.first);
-            scripts_sentence(alloc, machine, named(script, &texts.second))
-        }
+        } => of_scripts(alloc, machine, script, texts),
+        Job::Schedule {
+            machine,
+            script,
+            ..
+        } => of_scripts(alloc, machine, script, texts),
+        Job::Draw {
+            machine,
+            script,
+            ..
+        } => of_scripts(alloc, machine, script, texts),
         Job::Route { machine, .. } => machine_sentence(alloc, named(machine, &texts.first)),
         Job::Channels { machine } => machine_sentence(alloc, named(machine, &texts.first)),
         _ => None,
     }
+}
+
+fn of_scripts<'a>(
+    alloc: Global,
+    machine: &'a str,
+    script: &'a str,
+    texts: &'a Texts,
+) -> Option<Sentence<'a>> {
+    let machine = named(machine, &texts.first);
+    scripts_sentence(alloc, machine, named(script, &texts.second))
+}
+
+fn of_steps<'a>(
+    alloc: Global,
+    machine: &'a str,
+    script: &'a str,
+    steps: &'a str,
+    texts: &'a Texts,
+) -> Option<Sentence<'a>> {
+    let machine = named(machine, &texts.first);
+    let script = named(script, &texts.second);
+    steps_sentence(alloc, machine, script, named(steps, &texts.third))
 }
 
 fn named<'a>(name: &'a str, text: &'a [u8]) -> Named<'a> {

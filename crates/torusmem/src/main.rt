@@ -20,6 +20,8 @@ use linearize_command::{Judged, linearize_text, status, verdict_text};
 use network_command::network_text;
 use progress_line::ProgressLine;
 use report_lines::{Out, Piped};
+use schedule_commands::{draw_text, moves_text, schedule_text};
+use std::alloc::Global;
 use std::io::{BufWriter, Input, IsTerminal, Write};
 use std::process::ExitCode;
 use std::rt::{Clock, Env, Files};
@@ -188,7 +190,28 @@ fn answer<R: Eprint + Clock + AllocGlobal + Threads + Wait + Sync, W: Out>(
             check_text(alloc, first, out)?;
             Ok(Outcome::Done)
         }
+        Job::Schedule { .. } | Job::Draw { .. } | Job::Moves { .. } => {
+            Ok(Outcome::Ran(scheduled(alloc, job, texts, out)?, 0))
+        }
         _ => ran(rt, job, texts, is_seen, out),
+    }
+}
+
+/// Prints the moves of a run of the job's scripts, and answers whether every script is finished.
+fn scheduled<W: Out>(
+    alloc: Global,
+    job: &Job,
+    texts: &Texts,
+    out: &mut W,
+) -> Result<bool, ProgramFault> {
+    let (machine, script) = (texts.first.as_slice(), texts.second.as_slice());
+    match *job {
+        Job::Schedule { rounds, .. } => {
+            schedule_text(alloc, machine, script, u64::from(rounds), out)
+        }
+        Job::Draw { seed, steps, .. } => draw_text(alloc, machine, script, seed, steps, out),
+        Job::Moves { .. } => moves_text(alloc, machine, script, &texts.third, out),
+        _ => Ok(true),
     }
 }
 

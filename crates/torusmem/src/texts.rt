@@ -80,6 +80,21 @@ fn names<'a>(job: &Job<'a>) -> (Option<&'a str>, Option<&'a str>, Option<&'a str
             script,
             ..
         } => (Some(machine), Some(script), None),
+        Job::Schedule {
+            machine,
+            script,
+            ..
+        } => (Some(machine), Some(script), None),
+        Job::Draw {
+            machine,
+            script,
+            ..
+        } => (Some(machine), Some(script), None),
+        Job::Moves {
+            machine,
+            script,
+            steps,
+        } => (Some(machine), Some(script), Some(steps)),
         Job::Route { machine, .. } => (Some(machine), None, None),
         Job::Channels { machine } => (Some(machine), None, None),
         Job::Check { report } => (Some(report), None, None),

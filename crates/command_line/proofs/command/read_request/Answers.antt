@@ -1,6 +1,5 @@
 -- The matches have the values that the words give.
 use Rattle.std.specs.Prelude.{map, codes}
-use Rattle.clap.specs.Words.{app_of}
 use Rattle.command_line.specs.Job.{AreOf, IsFlag, name_of}
 use Rattle.command_line.proofs.Apps.{name_is, rows_are}
 use Rattle.command_line.proofs.command.read_request.Goals as goal

@@ -1,7 +1,7 @@
 -- The getter reads the text of the flag.
 use Rattle.clap.specs.Words.{found_of}
 use Rattle.command_line.proofs.Rows.{flag_is_read}
-use Rattle.command_line.proofs.command.flag_of.Goals as goal
+use Rattle.command_line.proofs.values.flag_of.Goals as goal
 
 pub returns : goal.returns
 returns c = flag_is_read _ (found_of c.args.given.now) c.args.id.now c.get_one.result c.get_one.ensures.none c.get_one.ensures.value

@@ -1,0 +1,118 @@
+//! The job of each subcommand, from what was given for its arguments.
+ghost use Rattle.std.specs.Prelude.{IfSome, codes};
+ghost use Rattle.clap.specs.Words.{found_of, rows_of};
+ghost use Rattle.command_line.specs.Job.{IsOf};
+
+use crate::command::Job;
+use crate::values::{
+    class, flag_of, long_number, long_number_if_given, number, number_within, word,
+};
+use clap::ArgMatches;
+
+/// The steps of `steps`, of which the report or the moves are asked for.
+pub(crate) fn steps_job<'a>(given: &ArgMatches<'a>) -> Option<Job<'a>>
+    ensures { IfSome result (IsOf (codes "steps") (rows_of (found_of given.now))) }
+{
+    let machine = word(given, "MACHINE")?;
+    let script = word(given, "SCRIPT")?;
+    let steps = word(given, "STEPS")?;
+    if flag_of(given, "moves")? {
+        Some(Job::Moves {
+            machine,
+            script,
+            steps,
+        })
+    } else {
+        Some(Job::Steps {
+            machine,
+            script,
+            steps,
+        })
+    }
+}
+
+pub(crate) fn round_job<'a>(given: &ArgMatches<'a>) -> Option<Job<'a>>
+    ensures { IfSome result (IsOf (codes "round") (rows_of (found_of given.now))) }
+{
+    Some(Job::Round {
+        machine: word(given, "MACHINE")?,
+        script: word(given, "SCRIPT")?,
+        rounds: number_within(given, "rounds", 1000000)?,
+    })
+}
+
+pub(crate) fn run_job<'a>(given: &ArgMatches<'a>) -> Option<Job<'a>>
+    ensures { IfSome result (IsOf (codes "run") (rows_of (found_of given.now))) }
+{
+    Some(Job::Run {
+        machine: word(given, "MACHINE")?,
+        script: word(given, "SCRIPT")?,
+        workers: number_within(given, "workers", 16)?,
+        turns: number_within(given, "turns", 1000000000)?,
+    })
+}
+
+pub(crate) fn schedule_job<'a>(given: &ArgMatches<'a>) -> Option<Job<'a>>
+    ensures { IfSome result (IsOf (codes "schedule") (rows_of (found_of given.now))) }
+{
+    Some(Job::Schedule {
+        machine: word(given, "MACHINE")?,
+        script: word(given, "SCRIPT")?,
+        rounds: number_within(given, "rounds", 1000000)?,
+    })
+}
+
+pub(crate) fn draw_job<'a>(given: &ArgMatches<'a>) -> Option<Job<'a>>
+    ensures { IfSome result (IsOf (codes "draw") (rows_of (found_of given.now))) }
+{
+    Some(Job::Draw {
+        machine: word(given, "MACHINE")?,
+        script: word(given, "SCRIPT")?,
+        seed: long_number(given, "seed")?,
+        steps: long_number_if_given(given, "steps")?,
+    })
+}
+
+pub(crate) fn route_job<'a>(given: &ArgMatches<'a>) -> Option<Job<'a>>
+    ensures { IfSome result (IsOf (codes "route") (rows_of (found_of given.now))) }
+{
+    Some(Job::Route {
+        machine: word(given, "MACHINE")?,
+        src: number(given, "SRC")?,
+        dst: number(given, "DST")?,
+        class: class(given)?,
+    })
+}
+
+pub(crate) fn channels_job<'a>(given: &ArgMatches<'a>) -> Option<Job<'a>>
+    ensures { IfSome result (IsOf (codes "channels") (rows_of (found_of given.now))) }
+{
+    Some(Job::Channels {
+        machine: word(given, "MACHINE")?,
+    })
+}
+
+pub(crate) fn check_job<'a>(given: &ArgMatches<'a>) -> Option<Job<'a>>
+    ensures { IfSome result (IsOf (codes "check") (rows_of (found_of given.now))) }
+{
+    Some(Job::Check {
+        report: word(given, "REPORT")?,
+    })
+}
+
+pub(crate) fn network_job<'a>(given: &ArgMatches<'a>) -> Option<Job<'a>>
+    ensures { IfSome result (IsOf (codes "network") (rows_of (found_of given.now))) }
+{
+    Some(Job::Network {
+        network: word(given, "NETWORK")?,
+    })
+}
+
+pub(crate) fn linearize_job<'a>(given: &ArgMatches<'a>) -> Option<Job<'a>>
+    ensures { IfSome result (IsOf (codes "linearize") (rows_of (found_of given.now))) }
+{
+    Some(Job::Linearize {
+        trace: word(given, "TRACE")?,
+        configurations: number_within(given, "configurations", 4294967295)?,
+    })
+}
