@@ -1,0 +1,10 @@
+pub mod Outputs
+pub mod Headed
+pub mod Attempts
+pub mod Pushed
+pub mod InRounds
+pub mod Told
+pub mod Read
+pub mod Drawing
+pub mod DrawnMoves
+pub mod DrawTold

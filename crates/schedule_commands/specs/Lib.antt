@@ -1,0 +1,5 @@
+pub mod Asked
+pub mod Output
+pub mod Rounds
+pub mod Schedules
+pub mod Drawn
