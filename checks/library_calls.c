@@ -2,7 +2,8 @@
 
      library_calls finish MACHINE SCRIPT           prints the report of a finished run, and nothing else
      library_calls codes MACHINE SCRIPT REPORT     what calls answer of a machine that is empty or full, of what isn't
-                                                   there and of short buffers; the texts are those of examples/
+                                                   there, of short buffers, of texts with faults and of networks; the
+                                                   texts are those of examples/
      library_calls memory MACHINE SCRIPT REPORT    the same run with the n-th request for memory refused, for each n
      library_calls steps MACHINE SCRIPT            a run by drawn steps, one by one and by lists, by rounds and at once:
                                                    once it is loaded, no call asks for memory but that of a report and
