@@ -19,19 +19,19 @@ returns-in_err-put_drawn g c =
     let p = err_from_is_err_and c.from_residual-in_err-put_drawn.result c.from_residual-in_err-put_drawn.ensures.1 in
     let asked : Result Load LineFault = load_by (lines c.args.machine.now) (lines c.args.scripts.now) in
     rw (p.1, p.2) (draw_begun asked c.args.seed c.args.most c.in_ok-machine.machine c.in_ok-machine.ensures.ok c.unwrap_or-most.result
-    (c.unwrap_or-most.ensures.value ∙ ap (unwrap_or c.args.most) c.moves_left.ensures.value) _ _ c.in_err-put_drawn.ensures.took)
+    (c.unwrap_or-most.ensures ∙ ap (unwrap_or c.args.most) c.moves_left.ensures.value) _ _ c.in_err-put_drawn.ensures.took)
 
 pub returns-in_err-finished : goal.returns-in_err-finished
 returns-in_err-finished g c =
     let p = err_from_is_err_and c.from_residual-in_err-finished.result c.from_residual-in_err-finished.ensures.1 in
     let asked : Result Load LineFault = load_by (lines c.args.machine.now) (lines c.args.scripts.now) in
     rw (p.1, p.2) (draw_last asked c.args.seed c.args.most c.in_ok-machine.machine c.in_ok-machine.ensures.ok c.unwrap_or-most.result
-    (c.unwrap_or-most.ensures.value ∙ ap (unwrap_or c.args.most) c.moves_left.ensures.value) c.put_drawn.new.machine _ _ _
+    (c.unwrap_or-most.ensures ∙ ap (unwrap_or c.args.most) c.moves_left.ensures.value) c.put_drawn.new.machine _ _ _
     c.in_ok-put_drawn.ensures.machine c.in_ok-put_drawn.ensures.took c.in_err-finished.ensures.took)
 
 pub returns : goal.returns
 returns g c =
     let asked : Result Load LineFault = load_by (lines c.args.machine.now) (lines c.args.scripts.now) in
     draw_whole asked c.args.seed c.args.most c.in_ok-machine.machine c.in_ok-machine.ensures.ok c.unwrap_or-most.result
-    (c.unwrap_or-most.ensures.value ∙ ap (unwrap_or c.args.most) c.moves_left.ensures.value) c.put_drawn.new.machine c.in_ok-finished.finished _ _ _
+    (c.unwrap_or-most.ensures ∙ ap (unwrap_or c.args.most) c.moves_left.ensures.value) c.put_drawn.new.machine c.in_ok-finished.finished _ _ _
     c.in_ok-put_drawn.ensures.machine c.in_ok-finished.ensures.value c.in_ok-put_drawn.ensures.took c.in_ok-finished.ensures.took
