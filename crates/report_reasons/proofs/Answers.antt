@@ -1,5 +1,5 @@
 -- An answer that breaks no rule is allowed.
-use Rattle.std.proofs.Common.{◌≡◌, ℕ, ◌≤◌, ◌<◌, ◌==◌, true, not, Option, Some, None, map, nat_le, nat_lt, refl, sym, ◌∙◌}
+use Rattle.std.proofs.Common.{◌≡◌, Option, Some, None, map, refl, sym}
 use Rattle.std.specs.Prelude.{slice_get}
 use Rattle.std.proofs.lemmas.Bool.{eqb-true, ltb-true, leb-true}
 use Rattle.std.proofs.lemmas.Option.{none-some}
@@ -8,7 +8,7 @@ use Rattle.report_lines.specs.declared.line.AnswerLine.{AnswerLine}
 use Rattle.report_check.specs.Seen.{Seen, above_last, entries_at, is_answered, key_of}
 use Rattle.report_check.specs.Good.{NamesUnansweredEntry, AllowedAnswer}
 use Rattle.report_reasons.specs.declared.rule.Kind.TheVariants as kind
-use Rattle.report_reasons.specs.Broken.{behind_broken, named_broken, answer_broken}
+use Rattle.report_reasons.specs.Broken.{named_broken, answer_broken}
 use Rattle.report_reasons.proofs.Tests.{unless_kept, or_kept, last_kept, not_true, reply_true}
 use Rattle.report_reasons.proofs.Heads.{behind_kept}
 

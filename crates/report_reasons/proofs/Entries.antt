@@ -1,5 +1,5 @@
 -- An entry that breaks no rule is allowed.
-use Rattle.std.proofs.Common.{◌≡◌, ℕ, ◌%◌, ◌≤◌, ◌<◌, ◌==◌, ◌||◌, true, not, None, length, nat_le, nat_lt, refl, sym, ◌∙◌}
+use Rattle.std.proofs.Common.{◌≡◌, ◌%◌, ◌==◌, true, None, length}
 use Rattle.std.proofs.lemmas.Bool.{eqb-true, ltb-true, leb-true}
 use Rattle.packet.specs.Memory.{reply_of_one}
 use Rattle.report_lines.specs.Contents.{is_newer}

@@ -1,5 +1,5 @@
 -- The first that is found for some numbers.
-use Rattle.std.proofs.Common.{◌≡◌, ℕ, ◌+◌, ◌-◌, ◌<◌, ◌≤◌, suc, zero, Option, Some, None, ap, sym, ◌∙◌, arith}
+use Rattle.std.proofs.Common.{◌≡◌, ℕ, ◌+◌, ◌-◌, ◌<◌, ◌≤◌, suc, Option, Some, None, ap, sym, ◌∙◌, arith}
 use Rattle.report_reasons.specs.Lists.{first_or, first_from}
 
 -- the next number, and those behind it

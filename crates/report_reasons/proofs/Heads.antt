@@ -1,12 +1,12 @@
 -- The first lines, and the place of a line, break no rule: they are allowed.
-use Rattle.std.proofs.Common.{◌≡◌, ◌⊎◌, ℕ, ◌≤◌, ◌<◌, ◌==◌, ◌&&◌, ◌||◌, Bool, true, not, List, [], ◌∷◌, Some, None, length, nat_le, nat_lt, slice_index, refl, sym, inl, inr, ◌∙◌, arith}
+use Rattle.std.proofs.Common.{◌≡◌, ℕ, ◌≤◌, ◌<◌, ◌==◌, ◌&&◌, List, [], ◌∷◌, None, nat_le, slice_index, inl, inr, arith}
 use Rattle.std.specs.List.{AllByRecursion}
-use Rattle.std.proofs.lemmas.Bool.{eqb-true, eqb-false, ltb-true, leb-true, eq-eqb, false≢true}
+use Rattle.std.proofs.lemmas.Bool.{eqb-true, eqb-false, ltb-true, leb-true, eq-eqb}
 use Rattle.torus.specs.Shape.{product}
 use Rattle.report_lines.specs.Line.{radix_list}
 use Rattle.report_lines.specs.declared.line.Radices.{Radices}
 use Rattle.report_check.specs.Seen.{Seen, above_last, has_newer}
-use Rattle.report_check.specs.Good.{InSection, BehindEntries, AllowedHeader, AllowedShape, AreRadices, AllowedInit, ToldBelow, AllowedWord}
+use Rattle.report_check.specs.Good.{InSection, BehindEntries, AllowedHeader, AllowedShape, AllowedInit, ToldBelow, AllowedWord}
 use Rattle.report_reasons.specs.declared.rule.Kind.{Kind}
 use Rattle.report_reasons.specs.declared.rule.Kind.TheVariants as kind
 use Rattle.report_reasons.specs.declared.rule.Rule.TheVariants as rule

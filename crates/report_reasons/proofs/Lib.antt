@@ -8,3 +8,4 @@ pub mod Orders
 pub mod Allowed
 pub mod Going
 pub mod Reasons
+pub mod Unbroken

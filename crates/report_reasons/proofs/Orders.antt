@@ -1,13 +1,13 @@
 -- An order line and a last line that break no rule are allowed.
-use Rattle.std.proofs.Common.{◌≡◌, ◌⊎◌, ℕ, ◌+◌, ◌≤◌, ◌<◌, ◌==◌, ◌&&◌, Bool, true, false, not, List, [], ◌∷◌, Option, Some, None, IfSome, is_some, IsTrue, length, map, nat_le, nat_lt, if◌then◌else◌}
+use Rattle.std.proofs.Common.{◌≡◌, ◌⊎◌, ℕ, ◌<◌, ◌==◌, Bool, true, false, List, [], ◌∷◌, Option, Some, None, IfSome, is_some, IsTrue, length, map, nat_le, if◌then◌else◌}
 use Rattle.std.proofs.Common.{refl, sym, ap, inl, inr, ◌∙◌, arith}
 use Rattle.std.proofs.lemmas.Bool.{eqb-true, ltb-true, leb-true, cases_lt, false≢true, ne_eqb}
 use Rattle.report_lines.specs.declared.line.OrderLine.{OrderLine}
 use Rattle.report_check.specs.Seen.{Seen, above_last, entries_at, is_answered, orders_at, is_named}
-use Rattle.report_check.specs.Good.{IsNewEvent, OrdersNext, HasNewEvents, AllowedOrder, IsWholeOrder, IsAllAnswered, AllowedEnd}
+use Rattle.report_check.specs.Good.{IsNewEvent, OrdersNext, AllowedOrder, IsWholeOrder, IsAllAnswered, AllowedEnd}
 use Rattle.report_reasons.specs.declared.rule.Kind.TheVariants as kind
 use Rattle.report_reasons.specs.declared.rule.Rule.{Rule}
-use Rattle.report_reasons.specs.Broken.{◌<|>◌, unless, answer_untimely, event_broken, answer_event_broken, turn_broken, events_broken, order_broken, behind_broken, left_out}
+use Rattle.report_reasons.specs.Broken.{◌<|>◌, answer_untimely, event_broken, answer_event_broken, turn_broken, events_broken, order_broken, behind_broken, left_out}
 use Rattle.report_reasons.specs.Broken.{bank_unordered, unordered, orders_broken, place_unanswered, unanswered_at, unanswered, end_broken}
 use Rattle.report_reasons.proofs.Tests.{unless_kept, or_kept, last_kept, and_both, not_true, same_true, first_from-none}
 use Rattle.report_reasons.proofs.Heads.{behind_kept, told_kept}

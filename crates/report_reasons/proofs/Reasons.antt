@@ -1,14 +1,13 @@
 -- Where no line may stand, some rule is broken.
-use Rattle.std.proofs.Common.{◌≡◌, ◌⊎◌, ℕ, List, ◌++◌, Option, Some, None, IsSome, IfNone, sym, refl, ap, subst, ◌∙◌, inl, inr}
+use Rattle.std.proofs.Common.{◌≡◌, ℕ, List, Option, Some, None, IsSome, IfNone, sym, refl, ap, subst, ◌∙◌, inl, inr}
 use Rattle.report_lines.specs.declared.line.ReportLine.{ReportLine}
 use Rattle.report_check.specs.Fits.{FitsLine}
 use Rattle.report_check.specs.Spelled.{line_then}
 use Rattle.report_check.proofs.Joined.{line_then-is}
-use Rattle.report_check.specs.Seen.{Seen, nothing_seen, seen_of}
-use Rattle.report_check.specs.Good.{Allowed, AllStand, IsStuck}
+use Rattle.report_check.specs.Seen.{Seen}
+use Rattle.report_check.specs.Good.{IsStuck}
 use Rattle.report_reasons.specs.declared.rule.Rule.{Rule}
-use Rattle.report_reasons.specs.declared.rule.BadReport.{BadReport}
-use Rattle.report_reasons.specs.Broken.{broken, line_broken, GoesOn, IsUnbroken}
+use Rattle.report_reasons.specs.Broken.{broken, line_broken, IsUnbroken}
 use Rattle.report_reasons.specs.Reason.{HasReason}
 use Rattle.report_reasons.proofs.Banked.{Banked, banked}
 use Rattle.report_reasons.proofs.Allowed.{line_kept}

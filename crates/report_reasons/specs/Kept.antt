@@ -1,5 +1,4 @@
 -- The lines so far as they are kept, and as they are looked at.
-use Rattle.std.specs.Prelude.{◌≡◌}
 use Rattle.report_check.specs.Seen.{Seen}
 use Rattle.report_reasons.specs.declared.kept.Kept.{Kept}
 use Rattle.report_reasons.specs.declared.before.Before.{Before}

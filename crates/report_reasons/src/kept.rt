@@ -140,7 +140,8 @@ impl<A: Allocator + Copy> Kept<A> {
     }
 
     fn keep_entry(&mut self, entry: &EntryLine) -> Result<(), AllocError>
-        ensures { OnOk result (shown self.new ≡ after (shown self.old) (ReportLine.Entry entry.now)) }
+        ensures { OnOk result
+            (shown self.new ≡ after (shown self.old) (ReportLine.Entry entry.now)) }
     {
         self.entries.push(*entry)?;
         perform(&mut self.memory, entry.address, entry.op);
@@ -168,7 +169,8 @@ impl<A: Allocator + Copy> Kept<A> {
     }
 
     fn keep_order(&mut self, order: &OrderLine) -> Result<(), AllocError>
-        ensures { OnOk result (shown self.new ≡ after (shown self.old) (ReportLine.Order order.now)) }
+        ensures { OnOk result
+            (shown self.new ≡ after (shown self.old) (ReportLine.Order order.now)) }
     {
         self.orders.push(*order)?;
         self.section = 7;

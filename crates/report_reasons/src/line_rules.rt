@@ -4,11 +4,11 @@ ghost use Rattle.std.specs.Prelude.{◌≡◌, ◌==◌, ◌&&◌, nat_le, slice
 ghost use Rattle.report_lines.specs.Line.{radix_list};
 ghost use Rattle.report_check.specs.Seen.{entries_at};
 ghost use Rattle.report_reasons.specs.Kept.{seen};
-ghost use Rattle.report_reasons.specs.Broken.{unless, place_broken, header_broken};
-ghost use Rattle.report_reasons.specs.Broken.{radices_broken, shape_broken, word_broken, init_broken};
-ghost use Rattle.report_reasons.specs.Broken.{next_broken, home_broken, reply_broken, entry_broken};
-ghost use Rattle.report_reasons.specs.Broken.{behind_broken, named_broken, answer_broken, word_left, left_out};
-ghost use Rattle.report_reasons.specs.Broken.{told_broken};
+ghost use Rattle.report_reasons.specs.Broken.{unless, place_broken, header_broken, radices_broken};
+ghost use Rattle.report_reasons.specs.Broken.{shape_broken, word_broken, init_broken, next_broken};
+ghost use Rattle.report_reasons.specs.Broken.{home_broken, reply_broken, entry_broken};
+ghost use Rattle.report_reasons.specs.Broken.{behind_broken, named_broken, answer_broken};
+ghost use Rattle.report_reasons.specs.Broken.{word_left, left_out, told_broken};
 
 use crate::before::Before;
 use crate::queries::{

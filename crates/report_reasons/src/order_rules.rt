@@ -3,8 +3,10 @@
 ghost use Rattle.std.specs.Prelude.{◌≡◌};
 ghost use Rattle.report_reasons.specs.Kept.{seen};
 ghost use Rattle.report_reasons.specs.Broken.{answer_untimely, event_broken, answer_event_broken};
-ghost use Rattle.report_reasons.specs.Broken.{turn_broken, events_broken, order_broken, bank_unordered, unordered};
-ghost use Rattle.report_reasons.specs.Broken.{orders_broken, place_unanswered, unanswered_at, unanswered, end_broken, is_same as same};
+ghost use Rattle.report_reasons.specs.Broken.{turn_broken, events_broken, order_broken};
+ghost use Rattle.report_reasons.specs.Broken.{bank_unordered, unordered, orders_broken};
+ghost use Rattle.report_reasons.specs.Broken.{place_unanswered, unanswered_at, unanswered};
+ghost use Rattle.report_reasons.specs.Broken.{end_broken, is_same as same};
 
 use crate::before::Before;
 use crate::line_rules::unless;

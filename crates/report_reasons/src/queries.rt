@@ -1,6 +1,7 @@
 //! What of the lines so far a rule names.
 
-ghost use Rattle.std.specs.Prelude.{◌≡◌, ◌==◌, ◌+◌, ◌≤◌, ◌%◌, ◌^◌, ◌<◌, map, length, slice_get, slice_index};
+ghost use Rattle.std.specs.Prelude.{◌≡◌, ◌+◌, ◌≤◌, ◌%◌, ◌^◌, ◌<◌, map, length, slice_get};
+ghost use Rattle.std.specs.Prelude.{slice_index};
 ghost use Rattle.report_check.specs.Seen.{above_last, last_bank, entries_at, has_newer, is_answered};
 ghost use Rattle.report_check.specs.Seen.{key_of as key, orders_at, is_named};
 ghost use Rattle.report_reasons.specs.Lists.{same_reply as same, last_line, origin};

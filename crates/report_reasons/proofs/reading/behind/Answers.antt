@@ -1,8 +1,7 @@
-use Rattle.std.proofs.Common.{◌≡◌, List, ℕ, Some, true, drop, length, ap, sym, ◌∙◌}
+use Rattle.std.proofs.Common.{◌≡◌, List, ℕ, Some, true, length, ap, sym, ◌∙◌}
 use Rattle.std.specs.Prelude.{nat_eq}
 use Rattle.std.specs.List.{starts_with}
 use Rattle.std.proofs.lemmas.List.{take_rest}
-use Rattle.report_check.specs.Reading.{behind}
 use Rattle.report_check.proofs.Words.{behind-true, behind-false}
 use Rattle.report_check.proofs.Sound.{behind_sound}
 use Rattle.report_reasons.proofs.reading.behind.Goals as goal

@@ -1,4 +1,4 @@
-use Rattle.std.proofs.Common.{◌≡◌, ◌≤◌, sym, subst, arith}
+use Rattle.std.proofs.Common.{◌≤◌, sym, subst, arith}
 use Rattle.report_check.specs.Seen.{Seen}
 use Rattle.report_reasons.specs.Kept.{seen, shown}
 use Rattle.report_reasons.proofs.Going.{Stopped, going_start, going_reads, going_takes, going_stops}

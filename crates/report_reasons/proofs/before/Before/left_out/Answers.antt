@@ -1,8 +1,8 @@
-use Rattle.std.proofs.Common.{◌≡◌, ◌-◌, ◌∙◌, Some, None, ap, arith}
+use Rattle.std.proofs.Common.{◌≡◌, ◌-◌, Some, None, ap, arith}
 use Rattle.report_reasons.specs.Kept.{seen}
 use Rattle.report_reasons.specs.Lists.{first_from}
 use Rattle.report_reasons.specs.Broken.{word_left}
-use Rattle.report_reasons.proofs.Firsts.{first_from-hit, first_from-miss, first_from-start}
+use Rattle.report_reasons.proofs.Firsts.{first_from-hit, first_from-miss}
 use Rattle.report_reasons.proofs.before.Before.left_out.Goals as goal
 
 pub loop-address-init : goal.loop-address-init

@@ -1,4 +1,4 @@
-use Rattle.std.proofs.Common.{◌≡◌, ◌-◌, ◌∙◌, Some, None, ap, arith}
+use Rattle.std.proofs.Common.{◌≡◌, ◌∙◌, Some, None, ap, arith}
 use Rattle.report_reasons.specs.Kept.{seen}
 use Rattle.report_reasons.specs.Lists.{first_from}
 use Rattle.report_reasons.specs.Broken.{place_unanswered}

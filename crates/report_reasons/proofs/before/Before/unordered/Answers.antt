@@ -1,6 +1,5 @@
-use Rattle.std.proofs.Common.{◌≡◌, ◌-◌, ◌∙◌, Some, None, ap, arith}
+use Rattle.std.proofs.Common.{◌≡◌, Some, None, arith}
 use Rattle.report_reasons.specs.Kept.{seen}
-use Rattle.report_reasons.specs.Lists.{first_from}
 use Rattle.report_reasons.specs.Broken.{bank_unordered}
 use Rattle.report_reasons.proofs.Firsts.{first_from-hit, first_from-miss, first_from-start}
 use Rattle.report_reasons.proofs.before.Before.unordered.Goals as goal
