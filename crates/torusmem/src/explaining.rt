@@ -46,7 +46,7 @@ pub(crate) fn explain<R: Eprint + AllocGlobal>(
 }
 
 /// Says which text of the job has the first fault, at which line, and why; answers whether one has.
-fn explain_line<R: Eprint + AllocGlobal>(rt: &R, job: &Job, texts: &Texts) -> bool {
+fn explain_line<'a, R: Eprint + AllocGlobal>(rt: &R, job: &Job<'a>, texts: &'a Texts) -> bool {
     let alloc = rt.alloc();
     match *job {
         Job::Network { network } => {
