@@ -7,7 +7,7 @@ returns g c =
     let is = c.self.invariant in
     let after : IsAfter is.load c.args.self.now is.steps = subst (λ (x : Core). IsAfter is.load x is.steps) c.self.view_is is.after in
     record {
-      after = (is.load , (is.steps , after));
+      after = (is.load, is.steps, after);
       one_order = record {
         load = is.load;
         steps = is.steps;
