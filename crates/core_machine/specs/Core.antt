@@ -70,6 +70,24 @@ pub record IsAfter (l : Load) (c : Core) (steps : List Step) : Type 0 where
   pub moves : c.moves_left ≡ moves_left l steps (length steps)
   pub lawful : IsLawful l steps c.book.rows
 
+-- further steps lead from the old machine to the new one: after whatever steps the old one stands,
+-- from whatever load, the new one stands after these and the further ones
+abbrev pub RunsOn : Core → Core → List Step → Type 0
+RunsOn old new more =
+    (l : Load) (before : List Step) → IsAfter l old before → IsAfter l new (before ++ more)
+
+-- The headline, of a machine: it stands after some steps from an accepted load, and in the run of
+-- these its operations have one legal order, that of the banks' services, with the rows of its book;
+-- and every processor has followed its script (Herlihy and Wing, TOPLAS 12(3), 1990:
+-- linearizability).
+pub record HasOneOrderSoFar (c : Core) : Type 0 where
+  pub load : Load
+  pub steps : List Step
+  pub after : IsAfter load c steps
+  pub order : HasOneOrder (tiles_of load.shape) load.tags load.opening (run_of load steps)
+      (length steps) c.book.rows
+  pub scripts : FollowScripts (run_of load steps) (length steps) load.scripts
+
 -- the machine that a list of steps leads to from a load
 abbrev pub core_after_load : Load → List Step → Core
 core_after_load l steps = record {

@@ -24,7 +24,7 @@ impl<A: Allocator> TileSeat<A> {
     /// What was loaded was accepted, and the run that the seat knows is lawful.
     pub fn accepted(&self)
         ensures accepted { IsAccepted self.now.load }
-        ensures lawful { HasLawfulRun self.now.load self.now.run }
+        ensures one_order { HasLawfulRun self.now.load self.now.run }
     {
         let _ = &self.slots;
     }

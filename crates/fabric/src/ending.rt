@@ -60,7 +60,7 @@ impl<A: Allocator> Fabric<A> {
         ensures known { result ≡ record { load = seat.load; run = seat.run } }
         ensures longest { IsLongest seat }
         ensures was_longest { WasLongest seat }
-        ensures lawful { HasLawfulRun result.load result.run }
+        ensures one_order { HasLawfulRun result.load result.run }
     {
         let Fabric {
             table,
@@ -134,7 +134,7 @@ impl<A: Allocator> Final<A> {
     /// legal order, that of the services, and every processor has followed its script.
     pub fn reached(&self)
         ensures accepted { IsAccepted self.now.load }
-        ensures lawful { HasLawfulRun self.now.load self.now.run }
+        ensures one_order { HasLawfulRun self.now.load self.now.run }
     {
         let _ = &self.slots;
     }
@@ -219,7 +219,7 @@ impl<A: Allocator> Final<A> {
     /// wants another load.
     pub fn finished(&self) -> bool
         ensures value { result ≡ all_finished (after self.now.load self.now.run) }
-        ensures law { IsTrue result
+        ensures scripts { IsTrue result
             ↔ AreFinished (run_of self.now.load self.now.run) (length self.now.run)
             self.now.load.scripts }
     {

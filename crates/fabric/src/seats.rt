@@ -99,7 +99,7 @@ impl<A: Allocator> Fabric<A> {
         ensures unchanged { result ≡ NotMine → seat.new ≡ seat.old }
         ensures same { seat.new ≡ with_run seat.old seat.new.run }
         ensures later { Begins seat.new.run seat.old.run }
-        ensures lawful { HasLawfulRun seat.new.load seat.new.run }
+        ensures one_order { HasLawfulRun seat.new.load seat.new.run }
     {
         let number = (step.agent / 3) as usize;
         if number >= seat.slots.len() {
@@ -146,7 +146,7 @@ impl<A: Allocator> Fabric<A> {
         ensures none { IsNone result ↔ (length self.now.load.opening ≤ address) }
         ensures word { IfSome result (λ n. n ≡ word_after seat.new.load seat.new.run address) }
         ensures later { Grows seat.old seat.new }
-        ensures lawful { HasLawfulRun seat.new.load seat.new.run }
+        ensures one_order { HasLawfulRun seat.new.load seat.new.run }
     {
         self.look(&mut seat.seat, address)
     }
@@ -159,7 +159,7 @@ impl<A: Allocator> Fabric<A> {
         requires { IsOf self.now one × IsOf self.now other }
         ensures one { Learns one other result.0 }
         ensures other { Learns other one result.1 }
-        ensures lawful { HasLawfulRun result.0.load result.0.run
+        ensures one_order { HasLawfulRun result.0.load result.0.run
             × HasLawfulRun result.1.load result.1.run }
         ensures answers_first { KeepsBothFirst one other result.0 × KeepsBothFirst one other result.1 }
     {
@@ -206,7 +206,7 @@ impl<A: Allocator> Fabric<A> {
         requires { IsOf self.now one × IsOf self.now other }
         ensures both { JoinsTo one other result }
         ensures ordered { Begins one.run other.run ⊎ Begins other.run one.run }
-        ensures lawful { HasLawfulRun result.load result.run }
+        ensures one_order { HasLawfulRun result.load result.run }
         ensures answers_first { KeepsBothFirst one other result }
     {
         let TileSeat { slots, mut seat } = one;

@@ -6,8 +6,8 @@ ghost use Rattle.torus.specs.Shape.{tiles_of, dims_of};
 ghost use Rattle.torus.specs.declared.step.Step.{Step};
 ghost use Rattle.channel_number.specs.Ports.{port_count};
 ghost use Rattle.rounds.specs.Rounds.{moves_in};
-ghost use Rattle.machine_wake.specs.core_laws.specs.Core.{Load, step, attempts_of, round_at, round};
-ghost use Rattle.machine_wake.specs.core_machine.specs.Core.{IsAfter, MakesMove, Steps, core_after, built_to};
+ghost use Rattle.machine_wake.specs.core_laws.specs.Core.{step, attempts_of, round_at, round};
+ghost use Rattle.machine_wake.specs.core_machine.specs.Core.{RunsOn, MakesMove, Steps, core_after, built_to};
 ghost use Rattle.machine_wake.specs.core_machine.specs.Core.{all_finished};
 ghost use Rattle.machine_core.specs.Rounds.{processor_choices, bank_choices, takes_of_all, puts_of_all};
 ghost use Rattle.machine_core.specs.Rounds.{credits_of_all, router_choices};
@@ -93,8 +93,7 @@ impl<A: Allocator> Machine<A> {
             ≡ self.old.moves_left }
         ensures live { all_finished self.old.state ≡ false
             → MakesMove self.old (round self.old.shape) }
-        ensures law { (l : Load) (before : List Step) → IsAfter l self.old before
-            → IsAfter l self.new (before ++ round self.old.shape) }
+        ensures runs_on { RunsOn self.old self.new (round self.old.shape) }
     {
         let ports = 8 * self.torus.dims() + 2;
         for tile in 0..self.torus.tiles() {

@@ -11,7 +11,8 @@ ghost use Rattle.rounds.specs.Rounds.{moves_in};
 ghost use Rattle.machine_wake.specs.core_laws.specs.Core.{Load, run_of, step};
 ghost use Rattle.machine_wake.specs.core_laws.specs.Runs.{IsAccepted};
 ghost use Rattle.machine_wake.specs.core_row.specs.Row.{row_of};
-ghost use Rattle.machine_wake.specs.core_machine.specs.Core.{IsAfter, Steps, core_after, shown, built_to, all_finished};
+ghost use Rattle.machine_wake.specs.core_machine.specs.Core.{IsAfter, RunsOn, HasOneOrderSoFar, Steps, core_after, shown};
+ghost use Rattle.machine_wake.specs.core_machine.specs.Core.{built_to, all_finished};
 ghost use Rattle.machine_wake.specs.core_progress.specs.Moves.{IsLive, moves_left};
 ghost use Rattle.machine_core.specs.Rounds.{rounds_of, NeedsRounds};
 
@@ -132,8 +133,7 @@ impl<A: Allocator> Machine<A> {
     /// that the agent doesn't have, is `Idle`.
     pub fn step(&mut self, step: Step) -> Stepped
         ensures step { Steps self.old self.new result step }
-        ensures after { (l : Load) (steps : List Step) → IsAfter l self.old steps
-            → IsAfter l self.new (steps ++ step ∷ []) }
+        ensures runs_on { RunsOn self.old self.new (step ∷ []) }
     {
         let tile = (step.agent / 3) as usize;
         if tile >= self.tiles.len() {
@@ -150,8 +150,7 @@ impl<A: Allocator> Machine<A> {
     /// lead on: the run of both has one legal order, and every processor has followed its script.
     pub fn run(&mut self, steps: &[Step])
         ensures state { self.new ≡ core_after self.old steps.now }
-        ensures law { (l : Load) (before : List Step) → IsAfter l self.old before
-            → IsAfter l self.new (before ++ steps.now) }
+        ensures runs_on { RunsOn self.old self.new steps.now }
     {
         for step in steps {
             let _ = self.step(*step);
@@ -166,8 +165,7 @@ impl<A: Allocator> Machine<A> {
         ensures few { (l : Load) (steps : List Step) → IsAfter l self.old steps
             → result ≤ moves_left l steps (length steps) }
         ensures left { result ≤ self.old.moves_left }
-        ensures law { (l : Load) (before : List Step) → IsAfter l self.old before
-            → IsAfter l self.new (before ++ rounds_of self.old.shape result) }
+        ensures runs_on { RunsOn self.old self.new (rounds_of self.old.shape result) }
         ensures scripts { (l : Load) (before : List Step) → IsAfter l self.old before
             → AreFinished (run_of l (before ++ rounds_of self.old.shape result))
             (length (before ++ rounds_of self.old.shape result)) l.scripts }
@@ -181,9 +179,11 @@ impl<A: Allocator> Machine<A> {
         rounds
     }
 
-    /// The machine stands where some steps lead from a load that was accepted.
+    /// The machine stands where some steps lead from a load that was accepted, and its operations have
+    /// one legal order.
     pub fn reached(&self)
-        ensures { (l : Load) × (steps : List Step) × IsAfter l self.now steps }
+        ensures after { (l : Load) × (steps : List Step) × IsAfter l self.now steps }
+        ensures one_order { HasOneOrderSoFar self.now }
     {
         let _ = &self.torus;
     }
@@ -259,7 +259,7 @@ impl<A: Allocator> Machine<A> {
     /// tile, less the moves made. No list of steps makes more.
     pub fn moves_left(&self) -> u64
         ensures value { result ≡ self.now.moves_left }
-        ensures law { (l : Load) (steps : List Step) → IsAfter l self.now steps
+        ensures left { (l : Load) (steps : List Step) → IsAfter l self.now steps
             → result ≡ moves_left l steps (length steps) }
         ensures most { (more : List Step)
             → moves_in (step (built_to self.now)) self.now.state more ≤ result }
@@ -272,7 +272,7 @@ impl<A: Allocator> Machine<A> {
     pub fn finished(&self) -> bool
         ensures value { result ≡ all_finished self.now.state }
         ensures live { result ≡ false → IsLive (built_to self.now) self.now.state }
-        ensures law { (l : Load) (steps : List Step) → IsAfter l self.now steps
+        ensures scripts { (l : Load) (steps : List Step) → IsAfter l self.now steps
             → IsTrue result ↔ AreFinished (run_of l steps) (length steps) l.scripts }
     {
         self.tiles.iter().all(

@@ -8,7 +8,7 @@ use Rattle.torus.specs.declared.step.Stepped.TheVariants.{Moved, Idle}
 use Rattle.rounds.specs.Rounds.{moves_in}
 use Rattle.machine_handle.specs.machine_core.specs.order_abstract.specs.Scripts.{AreFinished}
 use Rattle.machine_handle.specs.machine_core.specs.core_laws.specs.Core.{Load, run_of, step, round}
-use Rattle.machine_handle.specs.core_machine.specs.Core.{Core, IsAfter, MakesMove, Steps, core_after, built_to}
+use Rattle.machine_handle.specs.core_machine.specs.Core.{Core, IsAfter, RunsOn, MakesMove, Steps, core_after, built_to}
 use Rattle.machine_handle.specs.core_machine.specs.Core.{all_finished}
 use Rattle.machine_handle.specs.machine_core.specs.Rounds.{rounds_of, NeedsRounds}
 use Rattle.machine_handle.specs.core_machine.specs.core_progress.specs.Moves.{IsLive, moves_left}
@@ -30,8 +30,7 @@ pub record MakesStep (attempt : Step) (old new : Core) (r : Outcome) : Type 0 wh
   pub stepped : Stepped
   pub step : Steps old new stepped attempt
   pub answer : r ≡ outcome code.Done (moved stepped)
-  pub law : (l : Load) (before : List Step) → IsAfter l old before
-      → IsAfter l new (before ++ attempt ∷ [])
+  pub runs_on : RunsOn old new (attempt ∷ [])
 
 -- the machine makes the step that is named, and none where none is (this project's own format)
 abbrev pub Attempts : Option Step → Core → Core → Outcome → Type 0
@@ -48,7 +47,7 @@ pub record MakesSteps (steps : List Step) (old new : Core) (r : Outcome) : Type 
   pub state : new ≡ core_after old steps
   pub answer : r ≡ outcome code.Done (moves_in (step (built_to old)) old.state steps)
   pub left : new.moves_left + moves_in (step (built_to old)) old.state steps ≡ old.moves_left
-  pub law : (l : Load) (before : List Step) → IsAfter l old before → IsAfter l new (before ++ steps)
+  pub runs_on : RunsOn old new steps
 
 -- whether the step that is named is enabled (this project's own format)
 abbrev pub is_enabled : Option Step → Core → Bool
@@ -65,8 +64,7 @@ pub record MakesRound (old new : Core) (r : Outcome) : Type 0 where
   pub moves : new.moves_left + moves_in (step (built_to old)) old.state (round old.shape)
       ≡ old.moves_left
   pub live : all_finished old.state ≡ false → MakesMove old (round old.shape)
-  pub law : (l : Load) (before : List Step) → IsAfter l old before
-      → IsAfter l new (before ++ round old.shape)
+  pub runs_on : RunsOn old new (round old.shape)
   pub answer : r ≡ outcome code.Done 0
 
 -- the machine makes the least number of rounds after which every script is finished, and that
@@ -79,8 +77,7 @@ pub record Finishes (old new : Core) (r : Outcome) : Type 0 where
   pub few : (l : Load) (steps : List Step) → IsAfter l old steps
       → rounds ≤ moves_left l steps (length steps)
   pub left : rounds ≤ old.moves_left
-  pub law : (l : Load) (before : List Step) → IsAfter l old before
-      → IsAfter l new (before ++ rounds_of old.shape rounds)
+  pub runs_on : RunsOn old new (rounds_of old.shape rounds)
   pub scripts : (l : Load) (before : List Step) → IsAfter l old before
       → AreFinished (run_of l (before ++ rounds_of old.shape rounds))
       (length (before ++ rounds_of old.shape rounds)) l.scripts
@@ -90,13 +87,13 @@ pub record TellsFinished (old new : Core) (r : Outcome) : Type 0 where
   pub same : new ≡ old
   pub answer : r ≡ outcome code.Done (flag (all_finished old.state))
   pub live : all_finished old.state ≡ false → IsLive (built_to old) old.state
-  pub law : (l : Load) (steps : List Step) → IsAfter l old steps
+  pub scripts : (l : Load) (steps : List Step) → IsAfter l old steps
       → IsTrue (all_finished old.state) ↔ AreFinished (run_of l steps) (length steps) l.scripts
 
 -- it is told how many moves the scripts still allow; no list of steps makes more
 pub record TellsMovesLeft (old new : Core) (r : Outcome) : Type 0 where
   pub same : new ≡ old
   pub answer : r ≡ outcome code.Done old.moves_left
-  pub law : (l : Load) (steps : List Step) → IsAfter l old steps
+  pub left : (l : Load) (steps : List Step) → IsAfter l old steps
       → old.moves_left ≡ moves_left l steps (length steps)
   pub exact : (more : List Step) → moves_in (step (built_to old)) old.state more ≤ old.moves_left

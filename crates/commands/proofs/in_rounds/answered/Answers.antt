@@ -12,7 +12,7 @@ use Rattle.commands.proofs.in_rounds.answered.Goals as goal
 pub loop-processor-preserved : goal.loop-processor-preserved
 loop-processor-preserved g c =
     let well : ReportsWell c.args.machine.now =
-    c.reached_machines_report_well.ensures c.reached.ensures.0 c.args.machine.now c.reached.ensures.1 c.reached.ensures.2 in
+    c.reached_machines_report_well.ensures c.reached.ensures.after.0 c.args.machine.now c.reached.ensures.after.1 c.reached.ensures.after.2 in
     let test = c.loop-processor-test.true in
     let tiles = c.tiles-processor-end.ensures.value in
     let count : length (shown c.args.machine.now).answers ≡ tiles_of c.torus.result.now = well.shows.sizes.answerers ∙ sym (ap tiles_of c.torus.ensures) in

@@ -19,7 +19,7 @@ loop-before-preserved g c =
     let k : ℕ = c.loop-before.before in
     let more : (l : Load) → IsAfter l c.args.machine.now [] → HasMade l (k + 1) c.round.new.self = λ l start.
     one_more l k c.loop-before.machine c.round.new.self (c.loop-before.invariant.made l start)
-    (sym c.if-finished.false ∙ c.finished.ensures.value) (λ steps h. c.round.ensures.law l steps h) in
+    (sym c.if-finished.false ∙ c.finished.ensures.value) (λ steps h. c.round.ensures.runs_on l steps h) in
     record {
       made = more;
       told = λ l start.

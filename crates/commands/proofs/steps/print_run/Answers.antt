@@ -15,7 +15,7 @@ returns-in_err-write_report g c =
           is = ap text_of c.in_ok-report.ensures.report;
           good = c.in_ok-report.ensures.good;
           value = c.finished-finished.ensures.value;
-          law = c.finished-finished.ensures.law;
+          law = c.finished-finished.ensures.scripts;
         },
         record { bytes = c.in_err-write_report.ensures.err; failed = c.in_err-write_report.ensures.failed },
       ),

@@ -11,7 +11,7 @@ overflow_add-count c =
     let test = c.loop-count-test.true in
     let seen : is_some (slice_get (row_of (built_to c.args.machine.now) c.args.machine.now.state) c.loop-count.count) ≡ true = cc in
     let low = goes_on (row_of (built_to c.args.machine.now) c.args.machine.now.state) c.loop-count.count seen in
-    let few = row_small c.reached.ensures.0 c.args.machine.now c.reached.ensures.1 c.reached.ensures.2 in
+    let few = row_small c.reached.ensures.after.0 c.args.machine.now c.reached.ensures.after.1 c.reached.ensures.after.2 in
     omega (arith, low, few)
 
 pub loop-count-smaller : goal.loop-count-smaller

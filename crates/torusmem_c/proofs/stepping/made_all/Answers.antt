@@ -25,7 +25,7 @@ made : (c : goal.After-moves_left)
 made c =
     let now : Core = c.args.machine.now in
     let all : c.loop-it.machine.moves_left + moves_in (step (built_to now)) now.state (steps_named c.args.attempts.now) ≡ now.moves_left
-    = falls c.reached.ensures.0 now c.loop-it.machine c.reached.ensures.1 (steps_named c.args.attempts.now) c.reached.ensures.2 (led c) in
+    = falls c.reached.ensures.after.0 now c.loop-it.machine c.reached.ensures.after.1 (steps_named c.args.attempts.now) c.reached.ensures.after.2 (led c) in
     omega (arith, all, c.moves_left.ensures.value, c.moves_left-left.ensures.value)
 
 pub overflow_sub-result : goal.overflow_sub-result
@@ -40,6 +40,6 @@ returns c =
     record {
       state = led c;
       answer = ap (λ (n : ℕ). outcome code.Done n) moves;
-      left = falls c.reached.ensures.0 now c.loop-it.machine c.reached.ensures.1 steps c.reached.ensures.2 (led c);
-      law = λ l before h. subst (λ (x : Core). IsAfter l x (before ++ steps)) (sym (led c)) (after_steps l now before steps h);
+      left = falls c.reached.ensures.after.0 now c.loop-it.machine c.reached.ensures.after.1 steps c.reached.ensures.after.2 (led c);
+      runs_on = λ l before h. subst (λ (x : Core). IsAfter l x (before ++ steps)) (sym (led c)) (after_steps l now before steps h);
     }

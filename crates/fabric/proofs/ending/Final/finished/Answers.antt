@@ -18,8 +18,8 @@ returns-clause-value g c =
     ∙ sym (finished_slots c.self.inside.slots.items c.self.inside.behind.me.0.load c.self.inside.behind.me.0.run c.self.invariant.0.accepted
     c.self.invariant.0.tiles))
 
-pub returns-clause-law : goal.returns-clause-law
-returns-clause-law g c =
+pub returns-clause-scripts : goal.returns-clause-scripts
+returns-clause-scripts g c =
     let value : c.all.result ≡ all_finished (after c.args.self.now.load c.args.self.now.run) = returns-clause-value g c in
     subst (λ (b : Bool). (b ≡ true) ↔ AreFinished (run_of c.args.self.now.load c.args.self.now.run) (length c.args.self.now.run) c.args.self.now.load.scripts)
     (sym value)

@@ -7,6 +7,6 @@ use Rattle.fabric.proofs.ending.Final.reached.Goals as goal
 pub returns-clause-accepted : goal.returns-clause-accepted
 returns-clause-accepted g c = subst (λ (e : Ended). IsAccepted e.load) c.self.view_is c.self.invariant.0.accepted
 
-pub returns-clause-lawful : goal.returns-clause-lawful
-returns-clause-lawful g c =
+pub returns-clause-one_order : goal.returns-clause-one_order
+returns-clause-one_order g c =
     every_run c.args.self.now.load c.args.self.now.run (subst (λ (e : Ended). IsAccepted e.load) c.self.view_is c.self.invariant.0.accepted)

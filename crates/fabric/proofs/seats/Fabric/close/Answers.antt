@@ -40,6 +40,6 @@ returns-clause-was_longest g c =
     c.seat.invariant
     (c.requires.0.1 ∙ sym (ap (λ (k : Origin). k.load) c.self.view_is)) c.requires.1 (ap (λ m. m.0) c.split_seat-behind.ensures.2) last.1.0 last.1.1
 
-pub returns-clause-lawful : goal.returns-clause-lawful
-returns-clause-lawful g c =
+pub returns-clause-one_order : goal.returns-clause-one_order
+returns-clause-one_order g c =
     lawful_view c.seat.inside.seat.me.0 c.split_seat-behind.result.me.0 c.seat.invariant.placed.accepted (ap (λ m. m.0.load) c.split_seat-behind.ensures.4)

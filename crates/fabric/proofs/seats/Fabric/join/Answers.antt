@@ -52,8 +52,8 @@ returns-clause-ordered g c =
     (subst (λ (k : Knowing). Begins c.one.inside.seat.me.0.run k.run ⊎ Begins k.run c.one.inside.seat.me.0.run) c.other.view_is
     (two_begins _ a.0 _ b.0 (sym a.1 ∙ b.1)))
 
-pub returns-clause-lawful : goal.returns-clause-lawful
-returns-clause-lawful g c =
+pub returns-clause-one_order : goal.returns-clause-one_order
+returns-clause-one_order g c =
     lawful_view c.one.inside.seat.me.0 c.load.new.seat.me.0 c.one.invariant.placed.accepted (ap (λ (v : View). v.load) (learned_here g c).view)
 
 pub returns-clause-answers_first : goal.returns-clause-answers_first

@@ -71,8 +71,8 @@ returns-clause-one g c = first_learns g c
 pub returns-clause-other : goal.returns-clause-other
 returns-clause-other g c = second_learns g c
 
-pub returns-clause-lawful : goal.returns-clause-lawful
-returns-clause-lawful g c = (
+pub returns-clause-one_order : goal.returns-clause-one_order
+returns-clause-one_order g c = (
   lawful_view c.one.inside.seat.me.0 c.split_seat-other_seat.new.seat.me.0 c.one.invariant.placed.accepted (ap (λ (v : View). v.load) (first_on g c).2),
   lawful_view c.other.inside.seat.me.0 c.split_seat-other_seat.result.me.0 c.other.invariant.placed.accepted (ap (λ (v : View). v.load) (second_on g c).2),
 )

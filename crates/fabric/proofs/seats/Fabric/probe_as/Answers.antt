@@ -14,6 +14,6 @@ invariant_of-seat g c = seated_look c.seat.inside.seat c.look.new.seat c.look.en
 pub returns-clause-later : goal.returns-clause-later
 returns-clause-later g c = seated_grows c.seat.inside.seat c.look.new.seat c.look.ensures.sees _ c.seat.inside.slots.items c.seat.view_is c.seat.invariant
 
-pub returns-clause-lawful : goal.returns-clause-lawful
-returns-clause-lawful g c =
+pub returns-clause-one_order : goal.returns-clause-one_order
+returns-clause-one_order g c =
     lawful_view c.seat.inside.seat.me.0 c.look.new.seat.me.0 c.seat.invariant.placed.accepted (ap (λ (v : View). v.load) c.look.ensures.sees.view)

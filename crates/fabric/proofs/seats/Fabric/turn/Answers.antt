@@ -18,15 +18,15 @@ invariant_of-seat-2 g c =
     seated_turn _ c.seat.inside.seat c.turn_tile.new.seat _ c.in-Some.tile _ c.seat.invariant at c.turn_tile.ensures.seat.0 c.turn_tile.ensures.seat.2
     c.turn_tile.ensures.tile c.turn_tile.ensures.rest
 
-pub returns-then-number-len-clause-lawful : goal.returns-then-number-len-clause-lawful
-returns-then-number-len-clause-lawful g c = knows_lawful c.seat.inside.seat _ c.seat.view_is c.seat.invariant.placed.accepted
+pub returns-then-number-len-clause-one_order : goal.returns-then-number-len-clause-one_order
+returns-then-number-len-clause-one_order g c = knows_lawful c.seat.inside.seat _ c.seat.view_is c.seat.invariant.placed.accepted
 
-pub returns-in_default-clause-lawful : goal.returns-in_default-clause-lawful
-returns-in_default-clause-lawful g c = every_run c.seat.inside.seat.me.0.load c.seat.inside.seat.me.0.run c.seat.invariant.placed.accepted
+pub returns-in_default-clause-one_order : goal.returns-in_default-clause-one_order
+returns-in_default-clause-one_order g c = every_run c.seat.inside.seat.me.0.load c.seat.inside.seat.me.0.run c.seat.invariant.placed.accepted
 
-pub returns-then-not-is_of-clause-lawful : goal.returns-then-not-is_of-clause-lawful
-returns-then-not-is_of-clause-lawful g c = every_run c.seat.inside.seat.me.0.load c.seat.inside.seat.me.0.run c.seat.invariant.placed.accepted
+pub returns-then-not-is_of-clause-one_order : goal.returns-then-not-is_of-clause-one_order
+returns-then-not-is_of-clause-one_order g c = every_run c.seat.inside.seat.me.0.load c.seat.inside.seat.me.0.run c.seat.invariant.placed.accepted
 
-pub returns-clause-lawful : goal.returns-clause-lawful
-returns-clause-lawful g c = let t = c.turn_tile.ensures.rest in
+pub returns-clause-one_order : goal.returns-clause-one_order
+returns-clause-one_order g c = let t = c.turn_tile.ensures.rest in
     lawful_view c.seat.inside.seat.me.0 c.turn_tile.new.seat.me.0 c.seat.invariant.placed.accepted (ap (λ (v : View). v.load) t.same)

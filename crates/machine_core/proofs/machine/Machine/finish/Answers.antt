@@ -15,13 +15,13 @@ loop-self-preserved g c =
 
 pub loop-self-smaller : goal.loop-self-smaller
 loop-self-smaller g c =
-    let low = still_few c.reached.ensures.0 c.args.self.now c.reached.ensures.1 c.reached.ensures.2 c.loop-self.self c.loop-self.rounds c.loop-self.invariant
+    let low = still_few c.reached.ensures.after.0 c.args.self.now c.reached.ensures.after.1 c.reached.ensures.after.2 c.loop-self.self c.loop-self.rounds c.loop-self.invariant
     (sym c.finished.ensures.value ∙ c.loop-self-test.true) in
     omega (arith, low)
 
 pub overflow_add-rounds : goal.overflow_add-rounds
 overflow_add-rounds g c =
-    let low = still_few c.reached.ensures.0 c.args.self.now c.reached.ensures.1 c.reached.ensures.2 c.loop-self.self c.loop-self.rounds c.loop-self.invariant
+    let low = still_few c.reached.ensures.after.0 c.args.self.now c.reached.ensures.after.1 c.reached.ensures.after.2 c.loop-self.self c.loop-self.rounds c.loop-self.invariant
     (sym c.finished.ensures.value ∙ c.loop-self-test.true) in
     omega (arith, low)
 
@@ -35,8 +35,8 @@ returns g c =
       state = made.so_far;
       needed = record { done = done; least = made.busy };
       few = λ l steps h. few_rounds l start steps h c.loop-self.rounds made.busy;
-      left = few_now c.reached.ensures.0 start c.reached.ensures.1 c.reached.ensures.2 c.loop-self.rounds made.busy;
-      law = λ l before h. subst (λ (x : Core). IsAfter l x (before ++ rounds_of start.shape c.loop-self.rounds)) (sym made.so_far)
+      left = few_now c.reached.ensures.after.0 start c.reached.ensures.after.1 c.reached.ensures.after.2 c.loop-self.rounds made.busy;
+      runs_on = λ l before h. subst (λ (x : Core). IsAfter l x (before ++ rounds_of start.shape c.loop-self.rounds)) (sym made.so_far)
           (after_steps l start before (rounds_of start.shape c.loop-self.rounds) h);
       scripts = λ l before h. finished_run l start before h c.loop-self.rounds done;
     }

@@ -26,7 +26,7 @@ returns-clause-live g c = λ busy.
     subst (λ (x : Core). IsLive (built_to x) x.state) c.self.view_is
     (lives is.load (core_of c.self.inside) is.steps is.after (ap (λ (x : Core). all_finished x.state) c.self.view_is ∙ (sym value ∙ busy)))
 
-pub returns-clause-law : goal.returns-clause-law
-returns-clause-law g c = λ l steps h.
+pub returns-clause-scripts : goal.returns-clause-scripts
+returns-clause-scripts g c = λ l steps h.
     let value : c.all.result ≡ all_finished c.args.self.now.state = returns-clause-value g c in
     subst (λ (b : Bool). (b ≡ true) ↔ AreFinished (run_of l steps) (length steps) l.scripts) (sym value) (finished_of_machine l c.args.self.now steps h)

@@ -11,7 +11,7 @@ returns g c =
     let value = ap (λ (x : Core). x.moves_left) c.self.view_is in
     record {
       value = value;
-      law = λ l steps h. value ∙ h.moves;
+      left = λ l steps h. value ∙ h.moves;
       most = λ more. subst (λ (x : Core). moves_in (step (built_to x)) x.state more ≤ c.self.inside.left) c.self.view_is
           (most_left c.self.invariant.load (core_of c.self.inside) c.self.invariant.steps c.self.invariant.after more);
     }

@@ -39,8 +39,8 @@ returns-clause-moves g c =
 pub returns-clause-live : goal.returns-clause-live
 returns-clause-live g c = round_moves c.self.invariant.load c.args.self.now c.self.invariant.steps (before g c)
 
-pub returns-clause-law : goal.returns-clause-law
-returns-clause-law g c = λ l before h.
+pub returns-clause-runs_on : goal.returns-clause-runs_on
+returns-clause-runs_on g c = λ l before h.
     let now : Core = c.args.self.now in
     let made : c.loop-tile.self ≡ core_after now (round now.shape) = returns-clause-state g c in
     subst (λ (x : Core). IsAfter l x (before ++ round now.shape)) (sym made) (after_steps l now before (round now.shape) h)

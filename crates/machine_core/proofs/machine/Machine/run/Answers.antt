@@ -18,8 +18,8 @@ returns-clause-state g c =
     let end : length c.args.steps.now ≤ c.loop-step.step-index = c.loop-step-test.false in
     sym (at_drop_all (core_after c.loop-step.self) c.args.steps.now c.loop-step.step-index end) ∙ c.loop-step.invariant
 
-pub returns-clause-law : goal.returns-clause-law
-returns-clause-law g c = λ l before h.
+pub returns-clause-runs_on : goal.returns-clause-runs_on
+returns-clause-runs_on g c = λ l before h.
     let end : length c.args.steps.now ≤ c.loop-step.step-index = c.loop-step-test.false in
     let e : c.loop-step.self ≡ core_after c.args.self.now c.args.steps.now =
     sym (at_drop_all (core_after c.loop-step.self) c.args.steps.now c.loop-step.step-index end) ∙ c.loop-step.invariant in

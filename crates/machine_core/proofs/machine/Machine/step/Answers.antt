@@ -10,23 +10,23 @@ returns-then-tile-len-clause-step g c =
     let past = c.self.inside.tiles.ok.0 in
     rw (← c.self.view_is) (stays (core_of c.self.inside) c.args.step (none_past c.self.inside c.self.invariant c.args.step (omega arith)))
 
-pub returns-then-tile-len-clause-after : goal.returns-then-tile-len-clause-after
-returns-then-tile-len-clause-after g c = follows _ _ _ _ (returns-then-tile-len-clause-step g c)
+pub returns-then-tile-len-clause-runs_on : goal.returns-then-tile-len-clause-runs_on
+returns-then-tile-len-clause-runs_on g c = follows _ _ _ _ (returns-then-tile-len-clause-step g c)
 
 pub returns-in-0-clause-step : goal.returns-in-0-clause-step
 returns-in-0-clause-step g c = as_attempt _ _ _ c.args.step (3 * (c.args.step.agent / 3)) (omega arith) c.step_processor.ensures
 
-pub returns-in-0-clause-after : goal.returns-in-0-clause-after
-returns-in-0-clause-after g c = follows _ _ _ _ (returns-in-0-clause-step g c)
+pub returns-in-0-clause-runs_on : goal.returns-in-0-clause-runs_on
+returns-in-0-clause-runs_on g c = follows _ _ _ _ (returns-in-0-clause-step g c)
 
 pub returns-in-1-clause-step : goal.returns-in-1-clause-step
 returns-in-1-clause-step g c = as_attempt _ _ _ c.args.step (3 * (c.args.step.agent / 3) + 1) (omega arith) c.step_router.ensures
 
-pub returns-in-1-clause-after : goal.returns-in-1-clause-after
-returns-in-1-clause-after g c = follows _ _ _ _ (returns-in-1-clause-step g c)
+pub returns-in-1-clause-runs_on : goal.returns-in-1-clause-runs_on
+returns-in-1-clause-runs_on g c = follows _ _ _ _ (returns-in-1-clause-step g c)
 
 pub returns-in_default-clause-step : goal.returns-in_default-clause-step
 returns-in_default-clause-step g c = as_attempt _ _ _ c.args.step (3 * (c.args.step.agent / 3) + 2) (omega arith) c.step_bank.ensures
 
-pub returns-in_default-clause-after : goal.returns-in_default-clause-after
-returns-in_default-clause-after g c = follows _ _ _ _ (returns-in_default-clause-step g c)
+pub returns-in_default-clause-runs_on : goal.returns-in_default-clause-runs_on
+returns-in_default-clause-runs_on g c = follows _ _ _ _ (returns-in_default-clause-step g c)
