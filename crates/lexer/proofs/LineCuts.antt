@@ -12,7 +12,7 @@ one_part : (text : List ℕ) → 0 < length text → lines_of_parts (text ∷ []
 one_part [] h = absurd (omega arith)
 one_part (c ∷ cs) h = search rules
 
-parts_more : (front : List ℕ) (parts : List (List ℕ)) → 0 < length parts → lines_of_parts (front ∷ parts) ≡ strip_carriage_return front ∷ lines_of_parts parts
+pub parts_more : (front : List ℕ) (parts : List (List ℕ)) → 0 < length parts → lines_of_parts (front ∷ parts) ≡ strip_carriage_return front ∷ lines_of_parts parts
 parts_more front [] h = absurd (omega arith)
 parts_more front (p ∷ ps) h = refl
 

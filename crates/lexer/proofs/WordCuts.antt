@@ -17,7 +17,7 @@ is_letter b = not (is_blank b)
 abbrev pub full : List (List ℕ) → List (List ℕ)
 full parts = filter (λ word. not (length word == 0)) parts
 
-full-cons : (part : List ℕ) (parts : List (List ℕ)) → 0 < length part → full (part ∷ parts) ≡ part ∷ full parts
+pub full-cons : (part : List ℕ) (parts : List (List ℕ)) → 0 < length part → full (part ∷ parts) ≡ part ∷ full parts
 full-cons [] parts h = absurd (omega arith)
 full-cons (c ∷ cs) parts h = search rules
 

@@ -2,4 +2,5 @@ pub mod Checks
 pub mod LineLists
 pub mod Counted
 pub mod SevenWords
+pub mod PlainLines
 pub mod AgentChoices

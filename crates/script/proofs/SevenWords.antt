@@ -6,6 +6,8 @@ use Rattle.script.specs.declared.line.Line.{Line}
 use Rattle.script.specs.declared.fault.LineFault.{LineFault}
 use Rattle.script.specs.Outcome.{then_lines}
 use Rattle.script.specs.Scripts as scripts
+use Rattle.script.specs.Steps as made
+use Rattle.torus.specs.declared.step.Step.{Step}
 use Rattle.script.specs.Scripts.{ScriptsSpec, scripts_from}
 
 scripts_seven : (m : ℕ) (lists : List (List Line)) (ws : List (List ℕ)) → scripts.after_words m lists (take 7 ws) ≡ scripts.after_words m lists ws
@@ -17,6 +19,13 @@ scripts_seven m lists (a ∷ b ∷ c ∷ d ∷ []) = refl
 scripts_seven m lists (a ∷ b ∷ c ∷ d ∷ e ∷ []) = refl
 scripts_seven m lists (a ∷ b ∷ c ∷ d ∷ e ∷ f ∷ []) = refl
 scripts_seven m lists (a ∷ b ∷ c ∷ d ∷ e ∷ f ∷ g ∷ more) = refl
+
+pub steps_seven : (tiles dims : ℕ) (steps : List Step) (ws : List (List ℕ)) → made.after_words tiles dims steps (take 7 ws) ≡ made.after_words tiles dims steps ws
+steps_seven tiles dims steps [] = refl
+steps_seven tiles dims steps (a ∷ []) = refl
+steps_seven tiles dims steps (a ∷ b ∷ []) = refl
+steps_seven tiles dims steps (a ∷ b ∷ c ∷ []) = refl
+steps_seven tiles dims steps (a ∷ b ∷ c ∷ d ∷ more) = refl
 
 -- one more line of a script text
 pub scripts_step : (m m' n : ℕ) (lists new : List (List Line)) (line : List ℕ) (rest after ws : List (List ℕ)) (all : Result ScriptsSpec LineFault) →

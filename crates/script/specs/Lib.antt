@@ -8,4 +8,5 @@ pub mod Scripts
 pub mod ScriptViews
 pub mod ScriptsInside
 pub mod Steps
+pub mod Plain
 pub mod Views

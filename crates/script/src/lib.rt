@@ -10,6 +10,7 @@ pub mod line;
 pub mod lists;
 pub mod machine;
 mod number;
+mod plain;
 mod progress;
 mod reading;
 pub mod scripts;

@@ -1,10 +1,13 @@
-ghost use Rattle.std.specs.Prelude.{◌≡◌, ◌≤◌, [], map};
+ghost use Rattle.std.specs.Prelude.{◌≡◌, ◌≤◌, ◌<◌, ◌∷◌, [], length, map, IfOk};
 ghost use Rattle.std.specs.Str.Lines.{lines};
+ghost use Rattle.lexer.specs.Words.{words_of};
 ghost use Rattle.script.specs.Outcome.{Gives, Makes};
 ghost use Rattle.script.specs.Steps.{after_words, take_step, steps_from, steps_of};
+ghost use Rattle.script.specs.Plain.{first_line, after_attempt};
 
-use crate::attempt::attempt_of;
+use crate::attempt::{Attempt, attempt_of};
 use crate::fault::fault_at;
+use crate::plain::plain_attempt;
 use crate::{LineFault, MachineText};
 use lexer::{first_words, next_line};
 use std::alloc::Allocator;
@@ -38,15 +41,61 @@ fn read_list<A: Allocator + Copy>(
     let mut steps = Vec::new(alloc);
     let mut number = 1u64;
     let mut rest = text;
-    while let Some((line, after)) = next_line(rest) {
-        let (words, count) = first_words(line);
-        if let Err(fault) = take_words(&mut steps, tiles, dims, &words[..count]) {
-            return Err(fault_at(fault, number));
+    while !rest.is_empty() {
+        match take_line(&mut steps, tiles, dims, rest) {
+            Ok(after) => rest = after,
+            Err(fault) => return Err(fault_at(fault, number)),
         }
         number += 1;
-        rest = after;
     }
     Ok(steps)
+}
+
+/// Takes what the first line of a text says, and gives what follows the line.
+fn take_line<'a, A: Allocator>(
+    steps: &mut Vec<Step, A>,
+    tiles: u32,
+    dims: u32,
+    text: &'a [u8],
+) -> Result<&'a [u8], Fault>
+    requires tiles { tiles ≤ 64 }
+    requires dims { dims ≤ 3 }
+    requires some { 0 < length text.now }
+    ensures rest { IfOk result (λ rest. lines text.now ≡ first_line text.now ∷ lines rest.now) }
+    ensures less { IfOk result (λ rest. length rest.now < length text.now) }
+    ensures steps { Makes steps.new.items result
+        (after_words tiles dims steps.old.items (words_of (first_line text.now))) }
+{
+    match plain_attempt(text) {
+        Some((attempt, rest)) => {
+            take_attempt(steps, tiles, dims, attempt)?;
+            Ok(rest)
+        }
+        None => take_words_of_line(steps, tiles, dims, text),
+    }
+}
+
+/// Takes what the words of the first line of a text say, and gives what follows the line.
+fn take_words_of_line<'a, A: Allocator>(
+    steps: &mut Vec<Step, A>,
+    tiles: u32,
+    dims: u32,
+    text: &'a [u8],
+) -> Result<&'a [u8], Fault>
+    requires tiles { tiles ≤ 64 }
+    requires dims { dims ≤ 3 }
+    requires some { 0 < length text.now }
+    ensures rest { IfOk result (λ rest. lines text.now ≡ first_line text.now ∷ lines rest.now) }
+    ensures less { IfOk result (λ rest. length rest.now < length text.now) }
+    ensures steps { Makes steps.new.items result
+        (after_words tiles dims steps.old.items (words_of (first_line text.now))) }
+{
+    let Some((line, rest)) = next_line(text) else {
+        return Ok(text);
+    };
+    let (words, count) = first_words(line);
+    take_words(steps, tiles, dims, &words[..count])?;
+    Ok(rest)
 }
 
 /// Takes what the words of a line say.
@@ -80,7 +129,22 @@ fn take_step<A: Allocator>(
     ensures { Makes steps.new.items result
         (take_step tiles dims steps.old.items (map (λ word. word.now) words.now)) }
 {
-    let step = attempt_of(words)?.step(tiles, dims)?;
+    take_attempt(steps, tiles, dims, attempt_of(words)?)
+}
+
+/// Takes the step that an attempt is.
+#[inline(always)]
+fn take_attempt<A: Allocator>(
+    steps: &mut Vec<Step, A>,
+    tiles: u32,
+    dims: u32,
+    attempt: Attempt,
+) -> Result<(), Fault>
+    requires tiles { tiles ≤ 64 }
+    requires dims { dims ≤ 3 }
+    ensures { Makes steps.new.items result (after_attempt tiles dims steps.old.items attempt) }
+{
+    let step = attempt.step(tiles, dims)?;
     match steps.push(step) {
         Ok(()) => Ok(()),
         Err(_) => Err(Fault::Memory),
