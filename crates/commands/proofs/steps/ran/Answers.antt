@@ -27,7 +27,7 @@ returns-clause-moved g c =
     let load : Load = load_of c.in_ok-machine.machine c.in_ok-scripts.scripts in
     let steps : List Step = c.in_ok-steps.steps.items in
     let after : IsAfter load c.run.new.self steps = subst (λ (list : List Step). IsAfter load c.run.new.self list) c.deref.ensures.value
-    (c.run.ensures.law load [] c.in_ok-machine-2.ensures.start) in
+    (c.run.ensures.runs_on load [] c.in_ok-machine-2.ensures.start) in
     record {
       run = record { load = load; steps = steps };
       read = all_read (lines c.args.machine.now) (lines c.args.scripts.now) (lines c.args.steps.now) c.in_ok-machine.machine c.in_ok-scripts.scripts
