@@ -23,6 +23,7 @@ pub(crate) struct TurnsLine<'a, R> {
 }
 
 /// What is kept of a worker.
+#[derive(Drop)]
 pub(crate) struct Looks {
     /// How many of its turns are counted.
     counted: u64,
