@@ -3,7 +3,7 @@ ghost use Rattle.std.specs.Prelude.{None};
 use arrayvec::{ArrayString, ArrayVec};
 use commands::{
     ProgramFault, Progress, channel_count, channels_text, check_text, fault_text, finished,
-    put_numbers, round_text, round_text_with, route_text, status_of, steps_text,
+    put_numbers, round_text, round_text_with, route_text, status_of, steps_text, steps_text_with,
 };
 use linked_list_allocator::LocalHeap;
 use report_lines::{Out, Piped};
@@ -856,6 +856,7 @@ struct Watch {
     rounds: u64,
     answered: u64,
     ended: u64,
+    moves: u64,
 }
 
 impl Watch {
@@ -867,15 +868,18 @@ impl Watch {
             rounds: 0,
             answered: 0,
             ended: 0,
+            moves: 0,
         }
     }
 
-    /// Whether it was told so often, of so many rounds and answers at last, and of the end so often.
-    fn saw(&self, told: u64, rounds: u64, answered: u64, ended: u64) -> bool {
+    /// Whether it was told so often, of so many rounds and answers at last, and of the end once, with so
+    /// many moves.
+    fn saw(&self, told: u64, rounds: u64, answered: u64, moves: u64) -> bool {
         self.told == told
             && self.rounds == rounds
             && self.answered == answered
-            && self.ended == ended
+            && self.ended == 1
+            && self.moves == moves
     }
 }
 
@@ -894,22 +898,24 @@ impl Progress for Watch {
         }
     }
 
-    fn ended(&mut self) {
+    fn ended(&mut self, moves: u64) {
         self.ended = self.ended.saturating_add(1);
+        self.moves = moves;
     }
 }
 
 /// Runs in rounds that are watched: the scripts of two tiles, the most rounds, after how many it wants
-/// to be told; how often it is told, and of how many rounds and answers at last.
-const WATCHED: [(&str, u64, u64, u64, u64, u64); 8] = [
-    (SCRIPT, 1000000, 1, 12, 12, 2),
-    (SCRIPT, 1000000, 5, 2, 10, 1),
-    (SCRIPT, 1000000, 0, 0, 0, 0),
-    (SCRIPT, 3, 1, 3, 3, 0),
-    (SCRIPT, 0, 1, 0, 0, 0),
-    ("0 load 0\n1 load 1\n", 1000000, 1, 5, 5, 2),
-    ("0 load 0\n1 load 1\n", 1000000, 6, 0, 0, 0),
-    ("", 1000000, 1, 0, 0, 0),
+/// to be told; how often it is told, of how many rounds and answers at last, and of how many moves (as
+/// many as `tools/replay.py` makes, which is a model of its own).
+const WATCHED: [(&str, u64, u64, u64, u64, u64, u64); 8] = [
+    (SCRIPT, 1000000, 1, 12, 12, 2, 78),
+    (SCRIPT, 1000000, 5, 2, 10, 1, 78),
+    (SCRIPT, 1000000, 0, 0, 0, 0, 78),
+    (SCRIPT, 3, 1, 3, 3, 0, 27),
+    (SCRIPT, 0, 1, 0, 0, 0, 0),
+    ("0 load 0\n1 load 1\n", 1000000, 1, 5, 5, 2, 53),
+    ("0 load 0\n1 load 1\n", 1000000, 6, 0, 0, 0, 53),
+    ("", 1000000, 1, 0, 0, 0, 0),
 ];
 
 /// Whether a run of two tiles answers and writes the same when it is watched.
@@ -925,11 +931,11 @@ fn is_same_watched(alloc: Global, script: &str, rounds: u64, watch: &mut Watch) 
 /// However often a run is watched, it answers and writes the same; and it tells what was made.
 #[test]
 fn watched_runs_are_the_same(rt: HostRuntime) {
-    for &(script, rounds, every, told, made, answered) in &WATCHED {
+    for &(script, rounds, every, told, made, answered, moves) in &WATCHED {
         let mut watch = Watch::new(every);
         let is_same = is_same_watched(rt.alloc(), script, rounds, &mut watch);
         assert!(rt;
-            is_same && watch.saw(told, made, answered, 1),
+            is_same && watch.saw(told, made, answered, moves),
             "{script}, {rounds}, {every}"
         );
     }
@@ -956,7 +962,7 @@ impl Progress for Recorder {
         let _ = self.told.try_push((rounds, answered));
     }
 
-    fn ended(&mut self) {
+    fn ended(&mut self, _moves: u64) {
         self.ended = self.ended.saturating_add(1);
     }
 }
@@ -1031,5 +1037,37 @@ fn watched_runs_have_faults(rt: HostRuntime) {
         &mut sink,
         &mut watch,
     );
-    assert!(rt; failed == Err(ProgramFault::Output) && watch.saw(12, 12, 2, 1));
+    assert!(rt; failed == Err(ProgramFault::Output) && watch.saw(12, 12, 2, 78));
+}
+
+/// A list of steps, of which all move, and with two in front that don't: whoever watches is told the end
+/// once, with the moves, and nothing else.
+#[test]
+fn moves_of_steps_are_told(rt: HostRuntime) -> Result<(), Fail> {
+    let (machine, scripts) = (PAIR.as_bytes(), SCRIPT.as_bytes());
+    let longer = format!(in rt.alloc(); "0 take\n3 done\n5 serve\n{STEPS}")?;
+    for &(steps, moves) in &[(STEPS, 50), (longer.as_str(), 51), ("", 0)] {
+        let mut alone = Sink::whole();
+        let steps = steps.as_bytes();
+        let answer = steps_text(rt.alloc(), machine, scripts, steps, &mut alone);
+        let mut watch = Watch::new(1);
+        let mut sink = Sink::whole();
+        let seen = steps_text_with(rt.alloc(), machine, scripts, steps, &mut sink, &mut watch);
+        let is_same = seen == answer && sink.bytes.as_slice() == alone.bytes.as_slice();
+        assert!(rt;
+            is_same && watch.asked == 0 && watch.saw(0, 0, 0, moves),
+            "{moves}"
+        );
+    }
+    let mut watch = Watch::new(1);
+    let faulty = steps_text_with(
+        rt.alloc(),
+        machine,
+        scripts,
+        b"6 take\n",
+        &mut Sink::whole(),
+        &mut watch,
+    );
+    assert!(rt; matches!(faulty, Err(ProgramFault::Line(_))) && watch.ended == 0);
+    Ok(())
 }

@@ -1,5 +1,5 @@
 use crate::answers::{PAIR, SCRIPT, Sink};
-use commands::{Gate, ProgramFault, check_text, run_text, run_text_with};
+use commands::{Gate, Open, ProgramFault, Unwatched, Watch, check_text, run_text, run_text_with};
 use report_lines::{Out, Piped};
 use script::LineFault;
 use std::alloc::AllocError;
@@ -132,11 +132,109 @@ fn workers_run_side_by_side(rt: HostRuntime) {
     };
     let mut sink = Sink::whole();
     let (machine, scripts) = (PAIR.as_bytes(), SCRIPT.as_bytes());
-    let answer = run_text_with(&rt, rt.alloc(), machine, scripts, 2, MOST, &gate, &mut sink);
+    let answer = run_text_with(
+        &rt,
+        rt.alloc(),
+        machine,
+        scripts,
+        2,
+        MOST,
+        &gate,
+        &Unwatched,
+        &mut sink,
+    );
     let is_text = sink.bytes.as_slice() == UNORDERED.as_bytes();
     assert!(rt; answer == Ok(true) && is_text);
     assert!(rt; gate.come.load(Ordering::SeqCst) == 2 && gate.missed.load(Ordering::SeqCst) == 0);
     assert!(rt; gate.asked.load(Ordering::SeqCst) >= 40);
+}
+
+/// Counts what it hears of two workers, and whether each pass is told in turn.
+#[derive(Drop)]
+struct Listener {
+    passes: [AtomicU64; 2],
+    ends: AtomicU64,
+    turns: AtomicU64,
+    wrong: AtomicU64,
+}
+
+impl Listener {
+    fn new() -> Listener {
+        Listener {
+            passes: [AtomicU64::new(0), AtomicU64::new(0)],
+            ends: AtomicU64::new(0),
+            turns: AtomicU64::new(0),
+            wrong: AtomicU64::new(0),
+        }
+    }
+}
+
+impl Watch for Listener {
+    type Kept = u64;
+
+    fn begun(&self, _worker: usize) -> u64 {
+        0
+    }
+
+    fn passed(&self, worker: usize, kept: &mut u64, turns: u64) {
+        *kept = kept.saturating_add(PASS);
+        if worker > 1 || turns != *kept {
+            self.wrong.fetch_add(1, Ordering::SeqCst);
+        } else {
+            self.passes[worker].fetch_add(1, Ordering::SeqCst);
+        }
+    }
+
+    fn ended(&self, _worker: usize, kept: u64, turns: u64) {
+        self.ends.fetch_add(1, Ordering::SeqCst);
+        self.turns.fetch_add(turns, Ordering::SeqCst);
+        if turns < kept || turns - kept >= PASS {
+            self.wrong.fetch_add(1, Ordering::SeqCst);
+        }
+    }
+}
+
+/// The choices of a tile of a ring: five of the processor, thirty of the router, and four of the bank.
+const PASS: u64 = 39;
+
+/// Two workers with a tile each, and a script that never ends within their turns: each is told of each
+/// pass with the turns until then, and of its end with all its turns.
+#[test]
+fn workers_are_watched(rt: HostRuntime) {
+    for turns in [1, 38, 39, 40, 1000] {
+        let listener = Listener::new();
+        let mut sink = Sink::whole();
+        let (machine, scripts) = (PAIR.as_bytes(), b"0 spin 0 1 1000\n1 spin 0 1 1000\n");
+        let answer = run_text_with(
+            &rt,
+            rt.alloc(),
+            machine,
+            scripts,
+            2,
+            turns,
+            &Open,
+            &listener,
+            &mut sink,
+        );
+        let passes = turns / PASS;
+        assert!(rt;
+            answer == Ok(false) && listener.wrong.load(Ordering::SeqCst) == 0,
+            "{turns}"
+        );
+        assert!(rt;
+            listener.passes[0].load(Ordering::SeqCst) == passes,
+            "{turns}"
+        );
+        assert!(rt;
+            listener.passes[1].load(Ordering::SeqCst) == passes,
+            "{turns}"
+        );
+        assert!(rt;
+            listener.ends.load(Ordering::SeqCst) == 2
+                && listener.turns.load(Ordering::SeqCst) == 2 * turns,
+            "{turns}"
+        );
+    }
 }
 
 /// Texts with a fault, machine and scripts, and the first fault.

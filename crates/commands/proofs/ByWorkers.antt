@@ -188,7 +188,7 @@ pub record IsCrew (f : Origin) (n count turns : ℕ) (whole : Knowing) : Type 0 
 
 module _ (f : Origin) (n count : ℕ) where
   -- the seat of worker j
-  abbrev seat_of : ℕ → Knowing
+  abbrev pub seat_of : ℕ → Knowing
   seat_of j = fresh f.table f.load (held n count j)
 
   -- the seats between the cuts are those of the workers
@@ -203,6 +203,16 @@ module _ (f : Origin) (n count : ℕ) where
 
   pub seats_count : (seats : List Knowing) → seats ≡ map seat_of (range_with_len 0 count) → length seats ≡ count
   seats_count seats es = ap length es ∙ length-map-range_with_len seat_of 0 count
+
+  -- a worker begins with its seat
+  pub worker_starts : (seats : List Knowing) (old : List Working) → seats ≡ map seat_of (range_with_len 0 count) → old ≡ map new_worker seats
+      → (j : ℕ) (d : Working) → j < count → slice_index_or old j d ≡ new_worker (seat_of j)
+  worker_starts seats old es eo j d lt =
+      let k : Knowing = d.knows in
+      let many : length seats ≡ count = seats_count seats es in
+      ap (λ (l : List Working). slice_index_or l j d) eo
+      ∙ (get_or-map new_worker seats j k d (omega (arith, lt, many))
+      ∙ ap new_worker (ap (λ (l : List Knowing). get_or l j k) es ∙ get_or-map-range_with_len seat_of 0 count j j k lt (omega arith)))
 
 module _ (f : Origin) (n count turns : ℕ) (whole : Knowing) where
   pub crew_made : (seats : List Knowing) (old new : List Working) → IsOf f whole → seats ≡ map (seat_of f n count) (range_with_len 0 count)
@@ -219,9 +229,7 @@ module _ (f : Origin) (n count turns : ℕ) (whole : Knowing) where
         each = λ j lt. record {
           before = slice_index_or old j d;
           behind = slice_index_or new j d;
-          start = ap (λ (l : List Working). slice_index_or l j d) eo
-              ∙ (get_or-map new_worker seats j k d (omega (arith, lt, many))
-              ∙ ap new_worker (ap (λ (l : List Knowing). get_or l j k) es ∙ get_or-map-range_with_len (seat_of f n count) 0 count j j k lt (omega arith)));
+          start = worker_starts f n count seats old es eo j d lt;
           worked = worked j d (omega (arith, lt, olds));
           taken = taken j d (omega (arith, lt, olds, en));
         };

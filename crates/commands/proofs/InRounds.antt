@@ -59,6 +59,19 @@ enough l most k c made below finished = record {
 pub as_allowed : (l : Load) (most : ℕ) (c : Core) → HasMade l most c → AreFewest l most most
 as_allowed l most c made = record { allowed = omega arith; unfinished = made.unfinished; finished = λ under. absurd (omega (arith, under)) }
 
+-- there is one fewest number of rounds
+fewer : (l : Load) (most j k : ℕ) → AreFewest l most j → AreFewest l most k → j < k → ⊥
+fewer l most j k a b below =
+    let within = b.allowed in
+    let f = b.unfinished j below in
+    let t = a.finished (omega (arith, below, within)) in
+    absurd (let no : true ≡ false = sym t ∙ f in cc)
+
+pub fewest_once : (l : Load) (most j k : ℕ) → AreFewest l most j → AreFewest l most k → j ≡ k
+fewest_once l most j k a b = ⊎_elim (λ below. absurd (fewer l most j k a b below))
+    (λ up. ⊎_elim (λ above. absurd (fewer l most k j b a above)) (λ down. omega (arith, up, down)) (cases_lt k j))
+    (cases_lt j k)
+
 -- the report of a machine that has made the rounds is the report of the run in rounds
 pub rounds_printed : (asked : Result Load LineFault) (most : ℕ) (start c : Core) (finished : Bool) (text : List ℕ) (loaded : HasLoaded asked start)
     → HasMadeRounds loaded.load most c

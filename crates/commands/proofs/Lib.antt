@@ -7,3 +7,4 @@ pub mod Counted
 pub mod Shares
 pub mod Joined
 pub mod ByWorkers
+pub mod Watched

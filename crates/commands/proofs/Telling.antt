@@ -1,17 +1,18 @@
--- Whoever watches a run in rounds hears of one round after the other, and of the end.
-use Rattle.std.proofs.Common.{◌≡◌, ℕ, suc, ◌+◌, ◌++◌, List, [], ◌∷◌, Bool, Result, Ok, Err, refl, sym, ap, subst, arith, inl, inr, append_assoc, append-nil}
+-- Whoever watches a run in rounds hears of one round after the other, and of the end; of a list of steps, of its end.
+use Rattle.std.proofs.Common.{◌≡◌, ℕ, suc, ◌+◌, ◌-◌, ◌++◌, List, [], ◌∷◌, Bool, Result, Ok, Err, refl, sym, ap, subst, arith, inl, inr, append_assoc, append-nil}
 use Rattle.torus.specs.declared.step.Step.{Step}
 use Rattle.script.specs.declared.fault.LineFault.{LineFault}
 use Rattle.machine_texts.specs.order_abstract.specs.Load.{Load}
+use Rattle.core_machine.specs.core_progress.specs.Moves.{most_moves, moves_made}
 use Rattle.core_machine.specs.Core.{Core, IsAfter, core_after_load}
 use Rattle.machine_texts.specs.machine_core.specs.Rounds.{rounds_of}
 use Rattle.machine_texts.specs.Loading.{HasLoaded}
 use Rattle.program_fault.specs.declared.fault.ProgramFault.{ProgramFault}
 use Rattle.program_fault.specs.declared.fault.ProgramFault.TheVariants as program
 use Rattle.program_fault.specs.Done.{Does, Output}
-use Rattle.commands.specs.Run.{IsNoFault, IsReadFault}
+use Rattle.commands.specs.Run.{Asked, HasMoved, IsNoFault, IsReadFault}
 use Rattle.commands.specs.Calls.{Call, Ended, Hears}
-use Rattle.commands.specs.Telling.{AreCallsOf, AreRoundsCalls, AreRunCalls, HearsSome, TellsRounds, answered_after, answered_by, round_calls}
+use Rattle.commands.specs.Telling.{AreCallsOf, AreRoundsCalls, AreRunCalls, AreStepsCalls, HearsSome, Tells, TellsRounds, TellsSteps, answered_after, answered_by, round_calls}
 
 -- no call
 pub hears_none : (h : List Call → Type 0) → Hears h h []
@@ -42,34 +43,60 @@ round_heard l k c old mid new so_far after named more = (
   hears_then old mid new so_far.0 (round_calls (k + 1) (answered_by c) more.0) so_far.2 more.1,
 )
 
-told_all : (asked : Result Load LineFault) (most : ℕ) (old new : List Call → Type 0) → HearsSome (AreRunCalls asked most) old new
-    → (gives : Bool → List ℕ → Type 0) (before behind : Output) (r : Result Bool ProgramFault) → Does gives IsNoFault before behind r
-    → TellsRounds asked most old new r
-told_all asked most old new all gives before behind (Ok x) done = all
-told_all asked most old new all gives before behind (Err program.Output) done = all
-told_all asked most old new all gives before behind (Err (program.Fault which)) done = inl all
-told_all asked most old new all gives before behind (Err (program.Line found)) done = absurd done.0
-told_all asked most old new all gives before behind (Err program.Tile) done = absurd done.0
-told_all asked most old new all gives before behind (Err (program.Bad line)) done = absurd done.0
+module _ (are : List Call → Type 0) (old new : List Call → Type 0) where
+  told_all : HearsSome are old new → (gives : Bool → List ℕ → Type 0) (before behind : Output) (r : Result Bool ProgramFault)
+      → Does gives IsNoFault before behind r → Tells are old new r
+  told_all all gives before behind (Ok x) done = all
+  told_all all gives before behind (Err program.Output) done = all
+  told_all all gives before behind (Err (program.Fault which)) done = inl all
+  told_all all gives before behind (Err (program.Line found)) done = absurd done.0
+  told_all all gives before behind (Err program.Tile) done = absurd done.0
+  told_all all gives before behind (Err (program.Bad line)) done = absurd done.0
+
+-- the moves since the load are those of the steps
+pub moved_since : (l : Load) (start c : Core) (steps : List Step) → IsAfter l start [] → IsAfter l c steps
+    → ((l : Load) (c : Core) (steps : List Step) → IsAfter l c steps → moves_made l steps + c.moves_left ≡ most_moves l)
+    → start.moves_left - c.moves_left ≡ moves_made l steps
+moved_since l start c steps from after counted =
+    let no_move : moves_made l [] ≡ 0 = refl in
+    let first : moves_made l [] + start.moves_left ≡ most_moves l = counted l start [] from in
+    let all : moves_made l steps + c.moves_left ≡ most_moves l = counted l c steps after in
+    omega (arith, no_move, first, all)
 
 -- all calls, where the report was written, or the output or memory for it failed
-pub run_told : (asked : Result Load LineFault) (most : ℕ) (start : Core) (loaded : HasLoaded asked start) (old mid new : List Call → Type 0)
-    → HearsSome (AreRoundsCalls loaded.load most) old mid → Hears mid new (Ended ∷ [])
+pub run_told : (asked : Result Load LineFault) (most moves : ℕ) (start : Core) (loaded : HasLoaded asked start) (old mid new : List Call → Type 0)
+    → (heard : HearsSome (AreRoundsCalls loaded.load most) old mid)
+    → moves ≡ moves_made loaded.load (rounds_of loaded.load.shape heard.1.rounds)
+    → Hears mid new (Ended moves ∷ [])
     → (gives : Bool → List ℕ → Type 0) (before behind : Output) (r : Result Bool ProgramFault) → Does gives IsNoFault before behind r
     → TellsRounds asked most old new r
-run_told asked most start loaded old mid new rounds ended gives before behind r done =
+run_told asked most moves start loaded old mid new rounds made ended gives before behind r done =
     let all : HearsSome (AreRunCalls asked most) old new = (
-      rounds.0 ++ Ended ∷ [],
-      record { load = loaded.load; read = loaded.read; before = rounds.0; made = rounds.1; ended = refl },
-      hears_then old mid new rounds.0 (Ended ∷ []) rounds.2 ended,
+      rounds.0 ++ Ended moves ∷ [],
+      record {
+        load = loaded.load;
+        read = loaded.read;
+        before = rounds.0;
+        made = rounds.1;
+        ended = ap (λ (n : ℕ). rounds.0 ++ Ended n ∷ []) made;
+      },
+      hears_then old mid new rounds.0 (Ended moves ∷ []) rounds.2 ended,
     ) in
-    told_all asked most old new all gives before behind r done
+    told_all (AreRunCalls asked most) old new all gives before behind r done
+
+-- the end of a list of steps, where the report was written, or the output or memory for it failed
+pub steps_told : (asked : Result Asked LineFault) (moves : ℕ) (moved : HasMoved asked moves) (old new : List Call → Type 0)
+    → Hears old new (Ended moves ∷ [])
+    → (gives : Bool → List ℕ → Type 0) (before behind : Output) (r : Result Bool ProgramFault) → Does gives IsNoFault before behind r
+    → TellsSteps asked old new r
+steps_told asked moves moved old new ended gives before behind r done =
+    told_all (AreStepsCalls asked) old new (Ended moves ∷ [], record { moves = moves; moved = moved; ended = refl }, ended) gives before behind r done
 
 -- nothing, where there is no machine
-pub none_told : (asked : Result Load LineFault) (most : ℕ) (h : List Call → Type 0) (e : ProgramFault) → IsReadFault asked e
-    → TellsRounds asked most h h (Err e)
-none_told asked most h program.Output is = absurd is
-none_told asked most h (program.Fault which) is = inr (λ calls o. o)
-none_told asked most h (program.Line found) is = λ calls o. o
-none_told asked most h program.Tile is = absurd is
-none_told asked most h (program.Bad line) is = absurd is
+pub none_told : {A : Type 0} (asked : Result A LineFault) (are : List Call → Type 0) (h : List Call → Type 0) (e : ProgramFault) → IsReadFault asked e
+    → Tells are h h (Err e)
+none_told asked are h program.Output is = absurd is
+none_told asked are h (program.Fault which) is = inr (λ calls o. o)
+none_told asked are h (program.Line found) is = λ calls o. o
+none_told asked are h program.Tile is = absurd is
+none_told asked are h (program.Bad line) is = absurd is

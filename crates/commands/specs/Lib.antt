@@ -5,3 +5,4 @@ pub mod Rounds
 pub mod Calls
 pub mod Telling
 pub mod Workers
+pub mod Watched

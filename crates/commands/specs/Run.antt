@@ -8,6 +8,7 @@ use Rattle.script.specs.Scripts.{scripts_of}
 use Rattle.script.specs.Steps.{steps_of}
 use Rattle.machine_texts.specs.order_abstract.specs.Load.{Load, load_of}
 use Rattle.machine_texts.specs.core_laws.specs.Core.{run_of}
+use Rattle.core_machine.specs.core_progress.specs.Moves.{moves_made}
 use Rattle.core_machine.specs.Core.{Core, IsAfter, IsLawful, core_after_load, all_finished}
 use Rattle.machine_texts.specs.order_abstract.specs.Scripts.{AreFinished}
 use Rattle.machine_texts.specs.Loading.{◌then◌}
@@ -39,6 +40,12 @@ pub record HasRun (asked : Result Asked LineFault) (c : Core) : Type 0 where
   pub read : asked ≡ Ok run
   pub after : IsAfter run.load c run.steps
   pub reached : c ≡ core_of run
+
+-- so many of the steps that were asked for move, one after the other from the load
+pub record HasMoved (asked : Result Asked LineFault) (moves : ℕ) : Type 0 where
+  pub run : Asked
+  pub read : asked ≡ Ok run
+  pub made : moves ≡ moves_made run.load run.steps
 
 -- a fault of a text, or want of memory
 abbrev pub IsReadFault : {A : Type 0} → Result A LineFault → ProgramFault → Type 0

@@ -1,15 +1,17 @@
--- What whoever watches a run in rounds is told (this project's own format).
+-- What whoever watches a run by steps or in rounds is told (this project's own format).
 use Rattle.std.specs.Prelude.{◌≡◌, ℕ, zero, suc, ◌+◌, List, [], ◌∷◌, ◌++◌, Bool, true, false, Result, Ok, Err, ◌⊎◌}
 use Rattle.std.specs.Prelude.{length}
 use Rattle.std.specs.Io.Iter.{u64_saturate}
 use Rattle.std.specs.List.{sum_by}
 use Rattle.script.specs.declared.fault.LineFault.{LineFault}
 use Rattle.machine_texts.specs.order_abstract.specs.Load.{Load}
+use Rattle.core_machine.specs.core_progress.specs.Moves.{moves_made}
 use Rattle.core_machine.specs.Core.{Core, shown}
+use Rattle.machine_texts.specs.machine_core.specs.Rounds.{rounds_of}
 use Rattle.program_fault.specs.declared.fault.ProgramFault.{ProgramFault}
 use Rattle.program_fault.specs.declared.fault.ProgramFault.TheVariants as program
 use Rattle.commands.specs.Calls.{Call, Wants, Made, Ended, Hears}
-use Rattle.commands.specs.Run.{core_of}
+use Rattle.commands.specs.Run.{Asked, HasMoved, core_of}
 use Rattle.commands.specs.Rounds.{AreFewest, asked_rounds}
 
 -- how many operations a machine has answered; at most u64::MAX
@@ -39,13 +41,20 @@ pub record AreRoundsCalls (l : Load) (most : ℕ) (calls : List Call) : Type 0 w
   pub each : AreCallsOf l rounds calls
 
 -- these are all calls of the run in rounds of what was asked for: those behind its rounds, and the
--- end, once
+-- end, once, with the moves that all its rounds made
 pub record AreRunCalls (asked : Result Load LineFault) (most : ℕ) (calls : List Call) : Type 0 where
   pub load : Load
   pub read : asked ≡ Ok load
   pub before : List Call
   pub made : AreRoundsCalls load most before
-  pub ended : calls ≡ before ++ Ended ∷ []
+  pub ended : calls ≡ before ++ Ended (moves_made load (rounds_of load.shape made.rounds)) ∷ []
+
+-- these are all calls of the run of the steps that were asked for: the end, once, with how many of
+-- them moved
+pub record AreStepsCalls (asked : Result Asked LineFault) (calls : List Call) : Type 0 where
+  pub moves : ℕ
+  pub moved : HasMoved asked moves
+  pub ended : calls ≡ Ended moves ∷ []
 
 -- a watcher hears some such calls, by what it heard before and after
 abbrev pub HearsSome : (List Call → Type 0) → (List Call → Type 0) → (List Call → Type 0) → Type 0
@@ -55,14 +64,23 @@ HearsSome are old new = (calls : List Call) × are calls × Hears old new calls
 abbrev pub HearsNothing : (List Call → Type 0) → (List Call → Type 0) → Type 0
 HearsNothing old new = (calls : List Call) → old calls → new calls
 
--- whoever watches is told of each round and of the end, unless a text has a fault, or memory is
--- wanting for the machine
+-- whoever watches is told all such calls, unless a text has a fault, or memory is wanting for the
+-- machine
+abbrev pub Tells : (List Call → Type 0) → (List Call → Type 0) → (List Call → Type 0)
+    → Result Bool ProgramFault → Type 0
+Tells are old new (Ok finished) = HearsSome are old new
+Tells are old new (Err program.Output) = HearsSome are old new
+Tells are old new (Err (program.Fault which)) = HearsSome are old new ⊎ HearsNothing old new
+Tells are old new (Err (program.Line found)) = HearsNothing old new
+Tells are old new (Err program.Tile) = ⊥
+Tells are old new (Err (program.Bad line)) = ⊥
+
+-- whoever watches a run in rounds is told of each round and of the end
 abbrev pub TellsRounds : Result Load LineFault → ℕ → (List Call → Type 0) → (List Call → Type 0)
     → Result Bool ProgramFault → Type 0
-TellsRounds asked most old new (Ok finished) = HearsSome (AreRunCalls asked most) old new
-TellsRounds asked most old new (Err program.Output) = HearsSome (AreRunCalls asked most) old new
-TellsRounds asked most old new (Err (program.Fault which)) =
-    HearsSome (AreRunCalls asked most) old new ⊎ HearsNothing old new
-TellsRounds asked most old new (Err (program.Line found)) = HearsNothing old new
-TellsRounds asked most old new (Err program.Tile) = ⊥
-TellsRounds asked most old new (Err (program.Bad line)) = ⊥
+TellsRounds asked most = Tells (AreRunCalls asked most)
+
+-- whoever watches a run of steps is told of its end
+abbrev pub TellsSteps : Result Asked LineFault → (List Call → Type 0) → (List Call → Type 0)
+    → Result Bool ProgramFault → Type 0
+TellsSteps asked = Tells (AreStepsCalls asked)

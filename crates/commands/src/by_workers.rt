@@ -8,11 +8,13 @@ ghost use Rattle.core_machine.specs.Core.{IsAfter};
 ghost use Rattle.machine_texts.specs.Loading.{load_by};
 ghost use Rattle.history.specs.worker_run.specs.fabric.specs.Opening.{fresh};
 ghost use Rattle.history.specs.worker_run.specs.fabric.specs.Seats.{IsOf};
+ghost use Rattle.history.specs.worker_run.specs.Watching.{IsWatched};
 ghost use Rattle.history.specs.worker_run.specs.Working.{HasWorked, Working};
 ghost use Rattle.program_fault.specs.Done.{Does, output};
 ghost use Rattle.commands.specs.Run.{IsNoFault};
 ghost use Rattle.commands.specs.Workers.{IsMadeByWorkers, IsOfEnded, IsTakenIn, LetsAll, PrintsWorkers, first_held};
 ghost use Rattle.commands.specs.Workers.{held, new_worker};
+ghost use Rattle.commands.specs.Watched.{HearsWorkers, TellsWorkers};
 
 use crate::ProgramFault;
 use crate::in_rounds::loaded;
@@ -21,7 +23,10 @@ use core_machine::laws::{
     ended_followers_finish_scripts, steps_decide_the_machine, steps_lead_on,
     steps_lead_to_a_machine,
 };
-use history::{Fabric, Final, Gate, Open, TileSeat, Worker, of_final, run_workers, write_report};
+use history::{
+    Fabric, Final, Gate, Open, TileSeat, Unwatched, Watch, Worker, of_final, run_workers,
+    write_report,
+};
 use machine_texts::Machine;
 use report_lines::Out;
 use std::alloc::{AllocError, Allocator};
@@ -51,14 +56,23 @@ pub fn run_text<R: Threads + Wait + Sync, A: Allocator + Copy + Send + Sync, W: 
         (output (W.taken out.old) (W.failures out.old))
         (output (W.taken out.new) (W.failures out.new)) result }
 {
-    run_text_with(rt, alloc, machine, scripts, workers, turns, &Open, out)
+    run_text_with(
+        rt, alloc, machine, scripts, workers, turns, &Open, &Unwatched, out,
+    )
 }
 
 /// Does what `run_text` does, with workers that ask `gate` whether they may begin, and ahead of each
-/// attempt whether they may go on. It is one that lets all, at its time.
+/// attempt whether they may go on; it is one that lets all, at its time. `watch` is told when a worker
+/// comes, after each pass over its tiles, and when it has ended, with how many turns it has made.
 ///
 /// Errors: as `run_text`.
-pub fn run_text_with<R: Threads + Wait + Sync, A: Allocator + Copy + Send + Sync, G: Gate, W: Out>(
+pub fn run_text_with<
+    R: Threads + Wait + Sync,
+    A: Allocator + Copy + Send + Sync,
+    G: Gate,
+    V: Watch,
+    W: Out,
+>(
     rt: &R,
     alloc: A,
     machine: &[u8],
@@ -66,30 +80,34 @@ pub fn run_text_with<R: Threads + Wait + Sync, A: Allocator + Copy + Send + Sync
     workers: usize,
     turns: u64,
     gate: &G,
+    watch: &V,
     out: &mut W,
 ) -> Result<bool, ProgramFault>
     requires workers { (1 ≤ workers) × (workers ≤ 16) }
     requires turns { (1 ≤ turns) × (turns ≤ 1000000000) }
     requires gate { LetsAll (G.holds gate.now) (G.stops gate.now) }
-    ensures { PrintsWorkers (load_by (lines machine.now) (lines scripts.now)) workers turns
+    ensures prints { PrintsWorkers (load_by (lines machine.now) (lines scripts.now)) workers turns
         (output (W.taken out.old) (W.failures out.old))
         (output (W.taken out.new) (W.failures out.new)) result }
+    ensures told { TellsWorkers (load_by (lines machine.now) (lines scripts.now)) workers turns
+        (V.over watch.now) result }
 {
     let machine = loaded(alloc, machine, scripts)?;
-    let end = closed_run(rt, alloc, machine, workers, turns, gate)?;
+    let end = closed_run(rt, alloc, machine, workers, turns, gate, watch)?;
     steps_lead_to_a_machine();
     ended_followers_finish_scripts();
     print_end(alloc, &end, out)
 }
 
 /// The end of a run that workers made of a machine before any step.
-fn closed_run<R: Threads + Wait + Sync, A: Allocator + Copy + Send + Sync, G: Gate>(
+fn closed_run<R: Threads + Wait + Sync, A: Allocator + Copy + Send + Sync, G: Gate, V: Watch>(
     rt: &R,
     alloc: A,
     machine: Machine<A>,
     workers: usize,
     turns: u64,
     gate: &G,
+    watch: &V,
 ) -> Result<Final<A>, Fault>
     requires fresh { (l : Load) × IsAfter l machine [] }
     requires workers { (1 ≤ workers) × (workers ≤ 16) }
@@ -97,12 +115,14 @@ fn closed_run<R: Threads + Wait + Sync, A: Allocator + Copy + Send + Sync, G: Ga
     requires gate { LetsAll (G.holds gate.now) (G.stops gate.now) }
     ensures run { IfOk result
         (λ end. (l : Load) → IsAfter l machine [] → IsMadeByWorkers l workers turns end) }
+    ensures told { IfOk result
+        (λ end. (l : Load) → IsAfter l machine [] → HearsWorkers l workers turns (V.over watch.now)) }
     ensures fault { IfErr result (λ fault. fault ≡ Fault.Memory) }
 {
     let tiles = machine.torus().tiles();
     let crew = crew_of(workers, tiles);
     let (fabric, seats) = opened(alloc, machine, tiles, crew)?;
-    let Ok(workers) = worked(rt, alloc, &fabric, seats, turns, gate) else {
+    let Ok(workers) = worked(rt, alloc, &fabric, seats, turns, gate, watch) else {
         return Err(Fault::Memory);
     };
     let whole = joined(&fabric, workers);
@@ -162,13 +182,14 @@ fn cuts_of(tiles: u32, crew: u32) -> ArrayVec<usize, 15>
 }
 
 /// The workers of these seats, after their turns.
-fn worked<R: Threads + Wait + Sync, A: Allocator + Copy + Send + Sync, G: Gate>(
+fn worked<R: Threads + Wait + Sync, A: Allocator + Copy + Send + Sync, G: Gate, V: Watch>(
     rt: &R,
     alloc: A,
     fabric: &Fabric<A>,
     seats: Vec<TileSeat<A>, A>,
     turns: u64,
     gate: &G,
+    watch: &V,
 ) -> Result<Vec<Worker<A>, A>, AllocError>
     requires own { All (IsOf fabric.now) seats.items }
     requires few { length seats.items ≤ 16 }
@@ -180,9 +201,13 @@ fn worked<R: Threads + Wait + Sync, A: Allocator + Copy + Send + Sync, G: Gate>(
         (λ workers. (i : ℕ) (d : Working) → i < length seats.items
         → HasWorked ⊥ (λ step. ⊥) turns (slice_index_or (map new_worker seats.items) i d)
         (slice_index_or workers.items i d)) }
+    ensures told { IfOk result
+        (λ workers. (i : ℕ) (d : Working) → i < length seats.items
+        → IsWatched (V.over watch.now i) (λ step. ⊥) turns
+        (slice_index_or (map new_worker seats.items) i d) (slice_index_or workers.items i d)) }
 {
     let mut workers = workers_of(alloc, seats)?;
-    run_workers(rt, fabric, workers.as_mut_slice(), gate, turns);
+    run_workers(rt, fabric, workers.as_mut_slice(), gate, watch, turns);
     Ok(workers)
 }
 

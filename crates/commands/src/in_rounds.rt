@@ -10,13 +10,15 @@ ghost use Rattle.commands.specs.Calls.{Hears};
 ghost use Rattle.commands.specs.Telling.{AreRoundsCalls, HearsSome, TellsRounds, answered_by, round_calls};
 
 use crate::ProgramFault;
-use crate::steps::print_run;
-use core_machine::laws::{reached_machines_report_well, steps_decide_the_machine};
+use crate::steps::{moves_since, print_run};
+use core_machine::laws::{
+    moves_are_counted, reached_machines_report_well, steps_decide_the_machine,
+};
 use machine_texts::{Machine, load};
 use report_lines::Out;
 use std::alloc::Allocator;
 
-/// Watches a run in rounds. Whatever it does, the run and its report are the same.
+/// Watches a run in rounds, or by steps. Whatever it does, the run and its report are the same.
 pub trait Progress {
     ghost use Rattle.std.specs.Prelude.{List, [], ◌∷◌};
     ghost use Rattle.commands.specs.Calls.{Call, Wants, Made, Ended, Hears};
@@ -33,9 +35,9 @@ pub trait Progress {
     fn made(&mut self, rounds: u64, answered: u64)
         ensures { Hears (heard self.old) (heard self.new) (Made rounds answered ∷ []) };
 
-    /// No more rounds are made, and the report is written next.
-    fn ended(&mut self)
-        ensures { Hears (heard self.old) (heard self.new) (Ended ∷ []) };
+    /// The run has ended, of so many moves, and the report is written next.
+    fn ended(&mut self, moves: u64)
+        ensures { Hears (heard self.old) (heard self.new) (Ended moves ∷ []) };
 }
 
 /// Watches nothing.
@@ -49,7 +51,7 @@ impl Progress for Silent {
 
     fn made(&mut self, _rounds: u64, _answered: u64) {}
 
-    fn ended(&mut self) {}
+    fn ended(&mut self, _moves: u64) {}
 }
 
 /// Runs the machine of a text, whose processors follow the scripts of a text, in rounds: until every
@@ -74,8 +76,8 @@ pub fn round_text<A: Allocator + Copy, W: Out>(
 
 /// Does what `round_text` does, and tells `progress` how far the run is: after each round it asks
 /// whether that is wanted, and where it is, tells how many rounds are made and how many operations
-/// answered; and behind the last round it tells the end. A fault of the texts, and memory refused for
-/// the machine, come before it is told anything.
+/// answered; and behind the last round it tells the end, with how many moves all rounds made. A fault
+/// of the texts, and memory refused for the machine, come before it is told anything.
 ///
 /// Errors: as `round_text`.
 pub fn round_text_with<A: Allocator + Copy, W: Out, P: Progress>(
@@ -93,8 +95,10 @@ pub fn round_text_with<A: Allocator + Copy, W: Out, P: Progress>(
         (P.heard progress.old) (P.heard progress.new) result }
 {
     let mut machine = loaded(alloc, machine, scripts)?;
+    let most = machine.moves_left();
     make_rounds(&mut machine, rounds, progress);
-    progress.ended();
+    moves_are_counted();
+    progress.ended(moves_since(most, &machine));
     steps_decide_the_machine();
     print_run(alloc, &machine, out)
 }

@@ -1,10 +1,12 @@
-ghost use Rattle.std.specs.Prelude.{IfErr, IfOk};
+ghost use Rattle.std.specs.Prelude.{◌≡◌, ◌-◌, IfErr, IfOk};
 ghost use Rattle.std.specs.Str.Lines.{lines};
 ghost use Rattle.program_fault.specs.Done.{Does, output};
-ghost use Rattle.commands.specs.Run.{HasRun, IsOfMachine, IsReadFault, IsNoFault, PrintsRun, asked_of};
+ghost use Rattle.commands.specs.Run.{HasMoved, HasRun, IsOfMachine, IsReadFault, IsNoFault, PrintsRun, asked_of};
+ghost use Rattle.commands.specs.Telling.{TellsSteps};
 
 use crate::ProgramFault;
-use core_machine::laws::steps_decide_the_machine;
+use crate::in_rounds::{Progress, Silent};
+use core_machine::laws::{moves_are_counted, steps_decide_the_machine};
 use history::{of_run, write_report};
 use machine_texts::Machine;
 use report_lines::Out;
@@ -27,19 +29,43 @@ pub fn steps_text<A: Allocator + Copy, W: Out>(
         (output (W.taken out.old) (W.failures out.old))
         (output (W.taken out.new) (W.failures out.new)) result }
 {
-    let machine = ran(alloc, machine, scripts, steps)?;
+    steps_text_with(alloc, machine, scripts, steps, out, &mut Silent)
+}
+
+/// Does what `steps_text` does, and tells `progress` the end of the run, with how many of the steps
+/// moved. A fault of the texts, and memory refused for the machine, come before it is told anything.
+///
+/// Errors: as `steps_text`.
+pub fn steps_text_with<A: Allocator + Copy, W: Out, P: Progress>(
+    alloc: A,
+    machine: &[u8],
+    scripts: &[u8],
+    steps: &[u8],
+    out: &mut W,
+    progress: &mut P,
+) -> Result<bool, ProgramFault>
+    ensures prints { PrintsRun (asked_of (lines machine.now) (lines scripts.now) (lines steps.now))
+        (output (W.taken out.old) (W.failures out.old))
+        (output (W.taken out.new) (W.failures out.new)) result }
+    ensures told { TellsSteps (asked_of (lines machine.now) (lines scripts.now) (lines steps.now))
+        (P.heard progress.old) (P.heard progress.new) result }
+{
+    let (machine, moves) = ran(alloc, machine, scripts, steps)?;
+    progress.ended(moves);
     print_run(alloc, &machine, out)
 }
 
-/// The machine after the steps.
+/// The machine after the steps, and how many of them moved.
 fn ran<A: Allocator + Copy>(
     alloc: A,
     machine: &[u8],
     scripts: &[u8],
     steps: &[u8],
-) -> Result<Machine<A>, ProgramFault>
+) -> Result<(Machine<A>, u64), ProgramFault>
     ensures ok { IfOk result
-        (HasRun (asked_of (lines machine.now) (lines scripts.now) (lines steps.now))) }
+        (λ r. HasRun (asked_of (lines machine.now) (lines scripts.now) (lines steps.now)) r.0) }
+    ensures moved { IfOk result
+        (λ r. HasMoved (asked_of (lines machine.now) (lines scripts.now) (lines steps.now)) r.1) }
     ensures err { IfErr result
         (IsReadFault (asked_of (lines machine.now) (lines scripts.now) (lines steps.now))) }
 {
@@ -47,9 +73,19 @@ fn ran<A: Allocator + Copy>(
     let scripts = read_scripts(alloc, scripts, &machine)?;
     let steps = read_steps(alloc, steps, &machine)?;
     let mut machine = Machine::load(alloc, machine, scripts)?;
+    let most = machine.moves_left();
     machine.run(&steps);
     steps_decide_the_machine();
-    Ok(machine)
+    moves_are_counted();
+    let moves = moves_since(most, &machine);
+    Ok((machine, moves))
+}
+
+/// How many moves a machine has made since so many were left.
+pub(crate) fn moves_since<A: Allocator>(most: u64, machine: &Machine<A>) -> u64
+    ensures { result ≡ most - machine.now.moves_left }
+{
+    most.saturating_sub(machine.moves_left())
 }
 
 /// Prints the report of the machine's run. Answers whether every script is finished.

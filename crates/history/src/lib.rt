@@ -11,6 +11,7 @@ pub use machine_report::{
 pub use run::of_final;
 pub use worker_run::gate::Open;
 pub use worker_run::place::Place;
+pub use worker_run::watch::Unwatched;
 pub use worker_run::{
-    End, Fabric, Final, Gate, Machine, ProbeSeat, TileSeat, Turned, Worker, run_workers,
+    End, Fabric, Final, Gate, Machine, ProbeSeat, TileSeat, Turned, Watch, Worker, run_workers,
 };

@@ -35,16 +35,16 @@ impl<'a> fmt::Display for SpinSentence<'a> {
 /// What a run was made of, up to its end or to where it had to stop.
 #[derive(Clone, Copy)]
 pub enum Course {
-    /// A list of steps.
-    Steps,
-    /// So many rounds.
-    Rounds(u64),
+    /// A list of steps, of which so many moved.
+    Steps { moves: u64 },
+    /// So many rounds, with so many moves in all.
+    Rounds { rounds: u64, moves: u64 },
     /// Turns of workers, each of which makes so many at most.
     Turns(u64),
 }
 
-/// How a run ended: `finished: 12 rounds, 2 operations are answered`, or `stopped: 9 rounds, 1
-/// operation is answered, 3 scripts aren't finished`.
+/// How a run ended: `finished: 12 rounds, 78 moves, 2 operations are answered`, or `stopped: 9 rounds,
+/// 62 moves, 1 operation is answered, 3 scripts aren't finished`.
 #[derive(Clone, Copy)]
 pub struct EndSentence {
     pub course: Course,
@@ -64,8 +64,10 @@ impl fmt::Display for EndSentence {
             "stopped: "
         })?;
         match self.course {
-            Course::Steps => {}
-            Course::Rounds(rounds) => write!(f, "{}, ", Count(rounds, "round"))?,
+            Course::Steps { moves } => write!(f, "{}, ", Count(moves, "move"))?,
+            Course::Rounds { rounds, moves } => {
+                write!(f, "{}, {}, ", Count(rounds, "round"), Count(moves, "move"))?
+            }
             Course::Turns(_) if self.finished => {}
             Course::Turns(turns) => write!(f, "the workers made their {}, ", Count(turns, "turn"))?,
         }

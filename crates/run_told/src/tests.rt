@@ -46,7 +46,10 @@ fn reads<R: Abort>(alloc: Global, rt: &R, sentence: EndSentence, wanted: &str) -
 #[test]
 fn ends(rt: HostRuntime) -> Result<(), Fail> {
     let finished = EndSentence {
-        course: Course::Rounds(12),
+        course: Course::Rounds {
+            rounds: 12,
+            moves: 78,
+        },
         finished: true,
         answered: 2,
         unfinished: 0,
@@ -55,7 +58,7 @@ fn ends(rt: HostRuntime) -> Result<(), Fail> {
         rt.alloc(),
         &rt,
         finished,
-        "finished: 12 rounds, 2 operations are answered",
+        "finished: 12 rounds, 78 moves, 2 operations are answered",
     )?;
     let stopped = EndSentence {
         course: Course::Turns(9),
@@ -67,7 +70,7 @@ fn ends(rt: HostRuntime) -> Result<(), Fail> {
         "stopped: the workers made their 9 turns, 1 operation is answered, 3 scripts aren't finished";
     reads(rt.alloc(), &rt, stopped, wanted)?;
     let steps = EndSentence {
-        course: Course::Steps,
+        course: Course::Steps { moves: 1 },
         finished: false,
         answered: 0,
         unfinished: 1,
@@ -76,7 +79,7 @@ fn ends(rt: HostRuntime) -> Result<(), Fail> {
         rt.alloc(),
         &rt,
         steps,
-        "stopped: 0 operations are answered, 1 script isn't finished",
+        "stopped: 1 move, 0 operations are answered, 1 script isn't finished",
     )
 }
 

@@ -8,11 +8,12 @@ mod kept;
 mod progress_line;
 mod telling;
 mod texts;
+mod turns_line;
 
 use command_line::{Job, Request, read_request};
 use commands::{
-    ProgramFault, channels_text, check_text, fault_text, round_text_with, route_text, run_text,
-    status_of, steps_text,
+    Open, ProgramFault, channels_text, check_text, fault_text, round_text_with, route_text,
+    run_text_with, status_of, steps_text_with,
 };
 use explaining::{explain, explain_unread};
 use kept::Kept;
@@ -20,6 +21,7 @@ use linearize_command::{Judged, linearize_text, status, verdict_text};
 use network_command::network_text;
 use progress_line::ProgressLine;
 use report_lines::{Out, Piped};
+use run_told::Course;
 use schedule_commands::{draw_text, moves_text, schedule_text};
 use std::alloc::Global;
 use std::io::{BufWriter, Input, IsTerminal, Write};
@@ -31,14 +33,15 @@ use std::{env, io};
 use telling::tell_end;
 use texts::{Failure, Texts, read_texts};
 use torus::Fault;
+use turns_line::TurnsLine;
 
 /// What a job answers.
 #[derive(Drop)]
 enum Outcome {
     /// That a job without scripts is done.
     Done,
-    /// Whether every script is finished, and how many rounds were made, where it is run in rounds.
-    Ran(bool, u64),
+    /// Whether every script is finished, and of a run with a report what it was made of.
+    Ran(bool, Option<Course>),
     /// Whether the numbers of a network's channels rise.
     Rising(bool),
     /// What a trace is judged to be, with so many configurations at most.
@@ -149,8 +152,8 @@ fn printed<R: Print + Eprint + Clock + AllocGlobal + Threads + Wait + Sync>(
     if writer.flush().is_err() {
         return Err(ProgramFault::Output);
     }
-    if let (Outcome::Ran(finished, rounds), Some(report)) = (&answer, report) {
-        tell_end(rt, &request.job, &texts.second, &report, *finished, *rounds);
+    if let (Outcome::Ran(finished, Some(course)), Some(report)) = (&answer, report) {
+        tell_end(rt, &request.job, &texts.second, &report, *finished, *course);
     }
     Ok(answer)
 }
@@ -191,7 +194,7 @@ fn answer<R: Eprint + Clock + AllocGlobal + Threads + Wait + Sync, W: Out>(
             Ok(Outcome::Done)
         }
         Job::Schedule { .. } | Job::Draw { .. } | Job::Moves { .. } => {
-            Ok(Outcome::Ran(scheduled(alloc, job, texts, out)?, 0))
+            Ok(Outcome::Ran(scheduled(alloc, job, texts, out)?, None))
         }
         _ => ran(rt, job, texts, is_seen, out),
     }
@@ -229,19 +232,28 @@ fn ran<R: Eprint + Clock + AllocGlobal + Threads + Wait + Sync, W: Out>(
     let (machine, script) = (texts.first.as_slice(), texts.second.as_slice());
     match *job {
         Job::Steps { .. } => {
-            let finished = steps_text(alloc, machine, script, &texts.third, out)?;
-            Ok(Outcome::Ran(finished, 0))
+            let mut line = ProgressLine::new(rt, is_seen);
+            let finished = steps_text_with(alloc, machine, script, &texts.third, out, &mut line)?;
+            let moves = line.moves_made();
+            Ok(Outcome::Ran(finished, Some(Course::Steps { moves })))
         }
         Job::Round { rounds, .. } => {
             let mut line = ProgressLine::new(rt, is_seen);
             let rounds = u64::from(rounds);
             let finished = round_text_with(alloc, machine, script, rounds, out, &mut line)?;
-            Ok(Outcome::Ran(finished, line.rounds_made()))
+            let course = Course::Rounds {
+                rounds: line.rounds_made(),
+                moves: line.moves_made(),
+            };
+            Ok(Outcome::Ran(finished, Some(course)))
         }
         Job::Run { workers, turns, .. } => {
             let (workers, turns) = (workers as usize, u64::from(turns));
-            let finished = run_text(rt, alloc, machine, script, workers, turns, out)?;
-            Ok(Outcome::Ran(finished, 0))
+            let line = TurnsLine::new(rt, is_seen);
+            let finished = run_text_with(
+                rt, alloc, machine, script, workers, turns, &Open, &line, out,
+            )?;
+            Ok(Outcome::Ran(finished, Some(Course::Turns(turns))))
         }
         _ => Ok(Outcome::Done),
     }

@@ -16,6 +16,8 @@ pub(crate) struct ProgressLine<'a, R> {
     is_wanted: bool,
     /// How many rounds were made.
     rounds_made: u64,
+    /// How many moves the run has made, once it has ended.
+    moves_made: u64,
     /// How many rounds were made since the last look at the clock.
     rounds: u32,
     /// When the line that stands there was written.
@@ -29,6 +31,7 @@ impl<'a, R: Eprint + Clock> ProgressLine<'a, R> {
             rt,
             is_wanted,
             rounds_made: 0,
+            moves_made: 0,
             rounds: 0,
             written: None,
         }
@@ -37,6 +40,11 @@ impl<'a, R: Eprint + Clock> ProgressLine<'a, R> {
     /// How many rounds were made.
     pub(crate) fn rounds_made(&self) -> u64 {
         self.rounds_made
+    }
+
+    /// How many moves the run has made, once it has ended.
+    pub(crate) fn moves_made(&self) -> u64 {
+        self.moves_made
     }
 
     /// Whether the line is to be written, at a look at the clock; not where there is none.
@@ -72,7 +80,8 @@ impl<R: Eprint + Clock> Progress for ProgressLine<'_, R> {
         let _ = eprint!(self.rt; "\r\x1b[Krounds made {rounds}, operations answered {answered}");
     }
 
-    fn ended(&mut self) {
+    fn ended(&mut self, moves: u64) {
+        self.moves_made = moves;
         if self.written.is_some() {
             self.written = None;
             let _ = eprint!(self.rt; "\r\x1b[K");

@@ -11,9 +11,9 @@ pub(crate) fn tell_end<R: Eprint + AllocGlobal>(
     scripts: &[u8],
     report: &[u8],
     finished: bool,
-    rounds: u64,
+    course: Course,
 ) {
-    let Some((name, course)) = course_of(job, rounds) else {
+    let Some(name) = script_of(job) else {
         return;
     };
     let Ok(ended) = told(rt.alloc(), scripts, report) else {
@@ -32,12 +32,12 @@ pub(crate) fn tell_end<R: Eprint + AllocGlobal>(
     let _ = eprintln!(rt; "{sentence}");
 }
 
-/// The name of a job's script text, and what its run was made of; `None` of a job that runs none.
-fn course_of<'a>(job: &Job<'a>, rounds: u64) -> Option<(&'a str, Course)> {
+/// The name of the script text of a job that prints a report; `None` of another.
+fn script_of<'a>(job: &Job<'a>) -> Option<&'a str> {
     match *job {
-        Job::Steps { script, .. } => Some((script, Course::Steps)),
-        Job::Round { script, .. } => Some((script, Course::Rounds(rounds))),
-        Job::Run { script, turns, .. } => Some((script, Course::Turns(u64::from(turns)))),
+        Job::Steps { script, .. } | Job::Round { script, .. } | Job::Run { script, .. } => {
+            Some(script)
+        }
         _ => None,
     }
 }

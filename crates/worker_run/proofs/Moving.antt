@@ -1,5 +1,5 @@
 -- What a worker's turns make of its seat, one after the other.
-use Rattle.std.proofs.Common.{◌≡◌, ◌⊎◌, ◌↔◌, ℕ, ◌+◌, ◌≤◌, List, [], ◌∷◌, ◌++◌, length, refl, sym, ap, ◌∙◌, subst, inl, inr, arith}
+use Rattle.std.proofs.Common.{◌≡◌, ◌⊎◌, ◌↔◌, ℕ, suc, ◌+◌, ◌≤◌, List, [], ◌∷◌, ◌++◌, length, refl, sym, ap, ◌∙◌, subst, inl, inr, arith, append_assoc}
 use Rattle.std.proofs.lemmas.List.{append-nil, length-append}
 use Rattle.torus.specs.Shape.{dims_of}
 use Rattle.torus.specs.declared.step.Step.{Step}
@@ -11,7 +11,9 @@ use Rattle.fabric.specs.declared.steps.Turned.{Turned}
 use Rattle.fabric.specs.declared.steps.Turned.TheVariants.{Moved, Idle, NotMine}
 use Rattle.fabric.proofs.Turning.{begins_trans}
 use Rattle.worker_run.specs.Places.{IsFirst, IsWithin, Follows}
-use Rattle.worker_run.specs.Working.{Grew, Turns, IsAt, Attempts, HasTurned}
+use Rattle.worker_run.specs.Working.{Grew, Turns, IsAt, Attempts}
+use Rattle.worker_run.specs.Calls.{Call, Hears}
+use Rattle.worker_run.specs.Watching.{AreCallsOf, AreCallsOfTurn, AreCallsOfTurns}
 use Rattle.worker_run.specs.declared.place.Place.{Place}
 
 pub turned : (r : Turned) (v w : Knowing) (c : Step) → (r ≡ Moved → Moves v c w) → (r ≡ Idle → Idles v c w) → ((r ≡ NotMine) ↔ IsNotMine v c)
@@ -57,35 +59,67 @@ goes_on ports made v w u first q r c so_far at turns grew follows = record {
   grew = grew_on v w u so_far.grew grew;
 }
 
--- no turn was made by a seat whose processors had seen the end
-pub turned_none : (stops : Step → Type 0) (turns : ℕ) (v : Knowing) (first : Place) → IsFirst v.tiles first → HasSeen v → HasTurned stops turns v v
-turned_none stops turns v first start seen = record {
-  grew = grew_not v;
-  steps = [];
-  first = first;
-  last = first;
-  start = start;
-  made = (refl, refl);
-  few = omega arith;
-  none = λ h. refl;
-  until = inl seen;
+-- the calls behind so many turns were heard
+abbrev pub IsHeard : ℕ → List ℕ → ℕ → Place → Place → (List Call → Type 0) → (List Call → Type 0) → Type 0
+IsHeard ports tiles k p q old new = (calls : List Call) × AreCallsOf ports tiles k p calls q × Hears old new calls
+
+-- no call
+pub hears_none : (h : List Call → Type 0) → Hears h h []
+hears_none h = λ calls o. subst h (sym (append-nil calls)) o
+
+pub none_heard : (ports : ℕ) (tiles : List ℕ) (p : Place) (h : List Call → Type 0) → IsHeard ports tiles 0 p p h h
+none_heard ports tiles p h = ([], (refl, refl), hears_none h)
+
+-- the calls behind one turn more
+pub turn_heard : (ports : ℕ) (v w : Knowing) (k : ℕ) (p q r : Place) (old mid new : List Call → Type 0) → w.tiles ≡ v.tiles
+    → IsHeard ports v.tiles k p q old mid → Follows ports w.tiles q r → ((calls : List Call) × AreCallsOfTurn (k + 1) q r calls × Hears mid new calls)
+    → IsHeard ports v.tiles (k + 1) p r old new
+turn_heard ports v w k p q r old mid new same so_far follows more =
+    let one : suc k ≡ k + 1 = omega arith in
+    let follows' = subst (λ (tiles : List ℕ). Follows ports tiles q r) same follows in (
+      so_far.0 ++ more.0,
+      subst (λ (n : ℕ). AreCallsOf ports v.tiles n p (so_far.0 ++ more.0) r) one (so_far.0, q, more.0, so_far.1, follows', more.1, refl),
+      λ calls o. subst new (append_assoc calls so_far.0 more.0) (more.2 (calls ++ so_far.0) (so_far.2 calls o)),
+    )
+
+-- no turn was made by a seat whose processors had seen the end, and none is told
+pub told_none : (stops : Step → Type 0) (turns : ℕ) (v : Knowing) (first : Place) → IsFirst v.tiles first → HasSeen v
+    → AreCallsOfTurns stops turns v v 0 []
+told_none stops turns v first start seen = record {
+  turned = record {
+    grew = grew_not v;
+    steps = [];
+    first = first;
+    last = first;
+    start = start;
+    made = (refl, refl);
+    few = omega arith;
+    none = λ h. refl;
+    until = inl seen;
+  };
+  made = refl;
+  each = (refl, refl);
 }
 
--- the turns so far, where they end
-pub turned_until : (stops : Step → Type 0) (turns ports made : ℕ) (v w : Knowing) (first last : Place) → IsFirst v.tiles first
+-- the turns so far, where they end, and the calls behind them
+pub told_until : (stops : Step → Type 0) (turns ports made : ℕ) (v w : Knowing) (first last : Place) (calls : List Call) → IsFirst v.tiles first
     → ports ≡ port_count (dims_of v.load.shape)
-    → IsUnderWay ports made v w first last → made ≤ turns → (HasSeen v → ⊥)
-    → HasSeen w ⊎ (made ≡ turns) ⊎ ((c : Step) × IsAt ports last c × stops c) → HasTurned stops turns v w
-turned_until stops turns ports made v w first last start is so_far few not_yet until = record {
-  grew = so_far.grew;
-  steps = so_far.steps;
-  first = first;
-  last = last;
-  start = start;
-  made = subst (λ (n : ℕ). Attempts n v first so_far.steps w last) is so_far.attempts;
-  few = subst (λ (n : ℕ). n ≤ turns) (sym so_far.count) few;
-  none = λ h. absurd (not_yet h);
-  until = by_end until;
+    → IsUnderWay ports made v w first last → AreCallsOf ports v.tiles made first calls last → made ≤ turns → (HasSeen v → ⊥)
+    → HasSeen w ⊎ (made ≡ turns) ⊎ ((c : Step) × IsAt ports last c × stops c) → AreCallsOfTurns stops turns v w made calls
+told_until stops turns ports made v w first last calls start is so_far told few not_yet until = record {
+  turned = record {
+    grew = so_far.grew;
+    steps = so_far.steps;
+    first = first;
+    last = last;
+    start = start;
+    made = subst (λ (n : ℕ). Attempts n v first so_far.steps w last) is so_far.attempts;
+    few = subst (λ (n : ℕ). n ≤ turns) (sym so_far.count) few;
+    none = λ h. absurd (not_yet h);
+    until = by_end until;
+  };
+  made = sym so_far.count;
+  each = subst (λ (n : ℕ). AreCallsOf n v.tiles made first calls last) is told;
 }
   where
     by_end : HasSeen w ⊎ (made ≡ turns) ⊎ ((c : Step) × IsAt ports last c × stops c)

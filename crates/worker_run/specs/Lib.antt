@@ -1,3 +1,5 @@
 pub use Rattle.fabric
 pub mod Working
 pub mod Places
+pub mod Calls
+pub mod Watching

@@ -45,3 +45,8 @@ Follows ports tiles p q =
     ⊎ ((choice_count ports ≤ p.at + 1) × (q.at ≡ 0) × IsNextTile tiles (p.tile + 1) q.tile)
     ⊎ ((choice_count ports ≤ p.at + 1) × ((t : ℕ) → p.tile < t → Owns tiles t → ⊥)
     × IsFirst tiles q)
+
+-- a pass over the tiles is over between a place and the next: that is at the first choice of a tile
+-- which is no higher
+abbrev pub EndsPass : Place → Place → Type 0
+EndsPass p q = (q.at ≡ 0) × (q.tile ≤ p.tile)

@@ -3,10 +3,12 @@
 
 pub mod gate;
 pub mod place;
+pub mod watch;
 pub mod worker;
 pub mod working;
 
 pub use fabric::{Fabric, Final, Machine, ProbeSeat, TileSeat, Turned};
 pub use gate::Gate;
+pub use watch::Watch;
 pub use worker::{End, Worker};
 pub use working::run_workers;

@@ -1,8 +1,8 @@
-ghost use Rattle.std.specs.Prelude.{◌≡◌, ◌<◌, ◌≤◌, ◌+◌, ◌*◌, Some, slice_get};
+ghost use Rattle.std.specs.Prelude.{◌≡◌, ◌<◌, ◌≤◌, ◌+◌, ◌*◌, ◌↔◌, IsTrue, Some, slice_get};
 ghost use Rattle.torus.specs.Shape.{dims_of};
 ghost use Rattle.channel_number.specs.Ports.{port_count};
 ghost use Rattle.fabric.specs.core_laws.specs.Core.{round_at};
-ghost use Rattle.worker_run.specs.Places.{IsWithin, Follows, IsFirst, processor_choices, router_choices, bank_choices};
+ghost use Rattle.worker_run.specs.Places.{EndsPass, IsWithin, Follows, IsFirst, processor_choices, router_choices, bank_choices};
 
 use fabric::seats::TileSeat;
 use std::alloc::Allocator;
@@ -56,8 +56,10 @@ impl Place {
         }
     }
 
-    /// Whether a place that follows this one begins a round.
-    pub fn ends_round(self, next: Place) -> bool {
+    /// Whether a pass over the tiles is over between this place and the next.
+    pub fn ends_pass(self, next: Place) -> bool
+        ensures { IsTrue result ↔ EndsPass self next }
+    {
         next.at == 0 && next.tile <= self.tile
     }
 

@@ -1,9 +1,12 @@
-ghost use Rattle.std.specs.Prelude.{◌≡◌, ◌<◌, ◌≤◌, ℕ, All, length, slice_index_or};
+ghost use Rattle.std.specs.Prelude.{◌≡◌, ◌<◌, ◌≤◌, ℕ, All, List, length, slice_index_or};
 ghost use Rattle.fabric.specs.Seats.{IsOf};
-ghost use Rattle.worker_run.specs.Working.{Working, HasTurned, HasWorked};
+ghost use Rattle.worker_run.specs.Calls.{Call, Hears};
+ghost use Rattle.worker_run.specs.Watching.{AreCallsOfTurn, HearsTurns, IsWatched};
+ghost use Rattle.worker_run.specs.Working.{Working, HasWorked};
 
 use crate::gate::Gate;
 use crate::place::Place;
+use crate::watch::Watch;
 use crate::worker::{End, Worker};
 use fabric::seats::{Fabric, TileSeat};
 use fabric::steps::Turned;
@@ -17,12 +20,14 @@ use torus::Choice;
 /// before or after it. A worker asks the gate whether it may begin, and then attempts the choices of
 /// its tiles' agents in the order of a round, round after round, and asks the gate ahead of each
 /// attempt: until all its processors have seen the end, so many turns are made, or the gate stops
-/// it. There are at most 16 workers, and the turns are 1 to 1000000000.
-pub fn run_workers<R: Threads + Wait + Sync, A: Allocator + Send + Sync, G: Gate>(
+/// it. `watch` is told when a worker comes, after each pass over its tiles, and when it has ended.
+/// There are at most 16 workers, and the turns are 1 to 1000000000.
+pub fn run_workers<R: Threads + Wait + Sync, A: Allocator + Send + Sync, G: Gate, V: Watch>(
     rt: &R,
     fabric: &Fabric<A>,
     workers: &mut [Worker<A>],
     gate: &G,
+    watch: &V,
     turns: u64,
 )
     requires own { All (λ w. IsOf fabric.now w.knows) workers.old }
@@ -33,6 +38,9 @@ pub fn run_workers<R: Threads + Wait + Sync, A: Allocator + Send + Sync, G: Gate
     ensures worked { (i : ℕ) (d : Working) → i < length workers.old
         → HasWorked (G.holds gate.now i) (G.stops gate.now i) turns (slice_index_or workers.old i d)
         (slice_index_or workers.new i d) }
+    ensures told { (i : ℕ) (d : Working) → i < length workers.old
+        → IsWatched (V.over watch.now i) (G.stops gate.now i) turns (slice_index_or workers.old i d)
+        (slice_index_or workers.new i d) }
 {
     thread::for_each_mut(
         rt,
@@ -40,78 +48,118 @@ pub fn run_workers<R: Threads + Wait + Sync, A: Allocator + Send + Sync, G: Gate
         16,
         &|i: usize, worker: &mut Worker<A>|
             requires { IsOf fabric.now worker.old.knows }
-            ensures { HasWorked (G.holds gate.entry.now i) (G.stops gate.entry.now i) turns
+            ensures worked { HasWorked (G.holds gate.entry.now i) (G.stops gate.entry.now i) turns
                 worker.old worker.new }
-        { work(fabric, worker, gate, i, turns) },
+            ensures told { IsWatched (V.over watch.entry.now i) (G.stops gate.entry.now i) turns
+                worker.old worker.new }
+        { work(fabric, worker, gate, watch, i, turns) },
     );
 }
 
 // One worker: held back, or its turns.
-fn work<A: Allocator, G: Gate>(
+fn work<A: Allocator, G: Gate, V: Watch>(
     fabric: &Fabric<A>,
     worker: &mut Worker<A>,
     gate: &G,
+    watch: &V,
     number: usize,
     turns: u64,
 )
     requires { IsOf fabric.now worker.old.knows }
-    ensures { HasWorked (G.holds gate.now number) (G.stops gate.now number) turns worker.old
+    ensures worked { HasWorked (G.holds gate.now number) (G.stops gate.now number) turns worker.old
+        worker.new }
+    ensures told { IsWatched (V.over watch.now number) (G.stops gate.now number) turns worker.old
         worker.new }
 {
     worker.seat.accepted();
+    let mut kept = watch.begun(number);
     if !gate.begin(number) {
         worker.ended = Some(End::Held);
+        watch.ended(number, kept, 0);
         return;
     }
-    make_turns(fabric, &mut worker.seat, gate, number, turns);
+    let made = make_turns(
+        fabric,
+        &mut worker.seat,
+        gate,
+        watch,
+        &mut kept,
+        number,
+        turns,
+    );
     worker.seat.accepted();
     worker.ended = Some(if worker.seat.has_seen() {
         End::Finished
     } else {
         End::Stopped
     });
+    watch.ended(number, kept, made);
 }
 
-// Attempts the steps of the seat's rounds, one a turn.
-fn make_turns<A: Allocator, G: Gate>(
+// Attempts the steps of the seat's rounds, one a turn. Answers how many turns were made.
+fn make_turns<A: Allocator, G: Gate, V: Watch>(
     fabric: &Fabric<A>,
     seat: &mut TileSeat<A>,
     gate: &G,
+    watch: &V,
+    kept: &mut V::Kept,
     worker: usize,
     turns: u64,
-)
+) -> u64
     requires { IsOf fabric.now seat.old }
-    ensures { HasTurned (G.stops gate.now worker) turns seat.old seat.new }
+    ensures { HearsTurns (G.stops gate.now worker) turns seat.old seat.new result
+        (V.heard watch.now worker kept.old) (V.heard watch.now worker kept.new) }
 {
     seat.accepted();
     let mut place = Place::first(seat);
     if seat.has_seen() {
-        return;
+        return 0;
     }
     let ports = fabric.ports();
     let mut quiet = true;
     for made in 0..turns {
         let step = place.step(ports);
         if !gate.before(worker, step) {
-            return;
+            return made;
         }
         let next = place.after(ports, seat);
         let moved = matches!(fabric.turn(seat, step), Turned::Moved);
+        let is_over = tell_turn(watch, kept, worker, place, next, made + 1);
         if moved && is_look(step.choice) && seat.has_seen() {
-            return;
+            return made + 1;
         }
-        quiet = rested(quiet && !moved, place.ends_round(next));
+        quiet = rested(quiet && !moved, is_over);
         place = next;
     }
+    turns
+}
+
+// Tells `watch` of a turn, the how-manyth it is, where a pass is over by it. Answers whether one is.
+fn tell_turn<V: Watch>(
+    watch: &V,
+    kept: &mut V::Kept,
+    worker: usize,
+    place: Place,
+    next: Place,
+    turns: u64,
+) -> bool
+    ensures { (calls : List Call) × AreCallsOfTurn turns place next calls
+        × Hears (V.heard watch.now worker kept.old) (V.heard watch.now worker kept.new) calls }
+{
+    let is_over = place.ends_pass(next);
+    if is_over {
+        watch.passed(worker, kept, turns);
+    }
+    is_over
 }
 
 fn is_look(choice: Choice) -> bool {
     matches!(choice, Choice::Look)
 }
 
-// Lets others run where a whole round was quiet. Answers whether the round so far is.
-fn rested(quiet: bool, round_over: bool) -> bool {
-    if !round_over {
+// Lets others run where a whole pass was quiet. Answers whether the pass so far is.
+fn rested(quiet: bool, is_over: bool) -> bool {
+    if !is_over {
         return quiet;
     }
     if quiet {

@@ -2,7 +2,9 @@
 ghost use Rattle.std.specs.Prelude.{◌≤◌, All, IfSome, length};
 ghost use Rattle.history.specs.worker_run.specs.fabric.specs.Seats.{IsOf};
 
-use history::{End, Fabric, Final, Gate, ProbeSeat, TileSeat, Turned, Worker, run_workers};
+use history::{
+    End, Fabric, Final, Gate, ProbeSeat, TileSeat, Turned, Unwatched, Worker, run_workers,
+};
 use machine_texts::load;
 use std::alloc::Global;
 use std::sync::Wait;
@@ -91,7 +93,8 @@ fn run_all<R: Threads + Wait + Sync, G: Gate>(
     requires few { length workers.old ≤ 16 }
     ensures { All (λ w. IsOf fabric.now w.knows) workers.new }
 {
-    run_workers(rt, fabric, workers, gate, turns.max(1).min(1000000000));
+    let turns = turns.max(1).min(1000000000);
+    run_workers(rt, fabric, workers, gate, &Unwatched, turns);
 }
 
 /// Runs the workers.

@@ -1,10 +1,13 @@
 -- The seat of all workers is whole, and knows a run to which each did its part.
-use Rattle.std.proofs.Common.{◌≡◌, List, map, refl, rules, sym, ap, ◌∙◌, arith}
+use Rattle.std.proofs.Common.{◌≡◌, List, [], map, refl, rules, sym, ap, ◌∙◌, arith}
+use Rattle.std.specs.Prelude.{min}
 use Rattle.std.proofs.lemmas.List.{length-map}
 use Rattle.torus.specs.Shape.{tiles_of}
 use Rattle.history.specs.worker_run.specs.fabric.specs.Seats.{Knowing}
-use Rattle.commands.specs.Workers.{new_worker}
+use Rattle.core_machine.specs.Core.{core_after}
+use Rattle.commands.specs.Workers.{crew, new_worker}
 use Rattle.commands.proofs.ByWorkers.{IsCrew, crew_made, crew_whole, made_by_workers, seats_count, seats_own}
+use Rattle.commands.proofs.Watched.{hears_workers}
 use Rattle.commands.proofs.by_workers.closed_run.Goals as goal
 
 pub worked-requires-clause-own : goal.worked-requires-clause-own
@@ -58,3 +61,25 @@ returns-clause-run g c = λ l from.
     c.crew_of-crew.ensures.within.2
     l c.args.machine from c.in_ok-fabric.ensures.load size c.args.workers c.crew_of-crew.ensures.is c.close.result is
     c.steps_lead_to_a_machine.ensures.reports c.steps_lead_on.ensures.steps c.steps_decide_the_machine.ensures.named
+
+pub returns-clause-told : goal.returns-clause-told
+returns-clause-told g c = λ l from.
+    let f = c.in_ok-fabric.fabric in
+    let n = c.tiles-tiles.result in
+    let seats : List Knowing = c.in_ok-fabric.seats.items in
+    let whole : Knowing = c.joined-whole.result in
+    let size = c.tiles-tiles.ensures.value ∙ ap tiles_of c.torus.ensures in
+    let many = seats_count f n c.crew_of-crew.result seats c.in_ok-fabric.ensures.seats in
+    let worked = c.in-Ok.ensures.worked in
+    let watched = c.in-Ok.ensures.told in
+    let start = c.in_ok-fabric.ensures.load in
+    let lead = c.steps_lead_on.ensures.steps in
+    let named = c.steps_decide_the_machine.ensures.named in
+    let tiles : tiles_of l.shape ≡ n = ap tiles_of (sym from.shape) ∙ sym size in
+    let hired : crew c.args.workers l ≡ c.crew_of-crew.result = ap (min c.args.workers) tiles ∙ sym c.crew_of-crew.ensures.is in
+    hears_workers f c.args.turns l
+    (λ steps. sym (named f.load (core_after c.args.machine steps) steps (lead f.load c.args.machine [] steps start))
+    ∙ named l (core_after c.args.machine steps) steps (lead l c.args.machine [] steps from))
+    (g.V.Watch.over c.args.watch.now) n c.crew_of-crew.result c.args.workers seats (map new_worker seats) c.in-Ok.workers.items
+    c.in_ok-fabric.ensures.seats refl
+    (λ i d lt. worked i d (omega (arith, lt, many))) (λ i d lt. watched i d (omega (arith, lt, many))) tiles hired

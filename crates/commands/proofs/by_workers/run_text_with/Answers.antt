@@ -1,17 +1,19 @@
 -- What is printed of the end of the workers' run is printed of a run of what was asked for.
-use Rattle.std.proofs.Common.{Result}
+use Rattle.std.proofs.Common.{Result, subst, sym}
+use Rattle.std.proofs.lemmas.Result.{err_from_is_err_and}
 use Rattle.std.specs.Str.Lines.{lines}
 use Rattle.script.specs.declared.fault.LineFault.{LineFault}
 use Rattle.machine_texts.specs.order_abstract.specs.Load.{Load}
-use Rattle.commands.specs.Run.{IsNoFault, IsTextsFault}
+use Rattle.commands.specs.Run.{IsNoFault, IsReadFault, IsTextsFault}
 use Rattle.machine_texts.specs.Loading.{HasLoaded, load_by}
 use Rattle.commands.specs.Workers.{IsMadeByWorkers, IsOfEnded, IsWorkersText}
 use Rattle.commands.proofs.Asked.{does_more}
 use Rattle.commands.proofs.ByWorkers.{workers_printed}
+use Rattle.commands.proofs.Watched.{no_workers_told, workers_told}
 use Rattle.commands.proofs.by_workers.run_text_with.Goals as goal
 
-pub returns : goal.returns
-returns g c =
+pub returns-clause-prints : goal.returns-clause-prints
+returns-clause-prints g c =
     let asked : Result Load LineFault = load_by (lines c.args.machine.now) (lines c.args.scripts.now) in
     let loaded : HasLoaded asked c.in_ok-machine.machine = c.in_ok-machine.ensures.ok in
     let made : IsMadeByWorkers loaded.load c.args.workers c.args.turns c.in_ok-end.end = c.in_ok-end.ensures.run loaded.load loaded.after in
@@ -19,3 +21,17 @@ returns g c =
     (λ finished text printed. workers_printed asked c.args.workers c.args.turns c.in_ok-machine.machine c.in_ok-end.end finished text loaded made
     c.steps_lead_to_a_machine.ensures.after c.ended_followers_finish_scripts.ensures printed)
     (λ e h. absurd h) c.print_end.ensures
+
+pub returns-clause-told : goal.returns-clause-told
+returns-clause-told g c =
+    let asked : Result Load LineFault = load_by (lines c.args.machine.now) (lines c.args.scripts.now) in
+    let loaded : HasLoaded asked c.in_ok-machine.machine = c.in_ok-machine.ensures.ok in
+    workers_told asked c.args.workers c.args.turns (g.V.Watch.over c.args.watch.now) loaded.load loaded.read
+    (c.in_ok-end.ensures.told loaded.load loaded.after) c.print_end.result
+
+pub returns-in_err-machine-clause-told : goal.returns-in_err-machine-clause-told
+returns-in_err-machine-clause-told g c =
+    let p = err_from_is_err_and c.from_residual.result c.from_residual.ensures.1 in
+    let asked : Result Load LineFault = load_by (lines c.args.machine.now) (lines c.args.scripts.now) in
+    rw p.1 (no_workers_told asked c.args.workers c.args.turns (g.V.Watch.over c.args.watch.now) p.0
+    (subst (IsReadFault asked) (sym p.2) c.in_err-machine.ensures.err))

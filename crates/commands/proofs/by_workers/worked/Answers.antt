@@ -4,9 +4,11 @@ use Rattle.std.specs.Prelude.{slice_index_or}
 use Rattle.std.proofs.lemmas.List.{length-map}
 use Rattle.std.proofs.lemmas.List.Elements.{All-map}
 use Rattle.history.specs.worker_run.specs.fabric.specs.Seats.{IsOf}
+use Rattle.history.specs.worker_run.specs.Watching.{IsWatched}
 use Rattle.history.specs.worker_run.specs.Working.{Working, HasWorked}
 use Rattle.commands.specs.Workers.{new_worker}
 use Rattle.commands.proofs.ByWorkers.{lent, own_after, worked_open}
+use Rattle.commands.proofs.Watched.{watched_open}
 use Rattle.commands.proofs.by_workers.worked.Goals as goal
 
 pub run_workers-requires-clause-own : goal.run_workers-requires-clause-own
@@ -64,3 +66,18 @@ returns-clause-worked g c = λ i d lt.
     (λ j. (is j, sym same j))
     (worked_open (g.G.Gate.holds c.args.gate.now) (g.G.Gate.stops c.args.gate.now) c.args.turns i
     (slice_index_or c.as_mut_slice.result.now i d) (slice_index_or new i d) c.requires.gate (c.run_workers.ensures.worked i d (omega (arith, lt, many))))
+
+pub returns-clause-told : goal.returns-clause-told
+returns-clause-told g c = λ i d lt.
+    let v = c.in_ok-workers.workers in
+    let old : List Working = v.items in
+    let new : List Working = c.run_workers.new.workers in
+    let size : length old ≡ v.len = (let n = v.ok.0 in omega (arith, n)) in
+    let is = c.as_mut_slice.ensures.value ∙ c.in_ok-workers.ensures in
+    let many = ap length is ∙ length-map c.args.seats.items new_worker in
+    let same = back v.len old c.as_mut_slice.result.now new size c.as_mut_slice.ensures.value c.run_workers.ensures.count in
+    subst (λ (p : List Working × List Working). IsWatched (g.V.Watch.over c.args.watch.now i) (λ step. ⊥) c.args.turns (slice_index_or p.0 i d)
+    (slice_index_or p.1 i d))
+    (λ j. (is j, sym same j))
+    (watched_open (g.V.Watch.over c.args.watch.now i) (g.G.Gate.holds c.args.gate.now) (g.G.Gate.stops c.args.gate.now) c.args.turns i
+    (slice_index_or c.as_mut_slice.result.now i d) (slice_index_or new i d) c.requires.gate (c.run_workers.ensures.told i d (omega (arith, lt, many))))

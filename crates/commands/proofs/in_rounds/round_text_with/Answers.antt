@@ -1,22 +1,25 @@
 -- What is printed of the machine is printed of the run in rounds, and who watched was told of these rounds.
-use Rattle.std.proofs.Common.{Result, subst, sym}
+use Rattle.std.proofs.Common.{◌≡◌, ◌-◌, ℕ, Result, ap, subst, sym, ◌∙◌}
 use Rattle.std.proofs.lemmas.Result.{err_from_is_err_and}
 use Rattle.std.specs.Str.Lines.{lines}
 use Rattle.script.specs.declared.fault.LineFault.{LineFault}
 use Rattle.machine_texts.specs.order_abstract.specs.Load.{Load}
+use Rattle.machine_texts.specs.machine_core.specs.Rounds.{rounds_of}
+use Rattle.core_machine.specs.core_progress.specs.Moves.{moves_made}
 use Rattle.commands.specs.Run.{IsNoFault, IsOfMachine, IsReadFault, IsTextsFault}
 use Rattle.machine_texts.specs.Loading.{HasLoaded, load_by}
 use Rattle.commands.specs.Rounds.{HasMadeRounds, IsRoundText}
+use Rattle.commands.specs.Telling.{AreRoundsCalls, AreRunCalls, HearsSome}
 use Rattle.commands.proofs.Asked.{does_more}
-use Rattle.commands.proofs.InRounds.{rounds_printed}
-use Rattle.commands.proofs.Telling.{none_told, run_told}
+use Rattle.commands.proofs.InRounds.{fewest_once, rounds_printed}
+use Rattle.commands.proofs.Telling.{moved_since, none_told, run_told}
 use Rattle.commands.proofs.in_rounds.round_text_with.Goals as goal
 
 pub returns-in_err-machine-clause-told : goal.returns-in_err-machine-clause-told
 returns-in_err-machine-clause-told g c =
     let p = err_from_is_err_and c.from_residual.result c.from_residual.ensures.1 in
     let asked : Result Load LineFault = load_by (lines c.args.machine.now) (lines c.args.scripts.now) in
-    rw p.1 (none_told asked c.args.rounds (g.P.Progress.heard c.args.progress.now) p.0 (subst (IsReadFault asked) (sym p.2) c.in_err-machine.ensures.err))
+    rw p.1 (none_told asked (AreRunCalls asked c.args.rounds) (g.P.Progress.heard c.args.progress.now) p.0 (subst (IsReadFault asked) (sym p.2) c.in_err-machine.ensures.err))
 
 pub returns-clause-prints : goal.returns-clause-prints
 returns-clause-prints g c =
@@ -32,7 +35,17 @@ pub returns-clause-told : goal.returns-clause-told
 returns-clause-told g c =
     let asked : Result Load LineFault = load_by (lines c.args.machine.now) (lines c.args.scripts.now) in
     let loaded : HasLoaded asked c.in_ok-machine.machine = c.in_ok-machine.ensures.ok in
-    run_told asked c.args.rounds c.in_ok-machine.machine loaded
+    let heard : HearsSome (AreRoundsCalls loaded.load c.args.rounds) (g.P.Progress.heard c.args.progress.now) (g.P.Progress.heard c.make_rounds.new.progress) =
+    c.make_rounds.ensures.told loaded.load loaded.after in
+    let made : HasMadeRounds loaded.load c.args.rounds c.make_rounds.new.machine = c.make_rounds.ensures.made loaded.load loaded.after in
+    let same : made.rounds ≡ heard.1.rounds = fewest_once loaded.load c.args.rounds made.rounds heard.1.rounds made.fewest heard.1.fewest in
+    let moves : c.moves_since.result ≡ moves_made loaded.load (rounds_of loaded.load.shape heard.1.rounds) =
+    c.moves_since.ensures
+    ∙ (ap (λ (n : ℕ). n - c.make_rounds.new.machine.moves_left) c.moves_left-most.ensures.value
+    ∙ (moved_since loaded.load c.in_ok-machine.machine c.make_rounds.new.machine (rounds_of loaded.load.shape made.rounds) loaded.after made.after
+    c.moves_are_counted.ensures.all
+    ∙ ap (λ (k : ℕ). moves_made loaded.load (rounds_of loaded.load.shape k)) same)) in
+    run_told asked c.args.rounds c.moves_since.result c.in_ok-machine.machine loaded
     (g.P.Progress.heard c.args.progress.now) (g.P.Progress.heard c.make_rounds.new.progress) (g.P.Progress.heard c.ended.new.self)
-    (c.make_rounds.ensures.told loaded.load loaded.after) c.ended.ensures
+    heard moves c.ended.ensures
     (IsOfMachine c.make_rounds.new.machine) _ _ c.print_run.result c.print_run.ensures
