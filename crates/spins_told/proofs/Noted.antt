@@ -1,6 +1,6 @@
 -- One answer more among those that tell the replies.
-use Rattle.std.proofs.Common.{◌≡◌, ◌≢◌, ⊎_elim, replicate, ℕ, zero, suc, ◌+◌, ◌<◌, ◌≤◌, ◌==◌, List, [], ◌∷◌, ◌++◌, map, refl, sym, ◌∙◌, ap, subst, arith, Some, None, true, false}
-use Rattle.std.specs.Prelude.{Option, option_map, find, slice_get, slice_set, length, if◌then◌else◌}
+use Rattle.std.proofs.Common.{◌≡◌, ◌≢◌, ⊎_elim, replicate, ℕ, zero, suc, ◌+◌, ◌<◌, ◌≤◌, ◌==◌, List, [], ◌∷◌, ◌++◌, map, refl, sym, ◌∙◌, ap, arith, Some, None, true, false}
+use Rattle.std.specs.Prelude.{Option, option_map, find, slice_get, slice_set}
 use Rattle.std.specs.Option.{option_or}
 use Rattle.std.specs.List.{range_with_len}
 use Rattle.std.proofs.lemmas.List.Folds.{find-append}

@@ -1,13 +1,13 @@
 -- The spins that ran out are told.
-use Rattle.std.proofs.Common.{◌≡◌, ◌⊎◌, ⊎_elim, ℕ, zero, suc, ◌+◌, ◌≤◌, ◌==◌, true, false, List, [], ◌∷◌, ◌++◌, length, Some, None, refl, sym, ◌∙◌}
-use Rattle.std.proofs.Common.{ap, subst, arith, slice_get}
-use Rattle.std.specs.Prelude.{Option, if◌then◌else◌}
+use Rattle.std.proofs.Common.{◌≡◌, ◌⊎◌, ⊎_elim, ℕ, zero, suc, ◌+◌, ◌≤◌, ◌==◌, true, false, List, [], ◌∷◌, ◌++◌, length, Some, refl, sym, ◌∙◌}
+use Rattle.std.proofs.Common.{ap, arith, slice_get}
+use Rattle.std.specs.Prelude.{Option}
 use Rattle.std.proofs.lemmas.Bool.Decides.{nat_tests}
 use Rattle.std.proofs.lemmas.List.{append_assoc, length-append}
 use Rattle.script.specs.declared.line.Line.{Line}
 use Rattle.script.specs.declared.line.Line.TheVariants.{Load, Store, Swap, Cas, Add, And, Or, Xor, Max, Min, Fence, Spin}
 use Rattle.spins_told.specs.declared.spins.SpentSpin.{SpentSpin}
-use Rattle.spins_told.specs.Spins.{replied, spent_from, spent_spins, spun}
+use Rattle.spins_told.specs.Spins.{spent_from, spent_spins, spun}
 use Rattle.spins_told.specs.RunsOut.{AreOthers, AreReplies, AreSpent, HaveFound, RanOut}
 use Rattle.spins_told.proofs.RunningOut.{IsAmong}
 

@@ -1,14 +1,14 @@
 -- The spins that are told are those that ran out.
-use Rattle.std.proofs.Common.{◌≡◌, ◌⊎◌, ⊎_elim, inl, inr, ℕ, zero, suc, ◌+◌, ◌≤◌, ◌==◌, true, false, List, [], ◌∷◌, ◌++◌, length, Some, None, refl, sym, ◌∙◌}
+use Rattle.std.proofs.Common.{◌≡◌, ◌⊎◌, ⊎_elim, inl, inr, ℕ, zero, suc, ◌+◌, ◌==◌, true, false, List, [], ◌∷◌, ◌++◌, length, Some, None, refl, sym, ◌∙◌}
 use Rattle.std.proofs.Common.{ap, subst, arith, slice_get}
 use Rattle.std.specs.Prelude.{Bool, Option, if◌then◌else◌}
 use Rattle.std.proofs.lemmas.Bool.Decides.{nat_tests}
-use Rattle.std.proofs.lemmas.List.{append_assoc, length-append}
+use Rattle.std.proofs.lemmas.List.{append_assoc}
 use Rattle.script.specs.declared.line.Line.{Line}
 use Rattle.script.specs.declared.line.Line.TheVariants.{Load, Store, Swap, Cas, Add, And, Or, Xor, Max, Min, Fence, Spin}
 use Rattle.spins_told.specs.declared.spins.SpentSpin.{SpentSpin}
 use Rattle.spins_told.specs.Spins.{replied, spent_from, spent_spins, spun}
-use Rattle.spins_told.specs.RunsOut.{AreOthers, AreReplies, AreSpent, HaveFound, RanOut}
+use Rattle.spins_told.specs.RunsOut.{AreReplies, AreSpent, HaveFound, RanOut}
 
 -- a spin is one of these
 abbrev pub IsAmong : List SpentSpin → SpentSpin → Type 0

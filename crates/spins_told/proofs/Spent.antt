@@ -1,6 +1,6 @@
 -- Spins, reply by reply.
-use Rattle.std.proofs.Common.{◌≡◌, ℕ, zero, suc, ◌+◌, ◌-◌, ◌<◌, ◌==◌, List, [], ◌∷◌, ◌++◌, drop, refl, sym, ◌∙◌, ap, subst, arith, Some, None, true, false}
-use Rattle.std.specs.Prelude.{Option, length, slice_get}
+use Rattle.std.proofs.Common.{◌≡◌, ℕ, zero, suc, ◌+◌, ◌-◌, ◌<◌, ◌==◌, List, [], ◌∷◌, drop, refl, ◌∙◌, ap, arith, Some, None, true, false}
+use Rattle.std.specs.Prelude.{Option}
 use Rattle.script.specs.declared.line.Line.{Line}
 use Rattle.script.specs.declared.line.Line.TheVariants.{Load, Store, Swap, Cas, Add, And, Or, Xor, Max, Min, Fence, Spin}
 use Rattle.spins_told.specs.declared.spins.SpentSpin.{SpentSpin}

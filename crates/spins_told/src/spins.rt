@@ -1,6 +1,6 @@
 //! The spins of a script that ran out of loads.
 
-ghost use Rattle.std.specs.Prelude.{◌≡◌, ◌+◌, ◌∷◌, ℕ, List, [], Option, MatchOption, IfOk, drop, option_and_then, slice_get};
+ghost use Rattle.std.specs.Prelude.{◌≡◌, ◌+◌, ◌∷◌, ℕ, List, [], Option, MatchOption, IfOk, drop};
 ghost use Rattle.std.specs.List.{cons_option};
 ghost use Rattle.script.specs.declared.line.Line.{Line};
 ghost use Rattle.spins_told.specs.Spins.{spun, spent_from, spent_spins, reply_at};

@@ -1,17 +1,16 @@
 -- One event more: what the events so far are stays so.
-use Rattle.std.proofs.Common.{◌≡◌, ◌≢◌, ◌⊎◌, ⊎_elim, ℕ, zero, suc, ◌<◌, ◌≤◌, ◌+◌, true, false, List, [], ◌∷◌, ◌++◌, length, Some, None, refl, sym, ◌∙◌}
+use Rattle.std.proofs.Common.{◌≡◌, ◌≢◌, ◌⊎◌, ⊎_elim, ℕ, zero, suc, ◌<◌, ◌+◌, true, false, List, [], ◌∷◌, ◌++◌, length, Some, None, refl, sym, ◌∙◌}
 use Rattle.std.proofs.Common.{ap, subst, arith, slice_get}
 use Rattle.std.specs.Prelude.{Bool, Option, slice_set}
 use Rattle.std.specs.List.{slice_index_or}
-use Rattle.std.proofs.lemmas.Bool.{cases_eq}
 use Rattle.std.proofs.lemmas.List.{length-set, length-append, length-replicate}
 use Rattle.packet.specs.declared.kinds.Operation.{Operation}
 use Rattle.packet.specs.declared.kinds.Reply.{Reply}
 use Rattle.trace_order.specs.declared.event.Call.{Call}
 use Rattle.trace_order.specs.declared.event.Event.{Event}
 use Rattle.trace_order.specs.declared.event.Event.TheVariants.{Issue, Answer}
-use Rattle.trace_order.specs.Traces.{IsTrace, IsIssuedAt, IsAnsweredAt, WasIssued}
-use Rattle.trace_order.proofs.Lists.{get_push_cases, get_append_left, get_push, get_within, within_length, set_get_same, get_set_other}
+use Rattle.trace_order.specs.Traces.{IsTrace, IsAnsweredAt, WasIssued}
+use Rattle.trace_order.proofs.Lists.{get_push_cases, get_append_left, get_within, within_length, set_get_same, get_set_other}
 use Rattle.trace_records.specs.Gathered.{Gathered, nothing_gathered, numbers_of, with_issue, with_answer, is_replied}
 use Rattle.trace_records.specs.Kept.{IsGathered}
 

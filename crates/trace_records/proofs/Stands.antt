@@ -8,11 +8,10 @@ use Rattle.script.specs.Outcome.{line_of_fault, then_lines}
 use Rattle.trace_order.specs.declared.event.Event.{Event}
 use Rattle.torus.specs.declared.fault.Fault.{Fault}
 use Rattle.torus.specs.declared.fault.Fault.TheVariants as fault
-use Rattle.packet.specs.declared.kinds.Reply.{Reply}
-use Rattle.trace_text.proofs.Outcomes.{one_ok, bind_ok, else_ok, then_ok, if_ok, or_ok, not_true}
+use Rattle.trace_text.proofs.Outcomes.{one_ok, bind_ok, else_ok, then_ok, if_ok, not_true}
 use Rattle.trace_records.specs.declared.record.EventRecord.{EventRecord}
 use Rattle.trace_records.specs.Numbered.{op_numbered, reply_numbered}
-use Rattle.trace_records.specs.Gathered.{Gathered, add_answer, after_answer, after_issue, after_record, events_from, is_replied, numbers_of, with_answer, with_issue}
+use Rattle.trace_records.specs.Gathered.{Gathered, after_answer, after_issue, after_record, events_from, is_replied, numbers_of, with_answer, with_issue}
 use Rattle.trace_records.specs.Kept.{IsGathered}
 use Rattle.trace_records.proofs.Events.{answer_kept, issue_kept}
 

@@ -1,12 +1,11 @@
 //! What the records so far gave.
 
-ghost use Rattle.std.specs.Prelude.{◌≡◌, ◌<◌, ◌++◌, ◌∷◌, [], true, false, replicate, IfOk, IfErr, OnOk, slice_get, slice_set, vec_len};
-ghost use Rattle.std.specs.Prelude.{length};
+ghost use Rattle.std.specs.Prelude.{◌≡◌, ◌<◌, ◌++◌, ◌∷◌, [], true, false, replicate, IfOk, IfErr, OnOk};
+ghost use Rattle.std.specs.Prelude.{slice_get, slice_set, vec_len};
 ghost use Rattle.std.specs.List.{slice_index_or};
-ghost use Rattle.packet.specs.declared.kinds.Operation.{Operation};
 ghost use Rattle.script.specs.Outcome.{Makes};
-ghost use Rattle.trace_records.specs.Gathered.{add_answer, after_answer, after_issue, after_record, is_replied, nothing_gathered};
-ghost use Rattle.trace_records.specs.Gathered.{numbers_of, with_issue};
+ghost use Rattle.trace_records.specs.Gathered.{add_answer, after_answer, after_issue, after_record, is_replied};
+ghost use Rattle.trace_records.specs.Gathered.{nothing_gathered, numbers_of, with_issue};
 ghost use Rattle.trace_records.specs.Views.{gathered_of};
 ghost use Rattle.trace_text.specs.Views.{lists_of};
 
@@ -140,7 +139,8 @@ impl<A: Allocator + Copy> Gathering<A> {
     /// Adds an event, which isn't an issue that is answered.
     fn note(&mut self, event: Event) -> Result<(), Fault>
         ensures numbers { self.new.numbers ≡ self.old.numbers }
-        ensures answered { OnOk result (self.new.answered.items ≡ self.old.answered.items ++ false ∷ []) }
+        ensures answered { OnOk result
+            (self.new.answered.items ≡ self.old.answered.items ++ false ∷ []) }
         ensures events { OnOk result (self.new.events.items ≡ self.old.events.items ++ event ∷ []) }
         ensures memory { IfErr result (λ e. e ≡ Fault.Memory) }
     {

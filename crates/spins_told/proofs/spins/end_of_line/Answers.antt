@@ -1,4 +1,4 @@
-use Rattle.std.proofs.Common.{◌≡◌, ◌+◌, ◌∙◌, sym, arith, rules, Some, None, drop}
+use Rattle.std.proofs.Common.{◌≡◌, ◌+◌, ◌∙◌, rules, Some, drop}
 use Rattle.spins_told.specs.Spins.{reply_at, spent_from}
 use Rattle.spins_told.proofs.Spent.{one_operation, passes}
 use Rattle.spins_told.proofs.spins.end_of_line.Goals as goal

@@ -1,7 +1,5 @@
 use Rattle.std.proofs.Common.{◌≡◌, ◌∙◌, ◌==◌, sym, arith, rules, Some, None, drop, true, false}
-use Rattle.std.specs.Prelude.{MatchOption, []}
-use Rattle.std.specs.List.{cons_option}
-use Rattle.spins_told.specs.Spins.{reply_at, spun}
+use Rattle.spins_told.specs.Spins.{reply_at}
 use Rattle.spins_told.proofs.Spent.{stops, finds, misses}
 use Rattle.spins_told.proofs.spins.end_of_spin.Goals as goal
 

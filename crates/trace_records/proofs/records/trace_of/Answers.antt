@@ -1,4 +1,4 @@
-use Rattle.std.proofs.Common.{◌≡◌, ◌≤◌, ◌∙◌, List, length, sym, ap, subst, arith}
+use Rattle.std.proofs.Common.{◌≤◌, ◌∙◌, List, length, sym, ap, subst, arith}
 use Rattle.std.proofs.lemmas.List.{at_drop_all}
 use Rattle.trace_records.specs.declared.record.EventRecord.{EventRecord}
 use Rattle.trace_records.specs.Gathered.{Gathered, events_from}

@@ -1,4 +1,4 @@
-use Rattle.std.proofs.Common.{◌≡◌, ◌∙◌, ap, sym, arith, slice_get}
+use Rattle.std.proofs.Common.{◌∙◌, ap, sym, arith, slice_get}
 use Rattle.trace_text.proofs.NumberLists.{numbers_there}
 use Rattle.trace_records.proofs.gathering.Gathering.number_of.Goals as goal
 
