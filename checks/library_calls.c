@@ -2,8 +2,8 @@
 
      library_calls finish MACHINE SCRIPT           prints the report of a finished run, and nothing else
      library_calls codes MACHINE SCRIPT REPORT     what calls answer of a machine that is empty or full, of what isn't
-                                                   there, of short buffers, of texts with faults and of networks; the
-                                                   texts are those of examples/
+                                                   there, of short buffers, of texts with faults, of networks, spins
+                                                   and traces; the texts are those of examples/
      library_calls memory MACHINE SCRIPT REPORT    the same run with the n-th request for memory refused, for each n
      library_calls steps MACHINE SCRIPT            a run by drawn steps, one by one and by lists, by rounds and at once:
                                                    once it is loaded, no call asks for memory but that of a report and
@@ -110,6 +110,7 @@ static void every_call_says_empty(torusmem_machine *m) {
   uint64_t word = 7;
   torusmem_attempt attempt = { 0, TORUSMEM_SEND, 0 };
   torusmem_channel channel = { 7, 7, 7, 7, 7, 7 };
+  torusmem_spin spin = { 7, 7, 7, 7, 7 };
   torusmem_answer answer = torusmem_answer_at(m, 0, 0);
   torusmem_entry entry = torusmem_entry_at(m, 0, 0);
   MUST(says(torusmem_step(m, 0, TORUSMEM_SEND, 0), TORUSMEM_EMPTY, 0));
@@ -126,6 +127,7 @@ static void every_call_says_empty(torusmem_machine *m) {
   MUST(says(torusmem_rows(m, &word, 1), TORUSMEM_EMPTY, 0) && word == 7);
   MUST(says(torusmem_answers(m, 0), TORUSMEM_EMPTY, 0));
   MUST(says(torusmem_entries(m, 0), TORUSMEM_EMPTY, 0));
+  MUST(says(torusmem_spins_out(m, NULL, 0, NULL, 0, &spin, 1), TORUSMEM_EMPTY, 0) && spin.line == 7);
   MUST(says(torusmem_report(m, &byte, 1), TORUSMEM_EMPTY, 0) && byte == 7);
   MUST(says(torusmem_route(m, 0, 1, 0, &channel, 1), TORUSMEM_EMPTY, 0) && channel.kind == 7);
   MUST(says(torusmem_next(m, 0, 0, 0), TORUSMEM_EMPTY, 0));
@@ -322,6 +324,149 @@ static void networks_are_judged(void) {
   MUST(says(torusmem_network(NULL, 0, NULL, 0), 5, 1));
 }
 
+static const char spin_machine[] = "radix 2\ndims 1\ndepth 4\ntags 4\nwords 8\n";
+/* The spin of line 3 never finds its number; that of line 6 finds it at its first load; that of line 7 has no load that
+   finds it, and a second one runs out behind it. */
+static const char spin_scripts[] =
+    "# spins\n0 store 5 17\n1 spin 5 18 2\n\n0 fence\n0 spin 5 17 400\n1 spin 6 1 3\n1 fence\n1 load 5\n";
+
+static torusmem_outcome spins_of(torusmem_machine *m, const char *scripts, torusmem_spin *out, size_t room) {
+  return torusmem_spins_out(m, (const uint8_t *)spin_machine, strlen(spin_machine), (const uint8_t *)scripts,
+                            strlen(scripts), out, room);
+}
+
+static bool is_spin(const torusmem_spin *spin, uint32_t address, uint32_t loads, uint64_t line, uint64_t sought) {
+  return spin->processor == 1 && spin->address == address && spin->loads == loads && spin->line == line &&
+         spin->sought == sought;
+}
+
+/* Which spins ran out: none before its last load is answered, none that found its number, and none of other texts. */
+static void spins_run_out(torusmem_machine *m) {
+  torusmem_spin spins[3], before[3];
+  memset(before, 0xAA, sizeof before);
+  memset(spins, 0xAA, sizeof spins);
+  MUST(says(load_texts(m, spin_machine, spin_scripts), TORUSMEM_OK, 0));
+  int64_t held = live;
+  while (torusmem_finished(m).value == 0) {
+    uint64_t answers = torusmem_answers(m, 1).value, out = (answers >= 2 ? 1 : 0) + (answers >= 5 ? 1 : 0);
+    MUST(says(spins_of(m, spin_scripts, NULL, 0), out > 0 ? TORUSMEM_SHORT : TORUSMEM_OK, out) && live == held);
+    torusmem_round(m);
+  }
+  MUST(says(torusmem_answers(m, 1), TORUSMEM_OK, 6) && says(torusmem_answers(m, 0), TORUSMEM_OK, 2));
+  MUST(says(spins_of(m, spin_scripts, spins, 1), TORUSMEM_SHORT, 2) && memcmp(spins, before, sizeof spins) == 0);
+  MUST(says(spins_of(m, spin_scripts, spins, 3), TORUSMEM_OK, 2) && live == held);
+  MUST(is_spin(&spins[0], 5, 2, 3, 18) && is_spin(&spins[1], 6, 3, 7, 1));
+  MUST(memcmp(&spins[2], &before[2], sizeof spins[2]) == 0);
+  MUST(says(spins_of(m, "1 load 5\n", spins, 3), TORUSMEM_OK, 0) && says(spins_of(m, "", NULL, 0), TORUSMEM_OK, 0));
+  MUST(says(spins_of(m, "\n0 load 8\n", spins, 3), 7, 2) && is_spin(&spins[0], 5, 2, 3, 18));
+  MUST(says(torusmem_spins_out(m, NULL, 0, NULL, 0, spins, 3), 5, 1) && live == held);
+  torusmem_free(m);
+  MUST(!m->full && live == 0);
+}
+
+static torusmem_event issued(uint32_t processor, uint32_t operation, uint32_t address, uint64_t first) {
+  torusmem_event event = { TORUSMEM_ISSUE, processor, operation, address, 99, 99, first, 0, 99 };
+  return event;
+}
+
+static torusmem_event stored(uint32_t processor, uint32_t index) {
+  torusmem_event event = { TORUSMEM_ANSWER, processor, 99, 99, index, 0, 99, 99, 99 };
+  return event;
+}
+
+static torusmem_event found(uint32_t processor, uint32_t index, uint64_t old) {
+  torusmem_event event = { TORUSMEM_ANSWER, processor, 99, 99, index, 1, 99, 99, old };
+  return event;
+}
+
+/* What is judged of events on four words, of which the first opens with 3; with a place of the order too few it is too
+   short. Where there is no order, no place is written. */
+static void linearizes(const torusmem_event *events, size_t count, uint32_t code, uint64_t value) {
+  static const uint64_t opening[4] = { 3, 0, 0, 0 };
+  uint64_t order[16];
+  memset(order, 0xAA, sizeof order);
+  MUST(says(torusmem_linearize(opening, 4, events, count, 1000, order, 16), code, value) && live == 0);
+  if (code == TORUSMEM_OK && value > 0) {
+    MUST(order[value] == UINT64_C(0xAAAAAAAAAAAAAAAA) && order[value - 1] < count);
+    order[0] = 7;
+    MUST(says(torusmem_linearize(opening, 4, events, count, 1000, order, value - 1), TORUSMEM_SHORT, value));
+    MUST(order[0] == 7 && live == 0);
+  } else {
+    MUST(order[0] == UINT64_C(0xAAAAAAAAAAAAAAAA));
+  }
+}
+#define LINEARIZES(events, code, value) linearizes(events, sizeof(events) / sizeof(events)[0], code, value)
+
+/* Histories of one register (Herlihy and Wing, TOPLAS 12(3), 1990): two reads beside a write, of which the later one
+   may not read the older word. */
+static void traces_of_a_register(void) {
+  const torusmem_event good[] = { issued(0, TORUSMEM_STORE, 1, 1), issued(1, TORUSMEM_LOAD, 1, 0), found(1, 0, 1),
+                                  issued(2, TORUSMEM_LOAD, 1, 0), found(2, 0, 1), stored(0, 0) };
+  const torusmem_event older[] = { issued(0, TORUSMEM_STORE, 1, 1), issued(1, TORUSMEM_LOAD, 1, 0), found(1, 0, 0),
+                                   issued(1, TORUSMEM_LOAD, 1, 0), found(1, 1, 1), stored(0, 0) };
+  const torusmem_event back[] = { issued(0, TORUSMEM_STORE, 1, 1), issued(1, TORUSMEM_LOAD, 1, 0), found(1, 0, 1),
+                                  issued(2, TORUSMEM_LOAD, 1, 0), found(2, 0, 0), stored(0, 0) };
+  const torusmem_event stale[] = { issued(0, TORUSMEM_STORE, 0, 1), stored(0, 0), issued(1, TORUSMEM_LOAD, 0, 0),
+                                   found(1, 0, 3) };
+  const torusmem_event opening[] = { issued(0, TORUSMEM_LOAD, 0, 0), found(0, 0, 3) };
+  const torusmem_event seen[] = { issued(0, TORUSMEM_STORE, 1, 9), issued(1, TORUSMEM_LOAD, 1, 0), found(1, 0, 9) };
+  const torusmem_event unseen[] = { issued(0, TORUSMEM_STORE, 1, 9), issued(1, TORUSMEM_LOAD, 1, 0), found(1, 0, 0) };
+  const torusmem_event lost[] = { issued(0, TORUSMEM_ADD, 1, 1), issued(1, TORUSMEM_ADD, 1, 1), found(0, 0, 0),
+                                  found(1, 0, 0) };
+  LINEARIZES(good, TORUSMEM_OK, 3);
+  LINEARIZES(older, TORUSMEM_OK, 3);
+  LINEARIZES(back, TORUSMEM_NOT_LINEARIZABLE, 4);
+  LINEARIZES(stale, TORUSMEM_NOT_LINEARIZABLE, 3);
+  LINEARIZES(opening, TORUSMEM_OK, 1);
+  LINEARIZES(seen, TORUSMEM_OK, 2);
+  LINEARIZES(unseen, TORUSMEM_OK, 1);
+  LINEARIZES(lost, TORUSMEM_NOT_LINEARIZABLE, 3);
+  uint64_t order[3];
+  MUST(says(torusmem_linearize((const uint64_t[]){ 0, 0 }, 2, older, 6, 1000, order, 3), TORUSMEM_OK, 3));
+  MUST(order[0] == 1 && order[1] == 0 && order[2] == 3);
+  MUST(says(torusmem_linearize((const uint64_t[]){ 0, 0 }, 2, seen, 3, 1000, order, 3), TORUSMEM_OK, 2));
+  MUST(order[0] == 0 && order[1] == 1);
+  MUST(says(torusmem_linearize(NULL, 0, NULL, 0, 1, NULL, 0), TORUSMEM_OK, 0) && live == 0);
+}
+
+/* Events that can't stand, each with the fault of the trace text; and traces that aren't decided. */
+static void traces_are_refused(void) {
+  torusmem_event events[70] = { issued(0, TORUSMEM_STORE, 1, 1), issued(4095, TORUSMEM_LOAD, 2, 0) };
+  torusmem_event *third = &events[2];
+  uint64_t word = 0, order[70];
+  *third = issued(0, TORUSMEM_STORE, 1, 1), third->kind = 2;
+  linearizes(events, 3, 4, 2);
+  *third = issued(0, TORUSMEM_MIN + 1, 1, 1);
+  linearizes(events, 3, 4, 2);
+  *third = issued(4096, TORUSMEM_MIN, 1, 1);
+  linearizes(events, 3, 8, 2);
+  *third = issued(0, TORUSMEM_MIN, 4, 1);
+  linearizes(events, 3, 7, 2);
+  *third = stored(0, 0), third->has_old = 2;
+  linearizes(events, 3, 4, 2);
+  *third = stored(4096, 0);
+  linearizes(events, 3, 8, 2);
+  *third = stored(0, 1);
+  linearizes(events, 3, 6, 2);
+  *third = stored(1, 0);
+  linearizes(events, 3, 6, 2);
+  *third = found(0, 0, 0);
+  linearizes(events, 3, 4, 2);
+  *third = stored(4095, 0);
+  linearizes(events, 3, 4, 2);
+  *third = events[3] = stored(0, 0);
+  linearizes(events, 4, 5, 3);
+  linearizes(events, 3, TORUSMEM_OK, 1);
+  for (uint32_t at = 0; at < 65; at++) events[at] = issued(at, TORUSMEM_STORE, 0, at);
+  MUST(says(torusmem_linearize(&word, 1, events, 64, 1, order, 70), TORUSMEM_OK, 0));
+  MUST(says(torusmem_linearize(&word, 1, events, 65, 1, order, 70), TORUSMEM_TOO_OPEN, 64));
+  for (uint32_t at = 0; at < 3; at++) events[at] = issued(at, TORUSMEM_STORE, 0, at + 1);
+  events[3] = issued(3, TORUSMEM_LOAD, 0, 0);
+  events[4] = found(3, 0, 0);
+  MUST(says(torusmem_linearize(&word, 1, events, 5, 1, order, 70), TORUSMEM_TOO_MANY, 4));
+  MUST(says(torusmem_linearize(&word, 1, events, 5, 1000, order, 70), TORUSMEM_OK, 1) && order[0] == 3 && live == 0);
+}
+
 static void codes(void) {
   torusmem_machine m = TORUSMEM_MACHINE_INIT, moved = TORUSMEM_MACHINE_INIT, other = TORUSMEM_MACHINE_INIT;
   every_call_says_empty(&m);
@@ -329,6 +474,9 @@ static void codes(void) {
   texts_that_meet(&other);
   faults_are_explained();
   networks_are_judged();
+  spins_run_out(&other);
+  traces_of_a_register();
+  traces_are_refused();
   MUST(says(load(&m), TORUSMEM_OK, 0) && m.full);
   what_is_not_there(&m);
   MUST(says(torusmem_step(&m, 0, TORUSMEM_SEND, 99), TORUSMEM_OK, 1));
@@ -365,6 +513,22 @@ static void explain_with_little_memory(void) {
   MUST(says(judged, TORUSMEM_NO_ROUTE, 35) || (refused != 0 && says(judged, TORUSMEM_FAULT_MEMORY, 0)));
 }
 
+/* The spins that ran out, and a verdict on a trace, for which memory may be refused. */
+static void judge_with_little_memory(void) {
+  const torusmem_event events[] = { issued(0, TORUSMEM_STORE, 0, 9), issued(1, TORUSMEM_LOAD, 0, 0), found(1, 0, 9) };
+  torusmem_machine m = TORUSMEM_MACHINE_INIT;
+  uint64_t word = 0, order[2] = { 7, 7 };
+  torusmem_spin spins[2];
+  torusmem_outcome said = torusmem_linearize(&word, 1, events, 3, 1000, order, 2);
+  MUST(says(said, TORUSMEM_OK, 2) || (refused != 0 && says(said, TORUSMEM_FAULT_MEMORY, 0) && order[0] == 7));
+  MUST(live == 0);
+  if (load_texts(&m, spin_machine, spin_scripts).code != TORUSMEM_OK) return;
+  torusmem_finish(&m);
+  said = spins_of(&m, spin_scripts, spins, 2);
+  MUST(says(said, TORUSMEM_OK, 2) || (refused != 0 && says(said, TORUSMEM_FAULT_MEMORY, 0)));
+  torusmem_free(&m);
+}
+
 /* A run in which a request for memory may be refused: each call works or says so, and what is asked again once there
    is memory is as it has to be. */
 static void run_with_little_memory(void) {
@@ -372,6 +536,8 @@ static void run_with_little_memory(void) {
   torusmem_channel route[14];
   torusmem_outcome said;
   explain_with_little_memory();
+  MUST(live == 0);
+  judge_with_little_memory();
   MUST(live == 0);
   said = load(&m);
   if (said.code != TORUSMEM_OK) {

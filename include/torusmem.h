@@ -5,7 +5,8 @@
    Nothing here prints, ends the process or starts a thread, and each call ends.
 
    MEMORY. torusmem_load takes what the machine needs, and torusmem_free gives it back; torusmem_report, torusmem_check,
-   torusmem_explain and torusmem_network take some, and give all of it back before they return. No other call takes any.
+   torusmem_explain, torusmem_spins_out, torusmem_network and torusmem_linearize take some, and give all of it back
+   before they return. No other call takes any.
 
    Link libtorusmem_c.a and torusmem_heap.c; or what `make install` makes of them, libtorusmem.so or libtorusmem.a, as
    `pkg-config --cflags --libs torusmem` says. In both of these are the three functions of torusmem_heap.c; those that a
@@ -15,8 +16,8 @@
    - Each `m` points to a torusmem_machine that was begun by TORUSMEM_MACHINE_INIT and since then changed by calls of
      this library alone. Its bytes may move, if they are not used in the old place again; they are never doubled.
    - Each pointer that comes with a length points to that many readable bytes or items. Where the length is 0 it may be
-     any, also null. Texts and attempts are only read, and may overlap or be one and the same; what `out` points to is
-     writable. None of them has a byte of the machine.
+     any, also null. Texts, attempts, events and opening words are only read, and may overlap or be one and the same;
+     what `out` points to is writable. None of them has a byte of the machine.
    - One call at a time for each machine, and all calls for it from one thread. Machines share nothing.
    - malloc, realloc and free, which torusmem_heap.c calls, are of one allocator and align each block to every power of
      two up to 16 that divides its size. No call comes from a signal handler, nor in the child that a process with
@@ -60,7 +61,11 @@ enum {
   TORUSMEM_NONE = 18,       /* there is no such tile, address, place or index */
   TORUSMEM_SHORT = 19,      /* the buffer is too short; value: how long it has to be */
   TORUSMEM_NO_ROUTE = 20,   /* a pair of a network has no route; value: the length of the verdict's text */
-  TORUSMEM_CYCLE = 21       /* a network can lock up: there is a cycle; value: the length of the verdict's text */
+  TORUSMEM_CYCLE = 21,      /* a network can lock up: there is a cycle; value: the length of the verdict's text */
+  /* Of a trace; value: the event, from 0. */
+  TORUSMEM_NOT_LINEARIZABLE = 22, /* no order explains it up to this event */
+  TORUSMEM_TOO_MANY = 23, /* it isn't decided: at this answer a word has more configurations than were allowed */
+  TORUSMEM_TOO_OPEN = 24  /* it isn't decided: at this issue 64 other operations are open on its word */
 };
 
 /* Choices of agents. Tile t has the agents 3t, its processor; 3t + 1, its router; and 3t + 2, its bank. */
@@ -209,6 +214,24 @@ torusmem_outcome torusmem_entries(torusmem_machine *m, uint32_t bank);
 /* Entry i of a bank, from 0 in the order of its services. Code NONE: no such tile, or no such entry yet. */
 torusmem_entry torusmem_entry_at(torusmem_machine *m, uint32_t bank, uint32_t i);
 
+/* A spin that ran out of loads: it made all its loads, and none of them found the number that it sought. */
+typedef struct torusmem_spin {
+  uint32_t processor, address, loads;
+  uint64_t line; /* of the scripts text, from 1 */
+  uint64_t sought;
+} torusmem_spin;
+
+/* The spins that ran out of loads in what the machine has run so far, by processor, and of each in the order of its
+   script. Takes the texts that the machine was loaded from once more: with others, it tells what comes of those scripts
+   by the answers that the processors have. A spin counts once all operations of its script up to its last load are
+   answered.
+   OK: they are the first `value` of out, and those behind them are as they were.
+   SHORT: value is how many there are, and out is as it was; so is it on a fault of a text, where value is its line, on
+   FAULT_MEMORY and on EMPTY. */
+torusmem_outcome torusmem_spins_out(torusmem_machine *m, const uint8_t *machine, size_t machine_length,
+                                    const uint8_t *scripts, size_t scripts_length, torusmem_spin *out,
+                                    size_t out_length);
+
 /* The report of the run so far, the text that the program prints.
    OK: it is the first `value` bytes of out, and the bytes behind them are as they were.
    SHORT: value is its length, and out is as it was; so is it on FAULT_MEMORY and EMPTY. */
@@ -248,7 +271,37 @@ torusmem_outcome torusmem_next(torusmem_machine *m, uint32_t at, uint32_t input,
    FAULT_MEMORY. A verdict takes time; where a buffer was short, it is made again. */
 torusmem_outcome torusmem_network(const uint8_t *network, size_t network_length, uint8_t *out, size_t out_length);
 
-/* The library's own calls take no null pointer. So a C program that calls one of the eight below has a call in front of
+/* Kinds of events. */
+enum { TORUSMEM_ISSUE = 0, TORUSMEM_ANSWER = 1 };
+
+/* An event of a trace: an operation is issued, or answered. What isn't named for its kind is not looked at. */
+typedef struct torusmem_event {
+  uint32_t kind;
+  uint32_t processor;     /* below 4096 */
+  uint32_t operation;     /* of an issue: TORUSMEM_LOAD .. TORUSMEM_MIN */
+  uint32_t address;       /* of an issue */
+  uint32_t index;         /* of an answer: which operation of its processor, from 0 in the order of issue */
+  uint32_t has_old;       /* of an answer: 1 for an old word, 0 for `ok`, that of a store */
+  uint64_t first, second; /* of an issue: the operation's values, as in an answer of a processor */
+  uint64_t old;           /* of an answer: the old word, where it has one */
+} torusmem_event;
+
+/* Judges a trace: whether one order explains events that are given in the order of time, over a memory that opens with
+   these words (docs/FORMATS.md, "Trace text"; docs/CHECK-YOUR-TRACE.md). Needs no machine. Each address is below
+   opening_length, so that a trace of other addresses is numbered first. configurations: how many of a word are looked
+   at, at once; 1000000 is what the program takes.
+   OK: the order, as the places of its operations' issues among the events, from 0, is the first `value` of out, and
+   those behind them are as they were. Each operation that is answered is in it; one that isn't may be.
+   NOT_LINEARIZABLE: what comes before event `value` has such an order, and with it there is none.
+   TOO_MANY, TOO_OPEN: at event `value`; the trace isn't decided.
+   SHORT: value is how many are in the order, and out is as it was; so is it on all other codes.
+   A fault: event `value` can't stand. F4: it is of no kind, an operation or reply that there isn't, or a reply that
+   doesn't go with its operation; F5: the operation is answered already; F6: its processor has no such operation yet;
+   F7: its address is not below opening_length; F8: its processor is not below 4096. F12 is want of memory, with 0. */
+torusmem_outcome torusmem_linearize(const uint64_t *opening, size_t opening_length, const torusmem_event *events,
+                                    size_t events_length, uint64_t configurations, uint64_t *out, size_t out_length);
+
+/* The library's own calls take no null pointer. So a C program that calls one of the ten below has a call in front of
    it, by which a pointer with the length 0 becomes one to an item that is not looked at. */
 static inline const uint8_t *torusmem_text_at(const uint8_t *at, size_t length) {
   static const uint8_t none = 0;
@@ -285,6 +338,16 @@ static inline torusmem_outcome torusmem_rows_into(torusmem_machine *m, uint64_t 
 }
 #define torusmem_rows torusmem_rows_into
 
+static inline torusmem_outcome torusmem_spins_out_into(torusmem_machine *m, const uint8_t *machine,
+                                                       size_t machine_length, const uint8_t *scripts,
+                                                       size_t scripts_length, torusmem_spin *out, size_t out_length) {
+  torusmem_spin none = { 0, 0, 0, 0, 0 };
+  return torusmem_spins_out(m, torusmem_text_at(machine, machine_length), machine_length,
+                            torusmem_text_at(scripts, scripts_length), scripts_length, out_length > 0 ? out : &none,
+                            out_length);
+}
+#define torusmem_spins_out torusmem_spins_out_into
+
 static inline torusmem_outcome torusmem_report_into(torusmem_machine *m, uint8_t *out, size_t out_length) {
   uint8_t none = 0;
   return torusmem_report(m, out_length > 0 ? out : &none, out_length);
@@ -303,6 +366,17 @@ static inline torusmem_outcome torusmem_network_text(const uint8_t *network, siz
                           out_length);
 }
 #define torusmem_network torusmem_network_text
+
+static inline torusmem_outcome torusmem_linearize_events(const uint64_t *opening, size_t opening_length,
+                                                         const torusmem_event *events, size_t events_length,
+                                                         uint64_t configurations, uint64_t *out, size_t out_length) {
+  static const torusmem_event no_event = { 0, 0, 0, 0, 0, 0, 0, 0, 0 };
+  uint64_t none = 0;
+  return torusmem_linearize(opening_length > 0 ? opening : &none, opening_length,
+                            events_length > 0 ? events : &no_event, events_length, configurations,
+                            out_length > 0 ? out : &none, out_length);
+}
+#define torusmem_linearize torusmem_linearize_events
 
 static inline torusmem_outcome torusmem_route_into(torusmem_machine *m, uint32_t src, uint32_t dst, uint32_t reply,
                                                    torusmem_channel *out, size_t out_length) {

@@ -10,3 +10,5 @@ pub mod Texts
 pub mod Channels
 pub mod Networks
 pub mod Explained
+pub mod Spins
+pub mod Traces

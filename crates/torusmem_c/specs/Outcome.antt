@@ -35,6 +35,9 @@ number_of code.NoSuch = 18
 number_of code.Short = 19
 number_of code.NoRoute = 20
 number_of code.Cycle = 21
+number_of code.NotLinearizable = 22
+number_of code.TooMany = 23
+number_of code.TooOpen = 24
 
 -- a code, and the number that goes with it
 abbrev pub outcome : Code → ℕ → Outcome

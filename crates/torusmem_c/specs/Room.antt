@@ -23,6 +23,6 @@ abbrev pub put_outcome : {A : Type 0} → List A → List A → Outcome
 put_outcome found out = put_as code.Done found out
 
 -- a buffer stays as it was, since memory was refused
-pub record LacksMemory (before after : List ℕ) (r : Outcome) : Type 0 where
+pub record LacksMemory {A : Type 0} (before after : List A) (r : Outcome) : Type 0 where
   pub buffer : after ≡ before
   pub answer : r ≡ no_memory

@@ -10,5 +10,7 @@ pub mod reading;
 pub mod records;
 mod room;
 pub mod routes;
+pub mod spinning;
 pub mod stepping;
 pub mod texts;
+pub mod traces;

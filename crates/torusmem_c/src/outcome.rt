@@ -28,13 +28,19 @@ pub enum Code {
     NoRoute,
     /// A network's channels wait for one another in a circle.
     Cycle,
+    /// No order explains a trace.
+    NotLinearizable,
+    /// A word of a trace has more configurations than were allowed.
+    TooMany,
+    /// More operations of a trace are open on one word than are looked at.
+    TooOpen,
 }
 
 impl Code {
     /// The number by which C knows it.
     pub fn number(self) -> u32
         ensures value { result ≡ number_of self }
-        ensures small { result ≤ 21 }
+        ensures small { result ≤ 24 }
     {
         match self {
             Code::Done => 0,
@@ -46,6 +52,9 @@ impl Code {
             Code::Short => 19,
             Code::NoRoute => 20,
             Code::Cycle => 21,
+            Code::NotLinearizable => 22,
+            Code::TooMany => 23,
+            Code::TooOpen => 24,
         }
     }
 }

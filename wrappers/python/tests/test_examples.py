@@ -13,8 +13,9 @@ import unittest
 import warnings
 
 import torusmem
-from torusmem import Answer, BadReport, Channel, Choice, Closed, Cycle, Entry, Kind, Link, Machine, NoRoute, Operation
-from torusmem import Rising, TextFault, WrongThread, network
+from torusmem import Answer, Answered, BadReport, Channel, Choice, Closed, Cycle, Entry, EventFault, Issued, Kind
+from torusmem import Linearizable, Link, Machine, NoRoute, NotLinearizable, Operation, Rising, Spin, TextFault
+from torusmem import Undecided, WrongThread, linearize, network
 
 ROOT = os.path.dirname(os.path.dirname(os.path.dirname(os.path.dirname(os.path.realpath(__file__)))))
 EXAMPLES = os.path.join(ROOT, "examples")
@@ -320,6 +321,84 @@ class Networks(unittest.TestCase):
         self.assertRaises(TypeError, network, None)
 
 
+class Spins(unittest.TestCase):
+    """Which spins ran out of loads: that of line 3 of the text does, and that of line 6 finds its number."""
+
+    SCRIPTS = "# spins\n0 store 5 17\n1 spin 5 18 2\n\n0 fence\n0 spin 5 17 400\n1 load 5\n"
+
+    def test_a_spin_runs_out_and_another_finds_its_number(self):
+        with Machine(SMALL, self.SCRIPTS) as machine:
+            while not machine.finished:
+                out = machine.spins_out(SMALL, self.SCRIPTS)
+                self.assertEqual(len(out), int(len(machine.answers(1)) >= 2))
+                machine.round()
+            self.assertEqual(machine.spins_out(SMALL, self.SCRIPTS.encode()), [Spin(1, 3, 5, 18, 2)])
+            self.assertEqual(machine.spins_out(SMALL, "1 load 5\n"), [])
+
+    def test_its_refusals(self):
+        machine = Machine(SMALL, self.SCRIPTS)
+        with self.assertRaises(TextFault) as caught:
+            machine.spins_out(SMALL, "\n0 load 8\n")
+        self.assertEqual((caught.exception.text, caught.exception.line, caught.exception.fault), ("scripts", 2, 7))
+        machine.close()
+        self.assertRaises(Closed, machine.spins_out, SMALL, self.SCRIPTS)
+
+
+class Traces(unittest.TestCase):
+    """Histories of one word (Herlihy and Wing, TOPLAS 12(3), 1990), and events that can't stand."""
+
+    STORE, LOAD = Issued(0, Operation.STORE, 2**63, (1,)), Issued(1, Operation.LOAD, 2**63)
+
+    def test_verdicts(self):
+        store, load, done = self.STORE, self.LOAD, Answered(0, 0)
+        sum_of = [Issued(it, Operation.ADD, 7, (1,)) for it in (0, 1)]
+        rows = (
+            ([], Linearizable(())),
+            ([store, load, Answered(1, 0, 1), load, Answered(1, 1, 1), done], Linearizable((0, 1, 3))),
+            ([store, load, Answered(1, 0, 0), load, Answered(1, 1, 1), done], Linearizable((1, 0, 3))),
+            ([store, load, Answered(1, 0, 1), load, Answered(1, 1, 0), done], NotLinearizable(4)),
+            ([store, done, load, Answered(1, 0, 0)], NotLinearizable(3)),
+            ([store, load, Answered(1, 0, 1)], Linearizable((0, 1))),
+            ([store, load, Answered(1, 0, 0)], Linearizable((1,))),
+            ([*sum_of, Answered(0, 0, 0), Answered(1, 0, 0)], NotLinearizable(3)),
+            ([*sum_of, Answered(0, 0, 1), Answered(1, 0, 0)], Linearizable((1, 0))),
+        )
+        for events, wanted in rows:
+            self.assertEqual(linearize(events), wanted)
+        swap = [Issued(0, Operation.CAS, 3, (5, 6)), Answered(0, 0, 5), Issued(0, Operation.LOAD, 4), Answered(0, 1, 9)]
+        self.assertEqual(linearize(iter(swap), {3: 5, 4: 9, 8: 1}), Linearizable((0, 2)))
+        self.assertEqual(linearize(swap, {3: 5}), NotLinearizable(3))
+
+    def test_what_is_not_decided(self):
+        many = [Issued(it, Operation.ADD, 1, (1,)) for it in range(65)]
+        self.assertEqual(linearize(many), Undecided(64, True))
+        self.assertEqual(linearize(many[:64]), Linearizable(()))
+        self.assertEqual(linearize([*many[:4], Answered(0, 0, 0)], configurations=1), Undecided(4, False))
+        self.assertEqual(linearize([*many[:4], Answered(0, 0, 0)]), Linearizable((0,)))
+
+    def test_events_that_can_not_stand(self):
+        rows = (
+            (Issued(4096, Operation.LOAD, 0), 8),
+            (Answered(4096, 0), 8),
+            (Answered(0, 1), 6),
+            (Answered(2, 0), 6),
+            (Answered(0, 0, 1), 4),
+            (Answered(1, 0), 4),
+        )
+        for event, fault in rows:
+            with self.assertRaises(EventFault) as caught:
+                linearize([self.STORE, self.LOAD, event])
+            self.assertEqual((caught.exception.event, caught.exception.fault), (2, fault))
+            self.assertEqual(caught.exception.reason, torusmem.EVENT_REASONS[fault])
+        with self.assertRaises(EventFault) as caught:
+            linearize([self.STORE, Answered(0, 0), Answered(0, 0)])
+        self.assertEqual((caught.exception.event, caught.exception.fault), (2, 5))
+        self.assertEqual(str(pickle.loads(pickle.dumps(caught.exception))), str(caught.exception))
+        for bad in (Issued(0, Operation.STORE, 0), Issued(0, Operation.STORE, 0, (2**64,)), Answered(0, -1)):
+            self.assertRaises(ValueError, linearize, [bad])
+        self.assertRaises(ValueError, linearize, [self.LOAD], {2**63: -1})
+
+
 class Threads(unittest.TestCase):
     def test_a_machine_stays_in_its_thread(self):
         machine, seen = first(), []
@@ -385,7 +464,8 @@ class Words(unittest.TestCase):
     def test_everything_public_says_what_it_is(self):
         for name in torusmem.__all__:
             it = getattr(torusmem, name)
-            self.assertTrue(name in ("NETWORK_REASONS", "REASONS", "Verdict") or it.__doc__, name)
+            names = ("EVENT_REASONS", "Event", "Judged", "NETWORK_REASONS", "REASONS", "Verdict")
+            self.assertTrue(name in names or it.__doc__, name)
         for name, it in vars(Machine).items():
             self.assertTrue(name.startswith("_") or (getattr(it, "__func__", it).__doc__), name)
 
@@ -398,7 +478,8 @@ class Words(unittest.TestCase):
                 self.assertEqual(numbers.pop(it.name), it, it.name)
         library = torusmem._library
         names = "OK FAULT_MEMORY BAD_REPORT EMPTY FULL NONE SHORT NO_ROUTE CYCLE".split()
-        names += ["NO_TEXT", "MACHINE_TEXT", "SCRIPTS_TEXT"]
+        names += ["NO_TEXT", "MACHINE_TEXT", "SCRIPTS_TEXT", "ISSUE", "ANSWER"]
+        names += ["NOT_LINEARIZABLE", "TOO_MANY", "TOO_OPEN"]
         codes = {name: getattr(library, name) for name in names}
         self.assertEqual(numbers, {**codes, "REQUEST": 0, "REPLY": 1})
         calls = set(re.findall(r"(?m)^(?:void|torusmem_\w+) torusmem_(\w+)\(", header))

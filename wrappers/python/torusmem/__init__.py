@@ -16,7 +16,8 @@ Texts, agents, choices, channels and reports are those of docs/FORMATS.md. Tile 
 3t + 1 (its router) and 3t + 2 (its bank). What refuses a text or a report is an exception with the file, the line and
 the reason: TextFault, BadReport.
 
-network() judges any network that is written down: whether its packets arrive, and whether it can lock up.
+network() judges any network that is written down: whether its packets arrive, and whether it can lock up. linearize()
+finds the one order that explains a trace of calls and answers, or the event from which on there is none.
 
 The library beneath is proved; this package, which only passes numbers and texts on, is tested.
 """
@@ -29,7 +30,7 @@ from array import array
 from ctypes import byref, c_uint64, create_string_buffer
 from enum import IntEnum
 from operator import index as _whole
-from typing import Any, Iterable, List, NamedTuple, NoReturn, Optional, Sequence, Tuple, Union
+from typing import Any, Dict, Iterable, List, Mapping, NamedTuple, NoReturn, Optional, Sequence, Tuple, Union
 
 from . import _library
 from ._library import LibraryNotFound
@@ -37,27 +38,38 @@ from ._library import LibraryNotFound
 __version__ = "0.1.0"
 __all__ = [
     "Answer",
+    "Answered",
     "BadReport",
     "Channel",
     "Choice",
     "Closed",
     "Cycle",
+    "EVENT_REASONS",
     "Entry",
+    "Event",
+    "EventFault",
+    "Issued",
+    "Judged",
     "Kind",
     "LibraryNotFound",
     "Line",
+    "Linearizable",
     "Link",
     "Machine",
     "NETWORK_REASONS",
     "NoRoute",
+    "NotLinearizable",
     "Operation",
     "REASONS",
     "Rising",
+    "Spin",
     "Steps",
     "TextFault",
+    "Undecided",
     "Verdict",
     "WrongThread",
     "check",
+    "linearize",
     "network",
 ]
 
@@ -89,6 +101,14 @@ NETWORK_REASONS = {
     5: "the number of channels is missing, or something is given twice or too late",
     6: "a number is out of its range, or its channel not of the kind that belongs there",
     9: "more than 1024 ejection channels, or more than 1048576 pairs",
+}
+
+# What they say of an event of a trace.
+EVENT_REASONS = {
+    4: "an operation or a reply isn't there, or the reply doesn't go with its operation",
+    5: "the operation is answered already",
+    6: "its processor has no such operation yet",
+    8: "its processor is not below 4096",
 }
 
 
@@ -124,6 +144,18 @@ class BadReport(ValueError):
 
     def __reduce__(self) -> Any:
         return BadReport, (self.file, self.line)
+
+
+class EventFault(ValueError):
+    """An event of a trace can't stand: `event`, its place from 0; the `fault`, 4 for F4 and so on; and the `reason`."""
+
+    def __init__(self, event: int, fault: int) -> None:
+        self.event, self.fault = event, fault
+        self.reason = EVENT_REASONS.get(fault, "a fault that this version doesn't know")
+        super().__init__(f"event {event}: F{fault}: {self.reason}")
+
+    def __reduce__(self) -> Any:
+        return EventFault, (self.event, self.fault)
 
 
 class Closed(ValueError):
@@ -202,6 +234,17 @@ class Entry(NamedTuple):
     operation: Operation
     values: Tuple[int, ...]
     old: Optional[int]
+
+
+class Spin(NamedTuple):
+    """A spin that ran out of loads: its processor, its line in the scripts text, from 1, the address that it looked at,
+    the number that it sought and didn't find, and how many loads it made."""
+
+    processor: int
+    line: int
+    address: int
+    sought: int
+    loads: int
 
 
 class Channel(NamedTuple):
@@ -465,6 +508,21 @@ class Machine:
             made.append(Entry(raw.source, raw.tag, raw.address, operation, _values(raw, operation), old))
         return made
 
+    def spins_out(self, machine: Text, scripts: Text) -> List[Spin]:
+        """The spins that ran out of loads in what was run so far, by processor, and of each in the order of its script:
+        by the texts of which the machine was loaded, which are read once more. TextFault tells a fault of them."""
+        at, texts = self._here(), (_bytes(machine, "machine"), _bytes(scripts, "scripts"))
+        given = at, texts[0], len(texts[0]), texts[1], len(texts[1])
+        out = (_library.RawSpin * 1)()
+        said = self._calls.spins_out(*given, out, 0)
+        if said.code == _library.SHORT:
+            out = (_library.RawSpin * said.value)()
+            said = self._calls.spins_out(*given, out, len(out))
+        if said.code not in (_library.OK, _library.EMPTY, _library.FAULT_MEMORY):
+            raise _fault(self._calls, texts[0], texts[1], ("machine text", "scripts text"))
+        count = self._value(said)
+        return [Spin(it.processor, it.line, it.address, it.sought, it.loads) for it in out[:count]]
+
     def report(self) -> str:
         """The report of the run so far: the text that the program prints, a good report."""
         at = self._here()
@@ -605,3 +663,107 @@ def _link(channel: str, by: str, end: str) -> Link:
     if by == "to":
         return Link(int(channel), int(end), None)
     return Link(int(channel), None, int(end))
+
+
+class Issued(NamedTuple):
+    """An event of a trace: a processor, below 4096, issues an operation on the word of an address. Its values are none
+    of a load, expected and new of a cas, else one."""
+
+    processor: int
+    operation: Operation
+    address: int
+    values: Tuple[int, ...] = ()
+
+
+class Answered(NamedTuple):
+    """An event of a trace: an operation of a processor is answered, the one of this index, from 0. old: the word that
+    was there before; None of a store."""
+
+    processor: int
+    index: int
+    old: Optional[int] = None
+
+
+Event = Union[Issued, Answered]
+
+
+class Linearizable(NamedTuple):
+    """One order explains a trace: the places of its operations' issues among the events, from 0, in the order. Each
+    operation that is answered is in it; one that isn't may be."""
+
+    order: Tuple[int, ...]
+
+
+class NotLinearizable(NamedTuple):
+    """What comes before this event has such an order, and with it there is none."""
+
+    event: int
+
+
+class Undecided(NamedTuple):
+    """A trace isn't decided: at this event a word has more configurations than were allowed, or, if too_open, 64 other
+    operations are open on it."""
+
+    event: int
+    too_open: bool
+
+
+Judged = Union[Linearizable, NotLinearizable, Undecided]
+
+
+def linearize(
+    events: Iterable[Event], opening: Optional[Mapping[int, int]] = None, configurations: int = 1_000_000
+) -> Judged:
+    """Judges a trace: whether one order explains events that are given in the order of time, over a memory that opens
+    with these words, each at its address, and with 0 at all others. Addresses may be any numbers. EventFault tells the
+    first event that can't stand. With the default as many configurations of a word are looked at, at once, as by the
+    program.
+
+        >>> from torusmem import Answered, Issued, Operation, linearize
+        >>> store, load = Issued(0, Operation.STORE, 5, (17,)), Issued(1, Operation.LOAD, 5)
+        >>> linearize([store, load, Answered(1, 0, 17), Answered(0, 0)])
+        Linearizable(order=(0, 1))
+        >>> linearize([store, Answered(0, 0), load, Answered(1, 0, 3)], {5: 3})
+        NotLinearizable(event=3)
+    """
+    places: Dict[int, int] = {}
+    made = [_event(event, places) for event in events]
+    words, order = (c_uint64 * (len(places) or 1))(), (c_uint64 * (len(made) or 1))()
+    for address, word in (opening or {}).items():
+        if address in places:
+            words[places[address]] = _word(word, "an opening word")
+    raw = (_library.RawEvent * (len(made) or 1))(*made)
+    most = _word(configurations, "configurations")
+    said = _library.library().linearize(words, len(places), raw, len(made), most, order, len(made))
+    if said.code == _library.OK:
+        return Linearizable(tuple(order[: said.value]))
+    if said.code == _library.NOT_LINEARIZABLE:
+        return NotLinearizable(said.value)
+    if said.code in (_library.TOO_MANY, _library.TOO_OPEN):
+        return Undecided(said.value, said.code == _library.TOO_OPEN)
+    if said.code == _library.FAULT_MEMORY:
+        raise MemoryError(f"torusmem: {REASONS[12]} (F12)")
+    raise EventFault(said.value, said.code)
+
+
+def _word(number: int, what: str) -> int:
+    """A word that the library can be given: ctypes would cut off what is above 64 bits."""
+    found = _whole(number)
+    if 0 <= found < 2**64:
+        return found
+    raise ValueError(f"{what} must be 0 to {2**64 - 1}, not {found}")
+
+
+def _event(event: Event, places: Dict[int, int]) -> Any:
+    """An event as the library takes it; its address is numbered among those that were named before."""
+    processor = _number(event.processor, "a processor")
+    if isinstance(event, Issued):
+        if len(event.values) != _VALUES.get(event.operation, 1):
+            raise ValueError(f"{Operation(event.operation).name} doesn't have the values {event.values!r}")
+        place = places.setdefault(_whole(event.address), len(places))
+        first, second = ([_word(it, "a value") for it in event.values] + [0, 0])[:2]
+        operation = _number(event.operation, "an operation")
+        return _library.RawEvent(_library.ISSUE, processor, operation, place, 0, 0, first, second, 0)
+    index, old = _number(event.index, "an index"), event.old
+    has_old, word = (0, 0) if old is None else (1, _word(old, "an old word"))
+    return _library.RawEvent(_library.ANSWER, processor, 0, 0, index, has_old, 0, 0, word)

@@ -11,6 +11,8 @@ from typing import Any, Iterator, List, Optional
 SONAME = "libtorusmem.so.0.1"
 # The number of calls, codes and limits that the header has.
 OK, FAULT_MEMORY, BAD_REPORT, EMPTY, FULL, NONE, SHORT, NO_ROUTE, CYCLE = 0, 12, 15, 16, 17, 18, 19, 20, 21
+NOT_LINEARIZABLE, TOO_MANY, TOO_OPEN = 22, 23, 24
+ISSUE, ANSWER = 0, 1
 NO_TEXT, MACHINE_TEXT, SCRIPTS_TEXT = 0, 1, 2
 LONGEST_ROUTE = 10
 
@@ -53,6 +55,18 @@ class RawChannel(Structure):
     _fields_ = [(it, c_uint32) for it in ("kind", "tile", "dim", "minus", "bit", "number")]
 
 
+class RawSpin(Structure):
+    _fields_ = [(it, c_uint32) for it in ("processor", "address", "loads")] + [
+        (it, c_uint64) for it in ("line", "sought")
+    ]
+
+
+class RawEvent(Structure):
+    _fields_ = [(it, c_uint32) for it in ("kind", "processor", "operation", "address", "index", "has_old")] + [
+        (it, c_uint64) for it in ("first", "second", "old")
+    ]
+
+
 class Explanation(Structure):
     """Why a load is refused."""
 
@@ -81,11 +95,16 @@ CALLS = {
     "answer_at": (RawAnswer, [_M, c_uint32, c_uint32]),
     "entries": (Outcome, [_M, c_uint32]),
     "entry_at": (RawEntry, [_M, c_uint32, c_uint32]),
+    "spins_out": (Outcome, [_M, c_char_p, c_size_t, c_char_p, c_size_t, POINTER(RawSpin), c_size_t]),
     "report": (Outcome, [_M, c_void_p, c_size_t]),
     "check": (Outcome, [c_char_p, c_size_t]),
     "route": (Outcome, [_M, c_uint32, c_uint32, c_uint32, POINTER(RawChannel), c_size_t]),
     "next": (Outcome, [_M, c_uint32, c_uint32, c_uint32]),
     "network": (Outcome, [c_char_p, c_size_t, c_void_p, c_size_t]),
+    "linearize": (
+        Outcome,
+        [POINTER(c_uint64), c_size_t, POINTER(RawEvent), c_size_t, c_uint64, POINTER(c_uint64), c_size_t],
+    ),
 }
 
 

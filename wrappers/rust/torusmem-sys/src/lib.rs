@@ -31,6 +31,9 @@ pub const TORUSMEM_NONE: u32 = 18;
 pub const TORUSMEM_SHORT: u32 = 19;
 pub const TORUSMEM_NO_ROUTE: u32 = 20;
 pub const TORUSMEM_CYCLE: u32 = 21;
+pub const TORUSMEM_NOT_LINEARIZABLE: u32 = 22;
+pub const TORUSMEM_TOO_MANY: u32 = 23;
+pub const TORUSMEM_TOO_OPEN: u32 = 24;
 
 pub const TORUSMEM_SEND: u32 = 0;
 pub const TORUSMEM_TAKE: u32 = 1;
@@ -59,6 +62,9 @@ pub const TORUSMEM_EJECTION: u32 = 2;
 
 pub const TORUSMEM_REQUEST: u32 = 0;
 pub const TORUSMEM_REPLY: u32 = 1;
+
+pub const TORUSMEM_ISSUE: u32 = 0;
+pub const TORUSMEM_ANSWER: u32 = 1;
 
 pub const TORUSMEM_NO_TEXT: u32 = 0;
 pub const TORUSMEM_MACHINE_TEXT: u32 = 1;
@@ -115,6 +121,32 @@ pub struct torusmem_channel {
     pub number: u32,
 }
 
+/// A spin that ran out of loads.
+#[repr(C)]
+#[derive(Clone, Copy, Debug, Default)]
+pub struct torusmem_spin {
+    pub processor: u32,
+    pub address: u32,
+    pub loads: u32,
+    pub line: u64,
+    pub sought: u64,
+}
+
+/// An event of a trace.
+#[repr(C)]
+#[derive(Clone, Copy, Debug, Default)]
+pub struct torusmem_event {
+    pub kind: u32,
+    pub processor: u32,
+    pub operation: u32,
+    pub address: u32,
+    pub index: u32,
+    pub has_old: u32,
+    pub first: u64,
+    pub second: u64,
+    pub old: u64,
+}
+
 /// Why a load is refused.
 #[repr(C)]
 #[derive(Clone, Copy, Debug)]
@@ -163,6 +195,15 @@ extern "C" {
     pub fn torusmem_answer_at(m: *mut torusmem_machine, processor: u32, i: u32) -> torusmem_answer;
     pub fn torusmem_entries(m: *mut torusmem_machine, bank: u32) -> torusmem_outcome;
     pub fn torusmem_entry_at(m: *mut torusmem_machine, bank: u32, i: u32) -> torusmem_entry;
+    pub fn torusmem_spins_out(
+        m: *mut torusmem_machine,
+        machine: *const u8,
+        machine_length: usize,
+        scripts: *const u8,
+        scripts_length: usize,
+        out: *mut torusmem_spin,
+        out_length: usize,
+    ) -> torusmem_outcome;
     pub fn torusmem_report(m: *mut torusmem_machine, out: *mut u8, out_length: usize) -> torusmem_outcome;
     pub fn torusmem_check(report: *const u8, report_length: usize) -> torusmem_outcome;
     pub fn torusmem_route(
@@ -178,6 +219,15 @@ extern "C" {
         network: *const u8,
         network_length: usize,
         out: *mut u8,
+        out_length: usize,
+    ) -> torusmem_outcome;
+    pub fn torusmem_linearize(
+        opening: *const u64,
+        opening_length: usize,
+        events: *const torusmem_event,
+        events_length: usize,
+        configurations: u64,
+        out: *mut u64,
         out_length: usize,
     ) -> torusmem_outcome;
 }

@@ -21,12 +21,14 @@
 mod network;
 #[allow(unsafe_code)]
 mod raw;
+mod trace;
 
 pub use network::{network, By, Link, Verdict, Why};
 use raw::Raw;
 use std::error::Error;
 use std::fmt;
 use torusmem_sys as sys;
+pub use trace::{linearize, Event, EventFault, Judged};
 
 /// Why a text was refused.
 #[derive(Clone, Copy, Debug, PartialEq, Eq)]
@@ -197,6 +199,17 @@ pub struct Entry {
     pub reply: Reply,
 }
 
+/// A spin that ran out of loads: none of them found the number that it sought.
+#[derive(Clone, Copy, Debug, PartialEq, Eq, Hash)]
+pub struct Spin {
+    pub processor: u32,
+    /// The line of the scripts text, from 1.
+    pub line: u64,
+    pub address: u32,
+    pub sought: u64,
+    pub loads: u32,
+}
+
 /// The class of a packet.
 #[derive(Clone, Copy, Debug, PartialEq, Eq, Hash)]
 pub enum Class {
@@ -354,6 +367,20 @@ impl Machine {
         Some((0..count).map(entry).collect())
     }
 
+    /// The spins that ran out of loads in what was run so far, by processor, and of each in the order of its script: by
+    /// the texts of which the machine was loaded, which are read once more. The faults are those of the texts, and want
+    /// of memory.
+    pub fn spins_out(&mut self, machine: &[u8], scripts: &[u8]) -> Result<Vec<Spin>, Fault> {
+        let mut room = Vec::new();
+        let mut said = self.raw.spins_out(machine, scripts, &mut room);
+        if said.code == sys::TORUSMEM_SHORT {
+            room.resize(said.value as usize, sys::torusmem_spin::default());
+            said = self.raw.spins_out(machine, scripts, &mut room);
+        }
+        granted(said)?;
+        Ok(room.iter().map(spin_of).collect())
+    }
+
     /// The report of the run so far. The only fault is want of memory.
     pub fn report(&mut self) -> Result<Vec<u8>, Fault> {
         let asked = self.raw.report(&mut []);
@@ -456,6 +483,11 @@ fn entry_of(entry: &sys::torusmem_entry) -> Entry {
         operation: operation_of(entry.operation, entry.first, entry.second),
         reply: reply_of(entry.has_old, entry.old),
     }
+}
+
+fn spin_of(spin: &sys::torusmem_spin) -> Spin {
+    let sys::torusmem_spin { processor, address, loads, line, sought } = *spin;
+    Spin { processor, line, address, sought, loads }
 }
 
 fn channel_of(channel: &sys::torusmem_channel) -> Channel {

@@ -19,13 +19,12 @@ fn text_at(text: &[u8]) -> *const u8 {
     }
 }
 
-/// The pointer of a list of attempts; of an empty one that of an attempt.
-fn attempts_at(attempts: &[torusmem_attempt]) -> *const torusmem_attempt {
-    static NONE: torusmem_attempt = torusmem_attempt { agent: 0, choice: 0, number: 0 };
-    if attempts.is_empty() {
-        &NONE
+/// The pointer of a list; of an empty one that of an item in its place.
+fn list_at<T>(list: &[T], none: &T) -> *const T {
+    if list.is_empty() {
+        none
     } else {
-        attempts.as_ptr()
+        list.as_ptr()
     }
 }
 
@@ -84,13 +83,23 @@ impl Raw {
     }
 
     pub fn run(&mut self, attempts: &[torusmem_attempt]) -> torusmem_outcome {
+        let none = torusmem_attempt::default();
         // SAFETY: the machine is this one's alone; the slice has as many attempts as it says, and is only read.
-        unsafe { torusmem_run(&mut self.0, attempts_at(attempts), attempts.len()) }
+        unsafe { torusmem_run(&mut self.0, list_at(attempts, &none), attempts.len()) }
     }
 
     pub fn rows(&mut self, out: &mut [u64]) -> torusmem_outcome {
         // SAFETY: the machine is this one's alone, and so is the slice, which has as many words as it says.
         unsafe { torusmem_rows(&mut self.0, buffer_at(out, &mut 0), out.len()) }
+    }
+
+    pub fn spins_out(&mut self, machine: &[u8], scripts: &[u8], out: &mut [torusmem_spin]) -> torusmem_outcome {
+        let mut none = torusmem_spin::default();
+        let (machine_at, scripts_at) = (text_at(machine), text_at(scripts));
+        let (at, room) = (buffer_at(out, &mut none), out.len());
+        // SAFETY: the machine is this one's alone; the texts have as many bytes as they say, and are only read; what is
+        // written is nobody else's, and has as many spins as it says.
+        unsafe { torusmem_spins_out(&mut self.0, machine_at, machine.len(), scripts_at, scripts.len(), at, room) }
     }
 
     pub fn report(&mut self, out: &mut [u8]) -> torusmem_outcome {
@@ -120,4 +129,13 @@ pub fn explain(machine: &[u8], scripts: &[u8], out: &mut [u8]) -> torusmem_expla
 pub fn network(network: &[u8], out: &mut [u8]) -> torusmem_outcome {
     // SAFETY: the slices have as many bytes as they say; what is written is nobody else's. There is no machine.
     unsafe { torusmem_network(text_at(network), network.len(), buffer_at(out, &mut 0), out.len()) }
+}
+
+pub fn linearize(opening: &[u64], events: &[torusmem_event], configurations: u64, out: &mut [u64]) -> torusmem_outcome {
+    let none = torusmem_event::default();
+    let (opening_at, events_at) = (list_at(opening, &0), list_at(events, &none));
+    let (mut no_place, room) = (0, out.len());
+    let at = buffer_at(out, &mut no_place);
+    // SAFETY: the slices have as many items as they say; what is written is nobody else's. There is no machine.
+    unsafe { torusmem_linearize(opening_at, opening.len(), events_at, events.len(), configurations, at, room) }
 }

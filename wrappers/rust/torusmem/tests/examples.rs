@@ -2,8 +2,8 @@
 use std::fs;
 use std::path::{Path, PathBuf};
 use std::thread;
-use torusmem::{check, explain, network, Answer, By, Channel, Choice, Class, Dir, Entry, Fault, Kind, Link, Machine};
-use torusmem::{Operation, Reply, Text, Verdict, Why};
+use torusmem::{check, explain, linearize, network, Answer, By, Channel, Choice, Class, Dir, Entry, Event, EventFault};
+use torusmem::{Fault, Judged, Kind, Link, Machine, Operation, Reply, Spin, Text, Verdict, Why};
 
 fn path(name: &str) -> PathBuf {
     Path::new(env!("CARGO_MANIFEST_DIR")).join("../../..").join(name)
@@ -285,6 +285,86 @@ fn a_long_network_is_judged() {
     let text = format!("channels {}\ninject 0\neject {last}\njoin 0 {last}\n{hops}", last + 1);
     let Ok(Verdict::Rising(numbers)) = network(text.as_bytes()) else { panic!("it rises") };
     assert!(numbers.len() == 16384 && numbers.windows(2).all(|pair| pair[0] < pair[1]));
+}
+
+/// The spin of line 3 of the text runs out of loads, and that of line 6 finds its number.
+#[test]
+fn a_spin_runs_out() {
+    let machine_text = b"radix 2\ndims 1\ndepth 4\ntags 4\nwords 8\n";
+    let scripts = b"# spins\n0 store 5 17\n1 spin 5 18 2\n\n0 fence\n0 spin 5 17 400\n1 load 5\n";
+    let mut machine = Machine::load(machine_text, scripts).expect("the texts are loaded");
+    let spin = Spin { processor: 1, line: 3, address: 5, sought: 18, loads: 2 };
+    while !machine.finished() {
+        let is_over = machine.answers(1).expect("a processor").len() >= 2;
+        let wanted = if is_over { vec![spin] } else { vec![] };
+        assert_eq!(machine.spins_out(machine_text, scripts), Ok(wanted));
+        machine.round();
+    }
+    assert_eq!(machine.spins_out(machine_text, scripts), Ok(vec![spin]));
+    assert_eq!(machine.spins_out(machine_text, b"1 load 5\n"), Ok(vec![]));
+    assert_eq!(machine.spins_out(machine_text, b"\n0 load 8\n"), Err(Fault::Text { fault: 7, line: 2 }));
+    assert_eq!(machine.spins_out(b"", b""), Err(Fault::Text { fault: 5, line: 1 }));
+}
+
+fn issued(processor: u32, operation: Operation) -> Event {
+    Event::Issue { processor, address: 1 << 63, operation }
+}
+
+fn stored(processor: u32, index: u32) -> Event {
+    Event::Answer { processor, index, reply: Reply::Ok }
+}
+
+fn read_as(processor: u32, index: u32, old: u64) -> Event {
+    Event::Answer { processor, index, reply: Reply::Old(old) }
+}
+
+/// Histories of one word (Herlihy and Wing, TOPLAS 12(3), 1990).
+#[test]
+fn traces_are_judged() {
+    let (store, load, add) = (issued(0, Operation::Store(1)), issued(1, Operation::Load), Operation::Add(1));
+    let is = |order: &[usize]| Judged::Linearizable(order.to_vec());
+    let not = |event| Judged::NotLinearizable { event };
+    let rows: [(&[Event], Judged); 8] = [
+        (&[], is(&[])),
+        (&[store, load, read_as(1, 0, 1), load, read_as(1, 1, 1), stored(0, 0)], is(&[0, 1, 3])),
+        (&[store, load, read_as(1, 0, 0), load, read_as(1, 1, 1), stored(0, 0)], is(&[1, 0, 3])),
+        (&[store, load, read_as(1, 0, 1), load, read_as(1, 1, 0), stored(0, 0)], not(4)),
+        (&[store, stored(0, 0), load, read_as(1, 0, 0)], not(3)),
+        (&[store, load, read_as(1, 0, 1)], is(&[0, 1])),
+        (&[store, load, read_as(1, 0, 0)], is(&[1])),
+        (&[issued(0, add), issued(1, add), read_as(0, 0, 0), read_as(1, 0, 0)], not(3)),
+    ];
+    for (events, wanted) in rows {
+        assert_eq!(linearize([], events, 1000), Ok(wanted), "{events:?}");
+    }
+    let cas = [issued(0, Operation::Cas { expected: 5, new: 6 }), read_as(0, 0, 5), load, read_as(1, 0, 6)];
+    assert_eq!(linearize([(1 << 63, 5), (3, 4)], &cas, 1000), Ok(is(&[0, 2])));
+    assert_eq!(linearize([(1 << 62, 5)], &cas, 1000), Ok(not(1)));
+    let mut many: Vec<_> = (0..65).map(|processor| issued(processor, add)).collect();
+    assert_eq!(linearize([], &many, 1000), Ok(Judged::TooOpen { event: 64 }));
+    many.truncate(4);
+    many.push(read_as(0, 0, 0));
+    assert_eq!(linearize([], &many, 1), Ok(Judged::TooMany { event: 4 }));
+    assert_eq!(linearize([], &many, 1000), Ok(is(&[0])));
+}
+
+#[test]
+fn events_that_can_not_stand() {
+    let (store, load) = (issued(0, Operation::Store(1)), issued(1, Operation::Load));
+    let rows = [
+        (issued(4096, Operation::Load), 8),
+        (stored(4096, 0), 8),
+        (stored(0, 1), 6),
+        (stored(2, 0), 6),
+        (read_as(0, 0, 1), 4),
+        (stored(1, 0), 4),
+    ];
+    for (event, fault) in rows {
+        assert_eq!(linearize([], &[store, load, event], 1000), Err(EventFault::Event { fault, event: 2 }), "{event:?}");
+    }
+    let twice = [store, stored(0, 0), stored(0, 0)];
+    let fault = linearize([], &twice, 1000).expect_err("a fault");
+    assert_eq!((fault, fault.to_string().as_str()), (EventFault::Event { fault: 5, event: 2 }, "fault F5 at event 2"));
 }
 
 #[test]

@@ -1,0 +1,4 @@
+mod Noted
+mod RanOutTold
+mod RunningOut
+mod Spent

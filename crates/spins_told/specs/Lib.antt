@@ -1,0 +1,4 @@
+pub mod Spins
+pub mod Replies
+pub mod Texts
+pub mod RunsOut

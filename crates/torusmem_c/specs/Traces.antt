@@ -1,0 +1,52 @@
+-- The verdict on a trace, as C sees it (this project's own format).
+use Rattle.std.specs.Prelude.{◌≡◌, ◌⊎◌, ℕ, List, map, Result, Ok, Err}
+use Rattle.script.specs.declared.fault.LineFault.{LineFault}
+use Rattle.trace_order.specs.declared.event.Call.{Call}
+use Rattle.trace_order.specs.declared.event.Event.{Event}
+use Rattle.trace_judge.specs.declared.judge.Verdict.{Verdict}
+use Rattle.trace_judge.specs.declared.judge.Verdict.TheVariants.{Linearizable, No}
+use Rattle.trace_judge.specs.declared.undecided.Undecided.{Undecided}
+use Rattle.trace_judge.specs.declared.undecided.Undecided.TheVariants as undecided
+use Rattle.trace_judge.specs.Stops.{IsUnjudged}
+use Rattle.trace_judge.specs.Verdicts.{Tells}
+use Rattle.torusmem_c.specs.declared.outcome.Outcome.{Outcome}
+use Rattle.torusmem_c.specs.declared.outcome.Code.TheVariants as code
+use Rattle.torusmem_c.specs.Outcome.{fault_outcome, no_memory, outcome}
+use Rattle.torusmem_c.specs.Room.{put_over, put_outcome}
+
+-- the numbers of an order's operations
+abbrev pub numbers_in : List Call → List ℕ
+numbers_in order = map (λ c. c.id) order
+
+-- an order is put into a buffer, as the numbers of its operations; where there is none, the first
+-- event up to which there is none is told
+abbrev pub PutsVerdict : {A : Type 0} → Verdict A → List ℕ → List ℕ → Outcome → Type 0
+PutsVerdict (Linearizable order) before after r =
+    (after ≡ put_over (numbers_in order.items) before)
+    × (r ≡ put_outcome (numbers_in order.items) before)
+PutsVerdict (No event) before after r =
+    (after ≡ before) × (r ≡ outcome code.NotLinearizable event)
+
+-- why a trace is not judged, and at which event
+abbrev pub undecided_outcome : Undecided → Outcome
+undecided_outcome undecided.Memory = no_memory
+undecided_outcome (undecided.Configurations event) = outcome code.TooMany event
+undecided_outcome (undecided.Operations event) = outcome code.TooOpen event
+
+-- what is told of a trace that is judged: a verdict that holds of it
+abbrev pub TellsVerdict : Type 0 → List ℕ → List Event → List ℕ → List ℕ → Outcome → Type 0
+TellsVerdict A opening trace before after r =
+    (v : Verdict A) × Tells opening trace v × PutsVerdict v before after r
+
+-- what is told of one that isn't: a reason that holds of a beginning of it
+abbrev pub TellsUnjudged : List Event → List ℕ → List ℕ → Outcome → Type 0
+TellsUnjudged trace before after r = (why : Undecided) × IsUnjudged trace why × (after ≡ before)
+    × (r ≡ undecided_outcome why)
+
+-- what is told of the trace that records are: its verdict, or why there is none; or the first
+-- record that can't stand
+abbrev pub TellsTrace : Type 0 → List ℕ → Result (List Event) LineFault → List ℕ → List ℕ → Outcome
+    → Type 0
+TellsTrace A opening (Ok trace) before after r =
+    TellsVerdict A opening trace before after r ⊎ TellsUnjudged trace before after r
+TellsTrace A opening (Err found) before after r = (after ≡ before) × (r ≡ fault_outcome found)

@@ -1,0 +1,4 @@
+pub mod Numbered
+pub mod Gathered
+pub mod Kept
+pub mod Views

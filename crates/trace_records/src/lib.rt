@@ -1,0 +1,9 @@
+//! Traces as arrays of records, one for each event.
+#![tactic(auto)]
+
+mod gathering;
+pub mod record;
+pub mod records;
+
+pub use record::EventRecord;
+pub use records::trace_of;
