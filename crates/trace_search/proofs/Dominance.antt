@@ -1,12 +1,11 @@
 -- Configurations that are as good as others.
-use Rattle.std.proofs.Common.{◌≡◌, ◌≢◌, ◌⊎◌, inl, inr, ⊎_elim, ℕ, ◌<◌, List, [], ◌∷◌, ◌++◌, Option, Some, None, refl, sym, ◌∙◌, ap, subst, arith, slice_get, set}
+use Rattle.std.proofs.Common.{◌≡◌, ◌≢◌, inl, inr, ⊎_elim, ℕ, ◌<◌, List, [], ◌∷◌, ◌++◌, Option, Some, None, refl, sym, ◌∙◌, ap, subst, slice_get, set}
 use Rattle.std.specs.Int.{bit_at}
 use Rattle.std.proofs.lemmas.Bool.{cases_eq}
 use Rattle.packet.specs.Memory.{new_word}
 use Rattle.trace_search.specs.declared.opened.Open.{Open}
 use Rattle.trace_search.specs.declared.opened.Config.{Config}
 use Rattle.trace_search.specs.Configs.{IsOpen, IsLeft, IsTaken, MayTake, Agrees, IsIdle, IsAsGood, effect, release, with_bit, without_bit}
-use Rattle.trace_search.specs.Searches.{IsAt}
 use Rattle.trace_order.proofs.Lists.{get_set_other}
 use Rattle.trace_search.proofs.Bits.{not_both, with_same, with_other, without_same, without_other}
 use Rattle.trace_search.proofs.Table.{more_at}
@@ -91,6 +90,26 @@ good_idle table w c s o m may idle = record {
         idle,
       ))
       (λ (ne : u ≢ s). inl (taken_back c s u o m ne b))
+      (cases_eq u s);
+}
+
+-- an operation that is never answered may wait
+pub good_unanswered : (table : List (Option Open)) (w : ℕ) (d : Config) (s : ℕ) (o : Open) → s < 128
+    → IsOpen table w s o → o.promise ≡ None → IsAsGood table w (release d s) d
+good_unanswered table w d s o m pending none = record {
+  same = refl;
+  taken = λ u l b. ⊎_elim
+      (λ (e : u ≡ s). inr (
+        o,
+        record { there = ap (λ (n : ℕ). slice_get table n) e ∙ pending.there; here = pending.here },
+        none,
+      ))
+      (λ (ne : u ≢ s). inl (without_other d.taken s u m l ne ∙ b))
+      (cases_eq u s);
+  more = λ u l b. ⊎_elim
+      (λ (e : u ≡ s). absurd (not_both (bit_at (without_bit d.taken s) u)
+      (ap (λ (n : ℕ). bit_at (without_bit d.taken s) n) e ∙ without_same d.taken s m) b))
+      (λ (ne : u ≢ s). inl (sym (without_other d.taken s u m l ne) ∙ b))
       (cases_eq u s);
 }
 

@@ -1,6 +1,6 @@
 //! Laws of searches for the order of a trace, each the contract of a function that does nothing.
 
-ghost use Rattle.std.specs.Prelude.{◌≡◌, ◌<◌, ◌≤◌, ◌∷◌, ℕ, Bool, List, Option, [], length};
+ghost use Rattle.std.specs.Prelude.{◌≡◌, ◌<◌, ◌≤◌, ◌∷◌, ℕ, Bool, List, Option, None, [], length};
 ghost use Rattle.std.specs.Prelude.{slice_index};
 ghost use Rattle.trace_order.specs.declared.event.Event.{Event};
 ghost use Rattle.trace_order.specs.Orders.{IsLinearizable, IsOrder};
@@ -8,7 +8,7 @@ ghost use Rattle.trace_search.specs.declared.opened.Branch.{Branch};
 ghost use Rattle.trace_search.specs.declared.opened.Config.{Config};
 ghost use Rattle.trace_search.specs.declared.opened.Node.{Node};
 ghost use Rattle.trace_search.specs.declared.opened.Open.{Open};
-ghost use Rattle.trace_search.specs.Configs.{IsIn, IsIdle, IsAsGood, HasAsGood, MayTake, effect};
+ghost use Rattle.trace_search.specs.Configs.{IsIn, IsIdle, IsAsGood, HasAsGood, IsOpen, MayTake, effect, release};
 ghost use Rattle.trace_search.specs.Searches.{IsSearched, IsComplete, Picks, first_branch, order_of};
 
 /// Before the first event a search has nothing open, and of each word the opening word alone.
@@ -52,4 +52,10 @@ pub fn configurations_as_good_suffice()
 pub fn idle_operations_take_effect_at_once()
     ensures { (table : List (Option Open)) (word : ℕ) (c : Config) (s : ℕ) (o : Open) → s < 128
         → MayTake table word c s o → IsIdle o → IsAsGood table word (effect c s o) c }
+{}
+
+/// An operation that the trace never answers may wait: the configuration without it is as good.
+pub fn unanswered_operations_may_wait()
+    ensures { (table : List (Option Open)) (word : ℕ) (c : Config) (s : ℕ) (o : Open) → s < 128
+        → IsOpen table word s o → o.promise ≡ None → IsAsGood table word (release c s) c }
 {}
