@@ -7,9 +7,8 @@ use Rattle.trace_order.specs.declared.event.Event.TheVariants.{Issue, Answer}
 use Rattle.trace_order.specs.Traces.{IsTrace}
 use Rattle.trace_order.specs.Orders.{IsLinearizable}
 use Rattle.trace_order.proofs.Lists.{get_take, take_get}
-use Rattle.trace_judge.specs.declared.undecided.Undecided.{Undecided}
-use Rattle.trace_judge.specs.Stops.{IsUndecided, IsUnjudged}
-use Rattle.trace_order.proofs.Legal.{legal_none, legal_all}
+use Rattle.trace_judge.specs.Verdicts.{IsGoodUntil}
+use Rattle.trace_judge.specs.Stops.{IsBeginning}
 
 -- a beginning of a trace is one
 pub trace_take : (words n : ℕ) (trace : List Event) → IsTrace words trace → IsTrace words (take n trace)
@@ -26,27 +25,19 @@ trace_take words n trace t = record {
   inside = λ i call h. t.inside i call (take_get n trace i (Issue call) h).1;
 }
 
--- nothing is linearizable
-pub none_linearizable : (opening : List ℕ) → IsLinearizable opening []
-none_linearizable opening = ([], legal_all opening [] 0 [] (omega arith) (legal_none opening []))
-
 pub record Boundary (opening : List ℕ) (trace : List Event) (good bad : ℕ) : Type 0 where
   pub apart : good < bad
   pub within : bad ≤ length trace
   pub before : IsLinearizable opening (take good trace)
   pub behind : IsLinearizable opening (take bad trace) → ⊥
 
-pub boundary_whole : (opening : List ℕ) (trace : List Event) → (IsLinearizable opening trace → ⊥)
-    → Boundary opening trace 0 (length trace)
-boundary_whole opening trace not_so = record {
-  apart = ⊎_elim {C = 0 < length trace}
-      (λ (l : 0 < length trace). l)
-      (λ (g : length trace ≤ 0). absurd
-      (not_so (subst (λ (t : List Event). IsLinearizable opening t) (take_all 0 trace g)
-      (none_linearizable opening))))
-      (cases_lt 0 (length trace));
+-- the trace is not, and what comes before an event is
+pub boundary_from : (opening : List ℕ) (trace : List Event) (event : ℕ) → (IsLinearizable opening trace → ⊥)
+    → IsGoodUntil opening trace event → Boundary opening trace event (length trace)
+boundary_from opening trace event not_so good = record {
+  apart = good.0;
   within = omega arith;
-  before = none_linearizable opening;
+  before = good.1;
   behind = λ is. not_so
       (subst (λ (t : List Event). IsLinearizable opening t) (take_all (length trace) trace (omega arith)) is);
 }
@@ -72,10 +63,6 @@ boundary_found opening trace good bad l was =
     let e : bad ≡ good + 1 = omega arith in
     (omega arith, was.before, subst (λ (n : ℕ). IsLinearizable opening (take n trace) → ⊥) e was.behind)
 
--- what is not decided is not judged
-pub whole_unjudged : (trace : List Event) (why : Undecided) → IsUndecided trace why → IsUnjudged trace why
-whole_unjudged trace why h =
-    (length trace, subst (λ (t : List Event). IsUndecided t why) (sym (take_all (length trace) trace (omega arith))) h)
-
-pub beginning_unjudged : (trace : List Event) (n : ℕ) (why : Undecided) → IsUndecided (take n trace) why → IsUnjudged trace why
-beginning_unjudged trace n why h = (n, h)
+-- a trace is a beginning of itself
+pub whole_beginning : (trace : List Event) → IsBeginning trace trace
+whole_beginning trace = (length trace, sym (take_all (length trace) trace (omega arith)))

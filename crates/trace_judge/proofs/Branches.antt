@@ -1,7 +1,7 @@
 -- Branches that are added.
 use Rattle.std.proofs.Common.{◌≡◌, ◌≢◌, inl, inr, ⊎_elim, ℕ, ◌==◌, List, [], ◌∷◌, ◌++◌, length, Option, Result, OnOk, refl, sym, ◌∙◌, ap, subst, slice_get}
 use Rattle.std.proofs.Common.{append_assoc, append-nil, eq-eqb}
-use Rattle.std.proofs.lemmas.Bool.{ne_eqb, cond-true, cond-false}
+use Rattle.std.proofs.lemmas.Bool.{cases_eq, ne_eqb, cond-true, cond-false}
 use Rattle.std.proofs.lemmas.Result.{IfOk-weaker}
 use Rattle.trace_search.specs.declared.opened.Open.{Open}
 use Rattle.trace_search.specs.declared.opened.Config.{Config}
@@ -11,6 +11,7 @@ use Rattle.trace_search.specs.Configs.{IsIn, MayTake}
 use Rattle.trace_search.specs.Searches.{configs_of}
 use Rattle.trace_order.proofs.Lists.{get_push_cases, get_append_left, get_push}
 use Rattle.trace_search.proofs.Sound.{grown, node_of, sound_add}
+use Rattle.trace_search.proofs.Fewer.{sound_fewer}
 use Rattle.trace_search.proofs.Start.{in_map, map_in}
 use Rattle.trace_judge.specs.Sets.{GoesOn, with_set, StaysSound}
 
@@ -55,6 +56,23 @@ pub stays_more : (table : List (Option Open)) (w : ℕ) (a b c : List Branch) (l
     → StaysSound table w a l b m → StaysSound table w b m c n → StaysSound table w a l c n
 stays_more table w a b c l m n f g = λ opening trace k tables sets t are e inside sound.
     g opening trace k tables sets t are e inside (f opening trace k tables sets t are e inside sound)
+
+-- fewer of them
+pub stays_fewer : (table : List (Option Open)) (w : ℕ) (old new : List Branch) (nodes : List Node)
+    → ((b : Branch) → IsIn new b → IsIn old b) → StaysSound table w old nodes new nodes
+stays_fewer table w old new nodes fewer = λ opening trace k tables sets t are e inside sound.
+    sound_fewer opening trace k tables (with_set sets w old) (with_set sets w new) nodes
+    (λ v b h. ⊎_elim {C = IsIn (with_set sets w old v) b}
+    (λ (here : v ≡ w).
+    subst (λ (u : ℕ). IsIn (with_set sets w old u) b) (sym here)
+    (subst (λ (bs : List Branch). IsIn bs b) (sym (with_same sets w old))
+    (fewer b (subst (λ (bs : List Branch). IsIn bs b) (with_same sets w new)
+    (subst (λ (u : ℕ). IsIn (with_set sets w new u) b) here h)))))
+    (λ (ne : v ≢ w).
+    subst (λ (bs : List Branch). IsIn bs b) (sym (with_other sets w old v ne))
+    (subst (λ (bs : List Branch). IsIn bs b) (with_other sets w new v ne) h))
+    (cases_eq v w))
+    sound
 
 -- one that is added
 pub stays_added : (table : List (Option Open)) (w : ℕ) (old : List Branch) (nodes : List Node) (b : Branch) (s : ℕ)

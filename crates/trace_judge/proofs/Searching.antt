@@ -3,7 +3,8 @@ use Rattle.std.proofs.Common.{◌≡◌, ◌≢◌, ⊎_elim, ℕ, zero, suc, �
 use Rattle.std.proofs.Common.{MatchOption, refl, sym, ◌∙◌, ap, subst, arith, slice_get, set, map, get_or, replicate, add-one, get_or-set_same}
 use Rattle.std.proofs.Common.{get_or-set_other, length-set, vec_len, not}
 use Rattle.std.proofs.lemmas.Bool.{cases_eq, cases_lt, eqb-true, eqb-false}
-use Rattle.std.proofs.lemmas.List.{map-set, length-map, length-replicate, get_or-map, nil_from_length}
+use Rattle.std.proofs.lemmas.List.{map-set, length-map, length-replicate, get_or-map, nil_from_length, length_push}
+use Rattle.std.proofs.Common.{◌-◌, length-append, append-nil, append_assoc}
 use Rattle.packet.specs.declared.kinds.Reply.{Reply}
 use Rattle.trace_order.specs.declared.event.Call.{Call}
 use Rattle.trace_order.specs.declared.event.Event.{Event}
@@ -13,29 +14,32 @@ use Rattle.trace_search.specs.declared.opened.Branch.{Branch}
 use Rattle.trace_search.specs.declared.opened.Node.{Node}
 use Rattle.trace_order.specs.Traces.{IsTrace, IsIssuedAt, IsAnsweredAt}
 use Rattle.trace_order.specs.Orders.{IsLinearizable}
-use Rattle.trace_search.specs.Configs.{IsIn, IsLeft, IsTaken, IsExpanded, release}
-use Rattle.trace_search.specs.Searches.{IsAt, IsPending, IsSound, IsSearched, first_branch, configs_of, AreReleased, IsTrail}
-use Rattle.trace_search.proofs.Start.{searched_none, searched_issue, searched_more, searched_answer, pending_now, in_map, map_in}
+use Rattle.trace_search.specs.Configs.{IsIn, IsLeft, IsTaken, HasAsGood, IsExpanded, release}
+use Rattle.trace_search.specs.Searches.{IsAt, IsPending, IsTable, Fits, IsCovered, IsSound, IsSearched, first_branch, configs_of, order_of, AreReleased, IsTrail}
+use Rattle.trace_search.proofs.Start.{none_at, searched_none, searched_issue, searched_more, searched_answer, pending_now, in_map, map_in}
 use Rattle.trace_search.proofs.Sound.{put, put_same, put_other}
 use Rattle.trace_search.proofs.Complete.{complete_none}
 use Rattle.trace_order.proofs.Lists.{get_within, get_push}
 use Rattle.std.proofs.lemmas.Option.{slice_get_read}
 use Rattle.trace_judge.specs.declared.search.Search.{Search}
-use Rattle.trace_judge.specs.Sets.{GoesOn, lists_of, with_set, StaysSound}
+use Rattle.trace_judge.specs.declared.index.Index.{Index}
+use Rattle.trace_judge.specs.Sets.{lists_of, with_set, StaysSound}
 use Rattle.trace_judge.specs.Searched.{Holds}
-use Rattle.trace_judge.specs.Slots.{IsPut}
+use Rattle.trace_judge.specs.Slots.{IsPut, IsBegun, IsFirst, IsParted}
+use Rattle.trace_judge.specs.Stops.{IsBeginning}
 use Rattle.trace_judge.specs.Marks.{AreMarked}
 use Rattle.trace_judge.proofs.Marking.{PicksSoFar, first_of, first_is, first_in, picks_more}
-use Rattle.trace_judge.proofs.Branches.{with_same, with_other, configs_go_on}
+use Rattle.trace_judge.proofs.Branches.{with_same, with_other}
+use Rattle.trace_judge.proofs.Parting.{begun_first, first_low, parted_put, parted_freed}
 
-pub holds_start : {A : Type 0} (opening : List ℕ) (trace : List Event) (tables : Vec (Vec (Option Open) A) A)
-    (words : Vec (Vec Branch A) A) (nodes : Vec Node A) (hints : Vec ℕ A)
+pub holds_start : {A : Type 0} (opening : List ℕ) (trace whole : List Event) (tables : Vec (Vec (Option Open) A) A)
+    (words : Vec (Vec Branch A) A) (nodes : Vec Node A) (index : Index A)
     → length tables.items ≡ length opening → ((w : ℕ) → lists_of tables.items w ≡ [])
     → length words.items ≡ length opening
     → ((w : ℕ) → w < length opening → lists_of words.items w ≡ first_branch (get_or opening w 0) ∷ [])
     → nodes.items ≡ []
-    → Holds {A = A} opening trace 0 (record { tables = tables; words = words; nodes = nodes; hints = hints })
-holds_start {A} opening trace tables words nodes hints tabled empty sized first none = record {
+    → Holds {A = A} opening trace whole 0 (record { tables = tables; words = words; nodes = nodes; index = index })
+holds_start {A} opening trace whole tables words nodes index tabled empty sized first none = record {
   sized = sized;
   tabled = tabled;
   searched =
@@ -46,6 +50,7 @@ holds_start {A} opening trace tables words nodes hints tabled empty sized first 
     subst
         (λ (bs : List Branch). IsIn bs (first_branch (get_or opening w 0))) (sym (first w l)) (zero, refl),
   );
+  parted = λ w t o h. absurd (none_at t o (subst (λ (ts : List (Option Open)). IsAt ts t o) (empty w) h));
 }
 
 -- one word's list is another
@@ -88,6 +93,28 @@ promised words trace k call (Some told) t now tells = pending_now words trace k
           (λ (r : Reply). IsAnsweredAt trace tells.0 call.id r) same tells.2,
     ))
 
+-- the same tables
+searched_as : (opening : List ℕ) (trace : List Event) (k : ℕ) (tables others : ℕ → List (Option Open))
+    (sets : ℕ → List Branch) (nodes : List Node) → ((v : ℕ) → others v ≡ tables v)
+    → IsSearched opening trace k tables sets nodes → IsSearched opening trace k others sets nodes
+searched_as opening trace k tables others sets nodes same is = record {
+  tabled = λ v l. subst (λ (ts : List (Option Open)). IsTable trace k v ts) (sym (same v)) (is.tabled v l);
+  sound = record {
+    back = is.sound.back;
+    inside = is.sound.inside;
+    explained = λ pick trails marks picks.
+        let x = is.sound.explained pick trails marks picks in
+        record {
+          legal = x.legal;
+          fits = λ v l. subst (λ (ts : List (Option Open)). Fits opening ts v (order_of nodes marks) (pick v).config)
+              (sym (same v)) (x.fits v l);
+        };
+  };
+  complete = λ order o v l.
+      subst (λ (ts : List (Option Open)). IsCovered opening trace k ts v order (configs_of (sets v))) (sym (same v))
+      (is.complete order o v l);
+}
+
 -- a new slot at the end
 set_last : (xs : List (Option Open)) (x y : Option Open) → set (xs ++ x ∷ []) (length xs) y ≡ xs ++ y ∷ []
 set_last [] x y = refl
@@ -100,49 +127,91 @@ read_set {X} {A} words w v l e =
     let f : Vec X A → List X = λ u. u.items in
     ap f e ∙ sym (get_or-map f words w v [] l)
 
--- an operation takes a slot
-searched_put : (opening : List ℕ) (trace : List Event) (k : ℕ) (tables later : ℕ → List (Option Open))
-    (sets : ℕ → List Branch) (nodes : List Node) (o : Open)
-    → IsTrace (length opening) trace → IsIssuedAt trace k o.call → IsPending trace (suc k) o
-    → IsPut (tables o.call.operation.address) o (later o.call.operation.address)
-    → ((v : ℕ) → v ≢ o.call.operation.address → later v ≡ tables v)
-    → IsSearched opening trace k tables sets nodes → IsSearched opening trace (suc k) later sets nodes
-searched_put opening trace k tables later sets nodes o t now new put_in same is =
-    let w : ℕ = o.call.operation.address in
+-- a word's table has more slots
+searched_pads : (n : ℕ) (opening : List ℕ) (trace : List Event) (k : ℕ) (tables later : ℕ → List (Option Open))
+    (sets : ℕ → List Branch) (nodes : List Node) (w : ℕ) → length (tables w) + n ≤ 128
+    → later w ≡ tables w ++ replicate n None → ((v : ℕ) → v ≢ w → later v ≡ tables v)
+    → IsSearched opening trace k tables sets nodes → IsSearched opening trace k later sets nodes
+searched_pads zero opening trace k tables later sets nodes w few written same is =
+    searched_as opening trace k tables later sets nodes
+    (λ v. ⊎_elim {C = later v ≡ tables v}
+    (λ (e : v ≡ w). ap later e ∙ (written ∙ (append-nil (tables w) ∙ ap tables (sym e))))
+    (λ (ne : v ≢ w). same v ne)
+    (cases_eq v w)) is
+searched_pads (suc n) opening trace k tables later sets nodes w few written same is =
     let old : List (Option Open) = tables w in
     let middle : ℕ → List (Option Open) = put tables w (old ++ None ∷ []) in
     let here : middle w ≡ old ++ None ∷ [] = put_same tables w (old ++ None ∷ []) w refl in
+    let there : (v : ℕ) → v ≢ w → middle v ≡ tables v = λ v ne. put_other tables w (old ++ None ∷ []) v ne in
+    let long : length (middle w) ≡ length old + 1 = ap (λ (ts : List (Option Open)). length ts) here ∙ length_push old None in
+    searched_pads n opening trace k middle later sets nodes w (omega arith)
+    (written ∙ (sym (append_assoc old (None ∷ []) (replicate n None))
+    ∙ ap (λ (ts : List (Option Open)). ts ++ replicate n None) (sym here)))
+    (λ v ne. same v ne ∙ sym (there v ne))
+    (searched_more opening trace k tables middle sets nodes w (omega arith) here there is)
+
+-- an operation takes a slot
+searched_put : (opening : List ℕ) (trace : List Event) (k first : ℕ) (tables later : ℕ → List (Option Open))
+    (sets : ℕ → List Branch) (nodes : List Node) (o : Open)
+    → IsTrace (length opening) trace → IsIssuedAt trace k o.call → IsPending trace (suc k) o → first ≤ 64
+    → IsPut (tables o.call.operation.address) first o (later o.call.operation.address)
+    → ((v : ℕ) → v ≢ o.call.operation.address → later v ≡ tables v)
+    → IsSearched opening trace k tables sets nodes → IsSearched opening trace (suc k) later sets nodes
+searched_put opening trace k first tables later sets nodes o t now new low put_in same is =
+    let w : ℕ = o.call.operation.address in
+    let old : List (Option Open) = tables w in
+    let pads : List (Option Open) = replicate (first - length old) None in
+    let longer : List (Option Open) = old ++ pads in
+    let middle : ℕ → List (Option Open) = put tables w longer in
+    let last : ℕ → List (Option Open) = put tables w (longer ++ None ∷ []) in
+    let mid : middle w ≡ longer = put_same tables w longer w refl in
+    let here : last w ≡ longer ++ None ∷ [] = put_same tables w (longer ++ None ∷ []) w refl in
+    let mid_other : (v : ℕ) → v ≢ w → middle v ≡ tables v = λ v ne. put_other tables w longer v ne in
+    let last_other : (v : ℕ) → v ≢ w → last v ≡ tables v = λ v ne. put_other tables w (longer ++ None ∷ []) v ne in
+    let long : length longer ≡ length old + (first - length old) =
+    length-append old pads ∙ ap (λ (n : ℕ). length old + n) (length-replicate (first - length old) None) in
     ⊎_elim {C = IsSearched opening trace (suc k) later sets nodes}
-    (λ (r : (s : ℕ) × (slice_get old s ≡ Some None) × (later w ≡ set old s (Some o))).
-    searched_issue opening trace k tables later sets nodes r.0 o t now r.1 new r.2 same is)
-    (λ (r : (length old < 64) × (later w ≡ old ++ Some o ∷ [])).
-    searched_issue opening trace k middle later sets nodes (length old) o t now
-    (ap (λ (ts : List (Option Open)). slice_get ts (length old)) here ∙ get_push old None) new
-    (r.1 ∙ (sym (set_last old None (Some o))
-    ∙ ap (λ (ts : List (Option Open)). set ts (length old) (Some o)) (sym here)))
-    (λ v ne. same v ne ∙ sym (put_other tables w (old ++ None ∷ []) v ne))
-    (searched_more opening trace k tables middle sets nodes w r.0 here
-    (λ v ne. put_other tables w (old ++ None ∷ []) v ne) is))
+    (λ (r : (s : ℕ) × (first ≤ s) × (s < first + 64) × (slice_get old s ≡ Some None) × (later w ≡ set old s (Some o))).
+    searched_issue opening trace k tables later sets nodes r.0 o t now r.3 new r.4 same is)
+    (λ (r : (length old < first + 64) × (later w ≡ longer ++ Some o ∷ [])).
+    let few = r.0 in
+    let mid_long : length (middle w) ≡ length longer = ap (λ (ts : List (Option Open)). length ts) mid in
+    searched_issue opening trace k last later sets nodes (length longer) o t now
+    (ap (λ (ts : List (Option Open)). slice_get ts (length longer)) here ∙ get_push longer None) new
+    (r.1 ∙ (sym (set_last longer None (Some o))
+    ∙ ap (λ (ts : List (Option Open)). set ts (length longer) (Some o)) (sym here)))
+    (λ v ne. same v ne ∙ sym (last_other v ne))
+    (searched_more opening trace k middle last sets nodes w (omega arith)
+    (here ∙ ap (λ (ts : List (Option Open)). ts ++ None ∷ []) (sym mid))
+    (λ v ne. last_other v ne ∙ sym (mid_other v ne))
+    (searched_pads (first - length old) opening trace k tables middle sets nodes w (omega arith) mid mid_other is)))
     put_in
 
-pub holds_issue : {A : Type 0} (opening : List ℕ) (trace : List Event) (k : ℕ) (s : Search A)
-    (tables : Vec (Vec (Option Open) A) A) (old table : Vec (Option Open) A) (call : Call) (promise : Option Reply)
+pub holds_issue : {A : Type 0} (opening : List ℕ) (trace whole : List Event) (k : ℕ) (s : Search A)
+    (tables : Vec (Vec (Option Open) A) A) (old table : Vec (Option Open) A) (first : ℕ) (call : Call) (promise : Option Reply)
     → old ≡ get_or s.tables.items call.operation.address old
     → tables.items ≡ set s.tables.items call.operation.address table
     → IsTrace (length opening) trace → IsIssuedAt trace k call
-    → IsPut old.items (record { call = call; promise = promise }) table.items
+    → IsBeginning trace whole → IsBegun whole (length trace) call.id promise first
+    → IsPut old.items first (record { call = call; promise = promise }) table.items
     → MatchOption promise ((i : ℕ) (reply : Reply) → k + 1 ≤ i → IsAnsweredAt trace i call.id reply → ⊥)
     (λ reply. (i : ℕ) × (k + 1 ≤ i) × IsAnsweredAt trace i call.id reply)
-    → Holds {A = A} opening trace k s
-    → Holds {A = A} opening trace (k + 1)
-    (record { tables = tables; words = s.words; nodes = s.nodes; hints = s.hints })
-holds_issue {A} opening trace k s tables old table call promise seen written t now put_in tells holds =
+    → Holds {A = A} opening trace whole k s
+    → Holds {A = A} opening trace whole (k + 1)
+    (record { tables = tables; words = s.words; nodes = s.nodes; index = s.index })
+holds_issue {A} opening trace whole k s tables old table first call promise seen written t now is begun put_in tells holds =
     let w : ℕ = call.operation.address in
     let o : Open = record { call = call; promise = promise } in
     let inside : w < length s.tables.items = let l = t.inside k call now in let e = holds.tabled in omega arith in
     let here : lists_of tables.items w ≡ table.items = ap (λ (vs : List (Vec (Option Open) A)). lists_of vs w) written
     ∙ set_same s.tables.items w table inside in
     let was : old.items ≡ lists_of s.tables.items w = read_set s.tables.items w old inside seen in
+    let begins : IsFirst whole call.id first = begun_first (length opening) trace whole k call promise first t is now tells begun in
+    let placed : IsPut (lists_of s.tables.items w) first o (lists_of tables.items w) =
+    subst (λ (ts : List (Option Open)). IsPut ts first o (lists_of tables.items w)) was
+    (subst (λ (ts : List (Option Open)). IsPut old.items first o ts) (sym here) put_in) in
+    let others : (v : ℕ) → v ≢ w → lists_of tables.items v ≡ lists_of s.tables.items v =
+    λ v ne. ap (λ (vs : List (Vec (Option Open) A)). lists_of vs v) written ∙ set_other s.tables.items w table v ne in
     record {
       sized = holds.sized;
       tabled = ap (λ (vs : List (Vec (Option Open) A)). length vs) written
@@ -150,297 +219,13 @@ holds_issue {A} opening trace k s tables old table call promise seen written t n
       searched =
           subst (λ (n : ℕ). IsSearched opening trace n (lists_of tables.items) (lists_of s.words.items) s.nodes.items)
           (sym (add-one k))
-          (searched_put opening trace k (lists_of s.tables.items) (lists_of tables.items) (lists_of s.words.items)
+          (searched_put opening trace k first (lists_of s.tables.items) (lists_of tables.items) (lists_of s.words.items)
           s.nodes.items o t now (promised (length opening) trace k call promise t now tells)
-          (subst (λ (ts : List (Option Open)). IsPut ts o (lists_of tables.items w)) was
-          (subst (λ (ts : List (Option Open)). IsPut old.items o ts) (sym here) put_in))
-          (λ v ne. ap (λ (vs : List (Vec (Option Open) A)). lists_of vs v) written
-          ∙ set_other s.tables.items w table v ne)
-          holds.searched);
+          (first_low whole call.id first begins) placed others holds.searched);
       filled = holds.filled;
+      parted = λ v t p h. ⊎_elim {C = IsParted whole t p.call.id}
+          (λ (e : v ≡ w). parted_put whole (lists_of s.tables.items w) (lists_of tables.items w) first o begins placed
+          (holds.parted w) t p (subst (λ (u : ℕ). IsAt (lists_of tables.items u) t p) e h))
+          (λ (ne : v ≢ w). holds.parted v t p (subst (λ (ts : List (Option Open)). IsAt ts t p) (others v ne) h))
+          (cases_eq v w);
     }
-
--- what is answered was issued
-pub issue_known : (words : ℕ) (trace : List Event) (k id : ℕ) → IsTrace words trace
-    → (reply : Reply) × IsAnsweredAt trace k id reply
-    → ((i : ℕ) (call : Call) → i < k → IsIssuedAt trace i call → call.id ≡ id → ⊥) → ⊥
-issue_known words trace k id t now none = let r = t.issued k id now.0 now.1 in none r.0 r.1 r.2 r.4 r.3
-
--- on a word that there is
-pub issue_inside : (words : ℕ) (trace : List Event) (k id : ℕ) (call : Call) → IsTrace words trace
-    → (i : ℕ) × (i < k) × IsIssuedAt trace i call × (call.id ≡ id) → call.operation.address < words
-issue_inside words trace k id call t is = t.inside is.0 call is.2
-
--- and is in a slot
-pub slot_known : {A : Type 0} (opening : List ℕ) (trace : List Event) (k : ℕ) (s : Search A) (id : ℕ) (call : Call)
-    (seen : List (Option Open))
-    → IsTrace (length opening) trace → Holds {A = A} opening trace k s
-    → (reply : Reply) × IsAnsweredAt trace k id reply
-    → (i : ℕ) × (i < k) × IsIssuedAt trace i call × (call.id ≡ id)
-    → seen ≡ lists_of s.tables.items call.operation.address
-    → ((u : ℕ) (o : Open) → IsAt seen u o → o.call.id ≡ id → ⊥) → ⊥
-slot_known {A} opening trace k s id call seen t holds now is e none =
-    let inside : call.operation.address < length opening = t.inside is.0 call is.2 in
-    ⊎_elim {C = ⊥}
-    (λ (a : (i : ℕ) × (told : Reply) × (i < k) × IsAnsweredAt trace i call.id told).
-    let same = t.once a.0 k id a.1 now.0 (subst (λ (n : ℕ). IsAnsweredAt trace a.0 n a.1) is.3 a.3) now.1 in
-    let l = a.2 in
-    omega arith)
-    (λ (a : (u : ℕ) × (o : Open) × IsAt (lists_of s.tables.items call.operation.address) u o × (o.call ≡ call)).
-    none a.0 a.1 (subst (λ (ts : List (Option Open)). IsAt ts a.0 a.1) (sym e) a.2)
-    (ap (λ (c : Call). c.id) a.3 ∙ is.3))
-    ((holds.searched.tabled call.operation.address inside).known is.0 call is.1 is.2 refl)
-
--- which is in the table of its word
-pub slot_there : {A : Type 0} (opening : List ℕ) (trace : List Event) (k : ℕ) (s : Search A) (w slot : ℕ) (o : Open)
-    (seen : List (Option Open))
-    → Holds {A = A} opening trace k s → w < length opening → seen ≡ lists_of s.tables.items w → IsAt seen slot o
-    → IsAt (lists_of s.tables.items o.call.operation.address) slot o × (o.call.operation.address < length opening)
-slot_there {A} opening trace k s w slot o seen holds inside e at =
-    let there : IsAt (lists_of s.tables.items w) slot o = subst (λ (ts : List (Option Open)). IsAt ts slot o) e at in
-    let here : o.call.operation.address ≡ w = (holds.searched.tabled w inside).here slot o there in
-    (subst (λ (v : ℕ). IsAt (lists_of s.tables.items v) slot o) (sym here) there, omega arith)
-
--- and has a slot there, as the code reads it
-pub slot_low : {A : Type 0} (tables : List (Vec (Option Open) A)) (w slot : ℕ) (o : Open) (v : Vec (Option Open) A)
-    → w < length tables → v ≡ get_or tables w v → IsAt (lists_of tables w) slot o → slot < length v.items
-slot_low {A} tables w slot o v l e at = get_within v.items slot (Some o)
-    (subst (λ (ts : List (Option Open)). IsAt ts slot o) (sym (read_set tables w v l e)) at)
-
--- the branches after an answer, which leaves the word with some
-pub holds_answer : {A : Type 0} (opening : List ℕ) (trace : List Event) (k : ℕ) (s : Search A)
-    (tables : Vec (Vec (Option Open) A) A) (words : Vec (Vec Branch A) A) (nodes : Vec Node A)
-    (slot : ℕ) (a : Open) (id : ℕ) (reply : Reply) (old middle : List Branch) (cleared : Vec (Option Open) A)
-    (later : Vec Branch A)
-    → IsTrace (length opening) trace → IsAnsweredAt trace k id reply → a.call.id ≡ id
-    → a.call.operation.address < length opening
-    → IsAt (lists_of s.tables.items a.call.operation.address) slot a → Holds {A = A} opening trace k s
-    → old ≡ lists_of s.words.items a.call.operation.address
-    → tables.items ≡ set s.tables.items a.call.operation.address cleared
-    → cleared.items ≡ set (lists_of s.tables.items a.call.operation.address) slot None
-    → words.items ≡ set s.words.items a.call.operation.address later
-    → GoesOn old middle
-    → ((c : Config) → IsIn (configs_of middle) c → IsLeft c slot
-    → IsExpanded (lists_of s.tables.items a.call.operation.address) a.call.operation.address (configs_of middle) c)
-    → StaysSound (lists_of s.tables.items a.call.operation.address) a.call.operation.address old s.nodes.items
-    middle nodes.items
-    → AreReleased slot middle later.items
-    → ((b : Branch) → IsIn middle b → IsTaken b.config slot → IsIn later.items
-    (record { config = release b.config slot; trail = b.trail }))
-    → IsSearched opening trace (suc k) (lists_of tables.items) (lists_of words.items) nodes.items
-holds_answer {A} opening trace k s tables words nodes slot a id reply old middle cleared later t now is far at holds was emptied clear
-    written on closed sound from released =
-    let w : ℕ = a.call.operation.address in
-    let open' : ℕ → List (Option Open) = lists_of s.tables.items in
-    let sets : ℕ → List Branch = lists_of s.words.items in
-    let inside : w < length s.words.items = let e = holds.sized in omega arith in
-    let within : w < length s.tables.items = let e = holds.tabled in omega arith in
-    let mid : ℕ → List Branch = with_set sets w middle in
-    let new : ℕ → List Branch = lists_of words.items in
-    let here : new w ≡ later.items = ap (λ (vs : List (Vec Branch A)). lists_of vs w) written
-    ∙ set_same s.words.items w later inside in
-    let there : (v : ℕ) → v ≢ w → new v ≡ sets v = λ v ne. ap (λ (vs : List (Vec Branch A)). lists_of vs v) written
-    ∙ set_other s.words.items w later v ne in
-    let gone : lists_of tables.items w ≡ set (open' w) slot None = ap (λ (vs : List (Vec (Option Open) A)). lists_of vs w) emptied
-    ∙ (set_same s.tables.items w cleared within ∙ clear) in
-    let same_table : (v : ℕ) → v ≢ w → lists_of tables.items v ≡ open' v =
-    λ v ne. ap (λ (vs : List (Vec (Option Open) A)). lists_of vs v) emptied ∙ set_other s.tables.items w cleared v ne in
-    let mid_same : mid w ≡ middle = with_same sets w middle in
-    let now' : IsAnsweredAt trace k a.call.id reply = subst (λ (n : ℕ). IsAnsweredAt trace k n reply) (sym is) now in
-    let begun : IsSound opening trace k open' (with_set sets w old) s.nodes.items =
-    sound_as opening trace k open' sets (with_set sets w old) s.nodes.items
-    (λ v. ⊎_elim {C = with_set sets w old v ≡ sets v}
-    (λ (e : v ≡ w). ap (λ (u : ℕ). with_set sets w old u) e ∙ (with_same sets w old ∙ (was ∙ ap sets (sym e))))
-    (λ (ne : v ≢ w). with_other sets w old v ne)
-    (cases_eq v w)) holds.searched.sound in
-    searched_answer opening trace k open' (lists_of tables.items) sets mid new s.nodes.items nodes.items slot a reply t now' far at
-    gone same_table
-    (λ c h. subst (λ (bs : List Branch). IsIn (configs_of bs) c) (sym mid_same)
-    (configs_go_on old middle c on (subst (λ (bs : List Branch). IsIn (configs_of bs) c) (sym was) h)))
-    (subst (λ (bs : List Branch). (c : Config) → IsIn (configs_of bs) c → IsLeft c slot → IsExpanded (open' w) w
-    (configs_of bs) c) (sym mid_same) closed)
-    (subst (λ (bs : List Branch). AreReleased slot (mid w) bs) (sym here)
-    (subst (λ (bs : List Branch). AreReleased slot bs later.items) (sym mid_same) from))
-    (λ c h taken.
-    let r = map_in (λ (b : Branch). b.config) middle c
-    (subst (λ (bs : List Branch). IsIn (configs_of bs) c) mid_same h) in
-    let b : Branch = r.0 in
-    let q = released b r.1 (subst (λ (d : Config). IsTaken d slot) r.2 taken) in
-    subst (λ (bs : List Branch). IsIn (configs_of bs) (release c slot)) (sym here)
-    (subst (λ (d : Config). IsIn (configs_of later.items) (release d slot)) (sym r.2)
-    (in_map (λ (b : Branch). b.config) later.items (record { config = release b.config slot; trail = b.trail }) q)))
-    (λ v ne. with_other sets w middle v ne) there holds.searched
-    (sound opening trace k open' sets t holds.searched.tabled refl far begun)
-  where
-    sound_as : (opening : List ℕ) (trace : List Event) (k : ℕ) (tables : ℕ → List (Option Open))
-        (sets others : ℕ → List Branch) (nodes : List Node)
-        → ((v : ℕ) → others v ≡ sets v)
-        → IsSound opening trace k tables sets nodes → IsSound opening trace k tables others nodes
-    sound_as opening trace k tables sets others nodes same sound = record {
-      back = sound.back;
-      inside = λ v i b l h e. sound.inside v i b l (subst (λ (bs : List Branch). IsIn bs b) (same v) h) e;
-      explained = λ pick trails marks picks. sound.explained pick trails marks (record {
-        sized = picks.sized;
-        picked = λ v l. subst (λ (bs : List Branch). IsIn bs (pick v)) (same v) (picks.picked v l);
-        trailed = picks.trailed;
-        marked = picks.marked;
-        only = picks.only;
-      });
-    }
-
--- the same, as the code sees it
-pub seen_answer : {A : Type 0} (opening : List ℕ) (trace : List Event) (k : ℕ) (s : Search A)
-    (tables : Vec (Vec (Option Open) A) A) (words : Vec (Vec Branch A) A) (nodes : Vec Node A)
-    (slot : ℕ) (a : Open) (id : ℕ) (reply : Reply) (table shown cleared : Vec (Option Open) A) (seen : List (Option Open))
-    (branches : Vec Branch A) (old middle view : List Branch) (later : Vec Branch A)
-    → IsTrace (length opening) trace → IsAnsweredAt trace k id reply → a.call.id ≡ id
-    → a.call.operation.address < length opening
-    → IsAt (lists_of s.tables.items a.call.operation.address) slot a → Holds {A = A} opening trace k s
-    → table ≡ get_or s.tables.items a.call.operation.address table
-    → shown ≡ get_or s.tables.items a.call.operation.address shown → seen ≡ shown.items
-    → branches ≡ get_or s.words.items a.call.operation.address branches → old ≡ branches.items
-    → view ≡ middle
-    → tables.items ≡ set s.tables.items a.call.operation.address cleared
-    → cleared.items ≡ set table.items slot None
-    → words.items ≡ set s.words.items a.call.operation.address later
-    → GoesOn old middle
-    → ((c : Config) → IsIn (configs_of middle) c → IsLeft c slot → IsExpanded seen a.call.operation.address
-    (configs_of middle) c)
-    → StaysSound seen a.call.operation.address old s.nodes.items middle nodes.items
-    → AreReleased slot view later.items
-    → ((b : Branch) → IsIn view b → IsTaken b.config slot → IsIn later.items
-    (record { config = release b.config slot; trail = b.trail }))
-    → IsSearched opening trace (suc k) (lists_of tables.items) (lists_of words.items) nodes.items
-seen_answer {A} opening trace k s tables words nodes slot a id reply table shown cleared seen branches old middle view later t now is far at holds
-    read read_shown same read_branches same_branches viewed emptied clear written on closed sound from released =
-    let w : ℕ = a.call.operation.address in
-    let within : w < length s.tables.items = let e = holds.tabled in omega arith in
-    let inside : w < length s.words.items = let e = holds.sized in omega arith in
-    let e1 : table.items ≡ lists_of s.tables.items w = read_set s.tables.items w table within read in
-    let e2 : seen ≡ lists_of s.tables.items w = same ∙ read_set s.tables.items w shown within read_shown in
-    holds_answer {A = A} opening trace k s tables words nodes slot a id reply old middle cleared later t now is far at holds
-    (same_branches ∙ read_set s.words.items w branches inside read_branches) emptied
-    (clear ∙ ap (λ (ts : List (Option Open)). set ts slot None) e1) written on
-    (subst (λ (ts : List (Option Open)). (c : Config) → IsIn (configs_of middle) c → IsLeft c slot
-    → IsExpanded ts w (configs_of middle) c) e2 closed)
-    (subst (λ (ts : List (Option Open)). StaysSound ts w old s.nodes.items middle nodes.items) e2 sound)
-    (subst (λ (bs : List Branch). AreReleased slot bs later.items) viewed from)
-    (subst (λ (bs : List Branch). (b : Branch) → IsIn bs b → IsTaken b.config slot → IsIn later.items
-    (record { config = release b.config slot; trail = b.trail })) viewed released)
-
-some_in : (bs : List Branch) → 0 < length bs → (b : Branch) × IsIn bs b
-some_in [] l = absurd (omega arith)
-some_in (b ∷ bs) l = (b, (zero, refl))
-
--- where the word has a branch still, the search goes on
-pub answer_yes : {A : Type 0} (opening : List ℕ) (trace : List Event) (k : ℕ) (s : Search A)
-    (tables : Vec (Vec (Option Open) A) A) (words : Vec (Vec Branch A) A) (nodes : Vec Node A) (hints : Vec ℕ A)
-    (w : ℕ) (later : Vec Branch A) → w < length opening → 0 < length later.items
-    → words.items ≡ set s.words.items w later → length tables.items ≡ length s.tables.items → Holds {A = A} opening trace k s
-    → IsSearched opening trace (suc k) (lists_of tables.items) (lists_of words.items) nodes.items
-    → Holds {A = A} opening trace (k + 1) (record { tables = tables; words = words; nodes = nodes; hints = hints })
-answer_yes {A} opening trace k s tables words nodes hints w later far some written kept holds searched = record {
-  tabled = kept ∙ holds.tabled;
-  sized = ap (λ (vs : List (Vec Branch A)). length vs) written ∙ (length-set s.words.items w later ∙ holds.sized);
-  searched = subst (λ (n : ℕ). IsSearched opening trace n (lists_of tables.items) (lists_of words.items) nodes.items)
-      (sym (add-one k)) searched;
-  filled = λ v l. ⊎_elim {C = (b : Branch) × IsIn (lists_of words.items v) b}
-      (λ (e : v ≡ w).
-      let r = some_in later.items some in
-      let here : lists_of words.items w ≡ later.items = ap (λ (vs : List (Vec Branch A)). lists_of vs w) written
-      ∙ set_same s.words.items w later (let n = holds.sized in omega arith) in (
-        r.0,
-        subst (λ (u : ℕ). IsIn (lists_of words.items u) r.0) (sym e)
-            (subst (λ (bs : List Branch). IsIn bs r.0) (sym here) r.1),
-      ))
-      (λ (ne : v ≢ w).
-      let r = holds.filled v l in
-      let there : lists_of words.items v ≡ lists_of s.words.items v = ap
-      (λ (vs : List (Vec Branch A)). lists_of vs v) written ∙ set_other s.words.items w later v ne in
-      (r.0, subst (λ (bs : List Branch). IsIn bs r.0) (sym there) r.1))
-      (cases_eq v w);
-}
-
--- and where it has none, no order explains the trace
-pub answer_no : {A : Type 0} (opening : List ℕ) (trace : List Event) (k : ℕ) (s : Search A) (tables : ℕ → List (Option Open))
-    (others : List (Vec Branch A)) (nodes : List Node)
-    (w : ℕ) (later : Vec Branch A) → w < length opening → later.items ≡ []
-    → others ≡ set s.words.items w later → length s.words.items ≡ length opening
-    → IsSearched opening trace (suc k) tables (lists_of others) nodes → IsLinearizable opening trace → ⊥
-answer_no {A} opening trace k s tables others nodes w later far none written sized searched =
-    let inside : w < length s.words.items = omega arith in
-    let here : lists_of others w ≡ [] = ap (λ (vs : List (Vec Branch A)). lists_of vs w) written ∙
-    (set_same s.words.items w later inside ∙ none) in
-    complete_none opening trace (suc k) tables (λ v. configs_of (lists_of others v)) w far
-    (λ c h. let r : IsIn [] c = subst (λ (bs : List Branch). IsIn (configs_of bs) c) here h in
-    let e : None ≡ Some c = r.1 in cc)
-    searched.complete
-
-pub stays_some : {A : Type 0} (later : Vec Branch A) (b : Bool) → b ≡ (vec_len later == 0) → not b ≡ true
-    → 0 < length later.items
-stays_some later true e h = absurd cc
-stays_some later false e h =
-    let ne = eqb-false (vec_len later) 0 (sym e) in
-    let sized = later.ok.0 in
-    ⊎_elim {C = 0 < length later.items}
-    (λ (l : 0 < length later.items). l)
-    (λ (g : length later.items ≤ 0). absurd (ne (omega arith)))
-    (cases_lt 0 (length later.items))
-
-pub goes_none : {A : Type 0} (later : Vec Branch A) (b : Bool) → b ≡ (vec_len later == 0) → not b ≡ false
-    → later.items ≡ []
-goes_none later false e h = absurd cc
-goes_none later true e h =
-    let z = eqb-true (vec_len later) 0 (sym e) in
-    let sized = later.ok.0 in
-    nil_from_length later.items (omega arith)
-
--- a word's branches, as the code reads them
-pub filled_length : {A : Type 0} (words : List (Vec Branch A)) (w : ℕ) (v : Vec Branch A) → w < length words
-    → v ≡ get_or words w v → (b : Branch) × IsIn (lists_of words w) b → 0 < vec_len v
-filled_length {A} words w v l e h =
-    let sized = v.ok.0 in
-    let same : v.items ≡ lists_of words w = read_set words w v l e in
-    let at : slice_get v.items h.1.0 ≡ Some h.0 = ap (λ (bs : List Branch). slice_get bs h.1.0) same ∙ h.1.1 in
-    let m = get_within v.items h.1.0 h.0 at in
-    omega arith
-
-pub head_in : {A : Type 0} (words : List (Vec Branch A)) (w : ℕ) (v : Vec Branch A) (b : Branch)
-    → w < length words → v ≡ get_or words w v → 0 < vec_len v → b ≡ get_or v.items 0 b
-    → IsIn (lists_of words w) b
-head_in {A} words w v b l e some is =
-    let sized = v.ok.0 in
-    let same : v.items ≡ lists_of words w = read_set words w v l e in (
-      0,
-      ap (λ (bs : List Branch). slice_get bs 0) (sym same) ∙ slice_get_read v.items (length v.items) 0 b refl
-          (omega arith) is,
-    )
-
--- the first branch of each word
-abbrev pub firsts : {A : Type 0} → List (Vec Branch A) → ℕ → Branch
-firsts words w = first_of (lists_of words w)
-
-pub first_read : {A : Type 0} (words : List (Vec Branch A)) (w : ℕ) (v : Vec Branch A) (b : Branch)
-    → w < length words → v ≡ get_or words w v → 0 < vec_len v → b ≡ get_or v.items 0 b
-    → firsts words w ≡ b
-first_read {A} words w v b l e some is =
-    let sized = v.ok.0 in
-    let same : v.items ≡ lists_of words w = read_set words w v l e in
-    ap first_of (sym same) ∙ first_is v.items b (omega arith) is
-
--- one more word is marked
-pub picks_word : {A : Type 0} (words : List (Vec Branch A)) (w : ℕ) (nodes seen : List Node)
-    (marks was later : List Bool) (v : Vec Branch A) (b : Branch)
-    → w < length words → v ≡ get_or words w v
-    → 0 < vec_len v → b ≡ get_or v.items 0 b → seen ≡ nodes → was ≡ marks
-    → (trail : List ℕ) × IsTrail seen b.trail trail × AreMarked was trail later → length later ≡ length was
-    → PicksSoFar (firsts words) w (lists_of words) nodes marks
-    → PicksSoFar (firsts words) (w + 1) (lists_of words) nodes later
-picks_word {A} words w nodes seen marks was later v b l e some is e1 e2 tells sized so_far =
-    let first : firsts words w ≡ b = first_read words w v b l e some is in
-    picks_more (firsts words) w (lists_of words) nodes marks later tells.0
-    (first_in (lists_of words w) b (head_in words w v b l e some is))
-    (subst (λ (c : Branch). IsTrail nodes c.trail tells.0) (sym first)
-    (subst (λ (ns : List Node). IsTrail ns b.trail tells.0) e1 tells.1))
-    (subst (λ (ms : List Bool). AreMarked ms tells.0 later) e2 tells.2)
-    (sized ∙ ap (λ (ms : List Bool). length ms) e2) so_far

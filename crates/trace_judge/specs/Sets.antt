@@ -1,5 +1,5 @@
 -- Sets of branches, as lists that grow at their ends.
-use Rattle.std.specs.Prelude.{◌≡◌, ◌⊎◌, ◌<◌, ℕ, List, [], ◌∷◌, ◌++◌, Option, Some, Vec, length, map, slice_index_or}
+use Rattle.std.specs.Prelude.{◌≡◌, ◌⊎◌, ◌<◌, ℕ, List, [], ◌∷◌, ◌++◌, Option, Some, None, Vec, length, map, slice_index_or}
 use Rattle.std.specs.Prelude.{cond, ◌==◌}
 use Rattle.trace_order.specs.declared.event.Event.{Event}
 use Rattle.trace_search.specs.declared.opened.Open.{Open}
@@ -7,20 +7,12 @@ use Rattle.trace_search.specs.declared.opened.Config.{Config}
 use Rattle.trace_search.specs.declared.opened.Branch.{Branch}
 use Rattle.trace_search.specs.declared.opened.Node.{Node}
 use Rattle.trace_order.specs.Traces.{IsTrace}
-use Rattle.trace_search.specs.Configs.{IsLeft, Agrees}
+use Rattle.trace_search.specs.Configs.{IsIn, IsLeft, MayTake, Agrees, effect}
 use Rattle.trace_search.specs.Searches.{AreTables, IsSound}
 
 -- a list goes on with more
 abbrev pub GoesOn : {A : Type 0} → List A → List A → Type 0
 GoesOn {A} old new = (more : List A) × (new ≡ old ++ more)
-
--- a branch in which this operation took effect is there with its node, or both lists are as they
--- were
-abbrev pub Adds : Branch → Open → Config → List Branch → List Node → List Branch → List Node
-    → Type 0
-Adds from opened config found nodes more longer = ((more ≡ found) × (longer ≡ nodes))
-    ⊎ ((more ≡ found ++ record { config = config; trail = Some (length nodes) } ∷ [])
-    × (longer ≡ nodes ++ record { call = opened.call; before = from.trail } ∷ []))
 
 -- what a place of the table holds may take effect
 pub record TakesEffect (place : Option Open) (word : ℕ) (c : Config) (s : ℕ) (o : Open) : Type 0
@@ -29,6 +21,11 @@ pub record TakesEffect (place : Option Open) (word : ℕ) (c : Config) (s : ℕ)
     pub here : o.call.operation.address ≡ word
     pub left : IsLeft c s
     pub agrees : Agrees o c.word
+
+-- what a place of the table holds is on this word, and never answered
+abbrev pub WaitsFor : Option Open → ℕ → Type 0
+WaitsFor place word = (o : Open) × (place ≡ Some o) × (o.call.operation.address ≡ word)
+    × (o.promise ≡ None)
 
 -- what there is of each word
 abbrev pub lists_of : {X A : Type 0} → List (Vec X A) → ℕ → List X
@@ -47,3 +44,21 @@ StaysSound table w old nodes new more =
     → AreTables (length opening) trace k tables → tables w ≡ table → w < length opening
     → IsSound opening trace k tables (with_set sets w old) nodes
     → IsSound opening trace k tables (with_set sets w new) more
+
+-- another branch stands in the place of this one
+abbrev pub LeadsTo : List (Option Open) → ℕ → Branch → List Node → Branch → List Node → Type 0
+LeadsTo table w from nodes to more = (others : List Branch)
+    → StaysSound table w (others ++ from ∷ []) nodes (others ++ to ∷ []) more
+
+-- beside others, of which this branch is one or which it is found among, there are more
+abbrev pub Joins : List (Option Open) → ℕ → Branch → List Branch → List Node → List Branch
+    → List Node → Type 0
+Joins table w from found nodes new more = (others : List Branch) → IsIn (others ++ found) from
+    → StaysSound table w (others ++ found) nodes (others ++ new) more
+
+-- an operation takes effect in a branch
+abbrev pub Takes : List (Option Open) → ℕ → Branch → Open → Config → List Branch → List Node
+    → List Branch → List Node → Type 0
+Takes table w from o config found nodes new more = (s : ℕ) → IsIn found from
+    → MayTake table w from.config s o → config ≡ effect from.config s o
+    → StaysSound table w found nodes new more

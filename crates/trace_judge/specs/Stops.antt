@@ -7,8 +7,13 @@ use Rattle.trace_order.specs.Traces.{IsIssuedAt, IsAnsweredAt, IsUnanswered}
 use Rattle.trace_judge.specs.declared.undecided.Undecided.{Undecided}
 use Rattle.trace_judge.specs.declared.undecided.Undecided.TheVariants.{Memory, Configurations, Operations}
 
+-- the trace answers this number
+abbrev pub IsAnswered : List Event → ℕ → Type 0
+IsAnswered trace id = (i : ℕ) × (reply : Reply) × IsAnsweredAt trace i id reply
+
 -- 64 operations are open on a word before event k (Herlihy and Wing, TOPLAS 12(3), 1990: pending),
--- which issues another on it
+-- which issues another on it; and all of them, with the other one, are answered in the trace, or
+-- none of them is
 pub record IsCrowded (trace : List Event) (k : ℕ) : Type 0 where
   pub another : Call
   pub issue : IsIssuedAt trace k another
@@ -21,18 +26,22 @@ pub record IsCrowded (trace : List Event) (k : ℕ) : Type 0 where
       → c.operation.address ≡ another.operation.address
   pub distinct : (s u : ℕ) (c d : Call) → slice_get calls s ≡ Some c → slice_get calls u ≡ Some d
       → c.id ≡ d.id → s ≡ u
+  pub later : (s : ℕ) (c : Call) → slice_get calls s ≡ Some c → IsAnswered trace another.id
+      → IsAnswered trace c.id
+  pub never : (s : ℕ) (c : Call) → slice_get calls s ≡ Some c → IsAnswered trace c.id
+      → IsAnswered trace another.id
 
 -- event k answers an operation
 abbrev pub IsAnAnswer : List Event → ℕ → Type 0
 IsAnAnswer trace k = (id : ℕ) × (reply : Reply) × IsAnsweredAt trace k id reply
 
--- why a trace is not decided: there are too many open operations on a word, or configurations of
+-- why a trace is not judged: there are too many open operations on a word, or configurations of
 -- it, or no memory
 abbrev pub IsUndecided : List Event → Undecided → Type 0
 IsUndecided trace Memory = Unit {0}
 IsUndecided trace (Configurations event) = IsAnAnswer trace event
 IsUndecided trace (Operations event) = IsCrowded trace event
 
--- why a trace is not judged: a beginning of it is not decided
-abbrev pub IsUnjudged : List Event → Undecided → Type 0
-IsUnjudged trace why = (n : ℕ) × IsUndecided (take n trace) why
+-- a beginning of a trace
+abbrev pub IsBeginning : List Event → List Event → Type 0
+IsBeginning beginning trace = (n : ℕ) × (beginning ≡ take n trace)

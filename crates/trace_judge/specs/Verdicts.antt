@@ -10,3 +10,7 @@ abbrev pub Tells : {A : Type 0} → List ℕ → List Event → Verdict A → Ty
 Tells opening trace (Linearizable order) = IsOrder opening trace order.items
 Tells opening trace (No event) = (event < length trace) × IsLinearizable opening (take event trace)
     × (IsLinearizable opening (take (event + 1) trace) → ⊥)
+
+-- what comes before this event is linearizable
+abbrev pub IsGoodUntil : List ℕ → List Event → ℕ → Type 0
+IsGoodUntil opening trace event = (event < length trace) × IsLinearizable opening (take event trace)

@@ -1,12 +1,12 @@
-//! Sets of slots, as the bits of a word.
+//! Sets of slots, as the bits of a number.
 
 ghost use Rattle.std.specs.Prelude.{◌≡◌, ◌<◌, true, false};
 ghost use Rattle.std.specs.Int.{bit_at};
 ghost use Rattle.trace_search.specs.Configs.{with_bit, without_bit};
 
 /// Whether the slot is in the set.
-pub fn has(set: u64, slot: usize) -> bool
-    requires { slot < 64 }
+pub fn has(set: u128, slot: usize) -> bool
+    requires { slot < 128 }
     ensures taken { result ≡ true → bit_at set slot ≡ 1 }
     ensures left { result ≡ false → bit_at set slot ≡ 0 }
 {
@@ -14,16 +14,16 @@ pub fn has(set: u64, slot: usize) -> bool
 }
 
 /// The set with the slot.
-pub fn with(set: u64, slot: usize) -> u64
-    requires { slot < 64 }
+pub fn with(set: u128, slot: usize) -> u128
+    requires { slot < 128 }
     ensures { result ≡ with_bit set slot }
 {
     set | (1 << slot)
 }
 
 /// The set without the slot.
-pub fn without(set: u64, slot: usize) -> u64
-    requires { slot < 64 }
+pub fn without(set: u128, slot: usize) -> u128
+    requires { slot < 128 }
     ensures { result ≡ without_bit set slot }
 {
     set & !(1 << slot)

@@ -1,13 +1,13 @@
 //! The decision, with an order or with the first event that has none.
 
 ghost use Rattle.std.specs.Prelude.{◌≡◌, ◌<◌, ◌+◌, ℕ, List, true, false, replicate, IfOk, IfErr, MatchOption, length};
-ghost use Rattle.std.specs.Prelude.{Some};
+ghost use Rattle.std.specs.Prelude.{Some, None};
 ghost use Rattle.trace_order.specs.Traces.{IsTrace};
 ghost use Rattle.trace_order.specs.Orders.{IsOrder, IsLinearizable};
 ghost use Rattle.trace_search.specs.Searches.{IsTrail, order_of};
 ghost use Rattle.trace_judge.specs.Searched.{Holds};
-ghost use Rattle.trace_judge.specs.Stops.{IsUndecided, IsUnjudged};
-ghost use Rattle.trace_judge.specs.Verdicts.{Tells};
+ghost use Rattle.trace_judge.specs.Stops.{IsBeginning, IsUndecided};
+ghost use Rattle.trace_judge.specs.Verdicts.{IsGoodUntil, Tells};
 ghost use Rattle.trace_judge.specs.Marks.{AreNodes, IsBelow, AreMarked, ArePicked};
 ghost use Rattle.trace_judge.specs.Sets.{lists_of};
 
@@ -32,18 +32,22 @@ fn run<A: Allocator + Copy>(
     alloc: A,
     opening: &[u64],
     events: &[Event],
+    whole: &[Event],
     bound: usize,
     last: &mut usize,
 ) -> Result<Option<Search<A>>, Undecided>
-    requires { IsTrace (length opening.now) events.now }
-    ensures undecided { IfErr result (IsUndecided events.now) }
+    requires trace { IsTrace (length opening.now) events.now }
+    requires beginning { IsBeginning events.now whole.now }
+    ensures undecided { IfErr result (IsUndecided whole.now) }
+    ensures ended { IfOk result (λ found. found ≡ None
+        → IsGoodUntil opening.now events.now last.new) }
     ensures decided { IfOk result (λ found. MatchOption found
         (IsLinearizable opening.now events.now → ⊥)
-        (λ search. Holds opening.now events.now (length events.now) search)) }
+        (λ search. Holds opening.now events.now whole.now (length events.now) search)) }
 {
-    let mut search = start(alloc, opening, events)?;
+    let mut search = start(alloc, opening, events, whole)?;
     for k in 0..events.len() {
-        if !search.step(alloc, opening, events, k, bound)? {
+        if !search.step(alloc, opening, events, whole, k, bound)? {
             *last = k;
             return Ok(None);
         }
@@ -79,8 +83,9 @@ fn mark_all<A: Allocator + Copy>(
     search: &Search<A>,
     opening: &[u64],
     events: &[Event],
+    whole: &[Event],
 ) -> Result<Vec<bool, A>, AllocError>
-    requires { Holds opening.now events.now (length events.now) search.now }
+    requires { Holds opening.now events.now whole.now (length events.now) search.now }
     ensures { IfOk result (λ v. ArePicked (length opening.now) (lists_of search.now.words.items)
         search.now.nodes.items v.items) }
 {
@@ -115,26 +120,31 @@ fn find_order<A: Allocator + Copy>(
     alloc: A,
     opening: &[u64],
     events: &[Event],
+    whole: &[Event],
     bound: usize,
     last: &mut usize,
 ) -> Result<Option<Vec<Call, A>>, Undecided>
-    requires { IsTrace (length opening.now) events.now }
-    ensures undecided { IfErr result (IsUndecided events.now) }
+    requires trace { IsTrace (length opening.now) events.now }
+    requires beginning { IsBeginning events.now whole.now }
+    ensures undecided { IfErr result (IsUndecided whole.now) }
+    ensures ended { IfOk result (λ found. found ≡ None
+        → IsGoodUntil opening.now events.now last.new) }
     ensures decided { IfOk result (λ found. MatchOption found
         (IsLinearizable opening.now events.now → ⊥)
         (λ order. IsOrder opening.now events.now order.items)) }
 {
-    let Some(search) = run(alloc, opening, events, bound, last)? else {
+    let Some(search) = run(alloc, opening, events, whole, bound, last)? else {
         return Ok(None);
     };
-    let marks = mark_all(alloc, &search, opening, events)?;
+    let marks = mark_all(alloc, &search, opening, events, whole)?;
     let order = collect(alloc, &search.nodes, &marks)?;
     Ok(Some(order))
 }
 
 /// An order that explains the trace, if there is one, found with at most so many configurations of a
 /// word at once. An `Err` tells why it isn't decided, and where: an answer at which a word has more
-/// configurations, or an issue beside 64 open operations on its word.
+/// configurations, or an issue beside 64 open operations
+/// on its word of which, as of it, all are answered in the trace, or none is.
 pub fn decide<A: Allocator + Copy>(
     alloc: A,
     opening: &[u64],
@@ -148,7 +158,7 @@ pub fn decide<A: Allocator + Copy>(
         (λ order. IsOrder opening.now events.now order.items)) }
 {
     let mut last = 0;
-    find_order(alloc, opening, events, bound, &mut last)
+    find_order(alloc, opening, events, events, bound, &mut last)
 }
 
 /// The beginning to look at next, between a good one and a bad one: one that is guessed, or half way.
@@ -174,24 +184,25 @@ pub fn judge<A: Allocator + Copy>(
     bound: usize,
 ) -> Result<Verdict<A>, Undecided>
     requires { IsTrace (length opening.now) events.now }
-    ensures unjudged { IfErr result (IsUnjudged events.now) }
+    ensures unjudged { IfErr result (IsUndecided events.now) }
     ensures judged { IfOk result (λ verdict. Tells opening.now events.now verdict) }
 {
     let mut last = 0;
-    if let Some(order) = find_order(alloc, opening, events, bound, &mut last)? {
+    if let Some(order) = find_order(alloc, opening, events, events, bound, &mut last)? {
         return Ok(Verdict::Linearizable(order));
     }
-    // Most often the search ends at the first bad event: look there, and from there in growing steps.
-    let first = last;
-    let mut guess = first;
-    let mut good = 0;
+    // What comes before the event at which the search ended has an order. Most often this is the first
+    // bad event: look there, and from there in growing steps.
+    let mut good = last;
     let mut bad = events.len();
+    let mut step = 1usize;
     while good + 1 < bad {
-        let middle = between(good, bad, guess);
-        if decide(alloc, opening, &events[..middle], bound)?.is_some() {
+        let middle = between(good, bad, good.saturating_add(step));
+        let beginning = &events[..middle];
+        let mut ended = 0;
+        if find_order(alloc, opening, beginning, events, bound, &mut ended)?.is_some() {
             good = middle;
-            let step = middle.saturating_sub(first).saturating_add(1);
-            guess = middle.saturating_add(step);
+            step = step.saturating_mul(2);
         } else {
             bad = middle;
         }

@@ -4,6 +4,7 @@ ghost use Rattle.std.specs.Prelude.{◌≡◌, ◌<◌, ◌≤◌, ℕ, MatchOpt
 ghost use Rattle.packet.specs.declared.kinds.Reply.{Reply};
 ghost use Rattle.trace_order.specs.declared.event.Call.{Call};
 ghost use Rattle.trace_order.specs.Traces.{IsAnsweredAt, IsIssuedAt};
+ghost use Rattle.trace_judge.specs.Slots.{IsBegun};
 
 use packet::Reply;
 use trace_order::{Call, Event};
@@ -41,4 +42,21 @@ pub fn issue_of(events: &[Event], k: usize, id: u64) -> Option<Call>
         }
     }
     None
+}
+
+/// The slot from which on operations are put that the trace never answers.
+const NEVER: usize = 64;
+
+/// The first slot for an operation with this promise: 0 if it has one, or the whole trace answers it
+/// from this event on.
+pub fn first_slot(whole: &[Event], from: usize, id: u64, promise: Option<Reply>) -> usize
+    ensures { IsBegun whole.now from id promise result }
+{
+    if promise.is_some() {
+        return 0;
+    }
+    match promise_of(whole, from, id) {
+        Some(_) => 0,
+        None => NEVER,
+    }
 }

@@ -8,10 +8,11 @@ ghost use Rattle.trace_order.specs.Orders.{IsLinearizable};
 ghost use Rattle.trace_search.specs.Searches.{IsAt, first_branch};
 ghost use Rattle.trace_judge.specs.Sets.{lists_of};
 ghost use Rattle.trace_judge.specs.Searched.{Holds};
-ghost use Rattle.trace_judge.specs.Stops.{IsUndecided};
+ghost use Rattle.trace_judge.specs.Stops.{IsBeginning, IsUndecided};
 
 use crate::closing::{close, keep};
-use crate::reading::{issue_of, promise_of};
+use crate::index::{Index, empty_index};
+use crate::reading::{first_slot, issue_of, promise_of};
 use crate::slots::{free, put, slot_of};
 use crate::undecided::{Full, Undecided};
 use packet::Reply;
@@ -19,17 +20,14 @@ use std::alloc::{AllocError, Allocator};
 use trace_order::{Call, Event};
 use trace_search::{Branch, Config, Node, Open};
 
-/// How many hints on configurations are kept at first.
-const HINTS: usize = 64;
-
-/// Of each word the open operations and the branches, the nodes on the ways to these, and hints on
-/// where configurations are.
+/// Of each word the open operations and the branches, the nodes on the ways to these, and an index of
+/// the configurations of one word.
 #[derive(Drop)]
 pub struct Search<A: Allocator> {
     pub tables: Vec<Vec<Option<Open>, A>, A>,
     pub words: Vec<Vec<Branch, A>, A>,
     pub nodes: Vec<Node, A>,
-    pub hints: Vec<usize, A>,
+    pub index: Index<A>,
 }
 
 /// One branch for each word.
@@ -76,14 +74,15 @@ pub fn start<A: Allocator + Copy>(
     alloc: A,
     opening: &[u64],
     events: &[Event],
+    whole: &[Event],
 ) -> Result<Search<A>, AllocError>
-    ensures { IfOk result (λ s. Holds opening.now events.now 0 s) }
+    ensures { IfOk result (λ s. Holds opening.now events.now whole.now 0 s) }
 {
     Ok(Search {
         tables: empty_tables(alloc, opening.len())?,
         words: first_words(alloc, opening)?,
         nodes: Vec::new(alloc),
-        hints: vec![in alloc; 0usize; HINTS]?,
+        index: empty_index(alloc)?,
     })
 }
 
@@ -93,19 +92,22 @@ impl<A: Allocator + Copy> Search<A> {
         &mut self,
         opening: &[u64],
         events: &[Event],
+        whole: &[Event],
         k: usize,
         call: Call,
     ) -> Result<(), Undecided>
         requires trace { IsTrace (length opening.now) events.now }
+        requires beginning { IsBeginning events.now whole.now }
         requires inside { k < length events.now }
         requires issued { IsIssuedAt events.now k call }
-        requires holds { Holds opening.now events.now k self.old }
-        ensures holds { OnOk result (Holds opening.now events.now (k + 1) self.new) }
-        ensures undecided { IfErr result (IsUndecided events.now) }
+        requires holds { Holds opening.now events.now whole.now k self.old }
+        ensures holds { OnOk result (Holds opening.now events.now whole.now (k + 1) self.new) }
+        ensures undecided { IfErr result (IsUndecided whole.now) }
     {
         let promise = promise_of(events, k + 1, call.id);
         let word = call.operation.address as usize;
-        if put(&mut self.tables[word], Open { call, promise })? {
+        let first = first_slot(whole, events.len(), call.id, promise);
+        if put(&mut self.tables[word], first, Open { call, promise })? {
             Ok(())
         } else {
             Err(Undecided::Operations { event: k })
@@ -113,11 +115,18 @@ impl<A: Allocator + Copy> Search<A> {
     }
 
     /// The operation of this number, which is answered, and its slot.
-    fn place_of(&self, opening: &[u64], events: &[Event], k: usize, id: u64) -> (usize, Open)
+    fn place_of(
+        &self,
+        opening: &[u64],
+        events: &[Event],
+        whole: &[Event],
+        k: usize,
+        id: u64,
+    ) -> (usize, Open)
         requires trace { IsTrace (length opening.now) events.now }
         requires inside { k < length events.now }
         requires answered { (reply : Reply) × IsAnsweredAt events.now k id reply }
-        requires holds { Holds opening.now events.now k self.now }
+        requires holds { Holds opening.now events.now whole.now k self.now }
         ensures there { IsAt (lists_of self.now.tables.items result.1.call.operation.address)
             result.0 result.1 }
         ensures number { result.1.call.id ≡ id }
@@ -138,27 +147,29 @@ impl<A: Allocator + Copy> Search<A> {
         alloc: A,
         opening: &[u64],
         events: &[Event],
+        whole: &[Event],
         k: usize,
         id: u64,
         reply: Reply,
         bound: usize,
     ) -> Result<bool, Undecided>
         requires trace { IsTrace (length opening.now) events.now }
+        requires beginning { IsBeginning events.now whole.now }
         requires inside { k < length events.now }
         requires answered { IsAnsweredAt events.now k id reply }
-        requires holds { Holds opening.now events.now k self.old }
-        ensures yes { IfOk result (λ b. b ≡ true → Holds opening.now events.now (k + 1) self.new) }
+        requires holds { Holds opening.now events.now whole.now k self.old }
+        ensures yes { IfOk result (λ b. b ≡ true → Holds opening.now events.now whole.now (k + 1) self.new) }
         ensures no { IfOk result (λ b. b ≡ false → IsLinearizable opening.now events.now → ⊥) }
-        ensures undecided { IfErr result (IsUndecided events.now) }
+        ensures undecided { IfErr result (IsUndecided whole.now) }
     {
-        let (slot, opened) = self.place_of(opening, events, k, id);
+        let (slot, opened) = self.place_of(opening, events, whole, k, id);
         let address = opened.call.operation.address;
         let word = address as usize;
         let closed = close(
             alloc,
             &self.words[word],
             &mut self.nodes,
-            &mut self.hints,
+            &mut self.index,
             &self.tables[word],
             address,
             slot,
@@ -182,22 +193,26 @@ impl<A: Allocator + Copy> Search<A> {
         alloc: A,
         opening: &[u64],
         events: &[Event],
+        whole: &[Event],
         k: usize,
         bound: usize,
     ) -> Result<bool, Undecided>
         requires trace { IsTrace (length opening.now) events.now }
+        requires beginning { IsBeginning events.now whole.now }
         requires inside { k < length events.now }
-        requires holds { Holds opening.now events.now k self.old }
-        ensures yes { IfOk result (λ b. b ≡ true → Holds opening.now events.now (k + 1) self.new) }
+        requires holds { Holds opening.now events.now whole.now k self.old }
+        ensures yes { IfOk result (λ b. b ≡ true → Holds opening.now events.now whole.now (k + 1) self.new) }
         ensures no { IfOk result (λ b. b ≡ false → IsLinearizable opening.now events.now → ⊥) }
-        ensures undecided { IfErr result (IsUndecided events.now) }
+        ensures undecided { IfErr result (IsUndecided whole.now) }
     {
         match events[k] {
             Event::Issue(call) => {
-                self.issue(opening, events, k, call)?;
+                self.issue(opening, events, whole, k, call)?;
                 Ok(true)
             }
-            Event::Answer(id, reply) => self.answer(alloc, opening, events, k, id, reply, bound),
+            Event::Answer(id, reply) => {
+                self.answer(alloc, opening, events, whole, k, id, reply, bound)
+            },
         }
     }
 }

@@ -1,24 +1,38 @@
 //! The slots of the operations that are open on a word.
 
-ghost use Rattle.std.specs.Prelude.{◌≡◌, ◌<◌, ℕ, Some, None, true, false, IfOk, MatchOption, length, slice_get, set};
+ghost use Rattle.std.specs.Prelude.{◌≡◌, ◌<◌, ◌≤◌, ◌+◌, ◌-◌, ◌++◌, ℕ, Some, None, true, false, IfOk, OnOk, MatchOption, length};
+ghost use Rattle.std.specs.Prelude.{slice_get, set, replicate};
 ghost use Rattle.trace_search.specs.declared.opened.Open.{Open};
 ghost use Rattle.trace_search.specs.Searches.{IsAt};
-ghost use Rattle.trace_judge.specs.Slots.{IsFull, IsPut};
+ghost use Rattle.trace_judge.specs.Slots.{IsFilled, IsFull, IsPut};
 
 use std::alloc::{AllocError, Allocator};
 use trace_search::Open;
 
-/// The most operations that may be open on a word at once.
+/// How many slots of a word there are for operations that are answered later, and again for those
+/// that never are.
 const SLOTS: usize = 64;
 
-/// A slot with nothing in it.
-fn free_slot(table: &[Option<Open>]) -> Option<usize>
-    ensures { MatchOption result
-        ((s : ℕ) → slice_get table.now s ≡ Some None → ⊥)
-        (λ s. slice_get table.now s ≡ Some None) }
+/// Whether there is nothing in a slot.
+fn is_free(place: Option<Open>) -> bool
+    ensures free { result ≡ true → place ≡ None }
+    ensures taken { result ≡ false → place ≡ None → ⊥ }
 {
-    for slot in 0..table.len() {
-        if table[slot].is_none() {
+    match place {
+        Some(_) => false,
+        None => true,
+    }
+}
+
+/// A slot with nothing in it, from this one on, of the 64 that there are.
+fn free_slot(table: &[Option<Open>], first: usize) -> Option<usize>
+    requires { first ≤ 64 }
+    ensures { MatchOption result (IsFilled first table.now)
+        (λ s. (first ≤ s) × (s < first + 64) × (slice_get table.now s ≡ Some None)) }
+{
+    let end = table.len().min(first + SLOTS);
+    for slot in first..end {
+        if is_free(table[slot]) {
             return Some(slot);
         }
     }
@@ -41,18 +55,36 @@ pub fn slot_of(table: &[Option<Open>], id: u64) -> Option<(usize, Open)>
     None
 }
 
-/// Puts an operation into a slot. Says whether there was one, or room for one more.
-pub fn put<A: Allocator>(table: &mut Vec<Option<Open>, A>, opened: Open) -> Result<bool, AllocError>
-    ensures put { IfOk result (λ b. b ≡ true → IsPut table.old.items opened table.new.items) }
-    ensures full { IfOk result (λ b. b ≡ false → IsFull table.old.items) }
+/// Makes slots, with nothing in them, up to this one.
+fn widen<A: Allocator>(table: &mut Vec<Option<Open>, A>, first: usize) -> Result<(), AllocError>
+    ensures { OnOk result
+        (table.new.items ≡ table.old.items ++ replicate (first - length table.old.items) None) }
 {
-    if let Some(slot) = free_slot(table) {
+    let missing = first.saturating_sub(table.len());
+    for _ in 0..missing {
+        table.push(None)?;
+    }
+    Ok(())
+}
+
+/// Puts an operation into a slot, from this one on. Says whether there was one, or room for one more.
+pub fn put<A: Allocator>(
+    table: &mut Vec<Option<Open>, A>,
+    first: usize,
+    opened: Open,
+) -> Result<bool, AllocError>
+    requires { first ≤ 64 }
+    ensures put { IfOk result (λ b. b ≡ true → IsPut table.old.items first opened table.new.items) }
+    ensures full { IfOk result (λ b. b ≡ false → IsFull first table.old.items) }
+{
+    if let Some(slot) = free_slot(table, first) {
         table[slot] = Some(opened);
         return Ok(true);
     }
-    if table.len() >= SLOTS {
+    if table.len() >= first + SLOTS {
         return Ok(false);
     }
+    widen(table, first)?;
     table.push(Some(opened))?;
     Ok(true)
 }

@@ -189,6 +189,135 @@ fn bounds_are_kept(rt: HostRuntime) -> Result<(), Fail> {
     Ok(())
 }
 
+#[test]
+fn idle_operations_and_others(rt: HostRuntime) -> Result<(), Fail> {
+    let alloc = rt.alloc();
+    // A load takes effect at once where its reply fits, and waits where it doesn't.
+    let early = [
+        issue(1, 0, Op::Load),
+        issue(2, 0, Op::Store(1)),
+        stored(2),
+        read(1, 0),
+    ];
+    let late = [
+        issue(1, 0, Op::Load),
+        issue(2, 0, Op::Store(1)),
+        stored(2),
+        read(1, 1),
+    ];
+    // A store of the word that is there isn't idle: it is needed behind another store.
+    let needed = [
+        issue(1, 0, Op::Store(0)),
+        issue(2, 0, Op::Store(7)),
+        stored(1),
+        stored(2),
+        issue(3, 0, Op::Load),
+        read(3, 0),
+    ];
+    // Nor is a swap that is never answered, whose reply fits anywhere.
+    let unanswered = [
+        issue(1, 0, Op::Swap(0)),
+        issue(2, 0, Op::Store(7)),
+        stored(2),
+        issue(3, 0, Op::Load),
+        read(3, 0),
+    ];
+    // A compare-and-swap that fails is idle; one that doesn't is not.
+    let compared = [
+        issue(1, 0, Op::Cas(4, 5)),
+        issue(2, 0, Op::Store(4)),
+        issue(3, 0, Op::Cas(4, 6)),
+        read(3, 4),
+        stored(2),
+        read(1, 6),
+        issue(4, 0, Op::Load),
+        read(4, 6),
+    ];
+    let all = is_so(alloc, &early, 100, Seen::Yes(2))
+        && is_so(alloc, &late, 100, Seen::Yes(2))
+        && is_so(alloc, &needed, 100, Seen::Yes(3))
+        && is_so(alloc, &unanswered, 100, Seen::Yes(3))
+        && is_so(alloc, &compared, 100, Seen::Yes(4));
+    assert!(rt; all);
+    Ok(())
+}
+
+/// So many loads at an address that are never answered, numbered from here on.
+fn lose_loads(
+    events: &mut Vec<Event>,
+    first: u64,
+    count: u64,
+    address: u32,
+) -> Result<(), AllocError>
+    requires { first + count < 2 ^ 32 }
+{
+    for other in 0..count {
+        events.push(issue(first + other, address, Op::Load))?;
+    }
+    Ok(())
+}
+
+/// So many sums at one address, all of which are open until they are answered in turn, behind so many
+/// loads there that are never answered.
+fn open_at_once(alloc: Global, lost: u64, count: u64) -> Result<Seen, AllocError>
+    requires lost { lost < 1000 }
+    requires count { count < 1000 }
+{
+    let mut events = Vec::new(alloc);
+    lose_loads(&mut events, 0, lost, 1)?;
+    for other in 0..count {
+        events.push(issue(lost + other, 1, Op::Add(1)))?;
+    }
+    for other in 0..count {
+        events.push(read(lost + other, other))?;
+    }
+    Ok(verdict_on(alloc, &events, 1000))
+}
+
+#[test]
+fn open_operations_up_to_the_limits(rt: HostRuntime) -> Result<(), Fail> {
+    let alloc = rt.alloc();
+    // What is answered later and what never is have 64 slots each.
+    let most = open_at_once(alloc, 0, 64)?;
+    let more = open_at_once(alloc, 0, 65)?;
+    let both = open_at_once(alloc, 64, 64)?;
+    let lost = open_at_once(alloc, 65, 1)?;
+    let answered = open_at_once(alloc, 64, 65)?;
+    assert!(rt; most == Seen::Yes(64) && both == Seen::Yes(128));
+    assert!(rt; more == Seen::Not(Undecided::Operations { event: 64 })
+        && lost == Seen::Not(Undecided::Operations { event: 64 })
+        && answered == Seen::Not(Undecided::Operations { event: 128 }));
+    Ok(())
+}
+
+#[test]
+fn fifty_that_are_never_answered(rt: HostRuntime) -> Result<(), Fail> {
+    let alloc = rt.alloc();
+    let mut events = Vec::new(alloc);
+    for id in 0..50u64 {
+        events.push(issue(id, 0, Op::Store(9)))?;
+    }
+    // One of them is seen at last, and only one has to be.
+    let seen = [
+        issue(100, 0, Op::Load),
+        read(100, 0),
+        issue(101, 0, Op::Store(3)),
+        stored(101),
+        issue(102, 0, Op::Load),
+        read(102, 9),
+    ];
+    for event in seen {
+        events.push(event)?;
+    }
+    let yes = verdict_on(alloc, &events, 1000);
+    // Nobody stores 4.
+    events.push(issue(103, 0, Op::Load))?;
+    events.push(read(103, 4))?;
+    let no = verdict_on(alloc, &events, 1000);
+    assert!(rt; yes == Seen::Yes(4) && no == Seen::No(57));
+    Ok(())
+}
+
 /// What is seen within a budget of bytes.
 fn within(alloc: Global, events: &[Event], budget: usize) -> Result<Seen, AllocError> {
     let heap = LocalHeap::new(alloc, budget)?;

@@ -8,8 +8,9 @@ use Rattle.trace_order.specs.declared.event.Call.{Call}
 use Rattle.trace_order.specs.declared.event.Event.{Event}
 use Rattle.trace_search.specs.declared.opened.Open.{Open}
 use Rattle.trace_search.specs.declared.opened.Config.{Config}
-use Rattle.trace_order.specs.Traces.{IsTrace, IsIssuedAt}
-use Rattle.trace_order.specs.Orders.{IsOn}
+use Rattle.packet.specs.declared.kinds.Reply.{Reply}
+use Rattle.trace_order.specs.Traces.{IsTrace, IsIssuedAt, IsAnsweredAt}
+use Rattle.trace_order.specs.Orders.{IsOn, memory_of}
 use Rattle.trace_search.specs.Configs.{IsOpen, IsLeft, MayTake, effect, release, with_bit, without_bit}
 use Rattle.trace_order.proofs.Lists.{get_within, get_push, get_set_same, get_set_other}
 use Rattle.trace_order.proofs.Memory.{word_changed, word_kept}
@@ -36,7 +37,7 @@ pub fits_effect : (opening : List ℕ) (trace : List Event) (k : ℕ) (table : L
     → w < length opening → MayTake table w c s o → Fits opening table w order c
     → Fits opening table w (order ++ o.call ∷ []) (effect c s o)
 fits_effect opening trace k table w order c s o t inside may fits =
-    let l : s < 64 = at_within trace k w table s o t may.pending.there in
+    let l : s < 128 = at_within trace k w table s o t may.pending.there in
     record {
       word = ap (λ (v : ℕ). new_word o.call.operation.op v) fits.word ∙ sym
           (word_changed opening order o.call w may.pending.here inside);
@@ -86,10 +87,28 @@ fits_other words opening trace k table w order c d i tr t issue other fits = rec
   free = fits.free;
 }
 
+-- an operation on this word that is not open takes effect, and leaves the word as it is
+pub fits_idle : (opening : List ℕ) (trace : List Event) (k : ℕ) (table : List (Option Open)) (w : ℕ)
+    (order : List Call) (c : Config) (d : Call)
+    → IsTable trace k w table → w < length opening → d.operation.address ≡ w
+    → (i : ℕ) (reply : Reply) → i < k → IsAnsweredAt trace i d.id reply
+    → new_word d.operation.op (get_or (memory_of opening order) w 0) ≡ get_or (memory_of opening order) w 0
+    → Fits opening table w order c → Fits opening table w (order ++ d ∷ []) c
+fits_idle opening trace k table w order c d t inside here i reply early answered still fits = record {
+  word = fits.word ∙ (sym still ∙ sym (word_changed opening order d w here inside));
+  taken = λ s o h b. on_push order d o.call.id (fits.taken s o h b);
+  left = λ s o h b on. fits.left s o h b (push_on order d o.call.id on
+      (λ same.
+      let late = (t.pending s o h.there).unanswered i reply
+      (subst (λ (n : ℕ). IsAnsweredAt trace i n reply) same answered) in
+      omega arith));
+  free = fits.free;
+}
+
 -- an operation is issued, and takes a free slot
 pub fits_issue : (opening : List ℕ) (table : List (Option Open)) (w : ℕ) (order : List Call) (c : Config) (s : ℕ)
     (b : Open)
-    → s < 64 → slice_get table s ≡ Some None
+    → s < 128 → slice_get table s ≡ Some None
     → (b.call.operation.address ≡ w → IsOn order b.call.id → ⊥) → Fits opening table w order c
     → Fits opening (set table s (Some b)) w order c
 fits_issue opening table w order c s b l empty new fits =
@@ -128,7 +147,7 @@ fits_issue opening table w order c s b l empty new fits =
 -- so it is of each word
 pub fits_issued : (opening : List ℕ) (tables later : ℕ → List (Option Open)) (w : ℕ) (order : List Call) (c : Config)
     (s : ℕ) (b : Open)
-    → s < 64 → slice_get (tables b.call.operation.address) s ≡ Some None
+    → s < 128 → slice_get (tables b.call.operation.address) s ≡ Some None
     → later b.call.operation.address ≡ set (tables b.call.operation.address) s (Some b)
     → ((v : ℕ) → v ≢ b.call.operation.address → later v ≡ tables v)
     → (b.call.operation.address ≡ w → IsOn order b.call.id → ⊥) → Fits opening (tables w) w order c
@@ -146,10 +165,10 @@ fits_issued opening tables later w order c s b l empty written same new fits = �
 -- the operation in slot s is answered
 pub fits_answer : (opening : List ℕ) (table : List (Option Open)) (w : ℕ) (order : List Call) (c : Config) (s : ℕ)
     (a : Open)
-    → length table ≤ 64 → IsAt table s a
+    → length table ≤ 128 → IsAt table s a
     → Fits opening table w order c → Fits opening (set table s None) w order (release c s)
 fits_answer opening table w order c s a small there fits =
-    let l : s < 64 = let m = get_within table s (Some a) there in omega arith in
+    let l : s < 128 = let m = get_within table s (Some a) there in omega arith in
     let other : (u : ℕ) (o : Open) → IsOpen (set table s None) w u o → u ≢ s =
     λ u o h e.
     let same : Some o ≡ None = get_set_same table s (Some a) None (Some o) there
@@ -161,7 +180,7 @@ fits_answer opening table w order c s a small there fits =
     (without_bit c.taken s) u ≡ bit_at c.taken u =
     λ u o h.
     let m = get_within table u (Some o) (old u o h).there in
-    let small : u < 64 = omega arith in
+    let small : u < 128 = omega arith in
     without_other c.taken s u l small (other u o h) in
     record {
       word = fits.word;

@@ -97,7 +97,7 @@ trail_old nodes node back (i ∷ trail) last low is =
 pub sound_issue : (opening : List ℕ) (trace : List Event) (k : ℕ) (tables later : ℕ → List (Option Open))
     (sets : ℕ → List Branch) (nodes : List Node) (s : ℕ) (b : Open)
     → IsTrace (length opening) trace
-    → IsIssuedAt trace k b.call → s < 64 → slice_get (tables b.call.operation.address) s ≡ Some None
+    → IsIssuedAt trace k b.call → s < 128 → slice_get (tables b.call.operation.address) s ≡ Some None
     → later b.call.operation.address ≡ set (tables b.call.operation.address) s (Some b)
     → ((v : ℕ) → v ≢ b.call.operation.address → later v ≡ tables v)
     → IsSound opening trace k tables sets nodes

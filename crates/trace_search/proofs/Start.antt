@@ -1,6 +1,6 @@
 -- A search before the first event, and over each event.
 use Rattle.std.proofs.Common.{◌≡◌, ◌≢◌, ℕ, zero, suc, ◌<◌, ◌≤◌, List, [], ◌∷◌, length, Option, Some, None, refl, sym, ◌∙◌, ap, subst, arith, slice_get, set}
-use Rattle.std.proofs.Common.{map, get_or, ⊎_elim, ◌++◌}
+use Rattle.std.proofs.Common.{map, get_or, inl, ⊎_elim, ◌++◌}
 use Rattle.std.proofs.lemmas.Bool.{cases_eq}
 use Rattle.std.specs.Int.{bit_at}
 use Rattle.std.proofs.lemmas.Nat.Bits.{bit_at-zero}
@@ -11,12 +11,13 @@ use Rattle.trace_search.specs.declared.opened.Config.{Config}
 use Rattle.trace_search.specs.declared.opened.Branch.{Branch}
 use Rattle.trace_search.specs.declared.opened.Node.{Node}
 use Rattle.trace_order.specs.Traces.{IsTrace, IsIssuedAt, IsAnsweredAt}
-use Rattle.trace_search.specs.Configs.{IsIn, IsLeft, IsTaken, IsExpanded, release}
-use Rattle.trace_search.specs.Searches.{IsAt, IsPending, IsTable, Fits, IsSound, IsSearched, configs_of, first_branch, AreReleased}
+use Rattle.trace_search.specs.Configs.{IsIn, IsLeft, IsTaken, HasAsGood, IsExpanded, release}
+use Rattle.trace_search.specs.Searches.{IsAt, IsPending, IsTable, Fits, KeepsUp, IsSound, IsSearched, configs_of, first_branch, AreReleased}
 use Rattle.trace_order.proofs.Lists.{get_within}
 use Rattle.trace_order.proofs.Legal.{legal_none}
 use Rattle.trace_order.proofs.Issues.{one_issue}
 use Rattle.trace_search.proofs.Table.{table_issue, table_issue_other, table_answer, table_answer_other, table_more}
+use Rattle.trace_search.proofs.Dominance.{good_same}
 use Rattle.trace_search.proofs.Fits.{fits_none}
 use Rattle.trace_search.proofs.Sound.{sound_issue, sound_more, sound_answer}
 use Rattle.trace_search.proofs.Complete.{complete_issue, complete_more, complete_answer}
@@ -75,12 +76,14 @@ searched_none opening trace tables sets empty start = record {
     (first_branch (get_or opening w 0)).config,
     subst (λ (bs : List Branch). IsIn (configs_of bs) (first_branch (get_or opening w 0)).config) (sym (start w l))
         (zero, refl),
-    subst (λ (ts : List (Option Open)). Fits opening ts w [] (first_branch (get_or opening w 0)).config) (sym (empty w l))
-        (fits_none opening [] w (λ s o h. none_at s o h)
-        (first_branch (get_or opening w 0)).config refl (λ s. bit_at-zero s)),
+    subst (λ (ts : List (Option Open)). KeepsUp opening ts w [] (first_branch (get_or opening w 0)).config) (sym (empty w l)) (
+      (first_branch (get_or opening w 0)).config,
+      fits_none opening [] w (λ s o h. none_at s o h) (first_branch (get_or opening w 0)).config refl (λ s. bit_at-zero s),
+      good_same [] w (first_branch (get_or opening w 0)).config,
+    ),
     record {
       before = λ x c less h here. absurd (omega arith);
-      behind = λ x c less h here i reply answer. omega arith;
+      behind = λ x c less h here. inl (λ i reply answer. omega arith);
     },
   );
 }
@@ -122,7 +125,7 @@ pub searched_issue : (opening : List ℕ) (trace : List Event) (k : ℕ) (tables
 searched_issue opening trace k tables later sets nodes s b t now free new written same is =
     let w : ℕ = b.call.operation.address in
     let inside : w < length opening = t.inside k b.call now in
-    let l : s < 64 = let m = get_within (tables w) s None free in let n = (is.tabled w inside).slots in omega arith in
+    let l : s < 128 = let m = get_within (tables w) s None free in let n = (is.tabled w inside).slots in omega arith in
     record {
       tabled = λ v far. cases_word {P = λ u. u < length opening → IsTable trace (suc k) u (later u)} w
           (λ there. subst (λ (ts : List (Option Open)). IsTable trace (suc k) w ts) (sym written)
@@ -136,7 +139,7 @@ searched_issue opening trace k tables later sets nodes s b t now free new writte
 
 -- a word's table has one more slot
 pub searched_more : (opening : List ℕ) (trace : List Event) (k : ℕ) (tables later : ℕ → List (Option Open))
-    (sets : ℕ → List Branch) (nodes : List Node) (w : ℕ) → length (tables w) < 64
+    (sets : ℕ → List Branch) (nodes : List Node) (w : ℕ) → length (tables w) < 128
     → later w ≡ tables w ++ None ∷ [] → ((v : ℕ) → v ≢ w → later v ≡ tables v)
     → IsSearched opening trace k tables sets nodes → IsSearched opening trace k later sets nodes
 searched_more opening trace k tables later sets nodes w small written same is = record {
@@ -157,8 +160,8 @@ pub searched_answer : (opening : List ℕ) (trace : List Event) (k : ℕ) (table
     → a.call.operation.address < length opening → IsAt (tables a.call.operation.address) s a
     → emptied a.call.operation.address ≡ set (tables a.call.operation.address) s None
     → ((v : ℕ) → v ≢ a.call.operation.address → emptied v ≡ tables v)
-    → ((c : Config) → IsIn (configs_of (sets a.call.operation.address)) c → IsIn
-    (configs_of (middle a.call.operation.address)) c)
+    → ((c : Config) → IsIn (configs_of (sets a.call.operation.address)) c
+    → HasAsGood (tables a.call.operation.address) a.call.operation.address (configs_of (middle a.call.operation.address)) c)
     → ((c : Config) → IsIn (configs_of (middle a.call.operation.address)) c → IsLeft c s
     → IsExpanded (tables a.call.operation.address) a.call.operation.address
     (configs_of (middle a.call.operation.address)) c)

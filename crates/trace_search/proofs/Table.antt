@@ -13,7 +13,7 @@ use Rattle.trace_order.proofs.Issues.{one_issue, one_call}
 use Rattle.trace_search.specs.Searches.{IsAt, IsPending, IsTable}
 
 pub at_within : (trace : List Event) (k w : ℕ) (table : List (Option Open)) (s : ℕ) (o : Open)
-    → IsTable trace k w table → IsAt table s o → s < 64
+    → IsTable trace k w table → IsAt table s o → s < 128
 at_within trace k w table s o t h = let l = get_within table s (Some o) h in let m = t.slots in omega arith
 
 -- what is pending before an issue is so behind it
@@ -205,7 +205,7 @@ at_more table s o h = ⊎_elim
 pub more_at : (table : List (Option Open)) (s : ℕ) (o : Open) → IsAt table s o → IsAt (table ++ None ∷ []) s o
 more_at table s o h = get_append_left table (None ∷ []) s (Some o) h
 
-pub table_more : (trace : List Event) (k w : ℕ) (table : List (Option Open)) → length table < 64
+pub table_more : (trace : List Event) (k w : ℕ) (table : List (Option Open)) → length table < 128
     → IsTable trace k w table → IsTable trace k w (table ++ None ∷ [])
 table_more trace k w table small is = record {
   slots = let e = length_push table None in omega arith;

@@ -1,18 +1,18 @@
 -- Configurations of one word: which of the open operations on it have taken effect, and what they
 -- left.
-use Rattle.std.specs.Prelude.{◌≡◌, ◌*◌, ◌%◌, ◌^◌, ◌-◌, ℕ, List, Option, Some, bit_and, bit_or, slice_get, IfSome}
+use Rattle.std.specs.Prelude.{◌≡◌, ◌*◌, ◌%◌, ◌^◌, ◌-◌, ◌<◌, ◌⊎◌, ℕ, List, Option, Some, None, bit_and, bit_or, slice_get, IfSome}
 use Rattle.std.specs.Int.{bit_at}
 use Rattle.packet.specs.Memory.{new_word, reply_to}
 use Rattle.trace_search.specs.declared.opened.Open.{Open}
 use Rattle.trace_search.specs.declared.opened.Config.{Config}
 
--- a number of 64 bits with bit k set
+-- a number of 128 bits with bit k set
 abbrev pub with_bit : ℕ → ℕ → ℕ
-with_bit n k = bit_or n (1 * 2 ^ k % 2 ^ 64)
+with_bit n k = bit_or n (1 * 2 ^ k % 2 ^ 128)
 
 -- and with bit k cleared
 abbrev pub without_bit : ℕ → ℕ → ℕ
-without_bit n k = bit_and n (2 ^ 64 - 1 - 1 * 2 ^ k % 2 ^ 64)
+without_bit n k = bit_and n (2 ^ 128 - 1 - 1 * 2 ^ k % 2 ^ 128)
 
 -- slot s has an open operation on this word
 pub record IsOpen (table : List (Option Open)) (word s : ℕ) (o : Open) : Type 0 where
@@ -51,7 +51,25 @@ release c s = record { word = c.word; taken = without_bit c.taken s }
 abbrev pub IsIn : {A : Type 0} → List A → A → Type 0
 IsIn xs x = (k : ℕ) × (slice_get xs k ≡ Some x)
 
--- every operation that may take effect in c has, with the result among these
+-- an idle operation: wherever it may take effect it leaves the word as it is, as a load does
+abbrev pub IsIdle : Open → Type 0
+IsIdle o = (word : ℕ) → Agrees o word → new_word o.call.operation.op word ≡ word
+
+-- Configuration c dominates d: the word is the same; what has taken effect in d has so in c, or is
+-- never answered; and what has in c alone is idle. So whatever may still come after d may after c.
+pub record IsAsGood (table : List (Option Open)) (word : ℕ) (c d : Config) : Type 0 where
+  pub same : c.word ≡ d.word
+  pub taken : (s : ℕ) → s < 128 → IsTaken d s
+      → IsTaken c s ⊎ ((o : Open) × IsOpen table word s o × (o.promise ≡ None))
+  pub more : (s : ℕ) → s < 128 → IsTaken c s
+      → IsTaken d s ⊎ ((o : Open) × IsOpen table word s o × IsIdle o)
+
+-- a configuration that is as good is among these
+abbrev pub HasAsGood : List (Option Open) → ℕ → List Config → Config → Type 0
+HasAsGood table word configs d =
+    (c : Config) × IsIn configs c × IsAsGood table word c d
+
+-- whatever may take effect in c, one that is as good as the result is among these
 abbrev pub IsExpanded : List (Option Open) → ℕ → List Config → Config → Type 0
 IsExpanded table word configs c =
-    (s : ℕ) (o : Open) → MayTake table word c s o → IsIn configs (effect c s o)
+    (s : ℕ) (o : Open) → MayTake table word c s o → HasAsGood table word configs (effect c s o)

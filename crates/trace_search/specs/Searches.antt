@@ -2,6 +2,7 @@
 use Rattle.std.specs.Prelude.{◌≡◌, ◌⊎◌, ◌<◌, ◌≤◌, ℕ, Bool, true, cond, List, [], ◌∷◌, Option, Some, None, length, map}
 use Rattle.std.specs.Prelude.{take, slice_get, slice_index}
 use Rattle.packet.specs.declared.kinds.Reply.{Reply}
+use Rattle.packet.specs.Memory.{new_word, reply_to}
 use Rattle.trace_order.specs.declared.event.Call.{Call}
 use Rattle.trace_order.specs.declared.event.Event.{Event}
 use Rattle.trace_order.specs.Traces.{IsIssuedAt, IsAnsweredAt, IsUnanswered}
@@ -11,7 +12,7 @@ use Rattle.trace_search.specs.declared.opened.Open.{Open}
 use Rattle.trace_search.specs.declared.opened.Config.{Config}
 use Rattle.trace_search.specs.declared.opened.Branch.{Branch}
 use Rattle.trace_search.specs.declared.opened.Node.{Node}
-use Rattle.trace_search.specs.Configs.{IsOpen, IsLeft, IsTaken, IsIn, release}
+use Rattle.trace_search.specs.Configs.{IsOpen, IsLeft, IsTaken, IsIn, IsAsGood, release}
 
 -- an operation is in slot s
 abbrev pub IsAt : List (Option Open) → ℕ → Open → Type 0
@@ -35,7 +36,7 @@ IsKnown trace k table call =
 
 -- the table's operations are those on word w that are open before event k
 pub record IsTable (trace : List Event) (k w : ℕ) (table : List (Option Open)) : Type 0 where
-  pub slots : length table ≤ 64
+  pub slots : length table ≤ 128
   pub pending : (s : ℕ) (o : Open) → IsAt table s o → IsPending trace k o
   pub here : (s : ℕ) (o : Open) → IsAt table s o → o.call.operation.address ≡ w
   pub distinct : (s u : ℕ) (o p : Open) → IsAt table s o → IsAt table u p → o.call.id ≡ p.call.id
@@ -54,25 +55,36 @@ pub record Fits (opening : List ℕ) (table : List (Option Open)) (w : ℕ) (ord
   pub word : c.word ≡ slice_index (memory_of opening order) w
   pub taken : (s : ℕ) (o : Open) → IsOpen table w s o → IsTaken c s → IsOn order o.call.id
   pub left : (s : ℕ) (o : Open) → IsOpen table w s o → IsLeft c s → IsOn order o.call.id → ⊥
-  pub free : (s : ℕ) → s < 64 → IsLeft c s ⊎ ((o : Open) × IsOpen table w s o)
+  pub free : (s : ℕ) → s < 128 → IsLeft c s ⊎ ((o : Open) × IsOpen table w s o)
+
+-- a configuration keeps up with an order: it is as good as one that fits it
+abbrev pub KeepsUp : List ℕ → List (Option Open) → ℕ → List Call → Config → Type 0
+KeepsUp opening table w order c =
+    (d : Config) × Fits opening table w order d × IsAsGood table w c d
+
+-- it was answered before event k, and wherever it gives this reply it leaves the word as it is
+abbrev pub WasIdle : List Event → ℕ → Call → Type 0
+WasIdle trace k c =
+    (i : ℕ) × (reply : Reply) × (i < k) × IsAnsweredAt trace i c.id reply
+    × ((word : ℕ) → reply_to c.operation.op word ≡ reply → new_word c.operation.op word ≡ word)
 
 -- place n of an order is a cut for word w at event k: what stands on w before it was issued by
--- then, and what stands on w behind it was not answered by then
+-- then, and what stands on w behind it was not answered by then, or is idle
 pub record IsCut (trace : List Event) (k w : ℕ) (order : List Call) (n : ℕ) : Type 0 where
   pub before : (x : ℕ) (c : Call) → x < n → slice_get order x ≡ Some c → c.operation.address ≡ w
       → (i : ℕ) × (i < k) × IsIssuedAt trace i c
   pub behind : (x : ℕ) (c : Call) → n ≤ x → slice_get order x ≡ Some c → c.operation.address ≡ w
-      → IsUnanswered trace k c.id
+      → IsUnanswered trace k c.id ⊎ WasIdle trace k c
 
--- some configuration of word w fits the order up to a cut
+-- some configuration of word w keeps up with the order up to a cut
 abbrev pub IsCovered : List ℕ → List Event → ℕ → List (Option Open) → ℕ → List Call → List Config
     → Type 0
 IsCovered opening trace k table w order configs =
-    (n : ℕ) × (c : Config) × IsIn configs c × Fits opening table w (take n order) c
+    (n : ℕ) × (c : Config) × IsIn configs c × KeepsUp opening table w (take n order) c
     × IsCut trace k w order n
 
--- completeness: whatever order explains the trace, each word has a configuration that fits it up to
--- a cut
+-- completeness: whatever order explains the trace, each word has a configuration that keeps up with
+-- it up to a cut
 abbrev pub IsComplete : List ℕ → List Event → ℕ → (ℕ → List (Option Open)) → (ℕ → List Config)
     → Type 0
 IsComplete opening trace k tables sets = (order : List Call) → IsOrder opening trace order

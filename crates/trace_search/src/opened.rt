@@ -17,7 +17,7 @@ pub struct Open {
 #[derive(Clone, Copy, PartialEq, Eq)]
 pub struct Config {
     pub word: u64,
-    pub taken: u64,
+    pub taken: u128,
 }
 
 /// An operation that took effect, and the node of the one before it on the same word.

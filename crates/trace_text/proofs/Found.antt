@@ -11,7 +11,7 @@ use Rattle.trace_order.specs.declared.event.Event.TheVariants.{Issue, Answer}
 use Rattle.trace_order.specs.Traces.{IsTrace, IsIssuedAt, IsAnsweredAt}
 use Rattle.trace_order.specs.Orders.{IsOrder, IsLinearizable}
 use Rattle.trace_order.proofs.Lists.{get_within, within_length, take_get, get_take}
-use Rattle.trace_judge.specs.Stops.{IsCrowded, IsAnAnswer, IsUnjudged}
+use Rattle.trace_judge.specs.Stops.{IsAnswered, IsCrowded, IsAnAnswer, IsUndecided}
 use Rattle.trace_judge.specs.declared.undecided.Undecided.{Undecided}
 use Rattle.trace_judge.specs.declared.undecided.Undecided.TheVariants as undecided
 use Rattle.std.specs.Prelude.{Vec}
@@ -150,24 +150,27 @@ found_no r k event low good bad =
     let sized = length-map r.events (moved_event (place_of r.places)) in
     (event, line_is r k event (omega arith), beginning_back r k event good, λ is. bad (beginning_there r k (event + 1) is))
 
--- an answer in a beginning of the events with places
-answer_in : (r : Reading) (n event : ℕ) → IsAnAnswer (take n (moved r)) event → IsAnAnswer r.events event
-answer_in r n event a =
-    (a.0, a.1, answer_back (place_of r.places) r.events event a.0 a.1 (take_get n (moved r) event (Answer a.0 a.1) a.2).1)
+-- an answer of the events with places
+answer_in : (r : Reading) (event : ℕ) → IsAnAnswer (moved r) event → IsAnAnswer r.events event
+answer_in r event a =
+    (a.0, a.1, answer_back (place_of r.places) r.events event a.0 a.1 a.2)
 
--- a crowd in a beginning of the events with places
-crowd_in : (r : Reading) → IsKept r → (n event : ℕ) → IsCrowded (take n (moved r)) event → IsCrowded r.events event
-crowd_in r k n event w =
+-- a crowd of the events with places
+crowd_in : (r : Reading) → IsKept r → (event : ℕ) → IsCrowded (moved r) event → IsCrowded r.events event
+crowd_in r k event w =
     let place = place_of r.places in
     let back = address_of r.addresses in
-    let issue : (i : ℕ) (c : Call) → IsIssuedAt (take n (moved r)) i c → (i < n) × IsIssuedAt r.events i (moved_call back c) = λ i c h.
-    let g = take_get n (moved r) i (Issue c) h in
-    let b = issue_back place r.events i c g.1 in
+    let issue : (i : ℕ) (c : Call) → IsIssuedAt (moved r) i c → IsIssuedAt r.events i (moved_call back c) = λ i c h.
+    let b = issue_back place r.events i c h in
     let inverse = (renumbering r k).inverse i b.0 b.1 in
     let same : moved_call back c ≡ b.0 =
     ap (moved_call back) (sym b.2) ∙ ap (λ (a : ℕ). record { id = b.0.id; operation = record { address = a; op = b.0.operation.op } }) inverse in
-    (g.0, subst (λ (x : Call). IsIssuedAt r.events i x) (sym same) b.1) in
-    let now = issue event w.another w.issue in
+    subst (λ (x : Call). IsIssuedAt r.events i x) (sym same) b.1 in
+    let forth : (i id : ℕ) (reply : Reply) → IsAnsweredAt r.events i id reply → IsAnsweredAt (moved r) i id reply =
+    λ i id reply at. map_get (moved_event place) r.events i (Answer id reply) at in
+    let answered_forth : (id : ℕ) → IsAnswered r.events id → IsAnswered (moved r) id = λ id a. (a.0, a.1, forth a.0 id a.1 a.2) in
+    let answered_back : (id : ℕ) → IsAnswered (moved r) id → IsAnswered r.events id =
+    λ id a. (a.0, a.1, answer_back place r.events a.0 id a.1 a.2) in
     record {
       calls = map (moved_call back) w.calls;
       many = length-map w.calls (moved_call back) ∙ w.many;
@@ -175,16 +178,11 @@ crowd_in r k n event w =
           let g = get_map (moved_call back) w.calls s c h in
           let i = w.issued s g.0 g.1 in
           let at = issue i.0 g.0 i.2 in
-          (i.0, i.1, subst (λ (x : Call). IsIssuedAt r.events i.0 x) g.2 at.1);
+          (i.0, i.1, subst (λ (x : Call). IsIssuedAt r.events i.0 x) g.2 at);
       pending = λ s c h i reply at.
           let g = get_map (moved_call back) w.calls s c h in
           let e = ap (λ (x : Call). x.id) g.2 in
-          let there : IsAnsweredAt (moved r) i g.0.id reply =
-          map_get (moved_event place) r.events i (Answer g.0.id reply) (subst (λ (m : ℕ). IsAnsweredAt r.events i m reply) (sym e) at) in
-          ⊎_elim {C = event ≤ i}
-          (λ (l : i < n). w.pending s g.0 g.1 i reply (get_take n (moved r) i (Answer g.0.id reply) l there))
-          (λ (m : n ≤ i). let early = now.0 in omega arith)
-          (cases_lt i n);
+          w.pending s g.0 g.1 i reply (forth i g.0.id reply (subst (λ (m : ℕ). IsAnsweredAt r.events i m reply) (sym e) at));
       distinct = λ s u c d h m e.
           let g = get_map (moved_call back) w.calls s c h in
           let f = get_map (moved_call back) w.calls u d m in
@@ -193,17 +191,25 @@ crowd_in r k n event w =
           let g = get_map (moved_call back) w.calls s c h in
           ap (λ (x : Call). x.operation.address) (sym g.2) ∙ ap back (w.here s g.0 g.1);
       another = moved_call back w.another;
-      issue = now.1;
+      issue = issue event w.another w.issue;
+      later = λ s c h a.
+          let g = get_map (moved_call back) w.calls s c h in
+          subst (λ (n : ℕ). IsAnswered r.events n) (ap (λ (x : Call). x.id) g.2)
+          (answered_back g.0.id (w.later s g.0 g.1 (answered_forth w.another.id a)));
+      never = λ s c h a.
+          let g = get_map (moved_call back) w.calls s c h in
+          answered_back w.another.id (w.never s g.0 g.1
+          (answered_forth g.0.id (subst (λ (n : ℕ). IsAnswered r.events n) (sym (ap (λ (x : Call). x.id) g.2)) a)));
     }
 
 -- why it is not judged
-pub unfound : (r : Reading) → IsKept r → (why : Undecided) → IsUnjudged (moved r) why → IsUnfound (trace_read r) (unfound_at r.lines why)
+pub unfound : (r : Reading) → IsKept r → (why : Undecided) → IsUndecided (moved r) why → IsUnfound (trace_read r) (unfound_at r.lines why)
 unfound r k undecided.Memory u = tt
 unfound r k (undecided.Configurations event) u =
-    let a = answer_in r u.0 event u.1 in
+    let a = answer_in r event u in
     (event, line_is r k event (get_within r.events event (Answer a.0 a.1) a.2), a)
 unfound r k (undecided.Operations event) u =
-    let w = crowd_in r k u.0 event u.1 in
+    let w = crowd_in r k event u in
     (event, line_is r k event (get_within r.events event (Issue w.another) w.issue), w)
 
 -- the same, of the words and the events that the judge was given
@@ -230,11 +236,11 @@ no_given r k ws es w e event line tells l =
     let found = found_no r k event moved_tells.0 moved_tells.1 moved_tells.2 in
     (found.0, found.1 ∙ ap (λ (n : ℕ). Some n) (sym l), found.2, found.3)
 
-pub unfound_given : (r : Reading) → IsKept r → (es : List Event) → es ≡ moved r → (why : Undecided) (told : Unfound) → IsUnjudged es why
+pub unfound_given : (r : Reading) → IsKept r → (es : List Event) → es ≡ moved r → (why : Undecided) (told : Unfound) → IsUndecided es why
     → told ≡ unfound_at r.lines why → IsUnfound (trace_read r) told
 unfound_given r k es e why told u is =
     subst (λ (x : Unfound). IsUnfound (trace_read r) x) (sym is)
-    (unfound r k why (subst (λ (f : List Event). IsUnjudged f why) e u))
+    (unfound r k why (subst (λ (f : List Event). IsUndecided f why) e u))
 
 -- what a verdict tells, by its kind
 pub yes_told : {A : Type 0} (ws : List ℕ) (es : List Event) (verdict : Verdict A) (order : Vec Call A) → verdict ≡ Linearizable order

@@ -1,22 +1,18 @@
-use Rattle.std.proofs.Common.{length}
+use Rattle.std.proofs.Common.{length, refl}
 use Rattle.std.proofs.lemmas.Option.{MatchOption-at_none}
-use Rattle.std.proofs.lemmas.Result.{err_from_is_err_and}
-use Rattle.trace_judge.proofs.Boundary.{boundary_whole, trace_take, whole_unjudged, beginning_unjudged}
+use Rattle.trace_judge.proofs.Boundary.{boundary_from, trace_take, whole_beginning}
 use Rattle.trace_judge.proofs.judge.judge.Goals as goal
 
 pub loop-good-init : goal.loop-good-init
-loop-good-init g c = boundary_whole c.args.opening.now c.args.events.now
+loop-good-init g c = boundary_from c.args.opening.now c.args.events.now _
     (MatchOption-at_none {o = c.in_ok-order.field-0} _ _ c.in_default.is c.in_ok-order.ensures.decided)
+    (c.in_ok-order.ensures.ended c.in_default.is)
 
-pub decide-requires : goal.decide-requires
-decide-requires g c = trace_take (length c.args.opening.now) _ c.args.events.now c.requires
+pub find_order-requires-clause-beginning : goal.find_order-requires-clause-beginning
+find_order-requires-clause-beginning g c = whole_beginning c.args.events.now
 
-pub returns-in_err-order-clause-unjudged : goal.returns-in_err-order-clause-unjudged
-returns-in_err-order-clause-unjudged g c =
-    let p = err_from_is_err_and c.from_residual.result c.from_residual.ensures.1 in
-    rw (p.1, p.2) (whole_unjudged c.args.events.now _ c.in_err-order.ensures.undecided)
+pub find_order-requires-in-loop-good-clause-trace : goal.find_order-requires-in-loop-good-clause-trace
+find_order-requires-in-loop-good-clause-trace g c = trace_take (length c.args.opening.now) _ c.args.events.now c.requires
 
-pub returns-in_err-decide-clause-unjudged : goal.returns-in_err-decide-clause-unjudged
-returns-in_err-decide-clause-unjudged g c =
-    let p = err_from_is_err_and c.from_residual-in_err-decide.result c.from_residual-in_err-decide.ensures.1 in
-    rw (p.1, p.2) (beginning_unjudged c.args.events.now _ _ c.in_err-decide.ensures.undecided)
+pub find_order-requires-in-loop-good-clause-beginning : goal.find_order-requires-in-loop-good-clause-beginning
+find_order-requires-in-loop-good-clause-beginning g c = (_, refl)

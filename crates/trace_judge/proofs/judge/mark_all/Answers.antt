@@ -3,7 +3,7 @@ use Rattle.trace_search.specs.declared.opened.Node.{Node}
 use Rattle.trace_search.specs.Searches.{Picks}
 use Rattle.trace_judge.specs.Sets.{lists_of}
 use Rattle.std.proofs.lemmas.List.{with_items_is}
-use Rattle.trace_judge.proofs.Searching.{filled_length, head_in, firsts, picks_word}
+use Rattle.trace_judge.proofs.Firsts.{filled_length, head_in, firsts, picks_word}
 use Rattle.trace_judge.proofs.Marking.{picks_none, PicksSoFar}
 use Rattle.trace_judge.proofs.judge.mark_all.Goals as goal
 

@@ -1,6 +1,6 @@
 use Rattle.trace_judge.specs.Sets.{lists_of}
 use Rattle.trace_judge.proofs.Marking.{PicksSoFar}
-use Rattle.trace_judge.proofs.Searching.{firsts}
+use Rattle.trace_judge.proofs.Firsts.{firsts}
 use Rattle.trace_judge.proofs.judge.mark_all.Given as goal
 
 abbrev pub invariant-loop-word : goal.invariant-loop-word

@@ -1,8 +1,8 @@
-use Rattle.std.proofs.Common.{◌<◌, suc, ◌∙◌, length, length-set, refl, arith}
+use Rattle.std.proofs.Common.{◌<◌, suc, ◌∙◌, length, refl, arith}
 use Rattle.std.specs.Vec.{with_item}
 use Rattle.trace_search.proofs.Table.{at_within}
 use Rattle.trace_judge.specs.Sets.{lists_of}
-use Rattle.trace_judge.proofs.Searching.{seen_answer, answer_yes, answer_no, stays_some, goes_none, slot_low}
+use Rattle.trace_judge.proofs.Answering.{seen_answer, answer_yes, answer_no, stays_some, goes_none, slot_low}
 use Rattle.trace_judge.proofs.search.Search.answer.Goals as goal
 
 pub close-closed-requires-clause-inside : goal.close-closed-requires-clause-inside
@@ -37,16 +37,17 @@ returns-clause-yes g c = λ e.
     let later = c.in_ok-later.later in
     let ts = with_item s.tables w c.free.new.table in
     let ws = with_item s.words w later in
-    let done = seen_answer c.args.opening.now c.args.events.now c.args.k s ts ws c.close-closed.new.nodes slot a c.args.id
+    let done = seen_answer c.args.opening.now c.args.events.now c.args.whole.now c.args.k s ts ws c.close-closed.new.nodes slot a c.args.id
     c.args.reply c.index_mut.result.now c.index-2.result.now c.free.new.table c.deref-2.result.now c.index.result.now
     c.deref.result.now c.in-Ok.middle.items c.deref-3.result.now later
     c.requires.trace c.requires.answered c.place_of-slot.ensures.number c.place_of-slot.ensures.inside
     c.place_of-slot.ensures.there c.requires.holds c.index_mut.ensures.value c.index-2.ensures c.deref-2.ensures.value
     c.index.ensures c.deref.ensures.value c.deref-3.ensures.value refl c.free.ensures refl
     c.in-Ok.ensures.kept c.in-Ok.ensures.closed c.in-Ok.ensures.sound c.in_ok-later.ensures.from c.in_ok-later.ensures.released in
-    answer_yes c.args.opening.now c.args.events.now c.args.k s ts ws c.close-closed.new.nodes _ w later
-    c.place_of-slot.ensures.inside (stays_some later c.is_empty-stands.result c.is_empty-stands.ensures e) refl
-    (length-set s.tables.items w c.free.new.table) c.requires.holds done
+    answer_yes c.args.opening.now c.args.events.now c.args.whole.now c.args.k s ts ws c.close-closed.new.nodes _ w slot a
+    c.index_mut.result.now c.free.new.table later
+    c.place_of-slot.ensures.inside (stays_some later c.is_empty-stands.result c.is_empty-stands.ensures e)
+    c.index_mut.ensures.value c.place_of-slot.ensures.there refl c.free.ensures refl c.requires.holds done
 
 pub returns-clause-no : goal.returns-clause-no
 returns-clause-no g c = λ e.
@@ -57,13 +58,13 @@ returns-clause-no g c = λ e.
     let later = c.in_ok-later.later in
     let ts = with_item s.tables w c.free.new.table in
     let ws = with_item s.words w later in
-    let done = seen_answer c.args.opening.now c.args.events.now c.args.k s ts ws c.close-closed.new.nodes slot a c.args.id
+    let done = seen_answer c.args.opening.now c.args.events.now c.args.whole.now c.args.k s ts ws c.close-closed.new.nodes slot a c.args.id
     c.args.reply c.index_mut.result.now c.index-2.result.now c.free.new.table c.deref-2.result.now c.index.result.now
     c.deref.result.now c.in-Ok.middle.items c.deref-3.result.now later
     c.requires.trace c.requires.answered c.place_of-slot.ensures.number c.place_of-slot.ensures.inside
     c.place_of-slot.ensures.there c.requires.holds c.index_mut.ensures.value c.index-2.ensures c.deref-2.ensures.value
     c.index.ensures c.deref.ensures.value c.deref-3.ensures.value refl c.free.ensures refl
     c.in-Ok.ensures.kept c.in-Ok.ensures.closed c.in-Ok.ensures.sound c.in_ok-later.ensures.from c.in_ok-later.ensures.released in
-    answer_no c.args.opening.now c.args.events.now c.args.k s (lists_of ts.items) ws.items c.close-closed.new.nodes.items w later
+    answer_no c.args.opening.now c.args.events.now c.args.whole.now c.args.k s (lists_of ts.items) ws.items c.close-closed.new.nodes.items w later
     c.place_of-slot.ensures.inside (goes_none later c.is_empty-stands.result c.is_empty-stands.ensures e) refl
     c.requires.holds.sized done

@@ -1,0 +1,56 @@
+use Rattle.std.proofs.Common.{◌<◌, length, arith, refl}
+use Rattle.std.specs.Int.{bit_at}
+use Rattle.trace_search.proofs.Bits.{not_both}
+use Rattle.std.proofs.lemmas.Option.{slice_get_read}
+use Rattle.trace_judge.proofs.Branches.{stays_more}
+use Rattle.trace_judge.proofs.Closings.{closing_none, closing_skip, closing_expand, closing_all, closing_kept}
+use Rattle.trace_judge.proofs.closing.go_on.Goals as goal
+use Rattle.trace_judge.proofs.closing.go_on.Goals.{then-not-has+in_ok-widen+in_ok-expand, else-not-has}
+
+pub loop-next-init : goal.loop-next-init
+loop-next-init g c =
+    closing_none c.args.table.now c.args.address c.args.slot c.in_ok-found.found.items c.settle_all.new.nodes.items
+    c.args.bound c.in_ok-found.ensures.bounded
+
+pub loop-next-preserved : goal.loop-next-preserved
+loop-next-preserved g c =
+    let l : c.loop-next.next < length c.loop-next.found.items = omega arith in
+    elim c.if-not-has.branch [
+      | then-not-has+in_ok-widen+in_ok-expand w ↦ rw (w.found-is, w.nodes-is)
+          (closing_expand c.args.table.now c.args.address c.args.slot c.in_ok-found.found.items c.settle_all.new.nodes.items
+          c.args.bound c.loop-next.next c.loop-next.found.items
+          w.expand.new.found.items c.loop-next.nodes.items w.expand.new.nodes.items c.index-from.result.now
+          (slice_get_read c.loop-next.found.items
+          (length c.loop-next.found.items) c.loop-next.next c.index-from.result.now refl l c.index-from.ensures) w.in_ok-expand.ensures.expanded
+          w.in_ok-expand.ensures.grows w.in_ok-expand.ensures.bounded w.in_ok-expand.ensures.sound c.loop-next.invariant)
+      | else-not-has w ↦ rw (w.found-is, w.nodes-is)
+          (closing_skip c.args.table.now c.args.address c.args.slot c.in_ok-found.found.items c.settle_all.new.nodes.items
+          c.args.bound c.loop-next.next c.loop-next.found.items
+          c.loop-next.nodes.items c.index-from.result.now
+          (slice_get_read c.loop-next.found.items
+          (length c.loop-next.found.items) c.loop-next.next c.index-from.result.now refl l c.index-from.ensures)
+          (λ left. not_both (bit_at c.index-from.result.now.config.taken c.args.slot) left
+          (w.if-not-has.ensures.taken refl)) c.loop-next.invariant)
+    ]
+
+pub returns-clause-kept : goal.returns-clause-kept
+returns-clause-kept g c =
+    closing_kept c.args.table.now c.args.address c.args.slot c.args.branches.now c.in_ok-found.found.items
+    c.settle_all.new.nodes.items c.args.bound c.loop-next.next c.loop-next.found.items c.loop-next.nodes.items
+    c.in_ok-found.ensures.kept c.loop-next.invariant
+
+pub returns-clause-closed : goal.returns-clause-closed
+returns-clause-closed g c =
+    closing_all c.args.table.now c.args.address c.args.slot c.in_ok-found.found.items c.settle_all.new.nodes.items
+    c.args.bound c.loop-next.next c.loop-next.found.items c.loop-next.nodes.items (omega arith) c.loop-next.invariant
+
+pub returns-clause-sound : goal.returns-clause-sound
+returns-clause-sound g c =
+    stays_more c.args.table.now c.args.address c.args.branches.now c.in_ok-found.found.items c.loop-next.found.items
+    c.args.nodes.now.items c.settle_all.new.nodes.items c.loop-next.nodes.items
+    c.in_ok-found.ensures.sound c.loop-next.invariant.sound
+
+pub expand-requires-clause-there : goal.expand-requires-clause-there
+expand-requires-clause-there g c =
+    let l : c.loop-next.next < length c.loop-next.found.items = omega arith in
+    (c.loop-next.next, slice_get_read c.loop-next.found.items (length c.loop-next.found.items) c.loop-next.next c.index-from.result.now refl l c.index-from.ensures)
