@@ -1,0 +1,5 @@
+pub mod Places
+pub mod Reaching
+pub mod Listing
+pub mod Growing
+pub mod Bad
