@@ -3,3 +3,4 @@ pub mod Reaching
 pub mod Listing
 pub mod Growing
 pub mod Bad
+pub mod Telling

@@ -1,5 +1,5 @@
 -- Lists that are made of a trace, event by event.
-use Rattle.std.proofs.Common.{◌≡◌, ◌⊎◌, ⊎_elim, ℕ, zero, suc, ◌+◌, ◌<◌, ◌≤◌, List, [], ◌∷◌, ◌++◌, length, Some, None, refl, sym, ◌∙◌, ap, subst, arith, slice_get}
+use Rattle.std.proofs.Common.{◌≡◌, ◌⊎◌, ⊎_elim, ℕ, ◌+◌, ◌<◌, ◌≤◌, List, [], ◌∷◌, ◌++◌, length, Some, None, sym, ◌∙◌, ap, subst, arith, slice_get}
 use Rattle.std.specs.Prelude.{Contains, Option, IfSome, MatchOption}
 use Rattle.std.proofs.lemmas.Bool.{cases_lt}
 use Rattle.std.proofs.lemmas.List.Elements.{Contains-push, Contains-push_cases, Contains-append_left}
@@ -12,7 +12,7 @@ use Rattle.trace_order.proofs.Lists.{get_push_cases, get_within, same_get}
 use Rattle.trace_order.proofs.Issues.{one_issue, one_call}
 use Rattle.trace_why.specs.declared.calls.CallAt.{CallAt}
 use Rattle.trace_why.specs.Calls.{IsOpenOn, AreOpenOn, IsAnsweredOn, IsOver}
-use Rattle.trace_why.specs.Values.{left_by, AreLeft}
+use Rattle.trace_why.specs.Values.{left_by}
 use Rattle.trace_why.proofs.Places.{in_contains}
 
 -- an operation with its event

@@ -1,5 +1,5 @@
 -- What an operation finds is among the values that are reached.
-use Rattle.std.proofs.Common.{◌≡◌, ◌≢◌, ◌⊎◌, inl, inr, ⊎_elim, ℕ, zero, suc, ◌+◌, ◌<◌, ◌≤◌, List, [], ◌∷◌, ◌++◌, length, Some, refl, sym, ◌∙◌, ap, subst, arith, slice_get, get_or, take}
+use Rattle.std.proofs.Common.{◌≡◌, ◌≢◌, inl, inr, ⊎_elim, ℕ, zero, suc, ◌+◌, ◌<◌, ◌≤◌, List, length, Some, refl, sym, ◌∙◌, ap, subst, arith, slice_get, get_or, take}
 use Rattle.std.specs.Prelude.{Contains, unwrap_or}
 use Rattle.std.proofs.lemmas.List.FromFn.{length-map-range_with_len}
 use Rattle.trace_text.specs.Traced.{TraceSpec, opening_of, value_at}
@@ -7,19 +7,19 @@ use Rattle.std.proofs.lemmas.Bool.{cases_eq, cases_lt}
 use Rattle.packet.specs.declared.kinds.Op.{Op}
 use Rattle.packet.specs.declared.kinds.Op.TheVariants.{Load, Store, Swap, Cas, Add, And, Or, Xor, Max, Min}
 use Rattle.packet.specs.declared.kinds.Reply.{Reply}
-use Rattle.packet.specs.declared.kinds.Reply.TheVariants.{Old, Ok as Stored}
+use Rattle.packet.specs.declared.kinds.Reply.TheVariants.{Old}
 use Rattle.packet.specs.Memory.{new_word, reply_to}
 use Rattle.trace_order.specs.declared.event.Call.{Call}
 use Rattle.trace_order.specs.declared.event.Event.{Event}
 use Rattle.trace_order.specs.Traces.{IsTrace, IsIssuedAt, IsAnsweredAt, IsUnanswered}
-use Rattle.trace_order.specs.Orders.{IsOn, IsOrder, IsLinearizable, memory_of}
+use Rattle.trace_order.specs.Orders.{IsOn, IsOrder, memory_of}
 use Rattle.trace_order.proofs.Lists.{within_length, get_within, take_push}
 use Rattle.trace_order.proofs.Issues.{one_issue, one_call}
 use Rattle.trace_order.proofs.Memory.{word_changed, word_kept}
 use Rattle.trace_text.specs.Allowed.{answered_so, IsAllowed}
 use Rattle.trace_text.proofs.Allowing.{issue_before, issue_kept, answer_kept, answer_last}
 use Rattle.trace_why.specs.declared.calls.CallAt.{CallAt}
-use Rattle.trace_why.specs.Calls.{IsOpenOn, AreOpenOn, IsAnsweredOn, IsOver, IsAnswered}
+use Rattle.trace_why.specs.Calls.{IsOpenOn, AreOpenOn, IsAnsweredOn, IsOver}
 use Rattle.trace_why.specs.Values.{left_by, AreLeft, IsStart, IsReached}
 use Rattle.trace_why.proofs.Places.{IsIn, in_contains, contains_in, without, length-without, in_without, without_in, answered_or_not}
 

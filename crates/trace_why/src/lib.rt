@@ -6,11 +6,13 @@ mod answers;
 pub mod calls;
 pub mod laws;
 mod open;
+pub mod sentence;
 mod start;
 pub mod untold;
 mod values;
 pub mod why;
 
 pub use calls::CallAt;
+pub use sentence::{IssueLine, NoOrderSentence, no_order_sentence};
 pub use untold::Untold;
 pub use why::{WhyNot, why_not};

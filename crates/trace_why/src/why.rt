@@ -45,7 +45,7 @@ fn candidates<A: Allocator + Copy>(
     event: usize,
     issue: CallAt,
     pending: &[CallAt],
-    bound: usize,
+    tries: usize,
 ) -> Result<Vec<u64, A>, Untold>
     requires answered { IsAnswered trace.now.events event issue }
     requires pending { AreOpenOn trace.now.events event issue.call.operation.address pending.now }
@@ -57,8 +57,8 @@ fn candidates<A: Allocator + Copy>(
     let events = trace.events();
     let address = issue.call.operation.address;
     let (from, mut values) = start(alloc, trace, issue.event, address)?;
-    add_answers(events, from, event, address, &mut values, bound)?;
-    reach(alloc, &mut values, pending, bound)?;
+    add_answers(events, from, event, address, &mut values, tries)?;
+    reach(alloc, &mut values, pending, tries)?;
     Ok(values)
 }
 
@@ -97,7 +97,7 @@ fn sort<A: Allocator>(values: &mut Vec<u64, A>)
 }
 
 /// What an answer may tell at an event that answers an operation, and what is open on its word there;
-/// `None` where the event is no answer. At most so many values are tried, each with at most so many
+/// `None` where the event is no answer. At most `tries` values are tried, each with at most `bound`
 /// configurations of a word at once.
 ///
 /// Errors: too many values, or one of which it isn't decided, or no memory.
@@ -105,6 +105,7 @@ pub fn why_not<A: Allocator + Copy>(
     alloc: A,
     trace: &TraceText<A>,
     event: usize,
+    tries: usize,
     bound: usize,
 ) -> Result<Option<WhyNot<A>>, Untold>
     ensures told { IfOk result (λ found. MatchOption found
@@ -123,7 +124,7 @@ pub fn why_not<A: Allocator + Copy>(
     };
     let address = issue.call.operation.address;
     let pending = open_on(alloc, events, event, address)?;
-    let tried = candidates(alloc, trace, event, issue, &pending, bound)?;
+    let tried = candidates(alloc, trace, event, issue, &pending, tries)?;
     let mut values = allowed(alloc, trace, event, id, &tried, bound)?;
     sort(&mut values);
     Ok(Some(WhyNot {

@@ -1,4 +1,4 @@
-use Rattle.std.proofs.Common.{◌<◌, ℕ, subst, arith, sym}
+use Rattle.std.proofs.Common.{ℕ, subst, arith, sym}
 use Rattle.std.specs.Prelude.{Contains}
 use Rattle.trace_why.proofs.Listing.{adding_skip, adding_one}
 use Rattle.std.proofs.lemmas.Result.{err_from_is_err_and}

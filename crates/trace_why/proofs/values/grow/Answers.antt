@@ -1,4 +1,4 @@
-use Rattle.std.proofs.Common.{◌<◌, ◌≤◌, length, arith, sym, subst}
+use Rattle.std.proofs.Common.{◌<◌, length, arith, sym, subst}
 use Rattle.std.proofs.lemmas.Option.{slice_get-get_or}
 use Rattle.trace_why.proofs.Growing.{growing, grown_all}
 use Rattle.std.proofs.lemmas.Result.{err_from_is_err_and}

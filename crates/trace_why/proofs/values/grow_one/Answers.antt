@@ -1,4 +1,4 @@
-use Rattle.std.proofs.Common.{◌≡◌, ◌<◌, ◌≤◌, ℕ, length, ap, subst, arith, sym}
+use Rattle.std.proofs.Common.{◌<◌, ℕ, length, ap, subst, arith, sym}
 use Rattle.std.specs.Prelude.{Contains}
 use Rattle.std.proofs.lemmas.Option.{slice_get-get_or}
 use Rattle.packet.specs.declared.kinds.Reply.{Reply}

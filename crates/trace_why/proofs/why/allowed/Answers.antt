@@ -1,4 +1,4 @@
-use Rattle.std.proofs.Common.{◌<◌, ◌≤◌, ℕ, length, arith}
+use Rattle.std.proofs.Common.{◌<◌, length, arith}
 use Rattle.std.proofs.lemmas.Option.{slice_get-get_or}
 use Rattle.packet.specs.declared.kinds.Reply.TheVariants.{Old}
 use Rattle.trace_text.specs.Allowed.{IsAllowed}
