@@ -165,6 +165,18 @@ def torusmem(*words: str, program: str | None = None, fine: tuple[int, ...] = (0
         return printed.read().decode("utf-8", "replace")
 
 
+def explained(path: str, *words: str) -> list[str]:
+    """What the program says of a text with `--explain`, behind its first line: each line without the text's name."""
+    program = os.environ.get("TORUSMEM") or os.path.join(ROOT, "torusmem")
+    null, pipe = subprocess.DEVNULL, subprocess.PIPE
+    try:
+        asked = subprocess.run([program, *words, path, "--explain"], stdin=null, stdout=null, stderr=pipe, check=False)
+    except OSError as fault:
+        raise Refusal(f"cannot run {program}: {fault.strerror or fault}") from None
+    lines = asked.stderr.decode("utf-8", "replace").split("\n")
+    return [it[len(path) + 1 :] for it in lines if it.startswith(f"{path}:")]
+
+
 def last_line(lines: Iterable[bytes]) -> str:
     """The last of the lines. Those before it, as those of a first build, go to standard error at once."""
     last = b""

@@ -40,12 +40,15 @@ class Operation:
 
 @dataclass
 class Trace:
-    """A trace, the line of each event, what is said of it, and the event from which on there is no order."""
+    """A trace, the line of each event, what is said of it, the event from which on there is no order, why there is none,
+    and the events that issue what is open on the word there."""
 
     operations: List[Operation]
     lines: List[int]
     verdict: str = ""
     bad: Optional[int] = None
+    why: str = ""
+    pending: Tuple[int, ...] = ()
 
 
 def is_trace(path: str) -> bool:
@@ -83,12 +86,14 @@ def parsed(text: bytes) -> Trace:
 
 def read(text: bytes, name: str) -> Trace:
     """The trace of a text, with what `torusmem linearize` says of it."""
-    order = ""
+    order, reasons = "", []  # type: str, List[str]
     with command.kept(text) as path:
         try:
             order, said = command.torusmem("linearize", path), "linearizable"
         except command.Refusal as why:
             said = str(why)
+        if said.startswith("not linearizable"):
+            reasons = command.explained(path, "linearize")
     if order == "" and not re.match("(not linearizable|undecided) at line [0-9]+", said):
         raise command.Refusal(f"{name}: {said}")
     found = parsed(text)
@@ -98,6 +103,9 @@ def read(text: bytes, name: str) -> Trace:
         it.place = places.get((str(it.processor), str(it.index)))
     bad = re.fullmatch("not linearizable at line ([0-9]+)", said)
     found.bad = found.lines.index(int(bad[1])) + 1 if bad else None
+    if reasons:
+        found.why = f"line {reasons[0]}"
+        found.pending = tuple(found.lines.index(int(it.split(":")[0])) + 1 for it in reasons[1:])
     return found
 
 
@@ -133,15 +141,15 @@ def window_of(trace: Trace, first: Optional[int], last: Optional[int]) -> Window
     return Window(begin, end, out[:MOST])
 
 
-def drawn_bar(it: Operation, window: Window, top: float, is_bad: bool) -> str:
-    """An operation: a bar from its issue to its answer, dashed and open where it is never answered."""
+def drawn_bar(it: Operation, window: Window, top: float, width: int) -> str:
+    """An operation: a bar from its issue to its answer, dashed and open where it is never answered. Its border is red
+    where that is wide."""
     start, end = window.at(it.issued), window.at(it.answered or window.last + 1)
     address = int(it.asked.split()[1])
-    stroke = RED if is_bad else drawing.colour(address % 97, 0.36)
+    stroke = RED if width > 1 else drawing.colour(address % 97, 0.36)
     dashed = None if it.answered else "4 3"
     parts = [drawing.title(it.told())]
     fill = drawing.colour(address % 97, 0.88)
-    width = 3 if is_bad else 1
     parts.append(
         drawing.element(
             "rect", x=start, y=top, width=end - start, height=BAR, fill=fill, stroke=stroke, stroke_width=width,
@@ -162,8 +170,11 @@ def drawn(trace: Trace, window: Window) -> str:
     parts = [drawing.text(12, 24, f"a trace, {trace.verdict}: {events}", 14, font_weight="bold")]
     how = "a bar: from issue to answer, with the operation and its reply; dashed: no answer; colours are words"
     parts.append(drawing.text(12, 44, how))
+    if trace.why:
+        parts.append(drawing.text(12, 64, trace.why, fill=RED))
     bars: List[str] = []
-    low = 76.0
+    top = 96.0 if trace.why else 76.0
+    low = top
     for processor in sorted({it.processor for it in window.operations}):
         own = [it for it in window.operations if it.processor == processor]
         rows = report.rows_of(own)  # type: ignore[arg-type]
@@ -172,12 +183,12 @@ def drawn(trace: Trace, window: Window) -> str:
         parts.append(drawing.text(12, low + height / 2 + 4, f"processor {processor}"))
         for it, row in zip(own, rows):
             is_bad = trace.bad is not None and trace.bad in (it.issued, it.answered)
-            bars.append(drawn_bar(it, window, low + GAP + ROW * row, is_bad))
+            bars.append(drawn_bar(it, window, low + GAP + ROW * row, 3 if is_bad else 2 if it.issued in trace.pending else 1))
         low += height + 2
     for event in range(window.first, window.last + 1):
         if (event - window.first) % 5 == 0 or event == trace.bad:
             x, colour = window.at(event), RED if event == trace.bad else "#d0d7de"
-            bars.insert(0, drawing.element("path", d=drawing.path([(x, 72), (x, low)]), stroke=colour))
+            bars.insert(0, drawing.element("path", d=drawing.path([(x, top - 4), (x, low)]), stroke=colour))
             if event == trace.bad or trace.bad is None or abs(event - trace.bad) > 2:
-                bars.append(drawing.text(x, 68, str(event), FONT, text_anchor="middle"))
+                bars.append(drawing.text(x, top - 8, str(event), FONT, text_anchor="middle"))
     return drawing.svg(window.width(), low + 12, [*parts, *bars])

@@ -13,6 +13,7 @@ use std::fmt::Display;
 use std::io::ErrorKind;
 use torus::Fault;
 use trace_reasons::trace_sentence;
+use trace_why::no_order_sentence;
 
 /// Says why a text can't be read, where there is a word for it.
 pub(crate) fn explain_unread<R: Eprint>(rt: &R, name: &str, why: Unread) {
@@ -66,6 +67,23 @@ fn told<R: Eprint, S: Display + Drop>(rt: &R, sentence: Option<S>) -> bool {
     };
     let _ = eprintln!(rt; "{sentence}");
     true
+}
+
+/// Says why no order explains the trace of a job from a line on, where that can be told with at most so
+/// many configurations of a word at once.
+pub(crate) fn explain_no_order<R: Eprint + AllocGlobal>(
+    rt: &R,
+    job: &Job,
+    texts: &Texts,
+    line: u64,
+    configurations: u32,
+) {
+    let Job::Linearize { trace, .. } = *job else {
+        return;
+    };
+    let trace = named(trace, &texts.first);
+    let sentence = no_order_sentence(rt.alloc(), trace, line, u64::from(configurations));
+    let _ = told(rt, sentence);
 }
 
 /// Says while what a request for memory was refused: at the same text once more, or behind all.

@@ -15,7 +15,7 @@ use commands::{
     Open, ProgramFault, channels_text, check_text, fault_text, round_text_with, route_text,
     run_text_with, status_of, steps_text_with,
 };
-use explaining::{explain, explain_unread};
+use explaining::{explain, explain_no_order, explain_unread};
 use kept::Kept;
 use linearize_command::{Judged, linearize_text, status, verdict_text};
 use network_command::network_text;
@@ -99,7 +99,14 @@ fn done<R: Files + Input + Print + Eprint + Clock + AllocGlobal + Threads + Wait
         Err(Failure::Fault(fault)) => return fault_told(rt, fault),
     };
     match printed(rt, request, &texts, is_seen) {
-        Ok(answer) => status_told(rt, answer),
+        Ok(answer) => {
+            let no_order = line_without_order(&answer);
+            let status = status_told(rt, answer);
+            if is_explained && let Some((line, configurations)) = no_order {
+                explain_no_order(rt, &request.job, &texts, line, configurations);
+            }
+            status
+        }
         Err(fault) => {
             let status = fault_told(rt, fault);
             if is_explained {
@@ -107,6 +114,16 @@ fn done<R: Files + Input + Print + Eprint + Clock + AllocGlobal + Threads + Wait
             }
             status
         }
+    }
+}
+
+/// The line from which on no order explains a trace, and how many configurations were allowed.
+fn line_without_order(answer: &Outcome) -> Option<(u64, u32)> {
+    match answer {
+        Outcome::Judged(Judged::NotLinearizable { line }, configurations) => {
+            Some((*line, *configurations))
+        }
+        _ => None,
     }
 }
 

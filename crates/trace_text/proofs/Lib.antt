@@ -1,3 +1,4 @@
+pub mod Allowing
 pub mod Answered
 pub mod Entries
 pub mod Found

@@ -1,3 +1,4 @@
+pub mod Allowed
 pub mod Findings
 pub mod Form
 pub mod Inside

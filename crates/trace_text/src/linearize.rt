@@ -1,18 +1,21 @@
 //! Judges the trace of a text: the words that its operations name are numbered from 0 for it.
 
-ghost use Rattle.std.specs.Prelude.{◌≡◌, ◌<◌, map, unwrap_or, length, IfOk, IfErr};
+ghost use Rattle.std.specs.Prelude.{◌≡◌, ◌<◌, true, false, map, unwrap_or, length, slice_index, IfOk, IfErr};
 ghost use Rattle.std.specs.List.{slice_index_or};
+ghost use Rattle.packet.specs.declared.kinds.Reply.{Reply};
+ghost use Rattle.trace_order.specs.Traces.{IsAnsweredAt};
+ghost use Rattle.trace_text.specs.Allowed.{IsAllowed};
 ghost use Rattle.trace_text.specs.Findings.{Tells, IsUnfound, trace_read, place_of, address_of, words_of, unfound_at};
 ghost use Rattle.trace_text.specs.Kept.{IsKept};
 ghost use Rattle.trace_text.specs.Renumbered.{moved_call, moved_event};
-ghost use Rattle.trace_text.specs.Traced.{value_at};
+ghost use Rattle.trace_text.specs.Traced.{value_at, opening_of};
 ghost use Rattle.trace_text.specs.Views.{reading_of};
 
 use crate::reading::Reading;
-use packet::Operation;
+use packet::{Operation, Reply};
 use std::alloc::{AllocError, Allocator};
 use std::collections::BTreeMap;
-use trace_judge::judge::{Verdict, judge};
+use trace_judge::judge::{Verdict, decide, judge};
 use trace_judge::undecided::Undecided;
 use trace_order::{Call, Event};
 
@@ -183,5 +186,43 @@ impl<A: Allocator + Copy> Reading<A> {
             }),
             Err(why) => Err(self.at_line(why)),
         }
+    }
+
+    /// Whether an operation may be answered so at an event that answers it, decided with at most so many
+    /// configurations of a word at once.
+    pub(crate) fn allows(
+        &self,
+        alloc: A,
+        event: usize,
+        id: u64,
+        reply: Reply,
+        bound: usize,
+    ) -> Result<bool, Unfound>
+        requires kept { IsKept (reading_of self.now) }
+        requires answered { (told : Reply) × IsAnsweredAt self.now.events.items event id told }
+        ensures yes { IfOk result (λ b. b ≡ true → IsAllowed
+            (opening_of (trace_read (reading_of self.now))) self.now.events.items event id reply) }
+        ensures no { IfOk result (λ b. b ≡ false → IsAllowed
+            (opening_of (trace_read (reading_of self.now))) self.now.events.items event id reply
+            → ⊥) }
+        ensures unfound { IfErr result (IsUnfound (trace_read (reading_of self.now))) }
+    {
+        let opening = words_of(alloc, &self.inits, &self.addresses)?;
+        let mut events = moved_events(alloc, &self.places, &self.events[..event])?;
+        if events.push(Event::Answer(id, reply)).is_err() {
+            return Err(Unfound::Memory);
+        }
+        match decide(alloc, &opening, &events, bound) {
+            Ok(order) => Ok(order.is_some()),
+            Err(why) => Err(self.at_line(why)),
+        }
+    }
+
+    /// The opening word at an address.
+    pub(crate) fn opening_word(&self, address: u32) -> u64
+        requires { address < self.now.words }
+        ensures { result ≡ slice_index (opening_of (trace_read (reading_of self.now))) address }
+    {
+        word_at(&self.inits, address)
     }
 }

@@ -1,19 +1,26 @@
 //! Reads a trace text.
 
-ghost use Rattle.std.specs.Prelude.{◌≡◌, IfOk, IfErr};
+ghost use Rattle.std.specs.Prelude.{◌≡◌, ◌<◌, ℕ, true, false, length, slice_index, IfOk, IfErr};
 ghost use Rattle.std.specs.Str.Lines.{lines};
+ghost use Rattle.packet.specs.declared.kinds.Reply.{Reply};
 ghost use Rattle.script.specs.Outcome.{Gives, line_of_fault};
+ghost use Rattle.trace_order.specs.declared.event.Call.{Call};
+ghost use Rattle.trace_order.specs.Traces.{IsTrace, IsIssuedAt, IsAnsweredAt};
+ghost use Rattle.trace_text.specs.Allowed.{IsAllowed};
 ghost use Rattle.trace_text.specs.Findings.{Tells, IsUnfound};
-ghost use Rattle.trace_text.specs.Traced.{trace_of};
+ghost use Rattle.trace_text.specs.Kept.{IsKnownAs};
+ghost use Rattle.trace_text.specs.Traced.{trace_of, opening_of};
 
 use crate::issued::Issued;
 use crate::linearize::{Finding, Unfound};
 use crate::reading::Reading;
 use lexer::{first_words, next_line};
+use packet::Reply;
 use script::LineFault;
 use std::alloc::{Allocator, Global};
 use std::marker::Model;
 use torus::Fault;
+use trace_order::Event;
 
 /// A trace as its text gives it.
 #[derive(Drop)]
@@ -47,6 +54,24 @@ impl<A: Allocator> TraceText<A> {
     {
         &self.reading.issued
     }
+
+    /// The events: an issue has the number of the issues before it.
+    pub fn events(&self) -> &[Event]
+        ensures value { result.now ≡ self.now.events }
+        ensures trace { IsTrace self.now.words self.now.events }
+        ensures known { (i : ℕ) (call : Call) → IsIssuedAt self.now.events i call
+            → IsKnownAs self.now.issued call }
+    {
+        &self.reading.events
+    }
+
+    /// The line of each event.
+    pub fn lines(&self) -> &[u64]
+        ensures value { result.now ≡ self.now.lines }
+        ensures each { length self.now.lines ≡ length self.now.events }
+    {
+        &self.reading.lines
+    }
 }
 
 impl<A: Allocator + Copy> TraceText<A> {
@@ -59,6 +84,37 @@ impl<A: Allocator + Copy> TraceText<A> {
         ensures found { IfOk result (λ finding. Tells self.now finding) }
     {
         self.reading.linearize(alloc, bound)
+    }
+
+    /// Whether an operation may be answered so at an event that answers it, which is counted from 0: the
+    /// events before it and this answer are linearizable. It is decided with at most so many
+    /// configurations of a word at once.
+    ///
+    /// Errors: the line at which there are too many configurations or open operations, or no memory.
+    pub fn allows(
+        &self,
+        alloc: A,
+        event: usize,
+        id: u64,
+        reply: Reply,
+        bound: usize,
+    ) -> Result<bool, Unfound>
+        requires { (told : Reply) × IsAnsweredAt self.now.events event id told }
+        ensures yes { IfOk result (λ b. b ≡ true
+            → IsAllowed (opening_of self.now) self.now.events event id reply) }
+        ensures no { IfOk result (λ b. b ≡ false
+            → IsAllowed (opening_of self.now) self.now.events event id reply → ⊥) }
+        ensures unfound { IfErr result (IsUnfound self.now) }
+    {
+        self.reading.allows(alloc, event, id, reply, bound)
+    }
+
+    /// The opening word at an address.
+    pub fn opening_word(&self, address: u32) -> u64
+        requires { address < self.now.words }
+        ensures { result ≡ slice_index (opening_of self.now) address }
+    {
+        self.reading.opening_word(address)
     }
 }
 

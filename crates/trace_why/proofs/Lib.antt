@@ -1,0 +1,6 @@
+pub mod Places
+pub mod Reaching
+pub mod Listing
+pub mod Growing
+pub mod Bad
+pub mod Telling

@@ -1,0 +1,5 @@
+use Rattle.trace_why.proofs.Growing.{Growing}
+use Rattle.trace_why.proofs.values.grow.Given as goal
+
+abbrev pub invariant-loop-value : goal.invariant-loop-value
+invariant-loop-value g l = Growing l.calls l.value-items l.value-index l.initial.values.items l.values.items

@@ -1,0 +1,252 @@
+//! The sentences that tell a reader why a trace has no order.
+
+ghost use Rattle.std.specs.Prelude.{◌≡◌, ℕ, Some, IfOk, IfSome, MatchOption, Contains, slice_get};
+ghost use Rattle.std.specs.Str.Lines.{lines};
+ghost use Rattle.trace_order.specs.Traces.{IsIssuedAt};
+ghost use Rattle.trace_why.specs.declared.calls.CallAt.{CallAt};
+ghost use Rattle.trace_why.specs.Told.{IsLineOf, AreLinesOf, TellsNoOrder};
+
+use crate::calls::CallAt;
+use crate::why::{WhyNot, why_not};
+use explained::Named;
+use packet::{Op, Operation, Reply};
+use std::alloc::{AllocError, Allocator, Global};
+use std::fmt;
+use trace_text::{TraceText, read_trace};
+
+/// An operation, as the text of a trace issues it.
+#[derive(Clone, Copy)]
+pub struct IssueLine {
+    /// The line that issues it.
+    pub line: u64,
+    pub processor: u32,
+    /// How many operations of this processor were issued before.
+    pub index: u64,
+    pub operation: Operation,
+}
+
+/// Why a trace has no order from a line on, as a reader is told:
+/// `trace.txt:6: answer 1 0 0: no order gives 0: word 5 can be 17`, and a line for each operation that is
+/// open on the word there.
+#[derive(Drop)]
+pub struct NoOrderSentence<'a, A: Allocator = Global> {
+    /// The name of the text.
+    pub name: &'a str,
+    /// The line of the answer.
+    pub line: u64,
+    pub why: WhyNot<A>,
+    /// Of each operation that is open how it is issued.
+    pub pending: Vec<IssueLine, A>,
+}
+
+/// The most events that are gone through for all values together, about.
+const MOST_EVENTS: usize = 1 << 23;
+
+/// How many values are tried for an answer behind so many events: 8 to 4096.
+fn tries(events: usize) -> usize {
+    if events >= MOST_EVENTS / 8 {
+        return 8;
+    }
+    if events <= MOST_EVENTS / 4096 {
+        return 4096;
+    }
+    MOST_EVENTS / events
+}
+
+/// The first event of a line.
+fn event_at(lines: &[u64], line: u64) -> Option<usize>
+    ensures { MatchOption result
+        ((k : ℕ) → slice_get lines.now k ≡ Some line → ⊥)
+        (λ k. slice_get lines.now k ≡ Some line) }
+{
+    for k in 0..lines.len() {
+        if lines[k] == line {
+            return Some(k);
+        }
+    }
+    None
+}
+
+/// How the text of a trace issues an operation.
+fn line_of<A: Allocator>(trace: &TraceText<A>, call: CallAt) -> IssueLine
+    requires { IsIssuedAt trace.now.events call.event call.call }
+    ensures { IsLineOf trace.now call result }
+{
+    let _events = trace.events();
+    let lines = trace.lines();
+    let line = lines[call.event];
+    let issued = trace.issued();
+    let known = issued[call.call.id as usize];
+    IssueLine {
+        line,
+        processor: known.processor,
+        index: known.index,
+        operation: call.call.operation,
+    }
+}
+
+/// How the text of a trace issues some operations.
+fn lines_of<A: Allocator + Copy>(
+    alloc: A,
+    trace: &TraceText<A>,
+    calls: &[CallAt],
+) -> Result<Vec<IssueLine, A>, AllocError>
+    requires { (c : CallAt) → Contains calls.now c
+        → IsIssuedAt trace.now.events c.event c.call }
+    ensures { IfOk result (λ found. AreLinesOf trace.now calls.now found.items) }
+{
+    let mut found = Vec::new(alloc);
+    for call in calls {
+        found.push(line_of(trace, *call))?;
+    }
+    Ok(found)
+}
+
+/// Why a trace has no order from the answer of a line on; `None` where the text has a fault or the line
+/// no answer, or too many values had to be tried, or one isn't decided with at most `bound`
+/// configurations of a word at once, or memory was refused.
+pub fn no_order_sentence<'a, A: Allocator + Copy>(
+    alloc: A,
+    trace: Named<'a>,
+    line: u64,
+    bound: u64,
+) -> Option<NoOrderSentence<'a, A>>
+    ensures name { IfSome result (λ s. s.name.now ≡ trace.entry.name.now) }
+    ensures told { IfSome result (TellsNoOrder (lines trace.entry.text.now) line) }
+{
+    let Ok(text) = read_trace(alloc, trace.text) else {
+        return None;
+    };
+    let event = event_at(text.lines(), line)?;
+    let Ok(Some(why)) = why_not(alloc, &text, event, tries(event), bound as usize) else {
+        return None;
+    };
+    let Ok(pending) = lines_of(alloc, &text, &why.pending) else {
+        return None;
+    };
+    Some(NoOrderSentence {
+        name: trace.name,
+        line,
+        why,
+        pending,
+    })
+}
+
+/// A reply, as a trace text has it.
+#[derive(Clone, Copy)]
+struct ReplyWord {
+    reply: Reply,
+}
+
+impl fmt::Display for ReplyWord {
+    fn fmt<W: fmt::Write>(&self, f: &mut fmt::Formatter<W>) -> fmt::Result {
+        match self.reply {
+            Reply::Ok => f.write_str("ok"),
+            Reply::Old(word) => write!(f, "{word}"),
+        }
+    }
+}
+
+/// The name of an operation, and its values.
+fn parts_of(op: Op) -> (&'static str, Option<u64>, Option<u64>) {
+    match op {
+        Op::Load => ("load", None, None),
+        Op::Store(value) => ("store", Some(value), None),
+        Op::Swap(value) => ("swap", Some(value), None),
+        Op::Cas(expected, new) => ("cas", Some(expected), Some(new)),
+        Op::Add(value) => ("add", Some(value), None),
+        Op::And(value) => ("and", Some(value), None),
+        Op::Or(value) => ("or", Some(value), None),
+        Op::Xor(value) => ("xor", Some(value), None),
+        Op::Max(value) => ("max", Some(value), None),
+        Op::Min(value) => ("min", Some(value), None),
+    }
+}
+
+impl fmt::Display for IssueLine {
+    fn fmt<W: fmt::Write>(&self, f: &mut fmt::Formatter<W>) -> fmt::Result {
+        let (name, first, second) = parts_of(self.operation.op);
+        write!(
+            f,
+            "issue {} {} {}",
+            self.processor, name, self.operation.address
+        )?;
+        if let Some(value) = first {
+            write!(f, " {value}")?;
+        }
+        if let Some(value) = second {
+            write!(f, " {value}")?;
+        }
+        Ok(())
+    }
+}
+
+/// How many values are told at most.
+const MOST_VALUES: usize = 16;
+
+/// Values, as `3`, `3 or 4`, or `3, 4 or 5`; of many the first ones, and how many others there are.
+#[derive(Clone, Copy)]
+struct Values<'a> {
+    values: &'a [u64],
+}
+
+impl<'a> fmt::Display for Values<'a> {
+    fn fmt<W: fmt::Write>(&self, f: &mut fmt::Formatter<W>) -> fmt::Result {
+        let count = self.values.len();
+        for (i, value) in self.values.iter().enumerate() {
+            if i >= MOST_VALUES {
+                return write!(f, " or one of {} others", count - i);
+            }
+            if i > 0 {
+                f.write_str(if i < count - 1 || count > MOST_VALUES {
+                    ", "
+                } else {
+                    " or "
+                })?;
+            }
+            write!(f, "{value}")?;
+        }
+        Ok(())
+    }
+}
+
+impl<'a, A: Allocator> NoOrderSentence<'a, A> {
+    /// The operation that is answered, and how it is issued.
+    fn answered(&self) -> Option<IssueLine> {
+        for (call, issue) in self.why.pending.iter().zip(self.pending.iter()) {
+            if call.call.id == self.why.id {
+                return Some(*issue);
+            }
+        }
+        None
+    }
+}
+
+impl<'a, A: Allocator> fmt::Display for NoOrderSentence<'a, A> {
+    fn fmt<W: fmt::Write>(&self, f: &mut fmt::Formatter<W>) -> fmt::Result {
+        let reply = ReplyWord {
+            reply: self.why.reply,
+        };
+        write!(f, "{}:{}: ", self.name, self.line)?;
+        if let Some(issue) = self.answered() {
+            write!(f, "answer {} {} {}: ", issue.processor, issue.index, reply)?;
+        }
+        let values = Values {
+            values: &self.why.values,
+        };
+        write!(
+            f,
+            "no order gives {}: word {} can be {}",
+            reply, self.why.address, values
+        )?;
+        for (call, issue) in self.why.pending.iter().zip(self.pending.iter()) {
+            let which = if call.call.id == self.why.id {
+                "it is answered there"
+            } else {
+                "open there"
+            };
+            write!(f, "\n{}:{}: {}: {}", self.name, issue.line, issue, which)?;
+        }
+        Ok(())
+    }
+}

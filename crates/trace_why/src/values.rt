@@ -1,0 +1,92 @@
+//! Values that a word may have: a set that grows.
+
+ghost use Rattle.std.specs.Prelude.{◌≡◌, ◌<◌, ℕ, OnOk, IfErr, Contains, length};
+ghost use Rattle.packet.specs.Memory.{new_word};
+ghost use Rattle.trace_text.specs.Traced.{TraceSpec};
+ghost use Rattle.trace_why.specs.declared.calls.CallAt.{CallAt};
+ghost use Rattle.trace_why.specs.Values.{IsReached};
+ghost use Rattle.trace_why.specs.Why.{IsUntold};
+
+use crate::calls::CallAt;
+use crate::untold::Untold;
+use packet::apply;
+use std::alloc::Allocator;
+
+/// Adds a value, unless it is there.
+pub(crate) fn add<A: Allocator>(
+    values: &mut Vec<u64, A>,
+    value: u64,
+    bound: usize,
+) -> Result<(), Untold>
+    ensures there { OnOk result (Contains values.new.items value) }
+    ensures kept { OnOk result
+        ((v : ℕ) → Contains values.old.items v → Contains values.new.items v) }
+    ensures untold { (t : TraceSpec) → IfErr result (IsUntold t) }
+{
+    if values.contains(&value) {
+        return Ok(());
+    }
+    if values.len() >= bound {
+        return Err(Untold::Values);
+    }
+    if values.push(value).is_err() {
+        return Err(Untold::Memory);
+    }
+    Ok(())
+}
+
+/// Adds what each of some operations leaves that finds a value.
+fn grow_one<A: Allocator>(
+    values: &mut Vec<u64, A>,
+    calls: &[CallAt],
+    value: u64,
+    bound: usize,
+) -> Result<(), Untold>
+    ensures kept { OnOk result
+        ((v : ℕ) → Contains values.old.items v → Contains values.new.items v) }
+    ensures grown { OnOk result ((c : CallAt) → Contains calls.now c
+        → Contains values.new.items (new_word c.call.operation.op value)) }
+    ensures untold { (t : TraceSpec) → IfErr result (IsUntold t) }
+{
+    for found in calls {
+        add(values, apply(found.call.operation.op, value).0, bound)?;
+    }
+    Ok(())
+}
+
+/// Adds what each of some operations leaves that finds one of the values.
+fn grow<A: Allocator + Copy>(
+    alloc: A,
+    values: &mut Vec<u64, A>,
+    calls: &[CallAt],
+    bound: usize,
+) -> Result<(), Untold>
+    ensures kept { OnOk result
+        ((v : ℕ) → Contains values.old.items v → Contains values.new.items v) }
+    ensures grown { OnOk result ((v : ℕ) (c : CallAt) → Contains values.old.items v
+        → Contains calls.now c → Contains values.new.items (new_word c.call.operation.op v)) }
+    ensures untold { (t : TraceSpec) → IfErr result (IsUntold t) }
+{
+    let old = Vec::from_slice(alloc, values)?;
+    for value in &old {
+        grow_one(values, calls, *value, bound)?;
+    }
+    Ok(())
+}
+
+/// Adds what some operations leave, each of them once at most, one after the other.
+pub(crate) fn reach<A: Allocator + Copy>(
+    alloc: A,
+    values: &mut Vec<u64, A>,
+    calls: &[CallAt],
+    bound: usize,
+) -> Result<(), Untold>
+    ensures all { OnOk result ((v : ℕ) → IsReached values.old.items calls.now (length calls.now) v
+        → Contains values.new.items v) }
+    ensures untold { (t : TraceSpec) → IfErr result (IsUntold t) }
+{
+    for _ in 0..calls.len() {
+        grow(alloc, values, calls, bound)?;
+    }
+    Ok(())
+}
