@@ -7,7 +7,7 @@ use Rattle.trace_judge.specs.declared.judge.Verdict.{Verdict}
 use Rattle.trace_judge.specs.declared.judge.Verdict.TheVariants.{Linearizable, No}
 use Rattle.trace_judge.specs.declared.undecided.Undecided.{Undecided}
 use Rattle.trace_judge.specs.declared.undecided.Undecided.TheVariants as undecided
-use Rattle.trace_judge.specs.Stops.{IsUnjudged}
+use Rattle.trace_judge.specs.Stops.{IsUndecided}
 use Rattle.trace_judge.specs.Verdicts.{Tells}
 use Rattle.torusmem_c.specs.declared.outcome.Outcome.{Outcome}
 use Rattle.torusmem_c.specs.declared.outcome.Code.TheVariants as code
@@ -38,9 +38,9 @@ abbrev pub TellsVerdict : Type 0 → List ℕ → List Event → List ℕ → Li
 TellsVerdict A opening trace before after r =
     (v : Verdict A) × Tells opening trace v × PutsVerdict v before after r
 
--- what is told of one that isn't: a reason that holds of a beginning of it
+-- what is told of one that isn't: a reason that holds of it
 abbrev pub TellsUnjudged : List Event → List ℕ → List ℕ → Outcome → Type 0
-TellsUnjudged trace before after r = (why : Undecided) × IsUnjudged trace why × (after ≡ before)
+TellsUnjudged trace before after r = (why : Undecided) × IsUndecided trace why × (after ≡ before)
     × (r ≡ undecided_outcome why)
 
 -- what is told of the trace that records are: its verdict, or why there is none; or the first

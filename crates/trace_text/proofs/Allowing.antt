@@ -12,16 +12,16 @@ use Rattle.trace_order.specs.declared.event.Event.TheVariants.{Issue, Answer}
 use Rattle.trace_order.specs.Traces.{IsTrace, IsIssuedAt, IsAnsweredAt}
 use Rattle.trace_order.specs.Orders.{IsOrder, IsLinearizable}
 use Rattle.trace_order.proofs.Lists.{get_push_cases, get_append_left, get_push, get_within, take_get, get_take}
-use Rattle.trace_judge.specs.Stops.{IsCrowded, IsAnAnswer, IsUndecided, IsUnjudged}
+use Rattle.trace_judge.specs.Stops.{IsUndecided}
 use Rattle.trace_judge.specs.declared.undecided.Undecided.{Undecided}
 use Rattle.trace_judge.specs.declared.undecided.Undecided.TheVariants as undecided
 use Rattle.trace_text.specs.declared.linearize.Unfound.{Unfound}
-use Rattle.trace_text.specs.Allowed.{answered_so, IsAllowed}
+use Rattle.trace_text.specs.Allowed.{answered_so, trace_answered_so, IsAllowed}
 use Rattle.trace_text.specs.Findings.{place_of, address_of, trace_read, unfound_at, IsUnfound}
 use Rattle.trace_text.specs.Kept.{IsKept}
 use Rattle.trace_text.specs.Renumbered.{moved_call, moved_event, IsRenumbering}
 use Rattle.trace_text.specs.Traced.{Reading, opening_of, value_at}
-use Rattle.trace_text.proofs.Found.{moved, others, renumbering, unfound_given}
+use Rattle.trace_text.proofs.Found.{others, renumbering, line_is, crowd_in}
 use Rattle.trace_text.proofs.Renumbered.{map_get, take_map, issue_back, answer_back, order_there, order_back}
 
 -- what the trace with another answer issues is issued before it
@@ -68,9 +68,11 @@ there : (trace : List Event) (n id : ℕ) (told : Reply) → IsAnsweredAt trace 
 there trace n id told at i other r reply h = ⊎_elim
     (λ (l : (i < n) × IsAnsweredAt trace i other r). (omega arith, r, l.1))
     (λ (e : (i ≡ n) × (other ≡ id) × (r ≡ reply)).
-    let same = e.0 in
-    (omega arith, told,
-    subst (λ (k : ℕ). IsAnsweredAt trace k other told) (sym e.0) (subst (λ (k : ℕ). IsAnsweredAt trace n k told) (sym e.1) at)))
+    let same = e.0 in (
+      omega arith,
+      told,
+      subst (λ (k : ℕ). IsAnsweredAt trace k other told) (sym e.0) (subst (λ (k : ℕ). IsAnsweredAt trace n k told) (sym e.1) at),
+    ))
     h
 
 -- it is a trace
@@ -78,7 +80,7 @@ pub trace_answered : (words : ℕ) (trace : List Event) (n id : ℕ) (reply told
     → IsTrace words (answered_so trace n id reply)
 trace_answered words trace n id reply told t at =
     let back : (i other : ℕ) (r : Reply) → IsAnsweredAt (answered_so trace n id reply) i other r
-        → (i ≤ n) × (s : Reply) × IsAnsweredAt trace i other s = λ i other r h.
+    → (i ≤ n) × (s : Reply) × IsAnsweredAt trace i other s = λ i other r h.
     there trace n id told at i other r reply (answer_before trace n id reply told at i other r h) in
     record {
       rising = λ i j a b l h m.
@@ -151,8 +153,7 @@ pub allowed_given : (r : Reading) → IsKept r → (n id : ℕ) (reply : Reply) 
 allowed_given r k n id reply ws es w e is =
     let back = address_of r.addresses in
     let there = subst (λ (v : List ℕ). IsLinearizable v (map (moved_event (place_of r.places)) (answered_so r.events n id reply))) w
-    (subst (λ (f : List Event). IsLinearizable ws f) e is) in
-    (
+    (subst (λ (f : List Event). IsLinearizable ws f) e is) in (
       map (moved_call back) there.0,
       order_back (place_of r.places) back (opening_of (trace_read r)) (others r) (answered_so r.events n id reply)
           (renumbering_answered (place_of r.places) back (opening_of (trace_read r)) (others r) r.events n id reply (renumbering r k))
@@ -169,50 +170,30 @@ given_allowed r k n id reply ws es w e is = rw (w, e) (
       is.0 is.1,
 )
 
--- why it isn't decided, of the trace itself
-not_decided : (r : Reading) → (n id : ℕ) (reply told : Reply) → IsAnsweredAt r.events n id told → (why : Undecided)
-    → IsUndecided (map (moved_event (place_of r.places)) (answered_so r.events n id reply)) why → IsUndecided (take (suc n) (moved r)) why
-not_decided r n id reply told at undecided.Memory u = tt
-not_decided r n id reply told at (undecided.Configurations event) u =
-    let place = place_of r.places in
-    let a = answer_back place (answered_so r.events n id reply) event u.0 u.1 u.2 in
-    let b = there r.events n id told at event u.0 u.1 reply (answer_before r.events n id reply told at event u.0 u.1 a) in
-    let early = b.0 in
-    (u.0, b.1, get_take (suc n) (moved r) event (Answer u.0 b.1) (omega arith) (map_get (moved_event place) r.events event (Answer u.0 b.1) b.2))
-not_decided r n id reply told at (undecided.Operations event) u =
-    let place = place_of r.places in
-    let issue : (i : ℕ) (c : Call) → IsIssuedAt (map (moved_event place) (answered_so r.events n id reply)) i c
-        → (i < n) × IsIssuedAt (take (suc n) (moved r)) i c = λ i c h.
-    let b = issue_back place (answered_so r.events n id reply) i c h in
-    let f = issue_before r.events n id reply i b.0 b.1 in
-    let low = f.0 in
-    (f.0, get_take (suc n) (moved r) i (Issue c) (omega arith)
-    (subst (λ (x : Call). IsIssuedAt (moved r) i x) b.2 (map_get (moved_event place) r.events i (Issue b.0) f.1))) in
-    let now = issue event u.another u.issue in
-    record {
-      calls = u.calls;
-      many = u.many;
-      issued = λ s c h. let i = u.issued s c h in (i.0, i.1, (issue i.0 c i.2).1);
-      pending = λ s c h i r' m.
-          let g = take_get (suc n) (moved r) i (Answer c.id r') m in
-          let own = answer_back place r.events i c.id r' g.1 in
-          ⊎_elim {C = event ≤ i}
-          (λ (l : i < n). u.pending s c h i r'
-          (map_get (moved_event place) (answered_so r.events n id reply) i (Answer c.id r') (answer_kept r.events n id reply i c.id r' l own)))
-          (λ (late : n ≤ i). let early = now.0 in omega arith)
-          (cases_lt i n);
-      here = u.here;
-      distinct = u.distinct;
-      another = u.another;
-      issue = now.1;
-    }
+-- why it isn't decided, of the trace as it is written
+not_decided : (r : Reading) → IsKept r → (n id : ℕ) (reply told : Reply) → IsAnsweredAt r.events n id told → (why : Undecided)
+    → IsUndecided (map (moved_event (place_of r.places)) (answered_so r.events n id reply)) why
+    → IsUnfound (trace_answered_so (trace_read r) n id reply) (unfound_at r.lines why)
+not_decided r k n id reply told at undecided.Memory u = tt
+not_decided r k n id reply told at (undecided.Configurations event) u =
+    let a = answer_back (place_of r.places) (answered_so r.events n id reply) event u.0 u.1 u.2 in
+    let early = (there r.events n id told at event u.0 u.1 reply (answer_before r.events n id reply told at event u.0 u.1 a)).0 in
+    let low = get_within r.events n (Answer id told) at in
+    (event, line_is r k event (omega arith), (u.0, u.1, a))
+not_decided r k n id reply told at (undecided.Operations event) u =
+    let w = crowd_in (place_of r.places) (address_of r.addresses) (opening_of (trace_read r)) (others r) (answered_so r.events n id reply)
+    (renumbering_answered (place_of r.places) (address_of r.addresses) (opening_of (trace_read r)) (others r) r.events n id reply (renumbering r k))
+    event u in
+    let early = (issue_before r.events n id reply event w.another w.issue).0 in
+    let low = get_within r.events n (Answer id told) at in
+    (event, line_is r k event (omega arith), w)
 
 pub undecided_given : (r : Reading) → IsKept r → (n id : ℕ) (reply told : Reply) → IsAnsweredAt r.events n id told → (es : List Event)
     → es ≡ map (moved_event (place_of r.places)) (answered_so r.events n id reply) → (why : Undecided) (tells : Unfound) → IsUndecided es why
-    → tells ≡ unfound_at r.lines why → IsUnfound (trace_read r) tells
+    → tells ≡ unfound_at r.lines why → IsUnfound (trace_answered_so (trace_read r) n id reply) tells
 undecided_given r k n id reply told at es e why tells u is =
-    unfound_given r k (moved r) refl why tells
-    (suc n, not_decided r n id reply told at why (subst (λ (f : List Event). IsUndecided f why) e u)) is
+    subst (λ (x : Unfound). IsUnfound (trace_answered_so (trace_read r) n id reply) x) (sym is)
+    (not_decided r k n id reply told at why (subst (λ (f : List Event). IsUndecided f why) e u))
 
 -- the opening word at an address
 pub opening_is : (r : Reading) (a : ℕ) → a < r.words → unwrap_or (value_at r.inits a) 0 ≡ get_or (opening_of (trace_read r)) a 0

@@ -5,6 +5,7 @@ use Rattle.std.specs.Prelude.{unwrap_or}
 use Rattle.std.proofs.lemmas.Bool.{cases_lt}
 use Rattle.std.proofs.lemmas.List.{length-map}
 use Rattle.std.proofs.lemmas.List.FromFn.{length-map-range_with_len, get_or-map-range_with_len}
+use Rattle.packet.specs.declared.kinds.Reply.{Reply}
 use Rattle.trace_order.specs.declared.event.Call.{Call}
 use Rattle.trace_order.specs.declared.event.Event.{Event}
 use Rattle.trace_order.specs.declared.event.Event.TheVariants.{Issue, Answer}
@@ -134,7 +135,7 @@ beginning_there r k n is =
     )
 
 -- the line of an event
-line_is : (r : Reading) → IsKept r → (event : ℕ) → event < length r.events → slice_get r.lines event ≡ Some (get_or r.lines event 0)
+pub line_is : (r : Reading) → IsKept r → (event : ℕ) → event < length r.events → slice_get r.lines event ≡ Some (get_or r.lines event 0)
 line_is r k event low =
     let sized = k.lines in
     let at = within_length r.lines event (omega arith) in
@@ -156,21 +157,20 @@ answer_in r event a =
     (a.0, a.1, answer_back (place_of r.places) r.events event a.0 a.1 a.2)
 
 -- a crowd of the events with places
-crowd_in : (r : Reading) → IsKept r → (event : ℕ) → IsCrowded (moved r) event → IsCrowded r.events event
-crowd_in r k event w =
-    let place = place_of r.places in
-    let back = address_of r.addresses in
-    let issue : (i : ℕ) (c : Call) → IsIssuedAt (moved r) i c → IsIssuedAt r.events i (moved_call back c) = λ i c h.
-    let b = issue_back place r.events i c h in
-    let inverse = (renumbering r k).inverse i b.0 b.1 in
+pub crowd_in : (place back : ℕ → ℕ) (opening words : List ℕ) (trace : List Event) → IsRenumbering place back opening words trace → (event : ℕ)
+    → IsCrowded (map (moved_event place) trace) event → IsCrowded trace event
+crowd_in place back opening words trace n event w =
+    let issue : (i : ℕ) (c : Call) → IsIssuedAt (map (moved_event place) trace) i c → IsIssuedAt trace i (moved_call back c) = λ i c h.
+    let b = issue_back place trace i c h in
+    let inverse = n.inverse i b.0 b.1 in
     let same : moved_call back c ≡ b.0 =
     ap (moved_call back) (sym b.2) ∙ ap (λ (a : ℕ). record { id = b.0.id; operation = record { address = a; op = b.0.operation.op } }) inverse in
-    subst (λ (x : Call). IsIssuedAt r.events i x) (sym same) b.1 in
-    let forth : (i id : ℕ) (reply : Reply) → IsAnsweredAt r.events i id reply → IsAnsweredAt (moved r) i id reply =
-    λ i id reply at. map_get (moved_event place) r.events i (Answer id reply) at in
-    let answered_forth : (id : ℕ) → IsAnswered r.events id → IsAnswered (moved r) id = λ id a. (a.0, a.1, forth a.0 id a.1 a.2) in
-    let answered_back : (id : ℕ) → IsAnswered (moved r) id → IsAnswered r.events id =
-    λ id a. (a.0, a.1, answer_back place r.events a.0 id a.1 a.2) in
+    subst (λ (x : Call). IsIssuedAt trace i x) (sym same) b.1 in
+    let forth : (i id : ℕ) (reply : Reply) → IsAnsweredAt trace i id reply → IsAnsweredAt (map (moved_event place) trace) i id reply =
+    λ i id reply at. map_get (moved_event place) trace i (Answer id reply) at in
+    let answered_forth : (id : ℕ) → IsAnswered trace id → IsAnswered (map (moved_event place) trace) id = λ id a. (a.0, a.1, forth a.0 id a.1 a.2) in
+    let answered_back : (id : ℕ) → IsAnswered (map (moved_event place) trace) id → IsAnswered trace id =
+    λ id a. (a.0, a.1, answer_back place trace a.0 id a.1 a.2) in
     record {
       calls = map (moved_call back) w.calls;
       many = length-map w.calls (moved_call back) ∙ w.many;
@@ -178,11 +178,11 @@ crowd_in r k event w =
           let g = get_map (moved_call back) w.calls s c h in
           let i = w.issued s g.0 g.1 in
           let at = issue i.0 g.0 i.2 in
-          (i.0, i.1, subst (λ (x : Call). IsIssuedAt r.events i.0 x) g.2 at);
+          (i.0, i.1, subst (λ (x : Call). IsIssuedAt trace i.0 x) g.2 at);
       pending = λ s c h i reply at.
           let g = get_map (moved_call back) w.calls s c h in
           let e = ap (λ (x : Call). x.id) g.2 in
-          w.pending s g.0 g.1 i reply (forth i g.0.id reply (subst (λ (m : ℕ). IsAnsweredAt r.events i m reply) (sym e) at));
+          w.pending s g.0 g.1 i reply (forth i g.0.id reply (subst (λ (m : ℕ). IsAnsweredAt trace i m reply) (sym e) at));
       distinct = λ s u c d h m e.
           let g = get_map (moved_call back) w.calls s c h in
           let f = get_map (moved_call back) w.calls u d m in
@@ -194,12 +194,12 @@ crowd_in r k event w =
       issue = issue event w.another w.issue;
       later = λ s c h a.
           let g = get_map (moved_call back) w.calls s c h in
-          subst (λ (n : ℕ). IsAnswered r.events n) (ap (λ (x : Call). x.id) g.2)
+          subst (λ (n : ℕ). IsAnswered trace n) (ap (λ (x : Call). x.id) g.2)
           (answered_back g.0.id (w.later s g.0 g.1 (answered_forth w.another.id a)));
       never = λ s c h a.
           let g = get_map (moved_call back) w.calls s c h in
           answered_back w.another.id (w.never s g.0 g.1
-          (answered_forth g.0.id (subst (λ (n : ℕ). IsAnswered r.events n) (sym (ap (λ (x : Call). x.id) g.2)) a)));
+          (answered_forth g.0.id (subst (λ (n : ℕ). IsAnswered trace n) (sym (ap (λ (x : Call). x.id) g.2)) a)));
     }
 
 -- why it is not judged
@@ -209,7 +209,7 @@ unfound r k (undecided.Configurations event) u =
     let a = answer_in r event u in
     (event, line_is r k event (get_within r.events event (Answer a.0 a.1) a.2), a)
 unfound r k (undecided.Operations event) u =
-    let w = crowd_in r k event u in
+    let w = crowd_in (place_of r.places) (address_of r.addresses) (opening_of (trace_read r)) (others r) r.events (renumbering r k) event u in
     (event, line_is r k event (get_within r.events event (Issue w.another) w.issue), w)
 
 -- the same, of the words and the events that the judge was given

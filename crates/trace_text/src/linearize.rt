@@ -4,7 +4,7 @@ ghost use Rattle.std.specs.Prelude.{◌≡◌, ◌<◌, true, false, map, unwrap
 ghost use Rattle.std.specs.List.{slice_index_or};
 ghost use Rattle.packet.specs.declared.kinds.Reply.{Reply};
 ghost use Rattle.trace_order.specs.Traces.{IsAnsweredAt};
-ghost use Rattle.trace_text.specs.Allowed.{IsAllowed};
+ghost use Rattle.trace_text.specs.Allowed.{IsAllowed, trace_answered_so};
 ghost use Rattle.trace_text.specs.Findings.{Tells, IsUnfound, trace_read, place_of, address_of, words_of, unfound_at};
 ghost use Rattle.trace_text.specs.Kept.{IsKept};
 ghost use Rattle.trace_text.specs.Renumbered.{moved_call, moved_event};
@@ -205,7 +205,8 @@ impl<A: Allocator + Copy> Reading<A> {
         ensures no { IfOk result (λ b. b ≡ false → IsAllowed
             (opening_of (trace_read (reading_of self.now))) self.now.events.items event id reply
             → ⊥) }
-        ensures unfound { IfErr result (IsUnfound (trace_read (reading_of self.now))) }
+        ensures unfound { IfErr result (IsUnfound (trace_answered_so
+            (trace_read (reading_of self.now)) event id reply)) }
     {
         let opening = words_of(alloc, &self.inits, &self.addresses)?;
         let mut events = moved_events(alloc, &self.places, &self.events[..event])?;

@@ -6,7 +6,7 @@ ghost use Rattle.packet.specs.declared.kinds.Reply.{Reply};
 ghost use Rattle.script.specs.Outcome.{Gives, line_of_fault};
 ghost use Rattle.trace_order.specs.declared.event.Call.{Call};
 ghost use Rattle.trace_order.specs.Traces.{IsTrace, IsIssuedAt, IsAnsweredAt};
-ghost use Rattle.trace_text.specs.Allowed.{IsAllowed};
+ghost use Rattle.trace_text.specs.Allowed.{IsAllowed, trace_answered_so};
 ghost use Rattle.trace_text.specs.Findings.{Tells, IsUnfound};
 ghost use Rattle.trace_text.specs.Kept.{IsKnownAs};
 ghost use Rattle.trace_text.specs.Traced.{trace_of, opening_of};
@@ -90,7 +90,8 @@ impl<A: Allocator + Copy> TraceText<A> {
     /// events before it and this answer are linearizable. It is decided with at most so many
     /// configurations of a word at once.
     ///
-    /// Errors: the line at which there are too many configurations or open operations, or no memory.
+    /// Errors: the line at which there are too many configurations or open operations of the trace of these
+    /// events, or no memory.
     pub fn allows(
         &self,
         alloc: A,
@@ -104,7 +105,7 @@ impl<A: Allocator + Copy> TraceText<A> {
             → IsAllowed (opening_of self.now) self.now.events event id reply) }
         ensures no { IfOk result (λ b. b ≡ false
             → IsAllowed (opening_of self.now) self.now.events event id reply → ⊥) }
-        ensures unfound { IfErr result (IsUnfound self.now) }
+        ensures unfound { IfErr result (IsUnfound (trace_answered_so self.now event id reply)) }
     {
         self.reading.allows(alloc, event, id, reply, bound)
     }

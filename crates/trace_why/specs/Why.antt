@@ -1,8 +1,9 @@
 -- What is told of an answer.
 use Rattle.std.specs.Prelude.{◌≡◌, ◌↔◌, ℕ, Contains}
 use Rattle.std.specs.List.Sorted.{IsStrictlyIncreasing}
+use Rattle.packet.specs.declared.kinds.Reply.{Reply}
 use Rattle.packet.specs.declared.kinds.Reply.TheVariants.{Old}
-use Rattle.trace_text.specs.Allowed.{IsAllowed}
+use Rattle.trace_text.specs.Allowed.{IsAllowed, trace_answered_so}
 use Rattle.trace_text.specs.Findings.{IsUnfound}
 use Rattle.trace_text.specs.Traced.{TraceSpec, opening_of}
 use Rattle.trace_why.specs.declared.calls.CallAt.{CallAt}
@@ -24,9 +25,10 @@ pub record TellsWhy {A : Type 0} (t : TraceSpec) (k : ℕ) (why : WhyNot A) : Ty
       ↔ IsAllowed (opening_of t) t.events k why.id (Old v)
   pub rising : IsStrictlyIncreasing why.values.items
 
--- why it is not told: with one of the values the trace isn't decided; of memory and of too many
--- values nothing is said
+-- why it is not told: with one of the values that an answer could tell the trace isn't decided; of
+-- memory and of too many values nothing is said
 abbrev pub IsUntold : TraceSpec → Untold → Type 0
 IsUntold t Memory = Unit {0}
 IsUntold t Values = Unit {0}
-IsUntold t (Undecided why) = IsUnfound t why
+IsUntold t (Undecided why) =
+    (event id : ℕ) × (reply : Reply) × IsUnfound (trace_answered_so t event id reply) why
