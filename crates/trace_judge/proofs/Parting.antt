@@ -1,6 +1,6 @@
 -- Slots for operations that the trace answers, and for those that it never does.
 use Rattle.std.proofs.Common.{◌≡◌, ◌≢◌, ◌⊎◌, inl, inr, ⊎_elim, ℕ, zero, suc, ◌+◌, ◌-◌, ◌<◌, ◌≤◌, List, [], ◌∷◌, ◌++◌, length, Option, Some, None, refl, sym, ◌∙◌, ap, subst}
-use Rattle.std.proofs.Common.{arith, slice_get, set, take, drop, replicate, append-nil, append_assoc, add-one, MatchOption}
+use Rattle.std.proofs.Common.{arith, slice_get, set, replicate, append-nil, append_assoc, add-one, MatchOption}
 use Rattle.std.proofs.lemmas.Bool.{cases_eq, cases_lt}
 use Rattle.std.proofs.lemmas.List.{length-replicate}
 use Rattle.std.proofs.Common.{length-append}
@@ -73,15 +73,21 @@ pub begun_first : (words : ℕ) (events whole : List Event) (k : ℕ) (call : Ca
     (λ reply. (i : ℕ) × (k + 1 ≤ i) × IsAnsweredAt events i call.id reply)
     → IsBegun whole (length events) call.id promise first → IsFirst whole call.id first
 begun_first words events whole k call promise first t is now tells begun = ⊎_elim {C = IsFirst whole call.id first}
-    (λ (r : (first ≡ 0) × (IsSome promise ⊎ IsAnswered whole call.id)). inl (r.0, ⊎_elim {C = IsAnswered whole call.id}
-    (λ (some : IsSome promise). told promise some tells)
-    (λ (a : IsAnswered whole call.id). a)
-    r.1))
+    (λ (r : (first ≡ 0) × (IsSome promise ⊎ IsAnswered whole call.id)). inl (
+      r.0,
+      ⊎_elim {C = IsAnswered whole call.id}
+          (λ (some : IsSome promise). told promise some tells)
+          (λ (a : IsAnswered whole call.id). a)
+          r.1,
+    ))
     (λ (r : (first ≡ 64) × (promise ≡ None) × ((i : ℕ) (reply : Reply) → length events ≤ i → IsAnsweredAt whole i call.id reply → ⊥)).
-    inr (r.0, λ (a : IsAnswered whole call.id). ⊎_elim {C = ⊥}
-    (λ (low : a.0 < length events). never r.1 a.0 a.1 (answer_back events whole a.0 call.id a.1 is low a.2))
-    (λ (high : length events ≤ a.0). r.2 a.0 a.1 high a.2)
-    (cases_lt a.0 (length events))))
+    inr (
+      r.0,
+      λ (a : IsAnswered whole call.id). ⊎_elim {C = ⊥}
+          (λ (low : a.0 < length events). never r.1 a.0 a.1 (answer_back events whole a.0 call.id a.1 is low a.2))
+          (λ (high : length events ≤ a.0). r.2 a.0 a.1 high a.2)
+          (cases_lt a.0 (length events)),
+    ))
     begun
   where
     told : (p : Option Reply) → IsSome p

@@ -16,7 +16,12 @@ use std::alloc::{AllocError, Allocator};
 use trace_search::{Branch, Config, Node, Open};
 
 /// The configuration after the operation at this place took effect, if it may.
-pub fn after(config: Config, place: Option<Open>, address: u32, slot: usize) -> Option<(Open, Config)>
+pub fn after(
+    config: Config,
+    place: Option<Open>,
+    address: u32,
+    slot: usize,
+) -> Option<(Open, Config)>
     requires { slot < 128 }
     ensures { MatchOption result
         ((o : Open) → TakesEffect place address config slot o → ⊥)

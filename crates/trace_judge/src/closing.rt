@@ -115,9 +115,7 @@ fn go_on<A: Allocator + Copy>(
         let from = found[next];
         if !has(from.config.taken, slot) {
             index.widen(alloc, &found)?;
-            expand(
-                &mut found, nodes, index, table, address, idles, from, bound,
-            )?;
+            expand(&mut found, nodes, index, table, address, idles, from, bound)?;
         }
         next += 1;
     }

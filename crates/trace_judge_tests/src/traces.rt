@@ -284,9 +284,11 @@ fn open_operations_up_to_the_limits(rt: HostRuntime) -> Result<(), Fail> {
     let lost = open_at_once(alloc, 65, 1)?;
     let answered = open_at_once(alloc, 64, 65)?;
     assert!(rt; most == Seen::Yes(64) && both == Seen::Yes(128));
-    assert!(rt; more == Seen::Not(Undecided::Operations { event: 64 })
-        && lost == Seen::Not(Undecided::Operations { event: 64 })
-        && answered == Seen::Not(Undecided::Operations { event: 128 }));
+    assert!(rt;
+        more == Seen::Not(Undecided::Operations { event: 64 })
+            && lost == Seen::Not(Undecided::Operations { event: 64 })
+            && answered == Seen::Not(Undecided::Operations { event: 128 })
+    );
     Ok(())
 }
 

@@ -43,7 +43,7 @@ pub fn configurations_as_good_suffice()
     ensures { (opening : List ℕ) (trace : List Event) (k : ℕ) (tables : ℕ → List (Option Open))
         (sets others : ℕ → List Config) → IsComplete opening trace k tables sets
         → ((w : ℕ) → w < length opening → (c : Config) → IsIn (sets w) c
-            → HasAsGood (tables w) w (others w) c)
+        → HasAsGood (tables w) w (others w) c)
         → IsComplete opening trace k tables others }
 {}
 
