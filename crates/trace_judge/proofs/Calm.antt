@@ -1,26 +1,26 @@
 -- Idle operations take effect one after the other.
 use Rattle.std.proofs.Common.{◌≡◌, ◌≢◌, ⊎_elim, ℕ, zero, suc, ◌+◌, ◌<◌, ◌≤◌, ◌==◌, Bool, true, false, cond, List, [], ◌∷◌, ◌++◌, length, Option, Some, None, refl, sym, ◌∙◌, ap, subst}
-use Rattle.std.proofs.Common.{arith, slice_get, drop, get_or, add-one}
-use Rattle.std.proofs.lemmas.Bool.{cases_eq, eqb-true, eqb-false, ne_eqb, cond-true, cond-false}
+use Rattle.std.proofs.Common.{slice_get, drop, add-one}
+use Rattle.std.proofs.lemmas.Bool.{cases_eq, eqb-true, ne_eqb, cond-true, cond-false}
 use Rattle.std.proofs.lemmas.List.{drop_all}
 use Rattle.std.specs.Int.{bit_at}
 use Rattle.std.specs.Option.{IfSome}
 use Rattle.packet.specs.declared.kinds.Op.{Op}
 use Rattle.packet.specs.declared.kinds.Op.TheVariants.{Load, Store, Swap, Cas, Add, And, Or, Xor, Max, Min}
 use Rattle.packet.specs.declared.kinds.Reply.{Reply}
-use Rattle.packet.specs.declared.kinds.Reply.TheVariants.{Old, Ok as Stored}
+use Rattle.packet.specs.declared.kinds.Reply.TheVariants.{Old}
 use Rattle.packet.specs.Memory.{new_word, reply_to}
 use Rattle.trace_search.specs.declared.opened.Open.{Open}
 use Rattle.trace_search.specs.declared.opened.Config.{Config}
 use Rattle.trace_search.specs.declared.opened.Branch.{Branch}
 use Rattle.trace_search.specs.declared.opened.Node.{Node}
-use Rattle.trace_search.specs.Configs.{IsOpen, IsIn, IsLeft, MayTake, Agrees, IsIdle, IsAsGood, effect, with_bit}
+use Rattle.trace_search.specs.Configs.{IsIn, IsLeft, MayTake, Agrees, IsIdle, IsAsGood, effect, with_bit}
 use Rattle.trace_search.proofs.Dominance.{good_same, good_more, good_idle}
 use Rattle.trace_search.proofs.Sound.{grown, node_of}
-use Rattle.trace_order.proofs.Lists.{get_push, get_within, get_push_cases, get_append_left}
+use Rattle.trace_order.proofs.Lists.{get_push, get_push_cases, get_append_left}
 use Rattle.trace_judge.specs.declared.idles.Idle.{Idle}
 use Rattle.trace_judge.specs.Idles.{FitsAt, IsListed, AreListed, AreLow, fits_at, applies, calmed, settled}
-use Rattle.trace_judge.specs.Sets.{StaysSound, LeadsTo, Joins, Takes}
+use Rattle.trace_judge.specs.Sets.{StaysSound, LeadsTo}
 use Rattle.trace_judge.proofs.Branches.{stays_same, stays_more, stays_fewer, stays_added}
 
 -- a reply that is a word is the word that was found

@@ -1,21 +1,17 @@
 -- What a search holds before an event tells an order of what comes before it.
-use Rattle.std.proofs.Common.{◌≡◌, ◌≢◌, ◌⊎◌, inl, inr, ⊎_elim, ℕ, zero, suc, ◌+◌, ◌<◌, ◌≤◌, Bool, true, false, List, [], ◌∷◌, length, Option, Some, None, refl, sym, ◌∙◌, ap, subst}
+use Rattle.std.proofs.Common.{◌≡◌, ◌≢◌, ◌⊎◌, inl, inr, ⊎_elim, ℕ, zero, suc, ◌<◌, ◌≤◌, Bool, true, false, List, [], ◌∷◌, length, Option, Some, None, refl, sym, ◌∙◌, ap, subst}
 use Rattle.std.proofs.Common.{arith, slice_get, set, length-set, replicate, add-one, take}
-use Rattle.std.proofs.lemmas.List.{length-replicate}
-use Rattle.std.proofs.lemmas.Bool.{cases_eq, cases_lt}
-use Rattle.packet.specs.declared.kinds.Reply.{Reply}
+use Rattle.std.proofs.lemmas.Bool.{cases_eq}
 use Rattle.trace_order.specs.declared.event.Call.{Call}
 use Rattle.trace_order.specs.declared.event.Event.{Event}
 use Rattle.trace_order.specs.declared.event.Event.TheVariants.{Issue, Answer}
-use Rattle.trace_order.specs.Traces.{IsIssuedAt, IsAnsweredAt}
 use Rattle.trace_order.specs.Orders.{IsOrder, IsLinearizable}
 use Rattle.trace_order.specs.Legal.{Legal}
-use Rattle.trace_order.proofs.Lists.{get_take, take_get, within_length, get_within, set_get_same, get_set_other}
-use Rattle.trace_search.specs.declared.opened.Open.{Open}
+use Rattle.trace_order.proofs.Lists.{get_take, take_get, within_length, set_get_same, get_set_other}
 use Rattle.trace_search.specs.declared.opened.Branch.{Branch}
 use Rattle.trace_search.specs.declared.opened.Node.{Node}
 use Rattle.trace_search.specs.Configs.{IsIn}
-use Rattle.trace_search.specs.Searches.{IsTrail, Picks, IsSound, order_of}
+use Rattle.trace_search.specs.Searches.{IsTrail, IsSound, order_of}
 use Rattle.trace_search.proofs.Sound.{trail_below}
 use Rattle.trace_judge.specs.declared.search.Search.{Search}
 use Rattle.trace_judge.specs.Sets.{lists_of}

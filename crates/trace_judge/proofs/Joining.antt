@@ -1,10 +1,10 @@
 -- A branch that is added, or one as good is there.
-use Rattle.std.proofs.Common.{◌≡◌, ⊎_elim, ℕ, ◌<◌, ◌≤◌, List, [], ◌∷◌, ◌++◌, length, Option, Some, None, refl, sym, ◌∙◌, ap, subst, slice_get, append_assoc}
+use Rattle.std.proofs.Common.{◌≡◌, ⊎_elim, ℕ, ◌<◌, List, [], ◌∷◌, ◌++◌, length, Option, Some, sym, ◌∙◌, ap, subst, slice_get, append_assoc}
 use Rattle.trace_search.specs.declared.opened.Open.{Open}
 use Rattle.trace_search.specs.declared.opened.Config.{Config}
 use Rattle.trace_search.specs.declared.opened.Branch.{Branch}
 use Rattle.trace_search.specs.declared.opened.Node.{Node}
-use Rattle.trace_search.specs.Configs.{IsIn, IsAsGood, HasAsGood, MayTake, effect, release}
+use Rattle.trace_search.specs.Configs.{IsIn, IsAsGood, HasAsGood, release}
 use Rattle.trace_search.specs.Searches.{configs_of}
 use Rattle.trace_search.proofs.Dominance.{good_more, good_unanswered}
 use Rattle.trace_search.proofs.Sound.{grown, node_of}
@@ -12,7 +12,7 @@ use Rattle.trace_order.proofs.Lists.{get_push_cases}
 use Rattle.trace_judge.specs.declared.idles.Idle.{Idle}
 use Rattle.trace_judge.specs.Idles.{AreListed, AreLow, settled}
 use Rattle.trace_judge.specs.Sets.{GoesOn, StaysSound, WaitsFor, LeadsTo, Joins, Takes}
-use Rattle.trace_judge.proofs.Branches.{pushed_in, configs_go_on, stays_same, stays_more, stays_fewer, stays_added}
+use Rattle.trace_judge.proofs.Branches.{pushed_in, stays_same, stays_more, stays_fewer, stays_added}
 use Rattle.trace_judge.proofs.Calm.{settled_good}
 
 -- where the settled configuration has one as good, so has the other

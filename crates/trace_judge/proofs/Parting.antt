@@ -1,6 +1,6 @@
 -- Slots for operations that the trace answers, and for those that it never does.
 use Rattle.std.proofs.Common.{◌≡◌, ◌≢◌, ◌⊎◌, inl, inr, ⊎_elim, ℕ, zero, suc, ◌+◌, ◌-◌, ◌<◌, ◌≤◌, List, [], ◌∷◌, ◌++◌, length, Option, Some, None, refl, sym, ◌∙◌, ap, subst}
-use Rattle.std.proofs.Common.{arith, slice_get, set, take, drop, replicate, append-nil, append_assoc, add-one, MatchOption}
+use Rattle.std.proofs.Common.{arith, slice_get, set, replicate, append-nil, append_assoc, add-one, MatchOption}
 use Rattle.std.proofs.lemmas.Bool.{cases_eq, cases_lt}
 use Rattle.std.proofs.lemmas.List.{length-replicate}
 use Rattle.std.proofs.Common.{length-append}

@@ -1,36 +1,29 @@
 -- What the judge holds, over one event.
-use Rattle.std.proofs.Common.{◌≡◌, ◌≢◌, ⊎_elim, ℕ, zero, suc, ◌+◌, ◌<◌, ◌≤◌, ◌==◌, Bool, true, false, List, [], ◌∷◌, ◌++◌, length, Option, Some, None, Vec}
+use Rattle.std.proofs.Common.{◌≡◌, ◌≢◌, ⊎_elim, ℕ, zero, suc, ◌+◌, ◌<◌, ◌≤◌, List, [], ◌∷◌, ◌++◌, length, Option, Some, None, Vec}
 use Rattle.std.proofs.Common.{MatchOption, refl, sym, ◌∙◌, ap, subst, arith, slice_get, set, map, get_or, replicate, add-one, get_or-set_same}
-use Rattle.std.proofs.Common.{get_or-set_other, length-set, vec_len, not}
-use Rattle.std.proofs.lemmas.Bool.{cases_eq, cases_lt, eqb-true, eqb-false}
-use Rattle.std.proofs.lemmas.List.{map-set, length-map, length-replicate, get_or-map, nil_from_length, length_push}
+use Rattle.std.proofs.Common.{get_or-set_other, length-set}
+use Rattle.std.proofs.lemmas.Bool.{cases_eq}
+use Rattle.std.proofs.lemmas.List.{map-set, length-map, length-replicate, get_or-map, length_push}
 use Rattle.std.proofs.Common.{◌-◌, length-append, append-nil, append_assoc}
 use Rattle.packet.specs.declared.kinds.Reply.{Reply}
 use Rattle.trace_order.specs.declared.event.Call.{Call}
 use Rattle.trace_order.specs.declared.event.Event.{Event}
 use Rattle.trace_search.specs.declared.opened.Open.{Open}
-use Rattle.trace_search.specs.declared.opened.Config.{Config}
 use Rattle.trace_search.specs.declared.opened.Branch.{Branch}
 use Rattle.trace_search.specs.declared.opened.Node.{Node}
 use Rattle.trace_order.specs.Traces.{IsTrace, IsIssuedAt, IsAnsweredAt}
-use Rattle.trace_order.specs.Orders.{IsLinearizable}
-use Rattle.trace_search.specs.Configs.{IsIn, IsLeft, IsTaken, HasAsGood, IsExpanded, release}
-use Rattle.trace_search.specs.Searches.{IsAt, IsPending, IsTable, Fits, IsCovered, IsSound, IsSearched, first_branch, configs_of, order_of, AreReleased, IsTrail}
-use Rattle.trace_search.proofs.Start.{none_at, searched_none, searched_issue, searched_more, searched_answer, pending_now, in_map, map_in}
+use Rattle.trace_search.specs.Configs.{IsIn}
+use Rattle.trace_search.specs.Searches.{IsAt, IsPending, IsTable, Fits, IsCovered, IsSearched, first_branch, configs_of, order_of}
+use Rattle.trace_search.proofs.Start.{none_at, searched_none, searched_issue, searched_more, pending_now}
 use Rattle.trace_search.proofs.Sound.{put, put_same, put_other}
-use Rattle.trace_search.proofs.Complete.{complete_none}
-use Rattle.trace_order.proofs.Lists.{get_within, get_push}
-use Rattle.std.proofs.lemmas.Option.{slice_get_read}
+use Rattle.trace_order.proofs.Lists.{get_push}
 use Rattle.trace_judge.specs.declared.search.Search.{Search}
 use Rattle.trace_judge.specs.declared.index.Index.{Index}
-use Rattle.trace_judge.specs.Sets.{lists_of, with_set, StaysSound}
+use Rattle.trace_judge.specs.Sets.{lists_of}
 use Rattle.trace_judge.specs.Searched.{Holds}
 use Rattle.trace_judge.specs.Slots.{IsPut, IsBegun, IsFirst, IsParted}
 use Rattle.trace_judge.specs.Stops.{IsBeginning}
-use Rattle.trace_judge.specs.Marks.{AreMarked}
-use Rattle.trace_judge.proofs.Marking.{PicksSoFar, first_of, first_is, first_in, picks_more}
-use Rattle.trace_judge.proofs.Branches.{with_same, with_other}
-use Rattle.trace_judge.proofs.Parting.{begun_first, first_low, parted_put, parted_freed}
+use Rattle.trace_judge.proofs.Parting.{begun_first, first_low, parted_put}
 
 pub holds_start : {A : Type 0} (opening : List ℕ) (trace whole : List Event) (tables : Vec (Vec (Option Open) A) A)
     (words : Vec (Vec Branch A) A) (nodes : Vec Node A) (index : Index A)

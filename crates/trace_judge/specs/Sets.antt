@@ -1,5 +1,5 @@
 -- Sets of branches, as lists that grow at their ends.
-use Rattle.std.specs.Prelude.{◌≡◌, ◌⊎◌, ◌<◌, ℕ, List, [], ◌∷◌, ◌++◌, Option, Some, None, Vec, length, map, slice_index_or}
+use Rattle.std.specs.Prelude.{◌≡◌, ◌<◌, ℕ, List, [], ◌∷◌, ◌++◌, Option, Some, None, Vec, length, map, slice_index_or}
 use Rattle.std.specs.Prelude.{cond, ◌==◌}
 use Rattle.trace_order.specs.declared.event.Event.{Event}
 use Rattle.trace_search.specs.declared.opened.Open.{Open}

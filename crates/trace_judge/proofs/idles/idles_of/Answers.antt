@@ -1,4 +1,4 @@
-use Rattle.std.proofs.Common.{◌<◌, length, subst, sym, arith, ℕ}
+use Rattle.std.proofs.Common.{◌<◌, length, arith}
 use Rattle.std.proofs.lemmas.Option.{slice_get-get_or}
 use Rattle.trace_judge.proofs.Calm.{low_more, listed_more}
 use Rattle.trace_judge.proofs.idles.idles_of.Goals as goal

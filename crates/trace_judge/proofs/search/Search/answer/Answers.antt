@@ -1,4 +1,4 @@
-use Rattle.std.proofs.Common.{◌<◌, suc, ◌∙◌, length, refl, arith}
+use Rattle.std.proofs.Common.{◌<◌, length, refl, arith}
 use Rattle.std.specs.Vec.{with_item}
 use Rattle.trace_search.proofs.Table.{at_within}
 use Rattle.trace_judge.specs.Sets.{lists_of}
