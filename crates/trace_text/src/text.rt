@@ -1,19 +1,20 @@
 //! Reads a trace text.
 
-ghost use Rattle.std.specs.Prelude.{◌≡◌, IfOk, IfErr};
+ghost use Rattle.std.specs.Prelude.{◌≡◌, IfOk, IfErr, unwrap_or};
 ghost use Rattle.std.specs.Str.Lines.{lines};
 ghost use Rattle.script.specs.Outcome.{Gives, line_of_fault};
 ghost use Rattle.trace_text.specs.Findings.{Tells, IsUnfound};
-ghost use Rattle.trace_text.specs.Traced.{trace_of};
+ghost use Rattle.trace_text.specs.Traced.{trace_of, value_at};
 
 use crate::issued::Issued;
-use crate::linearize::{Finding, Unfound};
+use crate::linearize::{Finding, Unfound, word_at};
 use crate::reading::Reading;
 use lexer::{first_words, next_line};
 use script::LineFault;
 use std::alloc::{Allocator, Global};
 use std::marker::Model;
 use torus::Fault;
+use trace_order::Event;
 
 /// A trace as its text gives it.
 #[derive(Drop)]
@@ -46,6 +47,20 @@ impl<A: Allocator> TraceText<A> {
         ensures { result.now ≡ self.now.issued }
     {
         &self.reading.issued
+    }
+
+    /// The events in their order.
+    pub fn events(&self) -> &[Event]
+        ensures { result.now ≡ self.now.events }
+    {
+        &self.reading.events
+    }
+
+    /// The word that an address holds at first, 0 where no line gave it.
+    pub fn opening(&self, address: u32) -> u64
+        ensures { result ≡ unwrap_or (value_at self.now.inits address) 0 }
+    {
+        word_at(&self.reading.inits, address)
     }
 }
 
