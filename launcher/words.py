@@ -23,7 +23,7 @@ COMMANDS: dict[str, tuple[list[str], dict[str, tuple[int, int] | None]]] = {
     "channels": (["MACHINE"], {"explain": None}),
     "check": (["REPORT"], {"explain": None}),
     "network": (["NETWORK"], {"explain": None}),
-    "linearize": (["TRACE"], {"configurations": (1, 4294967295), "explain": None}),
+    "linearize": (["TRACE"], {"configurations": (1, 4294967295), "report": None, "explain": None}),
 }
 REQUIRED = {"draw": ["seed"]}  # the options that have to be given
 TILES = (0, 4294967295)

@@ -12,7 +12,7 @@ _torusmem() {
     draw) words="--seed --steps --explain --help" ;;
     run) words="--workers --turns --explain --help" ;;
     route) words="--reply --explain --help" ;;
-    linearize) words="--configurations --explain --help" ;;
+    linearize) words="--configurations --report --explain --help" ;;
     channels | check | network) words="--explain --help" ;;
     esac
     case $before in --rounds | --workers | --turns | --configurations | --seed | --steps) words="" ;; esac

@@ -116,10 +116,10 @@ check_app = with_rule (with_rule (new_app (codes "check")) (needed (codes "REPOR
 abbrev pub network_app : App
 network_app = with_rule (with_rule (new_app (codes "network")) (needed (codes "NETWORK"))) explain
 
--- `linearize TRACE [--configurations N] [--explain]`
+-- `linearize TRACE [--configurations N] [--report] [--explain]`
 abbrev pub linearize_app : App
-linearize_app = with_rule (with_rule (with_rule (new_app (codes "linearize"))
-    (needed (codes "TRACE"))) configurations) explain
+linearize_app = with_rule (with_rule (with_rule (with_rule (new_app (codes "linearize"))
+    (needed (codes "TRACE"))) configurations) (flag (codes "report"))) explain
 
 -- the program, whose subcommand has to stand there
 abbrev pub top_app : App

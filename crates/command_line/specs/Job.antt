@@ -7,7 +7,7 @@ use Rattle.torus.specs.declared.shape.Class.TheVariants.{Request, Reply}
 use Rattle.command_line.specs.declared.command.Job.{Job}
 use Rattle.command_line.specs.declared.command.Job.TheVariants.{Steps, Round, Run, Route}
 use Rattle.command_line.specs.declared.command.Job.TheVariants.{Channels, Check}
-use Rattle.command_line.specs.declared.command.Job.TheVariants.{Network, Linearize}
+use Rattle.command_line.specs.declared.command.Job.TheVariants.{Network, Linearize, Report}
 use Rattle.command_line.specs.declared.command.Job.TheVariants.{Schedule, Draw, Moves}
 
 -- the values of a subcommand's arguments
@@ -29,7 +29,8 @@ abbrev pub class_word : Class → Text
 class_word Request = flag_text false
 class_word Reply = flag_text true
 
--- the subcommand of a job: `steps` both of the report of a run, and of its moves
+-- the subcommand of a job: `steps` both of the report of a run, and of its moves; `linearize` both
+-- of the lines of an order, and of its report
 abbrev pub name_of : Job → Text
 name_of (Steps machine script steps) = codes "steps"
 name_of (Round machine script rounds) = codes "round"
@@ -39,6 +40,7 @@ name_of (Channels machine) = codes "channels"
 name_of (Check report) = codes "check"
 name_of (Network network) = codes "network"
 name_of (Linearize trace configurations) = codes "linearize"
+name_of (Report trace configurations) = codes "linearize"
 name_of (Schedule machine script rounds) = codes "schedule"
 name_of (Draw machine script seed steps) = codes "draw"
 name_of (Moves machine script steps) = codes "steps"
@@ -69,6 +71,11 @@ AreOf (Network network) rows = first_of (codes "NETWORK") rows ≡ Some network.
 AreOf (Linearize trace configurations) rows =
     (first_of (codes "TRACE") rows ≡ Some trace.now)
     × (number_in (codes "configurations") rows ≡ Some configurations)
+    × IsFlag (codes "report") false rows
+AreOf (Report trace configurations) rows =
+    (first_of (codes "TRACE") rows ≡ Some trace.now)
+    × (number_in (codes "configurations") rows ≡ Some configurations)
+    × IsFlag (codes "report") true rows
 AreOf (Schedule machine script rounds) rows = (first_of (codes "MACHINE") rows ≡ Some machine.now)
     × (first_of (codes "SCRIPT") rows ≡ Some script.now)
     × (number_in (codes "rounds") rows ≡ Some rounds)
@@ -87,6 +94,7 @@ IsWithinLimits (Round machine script rounds) = (1 ≤ rounds) × (rounds ≤ 100
 IsWithinLimits (Run machine script workers turns) =
     ((1 ≤ workers) × (workers ≤ 16)) × ((1 ≤ turns) × (turns ≤ 1000000000))
 IsWithinLimits (Linearize trace configurations) = 1 ≤ configurations
+IsWithinLimits (Report trace configurations) = 1 ≤ configurations
 IsWithinLimits (Schedule machine script rounds) = (1 ≤ rounds) × (rounds ≤ 1000000)
 IsWithinLimits _ = Unit {0}
 

@@ -168,6 +168,8 @@ fn linearize_command<'a>(alloc: Global) -> Result<Command<'a>, AllocError>
     let command = named(alloc, "linearize", about);
     let command = with_file(alloc, command, "TRACE", "The file of the trace")?;
     let command = command.arg(configurations_option(alloc))?;
+    let help = "Prints the order as a report, and not its lines";
+    let command = with_flag(alloc, command, "report", help)?;
     with_explain(alloc, command)
 }
 

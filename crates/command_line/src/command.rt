@@ -62,6 +62,12 @@ pub enum Job<'a> {
         trace: &'a str,
         configurations: u32,
     },
+    /// Find the one order of a trace, with so many configurations of a word at once at most, and
+    /// print its report.
+    Report {
+        trace: &'a str,
+        configurations: u32,
+    },
     /// Print the moves of rounds, at most so many, until every script is finished.
     Schedule {
         machine: &'a str,

@@ -108,11 +108,21 @@ pub(crate) fn network_job<'a>(given: &ArgMatches<'a>) -> Option<Job<'a>>
     })
 }
 
+/// The trace of `linearize`, of which the lines of an order or its report are asked for.
 pub(crate) fn linearize_job<'a>(given: &ArgMatches<'a>) -> Option<Job<'a>>
     ensures { IfSome result (IsOf (codes "linearize") (rows_of (found_of given.now))) }
 {
-    Some(Job::Linearize {
-        trace: word(given, "TRACE")?,
-        configurations: number_within(given, "configurations", 4294967295)?,
-    })
+    let trace = word(given, "TRACE")?;
+    let configurations = number_within(given, "configurations", 4294967295)?;
+    if flag_of(given, "report")? {
+        Some(Job::Report {
+            trace,
+            configurations,
+        })
+    } else {
+        Some(Job::Linearize {
+            trace,
+            configurations,
+        })
+    }
 }

@@ -1,1 +1,2 @@
 mod Verdicts
+mod Reports

@@ -10,6 +10,7 @@ use Rattle.program_fault.specs.declared.fault.ProgramFault.TheVariants as progra
 use Rattle.program_fault.specs.Done.{Output, Does}
 use Rattle.linearize_command.specs.declared.command.Judged.{Judged}
 use Rattle.linearize_command.specs.declared.command.Judged.TheVariants.{Linearizable, NotLinearizable, TooMany, TooOpen}
+use Rattle.linearize_command.specs.declared.command.Judged.TheVariants.{NoReport}
 
 -- the text of an order that explains a trace (Herlihy and Wing, TOPLAS 12(3), 1990: a
 -- linearization)
@@ -34,6 +35,7 @@ IsJudged t Linearizable text = IsOrderText t text
 IsJudged t (NotLinearizable line) text = (k : ℕ) × StandsAt t line k text × IsFirstBad t k
 IsJudged t (TooMany line) text = (k : ℕ) × StandsAt t line k text × IsAnAnswer t.events k
 IsJudged t (TooOpen line) text = (k : ℕ) × StandsAt t line k text × IsCrowded t.events k
+IsJudged t (NoReport why) text = ⊥
 
 -- the trace that the lines of a text give is judged
 pub record IsVerdict (lines : List (List ℕ)) (verdict : Judged) (text : List ℕ) : Type 0 where

@@ -4,6 +4,19 @@ use Rattle.program_fault.specs.declared.fault.ProgramFault.{ProgramFault}
 use Rattle.program_fault.specs.Outcome.{fault_status}
 use Rattle.linearize_command.specs.declared.command.Judged.{Judged}
 use Rattle.linearize_command.specs.declared.command.Judged.TheVariants.{Linearizable, NotLinearizable, TooMany, TooOpen}
+use Rattle.linearize_command.specs.declared.command.Judged.TheVariants.{NoReport}
+use Rattle.trace_report.specs.declared.unfit.Unfit.{Unfit}
+use Rattle.trace_report.specs.declared.unfit.Unfit.TheVariants.{Memory, Words, Processors, Indexes}
+use Rattle.trace_report.specs.declared.unfit.Unfit.TheVariants.{Operations, Events}
+
+-- why an order has no report; nothing where memory was refused
+abbrev pub unfit_text : Unfit → Option (List ℕ)
+unfit_text Memory = None
+unfit_text Words = Some (codes "no report: more than 65536 words")
+unfit_text Processors = Some (codes "no report: a processor above 63")
+unfit_text Indexes = Some (codes "no report: a processor with more than 4096 operations")
+unfit_text Operations = Some (codes "no report: more than 65536 operations")
+unfit_text Events = Some (codes "no report: more than 196608 events")
 
 -- the line of standard error for a verdict, without its line feed; none where an order was printed
 abbrev pub verdict_text_of : Judged → ℕ → Option (List ℕ)
@@ -16,6 +29,7 @@ verdict_text_of (TooMany line) bound =
 verdict_text_of (TooOpen line) bound =
     Some (codes "undecided at line" ++ (32 ∷ decimal line)
     ++ codes ": more than 64 operations are open on one word")
+verdict_text_of (NoReport why) bound = unfit_text why
 
 -- the status that the program ends with
 abbrev pub status_of : Result Judged ProgramFault → ℕ
@@ -23,4 +37,5 @@ status_of (Ok Linearizable) = 0
 status_of (Ok (NotLinearizable line)) = 1
 status_of (Ok (TooMany line)) = 5
 status_of (Ok (TooOpen line)) = 5
+status_of (Ok (NoReport why)) = 1
 status_of (Err f) = fault_status f

@@ -9,6 +9,7 @@ use report_lines::Out;
 use std::alloc::Allocator;
 use torus::Fault;
 use trace_answer::write_order;
+use trace_report::Unfit;
 use trace_text::{Finding, Unfound, read_trace};
 
 /// What a trace text is judged to be.
@@ -22,6 +23,8 @@ pub enum Judged {
     TooMany { line: u64 },
     /// It isn't decided: at the issue of this line 64 other operations are open on its word.
     TooOpen { line: u64 },
+    /// It is linearizable, and the order has no report, since it passes this limit.
+    NoReport { why: Unfit },
 }
 
 /// Judges the trace of a text, with at most so many configurations of a word at once. Where it is

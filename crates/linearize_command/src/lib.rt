@@ -2,8 +2,10 @@
 #![tactic(auto)]
 
 pub mod command;
+pub mod report;
 pub mod told;
 
 pub use command::{Judged, linearize_text};
+pub use report::report_text;
 pub use told::{status, verdict_text};
 pub use trace_answer::LineText;

@@ -1,16 +1,35 @@
 //! What is said of a trace that is judged: a line of text, and the status that the program ends with.
 
 ghost use Rattle.std.specs.Prelude.{◌≡◌, option_map};
-ghost use Rattle.linearize_command.specs.Told.{status_of, verdict_text_of};
+ghost use Rattle.linearize_command.specs.Told.{status_of, unfit_text, verdict_text_of};
 
 use crate::Judged;
 use program_fault::{ProgramFault, status_of};
 use trace_answer::{LineText, not_linearizable, undecided};
+use trace_report::Unfit;
 use trace_text::Unfound;
 
-/// What is said where no order was found, with at most so many configurations of a word at once: the
-/// line from which on there is none, or at which the trace isn't decided and why. It has no line feed.
-/// `None` where an order was printed.
+/// Why an order has no report. It has no line feed. `None` where memory was refused.
+fn unfit_text(why: Unfit) -> Option<LineText>
+    ensures { option_map (λ t. t.bytes) result ≡ unfit_text why }
+{
+    let mut text = LineText::new();
+    match why {
+        Unfit::Memory => return None,
+        Unfit::Words => text.push_str("no report: more than 65536 words"),
+        Unfit::Processors => text.push_str("no report: a processor above 63"),
+        Unfit::Indexes => {
+            text.push_str("no report: a processor with more than 4096 operations");
+        }
+        Unfit::Operations => text.push_str("no report: more than 65536 operations"),
+        Unfit::Events => text.push_str("no report: more than 196608 events"),
+    }
+    Some(text)
+}
+
+/// What is said where nothing was printed, with at most so many configurations of a word at once: the
+/// line from which on there is no order, or at which the trace isn't decided and why; or why the order
+/// has no report. It has no line feed. `None` where an order or its report was printed.
 pub fn verdict_text(judged: Judged, configurations: u64) -> Option<LineText>
     ensures { option_map (λ t. t.bytes) result ≡ verdict_text_of judged configurations }
 {
@@ -19,6 +38,7 @@ pub fn verdict_text(judged: Judged, configurations: u64) -> Option<LineText>
         Judged::NotLinearizable { line } => Some(not_linearizable(line)),
         Judged::TooMany { line } => undecided(Unfound::Configurations { line }, configurations),
         Judged::TooOpen { line } => undecided(Unfound::Operations { line }, configurations),
+        Judged::NoReport { why } => unfit_text(why),
     }
 }
 
@@ -32,6 +52,7 @@ pub fn status(answer: &Result<Judged, ProgramFault>) -> u8
         Ok(Judged::NotLinearizable { .. }) => 1,
         Ok(Judged::TooMany { .. }) => 5,
         Ok(Judged::TooOpen { .. }) => 5,
+        Ok(Judged::NoReport { .. }) => 1,
         Err(fault) => status_of(&Err(*fault)),
     }
 }

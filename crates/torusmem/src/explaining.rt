@@ -53,7 +53,7 @@ fn explain_line<'a, R: Eprint + AllocGlobal>(rt: &R, job: &Job<'a>, texts: &'a T
         Job::Network { network } => {
             told(rt, network_sentence(alloc, named(network, &texts.first)))
         }
-        Job::Linearize { trace, .. } => {
+        Job::Linearize { trace, .. } | Job::Report { trace, .. } => {
             told(rt, trace_sentence(alloc, named(trace, &texts.first)))
         }
         _ => told(rt, sentence(alloc, job, texts)),

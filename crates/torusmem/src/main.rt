@@ -17,7 +17,7 @@ use commands::{
 };
 use explaining::{explain, explain_no_order, explain_unread};
 use kept::Kept;
-use linearize_command::{Judged, linearize_text, status, verdict_text};
+use linearize_command::{Judged, linearize_text, report_text, status, verdict_text};
 use network_command::network_text;
 use progress_line::ProgressLine;
 use report_lines::{Out, Piped};
@@ -191,6 +191,10 @@ fn answer<R: Eprint + Clock + AllocGlobal + Threads + Wait + Sync, W: Out>(
         Job::Network { .. } => Ok(Outcome::Rising(network_text(alloc, first, out)?)),
         Job::Linearize { configurations, .. } => {
             let judged = linearize_text(alloc, first, u64::from(configurations), out)?;
+            Ok(Outcome::Judged(judged, configurations))
+        }
+        Job::Report { configurations, .. } => {
+            let judged = report_text(alloc, first, u64::from(configurations), out)?;
             Ok(Outcome::Judged(judged, configurations))
         }
         Job::Route {

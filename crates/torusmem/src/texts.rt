@@ -99,7 +99,7 @@ fn names<'a>(job: &Job<'a>) -> (Option<&'a str>, Option<&'a str>, Option<&'a str
         Job::Channels { machine } => (Some(machine), None, None),
         Job::Check { report } => (Some(report), None, None),
         Job::Network { network } => (Some(network), None, None),
-        Job::Linearize { trace, .. } => (Some(trace), None, None),
+        Job::Linearize { trace, .. } | Job::Report { trace, .. } => (Some(trace), None, None),
     }
 }
 

@@ -47,7 +47,7 @@ fn place_of<A: Allocator>(places: &BTreeMap<u32, u32, A>, address: u32) -> u32
 }
 
 /// The opening word at an address, 0 where no line gave it.
-fn word_at<A: Allocator>(inits: &BTreeMap<u32, u64, A>, address: u32) -> u64
+pub(crate) fn word_at<A: Allocator>(inits: &BTreeMap<u32, u64, A>, address: u32) -> u64
     ensures { result ≡ unwrap_or (value_at inits.now.entries address) 0 }
 {
     inits.get(&address).copied().unwrap_or(0)

@@ -1,6 +1,6 @@
 //! Reads a trace text.
 
-ghost use Rattle.std.specs.Prelude.{◌≡◌, ◌<◌, ℕ, true, false, length, slice_index, IfOk, IfErr};
+ghost use Rattle.std.specs.Prelude.{◌≡◌, ◌<◌, ℕ, true, false, length, slice_index, IfOk, IfErr, unwrap_or};
 ghost use Rattle.std.specs.Str.Lines.{lines};
 ghost use Rattle.packet.specs.declared.kinds.Reply.{Reply};
 ghost use Rattle.script.specs.Outcome.{Gives, line_of_fault};
@@ -9,10 +9,10 @@ ghost use Rattle.trace_order.specs.Traces.{IsTrace, IsIssuedAt, IsAnsweredAt};
 ghost use Rattle.trace_text.specs.Allowed.{IsAllowed, trace_answered_so};
 ghost use Rattle.trace_text.specs.Findings.{Tells, IsUnfound};
 ghost use Rattle.trace_text.specs.Kept.{IsKnownAs};
-ghost use Rattle.trace_text.specs.Traced.{trace_of, opening_of};
+ghost use Rattle.trace_text.specs.Traced.{trace_of, opening_of, value_at};
 
 use crate::issued::Issued;
-use crate::linearize::{Finding, Unfound};
+use crate::linearize::{Finding, Unfound, word_at};
 use crate::reading::Reading;
 use lexer::{first_words, next_line};
 use packet::Reply;
@@ -71,6 +71,13 @@ impl<A: Allocator> TraceText<A> {
         ensures each { length self.now.lines ≡ length self.now.events }
     {
         &self.reading.lines
+    }
+
+    /// The word that an address holds at first, 0 where no line gave it.
+    pub fn opening(&self, address: u32) -> u64
+        ensures { result ≡ unwrap_or (value_at self.now.inits address) 0 }
+    {
+        word_at(&self.reading.inits, address)
     }
 }
 

@@ -1,0 +1,65 @@
+-- The services of the operations of an order, as a report says them.
+use Rattle.std.specs.Prelude.{◌%◌, ◌==◌, ℕ, Bool, List, None, length, map, take, count_by, option_map}
+use Rattle.std.specs.List.{slice_index_or, range_with_len}
+use Rattle.packet.specs.declared.kinds.Op.TheVariants.{Load}
+use Rattle.packet.specs.declared.kinds.Reply.{Reply}
+use Rattle.packet.specs.Memory.{reply_of_one}
+use Rattle.trace_order.specs.declared.event.Call.{Call}
+use Rattle.trace_order.specs.Orders.{memory_of}
+use Rattle.trace_text.specs.declared.issued.Issued.{Issued}
+use Rattle.trace_text.specs.Traced.{TraceSpec, opening_of}
+use Rattle.trace_report.specs.declared.times.Times.{Times}
+use Rattle.trace_report.specs.declared.service.Service.{Service}
+use Rattle.trace_report.specs.Times.{time_of}
+use Rattle.trace_report.specs.Numbers.{waits_of, event_number, service_number}
+
+-- an operation of an order; a load of word 0 past the last
+abbrev pub call_at : List Call → ℕ → Call
+call_at order x =
+    slice_index_or order x (record { id = 0; operation = record { address = 0; op = Load } })
+
+-- the operation of a number, as its trace issues it; one of processor 0 where there is none
+abbrev pub issued_of : List Issued → ℕ → Issued
+issued_of issued id = slice_index_or issued id (record {
+  processor = 0;
+  index = 0;
+  operation = record { address = 0; op = Load };
+  reply = None;
+})
+
+-- whether an operation is on a word of a bank: the address modulo the number of banks
+abbrev pub is_home : ℕ → ℕ → Call → Bool
+is_home tiles bank c = c.operation.address % tiles == bank
+
+-- how many operations on words of the same bank stand before one of an order
+abbrev pub place_of : ℕ → List Call → ℕ → ℕ
+place_of tiles order x =
+    count_by (is_home tiles ((call_at order x).operation.address % tiles)) (take x order)
+
+-- the service of an operation, in its place of a bank, with its reply and the number of its service
+abbrev pub service_with : List Issued → List Times → List ℕ → Call → ℕ → Reply → ℕ → ℕ → Service
+service_with issued times waits c bank reply place served = record {
+  processor = (issued_of issued c.id).processor;
+  index = (issued_of issued c.id).index;
+  operation = c.operation;
+  reply = reply;
+  bank = bank;
+  place = place;
+  issued = event_number waits (time_of times c.id).issued;
+  served = served;
+  answered = option_map (event_number waits) (time_of times c.id).answered;
+}
+
+-- the service of an operation of an order: by the home bank of its address, in the order's turn,
+-- with the reply of the one memory
+abbrev pub service_of : TraceSpec → ℕ → List Times → List Call → ℕ → Service
+service_of t tiles times order x =
+    service_with t.issued times (waits_of times order) (call_at order x)
+    ((call_at order x).operation.address % tiles)
+    (reply_of_one (call_at order x).operation (memory_of (opening_of t) (take x order)))
+    (place_of tiles order x) (service_number (waits_of times order) x)
+
+-- the services of an order
+abbrev pub services_of : TraceSpec → ℕ → List Times → List Call → List Service
+services_of t tiles times order =
+    map (service_of t tiles times order) (range_with_len 0 (length order))
