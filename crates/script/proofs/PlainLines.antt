@@ -1,5 +1,5 @@
 -- A line whose words stand one space apart: its words, and what it says.
-use Rattle.std.proofs.Common.{◌≡◌, ◌≢◌, ◌==◌, ◌&&◌, ◌+◌, ◌*◌, ◌-◌, ◌<◌, ◌≤◌, ◌^◌, ℕ, Bool, true, false, not, min, cond, List, [], ◌∷◌, ◌++◌, length, get_or, take, Some, None, Ok, Option, Result, ok_or, inl, inr, ap, sym, refl, ◌∙◌, arith, append_assoc, length-append}
+use Rattle.std.proofs.Common.{◌≡◌, ◌≢◌, ◌==◌, ◌&&◌, ◌+◌, ◌*◌, ◌-◌, ◌<◌, ◌≤◌, ◌^◌, ℕ, Bool, true, false, not, min, cond, List, [], ◌∷◌, ◌++◌, length, get_or, take, Some, None, Ok, inl, inr, ap, sym, refl, ◌∙◌, arith, append_assoc, length-append}
 use Rattle.std.specs.Prelude.{nat_le}
 use Rattle.std.specs.List.{All, list_all, slice_split, position_or_len}
 use Rattle.std.specs.Int.{IsInRange}
@@ -7,27 +7,21 @@ use Rattle.std.specs.Char.{is_ascii_digit, digit_value}
 use Rattle.std.specs.Str.{all_ascii_digits}
 use Rattle.std.specs.Str.Parse.{digits_value}
 use Rattle.std.specs.Str.Lines.{lines, lines_of_parts, strip_carriage_return}
-use Rattle.std.proofs.lemmas.List.Elements.{All-nil, All-cons, All-head, All-append}
+use Rattle.std.proofs.lemmas.List.Elements.{All-nil, All-cons, All-append}
 use Rattle.std.proofs.lemmas.List.Sums.{AllPass-from_list_all}
 use Rattle.std.proofs.lemmas.List.Splits.{slice_split_at, slice_split_none, length-slice_split}
 use Rattle.std.proofs.lemmas.Bool.{cases_eq}
 use Rattle.std.proofs.lemmas.Bool.Decides.{nat_tests}
 use Rattle.std.proofs.lemmas.Str.{digit_value_digit}
-use Rattle.torus.specs.declared.fault.Fault.{Fault}
-use Rattle.torus.specs.declared.fault.Fault.TheVariants as fault
 use Rattle.torus.specs.declared.step.Step.{Step}
-use Rattle.lexer.specs.Words.{is_blank, words_of, begins_comment}
+use Rattle.lexer.specs.Words.{is_blank, words_of}
 use Rattle.lexer.specs.Numbers.{index_of, is_number}
 use Rattle.lexer.proofs.LineCuts.{is_feed, parts_more, lines_none, lines_some}
 use Rattle.lexer.proofs.WordCuts.{full, full-cons}
 use Rattle.script.specs.declared.attempt.ChoiceWord.{ChoiceWord}
 use Rattle.script.specs.declared.attempt.ChoiceWord.TheVariants.{Send, Take, Put, Credit, Serve, Done, Look}
-use Rattle.script.specs.declared.attempt.Attempt.{Attempt}
-use Rattle.script.specs.declared.fault.LineFault.{LineFault}
-use Rattle.script.specs.Outcome.{◌>>=◌, then_lines}
-use Rattle.script.specs.Settings.{an_index}
-use Rattle.script.specs.Steps.{attempt_of, a_choice, after_words, steps_from}
-use Rattle.script.specs.Plain.{spelling, BeginsWithNumber, BeginsWithChoice, BeginsWithAttempt, after_attempt, first_line}
+use Rattle.script.specs.Steps.{attempt_of, a_choice, after_words}
+use Rattle.script.specs.Plain.{spelling, BeginsWithNumber, BeginsWithChoice, BeginsWithAttempt, first_line}
 use Rattle.script.proofs.SevenWords.{steps_seven}
 
 -- no byte of a word is a blank or ends a line, nor does a space end one
@@ -192,52 +186,16 @@ line_of_three text next after last end close rest n m word agent blank choice sp
     ∙ ap (λ ws. digits ∷ ws) (words_more (spelling word) other two.0 two.1 ∙ ap (λ ws. spelling word ∷ ws) (words_last other three.0 three.1)) in
     (line, ap lines whole ∙ line_first line rest (omega (arith, one.0, length-append digits (32 ∷ tail))) quiet, ap attempt_of words ∙ numbered_line digits other n m word agent.2 number.2)
 
--- where a line says an attempt, its first word is a number, and so it's no comment
-index_ok : {B : Type 0} (o : Option ℕ) (f : ℕ → Result B Fault) (t : B) → (ok_or o fault.Line >>= f) ≡ Ok t → (n : ℕ) × (o ≡ Some n)
-index_ok (Some n) f t h = (n, refl)
-index_ok None f t h = absurd (cc)
-
-digit_first : (agent : List ℕ) (n : ℕ) → index_of agent ≡ Some n → begins_comment agent ≡ false
-digit_first [] n h = refl
-digit_first (c ∷ cs) n h =
-    let low : 48 ≤ c = All-head (λ b. 48 ≤ b) c cs (number_is_word (c ∷ cs) n h).1 in
-    grind (arith, nat_tests)
-
-no_comment : (agent : List ℕ) (rest : List (List ℕ)) (t : Attempt) → attempt_of (agent ∷ rest) ≡ Ok t → begins_comment agent ≡ false
-no_comment agent [] t h = absurd (cc)
-no_comment agent (w ∷ []) t h =
-    let found = index_ok (index_of agent) (λ a. a_choice w >>= λ c. Ok (record { agent = a; word = c; number = None })) t h in
-    digit_first agent found.0 found.1
-no_comment agent (w ∷ m ∷ []) t h =
-    let found = index_ok (index_of agent) (λ a. a_choice w >>= λ c. an_index m >>= λ n. Ok (record { agent = a; word = c; number = Some n })) t h in
-    digit_first agent found.0 found.1
-no_comment agent (w ∷ m ∷ other ∷ more) t h = absurd (cc)
-
-attempt_words : (tiles dims : ℕ) (steps : List Step) (ws : List (List ℕ)) (t : Attempt) → attempt_of ws ≡ Ok t → after_words tiles dims steps ws ≡ after_attempt tiles dims steps t
-attempt_words tiles dims steps [] t h = absurd (cc)
-attempt_words tiles dims steps (agent ∷ rest) t h = rw (no_comment agent rest t h) (ap (λ r. r >>= after_attempt tiles dims steps) h)
-
 first_is : (text line : List ℕ) (more : List (List ℕ)) → lines text ≡ line ∷ more → first_line text ≡ line
 first_is text line more is = ap (λ ls. get_or ls 0 []) is
 
--- what the first line makes of the steps, where it says an attempt
-pub said : (tiles dims : ℕ) (steps : List Step) (text rest : List ℕ) (t : Attempt) → BeginsWithAttempt text t rest
-    → after_words tiles dims steps (words_of (first_line text)) ≡ after_attempt tiles dims steps t
-said tiles dims steps text rest t begins =
-    ap (λ line. after_words tiles dims steps (words_of line)) (first_is text begins.0 (lines rest) begins.1)
-    ∙ attempt_words tiles dims steps (words_of begins.0) t begins.2
-
--- and where its words are read
+-- what the first line makes of the steps, where its words are read
 pub said_by_words : (tiles dims : ℕ) (steps : List Step) (text line : List ℕ) (more ws : List (List ℕ)) → lines text ≡ line ∷ more → ws ≡ take 7 (words_of line)
     → after_words tiles dims steps (words_of (first_line text)) ≡ after_words tiles dims steps ws
 said_by_words tiles dims steps text line more ws is seven =
     ap (λ l. after_words tiles dims steps (words_of l)) (first_is text line more is)
     ∙ sym (steps_seven tiles dims steps (words_of line))
     ∙ ap (after_words tiles dims steps) (sym seven)
-
--- the lines after the first one
-pub after_first_line : (text line : List ℕ) (more : List (List ℕ)) → lines text ≡ line ∷ more → lines text ≡ first_line text ∷ more
-after_first_line text line more is = is ∙ ap (λ l. l ∷ more) (sym (first_is text line more is))
 
 -- a text that isn't empty has a line
 pub some_line : (text : List ℕ) → 0 < length text → length (lines text) ≢ 0
@@ -246,11 +204,3 @@ some_line text some none =
       | inl whole ↦ absurd (omega (arith, none, ap length (lines_none text (position_or_len is_feed text) refl whole some)))
       | inr other ↦ absurd (omega (arith, none, ap length (lines_some text (position_or_len is_feed text) refl other)))
     ]
-
--- one more line of a steps text
-pub steps_step : (tiles dims n : ℕ) (old new : List Step) (line : List ℕ) (rest after : List (List ℕ)) (all : Result (List Step) LineFault) →
-    rest ≡ line ∷ after → after_words tiles dims old (words_of line) ≡ Ok new → steps_from tiles dims old n rest ≡ all → steps_from tiles dims new (n + 1) after ≡ all
-steps_step tiles dims n old new line rest after all is made so_far =
-    sym (ap (λ r. then_lines n r (λ next. steps_from tiles dims next (n + 1) after)) made)
-    ∙ sym (ap (steps_from tiles dims old n) is)
-    ∙ so_far

@@ -1,4 +1,4 @@
-//! Lines of a steps text whose words stand one space apart, as schedules have them: read in one pass.
+//! Lines of a steps text whose words stand one space apart, as in schedules: read in one pass.
 
 ghost use Rattle.std.specs.Prelude.{◌≡◌, ◌≤◌, ◌<◌, ◌+◌, ◌∷◌, length, IfSome};
 ghost use Rattle.script.specs.Plain.{BeginsWithNumber, BeginsWithChoice, BeginsWithAttempt};
