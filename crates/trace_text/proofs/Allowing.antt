@@ -68,9 +68,11 @@ there : (trace : List Event) (n id : ℕ) (told : Reply) → IsAnsweredAt trace 
 there trace n id told at i other r reply h = ⊎_elim
     (λ (l : (i < n) × IsAnsweredAt trace i other r). (omega arith, r, l.1))
     (λ (e : (i ≡ n) × (other ≡ id) × (r ≡ reply)).
-    let same = e.0 in
-    (omega arith, told,
-    subst (λ (k : ℕ). IsAnsweredAt trace k other told) (sym e.0) (subst (λ (k : ℕ). IsAnsweredAt trace n k told) (sym e.1) at)))
+    let same = e.0 in (
+      omega arith,
+      told,
+      subst (λ (k : ℕ). IsAnsweredAt trace k other told) (sym e.0) (subst (λ (k : ℕ). IsAnsweredAt trace n k told) (sym e.1) at),
+    ))
     h
 
 -- it is a trace
@@ -78,7 +80,7 @@ pub trace_answered : (words : ℕ) (trace : List Event) (n id : ℕ) (reply told
     → IsTrace words (answered_so trace n id reply)
 trace_answered words trace n id reply told t at =
     let back : (i other : ℕ) (r : Reply) → IsAnsweredAt (answered_so trace n id reply) i other r
-        → (i ≤ n) × (s : Reply) × IsAnsweredAt trace i other s = λ i other r h.
+    → (i ≤ n) × (s : Reply) × IsAnsweredAt trace i other s = λ i other r h.
     there trace n id told at i other r reply (answer_before trace n id reply told at i other r h) in
     record {
       rising = λ i j a b l h m.
@@ -151,8 +153,7 @@ pub allowed_given : (r : Reading) → IsKept r → (n id : ℕ) (reply : Reply) 
 allowed_given r k n id reply ws es w e is =
     let back = address_of r.addresses in
     let there = subst (λ (v : List ℕ). IsLinearizable v (map (moved_event (place_of r.places)) (answered_so r.events n id reply))) w
-    (subst (λ (f : List Event). IsLinearizable ws f) e is) in
-    (
+    (subst (λ (f : List Event). IsLinearizable ws f) e is) in (
       map (moved_call back) there.0,
       order_back (place_of r.places) back (opening_of (trace_read r)) (others r) (answered_so r.events n id reply)
           (renumbering_answered (place_of r.places) back (opening_of (trace_read r)) (others r) r.events n id reply (renumbering r k))
@@ -182,12 +183,14 @@ not_decided r n id reply told at (undecided.Configurations event) u =
 not_decided r n id reply told at (undecided.Operations event) u =
     let place = place_of r.places in
     let issue : (i : ℕ) (c : Call) → IsIssuedAt (map (moved_event place) (answered_so r.events n id reply)) i c
-        → (i < n) × IsIssuedAt (take (suc n) (moved r)) i c = λ i c h.
+    → (i < n) × IsIssuedAt (take (suc n) (moved r)) i c = λ i c h.
     let b = issue_back place (answered_so r.events n id reply) i c h in
     let f = issue_before r.events n id reply i b.0 b.1 in
-    let low = f.0 in
-    (f.0, get_take (suc n) (moved r) i (Issue c) (omega arith)
-    (subst (λ (x : Call). IsIssuedAt (moved r) i x) b.2 (map_get (moved_event place) r.events i (Issue b.0) f.1))) in
+    let low = f.0 in (
+      f.0,
+      get_take (suc n) (moved r) i (Issue c) (omega arith)
+          (subst (λ (x : Call). IsIssuedAt (moved r) i x) b.2 (map_get (moved_event place) r.events i (Issue b.0) f.1)),
+    ) in
     let now = issue event u.another u.issue in
     record {
       calls = u.calls;
