@@ -1,3 +1,5 @@
+ghost use Rattle.std.specs.Prelude.{◌+◌, ◌<◌, ◌^◌};
+
 use linked_list_allocator::LocalHeap;
 use packet::{Op, Operation, Reply};
 use std::alloc::{AllocError, Allocator, Global};
