@@ -373,8 +373,9 @@ class Traces(unittest.TestCase):
         many = [Issued(it, Operation.ADD, 1, (1,)) for it in range(65)]
         self.assertEqual(linearize(many), Undecided(64, True))
         self.assertEqual(linearize(many[:64]), Linearizable(()))
-        self.assertEqual(linearize([*many[:4], Answered(0, 0, 0)], configurations=1), Undecided(4, False))
-        self.assertEqual(linearize([*many[:4], Answered(0, 0, 0)]), Linearizable((0,)))
+        sums = [*many[:4], *(Answered(it, 0, old) for it, old in enumerate((1, 0, 2, 3)))]
+        self.assertEqual(linearize(sums, configurations=1), Undecided(4, False))
+        self.assertEqual(linearize(sums), Linearizable((1, 0, 2, 3)))
 
     def test_events_that_can_not_stand(self):
         rows = (

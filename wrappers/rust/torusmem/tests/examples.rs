@@ -343,9 +343,9 @@ fn traces_are_judged() {
     let mut many: Vec<_> = (0..65).map(|processor| issued(processor, add)).collect();
     assert_eq!(linearize([], &many, 1000), Ok(Judged::TooOpen { event: 64 }));
     many.truncate(4);
-    many.push(read_as(0, 0, 0));
+    many.extend([read_as(0, 0, 1), read_as(1, 0, 0), read_as(2, 0, 2), read_as(3, 0, 3)]);
     assert_eq!(linearize([], &many, 1), Ok(Judged::TooMany { event: 4 }));
-    assert_eq!(linearize([], &many, 1000), Ok(is(&[0])));
+    assert_eq!(linearize([], &many, 1000), Ok(is(&[1, 0, 2, 3])));
 }
 
 #[test]
