@@ -210,7 +210,7 @@ pub answer_yes : {A : Type 0} (opening : List ℕ) (trace whole : List Event) (k
     → tables.items ≡ set s.tables.items w cleared → cleared.items ≡ set table.items slot None
     → words.items ≡ set s.words.items w later → Holds {A = A} opening trace whole k s
     → IsSearched opening trace (suc k) (lists_of tables.items) (lists_of words.items) nodes.items
-    → Holds {A = A} opening trace whole (k + 1) (record { tables = tables; words = words; nodes = nodes; index = index })
+    → Holds {A = A} opening trace whole (k + 1) (record { tables = tables; words = words; nodes = nodes; index = index; most = s.most })
 answer_yes {A} opening trace whole k s tables words nodes index w slot a table cleared later far some read at emptied clear written holds searched = record {
   tabled = ap (λ (vs : List (Vec (Option Open) A)). length vs) emptied ∙ (length-set s.tables.items w cleared ∙ holds.tabled);
   sized = ap (λ (vs : List (Vec Branch A)). length vs) written ∙ (length-set s.words.items w later ∙ holds.sized);

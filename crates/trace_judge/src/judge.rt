@@ -1,6 +1,6 @@
 //! The decision, with an order or with the first event that has none.
 
-ghost use Rattle.std.specs.Prelude.{◌≡◌, ◌<◌, ◌+◌, ℕ, List, true, false, replicate, IfOk, IfErr, MatchOption, length};
+ghost use Rattle.std.specs.Prelude.{◌≡◌, ◌<◌, ◌+◌, ℕ, List, true, IfOk, IfErr, MatchOption, length};
 ghost use Rattle.std.specs.Prelude.{Some, None};
 ghost use Rattle.trace_order.specs.Traces.{IsTrace};
 ghost use Rattle.trace_order.specs.Orders.{IsOrder, IsLinearizable};
@@ -11,6 +11,7 @@ ghost use Rattle.trace_judge.specs.Verdicts.{IsGoodUntil, Tells};
 ghost use Rattle.trace_judge.specs.Marks.{AreNodes, IsBelow, AreMarked, ArePicked};
 ghost use Rattle.trace_judge.specs.Sets.{lists_of};
 
+use crate::nodes::no_marks;
 use crate::search::{Search, start};
 use crate::undecided::Undecided;
 use std::alloc::{AllocError, Allocator};
@@ -68,13 +69,6 @@ fn mark(marks: &mut [bool], nodes: &[Node], last: Option<usize>)
         marks[i] = true;
         next = nodes[i].before;
     }
-}
-
-/// No marks.
-fn no_marks<A: Allocator + Copy>(alloc: A, count: usize) -> Result<Vec<bool, A>, AllocError>
-    ensures { IfOk result (λ v. v.items ≡ replicate count false) }
-{
-    vec![in alloc; false; count]
 }
 
 /// Marks the nodes on the way to the first branch of each word.

@@ -12,6 +12,7 @@ ghost use Rattle.trace_judge.specs.Stops.{IsBeginning, IsUndecided};
 
 use crate::closing::{close, keep};
 use crate::index::{Index, empty_index};
+use crate::nodes::kept;
 use crate::reading::{first_slot, issue_of, promise_of};
 use crate::slots::{free, put, slot_of};
 use crate::undecided::{Full, Undecided};
@@ -28,7 +29,12 @@ pub struct Search<A: Allocator> {
     pub words: Vec<Vec<Branch, A>, A>,
     pub nodes: Vec<Node, A>,
     pub index: Index<A>,
+    /// Where there are more nodes than these, those are let go that no branch leads back to.
+    pub most: usize,
 }
+
+/// How many nodes there may be at least.
+const NODES: usize = 1 << 12;
 
 /// One branch for each word.
 fn first_words<A: Allocator + Copy>(
@@ -83,6 +89,7 @@ pub fn start<A: Allocator + Copy>(
         words: first_words(alloc, opening)?,
         nodes: Vec::new(alloc),
         index: empty_index(alloc)?,
+        most: NODES,
     })
 }
 
@@ -187,6 +194,28 @@ impl<A: Allocator + Copy> Search<A> {
         Ok(stands)
     }
 
+    /// Lets nodes go, where there are many.
+    fn let_go(
+        &mut self,
+        alloc: A,
+        opening: &[u64],
+        events: &[Event],
+        whole: &[Event],
+        k: usize,
+    ) -> Result<(), AllocError>
+        requires { Holds opening.now events.now whole.now k self.old }
+        ensures { OnOk result (Holds opening.now events.now whole.now k self.new) }
+    {
+        if self.nodes.len() <= self.most {
+            return Ok(());
+        }
+        let (words, nodes) = kept(alloc, &self.words, &self.nodes)?;
+        self.words = words;
+        self.nodes = nodes;
+        self.most = self.nodes.len().saturating_mul(2).max(NODES);
+        Ok(())
+    }
+
     /// Takes event k. Says whether each word has a branch still.
     pub fn step(
         &mut self,
@@ -211,7 +240,11 @@ impl<A: Allocator + Copy> Search<A> {
                 Ok(true)
             }
             Event::Answer(id, reply) => {
-                self.answer(alloc, opening, events, whole, k, id, reply, bound)
+                if !self.answer(alloc, opening, events, whole, k, id, reply, bound)? {
+                    return Ok(false);
+                }
+                self.let_go(alloc, opening, events, whole, k + 1)?;
+                Ok(true)
             },
         }
     }

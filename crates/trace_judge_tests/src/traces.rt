@@ -322,6 +322,24 @@ fn fifty_that_are_never_answered(rt: HostRuntime) -> Result<(), Fail> {
     Ok(())
 }
 
+#[test]
+fn an_order_of_many_operations(rt: HostRuntime) -> Result<(), Fail> {
+    let alloc = rt.alloc();
+    // A store that may take effect at each moment, and never has to.
+    let mut events = Vec::new(alloc);
+    events.push(issue(0, 0, Op::Store(9)))?;
+    for id in 1..5001u64 {
+        events.push(issue(id, 0, Op::Swap(id)))?;
+        events.push(read(id, id - 1))?;
+    }
+    let yes = verdict_on(alloc, &events, 1000);
+    events.push(issue(6000, 0, Op::Load))?;
+    events.push(read(6000, 4999))?;
+    let no = verdict_on(alloc, &events, 1000);
+    assert!(rt; yes == Seen::Yes(5000) && no == Seen::No(10002));
+    Ok(())
+}
+
 /// What is seen within a budget of bytes.
 fn within(alloc: Global, events: &[Event], budget: usize) -> Result<Seen, AllocError> {
     let heap = LocalHeap::new(alloc, budget)?;
