@@ -175,6 +175,7 @@ enum Undecided {
 }
 
 const SLOTS: usize = 64;
+const NODES: usize = 1 << 12;
 
 fn hash(config: Config) -> u64 {
     let low = config.taken as u64;
@@ -260,6 +261,10 @@ struct Search {
     words: Vec<Vec<Branch>>,
     nodes: Vec<Node>,
     index: Index,
+    /// Where there are more nodes than these, those are let go that no branch leads back to.
+    most: usize,
+    /// An operation that took effect in no branch, where a word has none left.
+    stuck: Option<u64>,
 }
 
 /// The branches of a word that are found while it is closed.
@@ -365,6 +370,8 @@ impl Search {
                 .collect(),
             nodes: Vec::new(),
             index: Index { places: vec![0; 64], homes: Vec::new() },
+            most: NODES,
+            stuck: None,
         }
     }
 
@@ -410,6 +417,13 @@ impl Search {
             return None;
         }
         let mut kept = closing.found;
+        if !kept.iter().any(|branch| has(branch.config.taken, slot)) {
+            let taken = kept.iter().fold(0, |all, branch| all | branch.config.taken);
+            let left = table.iter().enumerate().filter(|(s, _)| *s != slot && !has(taken, *s));
+            let stuck = left.filter_map(|(_, place)| place.filter(|open| open.promise.is_some()));
+            self.stuck = stuck.map(|open| open.call.id).min();
+            return Some(false);
+        }
         kept.retain_mut(|branch| {
             let there = has(branch.config.taken, slot);
             branch.config.taken &= !(1 << slot);
@@ -417,7 +431,39 @@ impl Search {
         });
         self.tables[word][slot] = None;
         self.words[word] = kept;
-        Some(!self.words[word].is_empty())
+        self.let_go();
+        Some(true)
+    }
+
+    /// Lets the nodes go that no branch leads back to, where there are many.
+    fn let_go(&mut self) {
+        if self.nodes.len() <= self.most {
+            return;
+        }
+        let mut marks = vec![false; self.nodes.len()];
+        for branch in self.words.iter().flatten() {
+            if let Some(i) = branch.trail {
+                marks[i] = true;
+            }
+        }
+        for i in (0..self.nodes.len()).rev() {
+            if let (true, Some(j)) = (marks[i], self.nodes[i].before) {
+                marks[j] = true;
+            }
+        }
+        let mut ranks = Vec::with_capacity(marks.len());
+        let mut kept = Vec::new();
+        for (node, mark) in self.nodes.iter().zip(&marks) {
+            ranks.push(kept.len());
+            if *mark {
+                kept.push(Node { call: node.call, before: node.before.map(|j| ranks[j]) });
+            }
+        }
+        for branch in self.words.iter_mut().flatten() {
+            branch.trail = branch.trail.map(|i| ranks[i]);
+        }
+        self.most = (2 * kept.len()).max(NODES);
+        self.nodes = kept;
     }
 
     /// The operations of the nodes on the way to the first branch of each word.
@@ -434,13 +480,19 @@ impl Search {
     }
 }
 
-/// An order, or the event at which the search ended.
+/// The event at which this operation is answered, from event k on; or event k.
+fn guess(events: &[Event], k: usize, stuck: Option<u64>) -> usize {
+    let is_it = |event: &Event| matches!(event, Event::Answer(id, _) if Some(*id) == stuck);
+    k + events[k..].iter().position(is_it).unwrap_or(0)
+}
+
+/// An order, or the event at which the search ended and a guess of the first bad one.
 fn find_order(
     opening: &[u64],
     events: &[Event],
     whole: &[Event],
     bound: usize,
-) -> Result<Result<Vec<Call>, usize>, Undecided> {
+) -> Result<Result<Vec<Call>, (usize, usize)>, Undecided> {
     let mut search = Search::start(opening);
     for (k, event) in events.iter().enumerate() {
         match *event {
@@ -451,7 +503,7 @@ fn find_order(
             }
             Event::Answer(id, _) => match search.answer(events, k, id, bound) {
                 Some(true) => {}
-                Some(false) => return Ok(Err(k)),
+                Some(false) => return Ok(Err((k, guess(events, k, search.stuck)))),
                 None => return Err(Undecided::Configurations(k)),
             },
         }
@@ -461,20 +513,23 @@ fn find_order(
 
 /// An order, or the first event up to which there is none.
 fn judge(opening: &[u64], events: &[Event], bound: usize) -> Result<Result<Vec<Call>, usize>, Undecided> {
-    let mut good = match find_order(opening, events, events, bound)? {
+    let (mut good, guessed) = match find_order(opening, events, events, bound)? {
         Ok(order) => return Ok(Ok(order)),
-        Err(last) => last,
+        Err(ended) => ended,
     };
     let mut bad = events.len();
+    let mut guess = guessed.max(good + 1);
     let mut step = 1;
     while good + 1 < bad {
-        let guess = good + step;
-        let middle = if guess < bad { guess } else { good + (bad - good) / 2 };
+        let middle = if good < guess && guess < bad { guess } else { good + (bad - good) / 2 };
         if find_order(opening, &events[..middle], events, bound)?.is_ok() {
             good = middle;
+            guess = good + step;
             step *= 2;
         } else {
             bad = middle;
+            guess = good + 1;
+            step = 1;
         }
     }
     Ok(Err(good))

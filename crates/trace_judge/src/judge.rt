@@ -13,6 +13,7 @@ ghost use Rattle.trace_judge.specs.Sets.{lists_of};
 
 use crate::nodes::no_marks;
 use crate::search::{Search, start};
+use crate::stuck::answer_from;
 use crate::undecided::Undecided;
 use std::alloc::{AllocError, Allocator};
 use trace_order::{Call, Event};
@@ -28,6 +29,14 @@ pub enum Verdict<A: Allocator> {
     No { event: usize },
 }
 
+/// The event at which a search ended, since a word had no branch left; and a guess of the first event up
+/// to which no order explains the trace.
+#[derive(Clone, Copy, Default)]
+struct Ended {
+    event: usize,
+    guess: usize,
+}
+
 /// Goes through the events, as long as each word has a branch, and notes the event that left none.
 fn run<A: Allocator + Copy>(
     alloc: A,
@@ -35,13 +44,13 @@ fn run<A: Allocator + Copy>(
     events: &[Event],
     whole: &[Event],
     bound: usize,
-    last: &mut usize,
+    ended: &mut Ended,
 ) -> Result<Option<Search<A>>, Undecided>
     requires trace { IsTrace (length opening.now) events.now }
     requires beginning { IsBeginning events.now whole.now }
     ensures undecided { IfErr result (IsUndecided whole.now) }
     ensures ended { IfOk result (λ found. found ≡ None
-        → IsGoodUntil opening.now events.now last.new) }
+        → IsGoodUntil opening.now events.now ended.new.event) }
     ensures decided { IfOk result (λ found. MatchOption found
         (IsLinearizable opening.now events.now → ⊥)
         (λ search. Holds opening.now events.now whole.now (length events.now) search)) }
@@ -49,7 +58,10 @@ fn run<A: Allocator + Copy>(
     let mut search = start(alloc, opening, events, whole)?;
     for k in 0..events.len() {
         if !search.step(alloc, opening, events, whole, k, bound)? {
-            *last = k;
+            *ended = Ended {
+                event: k,
+                guess: answer_from(events, k, search.stuck),
+            };
             return Ok(None);
         }
     }
@@ -116,18 +128,18 @@ fn find_order<A: Allocator + Copy>(
     events: &[Event],
     whole: &[Event],
     bound: usize,
-    last: &mut usize,
+    ended: &mut Ended,
 ) -> Result<Option<Vec<Call, A>>, Undecided>
     requires trace { IsTrace (length opening.now) events.now }
     requires beginning { IsBeginning events.now whole.now }
     ensures undecided { IfErr result (IsUndecided whole.now) }
     ensures ended { IfOk result (λ found. found ≡ None
-        → IsGoodUntil opening.now events.now last.new) }
+        → IsGoodUntil opening.now events.now ended.new.event) }
     ensures decided { IfOk result (λ found. MatchOption found
         (IsLinearizable opening.now events.now → ⊥)
         (λ order. IsOrder opening.now events.now order.items)) }
 {
-    let Some(search) = run(alloc, opening, events, whole, bound, last)? else {
+    let Some(search) = run(alloc, opening, events, whole, bound, ended)? else {
         return Ok(None);
     };
     let marks = mark_all(alloc, &search, opening, events, whole)?;
@@ -151,8 +163,8 @@ pub fn decide<A: Allocator + Copy>(
         (IsLinearizable opening.now events.now → ⊥)
         (λ order. IsOrder opening.now events.now order.items)) }
 {
-    let mut last = 0;
-    find_order(alloc, opening, events, events, bound, &mut last)
+    let mut ended = Ended::default();
+    find_order(alloc, opening, events, events, bound, &mut ended)
 }
 
 /// The beginning to look at next, between a good one and a bad one: one that is guessed, or half way.
@@ -181,24 +193,27 @@ pub fn judge<A: Allocator + Copy>(
     ensures unjudged { IfErr result (IsUndecided events.now) }
     ensures judged { IfOk result (λ verdict. Tells opening.now events.now verdict) }
 {
-    let mut last = 0;
-    if let Some(order) = find_order(alloc, opening, events, events, bound, &mut last)? {
+    let mut ended = Ended::default();
+    if let Some(order) = find_order(alloc, opening, events, events, bound, &mut ended)? {
         return Ok(Verdict::Linearizable(order));
     }
-    // What comes before the event at which the search ended has an order. Most often this is the first
-    // bad event: look there, and from there in growing steps.
-    let mut good = last;
+    // What comes before the event at which the search ended has an order. Most often the first bad event
+    // is this one, or the one that is guessed: look there, and from there in growing steps.
+    let mut good = ended.event;
     let mut bad = events.len();
+    let mut guess = ended.guess.max(good.saturating_add(1));
     let mut step = 1usize;
     while good + 1 < bad {
-        let middle = between(good, bad, good.saturating_add(step));
-        let beginning = &events[..middle];
-        let mut ended = 0;
-        if find_order(alloc, opening, beginning, events, bound, &mut ended)?.is_some() {
+        let middle = between(good, bad, guess);
+        let mut other = Ended::default();
+        if find_order(alloc, opening, &events[..middle], events, bound, &mut other)?.is_some() {
             good = middle;
+            guess = good.saturating_add(step);
             step = step.saturating_mul(2);
         } else {
             bad = middle;
+            guess = good.saturating_add(1);
+            step = 1;
         }
     }
     Ok(Verdict::No { event: good })

@@ -15,6 +15,7 @@ use crate::index::{Index, empty_index};
 use crate::nodes::kept;
 use crate::reading::{first_slot, issue_of, promise_of};
 use crate::slots::{free, put, slot_of};
+use crate::stuck::stuck_in;
 use crate::undecided::{Full, Undecided};
 use packet::Reply;
 use std::alloc::{AllocError, Allocator};
@@ -31,6 +32,8 @@ pub struct Search<A: Allocator> {
     pub index: Index<A>,
     /// Where there are more nodes than these, those are let go that no branch leads back to.
     pub most: usize,
+    /// Where a word has no branch left, an operation on it that took effect in none, and wasn't answered.
+    pub stuck: Option<u64>,
 }
 
 /// How many nodes there may be at least.
@@ -90,6 +93,7 @@ pub fn start<A: Allocator + Copy>(
         nodes: Vec::new(alloc),
         index: empty_index(alloc)?,
         most: NODES,
+        stuck: None,
     })
 }
 
@@ -189,6 +193,7 @@ impl<A: Allocator + Copy> Search<A> {
         };
         let later = keep(alloc, &middle, slot)?;
         let stands = !later.is_empty();
+        self.stuck = stuck_in(stands, &self.tables[word], &middle, slot);
         free(&mut self.tables[word], slot);
         self.words[word] = later;
         Ok(stands)
@@ -245,7 +250,7 @@ impl<A: Allocator + Copy> Search<A> {
                 }
                 self.let_go(alloc, opening, events, whole, k + 1)?;
                 Ok(true)
-            },
+            }
         }
     }
 }
