@@ -1,5 +1,5 @@
 -- The steps that are issues, services and answers lead to the states that keep what holds; the rest is assumed.
-use Rattle.std.proofs.Common.{◌≡◌, ℕ, ◌/◌, ◌%◌, ◌<◌, Bool, true, false, cond, List, [], ◌∷◌, ◌++◌, length, Option, Some, None, refl, sym, ◌∙◌, ap, ap₂, subst}
+use Rattle.std.proofs.Common.{◌≡◌, ℕ, ◌<◌, Bool, true, false, cond, List, [], ◌∷◌, ◌++◌, length, Option, Some, None, refl, sym, ◌∙◌, ap, ap₂, subst}
 use Rattle.std.proofs.Common.{slice_get, slice_index, slice_set}
 use Rattle.std.specs.Prelude.{option_and_then, option_map, nat_lt, IfSome}
 use Rattle.std.proofs.lemmas.Bool.{ltb-true}
@@ -35,9 +35,12 @@ use Rattle.script_follower.specs.ProcessorTable.{ProcessorState, processor_wants
 use Rattle.home_bank.specs.BankTable.{BankState, bank_wants, bank_after, served}
 use Rattle.channel_number.specs.Ports.{injection_channel, ejection_channel}
 use Rattle.tile_laws.specs.Wiring.{processor_wiring, bank_wiring}
-use Rattle.tile_laws.specs.Tile.{Design, TileState, Agent, Processor, Router, Bank, tile_step}
+use Rattle.tile_laws.specs.declared.agent.Agent.{Agent}
+use Rattle.tile_laws.specs.declared.agent.Agent.TheVariants.{Processor, Router, Bank}
+use Rattle.tile_laws.specs.Tile.{Design, TileState, tile_step}
+use Rattle.tile_laws.specs.Agents.{agent_kind, agent_tile}
 use Rattle.core_laws.specs.Heads.{is_head}
-use Rattle.core_laws.specs.Core.{State, next, or_same, agent_numbered}
+use Rattle.core_laws.specs.Core.{State, next, or_same}
 use Rattle.core_laws.specs.Moves.{learned_by, issue_of, processor_move, bank_move, tile_move, move_of}
 use Rattle.core_laws.proofs.AgentSteps.{option_map_some}
 use Rattle.core_laws.proofs.Projection.{net_of, first_flit}
@@ -286,8 +289,8 @@ module _ (d : Design) (net : IsNet (net_of d)) (tags : ℕ) (opening : List ℕ)
 
   then_move : (attempt : Step) (m : Move) → move_of d s attempt ≡ Some m → Then (next d s attempt) m (network_event d s attempt)
   then_move attempt m h =
-      let t : ℕ = attempt.agent / 3 in
-      let agent : Agent = agent_numbered (attempt.agent % 3) in
+      let t : ℕ = agent_tile attempt.agent in
+      let agent : Agent = agent_kind attempt.agent in
       option_and_then_some (λ tile. tile_move d t tile s.around agent attempt.choice) (slice_get s.tiles t) m h (λ tile there e.
       let is : tile_at s t ≡ tile = get_or_from_slice_get s.tiles t tile no_tile there in
       let within : t < tiles_of d.shape = subst (λ (k : ℕ). t < k) st.tiles (slice_get_within s.tiles t tile there) in

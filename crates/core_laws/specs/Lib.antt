@@ -7,7 +7,6 @@ pub mod Moves
 pub mod Runs
 pub mod Delivery
 pub mod Reports
-pub mod Choices
 pub mod Touches
 pub mod Asks
 pub mod Mirrors
