@@ -6,7 +6,7 @@ import os
 import random
 from collections import Counter
 from dataclasses import dataclass
-from itertools import groupby
+from itertools import accumulate, groupby
 from operator import itemgetter
 from typing import Any, Dict, List, Optional, Set, Tuple
 
@@ -14,7 +14,7 @@ import command
 import exchange
 import jobs
 import table
-from pieces import ADDRESS, LINE, Fault, Judge, pieces_of
+from pieces import ADDRESS, LINE, SERVED, Fault, Judge, pieces_of
 
 # How many bytes are read at a time, and about how many rows there are in a range.
 CHUNK = 2**22
@@ -73,17 +73,19 @@ class Verdict:
         return f"good trace: {parts}\n"
 
 
-def chunks_of(found: Table) -> List[Chunk]:
+def chunks_of(found: Table, processes: int) -> List[Chunk]:
     """The parts of a table, each of whole lines; all of it in one part where a field may go over lines."""
-    start, lines, made = found.begin(), 1, []
+    start, ends = found.begin(), []
     if found.text.find(b'"') >= 0:
-        return [Chunk(0, start, len(found.text), lines)]
-    while start < len(found.text):
-        end = found.text.find(b"\n", min(start + CHUNK, len(found.text))) + 1 or len(found.text)
-        made.append(Chunk(len(made), start, end, lines))
-        lines += found.text[start:end].count(b"\n")
-        start = end
-    return made
+        return [Chunk(0, start, len(found.text), 1)]
+    end = start
+    while end < len(found.text):
+        end = found.text.find(b"\n", min(end + CHUNK, len(found.text))) + 1 or len(found.text)
+        ends.append(end)
+    parts = list(zip([start, *ends], ends))
+    counts = jobs.answers(lambda part: found.text[part[0] : part[1]].count(b"\n"), parts, processes)
+    lines = accumulate(counts, initial=1)
+    return [Chunk(number, *part, before) for number, (part, before) in enumerate(zip(parts, lines))]
 
 
 def sampled(found: Table, count: int) -> Tuple[List[Tuple[int, int]], List[int]]:
@@ -106,7 +108,7 @@ class Check:
 
     def __init__(self, found: Table, judge: Judge, processes: int) -> None:
         self.table, self.judge, self.processes = found, judge, processes
-        self.chunks = chunks_of(found)
+        self.chunks = chunks_of(found, processes)
         self.borders: List[Tuple[Any, ...]] = []
         self.name_borders: List[int] = []
         self.reads: List[Read] = []
@@ -128,6 +130,7 @@ class Check:
         rows = self.rows_of(chunk)
         place = lambda name: os.path.join(self.judge.folder, f"{name}-{chunk.number}")
         served = len(rows.served)
+        sort(rows.served)
         spread = exchange.spread(rows.served, self.borders, place("rows"))
         return Read(spread, exchange.spread(rows.names, self.name_borders, place("names")), served, rows.unserved)
 
@@ -160,7 +163,8 @@ class Check:
     def judged(self, number: int) -> Tuple[Optional[Fault], int, int, List[int]]:
         """The first fault of a range of addresses and services, how many pieces and how many addresses it has that no
         range before it has, and those of its addresses whose words are given."""
-        rows = sorted(exchange.gathered([it.rows for it in self.reads], number))
+        rows = exchange.gathered([it.rows for it in self.reads], number)
+        sort(rows)
         before = next((it[1] for it in reversed(self.ends[:number]) if it), None)
         after = next((it[0][ADDRESS] for it in self.ends[number + 1 :] if it), None)
         pieces = list(pieces_of(rows, before, after))
@@ -199,6 +203,13 @@ class Check:
         faults += self.untouched(touched)
         served, unserved = sum(it.served for it in self.reads), sum(it.unserved for it in self.reads)
         return Verdict(min(faults, key=place_of, default=None), served, unserved, words, pieces)
+
+
+def sort(rows: List[table.Row]) -> None:
+    """Sorts rows, that come in the order of their lines where address and service are the same: by each of both, since
+    numbers are compared faster than rows."""
+    rows.sort(key=itemgetter(SERVED))
+    rows.sort(key=itemgetter(ADDRESS))
 
 
 def place_of(fault: Fault) -> Tuple[int, int, int]:

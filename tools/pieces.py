@@ -112,18 +112,18 @@ def report_of(piece: Piece, memory: Memory) -> str:
     """The report of a piece (docs/FORMATS.md, Reports)."""
     rows, count = piece.rows, len(piece.rows)
     words = list(words_of(piece, memory))
-    numbers = {address: at for at, (address, _, _) in enumerate(words)}
-    events, order = events_of(rows)
     entries: list[list[str]] = [[] for _ in range(BANKS)]
+    homes = {address: (at, at % BANKS, entries[at % BANKS]) for at, (address, _, _) in enumerate(words)}
+    events, order = events_of(rows)
+    issued, served, answered = events[:count], events[count : 2 * count], events[2 * count :]
     replies, times = [], []
     for number, at in enumerate(order):
         address, _, _, _, _, kind, values, reply = rows[at]
-        address = numbers[address]
-        bank = entries[address % BANKS]
-        name = f"{address % BANKS} {len(bank)}"
-        answer = events[at + 2 * count]
-        bank.append(f"entry {name} {number >> 10} 0 {kind} {address}{values} {reply}\n")
-        times.append(f"order {name} {events[at]} {events[at + count]} {answer or '-'}\n")
+        place, bank, mine = homes[address]
+        name = f"{bank} {len(mine)}"
+        answer = answered[at]
+        mine.append(f"entry {name} {number >> 10} 0 {kind} {place}{values} {reply}\n")
+        times.append(f"order {name} {issued[at]} {served[at]} {answer or '-'}\n")
         if answer:
             replies.append(f"answer {number >> 10} {number & 1023} {name} {reply}\n")
     version = 1 if LATER_KINDS.isdisjoint(map(itemgetter(5), rows)) else 2

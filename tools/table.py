@@ -24,16 +24,17 @@ LATEST = 10**20 - 1
 # answer, its kind, its values as a report spells them, each with a space before it, and its reply as a report does.
 Row = Tuple[int, int, int, int, Optional[int], str, str, str]
 
-NUMBER = "(0|[1-9][0-9]{0,19})"
+NUMBER = "(?:0|[1-9][0-9]{0,19})"
+TIME = f"({NUMBER})"
 # (processors, indexes, addresses and banks below 10^19, which are below 2^64)
 SHORT = "(0|[1-9][0-9]{0,18})"
 PLAIN = re.compile(
-    rf"^{SHORT},{SHORT},([0-9]|1[0-5])?,([a-z]{{2,5}}),{SHORT},(?:{NUMBER}(?: {NUMBER})?)?,"
-    rf"({NUMBER[1:-1]}|ok),{SHORT}?,{NUMBER},{NUMBER},{NUMBER}?\r?$|^(.*)$",
+    rf"^{SHORT},{SHORT},(?:[0-9]|1[0-5])?,([a-z]{{2,5}}),{SHORT},((?:{NUMBER}(?: {NUMBER})?)?),({NUMBER}|ok),"
+    rf"{SHORT}?,{TIME},{TIME},{TIME}?\r?$|^(.*)$",
     re.ASCII | re.MULTILINE,
 )
-# Of each kind whether there is a first and a second value, and whether the reply is `ok`.
-PLAIN_KINDS = {(kind, count > 0, count > 1, kind == "store") for kind, count in report.VALUES.items()}
+# Of each kind how many values there are, and whether the reply is `ok`.
+PLAIN_KINDS = {(kind, count, kind == "store") for kind, count in report.VALUES.items()}
 
 
 @dataclass
@@ -179,7 +180,7 @@ class Rows:
         """Takes the rows of a text without quotes, the plain way where that can be."""
         last_tile, last_address, tiles = self.limits.last_tile(), self.limits.last_address(), self.limits.tiles
         for line, fields in enumerate(PLAIN.findall(text), before + 1):
-            source, index, _, kind, place, one, two, reply, bank, issued, served, answered, other = fields
+            source, index, kind, place, values, reply, bank, issued, served, answered, other = fields
             if not kind:
                 if other:
                     self.take_all(other.encode("utf-8"), line - 1)
@@ -188,14 +189,15 @@ class Rows:
             is_far = address > last_address or processor > last_tile
             if tiles and bank:
                 is_far = is_far or int(bank) != address % tiles
-            if len(one) + len(two) + len(reply) >= 20:
-                is_far = is_far or reply != "ok" and int(reply) > MASK or int(one or 0) > MASK or int(two or 0) > MASK
-            if is_far or (kind, one != "", two != "", reply == "ok") not in PLAIN_KINDS:
+            if len(values) + len(reply) >= 20:
+                is_far = is_far or reply != "ok" and int(reply) > MASK or any(int(it) > MASK for it in values.split())
+            count = values.count(" ") + 1 if values else 0
+            if is_far or (kind, count, reply == "ok") not in PLAIN_KINDS:
                 self.take_all(text.split("\n")[line - before - 1].encode("utf-8"), line - 1)
                 continue
-            values = f" {one} {two}" if two else f" {one}" if one else ""
             end = int(answered) if answered else None
-            self.served.append((address, int(served), line, int(issued), end, kind, values, reply))
+            spelled = f" {values}" if values else ""
+            self.served.append((address, int(served), line, int(issued), end, kind, spelled, reply))
             self.names.append(processor << 64 | int(index))
 
     def take_text(self, text: bytes, before: int) -> None:
