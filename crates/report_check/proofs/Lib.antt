@@ -2,10 +2,6 @@ pub mod Blank
 pub mod Banks
 pub mod Pushes
 pub mod Orders
-pub mod Words
-pub mod Sound
-pub mod Again
-pub mod Joined
 pub mod Standing
 pub mod Told
 pub mod Replay

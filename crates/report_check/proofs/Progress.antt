@@ -7,14 +7,13 @@ use Rattle.std.proofs.lemmas.Option.{none-some, same_Some}
 use Rattle.report_lines.specs.Line.{line_text, text_of}
 use Rattle.report_lines.specs.declared.line.ReportLine.{ReportLine}
 use Rattle.report_check.specs.declared.checker.Checker.{Checker}
-use Rattle.report_check.specs.Fits.{FitsLine}
-use Rattle.report_check.specs.Reading.{line_at}
-use Rattle.report_check.specs.Spelled.{line_then}
+use Rattle.report_lines.specs.Fits.{FitsLine}
+use Rattle.report_reader.specs.Reading.{line_at}
 use Rattle.report_check.specs.Seen.{Seen, nothing_seen, after, seen_of}
 use Rattle.report_check.specs.Good.{Allowed, MayStand, AllStand, AreGood, GoodReport, FirstBad, IsStuck}
 use Rattle.report_check.specs.Shows.{Shows}
-use Rattle.report_check.proofs.Again.{line_again}
-use Rattle.report_check.proofs.Joined.{line_then-is, line_some}
+use Rattle.report_reader.proofs.Found.{read_of}
+use Rattle.report_reader.proofs.Joined.{line_some}
 
 -- the lines that were read stand, and the rest is left
 pub record Progress {A : Type 0} (text rest : List ℕ) (number : ℕ) (c : Checker A) : Type 0 where
@@ -39,7 +38,7 @@ text_of_push lines line rest =
 
 -- a line that may stand
 pub progress_more : {A : Type 0} (text rest more : List ℕ) (number : ℕ) (c new : Checker A) (line : ReportLine) (p : Progress text rest number c)
-    → rest ≡ line_then line more → FitsLine line → Allowed (seen_of p.lines) line × Shows (after (seen_of p.lines) line) new
+    → rest ≡ line_text line ++ more → FitsLine line → Allowed (seen_of p.lines) line × Shows (after (seen_of p.lines) line) new
     → Progress text more (number + 1) new
 progress_more text rest more number c new line p cut fits taken =
     let now : seen_of (p.lines ++ line ∷ []) ≡ after (seen_of p.lines) line = fold_push after nothing_seen p.lines line in
@@ -47,15 +46,11 @@ progress_more text rest more number c new line p cut fits taken =
     let may : MayStand (seen_of p.lines) line = record { fits = fits; allowed = taken.0 } in
     record {
       lines = p.lines ++ line ∷ [];
-      printed = p.printed ∙ ap (λ (t : List ℕ). text_of p.lines ++ t) (cut ∙ line_then-is line more) ∙ sym (text_of_push p.lines line more);
+      printed = p.printed ∙ ap (λ (t : List ℕ). text_of p.lines ++ t) cut ∙ sym (text_of_push p.lines line more);
       each = all_stand_push nothing_seen p.lines line p.each may;
       counted = omega (arith, p.counted, length_push p.lines line);
       shows = subst P (sym now) taken.1;
     }
-
--- a text that begins with a line is read so
-pub read_of : (line : ReportLine) (more rest : List ℕ) → FitsLine line → rest ≡ line_text line ++ more → line_at rest ≡ Some (line, more)
-read_of line more rest fits is = ap line_at (is ∙ sym (line_then-is line more)) ∙ line_again line more fits
 
 -- where no line is read, or where it may not stand, the check ends
 pub stuck_unread : (s : Seen) (rest : List ℕ) → line_at rest ≡ None → (s.section ≡ 8 → rest ≢ []) → IsStuck s rest
@@ -64,14 +59,14 @@ stuck_unread s rest unread left = record {
   not_good = left;
 }
 
-pub stuck_refused : (s : Seen) (rest more : List ℕ) (line : ReportLine) → line_at rest ≡ Some (line, more) → rest ≡ line_then line more → (Allowed s line → ⊥)
+pub stuck_refused : (s : Seen) (rest more : List ℕ) (line : ReportLine) → line_at rest ≡ Some (line, more) → rest ≡ line_text line ++ more → (Allowed s line → ⊥)
     → IsStuck s rest
 stuck_refused s rest more line read is refused = record {
   none = λ other behind may same.
       let one : (line, more) ≡ (other, behind) = same_Some (line, more) (other, behind) (sym read ∙ read_of other behind rest may.fits same) in
       let P : ReportLine → Type 0 = λ l. Allowed s l → ⊥ in
       subst P (ap (λ (x : ReportLine × List ℕ). x.0) one) refused may.allowed;
-  not_good = λ ended empty. absurd (omega (arith, line_some line more, ap length (sym empty ∙ is ∙ line_then-is line more)));
+  not_good = λ ended empty. absurd (omega (arith, line_some line more, ap length (sym empty ∙ is)));
 }
 
 pub first_bad : {A : Type 0} (text rest : List ℕ) (number : ℕ) (c : Checker A) (p : Progress text rest number c) → IsStuck (seen_of p.lines) rest

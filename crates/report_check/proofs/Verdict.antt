@@ -6,13 +6,13 @@ use Rattle.std.proofs.lemmas.Option.{same_Some}
 use Rattle.std.proofs.lemmas.Result.{IfErr-weaker}
 use Rattle.report_lines.specs.Line.{line_text, text_of}
 use Rattle.report_lines.specs.declared.line.ReportLine.{ReportLine}
-use Rattle.report_check.specs.Fits.{FitsLine}
+use Rattle.report_lines.specs.Fits.{FitsLine}
 use Rattle.report_check.specs.Seen.{Seen, nothing_seen, after, seen_of}
 use Rattle.report_check.specs.Good.{MayStand, AllStand, GoodReport, FirstBad, IsStuck, HasFault}
 use Rattle.report_check.specs.declared.fault.CheckFault.{CheckFault}
 use Rattle.report_check.specs.declared.fault.CheckFault.TheVariants.{BadReport, Memory}
-use Rattle.report_check.proofs.Joined.{line_some}
-use Rattle.report_check.proofs.Progress.{read_of}
+use Rattle.report_reader.proofs.Joined.{line_some}
+use Rattle.report_reader.proofs.Found.{read_of}
 
 -- two lines that a text begins with are one, and so are the bytes behind them
 pub same_first : (l o : ReportLine) (x y : List ℕ) → FitsLine l → FitsLine o → line_text l ++ x ≡ line_text o ++ y → (l ≡ o) × (x ≡ y)

@@ -15,7 +15,7 @@ use Rattle.report_lines.specs.declared.line.ReportLine.TheVariants.{Header, Shap
 use Rattle.report_lines.specs.declared.line.ReportLine.TheVariants.{End}
 use Rattle.report_check.specs.declared.fault.CheckFault.{CheckFault}
 use Rattle.report_check.specs.declared.fault.CheckFault.TheVariants.{BadReport, Memory}
-use Rattle.report_check.specs.Fits.{FitsLine}
+use Rattle.report_lines.specs.Fits.{FitsLine}
 use Rattle.report_check.specs.Seen.{Seen, nothing_seen, after, seen_of, above_last, last_bank, entries_at, has_newer}
 use Rattle.report_check.specs.Seen.{is_answered, key_of, operation_of, orders_at, is_named}
 

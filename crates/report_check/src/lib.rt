@@ -7,7 +7,6 @@ pub mod fault;
 pub mod laws;
 mod lines;
 mod making;
-mod reading;
 mod taking;
 
 pub use check::check_report;

@@ -5,7 +5,7 @@ use Rattle.report_lines.specs.declared.line.EntryLine.{EntryLine}
 use Rattle.report_lines.specs.declared.line.AnswerLine.{AnswerLine}
 use Rattle.report_lines.specs.declared.line.OrderLine.{OrderLine}
 use Rattle.report_lines.specs.declared.line.ReportLine.{ReportLine}
-use Rattle.report_check.specs.Fits.{FitsLine}
+use Rattle.report_lines.specs.Fits.{FitsLine}
 use Rattle.report_check.specs.Seen.{Seen, nothing_seen, after}
 use Rattle.report_check.specs.Good.{Allowed, AllStand, AreGood}
 

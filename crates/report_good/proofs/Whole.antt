@@ -14,7 +14,7 @@ use Rattle.report_lines.specs.declared.line.AnswerLine.{AnswerLine}
 use Rattle.report_lines.specs.declared.line.OrderLine.{OrderLine}
 use Rattle.report_lines.specs.declared.line.ReportLine.{ReportLine}
 use Rattle.report_lines.specs.declared.line.ReportLine.TheVariants.{End, Header, Shape as Shaped}
-use Rattle.report_check.specs.Fits.{FitsLine}
+use Rattle.report_lines.specs.Fits.{FitsLine}
 use Rattle.report_check.specs.Seen.{nothing_seen, operation_of}
 use Rattle.report_check.specs.Good.{AreGood}
 use Rattle.report_good.specs.Facts.{operation_in, rows_at, AreContents}

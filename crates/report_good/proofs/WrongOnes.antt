@@ -14,7 +14,7 @@ use Rattle.report_lines.specs.declared.line.AnswerLine.{AnswerLine}
 use Rattle.report_lines.specs.declared.line.OrderLine.{OrderLine}
 use Rattle.report_lines.specs.declared.line.ReportLine.{ReportLine}
 use Rattle.report_lines.specs.declared.line.ReportLine.TheVariants.{Header, Shape, Entry, Answer, Word, Order, End}
-use Rattle.report_check.specs.Fits.{FitsOp, FitsReply, FitsEntry, FitsAnswer, FitsOrder}
+use Rattle.report_lines.specs.Fits.{FitsOp, FitsReply, FitsEntry, FitsAnswer, FitsOrder}
 use Rattle.report_check.specs.Seen.{Seen, seen_of, nothing_seen, above_last, entries_at, is_answered, operation_of, orders_at}
 use Rattle.report_check.specs.Good.{BehindEntries, AllowedEntry, NamesUnansweredEntry, ToldBelow, AllowedWord, AllowedOrder, IsWholeOrder, IsAllAnswered}
 use Rattle.report_check.specs.Good.{MayStand, AllStand, AreGood}

@@ -1,7 +1,7 @@
 //! The numbers of lines fit the types that they are kept in.
 
 ghost use Rattle.std.specs.Prelude.{All};
-ghost use Rattle.report_check.specs.Fits.{FitsLine};
+ghost use Rattle.report_lines.specs.Fits.{FitsLine};
 
 use report_lines::ReportLine;
 

@@ -6,7 +6,7 @@ ghost use Rattle.report_lines.specs.declared.line.OrderLine.{OrderLine};
 ghost use Rattle.report_lines.specs.declared.parts.EntryRow.{EntryRow};
 ghost use Rattle.report_lines.specs.declared.parts.AnswerRow.{AnswerRow};
 ghost use Rattle.report_lines.specs.Contents.{report_lines_of};
-ghost use Rattle.report_check.specs.Fits.{FitsLine};
+ghost use Rattle.report_lines.specs.Fits.{FitsLine};
 ghost use Rattle.report_check.specs.Good.{AreGood};
 ghost use Rattle.report_good.specs.Facts.{AreContents};
 

@@ -1,4 +1,5 @@
 pub mod Line
+pub mod Fits
 pub mod Taken
 pub mod Contents
 pub mod Parts

@@ -1,9 +1,8 @@
 -- Where no line may stand, some rule is broken.
-use Rattle.std.proofs.Common.{◌≡◌, ℕ, List, Option, Some, None, IsSome, IfNone, sym, refl, ap, subst, ◌∙◌, inl, inr}
+use Rattle.std.proofs.Common.{◌≡◌, ℕ, List, ◌++◌, Option, Some, None, IsSome, IfNone, sym, refl, ap, subst, ◌∙◌, inl, inr}
 use Rattle.report_lines.specs.declared.line.ReportLine.{ReportLine}
-use Rattle.report_check.specs.Fits.{FitsLine}
-use Rattle.report_check.specs.Spelled.{line_then}
-use Rattle.report_check.proofs.Joined.{line_then-is}
+use Rattle.report_lines.specs.Fits.{FitsLine}
+use Rattle.report_lines.specs.Line.{line_text}
 use Rattle.report_check.specs.Seen.{Seen}
 use Rattle.report_check.specs.Good.{IsStuck}
 use Rattle.report_reasons.specs.declared.rule.Rule.{Rule}
@@ -21,9 +20,9 @@ not_unbroken s rest all stuck unbroken =
     ]
 
 -- a line that was read, where it breaks no rule
-pub goes_on : (s : Seen) (rest more : List ℕ) (line : ReportLine) (r : Option Rule) → FitsLine line → rest ≡ line_then line more → r ≡ line_broken s line
+pub goes_on : (s : Seen) (rest more : List ℕ) (line : ReportLine) (r : Option Rule) → FitsLine line → rest ≡ line_text line ++ more → r ≡ line_broken s line
     → IfNone r (IsUnbroken s rest)
-goes_on s rest more line None fits is same = inl (record { line = line; more = more; fits = fits; printed = is ∙ line_then-is line more; kept = sym same })
+goes_on s rest more line None fits is same = inl (record { line = line; more = more; fits = fits; printed = is; kept = sym same })
 goes_on s rest more line (Some rule) fits is same = tt
 
 -- the rule is there

@@ -14,8 +14,8 @@ use Rattle.report_lines.specs.declared.line.AnswerLine.{AnswerLine}
 use Rattle.report_lines.specs.declared.line.OrderLine.{OrderLine}
 use Rattle.report_lines.specs.declared.line.ReportLine.{ReportLine}
 use Rattle.report_lines.specs.declared.line.ReportLine.TheVariants as line
-use Rattle.report_check.specs.Fits.{FitsLine}
-use Rattle.report_check.specs.Reading.{line_at}
+use Rattle.report_lines.specs.Fits.{FitsLine}
+use Rattle.report_reader.specs.Reading.{line_at}
 use Rattle.report_check.specs.Seen.{Seen, above_last, last_bank, entries_at, has_newer, is_answered, key_of}
 use Rattle.report_check.specs.Seen.{operation_of, orders_at, is_named}
 use Rattle.report_reasons.specs.declared.rule.Kind.{Kind}

@@ -7,7 +7,6 @@ pub mod laws;
 mod line_rules;
 mod order_rules;
 mod queries;
-mod reading;
 pub mod rule;
 pub mod sentence;
 pub mod why;

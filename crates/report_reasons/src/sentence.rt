@@ -4,18 +4,23 @@ use crate::rule::{BadReport, Kind, Origin, Rule};
 use packet::Reply;
 use std::fmt;
 
+/// The word that lines of a kind begin with.
+fn first_word(kind: Kind) -> &'static str {
+    match kind {
+        Kind::Header => "torusmem",
+        Kind::Shape => "shape",
+        Kind::Init => "init",
+        Kind::Entry => "entry",
+        Kind::Answer => "answer",
+        Kind::Word => "word",
+        Kind::Order => "order",
+        Kind::End => "end",
+    }
+}
+
 impl fmt::Display for Kind {
     fn fmt<W: fmt::Write>(&self, f: &mut fmt::Formatter<W>) -> fmt::Result {
-        f.write_str(match self {
-            Kind::Header => "torusmem",
-            Kind::Shape => "shape",
-            Kind::Init => "init",
-            Kind::Entry => "entry",
-            Kind::Answer => "answer",
-            Kind::Word => "word",
-            Kind::Order => "order",
-            Kind::End => "end",
-        })
+        f.write_str(first_word(*self))
     }
 }
 
@@ -65,57 +70,238 @@ fn last_below(count: u64) -> u64 {
     count.saturating_sub(1)
 }
 
+/// Words and the number behind them, if there is one.
+#[derive(Clone, Copy)]
+struct Piece {
+    words: &'static str,
+    number: Option<u64>,
+}
+
+impl fmt::Display for Piece {
+    fn fmt<W: fmt::Write>(&self, f: &mut fmt::Formatter<W>) -> fmt::Result {
+        f.write_str(self.words)?;
+        match self.number {
+            None => Ok(()),
+            Some(number) => write!(f, "{number}"),
+        }
+    }
+}
+
+/// Words without a number.
+fn words(words: &'static str) -> Piece {
+    Piece {
+        words,
+        number: None,
+    }
+}
+
+/// Words and a number behind them.
+fn number(words: &'static str, number: u64) -> Piece {
+    Piece {
+        words,
+        number: Some(number),
+    }
+}
+
+/// A sentence of three pieces.
+#[derive(Clone, Copy)]
+struct Sentence(Piece, Piece, Piece);
+
+impl fmt::Display for Sentence {
+    fn fmt<W: fmt::Write>(&self, f: &mut fmt::Formatter<W>) -> fmt::Result {
+        write!(f, "{}{}{}", self.0, self.1, self.2)
+    }
+}
+
+/// A sentence without numbers.
+fn plain(text: &'static str) -> Sentence {
+    Sentence(words(text), words(""), words(""))
+}
+
+/// A sentence with one number.
+fn one(before: &'static str, found: u32, behind: &'static str) -> Sentence {
+    Sentence(number(before, u64::from(found)), words(behind), words(""))
+}
+
+/// A sentence with two numbers and words behind them.
+fn two(
+    before: &'static str,
+    first: u64,
+    between: &'static str,
+    second: u64,
+    behind: &'static str,
+) -> Sentence {
+    Sentence(
+        number(before, first),
+        number(between, second),
+        words(behind),
+    )
+}
+
+/// A sentence that ends with a number that was wanted.
+fn but(before: &'static str, found: u32, between: &'static str, wanted: u64) -> Sentence {
+    two(before, u64::from(found), between, wanted, "")
+}
+
+/// A sentence that ends with the greatest number below a count.
+fn up_to(before: &'static str, found: u32, between: &'static str, count: u64) -> Sentence {
+    but(before, found, between, last_below(count))
+}
+
+impl Rule {
+    /// The sentence of a rule; None of those about replies, which have sentences of their own.
+    fn sentence(self) -> Option<Sentence> {
+        let sentence = match self {
+            Rule::BehindEnd => plain("nothing stands behind the line of the end"),
+            Rule::NoEnd => plain("the report ends without `end complete` or `end incomplete`"),
+            Rule::FirstLine => plain("a report begins with `torusmem 1` or `torusmem 2`"),
+            Rule::SecondLine => plain("the second line of a report is its shape"),
+            Rule::NoLineFeed => plain("the line ends without a line feed"),
+            Rule::Spelling => plain("no line of a report is spelled so"),
+            Rule::Place(kind) => Sentence(
+                words(first_word(kind)),
+                words(": lines of a later kind stand before it"),
+                words(""),
+            ),
+            Rule::Version(found) => one("version ", found, ": there are the versions 1 and 2"),
+            Rule::Radix(found) => one("radix ", found, ": a radix is 2 to 8"),
+            Rule::Tiles(found) => one("", found, " tiles: there are at most 64"),
+            Rule::Words(found) => one("words ", found, ": a memory has 1 to 65536 words"),
+            Rule::Address { found, words } => up_to(
+                "address ",
+                found,
+                ": the memory has the words 0 to ",
+                u64::from(words),
+            ),
+            Rule::AddressOrder { found, least } => up_to(
+                "address ",
+                found,
+                ", but the line before has address ",
+                least,
+            ),
+            Rule::Zero { address } => one("address ", address, ": a word that is 0 has no line"),
+            Rule::Bank { found, tiles } => up_to(
+                "bank ",
+                found,
+                ": there are the banks 0 to ",
+                u64::from(tiles),
+            ),
+            Rule::BankOrder { found, last } => but(
+                "bank ",
+                found,
+                ", but the entry before is of bank ",
+                u64::from(last),
+            ),
+            Rule::EntryPlace { found, expected } => but(
+                "place ",
+                found,
+                ", but the next of the bank is ",
+                expected,
+            ),
+            Rule::OrderPlace { found, expected } => but(
+                "place ",
+                found,
+                ", but the next of the bank is ",
+                expected,
+            ),
+            Rule::Source { found, tiles } => up_to(
+                "processor ",
+                found,
+                ": there are the processors 0 to ",
+                u64::from(tiles),
+            ),
+            Rule::Tag(found) => one("tag ", found, ": there are the tags 0 to 15"),
+            Rule::EntryCount => plain("a report has at most 65536 entries"),
+            Rule::Home { found, expected } => but(
+                "bank ",
+                found,
+                ", but the home of the address is ",
+                u64::from(expected),
+            ),
+            Rule::Newer => plain("version 1 has no and, or, xor, max and min"),
+            Rule::Reply { .. } | Rule::AnswerReply { .. } => return None,
+            Rule::NoneNewer => plain("version 2, but no entry is one of and, or, xor, max and min"),
+            Rule::Index(found) => one("index ", found, ": an index is below 4096"),
+            Rule::AnswerOrder { processor, index } => two(
+                "answer ",
+                u64::from(index),
+                " of processor ",
+                u64::from(processor),
+                ": answers rise by processor and then by index",
+            ),
+            Rule::NoEntry { bank, place } => but(
+                "there is no entry at place ",
+                place,
+                " of bank ",
+                u64::from(bank),
+            ),
+            Rule::Processor { found, expected } => but(
+                "processor ",
+                found,
+                ", but the entry is of processor ",
+                u64::from(expected),
+            ),
+            Rule::AnsweredTwice { bank, place } => two(
+                "the entry at place ",
+                u64::from(place),
+                " of bank ",
+                u64::from(bank),
+                " has an answer already",
+            ),
+            Rule::LeftOut { address, word } => two(
+                "address ",
+                u64::from(address),
+                ": its word is ",
+                word,
+                ", and no line tells it",
+            ),
+            Rule::Word { found, expected } => two("word ", found, ", but it is ", expected, ""),
+            Rule::ServedFirst { served, issued } => but(
+                "served at ",
+                served,
+                ", but issued at ",
+                u64::from(issued),
+            ),
+            Rule::AnsweredFirst { answered, served } => but(
+                "served at ",
+                served,
+                ", but answered at ",
+                u64::from(answered),
+            ),
+            Rule::Answered { told: true } => plain("an answer is numbered, but the entry has none"),
+            Rule::Answered { told: false } => plain("no answer is numbered, but the entry has one"),
+            Rule::ServiceOrder { found, least } => up_to(
+                "served at ",
+                found,
+                ", but the line before is served at ",
+                least,
+            ),
+            Rule::Event(found) => one("event ", found, ": events are 1 to 196608"),
+            Rule::EventTwice(found) => one("event ", found, " is told already"),
+            Rule::Unordered {
+                bank,
+                found,
+                expected,
+            } => Sentence(
+                number("bank ", u64::from(bank)),
+                number(" has ", expected),
+                number(" entries, but order lines for ", found),
+            ),
+            Rule::Unanswered { bank, place } => two(
+                "the entry at place ",
+                place,
+                " of bank ",
+                u64::from(bank),
+                " has no answer",
+            ),
+        };
+        Some(sentence)
+    }
+}
+
 impl fmt::Display for Rule {
     fn fmt<W: fmt::Write>(&self, f: &mut fmt::Formatter<W>) -> fmt::Result {
         match *self {
-            Rule::BehindEnd => f.write_str("nothing stands behind the line of the end"),
-            Rule::NoEnd => f.write_str(
-                "the report ends without `end complete` or `end incomplete`",
-            ),
-            Rule::FirstLine => f.write_str("a report begins with `torusmem 1` or `torusmem 2`"),
-            Rule::SecondLine => f.write_str("the second line of a report is its shape"),
-            Rule::NoLineFeed => f.write_str("the line ends without a line feed"),
-            Rule::Spelling => f.write_str("no line of a report is spelled so"),
-            Rule::Place(kind) => write!(f, "{kind}: lines of a later kind stand before it"),
-            Rule::Version(found) => write!(f, "version {found}: there are the versions 1 and 2"),
-            Rule::Radix(found) => write!(f, "radix {found}: a radix is 2 to 8"),
-            Rule::Tiles(found) => write!(f, "{found} tiles: there are at most 64"),
-            Rule::Words(found) => write!(f, "words {found}: a memory has 1 to 65536 words"),
-            Rule::Address { found, words } => write!(
-                f,
-                "address {found}: the memory has the words 0 to {}",
-                last_below(u64::from(words))
-            ),
-            Rule::AddressOrder { found, least } => write!(
-                f,
-                "address {found}, but the line before has address {}",
-                last_below(least)
-            ),
-            Rule::Zero { address } => {
-                write!(f, "address {address}: a word that is 0 has no line")
-            }
-            Rule::Bank { found, tiles } => write!(
-                f,
-                "bank {found}: there are the banks 0 to {}",
-                last_below(u64::from(tiles))
-            ),
-            Rule::BankOrder { found, last } => {
-                write!(f, "bank {found}, but the entry before is of bank {last}")
-            }
-            Rule::EntryPlace { found, expected } => {
-                write!(f, "place {found}, but the next of the bank is {expected}")
-            }
-            Rule::Source { found, tiles } => write!(
-                f,
-                "processor {found}: there are the processors 0 to {}",
-                last_below(u64::from(tiles))
-            ),
-            Rule::Tag(found) => write!(f, "tag {found}: there are the tags 0 to 15"),
-            Rule::EntryCount => f.write_str("a report has at most 65536 entries"),
-            Rule::Home { found, expected } => {
-                write!(f, "bank {found}, but the home of the address is {expected}")
-            }
-            Rule::Newer => f.write_str("version 1 has no and, or, xor, max and min"),
             Rule::Reply {
                 found,
                 expected,
@@ -128,74 +314,16 @@ impl fmt::Display for Rule {
                 };
                 write!(f, "{reply}")
             }
-            Rule::NoneNewer => {
-                f.write_str("version 2, but no entry is one of and, or, xor, max and min")
-            }
-            Rule::Index(found) => write!(f, "index {found}: an index is below 4096"),
-            Rule::AnswerOrder { processor, index } => write!(
-                f,
-                "answer {index} of processor {processor}: answers rise by processor and then by index"
-            ),
-            Rule::NoEntry { bank, place } => {
-                write!(f, "there is no entry at place {place} of bank {bank}")
-            }
-            Rule::Processor { found, expected } => {
-                write!(
-                    f,
-                    "processor {found}, but the entry is of processor {expected}"
-                )
-            }
             Rule::AnswerReply { found, expected } => write!(
                 f,
                 "reply {}, but the entry replies {}",
                 Replied(found),
                 Replied(expected)
             ),
-            Rule::AnsweredTwice { bank, place } => write!(
-                f,
-                "the entry at place {place} of bank {bank} has an answer already"
-            ),
-            Rule::LeftOut { address, word } => {
-                write!(
-                    f,
-                    "address {address}: its word is {word}, and no line tells it"
-                )
-            }
-            Rule::Word { found, expected } => write!(f, "word {found}, but it is {expected}"),
-            Rule::ServedFirst { served, issued } => {
-                write!(f, "served at {served}, but issued at {issued}")
-            }
-            Rule::AnsweredFirst { answered, served } => {
-                write!(f, "served at {served}, but answered at {answered}")
-            }
-            Rule::OrderPlace { found, expected } => {
-                write!(f, "place {found}, but the next of the bank is {expected}")
-            }
-            Rule::Answered { told: true } => {
-                f.write_str("an answer is numbered, but the entry has none")
-            }
-            Rule::Answered { told: false } => {
-                f.write_str("no answer is numbered, but the entry has one")
-            }
-            Rule::ServiceOrder { found, least } => write!(
-                f,
-                "served at {found}, but the line before is served at {}",
-                last_below(least)
-            ),
-            Rule::Event(found) => write!(f, "event {found}: events are 1 to 196608"),
-            Rule::EventTwice(found) => write!(f, "event {found} is told already"),
-            Rule::Unordered {
-                bank,
-                found,
-                expected,
-            } => write!(
-                f,
-                "bank {bank} has {expected} entries, but order lines for {found}"
-            ),
-            Rule::Unanswered { bank, place } => write!(
-                f,
-                "the entry at place {place} of bank {bank} has no answer"
-            ),
+            rule => match rule.sentence() {
+                None => Ok(()),
+                Some(sentence) => write!(f, "{sentence}"),
+            },
         }
     }
 }

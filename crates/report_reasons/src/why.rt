@@ -10,10 +10,10 @@ ghost use Rattle.report_reasons.specs.Reason.{HasReason};
 use crate::before::Before;
 use crate::kept::nothing;
 use crate::queries::has_line_feed;
-use crate::reading::read_line;
 use crate::rule::{BadReport, Rule};
 use report_check::{CheckFault, check_report};
 use report_lines::ReportLine;
+use report_reader::read_line;
 use std::alloc::{AllocError, Allocator};
 
 impl<'a> Before<'a> {

@@ -11,7 +11,7 @@ use Rattle.report_lines.specs.declared.line.OrderLine.{OrderLine}
 use Rattle.report_lines.specs.declared.line.ReportLine.{ReportLine}
 use Rattle.report_lines.specs.declared.parts.EntryRow.{EntryRow}
 use Rattle.report_lines.specs.declared.parts.AnswerRow.{AnswerRow}
-use Rattle.report_check.specs.Fits.{FitsLine}
+use Rattle.report_lines.specs.Fits.{FitsLine}
 use Rattle.report_check.specs.Good.{AreGood, GoodReport}
 use Rattle.report_good.specs.Facts.{rows_at, AreContents, AreOrdered}
 use Rattle.trace_order.specs.declared.event.Call.{Call}

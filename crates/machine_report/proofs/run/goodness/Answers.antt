@@ -1,5 +1,5 @@
 use Rattle.std.proofs.Common.{All, subst}
-use Rattle.report_check.specs.Fits.{FitsLine}
+use Rattle.report_lines.specs.Fits.{FitsLine}
 use Rattle.machine_report.proofs.Good.{good_report}
 use Rattle.machine_report.proofs.run.goodness.Goals as goal
 

@@ -3,7 +3,7 @@ use Rattle.std.proofs.lemmas.Bool.{eqb-false}
 use Rattle.report_lines.specs.Line.{line_text}
 use Rattle.report_check.specs.Seen.{seen_of}
 use Rattle.report_check.specs.Shows.{Checks}
-use Rattle.report_check.proofs.Joined.{line_then-is, line_some}
+use Rattle.report_reader.proofs.Joined.{line_some}
 use Rattle.report_check.proofs.Progress.{progress_more, stuck_refused, stuck_unread, first_bad}
 use Rattle.report_check.proofs.check.checked.Goals as goal
 use Rattle.report_check.proofs.check.checked.Goals.{else-checker-eq8-via-then-checker-eq8+else-is_empty, else-checker-eq8-via-else-checker-eq8}
@@ -16,8 +16,7 @@ loop-line-preserved g c =
     omega (
       arith,
       line_some c.in-Some.line c.in-Some.after.now,
-      ap length
-          (c.in-Some.ensures.found.1 ∙ line_then-is c.in-Some.line c.in-Some.after.now),
+      ap length c.in-Some.ensures.found.1,
     ) in
     record {
       progress = progress_more _ _ c.in-Some.after.now _ _ _ c.in-Some.line p c.in-Some.ensures.found.1 c.in-Some.ensures.found.0
@@ -27,7 +26,7 @@ loop-line-preserved g c =
 
 pub loop-line-smaller : goal.loop-line-smaller
 loop-line-smaller g c =
-    omega (arith, line_some c.in-Some.line c.in-Some.after.now, ap length (c.in-Some.ensures.found.1 ∙ line_then-is c.in-Some.line c.in-Some.after.now))
+    omega (arith, line_some c.in-Some.line c.in-Some.after.now, ap length c.in-Some.ensures.found.1)
 
 pub returns-then-not-branch-clause-bad : goal.returns-then-not-branch-clause-bad
 returns-then-not-branch-clause-bad g c =

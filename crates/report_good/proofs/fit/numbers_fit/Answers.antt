@@ -1,7 +1,7 @@
 use Rattle.std.proofs.Common.{All, subst}
 use Rattle.std.proofs.lemmas.List.{take_all}
 use Rattle.std.proofs.lemmas.List.Elements.{All-more}
-use Rattle.report_check.specs.Fits.{FitsLine}
+use Rattle.report_lines.specs.Fits.{FitsLine}
 use Rattle.report_good.proofs.fit.numbers_fit.Goals as goal
 
 pub loop-line-preserved : goal.loop-line-preserved

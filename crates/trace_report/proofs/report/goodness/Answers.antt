@@ -1,6 +1,6 @@
 use Rattle.std.proofs.Common.{All, subst}
 use Rattle.torus.specs.Shape.{IsAccepted}
-use Rattle.report_check.specs.Fits.{FitsLine}
+use Rattle.report_lines.specs.Fits.{FitsLine}
 use Rattle.trace_report.proofs.Goodness.{good_report}
 use Rattle.trace_report.proofs.report.goodness.Goals as goal
 

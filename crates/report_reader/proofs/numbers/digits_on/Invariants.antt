@@ -1,6 +1,6 @@
 use Rattle.std.proofs.Common.{◌≡◌, drop}
-use Rattle.report_check.specs.Reading.{digits_on}
-use Rattle.report_check.proofs.reading.digits_on.Given as goal
+use Rattle.report_reader.specs.Reading.{digits_on}
+use Rattle.report_reader.proofs.numbers.digits_on.Given as goal
 
 -- what is left goes on from the number so far
 abbrev pub invariant-loop-at : goal.invariant-loop-at

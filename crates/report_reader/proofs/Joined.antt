@@ -15,7 +15,7 @@ use Rattle.report_lines.specs.declared.line.Radices.TheVariants.{One, Two, Three
 use Rattle.report_lines.specs.declared.line.EntryLine.{EntryLine}
 use Rattle.report_lines.specs.declared.line.ReportLine.{ReportLine}
 use Rattle.report_lines.specs.declared.line.ReportLine.TheVariants.{Header, Shape, Init, Entry, Answer, Word, Order, End}
-use Rattle.report_check.specs.Spelled.{reply_then, event_then, op_then, radices_then, line_then}
+use Rattle.report_reader.proofs.Spelled.{reply_then, event_then, op_then, radices_then, line_then}
 
 -- a word and others, each behind a space, and the line feed
 ended : List ℕ → List (List ℕ) → List ℕ → List ℕ

@@ -6,7 +6,7 @@ use Rattle.std.specs.List.{starts_with}
 use Rattle.std.specs.Char.{is_ascii_digit}
 use Rattle.std.proofs.lemmas.List.{drop_all, drop_more}
 use Rattle.std.proofs.lemmas.Bool.{and_parts, cases_eq, eqb-true, eq-eqb, le-ltb, lt-ltb, ne_eqb}
-use Rattle.report_check.specs.Reading.{behind, digits_on}
+use Rattle.report_reader.specs.Reading.{behind, digits_on}
 
 -- the test of a beginning, and what stands behind it
 pub behind-true : (word text : List ℕ) → starts_with nat_eq text word ≡ true → behind word text ≡ Some (drop (length word) text)

@@ -1,5 +1,6 @@
 -- What is spelled is read again.
-use Rattle.std.proofs.Common.{◌≡◌, ◌≢◌, ◌<◌, ◌≤◌, ℕ, ◌+◌, ◌-◌, ◌*◌, ◌^◌, ◌/◌, ◌%◌, ◌==◌, ◌&&◌, zero, suc, nat_lt, true, false, List, [], ◌∷◌, ◌++◌, Option}
+use Rattle.std.proofs.Common.{◌≡◌, ◌≢◌, ◌<◌, ◌≤◌, ℕ, ◌+◌, ◌-◌, ◌*◌, ◌^◌, ◌/◌, ◌%◌, ◌==◌, ◌&&◌, zero, suc, nat_lt, true, false, Bool, List, [], ◌∷◌, ◌++◌, Option}
+use Rattle.std.specs.Option.{option_or}
 use Rattle.std.proofs.Common.{Some, None, IfSome, decimal, codes, refl, sym, ap, subst, ◌∙◌, arith, ⊎_elim, append_assoc, lit<}
 use Rattle.std.specs.Char.{is_ascii_digit}
 use Rattle.std.proofs.lemmas.Bool.{and_parts, cases_Bool, eqb-true, eq-eqb, ne_eqb, lt-ltb}
@@ -16,10 +17,10 @@ use Rattle.report_lines.specs.declared.line.AnswerLine.{AnswerLine}
 use Rattle.report_lines.specs.declared.line.OrderLine.{OrderLine}
 use Rattle.report_lines.specs.declared.line.ReportLine.{ReportLine}
 use Rattle.report_lines.specs.declared.line.ReportLine.TheVariants.{Header, Shape, Init, Entry, Answer, Word, Order, End}
-use Rattle.report_check.specs.Fits.{FitsLine, FitsEntry, FitsAnswer, FitsOrder, FitsOp, FitsReply, FitsRadices}
-use Rattle.report_check.specs.Spelled.{reply_then, event_then, pair_then, op_then, radices_then, line_then}
-use Rattle.report_check.specs.Reading.{behind, digits_on, number_at, index_at, reply_at, event_at, pair_at, load_at, cas_at, newer_at, op_at, entry_at}
-use Rattle.report_check.specs.Reading.{answer_at, order_at, uniform_at, two_at, three_at, radices_at, shape_at, end_at, line_at}
+use Rattle.report_lines.specs.Fits.{FitsLine, FitsEntry, FitsAnswer, FitsOrder, FitsOp, FitsReply, FitsRadices}
+use Rattle.report_reader.proofs.Spelled.{reply_then, event_then, pair_then, four_then, op_then, radices_then, line_then}
+use Rattle.report_reader.specs.Reading.{behind, digits_on, number_at, index_at, reply_at, event_at, pair_at, valued_at, load_at, cas_at, newer_at, op_at}
+use Rattle.report_reader.specs.Reading.{four_at, entry_at, answer_at, order_at, uniform_at, two_at, three_at, radices_at, shape_at, header_at, end_at, word_at, line_at}
 
 digit_true : (d : ℕ) → d < 10 → is_ascii_digit (48 + d) ≡ true
 digit_true d small = grind (arith, nat_tests)
@@ -118,7 +119,7 @@ unfolding pair_at
 pair_again end a v rest other small fits = rw (index_again 32 a (decimal v ++ end ∷ rest) refl small, number_again end v rest other fits)
 
 op_again : (o : Op) (a : ℕ) (rest : List ℕ) → FitsOp o → a < 2 ^ 32 → op_at (op_then o a rest) ≡ Some (o, a, rest)
-unfolding op_at newer_at load_at cas_at behind
+unfolding op_at newer_at load_at cas_at valued_at behind
 op_again Load a rest fits small = rw (index_again 32 a rest refl small)
 op_again (Store v) a rest fits small = rw (pair_again 32 a v rest refl small fits)
 op_again (Swap v) a rest fits small = rw (pair_again 32 a v rest refl small fits)
@@ -136,47 +137,44 @@ op_again (Xor v) a rest fits small = rw (pair_again 32 a v rest refl small fits)
 op_again (Max v) a rest fits small = rw (pair_again 32 a v rest refl small fits)
 op_again (Min v) a rest fits small = rw (pair_again 32 a v rest refl small fits)
 
-entry_again : (e : EntryLine) (rest : List ℕ) → FitsEntry e
-    → entry_at (decimal e.bank
-    ++ 32 ∷ (decimal e.place ++ 32 ∷ (decimal e.source ++ 32 ∷ (decimal e.tag ++ 32 ∷ op_then e.op e.address (reply_then e.reply rest)))))
-    ≡ Some (Entry e, rest)
-unfolding entry_at
+-- four indexes behind a word that the text begins with
+four_again : (word text : List ℕ) (a b c d : ℕ) (rest : List ℕ) → behind word text ≡ Some (four_then a b c d rest) → a < 2 ^ 32 → b < 2 ^ 32 → c < 2 ^ 32
+    → d < 2 ^ 32 → four_at word text ≡ Some (a, b, c, d, rest)
+unfolding four_at
+four_again word text a b c d rest is small_a small_b small_c small_d =
+    rw (
+      is,
+      index_again 32 a (decimal b ++ 32 ∷ (decimal c ++ 32 ∷ (decimal d ++ 32 ∷ rest))) refl small_a,
+      index_again 32 b (decimal c ++ 32 ∷ (decimal d ++ 32 ∷ rest)) refl small_b,
+      index_again 32 c (decimal d ++ 32 ∷ rest) refl small_c,
+      index_again 32 d rest refl small_d,
+    )
+
+entry_again : (e : EntryLine) (rest : List ℕ) → FitsEntry e → entry_at (line_then (Entry e) rest) ≡ Some (Entry e, rest)
+unfolding entry_at behind
 entry_again e rest fits =
     let last : List ℕ = op_then e.op e.address (reply_then e.reply rest) in
     rw (
-      index_again 32 e.bank (decimal e.place ++ 32 ∷ (decimal e.source ++ 32 ∷ (decimal e.tag ++ 32 ∷ last))) refl fits.bank,
-      index_again 32 e.place (decimal e.source ++ 32 ∷ (decimal e.tag ++ 32 ∷ last)) refl fits.place,
-      index_again 32 e.source (decimal e.tag ++ 32 ∷ last) refl fits.source,
-      index_again 32 e.tag last refl fits.tag,
+      four_again (codes "entry ") (line_then (Entry e) rest) e.bank e.place e.source e.tag last refl fits.bank fits.place fits.source fits.tag,
       op_again e.op e.address (reply_then e.reply rest) fits.op fits.address,
       reply_again e.reply rest fits.reply,
     )
 
-answer_again : (a : AnswerLine) (rest : List ℕ) → FitsAnswer a
-    → answer_at (decimal a.processor ++ 32 ∷ (decimal a.index ++ 32 ∷ (decimal a.bank ++ 32 ∷ (decimal a.place ++ 32 ∷ reply_then a.reply rest))))
-    ≡ Some (Answer a, rest)
-unfolding answer_at
+answer_again : (a : AnswerLine) (rest : List ℕ) → FitsAnswer a → answer_at (line_then (Answer a) rest) ≡ Some (Answer a, rest)
+unfolding answer_at behind
 answer_again a rest fits =
     let last : List ℕ = reply_then a.reply rest in
     rw (
-      index_again 32 a.processor (decimal a.index ++ 32 ∷ (decimal a.bank ++ 32 ∷ (decimal a.place ++ 32 ∷ last))) refl fits.processor,
-      index_again 32 a.index (decimal a.bank ++ 32 ∷ (decimal a.place ++ 32 ∷ last)) refl fits.index,
-      index_again 32 a.bank (decimal a.place ++ 32 ∷ last) refl fits.bank,
-      index_again 32 a.place last refl fits.place,
+      four_again (codes "answer ") (line_then (Answer a) rest) a.processor a.index a.bank a.place last refl fits.processor fits.index fits.bank fits.place,
       reply_again a.reply rest fits.reply,
     )
 
-order_again : (o : OrderLine) (rest : List ℕ) → FitsOrder o
-    → order_at (decimal o.bank ++ 32 ∷ (decimal o.place ++ 32 ∷ (decimal o.issued ++ 32 ∷ (decimal o.served ++ 32 ∷ event_then o.answered rest))))
-    ≡ Some (Order o, rest)
-unfolding order_at
+order_again : (o : OrderLine) (rest : List ℕ) → FitsOrder o → order_at (line_then (Order o) rest) ≡ Some (Order o, rest)
+unfolding order_at behind
 order_again o rest fits =
     let last : List ℕ = event_then o.answered rest in
     rw (
-      index_again 32 o.bank (decimal o.place ++ 32 ∷ (decimal o.issued ++ 32 ∷ (decimal o.served ++ 32 ∷ last))) refl fits.bank,
-      index_again 32 o.place (decimal o.issued ++ 32 ∷ (decimal o.served ++ 32 ∷ last)) refl fits.place,
-      index_again 32 o.issued (decimal o.served ++ 32 ∷ last) refl fits.issued,
-      index_again 32 o.served last refl fits.served,
+      four_again (codes "order ") (line_then (Order o) rest) o.bank o.place o.issued o.served last refl fits.bank fits.place fits.issued fits.served,
       event_again o.answered rest fits.answered,
     )
 
@@ -239,20 +237,78 @@ radices_again (Three j k l) rest fits =
     rw (apart, not_uniform j (decimal k ++ 120 ∷ last) fits.0, not_two j k last fits.0 fits.1, three_again j k l rest fits.0 fits.1 fits.2 apart))
     (cases_Bool ((j == k) && (k == l)))
 
-shape_again : (r : Radices) (words : ℕ) (rest : List ℕ) → FitsRadices r → words < 2 ^ 32
-    → shape_at (radices_then r (decimal words ++ 10 ∷ rest)) ≡ Some (Shape r words, rest)
-unfolding shape_at
+shape_again : (r : Radices) (words : ℕ) (rest : List ℕ) → FitsRadices r → words < 2 ^ 32 → shape_at (line_then (Shape r words) rest) ≡ Some (Shape r words, rest)
+unfolding shape_at behind
 shape_again r words rest fits small = rw (radices_again r (decimal words ++ 10 ∷ rest) fits, index_again 10 words rest refl small)
+
+header_again : (version : ℕ) (rest : List ℕ) → version < 2 ^ 32 → header_at (line_then (Header version) rest) ≡ Some (Header version, rest)
+unfolding header_at behind
+header_again version rest small = rw (index_again 10 version rest refl small)
+
+word_again : (a v : ℕ) (rest : List ℕ) → a < 2 ^ 32 → v < 2 ^ 64 → word_at (line_then (Word a v) rest) ≡ Some (Word a v, rest)
+unfolding word_at valued_at behind
+word_again a v rest small fits = rw (pair_again 10 a v rest refl small fits)
+
+init_again : (a v : ℕ) (rest : List ℕ) → a < 2 ^ 32 → v < 2 ^ 64 → word_at (line_then (Init a v) rest) ≡ Some (Init a v, rest)
+unfolding word_at valued_at behind
+init_again a v rest small fits = rw (pair_again 10 a v rest refl small fits)
+
+-- a text that doesn't begin with a word has no line of that kind
+entry_none : (text : List ℕ) → behind (codes "entry ") text ≡ None → entry_at text ≡ None
+unfolding entry_at four_at
+entry_none text none = rw none
+
+answer_none : (text : List ℕ) → behind (codes "answer ") text ≡ None → answer_at text ≡ None
+unfolding answer_at four_at
+answer_none text none = rw none
+
+order_none : (text : List ℕ) → behind (codes "order ") text ≡ None → order_at text ≡ None
+unfolding order_at four_at
+order_none text none = rw none
+
+word_none : (text : List ℕ) → behind (codes "word ") text ≡ None → behind (codes "init ") text ≡ None → word_at text ≡ None
+unfolding word_at valued_at
+word_none text none either = rw (none, either)
+
+end_none : (text : List ℕ) → behind (codes "end complete\n") text ≡ None → behind (codes "end incomplete\n") text ≡ None → end_at text ≡ None
+unfolding end_at
+end_none text none either = rw (none, either)
+
+shape_none : (text : List ℕ) → behind (codes "shape ") text ≡ None → shape_at text ≡ None
+unfolding shape_at
+shape_none text none = rw none
+
+-- a text that begins with none of the first three words
+later : (text : List ℕ) → behind (codes "entry ") text ≡ None → behind (codes "answer ") text ≡ None → behind (codes "order ") text ≡ None
+    → line_at text ≡ option_or (word_at text) (option_or (end_at text) (option_or (shape_at text) (header_at text)))
+unfolding line_at
+later text none either third = rw (entry_none text none, answer_none text either, order_none text third)
+
+end_again : (complete : Bool) (rest : List ℕ) → line_at (line_then (End complete) rest) ≡ Some (End complete, rest)
+unfolding behind end_at
+end_again true rest =
+    let t : List ℕ = line_then (End true) rest in
+    later t refl refl refl ∙ rw (word_none t refl refl)
+end_again false rest =
+    let t : List ℕ = line_then (End false) rest in
+    later t refl refl refl ∙ rw (word_none t refl refl)
 
 -- a line and what stands behind it
 pub line_again : (line : ReportLine) (rest : List ℕ) → FitsLine line → line_at (line_then line rest) ≡ Some (line, rest)
-unfolding line_at end_at behind
-line_again (Header version) rest fits = rw (index_again 10 version rest refl fits)
-line_again (Shape radices words) rest fits = shape_again radices words rest fits.0 fits.1
-line_again (Init address value) rest fits = rw (pair_again 10 address value rest refl fits.0 fits.1)
-line_again (Entry e) rest fits = entry_again e rest fits
-line_again (Answer a) rest fits = answer_again a rest fits
-line_again (Word address value) rest fits = rw (pair_again 10 address value rest refl fits.0 fits.1)
-line_again (Order o) rest fits = order_again o rest fits
-line_again (End true) rest fits = refl
-line_again (End false) rest fits = refl
+unfolding line_at behind
+line_again (Header version) rest fits =
+    let t : List ℕ = line_then (Header version) rest in
+    later t refl refl refl ∙ rw (word_none t refl refl, end_none t refl refl, shape_none t refl, header_again version rest fits)
+line_again (Shape radices words) rest fits =
+    let t : List ℕ = line_then (Shape radices words) rest in
+    later t refl refl refl ∙ rw (word_none t refl refl, end_none t refl refl, shape_again radices words rest fits.0 fits.1)
+line_again (Init address value) rest fits =
+    later (line_then (Init address value) rest) refl refl refl ∙ rw (init_again address value rest fits.0 fits.1)
+line_again (Entry e) rest fits = rw (entry_again e rest fits)
+line_again (Answer a) rest fits = rw (entry_none (line_then (Answer a) rest) refl, answer_again a rest fits)
+line_again (Word address value) rest fits =
+    later (line_then (Word address value) rest) refl refl refl ∙ rw (word_again address value rest fits.0 fits.1)
+line_again (Order o) rest fits =
+    let t : List ℕ = line_then (Order o) rest in rw (entry_none t refl, answer_none t refl, order_again o rest fits)
+line_again (End true) rest fits = end_again true rest
+line_again (End false) rest fits = end_again false rest

@@ -73,16 +73,24 @@ pair_at end text = do
   v ← number_at end a.1
   Some (a.0, v.0, v.1)
 
--- what stands behind `load `
+-- an address and a value behind a word
+unfoldable pub valued_at : ℕ → List ℕ → List ℕ → Option (ℕ × ℕ × List ℕ)
+valued_at end word text = do
+  rest ← behind word text
+  pair_at end rest
+
+-- a load and its address
 unfoldable pub load_at : List ℕ → Option (Op × ℕ × List ℕ)
 load_at text = do
-  a ← index_at 32 text
+  rest ← behind (codes "load ") text
+  a ← index_at 32 rest
   Some (Load, a.0, a.1)
 
--- what stands behind `cas `
+-- a compare-and-swap, its address and its values
 unfoldable pub cas_at : List ℕ → Option (Op × ℕ × List ℕ)
 cas_at text = do
-  a ← index_at 32 text
+  rest ← behind (codes "cas ") text
+  a ← index_at 32 rest
   e ← number_at 32 a.1
   n ← number_at 32 e.1
   Some (Cas e.0 n.0, a.0, n.1)
@@ -90,44 +98,45 @@ cas_at text = do
 -- an operation that is one of and, or, xor, max and min
 unfoldable pub newer_at : List ℕ → Option (Op × ℕ × List ℕ)
 newer_at text =
-    instead (behind (codes "and ") text) (λ rest. pair_at 32 rest >>= λ p. Some (And p.1, p.0, p.2))
-    (instead (behind (codes "or ") text) (λ rest. pair_at 32 rest >>= λ p. Some (Or p.1, p.0, p.2))
-    (instead (behind (codes "xor ") text)
-    (λ rest. pair_at 32 rest >>= λ p. Some (Xor p.1, p.0, p.2))
-    (instead (behind (codes "max ") text)
-    (λ rest. pair_at 32 rest >>= λ p. Some (Max p.1, p.0, p.2))
-    (instead (behind (codes "min ") text)
-    (λ rest. pair_at 32 rest >>= λ p. Some (Min p.1, p.0, p.2))
+    instead (valued_at 32 (codes "and ") text) (λ p. Some (And p.1, p.0, p.2))
+    (instead (valued_at 32 (codes "or ") text) (λ p. Some (Or p.1, p.0, p.2))
+    (instead (valued_at 32 (codes "xor ") text) (λ p. Some (Xor p.1, p.0, p.2))
+    (instead (valued_at 32 (codes "max ") text) (λ p. Some (Max p.1, p.0, p.2))
+    (instead (valued_at 32 (codes "min ") text) (λ p. Some (Min p.1, p.0, p.2))
     None))))
 
 -- an operation with its address, up to the space behind them
 unfoldable pub op_at : List ℕ → Option (Op × ℕ × List ℕ)
 op_at text =
-    instead (behind (codes "load ") text) load_at
-    (instead (behind (codes "store ") text)
-    (λ rest. pair_at 32 rest >>= λ p. Some (Store p.1, p.0, p.2))
-    (instead (behind (codes "swap ") text)
-    (λ rest. pair_at 32 rest >>= λ p. Some (Swap p.1, p.0, p.2))
-    (instead (behind (codes "cas ") text) cas_at
-    (instead (behind (codes "add ") text)
-    (λ rest. pair_at 32 rest >>= λ p. Some (Add p.1, p.0, p.2))
+    option_or (load_at text)
+    (instead (valued_at 32 (codes "store ") text) (λ p. Some (Store p.1, p.0, p.2))
+    (instead (valued_at 32 (codes "swap ") text) (λ p. Some (Swap p.1, p.0, p.2))
+    (option_or (cas_at text)
+    (instead (valued_at 32 (codes "add ") text) (λ p. Some (Add p.1, p.0, p.2))
     (newer_at text)))))
 
--- what stands behind `entry `
+-- four indexes behind a word
+unfoldable pub four_at : List ℕ → List ℕ → Option (ℕ × ℕ × ℕ × ℕ × List ℕ)
+four_at word text = do
+  rest ← behind word text
+  a ← index_at 32 rest
+  b ← index_at 32 a.1
+  c ← index_at 32 b.1
+  d ← index_at 32 c.1
+  Some (a.0, b.0, c.0, d.0, d.1)
+
+-- an `entry` line
 unfoldable pub entry_at : List ℕ → Option (ReportLine × List ℕ)
 entry_at text = do
-  bank ← index_at 32 text
-  place ← index_at 32 bank.1
-  source ← index_at 32 place.1
-  tag ← index_at 32 source.1
-  op ← op_at tag.1
+  x ← four_at (codes "entry ") text
+  op ← op_at x.4
   reply ← reply_at op.2
   Some (
     Entry (record {
-      bank = bank.0;
-      place = place.0;
-      source = source.0;
-      tag = tag.0;
+      bank = x.0;
+      place = x.1;
+      source = x.2;
+      tag = x.3;
       address = op.1;
       op = op.0;
       reply = reply.0;
@@ -135,41 +144,23 @@ entry_at text = do
     reply.1,
   )
 
--- what stands behind `answer `
+-- an `answer` line
 unfoldable pub answer_at : List ℕ → Option (ReportLine × List ℕ)
 answer_at text = do
-  processor ← index_at 32 text
-  index ← index_at 32 processor.1
-  bank ← index_at 32 index.1
-  place ← index_at 32 bank.1
-  reply ← reply_at place.1
+  x ← four_at (codes "answer ") text
+  reply ← reply_at x.4
   Some (
-    Answer (record {
-      processor = processor.0;
-      index = index.0;
-      bank = bank.0;
-      place = place.0;
-      reply = reply.0;
-    }),
+    Answer (record { processor = x.0; index = x.1; bank = x.2; place = x.3; reply = reply.0 }),
     reply.1,
   )
 
--- what stands behind `order `
+-- an `order` line
 unfoldable pub order_at : List ℕ → Option (ReportLine × List ℕ)
 order_at text = do
-  bank ← index_at 32 text
-  place ← index_at 32 bank.1
-  issued ← index_at 32 place.1
-  served ← index_at 32 issued.1
-  answered ← event_at served.1
+  x ← four_at (codes "order ") text
+  answered ← event_at x.4
   Some (
-    Order (record {
-      bank = bank.0;
-      place = place.0;
-      issued = issued.0;
-      served = served.0;
-      answered = answered.0;
-    }),
+    Order (record { bank = x.0; place = x.1; issued = x.2; served = x.3; answered = answered.0 }),
     answered.1,
   )
 
@@ -203,31 +194,36 @@ three_at text = do
 unfoldable pub radices_at : List ℕ → Option (Radices × List ℕ)
 radices_at text = option_or (uniform_at text) (option_or (two_at text) (three_at text))
 
--- what stands behind `shape `
+-- a `shape` line
 unfoldable pub shape_at : List ℕ → Option (ReportLine × List ℕ)
 shape_at text = do
-  radices ← radices_at text
+  rest ← behind (codes "shape ") text
+  radices ← radices_at rest
   words ← index_at 10 radices.1
   Some (Shape radices.0 words.0, words.1)
 
--- what stands behind `end `
+-- the first line
+unfoldable pub header_at : List ℕ → Option (ReportLine × List ℕ)
+header_at text = do
+  rest ← behind (codes "torusmem ") text
+  version ← index_at 10 rest
+  Some (Header version.0, version.1)
+
+-- the line of the end
 unfoldable pub end_at : List ℕ → Option (ReportLine × List ℕ)
 end_at text =
-    instead (behind (codes "complete\n") text) (λ rest. Some (End true, rest))
-    (instead (behind (codes "incomplete\n") text) (λ rest. Some (End false, rest)) None)
+    instead (behind (codes "end complete\n") text) (λ rest. Some (End true, rest))
+    (instead (behind (codes "end incomplete\n") text) (λ rest. Some (End false, rest)) None)
+
+-- a line that tells a word
+unfoldable pub word_at : List ℕ → Option (ReportLine × List ℕ)
+word_at text =
+    instead (valued_at 10 (codes "word ") text) (λ p. Some (Word p.0 p.1, p.2))
+    (instead (valued_at 10 (codes "init ") text) (λ p. Some (Init p.0 p.1, p.2)) None)
 
 -- the line that the text begins with, and what stands behind it
 unfoldable pub line_at : List ℕ → Option (ReportLine × List ℕ)
 line_at text =
-    instead (behind (codes "entry ") text) entry_at
-    (instead (behind (codes "answer ") text) answer_at
-    (instead (behind (codes "order ") text) order_at
-    (instead (behind (codes "word ") text)
-    (λ rest. pair_at 10 rest >>= λ p. Some (Word p.0 p.1, p.2))
-    (instead (behind (codes "init ") text)
-    (λ rest. pair_at 10 rest >>= λ p. Some (Init p.0 p.1, p.2))
-    (instead (behind (codes "end ") text) end_at
-    (instead (behind (codes "shape ") text) shape_at
-    (instead (behind (codes "torusmem ") text)
-    (λ rest. index_at 10 rest >>= λ n. Some (Header n.0, n.1))
-    None)))))))
+    option_or (entry_at text) (option_or (answer_at text)
+    (option_or (order_at text) (option_or (word_at text)
+    (option_or (end_at text) (option_or (shape_at text) (header_at text))))))

@@ -1,8 +1,8 @@
 use Rattle.std.proofs.Common.{◌+◌, drop, ◌∙◌, Some, ap, sym, arith}
 use Rattle.std.proofs.lemmas.List.{take_rest}
-use Rattle.report_check.specs.Reading.{digits_on}
-use Rattle.report_check.proofs.Words.{digits_on-digit, digits_on-much, digits_on-end, digits_on-other, digits_on-past}
-use Rattle.report_check.proofs.reading.digits_on.Goals as goal
+use Rattle.report_reader.specs.Reading.{digits_on}
+use Rattle.report_reader.proofs.Words.{digits_on-digit, digits_on-much, digits_on-end, digits_on-other, digits_on-past}
+use Rattle.report_reader.proofs.numbers.digits_on.Goals as goal
 
 pub returns-then-byte-end : goal.returns-then-byte-end
 returns-then-byte-end c =

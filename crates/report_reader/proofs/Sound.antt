@@ -1,18 +1,12 @@
 -- What is read is spelled so.
-use Rattle.std.proofs.Common.{◌≡◌, ◌≢◌, ◌<◌, ◌≤◌, ℕ, ◌+◌, ◌-◌, ◌*◌, ◌^◌, ◌/◌, ◌%◌, ◌==◌, nat_lt, true, false, List, [], ◌∷◌, ◌++◌, Option, Some, None, IfSome}
+use Rattle.std.proofs.Common.{◌≡◌, ◌≢◌, ◌<◌, ◌≤◌, ℕ, ◌+◌, ◌-◌, ◌*◌, ◌^◌, ◌/◌, ◌%◌, ◌==◌, nat_lt, true, false, List, [], ◌∷◌, ◌++◌, Option, Some, None}
 use Rattle.std.proofs.Common.{decimal, refl, sym, ap, subst, ◌∙◌, arith, ⊎_elim, append_assoc, lit<}
 use Rattle.std.specs.Char.{is_ascii_digit}
 use Rattle.std.proofs.lemmas.Bool.{cases_Bool, cases_eq, eqb-false, eqb-true, eq-eqb, ne_eqb, ltb-true}
 use Rattle.std.proofs.lemmas.Bool.Decides.{nat_tests}
 use Rattle.std.proofs.lemmas.Fmt.{decimal_digit, decimal_step}
 use Rattle.std.proofs.lemmas.Option.{none-some, same_Some}
-use Rattle.report_check.specs.Reading.{Gives, behind, digits_on, number_at}
-
--- what a function returned has what each reading has
-pub gives_some : {X Y : Type 0} (view : X → Y) (r : Option X) (read : Option Y) (P : Y → Type 0) → Gives view r read → ((y : Y) → read ≡ Some y → P y)
-    → IfSome r (λ x. P (view x))
-gives_some view None read P gives each = tt
-gives_some view (Some x) read P gives each = each (view x) gives
+use Rattle.report_reader.specs.Reading.{behind, digits_on, number_at}
 
 pub behind_sound : (word text rest : List ℕ) → behind word text ≡ Some rest → text ≡ word ++ rest
 unfolding behind

@@ -25,6 +25,11 @@ event_then (Some n) rest = decimal n ++ 10 ∷ rest
 abbrev pub pair_then : ℕ → ℕ → ℕ → List ℕ → List ℕ
 pair_then end address value rest = decimal address ++ 32 ∷ (decimal value ++ end ∷ rest)
 
+-- four indexes, each up to a space
+abbrev pub four_then : ℕ → ℕ → ℕ → ℕ → List ℕ → List ℕ
+four_then a b c d rest =
+    decimal a ++ 32 ∷ (decimal b ++ 32 ∷ (decimal c ++ 32 ∷ (decimal d ++ 32 ∷ rest)))
+
 -- an operation with its address and its values, each behind its word up to a space
 abbrev pub op_then : Op → ℕ → List ℕ → List ℕ
 op_then Load address rest = codes "load " ++ (decimal address ++ 32 ∷ rest)
@@ -56,18 +61,12 @@ line_then (Shape radices words) rest =
     codes "shape " ++ radices_then radices (decimal words ++ 10 ∷ rest)
 line_then (Init address value) rest = codes "init " ++ pair_then 10 address value rest
 line_then (Entry e) rest =
-    codes "entry " ++ (decimal e.bank
-    ++ 32 ∷ (decimal e.place ++ 32
-    ∷ (decimal e.source ++ 32
-    ∷ (decimal e.tag ++ 32 ∷ op_then e.op e.address (reply_then e.reply rest)))))
+    codes "entry "
+    ++ four_then e.bank e.place e.source e.tag (op_then e.op e.address (reply_then e.reply rest))
 line_then (Answer a) rest =
-    codes "answer " ++ (decimal a.processor
-    ++ 32 ∷ (decimal a.index ++ 32
-    ∷ (decimal a.bank ++ 32 ∷ (decimal a.place ++ 32 ∷ reply_then a.reply rest))))
+    codes "answer " ++ four_then a.processor a.index a.bank a.place (reply_then a.reply rest)
 line_then (Word address value) rest = codes "word " ++ pair_then 10 address value rest
 line_then (Order o) rest =
-    codes "order " ++ (decimal o.bank
-    ++ 32 ∷ (decimal o.place ++ 32
-    ∷ (decimal o.issued ++ 32 ∷ (decimal o.served ++ 32 ∷ event_then o.answered rest))))
-line_then (End true) rest = codes "end " ++ (codes "complete\n" ++ rest)
-line_then (End false) rest = codes "end " ++ (codes "incomplete\n" ++ rest)
+    codes "order " ++ four_then o.bank o.place o.issued o.served (event_then o.answered rest)
+line_then (End true) rest = codes "end complete\n" ++ rest
+line_then (End false) rest = codes "end incomplete\n" ++ rest

@@ -1,0 +1,6 @@
+pub mod Spelled
+pub mod Words
+pub mod Sound
+pub mod Again
+pub mod Joined
+pub mod Found
