@@ -1,8 +1,9 @@
 -- The command line, in the words of `clap` (this project's own format).
-use Rattle.std.specs.Prelude.{pos, List, [], ◌∷◌, Option, Some, codes, true, option_map}
+use Rattle.std.specs.Prelude.{pos, ℤ, List, [], ◌∷◌, Option, Some, codes, true, option_map}
 use Rattle.clap.specs.Words.{App, Row, Rule, Text, new_app, new_rule, subcommand_of}
 use Rattle.clap.specs.Words.{with_rule, with_subcommand}
 use Rattle.clap.specs.declared.builder.action.ArgAction.TheVariants.{SetTrue}
+use Rattle.clap.specs.declared.builder.value_parser.ValueParser.{ValueParser}
 use Rattle.clap.specs.declared.builder.value_parser.ValueParser.TheVariants as vp
 use Rattle.command_line.specs.Job.{rows_in}
 
@@ -15,58 +16,54 @@ abbrev pub tile : Text → Rule
 tile id = record (new_rule id)
     { required = true; parser = Some (vp.Signed (pos 0) (pos 4294967295)) }
 
--- the option for the most rounds, a number from 1 to 1000000, which it is where it isn't given
-abbrev pub rounds : Rule
-rounds = record (new_rule (codes "rounds")) {
-  long = Some (codes "rounds");
-  parser = Some (vp.Signed (pos 1) (pos 1000000));
-  defaults = codes "1000000" ∷ [];
-}
-
--- the option for the seed of a drawn schedule, a number of 64 bits that has to be given
-abbrev pub seed : Rule
-seed = record (new_rule (codes "seed")) {
-  long = Some (codes "seed");
-  parser = Some (vp.Unsigned 0 18446744073709551615);
-  required = true;
-}
-
--- the option for the most moves of a drawn schedule, a number of 64 bits; it has no default
-abbrev pub most_moves : Rule
-most_moves = record (new_rule (codes "steps")) {
-  long = Some (codes "steps");
-  parser = Some (vp.Unsigned 0 18446744073709551615);
-}
-
--- the option for how many workers there are, a number from 1 to 16, which is 1 where it isn't given
-abbrev pub workers : Rule
-workers = record (new_rule (codes "workers")) {
-  long = Some (codes "workers");
-  parser = Some (vp.Signed (pos 1) (pos 16));
-  defaults = codes "1" ∷ [];
-}
-
--- the option for the most turns of a worker, a number from 1 to 1000000000, which it is where it
--- isn't given
-abbrev pub turns : Rule
-turns = record (new_rule (codes "turns")) {
-  long = Some (codes "turns");
-  parser = Some (vp.Signed (pos 1) (pos 1000000000));
-  defaults = codes "1000000000" ∷ [];
-}
-
 -- an option of this name, which has no value
 abbrev pub flag : Text → Rule
 flag name = record (new_rule name) { long = Some name; action = Some SetTrue }
 
+-- the numbers from 1 to the most
+abbrev pub up_to : ℤ → ValueParser
+up_to most = vp.Signed (pos 1) most
+
+-- an option of this name, one of these numbers, which is the usual one where it isn't given
+abbrev pub count : Text → ValueParser → Text → Rule
+count name numbers usual = record (new_rule name) {
+  long = Some name;
+  parser = Some numbers;
+  defaults = usual ∷ [];
+}
+
+-- the option for the most rounds, a number from 1 to 1000000, which it is where it isn't given
+abbrev pub rounds : Rule
+rounds = count (codes "rounds") (up_to (pos 1000000)) (codes "1000000")
+
+-- the option for how many workers there are, a number from 1 to 16, which is 1 where it isn't given
+abbrev pub workers : Rule
+workers = count (codes "workers") (up_to (pos 16)) (codes "1")
+
+-- the option for the most turns of a worker, a number from 1 to 1000000000, which it is where it
+-- isn't given
+abbrev pub turns : Rule
+turns = count (codes "turns") (up_to (pos 1000000000)) (codes "1000000000")
+
 -- the option for the most configurations of a search, a number from 1 to 4294967295, which is
 -- 1000000 where it isn't given
 abbrev pub configurations : Rule
-configurations = record (new_rule (codes "configurations")) {
-  long = Some (codes "configurations");
-  parser = Some (vp.Signed (pos 1) (pos 4294967295));
-  defaults = codes "1000000" ∷ [];
+configurations = count (codes "configurations") (up_to (pos 4294967295)) (codes "1000000")
+
+-- the option of this name, any number of 64 bits; it has no default
+abbrev pub long_number : Text → Rule
+long_number name = record (new_rule name) {
+  long = Some name;
+  parser = Some (vp.Unsigned 0 18446744073709551615);
 }
+
+-- the option for the seed of a drawn schedule, a number of 64 bits that has to be given
+abbrev pub seed : Rule
+seed = record (long_number (codes "seed")) { required = true }
+
+-- the option for the most moves of a drawn schedule, a number of 64 bits; it has no default
+abbrev pub most_moves : Rule
+most_moves = long_number (codes "steps")
 
 -- the option to say more of what is wrong, of each subcommand
 abbrev pub explain : Rule

@@ -7,7 +7,6 @@ use clap::ArgMatches;
 use torus::Class;
 
 /// The word that was given for an argument.
-#[tactic(auto, using(crate::proofs::Rows::first_value_rows))]
 pub(crate) fn word<'a>(given: &ArgMatches<'a>, id: &str) -> Option<&'a str>
     ensures { option_map (λ s. s.now) result ≡ first_of id.now (rows_of (found_of given.now)) }
 {

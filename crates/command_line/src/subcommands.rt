@@ -1,0 +1,106 @@
+//! The subcommands, each with its arguments.
+ghost use Rattle.clap.specs.Words.{new_app, with_rule};
+ghost use Rattle.command_line.specs.CommandLine.{channels_app, check_app, draw_app, explain};
+ghost use Rattle.command_line.specs.CommandLine.{linearize_app, loading_app, needed, network_app};
+ghost use Rattle.command_line.specs.CommandLine.{round_app, rounds, route_app, run_app};
+ghost use Rattle.command_line.specs.CommandLine.{schedule_app, steps_app};
+ghost use Rattle.command_line.specs.Making.{IsCommand};
+
+use crate::arguments::{count, file, flag, long_number, seed, tile};
+use crate::making::{Making, loading, named, with_argument, with_explain};
+use clap::builder::ValueParser;
+use std::alloc::Global;
+
+pub(crate) fn steps<'a>(alloc: Global) -> Making<'a>
+    ensures { IsCommand steps_app result }
+{
+    let about = "Runs the listed steps and prints the report";
+    let command = loading(alloc, "steps", about);
+    let command = with_argument(command, file(alloc, "STEPS", "The file of the steps"));
+    let help = "Prints the steps that move, and not the report";
+    let command = with_argument(command, flag(alloc, "moves", help));
+    with_explain(alloc, command)
+}
+
+/// A subcommand of this name that runs in rounds.
+pub(crate) fn in_rounds<'a>(alloc: Global, name: &'a str, about: &'a str) -> Making<'a>
+    ensures { IsCommand
+        (with_rule (with_rule (loading_app name.entry.now) rounds) explain) result }
+{
+    let command = loading(alloc, name, about);
+    let help = "The most rounds, 1 to 1000000";
+    let numbers = ValueParser::Signed(1, 1000000);
+    let command = with_argument(command, count(alloc, "rounds", numbers, "1000000", help));
+    with_explain(alloc, command)
+}
+
+pub(crate) fn run<'a>(alloc: Global) -> Making<'a>
+    ensures { IsCommand run_app result }
+{
+    let about = "Runs by workers in threads until every script is finished, and prints the report";
+    let command = loading(alloc, "run", about);
+    let help = "How many workers share the tiles, 1 to 16";
+    let numbers = ValueParser::Signed(1, 16);
+    let command = with_argument(command, count(alloc, "workers", numbers, "1", help));
+    let help = "The most turns of a worker, 1 to 1000000000";
+    let numbers = ValueParser::Signed(1, 1000000000);
+    let command = with_argument(command, count(alloc, "turns", numbers, "1000000000", help));
+    with_explain(alloc, command)
+}
+
+pub(crate) fn draw<'a>(alloc: Global) -> Making<'a>
+    ensures { IsCommand draw_app result }
+{
+    let about = "Draws the moves of a run until every script is finished, and prints them as steps";
+    let command = loading(alloc, "draw", about);
+    let command = with_argument(command, seed(alloc));
+    let help = "The most moves, 0 to 18446744073709551615; no limit if not given";
+    let command = with_argument(command, long_number(alloc, "steps", help));
+    with_explain(alloc, command)
+}
+
+pub(crate) fn route<'a>(alloc: Global) -> Making<'a>
+    ensures { IsCommand route_app result }
+{
+    let about = "Prints the channels of a route and their numbers";
+    let command = named(alloc, "route", about);
+    let command = with_argument(command, file(alloc, "MACHINE", "The file of the machine"));
+    let command = with_argument(command, tile(alloc, "SRC", "The tile that sends"));
+    let command = with_argument(command, tile(alloc, "DST", "The tile that receives"));
+    let help = "The route of a reply, and not of a request";
+    let command = with_argument(command, flag(alloc, "reply", help));
+    with_explain(alloc, command)
+}
+
+/// A subcommand of this name that takes one file.
+pub(crate) fn of_one_file<'a>(
+    alloc: Global,
+    name: &'a str,
+    about: &'a str,
+    id: &'a str,
+    help: &'a str,
+) -> Making<'a>
+    ensures { IsCommand
+        (with_rule (with_rule (new_app name.entry.now) (needed id.entry.now)) explain) result }
+{
+    let command = named(alloc, name, about);
+    let command = with_argument(command, file(alloc, id, help));
+    with_explain(alloc, command)
+}
+
+pub(crate) fn linearize<'a>(alloc: Global) -> Making<'a>
+    ensures { IsCommand linearize_app result }
+{
+    let about = "Finds the one order of a trace, or says that there is none";
+    let command = named(alloc, "linearize", about);
+    let command = with_argument(command, file(alloc, "TRACE", "The file of the trace"));
+    let help = "The most configurations of a word at once, 1 to 4294967295";
+    let numbers = ValueParser::Signed(1, 4294967295);
+    let command = with_argument(
+        command,
+        count(alloc, "configurations", numbers, "1000000", help),
+    );
+    let help = "Prints the order as a report, and not its lines";
+    let command = with_argument(command, flag(alloc, "report", help));
+    with_explain(alloc, command)
+}
