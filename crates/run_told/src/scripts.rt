@@ -151,15 +151,14 @@ fn next_reply(answers: &[Answer], processor: u32, place: &mut Place) -> Option<u
     if place.is_open {
         return None;
     }
-    match answers.get(place.at) {
-        Some(answer) if answer.processor == processor && answer.index == place.index => {
+    if place.at < answers.len() {
+        let answer = answers[place.at];
+        if answer.processor == processor && answer.index == place.index {
             place.at = place.at.saturating_add(1);
             place.index = place.index.saturating_add(1);
-            Some(answer.reply)
-        }
-        _ => {
-            place.is_open = true;
-            None
+            return Some(answer.reply);
         }
     }
+    place.is_open = true;
+    None
 }
