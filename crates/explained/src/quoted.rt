@@ -10,18 +10,22 @@ pub struct Quoted<'a> {
     pub word: &'a [u8],
 }
 
+/// Writes a byte of a word.
+fn put_byte<W: fmt::Write>(f: &mut fmt::Formatter<W>, byte: u8) -> fmt::Result {
+    if b'!' <= byte && byte <= b'~' {
+        f.write_char(byte as char)
+    } else {
+        write!(f, "\\x{byte:02x}")
+    }
+}
+
 impl<'a> fmt::Display for Quoted<'a> {
     fn fmt<W: fmt::Write>(&self, f: &mut fmt::Formatter<W>) -> fmt::Result {
-        for (i, byte) in self.word.iter().enumerate() {
-            if i >= MOST {
-                return f.write_str("..");
-            }
-            if b'!' <= *byte && *byte <= b'~' {
-                f.write_char(*byte as char)?;
-            } else {
-                write!(f, "\\x{:02x}", *byte)?;
-            }
+        let shown = self.word.len().min(MOST);
+        for byte in self.word[..shown].iter() {
+            put_byte(f, *byte)?;
         }
-        Ok(())
+        let end = if shown < self.word.len() { ".." } else { "" };
+        f.write_str(end)
     }
 }

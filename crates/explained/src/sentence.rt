@@ -1,6 +1,6 @@
-use crate::quoted::Quoted;
+use crate::filled::Filled;
+use crate::words::Words;
 use fault_reasons::{Agent, Keyword, Reason};
-use lexer::{first_words, next_line};
 use std::fmt;
 
 /// Why a text has a fault at a line, as a reader is told: `script.txt:12: address 300: the machine has
@@ -13,39 +13,6 @@ pub struct Sentence<'a> {
     /// The line of the fault, from 1; 0 for want of memory.
     pub line: u64,
     pub reason: Reason,
-}
-
-/// The first words of a line; those that it hasn't are empty.
-#[derive(Clone, Copy)]
-struct Words<'a> {
-    words: [&'a [u8]; 7],
-}
-
-impl<'a> Words<'a> {
-    /// The word at a place, as it is quoted.
-    fn at(&self, place: u32) -> Quoted<'a> {
-        match self.words.get(place as usize) {
-            Some(word) => Quoted { word },
-            None => Quoted { word: b"" },
-        }
-    }
-}
-
-/// The words of the line of a number.
-fn words_at(text: &[u8], wanted: u64) -> Words<'_> {
-    let mut at = 1u64;
-    let mut rest = text;
-    while let Some((line, after)) = next_line(rest) {
-        if at == wanted {
-            let (words, _) = first_words(line);
-            return Words { words };
-        }
-        at = at.saturating_add(1);
-        rest = after;
-    }
-    Words {
-        words: [b"".as_slice(); 7],
-    }
 }
 
 /// A keyword as a text has it.
@@ -109,6 +76,121 @@ fn kind_text(agent: Agent) -> &'static str {
     }
 }
 
+/// What is told of a reason.
+fn text_of(reason: Reason) -> &'static str {
+    match reason {
+        Reason::UnknownKeyword => {
+            "A: a line begins with radix, dims, dateline, depth, tags, words or init"
+        }
+        Reason::NumberCount(_) => "A: behind it stand K",
+        Reason::NotNumber(_) => "W: a number belongs there",
+        Reason::GivenTwice(_) => "A: it is given at line N already",
+        Reason::DatelineBefore(_) => {
+            "dateline: it comes behind radix and dims, and K is not given yet"
+        }
+        Reason::InitBefore(_) => {
+            "init: it comes behind radix, dims, depth, tags and words, and K is not given yet"
+        }
+        Reason::InitTwice(_) => { "address B: its opening word is given at line N already" }
+        Reason::Missing(_) => "the text ends without K",
+        Reason::RadixLimits(_) => "radix W: a radix is 2 to 8",
+        Reason::DimsLimits => "dims B: there are 1 to 3 dimensions",
+        Reason::TooManyTiles(_) => "N tiles: there are at most 64",
+        Reason::RadixCount(_, _) => {
+            "N radices for M dimensions: one stands for all, or each has its own"
+        }
+        Reason::DatelineCount(_, _) => { "N datelines for M dimensions: each has its own" }
+        Reason::DatelineLimits(_, _) => "dateline W: it is below its radix, which is N",
+        Reason::DepthLimits => "depth B: a depth is 1 to 8",
+        Reason::TagsLimits => "tags B: a processor has 1 to 16 tags",
+        Reason::WordsLimits => "words B: a memory has 1 to 65536 words",
+        Reason::AddressLimits(_, _) => "address W: the machine has the words 0 to N",
+        Reason::ValueLimits(_) => "value W: a value is below 2^64",
+        Reason::ProcessorAlone => "A: an operation belongs behind the processor",
+        Reason::UnknownOperation => "B: there is no such operation",
+        Reason::OperandCount => "B: behind it stands K",
+        Reason::NotValue(_) => "W: a number or last belongs there",
+        Reason::ProcessorLimits(_) => "processor A: the machine has the processors 0 to N",
+        Reason::SpinLimits => "W loads: a spin makes 1 to 4096",
+        Reason::LastFirst => "last: processor A has no operation before it",
+        Reason::ScriptLength(_) => { "N operations of processor A: a script has at most 4096" }
+        Reason::ScriptsLength(_) => { "N operations: all scripts together have at most 65536" }
+        Reason::StepCount => "a step is an agent, a choice, and for a router a number",
+        Reason::UnknownChoice => { "B: a choice is send, take, put, credit, serve, done or look" }
+        Reason::AgentLimits(_) => "agent A: the machine has the agents 0 to N",
+        Reason::NoChoice(_) => "B: agent A is K",
+        Reason::PortWanted => {
+            "B: the number of an input or output belongs behind a router's choice"
+        }
+        Reason::PortUnwanted(_) => { "B C: agent A is a K, whose choices have no number" }
+        Reason::PortLimits(_) => "B C: a router has the inputs and outputs 0 to N",
+        Reason::Memory => "a request for memory was refused while it was read",
+        Reason::Other(_) => "fault K",
+    }
+}
+
+/// The place of the word that a reason is about.
+fn place_of(reason: Reason) -> u32 {
+    match reason {
+        Reason::NotNumber(place) => place,
+        Reason::RadixLimits(place) => place,
+        Reason::DatelineLimits(place, _) => place,
+        Reason::AddressLimits(place, _) => place,
+        Reason::ValueLimits(place) => place,
+        Reason::NotValue(place) => place,
+        Reason::SpinLimits => 4,
+        _ => 0,
+    }
+}
+
+/// The number that is told of a reason: a line, a count, a limit, or the last of so many.
+fn number_of(reason: Reason) -> u128 {
+    match reason {
+        Reason::GivenTwice(line) => u128::from(line),
+        Reason::InitTwice(line) => u128::from(line),
+        Reason::TooManyTiles(tiles) => tiles,
+        Reason::RadixCount(radices, _) => u128::from(radices),
+        Reason::DatelineCount(datelines, _) => u128::from(datelines),
+        Reason::DatelineLimits(_, radix) => u128::from(radix),
+        Reason::AddressLimits(_, words) => last_of(words),
+        Reason::ProcessorLimits(tiles) => last_of(tiles),
+        Reason::ScriptLength(operations) => operations,
+        Reason::ScriptsLength(operations) => operations,
+        Reason::AgentLimits(agents) => last_of(agents),
+        Reason::PortLimits(ports) => last_of(ports),
+        _ => 0,
+    }
+}
+
+/// The last of so many numbers from 0.
+fn last_of(count: u32) -> u128 {
+    u128::from(count.saturating_sub(1))
+}
+
+/// The number of dimensions that is told of a reason.
+fn dims_of(reason: Reason) -> u128 {
+    match reason {
+        Reason::RadixCount(_, dims) => u128::from(dims),
+        Reason::DatelineCount(_, dims) => u128::from(dims),
+        _ => 0,
+    }
+}
+
+/// The name that is told of a reason; `operation` is the second word of the line.
+fn name_of(reason: Reason, operation: &[u8]) -> &'static str {
+    match reason {
+        Reason::NumberCount(keyword) => numbers_text(keyword),
+        Reason::DatelineBefore(keyword) => keyword_text(keyword),
+        Reason::InitBefore(keyword) => keyword_text(keyword),
+        Reason::Missing(keyword) => keyword_text(keyword),
+        Reason::OperandCount => operands_text(operation),
+        Reason::NoChoice(agent) => agent_text(agent),
+        Reason::PortUnwanted(agent) => kind_text(agent),
+        Reason::Other(fault) => fault.code(),
+        _ => "",
+    }
+}
+
 impl<'a> fmt::Display for Sentence<'a> {
     fn fmt<W: fmt::Write>(&self, f: &mut fmt::Formatter<W>) -> fmt::Result {
         f.write_str(self.name)?;
@@ -116,203 +198,16 @@ impl<'a> fmt::Display for Sentence<'a> {
             write!(f, ":{}", self.line)?;
         }
         f.write_str(": ")?;
-        let words = words_at(self.text, self.line);
-        match self.reason {
-            Reason::UnknownKeyword => {
-                write!(
-                    f,
-                    "{}: a line begins with radix, dims, dateline, depth, tags, words or init",
-                    words.at(0)
-                )
-            }
-            Reason::NumberCount(keyword) => {
-                write!(
-                    f,
-                    "{}: behind it stand {}",
-                    words.at(0),
-                    numbers_text(keyword)
-                )
-            }
-            Reason::NotNumber(place) => write!(f, "{}: a number belongs there", words.at(place)),
-            Reason::GivenTwice(line) => write!(
-                f,
-                "{}: it is given at line {} already",
-                words.at(0),
-                line
-            ),
-            Reason::DatelineBefore(keyword) => {
-                write!(
-                    f,
-                    "dateline: it comes behind radix and dims, and {} is not given yet",
-                    keyword_text(keyword)
-                )
-            }
-            Reason::InitBefore(keyword) => {
-                write!(
-                    f,
-                    "init: it comes behind radix, dims, depth, tags and words, and {} is not given yet",
-                    keyword_text(keyword)
-                )
-            }
-            Reason::InitTwice(line) => {
-                write!(
-                    f,
-                    "address {}: its opening word is given at line {} already",
-                    words.at(1),
-                    line
-                )
-            }
-            Reason::Missing(keyword) => write!(
-                f,
-                "the text ends without {}",
-                keyword_text(keyword)
-            ),
-            Reason::RadixLimits(place) => write!(f, "radix {}: a radix is 2 to 8", words.at(place)),
-            Reason::DimsLimits => write!(f, "dims {}: there are 1 to 3 dimensions", words.at(1)),
-            Reason::TooManyTiles(tiles) => write!(f, "{tiles} tiles: there are at most 64"),
-            Reason::RadixCount(radices, dims) => {
-                write!(
-                    f,
-                    "{radices} radices for {dims} dimensions: one stands for all, or each has its own"
-                )
-            }
-            Reason::DatelineCount(datelines, dims) => {
-                write!(
-                    f,
-                    "{datelines} datelines for {dims} dimensions: each has its own"
-                )
-            }
-            Reason::DatelineLimits(place, radix) => {
-                write!(
-                    f,
-                    "dateline {}: it is below its radix, which is {}",
-                    words.at(place),
-                    radix
-                )
-            }
-            Reason::DepthLimits => write!(f, "depth {}: a depth is 1 to 8", words.at(1)),
-            Reason::TagsLimits => write!(f, "tags {}: a processor has 1 to 16 tags", words.at(1)),
-            Reason::WordsLimits => write!(
-                f,
-                "words {}: a memory has 1 to 65536 words",
-                words.at(1)
-            ),
-            Reason::AddressLimits(place, count) => {
-                write!(
-                    f,
-                    "address {}: the machine has the words 0 to {}",
-                    words.at(place),
-                    count.saturating_sub(1)
-                )
-            }
-            Reason::ValueLimits(place) => write!(
-                f,
-                "value {}: a value is below 2^64",
-                words.at(place)
-            ),
-            Reason::ProcessorAlone => write!(
-                f,
-                "{}: an operation belongs behind the processor",
-                words.at(0)
-            ),
-            Reason::UnknownOperation => write!(f, "{}: there is no such operation", words.at(1)),
-            Reason::OperandCount => {
-                write!(
-                    f,
-                    "{}: behind it stands {}",
-                    words.at(1),
-                    operands_text(words.at(1).word)
-                )
-            }
-            Reason::NotValue(place) => write!(
-                f,
-                "{}: a number or last belongs there",
-                words.at(place)
-            ),
-            Reason::ProcessorLimits(tiles) => {
-                write!(
-                    f,
-                    "processor {}: the machine has the processors 0 to {}",
-                    words.at(0),
-                    tiles.saturating_sub(1)
-                )
-            }
-            Reason::SpinLimits => write!(f, "{} loads: a spin makes 1 to 4096", words.at(4)),
-            Reason::LastFirst => write!(
-                f,
-                "last: processor {} has no operation before it",
-                words.at(0)
-            ),
-            Reason::ScriptLength(operations) => {
-                write!(
-                    f,
-                    "{} operations of processor {}: a script has at most 4096",
-                    operations,
-                    words.at(0)
-                )
-            }
-            Reason::ScriptsLength(operations) => {
-                write!(
-                    f,
-                    "{operations} operations: all scripts together have at most 65536"
-                )
-            }
-            Reason::StepCount => f.write_str(
-                "a step is an agent, a choice, and for a router a number",
-            ),
-            Reason::UnknownChoice => {
-                write!(
-                    f,
-                    "{}: a choice is send, take, put, credit, serve, done or look",
-                    words.at(1)
-                )
-            }
-            Reason::AgentLimits(agents) => {
-                write!(
-                    f,
-                    "agent {}: the machine has the agents 0 to {}",
-                    words.at(0),
-                    agents.saturating_sub(1)
-                )
-            }
-            Reason::NoChoice(agent) => {
-                write!(
-                    f,
-                    "{}: agent {} is {}",
-                    words.at(1),
-                    words.at(0),
-                    agent_text(agent)
-                )
-            }
-            Reason::PortWanted => {
-                write!(
-                    f,
-                    "{}: the number of an input or output belongs behind a router's choice",
-                    words.at(1)
-                )
-            }
-            Reason::PortUnwanted(agent) => {
-                write!(
-                    f,
-                    "{} {}: agent {} is a {}, whose choices have no number",
-                    words.at(1),
-                    words.at(2),
-                    words.at(0),
-                    kind_text(agent)
-                )
-            }
-            Reason::PortLimits(ports) => {
-                write!(
-                    f,
-                    "{} {}: a router has the inputs and outputs 0 to {}",
-                    words.at(1),
-                    words.at(2),
-                    ports.saturating_sub(1)
-                )
-            }
-            Reason::Memory => f.write_str("a request for memory was refused while it was read"),
-            Reason::Other(fault) => write!(f, "fault {fault}"),
-        }
+        let words = Words::of_line(self.text, self.line);
+        let filled = Filled {
+            text: text_of(self.reason),
+            words,
+            place: place_of(self.reason),
+            number: number_of(self.reason),
+            other: dims_of(self.reason),
+            name: name_of(self.reason, words.at(1).word),
+        };
+        write!(f, "{filled}")
     }
 }
 

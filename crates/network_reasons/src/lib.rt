@@ -11,6 +11,3 @@ mod told;
 pub use reason::{Keyword, NetworkReason};
 pub use refusal::{Refusal, network_refusal};
 pub use sentence::{NetworkSentence, network_sentence};
-
-#[cfg(test)]
-mod tests;

@@ -4,7 +4,7 @@ use lexer::{first_words, next_line, value};
 use std::alloc::{AllocError, Allocator};
 
 /// An operation of a processor that is answered, and the number replied; a reply `ok` counts as 0.
-#[derive(Clone, Copy, Debug, PartialEq, Eq)]
+#[derive(Clone, Copy)]
 pub struct Answer {
     pub processor: u32,
     /// The how-manyth operation of the processor it is, from 0.

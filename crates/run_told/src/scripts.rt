@@ -8,7 +8,7 @@ use std::alloc::{AllocError, Allocator};
 const MOST_PROCESSORS: usize = 64;
 
 /// A spin that made all its loads, of which none found the number that it waits for.
-#[derive(Clone, Copy, Debug, PartialEq, Eq)]
+#[derive(Clone, Copy)]
 pub struct EndedSpin {
     pub processor: u32,
     /// The line of the script text, from 1.
@@ -40,7 +40,7 @@ struct Place {
 }
 
 /// How a spin ended.
-#[derive(Clone, Copy, PartialEq, Eq)]
+#[derive(Clone, Copy)]
 enum End {
     Found,
     RanOut,
@@ -122,15 +122,16 @@ fn follow(
         return None;
     }
     let (wanted, loads) = (number(words[3])?, index(words[4])?);
-    if spun(answers, processor, place, wanted, loads) != End::RanOut {
-        return None;
+    match spun(answers, processor, place, wanted, loads) {
+        End::Found => None,
+        End::RanOut => Some(EndedSpin {
+            processor,
+            line: number_of_line,
+            loads,
+            wanted,
+        }),
+        End::Open => None,
     }
-    Some(EndedSpin {
-        processor,
-        line: number_of_line,
-        loads,
-        wanted,
-    })
 }
 
 /// How a spin of a processor for a number ended, with so many loads at most.
@@ -150,15 +151,14 @@ fn next_reply(answers: &[Answer], processor: u32, place: &mut Place) -> Option<u
     if place.is_open {
         return None;
     }
-    match answers.get(place.at) {
-        Some(answer) if answer.processor == processor && answer.index == place.index => {
+    if place.at < answers.len() {
+        let answer = answers[place.at];
+        if answer.processor == processor && answer.index == place.index {
             place.at = place.at.saturating_add(1);
             place.index = place.index.saturating_add(1);
-            Some(answer.reply)
-        }
-        _ => {
-            place.is_open = true;
-            None
+            return Some(answer.reply);
         }
     }
+    place.is_open = true;
+    None
 }

@@ -13,22 +13,14 @@ pub struct SpinSentence<'a> {
 
 impl<'a> fmt::Display for SpinSentence<'a> {
     fn fmt<W: fmt::Write>(&self, f: &mut fmt::Formatter<W>) -> fmt::Result {
-        let EndedSpin {
-            processor,
-            line,
-            loads,
-            wanted,
-        } = self.spin;
+        let spin = self.spin;
         write!(
             f,
-            "processor {processor}: the spin of {}:{line} ",
-            self.name
+            "processor {}: the spin of {}:{} made its ",
+            spin.processor, self.name, spin.line
         )?;
-        write!(
-            f,
-            "made its {} and didn't find {wanted}",
-            Count(u64::from(loads), "load")
-        )
+        put_count(f, u64::from(spin.loads), "load", " and didn't find ")?;
+        write!(f, "{}", spin.wanted)
     }
 }
 
@@ -56,29 +48,28 @@ pub struct EndSentence {
     pub unfinished: usize,
 }
 
-impl fmt::Display for EndSentence {
-    fn fmt<W: fmt::Write>(&self, f: &mut fmt::Formatter<W>) -> fmt::Result {
-        f.write_str(if self.finished {
-            "finished: "
-        } else {
-            "stopped: "
-        })?;
+impl EndSentence {
+    /// Writes what the run was made of.
+    fn put_course<W: fmt::Write>(&self, f: &mut fmt::Formatter<W>) -> fmt::Result {
         match self.course {
-            Course::Steps { moves } => write!(f, "{}, ", Count(moves, "move"))?,
+            Course::Steps { moves } => put_count(f, moves, "move", ", "),
             Course::Rounds { rounds, moves } => {
-                write!(f, "{}, {}, ", Count(rounds, "round"), Count(moves, "move"))?
+                put_count(f, rounds, "round", ", ")?;
+                put_count(f, moves, "move", ", ")
             }
-            Course::Turns(_) if self.finished => {}
-            Course::Turns(turns) => write!(f, "the workers made their {}, ", Count(turns, "turn"))?,
+            Course::Turns(turns) => {
+                if self.finished {
+                    return Ok(());
+                }
+                f.write_str("the workers made their ")?;
+                put_count(f, turns, "turn", ", ")
+            }
         }
-        let are = if self.answered == 1 { "is" } else { "are" };
-        write!(
-            f,
-            "{} {are} answered",
-            Count(self.answered as u64, "operation")
-        )?;
+    }
+
+    /// Writes how many scripts aren't finished.
+    fn put_unfinished<W: fmt::Write>(&self, f: &mut fmt::Formatter<W>) -> fmt::Result {
         match self.unfinished {
-            _ if self.finished => Ok(()),
             0 => f.write_str(", not every processor has reported it"),
             1 => f.write_str(", 1 script isn't finished"),
             many => write!(f, ", {many} scripts aren't finished"),
@@ -86,13 +77,35 @@ impl fmt::Display for EndSentence {
     }
 }
 
-/// A number of things of this name.
-#[derive(Clone, Copy)]
-struct Count(u64, &'static str);
-
-impl fmt::Display for Count {
+impl fmt::Display for EndSentence {
     fn fmt<W: fmt::Write>(&self, f: &mut fmt::Formatter<W>) -> fmt::Result {
-        let plural = if self.0 == 1 { "" } else { "s" };
-        write!(f, "{} {}{plural}", self.0, self.1)
+        let begin = if self.finished {
+            "finished: "
+        } else {
+            "stopped: "
+        };
+        let answered = if self.answered == 1 {
+            " is answered"
+        } else {
+            " are answered"
+        };
+        f.write_str(begin)?;
+        self.put_course(f)?;
+        put_count(f, self.answered as u64, "operation", answered)?;
+        if self.finished {
+            return Ok(());
+        }
+        self.put_unfinished(f)
     }
+}
+
+/// Writes a number of things of this name, and what stands behind it.
+fn put_count<W: fmt::Write>(
+    f: &mut fmt::Formatter<W>,
+    count: u64,
+    name: &str,
+    behind: &str,
+) -> fmt::Result {
+    let plural = if count == 1 { "" } else { "s" };
+    write!(f, "{count} {name}{plural}{behind}")
 }

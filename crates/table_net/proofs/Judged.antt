@@ -15,7 +15,8 @@ use Rattle.table_net.specs.Verdicts.{AllArrive, IsNumbered, join_at}
 use Rattle.table_net.specs.Exactly.{HasFault}
 use Rattle.table_net.proofs.Rounds.{round}
 use Rattle.table_net.proofs.Marking.{joined_at, place_of}
-use Rattle.table_net.proofs.Acyclic.{fails, none, first, is_first, cycle_or_numbers}
+use Rattle.table_net.proofs.Firsts.{fails, none, first, is_first}
+use Rattle.table_net.proofs.Acyclic.{cycle_or_numbers}
 
 -- whether a kind is that of hops
 abbrev is_hop : Option Kind → Bool

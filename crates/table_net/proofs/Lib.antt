@@ -6,8 +6,13 @@ pub mod Graphs
 pub mod Rounds
 pub mod Tracing
 pub mod Marking
+pub mod Written
 pub mod Searching
+pub mod Left
 pub mod Ranks
 pub mod Exactly
+pub mod Firsts
+pub mod Passing
+pub mod Chains
 pub mod Acyclic
 pub mod Judged

@@ -1,58 +1,15 @@
 -- The steps of a search in depth.
-use Rattle.std.proofs.Common.{◌≡◌, ◌≢◌, inl, inr, ℕ, zero, suc, ◌+◌, ◌-◌, ◌*◌, ◌<◌, ◌≤◌, Bool, true, false, cond, List, [], ◌∷◌, ◌++◌, length, get_or, set}
+use Rattle.std.proofs.Common.{◌≡◌, ◌≢◌, inl, inr, ℕ, ◌+◌, ◌-◌, ◌<◌, ◌≤◌, Bool, true, false, List, [], ◌∷◌, ◌++◌, length, get_or, set}
 use Rattle.std.proofs.Common.{take, drop, refl, sym, ◌∙◌, ap, subst, arith}
-use Rattle.std.specs.List.{count_by, sum_by}
 use Rattle.std.proofs.lemmas.Bool.{cases_lt, cases_eq}
-use Rattle.std.proofs.lemmas.List.{length-set, length-take-le, length-drop, length_push, get_or-set_same, get_or-set_other, get_or-take, get_or-drop}
-use Rattle.std.proofs.lemmas.List.{get_or_push, get_or_read, get_or_append_left, take_more, take_all}
-use Rattle.std.proofs.lemmas.List.Sums.{sum_by-set, sum_by_push}
+use Rattle.std.proofs.lemmas.List.{length-set, length-take-le, length-drop, length_push, get_or-set_same, get_or-take, get_or-drop}
+use Rattle.std.proofs.lemmas.List.{get_or_push, get_or_read, get_or_append_left}
 use Rattle.table_net.specs.declared.search.Look.{Look}
 use Rattle.table_net.specs.declared.search.Mark.{Mark}
 use Rattle.table_net.specs.declared.search.Mark.TheVariants.{New, Open, Done}
 use Rattle.table_net.specs.Graph.{Graph}
-use Rattle.table_net.specs.Search.{mark_at, look_at, is_new, IsBelow, AreBelow, LeadsTo, IsSearch, StayDone, IsCircle, StayWithin}
-
--- a link's mark isn't that of something done with
-abbrev NotDone : List Mark → ℕ → Type 0
-NotDone marks y = (h : ℕ) → mark_at marks y ≡ Done h → ⊥
-
--- a write of a mark leaves what is done with
-pub stay_done : (marks : List Mark) (y : ℕ) (v : Mark) → NotDone marks y → StayDone marks (set marks y v)
-stay_done marks y v other x h e =
-    elim (cases_eq x y) [
-      | inl same ↦ absurd (other h (ap (mark_at marks) (sym same) ∙ e))
-      | inr apart ↦ get_or-set_other marks y x v New apart ∙ e
-    ]
-
-below_kept : (old new : List Mark) (x low high : ℕ) → StayDone old new → low ≤ high → IsBelow old x low → IsBelow new x high
-below_kept old new x low high stay more b = let l = b.2 in (b.0, stay x b.0 b.1, omega arith)
-
--- the mark at a place, once one is written
-pub data MarkedAt (marks : List Mark) (y : ℕ) (v : Mark) (x : ℕ) : Type 0 where
-  here : x ≡ y → mark_at (set marks y v) x ≡ v → MarkedAt marks y v x
-  there : x ≢ y → mark_at (set marks y v) x ≡ mark_at marks x → MarkedAt marks y v x
-
-pub marked_at : (marks : List Mark) (y : ℕ) (v : Mark) (x : ℕ) → y < length marks → MarkedAt marks y v x
-marked_at marks y v x low =
-    elim (cases_eq x y) [
-      | inl same ↦ here same (ap (mark_at (set marks y v)) same ∙ get_or-set_same marks y v New low)
-      | inr apart ↦ there apart (get_or-set_other marks y x v New apart)
-    ]
-
--- the link at a place, once one is written
-links_kept : (path : List Look) (last : ℕ) (v : Look) (k : ℕ) → k ≢ last → look_at (set path last v) k ≡ look_at path k
-links_kept path last v k apart = get_or-set_other path last k v (record { channel = 0; column = 0 }) apart
-
-channels_kept : (path : List Look) (last x to more : ℕ) → last < length path → look_at path last ≡ record { channel = x; column = to }
-    → (k : ℕ) → (look_at (set path last (record { channel = x; column = more })) k).channel ≡ (look_at path k).channel
-channels_kept path last x to more low e k =
-    let v : Look = record { channel = x; column = more } in
-    elim (cases_eq k last) [
-      | inl same ↦ (let one : look_at (set path last v) last ≡ v = get_or-set_same path last v (record { channel = 0; column = 0 }) low in
-          ap (λ z. (look_at (set path last v) z).channel) same
-          ∙ (ap (λ (l : Look). l.channel) one ∙ (sym (ap (λ (l : Look). l.channel) e) ∙ ap (λ z. (look_at path z).channel) (sym same))))
-      | inr apart ↦ ap (λ (l : Look). l.channel) (links_kept path last v k apart)
-    ]
+use Rattle.table_net.specs.Search.{mark_at, look_at, is_new, IsBelow, AreBelow, LeadsTo, IsSearch, IsCircle, StayWithin}
+use Rattle.table_net.proofs.Written.{NotDone, stay_done, below_kept, here, there, marked_at, links_kept, channels_kept, new_less, new_same, open_inside}
 
 -- one ejection channel more is looked at
 pub advanced : (g : Graph) (marks : List Mark) (path : List Look) (finished last x to : ℕ) → IsSearch g marks path finished
@@ -91,23 +48,6 @@ advanced g marks path finished last x to s e at low below =
       done = s.done;
       count = let c = s.count in omega arith;
     }
-
--- the number of new channels, once one is marked
-new_less : (marks : List Mark) (y : ℕ) (v : Mark) → y < length marks → mark_at marks y ≡ New → is_new v ≡ false
-    → count_by is_new (set marks y v) + 1 ≡ count_by is_new marks
-new_less marks y v low e f =
-    let s = sum_by-set (λ (m : Mark). cond (is_new m) 1 0) marks y v New low in
-    let a : cond {A = ℕ} (is_new (get_or marks y New)) 1 0 ≡ 1 = ap (λ (m : Mark). cond {A = ℕ} (is_new m) 1 0) e in
-    let b : cond {A = ℕ} (is_new v) 1 0 ≡ 0 = ap (λ b. cond {A = ℕ} b 1 0) f in
-    omega arith
-
-new_same : (marks : List Mark) (y : ℕ) (v : Mark) → y < length marks → is_new (mark_at marks y) ≡ false → is_new v ≡ false
-    → count_by is_new (set marks y v) ≡ count_by is_new marks
-new_same marks y v low e f =
-    let s = sum_by-set (λ (m : Mark). cond (is_new m) 1 0) marks y v New low in
-    let a : cond {A = ℕ} (is_new (get_or marks y New)) 1 0 ≡ 0 = ap (λ b. cond {A = ℕ} b 1 0) e in
-    let b : cond {A = ℕ} (is_new v) 1 0 ≡ 0 = ap (λ b. cond {A = ℕ} b 1 0) f in
-    omega arith
 
 -- one channel more on the path
 pub pushed : (g : Graph) (marks : List Mark) (path : List Look) (finished y : ℕ) → IsSearch g marks path finished
@@ -180,12 +120,6 @@ pushed g marks path finished y s low e leads =
       ];
       count = let c = s.count in let less = new_less marks y (Open n) inside e refl in omega arith;
     }
-
--- an open channel is among those that have marks
-pub open_inside : (marks : List Mark) (x k : ℕ) → mark_at marks x ≡ Open k → x < length marks
-open_inside [] x k f = cc
-open_inside (m ∷ marks) zero k f = omega arith
-open_inside (m ∷ marks) (suc x) k f = let r = open_inside marks x k f in omega arith
 
 -- the last channel of the path is done with
 pub popped : (g : Graph) (marks : List Mark) (path : List Look) (finished last x to : ℕ) → IsSearch g marks path finished
@@ -311,72 +245,6 @@ pub started : (g : Graph) (marks : List Mark) (finished y : ℕ) → IsSearch g 
     → y < g.channels → mark_at marks y ≡ New → IsSearch g (set marks y (Open 0)) (record { channel = y; column = 0 } ∷ []) finished
 started g marks finished y s low e = pushed g marks [] finished y s low e (λ k f. absurd (omega arith))
 
--- what was new is no more
-pub is_begun : (marks : List Mark) (y : ℕ) (v : Mark) (x : ℕ) → y < length marks → is_new v ≡ false → (mark_at marks x ≡ New → ⊥)
-    → mark_at (set marks y v) x ≡ New → ⊥
-is_begun marks y v x low e other f =
-    elim (marked_at marks y v x low) [
-      | here same m ↦ (let bad : true ≡ false = ap is_new (sym f ∙ m) ∙ e in cc)
-      | there apart m ↦ other (sym m ∙ f)
-    ]
-
-pub begins : (marks : List Mark) (y : ℕ) → y < length marks → mark_at (set marks y (Open 0)) y ≡ New → ⊥
-begins marks y low f = let m : mark_at (set marks y (Open 0)) y ≡ Open 0 = get_or-set_same marks y (Open 0) New low in let bad : New ≡ Open 0 = sym f ∙ m in cc
-
-pub not_done_new : (marks : List Mark) (y : ℕ) → mark_at marks y ≡ New → NotDone marks y
-not_done_new marks y e h d = let bad : New ≡ Done h = sym e ∙ d in cc
-
-pub not_done_open : (marks : List Mark) (y k : ℕ) → mark_at marks y ≡ Open k → NotDone marks y
-not_done_open marks y k e h d = let bad : Open k ≡ Done h = sym e ∙ d in cc
-
--- a mark that is read
-pub mark_read : (marks : List Mark) (y : ℕ) (m v : Mark) → y < length marks → m ≡ get_or marks y m → m ≡ v → mark_at marks y ≡ v
-mark_read marks y m v low e f = sym (get_or_read marks y m low e New) ∙ f
-
--- what is left to do: the new channels, and the ejection channels to look at on the path
-abbrev pub left : ℕ → List Mark → List Look → ℕ
-left n marks path = (n + 2) * count_by is_new marks + sum_by (λ (look : Look). n + 1 - look.column) path
-
-pub less_advanced : (n : ℕ) (marks : List Mark) (path : List Look) (last x to : ℕ) → last + 1 ≡ length path
-    → look_at path last ≡ record { channel = x; column = to } → to < n
-    → left n marks (set path last (record { channel = x; column = to + 1 })) < left n marks path
-less_advanced n marks path last x to e at low =
-    let v : Look = record { channel = x; column = to + 1 } in
-    let s = sum_by-set (λ (look : Look). n + 1 - look.column) path last v (record { channel = 0; column = 0 }) (omega arith) in
-    let a : n + 1 - (look_at path last).column ≡ n + 1 - to = ap (λ (look : Look). n + 1 - look.column) at in
-    let less : sum_by (λ (look : Look). n + 1 - look.column) (set path last v) < sum_by (λ (look : Look). n + 1 - look.column) path = omega arith in
-    omega (arith, less)
-
-pub less_pushed : (n : ℕ) (marks : List Mark) (path : List Look) (y k : ℕ) → y < length marks → mark_at marks y ≡ New
-    → left n (set marks y (Open k)) (path ++ record { channel = y; column = 0 } ∷ []) < left n marks path
-less_pushed n marks path y k low e =
-    let fewer = new_less marks y (Open k) low e refl in
-    let s = sum_by_push (λ (look : Look). n + 1 - look.column) path (record { channel = y; column = 0 }) in
-    step n (count_by is_new (set marks y (Open k))) (count_by is_new marks) (sum_by (λ (look : Look). n + 1 - look.column) path)
-    (sum_by (λ (look : Look). n + 1 - look.column) (path ++ record { channel = y; column = 0 } ∷ [])) fewer s
-  where
-    step : (n a b c d : ℕ) → a + 1 ≡ b → d ≡ c + (n + 1 - 0) → (n + 2) * a + d < (n + 2) * b + c
-    step n a b c d e f =
-        let more : (n + 2) * b ≡ (n + 2) * a + (n + 2) = ap (λ z. (n + 2) * z) (sym e) ∙ times (n + 2) a in
-        omega arith
-      where
-        times : (m a : ℕ) → m * (a + 1) ≡ m * a + m
-        times m a = grind arith
-
-pub less_popped : (n : ℕ) (marks : List Mark) (path : List Look) (last x to h k : ℕ) → last + 1 ≡ length path
-    → look_at path last ≡ record { channel = x; column = to } → to ≤ n → x < length marks → mark_at marks x ≡ Open k
-    → left n (set marks x (Done h)) (take last path) < left n marks path
-less_popped n marks path last x to h k e at low inside open_x =
-    let f : Look → ℕ = λ look. n + 1 - look.column in
-    let same = new_same marks x (Done h) inside (ap is_new open_x) refl in
-    let whole : path ≡ take last path ++ look_at path last ∷ [] =
-    sym (take_all (last + 1) path (omega arith)) ∙ take_more path last (record { channel = 0; column = 0 }) (omega arith) in
-    let s : sum_by f path ≡ sum_by f (take last path) + f (look_at path last) = ap (sum_by f) whole ∙ sum_by_push f (take last path) (look_at path last) in
-    let a : f (look_at path last) ≡ n + 1 - to = ap f at in
-    let less : sum_by f (take last path) < sum_by f path = omega arith in
-    let one : (n + 2) * count_by is_new (set marks x (Done h)) ≡ (n + 2) * count_by is_new marks = ap (λ z. (n + 2) * z) same in
-    omega (arith, less, one)
-
 -- the choice that is read at a marked place is the next channel
 pub record IsRead (g : Graph) (x to y : ℕ) : Type 0 where
   pub low : to < g.columns
@@ -409,18 +277,3 @@ pub popped_at : (g : Graph) (marks : List Mark) (path : List Look) (finished las
     → IsSearch g (set marks x (Done finished)) next (finished + 1)
 popped_at g marks path finished last x to next s e at all same =
     subst (λ z. IsSearch g (set marks x (Done finished)) z (finished + 1)) (sym same) (popped g marks path finished last x to s e at all)
-
-pub less_pushed_at : (n : ℕ) (marks : List Mark) (path : List Look) (y k : ℕ) (next : List Look) → y < length marks → mark_at marks y ≡ New
-    → next ≡ path ++ record { channel = y; column = 0 } ∷ [] → left n (set marks y (Open k)) next < left n marks path
-less_pushed_at n marks path y k next low e same =
-    subst (λ z. left n (set marks y (Open k)) z < left n marks path) (sym same) (less_pushed n marks path y k low e)
-
-pub less_popped_at : (n : ℕ) (marks : List Mark) (path : List Look) (last x to h k : ℕ) (next : List Look) → last + 1 ≡ length path
-    → look_at path last ≡ record { channel = x; column = to } → to ≤ n → x < length marks → mark_at marks x ≡ Open k → next ≡ take last path
-    → left n (set marks x (Done h)) next < left n marks path
-less_popped_at n marks path last x to h k next e at low inside open_x same =
-    subst (λ z. left n (set marks x (Done h)) z < left n marks path) (sym same) (less_popped n marks path last x to h k e at low inside open_x)
-
--- what is done with stays so, over two steps
-pub stay_on : (old now new : List Mark) → StayDone old now → StayDone now new → StayDone old new
-stay_on old now new f k x h e = k x h (f x h e)

@@ -11,6 +11,3 @@ pub mod walk;
 
 pub use judging::judge;
 pub use table::{By, Join, Kind, Link, NoRoute, Reply, Verdict, Why};
-
-#[cfg(test)]
-mod tests;

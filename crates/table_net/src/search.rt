@@ -11,7 +11,7 @@ use crate::walk::cell;
 use std::alloc::{AllocError, Allocator, Global};
 
 /// How far the search has come with a channel.
-#[derive(Clone, Copy, Debug, PartialEq, Eq)]
+#[derive(Clone, Copy, PartialEq, Eq)]
 pub enum Mark {
     /// It didn't come to it.
     New,
@@ -23,7 +23,7 @@ pub enum Mark {
 
 /// A channel on the path of the search, and the column that is looked at next. Behind the columns of
 /// the choices each reply has one.
-#[derive(Clone, Copy, Debug, PartialEq, Eq)]
+#[derive(Clone, Copy)]
 pub struct Look {
     /// The channel.
     pub channel: usize,

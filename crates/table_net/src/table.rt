@@ -3,7 +3,7 @@
 use std::alloc::{Allocator, Global};
 
 /// What a channel is.
-#[derive(Clone, Copy, Debug, PartialEq, Eq)]
+#[derive(Clone, Copy, PartialEq, Eq)]
 pub enum Kind {
     /// An injection channel: a sender puts flits into it.
     Injection,
@@ -14,7 +14,7 @@ pub enum Kind {
 }
 
 /// Packets go from an injection channel to an ejection channel.
-#[derive(Clone, Copy, Debug, PartialEq, Eq)]
+#[derive(Clone, Copy)]
 pub struct Join {
     /// The injection channel.
     pub from: usize,
@@ -23,7 +23,7 @@ pub struct Join {
 }
 
 /// Who takes packets from an ejection channel answers them on an injection channel.
-#[derive(Clone, Copy, Debug, PartialEq, Eq)]
+#[derive(Clone, Copy)]
 pub struct Reply {
     /// The ejection channel.
     pub from: usize,
@@ -32,7 +32,7 @@ pub struct Reply {
 }
 
 /// Why the walk from a channel to another is no route. A step is counted from 0, the first channel.
-#[derive(Clone, Copy, Debug, PartialEq, Eq)]
+#[derive(Clone, Copy)]
 pub enum Why {
     /// The first is no injection channel.
     NoSender,
@@ -49,7 +49,7 @@ pub enum Why {
 }
 
 /// A pair that packets go between, without a route.
-#[derive(Clone, Copy, Debug, PartialEq, Eq)]
+#[derive(Clone, Copy)]
 pub struct NoRoute {
     /// The pair.
     pub join: Join,
@@ -58,7 +58,7 @@ pub struct NoRoute {
 }
 
 /// How a channel leads on to another.
-#[derive(Clone, Copy, Debug, PartialEq, Eq)]
+#[derive(Clone, Copy)]
 pub enum By {
     /// Packets to this ejection channel go from the one on to the other.
     To(usize),
@@ -67,7 +67,7 @@ pub enum By {
 }
 
 /// A channel, and how it leads on.
-#[derive(Clone, Copy, Debug, PartialEq, Eq)]
+#[derive(Clone, Copy)]
 pub struct Link {
     /// The channel.
     pub channel: usize,

@@ -3,8 +3,9 @@ use Rattle.std.proofs.lemmas.List.{nil_from_length, take_rest}
 use Rattle.table_net.specs.declared.search.Mark.TheVariants.{New, Open, Done}
 use Rattle.table_net.specs.Graph.{Graph, graph_of}
 use Rattle.table_net.specs.Search.{mark_at, IsSearch, IsCircle}
-use Rattle.table_net.proofs.Searching.{stay_done, stay_on, not_done_new, not_done_open, begins, is_begun, begun_below, top, top_leads, read_next, not_read}
-use Rattle.table_net.proofs.Searching.{advanced, pushed_at, popped_at, circle, less_advanced, less_pushed_at, less_popped_at}
+use Rattle.table_net.proofs.Written.{stay_done, stay_on, not_done_new, not_done_open, begins, is_begun}
+use Rattle.table_net.proofs.Searching.{begun_below, top, top_leads, read_next, not_read, advanced, pushed_at, popped_at, circle}
+use Rattle.table_net.proofs.Left.{less_advanced, less_pushed_at, less_popped_at}
 use Rattle.table_net.proofs.search.visit.Goals as goal
 
 pub steps-init : goal.steps-init

@@ -2,7 +2,7 @@ use Rattle.std.proofs.Common.{◌≡◌, ◌+◌, length}
 use Rattle.table_net.specs.declared.search.Mark.TheVariants.{New}
 use Rattle.table_net.specs.Graph.{graph_of}
 use Rattle.table_net.specs.Search.{mark_at, IsSearch, StayDone}
-use Rattle.table_net.proofs.Searching.{left}
+use Rattle.table_net.proofs.Left.{left}
 use Rattle.table_net.proofs.search.visit.Given as goal
 
 -- a step of the search, in which the first channel was come to

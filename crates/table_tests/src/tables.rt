@@ -1,5 +1,5 @@
-use super::*;
 use std::test::Fail;
+use table_net::{By, Join, Kind, Reply, Verdict, Why, judge};
 
 /// Two injection channels, two ejection channels and two hops.
 const KINDS: [Kind; 6] = [
@@ -20,6 +20,26 @@ const ONE_WAY: [u32; 12] = [4, 6, 6, 4, 6, 6, 6, 6, 5, 5, 2, 3];
 /// Packets to channel 3 go over the hops the other way round.
 const BOTH_WAYS: [u32; 12] = [4, 6, 6, 5, 6, 6, 6, 6, 5, 3, 2, 4];
 
+/// The ejection channel over which a channel leads on; 6 where it is answered.
+fn end_of(by: By) -> usize {
+    match by {
+        By::To(to) => to,
+        By::Replied => 6,
+    }
+}
+
+/// A word for why a walk is no route, and the step of it, 0 where none is told.
+fn why_of(why: Why) -> (&'static str, usize) {
+    match why {
+        Why::NoSender => ("sender", 0),
+        Why::NoReceiver => ("receiver", 0),
+        Why::Leaves(step) => ("leaves", step),
+        Why::Ejects(step) => ("ejects", step),
+        Why::Injects(step) => ("injects", step),
+        Why::Round => ("round", 0),
+    }
+}
+
 #[test]
 fn numbers_rise(rt: HostRuntime) -> Result<(), Fail> {
     match judge(rt.alloc(), &KINDS, &JOINS, &[], &ONE_WAY)? {
@@ -38,20 +58,12 @@ fn numbers_rise(rt: HostRuntime) -> Result<(), Fail> {
 fn cycles_are_found(rt: HostRuntime) -> Result<(), Fail> {
     match judge(rt.alloc(), &KINDS, &JOINS, &[], &BOTH_WAYS)? {
         Verdict::Cycle(links) => {
-            assert_eq!(rt;
-                links.as_slice(),
-                [
-                    Link {
-                        channel: 4,
-                        by: By::To(2)
-                    },
-                    Link {
-                        channel: 5,
-                        by: By::To(3)
-                    },
-                ]
-                .as_slice()
-            );
+            let expected = [(4, 2), (5, 3)];
+            assert_eq!(rt; links.len(), expected.len());
+            for (k, link) in links.iter().enumerate() {
+                let found = (link.channel, end_of(link.by));
+                assert_eq!(rt; Some(found), expected.get(k).copied());
+            }
         }
         _ => assert!(rt; false),
     }
@@ -64,16 +76,11 @@ fn replies_are_dependencies(rt: HostRuntime) -> Result<(), Fail> {
     let replies = [Reply { from: 2, to: 1 }];
     match judge(rt.alloc(), &KINDS, &JOINS, &replies, &ONE_WAY)? {
         Verdict::Cycle(links) => {
-            let expected = [
-                (4, By::To(2)),
-                (5, By::To(2)),
-                (2, By::Replied),
-                (1, By::To(3)),
-            ];
+            let expected = [(4, 2), (5, 2), (2, 6), (1, 3)];
             assert_eq!(rt; links.len(), expected.len());
-            for k in 0..expected.len() {
-                let (channel, by) = expected[k];
-                assert_eq!(rt; links.get(k).copied(), Some(Link { channel, by }));
+            for (k, link) in links.iter().enumerate() {
+                let found = (link.channel, end_of(link.by));
+                assert_eq!(rt; Some(found), expected.get(k).copied());
             }
         }
         _ => assert!(rt; false),
@@ -90,19 +97,19 @@ fn replies_are_dependencies(rt: HostRuntime) -> Result<(), Fail> {
 fn pairs_without_a_route_are_told(rt: HostRuntime) -> Result<(), Fail> {
     // Where channel 4 and channel 5 lead to, for packets to channel 3.
     for (after_4, after_5, why) in [
-        (5, 4, Why::Round),
-        (6, 3, Why::Leaves(2)),
-        (9, 3, Why::Leaves(2)),
-        (5, 2, Why::Ejects(3)),
-        (0, 3, Why::Injects(2)),
+        (5, 4, ("round", 0)),
+        (6, 3, ("leaves", 2)),
+        (9, 3, ("leaves", 2)),
+        (5, 2, ("ejects", 3)),
+        (0, 3, ("injects", 2)),
     ] {
         let mut choices = ONE_WAY;
         choices[9] = after_4;
         choices[11] = after_5;
         match judge(rt.alloc(), &KINDS, &JOINS, &[], &choices)? {
             Verdict::NoRoute(fault) => {
-                let join = Join { from: 1, to: 3 };
-                assert_eq!(rt; fault, NoRoute { join, why });
+                assert_eq!(rt; (fault.join.from, fault.join.to), (1, 3));
+                assert_eq!(rt; why_of(fault.why), why);
             }
             _ => assert!(rt; false),
         }
@@ -114,16 +121,19 @@ fn pairs_without_a_route_are_told(rt: HostRuntime) -> Result<(), Fail> {
 fn the_first_pair_without_a_route_is_told(rt: HostRuntime) -> Result<(), Fail> {
     let good = Join { from: 0, to: 2 };
     for (from, to, why) in [
-        (4, 2, Why::NoSender),
-        (7, 2, Why::NoSender),
-        (0, 5, Why::NoReceiver),
-        (0, 7, Why::NoReceiver),
-        (0, 3, Why::Leaves(1)),
+        (4, 2, ("sender", 0)),
+        (7, 2, ("sender", 0)),
+        (0, 5, ("receiver", 0)),
+        (0, 7, ("receiver", 0)),
+        (0, 3, ("leaves", 1)),
     ] {
         let join = Join { from, to };
         let joins = [good, join, Join { from: 2, to: 0 }];
         match judge(rt.alloc(), &KINDS, &joins, &[], &ONE_WAY)? {
-            Verdict::NoRoute(fault) => assert_eq!(rt; fault, NoRoute { join, why }),
+            Verdict::NoRoute(fault) => {
+                assert_eq!(rt; (fault.join.from, fault.join.to), (from, to));
+                assert_eq!(rt; why_of(fault.why), why);
+            }
             _ => assert!(rt; false),
         }
     }
