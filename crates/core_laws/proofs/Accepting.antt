@@ -15,8 +15,8 @@ use Rattle.packet.specs.Reading.{packet_told}
 use Rattle.packet.specs.Spelling.{Spells}
 use Rattle.packet.proofs.Told.{packet_told-spelled}
 use Rattle.packet.proofs.Answered.{IsTaken-spelled}
-use Rattle.one_order.specs.Observed.{list_at}
-use Rattle.one_order.specs.Order.{LinearizationPoint}
+use Rattle.order_abstract.specs.one_order.specs.Observed.{list_at}
+use Rattle.order_abstract.specs.one_order.specs.Order.{LinearizationPoint}
 use Rattle.channel_number.specs.Order.{channel_count, channel_at}
 use Rattle.dateline_route.specs.declared.channel.Channel.{Channel}
 use Rattle.flit_buffer.specs.Channel.{CanTake, rest}

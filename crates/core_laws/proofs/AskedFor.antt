@@ -4,7 +4,7 @@ use Rattle.std.proofs.lemmas.Option.{slice_get_within, get_or_from_slice_get}
 use Rattle.torus.specs.Shape.{tiles_of}
 use Rattle.torus.specs.declared.step.Step.{Step}
 use Rattle.script.specs.Scripts.{script_of}
-use Rattle.one_order.specs.Events.{order_after}
+use Rattle.order_abstract.specs.one_order.specs.Events.{order_after}
 use Rattle.channel_number.specs.Ports.{input_channel}
 use Rattle.tile_laws.specs.Tile.{Design, TileState}
 use Rattle.core_laws.specs.Core.{Load, State, design_of}

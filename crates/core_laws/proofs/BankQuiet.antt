@@ -13,8 +13,8 @@ use Rattle.packet.specs.declared.kinds.Packet.TheVariants as packet
 use Rattle.packet.specs.declared.kinds.Request.{Request as Asking}
 use Rattle.packet.specs.declared.assembler.Offered.{Offered}
 use Rattle.packet.specs.Answer.{flits_left}
-use Rattle.home_bank.specs.ServiceList.{address_of}
-use Rattle.one_order.specs.Order.{LinearizationPoint}
+use Rattle.order_abstract.specs.home_bank.specs.ServiceList.{address_of}
+use Rattle.order_abstract.specs.one_order.specs.Order.{LinearizationPoint}
 use Rattle.flit_buffer.specs.Channel.{first_of, rest}
 use Rattle.flit_buffer.specs.declared.want.Want.{Want}
 use Rattle.flit_buffer.specs.declared.want.Want.TheVariants as want
@@ -23,7 +23,7 @@ use Rattle.wormhole.specs.Net.{IsNet}
 use Rattle.order_abstract.specs.Flight.{Serves}
 use Rattle.packet.specs.Flits.{is_tail, offered}
 use Rattle.core_laws.specs.Heads.{is_head}
-use Rattle.home_bank.specs.BankTable.{BankState, bank_wants, bank_after, is_nil, waiting_offered}
+use Rattle.order_abstract.specs.home_bank.specs.BankTable.{BankState, bank_wants, bank_after, is_nil, waiting_offered}
 use Rattle.channel_number.specs.Ports.{injection_channel, ejection_channel}
 use Rattle.tile_laws.specs.Wiring.{bank_wiring}
 use Rattle.tile_laws.specs.Tile.{Design, Bank, tile_step}

@@ -3,10 +3,10 @@ use Rattle.std.proofs.Common.{◌≡◌, ℕ, suc, List, [], ◌∷◌, map, len
 use Rattle.torus.specs.Shape.{tiles_of, dims_of}
 use Rattle.torus.specs.declared.step.Step.{Step}
 use Rattle.script.specs.declared.line.Line.{Line}
-use Rattle.one_order.specs.Observed.{Observed}
-use Rattle.one_order.specs.Events.{order_after}
+use Rattle.order_abstract.specs.one_order.specs.Observed.{Observed}
+use Rattle.order_abstract.specs.one_order.specs.Events.{order_after}
 use Rattle.wormhole.specs.Events.{CanHappen}
-use Rattle.script_follower.specs.ProcessorRecord.{ProcessorRecord}
+use Rattle.order_abstract.specs.script_follower.specs.ProcessorRecord.{ProcessorRecord}
 use Rattle.order_abstract.specs.Flight.{moved_by}
 use Rattle.order_abstract.specs.Courses.{IsCourse, first_record, first_flight}
 use Rattle.tile_laws.specs.Tile.{Design}

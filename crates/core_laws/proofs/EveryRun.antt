@@ -2,13 +2,13 @@
 use Rattle.std.proofs.Common.{ℕ, List, length}
 use Rattle.torus.specs.Shape.{IsAccepted as IsAcceptedShape, tiles_of}
 use Rattle.torus.specs.declared.step.Step.{Step}
-use Rattle.one_order.specs.declared.ordered.Ordered.{Ordered}
-use Rattle.one_order.specs.Events.{IsHistory, order_after}
-use Rattle.one_order.specs.OneOrder.{HasOneOrder}
-use Rattle.one_order.specs.Consequences.{ServesInTurn, AnswersInTurn}
-use Rattle.one_order.proofs.OrderRows.{rows_of, one_order}
-use Rattle.one_order.proofs.InTurn.{serves_in_turn}
-use Rattle.one_order.proofs.AnswersInTurn.{answers_in_turn}
+use Rattle.order_abstract.specs.one_order.specs.declared.ordered.Ordered.{Ordered}
+use Rattle.order_abstract.specs.one_order.specs.Events.{IsHistory, order_after}
+use Rattle.order_abstract.specs.one_order.specs.OneOrder.{HasOneOrder}
+use Rattle.order_abstract.specs.one_order.specs.Consequences.{ServesInTurn, AnswersInTurn}
+use Rattle.order_abstract.specs.one_order.proofs.OrderRows.{rows_of, one_order}
+use Rattle.order_abstract.specs.one_order.proofs.InTurn.{serves_in_turn}
+use Rattle.order_abstract.specs.one_order.proofs.AnswersInTurn.{answers_in_turn}
 use Rattle.order_abstract.specs.Scripts.{FollowScripts}
 use Rattle.tile_laws.specs.Tile.{Design}
 use Rattle.core_laws.specs.Core.{Load, design_of, run_of}

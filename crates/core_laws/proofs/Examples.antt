@@ -9,7 +9,7 @@ use Rattle.packet.specs.declared.kinds.Reply.TheVariants.{Old, Ok as Stored}
 use Rattle.script.specs.declared.line.Line.TheVariants as line
 use Rattle.script.specs.declared.line.Line.{Line}
 use Rattle.script.specs.declared.line.Value.TheVariants.{Number}
-use Rattle.script_follower.specs.Following.{first_of, next_operation_of, after_issue, after_answer, is_finished}
+use Rattle.order_abstract.specs.script_follower.specs.Following.{first_of, next_operation_of, after_issue, after_answer, is_finished}
 use Rattle.flit_buffer.specs.Surroundings.{ring}
 use Rattle.packet.specs.Flits.{offered, flits_of}
 use Rattle.core_laws.specs.Core.{Load, after, show, round}

@@ -17,15 +17,15 @@ use Rattle.packet.specs.Flit.{field, class_numbered, Heading}
 use Rattle.packet.specs.Spelling.{Spells, SpellsWith, IsTailShaped, heading_of, values_of, place_of, class_of}
 use Rattle.packet.specs.Flits.{flits_of, head_of}
 use Rattle.packet.proofs.Shapes.{TellsPacket-spelled, IsTailShaped-spelled}
-use Rattle.one_order.specs.Observed.{list_at}
-use Rattle.one_order.specs.Order.{LinearizationPoint}
+use Rattle.order_abstract.specs.one_order.specs.Observed.{list_at}
+use Rattle.order_abstract.specs.one_order.specs.Order.{LinearizationPoint}
 use Rattle.flit_buffer.specs.Surroundings.{ring}
 use Rattle.wormhole.specs.Net.{IsOn, Parcel, flits_of as flits_in}
 use Rattle.wormhole.proofs.FlitsHold.{HoldsOfNoted, line_holds, sent_holds}
 use Rattle.wormhole.proofs.Lists.{all_on, on_left, all_right}
 use Rattle.channel_number.specs.Ports.{injection_channel, ejection_channel}
 use Rattle.order_abstract.proofs.Parts.{issued_at}
-use Rattle.script_follower.specs.ProcessorRecord.{ProcessorRecord}
+use Rattle.order_abstract.specs.script_follower.specs.ProcessorRecord.{ProcessorRecord}
 use Rattle.tile_laws.specs.Tile.{Design}
 use Rattle.core_laws.specs.Core.{State}
 use Rattle.core_laws.specs.Delivery.{next_flit, operation_asked}

@@ -1,7 +1,7 @@
 -- Runs of the core are histories of events: what is left is that each step keeps what holds.
 use Rattle.std.proofs.Common.{◌≡◌, ℕ, zero, suc, List, [], ◌∷◌, length, take, Option, Some, None, refl, slice_get}
 use Rattle.torus.specs.declared.step.Step.{Step}
-use Rattle.one_order.specs.Events.{Event}
+use Rattle.order_abstract.specs.one_order.specs.Events.{Event}
 use Rattle.order_abstract.specs.Flight.{Move, event_by}
 use Rattle.tile_laws.specs.Tile.{Design}
 use Rattle.core_laws.specs.Core.{Load, State, design_of, next, after_from, after}

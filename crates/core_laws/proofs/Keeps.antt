@@ -19,20 +19,20 @@ use Rattle.packet.specs.declared.assembler.Offered.{Offered}
 use Rattle.packet.specs.declared.assembler.Offered.TheVariants.{Whole as Complete}
 use Rattle.packet.specs.Answer.{flits_left}
 use Rattle.packet.specs.Memory.{reply_to}
-use Rattle.home_bank.specs.ServiceList.{address_of, entry_of, response_of}
-use Rattle.one_order.specs.Order.{LinearizationPoint}
-use Rattle.one_order.specs.Events.{points_of, push_at}
+use Rattle.order_abstract.specs.home_bank.specs.ServiceList.{address_of, entry_of, response_of}
+use Rattle.order_abstract.specs.one_order.specs.Order.{LinearizationPoint}
+use Rattle.order_abstract.specs.one_order.specs.Events.{points_of, push_at}
 use Rattle.flit_buffer.specs.Channel.{first_of, rest}
 use Rattle.flit_buffer.specs.declared.want.Want.{Want}
 use Rattle.flit_buffer.specs.declared.want.Want.TheVariants as want
 use Rattle.flit_buffer.specs.Wants.{told_by}
 use Rattle.flit_buffer.specs.Surroundings.{Surroundings, Wiring, ring, granted, surroundings_after, agent_step, step_with}
 use Rattle.wormhole.specs.Net.{IsNet}
-use Rattle.script_follower.specs.ProcessorRecord.{ProcessorRecord, ready, request_of}
+use Rattle.order_abstract.specs.script_follower.specs.ProcessorRecord.{ProcessorRecord, ready, request_of}
 use Rattle.order_abstract.specs.Flight.{Move, Sends, Serves, Takes, event_by}
 use Rattle.packet.specs.Flits.{offered, flits_of}
-use Rattle.script_follower.specs.ProcessorTable.{ProcessorState, processor_wants, processor_after, flits_due, record_sent, record_offered, issued_of}
-use Rattle.home_bank.specs.BankTable.{BankState, bank_wants, bank_after, served}
+use Rattle.order_abstract.specs.script_follower.specs.ProcessorTable.{ProcessorState, processor_wants, processor_after, flits_due, record_sent, record_offered, issued_of}
+use Rattle.order_abstract.specs.home_bank.specs.BankTable.{BankState, bank_wants, bank_after, served}
 use Rattle.channel_number.specs.Ports.{injection_channel, ejection_channel}
 use Rattle.tile_laws.specs.Wiring.{processor_wiring, bank_wiring}
 use Rattle.tile_laws.specs.Tile.{Design, TileState, Agent, Processor, Router, Bank, tile_step}

@@ -12,8 +12,8 @@ use Rattle.packet.specs.declared.kinds.Packet.TheVariants as packet
 use Rattle.packet.specs.declared.kinds.Response.{Response as Telling}
 use Rattle.packet.specs.Spelling.{Spells}
 use Rattle.packet.proofs.Shapes.{flits_above_zero}
-use Rattle.one_order.specs.Observed.{list_at}
-use Rattle.one_order.specs.Order.{LinearizationPoint}
+use Rattle.order_abstract.specs.one_order.specs.Observed.{list_at}
+use Rattle.order_abstract.specs.one_order.specs.Order.{LinearizationPoint}
 use Rattle.dateline_route.specs.declared.channel.Channel.{Channel}
 use Rattle.dateline_route.specs.declared.channel.Kind.{Kind}
 use Rattle.dateline_route.specs.declared.channel.Kind.TheVariants.{Injection, Hop, Ejection}
@@ -28,7 +28,7 @@ use Rattle.channel_number.proofs.Decoding.{kind_by}
 use Rattle.wormhole_torus.proofs.Numbers.{number_below}
 use Rattle.packet.specs.Flits.{flits_of}
 use Rattle.core_laws.specs.Heads.{is_head}
-use Rattle.router.specs.Table.{latch_of}
+use Rattle.tile_laws.specs.router.specs.Table.{latch_of}
 use Rattle.tile_laws.specs.Tile.{Design}
 use Rattle.core_laws.specs.Core.{State}
 use Rattle.core_laws.proofs.Projection.{net_of, request_parcel, response_parcel}

@@ -4,8 +4,8 @@ use Rattle.std.proofs.lemmas.List.{length-map}
 use Rattle.torus.specs.Shape.{tiles_of}
 use Rattle.torus.specs.declared.step.Step.{Step}
 use Rattle.script.specs.declared.line.Line.{Line}
-use Rattle.script_follower.specs.ProcessorRecord.{no_processor}
-use Rattle.one_order.specs.Events.{order_after}
+use Rattle.order_abstract.specs.script_follower.specs.ProcessorRecord.{no_processor}
+use Rattle.order_abstract.specs.one_order.specs.Events.{order_after}
 use Rattle.tile_laws.specs.Tile.{TileState}
 use Rattle.core_laws.specs.Core.{Load, run_of}
 use Rattle.core_laws.specs.Runs.{IsAccepted}

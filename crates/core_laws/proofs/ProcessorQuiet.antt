@@ -14,17 +14,17 @@ use Rattle.packet.specs.declared.kinds.Operation.{Operation}
 use Rattle.packet.specs.declared.kinds.Packet.TheVariants as packet
 use Rattle.packet.specs.declared.assembler.Offered.{Offered}
 use Rattle.packet.specs.Answer.{flits_left}
-use Rattle.script_follower.specs.Following.{is_finished}
-use Rattle.one_order.specs.Order.{LinearizationPoint}
+use Rattle.order_abstract.specs.script_follower.specs.Following.{is_finished}
+use Rattle.order_abstract.specs.one_order.specs.Order.{LinearizationPoint}
 use Rattle.flit_buffer.specs.Channel.{first_of, rest}
 use Rattle.flit_buffer.specs.declared.want.Want.{Want}
 use Rattle.flit_buffer.specs.declared.want.Want.TheVariants as want
 use Rattle.flit_buffer.specs.Surroundings.{Surroundings, ring, granted, surroundings_after}
 use Rattle.wormhole.specs.Net.{IsNet}
-use Rattle.script_follower.specs.ProcessorRecord.{ready}
+use Rattle.order_abstract.specs.script_follower.specs.ProcessorRecord.{ready}
 use Rattle.order_abstract.specs.Flight.{Move, Takes}
 use Rattle.packet.specs.Flits.{is_tail, offered}
-use Rattle.script_follower.specs.ProcessorTable.{ProcessorState, processor_wants, processor_after, flits_due, record_sent, record_offered}
+use Rattle.order_abstract.specs.script_follower.specs.ProcessorTable.{ProcessorState, processor_wants, processor_after, flits_due, record_sent, record_offered}
 use Rattle.channel_number.specs.Ports.{injection_channel, ejection_channel}
 use Rattle.tile_laws.specs.Wiring.{processor_wiring}
 use Rattle.tile_laws.specs.Tile.{Design, Processor, tile_step}

@@ -3,7 +3,7 @@ use Rattle.std.proofs.Common.{◌≡◌, ℕ, ◌%◌, ◌<◌, List, None, refl
 use Rattle.torus.specs.Shape.{IsAccepted, tiles_of}
 use Rattle.torus.specs.declared.step.Choice.{Choice}
 use Rattle.torus.specs.declared.step.Step.{Step}
-use Rattle.one_order.specs.Order.{LinearizationPoint}
+use Rattle.order_abstract.specs.one_order.specs.Order.{LinearizationPoint}
 use Rattle.tile_laws.specs.Tile.{Design, Agent, Processor, Router, Bank, tile_step}
 use Rattle.core_laws.specs.Core.{State, next, agent_numbered}
 use Rattle.core_laws.specs.Moves.{move_of}

@@ -6,7 +6,7 @@ use Rattle.std.proofs.lemmas.Option.{slice_get_within, get_or_from_slice_get}
 use Rattle.torus.specs.Shape.{tiles_of}
 use Rattle.torus.specs.declared.step.Choice.{Choice}
 use Rattle.torus.specs.declared.step.Step.{Step}
-use Rattle.one_order.specs.Order.{LinearizationPoint}
+use Rattle.order_abstract.specs.one_order.specs.Order.{LinearizationPoint}
 use Rattle.flit_buffer.specs.declared.want.Want.{Want}
 use Rattle.flit_buffer.specs.Surroundings.{Surroundings, Wiring, granted, surroundings_after, agent_step, step_with}
 use Rattle.order_abstract.specs.Flight.{Move}

@@ -8,7 +8,7 @@ use Rattle.packet.specs.declared.kinds.Response.{Response as Telling}
 use Rattle.packet.specs.Flit.{field}
 use Rattle.packet.specs.Spelling.{Spells}
 use Rattle.packet.proofs.Shapes.{TellsPacket-spelled, length-spelled}
-use Rattle.home_bank.specs.declared.entry.Entry.{Entry}
+use Rattle.order_abstract.specs.home_bank.specs.declared.entry.Entry.{Entry}
 use Rattle.packet.specs.Flits.{flits_of}
 use Rattle.core_laws.specs.Heads.{is_head}
 use Rattle.core_laws.proofs.Projection.{first_flit}

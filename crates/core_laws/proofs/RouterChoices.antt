@@ -9,7 +9,7 @@ use Rattle.torus.specs.Shape.{Shape, IsAccepted, tiles_of, dims_of}
 use Rattle.torus.specs.declared.step.Choice.{Choice}
 use Rattle.torus.specs.declared.step.Choice.TheVariants.{Send, Take, TakeFrom, Put, Credit, CreditOf, Serve, Done, Look}
 use Rattle.packet.specs.declared.heading.Head.{Head}
-use Rattle.one_order.specs.Order.{LinearizationPoint}
+use Rattle.order_abstract.specs.one_order.specs.Order.{LinearizationPoint}
 use Rattle.flit_buffer.specs.Channel.{rest}
 use Rattle.flit_buffer.specs.Places.{put_in_ring, take_from_ring, credit_of_ring}
 use Rattle.flit_buffer.specs.declared.want.Want.{Want}
@@ -21,9 +21,9 @@ use Rattle.wormhole.proofs.Routers.{latched}
 use Rattle.wormhole.specs.Events.{Event, ForwardRest, Return}
 use Rattle.packet.specs.Flits.{head_of, is_tail}
 use Rattle.core_laws.specs.Heads.{is_head}
-use Rattle.router.specs.Table.{RouterState, latch_of, output_owned, output_for, wants_to_take, wants_to_put, router_wants, router_after}
+use Rattle.tile_laws.specs.router.specs.Table.{RouterState, latch_of, output_owned, output_for, wants_to_take, wants_to_put, router_wants, router_after}
 use Rattle.channel_number.specs.Ports.{port_count, input_channel, output_channel}
-use Rattle.router.specs.Beginning.{router_wiring}
+use Rattle.tile_laws.specs.router.specs.Beginning.{router_wiring}
 use Rattle.tile_laws.specs.Tile.{Design}
 use Rattle.core_laws.specs.Core.{State}
 use Rattle.core_laws.proofs.Projection.{net_of}

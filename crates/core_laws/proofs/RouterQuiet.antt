@@ -3,10 +3,10 @@ use Rattle.std.proofs.Common.{◌≡◌, ℕ, ◌<◌, List, Option, Some, None,
 use Rattle.std.specs.Prelude.{option_and_then, option_map}
 use Rattle.torus.specs.Shape.{IsAccepted, tiles_of}
 use Rattle.torus.specs.declared.step.Choice.{Choice}
-use Rattle.one_order.specs.Order.{LinearizationPoint}
+use Rattle.order_abstract.specs.one_order.specs.Order.{LinearizationPoint}
 use Rattle.flit_buffer.specs.Surroundings.{Surroundings}
-use Rattle.router.specs.Table.{RouterState, router_wants, router_after}
-use Rattle.router.specs.Beginning.{router_wiring}
+use Rattle.tile_laws.specs.router.specs.Table.{RouterState, router_wants, router_after}
+use Rattle.tile_laws.specs.router.specs.Beginning.{router_wiring}
 use Rattle.order_abstract.specs.Flight.{Move}
 use Rattle.wormhole.specs.Events.{Event}
 use Rattle.tile_laws.specs.Tile.{Design, Router, tile_step}

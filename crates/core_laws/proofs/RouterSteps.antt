@@ -8,15 +8,15 @@ use Rattle.std.proofs.lemmas.Option.{same_Some}
 use Rattle.torus.specs.Shape.{Shape, IsAccepted, tiles_of, dims_of}
 use Rattle.torus.specs.declared.step.Choice.TheVariants.{Put}
 use Rattle.packet.specs.declared.heading.Head.{Head}
-use Rattle.one_order.specs.Order.{LinearizationPoint}
+use Rattle.order_abstract.specs.one_order.specs.Order.{LinearizationPoint}
 use Rattle.flit_buffer.specs.declared.want.Want.{Want}
 use Rattle.flit_buffer.specs.declared.want.Want.TheVariants as want
 use Rattle.flit_buffer.specs.Surroundings.{ring, granted, surroundings_after, changed}
 use Rattle.flit_buffer.specs.Places.{put_in_ring}
 use Rattle.packet.specs.Flits.{head_of, is_tail}
-use Rattle.router.specs.Table.{RouterState, latch_of, output_for, way_of, is_owned, wants_to_put, router_wants, router_after}
+use Rattle.tile_laws.specs.router.specs.Table.{RouterState, latch_of, output_for, way_of, is_owned, wants_to_put, router_wants, router_after}
 use Rattle.channel_number.specs.Ports.{port_count, input_channel, output_channel}
-use Rattle.router.specs.Beginning.{router_wiring}
+use Rattle.tile_laws.specs.router.specs.Beginning.{router_wiring}
 use Rattle.tile_laws.specs.Tile.{Design}
 use Rattle.core_laws.specs.Core.{State}
 use Rattle.core_laws.proofs.AgentSteps.{option_map_some}

@@ -6,10 +6,10 @@ use Rattle.std.proofs.lemmas.List.Elements.{filter-append, All-push}
 use Rattle.torus.specs.Shape.{tiles_of}
 use Rattle.packet.specs.declared.kinds.Operation.{Operation}
 use Rattle.packet.specs.declared.kinds.Request.{Request as Asking}
-use Rattle.one_order.specs.Observed.{list_at}
-use Rattle.one_order.specs.Events.{push_at}
-use Rattle.one_order.proofs.Lists.{list_at_push_same, list_at_push_other}
-use Rattle.script_follower.specs.ProcessorRecord.{request_of}
+use Rattle.order_abstract.specs.one_order.specs.Observed.{list_at}
+use Rattle.order_abstract.specs.one_order.specs.Events.{push_at}
+use Rattle.order_abstract.specs.one_order.proofs.Lists.{list_at_push_same, list_at_push_other}
+use Rattle.order_abstract.specs.script_follower.specs.ProcessorRecord.{request_of}
 use Rattle.tile_laws.specs.Tile.{Design}
 use Rattle.core_laws.specs.Core.{State}
 use Rattle.core_laws.proofs.Stands.{Ghost, Carries, IsProperRequest, tile_at, asked_between, served_requests}

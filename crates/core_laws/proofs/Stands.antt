@@ -8,10 +8,10 @@ use Rattle.packet.specs.declared.kinds.Request.{Request as Asking}
 use Rattle.packet.specs.declared.kinds.Response.{Response as Telling}
 use Rattle.packet.specs.Kinds.{code_of}
 use Rattle.packet.specs.Spelling.{Spells}
-use Rattle.home_bank.specs.declared.entry.Entry.{Entry}
-use Rattle.script_follower.specs.Following.{is_finished}
-use Rattle.one_order.specs.Observed.{list_at}
-use Rattle.one_order.specs.Order.{LinearizationPoint}
+use Rattle.order_abstract.specs.home_bank.specs.declared.entry.Entry.{Entry}
+use Rattle.order_abstract.specs.script_follower.specs.Following.{is_finished}
+use Rattle.order_abstract.specs.one_order.specs.Observed.{list_at}
+use Rattle.order_abstract.specs.one_order.specs.Order.{LinearizationPoint}
 use Rattle.flit_buffer.specs.Surroundings.{AreRings}
 use Rattle.wormhole.specs.Words.{Words}
 use Rattle.wormhole.specs.Routes.{Routes}
@@ -20,7 +20,7 @@ use Rattle.order_abstract.proofs.Whole.{Whole}
 use Rattle.packet.specs.Flits.{flits_of}
 use Rattle.core_laws.specs.Heads.{is_head}
 use Rattle.channel_number.specs.Ports.{injection_channel, ejection_channel}
-use Rattle.home_bank.specs.BankTable.{BankState}
+use Rattle.order_abstract.specs.home_bank.specs.BankTable.{BankState}
 use Rattle.tile_laws.specs.Tile.{Design}
 use Rattle.core_laws.specs.Core.{State}
 use Rattle.core_laws.specs.Delivery.{operation_asked, notice_of, notice_by}

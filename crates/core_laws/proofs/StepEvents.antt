@@ -13,18 +13,18 @@ use Rattle.packet.specs.declared.kinds.Request.{Request as Asking}
 use Rattle.packet.specs.declared.kinds.Response.{Response as Telling}
 use Rattle.packet.specs.declared.assembler.Offered.{Offered}
 use Rattle.packet.specs.declared.assembler.Offered.TheVariants.{More, Whole as Complete, Refused}
-use Rattle.script_follower.specs.Following.{next_operation_of}
-use Rattle.one_order.specs.Order.{LinearizationPoint}
-use Rattle.one_order.specs.Events.{Event, happens, points_of, MayHappen}
+use Rattle.order_abstract.specs.script_follower.specs.Following.{next_operation_of}
+use Rattle.order_abstract.specs.one_order.specs.Order.{LinearizationPoint}
+use Rattle.order_abstract.specs.one_order.specs.Events.{Event, happens, points_of, MayHappen}
 use Rattle.flit_buffer.specs.Channel.{first_of, rest}
 use Rattle.flit_buffer.specs.Surroundings.{ring}
 use Rattle.wormhole.specs.Net.{IsNet}
-use Rattle.script_follower.specs.ProcessorRecord.{ProcessorRecord, no_processor, ready}
+use Rattle.order_abstract.specs.script_follower.specs.ProcessorRecord.{ProcessorRecord, no_processor, ready}
 use Rattle.order_abstract.specs.Flight as flight
 use Rattle.order_abstract.specs.Flight.{Flight, Move, Sends, Serves, Takes, moved_by, event_by, IsFound}
 use Rattle.order_abstract.proofs.Whole.{Whole, any_steps}
 use Rattle.packet.specs.Flits.{offered}
-use Rattle.script_follower.specs.ProcessorTable.{processor_wants}
+use Rattle.order_abstract.specs.script_follower.specs.ProcessorTable.{processor_wants}
 use Rattle.channel_number.specs.Ports.{ejection_channel}
 use Rattle.tile_laws.specs.Wiring.{processor_wiring}
 use Rattle.tile_laws.specs.Tile.{Design, TileState, Agent, Processor, Router, Bank}

@@ -8,7 +8,7 @@ use Rattle.torus.specs.Shape.{dims_of, IsAccepted as IsAcceptedShape}
 use Rattle.script.specs.declared.line.Line.{Line}
 use Rattle.script.specs.Scripts.{IsAcceptedScript, script_of}
 use Rattle.channel_number.specs.Ports.{port_count}
-use Rattle.router.specs.Table.{latch_of}
+use Rattle.tile_laws.specs.router.specs.Table.{latch_of}
 use Rattle.tile_laws.specs.Tile.{Design, TileState}
 use Rattle.core_laws.specs.Core.{Load, State, design_of, first_tile, first_state}
 use Rattle.core_laws.specs.Runs.{IsAccepted}

@@ -7,13 +7,13 @@ use Rattle.packet.specs.declared.kinds.Request.{Request}
 use Rattle.packet.specs.declared.kinds.Response.{Response}
 use Rattle.packet.specs.declared.kinds.Reply.{Reply}
 use Rattle.packet.specs.Kinds.{code_of}
-use Rattle.home_bank.specs.declared.entry.Entry.{Entry}
-use Rattle.home_bank.specs.ServiceList.{address_of}
-use Rattle.one_order.specs.declared.answer.Answer.{Answer}
-use Rattle.one_order.specs.Observed.{list_at}
+use Rattle.order_abstract.specs.home_bank.specs.declared.entry.Entry.{Entry}
+use Rattle.order_abstract.specs.home_bank.specs.ServiceList.{address_of}
+use Rattle.order_abstract.specs.one_order.specs.declared.answer.Answer.{Answer}
+use Rattle.order_abstract.specs.one_order.specs.Observed.{list_at}
 use Rattle.wormhole.specs.Delivery.{Begins, without_last}
 use Rattle.core_laws.specs.Heads.{is_head}
-use Rattle.home_bank.specs.BankTable.{BankState}
+use Rattle.order_abstract.specs.home_bank.specs.BankTable.{BankState}
 use Rattle.tile_laws.specs.Tile.{Design, TileState}
 use Rattle.core_laws.specs.Core.{State, show}
 

@@ -1,5 +1,9 @@
+pub use Rattle.order_abstract.specs.home_bank
+pub use Rattle.order_abstract.specs.one_order
+pub use Rattle.tile_laws.specs.router
+pub use Rattle.wormhole_torus
 pub use Rattle.order_abstract
-pub use Rattle.script_follower
+pub use Rattle.order_abstract.specs.script_follower
 pub use Rattle.tile_laws
 pub mod Heads
 pub mod Core

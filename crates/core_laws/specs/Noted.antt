@@ -4,8 +4,8 @@ use Rattle.torus.specs.Shape.{tiles_of}
 use Rattle.torus.specs.declared.step.Step.{Step}
 use Rattle.packet.specs.declared.kinds.Request.{Request}
 use Rattle.packet.specs.declared.kinds.Response.{Response}
-use Rattle.one_order.specs.Events.{push_at}
-use Rattle.script_follower.specs.ProcessorRecord.{request_of}
+use Rattle.order_abstract.specs.one_order.specs.Events.{push_at}
+use Rattle.order_abstract.specs.script_follower.specs.ProcessorRecord.{request_of}
 use Rattle.order_abstract.specs.Flight.{Flight, Move, Sends, Takes, moved_by}
 use Rattle.wormhole.specs.State.{State as NetState, empty}
 use Rattle.wormhole.specs.Events.{Event}

@@ -5,9 +5,9 @@ use Rattle.packet.specs.declared.kinds.Request.{Request}
 use Rattle.packet.specs.declared.kinds.Response.{Response}
 use Rattle.script.specs.declared.line.Line.{Line}
 use Rattle.tag_table.specs.Tags.{out_count}
-use Rattle.script_follower.specs.Scripts.{Invocation}
-use Rattle.script_follower.specs.Following.{Following, ShowsPast}
-use Rattle.one_order.specs.Observed.{Run}
+use Rattle.order_abstract.specs.script_follower.specs.Scripts.{Invocation}
+use Rattle.order_abstract.specs.script_follower.specs.Following.{Following, ShowsPast}
+use Rattle.order_abstract.specs.one_order.specs.Observed.{Run}
 use Rattle.order_abstract.specs.Flight.{Flight, processor_at}
 use Rattle.order_abstract.specs.Scripts.{AreInvocationsOf}
 

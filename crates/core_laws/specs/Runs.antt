@@ -1,7 +1,7 @@
 -- Accepted loads, and the events of their runs.
 use Rattle.std.specs.Prelude.{ℕ, List, [], length, take, Option, Some, None, slice_get}
 use Rattle.torus.specs.declared.step.Step.{Step}
-use Rattle.one_order.specs.Events.{Event}
+use Rattle.order_abstract.specs.one_order.specs.Events.{Event}
 pub use Rattle.order_abstract.specs.Load.{IsAccepted}
 use Rattle.order_abstract.specs.Flight.{Flight, Move, event_by}
 use Rattle.core_laws.specs.Core.{Load, State, design_of, after, records_of, show}

@@ -2,9 +2,9 @@
 use Rattle.std.proofs.Common.{◌≡◌, ℕ, zero, suc, ◌≤◌, List, [], ◌∷◌, ◌++◌, length, take, refl, sym, ap, arith, length-append}
 use Rattle.torus.specs.Shape.{tiles_of}
 use Rattle.torus.specs.declared.step.Step.{Step}
-use Rattle.one_order.specs.Rows.{BeginRows}
-use Rattle.one_order.proofs.Agreement.{one_order_agree}
-use Rattle.one_order.proofs.Beginnings.{rows_go_on}
+use Rattle.core_progress.specs.one_order.specs.Rows.{BeginRows}
+use Rattle.core_progress.specs.one_order.proofs.Agreement.{one_order_agree}
+use Rattle.core_progress.specs.one_order.proofs.Beginnings.{rows_go_on}
 use Rattle.core_progress.specs.core_laws.specs.Core.{Load, show, after, run_of}
 use Rattle.core_progress.specs.core_laws.specs.Runs.{IsAccepted}
 use Rattle.core_progress.specs.core_laws.proofs.Histories.{event_at}

@@ -3,7 +3,7 @@ use Rattle.std.proofs.Common.{◌≡◌, ℕ, zero, suc, List, [], ◌∷◌, �
 use Rattle.std.proofs.lemmas.List.{take_all}
 use Rattle.torus.specs.Shape.{tiles_of}
 use Rattle.torus.specs.declared.step.Step.{Step}
-use Rattle.one_order.specs.Events.{Event}
+use Rattle.core_progress.specs.one_order.specs.Events.{Event}
 use Rattle.core_progress.specs.order_abstract.specs.Flight.{event_by}
 use Rattle.core_progress.specs.order_abstract.specs.EventBook.{EventBook, first_book, noted_event, book_of}
 use Rattle.core_progress.specs.tile_laws.specs.Tile.{Design}

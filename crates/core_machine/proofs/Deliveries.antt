@@ -10,13 +10,13 @@ use Rattle.torus.specs.Shape.{tiles_of}
 use Rattle.torus.specs.declared.step.Step.{Step}
 use Rattle.packet.specs.declared.kinds.Request.{Request}
 use Rattle.packet.specs.declared.kinds.Response.{Response}
-use Rattle.home_bank.specs.declared.entry.Entry.{Entry}
-use Rattle.home_bank.specs.BankTable.{BankState}
-use Rattle.one_order.specs.declared.answer.Answer.{Answer}
-use Rattle.one_order.specs.Observed.{Observed, list_at}
-use Rattle.one_order.specs.Events.{push_at, order_after}
-use Rattle.one_order.proofs.Lists.{list_at_push_same, list_at_push_other, list_at_none, list_within}
-use Rattle.one_order.proofs.Naming.{answers_name}
+use Rattle.core_progress.specs.home_bank.specs.declared.entry.Entry.{Entry}
+use Rattle.core_progress.specs.home_bank.specs.BankTable.{BankState}
+use Rattle.core_progress.specs.one_order.specs.declared.answer.Answer.{Answer}
+use Rattle.core_progress.specs.one_order.specs.Observed.{Observed, list_at}
+use Rattle.core_progress.specs.one_order.specs.Events.{push_at, order_after}
+use Rattle.core_progress.specs.one_order.proofs.Lists.{list_at_push_same, list_at_push_other, list_at_none, list_within}
+use Rattle.core_progress.specs.one_order.proofs.Naming.{answers_name}
 use Rattle.wormhole.specs.Delivery.{Begins}
 use Rattle.core_progress.specs.script_follower.specs.ProcessorRecord.{request_of}
 use Rattle.core_progress.specs.order_abstract.specs.Flight.{Move, Sends, Serves, Takes}

@@ -3,7 +3,7 @@ use Rattle.std.proofs.Common.{◌≡◌, ◌↔◌, ℕ, true, List, length, sym
 use Rattle.std.proofs.lemmas.List.{take_all}
 use Rattle.torus.specs.Shape.{tiles_of}
 use Rattle.torus.specs.declared.step.Step.{Step}
-use Rattle.one_order.specs.OneOrder.{HasOneOrder}
+use Rattle.core_progress.specs.one_order.specs.OneOrder.{HasOneOrder}
 use Rattle.core_progress.specs.order_abstract.specs.EventBook.{EventBook}
 use Rattle.core_progress.specs.order_abstract.specs.Scripts.{AreFinished}
 use Rattle.core_progress.specs.order_abstract.specs.Reported.{ShowsWell}

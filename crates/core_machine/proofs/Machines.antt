@@ -6,11 +6,11 @@ use Rattle.std.proofs.lemmas.List.{append-nil}
 use Rattle.torus.specs.Shape.{Shape, tiles_of}
 use Rattle.torus.specs.declared.step.Step.{Step}
 use Rattle.torus.specs.declared.step.Choice.{Choice}
-use Rattle.one_order.specs.declared.ordered.Ordered.{Ordered}
-use Rattle.one_order.specs.Order.{LinearizationPoint, IsLegalOrder, StandsBefore}
-use Rattle.one_order.specs.Consequences.{Precedes}
-use Rattle.one_order.specs.Events.{Event}
-use Rattle.one_order.proofs.EventNumbers.{real_time, real_time_of_rows}
+use Rattle.core_progress.specs.one_order.specs.declared.ordered.Ordered.{Ordered}
+use Rattle.core_progress.specs.one_order.specs.Order.{LinearizationPoint, IsLegalOrder, StandsBefore}
+use Rattle.core_progress.specs.one_order.specs.Consequences.{Precedes}
+use Rattle.core_progress.specs.one_order.specs.Events.{Event}
+use Rattle.core_progress.specs.one_order.proofs.EventNumbers.{real_time, real_time_of_rows}
 use Rattle.flit_buffer.specs.Surroundings.{Surroundings}
 use Rattle.core_progress.specs.order_abstract.specs.Flight.{Move, event_by}
 use Rattle.core_progress.specs.order_abstract.specs.Scripts.{AreFinished}

@@ -2,8 +2,8 @@
 use Rattle.std.proofs.Common.{ℕ, List}
 use Rattle.torus.specs.Shape.{tiles_of}
 use Rattle.torus.specs.declared.step.Step.{Step}
-use Rattle.one_order.specs.Order.{LinearizationPoint}
-use Rattle.one_order.specs.Events.{order_after}
+use Rattle.core_progress.specs.one_order.specs.Order.{LinearizationPoint}
+use Rattle.core_progress.specs.one_order.specs.Events.{order_after}
 use Rattle.core_progress.specs.order_abstract.specs.Courses.{events_of}
 use Rattle.core_progress.specs.order_abstract.proofs.Bounds.{Moment}
 use Rattle.core_progress.specs.order_abstract.proofs.Reports as reports

@@ -6,10 +6,10 @@ use Rattle.torus.specs.declared.step.Step.{Step}
 use Rattle.torus.specs.declared.step.Stepped.{Stepped}
 use Rattle.torus.specs.declared.step.Stepped.TheVariants.{Moved, Idle}
 use Rattle.core_progress.specs.script_follower.specs.Following.{is_finished}
-use Rattle.one_order.specs.declared.ordered.Ordered.{Ordered}
-use Rattle.one_order.specs.Observed.{Observed}
-use Rattle.one_order.specs.Events.{Event}
-use Rattle.one_order.specs.OneOrder.{HasOneOrder}
+use Rattle.core_progress.specs.one_order.specs.declared.ordered.Ordered.{Ordered}
+use Rattle.core_progress.specs.one_order.specs.Observed.{Observed}
+use Rattle.core_progress.specs.one_order.specs.Events.{Event}
+use Rattle.core_progress.specs.one_order.specs.OneOrder.{HasOneOrder}
 use Rattle.core_progress.specs.order_abstract.specs.Flight.{event_by}
 use Rattle.core_progress.specs.order_abstract.specs.Scripts.{FollowScripts}
 use Rattle.core_progress.specs.order_abstract.specs.EventBook.{EventBook, first_book, noted_event}

@@ -4,8 +4,8 @@ use Rattle.torus.specs.Shape.{tiles_of}
 use Rattle.torus.specs.declared.step.Step.{Step}
 use Rattle.packet.specs.declared.kinds.Request.{Request}
 use Rattle.packet.specs.declared.kinds.Response.{Response}
-use Rattle.home_bank.specs.BankTable.{BankState}
-use Rattle.one_order.specs.Observed.{list_at}
+use Rattle.core_progress.specs.home_bank.specs.BankTable.{BankState}
+use Rattle.core_progress.specs.one_order.specs.Observed.{list_at}
 use Rattle.wormhole.specs.Delivery.{Begins}
 use Rattle.core_progress.specs.script_follower.specs.ProcessorRecord.{request_of}
 use Rattle.core_progress.specs.order_abstract.specs.Flight.{Move, Sends, Takes}

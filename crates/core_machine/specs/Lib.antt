@@ -1,3 +1,5 @@
+pub use Rattle.core_progress.specs.home_bank
+pub use Rattle.core_progress.specs.one_order
 pub use Rattle.core_progress.specs.core_laws
 pub use Rattle.core_progress
 pub use Rattle.core_progress.specs.order_abstract

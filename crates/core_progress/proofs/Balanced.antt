@@ -12,7 +12,7 @@ use Rattle.script.specs.declared.line.Line.{Line}
 use Rattle.core_laws.specs.script_follower.specs.Following.{next_operation_of, first_of}
 use Rattle.core_laws.specs.script_follower.specs.ProcessorRecord.{ProcessorRecord, no_processor}
 use Rattle.tag_table.specs.Tags.{out_count}
-use Rattle.one_order.specs.Events.{order_after}
+use Rattle.core_laws.specs.one_order.specs.Events.{order_after}
 use Rattle.core_laws.specs.order_abstract.specs.Flight.{Flight, moved_by}
 use Rattle.core_laws.specs.tile_laws.specs.Tile.{Design, TileState}
 use Rattle.core_laws.specs.Core.{Load, State, design_of, first_state, first_tile, records_of, next}

@@ -14,7 +14,7 @@ use Rattle.packet.specs.declared.kinds.Reply.TheVariants.{Old, Ok as Stored}
 use Rattle.packet.specs.Spelling.{heading_of, values_of_reply}
 use Rattle.packet.specs.Written.{head_flit, flits_for}
 use Rattle.packet.specs.Memory.{reply_to}
-use Rattle.home_bank.specs.ServiceList.{response_of}
+use Rattle.core_laws.specs.home_bank.specs.ServiceList.{response_of}
 use Rattle.flit_buffer.specs.declared.want.Want.{Want}
 use Rattle.flit_buffer.specs.declared.want.Want.TheVariants as want
 use Rattle.flit_buffer.specs.Channel as channel
@@ -22,13 +22,13 @@ use Rattle.flit_buffer.specs.Surroundings.{granted, ring}
 use Rattle.wormhole.specs.Net.{IsOn, IsParcel, IsTailShaped, Parcel, flits_of as flits_in}
 use Rattle.wormhole.specs.Words.{Words}
 use Rattle.wormhole.specs.Events.{InjectHead, InjectRest}
-use Rattle.wormhole_torus.proofs.Ends.{few_channels}
+use Rattle.core_laws.specs.wormhole_torus.proofs.Ends.{few_channels}
 use Rattle.wormhole_progress.specs.Work.{End}
 use Rattle.rounds.proofs.Members.{on_head, on_tail}
 use Rattle.wormhole.proofs.Lists.{all_on}
 use Rattle.packet.specs.Flits.{flits_of}
 use Rattle.core_laws.specs.Heads.{is_head}
-use Rattle.home_bank.specs.BankTable.{bank_wants, bank_after, is_nil}
+use Rattle.core_laws.specs.home_bank.specs.BankTable.{bank_wants, bank_after, is_nil}
 use Rattle.channel_number.specs.Ports.{injection_channel, ejection_channel}
 use Rattle.core_laws.specs.tile_laws.specs.Wiring.{bank_wiring}
 use Rattle.core_laws.specs.tile_laws.specs.Tile.{Design}
@@ -40,7 +40,7 @@ use Rattle.core_laws.proofs.Parcels.{parcel_flits, response_ends}
 use Rattle.core_laws.proofs.PacketFacts.{is_parcel}
 use Rattle.core_laws.proofs.Stands.{tile_at, Ghost, Mirrors, Carries, IsInPhase, IsProperResponse, responses_from, last_of}
 use Rattle.core_progress.proofs.Lives.{no_head}
-use Rattle.home_bank.specs.declared.entry.Entry.{Entry}
+use Rattle.core_laws.specs.home_bank.specs.declared.entry.Entry.{Entry}
 use Rattle.core_laws.specs.Delivery.{responses_made, response_made}
 use Rattle.core_laws.specs.Network as network
 use Rattle.core_progress.proofs.RouterWork.{if_so}

@@ -8,7 +8,7 @@ use Rattle.script.specs.declared.line.Line.{Line}
 use Rattle.script.specs.Scripts.{operation_count, total_count}
 use Rattle.core_laws.specs.script_follower.specs.Following.{first_of, left_of}
 use Rattle.core_laws.specs.script_follower.proofs.Followable.{accepted_followable}
-use Rattle.one_order.specs.Events.{order_after}
+use Rattle.core_laws.specs.one_order.specs.Events.{order_after}
 use Rattle.wormhole.specs.State.{State as NetState}
 use Rattle.wormhole.specs.Events.{Event}
 use Rattle.wormhole_progress.specs.Weight.{sum_below}

@@ -13,7 +13,7 @@ use Rattle.torus.specs.declared.shape.Class.TheVariants.{Request, Reply}
 use Rattle.torus.specs.declared.step.Step.{Step}
 use Rattle.torus.specs.declared.step.Choice.TheVariants as choice
 use Rattle.packet.specs.declared.kinds.Request.{Request as Asking}
-use Rattle.home_bank.specs.ServiceList.{address_of}
+use Rattle.core_laws.specs.home_bank.specs.ServiceList.{address_of}
 use Rattle.flit_buffer.specs.declared.want.Want.TheVariants as want
 use Rattle.flit_buffer.specs.Channel as channel
 use Rattle.flit_buffer.specs.Wants.{told_by}
@@ -28,13 +28,13 @@ use Rattle.wormhole_progress.proofs.Heads.{Heads, heads, leads, in_line_is}
 use Rattle.core_laws.specs.script_follower.specs.ProcessorRecord.{ready}
 use Rattle.packet.specs.Flits.{head_of}
 use Rattle.core_laws.specs.Heads.{is_head}
-use Rattle.router.specs.Table.{RouterState, latch_of, output_owned, is_owned, is_output, output_for, wants_to_take, wants_to_put, way_of}
+use Rattle.core_laws.specs.router.specs.Table.{RouterState, latch_of, output_owned, is_owned, is_output, output_for, wants_to_take, wants_to_put, way_of}
 use Rattle.channel_number.specs.Ports.{port_count}
 use Rattle.core_laws.specs.script_follower.specs.ProcessorTable.{flits_due}
-use Rattle.home_bank.specs.BankTable.{is_nil}
+use Rattle.core_laws.specs.home_bank.specs.BankTable.{is_nil}
 use Rattle.channel_number.specs.Ports.{injection_channel, ejection_channel, input_channel, output_channel}
 use Rattle.core_laws.specs.tile_laws.specs.Wiring.{processor_wiring, bank_wiring}
-use Rattle.router.specs.Beginning.{router_wiring}
+use Rattle.core_laws.specs.router.specs.Beginning.{router_wiring}
 use Rattle.core_laws.specs.tile_laws.specs.Tile.{Design}
 use Rattle.core_laws.specs.Core.{State, step, round}
 use Rattle.core_laws.proofs.WiredUp.{not_owned as no_owner}

@@ -6,9 +6,9 @@ use Rattle.std.proofs.lemmas.Bool.{and_parts, cases_lt}
 use Rattle.packet.specs.declared.kinds.Reply.{Reply}
 use Rattle.packet.specs.declared.kinds.Operation.{Operation}
 use Rattle.core_laws.specs.script_follower.specs.Scripts.{Invocation}
-use Rattle.one_order.specs.declared.answer.Answer.{Answer}
-use Rattle.one_order.specs.Observed.{Run, IsFirst, list_at, HasAnswered, IsAnsweredAt}
-use Rattle.one_order.proofs.Lists.{same_get}
+use Rattle.core_laws.specs.one_order.specs.declared.answer.Answer.{Answer}
+use Rattle.core_laws.specs.one_order.specs.Observed.{Run, IsFirst, list_at, HasAnswered, IsAnsweredAt}
+use Rattle.core_laws.specs.one_order.proofs.Lists.{same_get}
 use Rattle.core_laws.specs.order_abstract.specs.Scripts.{AreInvocationsOf}
 
 -- two lists with the same elements are one

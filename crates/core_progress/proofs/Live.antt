@@ -13,9 +13,9 @@ use Rattle.core_laws.specs.script_follower.specs.Following.{Following, is_finish
 use Rattle.core_laws.specs.script_follower.specs.ProcessorRecord.{ProcessorRecord}
 use Rattle.core_laws.specs.script_follower.proofs.Followable.{accepted_followable}
 use Rattle.core_laws.specs.script_follower.proofs.Shown.{finished_is, finished_from}
-use Rattle.one_order.specs.Observed.{list_at, HasAnswered}
-use Rattle.one_order.specs.Events.{order_after}
-use Rattle.one_order.proofs.Lists.{within_length, list_within}
+use Rattle.core_laws.specs.one_order.specs.Observed.{list_at, HasAnswered}
+use Rattle.core_laws.specs.one_order.specs.Events.{order_after}
+use Rattle.core_laws.specs.one_order.proofs.Lists.{within_length, list_within}
 use Rattle.std.proofs.lemmas.List.{length-map}
 use Rattle.core_laws.specs.order_abstract.specs.Scripts.{HasFinishedIn, AreFinished}
 use Rattle.core_laws.specs.order_abstract.proofs.Follows.{Follows}

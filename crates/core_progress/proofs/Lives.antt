@@ -12,7 +12,7 @@ use Rattle.packet.specs.declared.kinds.Request.{Request as Asking}
 use Rattle.packet.specs.declared.kinds.Response.{Response as Telling}
 use Rattle.tag_table.specs.Tags.{free_tag}
 use Rattle.core_laws.specs.script_follower.specs.Following.{next_operation_of, is_finished}
-use Rattle.one_order.specs.Observed.{list_at}
+use Rattle.core_laws.specs.one_order.specs.Observed.{list_at}
 use Rattle.flit_buffer.specs.declared.want.Want.TheVariants as want
 use Rattle.flit_buffer.specs.Channel as channel
 use Rattle.wormhole.specs.Net.{IsNet, IsOn}

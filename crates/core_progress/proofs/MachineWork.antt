@@ -10,14 +10,14 @@ use Rattle.packet.specs.declared.kinds.Operation.{Operation}
 use Rattle.packet.specs.declared.kinds.Request.{Request as Asking}
 use Rattle.flit_buffer.specs.Surroundings.{Surroundings, agent_step}
 use Rattle.core_laws.specs.script_follower.specs.ProcessorRecord.{ready, request_of}
-use Rattle.one_order.specs.Order.{LinearizationPoint}
+use Rattle.core_laws.specs.one_order.specs.Order.{LinearizationPoint}
 use Rattle.wormhole_progress.specs.Work.{End, IsChange, IsStep, network_after, work}
 use Rattle.wormhole_progress.proofs.Working.{work_falls}
-use Rattle.router.specs.Table.{router_wants, router_after}
+use Rattle.core_laws.specs.router.specs.Table.{router_wants, router_after}
 use Rattle.core_laws.specs.script_follower.specs.ProcessorTable.{processor_wants, processor_after}
-use Rattle.home_bank.specs.BankTable.{bank_wants, bank_after}
+use Rattle.core_laws.specs.home_bank.specs.BankTable.{bank_wants, bank_after}
 use Rattle.core_laws.specs.tile_laws.specs.Wiring.{processor_wiring, bank_wiring}
-use Rattle.router.specs.Beginning.{router_wiring}
+use Rattle.core_laws.specs.router.specs.Beginning.{router_wiring}
 use Rattle.core_laws.specs.tile_laws.specs.Tile.{Design, TileState, Agent, Processor, Router, Bank, tile_step}
 use Rattle.core_laws.specs.Core.{State, step, agent_numbered}
 use Rattle.core_laws.proofs.AgentSteps.{Did, did, option_map_some}
@@ -30,8 +30,8 @@ use Rattle.core_progress.proofs.RouterWork.{router_event}
 use Rattle.wormhole.specs.Events.{Event}
 use Rattle.flit_buffer.specs.declared.want.Want.{Want}
 use Rattle.flit_buffer.specs.Surroundings.{Wiring, granted}
-use Rattle.router.specs.Table.{RouterState}
-use Rattle.home_bank.specs.BankTable.{BankState}
+use Rattle.core_laws.specs.router.specs.Table.{RouterState}
+use Rattle.core_laws.specs.home_bank.specs.BankTable.{BankState}
 use Rattle.core_laws.specs.script_follower.specs.ProcessorTable.{ProcessorState}
 use Rattle.core_laws.specs.Moves.{learned_by}
 use Rattle.core_laws.specs.Network as network

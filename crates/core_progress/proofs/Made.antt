@@ -5,10 +5,10 @@ use Rattle.torus.specs.Shape.{tiles_of}
 use Rattle.torus.specs.declared.step.Step.{Step}
 use Rattle.torus.specs.declared.step.Choice.{Choice}
 use Rattle.flit_buffer.specs.Surroundings.{Surroundings}
-use Rattle.router.specs.Table.{RouterState, router_wants, router_after}
-use Rattle.router.specs.Beginning.{router_wiring}
+use Rattle.core_laws.specs.router.specs.Table.{RouterState, router_wants, router_after}
+use Rattle.core_laws.specs.router.specs.Beginning.{router_wiring}
 use Rattle.core_laws.specs.script_follower.specs.ProcessorTable.{ProcessorState, processor_wants, processor_after}
-use Rattle.home_bank.specs.BankTable.{BankState, bank_wants, bank_after}
+use Rattle.core_laws.specs.home_bank.specs.BankTable.{BankState, bank_wants, bank_after}
 use Rattle.core_laws.specs.tile_laws.specs.Wiring.{processor_wiring, bank_wiring}
 use Rattle.core_laws.specs.tile_laws.specs.Tile.{Design, TileState, Agent, Processor, Router, Bank, tile_step}
 use Rattle.rounds.specs.Rounds as rounds

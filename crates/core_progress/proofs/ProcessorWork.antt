@@ -23,7 +23,7 @@ use Rattle.core_laws.specs.script_follower.specs.ProcessorRecord.{ready, request
 use Rattle.wormhole.specs.Net.{IsParcel, Parcel, flits_of as flits_in}
 use Rattle.wormhole.specs.State.{State as NetState}
 use Rattle.wormhole.specs.Events.{Event, InjectHead, InjectRest}
-use Rattle.wormhole_torus.proofs.Ends.{ends_are, few_channels}
+use Rattle.core_laws.specs.wormhole_torus.proofs.Ends.{ends_are, few_channels}
 use Rattle.wormhole_progress.specs.Work.{End, IsChange, MayHappen, Stays}
 use Rattle.core_laws.specs.script_follower.specs.ProcessorTable.{processor_wants, processor_after, flits_due, request_flits}
 use Rattle.channel_number.specs.Ports.{injection_channel, ejection_channel}

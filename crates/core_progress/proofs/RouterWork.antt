@@ -19,9 +19,9 @@ use Rattle.channel_number.proofs.Ports.{is_input, is_output}
 use Rattle.wormhole_progress.specs.Work.{End, IsChange, Stays, MayHappen}
 use Rattle.packet.specs.Flits.{head_of}
 use Rattle.channel_number.specs.Ports.{port_count}
-use Rattle.router.specs.Table.{latch_of, output_owned, is_owned, output_for, wants_to_take, wants_to_put, router_wants, way_of}
+use Rattle.core_laws.specs.router.specs.Table.{latch_of, output_owned, is_owned, output_for, wants_to_take, wants_to_put, router_wants, way_of}
 use Rattle.channel_number.specs.Ports.{input_channel, output_channel}
-use Rattle.router.specs.Beginning.{router_wiring}
+use Rattle.core_laws.specs.router.specs.Beginning.{router_wiring}
 use Rattle.core_laws.specs.tile_laws.specs.Tile.{Design}
 use Rattle.core_laws.specs.Core.{State}
 use Rattle.core_laws.proofs.AgentSteps.{option_map_some}

@@ -9,7 +9,7 @@ use Rattle.packet.specs.declared.kinds.Request.{Request}
 use Rattle.packet.specs.declared.assembler.Offered.{Offered}
 use Rattle.packet.specs.declared.assembler.Offered.TheVariants.{More, Whole, Refused}
 use Rattle.packet.specs.Memory.{reply_to}
-use Rattle.home_bank.specs.ServiceList.{entry_of, response_of}
+use Rattle.core_laws.specs.home_bank.specs.ServiceList.{entry_of, response_of}
 use Rattle.core_laws.specs.script_follower.specs.Following.{left_of, is_finished, after_issue}
 use Rattle.core_laws.specs.script_follower.proofs.Shown.{left_after_answer}
 use Rattle.flit_buffer.specs.declared.want.Want.{Want}
@@ -20,7 +20,7 @@ use Rattle.wormhole_progress.specs.Work.{End, Issues, Replies, Serves, Reports, 
 use Rattle.packet.specs.Flits.{offered, flits_of}
 use Rattle.core_laws.specs.Heads.{is_head}
 use Rattle.core_laws.specs.script_follower.specs.ProcessorTable.{ProcessorState, processor_wants, processor_after, record_sent, record_offered, issued_of}
-use Rattle.home_bank.specs.BankTable.{BankState, bank_after, served}
+use Rattle.core_laws.specs.home_bank.specs.BankTable.{BankState, bank_after, served}
 use Rattle.core_laws.proofs.Projection.{first_flit}
 
 -- 1 unless it is done

@@ -8,11 +8,11 @@ use Rattle.torus.specs.declared.step.Step.{Step}
 use Rattle.torus.specs.declared.step.Choice.{Choice}
 use Rattle.flit_buffer.specs.declared.want.Want.{Want}
 use Rattle.flit_buffer.specs.Surroundings.{Surroundings, Wiring, granted, surroundings_after, agent_step, step_with}
-use Rattle.router.specs.Table.{router_wants, router_after}
+use Rattle.core_laws.specs.router.specs.Table.{router_wants, router_after}
 use Rattle.core_laws.specs.script_follower.specs.ProcessorTable.{processor_wants, processor_after}
-use Rattle.home_bank.specs.BankTable.{bank_wants, bank_after}
+use Rattle.core_laws.specs.home_bank.specs.BankTable.{bank_wants, bank_after}
 use Rattle.core_laws.specs.tile_laws.specs.Wiring.{processor_wiring, bank_wiring}
-use Rattle.router.specs.Beginning.{router_wiring}
+use Rattle.core_laws.specs.router.specs.Beginning.{router_wiring}
 use Rattle.core_laws.specs.tile_laws.specs.Tile.{Design, TileState, tile_step}
 use Rattle.wormhole.specs.Net.{IsOn}
 use Rattle.core_laws.specs.Core.{State, agent_numbered, step, round}

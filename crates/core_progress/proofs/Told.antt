@@ -9,7 +9,7 @@ use Rattle.channel_number.specs.Ports.{port_count, input_channel}
 use Rattle.wormhole.specs.State.{State as NetState}
 use Rattle.wormhole.specs.Words.{Words}
 use Rattle.wormhole.specs.Routes.{Routes}
-use Rattle.router.specs.Table.{latch_of}
+use Rattle.core_laws.specs.router.specs.Table.{latch_of}
 use Rattle.core_laws.specs.tile_laws.specs.Tile.{Design}
 use Rattle.core_laws.specs.Core.{State}
 use Rattle.core_laws.proofs.Projection.{net_of}

@@ -8,7 +8,7 @@ use Rattle.channel_number.specs.Order.{channel_count}
 use Rattle.wormhole_progress.specs.Ends.{Tiles}
 use Rattle.packet.specs.Flits.{head_of}
 use Rattle.channel_number.specs.Ports.{port_count}
-use Rattle.router.specs.Table.{latch_of, way_of}
+use Rattle.core_laws.specs.router.specs.Table.{latch_of, way_of}
 use Rattle.channel_number.specs.Ports.{injection_channel, ejection_channel, input_channel, output_channel}
 use Rattle.core_laws.specs.tile_laws.specs.Tile.{Design}
 use Rattle.core_laws.specs.Core.{State}

@@ -4,7 +4,7 @@ ghost use Rattle.std.specs.Prelude.{◌≡◌, ◌↔◌, ◌<◌, ◌≤◌, �
 ghost use Rattle.torus.specs.declared.step.Step.{Step};
 ghost use Rattle.packet.specs.declared.kinds.Operation.{Operation};
 ghost use Rattle.core_laws.specs.script_follower.specs.Following.{is_finished};
-ghost use Rattle.one_order.specs.Observed.{list_at, HasAnswered};
+ghost use Rattle.core_laws.specs.one_order.specs.Observed.{list_at, HasAnswered};
 ghost use Rattle.core_laws.specs.order_abstract.specs.Scripts.{AreFinished};
 ghost use Rattle.rounds.specs.Rounds.{IsOn, IsEnabled, moves_in, Finishes};
 ghost use Rattle.core_laws.specs.tile_laws.specs.Tile.{TileState};

@@ -14,8 +14,8 @@ use Rattle.flit_buffer.specs.declared.want.Want.{Want}
 use Rattle.flit_buffer.proofs.AgentSteps.{front_counts}
 use Rattle.flit_buffer.proofs.RingArithmetic.{place_from}
 use Rattle.core_laws.specs.script_follower.specs.ProcessorTable.{processor_wants, processor_after}
-use Rattle.home_bank.specs.BankTable.{bank_wants, bank_after}
-use Rattle.router.specs.Table.{router_wants, router_after}
+use Rattle.core_laws.specs.home_bank.specs.BankTable.{bank_wants, bank_after}
+use Rattle.core_laws.specs.router.specs.Table.{router_wants, router_after}
 use Rattle.core_laws.specs.tile_laws.specs.Tile.{Design, TileState, Agent, Processor, Router, Bank, tile_step}
 use Rattle.core_laws.specs.tile_laws.specs.Agents.{agent_numbered, wiring_of, tile_wants}
 use Rattle.core_laws.specs.tile_laws.specs.Refinement.{IsSurrounded, IsPossibleChoice}

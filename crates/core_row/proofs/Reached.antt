@@ -8,7 +8,7 @@ use Rattle.std.proofs.lemmas.List.Elements.{All-head, All-tail}
 use Rattle.std.proofs.lemmas.Option.{slice_get_within, get_or_from_slice_get}
 use Rattle.torus.specs.Shape.{tiles_of}
 use Rattle.torus.specs.declared.step.Step.{Step}
-use Rattle.one_order.specs.Events.{order_after}
+use Rattle.core_laws.specs.one_order.specs.Events.{order_after}
 use Rattle.channel_number.specs.Order.{channel_count, channels_at_tile}
 use Rattle.flit_buffer.specs.Surroundings.{ring, ShowsAll}
 use Rattle.core_laws.specs.tile_laws.specs.Tile.{TileState, Agent}

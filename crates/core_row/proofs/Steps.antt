@@ -3,7 +3,7 @@ use Rattle.std.proofs.Common.{◌≡◌, ◌≢◌, ℕ, ◌/◌, ◌%◌, ◌==
 use Rattle.std.proofs.Common.{eq-eqb}
 use Rattle.std.specs.Prelude.{option_map, option_and_then, if◌then◌else◌, MatchOption}
 use Rattle.std.proofs.lemmas.Option.{slice_get_within, same_Some}
-use Rattle.one_order.proofs.Lists.{get_set_same, get_set_other}
+use Rattle.core_laws.specs.one_order.proofs.Lists.{get_set_same, get_set_other}
 use Rattle.torus.specs.Shape.{IsAccepted, tiles_of}
 use Rattle.torus.specs.declared.step.Step.{Step}
 use Rattle.flit_buffer.specs.Words.{word_of, performed}

@@ -12,3 +12,5 @@ mod Ranges
 mod Fresh
 mod Parting
 mod Slots
+mod Looking
+mod Refusing

@@ -1,3 +1,4 @@
+pub use Rattle.router
 pub use Rattle.net_interface
 pub use Rattle.net_interface.specs.script_follower
 pub mod Wiring

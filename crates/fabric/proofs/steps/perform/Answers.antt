@@ -124,3 +124,63 @@ fetch_min-requires g c =
       mins c.args.row.now.key.load _ _ c.args.seat.now.me t.step t.place t.view c.requires.turning c.requires.load c.requires.seat.0 c.requires.seat.1
           c.requires.seat.2 k.0 c.in-Min.word c.in-Min.value (k.1 ∙ ap Some e),
     )
+
+pub returns-in-Load-clause-seat : goal.returns-in-Load-clause-seat
+returns-in-Load-clause-seat g c = (c.load.ensures.0, c.load.ensures.1, c.load.ensures.2.2)
+
+pub returns-in-Load-clause-told : goal.returns-in-Load-clause-told
+returns-in-Load-clause-told g c = c.load.ensures.2.1
+
+pub returns-in-Store-clause-seat : goal.returns-in-Store-clause-seat
+returns-in-Store-clause-seat g c = (c.store.ensures.0, c.store.ensures.1, c.store.ensures.2.2)
+
+pub returns-in-Store-clause-told : goal.returns-in-Store-clause-told
+returns-in-Store-clause-told g c = c.store.ensures.2.1
+
+pub returns-in-Swap-clause-seat : goal.returns-in-Swap-clause-seat
+returns-in-Swap-clause-seat g c = (c.swap.ensures.0, c.swap.ensures.1, c.swap.ensures.2.2)
+
+pub returns-in-Swap-clause-told : goal.returns-in-Swap-clause-told
+returns-in-Swap-clause-told g c = c.swap.ensures.2.1
+
+pub returns-in-Cas-clause-seat : goal.returns-in-Cas-clause-seat
+returns-in-Cas-clause-seat g c = (c.compare_exchange.ensures.0, c.compare_exchange.ensures.1, c.compare_exchange.ensures.2.2)
+
+pub returns-in-Cas-clause-told : goal.returns-in-Cas-clause-told
+returns-in-Cas-clause-told g c = c.compare_exchange.ensures.2.1
+
+pub returns-in-Add-clause-seat : goal.returns-in-Add-clause-seat
+returns-in-Add-clause-seat g c = (c.fetch_add.ensures.0, c.fetch_add.ensures.1, c.fetch_add.ensures.2.2)
+
+pub returns-in-Add-clause-told : goal.returns-in-Add-clause-told
+returns-in-Add-clause-told g c = c.fetch_add.ensures.2.1
+
+pub returns-in-And-clause-seat : goal.returns-in-And-clause-seat
+returns-in-And-clause-seat g c = (c.fetch_and.ensures.0, c.fetch_and.ensures.1, c.fetch_and.ensures.2.2)
+
+pub returns-in-And-clause-told : goal.returns-in-And-clause-told
+returns-in-And-clause-told g c = c.fetch_and.ensures.2.1
+
+pub returns-in-Or-clause-seat : goal.returns-in-Or-clause-seat
+returns-in-Or-clause-seat g c = (c.fetch_or.ensures.0, c.fetch_or.ensures.1, c.fetch_or.ensures.2.2)
+
+pub returns-in-Or-clause-told : goal.returns-in-Or-clause-told
+returns-in-Or-clause-told g c = c.fetch_or.ensures.2.1
+
+pub returns-in-Xor-clause-seat : goal.returns-in-Xor-clause-seat
+returns-in-Xor-clause-seat g c = (c.fetch_xor.ensures.0, c.fetch_xor.ensures.1, c.fetch_xor.ensures.2.2)
+
+pub returns-in-Xor-clause-told : goal.returns-in-Xor-clause-told
+returns-in-Xor-clause-told g c = c.fetch_xor.ensures.2.1
+
+pub returns-in-Max-clause-seat : goal.returns-in-Max-clause-seat
+returns-in-Max-clause-seat g c = (c.fetch_max.ensures.0, c.fetch_max.ensures.1, c.fetch_max.ensures.2.2)
+
+pub returns-in-Max-clause-told : goal.returns-in-Max-clause-told
+returns-in-Max-clause-told g c = c.fetch_max.ensures.2.1
+
+pub returns-in-Min-clause-seat : goal.returns-in-Min-clause-seat
+returns-in-Min-clause-seat g c = (c.fetch_min.ensures.0, c.fetch_min.ensures.1, c.fetch_min.ensures.2.2)
+
+pub returns-in-Min-clause-told : goal.returns-in-Min-clause-told
+returns-in-Min-clause-told g c = c.fetch_min.ensures.2.1

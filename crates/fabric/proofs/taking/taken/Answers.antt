@@ -6,7 +6,7 @@ pub loop-t-preserved : goal.loop-t-preserved
 loop-t-preserved g c =
     let i = c.loop-t.invariant in
     let k = c.take_if-slot.ensures in
-    let push : c.push.new.self.items ≡ c.loop-t.slots.items ++ c.take_if-slot.result ∷ [] = search rules in
+    let push : c.push.new.self.items ≡ c.loop-t.slots.items ++ c.take_if-slot.result ∷ [] = c.in_ok-push.ensures.items in
     record {
       len = search rules;
       same = k.same ∙ i.same;
@@ -22,3 +22,12 @@ returns-clause-inside g c =
     let same = i.same in
     let past : length c.args.all.now.items ≤ c.loop-t.t = search (rules, arith) in
     inside_all c.args.all.now.items c.loop-t.slots.items _ _ _ i.len past i.inside
+
+pub returns-clause-outside : goal.returns-clause-outside
+returns-clause-outside g c = c.loop-t.invariant.outside
+
+pub returns-clause-same : goal.returns-clause-same
+returns-clause-same g c = c.loop-t.invariant.same
+
+pub returns-clause-rest : goal.returns-clause-rest
+returns-clause-rest g c = c.loop-t.invariant.rest

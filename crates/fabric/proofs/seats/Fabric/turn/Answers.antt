@@ -1,9 +1,12 @@
-use Rattle.std.proofs.Common.{◌≡◌, Some, ◌/◌, ap, arith}
+use Rattle.std.proofs.Common.{◌≡◌, ◌≤◌, Some, None, [], ◌/◌, length, refl, sym, inl, ap, ◌∙◌, arith}
 use Rattle.std.specs.Prelude.{slice_get}
 use Rattle.std.proofs.lemmas.Grind.{common_steps}
+use Rattle.std.proofs.lemmas.List.{append-nil}
 use Rattle.std.proofs.lemmas.Option.{gets}
 use Rattle.fabric_rule.specs.View.{View}
+use Rattle.fabric.specs.Seats.{Knowing, seat_knows, with_run}
 use Rattle.fabric.proofs.Meetings.{every_run, knows_lawful, lawful_view}
+use Rattle.fabric.proofs.Refusing.{none_behind, none_there}
 use Rattle.fabric.proofs.Seating.{seated_turn}
 use Rattle.fabric.proofs.seats.Fabric.turn.Goals as goal
 
@@ -30,3 +33,59 @@ returns-then-not-is_of-clause-one_order g c = every_run c.seat.inside.seat.me.0.
 pub returns-clause-one_order : goal.returns-clause-one_order
 returns-clause-one_order g c = let t = c.turn_tile.ensures.rest in
     lawful_view c.seat.inside.seat.me.0 c.turn_tile.new.seat.me.0 c.seat.invariant.placed.accepted (ap (λ (v : View). v.load) t.same)
+
+pub returns-then-number-len-clause-moved : goal.returns-then-number-len-clause-moved
+returns-then-number-len-clause-moved g c = λ e. absurd (cc)
+
+pub returns-then-number-len-clause-idle : goal.returns-then-number-len-clause-idle
+returns-then-number-len-clause-idle g c = λ e. absurd (cc)
+
+pub returns-then-number-len-clause-not_mine : goal.returns-then-number-len-clause-not_mine
+returns-then-number-len-clause-not_mine g c =
+    let n = c.seat.inside.slots.ok.0 in
+    let past : length c.seat.inside.slots.items ≤ c.args.step.agent / 3 = omega (arith, n) in
+    ((λ _. inl (none_behind c.seat.inside.slots.items c.seat.inside.seat _ c.seat.view_is c.seat.invariant _ past)), (λ _. refl))
+
+pub returns-then-number-len-clause-unchanged : goal.returns-then-number-len-clause-unchanged
+returns-then-number-len-clause-unchanged g c = λ _. refl
+
+pub returns-then-number-len-clause-same : goal.returns-then-number-len-clause-same
+returns-then-number-len-clause-same g c = refl
+
+pub returns-then-number-len-clause-later : goal.returns-then-number-len-clause-later
+returns-then-number-len-clause-later g c = ([], sym (append-nil c.args.seat.now.run))
+
+pub returns-in_default-clause-moved : goal.returns-in_default-clause-moved
+returns-in_default-clause-moved g c = λ e. absurd (cc)
+
+pub returns-in_default-clause-idle : goal.returns-in_default-clause-idle
+returns-in_default-clause-idle g c = λ e. absurd (cc)
+
+pub returns-in_default-clause-not_mine : goal.returns-in_default-clause-not_mine
+returns-in_default-clause-not_mine g c =
+    let at : slice_get c.seat.inside.slots.items (c.args.step.agent / 3) ≡ Some None = grind (arith, common_steps, gets) in
+    ((λ _. inl (none_there c.seat.inside.slots.items c.seat.inside.seat _ c.seat.view_is c.seat.invariant _ at)), (λ _. refl))
+
+pub returns-in_default-clause-unchanged : goal.returns-in_default-clause-unchanged
+returns-in_default-clause-unchanged g c = λ _. c.seat.view_is
+
+pub returns-in_default-clause-same : goal.returns-in_default-clause-same
+returns-in_default-clause-same g c = ap (λ (k : Knowing). with_run k c.seat.inside.seat.me.0.run) c.seat.view_is
+
+pub returns-in_default-clause-later : goal.returns-in_default-clause-later
+returns-in_default-clause-later g c = ([], ap (λ (k : Knowing). k.run) c.seat.view_is ∙ sym (append-nil c.args.seat.now.run))
+
+pub returns-then-not-is_of-clause-moved : goal.returns-then-not-is_of-clause-moved
+returns-then-not-is_of-clause-moved g c = λ e. absurd (cc)
+
+pub returns-then-not-is_of-clause-idle : goal.returns-then-not-is_of-clause-idle
+returns-then-not-is_of-clause-idle g c = λ e. absurd (cc)
+
+pub returns-then-not-is_of-clause-unchanged : goal.returns-then-not-is_of-clause-unchanged
+returns-then-not-is_of-clause-unchanged g c = λ _. c.seat.view_is
+
+pub returns-then-not-is_of-clause-same : goal.returns-then-not-is_of-clause-same
+returns-then-not-is_of-clause-same g c = ap (λ (k : Knowing). with_run k c.seat.inside.seat.me.0.run) c.seat.view_is
+
+pub returns-then-not-is_of-clause-later : goal.returns-then-not-is_of-clause-later
+returns-then-not-is_of-clause-later g c = ([], ap (λ (k : Knowing). k.run) c.seat.view_is ∙ sym (append-nil c.args.seat.now.run))
