@@ -22,6 +22,10 @@ pub record BankPlace : Type 0 where
 abbrev pub with_agent : BankPlace → Agent BankState → BankPlace
 with_agent b a = record { tiles = b.tiles; tile = b.tile; room = b.room; agent = a }
 
+-- the same bank with room for another number of entries
+abbrev pub with_room : BankPlace → ℕ → BankPlace
+with_room b room = record { tiles = b.tiles; tile = b.tile; room = room; agent = b.agent }
+
 -- a head flit of a request names a word below 65536, for no memory has more words (this project's
 -- own limits)
 abbrev pub NamesWord : ℕ → Type 0

@@ -1,5 +1,6 @@
-ghost use Rattle.std.specs.Prelude.{◌≡◌, ◌<◌, ◌≤◌, [], ◌∷◌, ◌++◌, ◌↔◌, length, vec_len, vec_capacity, IfOk, IsTrue};
-ghost use Rattle.home_bank.specs.ServiceList.{address_of, response_of, recorded, IsServiceList};
+ghost use Rattle.std.specs.Prelude.{◌≡◌, ◌<◌, ◌≤◌, ◌+◌, ◌-◌, [], ◌∷◌, ◌++◌, ◌↔◌, length, vec_len, vec_capacity, IfOk};
+ghost use Rattle.std.specs.Prelude.{IsTrue, OnOk, OnErr};
+ghost use Rattle.home_bank.specs.ServiceList.{address_of, response_of, recorded, with_room, IsServiceList};
 
 use crate::Entry;
 use packet::{Reply, Request, Response};
@@ -71,6 +72,35 @@ impl<A: Allocator> ServiceList<A> {
             code: request.op.code(),
             reply,
         }
+    }
+
+    /// Makes room for so many entries more, at most 65536 in all.
+    ///
+    /// Errors: `AllocError` where there is no memory; then nothing has changed.
+    pub fn reserve(&mut self, more: usize) -> Result<(), AllocError>
+        requires { self.old.room + more ≤ 65536 }
+        ensures room { OnOk result (self.new ≡ with_room self.old (self.old.room + more)) }
+        ensures same { OnErr result (self.new ≡ self.old) }
+    {
+        let room = self.room + more;
+        self.entries.try_reserve(room - self.entries.len())?;
+        self.room = room;
+        Ok(())
+    }
+
+    /// Gives up the room for so many entries, which no entry has taken.
+    pub fn release(&mut self, fewer: usize)
+        requires { length self.old.entries + fewer ≤ self.old.room }
+        ensures { self.new ≡ with_room self.old (self.old.room - fewer) }
+    {
+        self.room -= fewer;
+    }
+
+    /// For how many entries there is room.
+    pub fn room(&self) -> usize
+        ensures { result ≡ self.now.room }
+    {
+        self.room
     }
 
     /// The address of one of the bank's words.

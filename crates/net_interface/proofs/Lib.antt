@@ -4,3 +4,4 @@ pub mod Course
 pub mod Arriving
 pub mod EmptyChannels
 pub mod WantedPorts
+pub mod Reserved

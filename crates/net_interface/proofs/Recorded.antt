@@ -1,5 +1,5 @@
 -- The operations of a processor's record, after an issue and after an answer.
-use Rattle.std.proofs.Common.{◌≡◌, ◌≢◌, inl, inr, ℕ, zero, suc, ◌+◌, ◌<◌, ◌≤◌, List, [], ◌∷◌, ◌++◌, length, Option, Some, None, refl, sym, ap, subst, ◌∙◌}
+use Rattle.std.proofs.Common.{◌≡◌, ◌≢◌, inl, inr, true, ℕ, zero, suc, ◌+◌, ◌<◌, ◌≤◌, List, [], ◌∷◌, ◌++◌, length, Option, Some, None, refl, sym, ap, subst, ◌∙◌}
 use Rattle.std.proofs.Common.{arith, slice_get, slice_set, slice_index_or, length-set, length-append, replicate}
 use Rattle.std.specs.Option.{option_map, option_and_then}
 use Rattle.std.proofs.lemmas.Bool.{cases_eq}
@@ -10,16 +10,19 @@ use Rattle.packet.specs.declared.kinds.Reply.{Reply}
 use Rattle.packet.specs.declared.kinds.Operation.{Operation}
 use Rattle.packet.specs.declared.kinds.Response.{Response}
 use Rattle.script.specs.declared.line.Line.{Line}
-use Rattle.script.specs.Scripts.{operation_count}
+use Rattle.script.specs.declared.line.Line.TheVariants.{Spin}
+use Rattle.script.specs.Scripts.{operation_count, operations_of, mentions_last}
 use Rattle.tag_table.specs.Tags.{holder_of, free_tag, HoldsNone}
 use Rattle.tag_table.proofs.Moves.{taken, given, distinct-taken, distinct-given}
 use Rattle.script_follower.specs.one_order.proofs.Lists.{get_append_left, get_push, get_push_cases, get_set_same, get_set_other}
 use Rattle.script_follower.specs.one_order.specs.declared.answer.Answer.{Answer}
 use Rattle.script_follower.specs.Scripts.{Invocation, IsFollowable, AreAnswersBefore}
 use Rattle.script_follower.specs.Following.{Following, ShowsPast, starts, issues, answers, first_of, next_operation_of, after_issue, after_answer}
-use Rattle.script_follower.specs.ProcessorRecord.{ProcessorRecord, ready, issued_by, answered_by, index_of, index_in, answer_of}
+use Rattle.script_follower.specs.Following.{left_of}
+use Rattle.script_follower.specs.ProcessorRecord.{ProcessorRecord, ready, issued_by, answered_by, index_of, index_in, answer_of, record_with}
 use Rattle.script_follower.proofs.Histories.{with_answer, unanswered_more, unanswered_set}
-use Rattle.script_follower.proofs.Shown.{stands}
+use Rattle.script_follower.proofs.Shown.{stands, left_after_issue, left_within}
+use Rattle.script_follower.proofs.Grown.{shows_with, followable_with}
 use Rattle.net_interface.specs.Beginning.{first_record}
 use Rattle.net_interface.specs.Inside.{AwaitsAnswer, AreOperationsOf}
 
@@ -62,11 +65,15 @@ pub tag_ready : (b : ProcessorRecord) (tag : ℕ) (o : Operation) → ready b �
 tag_ready b tag o e = (ready_parts (next_operation_of b.following) (free_tag b.tags) tag o e).1
 
 module _ (lines : List Line) (past : List Invocation) (now : ℕ) (b : ProcessorRecord) (is : AreOperationsOf lines past now b) where
-  pub issued_within : length b.issued ≤ operation_count lines
-  issued_within = let s = stands lines past b.following is.followable is.shows in omega (arith, s.issued, s.count, is.issued)
+  pub issued_is : length b.issued ≡ b.following.issued
+  issued_is = is.issued ∙ sym (stands lines past b.following is.followable is.shows).issued
 
-  pub answers_within : length b.answers ≤ operation_count lines
-  answers_within = omega (arith, issued_within, is.answers, is.issued)
+  pub answers_within : length b.answers ≤ length b.issued
+  answers_within = omega (arith, is.answers, is.issued)
+
+  -- the operations left are at least the one that is ready
+  pub left_falls : (tag : ℕ) (o : Operation) → ready b ≡ Some (tag, o) → left_of (after_issue b.following) < left_of b.following
+  left_falls tag o is_ready = left_after_issue lines past b.following is.followable is.shows o (next_ready b tag o is_ready)
 
   -- an issue
   module _ (tag : ℕ) (o : Operation) (is_ready : ready b ≡ Some (tag, o)) where
@@ -76,14 +83,14 @@ module _ (lines : List Line) (past : List Invocation) (now : ℕ) (b : Processor
     abbrev pub new_id : OpId
     new_id = record { 0 = b.following.issued }
 
-    issued_is : b.following.issued ≡ length past
-    issued_is = (stands lines past b.following is.followable is.shows).issued
+    number_is : b.following.issued ≡ length past
+    number_is = (stands lines past b.following is.followable is.shows).issued
 
     still : (i : ℕ) → AwaitsAnswer past i → AwaitsAnswer (past ++ new ∷ []) i
     still i w = (w.0, get_append_left past (new ∷ []) i w.0 w.1, w.2)
 
     holds_none : HoldsNone b.tags new_id
-    holds_none t e = let w = is.held t new_id e in let k = slice_get_within past new_id.0 w.0 w.1 in absurd (omega (arith, issued_is))
+    holds_none t e = let w = is.held t new_id e in let k = slice_get_within past new_id.0 w.0 w.1 in absurd (omega (arith, number_is))
 
     held_then : (t : ℕ) (id : OpId) → holder_of (slice_set b.tags tag (Some new_id)) t ≡ Some id → AwaitsAnswer (past ++ new ∷ []) id.0
     held_then t id e =
@@ -91,7 +98,7 @@ module _ (lines : List Line) (past : List Invocation) (now : ℕ) (b : Processor
         elim (cases_eq t tag) [
           | inl same ↦
               let e2 : new_id ≡ id = same_Some _ _ (sym one.held ∙ ap (holder_of (slice_set b.tags tag (Some new_id))) (sym same) ∙ e) in
-              let at : id.0 ≡ length past = ap (λ (i : OpId). i.0) (sym e2) ∙ issued_is in
+              let at : id.0 ≡ length past = ap (λ (i : OpId). i.0) (sym e2) ∙ number_is in
               (new, ap (slice_get (past ++ new ∷ [])) at ∙ get_push past new, refl)
           | inr other ↦ still id.0 (is.held t id (sym (one.others t other) ∙ e))
         ]
@@ -174,6 +181,21 @@ module _ (lines : List Line) (past : List Invocation) (now : ℕ) (b : Processor
       distinct = distinct-given b.tags r.tag.0 is.distinct;
       held = held_then_2;
     }
+
+-- a line at the end of the script
+pub after_line : (lines : List Line) (past : List Invocation) (now : ℕ) (b : ProcessorRecord) → AreOperationsOf lines past now b → (line : Line)
+    → ((a v m : ℕ) → line ≡ Spin a v m → 0 < m) → (mentions_last line ≡ true → 0 < length b.issued + left_of b.following)
+    → AreOperationsOf (lines ++ line ∷ []) past now (record_with line b)
+after_line lines past now b is line some last = record {
+  followable = followable_with lines line is.followable some
+      (λ tells. let low = last tells in let all = left_within lines past b.following is.followable is.shows in let n = is.issued in omega (arith, low, all, n));
+  shows = shows_with lines line past b.following is.shows;
+  before = is.before;
+  issued = is.issued;
+  answers = is.answers;
+  distinct = is.distinct;
+  held = is.held;
+}
 
 -- the record that an issue makes
 pub issued_record : (b : ProcessorRecord) (tag index : ℕ) (o : Operation) (f : Following) (tags : List (Option OpId)) (issued : List Operation)

@@ -5,11 +5,10 @@ use Rattle.torus.specs.declared.step.OpId.{OpId}
 use Rattle.torus.specs.declared.step.Tag.{Tag}
 use Rattle.packet.specs.declared.kinds.Operation.{Operation}
 use Rattle.script.specs.declared.line.Line.{Line}
-use Rattle.script.specs.Scripts.{operation_count}
 use Rattle.flit_buffer.specs.Channel.{first_of}
 use Rattle.tag_table.specs.Tags.{holder_of, HoldDistinctTags}
 use Rattle.script_follower.specs.Scripts.{Invocation, IsFollowable, AreAnswersBefore, unanswered}
-use Rattle.script_follower.specs.Following.{ShowsPast}
+use Rattle.script_follower.specs.Following.{ShowsPast, left_of}
 use Rattle.script_follower.specs.ProcessorRecord.{ProcessorRecord, ready}
 use Rattle.script_follower.specs.ProcessorTable.{request_flits}
 use Rattle.net_interface.specs.Place.{Place}
@@ -42,14 +41,15 @@ pub record AreOperationsOf (lines : List Line) (past : List Invocation) (now : �
   pub distinct : HoldDistinctTags b.tags
   pub held : (t : ℕ) (id : OpId) → holder_of b.tags t ≡ Some id → AwaitsAnswer past id.0
 
--- the record is of some operations of a script, and there is room for all that the script can make
+-- the record is of some operations of a script, and there is room for these and all that the script
+-- still allows
 pub record IsRecord {A : Type 0} (r : in_record.Inside A) : Type 0 where
   pub lines : List Line
   pub past : List Invocation
   pub now : ℕ
   pub operations : AreOperationsOf lines past now (record_of r)
-  pub issued_room : operation_count lines ≤ vec_capacity r.issued
-  pub answers_room : operation_count lines ≤ vec_capacity r.answers
+  pub issued_room : length r.issued.items + left_of r.follower ≤ vec_capacity r.issued
+  pub answers_room : length r.issued.items + left_of r.follower ≤ vec_capacity r.answers
 
 -- the flits of the request in course that are left, of a request of which so many are put: none is
 -- in course while none is put

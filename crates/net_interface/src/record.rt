@@ -1,13 +1,14 @@
 //! The record that a processor keeps of its operations.
 
-ghost use Rattle.std.specs.Prelude.{◌≡◌, ◌≤◌, ◌<◌, [], ◌∷◌, ◌++◌, Some, IfOk, IfSome, IsSome, option_map, replicate};
+ghost use Rattle.std.specs.Prelude.{◌≡◌, ◌≤◌, ◌<◌, ◌+◌, true, ℕ, [], ◌∷◌, ◌++◌, Some, IfOk, IfSome, IsSome, option_map};
+ghost use Rattle.std.specs.Prelude.{replicate, length, OnOk, OnErr};
 ghost use Rattle.std.specs.Prelude.{slice_set, vec_len, vec_capacity};
 ghost use Rattle.torus.specs.declared.step.OpId.{OpId};
-ghost use Rattle.script.specs.Scripts.{operation_count};
+ghost use Rattle.script.specs.Scripts.{operation_count, operations_of, mentions_last};
 ghost use Rattle.tag_table.specs.Tags.{free_tag, holder_of, out_count};
 ghost use Rattle.script_follower.specs.Scripts.{IsFollowable};
-ghost use Rattle.script_follower.specs.Following.{is_finished};
-ghost use Rattle.script_follower.specs.ProcessorRecord.{ready, index_of, issued_by, answered_by};
+ghost use Rattle.script_follower.specs.Following.{is_finished, left_of};
+ghost use Rattle.script_follower.specs.ProcessorRecord.{ready, index_of, issued_by, answered_by, record_with};
 ghost use Rattle.net_interface.specs.Beginning.{first_record};
 
 use packet::{Operation, Response};
@@ -143,6 +144,26 @@ impl<A: Allocator> Record<A> {
         };
         self.follower.answer(index, response.reply);
         push_within(&mut self.answers, answer);
+    }
+
+    /// Puts a line at the end of the script, with room for so many operations in all, at most 65536. A
+    /// spin has loads, and a `last` an operation before it.
+    ///
+    /// Errors: `AllocError` where there is no memory; then nothing has changed.
+    pub(crate) fn append(&mut self, line: Line, room: usize) -> Result<(), AllocError>
+        requires loads { (a v m : ℕ) → line ≡ Line.Spin a v m → 0 < m }
+        requires last { mentions_last line ≡ true
+            → 0 < length self.old.issued + left_of self.old.following }
+        requires room { length self.old.issued + left_of self.old.following + operations_of line
+            ≤ room }
+        requires few { room ≤ 65536 }
+        ensures appended { OnOk result (self.new ≡ record_with line self.old) }
+        ensures same { OnErr result (self.new ≡ self.old) }
+    {
+        self.issued.try_reserve(room - self.issued.len())?;
+        self.answers.try_reserve(room - self.answers.len())?;
+        self.follower.append(line)?;
+        Ok(())
     }
 
     /// Whether the script is finished.

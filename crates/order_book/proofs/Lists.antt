@@ -34,6 +34,19 @@ roomier room vs k old new there is more p =
 pub as_many : {V : Type 0} (room : V → ℕ) (vs : List V) (k : ℕ) (new : V) → length (map room (set vs k new)) ≡ length (map room vs)
 as_many room vs k new = length-map (set vs k new) room ∙ (length-set vs k new ∙ sym (length-map vs room))
 
+-- a vector that shows the same leaves all that is shown
+pub same_shown : {V B : Type 0} (f : V → B) (vs : List V) (k : ℕ) (old new : V) → k < length vs → old ≡ get_or vs k old → f new ≡ f old
+    → map f (set vs k new) ≡ map f vs
+same_shown f [] k old new there is same = refl
+same_shown f (v ∷ vs) zero old new there is same = ap (λ x. x ∷ map f vs) (same ∙ ap f is)
+same_shown f (v ∷ vs) (suc k) old new there is same = ap (λ xs. f v ∷ xs) (same_shown f vs k old new (omega arith) is same)
+
+-- it has its room at its place
+pub room_there : {V : Type 0} (room : V → ℕ) (vs : List V) (k : ℕ) (new : V) → k < length vs → get_or (map room (set vs k new)) k 0 ≡ room new
+room_there room vs k new there =
+    let counted = length-map vs room in
+    ap (λ xs. get_or xs k 0) (map-set room vs k new) ∙ get_or-set_same (map room vs) k (room new) 0 (omega (arith, counted, there))
+
 -- one empty list more
 empty_next : {A : Type 0} (n : ℕ) → replicate {A = List A} (suc n) [] ≡ replicate n [] ++ [] ∷ []
 empty_next zero = refl

@@ -1,5 +1,5 @@
 ghost use Rattle.std.specs.Prelude.{◌≡◌, ℕ, ◌<◌, ◌≤◌, List, [], ◌∷◌, ◌++◌, Some, IfOk, length, map, replicate};
-ghost use Rattle.std.specs.Prelude.{slice_get, slice_index, vec_len, vec_capacity};
+ghost use Rattle.std.specs.Prelude.{slice_get, slice_index, vec_len, vec_capacity, OnOk};
 ghost use Rattle.one_order.specs.Observed.{list_at};
 ghost use Rattle.order_abstract.specs.EventBook.{first_book, noted_issue, noted_service, noted_answer, row_at};
 ghost use Rattle.order_book.specs.RoomyBook.{KeepsRoom};
@@ -126,6 +126,31 @@ impl<A: Allocator> EventBook<A> {
         self.rows[position as usize].answered = Some(self.events);
     }
 
+    /// Makes room for so many issues of a processor in all, so many services of a bank, and so many
+    /// rows; what is noted stays. No event takes memory while there is room.
+    ///
+    /// Errors: `AllocError` where there is no memory; then some of the room may be made.
+    pub fn reserve(
+        &mut self,
+        processor: u32,
+        issue_room: usize,
+        bank: u32,
+        position_room: usize,
+        row_room: usize,
+    ) -> Result<(), AllocError>
+        requires processor { processor < length self.old.book.issues }
+        requires bank { bank < length self.old.book.positions }
+        ensures book { self.new.book ≡ self.old.book }
+        ensures room { KeepsRoom self.old self.new }
+        ensures issues { OnOk result (issue_room ≤ slice_index self.new.issues processor) }
+        ensures positions { OnOk result (position_room ≤ slice_index self.new.positions bank) }
+        ensures rows { OnOk result (row_room ≤ self.new.rows) }
+    {
+        reserve_at(&mut self.issues, processor as usize, issue_room)?;
+        reserve_at(&mut self.positions, bank as usize, position_room)?;
+        self.rows.try_reserve(row_room.saturating_sub(self.rows.len()))
+    }
+
     /// How many events have happened.
     pub fn events(&self) -> u32
         ensures { result ≡ self.now.book.events }
@@ -159,6 +184,26 @@ fn empty_lists<A: Allocator + Copy>(
         lists.push(Vec::with_capacity(alloc, *room)?)?;
     }
     Ok(lists)
+}
+
+/// Makes room for so many numbers in one of some lists. What they hold stays, and none has less room.
+fn reserve_at<A: Allocator>(
+    lists: &mut Vec<Vec<u32, A>, A>,
+    at: usize,
+    room: usize,
+) -> Result<(), AllocError>
+    requires { at < length lists.old.items }
+    ensures same { map (λ list. list.items) lists.new.items
+        ≡ map (λ list. list.items) lists.old.items }
+    ensures kept { (k : ℕ) → slice_index (map (λ list. vec_capacity list) lists.old.items) k
+        ≤ slice_index (map (λ list. vec_capacity list) lists.new.items) k }
+    ensures count { length (map (λ list. vec_capacity list) lists.new.items)
+        ≡ length (map (λ list. vec_capacity list) lists.old.items) }
+    ensures room { OnOk result
+        (room ≤ slice_index (map (λ list. vec_capacity list) lists.new.items) at) }
+{
+    let list = &mut lists[at];
+    list.try_reserve(room.saturating_sub(list.len()))
 }
 
 /// Adds an element where there is room for it.

@@ -3,4 +3,4 @@
 
 pub mod rooms;
 
-pub use rooms::{all_room, home_rooms, operation_count, processor_rooms};
+pub use rooms::{address, all_room, home_rooms, operation_count, processor_rooms};

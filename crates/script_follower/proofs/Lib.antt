@@ -8,5 +8,7 @@ pub mod Followable
 pub mod Homes
 pub mod Ended
 pub mod Values
+pub mod Grown
+pub mod Appending
 mod Examples
 mod WrongOnes

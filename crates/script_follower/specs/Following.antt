@@ -135,6 +135,17 @@ unfoldable pub after_answer : Following → ℕ → Reply → Following
 after_answer f index reply =
     if index + 1 == f.issued then last_answered f reply else other_answered f
 
+-- the follower with a line at the end of its lines ahead; where nothing is held back, a fence there
+-- comes to nothing
+abbrev pub follower_with : Line → Following → Following
+follower_with line f = record {
+  ahead = unfenced f.spin f.waiting (f.ahead ++ line ∷ []);
+  spin = f.spin;
+  issued = f.issued;
+  waiting = f.waiting;
+  last = f.last;
+}
+
 -- no line is ahead
 abbrev pub is_empty : List Line → Bool
 is_empty [] = true

@@ -7,7 +7,9 @@ use Rattle.packet.specs.declared.kinds.Operation.{Operation}
 use Rattle.packet.specs.declared.kinds.Request.{Request}
 use Rattle.packet.specs.declared.kinds.Response.{Response}
 use Rattle.tag_table.specs.Tags.{free_tag}
+use Rattle.script.specs.declared.line.Line.{Line}
 use Rattle.script_follower.specs.Following.{Following, first_of, next_operation_of, after_issue, after_answer}
+use Rattle.script_follower.specs.Following.{follower_with}
 use Rattle.one_order.specs.declared.answer.Answer.{Answer}
 
 -- the record of a processor (this project's own format)
@@ -78,4 +80,13 @@ answered_by b r = record {
   tags = slice_set b.tags r.tag.0 None;
   issued = b.issued;
   answers = b.answers ++ answer_of b r ∷ [];
+}
+
+-- the record with a line at the end of its script
+abbrev pub record_with : Line → ProcessorRecord → ProcessorRecord
+record_with line b = record {
+  following = follower_with line b.following;
+  tags = b.tags;
+  issued = b.issued;
+  answers = b.answers;
 }

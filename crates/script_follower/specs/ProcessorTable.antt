@@ -1,5 +1,5 @@
 -- The table of a processor's choices.
-use Rattle.std.specs.Prelude.{ℕ, ◌&&◌, Bool, true, not, if◌then◌else◌, List, [], ◌∷◌, Option, Some, None, option_map}
+use Rattle.std.specs.Prelude.{ℕ, ◌&&◌, Bool, true, false, not, if◌then◌else◌, List, [], ◌∷◌, Option, Some, None, option_map}
 use Rattle.torus.specs.declared.step.Choice.{Choice}
 use Rattle.torus.specs.declared.step.Choice.TheVariants as choice
 use Rattle.packet.specs.declared.kinds.Operation.{Operation}
@@ -8,11 +8,13 @@ use Rattle.packet.specs.declared.kinds.Packet.TheVariants.{Request, Response}
 use Rattle.packet.specs.declared.assembler.Offered.{Offered}
 use Rattle.packet.specs.declared.assembler.Offered.TheVariants.{Whole}
 use Rattle.packet.specs.Answer.{flits_left}
+use Rattle.script.specs.declared.line.Line.{Line}
 use Rattle.one_order.specs.flit_buffer.specs.declared.want.Want.{Want}
 use Rattle.one_order.specs.flit_buffer.specs.declared.want.Want.TheVariants.{Take, Put, Credit, Access, Await}
 use Rattle.one_order.specs.flit_buffer.specs.Channel.{first_of, rest}
 use Rattle.script_follower.specs.Following.{is_finished}
 use Rattle.script_follower.specs.ProcessorRecord.{ProcessorRecord, ready, issued_by, answered_by, request_of}
+use Rattle.script_follower.specs.ProcessorRecord.{record_with}
 use Rattle.packet.specs.Flits.{offered, flits_of}
 
 -- the state of a processor: its record of operations; the flits of the request in course that are
@@ -24,6 +26,26 @@ pub record ProcessorState : Type 0 where
   pub so_far : List ℕ
   pub reported : Bool
   pub seen : Bool
+
+-- the processor with a line at the end of its script
+abbrev pub processor_with : Line → ProcessorState → ProcessorState
+processor_with line p = record {
+  operations = record_with line p.operations;
+  to_put = p.to_put;
+  so_far = p.so_far;
+  reported = p.reported;
+  seen = p.seen;
+}
+
+-- the processor as if it had neither reported nor seen that all have
+abbrev pub processor_open : ProcessorState → ProcessorState
+processor_open p = record {
+  operations = p.operations;
+  to_put = p.to_put;
+  so_far = p.so_far;
+  reported = false;
+  seen = false;
+}
 
 -- the number of tiles, the number of words, and the processor's tile
 module _ (tiles words tile : ℕ) where

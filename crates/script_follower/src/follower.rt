@@ -1,17 +1,18 @@
 //! The follower of one processor's script.
 
 ghost use Rattle.std.specs.Prelude.{◌≡◌, ℕ, ◌^◌, ◌<◌, ◌≤◌, ◌==◌, ◌&&◌, length, drop, slice_get, is_none, IsSome};
-ghost use Rattle.std.specs.Prelude.{Some, None, option_map};
-ghost use Rattle.script.specs.Scripts.{operation_count};
+ghost use Rattle.std.specs.Prelude.{Some, None, ◌+◌, option_map, OnOk, OnErr};
+ghost use Rattle.script.specs.Scripts.{operation_count, operations_of};
 ghost use Rattle.script_follower.specs.Scripts.{IsFollowable};
 ghost use Rattle.script_follower.specs.Following.{operand_of, operation_of, ready, first_operation, opened};
 ghost use Rattle.script_follower.specs.Following.{spin_issued, ahead_issued, unfenced, is_empty, past_fences, first_of};
 ghost use Rattle.script_follower.specs.Following.{next_operation_of, after_issue, after_answer, is_finished};
+ghost use Rattle.script_follower.specs.Following.{follower_with, left_of};
 
 use crate::spin::{OpenSpin, reply_number, spin_answered};
 use packet::{Op, Operation, Reply};
 use script::{Line, Value};
-use std::alloc::{Allocator, Global};
+use std::alloc::{AllocError, Allocator, Global};
 use std::marker::Model;
 
 /// Follows one processor's script: which operation is next, given the answers so far.
@@ -92,6 +93,22 @@ impl<A: Allocator> Follower<A> {
             self.last = Some(reply);
         }
         self.at = unfenced(self.spin, self.waiting, self.lines.as_slice(), self.at);
+    }
+
+    /// Puts a line at the end of the script; where nothing is held back, a fence there comes to nothing.
+    /// A spin has loads.
+    ///
+    /// Errors: `AllocError` where there is no memory; then nothing has changed.
+    pub fn append(&mut self, line: Line) -> Result<(), AllocError>
+        requires loads { (a v m : ℕ) → line ≡ Line.Spin a v m → 0 < m }
+        requires few { self.old.issued + left_of self.old + operations_of line < 2 ^ 32 }
+        ensures appended { OnOk result (self.new ≡ follower_with line self.old) }
+        ensures same { OnErr result (self.new ≡ self.old) }
+    {
+        self.lines.try_reserve(1)?;
+        self.lines.push_reserved(line);
+        self.at = unfenced(self.spin, self.waiting, self.lines.as_slice(), self.at);
+        Ok(())
     }
 
     /// Whether every operation is issued and answered, and no spin wants another load.

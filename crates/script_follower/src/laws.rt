@@ -6,12 +6,12 @@ ghost use Rattle.packet.specs.declared.kinds.Operation.{Operation};
 ghost use Rattle.packet.specs.declared.kinds.Reply.{Reply};
 ghost use Rattle.packet.specs.Spelling.{values_of_op};
 ghost use Rattle.script.specs.declared.line.Line.{Line};
-ghost use Rattle.script.specs.Scripts.{operation_count, IsAcceptedScript, IsAcceptedLine};
+ghost use Rattle.script.specs.Scripts.{operation_count, operations_of, mentions_last, IsAcceptedScript, IsAcceptedLine};
 ghost use Rattle.script_follower.specs.Scripts.{Invocation, FollowsScript, HasFinished, IsFollowable, IsAddressIn};
 ghost use Rattle.script_follower.specs.Scripts.{AreAnswered, AreAnswersBefore, last_reply, reply_number, unanswered};
 ghost use Rattle.script_follower.specs.Homes.{script_home_count, issued_home_count};
 ghost use Rattle.script_follower.specs.Following.{Following, ShowsPast, first_of, next_operation_of, after_issue};
-ghost use Rattle.script_follower.specs.Following.{after_answer, is_finished, left_of};
+ghost use Rattle.script_follower.specs.Following.{after_answer, is_finished, left_of, operation_of, follower_with};
 
 /// A script that the reader accepts, for a memory of any number of words, can be followed.
 pub fn accepted_scripts_can_be_followed()
@@ -136,4 +136,23 @@ pub fn homes_are_counted()
     ensures issued { (tiles b : ℕ) (lines : List Line) (past : List Invocation) (f : Following)
         → IsFollowable lines → ShowsPast lines past f →
         issued_home_count tiles b past ≤ script_home_count tiles b lines }
+{}
+
+/// A line at the end of a script, at any time: the follower with the line shows, of the longer script,
+/// what it showed; that script can be followed where a spin has loads and a `last` has an operation
+/// before it, which is issued or left; it allows the line's operations more; and of a script that was
+/// finished the line's operation is ready, or none where it is a fence.
+pub fn lines_come_at_the_end()
+    ensures shows { (lines : List Line) (line : Line) (past : List Invocation) (f : Following)
+        → ShowsPast lines past f → ShowsPast (lines ++ line ∷ []) past (follower_with line f) }
+    ensures followable { (lines : List Line) (line : Line) → IsFollowable lines
+        → ((a v m : ℕ) → line ≡ Line.Spin a v m → 0 < m)
+        → (mentions_last line ≡ true → 0 < operation_count lines)
+        → IsFollowable (lines ++ line ∷ []) }
+    ensures some { (lines : List Line) (past : List Invocation) (f : Following)
+        → ShowsPast lines past f → 0 < operation_count lines → 0 < length past + left_of f }
+    ensures left { (f : Following) (line : Line)
+        → left_of (follower_with line f) ≡ left_of f + operations_of line }
+    ensures ended { (f : Following) (line : Line) → is_finished f ≡ true
+        → next_operation_of (follower_with line f) ≡ operation_of line f.last }
 {}

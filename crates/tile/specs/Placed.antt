@@ -11,6 +11,7 @@ use Rattle.channel_number.specs.Ports.{port_count}
 use Rattle.router.specs.Table.{IsRoutable, empty_router}
 use Rattle.home_bank.specs.BankAgent.{IsAcceptable as IsAcceptableToBank}
 use Rattle.home_bank.specs.Beginning.{empty_bank}
+use Rattle.tile_laws.specs.script_follower.specs.ProcessorTable.{ProcessorState}
 use Rattle.tile_laws.specs.net_interface.specs.Place.{IsAcceptable as IsAcceptableToProcessor}
 use Rattle.tile_laws.specs.net_interface.specs.Beginning.{first_processor}
 use Rattle.tile_laws.specs.Tile.{Design, TileState, Agent, Processor, Router, Bank}
@@ -25,6 +26,23 @@ pub record PlacedTile : Type 0 where
 -- the same room with another place
 abbrev pub with_place : PlacedTile → TilePlace → PlacedTile
 with_place v p = record { place = p; room = v.room }
+
+-- the same tile with room for another number of entries in its bank
+abbrev pub with_room : PlacedTile → ℕ → PlacedTile
+with_room v room = record { place = v.place; room = room }
+
+-- the same tile with its processor in another state, at the same ports
+abbrev pub with_processor : PlacedTile → ProcessorState → PlacedTile
+with_processor v state = record {
+  place = record {
+    design = v.place.design;
+    tile = v.place.tile;
+    processor = record { state = state; ports = v.place.processor.ports };
+    router = v.place.router;
+    bank = v.place.bank;
+  };
+  room = v.room;
+}
 
 -- the agents' states before any step, with so many tags and this script (this project's own format)
 abbrev pub first_state : ℕ → ℕ → List Line → TileState

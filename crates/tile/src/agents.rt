@@ -1,16 +1,17 @@
 ghost use Rattle.std.specs.Prelude.{◌≡◌, ◌<◌, ◌≤◌, ◌↔◌, ◌%◌, length, IsTrue, IfOk, IfSome, IsSome, MatchOption};
-ghost use Rattle.std.specs.Prelude.{vec_len, slice_index, is_some};
+ghost use Rattle.std.specs.Prelude.{vec_len, slice_index, is_some, true, ℕ, ◌+◌, ◌-◌, OnOk, OnErr};
 ghost use Rattle.torus.specs.Shape.{tiles_of};
 ghost use Rattle.torus.specs.declared.step.Stepped.TheVariants as stepped;
-ghost use Rattle.script.specs.Scripts.{operation_count};
+ghost use Rattle.script.specs.Scripts.{operation_count, operations_of, mentions_last};
 ghost use Rattle.flit_buffer.specs.Tries.{performed_by};
 ghost use Rattle.flit_buffer.specs.Words.{word_of};
 ghost use Rattle.tag_table.specs.Tags.{holder_of};
 ghost use Rattle.tile_laws.specs.script_follower.specs.Scripts.{IsFollowable};
-ghost use Rattle.tile_laws.specs.script_follower.specs.Following.{is_finished};
+ghost use Rattle.tile_laws.specs.script_follower.specs.Following.{is_finished, left_of};
+ghost use Rattle.tile_laws.specs.script_follower.specs.ProcessorTable.{processor_with, processor_open};
 ghost use Rattle.tile_laws.specs.Tile.{Processor as ProcessorAgent, Router as RouterAgent, Bank as BankOfTile};
 ghost use Rattle.tile_laws.specs.Agents.{agent_numbered, agent_op, tile_next_op, tile_absorbed};
-ghost use Rattle.tile.specs.Placed.{with_place, first_tile, IsAcceptableTo, HasRoomFor, agent_attempted};
+ghost use Rattle.tile.specs.Placed.{with_place, with_room, with_processor, first_tile, IsAcceptableTo, HasRoomFor, agent_attempted};
 ghost use Rattle.tile.specs.Placed.{tile_attempted};
 
 use flit_buffer::WordOp;
@@ -319,5 +320,67 @@ impl<A: Allocator> TileAgents<A> {
         ensures within { length self.now.place.bank.state.entries ≤ self.now.room }
     {
         self.bank.is_full()
+    }
+
+    /// Whether the processor has reported that its script is finished.
+    pub fn has_reported(&self) -> bool
+        ensures { result ≡ self.now.place.processor.state.reported }
+    {
+        self.processor.has_reported()
+    }
+
+    /// For how many entries the bank has room.
+    pub fn room(&self) -> usize
+        ensures { result ≡ self.now.room }
+    {
+        self.bank.room()
+    }
+
+    /// Makes room for so many entries of the bank more, at most 65536 in all.
+    ///
+    /// Errors: `AllocError` where there is no memory; then nothing has changed.
+    pub fn reserve(&mut self, more: usize) -> Result<(), AllocError>
+        requires { self.old.room + more ≤ 65536 }
+        ensures room { OnOk result (self.new ≡ with_room self.old (self.old.room + more)) }
+        ensures same { OnErr result (self.new ≡ self.old) }
+    {
+        self.bank.reserve(more)
+    }
+
+    /// Gives up the room for so many entries of the bank, which no entry has taken.
+    pub fn release(&mut self, fewer: usize)
+        requires { length self.old.place.bank.state.entries + fewer ≤ self.old.room }
+        ensures { self.new ≡ with_room self.old (self.old.room - fewer) }
+    {
+        self.bank.release(fewer);
+    }
+
+    /// Puts a line at the end of the processor's script, with room for so many operations in all, at
+    /// most 65536: those issued, those that the script still allows, and the line's. A spin has loads,
+    /// and a `last` an operation before it.
+    ///
+    /// Errors: `AllocError` where there is no memory; then nothing has changed.
+    pub fn append(&mut self, line: Line, room: usize) -> Result<(), AllocError>
+        requires loads { (a v m : ℕ) → line ≡ Line.Spin a v m → 0 < m }
+        requires last { mentions_last line ≡ true
+            → 0 < length self.old.place.processor.state.operations.issued
+            + left_of self.old.place.processor.state.operations.following }
+        requires room { length self.old.place.processor.state.operations.issued
+            + left_of self.old.place.processor.state.operations.following + operations_of line
+            ≤ room }
+        requires few { room ≤ 65536 }
+        ensures appended { OnOk result (self.new
+            ≡ with_processor self.old (processor_with line self.old.place.processor.state)) }
+        ensures same { OnErr result (self.new ≡ self.old) }
+    {
+        self.processor.append(line, room)
+    }
+
+    /// Takes back that the processor has reported, and seen that all have.
+    pub fn reopen(&mut self)
+        ensures { self.new
+            ≡ with_processor self.old (processor_open self.old.place.processor.state) }
+    {
+        self.processor.reopen();
     }
 }

@@ -1,7 +1,9 @@
-use Rattle.std.proofs.Common.{◌≡◌, ◌∷◌, [], ◌++◌, Some, None, sym, subst, ◌∙◌, ap, arith, length-append}
+use Rattle.std.proofs.Common.{◌≡◌, ◌<◌, ◌+◌, List, ◌∷◌, [], ◌++◌, length, Some, None, sym, subst, ◌∙◌, ap, arith, length-append}
+use Rattle.packet.specs.declared.kinds.Operation.{Operation}
+use Rattle.script_follower.specs.Following.{Following, left_of, after_issue}
 use Rattle.script_follower.specs.ProcessorRecord.{ProcessorRecord, ready, issued_by}
 use Rattle.net_interface.specs.Inside.{record_of, AreOperationsOf}
-use Rattle.net_interface.proofs.Recorded.{issued_within, after_issued, issued_record}
+use Rattle.net_interface.proofs.Recorded.{left_falls, after_issued, issued_record}
 use Rattle.net_interface.proofs.record.Record.issue.Goals as goal
 
 pub push_within-requires : goal.push_within-requires
@@ -9,16 +11,17 @@ push_within-requires g c =
     let s = c.self.inside in
     let is = c.self.invariant in
     let fact : ready (record_of s) ≡ Some (c.args.tag.0, c.args.operation) = ap ready c.self.view_is ∙ c.requires in
-    let more = issued_within is.lines _ is.now (issued_by (record_of s) c.args.tag.0 c.args.operation)
-    (after_issued is.lines is.past is.now (record_of s) is.operations c.args.tag.0 c.args.operation fact) in
-    let n = length-append s.issued.items (c.args.operation ∷ []) in
-    omega (arith, more, is.issued_room, s.issued.ok.0)
+    let less = left_falls is.lines is.past is.now (record_of s) is.operations c.args.tag.0 c.args.operation fact in
+    omega (arith, less, is.issued_room, s.issued.ok.0)
 
 pub invariant_of-self : goal.invariant_of-self
 invariant_of-self g c =
     let s = c.self.inside in
     let is = c.self.invariant in
     let fact : ready (record_of s) ≡ Some (c.args.tag.0, c.args.operation) = ap ready c.self.view_is ∙ c.requires in
+    let less = left_falls is.lines is.past is.now (record_of s) is.operations c.args.tag.0 c.args.operation fact in
+    let left = ap (λ (f : Following). left_of f) c.issue-index.ensures.state in
+    let more = ap (λ (os : List Operation). length os) c.push_within.ensures.items ∙ length-append s.issued.items (c.args.operation ∷ []) in
     record {
       lines = is.lines;
       past = is.past ++ record { operation = c.args.operation; issue = is.now; answer = None } ∷ [];
@@ -29,6 +32,6 @@ invariant_of-self g c =
           c.push_within.new.items.items
           c.issue-index.ensures.index c.issue-index.ensures.state c.hold.ensures c.push_within.ensures.items))
           (after_issued is.lines is.past is.now (record_of s) is.operations c.args.tag.0 c.args.operation fact);
-      issued_room = omega (arith, is.issued_room, c.push_within.ensures.capacity);
-      answers_room = is.answers_room;
+      issued_room = omega (arith, is.issued_room, c.push_within.ensures.capacity, less, left, more);
+      answers_room = omega (arith, is.answers_room, less, left, more);
     }
