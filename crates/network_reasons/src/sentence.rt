@@ -5,11 +5,9 @@ ghost use Rattle.std.specs.Str.Lines.{lines};
 ghost use Rattle.network_reasons.specs.Wrong.{Tells};
 ghost use Rattle.network_reasons.specs.Sentences.{refusal_in, IsAbout};
 
-use crate::before::line_at;
 use crate::reason::{Keyword, NetworkReason};
 use crate::refusal::{Refusal, network_refusal};
-use explained::{Named, Quoted};
-use lexer::first_words;
+use explained::{Filled, Named, Words};
 use std::alloc::Allocator;
 use std::fmt;
 
@@ -39,35 +37,6 @@ pub fn network_sentence<'a, A: Allocator + Copy>(
     })
 }
 
-/// The first words of a line; those that it hasn't are empty.
-#[derive(Clone, Copy)]
-struct Words<'a> {
-    words: [&'a [u8]; 7],
-}
-
-impl<'a> Words<'a> {
-    /// The words of the line of a number.
-    fn of(text: &'a [u8], line: u64) -> Words<'a> {
-        match line_at(text, line) {
-            Some(found) => {
-                let (words, _) = first_words(found);
-                Words { words }
-            }
-            None => Words {
-                words: [b"".as_slice(); 7],
-            },
-        }
-    }
-
-    /// The word at a place, as it is quoted.
-    fn at(&self, place: u32) -> Quoted<'a> {
-        match self.words.get(place as usize) {
-            Some(word) => Quoted { word },
-            None => Quoted { word: b"" },
-        }
-    }
-}
-
 /// What stands behind a keyword.
 fn numbers_text(keyword: Keyword) -> &'static str {
     match keyword {
@@ -80,6 +49,67 @@ fn numbers_text(keyword: Keyword) -> &'static str {
     }
 }
 
+/// What is told of a reason.
+fn text_of(reason: NetworkReason) -> &'static str {
+    match reason {
+        NetworkReason::UnknownKeyword => {
+            "A: a line begins with channels, inject, eject, join, next or reply"
+        }
+        NetworkReason::NumberCount(_) => "A: behind it K",
+        NetworkReason::NotNumber(_) => "W: a number belongs there",
+        NetworkReason::ChannelsFirst => "A: it comes behind channels, which is not given yet",
+        NetworkReason::ChannelsMissing => "the text ends without channels",
+        NetworkReason::ChannelsTwice(_) => "channels: it is given at line N already",
+        NetworkReason::ChannelsLimits => "channels B: a network has 1 to 16384 channels",
+        NetworkReason::ChannelLimits(_, _) => { "channel W: the network has the channels 0 to N" }
+        NetworkReason::KindTwice(_) => "channel B: its kind is given at line N already",
+        NetworkReason::EjectionLate(_) => {
+            "eject B: ejection channels come before the first next, which is at line N"
+        }
+        NetworkReason::EjectionsLimits => {
+            "eject B: a network has at most 1024 ejection channels"
+        }
+        NetworkReason::JoinsLimits => "join B C: a network has at most 1048576 joins",
+        NetworkReason::NotEjection(_) => "channel W: it is no ejection channel",
+        NetworkReason::NotInjection(_) => "channel W: it is no injection channel",
+        NetworkReason::ChoiceTwice(_) => "next B C: it is given at line N already",
+        NetworkReason::ReplyTwice(_) => "reply B C: it is given at line N already",
+        NetworkReason::Memory => "a request for memory was refused while it was read",
+    }
+}
+
+/// The place of the word that a reason is about.
+fn place_of(reason: NetworkReason) -> u32 {
+    match reason {
+        NetworkReason::NotNumber(place) => place,
+        NetworkReason::ChannelLimits(place, _) => place,
+        NetworkReason::NotEjection(place) => place,
+        NetworkReason::NotInjection(place) => place,
+        _ => 0,
+    }
+}
+
+/// The number that is told of a reason: a line, or the last channel.
+fn number_of(reason: NetworkReason) -> u64 {
+    match reason {
+        NetworkReason::ChannelsTwice(line) => line,
+        NetworkReason::ChannelLimits(_, count) => u64::from(count.saturating_sub(1)),
+        NetworkReason::KindTwice(line) => line,
+        NetworkReason::EjectionLate(line) => line,
+        NetworkReason::ChoiceTwice(line) => line,
+        NetworkReason::ReplyTwice(line) => line,
+        _ => 0,
+    }
+}
+
+/// What is told of a reason to stand behind a keyword.
+fn name_of(reason: NetworkReason) -> &'static str {
+    match reason {
+        NetworkReason::NumberCount(keyword) => numbers_text(keyword),
+        _ => "",
+    }
+}
+
 impl<'a> fmt::Display for NetworkSentence<'a> {
     fn fmt<W: fmt::Write>(&self, f: &mut fmt::Formatter<W>) -> fmt::Result {
         f.write_str(self.name)?;
@@ -87,85 +117,15 @@ impl<'a> fmt::Display for NetworkSentence<'a> {
             write!(f, ":{}", self.refusal.line)?;
         }
         f.write_str(": ")?;
-        let words = Words::of(self.text, self.refusal.line);
-        match self.refusal.reason {
-            NetworkReason::UnknownKeyword => write!(
-                f,
-                "{}: a line begins with channels, inject, eject, join, next or reply",
-                words.at(0)
-            ),
-            NetworkReason::NumberCount(keyword) => {
-                write!(f, "{}: behind it {}", words.at(0), numbers_text(keyword))
-            }
-            NetworkReason::NotNumber(place) => {
-                write!(f, "{}: a number belongs there", words.at(place))
-            }
-            NetworkReason::ChannelsFirst => write!(
-                f,
-                "{}: it comes behind channels, which is not given yet",
-                words.at(0)
-            ),
-            NetworkReason::ChannelsMissing => f.write_str("the text ends without channels"),
-            NetworkReason::ChannelsTwice(line) => {
-                write!(f, "channels: it is given at line {line} already")
-            }
-            NetworkReason::ChannelsLimits => write!(
-                f,
-                "channels {}: a network has 1 to 16384 channels",
-                words.at(1)
-            ),
-            NetworkReason::ChannelLimits(place, count) => write!(
-                f,
-                "channel {}: the network has the channels 0 to {}",
-                words.at(place),
-                count.saturating_sub(1)
-            ),
-            NetworkReason::KindTwice(line) => write!(
-                f,
-                "channel {}: its kind is given at line {} already",
-                words.at(1),
-                line
-            ),
-            NetworkReason::EjectionLate(line) => write!(
-                f,
-                "eject {}: ejection channels come before the first next, which is at line {}",
-                words.at(1),
-                line
-            ),
-            NetworkReason::EjectionsLimits => write!(
-                f,
-                "eject {}: a network has at most 1024 ejection channels",
-                words.at(1)
-            ),
-            NetworkReason::JoinsLimits => write!(
-                f,
-                "join {} {}: a network has at most 1048576 joins",
-                words.at(1),
-                words.at(2)
-            ),
-            NetworkReason::NotEjection(place) => {
-                write!(f, "channel {}: it is no ejection channel", words.at(place))
-            }
-            NetworkReason::NotInjection(place) => {
-                write!(f, "channel {}: it is no injection channel", words.at(place))
-            }
-            NetworkReason::ChoiceTwice(line) => write!(
-                f,
-                "next {} {}: it is given at line {} already",
-                words.at(1),
-                words.at(2),
-                line
-            ),
-            NetworkReason::ReplyTwice(line) => write!(
-                f,
-                "reply {} {}: it is given at line {} already",
-                words.at(1),
-                words.at(2),
-                line
-            ),
-            NetworkReason::Memory => {
-                f.write_str("a request for memory was refused while it was read")
-            }
-        }
+        let reason = self.refusal.reason;
+        let filled = Filled {
+            text: text_of(reason),
+            words: Words::of_line(self.text, self.refusal.line),
+            place: place_of(reason),
+            number: u128::from(number_of(reason)),
+            other: 0,
+            name: name_of(reason),
+        };
+        write!(f, "{filled}")
     }
 }

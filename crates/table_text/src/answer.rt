@@ -22,6 +22,19 @@ pub struct Answer<A: Allocator = Global> {
     pub rising: bool,
 }
 
+/// Adds a text and a number.
+fn put_number<A: Allocator>(
+    out: &mut Vec<u8, A>,
+    before: &str,
+    number: usize,
+) -> Result<(), AllocError>
+    ensures { OnOk result (out.new.items ≡ out.old.items ++ (before.now ++ decimal number)) }
+{
+    let mut digits = Buffer::new();
+    out.extend_from_slice(before.as_bytes())?;
+    out.extend_from_slice(digits.format(number).as_bytes())
+}
+
 /// Adds a text, a number, a text, a number and a text.
 fn put_pair<A: Allocator>(
     out: &mut Vec<u8, A>,
@@ -34,11 +47,8 @@ fn put_pair<A: Allocator>(
     ensures { OnOk result
         (out.new.items ≡ out.old.items ++ pair_line before.now a between.now b behind.now) }
 {
-    let mut digits = Buffer::new();
-    out.extend_from_slice(before.as_bytes())?;
-    out.extend_from_slice(digits.format(a).as_bytes())?;
-    out.extend_from_slice(between.as_bytes())?;
-    out.extend_from_slice(digits.format(b).as_bytes())?;
+    put_number(out, before, a)?;
+    put_number(out, between, b)?;
     out.extend_from_slice(behind.as_bytes())
 }
 
@@ -49,20 +59,11 @@ fn put_why<A: Allocator>(out: &mut Vec<u8, A>, why: Why) -> Result<(), AllocErro
     match why {
         Why::NoSender => out.extend_from_slice(b"the first is no injection channel"),
         Why::NoReceiver => out.extend_from_slice(b"the second is no ejection channel"),
-        Why::Leaves(step) => put_step(out, "no channel at step ", step),
-        Why::Ejects(step) => put_step(out, "another ejection channel at step ", step),
-        Why::Injects(step) => put_step(out, "an injection channel at step ", step),
+        Why::Leaves(step) => put_number(out, "no channel at step ", step),
+        Why::Ejects(step) => put_number(out, "another ejection channel at step ", step),
+        Why::Injects(step) => put_number(out, "an injection channel at step ", step),
         Why::Round => out.extend_from_slice(b"round for ever"),
     }
-}
-
-/// Adds a text and the number of a step.
-fn put_step<A: Allocator>(out: &mut Vec<u8, A>, before: &str, step: usize) -> Result<(), AllocError>
-    ensures { OnOk result (out.new.items ≡ out.old.items ++ (before.now ++ decimal step)) }
-{
-    let mut digits = Buffer::new();
-    out.extend_from_slice(before.as_bytes())?;
-    out.extend_from_slice(digits.format(step).as_bytes())
 }
 
 /// Adds the line of a pair without a route.

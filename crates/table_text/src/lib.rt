@@ -4,9 +4,11 @@
 
 pub mod answer;
 mod fault;
+mod lines;
 pub mod network;
 mod number;
 mod reading;
+mod taking;
 
 pub use answer::{Answer, judge_network, network_answer, verdict_text};
 pub use network::{Network, read_network};

@@ -8,5 +8,8 @@ use torus::Fault;
 pub(crate) fn an_index(word: &[u8]) -> Result<u32, Fault>
     ensures { result ≡ an_index word.now }
 {
-    index(word).ok_or(Fault::Line)
+    match index(word) {
+        Some(index) => Ok(index),
+        None => Err(Fault::Line),
+    }
 }
