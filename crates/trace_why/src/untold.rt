@@ -2,7 +2,7 @@ use std::alloc::AllocError;
 use trace_text::Unfound;
 
 /// Why it is not told which values an answer may tell.
-#[derive(Clone, Copy, Debug, PartialEq, Eq)]
+#[derive(Clone, Copy)]
 pub enum Untold {
     /// A request for memory was refused.
     Memory,
