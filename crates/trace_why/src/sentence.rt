@@ -1,6 +1,6 @@
 //! The sentences that tell a reader why a trace has no order.
 
-ghost use Rattle.std.specs.Prelude.{◌≡◌, ℕ, Some, IfOk, IfSome, MatchOption, Contains, slice_get};
+ghost use Rattle.std.specs.Prelude.{◌≡◌, ℕ, true, false, Some, IfOk, IfSome, MatchOption, Contains, slice_get};
 ghost use Rattle.std.specs.Str.Lines.{lines};
 ghost use Rattle.trace_order.specs.Traces.{IsIssuedAt};
 ghost use Rattle.trace_why.specs.declared.calls.CallAt.{CallAt};
@@ -53,6 +53,17 @@ fn tries(events: usize) -> usize {
     MOST_EVENTS / events
 }
 
+/// Whether an event is of this line.
+fn is_of_line(lines: &[u64], event: usize, line: u64) -> bool
+    ensures yes { result ≡ true → slice_get lines.now event ≡ Some line }
+    ensures no { result ≡ false → slice_get lines.now event ≡ Some line → ⊥ }
+{
+    match lines.get(event).copied() {
+        Some(found) => found == line,
+        None => false,
+    }
+}
+
 /// The first event of a line.
 fn event_at(lines: &[u64], line: u64) -> Option<usize>
     ensures { MatchOption result
@@ -60,7 +71,7 @@ fn event_at(lines: &[u64], line: u64) -> Option<usize>
         (λ k. slice_get lines.now k ≡ Some line) }
 {
     for k in 0..lines.len() {
-        if lines[k] == line {
+        if is_of_line(lines, k, line) {
             return Some(k);
         }
     }

@@ -22,14 +22,3 @@ impl From<AllocError> for Untold {
         Untold::Memory
     }
 }
-
-impl From<Unfound> for Untold {
-    ghost use Rattle.std.specs.Prelude.{◌≡◌};
-    ghost use Rattle.trace_why.specs.declared.untold.Untold.TheVariants.{Undecided};
-
-    ghost from_gives = { λ why e. e ≡ Undecided why };
-
-    fn from(why: Unfound) -> Untold {
-        Untold::Undecided(why)
-    }
-}
