@@ -15,15 +15,8 @@ pub(crate) struct Words<'a> {
 impl<'a> Words<'a> {
     /// The words of the line of a number.
     pub(crate) fn of(text: &'a [u8], line: u64) -> Words<'a> {
-        match line_at(text, line) {
-            Some(found) => {
-                let (words, _) = first_words(found);
-                Words { words }
-            }
-            None => Words {
-                words: [b"".as_slice(); 7],
-            },
-        }
+        let (words, _) = first_words(line_at(text, line).unwrap_or(b"".as_slice()));
+        Words { words }
     }
 
     /// The word at a place, as it is quoted.
