@@ -13,7 +13,7 @@ use trace_report::Unfit;
 use trace_text::{Finding, Unfound, read_trace};
 
 /// What a trace text is judged to be.
-#[derive(Clone, Copy, Debug, PartialEq, Eq)]
+#[derive(Clone, Copy)]
 pub enum Judged {
     /// It is linearizable, and an order that explains it is printed.
     Linearizable,

@@ -8,6 +8,8 @@ pub mod line;
 pub mod reason;
 pub mod sentence;
 mod setting;
+mod wording;
+mod words;
 
 pub use line::trace_reason;
 pub use reason::{Keyword, TraceReason};

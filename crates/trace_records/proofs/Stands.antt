@@ -1,22 +1,19 @@
 -- What each record makes is a trace.
-use Rattle.std.proofs.Common.{◌≡◌, ◌⊎◌, ⊎_elim, inl, inr, refl, ℕ, zero, suc, ◌+◌, ◌<◌, ◌==◌, [], drop, Some, None, true, false, List, ◌∷◌, sym, ◌∙◌, ap, subst, arith, slice_get}
+use Rattle.std.proofs.Common.{◌≡◌, ◌⊎◌, ⊎_elim, inl, inr, refl, ℕ, zero, suc, ◌+◌, ◌==◌, [], drop, Some, None, false, List, ◌∷◌, sym, ◌∙◌, ap, subst, arith, slice_get}
 use Rattle.std.specs.Prelude.{nat_lt, not, Result, Ok, Err, ok_or, if◌then◌else◌}
 use Rattle.std.specs.List.{slice_index_or}
-use Rattle.std.proofs.lemmas.Bool.Decides.{nat_tests}
 use Rattle.script.specs.declared.fault.LineFault.{LineFault}
 use Rattle.script.specs.Outcome.{line_of_fault, then_lines}
 use Rattle.trace_order.specs.declared.event.Event.{Event}
 use Rattle.torus.specs.declared.fault.Fault.{Fault}
 use Rattle.torus.specs.declared.fault.Fault.TheVariants as fault
-use Rattle.trace_text.proofs.Outcomes.{one_ok, bind_ok, else_ok, then_ok, if_ok, not_true}
+use Rattle.trace_text.proofs.Outcomes.{one_ok, bind_ok, else_ok, then_ok, if_ok, not_true, lt_true}
+use Rattle.trace_text.specs.IssueNumbers.{numbers_of}
 use Rattle.trace_records.specs.declared.record.EventRecord.{EventRecord}
 use Rattle.trace_records.specs.Numbered.{op_numbered, reply_numbered}
-use Rattle.trace_records.specs.Gathered.{Gathered, after_answer, after_issue, after_record, events_from, is_replied, numbers_of, with_answer, with_issue}
+use Rattle.trace_records.specs.Gathered.{Gathered, after_answer, after_issue, after_record, events_from, is_replied, with_answer, with_issue}
 use Rattle.trace_records.specs.Kept.{IsGathered}
 use Rattle.trace_records.proofs.Events.{answer_kept, issue_kept}
-
-lt_true : (a b : ℕ) → nat_lt a b ≡ true → a < b
-lt_true a b h = grind (arith, nat_tests, h)
 
 issue_stands : (words : ℕ) (g next : Gathered) (e : EventRecord) → IsGathered words g → after_issue words g e ≡ Ok next → IsGathered words next
 issue_stands words g next e k h =
@@ -32,7 +29,7 @@ answer_stands : (words : ℕ) (g next : Gathered) (e : EventRecord) → IsGather
 answer_stands words g next e k h =
     let reply = bind_ok (ok_or (reply_numbered e.has_old e.old) fault.Line) _ next h in
     let processor = else_ok (not (nat_lt e.processor 4096)) fault.Processor _ next reply.2 in
-    let n = bind_ok (ok_or (slice_get (numbers_of g e.processor) e.index) fault.Range) _ next processor.1 in
+    let n = bind_ok (ok_or (slice_get (numbers_of g.numbers e.processor) e.index) fault.Range) _ next processor.1 in
     let goes = else_ok (not (is_replied (slice_get g.events n.0) reply.0)) fault.Line _ next n.2 in
     let new = else_ok (slice_index_or g.answered n.0 false) fault.Setting _ next goes.1 in
     let same : with_answer g n.0 reply.0 ≡ next = one_ok _ next new.1 in

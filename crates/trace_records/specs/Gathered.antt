@@ -1,6 +1,6 @@
 -- The trace that records of events are: what each record makes of what the records before it made
 -- (this project's own format).
-use Rattle.std.specs.Prelude.{ℕ, ◌+◌, ◌==◌, Bool, true, false, not, nat_lt, List, [], ◌∷◌, ◌++◌, length, replicate}
+use Rattle.std.specs.Prelude.{ℕ, ◌+◌, ◌==◌, Bool, true, false, not, nat_lt, List, [], ◌∷◌, ◌++◌, length}
 use Rattle.std.specs.Prelude.{slice_get, slice_set, Option, Some, None, ok_or, Result, Ok, Err, if◌then◌else◌}
 use Rattle.std.specs.List.{slice_index_or}
 use Rattle.torus.specs.declared.fault.Fault.{Fault}
@@ -14,6 +14,7 @@ use Rattle.trace_order.specs.declared.event.Event.{Event}
 use Rattle.trace_order.specs.declared.event.Event.TheVariants.{Issue, Answer}
 use Rattle.script.specs.declared.fault.LineFault.{LineFault}
 use Rattle.script.specs.Outcome.{◌>>=◌, then_lines}
+use Rattle.trace_text.specs.IssueNumbers.{no_numbers, numbers_of, with_number}
 use Rattle.trace_records.specs.declared.record.EventRecord.{EventRecord}
 use Rattle.trace_records.specs.Numbered.{op_numbered, reply_numbered}
 
@@ -26,16 +27,12 @@ pub record Gathered : Type 0 where
 
 -- nothing is given
 abbrev pub nothing_gathered : Gathered
-nothing_gathered = record { numbers = replicate 4096 []; answered = []; events = [] }
-
--- the numbers of the operations of a processor
-abbrev pub numbers_of : Gathered → ℕ → List ℕ
-numbers_of g p = slice_index_or g.numbers p []
+nothing_gathered = record { numbers = no_numbers; answered = []; events = [] }
 
 -- one operation more: its number is the place of its issue among the events
 abbrev pub with_issue : Gathered → ℕ → Operation → Gathered
 with_issue g p o = record {
-  numbers = slice_set g.numbers p (numbers_of g p ++ length g.events ∷ []);
+  numbers = with_number g.numbers p (length g.events);
   answered = g.answered ++ false ∷ [];
   events = g.events ++ Issue (record { id = length g.events; operation = o }) ∷ [];
 }
@@ -79,7 +76,7 @@ add_answer g n reply =
 abbrev pub after_answer : Gathered → EventRecord → Result Gathered Fault
 after_answer g e = ok_or (reply_numbered e.has_old e.old) fault.Line >>= λ reply.
     if not (nat_lt e.processor 4096) then Err fault.Processor
-    else (ok_or (slice_get (numbers_of g e.processor) e.index) fault.Range >>= λ n.
+    else (ok_or (slice_get (numbers_of g.numbers e.processor) e.index) fault.Range >>= λ n.
     add_answer g n reply)
 
 -- a record of an issue is of kind 0, and one of an answer of kind 1

@@ -1,11 +1,10 @@
 -- What the program's own types stand for.
-use Rattle.trace_text.specs.Views.{lists_of}
 use Rattle.trace_records.specs.declared.gathering.Gathering as gathering
 use Rattle.trace_records.specs.Gathered.{Gathered}
 
 abbrev pub gathered_of : {A : Type 0} → gathering.Gathering A → Gathered
 gathered_of g = record {
-  numbers = lists_of g.numbers.items;
+  numbers = g.numbers;
   answered = g.answered.items;
   events = g.events.items;
 }

@@ -1,7 +1,7 @@
 //! The trace that records are.
 
 ghost use Rattle.std.specs.Prelude.{◌≡◌, ◌<◌, IfOk, Some, length, slice_get};
-ghost use Rattle.script.specs.Outcome.{Gives, line_of_fault};
+ghost use Rattle.script.specs.Outcome.{Gives};
 ghost use Rattle.trace_order.specs.Traces.{IsTrace};
 ghost use Rattle.trace_records.specs.Gathered.{trace_of};
 
@@ -11,16 +11,7 @@ use script::LineFault;
 use std::alloc::Allocator;
 use torus::Fault;
 use trace_order::Event;
-
-/// A fault that was found at a record.
-fn fault_at(fault: Fault, place: u64) -> LineFault
-    ensures { result ≡ record { fault = fault; line = line_of_fault fault place } }
-{
-    match fault {
-        Fault::Memory => LineFault { fault, line: 0 },
-        _ => LineFault { fault, line: place },
-    }
-}
+use trace_text::fault_at;
 
 /// The record at a place.
 fn record_at(records: &[EventRecord], place: usize) -> EventRecord

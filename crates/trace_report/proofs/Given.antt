@@ -1,7 +1,5 @@
 -- What is given of a trace and of an order that explains it.
 use Rattle.std.proofs.Common.{◌≡◌, ℕ, ◌+◌, ◌<◌, ◌≤◌, List, length, Some, None, sym, arith, subst, slice_get}
-use Rattle.std.specs.Prelude.{unwrap_or}
-use Rattle.std.proofs.lemmas.List.FromFn.{length-map-range_with_len}
 use Rattle.std.proofs.lemmas.Option.{slice_get_within, slice_get-get_or}
 use Rattle.packet.specs.declared.kinds.Op.TheVariants.{Load}
 use Rattle.trace_order.specs.declared.event.Call.{Call}
@@ -9,7 +7,8 @@ use Rattle.trace_order.specs.declared.event.Event.TheVariants.{Issue}
 use Rattle.trace_order.specs.Orders.{IsOrder}
 use Rattle.trace_order.specs.Traces.{IsIssuedAt}
 use Rattle.trace_text.specs.declared.issued.Issued.{Issued}
-use Rattle.trace_text.specs.Traced.{TraceSpec, opening_of, value_at}
+use Rattle.trace_text.specs.Traced.{TraceSpec, opening_of}
+use Rattle.trace_text.proofs.Opening.{length-opening}
 use Rattle.trace_report.specs.declared.times.Times.{Times}
 use Rattle.trace_report.specs.Fitting.{IsFit}
 use Rattle.trace_report.specs.Services.{call_at, issued_of, service_of, services_of}
@@ -29,9 +28,6 @@ pub record Given (t : TraceSpec) (tiles : ℕ) (times : List Times) (order : Lis
 -- the operation at a place is there
 pub call_there : (order : List Call) (x : ℕ) → x < length order → slice_get order x ≡ Some (call_at order x)
 call_there order x l = slice_get-get_or order x (record { id = 0; operation = record { address = 0; op = Load } }) l
-
-pub length-opening : (t : TraceSpec) → length (opening_of t) ≡ t.words
-length-opening t = length-map-range_with_len (λ a. unwrap_or (value_at t.inits a) 0) 0 t.words
 
 -- the operation of its number is known
 known_of : (t : TraceSpec) (order : List Call) → IsWhole t → IsOrder (opening_of t) t.events order → (x : ℕ) → x < length order

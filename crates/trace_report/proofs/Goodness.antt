@@ -27,7 +27,8 @@ use Rattle.trace_report.specs.Report.{IsReportOf, report_with, shape_of, banks_o
 use Rattle.trace_report.specs.Times.{AreTimes}
 use Rattle.trace_report.specs.Whole.{IsWhole}
 use Rattle.trace_report.proofs.Lists.{count_map, image_of, mapped_of}
-use Rattle.trace_report.proofs.Given.{Given, length-opening}
+use Rattle.trace_text.proofs.Opening.{length-opening}
+use Rattle.trace_report.proofs.Given.{Given}
 use Rattle.trace_report.proofs.Rows.{bank_count, entry_of, entry_there}
 use Rattle.trace_report.proofs.Numbered.{line_at, numbered, services_rise}
 use Rattle.trace_report.proofs.Replayed.{are_entries}

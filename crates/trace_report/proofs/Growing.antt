@@ -87,6 +87,13 @@ replies_more opening order k l =
     ap (λ (os : List Operation). replies os opening) (operations_more order k l)
     ∙ replies-append (operations_of (take k order)) ((call_at order k).operation ∷ []) opening
 
+-- an address of the memory is one after some operations too
+pub still_inside : (opening words : List ℕ) (order : List Call) (k a : ℕ) → a < length opening → words ≡ memory_of opening (take k order)
+    → a < length words
+still_inside opening words order k a inside are =
+    let same = ap length are in
+    omega (arith, inside, same, length-memory_after (operations_of (take k order)) opening)
+
 -- the word that it found
 found : (opening words : List ℕ) (order : List Call) (k word : ℕ) → (call_at order k).operation.address < length opening
     → words ≡ memory_of opening (take k order) → word ≡ get_or words (call_at order k).operation.address word

@@ -23,7 +23,7 @@ use Rattle.trace_report.specs.Fitting.{IsFit}
 use Rattle.trace_report.specs.Report.{IsMadeOf, IsReportOf, banks_of, shape_of}
 use Rattle.trace_report.specs.Times.{AreTimes}
 use Rattle.trace_report.specs.Services.{service_of, services_of}
-use Rattle.trace_report.proofs.Given.{length-opening}
+use Rattle.trace_text.proofs.Opening.{length-opening}
 use Rattle.trace_report.proofs.Lists.{rows_of}
 
 abbrev all_of : TraceSpec → List Times → List Call → List Service

@@ -9,7 +9,7 @@ use std::alloc::{AllocError, Allocator};
 use trace_order::Event;
 
 /// When an operation of a trace was issued and answered: how many events came before.
-#[derive(Clone, Copy, Debug, PartialEq, Eq)]
+#[derive(Clone, Copy)]
 pub struct Times {
     pub issued: u32,
     /// `None` where it wasn't answered.

@@ -3,7 +3,7 @@
 use std::alloc::AllocError;
 
 /// Why an order of a trace has no report: memory was refused, or a limit of reports is passed.
-#[derive(Clone, Copy, Debug, PartialEq, Eq)]
+#[derive(Clone, Copy)]
 pub enum Unfit {
     /// A request for memory was refused.
     Memory,

@@ -1,10 +1,8 @@
 -- A trace with another answer at its end, as it is written and with places for addresses.
-use Rattle.std.proofs.Common.{◌≡◌, ◌⊎◌, inl, inr, ⊎_elim, ℕ, suc, ◌+◌, ◌<◌, ◌≤◌, List, [], ◌∷◌, ◌++◌, length, Some, refl, sym, ◌∙◌, ap, subst, arith, slice_get, take, map}
-use Rattle.std.proofs.lemmas.Bool.{cases_lt}
-use Rattle.std.proofs.Common.{get_or, Bool, true, false}
-use Rattle.std.specs.Prelude.{Vec, Option, None, Result, Ok, Err, MatchOption, is_some, is_ok, is_err, unwrap_or, if◌then◌else◌}
+use Rattle.std.proofs.Common.{◌≡◌, ◌⊎◌, inl, inr, ⊎_elim, ℕ, ◌+◌, ◌<◌, ◌≤◌, List, [], ◌∷◌, ◌++◌, length, Some, sym, ◌∙◌, ap, subst, arith, slice_get, take, map}
+use Rattle.std.proofs.Common.{Bool, true, false}
+use Rattle.std.specs.Prelude.{Vec, Option, None, Result, Ok, Err, MatchOption, is_some, is_ok, is_err, if◌then◌else◌}
 use Rattle.std.proofs.lemmas.List.{map_push, length-take-le}
-use Rattle.std.proofs.lemmas.List.FromFn.{get_or-map-range_with_len}
 use Rattle.packet.specs.declared.kinds.Reply.{Reply}
 use Rattle.trace_order.specs.declared.event.Call.{Call}
 use Rattle.trace_order.specs.declared.event.Event.{Event}
@@ -20,9 +18,9 @@ use Rattle.trace_text.specs.Allowed.{answered_so, trace_answered_so, IsAllowed}
 use Rattle.trace_text.specs.Findings.{place_of, address_of, trace_read, unfound_at, IsUnfound}
 use Rattle.trace_text.specs.Kept.{IsKept}
 use Rattle.trace_text.specs.Renumbered.{moved_call, moved_event, IsRenumbering}
-use Rattle.trace_text.specs.Traced.{Reading, opening_of, value_at}
+use Rattle.trace_text.specs.Traced.{Reading, opening_of}
 use Rattle.trace_text.proofs.Found.{others, renumbering, line_is, crowd_in}
-use Rattle.trace_text.proofs.Renumbered.{map_get, take_map, issue_back, answer_back, order_there, order_back}
+use Rattle.trace_text.proofs.Renumbered.{map_get, issue_back, answer_back, order_there, order_back}
 
 -- what the trace with another answer issues is issued before it
 pub issue_before : (trace : List Event) (n id : ℕ) (reply : Reply) (i : ℕ) (c : Call) → IsIssuedAt (answered_so trace n id reply) i c
@@ -194,10 +192,6 @@ pub undecided_given : (r : Reading) → IsKept r → (n id : ℕ) (reply told : 
 undecided_given r k n id reply told at es e why tells u is =
     subst (λ (x : Unfound). IsUnfound (trace_answered_so (trace_read r) n id reply) x) (sym is)
     (not_decided r k n id reply told at why (subst (λ (f : List Event). IsUndecided f why) e u))
-
--- the opening word at an address
-pub opening_is : (r : Reading) (a : ℕ) → a < r.words → unwrap_or (value_at r.inits a) 0 ≡ get_or (opening_of (trace_read r)) a 0
-opening_is r a low = sym (get_or-map-range_with_len (λ b. unwrap_or (value_at r.inits b) 0) 0 r.words a a 0 low (omega arith))
 
 -- a push that went well
 pub pushed : {T E A : Type 0} (r : Result T E) (b : Bool) (new more old : List A) → b ≡ is_err r → b ≡ false

@@ -2,9 +2,15 @@ pub mod Allowing
 pub mod Answered
 pub mod Entries
 pub mod Found
+pub mod Growing
 pub mod Kept
+pub mod KeptAnswers
+pub mod KeptIssues
+pub mod KeptSettings
 pub mod Mapped
 pub mod NumberLists
+pub mod Opening
 pub mod Outcomes
+pub mod Read
 pub mod Renumbered
 pub mod SevenWords

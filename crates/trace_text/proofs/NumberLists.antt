@@ -2,7 +2,7 @@
 use Rattle.std.proofs.Common.{◌≡◌, ℕ, ◌+◌, ◌<◌, List, [], ◌∷◌, ◌++◌, length, get_or, sym, ◌∙◌, ap, replicate}
 use Rattle.std.specs.Prelude.{slice_set, Vec}
 use Rattle.std.proofs.lemmas.List.{map-set, get_or-map, map_push, replicate_more}
-use Rattle.trace_text.specs.Views.{lists_of}
+use Rattle.trace_text.specs.InsideNumbers.{lists_of}
 
 -- one number more in one list
 pub pushed : {A : Type 0} (items : List (Vec ℕ A)) (p : ℕ) (old new : Vec ℕ A) (number : ℕ) → p < length items → old ≡ get_or items p old →

@@ -1,6 +1,7 @@
 -- What is so where a line is taken.
-use Rattle.std.proofs.Common.{◌≡◌, ◌⊎◌, inl, inr, Bool, true, false, refl}
-use Rattle.std.specs.Prelude.{Result, Ok, Err, not, if◌then◌else◌, Option, Some, None, ok_or}
+use Rattle.std.proofs.Common.{◌≡◌, ◌⊎◌, inl, inr, ℕ, ◌<◌, Bool, true, false, refl, arith}
+use Rattle.std.specs.Prelude.{Result, Ok, Err, nat_lt, not, if◌then◌else◌, Option, Some, None, ok_or}
+use Rattle.std.proofs.lemmas.Bool.Decides.{nat_tests}
 use Rattle.torus.specs.declared.fault.Fault.{Fault}
 use Rattle.script.specs.Outcome.{◌>>=◌}
 
@@ -35,6 +36,9 @@ if_ok false m n y h = inr (refl, h)
 pub or_ok : {A : Type 0} (o : Option A) (e : Fault) (y : A) → ok_or o e ≡ Ok y → o ≡ Some y
 or_ok (Some x) e y h = cc
 or_ok None e y h = absurd (cc)
+
+pub lt_true : (a b : ℕ) → nat_lt a b ≡ true → a < b
+lt_true a b h = grind (arith, nat_tests, h)
 
 pub not_true : (b : Bool) → not b ≡ false → b ≡ true
 not_true true h = refl

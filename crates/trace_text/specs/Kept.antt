@@ -4,6 +4,7 @@ use Rattle.packet.specs.declared.kinds.Reply.{Reply}
 use Rattle.trace_order.specs.declared.event.Call.{Call}
 use Rattle.trace_order.specs.Traces.{IsTrace, IsIssuedAt, IsAnsweredAt, WasIssued}
 use Rattle.trace_text.specs.declared.issued.Issued.{Issued}
+use Rattle.trace_text.specs.IssueNumbers.{numbers_of}
 use Rattle.trace_text.specs.Traced.{Reading, value_at}
 
 -- the operation of this number is known as it was issued
@@ -15,17 +16,24 @@ IsKnownAs issued call = (k : Issued) × (slice_get issued call.id ≡ Some k)
 abbrev pub IsRepliedTo : List Issued → ℕ → Reply → Type 0
 IsRepliedTo issued id reply = (k : Issued) × (slice_get issued id ≡ Some k) × (k.reply ≡ Some reply)
 
--- events make a trace, each has its line, what is issued is known with its reply, and has a place
--- of its own
+-- an operation is found by its processor and its index
+abbrev pub AreIndexed : List (List ℕ) → List Issued → Type 0
+AreIndexed numbers issued = (n : ℕ) (k : Issued) → slice_get issued n ≡ Some k
+    → slice_get (numbers_of numbers k.processor) k.index ≡ Some n
+
+-- opening words are words of the memory, events make a trace, each has its line, what is issued is
+-- known with its reply, and has an index and a place of its own
 pub record IsKept (r : Reading) : Type 0 where
   pub words : r.words ≤ 2 ^ 32
   pub processors : length r.numbers ≡ 4096
+  pub opened : (a w : ℕ) → value_at r.inits a ≡ Some w → a < r.words
   pub trace : IsTrace r.words r.events
   pub lines : length r.lines ≡ length r.events
   pub known : (i : ℕ) (call : Call) → IsIssuedAt r.events i call → IsKnownAs r.issued call
   pub issued : (n : ℕ) → n < length r.issued → WasIssued r.events (length r.events) n
   pub replied : (i id : ℕ) (reply : Reply) → IsAnsweredAt r.events i id reply
       → IsRepliedTo r.issued id reply
+  pub indexed : AreIndexed r.numbers r.issued
   pub placed : (i : ℕ) (call : Call) → IsIssuedAt r.events i call
       → (p : ℕ) × (value_at r.places call.operation.address ≡ Some p)
   pub addressed : (a p : ℕ) → value_at r.places a ≡ Some p → slice_get r.addresses p ≡ Some a

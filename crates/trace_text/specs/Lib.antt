@@ -2,6 +2,8 @@ pub mod Allowed
 pub mod Findings
 pub mod Form
 pub mod Inside
+pub mod InsideNumbers
+pub mod IssueNumbers
 pub mod Kept
 pub mod Renumbered
 pub mod Traced

@@ -2,10 +2,10 @@
 -- (this project's own format).
 use Rattle.std.specs.Prelude.{ℕ, ◌+◌, ◌^◌, ◌&&◌, ◌==◌, Bool, true, false, not, nat_le, nat_lt, List, [], ◌∷◌, ◌++◌}
 use Rattle.std.specs.Prelude.{length, map}
-use Rattle.std.specs.Prelude.{replicate, slice_get, slice_set, Option, Some, None, is_some, ok_or, unwrap_or, Result}
+use Rattle.std.specs.Prelude.{slice_get, slice_set, Option, Some, None, is_some, ok_or, unwrap_or, Result}
 use Rattle.std.specs.Prelude.{Ok, Err}
 use Rattle.std.specs.Prelude.{if◌then◌else◌, codes}
-use Rattle.std.specs.List.{slice_index_or, range_with_len}
+use Rattle.std.specs.List.{range_with_len}
 use Rattle.std.specs.Str.{bytes_eq}
 use Rattle.std.specs.Ordering.{nat_cmp}
 use Rattle.std.specs.BTreeMap.{is_at, insert_entry}
@@ -23,6 +23,7 @@ use Rattle.script.specs.Outcome.{◌>>=◌, then_lines}
 use Rattle.trace_text.specs.declared.form.Form.{Form}
 use Rattle.trace_text.specs.declared.issued.Issued.{Issued}
 use Rattle.trace_text.specs.Form.{a_number, form_of, operation_of, told_of, reply_of}
+use Rattle.trace_text.specs.IssueNumbers.{no_numbers, numbers_of, with_number}
 
 -- what stands at an address in a list of addresses with something each, addresses rising
 abbrev pub value_at : {X : Type 0} → List (ℕ × X) → ℕ → Option X
@@ -68,7 +69,7 @@ nothing_read = record {
   inits = [];
   places = [];
   addresses = [];
-  numbers = replicate 4096 [];
+  numbers = no_numbers;
   issued = [];
   events = [];
   lines = [];
@@ -121,10 +122,6 @@ placed r address =
       addresses = r.addresses ++ address ∷ [];
     }))
 
--- the numbers of the issues of a processor
-abbrev pub numbers_of : Reading → ℕ → List ℕ
-numbers_of r p = slice_index_or r.numbers p []
-
 -- one event more, at a line
 abbrev pub noted : Reading → ℕ → Event → Reading
 noted r line event = record r { events = r.events ++ event ∷ []; lines = r.lines ++ line ∷ [] }
@@ -132,10 +129,10 @@ noted r line event = record r { events = r.events ++ event ∷ []; lines = r.lin
 -- one operation more, at a line: its number is how many were issued before
 abbrev pub with_issue : Reading → ℕ → ℕ → Operation → Reading
 with_issue r line p o = noted (record r {
-  numbers = slice_set r.numbers p (numbers_of r p ++ length r.issued ∷ []);
+  numbers = with_number r.numbers p (length r.issued);
   issued = r.issued ++ record {
     processor = p;
-    index = length (numbers_of r p);
+    index = length (numbers_of r.numbers p);
     operation = o;
     reply = None;
   } ∷ [];
@@ -184,7 +181,7 @@ abbrev pub after_answer : Reading → ℕ → ℕ → ℕ → Option ℕ → Res
 after_answer r line p index told =
     if r.words == 0 then Err fault.Setting
     else (if not (nat_lt p 4096) then Err fault.Processor
-    else (ok_or (slice_get (numbers_of r p) index) fault.Range >>= λ n.
+    else (ok_or (slice_get (numbers_of r.numbers p) index) fault.Range >>= λ n.
     ok_or (slice_get r.issued n) fault.Range >>= λ i. add_answer r line n i told))
 
 abbrev pub after_answer_line : Reading → ℕ → List (List ℕ) → Result Reading Fault

@@ -1,56 +1,62 @@
 //! Issues and answers as a trace text gives them.
 
-ghost use Rattle.std.specs.Prelude.{◌≡◌, ◌≤◌, ◌<◌, ◌^◌, ◌++◌, ◌∷◌, [], Some, map, OnOk, IfErr, vec_len, slice_get};
-ghost use Rattle.std.specs.Prelude.{slice_set};
-ghost use Rattle.std.specs.List.{slice_index_or};
+ghost use Rattle.std.specs.Prelude.{◌≡◌, ◌≤◌, ◌<◌, ◌^◌, ◌++◌, ◌∷◌, [], Some, map, length, OnOk, IfErr, slice_get, slice_set};
 ghost use Rattle.script.specs.Outcome.{Makes};
 ghost use Rattle.trace_text.specs.Traced.{after_issue_line, after_issue, add_issue, after_answer_line, after_answer};
-ghost use Rattle.trace_text.specs.Traced.{add_answer, goes_with, placed, noted};
-ghost use Rattle.trace_text.specs.Views.{reading_of, lists_of};
+ghost use Rattle.trace_text.specs.Traced.{add_answer, goes_with, placed, noted, with_value};
+ghost use Rattle.trace_text.specs.Views.{reading_of};
 
 use crate::form::{Form, form_of, reply_of, told_of};
 use crate::issued::Issued;
 use crate::number::a_number;
 use crate::reading::Reading;
-use packet::{Code, Operation};
+use packet::{Code, Operation, Reply};
 use std::alloc::Allocator;
+use std::collections::BTreeMap;
 use torus::Fault;
 use trace_order::{Call, Event};
 
-/// Puts a number at the end of the list of a processor.
-fn push_number<A: Allocator>(
-    numbers: &mut Vec<Vec<u32, A>, A>,
-    p: usize,
-    number: u32,
-) -> Result<(), Fault>
-    requires { p < vec_len numbers.old }
-    ensures value { OnOk result
-        (lists_of numbers.new.items ≡ slice_set (lists_of numbers.old.items) p
-        (slice_index_or (lists_of numbers.old.items) p [] ++ number ∷ [])) }
-    ensures memory { IfErr result (λ e. e ≡ Fault.Memory) }
-{
-    let list = &mut numbers[p];
-    match list.push(number) {
-        Ok(()) => Ok(()),
-        Err(_) => Err(Fault::Memory),
-    }
-}
-
-/// The number at an index.
-fn number_at(numbers: &[u32], index: u128) -> Option<u32>
-    ensures { result ≡ slice_get numbers.now index }
-{
-    if index >= numbers.len() as u128 {
-        return None;
-    }
-    numbers.get(index as usize).copied()
-}
-
 /// The operation of a number.
-fn issued_at(issued: &[Issued], number: u32) -> Option<Issued>
+fn issued_at(issued: &[Issued], number: u64) -> Option<Issued>
     ensures { result ≡ slice_get issued.now number }
 {
     issued.get(number as usize).copied()
+}
+
+/// Gives the operation of a number its reply.
+fn set_reply(issued: &mut [Issued], number: u64, known: Issued, reply: Reply)
+    requires { slice_get issued.old number ≡ Some known }
+    ensures { issued.new ≡ slice_set issued.old number (record known { reply = Some reply }) }
+{
+    issued[number as usize] = Issued {
+        processor: known.processor,
+        index: known.index,
+        operation: known.operation,
+        reply: Some(reply),
+    };
+}
+
+/// Gives an address the next place.
+fn add_place<A: Allocator + Copy>(
+    places: &mut BTreeMap<u32, u32, A>,
+    addresses: &mut Vec<u32, A>,
+    address: u32,
+) -> Result<(), Fault>
+    requires { length addresses.old.items < 2 ^ 20 }
+    ensures places { OnOk result (places.new.entries
+        ≡ with_value places.old.entries address (length addresses.old.items)) }
+    ensures addresses { OnOk result
+        (addresses.new.items ≡ addresses.old.items ++ address ∷ []) }
+    ensures memory { IfErr result (λ e. e ≡ Fault.Memory) }
+{
+    let place = addresses.len() as u32;
+    if places.insert(address, place).is_err() {
+        return Err(Fault::Memory);
+    }
+    if addresses.push(address).is_err() {
+        return Err(Fault::Memory);
+    }
+    Ok(())
 }
 
 /// Whether a reply goes with an operation: `ok` with a store, and a number with every other one.
@@ -66,8 +72,7 @@ fn goes_with(code: Code, told: Option<u128>) -> bool
 impl<A: Allocator + Copy> Reading<A> {
     /// Takes the processor and the operation of an issue.
     pub(crate) fn take_issue(&mut self, line: u64, values: &[&[u8]]) -> Result<(), Fault>
-        requires words { self.old.words ≤ 2 ^ 32 }
-        requires processors { vec_len self.old.numbers ≡ 4096 }
+        requires { self.old.words ≤ 2 ^ 32 }
         ensures { Makes (reading_of self.new) result (after_issue_line (reading_of self.old) line
             (map (λ value. value.now) values.now)) }
     {
@@ -83,8 +88,7 @@ impl<A: Allocator + Copy> Reading<A> {
 
     /// An operation is issued.
     fn issue(&mut self, line: u64, p: u128, form: Form) -> Result<(), Fault>
-        requires words { self.old.words ≤ 2 ^ 32 }
-        requires processors { vec_len self.old.numbers ≡ 4096 }
+        requires { self.old.words ≤ 2 ^ 32 }
         ensures { Makes (reading_of self.new) result
             (after_issue (reading_of self.old) line p form) }
     {
@@ -100,8 +104,7 @@ impl<A: Allocator + Copy> Reading<A> {
 
     /// Adds an operation.
     fn add_issue(&mut self, line: u64, p: u32, operation: Operation) -> Result<(), Fault>
-        requires processors { vec_len self.old.numbers ≡ 4096 }
-        requires processor { p < 4096 }
+        requires { p < 4096 }
         ensures { Makes (reading_of self.new) result
             (add_issue (reading_of self.old) line p operation) }
     {
@@ -110,8 +113,9 @@ impl<A: Allocator + Copy> Reading<A> {
             return Err(Fault::Length);
         }
         self.place(operation.address)?;
-        let index = self.numbers[p as usize].len() as u64;
-        push_number(&mut self.numbers, p as usize, number as u32)?;
+        let id = number as u64;
+        let index = self.numbers.count(p);
+        self.numbers.add(p, id)?;
         let issued = Issued {
             processor: p,
             index,
@@ -121,7 +125,6 @@ impl<A: Allocator + Copy> Reading<A> {
         if self.issued.push(issued).is_err() {
             return Err(Fault::Memory);
         }
-        let id = number as u64;
         self.note(line, Event::Issue(Call { id, operation }))
     }
 
@@ -136,13 +139,7 @@ impl<A: Allocator + Copy> Reading<A> {
         if place >= 1 << 20 {
             return Err(Fault::Length);
         }
-        if self.places.insert(address, place as u32).is_err() {
-            return Err(Fault::Memory);
-        }
-        if self.addresses.push(address).is_err() {
-            return Err(Fault::Memory);
-        }
-        Ok(())
+        add_place(&mut self.places, &mut self.addresses, address)
     }
 
     /// Adds an event.
@@ -161,7 +158,6 @@ impl<A: Allocator + Copy> Reading<A> {
 
     /// Takes the processor, the index and the reply of an answer.
     pub(crate) fn take_answer(&mut self, line: u64, values: &[&[u8]]) -> Result<(), Fault>
-        requires processors { vec_len self.old.numbers ≡ 4096 }
         ensures { Makes (reading_of self.new) result (after_answer_line (reading_of self.old) line
             (map (λ value. value.now) values.now)) }
     {
@@ -178,7 +174,6 @@ impl<A: Allocator + Copy> Reading<A> {
 
     /// An operation is answered.
     fn answer(&mut self, line: u64, p: u128, index: u128, told: Option<u128>) -> Result<(), Fault>
-        requires processors { vec_len self.old.numbers ≡ 4096 }
         ensures { Makes (reading_of self.new) result
             (after_answer (reading_of self.old) line p index told) }
     {
@@ -188,7 +183,7 @@ impl<A: Allocator + Copy> Reading<A> {
         if p >= 4096 {
             return Err(Fault::Processor);
         }
-        let Some(number) = number_at(&self.numbers[p as usize], index) else {
+        let Some(number) = self.numbers.number(p as u32, index) else {
             return Err(Fault::Range);
         };
         let Some(issued) = issued_at(&self.issued, number) else {
@@ -201,7 +196,7 @@ impl<A: Allocator + Copy> Reading<A> {
     fn add_answer(
         &mut self,
         line: u64,
-        number: u32,
+        number: u64,
         issued: Issued,
         told: Option<u128>,
     ) -> Result<(), Fault>
@@ -216,12 +211,7 @@ impl<A: Allocator + Copy> Reading<A> {
             return Err(Fault::Setting);
         }
         let reply = reply_of(told)?;
-        self.issued[number as usize] = Issued {
-            processor: issued.processor,
-            index: issued.index,
-            operation: issued.operation,
-            reply: Some(reply),
-        };
-        self.note(line, Event::Answer(u64::from(number), reply))
+        set_reply(&mut self.issued, number, issued, reply);
+        self.note(line, Event::Answer(number, reply))
     }
 }

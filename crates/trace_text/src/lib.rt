@@ -2,7 +2,9 @@
 #![tactic(auto)]
 
 mod events;
+pub mod fault;
 mod form;
+pub mod issue_numbers;
 pub mod issued;
 pub mod laws;
 pub mod linearize;
@@ -10,6 +12,8 @@ mod number;
 mod reading;
 pub mod text;
 
+pub use fault::fault_at;
+pub use issue_numbers::IssueNumbers;
 pub use issued::Issued;
 pub use linearize::{Finding, Unfound};
 pub use text::{TraceText, read_trace};

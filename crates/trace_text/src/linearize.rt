@@ -1,6 +1,6 @@
 //! Judges the trace of a text: the words that its operations name are numbered from 0 for it.
 
-ghost use Rattle.std.specs.Prelude.{◌≡◌, ◌<◌, true, false, map, unwrap_or, length, slice_index, IfOk, IfErr};
+ghost use Rattle.std.specs.Prelude.{◌≡◌, true, false, map, unwrap_or, IfOk, IfErr};
 ghost use Rattle.std.specs.List.{slice_index_or};
 ghost use Rattle.packet.specs.declared.kinds.Reply.{Reply};
 ghost use Rattle.trace_order.specs.Traces.{IsAnsweredAt};
@@ -29,7 +29,7 @@ pub enum Finding<A: Allocator> {
 }
 
 /// Why the trace of a text is not judged.
-#[derive(Clone, Copy, Debug, PartialEq, Eq)]
+#[derive(Clone, Copy)]
 pub enum Unfound {
     /// A request for memory was refused.
     Memory,
@@ -145,29 +145,29 @@ impl From<AllocError> for Unfound {
     }
 }
 
+/// The line of an event, 0 where there is none.
+fn line_at(lines: &[u64], event: usize) -> u64
+    ensures { result ≡ slice_index_or lines.now event 0 }
+{
+    lines.get(event).copied().unwrap_or(0)
+}
+
+/// Why a trace is not judged, at its line.
+fn at_line(lines: &[u64], why: Undecided) -> Unfound
+    ensures { result ≡ unfound_at lines.now why }
+{
+    match why {
+        Undecided::Memory => Unfound::Memory,
+        Undecided::Configurations { event } => Unfound::Configurations {
+            line: line_at(lines, event),
+        },
+        Undecided::Operations { event } => Unfound::Operations {
+            line: line_at(lines, event),
+        },
+    }
+}
+
 impl<A: Allocator + Copy> Reading<A> {
-    /// The line of an event, 0 where there is none.
-    fn line_at(&self, event: usize) -> u64
-        ensures { result ≡ slice_index_or self.now.lines.items event 0 }
-    {
-        self.lines.get(event).copied().unwrap_or(0)
-    }
-
-    /// Why the trace is not judged, at its line.
-    fn at_line(&self, why: Undecided) -> Unfound
-        ensures { result ≡ unfound_at self.now.lines.items why }
-    {
-        match why {
-            Undecided::Memory => Unfound::Memory,
-            Undecided::Configurations { event } => Unfound::Configurations {
-                line: self.line_at(event),
-            },
-            Undecided::Operations { event } => Unfound::Operations {
-                line: self.line_at(event),
-            },
-        }
-    }
-
     /// Judges the trace, with at most so many configurations of a word at once.
     pub(crate) fn linearize(&self, alloc: A, bound: usize) -> Result<Finding<A>, Unfound>
         requires { IsKept (reading_of self.now) }
@@ -182,9 +182,9 @@ impl<A: Allocator + Copy> Reading<A> {
                 Ok(Finding::Linearizable(order))
             }
             Ok(Verdict::No { event }) => Ok(Finding::No {
-                line: self.line_at(event),
+                line: line_at(&self.lines, event),
             }),
-            Err(why) => Err(self.at_line(why)),
+            Err(why) => Err(at_line(&self.lines, why)),
         }
     }
 
@@ -215,15 +215,7 @@ impl<A: Allocator + Copy> Reading<A> {
         }
         match decide(alloc, &opening, &events, bound) {
             Ok(order) => Ok(order.is_some()),
-            Err(why) => Err(self.at_line(why)),
+            Err(why) => Err(at_line(&self.lines, why)),
         }
-    }
-
-    /// The opening word at an address.
-    pub(crate) fn opening_word(&self, address: u32) -> u64
-        requires { address < self.now.words }
-        ensures { result ≡ slice_index (opening_of (trace_read (reading_of self.now))) address }
-    {
-        word_at(&self.inits, address)
     }
 }

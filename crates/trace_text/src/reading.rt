@@ -1,11 +1,13 @@
 //! What the lines of a trace text give, one after the other.
 
-ghost use Rattle.std.specs.Prelude.{◌≡◌, ◌≤◌, ◌^◌, [], map, replicate, IfOk, vec_len};
+ghost use Rattle.std.specs.Prelude.{◌≡◌, ◌≤◌, ◌^◌, ◌&&◌, codes, map, IfOk};
+ghost use Rattle.std.specs.Str.{bytes_eq};
 ghost use Rattle.script.specs.Outcome.{Makes};
 ghost use Rattle.trace_text.specs.Traced.{after_words, after_keyword, after_title, after_count, after_words_line};
 ghost use Rattle.trace_text.specs.Traced.{after_init, after_init_line, nothing_read};
-ghost use Rattle.trace_text.specs.Views.{reading_of, lists_of};
+ghost use Rattle.trace_text.specs.Views.{reading_of};
 
+use crate::issue_numbers::IssueNumbers;
 use crate::issued::Issued;
 use crate::number::a_number;
 use std::alloc::{AllocError, Allocator};
@@ -26,8 +28,8 @@ pub(crate) struct Reading<A: Allocator> {
     pub(crate) places: BTreeMap<u32, u32, A>,
     /// The addresses that operations are on, by place.
     pub(crate) addresses: Vec<u32, A>,
-    /// For each processor the numbers of its issues.
-    pub(crate) numbers: Vec<Vec<u32, A>, A>,
+    /// The operations of each processor, by their numbers.
+    pub(crate) numbers: IssueNumbers<A>,
     /// The operations by number.
     pub(crate) issued: Vec<Issued, A>,
     pub(crate) events: Vec<Event, A>,
@@ -35,15 +37,11 @@ pub(crate) struct Reading<A: Allocator> {
     pub(crate) lines: Vec<u64, A>,
 }
 
-/// Of each of 4096 processors no numbers.
-fn no_numbers<A: Allocator + Copy>(alloc: A) -> Result<Vec<Vec<u32, A>, A>, AllocError>
-    ensures { IfOk result (λ numbers. lists_of numbers.items ≡ replicate 4096 []) }
+/// Whether these are the words of the first line.
+fn is_title(keyword: &[u8], version: &[u8]) -> bool
+    ensures { result ≡ (bytes_eq keyword.now (codes "trace") && bytes_eq version.now (codes "1")) }
 {
-    let mut numbers = Vec::new(alloc);
-    for _ in 0..4096usize {
-        numbers.push(Vec::new(alloc))?;
-    }
-    Ok(numbers)
+    keyword == b"trace".as_slice() && version == b"1".as_slice()
 }
 
 impl<A: Allocator + Copy> Reading<A> {
@@ -51,13 +49,14 @@ impl<A: Allocator + Copy> Reading<A> {
     pub(crate) fn none(alloc: A) -> Result<Reading<A>, AllocError>
         ensures { IfOk result (λ r. reading_of r ≡ nothing_read) }
     {
+        let numbers = IssueNumbers::none(alloc)?;
         Ok(Reading {
             begun: false,
             words: 0,
             inits: BTreeMap::new(alloc),
             places: BTreeMap::new(alloc),
             addresses: Vec::new(alloc),
-            numbers: no_numbers(alloc)?,
+            numbers,
             issued: Vec::new(alloc),
             events: Vec::new(alloc),
             lines: Vec::new(alloc),
@@ -66,8 +65,7 @@ impl<A: Allocator + Copy> Reading<A> {
 
     /// Takes what the words of a line give.
     pub(crate) fn take(&mut self, line: u64, words: &[&[u8]]) -> Result<(), Fault>
-        requires words { self.old.words ≤ 2 ^ 32 }
-        requires processors { vec_len self.old.numbers ≡ 4096 }
+        requires { self.old.words ≤ 2 ^ 32 }
         ensures { Makes (reading_of self.new) result
             (after_words (reading_of self.old) line (map (λ word. word.now) words.now)) }
     {
@@ -80,8 +78,7 @@ impl<A: Allocator + Copy> Reading<A> {
 
     /// Takes a line by its keyword.
     fn take_keyword(&mut self, line: u64, keyword: &[u8], values: &[&[u8]]) -> Result<(), Fault>
-        requires words { self.old.words ≤ 2 ^ 32 }
-        requires processors { vec_len self.old.numbers ≡ 4096 }
+        requires { self.old.words ≤ 2 ^ 32 }
         ensures { Makes (reading_of self.new) result
             (after_keyword (reading_of self.old) line keyword.now
             (map (λ value. value.now) values.now)) }
@@ -111,7 +108,7 @@ impl<A: Allocator + Copy> Reading<A> {
     {
         match values {
             [version] => {
-                if keyword == b"trace".as_slice() && *version == b"1".as_slice() {
+                if is_title(keyword, version) {
                     self.begun = true;
                     return Ok(());
                 }

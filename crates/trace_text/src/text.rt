@@ -1,16 +1,17 @@
 //! Reads a trace text.
 
-ghost use Rattle.std.specs.Prelude.{◌≡◌, ◌<◌, ℕ, true, false, length, slice_index, IfOk, IfErr, unwrap_or};
+ghost use Rattle.std.specs.Prelude.{◌≡◌, ℕ, true, false, length, slice_index, IfOk, IfErr};
 ghost use Rattle.std.specs.Str.Lines.{lines};
 ghost use Rattle.packet.specs.declared.kinds.Reply.{Reply};
-ghost use Rattle.script.specs.Outcome.{Gives, line_of_fault};
+ghost use Rattle.script.specs.Outcome.{Gives};
 ghost use Rattle.trace_order.specs.declared.event.Call.{Call};
 ghost use Rattle.trace_order.specs.Traces.{IsTrace, IsIssuedAt, IsAnsweredAt};
 ghost use Rattle.trace_text.specs.Allowed.{IsAllowed, trace_answered_so};
 ghost use Rattle.trace_text.specs.Findings.{Tells, IsUnfound};
 ghost use Rattle.trace_text.specs.Kept.{IsKnownAs};
-ghost use Rattle.trace_text.specs.Traced.{trace_of, opening_of, value_at};
+ghost use Rattle.trace_text.specs.Traced.{trace_of, opening_of};
 
+use crate::fault::fault_at;
 use crate::issued::Issued;
 use crate::linearize::{Finding, Unfound, word_at};
 use crate::reading::Reading;
@@ -73,9 +74,9 @@ impl<A: Allocator> TraceText<A> {
         &self.reading.lines
     }
 
-    /// The word that an address holds at first, 0 where no line gave it.
+    /// The word that an address holds at first, 0 where the memory has no such address.
     pub fn opening(&self, address: u32) -> u64
-        ensures { result ≡ unwrap_or (value_at self.now.inits address) 0 }
+        ensures { result ≡ slice_index (opening_of self.now) address }
     {
         word_at(&self.reading.inits, address)
     }
@@ -115,24 +116,6 @@ impl<A: Allocator + Copy> TraceText<A> {
         ensures unfound { IfErr result (IsUnfound (trace_answered_so self.now event id reply)) }
     {
         self.reading.allows(alloc, event, id, reply, bound)
-    }
-
-    /// The opening word at an address.
-    pub fn opening_word(&self, address: u32) -> u64
-        requires { address < self.now.words }
-        ensures { result ≡ slice_index (opening_of self.now) address }
-    {
-        self.reading.opening_word(address)
-    }
-}
-
-/// A fault that was found at a line.
-fn fault_at(fault: Fault, line: u64) -> LineFault
-    ensures { result ≡ record { fault = fault; line = line_of_fault fault line } }
-{
-    match fault {
-        Fault::Memory => LineFault { fault, line: 0 },
-        _ => LineFault { fault, line },
     }
 }
 

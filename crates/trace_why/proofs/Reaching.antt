@@ -1,8 +1,6 @@
 -- What an operation finds is among the values that are reached.
 use Rattle.std.proofs.Common.{◌≡◌, ◌≢◌, inl, inr, ⊎_elim, ℕ, zero, suc, ◌+◌, ◌<◌, ◌≤◌, List, length, Some, refl, sym, ◌∙◌, ap, subst, arith, slice_get, get_or, take}
-use Rattle.std.specs.Prelude.{Contains, unwrap_or}
-use Rattle.std.proofs.lemmas.List.FromFn.{length-map-range_with_len}
-use Rattle.trace_text.specs.Traced.{TraceSpec, opening_of, value_at}
+use Rattle.std.specs.Prelude.{Contains}
 use Rattle.std.proofs.lemmas.Bool.{cases_eq, cases_lt}
 use Rattle.packet.specs.declared.kinds.Op.{Op}
 use Rattle.packet.specs.declared.kinds.Op.TheVariants.{Load, Store, Swap, Cas, Add, And, Or, Xor, Max, Min}
@@ -258,7 +256,3 @@ start_kept opening trace w n old new from keeps s = ⊎_elim {C = IsStart openin
     (λ (a : (from ≡ 0) × Contains old (get_or opening w 0)). inl (a.0, keeps (get_or opening w 0) a.1))
     (λ (b : (c : CallAt) × IsOver trace n w c × (c.event ≡ from)). inr b)
     s
-
--- the memory has as many words as the trace says
-pub sized : (t : TraceSpec) → length (opening_of t) ≡ t.words
-sized t = length-map-range_with_len (λ a. unwrap_or (value_at t.inits a) 0) 0 t.words

@@ -8,7 +8,7 @@ ghost use Rattle.trace_order.specs.Traces.{IsAnsweredAt, IsIssuedAt};
 use trace_order::{Call, Event};
 
 /// An operation of a trace, and the event that issues it, counted from 0.
-#[derive(Clone, Copy, Debug, PartialEq, Eq)]
+#[derive(Clone, Copy)]
 pub struct CallAt {
     pub event: usize,
     pub call: Call,

@@ -1,6 +1,6 @@
 //! The sentences that tell a reader why a trace has no order.
 
-ghost use Rattle.std.specs.Prelude.{◌≡◌, ℕ, Some, IfOk, IfSome, MatchOption, Contains, slice_get};
+ghost use Rattle.std.specs.Prelude.{◌≡◌, ℕ, true, false, Some, IfOk, IfSome, MatchOption, Contains, slice_get};
 ghost use Rattle.std.specs.Str.Lines.{lines};
 ghost use Rattle.trace_order.specs.Traces.{IsIssuedAt};
 ghost use Rattle.trace_why.specs.declared.calls.CallAt.{CallAt};
@@ -53,6 +53,17 @@ fn tries(events: usize) -> usize {
     MOST_EVENTS / events
 }
 
+/// Whether an event is of this line.
+fn is_of_line(lines: &[u64], event: usize, line: u64) -> bool
+    ensures yes { result ≡ true → slice_get lines.now event ≡ Some line }
+    ensures no { result ≡ false → slice_get lines.now event ≡ Some line → ⊥ }
+{
+    match lines.get(event).copied() {
+        Some(found) => found == line,
+        None => false,
+    }
+}
+
 /// The first event of a line.
 fn event_at(lines: &[u64], line: u64) -> Option<usize>
     ensures { MatchOption result
@@ -60,7 +71,7 @@ fn event_at(lines: &[u64], line: u64) -> Option<usize>
         (λ k. slice_get lines.now k ≡ Some line) }
 {
     for k in 0..lines.len() {
-        if lines[k] == line {
+        if is_of_line(lines, k, line) {
             return Some(k);
         }
     }
@@ -190,36 +201,57 @@ struct Values<'a> {
     values: &'a [u64],
 }
 
+/// What stands before the value at a place of so many.
+fn before_value(place: usize, count: usize) -> &'static str {
+    if place == 0 {
+        return "";
+    }
+    if place < count.saturating_sub(1) || count > MOST_VALUES {
+        return ", ";
+    }
+    " or "
+}
+
 impl<'a> fmt::Display for Values<'a> {
     fn fmt<W: fmt::Write>(&self, f: &mut fmt::Formatter<W>) -> fmt::Result {
         let count = self.values.len();
-        for (i, value) in self.values.iter().enumerate() {
+        for i in 0..count {
             if i >= MOST_VALUES {
                 return write!(f, " or one of {} others", count - i);
             }
-            if i > 0 {
-                f.write_str(if i < count - 1 || count > MOST_VALUES {
-                    ", "
-                } else {
-                    " or "
-                })?;
-            }
-            write!(f, "{value}")?;
+            write!(f, "{}{}", before_value(i, count), self.values[i])?;
         }
         Ok(())
     }
 }
 
-impl<'a, A: Allocator> NoOrderSentence<'a, A> {
-    /// The operation that is answered, and how it is issued.
-    fn answered(&self) -> Option<IssueLine> {
-        for (call, issue) in self.why.pending.iter().zip(self.pending.iter()) {
-            if call.call.id == self.why.id {
-                return Some(*issue);
-            }
+/// How the operation of a number is issued, which is among those that are open.
+fn issue_of(pending: &[CallAt], issues: &[IssueLine], id: u64) -> Option<IssueLine> {
+    for i in 0..pending.len() {
+        if pending[i].call.id == id {
+            return issues.get(i).copied();
         }
-        None
     }
+    None
+}
+
+/// Puts a line on each operation that is open; the one of this number is answered.
+fn put_open<W: fmt::Write>(
+    f: &mut fmt::Formatter<W>,
+    name: &str,
+    pending: &[CallAt],
+    issues: &[IssueLine],
+    id: u64,
+) -> fmt::Result {
+    for i in 0..issues.len() {
+        let issue = issues[i];
+        let which = match pending.get(i) {
+            Some(call) if call.call.id == id => "it is answered there",
+            _ => "open there",
+        };
+        write!(f, "\n{}:{}: {}: {}", name, issue.line, issue, which)?;
+    }
+    Ok(())
 }
 
 impl<'a, A: Allocator> fmt::Display for NoOrderSentence<'a, A> {
@@ -228,7 +260,7 @@ impl<'a, A: Allocator> fmt::Display for NoOrderSentence<'a, A> {
             reply: self.why.reply,
         };
         write!(f, "{}:{}: ", self.name, self.line)?;
-        if let Some(issue) = self.answered() {
+        if let Some(issue) = issue_of(&self.why.pending, &self.pending, self.why.id) {
             write!(f, "answer {} {} {}: ", issue.processor, issue.index, reply)?;
         }
         let values = Values {
@@ -239,14 +271,6 @@ impl<'a, A: Allocator> fmt::Display for NoOrderSentence<'a, A> {
             "no order gives {}: word {} can be {}",
             reply, self.why.address, values
         )?;
-        for (call, issue) in self.why.pending.iter().zip(self.pending.iter()) {
-            let which = if call.call.id == self.why.id {
-                "it is answered there"
-            } else {
-                "open there"
-            };
-            write!(f, "\n{}:{}: {}: {}", self.name, issue.line, issue, which)?;
-        }
-        Ok(())
+        put_open(f, self.name, &self.why.pending, &self.pending, self.why.id)
     }
 }

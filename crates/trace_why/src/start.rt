@@ -1,6 +1,6 @@
 //! From where on the operations before an answer count for it.
 
-ghost use Rattle.std.specs.Prelude.{◌≡◌, ◌<◌, ◌≤◌, ℕ, IfOk, length};
+ghost use Rattle.std.specs.Prelude.{◌≡◌, ◌≤◌, IfOk, length};
 ghost use Rattle.trace_text.specs.Traced.{opening_of};
 ghost use Rattle.trace_why.specs.Values.{IsStart};
 
@@ -17,8 +17,7 @@ pub(crate) fn start<A: Allocator + Copy>(
     n: usize,
     address: u32,
 ) -> Result<(usize, Vec<u64, A>), AllocError>
-    requires inside { n ≤ length trace.now.events }
-    requires below { address < trace.now.words }
+    requires { n ≤ length trace.now.events }
     ensures { IfOk result
         (λ s. IsStart (opening_of trace.now) trace.now.events address n s.1.items s.0) }
 {
@@ -26,6 +25,6 @@ pub(crate) fn start<A: Allocator + Copy>(
     if let Some(over) = last_over(trace.events(), n, address) {
         return Ok((over.event, values));
     }
-    values.push(trace.opening_word(address))?;
+    values.push(trace.opening(address))?;
     Ok((0, values))
 }

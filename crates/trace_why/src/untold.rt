@@ -2,7 +2,7 @@ use std::alloc::AllocError;
 use trace_text::Unfound;
 
 /// Why it is not told which values an answer may tell.
-#[derive(Clone, Copy, Debug, PartialEq, Eq)]
+#[derive(Clone, Copy)]
 pub enum Untold {
     /// A request for memory was refused.
     Memory,
@@ -20,16 +20,5 @@ impl From<AllocError> for Untold {
 
     fn from(_refused: AllocError) -> Untold {
         Untold::Memory
-    }
-}
-
-impl From<Unfound> for Untold {
-    ghost use Rattle.std.specs.Prelude.{◌≡◌};
-    ghost use Rattle.trace_why.specs.declared.untold.Untold.TheVariants.{Undecided};
-
-    ghost from_gives = { λ why e. e ≡ Undecided why };
-
-    fn from(why: Unfound) -> Untold {
-        Untold::Undecided(why)
     }
 }

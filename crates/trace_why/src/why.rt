@@ -1,6 +1,6 @@
 //! Why an answer is not one that a single memory gives.
 
-ghost use Rattle.std.specs.Prelude.{◌≡◌, ◌<◌, ◌↔◌, ℕ, IfOk, IfErr, MatchOption, Contains, length};
+ghost use Rattle.std.specs.Prelude.{◌≡◌, true, false, ◌<◌, ◌↔◌, ℕ, IfOk, IfErr, MatchOption, Contains, length};
 ghost use Rattle.std.specs.List.Sorted.{IsStrictlyIncreasing};
 ghost use Rattle.packet.specs.declared.kinds.Reply.{Reply};
 ghost use Rattle.packet.specs.declared.kinds.Reply.TheVariants.{Old};
@@ -62,6 +62,28 @@ fn candidates<A: Allocator + Copy>(
     Ok(values)
 }
 
+/// Whether an answer may tell a value.
+fn may_tell<A: Allocator + Copy>(
+    alloc: A,
+    trace: &TraceText<A>,
+    event: usize,
+    id: u64,
+    value: u64,
+    bound: usize,
+) -> Result<bool, Untold>
+    requires { (told : Reply) × IsAnsweredAt trace.now.events event id told }
+    ensures yes { IfOk result (λ b. b ≡ true
+        → IsAllowed (opening_of trace.now) trace.now.events event id (Old value)) }
+    ensures no { IfOk result (λ b. b ≡ false
+        → IsAllowed (opening_of trace.now) trace.now.events event id (Old value) → ⊥) }
+    ensures untold { IfErr result (IsUntold trace.now) }
+{
+    match trace.allows(alloc, event, id, Reply::Old(value), bound) {
+        Ok(may) => Ok(may),
+        Err(why) => Err(Untold::Undecided(why)),
+    }
+}
+
 /// Those of some values that an answer may tell.
 fn allowed<A: Allocator + Copy>(
     alloc: A,
@@ -78,7 +100,7 @@ fn allowed<A: Allocator + Copy>(
 {
     let mut kept = Vec::new(alloc);
     for value in values {
-        if trace.allows(alloc, event, id, Reply::Old(*value), bound)? {
+        if may_tell(alloc, trace, event, id, *value, bound)? {
             if kept.push(*value).is_err() {
                 return Err(Untold::Memory);
             }
@@ -94,6 +116,29 @@ fn sort<A: Allocator>(values: &mut Vec<u64, A>)
 {
     values.sort_unstable();
     values.dedup();
+}
+
+/// The values that an answer to an operation may tell at an event, rising.
+fn values_of<A: Allocator + Copy>(
+    alloc: A,
+    trace: &TraceText<A>,
+    event: usize,
+    issue: CallAt,
+    pending: &[CallAt],
+    tries: usize,
+    bound: usize,
+) -> Result<Vec<u64, A>, Untold>
+    requires answered { IsAnswered trace.now.events event issue }
+    requires pending { AreOpenOn trace.now.events event issue.call.operation.address pending.now }
+    ensures exact { IfOk result (λ values. (v : ℕ) → Contains values.items v
+        ↔ IsAllowed (opening_of trace.now) trace.now.events event issue.call.id (Old v)) }
+    ensures rising { IfOk result (λ values. IsStrictlyIncreasing values.items) }
+    ensures untold { IfErr result (IsUntold trace.now) }
+{
+    let tried = candidates(alloc, trace, event, issue, pending, tries)?;
+    let mut values = allowed(alloc, trace, event, issue.call.id, &tried, bound)?;
+    sort(&mut values);
+    Ok(values)
 }
 
 /// What an answer may tell at an event that answers an operation, and what is open on its word there;
@@ -124,9 +169,7 @@ pub fn why_not<A: Allocator + Copy>(
     };
     let address = issue.call.operation.address;
     let pending = open_on(alloc, events, event, address)?;
-    let tried = candidates(alloc, trace, event, issue, &pending, tries)?;
-    let mut values = allowed(alloc, trace, event, id, &tried, bound)?;
-    sort(&mut values);
+    let values = values_of(alloc, trace, event, issue, &pending, tries, bound)?;
     Ok(Some(WhyNot {
         id,
         reply,

@@ -4,7 +4,7 @@ use Rattle.trace_records.specs.declared.record.EventRecord.{EventRecord}
 use Rattle.trace_records.specs.Gathered.{Gathered, events_from}
 use Rattle.trace_records.specs.Kept.{IsGathered}
 use Rattle.trace_records.specs.Views.{gathered_of}
-use Rattle.trace_records.proofs.Events.{kept_none, trace_is}
+use Rattle.trace_records.proofs.Events.{kept_none}
 use Rattle.trace_records.proofs.Stands.{record_fails, record_stands, record_step}
 use Rattle.trace_records.proofs.records.trace_of.Goals as goal
 
@@ -30,7 +30,7 @@ returns g c =
       value = sym c.loop-place.invariant.reads
           ∙ at_drop_all (λ (xs : List EventRecord). events_from c.args.words (gathered_of c.loop-place.gathering) c.loop-place.place xs)
           c.args.records.now c.loop-place.place end;
-      trace = trace_is c.args.words (gathered_of c.loop-place.gathering) c.loop-place.invariant.kept;
+      trace = c.loop-place.invariant.kept.trace;
     }
 
 pub returns-in-Err-clause-value : goal.returns-in-Err-clause-value

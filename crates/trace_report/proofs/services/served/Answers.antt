@@ -2,8 +2,22 @@ use Rattle.std.proofs.Common.{◌<◌, ap, arith, length, ℕ}
 use Rattle.packet.specs.declared.kinds.Reply.{Reply}
 use Rattle.trace_report.specs.Services.{call_at}
 use Rattle.trace_report.proofs.Given.{call_there}
-use Rattle.trace_report.proofs.Growing.{reply_served, word_served}
+use Rattle.trace_report.proofs.Growing.{reply_served, still_inside, word_served}
 use Rattle.trace_report.proofs.services.served.Goals as goal
+
+pub index-requires : goal.index-requires
+index-requires g c =
+    let low : c.loop-i.i < length c.args.order.now = omega arith in
+    let inside : (call_at c.args.order.now c.loop-i.i).operation.address < length c.args.words.now.items =
+    c.requires c.loop-i.i (call_at c.args.order.now c.loop-i.i) (call_there c.args.order.now c.loop-i.i low) in
+    omega (arith, still_inside c.args.words.now.items c.loop-i.words.items c.args.order.now c.loop-i.i _ inside c.loop-i.invariant.words)
+
+pub index_mut-requires : goal.index_mut-requires
+index_mut-requires g c =
+    let low : c.loop-i.i < length c.args.order.now = omega arith in
+    let inside : (call_at c.args.order.now c.loop-i.i).operation.address < length c.args.words.now.items =
+    c.requires c.loop-i.i (call_at c.args.order.now c.loop-i.i) (call_there c.args.order.now c.loop-i.i low) in
+    omega (arith, still_inside c.args.words.now.items c.loop-i.words.items c.args.order.now c.loop-i.i _ inside c.loop-i.invariant.words)
 
 pub loop-i-preserved : goal.loop-i-preserved
 loop-i-preserved g c =

@@ -1,12 +1,9 @@
-use Rattle.std.proofs.Common.{◌<◌, length, sym, subst, arith}
+use Rattle.std.proofs.Common.{◌<◌, length, arith}
 use Rattle.std.proofs.lemmas.Option.{slice_get-get_or}
-use Rattle.std.proofs.lemmas.Result.{err_from_is_err_and}
 use Rattle.packet.specs.declared.kinds.Reply.TheVariants.{Old}
 use Rattle.trace_text.specs.Allowed.{IsAllowed}
 use Rattle.trace_text.specs.Traced.{opening_of}
 use Rattle.trace_text.proofs.Allowing.{pushed}
-use Rattle.trace_why.specs.declared.untold.Untold.{Untold}
-use Rattle.trace_why.specs.Why.{IsUntold}
 use Rattle.trace_why.proofs.Growing.{filtering_keep, filtering_skip, filtered}
 use Rattle.trace_why.proofs.why.allowed.Goals as goal
 use Rattle.trace_why.proofs.why.allowed.Goals.{then-branch+else-is_err, else-branch}
@@ -22,11 +19,11 @@ loop-value-preserved g c =
       )
           (filtering_keep (λ v. IsAllowed (opening_of c.args.trace.now) c.args.trace.now.events c.args.event c.args.id (Old v))
           c.args.values.now c.loop-value.value-index c.loop-value.kept.items _ c.loop-value.invariant
-          (slice_get-get_or c.args.values.now c.loop-value.value-index _ l) (c.in_ok-allows.ensures.yes w.if-branch.true))
+          (slice_get-get_or c.args.values.now c.loop-value.value-index _ l) (c.in_ok-may_tell.ensures.yes w.if-branch.true))
       | else-branch w ↦ rw w.kept-is
           (filtering_skip (λ v. IsAllowed (opening_of c.args.trace.now) c.args.trace.now.events c.args.event c.args.id (Old v))
           c.args.values.now c.loop-value.value-index c.loop-value.kept.items _ c.loop-value.invariant
-          (slice_get-get_or c.args.values.now c.loop-value.value-index _ l) (c.in_ok-allows.ensures.no w.if-branch.false))
+          (slice_get-get_or c.args.values.now c.loop-value.value-index _ l) (c.in_ok-may_tell.ensures.no w.if-branch.false))
     ]
 
 pub returns-clause-exact : goal.returns-clause-exact
@@ -35,9 +32,3 @@ returns-clause-exact g c = λ v. (
   λ h. filtered (λ v. IsAllowed (opening_of c.args.trace.now) c.args.trace.now.events c.args.event c.args.id (Old v)) c.args.values.now
       c.loop-value.value-index c.loop-value.kept.items (let end = c.loop-value-test.false in omega arith) c.loop-value.invariant v h,
 )
-
-pub returns-in_err-allows-clause-untold : goal.returns-in_err-allows-clause-untold
-returns-in_err-allows-clause-untold g c =
-    let p = err_from_is_err_and c.from_residual.result c.from_residual.ensures.1 in
-    rw p.1 (subst (λ (e : Untold). IsUntold c.args.trace.now e) (sym p.2)
-    (c.args.event, c.args.id, _, c.in_err-allows.ensures.unfound))

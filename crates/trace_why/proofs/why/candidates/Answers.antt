@@ -4,15 +4,13 @@ use Rattle.trace_order.specs.declared.event.Event.TheVariants.{Answer}
 use Rattle.trace_order.specs.Traces.{IsTrace}
 use Rattle.trace_order.proofs.Lists.{get_within}
 use Rattle.trace_text.specs.Traced.{opening_of}
+use Rattle.trace_text.proofs.Opening.{length-opening}
 use Rattle.trace_why.specs.Values.{AreLeft}
-use Rattle.trace_why.proofs.Reaching.{allowed_reached, start_kept, sized}
+use Rattle.trace_why.proofs.Reaching.{allowed_reached, start_kept}
 use Rattle.std.proofs.lemmas.Result.{err_from_is_err_and}
 use Rattle.trace_why.specs.declared.untold.Untold.{Untold}
 use Rattle.trace_why.specs.Why.{IsUntold}
 use Rattle.trace_why.proofs.why.candidates.Goals as goal
-
-pub start-requires-clause-below : goal.start-requires-clause-below
-start-requires-clause-below g c = c.events-events.ensures.trace.inside c.args.issue.event c.args.issue.call c.requires.answered.1.issue
 
 pub add_answers-requires-clause-inside : goal.add_answers-requires-clause-inside
 add_answers-requires-clause-inside g c =
@@ -23,7 +21,7 @@ add_answers-requires-clause-inside g c =
 pub returns-clause-all : goal.returns-clause-all
 returns-clause-all g c = λ v is.
     let t : IsTrace (length (opening_of c.args.trace.now)) c.args.trace.now.events =
-    subst (λ (n : ℕ). IsTrace n c.args.trace.now.events) (sym (sized c.args.trace.now)) c.events-events.ensures.trace in
+    subst (λ (n : ℕ). IsTrace n c.args.trace.now.events) (sym (length-opening c.args.trace.now)) c.events-events.ensures.trace in
     let w : ℕ = c.args.issue.call.operation.address in
     let left : AreLeft c.args.trace.now.events c.in_ok-from.from c.args.event w c.add_answers.new.values.items =
     subst (λ (es : List Event). AreLeft es c.in_ok-from.from c.args.event w c.add_answers.new.values.items) c.events-events.ensures.value

@@ -1,5 +1,5 @@
 use Rattle.std.proofs.Common.{◌∙◌, ◌<◌, ℕ, List, Some, length, refl, sym, ap, subst, arith}
-use Rattle.std.specs.Prelude.{Contains}
+use Rattle.std.specs.Prelude.{Contains, ◌↔◌}
 use Rattle.std.proofs.lemmas.Option.{slice_get-get_or}
 use Rattle.packet.specs.declared.kinds.Reply.TheVariants.{Old}
 use Rattle.trace_order.specs.declared.event.Event.{Event}
@@ -29,14 +29,8 @@ returns-clause-told g c =
         here = refl;
       };
       pending = subst (λ (es : List Event). AreOpenOn es c.args.event w c.in_ok-pending.pending.items) own c.in_ok-pending.ensures;
-      values = λ v. (
-        λ h. ((c.in_ok-values.ensures.exact v).0 ((c.sort.ensures.same v).0 h)).1,
-        λ is. (c.sort.ensures.same v).1 ((c.in_ok-values.ensures.exact v).1 (
-          subst (λ (xs : List ℕ). Contains xs v) (sym c.deref-2.ensures.value)
-              (c.in_ok-tried.ensures.all v
-              (subst (λ (n : ℕ). IsAllowed (opening_of c.args.trace.now) c.args.trace.now.events c.args.event n (Old v)) (sym number) is)),
-          is,
-        )),
-      );
-      rising = c.sort.ensures.rising;
+      values = λ v. subst
+          (λ (n : ℕ). Contains c.in_ok-values.values.items v ↔ IsAllowed (opening_of c.args.trace.now) c.args.trace.now.events c.args.event n (Old v))
+          number (c.in_ok-values.ensures.exact v);
+      rising = c.in_ok-values.ensures.rising;
     }

@@ -1,8 +1,8 @@
-use Rattle.std.proofs.Common.{◌≡◌, ◌∙◌, ap, map, List, [], ◌∷◌, ◌++◌, take}
+use Rattle.std.proofs.Common.{◌≡◌, ◌∙◌, ap, map, ℕ, List, [], ◌∷◌, ◌++◌, take}
 use Rattle.trace_order.specs.declared.event.Event.{Event}
 use Rattle.trace_order.specs.declared.event.Event.TheVariants.{Answer}
 use Rattle.trace_text.specs.Allowed.{answered_so}
-use Rattle.trace_text.specs.Findings.{place_of, words_of}
+use Rattle.trace_text.specs.Findings.{place_of, words_of, unfound_at}
 use Rattle.trace_text.specs.Renumbered.{moved_event}
 use Rattle.trace_text.specs.Views.{reading_of}
 use Rattle.trace_text.proofs.Found.{others}
@@ -62,4 +62,4 @@ returns-clause-unfound g c =
     let events : c.deref-4.result.now ≡ map (moved_event (place_of r.places)) (answered_so r.events c.args.event c.args.id c.args.reply) =
     given_is r c.args.event c.args.id c.args.reply c.in_ok-events.events.items c.deref-4.result.now begun (c.deref-4.ensures.value ∙ grown) in
     undecided_given r c.requires.kept c.args.event c.args.id c.args.reply c.requires.answered.0 c.requires.answered.1 _ events c.in-Err.why c.at_line.result
-    c.in-Err.ensures.undecided c.at_line.ensures
+    c.in-Err.ensures.undecided (c.at_line.ensures ∙ ap (λ (ls : List ℕ). unfound_at ls c.in-Err.why) c.deref-in-Err.ensures.value)

@@ -10,5 +10,5 @@ returns g c =
       c.new-4.ensures.items,
       c.new-5.ensures.items,
       c.new-6.ensures.items,
-      c.in_ok-no_numbers.ensures,
+      c.in_ok-numbers.ensures,
     ) refl

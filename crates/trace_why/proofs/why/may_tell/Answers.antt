@@ -1,0 +1,10 @@
+use Rattle.trace_why.proofs.why.may_tell.Goals as goal
+
+pub returns-in-Ok-clause-yes : goal.returns-in-Ok-clause-yes
+returns-in-Ok-clause-yes g c = c.in-Ok.ensures.yes
+
+pub returns-in-Ok-clause-no : goal.returns-in-Ok-clause-no
+returns-in-Ok-clause-no g c = c.in-Ok.ensures.no
+
+pub returns-in-Err-clause-untold : goal.returns-in-Err-clause-untold
+returns-in-Err-clause-untold g c = (c.args.event, c.args.id, _, c.in-Err.ensures.unfound)
