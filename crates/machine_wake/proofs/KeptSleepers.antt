@@ -1,8 +1,8 @@
 -- Every agent that doesn't count as awake is asleep, after moves and after an agent has fallen asleep.
-use Rattle.std.proofs.Common.{◌≡◌, ◌≢◌, ⊎_elim, ℕ, zero, suc, ◌==◌, Bool, true, false, List, Some, None, refl, sym, ◌∙◌, ap, subst, slice_index_or}
+use Rattle.std.proofs.Common.{◌≡◌, ◌≢◌, ⊎_elim, ℕ, zero, suc, ◌==◌, Bool, true, false, List, [], ◌∷◌, Some, None, refl, sym, ◌∙◌, ap, subst, slice_index_or}
 use Rattle.std.specs.Prelude.{◌||◌, replicate, Option}
 use Rattle.std.specs.List.{list_any}
-use Rattle.std.proofs.lemmas.Bool.{cases_eq, ne_eqb}
+use Rattle.std.proofs.lemmas.Bool.{cases_eq, eq-eqb, ne_eqb}
 use Rattle.torus.specs.declared.step.Step.{Step}
 use Rattle.flit_buffer.specs.declared.word_op.WordOp.{WordOp}
 use Rattle.core_wake.specs.tile_laws.specs.Tile.{Design}
@@ -15,7 +15,7 @@ use Rattle.core_wake.specs.Sleep.{IsAsleep, OthersSleep, attempts_at, has_moved}
 use Rattle.core_wake.proofs.Operations.{operations_tell}
 use Rattle.core_wake.proofs.Sleepers.{falls}
 use Rattle.core_wake.proofs.Wakes.{ready_after, others_sleep}
-use Rattle.machine_wake.specs.Awake.{Awake, is_awake, woken, rested}
+use Rattle.machine_wake.specs.Awake.{Awake, is_awake, woken, rested, roused, all_roused}
 use Rattle.machine_wake.proofs.SetFlags.{asleep_before, asleep_then}
 
 all_true : (n k : ℕ) → slice_index_or (replicate n true) k true ≡ true
@@ -53,3 +53,13 @@ rests d s agent w sleep idle k out = ⊎_elim
     (λ (same : k ≡ agent). subst (IsAsleep d s) (sym same) (falls d s agent idle))
     (λ (another : k ≢ agent). sleep k (asleep_then w.flags agent k out another))
     (cases_eq k agent)
+
+pub one_roused : (w : Awake) (agent k : ℕ) → is_awake (roused w agent) k ≡ false → (k ≢ agent) × (is_awake w k ≡ false)
+one_roused w agent k out =
+    let before = asleep_before w.flags (agent ∷ []) k out in (
+      λ e. let clash : ◌≡◌ {A = Bool} true false = sym (ap (λ (b : Bool). b || false) (eq-eqb agent k (sym e))) ∙ before.1 in cc,
+      before.0,
+    )
+
+pub everyone : (w : Awake) (k : ℕ) → is_awake (all_roused w) k ≡ true
+everyone w k = all_true 192 k

@@ -1,5 +1,5 @@
 -- Who counts as awake, and what changes it.
-use Rattle.std.specs.Prelude.{ℕ, Bool, true, false, List, [], ◌∷◌, slice_index_or, slice_set}
+use Rattle.std.specs.Prelude.{ℕ, Bool, true, false, List, [], ◌∷◌, replicate, slice_index_or, slice_set}
 use Rattle.flit_buffer.specs.declared.word_op.WordOp.{WordOp}
 use Rattle.core_wake.specs.tile_laws.specs.Tile.{Design}
 use Rattle.core_wake.specs.Operations.{woken_by_operation}
@@ -30,3 +30,11 @@ woken w op = record {
 -- once an agent has fallen asleep
 abbrev pub rested : Awake → ℕ → Awake
 rested w agent = record { design = w.design; flags = slice_set w.flags agent false }
+
+-- with an agent that counts as awake
+abbrev pub roused : Awake → ℕ → Awake
+roused w agent = record { design = w.design; flags = slice_set w.flags agent true }
+
+-- with all agents counted as awake
+abbrev pub all_roused : Awake → Awake
+all_roused w = record { design = w.design; flags = replicate 192 true }

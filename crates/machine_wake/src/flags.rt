@@ -2,7 +2,7 @@ ghost use Rattle.std.specs.Prelude.{◌≡◌, ◌<◌, ◌≤◌, ◌*◌, ◌/
 ghost use Rattle.torus.specs.Shape.{tiles_of};
 ghost use Rattle.core_wake.specs.Waking.{receiver_of, sender_of, processors};
 ghost use Rattle.core_wake.specs.Operations.{places_in};
-ghost use Rattle.machine_wake.specs.Awake.{is_awake, with_awake, woken, rested};
+ghost use Rattle.machine_wake.specs.Awake.{is_awake, with_awake, woken, rested, roused, all_roused};
 
 use crate::ends::{Ends, all_ends};
 use flit_buffer::WordOp;
@@ -79,6 +79,21 @@ impl<A: Allocator> WakeFlags<A> {
         ensures { self.new ≡ rested self.old agent }
     {
         self.awake[agent] = false;
+    }
+
+    /// Counts an agent as awake.
+    pub fn rouse(&mut self, agent: usize)
+        requires { agent < 192 }
+        ensures { self.new ≡ roused self.old agent }
+    {
+        self.awake[agent] = true;
+    }
+
+    /// Counts all agents as awake.
+    pub fn rouse_all(&mut self)
+        ensures { self.new ≡ all_roused self.old }
+    {
+        self.awake = [true; MOST_AGENTS];
     }
 
     /// Counts those agents as awake that a move by this operation wakes: a swap at a place of a channel
