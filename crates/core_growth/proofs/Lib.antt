@@ -1,4 +1,3 @@
-pub mod Followers
 pub mod Tiles
 pub mod Places
 pub mod Steps

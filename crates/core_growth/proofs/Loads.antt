@@ -19,7 +19,7 @@ use Rattle.core_moves.specs.core_laws.specs.Runs.{IsAccepted}
 use Rattle.core_moves.specs.core_progress.specs.Moves.{most_moves}
 use Rattle.core_growth.specs.Appended.{tile_with, state_with, load_with, MayFollow}
 use Rattle.core_growth.proofs.Places.{changed_set, map_changed}
-use Rattle.core_growth.proofs.Followers.{first_with}
+use Rattle.core_moves.specs.script_follower.proofs.Grown.{first_with}
 
 abbrev pushed : Line → List Line → List Line
 pushed line lines = lines ++ line ∷ []

@@ -1,11 +1,13 @@
 -- A machine that is handed a line stands where its moves lead from the load with that line.
-use Rattle.std.proofs.Common.{◌≡◌, ℕ, ◌+◌, ◌*◌, ◌<◌, List, [], ◌∷◌, ◌++◌, length, Option, Some, None, refl, sym, ◌∙◌, ap, subst, arith, append_assoc}
+use Rattle.std.proofs.Common.{◌≡◌, ℕ, zero, suc, ◌+◌, ◌*◌, ◌<◌, List, [], ◌∷◌, ◌++◌, length, map, Option, Some, None, refl, sym, ◌∙◌, ap, subst, arith, append_assoc}
+use Rattle.std.proofs.Common.{slice_set}
 use Rattle.std.proofs.lemmas.List.{append-nil, length-map}
+use Rattle.std.proofs.lemmas.List.Sums.{sum_by_push}
 use Rattle.std.proofs.lemmas.Option.{slice_get_within}
 use Rattle.torus.specs.Shape.{tiles_of, dims_of}
 use Rattle.torus.specs.declared.step.Step.{Step}
 use Rattle.script.specs.declared.line.Line.{Line}
-use Rattle.script.specs.Scripts.{operations_of}
+use Rattle.script.specs.Scripts.{operations_of, operation_count, script_of}
 use Rattle.core_moves.specs.order_abstract.specs.EventBook.{EventBook, first_book}
 use Rattle.core_moves.specs.core_laws.specs.Core.{Load, State, design_of, first_state, first_tile, step, after, after_from}
 use Rattle.core_moves.specs.core_laws.specs.Runs.{IsAccepted}
@@ -17,10 +19,37 @@ use Rattle.core_moves.specs.core_machine.proofs.Machines.{named_machine, stands_
 use Rattle.core_moves.specs.Enabled.{ahead_if_moved, enabled_of}
 use Rattle.core_moves.specs.Moves.{moves_of, moves_from}
 use Rattle.core_moves.proofs.Moves.{load_count, load_again, load_stands, machine_further, machine_of}
-use Rattle.core_growth.specs.Appended.{state_with, appended, load_with, IsUnreported}
+use Rattle.core_growth.specs.Appended.{changed_at, state_with, appended, load_with, IsUnreported}
 use Rattle.core_growth.specs.Doings.{Doing, Tries, Appends, core_done, load_grown, moves_done, MayBeDone}
 use Rattle.core_growth.proofs.Loads.{state_first, most_with, accepted_with}
 use Rattle.core_growth.proofs.Runs.{Follows, follows}
+
+-- what the scripts allow
+allowed_at : (line : Line) (scripts : List (List Line)) (p : ℕ)
+    → map operation_count (slice_set scripts p (script_of scripts p ++ line ∷ []))
+    ≡ changed_at (λ n. n + operations_of line) (map operation_count scripts) p
+allowed_at line [] p = refl
+allowed_at line (lines ∷ scripts) zero =
+    ap (λ n. n ∷ map operation_count scripts) (sum_by_push operations_of lines line)
+allowed_at line (lines ∷ scripts) (suc p) = ap (λ ns. operation_count lines ∷ ns) (allowed_at line scripts p)
+
+pub allowed_with : (l : Load) (p : ℕ) (line : Line)
+    → map operation_count (load_with l p line).scripts
+    ≡ changed_at (λ n. n + operations_of line) (map operation_count l.scripts) p
+allowed_with l p line = allowed_at line l.scripts p
+
+-- a machine of a load whose scripts allow so many operations each
+abbrev machine_by : Load → List ℕ → State → EventBook → ℕ → Core
+machine_by l allowed s g left = record {
+  shape = l.shape;
+  depth = l.depth;
+  tags = l.tags;
+  opening = l.opening;
+  allowed = allowed;
+  state = s;
+  book = g;
+  moves_left = left;
+}
 
 module _ (l : Load) (steps : List Step) (p : ℕ) (line : Line) (un : IsUnreported (after l steps) p) where
   followed : Follows (design_of l) p line (first_state l) (first_book (tiles_of l.shape)) (moves_of l steps)
@@ -63,13 +92,13 @@ module _ (l : Load) (steps : List Step) (p : ℕ) (line : Line) (un : IsUnreport
   machine_again : IsAccepted l
       → appended (core_after_load l steps) p line ≡ core_after_load (load_with l p line) (moves_of l steps)
   machine_again ok =
-      ap (λ (s : State). machine_of l s (book_after l steps)
-      (moves_left l steps (length steps) + 241 * operations_of line))
-      (sym state_again)
-      ∙ (ap (λ (g : EventBook). machine_of l (after (load_with l p line) (moves_of l steps)) g
-      (moves_left l steps (length steps) + 241 * operations_of line)) (sym book_again)
-      ∙ ap (λ (n : ℕ). machine_of l (after (load_with l p line) (moves_of l steps))
-      (book_after (load_with l p line) (moves_of l steps)) n) (sym (left_again ok)))
+      let longer : Load = load_with l p line in
+      let left : ℕ = moves_left l steps (length steps) + 241 * operations_of line in
+      ap (λ (ns : List ℕ). machine_by l ns (state_with (after l steps) p line) (book_after l steps) left) (sym (allowed_with l p line))
+      ∙ (ap (λ (s : State). machine_of longer s (book_after l steps) left) (sym state_again)
+      ∙ (ap (λ (g : EventBook). machine_of longer (after longer (moves_of l steps)) g left) (sym book_again)
+      ∙ ap (λ (n : ℕ). machine_of longer (after longer (moves_of l steps)) (book_after longer (moves_of l steps)) n)
+      (sym (left_again ok))))
 
 -- the law
 pub grown : (l : Load) (c : Core) (steps : List Step) (p : ℕ) (line : Line) → IsAfter l c steps → IsUnreported c.state p

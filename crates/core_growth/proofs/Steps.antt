@@ -8,7 +8,7 @@ use Rattle.torus.specs.declared.step.Step.{Step}
 use Rattle.script.specs.declared.line.Line.{Line}
 use Rattle.one_order.specs.Events.{Served, Answered}
 use Rattle.flit_buffer.specs.Surroundings.{Surroundings}
-use Rattle.core_moves.specs.script_follower.specs.ProcessorRecord.{ProcessorRecord, no_processor, index_of, operation_of, answer_of}
+use Rattle.core_moves.specs.script_follower.specs.ProcessorRecord.{ProcessorRecord, no_processor, index_of, operation_of, answer_of, record_with}
 use Rattle.core_moves.specs.order_abstract.specs.Flight.{Move, Sends, Serves, Takes, event_by}
 use Rattle.core_moves.specs.tile_laws.specs.Tile.{Design, TileState, Agent, tile_step}
 use Rattle.core_moves.specs.core_laws.specs.Core.{State, step, agent_numbered, records_of}
@@ -18,7 +18,7 @@ use Rattle.core_moves.specs.core_laws.proofs.AgentSteps.{option_map_some}
 use Rattle.core_moves.specs.core_machine.specs.Core.{event_in}
 use Rattle.core_growth.specs.Appended.{changed_at, tile_with, state_with, IsUnreported}
 use Rattle.core_growth.proofs.Places.{get_other, get_same, set_other, set_same, part_same, map_changed, written_other, written_same}
-use Rattle.core_growth.proofs.Tiles.{record_with, same_step}
+use Rattle.core_growth.proofs.Tiles.{same_step}
 
 -- the records of the processors with the line
 records_with : (s : State) (p : ℕ) (line : Line)

@@ -19,35 +19,17 @@ use Rattle.flit_buffer.specs.declared.want.Want.TheVariants as want
 use Rattle.flit_buffer.specs.Channel.{first_of, rest}
 use Rattle.flit_buffer.specs.Surroundings.{Surroundings, Wiring, granted, surroundings_after, agent_step, step_with}
 use Rattle.core_moves.specs.script_follower.specs.Following.{Following, next_operation_of}
-use Rattle.core_moves.specs.script_follower.specs.ProcessorRecord.{ProcessorRecord, ready, issued_by, answered_by, index_of}
+use Rattle.core_moves.specs.script_follower.specs.ProcessorRecord.{ProcessorRecord, ready, issued_by, answered_by, index_of, record_with}
 use Rattle.core_moves.specs.script_follower.specs.ProcessorTable.{ProcessorState, request_flits, flits_due, issued_of, record_sent, record_offered}
-use Rattle.core_moves.specs.script_follower.specs.ProcessorTable.{processor_wants, processor_after}
+use Rattle.core_moves.specs.script_follower.specs.ProcessorTable.{processor_wants, processor_after, processor_with}
 use Rattle.router.specs.Table.{RouterState}
 use Rattle.home_bank.specs.BankTable.{BankState}
 use Rattle.core_moves.specs.tile_laws.specs.Wiring.{processor_wiring}
 use Rattle.core_moves.specs.tile_laws.specs.Tile.{Design, TileState, Agent, Processor, Router, Bank, tile_step}
 use Rattle.core_moves.specs.core_laws.specs.Moves.{issue_of, processor_move, tile_move}
 use Rattle.core_moves.specs.core_laws.proofs.AgentSteps.{did, did_learn}
-use Rattle.core_growth.specs.Appended.{follower_with, tile_with}
-use Rattle.core_growth.proofs.Followers.{next_with, issue_with, answer_with}
-
--- the record, and the processor, with the line
-abbrev pub record_with : Line → ProcessorRecord → ProcessorRecord
-record_with line b = record {
-  following = follower_with line b.following;
-  tags = b.tags;
-  issued = b.issued;
-  answers = b.answers;
-}
-
-abbrev pub processor_with : Line → ProcessorState → ProcessorState
-processor_with line p = record {
-  operations = record_with line p.operations;
-  to_put = p.to_put;
-  so_far = p.so_far;
-  reported = p.reported;
-  seen = p.seen;
-}
+use Rattle.core_growth.specs.Appended.{tile_with}
+use Rattle.core_moves.specs.script_follower.proofs.Grown.{next_with, issue_with, answer_with}
 
 module _ (line : Line) where
   next_by : (b : ProcessorRecord) (f : ℕ × Operation) (o : Option Operation) → next_operation_of b.following ≡ o

@@ -5,7 +5,7 @@ use Rattle.torus.specs.declared.step.Step.{Step}
 use Rattle.torus.specs.declared.step.Choice.TheVariants.{Done}
 use Rattle.script.specs.declared.line.Line.{Line}
 use Rattle.script.specs.Scripts.{operations_of, operation_count, total_count, script_of, mentions_last, IsAcceptedLine}
-use Rattle.core_moves.specs.script_follower.specs.Following.{Following, unfenced}
+use Rattle.core_moves.specs.script_follower.specs.ProcessorTable.{processor_with}
 use Rattle.core_moves.specs.tile_laws.specs.Tile.{TileState}
 use Rattle.core_moves.specs.core_laws.specs.Core.{Load, State}
 use Rattle.core_moves.specs.core_machine.specs.Core.{Core}
@@ -16,32 +16,10 @@ changed_at f [] p = []
 changed_at f (x ∷ xs) zero = f x ∷ xs
 changed_at f (x ∷ xs) (suc p) = x ∷ changed_at f xs p
 
--- the follower with a line at the end of its lines ahead; where nothing is held back, a fence there
--- comes to nothing
-abbrev pub follower_with : Line → Following → Following
-follower_with line f = record {
-  ahead = unfenced f.spin f.waiting (f.ahead ++ line ∷ []);
-  spin = f.spin;
-  issued = f.issued;
-  waiting = f.waiting;
-  last = f.last;
-}
-
 -- the tile with the line given to its processor's follower
 abbrev pub tile_with : Line → TileState → TileState
 tile_with line t = record {
-  processor = record {
-    operations = record {
-      following = follower_with line t.processor.operations.following;
-      tags = t.processor.operations.tags;
-      issued = t.processor.operations.issued;
-      answers = t.processor.operations.answers;
-    };
-    to_put = t.processor.to_put;
-    so_far = t.processor.so_far;
-    reported = t.processor.reported;
-    seen = t.processor.seen;
-  };
+  processor = processor_with line t.processor;
   router = t.router;
   bank = t.bank;
 }
@@ -50,14 +28,15 @@ tile_with line t = record {
 abbrev pub state_with : State → ℕ → Line → State
 state_with s p line = record { tiles = changed_at (tile_with line) s.tiles p; around = s.around }
 
--- the machine with the line given to the processor of tile p: a move is at most one of 241 for each
--- operation that the line allows, as at the load
+-- the machine with the line given to the processor of tile p: its script allows the line's
+-- operations more, and a move is at most one of 241 for each of them, as at the load
 abbrev pub appended : Core → ℕ → Line → Core
 appended c p line = record {
   shape = c.shape;
   depth = c.depth;
   tags = c.tags;
   opening = c.opening;
+  allowed = changed_at (λ n. n + operations_of line) c.allowed p;
   state = state_with c.state p line;
   book = c.book;
   moves_left = c.moves_left + 241 * operations_of line;

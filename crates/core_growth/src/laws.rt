@@ -9,13 +9,14 @@ ghost use Rattle.script.specs.declared.line.Line.{Line};
 ghost use Rattle.script.specs.Scripts.{IsAcceptedLine, add_line, operations_of};
 ghost use Rattle.core_moves.specs.script_follower.specs.Following.{Following, first_of, next_operation_of};
 ghost use Rattle.core_moves.specs.script_follower.specs.Following.{after_issue, after_answer, is_finished};
+ghost use Rattle.core_moves.specs.script_follower.specs.Following.{follower_with};
 ghost use Rattle.core_moves.specs.tile_laws.specs.Tile.{Design, TileState};
 ghost use Rattle.core_moves.specs.core_laws.specs.Core.{Load, State, first_state, step, after};
 ghost use Rattle.core_moves.specs.core_laws.specs.Runs.{IsAccepted};
 ghost use Rattle.core_moves.specs.core_progress.specs.Moves.{most_moves};
 ghost use Rattle.core_moves.specs.core_machine.specs.Core.{Core, IsAfter, event_in, core_after_load, shown};
 ghost use Rattle.core_moves.specs.Moves.{moves_of};
-ghost use Rattle.core_growth.specs.Appended.{follower_with, tile_with, state_with, appended, load_with};
+ghost use Rattle.core_growth.specs.Appended.{tile_with, state_with, appended, load_with};
 ghost use Rattle.core_growth.specs.Appended.{IsUnreported, IsNoReport, MayFollow};
 ghost use Rattle.core_growth.specs.Doings.{Doing, core_done, load_grown, moves_done, MayBeDone};
 

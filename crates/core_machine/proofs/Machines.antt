@@ -1,11 +1,12 @@
 -- Where steps lead from a load: the machine there, and further steps.
 use Rattle.std.proofs.Common.{◌≡◌, ◌↔◌, ℕ, ◌-◌, ◌/◌, ◌%◌, ◌<◌, true, List, [], ◌∷◌, ◌++◌, length, Option, Some, None, refl, sym, ◌∙◌, ap, subst, arith}
-use Rattle.std.proofs.Common.{slice_get, append_assoc}
+use Rattle.std.proofs.Common.{slice_get, append_assoc, map}
 use Rattle.std.specs.Prelude.{option_and_then, option_map, slice_set}
 use Rattle.std.proofs.lemmas.List.{append-nil}
 use Rattle.torus.specs.Shape.{Shape, tiles_of}
 use Rattle.torus.specs.declared.step.Step.{Step}
 use Rattle.torus.specs.declared.step.Choice.{Choice}
+use Rattle.script.specs.Scripts.{operation_count}
 use Rattle.core_progress.specs.one_order.specs.declared.ordered.Ordered.{Ordered}
 use Rattle.core_progress.specs.one_order.specs.Order.{LinearizationPoint, IsLegalOrder, StandsBefore}
 use Rattle.core_progress.specs.one_order.specs.Consequences.{Precedes}
@@ -29,20 +30,22 @@ use Rattle.core_machine.proofs.Books.{after_append, book_append}
 use Rattle.core_machine.proofs.Counted.{left_push}
 use Rattle.core_machine.proofs.Lawful.{lawful, shows, finishes}
 
-abbrev core : Shape → ℕ → ℕ → List ℕ → State → EventBook → ℕ → Core
-core shape depth tags opening state book left =
-    record { shape = shape; depth = depth; tags = tags; opening = opening; state = state; book = book; moves_left = left }
+abbrev core : Shape → ℕ → ℕ → List ℕ → List ℕ → State → EventBook → ℕ → Core
+core shape depth tags opening allowed state book left =
+    record { shape = shape; depth = depth; tags = tags; opening = opening; allowed = allowed; state = state; book = book; moves_left = left }
 
 -- what the steps reach from the load is the machine that they lead to
 pub named_machine : (l : Load) (c : Core) (steps : List Step) → IsAfter l c steps → c ≡ core_after_load l steps
 named_machine l c steps f =
-    ap (λ (x : Shape). core x c.depth c.tags c.opening c.state c.book c.moves_left) f.shape
-    ∙ (ap (λ (x : ℕ). core l.shape x c.tags c.opening c.state c.book c.moves_left) f.depth
-    ∙ (ap (λ (x : ℕ). core l.shape l.depth x c.opening c.state c.book c.moves_left) f.tags
-    ∙ (ap (λ (x : List ℕ). core l.shape l.depth l.tags x c.state c.book c.moves_left) f.opening
-    ∙ (ap (λ (x : State). core l.shape l.depth l.tags l.opening x c.book c.moves_left) f.state
-    ∙ (ap (λ (x : EventBook). core l.shape l.depth l.tags l.opening (after l steps) x c.moves_left) f.book
-    ∙ ap (core l.shape l.depth l.tags l.opening (after l steps) (book_after l steps)) f.moves)))))
+    let allowed : List ℕ = map operation_count l.scripts in
+    ap (λ (x : Shape). core x c.depth c.tags c.opening c.allowed c.state c.book c.moves_left) f.shape
+    ∙ (ap (λ (x : ℕ). core l.shape x c.tags c.opening c.allowed c.state c.book c.moves_left) f.depth
+    ∙ (ap (λ (x : ℕ). core l.shape l.depth x c.opening c.allowed c.state c.book c.moves_left) f.tags
+    ∙ (ap (λ (x : List ℕ). core l.shape l.depth l.tags x c.allowed c.state c.book c.moves_left) f.opening
+    ∙ (ap (λ (x : List ℕ). core l.shape l.depth l.tags l.opening x c.state c.book c.moves_left) f.allowed
+    ∙ (ap (λ (x : State). core l.shape l.depth l.tags l.opening allowed x c.book c.moves_left) f.state
+    ∙ (ap (λ (x : EventBook). core l.shape l.depth l.tags l.opening allowed (after l steps) x c.moves_left) f.book
+    ∙ ap (core l.shape l.depth l.tags l.opening allowed (after l steps) (book_after l steps)) f.moves))))))
 
 -- and it stands after them
 pub stands_after : (l : Load) (steps : List Step) → IsAccepted l → IsAfter l (core_after_load l steps) steps
@@ -52,6 +55,7 @@ stands_after l steps ok = record {
   depth = refl;
   tags = refl;
   opening = refl;
+  allowed = refl;
   state = refl;
   book = refl;
   moves = refl;
@@ -114,7 +118,7 @@ module _ (l : Load) (steps : List Step) (attempt : Step) where
 
   -- the machine of the load in a state, with a book, and with so many moves left
   abbrev of_load : State → EventBook → ℕ → Core
-  of_load = core l.shape l.depth l.tags l.opening
+  of_load = core l.shape l.depth l.tags l.opening (map operation_count l.scripts)
 
   -- the machine that steps lead to, after a further attempt
   led_next : (o : Option State) → step (design_of l) s attempt ≡ o

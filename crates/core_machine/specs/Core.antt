@@ -1,10 +1,11 @@
 -- What contracts see of a machine, and the headline: every run has one legal order.
-use Rattle.std.specs.Prelude.{◌≡◌, ℕ, ◌-◌, Bool, List, [], ◌∷◌, ◌++◌, Option, Some, None, length}
+use Rattle.std.specs.Prelude.{◌≡◌, ℕ, ◌-◌, Bool, List, [], ◌∷◌, ◌++◌, Option, Some, None, length, map}
 use Rattle.std.specs.List.{list_all}
 use Rattle.torus.specs.Shape.{Shape, tiles_of}
 use Rattle.torus.specs.declared.step.Step.{Step}
 use Rattle.torus.specs.declared.step.Stepped.{Stepped}
 use Rattle.torus.specs.declared.step.Stepped.TheVariants.{Moved, Idle}
+use Rattle.script.specs.Scripts.{operation_count}
 use Rattle.core_progress.specs.script_follower.specs.Following.{is_finished}
 use Rattle.core_progress.specs.one_order.specs.declared.ordered.Ordered.{Ordered}
 use Rattle.core_progress.specs.one_order.specs.Observed.{Observed}
@@ -21,13 +22,15 @@ use Rattle.core_progress.specs.core_laws.specs.Runs.{IsAccepted, without_packets
 use Rattle.rounds.specs.Rounds.{IsEnabled}
 use Rattle.core_progress.specs.Moves.{moves_left}
 
--- a machine: what was loaded of shape, depth, tags and words, the state of its tiles, channels and
--- words, its book of events, and how many moves its scripts still allow
+-- a machine: what was loaded of shape, depth, tags and words, how many operations each of its
+-- scripts can make at most, the state of its tiles, channels and words, its book of events, and how
+-- many moves its scripts still allow
 pub record Core : Type 0 where
   pub shape : Shape
   pub depth : ℕ
   pub tags : ℕ
   pub opening : List ℕ
+  pub allowed : List ℕ
   pub state : State
   pub book : EventBook
   pub moves_left : ℕ
@@ -65,6 +68,7 @@ pub record IsAfter (l : Load) (c : Core) (steps : List Step) : Type 0 where
   pub depth : c.depth ≡ l.depth
   pub tags : c.tags ≡ l.tags
   pub opening : c.opening ≡ l.opening
+  pub allowed : c.allowed ≡ map operation_count l.scripts
   pub state : c.state ≡ after l steps
   pub book : c.book ≡ book_after l steps
   pub moves : c.moves_left ≡ moves_left l steps (length steps)
@@ -95,6 +99,7 @@ core_after_load l steps = record {
   depth = l.depth;
   tags = l.tags;
   opening = l.opening;
+  allowed = map operation_count l.scripts;
   state = after l steps;
   book = book_after l steps;
   moves_left = moves_left l steps (length steps);
@@ -112,6 +117,7 @@ core_moved c s e = record {
   depth = c.depth;
   tags = c.tags;
   opening = c.opening;
+  allowed = c.allowed;
   state = s;
   book = noted_event (tiles_of c.shape) c.book e;
   moves_left = c.moves_left - 1;

@@ -1,9 +1,10 @@
 -- The moves of a list of steps.
-use Rattle.std.proofs.Common.{◌≡◌, ℕ, ◌+◌, ◌≤◌, List, [], ◌∷◌, ◌++◌, length, Option, Some, None, refl, sym, ◌∙◌, ap, subst, arith}
+use Rattle.std.proofs.Common.{◌≡◌, ℕ, ◌+◌, ◌≤◌, List, [], ◌∷◌, ◌++◌, length, map, Option, Some, None, refl, sym, ◌∙◌, ap, subst, arith}
 use Rattle.torus.specs.Shape.{tiles_of}
 use Rattle.torus.specs.declared.step.Step.{Step}
 use Rattle.std.specs.Prelude.{option_and_then, option_map, slice_set, slice_get, ◌/◌, ◌%◌}
 use Rattle.flit_buffer.specs.Surroundings.{Surroundings}
+use Rattle.script.specs.Scripts.{operation_count}
 use Rattle.rounds.specs.Rounds as rounds
 use Rattle.rounds.specs.Rounds.{after_attempts, moves_in, IsEnabled}
 use Rattle.core_machine.specs.order_abstract.specs.Flight.{Move, event_by}
@@ -93,6 +94,7 @@ machine_of l s g left = record {
   depth = l.depth;
   tags = l.tags;
   opening = l.opening;
+  allowed = map operation_count l.scripts;
   state = s;
   book = g;
   moves_left = left;

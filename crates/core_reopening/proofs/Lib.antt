@@ -3,3 +3,4 @@ pub mod Runs
 pub mod Machines
 pub mod Shown
 pub mod Examples
+pub mod Handed

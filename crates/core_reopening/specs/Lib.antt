@@ -7,3 +7,4 @@ pub use Rattle.core_growth.specs.core_moves
 pub use Rattle.core_growth.specs.script_follower
 pub use Rattle.core_growth.specs.tile_laws
 pub mod Reopened
+pub mod Handed

@@ -51,6 +51,7 @@ reopened c = record {
   depth = c.depth;
   tags = c.tags;
   opening = c.opening;
+  allowed = c.allowed;
   state = state_open (built_to c) c.state;
   book = c.book;
   moves_left = c.moves_left + reports_in c.state;

@@ -1,5 +1,5 @@
 -- The fields that `load` makes are those of a machine that has made no step.
-use Rattle.std.proofs.Common.{◌≡◌, ℕ, ◌-◌, ◌*◌, ◌<◌, ◌≤◌, List, [], ◌∷◌, ◌++◌, length, map, replicate, true, Option, Some, None, refl, sym, ◌∙◌, ap, subst}
+use Rattle.std.proofs.Common.{◌≡◌, ℕ, zero, suc, ◌-◌, ◌*◌, ◌<◌, ◌≤◌, List, [], ◌∷◌, ◌++◌, length, map, replicate, true, Option, Some, None, refl, sym, ◌∙◌, ap, subst}
 use Rattle.std.proofs.Common.{arith, slice_get, take, get_or, get_or-take}
 use Rattle.std.specs.Prelude.{option_map}
 use Rattle.std.proofs.lemmas.Option.{slice_get-map, slice_get_within, slice_get-get_or, get_or_from_slice_get}
@@ -49,6 +49,7 @@ pub record Begun {A : Type 0} (a : Inside A) (scripts : List (List Line)) : Type
   pub row : a.row.items ≡ replicate (channel_count a.torus * a.depth) 0 ++ (a.opening.items ++ 0 ∷ [])
   pub book : a.book.book ≡ first_book (tiles_of a.torus)
   pub room : HasRoomFor (load_in a scripts) a.book
+  pub allowed : a.allowed.items ≡ map operation_count scripts
   pub left : a.left ≡ most_moves (load_in a scripts)
   pub awake : a.awake ≡ record { design = design_in a; flags = replicate 192 true }
 
@@ -95,6 +96,7 @@ module _ {A : Type 0} (a : Inside A) (scripts : List (List Line)) (ok : IsAccept
     depth = refl;
     tags = refl;
     opening = refl;
+    allowed = b.allowed;
     state = seen_state (load_in a scripts) ok [] 0 (places_in a) a.row.items shown;
     book = b.book;
     moves = let none : most_moves (load_in a scripts) ≡ most_moves (load_in a scripts) - 0 = omega arith in b.left ∙ none;
@@ -134,6 +136,17 @@ at_part n xs k low enough =
 
 part_count : (n : ℕ) (xs : List ℕ) → n ≤ length xs → length (take n xs) ≡ n
 part_count n xs enough = let size = length-take n xs in omega arith
+
+-- what the scripts allow, said of the counts of all processors
+pub allowed_as : (n : ℕ) (counts : List ℕ) (scripts : List (List Line)) → n ≡ length scripts → n ≤ length counts
+    → ((p : ℕ) → get_or counts p 0 ≡ operation_count (script_of scripts p)) → take n counts ≡ map operation_count scripts
+allowed_as zero counts [] same long each = refl
+allowed_as zero counts (lines ∷ scripts) same long each = absurd (omega arith)
+allowed_as (suc n) counts [] same long each = absurd (omega arith)
+allowed_as (suc n) [] (lines ∷ scripts) same long each = absurd (omega arith)
+allowed_as (suc n) (count ∷ counts) (lines ∷ scripts) same long each =
+    ap (λ k. k ∷ take n counts) (each 0)
+    ∙ ap (λ ks. operation_count lines ∷ ks) (allowed_as n counts scripts (omega arith) (omega arith) (λ p. each (suc p)))
 
 -- tiles, row and book, said of what they were made from
 pub tiles_as : (shape : Shape) (depth tags k words : ℕ) (rooms : ℕ → ℕ) (scripts : List (List Line)) (tiles : List PlacedTile) → k ≡ words

@@ -97,6 +97,7 @@ with_parts a tiles row book awake left = record {
   tiles = tiles;
   row = row;
   book = book;
+  allowed = a.allowed;
   left = left;
   awake = awake;
 }
@@ -108,6 +109,7 @@ core_by a s g left = record {
   depth = a.depth;
   tags = a.tags;
   opening = a.opening.items;
+  allowed = a.allowed.items;
   state = s;
   book = g;
   moves_left = left;

@@ -51,6 +51,12 @@ total_is (lines ∷ scripts) =
           operation_count lines scripts,
     )
 
+pub allowed_same : (scripts : List (List Line)) → map operation_count (map past_fences scripts) ≡ map operation_count scripts
+allowed_same [] = refl
+allowed_same (lines ∷ scripts) =
+    ap (λ n. n ∷ map operation_count (map past_fences scripts)) (count_past_fences lines)
+    ∙ ap (λ ns. operation_count lines ∷ ns) (allowed_same scripts)
+
 pub bare_accepted : (l : Load) → IsAccepted l → IsAccepted (bare l)
 bare_accepted l ok = record {
   shape = ok.shape;

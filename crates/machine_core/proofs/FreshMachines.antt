@@ -24,7 +24,7 @@ use Rattle.machine_core.specs.declared.machine.Machine.TheInside.{Inside}
 use Rattle.machine_core.specs.Inside.{core_of, places_in, HaveRoom, IsMachine}
 use Rattle.machine_core.specs.Fresh.{told_load}
 use Rattle.machine_core.proofs.Standing.{tiles_counted}
-use Rattle.machine_core.proofs.FreshLoads.{bare, bare_accepted, first_same, room_same, ahead_first, total_is}
+use Rattle.machine_core.proofs.FreshLoads.{bare, bare_accepted, first_same, room_same, ahead_first, total_is, allowed_same}
 
 -- a follower that shows no operation is at the start
 at_start : (lines : List Line) (past : List Invocation) (f : Following) → ShowsPast lines past f → length past ≡ 0 → f ≡ first_of lines
@@ -91,6 +91,7 @@ module _ (l : Load) (c : Core) (k : IsAfter l c []) where
     depth = k.depth;
     tags = k.tags;
     opening = k.opening;
+    allowed = k.allowed ∙ sym (allowed_same l.scripts);
     state = k.state ∙ sym (first_same l);
     book = k.book;
     moves = k.moves ∙ ap (λ (n : ℕ). 241 * n + 2 * tiles_of l.shape - 0) (sym (total_is l.scripts));

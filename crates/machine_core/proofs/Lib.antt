@@ -15,3 +15,4 @@ pub mod FreshLoads
 pub mod FreshMachines
 pub mod FirstEnabled
 pub mod AskedSteps
+pub mod Allowed

@@ -30,6 +30,7 @@ core_of a = record {
   depth = a.depth;
   tags = a.tags;
   opening = a.opening.items;
+  allowed = a.allowed.items;
   state = state_seen (design_in a) (places_in a) a.row.items;
   book = a.book.book;
   moves_left = a.left;

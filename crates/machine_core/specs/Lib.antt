@@ -7,3 +7,4 @@ pub mod Rounds
 pub mod Shown
 pub mod Noted
 pub mod Fresh
+pub mod Growing

@@ -3,6 +3,7 @@
 
 mod asking;
 mod attempts;
+mod growing;
 pub mod laws;
 mod loading;
 pub mod machine;

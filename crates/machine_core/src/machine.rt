@@ -29,8 +29,9 @@ use std::marker::Model;
 use torus::{Fault, Step, Stepped, Torus};
 
 /// A machine: the agents of all tiles, the row of words that they share (the places of the
-/// channels, the memory, and the done word), the book of the events so far, how many moves its scripts
-/// still allow, and which agents count as awake: all others are asleep, no choice of theirs is enabled.
+/// channels, the memory, and the done word), the book of the events so far, how many operations each of
+/// its scripts can make at most, how many moves they still allow, and which agents count as awake: all
+/// others are asleep, no choice of theirs is enabled.
 #[derive(Drop)]
 pub struct Machine<A: Allocator = Global> {
     pub(crate) torus: Torus,
@@ -40,6 +41,7 @@ pub struct Machine<A: Allocator = Global> {
     pub(crate) tiles: Vec<TileAgents<A>, A>,
     pub(crate) row: Vec<u64, A>,
     pub(crate) book: EventBook<A>,
+    pub(crate) allowed: Vec<usize, A>,
     pub(crate) left: u64,
     pub(crate) awake: WakeFlags<A>,
 }
@@ -87,6 +89,7 @@ impl<A: Allocator + Copy> Machine<A> {
         let issues = processor_rooms(lists.as_slice());
         let entries = home_rooms(torus.tiles(), lists.as_slice());
         let rows = all_room(lists.as_slice());
+        let allowed = Vec::from_slice(alloc, &issues[..tiles])?;
         let book = EventBook::new(alloc, &issues[..tiles], &entries[..tiles], rows)?;
         let places = channel_count(&torus) as usize * depth as usize;
         let row = first_row(alloc, places, opening.as_slice())?;
@@ -102,6 +105,7 @@ impl<A: Allocator + Copy> Machine<A> {
             tiles,
             row,
             book,
+            allowed,
             left,
             awake,
         })

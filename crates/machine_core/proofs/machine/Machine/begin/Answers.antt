@@ -1,4 +1,4 @@
-use Rattle.std.proofs.Common.{◌≡◌, ◌≤◌, ℕ, true, replicate, List, length, slice_index, ◌∙◌, ap, arith}
+use Rattle.std.proofs.Common.{◌≡◌, ◌≤◌, ℕ, true, replicate, List, length, slice_index, sym, ◌∙◌, ap, arith}
 use Rattle.std.proofs.Math.Nat.{mul-le-mul}
 use Rattle.torus.specs.Shape.{tiles_of}
 use Rattle.script.specs.declared.lists.LineList.{LineList}
@@ -7,7 +7,7 @@ use Rattle.script.specs.Scripts.{operation_count, script_of, total_count}
 use Rattle.script.specs.ScriptViews.{lists_of}
 use Rattle.machine_wake.specs.order_abstract.proofs.LoadingAccepted.{followable}
 use Rattle.machine_wake.specs.core_laws.specs.Core.{Load}
-use Rattle.machine_core.proofs.Begins.{Begun, is_machine, is_after_none, has_room, home_small, homes_as, tiles_as, row_as, book_as, part_small}
+use Rattle.machine_core.proofs.Begins.{Begun, is_machine, is_after_none, has_room, home_small, homes_as, tiles_as, row_as, book_as, allowed_as, part_small}
 use Rattle.machine_core.proofs.machine.Machine.begin.Given.{Over}
 use Rattle.machine_core.proofs.machine.Machine.begin.Goals as goal
 
@@ -20,6 +20,7 @@ begun : (g : Over) (c : goal.After-most_moves-left g) → Begun
       tiles = c.in_ok-tiles.tiles;
       row = c.in_ok-row.row;
       book = c.in_ok-book.book;
+      allowed = c.in_ok-allowed.allowed;
       left = c.most_moves-left.result;
       awake = c.in_ok-awake.awake;
     })
@@ -59,6 +60,10 @@ begun g c =
           (λ p. c.processor_rooms-issues.ensures p ∙ ap (λ (xs : List (List Line)). operation_count (script_of xs p)) lists)
           homes (c.all_room-rows.ensures ∙ ap total_count lists_3)
           c.in_ok-book.ensures.issues c.in_ok-book.ensures.positions c.in_ok-book.ensures.rows;
+      allowed = c.in_ok-allowed.ensures.items
+          ∙ allowed_as c.tiles-tiles.result c.processor_rooms-issues.result (lists_of c.args.lists.items)
+          (c.tiles-tiles.ensures.value ∙ sym c.requires.processors) issues_there
+          (λ p. c.processor_rooms-issues.ensures p ∙ ap (λ (xs : List (List Line)). operation_count (script_of xs p)) lists);
       left =
           let all : c.all_room-rows.result ≡ total_count (lists_of c.args.lists.items) = c.all_room-rows.ensures ∙ ap total_count lists_3 in
           omega (arith, c.most_moves-left.ensures, all, c.tiles-2.ensures.value);
