@@ -1,3 +1,4 @@
+pub mod Tables
 pub mod Tiles
 pub mod Runs
 pub mod Machines

@@ -24,7 +24,8 @@ use Rattle.core_growth.specs.core_machine.specs.Core.{event_in, book_from}
 use Rattle.core_growth.specs.core_moves.specs.Enabled.{ahead_if_moved, enabled_of}
 use Rattle.core_growth.specs.core_moves.proofs.Moves.{idle_event, enabled_rest}
 use Rattle.core_reopening.specs.Reopened.{tile_open, around_open, state_open, marks, reports_in, is_report, without_reports}
-use Rattle.core_reopening.proofs.Tiles.{ServesWords, same_step, report_step, report_move}
+use Rattle.core_reopening.proofs.Tables.{ServesWords}
+use Rattle.core_reopening.proofs.Tiles.{same_step, report_step, report_move}
 
 get_map : {A B : Type 0} (f : A → B) (xs : List A) (i : ℕ) (x : A) → slice_get xs i ≡ Some x
     → slice_get (map f xs) i ≡ Some (f x)

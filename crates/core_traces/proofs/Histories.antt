@@ -14,7 +14,10 @@ use Rattle.trace_order.specs.Traces.{IsTrace}
 use Rattle.trace_order.specs.Orders.{IsLinearizable}
 use Rattle.trace_order.proofs.Lists.{get_within}
 use Rattle.core_traces.specs.TraceOfRun.{numbered, numbers_after, told_of, trace_after}
-use Rattle.core_traces.proofs.Told.{IsNumber, IsTold, told_none, told_nothing, told_issue, told_serve, told_answer}
+use Rattle.core_traces.proofs.Told.{IsNumber, IsTold, told_none, told_nothing}
+use Rattle.core_traces.proofs.ToldIssues.{told_issue}
+use Rattle.core_traces.proofs.ToldServices.{told_serve}
+use Rattle.core_traces.proofs.ToldAnswers.{told_answer}
 
 -- the trace goes together with what is shown, by some order under the numbers
 abbrev Told : ℕ → List ℕ → ℕ → Observed → List LinearizationPoint → List (List ℕ) → List Event → Type 0

@@ -1,2 +1,5 @@
 pub mod Told
+pub mod ToldIssues
+pub mod ToldServices
+pub mod ToldAnswers
 pub mod Histories
