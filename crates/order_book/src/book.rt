@@ -148,7 +148,8 @@ impl<A: Allocator> EventBook<A> {
     {
         reserve_at(&mut self.issues, processor as usize, issue_room)?;
         reserve_at(&mut self.positions, bank as usize, position_room)?;
-        self.rows.try_reserve(row_room.saturating_sub(self.rows.len()))
+        self.rows
+            .try_reserve(row_room.saturating_sub(self.rows.len()))
     }
 
     /// How many events have happened.

@@ -15,13 +15,13 @@ invariant_of-result g c =
     let left = left_first c.args.lines.items c.new.result c.new.ensures in
     let none = ap (λ (xs : List Operation). length xs) c.in_ok-issued.ensures.items in
     record {
-  lines = c.args.lines.items;
-  past = [];
-  now = 0;
-  operations = subst (λ (b : ProcessorRecord). AreOperationsOf c.args.lines.items [] 0 b)
-      (sym (new_record c.args.tags c.args.lines.items c.new.result c.new-2.result c.in_ok-issued.issued.items c.in_ok-answers.answers.items c.new.ensures
-      c.new-2.ensures c.in_ok-issued.ensures.items c.in_ok-answers.ensures.items))
-      (at_start c.args.tags c.args.lines.items c.requires.followable);
-  issued_room = omega (arith, c.in_ok-issued.ensures.capacity, room, left, none);
-  answers_room = omega (arith, c.in_ok-answers.ensures.capacity, room, left, none);
-}
+      lines = c.args.lines.items;
+      past = [];
+      now = 0;
+      operations = subst (λ (b : ProcessorRecord). AreOperationsOf c.args.lines.items [] 0 b)
+          (sym (new_record c.args.tags c.args.lines.items c.new.result c.new-2.result c.in_ok-issued.issued.items c.in_ok-answers.answers.items c.new.ensures
+          c.new-2.ensures c.in_ok-issued.ensures.items c.in_ok-answers.ensures.items))
+          (at_start c.args.tags c.args.lines.items c.requires.followable);
+      issued_room = omega (arith, c.in_ok-issued.ensures.capacity, room, left, none);
+      answers_room = omega (arith, c.in_ok-answers.ensures.capacity, room, left, none);
+    }
