@@ -194,7 +194,8 @@ struct Index {
 impl Index {
     fn place_for(&self, found: &[Branch], config: Config) -> Option<usize> {
         let count = self.places.len();
-        let mut place = hash(config) as usize % count;
+        let last = count - 1;
+        let mut place = hash(config) as usize & last;
         loop {
             let at = self.places[place];
             if at >= self.homes.len() || self.homes[at] != place {
@@ -203,7 +204,7 @@ impl Index {
             if found[at].config == config {
                 return None;
             }
-            place = if place + 1 < count { place + 1 } else { 0 };
+            place = (place + 1) & last;
         }
     }
 

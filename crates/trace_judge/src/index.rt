@@ -7,7 +7,7 @@ ghost use Rattle.trace_search.specs.Searches.{configs_of};
 use std::alloc::{AllocError, Allocator};
 use trace_search::{Branch, Config};
 
-/// How many places there are at first.
+/// How many places there are at first: a power of two, as later on.
 const PLACES: usize = 64;
 
 /// Where there are more places than these, they stay as many.
@@ -60,7 +60,8 @@ impl<A: Allocator + Copy> Index<A> {
         if count == 0 {
             return Some(0);
         }
-        let mut place = hash(config) as usize % count;
+        let last = count - 1;
+        let mut place = hash(config) as usize & last;
         for _ in 0..count {
             let Some(at) = self.told(place) else {
                 return Some(place);
@@ -68,7 +69,7 @@ impl<A: Allocator + Copy> Index<A> {
             if at < found.len() && found[at].config == config {
                 return None;
             }
-            place = if place + 1 < count { place + 1 } else { 0 };
+            place = place.wrapping_add(1) & last;
         }
         Some(count)
     }
