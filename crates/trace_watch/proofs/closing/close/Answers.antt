@@ -1,0 +1,35 @@
+use Rattle.std.proofs.Common.{◌<◌, length, refl, arith}
+use Rattle.std.proofs.lemmas.Option.{slice_get_read}
+use Rattle.trace_watch.specs.States.{configs_of}
+use Rattle.trace_watch.proofs.Growth.{closing_none}
+use Rattle.trace_watch.proofs.Loops.{close_skip, close_more, close_all}
+use Rattle.trace_watch.proofs.closing.close.Goals as goal
+use Rattle.trace_watch.proofs.closing.close.Goals.{then-not-has_effect+in_ok-widen+in_ok-expand, else-not-has_effect}
+
+pub loop-next-init : goal.loop-next-init
+loop-next-init g c = closing_none c.args.id c.args.calls.now (configs_of c.in_ok-found.found.items)
+
+pub loop-next-preserved : goal.loop-next-preserved
+loop-next-preserved g c =
+    let l : c.loop-next.next < length c.loop-next.found.items = omega arith in
+    elim c.if-not-has_effect.branch [
+      | then-not-has_effect+in_ok-widen+in_ok-expand w ↦ rw w.found-is
+          (close_more c.args.id c.args.calls.now (configs_of c.in_ok-found.found.items) c.loop-next.next
+          c.loop-next.found.items w.expand.new.found.items l w.in_ok-expand.ensures c.loop-next.invariant)
+      | else-not-has_effect w ↦ rw w.found-is
+          (close_skip c.args.id c.args.calls.now (configs_of c.in_ok-found.found.items) c.loop-next.next
+          c.loop-next.found.items c.index-state.result.now c.deref.result.now
+          (slice_get_read c.loop-next.found.items (length c.loop-next.found.items) c.loop-next.next
+          c.index-state.result.now refl l c.index-state.ensures) c.deref.ensures.value
+          (w.if-not-has_effect.ensures.yes refl) c.loop-next.invariant)
+    ]
+
+pub returns-then-next-len : goal.returns-then-next-len
+returns-then-next-len g c =
+    close_all c.args.id c.args.calls.now c.args.states.now c.in_ok-found.found.items c.loop-next.found.items c.loop-next.next
+    (omega arith) c.in_ok-found.ensures c.loop-next.invariant
+
+pub returns : goal.returns
+returns g c =
+    close_all c.args.id c.args.calls.now c.args.states.now c.in_ok-found.found.items c.loop-next.found.items c.loop-next.next
+    (omega arith) c.in_ok-found.ensures c.loop-next.invariant

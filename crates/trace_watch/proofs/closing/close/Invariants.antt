@@ -1,0 +1,6 @@
+use Rattle.trace_watch.specs.States.{configs_of}
+use Rattle.trace_watch.proofs.Growth.{Closing}
+use Rattle.trace_watch.proofs.closing.close.Given as goal
+
+abbrev pub invariant-loop-next : goal.invariant-loop-next
+invariant-loop-next g l = Closing l.id l.calls (configs_of l.initial.found.items) l.next (configs_of l.found.items)

@@ -1,0 +1,6 @@
+use Rattle.trace_watch.specs.States.{configs_of}
+use Rattle.trace_watch.proofs.Growth.{Copying}
+use Rattle.trace_watch.proofs.closing.copies.Given as goal
+
+abbrev pub invariant-loop-i : goal.invariant-loop-i
+invariant-loop-i g l = Copying (configs_of l.states) l.i (configs_of l.found.items)

@@ -1,0 +1,25 @@
+use Rattle.std.proofs.Common.{◌<◌, length, arith}
+use Rattle.std.proofs.lemmas.Option.{slice_get-get_or}
+use Rattle.trace_watch.specs.States.{configs_of}
+use Rattle.trace_watch.proofs.Growth.{expanding_none, expanding_more, expanding_all, low_config}
+use Rattle.trace_watch.proofs.Loops.{at_inside}
+use Rattle.trace_watch.proofs.closing.expand.Goals as goal
+
+pub loop-i-init : goal.loop-i-init
+loop-i-init g c = expanding_none c.args.at c.args.calls.now (configs_of c.args.found.now.items)
+
+pub attempt-requires : goal.attempt-requires
+attempt-requires g c =
+    at_inside c.args.found.now.items c.loop-i.found.items c.args.at c.requires c.loop-i.invariant.grows
+
+pub loop-i-preserved : goal.loop-i-preserved
+loop-i-preserved g c =
+    let l : c.loop-i.i < length c.args.calls.now = omega arith in
+    expanding_more c.args.at c.args.calls.now (configs_of c.args.found.now.items) c.loop-i.i (configs_of c.loop-i.found.items)
+    (configs_of c.attempt.new.found.items) _ (slice_get-get_or c.args.calls.now c.loop-i.i _ l)
+    (low_config c.args.found.now.items c.args.at c.requires) c.in_ok-attempt.ensures c.loop-i.invariant
+
+pub returns : goal.returns
+returns g c =
+    expanding_all c.args.at c.args.calls.now (configs_of c.args.found.now.items) c.loop-i.i (configs_of c.loop-i.found.items)
+    (omega arith) c.loop-i.invariant

@@ -1,0 +1,80 @@
+-- What is known of a trace so far.
+use Rattle.std.specs.Prelude.{◌≡◌, ◌⊎◌, ◌<◌, ◌≤◌, ℕ, List, Option, Some, length, take, slice_get, slice_index}
+use Rattle.packet.specs.declared.kinds.Reply.{Reply}
+use Rattle.packet.specs.Memory.{reply_of_one}
+use Rattle.trace_order.specs.declared.event.Call.{Call}
+use Rattle.trace_order.specs.declared.event.Event.{Event}
+use Rattle.trace_order.specs.Traces.{IsIssuedAt, IsAnsweredAt}
+use Rattle.trace_order.specs.Orders.{memory_of}
+use Rattle.trace_order.specs.Locality.{IsOrderOn}
+use Rattle.trace_search.specs.Configs.{IsIn}
+use Rattle.trace_watch.specs.declared.state.Effect.{Effect}
+use Rattle.trace_watch.specs.States.{Config, HasEffect}
+
+-- the trace answers this number
+abbrev pub IsAnswered : List Event → ℕ → Type 0
+IsAnswered trace id = (i : ℕ) × (reply : Reply) × IsAnsweredAt trace i id reply
+
+-- an operation stands in an order, and replies there what it took effect with
+pub record IsReplied (opening : List ℕ) (order : List Call) (e : Effect) : Type 0 where
+  pub at : ℕ
+  pub call : Call
+  pub there : slice_get order at ≡ Some call
+  pub number : call.id ≡ e.id
+  pub reply : e.reply ≡ reply_of_one call.operation (memory_of opening (take at order))
+
+-- An order explains what the trace does on word w, and a configuration tells what it leaves: the
+-- word, and which of the open operations stand in it, with their replies.
+pub record Explains (opening : List ℕ) (trace : List Event) (w : ℕ) (order : List Call) (c : Config)
+    : Type 0 where
+  pub legal : IsOrderOn w opening trace order
+  pub word : c.word ≡ slice_index (memory_of opening order) w
+  pub pending : (e : Effect) → IsIn c.effects e → IsAnswered trace e.id → ⊥
+  pub replied : (e : Effect) → IsIn c.effects e → IsReplied opening order e
+  pub all : (x : ℕ) (call : Call) → slice_get order x ≡ Some call
+      → (IsAnswered trace call.id → ⊥) → HasEffect c call.id
+
+-- orders lead to these configurations
+abbrev pub AreExplained : List ℕ → List Event → ℕ → List Config → Type 0
+AreExplained opening trace w configs = (c : Config) → IsIn configs c
+    → (order : List Call) × Explains opening trace w order c
+
+-- of a word orders lead to these configurations, and whatever order explains what the trace does on
+-- it, a beginning of that order leads to one
+pub record Knows (opening : List ℕ) (trace : List Event) (w : ℕ) (configs : List Config) : Type 0
+  where
+    pub sound : AreExplained opening trace w configs
+    pub complete : (order : List Call) → IsOrderOn w opening trace order
+        → (n : ℕ) × (c : Config) × IsIn configs c × Explains opening trace w (take n order) c
+
+-- an operation was issued, and isn't answered
+pub record IsPending (trace : List Event) (call : Call) : Type 0 where
+  pub issued : (i : ℕ) × IsIssuedAt trace i call
+  pub unanswered : IsAnswered trace call.id → ⊥
+
+-- these are the open operations
+pub record ArePending (trace : List Event) (calls : List Call) : Type 0 where
+  pub each : (call : Call) → IsIn calls call → IsPending trace call
+  pub all : (i : ℕ) (call : Call) → IsIssuedAt trace i call
+      → IsAnswered trace call.id ⊎ IsIn calls call
+
+-- these are the open operations on word w
+pub record ArePendingOn (trace : List Event) (w : ℕ) (calls : List Call) : Type 0 where
+  pub each : (call : Call) → IsIn calls call → IsPending trace call
+  pub here : (call : Call) → IsIn calls call → call.operation.address ≡ w
+  pub all : (i : ℕ) (call : Call) → IsIssuedAt trace i call → call.operation.address ≡ w
+      → IsAnswered trace call.id ⊎ IsIn calls call
+
+-- the number of the newest operation
+pub record IsNewest (trace : List Event) (last : Option ℕ) : Type 0 where
+  pub above : (i : ℕ) (call : Call) → IsIssuedAt trace i call
+      → (n : ℕ) × (last ≡ Some n) × (call.id ≤ n)
+  pub told : (n : ℕ) → last ≡ Some n → (i : ℕ) × (call : Call) × IsIssuedAt trace i call
+      × (call.id ≡ n)
+
+-- where these operations are open on a word, and orders lead to the old configurations, orders lead
+-- to the new ones
+abbrev pub StaysExplained : List Call → List Config → List Config → Type 0
+StaysExplained calls old new = (opening : List ℕ) (trace : List Event) (w : ℕ)
+    → w < length opening → ArePendingOn trace w calls → AreExplained opening trace w old
+    → AreExplained opening trace w new

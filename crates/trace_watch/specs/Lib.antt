@@ -1,0 +1,4 @@
+pub mod States
+pub mod Known
+pub mod Closed
+pub mod Follows

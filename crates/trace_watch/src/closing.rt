@@ -1,0 +1,169 @@
+//! Lets open operations take effect, until the answered one has.
+
+ghost use Rattle.std.specs.Prelude.{◌≡◌, ◌<◌, ℕ, [], ◌∷◌, ◌++◌, Some, IfOk, OnOk, length, slice_get};
+ghost use Rattle.trace_search.specs.Configs.{IsIn};
+ghost use Rattle.trace_watch.specs.States.{Config, AreReleased, IsAmong, IsExpanded, config_of, configs_of};
+ghost use Rattle.trace_watch.specs.Closed.{GoesOn, Expands, Copies, Closes, IsAnsweredBy, IsOneMore};
+
+use crate::index::{Index, empty_index};
+use crate::state::{Effect, State, after, copy_of, has_effect, is_in, without};
+use crate::watch::Full;
+use packet::Reply;
+use std::alloc::{AllocError, Allocator};
+use trace_order::Call;
+
+/// Puts a state at the end.
+fn push<A: Allocator>(found: &mut Vec<State<A>, A>, state: State<A>) -> Result<(), AllocError>
+    ensures { OnOk result (found.new.items ≡ found.old.items ++ state ∷ []) }
+{
+    found.push(state)?;
+    Ok(())
+}
+
+/// Adds a state to those that were found, unless one that says the same is there.
+fn add<A: Allocator + Copy>(
+    found: &mut Vec<State<A>, A>,
+    index: &mut Index<A>,
+    state: State<A>,
+    bound: usize,
+) -> Result<(), Full>
+    ensures { OnOk result
+        (IsOneMore (configs_of found.old.items) (config_of state) (configs_of found.new.items)) }
+{
+    let Some(place) = index.place_for(found, &state) else {
+        return Ok(());
+    };
+    if found.len() >= bound {
+        return Err(Full::Configurations);
+    }
+    index.note(place)?;
+    push(found, state)?;
+    Ok(())
+}
+
+/// Lets an operation take effect in a state, unless it has.
+fn attempt<A: Allocator + Copy>(
+    alloc: A,
+    found: &mut Vec<State<A>, A>,
+    index: &mut Index<A>,
+    at: usize,
+    call: Call,
+    bound: usize,
+) -> Result<(), Full>
+    requires { at < length found.old.items }
+    ensures { OnOk result
+        (Expands at (call ∷ []) (configs_of found.old.items) (configs_of found.new.items)) }
+{
+    let state = &found[at];
+    if has_effect(&state.effects, call.id) {
+        return Ok(());
+    }
+    let next = after(alloc, state, call)?;
+    add(found, index, next, bound)?;
+    Ok(())
+}
+
+/// Lets each of some operations that has not taken effect in a state do so.
+fn expand<A: Allocator + Copy>(
+    alloc: A,
+    found: &mut Vec<State<A>, A>,
+    index: &mut Index<A>,
+    at: usize,
+    calls: &[Call],
+    bound: usize,
+) -> Result<(), Full>
+    requires { at < length found.old.items }
+    ensures { OnOk result
+        (Expands at calls.now (configs_of found.old.items) (configs_of found.new.items)) }
+{
+    for i in 0..calls.len() {
+        attempt(alloc, found, index, at, calls[i], bound)?;
+    }
+    Ok(())
+}
+
+/// The same states, each once.
+fn copies<A: Allocator + Copy>(
+    alloc: A,
+    states: &[State<A>],
+    index: &mut Index<A>,
+    bound: usize,
+) -> Result<Vec<State<A>, A>, Full>
+    ensures { IfOk result (λ v. Copies (configs_of states.now) (configs_of v.items)) }
+{
+    let mut found = Vec::new(alloc);
+    for i in 0..states.len() {
+        let state = &states[i];
+        let copy = copy_of(alloc, state)?;
+        index.widen(alloc, &found)?;
+        add(&mut found, index, copy, bound)?;
+    }
+    Ok(found)
+}
+
+/// The states that open operations lead to, of which each goes on until the operation of this number
+/// has taken effect.
+fn close<A: Allocator + Copy>(
+    alloc: A,
+    states: &[State<A>],
+    index: &mut Index<A>,
+    calls: &[Call],
+    id: u64,
+    bound: usize,
+) -> Result<Vec<State<A>, A>, Full>
+    ensures { IfOk result (λ v. Closes id calls.now (configs_of states.now) (configs_of v.items)) }
+{
+    let mut found = copies(alloc, states, index, bound)?;
+    for next in 0..bound {
+        if next >= found.len() {
+            return Ok(found);
+        }
+        let state = &found[next];
+        if !has_effect(&state.effects, id) {
+            index.widen(alloc, &found)?;
+            expand(alloc, &mut found, index, next, calls, bound)?;
+        }
+    }
+    if found.len() > bound {
+        return Err(Full::Configurations);
+    }
+    Ok(found)
+}
+
+/// The states in which the operation of this number has replied so, without it.
+fn keep<A: Allocator + Copy>(
+    alloc: A,
+    states: &[State<A>],
+    id: u64,
+    reply: Reply,
+) -> Result<Vec<State<A>, A>, AllocError>
+    ensures { IfOk result (λ v. AreReleased id reply (configs_of states.now) (configs_of v.items)) }
+{
+    let mut kept = Vec::new(alloc);
+    for i in 0..states.len() {
+        let state = &states[i];
+        if is_in(&state.effects, Effect { id, reply }) {
+            let less = without(alloc, state, id)?;
+            kept.push(less)?;
+        }
+    }
+    Ok(kept)
+}
+
+/// The states of a word after the operation of this number was answered so.
+pub(crate) fn answered<A: Allocator + Copy>(
+    alloc: A,
+    states: &[State<A>],
+    calls: &[Call],
+    id: u64,
+    reply: Reply,
+    bound: usize,
+) -> Result<Vec<State<A>, A>, Full>
+    ensures { IfOk result (λ v. IsAnsweredBy id reply calls.now (configs_of states.now)
+        (configs_of v.items)) }
+{
+    let mut index = empty_index(alloc)?;
+    let found = close(alloc, states, &mut index, calls, id, bound)?;
+    let kept = keep(alloc, &found, id, reply)?;
+    Ok(kept)
+}

@@ -1,0 +1,12 @@
+//! Judges a trace event by event while it goes on: of each word the configurations that its open
+//! operations may have led to, with what those that took effect replied.
+#![tactic(auto)]
+
+mod closing;
+mod index;
+mod pending;
+pub mod state;
+pub mod watch;
+
+pub use state::{Effect, State};
+pub use watch::{Full, Seen, Watch, begin};
