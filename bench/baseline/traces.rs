@@ -194,8 +194,7 @@ struct Index {
 impl Index {
     fn place_for(&self, found: &[Branch], config: Config) -> Option<usize> {
         let count = self.places.len();
-        let last = count - 1;
-        let mut place = hash(config) as usize & last;
+        let mut place = hash(config) as usize % count;
         loop {
             let at = self.places[place];
             if at >= self.homes.len() || self.homes[at] != place {
@@ -204,7 +203,7 @@ impl Index {
             if found[at].config == config {
                 return None;
             }
-            place = (place + 1) & last;
+            place = if place + 1 < count { place + 1 } else { 0 };
         }
     }
 

@@ -7,7 +7,7 @@ ghost use Rattle.trace_search.specs.Searches.{configs_of};
 use std::alloc::{AllocError, Allocator};
 use trace_search::{Branch, Config};
 
-/// How many places there are at first: a power of two, as later on.
+/// How many places there are at first.
 const PLACES: usize = 64;
 
 /// Where there are more places than these, they stay as many.
@@ -60,8 +60,7 @@ impl<A: Allocator + Copy> Index<A> {
         if count == 0 {
             return Some(0);
         }
-        let last = count - 1;
-        let mut place = hash(config) as usize & last;
+        let mut place = hash(config) as usize % count;
         for _ in 0..count {
             let Some(at) = self.told(place) else {
                 return Some(place);
@@ -69,7 +68,7 @@ impl<A: Allocator + Copy> Index<A> {
             if at < found.len() && found[at].config == config {
                 return None;
             }
-            place = place.wrapping_add(1) & last;
+            place = if place + 1 < count { place + 1 } else { 0 };
         }
         Some(count)
     }
