@@ -132,7 +132,7 @@ fn of_steps<'a, A: Allocator>(
 
 /// The first of two tiles that the machine of a text hasn't; `None` where it has both.
 ///
-/// Errors: the text's first fault, or want of memory.
+/// Errors: the text's first fault, or out of memory.
 pub fn tile_sentence<A: Allocator + Copy>(
     alloc: A,
     machine: &[u8],

@@ -13,7 +13,7 @@ use table_text::network_answer;
 /// Judges the network of a text, and prints the verdict: the numbers of its channels if they can rise,
 /// or the first pair without a route, or a cycle of channels. Answers whether the numbers rise.
 ///
-/// Errors: the text's first fault, or want of memory; and nothing was written then. If the output
+/// Errors: the text's first fault, or out of memory; and nothing was written then. If the output
 /// fails, a beginning was written.
 pub fn network_text<A: Allocator + Copy, W: Out>(
     alloc: A,

@@ -248,7 +248,7 @@ fn answered_within(
     Ok(answered)
 }
 
-/// Each budget gives want of memory, and from the first that suffices on the right answer.
+/// Each budget runs out of memory, and from the first that suffices on the right answer.
 #[test]
 fn each_budget(rt: HostRuntime) -> Result<(), Fail> {
     let memory = Err(LineFault {

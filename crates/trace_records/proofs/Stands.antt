@@ -60,7 +60,7 @@ record_step words g next k records e all is made reads =
     sym (ap (λ m. then_lines k m (λ n. events_from words n (k + 1) (drop (k + 1) records))) made)
     ∙ (sym (ap (events_from words g k) (drop_next records k e is)) ∙ reads)
 
--- want of memory is told at no place, and every other fault at its own
+-- that memory is refused is told at no place, and every other fault at its own
 told_where : (f : Fault) (place : ℕ) → (f ≡ fault.Memory) ⊎ (line_of_fault f place ≡ place)
 told_where fault.Memory place = inl refl
 told_where fault.Radix place = inr refl
