@@ -18,7 +18,7 @@ use Rattle.order_abstract.specs.one_order.specs.declared.answer.Answer.{Answer}
 use Rattle.order_abstract.specs.one_order.specs.Observed.{Observed, list_at}
 use Rattle.order_abstract.specs.one_order.specs.Events.{nothing_yet}
 use Rattle.order_abstract.specs.one_order.proofs.Lists.{list_at_none, total_none}
-use Rattle.order_abstract.specs.one_order.proofs.Account.{account_none}
+use Rattle.order_abstract.specs.one_order.proofs.AccountKept.{account_none}
 use Rattle.channel_number.specs.Order.{channel_count}
 use Rattle.flit_buffer.specs.Places.{Ring, IsRing, empty_ring}
 use Rattle.flit_buffer.specs.Surroundings.{ring, no_ring}

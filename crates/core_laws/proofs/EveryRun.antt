@@ -6,7 +6,7 @@ use Rattle.order_abstract.specs.one_order.specs.declared.ordered.Ordered.{Ordere
 use Rattle.order_abstract.specs.one_order.specs.Events.{IsHistory, order_after}
 use Rattle.order_abstract.specs.one_order.specs.OneOrder.{HasOneOrder}
 use Rattle.order_abstract.specs.one_order.specs.Consequences.{ServesInTurn, AnswersInTurn}
-use Rattle.order_abstract.specs.one_order.proofs.OrderRows.{rows_of, one_order}
+use Rattle.order_abstract.specs.one_order.proofs.IssueNumbers.{rows_of, one_order}
 use Rattle.order_abstract.specs.one_order.proofs.InTurn.{serves_in_turn}
 use Rattle.order_abstract.specs.one_order.proofs.AnswersInTurn.{answers_in_turn}
 use Rattle.order_abstract.specs.Scripts.{FollowScripts}

@@ -18,6 +18,7 @@ ghost use Rattle.home_bank.specs.BankAgent.{NamesWord, IsAcceptable, HasRoom, wi
 ghost use Rattle.home_bank.specs.Beginning.{empty_bank, new_ports};
 
 use crate::flits_left::FlitsLeft;
+use crate::start::new_ports;
 use crate::{Entry, ServiceList};
 use channel_number::{Channel, Kind, channel_count, channel_index};
 use flit_buffer::{Ports, Receiver, Sender, Want, WordOp};
@@ -31,11 +32,11 @@ use torus::{Choice, Class, Stepped, Torus};
 /// the row: word w has the address `tile + w * tiles`.
 #[derive(Drop)]
 pub struct BankAgent<A: Allocator = Global> {
-    services: ServiceList<A>,
-    assembler: Assembler,
-    waiting: Option<Request>,
-    to_put: FlitsLeft,
-    ports: Ports<A>,
+    pub(crate) services: ServiceList<A>,
+    pub(crate) assembler: Assembler,
+    pub(crate) waiting: Option<Request>,
+    pub(crate) to_put: FlitsLeft,
+    pub(crate) ports: Ports<A>,
 }
 
 impl<A: Allocator> Model for BankAgent<A> {
@@ -48,48 +49,6 @@ impl<A: Allocator> Model for BankAgent<A> {
     ghost view = { bank_place_of };
 
     ghost invariant = { IsBankAgent };
-}
-
-/// The position in the row of the first place of a tile's channel, over channels of this depth.
-fn base_of(torus: &Torus, depth: u32, channel: Channel) -> usize
-    requires channel { IsChannel torus.now channel }
-    requires few { depth ≤ 8 }
-    ensures base { result ≡ channel_index torus.now channel * depth }
-    ensures low { result ≤ 14336 }
-{
-    let _count = channel_count(torus);
-    (channel_index(torus, channel) * depth) as usize
-}
-
-/// The ports of a tile's bank, whose channels are empty: the places of each channel stand in the row
-/// by its place among the channels, and the words behind those of all channels.
-fn new_ports<A: Allocator + Copy>(
-    alloc: A,
-    torus: &Torus,
-    tile: u32,
-    depth: u32,
-) -> Result<Ports<A>, AllocError>
-    requires tile { tile < tiles_of torus.now }
-    requires some { 0 < depth }
-    requires few { depth ≤ 8 }
-    ensures { IfOk result (λ p. p ≡ new_ports torus.now tile depth) }
-{
-    let requests = Channel {
-        tile,
-        class: Class::Request,
-        kind: Kind::Ejection,
-    };
-    let replies = Channel {
-        tile,
-        class: Class::Reply,
-        kind: Kind::Injection,
-    };
-    let mut inputs = Vec::with_capacity(alloc, 1)?;
-    inputs.push(Receiver::new(base_of(torus, depth, requests), depth as usize))?;
-    let mut outputs = Vec::with_capacity(alloc, 1)?;
-    outputs.push(Sender::new(base_of(torus, depth, replies), depth as usize))?;
-    let words = channel_count(torus) * depth;
-    Ok(Ports::new(inputs, outputs, words as usize))
 }
 
 /// Whether a flit can be taken: it is no head flit of a request, or names a word below 65536. No
@@ -311,53 +270,5 @@ impl<A: Allocator> BankAgent<A> {
         let response = self.services.record(request, reply);
         self.waiting = None;
         self.to_put = FlitsLeft::all_of(flits(&Packet::Response(response)));
-    }
-
-    /// The tile whose bank it is.
-    pub fn tile(&self) -> u32
-        ensures { result ≡ self.now.tile }
-    {
-        self.services.tile()
-    }
-
-    /// The entries of its service list, in the order of the services.
-    pub fn entries(&self) -> &[Entry]
-        ensures { result.now ≡ self.now.agent.state.entries }
-    {
-        self.services.entries()
-    }
-
-    /// Whether there is room for no further entry.
-    pub fn is_full(&self) -> bool
-        ensures full { IsTrue result ↔ (length self.now.agent.state.entries ≡ self.now.room) }
-        ensures within { length self.now.agent.state.entries ≤ self.now.room }
-    {
-        self.services.is_full()
-    }
-
-    /// For how many entries there is room.
-    pub fn room(&self) -> usize
-        ensures { result ≡ self.now.room }
-    {
-        self.services.room()
-    }
-
-    /// Makes room for so many entries more, at most 65536 in all. No other call takes memory.
-    ///
-    /// Errors: `AllocError` where there is no memory; then nothing has changed.
-    pub fn reserve(&mut self, more: usize) -> Result<(), AllocError>
-        requires { self.old.room + more ≤ 65536 }
-        ensures room { OnOk result (self.new ≡ with_room self.old (self.old.room + more)) }
-        ensures same { OnErr result (self.new ≡ self.old) }
-    {
-        self.services.reserve(more)
-    }
-
-    /// Gives up the room for so many entries, which no entry has taken.
-    pub fn release(&mut self, fewer: usize)
-        requires { length self.old.agent.state.entries + fewer ≤ self.old.room }
-        ensures { self.new ≡ with_room self.old (self.old.room - fewer) }
-    {
-        self.services.release(fewer);
     }
 }

@@ -6,6 +6,8 @@ pub mod entry;
 mod flits_left;
 pub mod laws;
 pub mod service_list;
+mod shown;
+mod start;
 
 pub use bank_agent::{BankAgent, is_acceptable};
 pub use entry::Entry;

@@ -3,7 +3,11 @@
 
 pub mod laws;
 pub mod processor;
+mod granted;
+mod growing;
 mod record;
+mod requests;
+mod shown;
 mod start;
 
 pub use processor::Processor;

@@ -26,6 +26,7 @@ ghost use Rattle.net_interface.specs.Inside.{with_tag};
 ghost use Rattle.net_interface.specs.Place.{with_agent, with_state, is_tagged, accepts, IsForProcessor, IsAcceptable};
 
 use crate::record::Record;
+use crate::requests::request_flits;
 use crate::start::new_ports;
 use arrayvec::ArrayVec;
 use flit_buffer::{Ports, Want, WordOp};
@@ -41,22 +42,22 @@ use torus::{Choice, Stepped, Torus};
 /// replies, reports when its script is finished, and looks whether all scripts are.
 #[derive(Drop)]
 pub struct Processor<A: Allocator = Global> {
-    tiles: u32,
-    words: u32,
-    tile: u32,
-    operations: Record<A>,
+    pub(crate) tiles: u32,
+    pub(crate) words: u32,
+    pub(crate) tile: u32,
+    pub(crate) operations: Record<A>,
     /// With no request in course: the operation that is ready, and the tag that it would take.
-    next: Option<(Tag, Operation)>,
+    pub(crate) next: Option<(Tag, Operation)>,
     /// The flits of the request in course; with none, those of the operation that is ready.
-    flits: ArrayVec<u64, 5>,
+    pub(crate) flits: ArrayVec<u64, 5>,
     /// How many of these flits are put. A request is in course while some are.
-    put: usize,
-    assembler: Assembler,
+    pub(crate) put: usize,
+    pub(crate) assembler: Assembler,
     /// The head flit of the reply that has begun to come in.
-    begun: Option<u64>,
-    reported: bool,
-    seen: bool,
-    ports: Ports<A>,
+    pub(crate) begun: Option<u64>,
+    pub(crate) reported: bool,
+    pub(crate) seen: bool,
+    pub(crate) ports: Ports<A>,
 }
 
 impl<A: Allocator> Model for Processor<A> {
@@ -71,46 +72,11 @@ impl<A: Allocator> Model for Processor<A> {
     ghost invariant = { IsProcessor };
 }
 
-/// The flits of the request of an operation of a processor under a tag, to the operation's home bank.
-fn request_flits(tiles: u32, tile: u32, next: Option<(Tag, Operation)>) -> ArrayVec<u64, 5>
-    requires tile { tile < tiles }
-    requires few { tiles ≤ 64 }
-    requires tag { IfSome next (λ f. f.0.0 < 16) }
-    ensures { (words : ℕ) (operation : Option (ℕ × Operation)) → next ≡ with_tag operation
-        → result.items ≡ request_flits tiles words tile operation }
-{
-    let Some((tag, operation)) = next else {
-        return ArrayVec::new();
-    };
-    flits(&Packet::Request(Request {
-        destination: operation.address % tiles,
-        source: tile,
-        tag,
-        word: operation.address / tiles,
-        op: operation.op,
-    }))
-}
-
 /// The tag that a head flit tells.
-fn tag_told(head: u64) -> Tag
+pub(crate) fn tag_told(head: u64) -> Tag
     ensures { result.0 ≡ field head 41 4 }
 {
     Tag(((head >> 41) % 16) as u32)
-}
-
-/// With no flit put yet, the operation that is ready is issued: this is it, with the tag.
-fn begin<A: Allocator>(operations: &mut Record<A>, put: usize, next: Option<(Tag, Operation)>)
-    requires { put ≡ 0 → next ≡ with_tag (ready operations.old) }
-    ensures { (tiles words tile : ℕ)
-        → operations.new ≡ (if put == 0
-        then issued_of tiles words tile (ready operations.old) operations.old
-        else operations.old) }
-{
-    if put == 0 {
-        if let Some((tag, operation)) = next {
-            operations.issue(tag, operation);
-        }
-    }
 }
 
 impl<A: Allocator + Copy> Processor<A> {
@@ -320,162 +286,5 @@ impl<A: Allocator> Processor<A> {
             Some(want) => self.ports.would_grant(want, row),
             None => false,
         }
-    }
-
-    /// What follows in the processor once a want of a choice is granted.
-    fn note(&mut self, choice: Choice, want: Want, learned: u64)
-        requires wanted { processor_wants self.old.tiles self.old.words self.old.tile
-            self.old.agent.state choice ≡ Some want }
-        requires flit { IsAcceptable self.old.agent.state choice learned }
-        requires some { choice ≡ chosen.Take → learned ≢ 0 }
-        ensures { self.new
-            ≡ with_state self.old (processor_after self.old.tiles self.old.words self.old.tile
-            self.old.agent.state choice want learned) }
-    {
-        match choice {
-            Choice::Send => self.sent(),
-            Choice::Take => self.taken(learned),
-            Choice::Done => self.reported = true,
-            Choice::Look => self.seen = true,
-            _ => {}
-        }
-    }
-
-    /// A flit is put: with no request in course it was a head, and the operation is issued.
-    #[inline(never)]
-    fn sent(&mut self)
-        requires { IsSome
-            (first_of (flits_due self.old.tiles self.old.words self.old.tile
-            self.old.agent.state.to_put (ready self.old.agent.state.operations))) }
-        ensures { self.new
-            ≡ with_state self.old (record self.old.agent.state {
-              operations = record_sent self.old.tiles self.old.words self.old.tile
-                  self.old.agent.state.to_put self.old.agent.state.operations;
-              to_put = rest (flits_due self.old.tiles self.old.words self.old.tile
-                  self.old.agent.state.to_put (ready self.old.agent.state.operations));
-            }) }
-    {
-        begin(&mut self.operations, self.put, self.next);
-        let count = self.flits.len();
-        if self.put + 1 < count {
-            self.put += 1;
-        } else {
-            self.put = 0;
-            self.next = self.operations.ready();
-            self.flits = request_flits(self.tiles, self.tile, self.next);
-        }
-    }
-
-    /// A flit is taken: where a reply is whole with it, the operation is answered, and its tag is free
-    /// again.
-    #[inline(never)]
-    fn taken(&mut self, flit: u64)
-        requires { IsForProcessor self.old.agent.state.operations
-            (offered self.old.agent.state.so_far flit) }
-        ensures { self.new
-            ≡ with_state self.old (record self.old.agent.state {
-              operations = record_offered self.old.tiles self.old.words self.old.tile
-                  self.old.agent.state.operations (offered self.old.agent.state.so_far flit);
-              so_far = flits_left (offered self.old.agent.state.so_far flit)
-                  self.old.agent.state.so_far flit;
-            }) }
-    {
-        match self.assembler.offer(flit) {
-            Offered::More => self.begun = Some(self.begun.unwrap_or(flit)),
-            Offered::Whole(packet) => {
-                self.begun = None;
-                if let Packet::Response(response) = packet {
-                    self.operations.answer(response);
-                    if self.put == 0 {
-                        self.next = self.operations.ready();
-                        self.flits = request_flits(self.tiles, self.tile, self.next);
-                    }
-                }
-            }
-            Offered::Refused(_) => {}
-        }
-    }
-
-    /// Puts a line at the end of the script, with room for so many operations in all, at most 65536:
-    /// those issued, those that the script still allows, and the line's. A spin has loads, and a
-    /// `last` an operation before it. No other call takes memory.
-    ///
-    /// Errors: `AllocError` where there is no memory; then nothing has changed.
-    pub fn append(&mut self, line: Line, room: usize) -> Result<(), AllocError>
-        requires loads { (a v m : ℕ) → line ≡ Line.Spin a v m → 0 < m }
-        requires last { mentions_last line ≡ true
-            → 0 < length self.old.agent.state.operations.issued
-            + left_of self.old.agent.state.operations.following }
-        requires room { length self.old.agent.state.operations.issued
-            + left_of self.old.agent.state.operations.following + operations_of line ≤ room }
-        requires few { room ≤ 65536 }
-        ensures appended { OnOk result
-            (self.new ≡ with_state self.old (processor_with line self.old.agent.state)) }
-        ensures same { OnErr result (self.new ≡ self.old) }
-    {
-        self.operations.append(line, room)?;
-        if self.put == 0 {
-            self.next = self.operations.ready();
-            self.flits = request_flits(self.tiles, self.tile, self.next);
-        }
-        Ok(())
-    }
-
-    /// Takes back that the processor has reported, and seen that all have.
-    pub fn reopen(&mut self)
-        ensures { self.new ≡ with_state self.old (processor_open self.old.agent.state) }
-    {
-        self.reported = false;
-        self.seen = false;
-    }
-
-    /// The operations that the processor has issued, in the order of issue.
-    pub fn issued(&self) -> &[Operation]
-        ensures { result.now ≡ self.now.agent.state.operations.issued }
-    {
-        self.operations.issued()
-    }
-
-    /// The answers that it has received, in the order of answering.
-    pub fn answers(&self) -> &[Answer]
-        ensures { result.now ≡ self.now.agent.state.operations.answers }
-    {
-        self.operations.answers()
-    }
-
-    /// The operation that holds a tag; None exactly where the tag isn't out.
-    pub fn holder(&self, tag: Tag) -> Option<OpId>
-        ensures { result ≡ holder_of self.now.agent.state.operations.tags tag.0 }
-    {
-        self.operations.holder(tag)
-    }
-
-    /// How many tags are out: of so many requests the reply has not come.
-    pub fn outstanding(&self) -> u32
-        ensures { result ≡ out_count self.now.agent.state.operations.tags }
-    {
-        self.operations.outstanding()
-    }
-
-    /// Whether the script is finished: all its operations are issued and answered, and no spin wants
-    /// another load.
-    pub fn is_finished(&self) -> bool
-        ensures { result ≡ is_finished self.now.agent.state.operations.following }
-    {
-        self.operations.is_finished()
-    }
-
-    /// Whether the processor has reported that its script is finished.
-    pub fn has_reported(&self) -> bool
-        ensures { result ≡ self.now.agent.state.reported }
-    {
-        self.reported
-    }
-
-    /// Whether it has seen that all processors have reported.
-    pub fn has_seen(&self) -> bool
-        ensures { result ≡ self.now.agent.state.seen }
-    {
-        self.seen
     }
 }

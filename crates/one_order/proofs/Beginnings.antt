@@ -12,7 +12,7 @@ use Rattle.one_order.specs.OneOrder.{HasOneOrder}
 use Rattle.one_order.specs.Events.{Event, IsHistory, points_of, order_after}
 use Rattle.one_order.proofs.Lists.{within_length, get_append_left}
 use Rattle.one_order.proofs.Folds.{before_kept}
-use Rattle.one_order.proofs.OrderRows.{rows_of, one_order, one_order_is}
+use Rattle.one_order.proofs.IssueNumbers.{rows_of, one_order, one_order_is}
 use Rattle.one_order.proofs.Unique.{same_order, issue_number_same, answer_number_same}
 
 -- the order of the services only grows at its end

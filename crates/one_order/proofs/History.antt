@@ -13,7 +13,8 @@ use Rattle.one_order.specs.Events.{Event, Nothing, Issued, Served, Answered, pus
 use Rattle.one_order.specs.Events.{IsHistory}
 use Rattle.one_order.proofs.Lists.{push_at_cases, push_at_keeps, length_list_at_push, length_list_at_push_grows, get_push_cases}
 use Rattle.one_order.proofs.Folds.{before_kept}
-use Rattle.one_order.proofs.Account.{Account, home_within, keeps, account_none, tells_more}
+use Rattle.one_order.proofs.Account.{Account, home_within, tells_more}
+use Rattle.one_order.proofs.AccountKept.{keeps, account_none}
 
 pub shorter : (tiles tags : ℕ) (opening : List ℕ) (run : Run) (event : ℕ → Event) (n : ℕ) → IsHistory tiles tags opening run event (suc n)
     → IsHistory tiles tags opening run event n

@@ -1,6 +1,7 @@
 pub mod Lists
 pub mod Folds
 pub mod Account
+pub mod AccountKept
 pub mod Told
 pub mod History
 pub mod Numbers
@@ -8,6 +9,7 @@ pub mod Growth
 pub mod EventTimes
 pub mod EventNumbers
 pub mod OrderRows
+pub mod IssueNumbers
 pub mod Counting
 pub mod Naming
 pub mod Replay
@@ -20,3 +22,4 @@ pub mod InTurn
 pub mod AnswersInTurn
 pub mod Beginnings
 mod WrongOnes
+mod WrongOrders

@@ -1,6 +1,6 @@
 -- Wrong orders: a run and the legal order of its operations, and runs and orders of which the definition says one thing
 -- and each wrong one another.
-use Rattle.std.proofs.Common.{◌≡◌, ℕ, zero, suc, ◌<◌, ◌≤◌, List, [], ◌∷◌, Some, take, refl, subst, ap, slice_get, slice_index, arith}
+use Rattle.std.proofs.Common.{◌≡◌, ℕ, zero, suc, ◌<◌, ◌≤◌, List, [], ◌∷◌, Some, take, refl, subst, slice_get, arith}
 use Rattle.std.specs.Prelude.{fold}
 use Rattle.packet.specs.declared.kinds.Op.{Op}
 use Rattle.packet.specs.declared.kinds.Op.TheVariants.{Load, Store}
@@ -14,23 +14,23 @@ use Rattle.one_order.specs.Order.{LinearizationPoint, operations_of, WasIssued, 
 use Rattle.one_order.specs.Events.{Event, happens, nothing_yet}
 
 -- two processors and two words, which are 0 at first; what is shown after each number of these events
-abbrev opening : List ℕ
+abbrev pub opening : List ℕ
 opening = 0 ∷ 0 ∷ []
 
-abbrev run_of : List Event → Run
+abbrev pub run_of : List Event → Run
 run_of events k = fold (happens 2) (nothing_yet 2 opening) (take k events)
 
-abbrev on_word_0 : Op → Operation
+abbrev pub on_word_0 : Op → Operation
 on_word_0 op = record { address = 0; op = op }
 
-abbrev answer : Op → Reply → ℕ → Answer
+abbrev pub answer : Op → Reply → ℕ → Answer
 answer op reply place = record { index = 0; op = op; reply = reply; bank = 0; place = place }
 
-abbrev point : ℕ → Op → ℕ → LinearizationPoint
+abbrev pub point : ℕ → Op → ℕ → LinearizationPoint
 point source op step = record { source = source; index = 0; operation = on_word_0 op; step = step }
 
 -- processor 0 stores 7 in word 0, which bank 0 serves at step 2; once that is answered, processor 1 loads it
-abbrev in_turn : ℕ → List Event
+abbrev pub in_turn : ℕ → List Event
 in_turn word =
     Event.Issued 0 (on_word_0 (Store 7))
     ∷ Event.Served 0 0 (record { 0 = 0 }) (on_word_0 (Store 7))
@@ -40,7 +40,7 @@ in_turn word =
     ∷ Event.Answered 1 (answer Load (Old word) 1)
     ∷ []
 
-abbrev run : Run
+abbrev pub run : Run
 run = run_of (in_turn 7)
 
 -- the store is issued at step 1, and at no other
@@ -71,13 +71,13 @@ store_is_never_issued h = h.not_before 1 (omega arith) h.holds
 
 -- what holds of two points holds of each of them in a list, and so what holds of pairs
 module _ (a b : LinearizationPoint) where
-  each_of_two : (P : LinearizationPoint → Type 0) → P a → P b
+  pub each_of_two : (P : LinearizationPoint → Type 0) → P a → P b
       → (k : ℕ) (x : LinearizationPoint) → slice_get (a ∷ b ∷ []) k ≡ Some x → P x
   each_of_two P at_a at_b zero x e = let same : a ≡ x = cc in subst P same at_a
   each_of_two P at_a at_b (suc zero) x e = let same : b ≡ x = cc in subst P same at_b
   each_of_two P at_a at_b (suc (suc k)) x e = absurd (cc)
 
-  each_pair : (P : ℕ → ℕ → LinearizationPoint → LinearizationPoint → Type 0)
+  pub each_pair : (P : ℕ → ℕ → LinearizationPoint → LinearizationPoint → Type 0)
       → P 0 0 a a → P 0 1 a b → P 1 0 b a → P 1 1 b b
       → (j k : ℕ) (x y : LinearizationPoint) → slice_get (a ∷ b ∷ []) j ≡ Some x → slice_get (a ∷ b ∷ []) k ≡ Some y
       → P j k x y
@@ -98,26 +98,26 @@ module _ (a b : LinearizationPoint) where
   each_pair P aa ab ba bb (suc (suc j)) k x y e f = absurd (cc)
 
 -- the store and the load, at the steps of their services
-abbrev stored : LinearizationPoint
+abbrev pub stored : LinearizationPoint
 stored = point 0 (Store 7) 2
 
-abbrev loaded : LinearizationPoint
+abbrev pub loaded : LinearizationPoint
 loaded = point 1 Load 5
 
 -- wrong: the steps need not rise, so the order need not be that of the services (Lamport, IEEE TC C-28(9), 1979:
 -- sequential consistency)
-record IsAnyOrder (opening : List ℕ) (run : Run) (n : ℕ) (order : List LinearizationPoint) : Type 0 where
-  within : (k : ℕ) (x : LinearizationPoint) → slice_get order k ≡ Some x → x.step ≤ n
-  distinct : (j k : ℕ) (x y : LinearizationPoint) → slice_get order j ≡ Some x → slice_get order k ≡ Some y
+pub record IsAnyOrder (opening : List ℕ) (run : Run) (n : ℕ) (order : List LinearizationPoint) : Type 0 where
+  pub within : (k : ℕ) (x : LinearizationPoint) → slice_get order k ≡ Some x → x.step ≤ n
+  pub distinct : (j k : ℕ) (x y : LinearizationPoint) → slice_get order j ≡ Some x → slice_get order k ≡ Some y
       → x.source ≡ y.source → x.index ≡ y.index → j ≡ k
-  issued : (k : ℕ) (x : LinearizationPoint) → slice_get order k ≡ Some x → WasIssued run n x
-  answered : (p i : ℕ) (a : Answer) → slice_get (list_at (run n).answers p) i ≡ Some a
+  pub issued : (k : ℕ) (x : LinearizationPoint) → slice_get order k ≡ Some x → WasIssued run n x
+  pub answered : (p i : ℕ) (a : Answer) → slice_get (list_at (run n).answers p) i ≡ Some a
       → TookEffect opening run order p a
-  memory : (run n).memory ≡ memory_after (operations_of order) opening
+  pub memory : (run n).memory ≡ memory_after (operations_of order) opening
 
 -- the run in which the load replies this word
 module _ (word : ℕ) where
-  store_was_issued : WasIssued (run_of (in_turn word)) 6 stored
+  pub store_was_issued : WasIssued (run_of (in_turn word)) 6 stored
   store_was_issued =
       record {
         operation = refl;
@@ -130,7 +130,7 @@ module _ (word : ℕ) where
       before zero low h = absurd (omega (arith, h))
       before (suc k) low h = absurd (omega (arith, low))
 
-  load_was_issued : WasIssued (run_of (in_turn word)) 6 loaded
+  pub load_was_issued : WasIssued (run_of (in_turn word)) 6 loaded
   load_was_issued =
       record {
         operation = refl;
@@ -146,7 +146,7 @@ module _ (word : ℕ) where
       before (suc (suc (suc zero))) low h = absurd (omega (arith, h))
       before (suc (suc (suc (suc k)))) low h = absurd (omega (arith, low))
 
-  store_is_answered : IsAnsweredAt (run_of (in_turn word)) 0 0 3
+  pub store_is_answered : IsAnsweredAt (run_of (in_turn word)) 0 0 3
   store_is_answered = record { holds = (0, answer (Store 7) Stored 0, refl, refl); not_before = before }
     where
       before : (k : ℕ) → k < 3 → HasAnswered (run_of (in_turn word) k) 0 0 → ⊥
@@ -155,7 +155,7 @@ module _ (word : ℕ) where
       before (suc (suc zero)) low h = cc (h.2)
       before (suc (suc (suc k))) low h = absurd (omega (arith, low))
 
-  load_is_answered : IsAnsweredAt (run_of (in_turn word)) 1 0 6
+  pub load_is_answered : IsAnsweredAt (run_of (in_turn word)) 1 0 6
   load_is_answered = record { holds = (0, answer Load (Old word) 1, refl, refl); not_before = before }
     where
       before : (k : ℕ) → k < 6 → HasAnswered (run_of (in_turn word) k) 1 0 → ⊥
@@ -168,7 +168,7 @@ module _ (word : ℕ) where
       before (suc (suc (suc (suc (suc (suc k)))))) low h = absurd (omega (arith, low))
 
   -- both answers, if their operations take effect in an order
-  both_take_effect : (order : List LinearizationPoint)
+  pub both_take_effect : (order : List LinearizationPoint)
       → TookEffect opening (run_of (in_turn word)) order 0 (answer (Store 7) Stored 0)
       → TookEffect opening (run_of (in_turn word)) order 1 (answer Load (Old word) 1)
       → (p i : ℕ) (a : Answer) → slice_get (list_at (run_of (in_turn word) 6).answers p) i ≡ Some a
@@ -220,103 +220,3 @@ order_is_legal = record {
       });
   memory = refl;
 }
-
--- the run in which the load replies 0, though the store was answered before it was issued
-abbrev stale : Run
-stale = run_of (in_turn 0)
-
-load_before_store_is_not_legal : IsLegalOrder opening stale 6 (loaded ∷ stored ∷ []) → ⊥
-load_before_store_is_not_legal h = absurd (omega (arith, h.rising 0 1 loaded stored (omega arith) refl refl))
-
-load_before_store_is_taken : IsAnyOrder opening stale 6 (loaded ∷ stored ∷ [])
-load_before_store_is_taken = record {
-  within = each_of_two loaded stored (λ x. x.step ≤ 6) (omega arith) (omega arith);
-  distinct = each_pair loaded stored (λ j k x y. x.source ≡ y.source → x.index ≡ y.index → j ≡ k)
-      (λ _ _. refl) (λ h _. absurd (omega (arith, h))) (λ h _. absurd (omega (arith, h))) (λ _ _. refl);
-  issued = each_of_two loaded stored (WasIssued stale 6) (load_was_issued 0) (store_was_issued 0);
-  answered = both_take_effect 0 (loaded ∷ stored ∷ [])
-      (record {
-        k = 1;
-        point = stored;
-        there = refl;
-        source = refl;
-        index = refl;
-        op = refl;
-        at = 3;
-        answered = store_is_answered 0;
-        before = omega arith;
-        reply = refl;
-      })
-      (record {
-        k = 0;
-        point = loaded;
-        there = refl;
-        source = refl;
-        index = refl;
-        op = refl;
-        at = 6;
-        answered = load_is_answered 0;
-        before = omega arith;
-        reply = refl;
-      });
-  memory = refl;
-}
-
--- wrong: answered operations need not be in the order
-record IsOrderOfSome (opening : List ℕ) (run : Run) (n : ℕ) (order : List LinearizationPoint) : Type 0 where
-  rising : (j k : ℕ) (x y : LinearizationPoint) → j < k → slice_get order j ≡ Some x → slice_get order k ≡ Some y
-      → x.step < y.step
-  within : (k : ℕ) (x : LinearizationPoint) → slice_get order k ≡ Some x → x.step ≤ n
-  distinct : (j k : ℕ) (x y : LinearizationPoint) → slice_get order j ≡ Some x → slice_get order k ≡ Some y
-      → x.source ≡ y.source → x.index ≡ y.index → j ≡ k
-  issued : (k : ℕ) (x : LinearizationPoint) → slice_get order k ≡ Some x → WasIssued run n x
-  memory : (run n).memory ≡ memory_after (operations_of order) opening
-
--- a load that replies 5, of a word that is 0
-abbrev invented : Run
-invented = run_of (
-    Event.Issued 0 (on_word_0 Load)
-    ∷ Event.Served 0 0 (record { 0 = 0 }) (on_word_0 Load)
-    ∷ Event.Answered 0 (answer Load (Old 5) 0)
-    ∷ [])
-
-answer_is_of_an_operation : IsLegalOrder opening invented 3 [] → ⊥
-answer_is_of_an_operation h = cc ((h.answered 0 0 (answer Load (Old 5) 0) refl).there)
-
-answer_is_of_none : IsOrderOfSome opening invented 3 []
-answer_is_of_none = record {
-  rising = (λ j k x y low e f. absurd (cc));
-  within = (λ k x e. absurd (cc));
-  distinct = (λ j k x y e f g h. absurd (cc));
-  issued = (λ k x e. absurd (cc));
-  memory = refl;
-}
-
--- wrong: the shown words need not be what the memory holds in the end
-record LeavesAnyWords (opening : List ℕ) (run : Run) (n : ℕ) (order : List LinearizationPoint) : Type 0 where
-  rising : (j k : ℕ) (x y : LinearizationPoint) → j < k → slice_get order j ≡ Some x → slice_get order k ≡ Some y
-      → x.step < y.step
-  within : (k : ℕ) (x : LinearizationPoint) → slice_get order k ≡ Some x → x.step ≤ n
-  distinct : (j k : ℕ) (x y : LinearizationPoint) → slice_get order j ≡ Some x → slice_get order k ≡ Some y
-      → x.source ≡ y.source → x.index ≡ y.index → j ≡ k
-  issued : (k : ℕ) (x : LinearizationPoint) → slice_get order k ≡ Some x → WasIssued run n x
-  answered : (p i : ℕ) (a : Answer) → slice_get (list_at (run n).answers p) i ≡ Some a
-      → TookEffect opening run order p a
-
--- the store is served, and not answered yet
-served_store_is_in_the_order : IsLegalOrder opening run 2 [] → ⊥
-served_store_is_in_the_order h = absurd (omega (arith, ap (λ (words : List ℕ). slice_index words 0) h.memory))
-
-served_store_is_left_out : LeavesAnyWords opening run 2 []
-served_store_is_left_out = record {
-  rising = (λ j k x y low e f. absurd (cc));
-  within = (λ k x e. absurd (cc));
-  distinct = (λ j k x y e f g h. absurd (cc));
-  issued = (λ k x e. absurd (cc));
-  answered = none;
-}
-  where
-    none : (p i : ℕ) (a : Answer) → slice_get (list_at (run 2).answers p) i ≡ Some a → TookEffect opening run [] p a
-    none zero i a e = absurd (cc)
-    none (suc zero) i a e = absurd (cc)
-    none (suc (suc p)) i a e = absurd (cc)

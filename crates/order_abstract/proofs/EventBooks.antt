@@ -19,8 +19,9 @@ use Rattle.one_order.proofs.Account.{home_within}
 use Rattle.one_order.proofs.History.{shorter, account}
 use Rattle.one_order.proofs.Numbers.{count_next, count_none, size}
 use Rattle.one_order.proofs.Naming.{one_point}
-use Rattle.one_order.proofs.OrderRows.{rows_none, rows_nothing, rows_issued, rows_served, rows_answered, issue_numbers_issued, issue_numbers_kept}
-use Rattle.one_order.proofs.OrderRows.{issue_numbers_none, one_order}
+use Rattle.one_order.proofs.OrderRows.{rows_none, rows_nothing, rows_issued, rows_served, rows_answered}
+use Rattle.one_order.proofs.IssueNumbers.{issue_numbers_issued, issue_numbers_kept}
+use Rattle.one_order.proofs.IssueNumbers.{issue_numbers_none, one_order}
 use Rattle.one_order.specs.OneOrder.{HasOneOrder}
 use Rattle.order_abstract.specs.EventBook.{EventBook, noted_issue, noted_service, noted_answer, new_row, row_at, no_row, answered_row, first_book}
 use Rattle.order_abstract.specs.EventBook.{noted_event, book_of}

@@ -13,7 +13,7 @@ use Rattle.one_order.specs.declared.answer.Answer.{Answer}
 use Rattle.one_order.specs.Observed.{Observed, list_at}
 use Rattle.one_order.specs.Events.{nothing_yet}
 use Rattle.one_order.proofs.Lists.{list_at_none, total_none}
-use Rattle.one_order.proofs.Account.{account_none}
+use Rattle.one_order.proofs.AccountKept.{account_none}
 use Rattle.script_follower.specs.ProcessorRecord.{ProcessorRecord, no_processor}
 use Rattle.order_abstract.specs.Flight.{show}
 use Rattle.order_abstract.specs.Courses.{first_record, first_flight}

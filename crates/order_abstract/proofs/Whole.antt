@@ -24,7 +24,8 @@ use Rattle.one_order.specs.Order.{LinearizationPoint}
 use Rattle.one_order.specs.Events.{Event, Issued, Served, Answered, push_at, entry_of, happens, points_of, MayIssue}
 use Rattle.one_order.specs.Events.{MayServe, MayAnswer, MayHappen}
 use Rattle.one_order.proofs.Lists.{length_list_at_push, total_push, list_within}
-use Rattle.one_order.proofs.Account.{Account, keeps, home_within}
+use Rattle.one_order.proofs.Account.{Account, home_within}
+use Rattle.one_order.proofs.AccountKept.{keeps}
 use Rattle.script_follower.specs.ProcessorRecord.{ProcessorRecord, no_processor, index_in, index_of, operation_of, issued_by}
 use Rattle.script_follower.specs.ProcessorRecord.{answered_by, request_of, answer_of}
 use Rattle.order_abstract.specs.Flight.{Flight, Move, Sends, Serves, Takes, processor_at, is_asked_alike, is_told_alike, asked_place}

@@ -2,6 +2,7 @@
 #![tactic(auto)]
 
 pub mod laws;
+mod outputs;
 mod owners;
 pub mod router;
 mod start;

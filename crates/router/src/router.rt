@@ -16,6 +16,7 @@ ghost use Rattle.router.specs.Table.{empty_router, output_for, router_wants, rou
 ghost use Rattle.router.specs.Table.{with_agent};
 ghost use Rattle.router.specs.Ways.{onward, HasDimension};
 
+use crate::outputs::{onward, output_number};
 use crate::owners::Owners;
 use crate::start::new_ports;
 use dateline_route::{Input, Output, next};
@@ -67,49 +68,6 @@ fn ways_from<A: Allocator + Copy>(
         ways.push(next(torus, tile, Input::Inject, dst, Class::Request))?;
     }
     Ok(ways)
-}
-
-/// The number of an output for packets of a class, in so many dimensions.
-fn output_number(dims: u32, class: Class, output: Output) -> u32
-    requires dims { dims ≤ 3 }
-    requires output { HasDimension dims output }
-    ensures value { result ≡ output_number dims class output }
-    ensures within { result < port_count dims }
-{
-    match output {
-        Output::Eject => {
-            let place = match class {
-                Class::Request => 0,
-                Class::Reply => 1,
-            };
-            8 * dims + place
-        }
-        Output::Hop { dim, dir, bit } => {
-            let dir = match dir {
-                Dir::Plus => 0,
-                Dir::Minus => 4,
-            };
-            let class = match class {
-                Class::Request => 0,
-                Class::Reply => 2,
-            };
-            8 * dim + dir + class + u32::from(bit)
-        }
-    }
-}
-
-/// The way of a packet that came by an input, by that of one that was injected here.
-fn onward(input: u32, output: Output) -> Output
-    ensures { result ≡ onward input output }
-{
-    match output {
-        Output::Eject => Output::Eject,
-        Output::Hop { dim, dir, bit } => Output::Hop {
-            dim,
-            dir,
-            bit: bit || (input / 8 == dim && input % 2 == 1),
-        },
-    }
 }
 
 impl<A: Allocator + Copy> Router<A> {

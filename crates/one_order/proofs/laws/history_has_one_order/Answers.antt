@@ -1,4 +1,4 @@
-use Rattle.one_order.proofs.OrderRows.{rows_of, one_order}
+use Rattle.one_order.proofs.IssueNumbers.{rows_of, one_order}
 use Rattle.one_order.proofs.laws.history_has_one_order.Goals as goal
 
 pub returns : goal.returns

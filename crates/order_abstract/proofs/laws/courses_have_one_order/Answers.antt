@@ -1,4 +1,4 @@
-use Rattle.one_order.proofs.OrderRows.{rows_of, one_order}
+use Rattle.one_order.proofs.IssueNumbers.{rows_of, one_order}
 use Rattle.order_abstract.specs.Courses.{run_of, events_of}
 use Rattle.order_abstract.proofs.Courses.{holds_at}
 use Rattle.order_abstract.proofs.laws.courses_have_one_order.Goals as goal

@@ -1,0 +1,78 @@
+//! What the bank of a tile shows, and its room for entries.
+
+ghost use Rattle.std.specs.Prelude.{◌≡◌, ◌<◌, ◌≤◌, ◌↔◌, ◌*◌, length, IsTrue, IfOk, IfSome, IsSome, MatchOption};
+ghost use Rattle.std.specs.Prelude.{vec_len, slice_index, Some, is_some, ◌+◌, ◌-◌, OnOk, OnErr};
+ghost use Rattle.torus.specs.Shape.{tiles_of};
+ghost use Rattle.torus.specs.declared.step.Choice.TheVariants as choice;
+ghost use Rattle.torus.specs.declared.step.Stepped.TheVariants as stepped;
+ghost use Rattle.flit_buffer.specs.Agent.{next_op, absorbed, attempted};
+ghost use Rattle.flit_buffer.specs.Tries.{performed_by};
+ghost use Rattle.flit_buffer.specs.Words.{word_of};
+ghost use Rattle.flit_buffer.specs.Wants.{HasPort};
+ghost use Rattle.flit_buffer.specs.declared.want.Want.{Want};
+ghost use Rattle.flit_buffer.specs.declared.want.Want.TheVariants as wants_to;
+ghost use Rattle.channel_number.specs.dateline_route.specs.Walk.{IsChannel};
+ghost use Rattle.channel_number.specs.Order.{channel_index};
+ghost use Rattle.home_bank.specs.BankTable.{bank_wants, bank_after, served};
+ghost use Rattle.home_bank.specs.BankAgent.{NamesWord, IsAcceptable, HasRoom, with_agent, with_room};
+ghost use Rattle.home_bank.specs.Beginning.{empty_bank, new_ports};
+
+use crate::flits_left::FlitsLeft;
+use crate::{Entry, ServiceList};
+use channel_number::{Channel, Kind, channel_count, channel_index};
+use flit_buffer::{Ports, Receiver, Sender, Want, WordOp};
+use packet::{Assembler, Head, Offered, Packet, Request, apply, flits, head};
+use std::alloc::{AllocError, Allocator, Global};
+use std::marker::Model;
+use torus::{Choice, Class, Stepped, Torus};
+use crate::bank_agent::BankAgent;
+
+impl<A: Allocator> BankAgent<A> {
+    /// The tile whose bank it is.
+    pub fn tile(&self) -> u32
+        ensures { result ≡ self.now.tile }
+    {
+        self.services.tile()
+    }
+
+    /// The entries of its service list, in the order of the services.
+    pub fn entries(&self) -> &[Entry]
+        ensures { result.now ≡ self.now.agent.state.entries }
+    {
+        self.services.entries()
+    }
+
+    /// Whether there is room for no further entry.
+    pub fn is_full(&self) -> bool
+        ensures full { IsTrue result ↔ (length self.now.agent.state.entries ≡ self.now.room) }
+        ensures within { length self.now.agent.state.entries ≤ self.now.room }
+    {
+        self.services.is_full()
+    }
+
+    /// For how many entries there is room.
+    pub fn room(&self) -> usize
+        ensures { result ≡ self.now.room }
+    {
+        self.services.room()
+    }
+
+    /// Makes room for so many entries more, at most 65536 in all. No other call takes memory.
+    ///
+    /// Errors: `AllocError` where there is no memory; then nothing has changed.
+    pub fn reserve(&mut self, more: usize) -> Result<(), AllocError>
+        requires { self.old.room + more ≤ 65536 }
+        ensures room { OnOk result (self.new ≡ with_room self.old (self.old.room + more)) }
+        ensures same { OnErr result (self.new ≡ self.old) }
+    {
+        self.services.reserve(more)
+    }
+
+    /// Gives up the room for so many entries, which no entry has taken.
+    pub fn release(&mut self, fewer: usize)
+        requires { length self.old.agent.state.entries + fewer ≤ self.old.room }
+        ensures { self.new ≡ with_room self.old (self.old.room - fewer) }
+    {
+        self.services.release(fewer);
+    }
+}
