@@ -9,7 +9,7 @@ use Rattle.dateline_route.specs.declared.channel.Channel.{Channel}
 use Rattle.dateline_route.specs.declared.channel.Kind.{Kind}
 use Rattle.dateline_route.specs.declared.channel.Kind.TheVariants.{Injection, Hop, Ejection}
 use Rattle.dateline_route.specs.Walk.{IsChannel, IsInside}
-use Rattle.channel_number.specs.Order.{dir_place, class_place, bit_place, place_of, channels_at_tile, channel_count, channel_index, dir_at, class_at}
+use Rattle.channel_number.specs.Order.{dir_place, class_place, bit_place, place_in_tile, channels_at_tile, channel_count, channel_index, dir_at, class_at}
 use Rattle.channel_number.specs.Order.{channel_at}
 use Rattle.channel_number.proofs.Orders.{index_below, one_index}
 
@@ -36,7 +36,7 @@ bit_is (suc (suc m)) h = absurd (omega arith)
 -- the kind and class of a place are inside, and have it
 pub record IsAt (s : Shape) (p : ℕ) (class : Class) (kind : Kind) : Type 0 where
   pub inside : IsInside s kind
-  pub place : place_of (dims_of s) class kind ≡ p
+  pub place : place_in_tile (dims_of s) class kind ≡ p
 
 is_at : (s : Shape) (p : ℕ) (hops injects : Bool) → p < channels_at_tile s → (hops ≡ true → p < 8 * dims_of s) → (hops ≡ false → 8 * dims_of s ≤ p)
     → (injects ≡ true → p < 8 * dims_of s + 2) → (injects ≡ false → 8 * dims_of s + 2 ≤ p) → IsAt s p (class_by hops p) (kind_by hops injects p)

@@ -15,7 +15,7 @@ use Rattle.dateline_route.specs.declared.channel.Output.TheVariants.{Eject, Hop 
 use Rattle.dateline_route.specs.Route.{with_digit}
 use Rattle.dateline_route.specs.Walk.{IsChannel, IsInside, LeadsTo, input_of, kind_of}
 use Rattle.dateline_route.proofs.Neighbours.{hop_is}
-use Rattle.channel_number.specs.Order.{dir_at, class_place, place_of, channels_at_tile, channel_index, channel_at}
+use Rattle.channel_number.specs.Order.{dir_at, class_place, place_in_tile, channels_at_tile, channel_index, channel_at}
 use Rattle.channel_number.specs.Ports.{port_count, tile_after, is_ejection, input_channel, output_channel, output_number, input_numbered, input_router}
 use Rattle.channel_number.specs.Ports.{input_port, IsInput, HasInput}
 use Rattle.channel_number.proofs.Orders.{dir_small, class_small, bit_small, index_below, place_below}
@@ -64,10 +64,10 @@ arrives s h t i low small =
 
 -- a channel that leads to a router is at the input of its place
 pub only_arrives : (s : Shape) → IsAccepted s → (x : Channel) (t : ℕ) → IsChannel s x → LeadsTo s x.tile x.kind t
-    → (place_of (dims_of s) x.class x.kind < port_count (dims_of s)) × (input_channel s t (place_of (dims_of s) x.class x.kind) ≡ channel_index s x)
+    → (place_in_tile (dims_of s) x.class x.kind < port_count (dims_of s)) × (input_channel s t (place_in_tile (dims_of s) x.class x.kind) ≡ channel_index s x)
 only_arrives s h x t is leads =
     let X : ℕ = channel_index s x in
-    let p : ℕ = place_of (dims_of s) x.class x.kind in
+    let p : ℕ = place_in_tile (dims_of s) x.class x.kind in
     let same : channel_at s X ≡ x = encoded s x is in
     let at : HasInput s X = has_input s h X (index_below s x is) (ap (λ (c : Channel). is_ejection c.kind) same ∙ no_ejection s x.tile x.kind t leads) in
     let router : input_router s X ≡ t =
@@ -87,7 +87,7 @@ output_is s t class Eject inside =
     ap (λ (b : Bool). cond b (t * channels_at_tile s + o) (t * channels_at_tile s + (o + 2))) (le-ltb o n (omega arith)) ∙ same
 output_is s t class (To d dir bit) inside =
     let n : ℕ = 8 * dims_of s in
-    let o : ℕ = place_of (dims_of s) class (Hop d dir bit) in
+    let o : ℕ = place_in_tile (dims_of s) class (Hop d dir bit) in
     let low : o < n = omega (arith, dir_small dir, class_small class, bit_small bit) in
     ap (λ (b : Bool). cond b (t * channels_at_tile s + o) (t * channels_at_tile s + (o + 2))) (lt-ltb o n low)
 

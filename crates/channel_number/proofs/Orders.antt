@@ -12,7 +12,7 @@ use Rattle.dateline_route.specs.declared.channel.Kind.{Kind}
 use Rattle.dateline_route.specs.declared.channel.Kind.TheVariants.{Injection, Hop, Ejection}
 use Rattle.dateline_route.specs.Walk.{IsChannel, IsInside}
 use Rattle.dateline_route.proofs.Walks.{same_channel}
-use Rattle.channel_number.specs.Order.{dir_place, class_place, bit_place, place_of, channels_at_tile, channel_count, channel_index}
+use Rattle.channel_number.specs.Order.{dir_place, class_place, bit_place, place_in_tile, channels_at_tile, channel_count, channel_index}
 
 pub dir_small : (dir : Dir) → dir_place dir ≤ 1
 dir_small Plus = omega arith
@@ -26,15 +26,15 @@ pub bit_small : (bit : Bool) → bit_place bit ≤ 1
 bit_small false = omega arith
 bit_small true = omega arith
 
-pub place_below : (n : ℕ) (class : Class) (s : Shape) (kind : Kind) → n ≡ dims_of s → IsInside s kind → place_of n class kind < 8 * n + 4
+pub place_below : (n : ℕ) (class : Class) (s : Shape) (kind : Kind) → n ≡ dims_of s → IsInside s kind → place_in_tile n class kind < 8 * n + 4
 place_below n class s (Hop d dir bit) e low = omega (arith, dir_small dir, class_small class, bit_small bit)
 place_below n class s Injection e low = omega (arith, class_small class)
 place_below n class s Ejection e low = omega (arith, class_small class)
 
 pub index_below : (s : Shape) (x : Channel) → IsChannel s x → channel_index s x < channel_count s
 index_below s x h =
-    let place : place_of (dims_of s) x.class x.kind < channels_at_tile s = place_below (dims_of s) x.class s x.kind refl h.kind in
-    let turned = mul-add-lt x.tile (channels_at_tile s) (place_of (dims_of s) x.class x.kind) (tiles_of s) h.tile place in
+    let place : place_in_tile (dims_of s) x.class x.kind < channels_at_tile s = place_below (dims_of s) x.class s x.kind refl h.kind in
+    let turned = mul-add-lt x.tile (channels_at_tile s) (place_in_tile (dims_of s) x.class x.kind) (tiles_of s) h.tile place in
     omega (arith, turned, mul_comm (tiles_of s) (channels_at_tile s))
 
 dir_one : (x y : Dir) → dir_place x ≡ dir_place y → x ≡ y
@@ -70,7 +70,7 @@ same_hop : (d e : ℕ) (dir way : Dir) (bit on : Bool) → d ≡ e → dir ≡ w
 same_hop d e dir way bit on d_is dir_is bit_is = ap (λ m. Hop m dir bit) d_is ∙ ap (λ w. Hop e w bit) dir_is ∙ ap (Hop e way) bit_is
 
 -- two channels of one tile that have one place are one
-one_place : (n : ℕ) (s : Shape) (c v : Class) (k l : Kind) → n ≡ dims_of s → IsInside s k → IsInside s l → place_of n c k ≡ place_of n v l → (c ≡ v) × (k ≡ l)
+one_place : (n : ℕ) (s : Shape) (c v : Class) (k l : Kind) → n ≡ dims_of s → IsInside s k → IsInside s l → place_in_tile n c k ≡ place_in_tile n v l → (c ≡ v) × (k ≡ l)
 one_place n s c v (Hop d dir bit) (Hop e way on) at inside within same =
     let parts : SameDigits d (dir_place dir) (class_place c) (bit_place bit) e (dir_place way) (class_place v) (bit_place on) =
     same_digits d (dir_place dir) (class_place c) (bit_place bit) e (dir_place way) (class_place v) (bit_place on)
@@ -90,8 +90,8 @@ pub one_index : (s : Shape) (x y : Channel) → IsChannel s x → IsChannel s y 
 one_index s x y h g same =
     let n : ℕ = dims_of s in
     let per : ℕ = channels_at_tile s in
-    let p : ℕ = place_of n x.class x.kind in
-    let q : ℕ = place_of n y.class y.kind in
+    let p : ℕ = place_in_tile n x.class x.kind in
+    let q : ℕ = place_in_tile n y.class y.kind in
     let low : p < per = place_below n x.class s x.kind refl h.kind in
     let low' : q < per = place_below n y.class s y.kind refl g.kind in
     let tile : x.tile ≡ y.tile = sym (div-mul-add x.tile per p low) ∙ ap (λ m. m / per) same ∙ div-mul-add y.tile per q low' in
@@ -103,7 +103,7 @@ pub hop_inside : (s : Shape) (kind : Kind) (d : ℕ) (dir : Dir) (bit : Bool) �
 hop_inside s kind d dir bit e inside = let P : Kind → Type 0 = λ k. IsInside s k in subst P e inside
 
 -- the place of a channel, from those of its tile and of its class and kind
-pub index_from : (s : Shape) (x : Channel) (per place : ℕ) → IsChannel s x → per ≡ channels_at_tile s → place ≡ place_of (dims_of s) x.class x.kind
+pub index_from : (s : Shape) (x : Channel) (per place : ℕ) → IsChannel s x → per ≡ channels_at_tile s → place ≡ place_in_tile (dims_of s) x.class x.kind
     → x.tile * per + place < channel_count s
 index_from s x per place h per_is place_is =
     let P : ℕ → Type 0 = λ m. m < channel_count s in

@@ -27,10 +27,10 @@ bit_place false = 0
 bit_place true = 1
 
 -- the place of a channel among those of its tile, in n dimensions (this project's own format)
-abbrev pub place_of : ℕ → Class → Kind → ℕ
-place_of n class (Hop d dir bit) = 8 * d + 4 * dir_place dir + 2 * class_place class + bit_place bit
-place_of n class Injection = 8 * n + class_place class
-place_of n class Ejection = 8 * n + 2 + class_place class
+abbrev pub place_in_tile : ℕ → Class → Kind → ℕ
+place_in_tile n class (Hop d dir bit) = 8 * d + 4 * dir_place dir + 2 * class_place class + bit_place bit
+place_in_tile n class Injection = 8 * n + class_place class
+place_in_tile n class Ejection = 8 * n + 2 + class_place class
 
 -- how many channels a tile sends or holds (this project's own format)
 abbrev pub channels_at_tile : Shape → ℕ
@@ -42,7 +42,7 @@ channel_count s = tiles_of s * channels_at_tile s
 
 -- the place of a channel among all (this project's own format)
 abbrev pub channel_index : Shape → Channel → ℕ
-channel_index s x = x.tile * channels_at_tile s + place_of (dims_of s) x.class x.kind
+channel_index s x = x.tile * channels_at_tile s + place_in_tile (dims_of s) x.class x.kind
 
 -- the direction of a place among the directions
 abbrev pub dir_at : ℕ → Dir

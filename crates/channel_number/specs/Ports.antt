@@ -12,7 +12,7 @@ use Rattle.dateline_route.specs.declared.channel.Input.TheVariants.{Inject, Hop 
 use Rattle.dateline_route.specs.declared.channel.Output.{Output}
 use Rattle.dateline_route.specs.declared.channel.Output.TheVariants.{Eject, Hop as To}
 use Rattle.dateline_route.specs.Route.{with_digit}
-use Rattle.channel_number.specs.Order.{dir_at, class_place, place_of, channels_at_tile, channel_count, channel_index}
+use Rattle.channel_number.specs.Order.{dir_at, class_place, place_in_tile, channels_at_tile, channel_count, channel_index}
 use Rattle.channel_number.specs.Order.{channel_at}
 
 -- how many inputs a router has in n dimensions, and as many outputs (this project's own format)
@@ -75,7 +75,7 @@ input_numbered n i = if nat_lt i (8 * n) then From (i / 8) (dir_at (i / 4 % 2)) 
 -- the number of an output for packets of a class, in n dimensions: a hop's is its place, and the
 -- ejections follow (this project's own format)
 abbrev pub output_number : ℕ → Class → Output → ℕ
-output_number n class (To d dir bit) = place_of n class (Hop d dir bit)
+output_number n class (To d dir bit) = place_in_tile n class (Hop d dir bit)
 output_number n class Eject = 8 * n + class_place class
 
 -- the router to which a channel leads, and its input there (this project's own format)

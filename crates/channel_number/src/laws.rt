@@ -10,7 +10,7 @@ ghost use Rattle.dateline_route.specs.Route.{route_of};
 ghost use Rattle.dateline_route.specs.declared.channel.Kind.TheVariants.{Ejection};
 ghost use Rattle.dateline_route.specs.declared.channel.Output.{Output};
 ghost use Rattle.dateline_route.specs.Walk.{IsChannel, IsInside, LeadsTo, input_of, kind_of};
-ghost use Rattle.channel_number.specs.Order.{place_of, channel_index, channel_count, channel_at};
+ghost use Rattle.channel_number.specs.Order.{place_in_tile, channel_index, channel_count, channel_at};
 ghost use Rattle.channel_number.specs.Ports.{port_count, input_channel, output_channel, input_numbered};
 ghost use Rattle.channel_number.specs.Ports.{output_number, is_injection, is_ejection, IsInput, HasInput, IsOutput};
 ghost use Rattle.channel_number.specs.Ports.{HasOutput};
@@ -58,8 +58,8 @@ pub fn inputs_have_one_channel()
         × (input_of (channel_at s (input_channel s t i)).kind ≡ input_numbered (dims_of s) i) }
     ensures only { (s : Shape) → IsAccepted s → (x : Channel) (t : ℕ) → IsChannel s x
         → LeadsTo s x.tile x.kind t
-        → (place_of (dims_of s) x.class x.kind < port_count (dims_of s))
-        × (input_channel s t (place_of (dims_of s) x.class x.kind) ≡ channel_index s x) }
+        → (place_in_tile (dims_of s) x.class x.kind < port_count (dims_of s))
+        × (input_channel s t (place_in_tile (dims_of s) x.class x.kind) ≡ channel_index s x) }
     ensures apart { (s : Shape) → IsAccepted s → (t i u j : ℕ) → t < tiles_of s
         → i < port_count (dims_of s) → u < tiles_of s → j < port_count (dims_of s)
         → input_channel s t i ≡ input_channel s u j → (t ≡ u) × (i ≡ j) }

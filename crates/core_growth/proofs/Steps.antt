@@ -8,7 +8,7 @@ use Rattle.torus.specs.declared.step.Step.{Step}
 use Rattle.script.specs.declared.line.Line.{Line}
 use Rattle.one_order.specs.Events.{Served, Answered}
 use Rattle.flit_buffer.specs.Surroundings.{Surroundings}
-use Rattle.core_moves.specs.script_follower.specs.ProcessorRecord.{ProcessorRecord, no_processor, index_of, operation_of, answer_of, record_with}
+use Rattle.core_moves.specs.script_follower.specs.ProcessorRecord.{ProcessorRecord, no_processor, index_of, operation_under, answer_of, record_with}
 use Rattle.core_moves.specs.order_abstract.specs.Flight.{Move, Sends, Serves, Takes, event_by}
 use Rattle.core_moves.specs.tile_laws.specs.Tile.{Design, TileState, Agent, tile_step}
 use Rattle.core_moves.specs.core_laws.specs.Core.{State, step, agent_numbered, records_of}
@@ -41,7 +41,7 @@ event_same : (words : ℕ) (s : State) (p : ℕ) (line : Line) (m : Option Move)
 event_same words s p line None = refl
 event_same words s p line (Some (Sends t tag o)) = refl
 event_same words s p line (Some (Serves r)) =
-    told_same (λ (b : ProcessorRecord). Served r.source (index_of b r.tag.0) r.tag (operation_of b r.tag.0)) s p line
+    told_same (λ (b : ProcessorRecord). Served r.source (index_of b r.tag.0) r.tag (operation_under b r.tag.0)) s p line
     r.source (λ b. refl)
 event_same words s p line (Some (Takes r)) =
     told_same (λ (b : ProcessorRecord). Answered r.destination (answer_of b r)) s p line r.destination (λ b. refl)

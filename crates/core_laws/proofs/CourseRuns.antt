@@ -8,7 +8,8 @@ use Rattle.order_abstract.specs.one_order.specs.Events.{order_after}
 use Rattle.wormhole.specs.Events.{CanHappen}
 use Rattle.order_abstract.specs.script_follower.specs.ProcessorRecord.{ProcessorRecord}
 use Rattle.order_abstract.specs.Flight.{moved_by}
-use Rattle.order_abstract.specs.Courses.{IsCourse, first_record, first_flight}
+use Rattle.order_abstract.specs.script_follower.specs.ProcessorRecord.{first_record}
+use Rattle.order_abstract.specs.Courses.{IsCourse, first_flight}
 use Rattle.tile_laws.specs.Tile.{Design}
 use Rattle.core_laws.specs.Core.{Load, State, design_of, first_tile, first_state}
 use Rattle.core_laws.specs.Runs.{IsAccepted}

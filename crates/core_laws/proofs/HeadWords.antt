@@ -14,7 +14,7 @@ use Rattle.packet.specs.declared.kinds.Packet.TheVariants as packet
 use Rattle.packet.specs.declared.kinds.Request.{Request as Asking}
 use Rattle.packet.specs.declared.kinds.Response.{Response as Telling}
 use Rattle.packet.specs.Flit.{field, class_numbered, Heading}
-use Rattle.packet.specs.Spelling.{Spells, SpellsWith, IsTailShaped, heading_of, values_of, place_of, class_of}
+use Rattle.packet.specs.Spelling.{Spells, SpellsWith, IsTailShaped, heading_of, values_of, word_or_place, class_of}
 use Rattle.packet.specs.Flits.{flits_of, head_of}
 use Rattle.packet.proofs.Shapes.{TellsPacket-spelled, IsTailShaped-spelled}
 use Rattle.order_abstract.specs.one_order.specs.Observed.{list_at}
@@ -72,7 +72,7 @@ head_place told (v ∷ w ∷ []) h (a ∷ b ∷ c ∷ d ∷ []) s = s.0.place
 head_place told vs h t s = absurd s
 
 -- the flits of a packet name such a word, where as a request it is for one
-packet_names : (p : Packet) (k : Parcel) → Spells p (k.head ∷ k.tail) → (class_of p ≡ Request → place_of p < 65536) → All NamesWord (flits_in k)
+packet_names : (p : Packet) (k : Parcel) → Spells p (k.head ∷ k.tail) → (class_of p ≡ Request → word_or_place p < 65536) → All NamesWord (flits_in k)
 packet_names p k spelled low =
     let tells = TellsPacket-spelled p k.head k.tail spelled in
     All-cons NamesWord k.head k.tail

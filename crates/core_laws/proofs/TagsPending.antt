@@ -19,7 +19,8 @@ use Rattle.order_abstract.specs.one_order.specs.Observed.{list_at}
 use Rattle.order_abstract.specs.one_order.specs.Order.{LinearizationPoint}
 use Rattle.order_abstract.specs.one_order.proofs.Lists.{get_push, get_append_left, get_set_same, get_set_other}
 use Rattle.order_abstract.specs.Flight.{Flight, Move, Sends, Serves, Takes, processor_at, asked_place, told_place, reply_given, moved, moved_by, IsFound}
-use Rattle.order_abstract.specs.Courses.{first_record, first_flight}
+use Rattle.order_abstract.specs.script_follower.specs.ProcessorRecord.{first_record}
+use Rattle.order_abstract.specs.Courses.{first_flight}
 use Rattle.order_abstract.proofs.Places.{still_there}
 use Rattle.order_abstract.proofs.Parts.{tags_at, processor_set}
 use Rattle.order_abstract.proofs.Whole.{Whole}

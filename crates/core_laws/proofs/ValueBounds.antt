@@ -17,7 +17,7 @@ use Rattle.script.specs.declared.line.Value.TheVariants.{Number, Last}
 use Rattle.script.specs.Scripts.{IsWord, IsAcceptedLine}
 use Rattle.order_abstract.specs.script_follower.specs.declared.spin.OpenSpin.{OpenSpin}
 use Rattle.order_abstract.specs.script_follower.specs.Scripts.{reply_number}
-use Rattle.order_abstract.specs.script_follower.specs.Following.{ready, operation_of, asked, operand_of}
+use Rattle.order_abstract.specs.script_follower.specs.Following.{ready_operation, operation_asked, asked, operand_of}
 use Rattle.order_abstract.specs.script_follower.proofs.Places.{Each}
 
 -- values of 64 bits
@@ -118,7 +118,7 @@ loads_inside words a o a_in h =
     let same : record { address = a; op = Load } ≡ o = cc in
     subst (λ (p : Operation). IsInside words p) same (a_in, none_below)
 
-line_inside : (words : ℕ) (first : Line) (last : Option Reply) (o : Operation) → IsAcceptedLine words first → Known last → operation_of first last ≡ Some o
+line_inside : (words : ℕ) (first : Line) (last : Option Reply) (o : Operation) → IsAcceptedLine words first → Known last → operation_asked first last ≡ Some o
     → IsInside words o
 line_inside words (line.Load a) last o ok known h = loads_inside words a o ok h
 line_inside words (line.Store a v) last o ok known h = asked_inside words Store one_below a v last o ok.0 ok.1 known (operand_of v last) refl h
@@ -133,10 +133,10 @@ line_inside words (line.Min a v) last o ok known h = asked_inside words Min one_
 line_inside words line.Fence last o ok known h = cc
 line_inside words (line.Spin a v m) last o ok known h = loads_inside words a o ok.0 h
 
--- the operation that is ready is at a word, and of 64-bit values
+-- the operation that is ready_operation is at a word, and of 64-bit values
 pub ready_inside : (words : ℕ) (spin : Option OpenSpin) (ahead : List Line) (last : Option Reply) (o : Operation) → Each (IsAcceptedLine words) ahead
     → IsSpinInside words spin → Known last
-    → ready spin ahead last ≡ Some o → IsInside words o
+    → ready_operation spin ahead last ≡ Some o → IsInside words o
 ready_inside words None [] last o each inside known h = cc
 ready_inside words None (first ∷ lines) last o each inside known h = line_inside words first last o each.0 known h
 ready_inside words (Some s) ahead None o each inside known h = cc

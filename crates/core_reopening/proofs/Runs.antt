@@ -9,7 +9,7 @@ use Rattle.torus.specs.Shape.{tiles_of}
 use Rattle.torus.specs.declared.step.Step.{Step}
 use Rattle.one_order.specs.Events.{Event, Served, Answered}
 use Rattle.rounds.specs.Rounds as rounds
-use Rattle.core_growth.specs.script_follower.specs.ProcessorRecord.{ProcessorRecord, no_processor, index_of, operation_of, answer_of}
+use Rattle.core_growth.specs.script_follower.specs.ProcessorRecord.{ProcessorRecord, no_processor, index_of, operation_under, answer_of}
 use Rattle.flit_buffer.specs.Surroundings.{Surroundings}
 use Rattle.core_growth.specs.order_abstract.specs.Flight.{Move, Sends, Serves, Takes, event_by}
 use Rattle.core_growth.specs.order_abstract.specs.EventBook.{EventBook, noted_event}
@@ -48,7 +48,7 @@ event_open d s None = refl
 event_open d s (Some (Sends t tag o)) = refl
 event_open d s (Some (Serves r)) =
     ap (λ (bs : List ProcessorRecord). Served r.source (index_of (slice_index_or bs r.source no_processor) r.tag.0)
-    r.tag (operation_of (slice_index_or bs r.source no_processor) r.tag.0)) (records_open d s)
+    r.tag (operation_under (slice_index_or bs r.source no_processor) r.tag.0)) (records_open d s)
 event_open d s (Some (Takes r)) =
     ap (λ (bs : List ProcessorRecord). Answered r.destination
     (answer_of (slice_index_or bs r.destination no_processor) r)) (records_open d s)

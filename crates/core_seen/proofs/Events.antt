@@ -13,7 +13,7 @@ use Rattle.one_order.specs.Order.{home}
 use Rattle.one_order.specs.Events.{order_after}
 use Rattle.one_order.proofs.Lists.{get_push, get_set_same}
 use Rattle.core_machine.specs.script_follower.specs.Following.{next_operation_of}
-use Rattle.core_machine.specs.script_follower.specs.ProcessorRecord.{ProcessorRecord, index_of, operation_of, answer_of}
+use Rattle.core_machine.specs.script_follower.specs.ProcessorRecord.{ProcessorRecord, index_of, operation_under, answer_of}
 use Rattle.core_machine.specs.order_abstract.specs.Flight.{Flight, Move, Sends, Serves, Takes, processor_at, event_by}
 use Rattle.core_machine.specs.order_abstract.specs.EventBook.{EventBook, noted_event, noted_issue, noted_service, noted_answer}
 use Rattle.core_machine.specs.order_abstract.proofs.Bounds.{room_for}
@@ -68,7 +68,7 @@ module _ (tiles t : ℕ) (f : Flight) (b c : ProcessorRecord) (m : List ℕ) (es
       ap (λ (x : Answer). noted_answer x.bank x.place g) (last_pushed b.answers c.answers (answer_of b r) a (ap (λ (x : ProcessorRecord). x.answers) h) there)
 
   service_told : (move : Option Move) → EntriesMoved tiles t m es fs move
-      → ((r : Request) → move ≡ Some (Serves r) → home tiles (operation_of (processor_at f r.source) r.tag.0) ≡ t)
+      → ((r : Request) → move ≡ Some (Serves r) → home tiles (operation_under (processor_at f r.source) r.tag.0) ≡ t)
       → (e : Entry) → slice_get fs (length es) ≡ Some e
       → noted_event tiles g (event_by f move) ≡ noted_service t e.source (index_of (processor_at f e.source) e.tag.0) g
   service_told None h homes e there = absurd (no_more es fs e h there)
@@ -132,7 +132,7 @@ module _ (l : Load) (ok : IsAccepted l) (steps : List Step) (n : ℕ) (attempt :
       (move_is ∙ e)).1)))
 
   homes : (r : Request) → move_of d s attempt ≡ Some (Serves r)
-      → home (tiles_of d.shape) (operation_of (processor_at (flight_after l steps n) r.source) r.tag.0) ≡ t
+      → home (tiles_of d.shape) (operation_under (processor_at (flight_after l steps n) r.source) r.tag.0) ≡ t
   homes r e =
       let f = found d (network d ok.shape) l.tags l.opening s (noted l steps n) (order_after (event_at l steps) n) (holds_in l ok steps n).stands addressed
       attempt (Serves r) e in

@@ -12,7 +12,7 @@ use Rattle.one_order.specs.Events.{order_after}
 use Rattle.core_machine.specs.script_follower.specs.ProcessorRecord.{ProcessorRecord, no_processor}
 use Rattle.core_machine.specs.order_abstract.specs.Flight.{Move, Serves}
 use Rattle.core_machine.specs.order_abstract.specs.EventBook.{EventBook, noted_issue, noted_event, book_of}
-use Rattle.core_machine.specs.order_abstract.specs.Room.{IsBookWithin, HasRoomFor}
+use Rattle.core_machine.specs.order_abstract.specs.Room.{IsBookWithin, HasRoomForMove}
 use Rattle.core_machine.specs.order_abstract.proofs.Bounds.{within, book_within, room_for}
 use Rattle.core_machine.specs.order_abstract.proofs.EventBooks.{IsBookOf, kept, order_of_book}
 use Rattle.core_machine.specs.tile_laws.specs.Tile.{Design, TileState}
@@ -97,7 +97,7 @@ module _ (l : Load) (ok : IsAccepted l) (steps : List Step) (n : ℕ) (attempt :
 
   -- a move that is there has room and is of this tile
   facts : (k : Move) → move ≡ Some k
-      → HasRoomFor (tiles_of l.shape) (length l.opening) l.scripts (flight_after l steps n) k × IsHere (tiles_of l.shape) (length l.opening) t k
+      → HasRoomForMove (tiles_of l.shape) (length l.opening) l.scripts (flight_after l steps n) k × IsHere (tiles_of l.shape) (length l.opening) t k
   facts k e =
       let f = found d (network d ok.shape) l.tags l.opening s (noted l steps n) (order_after (event_at l steps) n) (holds_in l ok steps n).stands
       (events.addressed l ok steps n attempt next is before left there later) attempt k e in

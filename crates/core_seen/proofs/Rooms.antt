@@ -12,7 +12,7 @@ use Rattle.core_machine.specs.script_follower.specs.ProcessorRecord.{ProcessorRe
 use Rattle.core_machine.specs.order_abstract.specs.Load.{Load}
 use Rattle.core_machine.specs.order_abstract.specs.Flight.{Flight, Move, Sends, Serves, Takes, processor_at}
 use Rattle.core_machine.specs.order_abstract.specs.EventBook.{EventBook}
-use Rattle.core_machine.specs.order_abstract.specs.Room.{IsBookWithin, HasRoomFor, RoomToSend, home_room}
+use Rattle.core_machine.specs.order_abstract.specs.Room.{IsBookWithin, HasRoomForMove, RoomToSend, home_room}
 use Rattle.core_machine.specs.core_laws.proofs.TileMoves.{RecordMoved, EntriesMoved}
 use Rattle.core_seen.proofs.Events.{no_more, last_pushed}
 use Rattle.core_seen.specs.Notes.{FitsLoad, RoomToNoteIssue, RoomToNoteService, RoomToNoteAnswer}
@@ -27,7 +27,7 @@ module _ (l : Load) (scripts : length l.scripts ≡ tiles_of l.shape) (f : Fligh
 
   -- a move that is there has room
   abbrev pub IsRoomy : Option Move → Type 0
-  IsRoomy move = (k : Move) → move ≡ Some k → HasRoomFor tiles words l.scripts f k
+  IsRoomy move = (k : Move) → move ≡ Some k → HasRoomForMove tiles words l.scripts f k
 
   sends_room : RoomToSend l.scripts f t → RoomToNoteIssue l g t
   sends_room r =

@@ -10,7 +10,7 @@ use Rattle.fabric_rule.specs.order_abstract.specs.Room.{home_room}
 use Rattle.flit_buffer.specs.declared.word_op.WordOp.{WordOp}
 use Rattle.flit_buffer.specs.Words.{word_of}
 use Rattle.fabric_rule.specs.tile_laws.specs.Agents.{TilePlace, agent_numbered, tile_next_op, tile_absorbed}
-use Rattle.fabric_rule.specs.tile.specs.Placed.{PlacedTile, with_place, IsAcceptableTo, HasRoomFor}
+use Rattle.fabric_rule.specs.tile.specs.Placed.{PlacedTile, with_place, IsAcceptableTo, HasRoomForEntry}
 use Rattle.fabric_rule.specs.core_laws.specs.Core.{Load}
 use Rattle.fabric_rule.specs.core_laws.specs.Runs.{IsAccepted}
 use Rattle.fabric_rule.specs.Known.{tile_of, known, op_of, moves, left_by, Suits, row_length}
@@ -20,7 +20,7 @@ use Rattle.fabric_rule.specs.Groups.{knowing, Begins, Others}
 use Rattle.fabric_rule.specs.Rule.{Attempted}
 use Rattle.fabric_rule.proofs.Groups.{away}
 use Rattle.fabric_rule.proofs.Runs.{known_away, tells, row_size, shown_row, row_shows}
-use Rattle.fabric.specs.Turns.{ready, SeesIdle, StepMoves, StepIdles, OnlyTile}
+use Rattle.fabric.specs.Turns.{is_ready, SeesIdle, StepMoves, StepIdles, OnlyTile}
 use Rattle.fabric.specs.Seats.{StandsAt}
 
 sees : (c : Step) (x : TilePlace) (v w : View) (n : ℕ) (t : Attempted c x v n w) (b : Bool) → moves x c n ≡ b → b ≡ false → SeesIdle v c w
@@ -28,8 +28,8 @@ sees c x v w n t true e f = absurd (cc)
 sees c x v w n t false e f = (t.between, t.others, t.enabled_there ∙ e, t.view ∙ ap (λ (q : Bool). knowing v (grown q (v.run ++ t.between) c)) e)
 
 ready_known : (load : Load) (run : List Step) (c : Step) (x : TilePlace) (q : Option WordOp) → known load run (tile_of c) ≡ Some x → op_of x c ≡ q
-    → ready load run c ≡ is_some q
-unfolding ready
+    → is_ready load run c ≡ is_some q
+unfolding is_ready
 ready_known load run c x q is op =
     ap (λ (o : Option TilePlace). is_some (option_and_then (λ (y : TilePlace). op_of y c) o)) is ∙ ap (λ (o : Option WordOp). is_some o) op
 
@@ -57,10 +57,10 @@ unfolding Suits
 accepts load p c n k = k.0
 
 pub has_room : (load : Load) (v : PlacedTile) (c : Step) (n : ℕ) → v.room ≡ home_room (tiles_of load.shape) (tile_of c) load.scripts → Suits load v.place c n
-    → HasRoomFor v (agent_numbered (c.agent % 3)) c.choice
+    → HasRoomForEntry v (agent_numbered (c.agent % 3)) c.choice
 unfolding Suits
 has_room load v c n room k =
-    let P : ℕ → Type 0 = λ m. HasRoomFor (record { place = v.place; room = m }) (agent_numbered (c.agent % 3)) c.choice in
+    let P : ℕ → Type 0 = λ m. HasRoomForEntry (record { place = v.place; room = m }) (agent_numbered (c.agent % 3)) c.choice in
     subst P (sym room) k.1
 
 -- what a tile's code made of the word

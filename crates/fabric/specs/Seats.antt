@@ -12,7 +12,7 @@ use Rattle.fabric_rule.specs.core_laws.specs.Runs.{IsAccepted}
 use Rattle.fabric_rule.specs.Known.{tile_of, known, enabled, row_length}
 use Rattle.fabric_rule.specs.View.{View}
 use Rattle.fabric_rule.specs.Groups.{Owns, Others, GoesOn, Begins, first_group}
-use Rattle.fabric.specs.Turns.{ready, has_choice}
+use Rattle.fabric.specs.Turns.{is_ready, has_choice}
 
 -- what a seat knows: which fabric it is of, what was loaded, a run of it, and which tiles are its
 -- own
@@ -80,7 +80,7 @@ Grows v w = (between : List Step) × Others (v.tiles ∷ []) between
 -- where the agent's own condition failed nothing changed; else steps of others were seen, and then
 -- the step is not enabled
 abbrev pub Idles : Knowing → Step → Knowing → Type 0
-Idles v c w = MatchBool (ready v.load v.run c) (Grows v w × (enabled w.load w.run c ≡ false))
+Idles v c w = MatchBool (is_ready v.load v.run c) (Grows v w × (enabled w.load w.run c ≡ false))
     (w ≡ v)
 
 -- the step is of no agent of the seat, or of one without that choice

@@ -18,8 +18,8 @@ abbrev pub has_choice : Shape → Step → Bool
 has_choice s attempt = numbered_has (port_count (dims_of s)) (attempt.agent % 3) attempt.choice
 
 -- whether the agent's own condition for the step holds after a run
-unfoldable pub ready : Load → List Step → Step → Bool
-ready load run c = is_some (option_and_then (λ p. op_of p c) (known load run (tile_of c)))
+unfoldable pub is_ready : Load → List Step → Step → Bool
+is_ready load run c = is_some (option_and_then (λ p. op_of p c) (known load run (tile_of c)))
 
 -- after steps of others the step was made, enabled there
 abbrev pub StepMoves : View → Step → View → Type 0
@@ -35,7 +35,7 @@ SeesIdle v c w = (between : List Step) × Others v.groups between
 
 -- where the agent's own condition failed, nothing changed
 abbrev pub StepIdles : View → Step → View → Type 0
-StepIdles v c w = MatchBool (ready v.load v.run c) (SeesIdle v c w) (w ≡ v)
+StepIdles v c w = MatchBool (is_ready v.load v.run c) (SeesIdle v c w) (w ≡ v)
 
 -- but for the tile t, the seat's tiles stand as they did
 pub record OnlyTile (v : View) (t : ℕ) (w : View) : Type 0 where

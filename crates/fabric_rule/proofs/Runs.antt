@@ -15,7 +15,7 @@ use Rattle.channel_number.specs.Order.{channel_count}
 use Rattle.core_seen.specs.order_abstract.specs.Room.{home_room}
 use Rattle.core_seen.specs.tile_laws.specs.Tile.{Design, TileState, Agent, Processor, Router, Bank}
 use Rattle.core_seen.specs.tile_laws.specs.Agents.{TilePlace, agent_numbered, tile_placed, agent_op, tile_next_op, tile_absorbed}
-use Rattle.core_seen.specs.tile.specs.Placed.{IsAcceptableTo, HasRoomFor}
+use Rattle.core_seen.specs.tile.specs.Placed.{IsAcceptableTo, HasRoomForEntry}
 use Rattle.core_seen.specs.core_laws.specs.Core.{Load, State, design_of, first_state, after, next, or_same, step}
 use Rattle.core_seen.specs.core_laws.specs.Runs.{IsAccepted, state_after}
 use Rattle.core_seen.specs.core_laws.proofs.AskedFor.{bank_asked}
@@ -45,7 +45,7 @@ served d p room op asks is = by_waiting p.bank.state.waiting refl
 
 has_room : (d : Design) (p : TilePlace) (room : ℕ) (op : WordOp) (a : Agent) (c : Choice)
     → ((r : Request) → p.bank.state.waiting ≡ Some r → length p.bank.state.entries < room)
-    → agent_op p a c ≡ Some op → HasRoomFor (record { place = p; room = room }) a c
+    → agent_op p a c ≡ Some op → HasRoomForEntry (record { place = p; room = room }) a c
 has_room d p room op Processor c asks is = tt
 has_room d p room op Router c asks is = tt
 has_room d p room op Bank choice.Serve asks is = served d p room op asks is

@@ -3,21 +3,12 @@ use Rattle.std.specs.Prelude.{ℕ, ◌+◌, ◌&&◌, ◌==◌, Bool, false, not
 use Rattle.std.specs.Prelude.{drop, Option, Some}
 use Rattle.std.specs.Prelude.{None, option_map, unwrap_or, is_some, if◌then◌else◌, codes}
 use Rattle.std.specs.Str.{bytes_eq}
-use Rattle.lexer.specs.Words.{words_of}
+use Rattle.lexer.specs.Words.{first_words}
 use Rattle.lexer.specs.Numbers.{index_of}
-
--- the first words of a line; a line that means something has fewer, comments apart
-abbrev pub first_words : List ℕ → List (List ℕ)
-first_words line = take 7 (words_of line)
 
 -- the number that a word spells, 2 ^ 31 from there on; 0 for any other word
 abbrev pub number : List ℕ → ℕ
 number word = unwrap_or (index_of word) 0
-
--- the line of a number, where these lines count from another number
-abbrev pub line_at : ℕ → ℕ → List (List ℕ) → Option (List ℕ)
-line_at wanted at [] = None
-line_at wanted at (line ∷ lines) = if at == wanted then Some line else line_at wanted (at + 1) lines
 
 -- whether words begin with a keyword
 abbrev pub begin : List ℕ → List (List ℕ) → Bool

@@ -13,7 +13,8 @@ use Rattle.fault_reasons.specs.declared.reason.Keyword.TheVariants.{Tags, Words,
 use Rattle.fault_reasons.specs.declared.reason.Reason.{Reason}
 use Rattle.fault_reasons.specs.declared.reason.Reason.TheVariants as reason
 use Rattle.fault_reasons.specs.Reasons.{keyword_of, takes}
-use Rattle.fault_reasons.specs.Before.{first_words, number, line_at, line_of, named, values_of}
+use Rattle.lexer.specs.Words.{first_words, line_at}
+use Rattle.fault_reasons.specs.Before.{number, line_of, named, values_of}
 use Rattle.fault_reasons.specs.Before.{number_of, is_given}
 use Rattle.fault_reasons.specs.Before.{first_number}
 

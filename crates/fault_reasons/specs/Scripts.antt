@@ -12,7 +12,8 @@ use Rattle.fault_reasons.specs.declared.operation.Operation.TheVariants.{Fence, 
 use Rattle.fault_reasons.specs.declared.operation.Operation.TheVariants.{Spin}
 use Rattle.fault_reasons.specs.declared.reason.Reason.{Reason}
 use Rattle.fault_reasons.specs.declared.reason.Reason.TheVariants as reason
-use Rattle.fault_reasons.specs.Before.{first_words, number, line_at}
+use Rattle.lexer.specs.Words.{first_words, line_at}
+use Rattle.fault_reasons.specs.Before.{number}
 use Rattle.fault_reasons.specs.Machine.{first, bad_number, within, is_value}
 
 -- the operations of an address and one value
@@ -24,8 +25,8 @@ is_update word =
     || bytes_eq word (codes "min")
 
 -- the operation that a word spells
-abbrev pub operation_of : List ℕ → Option Operation
-operation_of word =
+abbrev pub operation_named : List ℕ → Option Operation
+operation_named word =
     if bytes_eq word (codes "fence") then Some Fence
     else (if bytes_eq word (codes "load") then Some Load
     else (if is_update word then Some Update
@@ -122,7 +123,7 @@ abbrev pub made : List (List ℕ) → ℕ
 made [] = 0
 made (processor ∷ []) = 0
 made (processor ∷ word ∷ rest) =
-    if begins_comment processor then 0 else made_if (operation_of word) rest
+    if begins_comment processor then 0 else made_if (operation_named word) rest
 
 -- whether a line is of a processor; of none are the lines of all
 abbrev pub is_of : Option ℕ → List (List ℕ) → Bool
@@ -175,7 +176,7 @@ if_operation (Some operation) wrong = wrong operation
 abbrev pub processor_wrong : ℕ → ℕ → ℕ → List (List ℕ) → ℕ → List (List ℕ) → Option Reason
 processor_wrong tiles words stop lines p [] = Some reason.ProcessorAlone
 processor_wrong tiles words stop lines p (word ∷ rest) =
-    if_operation (operation_of word)
+    if_operation (operation_named word)
     (λ operation. first (operation_wrong operation rest)
     (checks_wrong tiles words stop lines p operation rest))
 

@@ -10,7 +10,8 @@ use Rattle.fault_reasons.specs.declared.reason.Agent.{Agent}
 use Rattle.fault_reasons.specs.declared.reason.Agent.TheVariants.{Processor, Router, Bank}
 use Rattle.fault_reasons.specs.declared.reason.Reason.{Reason}
 use Rattle.fault_reasons.specs.declared.reason.Reason.TheVariants as reason
-use Rattle.fault_reasons.specs.Before.{first_words, number, line_at}
+use Rattle.lexer.specs.Words.{first_words, line_at}
+use Rattle.fault_reasons.specs.Before.{number}
 
 -- the kind of an agent: each tile has a processor, a router and a bank
 abbrev pub agent_of : ℕ → Agent

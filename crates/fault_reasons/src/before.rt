@@ -2,7 +2,8 @@
 
 ghost use Rattle.std.specs.Prelude.{◌≡◌, map, option_map};
 ghost use Rattle.std.specs.Str.Lines.{lines};
-ghost use Rattle.fault_reasons.specs.Before.{number, line_at, begin, given, names, named};
+ghost use Rattle.lexer.specs.Words.{line_at};
+ghost use Rattle.fault_reasons.specs.Before.{number, begin, given, names, named};
 ghost use Rattle.fault_reasons.specs.Before.{first_number, behind};
 ghost use Rattle.fault_reasons.specs.Before.{line_of, number_of, is_given};
 
@@ -51,22 +52,6 @@ fn names(words: &[&[u8]], address: u32) -> bool
         [_] => false,
         [word, a, ..] => *word == b"init".as_slice() && number(a) == address,
     }
-}
-
-/// The line of a number.
-pub(crate) fn line_at(text: &[u8], wanted: u64) -> Option<&[u8]>
-    ensures { option_map (λ line. line.now) result ≡ line_at wanted 1 (lines text.now) }
-{
-    let mut at = 1u64;
-    let mut rest = text;
-    while let Some((line, after)) = next_line(rest) {
-        if at == wanted {
-            return Some(line);
-        }
-        at += 1;
-        rest = after;
-    }
-    None
 }
 
 impl<'a> Before<'a> {

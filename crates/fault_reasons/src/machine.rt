@@ -5,10 +5,10 @@ ghost use Rattle.std.specs.Str.Lines.{lines};
 ghost use Rattle.fault_reasons.specs.Reasons.{Explains, fault_of};
 ghost use Rattle.fault_reasons.specs.Machine.{keyword_wrong, words_wrong, machine_wrong};
 
-use crate::before::{Before, line_at};
+use crate::before::Before;
 use crate::reason::{Keyword, Reason};
 use crate::shape::shape_wrong;
-use lexer::first_words;
+use lexer::{first_words, line_at};
 use torus::Fault;
 
 /// Why a machine text has a fault at a line, as `script::read_machine` tells both: the first check

@@ -2,7 +2,7 @@
 
 ghost use Rattle.std.specs.Prelude.{◌≡◌, ◌≤◌, ◌||◌, is_some, length, map};
 ghost use Rattle.lexer.specs.Numbers.{index_of};
-ghost use Rattle.fault_reasons.specs.Scripts.{is_update, operation_of, operands, is_last};
+ghost use Rattle.fault_reasons.specs.Scripts.{is_update, operation_named, operands, is_last};
 ghost use Rattle.fault_reasons.specs.Scripts.{bad_value, values_wrong};
 ghost use Rattle.fault_reasons.specs.Scripts.{operands_wrong, operation_wrong, large_value};
 ghost use Rattle.fault_reasons.specs.Scripts.{spin_limits};
@@ -143,7 +143,7 @@ fn is_any_last(values: &[&[u8]]) -> bool
 impl Operation {
     /// The operation that a word spells.
     pub(crate) fn of(word: &[u8]) -> Option<Operation>
-        ensures { result ≡ operation_of word.now }
+        ensures { result ≡ operation_named word.now }
     {
         if word == b"fence".as_slice() {
             return Some(Operation::Fence);

@@ -7,11 +7,11 @@ ghost use Rattle.fault_reasons.specs.Scripts.{is_of, made_before, counts_wrong, 
 ghost use Rattle.fault_reasons.specs.Scripts.{processor_wrong};
 ghost use Rattle.fault_reasons.specs.Scripts.{script_words_wrong, scripts_wrong};
 
-use crate::before::{line_at, number};
+use crate::before::number;
 use crate::machine::explained;
 use crate::operation::{Operation, made};
 use crate::reason::Reason;
-use lexer::{first_words, index, next_line};
+use lexer::{first_words, line_at, index, next_line};
 use torus::Fault;
 
 /// Why a script text, read for a machine of so many tiles and words, has a fault at a line, as

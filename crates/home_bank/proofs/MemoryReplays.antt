@@ -23,7 +23,7 @@ use Rattle.flit_buffer.proofs.AgentSteps.{agent_did}
 use Rattle.home_bank.specs.declared.entry.Entry.{Entry}
 use Rattle.home_bank.specs.ServiceList.{address_of, entry_of}
 use Rattle.home_bank.specs.BankTable.{BankState, is_nil, served, bank_wants, bank_after}
-use Rattle.home_bank.specs.MemoryReplay.{operation_of, ReplayInMemory}
+use Rattle.home_bank.specs.MemoryReplay.{entry_operation, ReplayInMemory}
 use Rattle.home_bank.proofs.Homes.{home_tile}
 use Rattle.home_bank.proofs.WantedPorts.{if_wanted}
 
@@ -70,7 +70,7 @@ module _ (tiles tile : ℕ) (opening words : List ℕ) (entries : List Entry) (b
     o = record { address = a; op = r.op }
 
     abbrev m : List ℕ
-    m = memory_after (map operation_of entries) opening
+    m = memory_after (map entry_operation entries) opening
 
     at_home : a % tiles ≡ tile
     at_home = home_tile tile tiles r.word below
@@ -79,13 +79,13 @@ module _ (tiles tile : ℕ) (opening words : List ℕ) (entries : List Entry) (b
     same_word = known.words_left a low at_home
 
     m_length : length m ≡ length opening
-    m_length = length-memory_after (map operation_of entries) opening
+    m_length = length-memory_after (map entry_operation entries) opening
 
-    fold_more : memory_after (map operation_of (entries ++ e ∷ [])) opening ≡ memory_after_one o m
-    fold_more = ap (λ os. memory_after os opening) (map-append operation_of entries (e ∷ [])) ∙ memory_after-append (map operation_of entries) (o ∷ []) opening
+    fold_more : memory_after (map entry_operation (entries ++ e ∷ [])) opening ≡ memory_after_one o m
+    fold_more = ap (λ os. memory_after os opening) (map-append entry_operation entries (e ∷ [])) ∙ memory_after-append (map entry_operation entries) (o ∷ []) opening
 
-    replies_more : replies (map operation_of (entries ++ e ∷ [])) opening ≡ replies (map operation_of entries) opening ++ reply_of_one o m ∷ []
-    replies_more = ap (λ os. replies os opening) (map-append operation_of entries (e ∷ [])) ∙ replies-append (map operation_of entries) (o ∷ []) opening
+    replies_more : replies (map entry_operation (entries ++ e ∷ [])) opening ≡ replies (map entry_operation entries) opening ++ reply_of_one o m ∷ []
+    replies_more = ap (λ os. replies os opening) (map-append entry_operation entries (e ∷ [])) ∙ replies-append (map entry_operation entries) (o ∷ []) opening
 
     word_left : (x : ℕ) → x < length opening → x % tiles ≡ tile
         → slice_index (set words a (new_word r.op (slice_index words a))) x ≡ slice_index (memory_after_one o m) x
@@ -109,7 +109,7 @@ module _ (tiles tile : ℕ) (opening words : List ℕ) (entries : List Entry) (b
       replies_given =
           map-append (λ (x : Entry). x.reply) entries (e ∷ [])
           ∙ ap (λ rs. rs ++ reply_to r.op (slice_index words a) ∷ []) known.replies_given
-          ∙ ap (λ w. replies (map operation_of entries) opening ++ reply_to r.op w ∷ []) same_word
+          ∙ ap (λ w. replies (map entry_operation entries) opening ++ reply_to r.op w ∷ []) same_word
           ∙ sym replies_more;
       words_left = λ x there home. word_left x there home ∙ ap (λ (l : List ℕ). slice_index l x) (sym fold_more);
     }

@@ -5,8 +5,8 @@ use Rattle.packet.specs.Memory.{memory_after, replies}
 use Rattle.home_bank.specs.declared.entry.Entry.{Entry}
 
 -- an entry's operation
-abbrev pub operation_of : Entry → Operation
-operation_of e = record { address = e.address; op = e.op }
+abbrev pub entry_operation : Entry → Operation
+entry_operation e = record { address = e.address; op = e.op }
 
 -- the entries of a tile's bank replay on the memory: performed in order from the opening words they
 -- give the
@@ -18,6 +18,6 @@ pub record ReplayInMemory (tiles tile : ℕ) (opening words : List ℕ) (entries
   where
     pub size : length opening ≤ length words
     pub home : All (λ e. e.address % tiles ≡ tile) entries
-    pub replies_given : map (λ e. e.reply) entries ≡ replies (map operation_of entries) opening
+    pub replies_given : map (λ e. e.reply) entries ≡ replies (map entry_operation entries) opening
     pub words_left : (a : ℕ) → a < length opening → a % tiles ≡ tile
-        → slice_index words a ≡ slice_index (memory_after (map operation_of entries) opening) a
+        → slice_index words a ≡ slice_index (memory_after (map entry_operation entries) opening) a

@@ -1,5 +1,6 @@
 -- The words of a line. The lines of a text are those of std (`Str.Lines.lines`).
-use Rattle.std.specs.Prelude.{ℕ, Bool, false, ◌||◌, ◌==◌, not, List, [], ◌∷◌, length, filter}
+use Rattle.std.specs.Prelude.{ℕ, ◌+◌, Bool, false, ◌||◌, ◌==◌, not, List, [], ◌∷◌, length, filter, take}
+use Rattle.std.specs.Prelude.{Option, Some, None, if◌then◌else◌}
 use Rattle.std.specs.List.{slice_split}
 
 -- a space or a tab: words stand between them (this project's own format)
@@ -15,3 +16,12 @@ words_of line = filter (λ word. not (length word == 0)) (slice_split is_blank l
 abbrev pub begins_comment : List ℕ → Bool
 begins_comment [] = false
 begins_comment (c ∷ cs) = c == 35
+
+-- the first words of a line; a line that means something has fewer, comments apart
+abbrev pub first_words : List ℕ → List (List ℕ)
+first_words line = take 7 (words_of line)
+
+-- the line of a number, where these lines count from another number
+abbrev pub line_at : ℕ → ℕ → List (List ℕ) → Option (List ℕ)
+line_at wanted at [] = None
+line_at wanted at (line ∷ lines) = if at == wanted then Some line else line_at wanted (at + 1) lines

@@ -5,6 +5,6 @@ pub mod lines;
 pub mod number;
 pub mod words;
 
-pub use lines::next_line;
+pub use lines::{line_at, next_line};
 pub use number::{index, value};
 pub use words::first_words;

@@ -1,8 +1,9 @@
 //! The lines of a text: they end at line feeds, and a carriage return before one belongs to it.
 
-ghost use Rattle.std.specs.Prelude.{◌≡◌, ◌<◌, ◌==◌, [], ◌∷◌, length, IfSome, IfNone};
+ghost use Rattle.std.specs.Prelude.{◌≡◌, ◌<◌, ◌==◌, [], ◌∷◌, length, option_map, IfSome, IfNone};
 ghost use Rattle.std.specs.List.{position_or_len};
 ghost use Rattle.std.specs.Str.Lines.{lines, strip_carriage_return};
+ghost use Rattle.lexer.specs.Words.{line_at};
 
 /// The first line of a text, and what follows it; `None` exactly where the text is empty. What
 /// follows the last line feed is a line if it isn't empty, and keeps its carriage return.
@@ -41,4 +42,20 @@ fn without_return(line: &[u8]) -> &[u8]
         [front @ .., b'\r'] => front,
         _ => line,
     }
+}
+
+/// The line of a number, which counts from 1; `None` where the text has fewer lines.
+pub fn line_at(text: &[u8], wanted: u64) -> Option<&[u8]>
+    ensures { option_map (λ line. line.now) result ≡ line_at wanted 1 (lines text.now) }
+{
+    let mut at = 1u64;
+    let mut rest = text;
+    while let Some((line, after)) = next_line(rest) {
+        if at == wanted {
+            return Some(line);
+        }
+        at += 1;
+        rest = after;
+    }
+    None
 }

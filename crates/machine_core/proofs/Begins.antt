@@ -31,7 +31,7 @@ use Rattle.machine_wake.specs.Awake.{Awake, is_awake}
 use Rattle.machine_wake.specs.core_wake.specs.Sleep.{OthersSleep}
 use Rattle.machine_wake.proofs.KeptSleepers.{fresh}
 use Rattle.machine_core.specs.declared.machine.Machine.TheInside.{Inside}
-use Rattle.machine_core.specs.Inside.{design_in, places_in, core_of, HaveRoom, HasRoomFor, IsMachine}
+use Rattle.machine_core.specs.Inside.{design_in, places_in, core_of, HaveRoom, HasRoomForScripts, IsMachine}
 use Rattle.machine_core.specs.Loaded.{first_tiles}
 use Rattle.machine_core.proofs.BeginsTiles.{at}
 
@@ -48,7 +48,7 @@ pub record Begun {A : Type 0} (a : Inside A) (scripts : List (List Line)) : Type
   pub homes : (b : ℕ) → b < tiles_of a.torus → rooms b ≡ home_room (tiles_of a.torus) b scripts
   pub row : a.row.items ≡ replicate (channel_count a.torus * a.depth) 0 ++ (a.opening.items ++ 0 ∷ [])
   pub book : a.book.book ≡ first_book (tiles_of a.torus)
-  pub room : HasRoomFor (load_in a scripts) a.book
+  pub room : HasRoomForScripts (load_in a scripts) a.book
   pub allowed : a.allowed.items ≡ map operation_count scripts
   pub left : a.left ≡ most_moves (load_in a scripts)
   pub awake : a.awake ≡ record { design = design_in a; flags = replicate 192 true }
@@ -190,7 +190,7 @@ pub has_room : (l : Load) → IsAccepted l → (n rows : ℕ) (issues entries : 
     → ((b : ℕ) → b < tiles_of l.shape → get_or entries b 0 ≡ home_room (tiles_of l.shape) b l.scripts) → rows ≡ total_count l.scripts
     → ((p room : ℕ) → slice_get (take n issues) p ≡ Some room → room ≤ get_or g.issues p 0)
     → ((b room : ℕ) → slice_get (take n entries) b ≡ Some room → room ≤ get_or g.positions b 0) → rows ≤ g.rows
-    → HasRoomFor l g
+    → HasRoomForScripts l g
 has_room l ok n rows issues entries g same enough_issues enough_entries issues_are homes all issues_kept entries_kept rows_kept = record {
   issues = λ p lines there.
       let processors = ok.processors in

@@ -36,7 +36,7 @@ use Rattle.machine_wake.specs.core_seen.specs.Notes.{FitsLoad, RoomToNoteService
 use Rattle.machine_wake.specs.core_seen.proofs.Notes.{book_fits, noted_is, room_to_issue, room_to_serve, room_to_answer}
 use Rattle.machine_core.specs.declared.machine.Machine.TheInside.{Inside}
 use Rattle.machine_core.specs.Noted.{HasRoomForIssue, HasRoomForService, HasRoomToNote, counts_of, records_in}
-use Rattle.machine_core.specs.Inside.{design_in, places_in, core_of, HaveRoom, HasRoomFor as HasRoomForScripts, IsMachine}
+use Rattle.machine_core.specs.Inside.{design_in, places_in, core_of, HaveRoom, HasRoomForScripts as HasRoomForScripts, IsMachine}
 use Rattle.machine_wake.specs.Awake.{Awake, is_awake, woken}
 use Rattle.machine_wake.specs.core_wake.specs.Sleep.{OthersSleep}
 use Rattle.machine_core.proofs.Fields.{Led, state_at, records_shown, with_parts, core_by}

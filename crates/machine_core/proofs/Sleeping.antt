@@ -16,7 +16,7 @@ use Rattle.machine_wake.specs.core_wake.proofs.Sleepers.{falls, same_machine}
 use Rattle.machine_wake.proofs.KeptSleepers.{rests}
 use Rattle.machine_core.specs.declared.machine.Machine.TheInside.{Inside}
 use Rattle.machine_core.specs.Inside.{core_of, IsMachine}
-use Rattle.machine_core.specs.Rounds.{processor_choices, bank_choices, router_choices}
+use Rattle.torus.specs.Choices.{processor_choices, bank_choices, router_choices}
 use Rattle.machine_core.proofs.Fields.{with_parts}
 use Rattle.machine_core.proofs.Standing.{design_is, state_is}
 

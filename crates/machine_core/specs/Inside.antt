@@ -42,7 +42,7 @@ HaveRoom l tiles = (b : ℕ) (v : PlacedTile) → slice_get tiles b ≡ Some v
     → v.room ≡ home_room (tiles_of l.shape) b l.scripts
 
 -- the book has room for all that the scripts can ask
-pub record HasRoomFor (l : Load) (g : RoomyBook) : Type 0 where
+pub record HasRoomForScripts (l : Load) (g : RoomyBook) : Type 0 where
   pub issues : (p : ℕ) (lines : List Line) → slice_get l.scripts p ≡ Some lines
       → operation_count lines ≤ slice_index g.issues p
   pub positions : (b : ℕ) → b < tiles_of l.shape
@@ -57,6 +57,6 @@ pub record IsMachine {A : Type 0} (a : Inside A) : Type 0 where
   pub after : IsAfter load (core_of a) steps
   pub seen : IsShown (design_of load) (state_after_steps load steps) (places_in a) a.row.items
   pub banks : HaveRoom load a.tiles.items
-  pub room : HasRoomFor load a.book
+  pub room : HasRoomForScripts load a.book
   pub built : a.awake.design ≡ design_of load
   pub sleepers : OthersSleep (design_of load) (state_after_steps load steps) (is_awake a.awake)

@@ -10,28 +10,6 @@ use Rattle.rounds.specs.Rounds.{first_enabled}
 use Rattle.machine_wake.specs.core_laws.specs.Core.{step, round}
 use Rattle.machine_wake.specs.core_machine.specs.Core.{Core, built_to, core_after, all_finished}
 
--- a processor's choices, and a bank's (this project's own format)
-abbrev pub processor_choices : List Choice
-processor_choices = Send ∷ Take ∷ Credit ∷ Done ∷ Look ∷ []
-
-abbrev pub bank_choices : List Choice
-bank_choices = Take ∷ Serve ∷ Send ∷ Credit ∷ []
-
--- a router's choices of so many ports: a take and a put of each input, and a credit of each output
--- (this project's own format)
-abbrev pub takes_of_all : ℕ → List Choice
-takes_of_all ports = map (λ i. TakeFrom i) (range_with_len 0 ports)
-
-abbrev pub puts_of_all : ℕ → List Choice
-puts_of_all ports = map (λ i. Put i) (range_with_len 0 ports)
-
-abbrev pub credits_of_all : ℕ → List Choice
-credits_of_all ports = map (λ o. CreditOf o) (range_with_len 0 ports)
-
--- all of these, in the order of a round
-abbrev pub router_choices : ℕ → List Choice
-router_choices ports = takes_of_all ports ++ puts_of_all ports ++ credits_of_all ports
-
 -- the first of some attempts that is enabled in a machine now (this project's own format)
 abbrev pub first_in : Core → List Step → Option Step
 first_in c attempts = first_enabled (step (built_to c)) c.state attempts

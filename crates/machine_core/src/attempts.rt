@@ -9,8 +9,8 @@ ghost use Rattle.rounds.specs.Rounds.{moves_in};
 ghost use Rattle.machine_wake.specs.core_laws.specs.Core.{step, attempts_of, round_at, round};
 ghost use Rattle.machine_wake.specs.core_machine.specs.Core.{RunsOn, MakesMove, Steps, core_after, built_to};
 ghost use Rattle.machine_wake.specs.core_machine.specs.Core.{all_finished};
-ghost use Rattle.machine_core.specs.Rounds.{processor_choices, bank_choices, takes_of_all, puts_of_all};
-ghost use Rattle.machine_core.specs.Rounds.{credits_of_all, router_choices};
+ghost use Rattle.torus.specs.Choices.{processor_choices, bank_choices, takes_of_all, puts_of_all};
+ghost use Rattle.torus.specs.Choices.{credits_of_all, router_choices};
 
 use crate::machine::Machine;
 use crate::noting::{Counts, lacks_room, note};

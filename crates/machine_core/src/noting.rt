@@ -6,7 +6,7 @@ ghost use Rattle.machine_wake.specs.script_follower.specs.ProcessorRecord.{index
 ghost use Rattle.machine_wake.specs.tile_laws.specs.Tile.{Bank};
 ghost use Rattle.machine_wake.specs.tile_laws.specs.Agents.{state_of};
 ghost use Rattle.order_book.specs.RoomyBook.{KeepsRoom};
-ghost use Rattle.machine_wake.specs.tile.specs.Placed.{HasRoomFor, PlacedTile};
+ghost use Rattle.machine_wake.specs.tile.specs.Placed.{HasRoomForEntry, PlacedTile};
 ghost use Rattle.machine_wake.specs.core_seen.specs.Notes.{book_noted};
 ghost use Rattle.machine_core.specs.Noted.{HasRoomToNote, IsOfFullBank, counts_of, records_in};
 
@@ -20,7 +20,7 @@ use torus::Choice;
 #[inline(always)]
 pub fn lacks_room<A: Allocator>(agents: &TileAgents<A>, choice: Choice) -> bool
     ensures full { IsTrue result → IsOfFullBank agents.now choice }
-    ensures room { result ≡ false → HasRoomFor agents.now Bank choice }
+    ensures room { result ≡ false → HasRoomForEntry agents.now Bank choice }
 {
     match choice {
         Choice::Serve => agents.is_full(),

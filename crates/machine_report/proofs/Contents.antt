@@ -11,7 +11,8 @@ use Rattle.one_order.specs.declared.answer.Answer.{Answer}
 use Rattle.one_order.specs.declared.ordered.Ordered.{Ordered}
 use Rattle.one_order.specs.Observed.{Observed, list_at, total, HasIssued}
 use Rattle.one_order.specs.Consequences.{AnswersAreNumbered, AnswersNameEntries, AreEventNumbers, EntryStands, EventKind, Issue, NameEntries, ReplaysByBank}
-use Rattle.one_order.specs.Consequences.{Response, Service, event_number, operation_of}
+use Rattle.home_bank.specs.MemoryReplay.{entry_operation}
+use Rattle.one_order.specs.Consequences.{Response, Service, event_number, entry_operation}
 use Rattle.one_order.proofs.Lists.{within_length}
 use Rattle.report_lines.specs.declared.line.OrderLine.{OrderLine}
 use Rattle.report_lines.specs.declared.parts.EntryRow.{EntryRow}
@@ -27,9 +28,9 @@ entry_rows s = map (map entry_row) s.entries
 abbrev answer_rows : Observed → List (List AnswerRow)
 answer_rows s = map (map answer_row) s.answers
 
-operations_are : (s : Observed) → map operation_in (flat_map (λ es. es) (entry_rows s)) ≡ map operation_of (flat_map (λ es. es) s.entries)
+operations_are : (s : Observed) → map operation_in (flat_map (λ es. es) (entry_rows s)) ≡ map entry_operation (flat_map (λ es. es) s.entries)
 operations_are s = ap (map operation_in) (all_rows entry_row s.entries)
-    ∙ map_twice entry_row operation_in operation_of (λ e. refl) (flat_map (λ es. es) s.entries)
+    ∙ map_twice entry_row operation_in entry_operation (λ e. refl) (flat_map (λ es. es) s.entries)
 
 replies_are : (s : Observed)
     → map (λ (e : EntryRow). e.reply) (flat_map (λ es. es) (entry_rows s)) ≡ map (λ (e : Entry). e.reply) (flat_map (λ es. es) s.entries)
@@ -76,7 +77,7 @@ answered s are low =
       low = λ p i r there.
           let a = element_at answer_row s.answers p i r there in
           let n = are.named p i a.0 a.1 in
-          let below = low p a.0.index (slice_get_within (list_at s.issued p) a.0.index (operation_of n.entry) n.operation) in
+          let below = low p a.0.index (slice_get_within (list_at s.issued p) a.0.index (entry_operation n.entry) n.operation) in
           let same = same_index a.0 r a.2 in
           omega (arith, below, same);
       once = λ p i j r q there also same.

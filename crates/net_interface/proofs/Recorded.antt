@@ -23,7 +23,7 @@ use Rattle.script_follower.specs.ProcessorRecord.{ProcessorRecord, ready, issued
 use Rattle.script_follower.proofs.Histories.{with_answer, unanswered_more, unanswered_set}
 use Rattle.script_follower.proofs.Shown.{stands, left_after_issue, left_within}
 use Rattle.script_follower.proofs.Grown.{shows_with, followable_with}
-use Rattle.net_interface.specs.Beginning.{first_record}
+use Rattle.script_follower.specs.ProcessorRecord.{first_record}
 use Rattle.net_interface.specs.Inside.{AwaitsAnswer, AreOperationsOf}
 
 -- no tag is held in the beginning

@@ -8,14 +8,8 @@ use Rattle.channel_number.specs.Ports.{injection_channel, ejection_channel}
 use Rattle.flit_buffer.specs.Surroundings.{Wiring}
 use Rattle.flit_buffer.specs.Wants.{PortEnds}
 use Rattle.script_follower.specs.Following.{first_of}
-use Rattle.script_follower.specs.ProcessorRecord.{ProcessorRecord}
+use Rattle.script_follower.specs.ProcessorRecord.{ProcessorRecord, first_record}
 use Rattle.script_follower.specs.ProcessorTable.{ProcessorState}
-
--- the record of a processor with so many tags and this script, before any operation (this project's
--- own format)
-abbrev pub first_record : ℕ → List Line → ProcessorRecord
-first_record tags lines =
-    record { following = first_of lines; tags = replicate tags None; issued = []; answers = [] }
 
 -- a processor with so many tags and this script, before any step (this project's own format)
 abbrev pub first_processor : ℕ → List Line → ProcessorState

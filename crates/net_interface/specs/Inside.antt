@@ -61,8 +61,8 @@ abbrev pub with_tag : Option (ℕ × Operation) → Option (Tag × Operation)
 with_tag next = option_map (λ f. (record { 0 = f.0 }, f.1)) next
 
 -- the processor that the fields stand for
-abbrev pub place_of : {A : Type 0} → in_processor.Inside A → Place
-place_of p = record {
+abbrev pub processor_place_of : {A : Type 0} → in_processor.Inside A → Place
+processor_place_of p = record {
   tiles = p.tiles;
   words = p.words;
   tile = p.tile;

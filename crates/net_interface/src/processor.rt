@@ -65,9 +65,9 @@ impl<A: Allocator> Model for Processor<A> {
 
     ghost Value = { Place };
 
-    ghost use Rattle.net_interface.specs.Inside.{place_of, IsProcessor};
+    ghost use Rattle.net_interface.specs.Inside.{processor_place_of, IsProcessor};
 
-    ghost view = { place_of };
+    ghost view = { processor_place_of };
 
     ghost invariant = { IsProcessor };
 }

@@ -9,7 +9,7 @@ ghost use Rattle.tag_table.specs.Tags.{free_tag, holder_of, out_count};
 ghost use Rattle.script_follower.specs.Scripts.{IsFollowable};
 ghost use Rattle.script_follower.specs.Following.{is_finished, left_of};
 ghost use Rattle.script_follower.specs.ProcessorRecord.{ready, index_of, issued_by, answered_by, record_with};
-ghost use Rattle.net_interface.specs.Beginning.{first_record};
+ghost use Rattle.script_follower.specs.ProcessorRecord.{first_record};
 
 use packet::{Operation, Response};
 use script::Line;

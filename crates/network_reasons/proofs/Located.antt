@@ -9,7 +9,7 @@ use Rattle.script.specs.declared.fault.LineFault.{LineFault}
 use Rattle.script.specs.Outcome.{◌>>=◌, then_lines}
 use Rattle.table_text.specs.Network.{Reading, NetworkSpec, after_words, network_with, network_from}
 use Rattle.table_text.proofs.SevenWords.{words_seven}
-use Rattle.network_reasons.specs.Before.{first_words, line_at}
+use Rattle.lexer.specs.Words.{first_words, line_at}
 use Rattle.network_reasons.specs.Wrong.{reading_to}
 
 -- the line fails after a reading, or the end of the text does

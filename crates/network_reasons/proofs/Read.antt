@@ -9,7 +9,8 @@ use Rattle.table_text.specs.Network.{Reading, count_of, after_words}
 use Rattle.table_text.proofs.SevenWords.{words_seven}
 use Rattle.network_reasons.specs.declared.before.Wanted.{Wanted}
 use Rattle.network_reasons.specs.declared.before.Wanted.TheVariants as wanted
-use Rattle.network_reasons.specs.Before.{first_words, second_number, fits, given, channels_in}
+use Rattle.lexer.specs.Words.{first_words}
+use Rattle.network_reasons.specs.Before.{second_number, fits, given, channels_in}
 use Rattle.network_reasons.specs.Wrong.{reading_to}
 use Rattle.network_reasons.proofs.Facts.{Facts, ok, not_zero, line_facts}
 

@@ -9,7 +9,7 @@ use Rattle.network_reasons.specs.declared.reason.NetworkReason.{NetworkReason}
 use Rattle.network_reasons.specs.declared.reason.NetworkReason.TheVariants as reason
 use Rattle.network_reasons.specs.declared.refusal.Refusal.{Refusal}
 use Rattle.network_reasons.specs.Reasons.{fault_of}
-use Rattle.network_reasons.specs.Before.{first_words, line_at}
+use Rattle.lexer.specs.Words.{first_words, line_at}
 use Rattle.network_reasons.specs.Told.{is_memory, at_line_told, network_told, refusal_at, refusal_told}
 use Rattle.network_reasons.specs.Wrong.{at_line_wrong, after_reading, network_wrong, Tells}
 use Rattle.network_reasons.proofs.Read.{Found, found}

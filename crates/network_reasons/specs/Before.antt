@@ -2,7 +2,7 @@
 use Rattle.std.specs.Prelude.{ℕ, ◌+◌, ◌&&◌, ◌==◌, Bool, true, false, not, nat_lt, List, [], ◌∷◌}
 use Rattle.std.specs.Prelude.{take, Option, Some, None, option_map, unwrap_or, is_some}
 use Rattle.std.specs.Prelude.{if◌then◌else◌}
-use Rattle.lexer.specs.Words.{words_of}
+use Rattle.lexer.specs.Words.{first_words}
 use Rattle.lexer.specs.Numbers.{index_of}
 use Rattle.network_reasons.specs.declared.before.Wanted.{Wanted}
 use Rattle.network_reasons.specs.declared.before.Wanted.TheVariants as wanted
@@ -10,10 +10,6 @@ use Rattle.network_reasons.specs.declared.reason.Keyword.{Keyword}
 use Rattle.network_reasons.specs.declared.reason.Keyword.TheVariants.{Channels, Inject, Eject, Join}
 use Rattle.network_reasons.specs.declared.reason.Keyword.TheVariants.{Next, Reply}
 use Rattle.network_reasons.specs.Reasons.{keyword_of}
-
--- the first words of a line; a line that means something has fewer, comments apart
-abbrev pub first_words : List ℕ → List (List ℕ)
-first_words line = take 7 (words_of line)
 
 -- the number that a word spells, 2 ^ 31 from there on; 0 for any other word
 abbrev pub number : List ℕ → ℕ
@@ -36,11 +32,6 @@ third_number [] = 0
 third_number (a ∷ []) = 0
 third_number (a ∷ b ∷ []) = 0
 third_number (a ∷ b ∷ c ∷ more) = number c
-
--- the line of a number, where these lines count from another number
-abbrev pub line_at : ℕ → ℕ → List (List ℕ) → Option (List ℕ)
-line_at wanted at [] = None
-line_at wanted at (line ∷ lines) = if at == wanted then Some line else line_at wanted (at + 1) lines
 
 -- whether a line of a keyword and these first numbers gives what is wanted
 abbrev pub fits_values : Wanted → Keyword → ℕ → ℕ → Bool

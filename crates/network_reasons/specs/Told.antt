@@ -15,8 +15,10 @@ use Rattle.network_reasons.specs.declared.reason.NetworkReason.{NetworkReason}
 use Rattle.network_reasons.specs.declared.reason.NetworkReason.TheVariants as reason
 use Rattle.network_reasons.specs.declared.refusal.Refusal.{Refusal}
 use Rattle.network_reasons.specs.Reasons.{keyword_of, takes}
-use Rattle.network_reasons.specs.Before.{first_words, first_number, second_number, third_number}
-use Rattle.network_reasons.specs.Before.{line_at, line_of, is_given, count_before}
+use Rattle.lexer.specs.Words.{first_words}
+use Rattle.network_reasons.specs.Before.{first_number, second_number, third_number}
+use Rattle.lexer.specs.Words.{line_at}
+use Rattle.network_reasons.specs.Before.{line_of, is_given, count_before}
 
 -- the first of some words that is no number; the first of them stands at a place of the line
 abbrev pub bad_number : ℕ → List (List ℕ) → Option NetworkReason

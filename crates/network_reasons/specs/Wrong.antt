@@ -20,8 +20,10 @@ use Rattle.network_reasons.specs.declared.reason.NetworkReason.{NetworkReason}
 use Rattle.network_reasons.specs.declared.reason.NetworkReason.TheVariants as reason
 use Rattle.network_reasons.specs.declared.refusal.Refusal.{Refusal}
 use Rattle.network_reasons.specs.Reasons.{fault_of, keyword_of}
-use Rattle.network_reasons.specs.Before.{first_words, first_number, second_number, third_number}
-use Rattle.network_reasons.specs.Before.{line_at, line_of}
+use Rattle.lexer.specs.Words.{first_words}
+use Rattle.network_reasons.specs.Before.{first_number, second_number, third_number}
+use Rattle.lexer.specs.Words.{line_at}
+use Rattle.network_reasons.specs.Before.{line_of}
 use Rattle.network_reasons.specs.Told.{shape_wrong}
 
 -- what is read of the lines before the line `stop`, where these lines count from `at` and what the

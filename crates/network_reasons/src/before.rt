@@ -3,7 +3,8 @@
 ghost use Rattle.std.specs.Prelude.{◌≡◌, map, option_map};
 ghost use Rattle.std.specs.Str.Lines.{lines};
 ghost use Rattle.network_reasons.specs.Before.{number, first_number, second_number, third_number};
-ghost use Rattle.network_reasons.specs.Before.{line_at, fits_values, fits_keyword, fits, given};
+ghost use Rattle.lexer.specs.Words.{line_at};
+ghost use Rattle.network_reasons.specs.Before.{fits_values, fits_keyword, fits, given};
 ghost use Rattle.network_reasons.specs.Before.{line_of, is_given, count_before};
 
 use crate::reason::Keyword;
@@ -71,22 +72,6 @@ pub(crate) fn third_number(values: &[&[u8]]) -> u32
         [_, _] => 0,
         [_, _, word, ..] => number(word),
     }
-}
-
-/// The line of a number.
-pub(crate) fn line_at(text: &[u8], wanted: u64) -> Option<&[u8]>
-    ensures { option_map (λ line. line.now) result ≡ line_at wanted 1 (lines text.now) }
-{
-    let mut at = 1u64;
-    let mut rest = text;
-    while let Some((line, after)) = next_line(rest) {
-        if at == wanted {
-            return Some(line);
-        }
-        at += 1;
-        rest = after;
-    }
-    None
 }
 
 impl Wanted {

@@ -7,10 +7,10 @@ ghost use Rattle.network_reasons.specs.Told.{inject_told, eject_told, join_told,
 ghost use Rattle.network_reasons.specs.Told.{reply_told, numbers_told, keyword_told, words_told};
 ghost use Rattle.network_reasons.specs.Told.{network_told};
 
-use crate::before::{Before, Wanted, first_number, line_at, second_number, third_number};
+use crate::before::{Before, Wanted, first_number, second_number, third_number};
 use crate::reason::{Keyword, NetworkReason};
 use crate::shape::shape_wrong;
-use lexer::first_words;
+use lexer::{first_words, line_at};
 use torus::Fault;
 
 /// Whether it is the fault of a list that is too long.

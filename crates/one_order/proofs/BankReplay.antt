@@ -12,7 +12,8 @@ use Rattle.one_order.specs.declared.ordered.Ordered.{Ordered}
 use Rattle.one_order.specs.Observed.{Run, list_at, total}
 use Rattle.one_order.specs.Order.{LinearizationPoint, operations_of, home, count_at}
 use Rattle.one_order.specs.OneOrder.{HasOneOrder}
-use Rattle.one_order.specs.Consequences.{operation_of, NameEntries, ReplaysByBank}
+use Rattle.one_order.specs.Consequences.{NameEntries, ReplaysByBank}
+use Rattle.home_bank.specs.MemoryReplay.{entry_operation}
 use Rattle.one_order.proofs.Lists.{within_length}
 use Rattle.one_order.proofs.Account.{home_within}
 use Rattle.one_order.proofs.Counting.{count_cons, filter_at, same_lists}
@@ -27,11 +28,11 @@ get_map f (y ∷ ys) (suc k) x h = get_map f ys k x h
 
 -- what an entry asks and tells
 abbrev pub told_by : Entry → Told
-told_by e = (operation_of e, e.reply)
+told_by e = (entry_operation e, e.reply)
 
-asked_by : (es : List Entry) → asked (map told_by es) ≡ map operation_of es
+asked_by : (es : List Entry) → asked (map told_by es) ≡ map entry_operation es
 asked_by [] = refl
-asked_by (e ∷ es) = ap (λ os. operation_of e ∷ os) (asked_by es)
+asked_by (e ∷ es) = ap (λ os. entry_operation e ∷ os) (asked_by es)
 
 replied_by : (es : List Entry) → map (λ (q : Told). q.1) (map told_by es) ≡ map (λ (e : Entry). e.reply) es
 replied_by [] = refl

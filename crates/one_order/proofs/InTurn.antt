@@ -11,7 +11,8 @@ use Rattle.one_order.specs.declared.ordered.Ordered.{Ordered}
 use Rattle.one_order.specs.Observed.{Run, list_at}
 use Rattle.one_order.specs.Order.{LinearizationPoint, home, count_at, StandsBefore}
 use Rattle.one_order.specs.OneOrder.{HasOneOrder}
-use Rattle.one_order.specs.Consequences.{operation_of, ServesInTurn}
+use Rattle.one_order.specs.Consequences.{ServesInTurn}
+use Rattle.home_bank.specs.MemoryReplay.{entry_operation}
 use Rattle.one_order.proofs.Lists.{within_length}
 use Rattle.one_order.proofs.Counting.{count_cons, count_strict, count_below, count_apart, nth, filter_at}
 use Rattle.one_order.proofs.Naming.{at_home, is_at_home, same_point, point_of_entry}
@@ -240,7 +241,7 @@ entries_before tiles tags opening run n rows one b p (suc k) l =
 entry_in_turn : (tiles tags : ℕ) (opening : List ℕ) (run : Run) (n : ℕ) (rows : List Ordered) (one : HasOneOrder tiles tags opening run n rows) (b p m : ℕ)
     (e : Entry)
     → slice_get (filter (is_from p) (list_at (run n).entries b)) m ≡ Some e
-    → slice_get (filter (has_home tiles b) (list_at (run n).issued p)) m ≡ Some (operation_of e)
+    → slice_get (filter (has_home tiles b) (list_at (run n).issued p)) m ≡ Some (entry_operation e)
 entry_in_turn tiles tags opening run n rows one b p m e h =
     let es : List Entry = list_at (run n).entries b in
     let within = slice_get_within (filter (is_from p) es) m e h in
@@ -262,9 +263,9 @@ entry_in_turn tiles tags opening run n rows one b p m e h =
     let entries = entries_before tiles tags opening run n rows one b p point.k (omega arith) in
     let place : issued_before tiles b (list_at (run n).issued p) x.index ≡ m =
     moved ∙ (sym entries ∙ (ap (λ j. count_by (is_from p) (take j es)) point.before ∙ at.counts)) in
-    subst (λ (j : ℕ). slice_get (filter (has_home tiles b) (list_at (run n).issued p)) j ≡ Some (operation_of e)) place
+    subst (λ (j : ℕ). slice_get (filter (has_home tiles b) (list_at (run n).issued p)) j ≡ Some (entry_operation e)) place
     (filter_at (has_home tiles b) (list_at (run n).issued p) x.index x.operation it (eq-eqb (home tiles x.operation) b point.bank)
-    ∙ (ap (λ (o : Operation). Some o) (sym point.operation) ∙ ap (λ (z : Entry). Some (operation_of z)) same))
+    ∙ (ap (λ (o : Operation). Some o) (sym point.operation) ∙ ap (λ (z : Entry). Some (entry_operation z)) same))
 
 -- an element of a mapped list
 of_map : {A B : Type 0} (f : A → B) (xs : List A) (k : ℕ) (y : B) → slice_get (map f xs) k ≡ Some y → (x : A) × (slice_get xs k ≡ Some x) × (f x ≡ y)
@@ -275,7 +276,7 @@ of_map f (x ∷ xs) (suc k) y h = of_map f xs k y h
 pub serves_in_turn : (tiles tags : ℕ) (opening : List ℕ) (run : Run) (n : ℕ) (rows : List Ordered) → HasOneOrder tiles tags opening run n rows → (b p : ℕ)
     → ServesInTurn tiles (run n) b p
 serves_in_turn tiles tags opening run n rows one b p =
-    let begins = beginning (map operation_of (filter (is_from p) (list_at (run n).entries b))) (filter (has_home tiles b) (list_at (run n).issued p)) (λ k o h.
-    let e = of_map operation_of (filter (is_from p) (list_at (run n).entries b)) k o h in
+    let begins = beginning (map entry_operation (filter (is_from p) (list_at (run n).entries b))) (filter (has_home tiles b) (list_at (run n).issued p)) (λ k o h.
+    let e = of_map entry_operation (filter (is_from p) (list_at (run n).entries b)) k o h in
     entry_in_turn tiles tags opening run n rows one b p k e.0 e.1 ∙ ap (λ (x : Operation). Some x) e.2) in
     record { waiting = begins.0; are = begins.1 }

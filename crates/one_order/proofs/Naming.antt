@@ -14,7 +14,8 @@ use Rattle.one_order.specs.Observed.{Run, list_at, HasAnswered}
 use Rattle.one_order.specs.Order.{LinearizationPoint, operations_of, home, count_at}
 use Rattle.one_order.specs.Rows.{IsAnswerNumber}
 use Rattle.one_order.specs.OneOrder.{HasOneOrder}
-use Rattle.one_order.specs.Consequences.{operation_of, NamesEntry, EntryStands, AnswerNamesEntry, AnswersNameEntries, AnswersAreNumbered}
+use Rattle.one_order.specs.Consequences.{NamesEntry, EntryStands, AnswerNamesEntry, AnswersNameEntries, AnswersAreNumbered}
+use Rattle.home_bank.specs.MemoryReplay.{entry_operation}
 use Rattle.one_order.proofs.Lists.{within_length, list_within}
 use Rattle.one_order.proofs.Growth.{kept_along}
 use Rattle.one_order.proofs.Counting.{count_cons, count_apart, nth}
@@ -36,7 +37,7 @@ pub same_point : (order : List LinearizationPoint) (j k : ℕ) (x y : Linearizat
     → x ≡ y
 same_point order j k x y hj hk same = same_Some x y (sym (subst (λ (i : ℕ). slice_get order i ≡ Some x) same hj) ∙ hk)
 
-pub same_operation : (e : Entry) (o : Operation) → e.address ≡ o.address → e.op ≡ o.op → operation_of e ≡ o
+pub same_operation : (e : Entry) (o : Operation) → e.address ≡ o.address → e.op ≡ o.op → entry_operation e ≡ o
 same_operation e o address op =
     let by_address : ℕ → Operation = λ a. record { address = a; op = e.op } in
     let by_op : Op → Operation = λ q. record { address = o.address; op = q } in
@@ -50,7 +51,7 @@ pub record PointOfEntry (tiles : ℕ) (opening : List ℕ) (order : List Lineari
   pub bank : home tiles point.operation ≡ b
   pub before : count_at tiles b (take k order) ≡ place
   pub source : e.source ≡ point.source
-  pub operation : operation_of e ≡ point.operation
+  pub operation : entry_operation e ≡ point.operation
   pub reply : slice_get (replies (operations_of order) opening) k ≡ Some e.reply
 
 pub point_of_entry : (tiles tags : ℕ) (opening : List ℕ) (run : Run) (n : ℕ) (rows : List Ordered) (one : HasOneOrder tiles tags opening run n rows)
@@ -74,7 +75,7 @@ point_of_entry tiles tags opening run n rows one b place e h =
       bank = bank;
       before = at.counts;
       source = ap (λ (y : Entry). y.source) (sym same) ∙ was.source;
-      operation = ap operation_of (sym same) ∙ same_operation was.entry x.operation was.address was.op;
+      operation = ap entry_operation (sym same) ∙ same_operation was.entry x.operation was.address was.op;
       reply = was.reply ∙ ap (λ (y : Entry). Some y.reply) same;
     }
 

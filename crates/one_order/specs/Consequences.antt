@@ -7,6 +7,7 @@ use Rattle.packet.specs.declared.kinds.Operation.{Operation}
 use Rattle.packet.specs.declared.kinds.Reply.{Reply}
 use Rattle.packet.specs.Memory.{replies, memory_after}
 use Rattle.home_bank.specs.declared.entry.Entry.{Entry}
+use Rattle.home_bank.specs.MemoryReplay.{entry_operation}
 use Rattle.one_order.specs.declared.answer.Answer.{Answer}
 use Rattle.one_order.specs.declared.ordered.Ordered.{Ordered}
 use Rattle.one_order.specs.Observed.{Observed, Run, list_at, total, IsIssuedAt, IsAnsweredAt}
@@ -49,16 +50,12 @@ pub record AreEventNumbers (count : ℕ) (rows : List Ordered) : Type 0 where
       → event_number row d ≡ Some m
       → m ≤ count
 
--- what an entry tells of its operation
-abbrev pub operation_of : Entry → Operation
-operation_of e = record { address = e.address; op = e.op }
-
 -- a row names an entry by bank and place: one of its operation, as it was issued
 pub record NamesEntry (s : Observed) (row : Ordered) : Type 0 where
   pub entry : Entry
   pub there : slice_get (list_at s.entries row.bank) row.place ≡ Some entry
   pub source : entry.source ≡ row.source
-  pub operation : slice_get (list_at s.issued row.source) row.index ≡ Some (operation_of entry)
+  pub operation : slice_get (list_at s.issued row.source) row.index ≡ Some (entry_operation entry)
 
 -- The rows are those of the entries, one for each: the rows of one bank stand in the order of its
 -- places (this project's own format).
@@ -90,7 +87,7 @@ pub record AnswerNamesEntry (s : Observed) (p : ℕ) (a : Answer) : Type 0 where
   pub source : entry.source ≡ p
   pub op : entry.op ≡ a.op
   pub reply : entry.reply ≡ a.reply
-  pub operation : slice_get (list_at s.issued p) a.index ≡ Some (operation_of entry)
+  pub operation : slice_get (list_at s.issued p) a.index ≡ Some (entry_operation entry)
 
 -- Each answer names an entry; no two are of one operation of a processor, and no two name one entry
 -- (this project's own format).
@@ -123,16 +120,16 @@ pub record AnswersAreNumbered (s : Observed) (rows : List Ordered) : Type 0 wher
 -- from the opening words: the same replies, and the same words in the end (Herlihy and Wing:
 -- locality, operations on different words commute).
 pub record ReplaysByBank (opening : List ℕ) (s : Observed) : Type 0 where
-  pub told : replies (map operation_of (flat_map (λ es. es) s.entries)) opening
+  pub told : replies (map entry_operation (flat_map (λ es. es) s.entries)) opening
       ≡ map (λ e. e.reply) (flat_map (λ es. es) s.entries)
-  pub left : memory_after (map operation_of (flat_map (λ es. es) s.entries)) opening ≡ s.memory
+  pub left : memory_after (map entry_operation (flat_map (λ es. es) s.entries)) opening ≡ s.memory
 
 -- Bank b has served p in turn: its entries of p are a beginning of what p issued with that home, in
 -- the order of issue; the rest of that waits (this project's own format).
 pub record ServesInTurn (tiles : ℕ) (s : Observed) (b p : ℕ) : Type 0 where
   pub waiting : List Operation
   pub are : filter (λ o. home tiles o == b) (list_at s.issued p)
-      ≡ map operation_of (filter (λ e. e.source == p) (list_at s.entries b)) ++ waiting
+      ≡ map entry_operation (filter (λ e. e.source == p) (list_at s.entries b)) ++ waiting
 
 -- p's services among a bank's entries, of which the first has this place: the place of each, and
 -- the entry

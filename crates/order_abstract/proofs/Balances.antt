@@ -13,7 +13,8 @@ use Rattle.tag_table.specs.Tags.{out_count}
 use Rattle.one_order.specs.Order.{LinearizationPoint}
 use Rattle.script_follower.specs.ProcessorRecord.{ProcessorRecord, no_processor, issued_by, answered_by, answer_of}
 use Rattle.order_abstract.specs.Flight.{Flight, Move, Sends, Serves, Takes, IsFound, processor_at, told_place, moved, moved_by}
-use Rattle.order_abstract.specs.Courses.{IsCourse, first_record}
+use Rattle.script_follower.specs.ProcessorRecord.{first_record}
+use Rattle.order_abstract.specs.Courses.{IsCourse}
 use Rattle.order_abstract.proofs.Parts.{tags_at, processor_set}
 use Rattle.order_abstract.proofs.Whole.{Whole}
 use Rattle.order_abstract.proofs.Courses.{shorter, holds_at}

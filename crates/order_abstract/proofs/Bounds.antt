@@ -20,7 +20,7 @@ use Rattle.one_order.specs.OneOrder.{HasOneOrder}
 use Rattle.one_order.proofs.BankReplay.{name_entries}
 use Rattle.order_abstract.specs.Flight.{Flight, Move, Sends, Serves, Takes, IsFound, processor_at, asked_place, told_place, show}
 use Rattle.order_abstract.specs.EventBook.{EventBook, row_at}
-use Rattle.order_abstract.specs.Room.{IsWithin, IsBookWithin, RoomToSend, RoomToServe, RoomToTake, HasRoomFor}
+use Rattle.order_abstract.specs.Room.{IsWithin, IsBookWithin, RoomToSend, RoomToServe, RoomToTake, HasRoomForMove}
 use Rattle.order_abstract.proofs.Counts.{asked_remove}
 use Rattle.order_abstract.proofs.Follows.{Follows}
 use Rattle.order_abstract.proofs.Parts.{tags_of, tags_at, issued_at}
@@ -166,7 +166,7 @@ module _ (tiles tags : ℕ) (opening : List ℕ) (scripts : List (List Line)) (r
         place = of_entries;
       }
 
-  pub room_for : (m : Move) → IsFound (length opening) f m → HasRoomFor tiles (length opening) scripts f m
+  pub room_for : (m : Move) → IsFound (length opening) f m → HasRoomForMove tiles (length opening) scripts f m
   room_for (Sends t tag o) found = room_to_send t tag o found
   room_for (Serves r) found = room_to_serve r found
   room_for (Takes r) found = room_to_take r found

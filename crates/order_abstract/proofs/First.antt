@@ -16,7 +16,8 @@ use Rattle.one_order.proofs.Lists.{list_at_none, total_none}
 use Rattle.one_order.proofs.AccountKept.{account_none}
 use Rattle.script_follower.specs.ProcessorRecord.{ProcessorRecord, no_processor}
 use Rattle.order_abstract.specs.Flight.{show}
-use Rattle.order_abstract.specs.Courses.{first_record, first_flight}
+use Rattle.script_follower.specs.ProcessorRecord.{first_record}
+use Rattle.order_abstract.specs.Courses.{first_flight}
 use Rattle.order_abstract.proofs.Counts.{home_total_none}
 use Rattle.order_abstract.proofs.Transport.{Holds, sound_none}
 use Rattle.order_abstract.proofs.Parts.{tags_of, same_shown}

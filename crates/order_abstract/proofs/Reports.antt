@@ -24,7 +24,7 @@ use Rattle.order_abstract.specs.Flight.{Flight, Move, IsFound, show, all_finishe
 use Rattle.order_abstract.specs.Courses.{IsCourse, run_of, events_of}
 use Rattle.order_abstract.specs.Scripts.{AreFinished}
 use Rattle.order_abstract.specs.EventBook.{book_of}
-use Rattle.order_abstract.specs.Room.{IsWithin, IsBookWithin, HasRoomFor}
+use Rattle.order_abstract.specs.Room.{IsWithin, IsBookWithin, HasRoomForMove}
 use Rattle.order_abstract.specs.Reported.{ShowsWell}
 use Rattle.order_abstract.proofs.Courses.{holds_at}
 use Rattle.order_abstract.proofs.EventBooks.{kept, order_of_book}
@@ -138,7 +138,7 @@ module _ (tiles tags : ℕ) (opening : List ℕ) (scripts : List (List Line)) (f
       (one_order n c)
 
   pub course_room : (n : ℕ) → IsCourse tiles tags opening scripts flight move n → ((p : ℕ) → p < length scripts → IsFollowable (list_at scripts p))
-      → (m : Move) → IsFound (length opening) (flight n) m → HasRoomFor tiles (length opening) scripts (flight n) m
+      → (m : Move) → IsFound (length opening) (flight n) m → HasRoomForMove tiles (length opening) scripts (flight n) m
   course_room n c good m found = room_for tiles tags opening scripts (run_of flight) n (flight n) _ (moment n c good) m found
 
   pub course_finished : (n : ℕ) → IsCourse tiles tags opening scripts flight move n → ((p : ℕ) → p < length scripts → IsFollowable (list_at scripts p))

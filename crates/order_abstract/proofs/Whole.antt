@@ -26,7 +26,7 @@ use Rattle.one_order.specs.Events.{MayServe, MayAnswer, MayHappen}
 use Rattle.one_order.proofs.Lists.{length_list_at_push, total_push, list_within}
 use Rattle.one_order.proofs.Account.{Account, home_within}
 use Rattle.one_order.proofs.AccountKept.{keeps}
-use Rattle.script_follower.specs.ProcessorRecord.{ProcessorRecord, no_processor, index_in, index_of, operation_of, issued_by}
+use Rattle.script_follower.specs.ProcessorRecord.{ProcessorRecord, no_processor, index_in, index_of, operation_under, issued_by}
 use Rattle.script_follower.specs.ProcessorRecord.{answered_by, request_of, answer_of}
 use Rattle.order_abstract.specs.Flight.{Flight, Move, Sends, Serves, Takes, processor_at, is_asked_alike, is_told_alike, asked_place}
 use Rattle.order_abstract.specs.Flight.{told_place, word_asked, reply_given, IsFound, moved, moved_by, show, event, event_by}
@@ -128,7 +128,7 @@ abbrev pub nothing : Operation
 nothing = record { address = 0; op = Loads }
 
 pub operation_is : (f : Flight) (p tag i : ℕ) (o : Operation) → Holds (tags_of f) p tag i → slice_get (list_at (show f).issued p) i ≡ Some o
-    → operation_of (processor_at f p) tag ≡ o
+    → operation_under (processor_at f p) tag ≡ o
 operation_is f p tag i o h g =
     ap (λ k. slice_index_or (processor_at f p).issued k nothing) (index_is f p tag i h)
     ∙ get_or_from_slice_get (processor_at f p).issued i o nothing (sym (ap (λ xs. slice_get xs i) (issued_at f p)) ∙ g)
@@ -212,9 +212,9 @@ takes_answer tiles tags opening f order r w there =
     let issued : slice_get (list_at (show f).issued p) q.index ≡ Some q.at.point.operation =
     sym (ap (λ k. slice_get (list_at (show f).issued k) q.index) q.at.source)
     ∙ (sym (ap (λ k. slice_get (list_at (show f).issued q.at.point.source) k) q.at.index) ∙ at) in
-    let op : (operation_of b r.tag.0).op ≡ q.op =
+    let op : (operation_under b r.tag.0).op ≡ q.op =
     ap (λ (o : Operation). o.op) (operation_is f p r.tag.0 q.index q.at.point.operation q.holds issued) ∙ sym q.at.op in
-    ap (λ i. record { index = i; op = (operation_of b r.tag.0).op; reply = r.reply; bank = r.source; place = r.place }) index
+    ap (λ i. record { index = i; op = (operation_under b r.tag.0).op; reply = r.reply; bank = r.source; place = r.place }) index
     ∙ ap (λ o. answer_in r q.index o) op
 
 pub takes_steps : (tiles tags : ℕ) (opening : List ℕ) (f : Flight) (order : List LinearizationPoint) (r : Response) (n : ℕ)
@@ -274,7 +274,7 @@ move_steps tiles tags opening f order n (Sends t tag o) w g = sends_steps tiles 
 move_steps tiles tags opening f order n (Serves r) w g =
     let q = w.sound.requests (asked_place f.asked r) r g in
     let e : Served r.source q.index r.tag q.operation ≡ event f (Serves r) =
-    sym (ap (λ i. Served r.source i r.tag (operation_of (processor_at f r.source) r.tag.0)) (index_is f r.source r.tag.0 q.index q.holds)
+    sym (ap (λ i. Served r.source i r.tag (operation_under (processor_at f r.source) r.tag.0)) (index_is f r.source r.tag.0 q.index q.holds)
     ∙ ap (λ o. Served r.source q.index r.tag o) (operation_is f r.source r.tag.0 q.index q.operation q.holds q.issued)) in
     subst (λ (x : Event). Steps tiles tags opening f order n (moved tiles f (Serves r)) x) e (serves_steps tiles tags opening f order r n w g)
 move_steps tiles tags opening f order n (Takes r) w g =

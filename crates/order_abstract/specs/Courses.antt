@@ -4,13 +4,8 @@ use Rattle.script.specs.declared.line.Line.{Line}
 use Rattle.script_follower.specs.Following.{first_of}
 use Rattle.one_order.specs.Observed.{Run}
 use Rattle.one_order.specs.Events.{Event}
-use Rattle.script_follower.specs.ProcessorRecord.{ProcessorRecord}
+use Rattle.script_follower.specs.ProcessorRecord.{ProcessorRecord, first_record}
 use Rattle.order_abstract.specs.Flight.{Flight, Move, IsFound, moved_by, show, event_by}
-
--- the record of a processor before any step, with so many tags
-abbrev pub first_record : ℕ → List Line → ProcessorRecord
-first_record tags lines =
-    record { following = first_of lines; tags = replicate tags None; issued = []; answers = [] }
 
 -- the flight before any step, of so many tiles with so many tags, these opening words and these
 -- scripts

@@ -14,7 +14,7 @@ use Rattle.script_follower.specs.home_bank.specs.ServiceList.{address_of, entry_
 use Rattle.script_follower.specs.Following.{next_operation_of, is_finished}
 use Rattle.one_order.specs.Observed.{Observed, list_at}
 use Rattle.one_order.specs.Events.{Event, Nothing, Issued, Served, Answered, push_at}
-use Rattle.script_follower.specs.ProcessorRecord.{ProcessorRecord, no_processor, index_of, operation_of, issued_by}
+use Rattle.script_follower.specs.ProcessorRecord.{ProcessorRecord, no_processor, index_of, operation_under, issued_by}
 use Rattle.script_follower.specs.ProcessorRecord.{answered_by, request_of, answer_of}
 
 -- what stands of the operations: in processors, in banks, in memory, and in flight between them
@@ -127,7 +127,7 @@ abbrev pub event : Flight → Move → Event
 event f (Sends t tag o) = Issued t o
 event f (Serves r) =
     Served r.source (index_of (processor_at f r.source) r.tag.0) r.tag
-    (operation_of (processor_at f r.source) r.tag.0)
+    (operation_under (processor_at f r.source) r.tag.0)
 event f (Takes r) = Answered r.destination (answer_of (processor_at f r.destination) r)
 
 -- the event that a step is, be it a move or none

@@ -6,7 +6,7 @@ use Rattle.script.specs.declared.line.Line.{Line}
 use Rattle.script.specs.Scripts.{operation_count, total_count}
 use Rattle.tag_table.specs.Tags.{out_count}
 use Rattle.script_follower.specs.Homes.{script_home_count}
-use Rattle.script_follower.specs.ProcessorRecord.{index_of, operation_of}
+use Rattle.script_follower.specs.ProcessorRecord.{index_of, operation_under}
 use Rattle.one_order.specs.Observed.{list_at, total}
 use Rattle.one_order.specs.Order.{home}
 use Rattle.order_abstract.specs.Flight.{Flight, Move, Sends, Serves, Takes, processor_at, word_asked}
@@ -57,7 +57,7 @@ pub record RoomToServe (tiles words : ℕ) (scripts : List (List Line)) (f : Fli
   pub word : word_asked tiles r < words
   pub source : r.source < tiles
   pub holder : index_of (processor_at f r.source) r.tag.0 < length (processor_at f r.source).issued
-  pub home : home tiles (operation_of (processor_at f r.source) r.tag.0) ≡ r.destination
+  pub home : home tiles (operation_under (processor_at f r.source) r.tag.0) ≡ r.destination
 
 -- there is room for the answer by a response, of which an issued operation holds the tag, and which
 -- names a service
@@ -73,7 +73,7 @@ pub record RoomToTake (tiles : ℕ) (scripts : List (List Line)) (f : Flight) (r
     pub place : r.place < length (list_at f.entries r.source)
 
 -- there is room for a move
-abbrev pub HasRoomFor : ℕ → ℕ → List (List Line) → Flight → Move → Type 0
-HasRoomFor tiles words scripts f (Sends t tag o) = RoomToSend scripts f t
-HasRoomFor tiles words scripts f (Serves r) = RoomToServe tiles words scripts f r
-HasRoomFor tiles words scripts f (Takes r) = RoomToTake tiles scripts f r
+abbrev pub HasRoomForMove : ℕ → ℕ → List (List Line) → Flight → Move → Type 0
+HasRoomForMove tiles words scripts f (Sends t tag o) = RoomToSend scripts f t
+HasRoomForMove tiles words scripts f (Serves r) = RoomToServe tiles words scripts f r
+HasRoomForMove tiles words scripts f (Takes r) = RoomToTake tiles scripts f r

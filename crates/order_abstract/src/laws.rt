@@ -13,7 +13,7 @@ ghost use Rattle.order_abstract.specs.Flight.{Flight, Move, IsFound, show, all_f
 ghost use Rattle.order_abstract.specs.Courses.{IsCourse, run_of, events_of};
 ghost use Rattle.order_abstract.specs.Scripts.{FollowScripts, AreFinished};
 ghost use Rattle.order_abstract.specs.EventBook.{book_of};
-ghost use Rattle.order_abstract.specs.Room.{IsWithin, IsBookWithin, HasRoomFor};
+ghost use Rattle.order_abstract.specs.Room.{IsWithin, IsBookWithin, HasRoomForMove};
 ghost use Rattle.order_abstract.specs.Reported.{ShowsWell};
 ghost use Rattle.one_order.specs.Consequences.{AnswersInTurn};
 
@@ -88,7 +88,7 @@ pub fn courses_have_room()
         → (n : ℕ) → IsCourse tiles tags opening scripts flight move n
         → ((p : ℕ) → p < length scripts → IsFollowable (list_at scripts p))
         → (m : Move) → IsFound (length opening) (flight n) m
-        → HasRoomFor tiles (length opening) scripts (flight n) m }
+        → HasRoomForMove tiles (length opening) scripts (flight n) m }
 {}
 
 /// Every follower of a course has come to its end exactly where every script is finished.

@@ -11,7 +11,7 @@ use Rattle.packet.specs.declared.kinds.Reply.TheVariants.{Old, Ok as Stored}
 use Rattle.packet.specs.declared.kinds.Packet.{Packet}
 use Rattle.packet.specs.declared.kinds.Packet.TheVariants.{Request, Response}
 use Rattle.packet.specs.Flit.{Heading, IsPayloadFlit}
-use Rattle.packet.specs.Spelling.{code_number, values_of_op, values_of_reply, values_of, heading_of, SpellsWith, Spells, IsSpellable, place_of, code_in}
+use Rattle.packet.specs.Spelling.{code_number, values_of_op, values_of_reply, values_of, heading_of, SpellsWith, Spells, IsSpellable, word_or_place, code_in}
 use Rattle.packet.specs.Written.{head_flit, flits_for, IsOfWords}
 use Rattle.packet.specs.Flits.{flits_of}
 use Rattle.packet.proofs.FlitBits.{FitsHead, IsHeadFlit-written, IsPayloadFlit-written, same_head, same_payload, FitsHead-told, value_below}
@@ -48,7 +48,7 @@ pub few_values : (p : Packet) → length (values_of p) ≤ 2
 few_values (Request r) = at_most_two r.op
 few_values (Response r) = at_most_one r.reply
 
-pub FitsHead-packet : (p : Packet) → IsSpellable p → place_of p < 2 ^ 32 → FitsHead (heading_of p)
+pub FitsHead-packet : (p : Packet) → IsSpellable p → word_or_place p < 2 ^ 32 → FitsHead (heading_of p)
 FitsHead-packet (Request r) s w =
     record {
       operation = omega (arith, code_number_below (code_in (Request r)));

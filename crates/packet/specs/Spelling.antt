@@ -75,9 +75,9 @@ code_in (Request r) = code_of r.op
 code_in (Response r) = r.code
 
 -- of a request the word, of a reply the place (this project's own format)
-abbrev pub place_of : Packet → ℕ
-place_of (Request r) = r.word
-place_of (Response r) = r.place
+abbrev pub word_or_place : Packet → ℕ
+word_or_place (Request r) = r.word
+word_or_place (Response r) = r.place
 
 -- what the head flit of a packet tells (this project's own format)
 abbrev pub heading_of : Packet → Heading
@@ -88,7 +88,7 @@ heading_of p =
       destination = destination_of p;
       source = source_of p;
       tag = tag_of p;
-      place = place_of p;
+      place = word_or_place p;
     }
 
 -- a reply packet brings `ok` exactly if it replies to a store (this project's own format)

@@ -3,7 +3,7 @@ use Rattle.std.specs.Prelude.{ℕ, ◌+◌, ◌*◌, ◌/◌, ◌%◌, ◌^◌, 
 use Rattle.std.specs.Prelude.{All}
 use Rattle.packet.specs.declared.kinds.Packet.{Packet}
 use Rattle.packet.specs.Flit.{Heading}
-use Rattle.packet.specs.Spelling.{values_of, place_of}
+use Rattle.packet.specs.Spelling.{values_of, word_or_place}
 
 -- the head flit that tells these things, without the tail bit (this project's own format)
 abbrev pub head_flit : Heading → ℕ
@@ -28,5 +28,5 @@ flits_for head (v ∷ w ∷ _) = head ∷ (value_flits false v ++ value_flits tr
 -- the numbers of a packet are those of its fields: a word or place of 32 bits, values of 64 (this
 -- project's own format)
 pub record IsOfWords (p : Packet) : Type 0 where
-  pub place : place_of p < 2 ^ 32
+  pub place : word_or_place p < 2 ^ 32
   pub values : All (λ v. v < 2 ^ 64) (values_of p)

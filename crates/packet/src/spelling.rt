@@ -3,7 +3,7 @@
 ghost use Rattle.std.specs.Prelude.{◌≡◌, ℕ, ◌<◌, ◌≤◌, ◌+◌, ◌^◌, ◌++◌, List, length, All};
 ghost use Rattle.arrayvec.specs.ArrayVec.{array_vec_len};
 ghost use Rattle.packet.specs.Flit.{class_number};
-ghost use Rattle.packet.specs.Spelling.{Spells, IsSpellable, code_number, values_of, heading_of, place_of};
+ghost use Rattle.packet.specs.Spelling.{Spells, IsSpellable, code_number, values_of, heading_of, word_or_place};
 ghost use Rattle.packet.specs.Flits.{flits_of};
 ghost use Rattle.packet.specs.Written.{head_flit, value_flits, flits_for};
 
@@ -82,7 +82,7 @@ fn head_flit_of(packet: &Packet) -> u64
     requires { IsSpellable packet.now }
     ensures bits { result ≡ head_flit (heading_of packet.now) }
     ensures below { result < 2 ^ 63 + 2 ^ 62 }
-    ensures place { place_of packet.now < 2 ^ 32 }
+    ensures place { word_or_place packet.now < 2 ^ 32 }
 {
     match *packet {
         Packet::Request(asked) => head_flit(

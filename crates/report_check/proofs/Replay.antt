@@ -12,7 +12,7 @@ use Rattle.report_lines.specs.Contents.{set_words}
 use Rattle.report_lines.specs.declared.line.EntryLine.{EntryLine}
 use Rattle.report_lines.specs.declared.line.ReportLine.{ReportLine}
 use Rattle.report_lines.specs.declared.line.ReportLine.TheVariants.{Header, Shape, Init, Entry, Answer, Word, Order, End}
-use Rattle.report_check.specs.Seen.{Seen, nothing_seen, after, seen_of, above_last, entries_at, operation_of}
+use Rattle.report_check.specs.Seen.{Seen, nothing_seen, after, seen_of, above_last, entries_at, line_operation}
 use Rattle.report_check.specs.Good.{MayStand, AllStand, AreGood, ToldBelow}
 use Rattle.report_check.specs.Meaning.{opening_after, opening_of, told_words, word_in, EntriesReplay}
 use Rattle.report_check.proofs.Banks.{entries_at_here, entries_at_other}
@@ -23,17 +23,17 @@ abbrev reply_in : EntryLine → Reply
 reply_in e = e.reply
 
 abbrev operations : List EntryLine → List Operation
-operations es = map operation_of es
+operations es = map line_operation es
 
 -- one more entry
 replies-push : (es : List EntryLine) (e : EntryLine) (m : List ℕ)
-    → replies (operations (es ++ e ∷ [])) m ≡ replies (operations es) m ++ reply_of_one (operation_of e) (memory_after (operations es) m) ∷ []
-replies-push es e m = ap (λ (os : List Operation). replies os m) (map-append operation_of es (e ∷ [])) ∙ replies-append (operations es) (operation_of e ∷ []) m
+    → replies (operations (es ++ e ∷ [])) m ≡ replies (operations es) m ++ reply_of_one (line_operation e) (memory_after (operations es) m) ∷ []
+replies-push es e m = ap (λ (os : List Operation). replies os m) (map-append line_operation es (e ∷ [])) ∙ replies-append (operations es) (line_operation e ∷ []) m
 
 memory_after-push : (es : List EntryLine) (e : EntryLine) (m : List ℕ)
-    → memory_after (operations (es ++ e ∷ [])) m ≡ memory_after_one (operation_of e) (memory_after (operations es) m)
+    → memory_after (operations (es ++ e ∷ [])) m ≡ memory_after_one (line_operation e) (memory_after (operations es) m)
 memory_after-push es e m =
-    ap (λ (os : List Operation). memory_after os m) (map-append operation_of es (e ∷ [])) ∙ memory_after-append (operations es) (operation_of e ∷ []) m
+    ap (λ (os : List Operation). memory_after os m) (map-append line_operation es (e ∷ [])) ∙ memory_after-append (operations es) (line_operation e ∷ []) m
 
 record Replays (m : List ℕ) (s : Seen) : Type 0 where
   whole : map reply_in s.entries ≡ replies (operations s.entries) m
@@ -52,14 +52,14 @@ replays_init m s a v none r =
       none = λ _. none;
     }
 
-replays_entry : (m : List ℕ) (s : Seen) (e : EntryLine) → e.reply ≡ reply_of_one (operation_of e) s.memory → Replays m s → Replays m (after s (Entry e))
+replays_entry : (m : List ℕ) (s : Seen) (e : EntryLine) → e.reply ≡ reply_of_one (line_operation e) s.memory → Replays m s → Replays m (after s (Entry e))
 replays_entry m s e reply r =
     record {
       whole = map-append reply_in s.entries (e ∷ [])
           ∙ ap (λ (rs : List Reply). rs ++ e.reply ∷ []) r.whole
-          ∙ ap (λ (x : Reply). replies (operations s.entries) m ++ x ∷ []) (reply ∙ ap (reply_of_one (operation_of e)) r.memory)
+          ∙ ap (λ (x : Reply). replies (operations s.entries) m ++ x ∷ []) (reply ∙ ap (reply_of_one (line_operation e)) r.memory)
           ∙ sym (replies-push s.entries e m);
-      memory = ap (memory_after_one (operation_of e)) r.memory ∙ sym (memory_after-push s.entries e m);
+      memory = ap (memory_after_one (line_operation e)) r.memory ∙ sym (memory_after-push s.entries e m);
       sized = r.sized;
       none = λ is. absurd (omega (arith, is));
     }
@@ -97,9 +97,9 @@ length-replayed es m = length-memory_after (operations es) m
 
 -- the same operation on two memories that agree at its address
 same_effect : (e : EntryLine) (x y : List ℕ) (a : ℕ) → e.address < length x → e.address < length y → slice_index x e.address ≡ slice_index y e.address
-    → slice_index x a ≡ slice_index y a → slice_index (memory_after_one (operation_of e) x) a ≡ slice_index (memory_after_one (operation_of e) y) a
+    → slice_index x a ≡ slice_index y a → slice_index (memory_after_one (line_operation e) x) a ≡ slice_index (memory_after_one (line_operation e) y) a
 same_effect e x y a in_x in_y at here =
-    let P : ℕ → Type 0 = λ k. slice_index (memory_after_one (operation_of e) x) k ≡ slice_index (memory_after_one (operation_of e) y) k in
+    let P : ℕ → Type 0 = λ k. slice_index (memory_after_one (line_operation e) x) k ≡ slice_index (memory_after_one (line_operation e) y) k in
     ⊎_elim
     (λ (same : a ≡ e.address). subst P (sym same)
     (get_or-set_same x e.address (new_word e.op (slice_index x e.address)) 0 in_x ∙ ap (new_word e.op) at
@@ -109,7 +109,7 @@ same_effect e x y a in_x in_y at here =
     ∙ sym (get_or-set_other y e.address a (new_word e.op (slice_index y e.address)) 0 other))
     (cases_eq a e.address)
 
-bank_own : (m : List ℕ) (s : Seen) (e : EntryLine) → e.address < s.words → e.address % s.tiles ≡ e.bank → e.reply ≡ reply_of_one (operation_of e) s.memory
+bank_own : (m : List ℕ) (s : Seen) (e : EntryLine) → e.address < s.words → e.address % s.tiles ≡ e.bank → e.reply ≡ reply_of_one (line_operation e) s.memory
     → BankReplays e.bank m s → BankReplays e.bank m (after s (Entry e))
 bank_own m s e inside home reply b =
     let es : List EntryLine = entries_at s.entries e.bank in
@@ -131,7 +131,7 @@ bank_own m s e inside home reply b =
     }
 
 bank_other : (bank : ℕ) (m : List ℕ) (s : Seen) (e : EntryLine) → bank ≢ e.bank → e.address % s.tiles ≡ e.bank
-    → e.reply ≡ reply_of_one (operation_of e) s.memory → BankReplays bank m s → BankReplays bank m (after s (Entry e))
+    → e.reply ≡ reply_of_one (line_operation e) s.memory → BankReplays bank m s → BankReplays bank m (after s (Entry e))
 bank_other bank m s e apart home reply b =
     let now : entries_at (s.entries ++ e ∷ []) bank ≡ entries_at s.entries bank = entries_at_other s.entries e bank apart in
     record {
@@ -215,7 +215,7 @@ tells_after told s (Init a v) may t =
 tells_after told s (Entry e) may t =
     let none : s.told ≡ [] = t.none (omega (arith, may.allowed.section.early)) in
     record {
-      so_far = nothing_told told s (memory_after_one (operation_of e) s.memory) t none;
+      so_far = nothing_told told s (memory_after_one (line_operation e) s.memory) t none;
       none = λ _. none;
       sized = length-set s.memory e.address (new_word e.op (slice_index s.memory e.address)) ∙ t.sized;
       whole = λ is. absurd (omega (arith, is));

@@ -17,7 +17,7 @@ use Rattle.report_check.specs.declared.fault.CheckFault.{CheckFault}
 use Rattle.report_check.specs.declared.fault.CheckFault.TheVariants.{BadReport, Memory}
 use Rattle.report_lines.specs.Fits.{FitsLine}
 use Rattle.report_check.specs.Seen.{Seen, nothing_seen, after, seen_of, above_last, last_bank, entries_at, has_newer}
-use Rattle.report_check.specs.Seen.{is_answered, key_of, operation_of, orders_at, is_named}
+use Rattle.report_check.specs.Seen.{is_answered, key_of, line_operation, orders_at, is_named}
 
 -- behind the shape, and not behind a line of a later kind
 pub record InSection (s : Seen) (latest : ℕ) : Type 0 where
@@ -73,7 +73,7 @@ pub record AllowedEntry (s : Seen) (e : EntryLine) : Type 0 where
   pub next : IsNext s e
   pub home : IsHome s e
   pub version : is_newer e.op ≡ true → s.version ≡ 2
-  pub reply : e.reply ≡ reply_of_one (operation_of e) s.memory
+  pub reply : e.reply ≡ reply_of_one (line_operation e) s.memory
 
 -- the answer is that of an entry that has none yet
 pub record NamesUnansweredEntry (s : Seen) (a : AnswerLine) : Type 0 where

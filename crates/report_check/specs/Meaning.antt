@@ -11,7 +11,7 @@ use Rattle.report_lines.specs.declared.line.OrderLine.{OrderLine}
 use Rattle.report_lines.specs.declared.line.ReportLine.{ReportLine}
 use Rattle.report_lines.specs.declared.line.ReportLine.TheVariants.{Header, Shape, Init, Entry, Answer, Word, Order}
 use Rattle.report_lines.specs.declared.line.ReportLine.TheVariants.{End}
-use Rattle.report_check.specs.Seen.{Seen, seen_of, entries_at, operation_of, orders_at}
+use Rattle.report_check.specs.Seen.{Seen, seen_of, entries_at, line_operation, orders_at}
 
 -- the opening words with one more line: all 0 behind the shape, and those that `init` lines name
 abbrev pub opening_after : List ℕ → ReportLine → List ℕ
@@ -48,11 +48,11 @@ told_words lines = flat_map word_in lines
 -- (Herlihy and Wing, TOPLAS 12(3), 1990: a legal sequential history)
 pub record EntriesReplay (lines : List ReportLine) : Type 0 where
   pub whole : map (λ e. e.reply) (seen_of lines).entries
-      ≡ replies (map operation_of (seen_of lines).entries) (opening_of lines)
+      ≡ replies (map line_operation (seen_of lines).entries) (opening_of lines)
   pub banks : (bank : ℕ) → map (λ e. e.reply) (entries_at (seen_of lines).entries bank)
-      ≡ replies (map operation_of (entries_at (seen_of lines).entries bank)) (opening_of lines)
+      ≡ replies (map line_operation (entries_at (seen_of lines).entries bank)) (opening_of lines)
   pub last : told_words lines
-      ≡ set_words (memory_after (map operation_of (seen_of lines).entries) (opening_of lines))
+      ≡ set_words (memory_after (map line_operation (seen_of lines).entries) (opening_of lines))
 
 -- an entry is issued, then served, then answered
 abbrev pub IsTimely : OrderLine → Type 0

@@ -64,8 +64,8 @@ shaped_seen version tiles words =
     }
 
 -- the operation of an entry line
-abbrev pub operation_of : EntryLine → Operation
-operation_of e = record { address = e.address; op = e.op }
+abbrev pub line_operation : EntryLine → Operation
+line_operation e = record { address = e.address; op = e.op }
 
 -- with one more line
 abbrev pub after : Seen → ReportLine → Seen
@@ -80,7 +80,7 @@ after s (Init address value) =
 after s (Entry e) = record s {
   section = 4;
   entries = s.entries ++ e ∷ [];
-  memory = memory_after_one (operation_of e) s.memory;
+  memory = memory_after_one (line_operation e) s.memory;
 }
 after s (Answer a) = record s { section = 5; answers = s.answers ++ a ∷ [] }
 after s (Word address value) = record s { section = 6; told = s.told ++ address ∷ [] }

@@ -8,7 +8,7 @@ use Rattle.report_lines.specs.Contents.{is_newer}
 use Rattle.report_lines.specs.declared.line.EntryLine.{EntryLine}
 use Rattle.report_lines.specs.declared.line.ReportLine.{ReportLine}
 use Rattle.report_lines.specs.declared.line.ReportLine.TheVariants.{Entry}
-use Rattle.report_check.specs.Seen.{last_bank, entries_at, operation_of}
+use Rattle.report_check.specs.Seen.{last_bank, entries_at, line_operation}
 use Rattle.report_good.proofs.Going.{GoesOn, seen_at}
 
 abbrev pub reply_in : EntryLine → Reply
@@ -32,8 +32,8 @@ AreNext done (e ∷ es) = (last_bank done ≤ e.bank) × (e.place ≡ length (en
 pub record Enters (v t w : ℕ) (m last : List ℕ) (done es all : List EntryLine) : Type 0 where
   pub next : AreNext done es
   pub stand : AllByRecursion (Stands v t w) es
-  pub told : replies (map operation_of es) m ≡ map reply_in es
-  pub left : memory_after (map operation_of es) m ≡ last
+  pub told : replies (map line_operation es) m ≡ map reply_in es
+  pub left : memory_after (map line_operation es) m ≡ last
   pub few : length done + length es ≤ 65536
   pub are : done ++ es ≡ all
 
@@ -48,7 +48,7 @@ same_tail : {X : Type 0} (x y : X) (xs ys : List X) → x ∷ xs ≡ y ∷ ys �
 same_tail x y xs ys same = cc
 
 enters_more : (v t w : ℕ) (m last : List ℕ) (done es all : List EntryLine) (e : EntryLine) → Enters v t w m last done (e ∷ es) all
-    → Enters v t w (memory_after_one (operation_of e) m) last (done ++ e ∷ []) es all
+    → Enters v t w (memory_after_one (line_operation e) m) last (done ++ e ∷ []) es all
 enters_more v t w m last done es all e o =
     record {
       next = o.next.2;
@@ -74,6 +74,6 @@ entries_on v t w n m last ins done (e ∷ es) all rest low high o on = (
     version = o.stand.0.version;
     reply = sym (same_head _ _ _ _ o.told);
   },
-  entries_on v t w 4 (memory_after_one (operation_of e) m) last ins (done ++ e ∷ []) es all rest (omega arith) (omega arith)
+  entries_on v t w 4 (memory_after_one (line_operation e) m) last ins (done ++ e ∷ []) es all rest (omega arith) (omega arith)
       (enters_more v t w m last done es all e o) on,
 )

@@ -15,7 +15,7 @@ use Rattle.report_lines.specs.declared.line.OrderLine.{OrderLine}
 use Rattle.report_lines.specs.declared.line.ReportLine.{ReportLine}
 use Rattle.report_lines.specs.declared.line.ReportLine.TheVariants.{End, Header, Shape as Shaped}
 use Rattle.report_lines.specs.Fits.{FitsLine}
-use Rattle.report_check.specs.Seen.{nothing_seen, operation_of}
+use Rattle.report_check.specs.Seen.{nothing_seen, line_operation}
 use Rattle.report_check.specs.Good.{AreGood}
 use Rattle.report_good.specs.Facts.{operation_in, rows_at, AreContents}
 use Rattle.report_good.proofs.Going.{GoesOn, going_good, seen_at}
@@ -113,8 +113,8 @@ module _ (shape : Shape) (opening : List ℕ) (entries : List (List EntryRow)) (
         version = newer_version entries i place e there;
       }
 
-  operations : map operation_of es ≡ map operation_in (flat_map (λ es. es) entries)
-  operations = map_entries operation_of operation_in (λ b k e. refl) 0 entries
+  operations : map line_operation es ≡ map operation_in (flat_map (λ es. es) entries)
+  operations = map_entries line_operation operation_in (λ b k e. refl) 0 entries
 
   enters : Enters v t w opening last [] es es
   enters =

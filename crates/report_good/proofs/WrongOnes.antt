@@ -15,7 +15,7 @@ use Rattle.report_lines.specs.declared.line.OrderLine.{OrderLine}
 use Rattle.report_lines.specs.declared.line.ReportLine.{ReportLine}
 use Rattle.report_lines.specs.declared.line.ReportLine.TheVariants.{Header, Shape, Entry, Answer, Word, Order, End}
 use Rattle.report_lines.specs.Fits.{FitsOp, FitsReply, FitsEntry, FitsAnswer, FitsOrder}
-use Rattle.report_check.specs.Seen.{Seen, seen_of, nothing_seen, above_last, entries_at, is_answered, operation_of, orders_at}
+use Rattle.report_check.specs.Seen.{Seen, seen_of, nothing_seen, above_last, entries_at, is_answered, line_operation, orders_at}
 use Rattle.report_check.specs.Good.{BehindEntries, AllowedEntry, NamesUnansweredEntry, ToldBelow, AllowedWord, AllowedOrder, IsWholeOrder, IsAllAnswered}
 use Rattle.report_check.specs.Good.{MayStand, AllStand, AreGood}
 
@@ -53,7 +53,7 @@ store = entry 1 0 5 (Store 17) Stored
 
 -- wrong: replies by the opening words, here zeros, and not by the memory so far
 abbrev RepliesByOpeningWords : EntryLine → Type 0
-RepliesByOpeningWords e = e.reply ≡ reply_of_one (operation_of e) (seen_of shaped).memory
+RepliesByOpeningWords e = e.reply ≡ reply_of_one (line_operation e) (seen_of shaped).memory
 
 abbrev behind_the_store : Seen
 behind_the_store = seen_of (shaped ++ Entry store ∷ [])

@@ -4,7 +4,7 @@ use Rattle.std.proofs.lemmas.Bool.{eqb-true, ltb-true, leb-true}
 use Rattle.packet.specs.Memory.{reply_of_one}
 use Rattle.report_lines.specs.Contents.{is_newer}
 use Rattle.report_lines.specs.declared.line.EntryLine.{EntryLine}
-use Rattle.report_check.specs.Seen.{Seen, last_bank, entries_at, operation_of}
+use Rattle.report_check.specs.Seen.{Seen, last_bank, entries_at, line_operation}
 use Rattle.report_check.specs.Good.{IsNext, IsHome, AllowedEntry}
 use Rattle.report_reasons.specs.declared.rule.Kind.TheVariants as kind
 use Rattle.report_reasons.specs.Broken.{◌<|>◌, place_broken, next_broken, home_broken, reply_broken, entry_broken}
@@ -55,5 +55,5 @@ entry_kept s e h =
       next = next_kept s e next.1;
       home = homed.home;
       version = homed.version;
-      reply = reply_true e.reply (reply_of_one (operation_of e) s.memory) (unless_kept _ _ reply.1);
+      reply = reply_true e.reply (reply_of_one (line_operation e) s.memory) (unless_kept _ _ reply.1);
     }

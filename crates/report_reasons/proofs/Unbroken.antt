@@ -17,7 +17,7 @@ use Rattle.report_lines.specs.declared.line.AnswerLine.{AnswerLine}
 use Rattle.report_lines.specs.declared.line.OrderLine.{OrderLine}
 use Rattle.report_lines.specs.declared.line.ReportLine.{ReportLine}
 use Rattle.report_lines.specs.declared.line.ReportLine.TheVariants.{Header, Shape, Init, Entry, Answer, Word, Order, End}
-use Rattle.report_check.specs.Seen.{Seen, above_last, last_bank, entries_at, has_newer, is_answered, key_of, operation_of, orders_at, is_named}
+use Rattle.report_check.specs.Seen.{Seen, above_last, last_bank, entries_at, has_newer, is_answered, key_of, line_operation, orders_at, is_named}
 use Rattle.report_check.specs.Good.{InSection, BehindEntries, AllowedHeader, AllowedShape, AllowedInit, IsNext, IsHome, AllowedEntry, NamesUnansweredEntry}
 use Rattle.report_check.specs.Good.{AllowedAnswer, ToldBelow, AllowedWord, IsNewEvent, OrdersNext, HasNewEvents, AllowedOrder, IsWholeOrder, IsAllAnswered, AllowedEnd, Allowed}
 use Rattle.report_reasons.specs.declared.rule.Kind.{Kind}
@@ -149,7 +149,7 @@ entry_none s e h =
     (or_none _ (home_broken s e)
     (or_none (place_broken s.section 4 kind.Entry) (next_broken s e) (place_none s 4 kind.Entry h.section) (next_none s e h.next))
     (home_none s e h.home h.version))
-    (unless_none _ _ (reply_is e.reply (reply_of_one (operation_of e) s.memory) h.reply))
+    (unless_none _ _ (reply_is e.reply (reply_of_one (line_operation e) s.memory) h.reply))
 
 behind_none : (s : Seen) (latest : ℕ) (found : Kind) → BehindEntries s latest → behind_broken s latest found ≡ None
 behind_none s latest found h =

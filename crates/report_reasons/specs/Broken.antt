@@ -17,7 +17,7 @@ use Rattle.report_lines.specs.declared.line.ReportLine.TheVariants as line
 use Rattle.report_lines.specs.Fits.{FitsLine}
 use Rattle.report_reader.specs.Reading.{line_at}
 use Rattle.report_check.specs.Seen.{Seen, above_last, last_bank, entries_at, has_newer, is_answered, key_of}
-use Rattle.report_check.specs.Seen.{operation_of, orders_at, is_named}
+use Rattle.report_check.specs.Seen.{line_operation, orders_at, is_named}
 use Rattle.report_reasons.specs.declared.rule.Kind.{Kind}
 use Rattle.report_reasons.specs.declared.rule.Kind.TheVariants as kind
 use Rattle.report_reasons.specs.declared.rule.Rule.{Rule}
@@ -108,8 +108,8 @@ home_broken s e =
 -- the reply is what the operation gives on the memory so far
 abbrev pub reply_broken : Seen → EntryLine → Option Rule
 reply_broken s e =
-    unless (same_reply e.reply (reply_of_one (operation_of e) s.memory))
-    (rule.Reply e.reply (reply_of_one (operation_of e) s.memory) (origin_of s e.address))
+    unless (same_reply e.reply (reply_of_one (line_operation e) s.memory))
+    (rule.Reply e.reply (reply_of_one (line_operation e) s.memory) (origin_of s e.address))
 
 -- an `entry` line
 abbrev pub entry_broken : Seen → EntryLine → Option Rule

@@ -44,9 +44,9 @@ impl<A: Allocator> Model for Router<A> {
 
     ghost Value = { Place };
 
-    ghost use Rattle.router.specs.Inside.{place_of, IsRouter};
+    ghost use Rattle.router.specs.Inside.{router_place_of, IsRouter};
 
-    ghost view = { place_of };
+    ghost view = { router_place_of };
 
     ghost invariant = { IsRouter };
 }

@@ -12,7 +12,7 @@ use Rattle.script.specs.declared.line.Line.TheVariants as line
 use Rattle.script.specs.Scripts.{operations_of, operation_count, mentions_last}
 use Rattle.one_order.proofs.Lists.{get_push_cases}
 use Rattle.script_follower.specs.declared.spin.OpenSpin.{OpenSpin}
-use Rattle.script_follower.specs.Following.{Following, first_of, next_operation_of, operation_of, ready, spin_issued, ahead_issued}
+use Rattle.script_follower.specs.Following.{Following, first_of, next_operation_of, operation_asked, ready_operation, spin_issued, ahead_issued}
 use Rattle.script_follower.specs.Following.{after_issue}
 use Rattle.script_follower.specs.Following.{past_fences, unfenced, spin_answered, other_answered, last_answered, after_answer}
 use Rattle.script_follower.specs.Following.{ShowsPast, starts, issues, answers, follower_with, left_of, loads_left, is_empty, is_finished}
@@ -63,33 +63,33 @@ answered s s' w xs ys none =
     (λ no. sym (twice s' (w - 1) xs ys))
 
 -- a first line with an operation is no fence
-no_fence : (x : Line) (xs : List Line) (last : Option Reply) (o : Operation) → operation_of x last ≡ Some o
+no_fence : (x : Line) (xs : List Line) (last : Option Reply) (o : Operation) → operation_asked x last ≡ Some o
     → past_fences (x ∷ xs) ≡ x ∷ xs
 no_fence line.Fence xs last o h = absurd (cc)
 no_fence x xs last o h = refl
 
--- where an operation is ready, nothing of the lines ahead is passed
+-- where an operation is ready_operation, nothing of the lines ahead is passed
 still : (s : Option OpenSpin) (w : ℕ) (xs ys : List Line) (last : Option Reply) (o : Operation)
-    → ready s xs last ≡ Some o → unfenced s w (xs ++ ys) ≡ xs ++ ys
+    → ready_operation s xs last ≡ Some o → unfenced s w (xs ++ ys) ≡ xs ++ ys
 still (Some s) w xs ys last o h = spins s w (xs ++ ys)
 still None w [] ys last o h = absurd (cc)
 still None w (x ∷ xs) ys last o h =
     unfenced_cases None w (x ∷ (xs ++ ys)) (λ zs. zs ≡ x ∷ (xs ++ ys)) (λ z n. no_fence x (xs ++ ys) last o h)
     (λ no. refl)
 
-ready_on : (s : Option OpenSpin) (xs ys : List Line) (last : Option Reply) (o : Operation) → ready s xs last ≡ Some o
-    → ready s (xs ++ ys) last ≡ Some o
+ready_on : (s : Option OpenSpin) (xs ys : List Line) (last : Option Reply) (o : Operation) → ready_operation s xs last ≡ Some o
+    → ready_operation s (xs ++ ys) last ≡ Some o
 ready_on (Some s) xs ys last o h = h
 ready_on None [] ys last o h = absurd (cc)
 ready_on None (x ∷ xs) ys last o h = h
 
-spin_on : (s : Option OpenSpin) (xs ys : List Line) (last : Option Reply) (o : Operation) → ready s xs last ≡ Some o
+spin_on : (s : Option OpenSpin) (xs ys : List Line) (last : Option Reply) (o : Operation) → ready_operation s xs last ≡ Some o
     → spin_issued s (xs ++ ys) ≡ spin_issued s xs
 spin_on (Some s) xs ys last o h = refl
 spin_on None [] ys last o h = absurd (cc)
 spin_on None (x ∷ xs) ys last o h = refl
 
-ahead_on : (s : Option OpenSpin) (xs ys : List Line) (last : Option Reply) (o : Operation) → ready s xs last ≡ Some o
+ahead_on : (s : Option OpenSpin) (xs ys : List Line) (last : Option Reply) (o : Operation) → ready_operation s xs last ≡ Some o
     → ahead_issued s (xs ++ ys) ≡ ahead_issued s xs ++ ys
 ahead_on (Some s) xs ys last o h = refl
 ahead_on None [] ys last o h = absurd (cc)
@@ -105,7 +105,7 @@ pub next_with : (f : Following) (line : Line) (o : Operation) → next_operation
     → next_operation_of (follower_with line f) ≡ Some o
 unfolding next_operation_of
 next_with f line o h =
-    ap (λ (xs : List Line). ready f.spin xs f.last) (still f.spin f.waiting f.ahead (line ∷ []) f.last o h)
+    ap (λ (xs : List Line). ready_operation f.spin xs f.last) (still f.spin f.waiting f.ahead (line ∷ []) f.last o h)
     ∙ ready_on f.spin f.ahead (line ∷ []) f.last o h
 
 pub issue_with : (f : Following) (line : Line) (o : Operation) → next_operation_of f ≡ Some o
@@ -220,17 +220,17 @@ some_of lines past f (answers before g i o t reply h at open_) some =
 -- a finished script goes on with the line
 goes_on : (spin : Option OpenSpin) (ahead : List Line) (last : Option Reply) (waiting : ℕ) (added : Line)
     → (is_empty ahead && is_none spin && (waiting == 0)) ≡ true
-    → ready spin (unfenced spin waiting (ahead ++ added ∷ [])) last ≡ operation_of added last
+    → ready_operation spin (unfenced spin waiting (ahead ++ added ∷ [])) last ≡ operation_asked added last
 goes_on None [] last waiting added e =
-    ap (λ (xs : List Line). ready None xs last) (fires None waiting (added ∷ []) (eqb-true waiting 0 e) refl) ∙ alone added
+    ap (λ (xs : List Line). ready_operation None xs last) (fires None waiting (added ∷ []) (eqb-true waiting 0 e) refl) ∙ alone added
   where
-    alone : (first : Line) → ready None (past_fences (first ∷ [])) last ≡ operation_of first last
+    alone : (first : Line) → ready_operation None (past_fences (first ∷ [])) last ≡ operation_asked first last
     alone line.Fence = refl
     alone first = refl
 goes_on None (first ∷ lines) last waiting added e = cc
 goes_on (Some s) [] last waiting added e = cc
 goes_on (Some s) (first ∷ lines) last waiting added e = cc
 
-pub next_at_end : (f : Following) (line : Line) → is_finished f ≡ true → next_operation_of (follower_with line f) ≡ operation_of line f.last
+pub next_at_end : (f : Following) (line : Line) → is_finished f ≡ true → next_operation_of (follower_with line f) ≡ operation_asked line f.last
 unfolding is_finished next_operation_of
 next_at_end f line e = goes_on f.spin f.ahead f.last f.waiting line e

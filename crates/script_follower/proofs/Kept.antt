@@ -10,7 +10,7 @@ use Rattle.script.specs.Scripts.{operation_count}
 use Rattle.script_follower.specs.declared.spin.OpenSpin.{OpenSpin}
 use Rattle.script_follower.specs.declared.follower.Follower.TheInside.{Inside}
 use Rattle.script_follower.specs.Scripts.{IsFollowable}
-use Rattle.script_follower.specs.Following.{Following, ready, next_operation_of, first_of, after_issue, after_answer, last_answered, other_answered}
+use Rattle.script_follower.specs.Following.{Following, ready_operation, next_operation_of, first_of, after_issue, after_answer, last_answered, other_answered}
 use Rattle.script_follower.specs.Following.{spin_issued, ahead_issued, spin_answered, unfenced, past_fences, loads_left, is_empty, HasLoad}
 use Rattle.script_follower.specs.Inside.{following_of, IsFollower}
 use Rattle.script_follower.proofs.Places.{left_issued, left_answered, left_of_answered, left_of_none, drop_begins, count_past_fences, count_unfenced}
@@ -27,14 +27,14 @@ is_empty-drop [] (suc at) h = absurd (omega arith)
 is_empty-drop (x ∷ xs) zero h = ne_eqb 0 (suc (length xs)) (λ e. omega arith)
 is_empty-drop (x ∷ xs) (suc at) h = suc_eqb at (length xs) ∙ is_empty-drop xs at (omega arith)
 
--- what is ready
-some_left : (spin : Option OpenSpin) (ahead : List Line) (last : Option Reply) → HasLoad spin last → IsSome (ready spin ahead last) → (s : OpenSpin)
+-- what is ready_operation
+some_left : (spin : Option OpenSpin) (ahead : List Line) (last : Option Reply) → HasLoad spin last → IsSome (ready_operation spin ahead last) → (s : OpenSpin)
     → spin ≡ Some s → 0 < s.left
 some_left None ahead last h next s e = cc
 some_left (Some r) ahead None h next s e = cc
 some_left (Some r) ahead (Some reply) h next s e = let same : r ≡ s = cc in subst (λ (q : OpenSpin). 0 < q.left) same h
 
-some_line : (spin : Option OpenSpin) (lines : List Line) (at : ℕ) (last : Option Reply) → IsSome (ready spin (drop at lines) last) → spin ≡ None
+some_line : (spin : Option OpenSpin) (lines : List Line) (at : ℕ) (last : Option Reply) → IsSome (ready_operation spin (drop at lines) last) → spin ≡ None
     → at < length lines
 some_line (Some s) lines at last next e = cc
 some_line None [] zero last next e = cc
@@ -59,7 +59,7 @@ module _ {A : Type 0} (a : Inside A) (h : IsFollower a) (next : IsSome (next_ope
       ≤ loads_left a.spin + operation_count (drop a.at a.lines.items)
   unfolding next_operation_of
   left_falls =
-      let o = some_operation (ready a.spin (drop a.at a.lines.items) a.last) next in
+      let o = some_operation (ready_operation a.spin (drop a.at a.lines.items) a.last) next in
       left_issued a.spin (drop a.at a.lines.items) a.last o.0 o.1 (drop_begins a.lines.items a.at h.loads) h.more
 
   one_more_fits : a.issued + 1 < 2 ^ 32

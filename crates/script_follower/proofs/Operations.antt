@@ -11,7 +11,7 @@ use Rattle.script.specs.declared.line.Line.TheVariants as line
 use Rattle.script.specs.declared.line.Value.{Value}
 use Rattle.script.specs.declared.line.Value.TheVariants.{Number, Last}
 use Rattle.script_follower.specs.Scripts.{Invocation, reply_number, IsLastReply, IsOperand, Asks, IsOf}
-use Rattle.script_follower.specs.Following.{operand_of, asked, operation_of}
+use Rattle.script_follower.specs.Following.{operand_of, asked, operation_asked}
 
 -- the last reply is known, and was given before step t
 abbrev pub IsKnown : Option Reply → List Invocation → ℕ → Type 0
@@ -61,7 +61,7 @@ IsOrdinary (line.Spin a v m) = ⊥
 IsOrdinary first = Unit {0}
 
 pub line_to : (first : Line) (last : Option Reply) (q : List Invocation) (o : Invocation) → IsOrdinary first →
-    operation_of first last ≡ Some o.operation → IsKnown last q o.issue → IsOf first q o
+    operation_asked first last ≡ Some o.operation → IsKnown last q o.issue → IsOf first q o
 line_to (line.Load a) last q o c h known = sym (same_Some (record { address = a; op = op.Load }) o.operation h)
 line_to (line.Store a v) last q o c h known = asks_to op.Store a v last q o h known
 line_to (line.Swap a v) last q o c h known = asks_to op.Swap a v last q o h known
@@ -78,7 +78,7 @@ line_to line.Fence last q o c h known = absurd c
 line_to (line.Spin a v m) last q o c h known = absurd c
 
 pub line_from : (first : Line) (last : Option Reply) (q : List Invocation) (o : Invocation) →
-    IsOf first q o → IsShown last q o.issue → operation_of first last ≡ Some o.operation
+    IsOf first q o → IsShown last q o.issue → operation_asked first last ≡ Some o.operation
 line_from (line.Load a) last q o h shown = ap (λ (x : Operation). Some x) (sym h)
 line_from (line.Store a v) last q o h shown = asks_from op.Store a v last q o h shown
 line_from (line.Swap a v) last q o h shown = asks_from op.Swap a v last q o h shown

@@ -16,7 +16,7 @@ use Rattle.script.specs.declared.line.Value.TheVariants.{Number, Last}
 use Rattle.script.specs.Scripts.{operations_of, operation_count, is_last, mentions_last}
 use Rattle.script_follower.specs.declared.spin.OpenSpin.{OpenSpin}
 use Rattle.script_follower.specs.Scripts.{reply_number, address_of, IsFollowable, IsAddressIn}
-use Rattle.script_follower.specs.Following.{operand_of, asked, operation_of, ready, spin_issued, ahead_issued, past_fences, spin_answered, unfenced}
+use Rattle.script_follower.specs.Following.{operand_of, asked, operation_asked, ready_operation, spin_issued, ahead_issued, past_fences, spin_answered, unfenced}
 use Rattle.script_follower.specs.Following.{loads_left, HasLoad}
 use Rattle.script_follower.proofs.Residual.{HasLoads, BeginsWithLoads, WantsLoad, HasNoFence}
 
@@ -78,7 +78,7 @@ wants_left None last h = tt
 wants_left (Some s) None h = tt
 wants_left (Some s) (Some reply) h = h.1
 
-pub left_issued : (spin : Option OpenSpin) (ahead : List Line) (last : Option Reply) (o : Operation) → ready spin ahead last ≡ Some o →
+pub left_issued : (spin : Option OpenSpin) (ahead : List Line) (last : Option Reply) (o : Operation) → ready_operation spin ahead last ≡ Some o →
     BeginsWithLoads ahead → HasLoad spin last →
     loads_left (spin_issued spin ahead) + operation_count (ahead_issued spin ahead) + 1 ≤ loads_left spin + operation_count ahead
 left_issued (Some s) ahead None o h loads wants = cc
@@ -152,7 +152,7 @@ begins_plainly (first ∷ lines) h = λ u. absurd (omega (arith, h 0 first refl 
 pub followable_start : (lines : List Line) → IsFollowable lines → BeginsPlainly (past_fences lines)
 followable_start lines h = begins_plainly lines h.lasts
 
--- an operation is ready wherever what its line takes is known
+-- an operation is ready_operation wherever what its line takes is known
 known_operand : (v : Value) (last : Option Reply) → (is_last v ≡ true → IsSome last) → IsSome (operand_of v last)
 known_operand (Number n) last h = refl
 known_operand Last None h = absurd (let e = h refl in cc)
@@ -181,7 +181,7 @@ known_asked : (kind : ℕ → Op) (a : ℕ) (v : Value) (last : Option Reply) �
 known_asked kind a v last h = some_mapped (asking kind a) (operand_of v last) (known_operand v last h)
 
 pub known_operation : (first : Line) (lines : List Line) (last : Option Reply) → HasNoFence (first ∷ lines) → (mentions_last first ≡ true → IsSome last)
-    → IsSome (operation_of first last)
+    → IsSome (operation_asked first last)
 known_operation (line.Load a) lines last f h = refl
 known_operation (line.Store a v) lines last f h = known_asked op.Store a v last h
 known_operation (line.Swap a v) lines last f h = known_asked op.Swap a v last h
@@ -227,7 +227,7 @@ cas_address a (Some e) y o h = asked_address (op.Cas e) a y o h
 load_address : (a : ℕ) (o : Operation) → Some (record { address = a; op = op.Load }) ≡ Some o → Some a ≡ Some o.address
 load_address a o h = ap (λ (p : Operation). Some p.address) (same_Some (record { address = a; op = op.Load }) o h)
 
-line_address : (first : Line) (last : Option Reply) (o : Operation) → operation_of first last ≡ Some o → address_of first ≡ Some o.address
+line_address : (first : Line) (last : Option Reply) (o : Operation) → operation_asked first last ≡ Some o → address_of first ≡ Some o.address
 line_address (line.Load a) last o h = load_address a o h
 line_address (line.Store a v) last o h = asked_address op.Store a (operand_of v last) o h
 line_address (line.Swap a v) last o h = asked_address op.Swap a (operand_of v last) o h
@@ -242,7 +242,7 @@ line_address line.Fence last o h = cc
 line_address (line.Spin a v m) last o h = load_address a o h
 
 pub ready_address : (lines : List Line) (spin : Option OpenSpin) (ahead : List Line) (last : Option Reply) (o : Operation) →
-    Each (IsLineIn lines) ahead → IsSpinIn lines spin → ready spin ahead last ≡ Some o → IsAddressIn lines o.address
+    Each (IsLineIn lines) ahead → IsSpinIn lines spin → ready_operation spin ahead last ≡ Some o → IsAddressIn lines o.address
 ready_address lines (Some s) ahead None o each there h = cc
 ready_address lines (Some s) ahead (Some reply) o each there h =
     (there.0, there.1, there.2, there.3 ∙ load_address s.address o h)

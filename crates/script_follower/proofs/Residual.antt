@@ -12,7 +12,7 @@ use Rattle.script.specs.declared.line.Line.TheVariants as line
 use Rattle.script_follower.specs.declared.spin.OpenSpin.{OpenSpin}
 use Rattle.script_follower.specs.Scripts.{Invocation, reply_number, IsLastReply, AfterLoad, Spins, Allows, FollowsScript, AreAnsweredBefore, AreAnswersBefore}
 use Rattle.script_follower.specs.Scripts.{AreAnswered, last_reply}
-use Rattle.script_follower.specs.Following.{ready, spin_issued, ahead_issued, past_fences}
+use Rattle.script_follower.specs.Following.{ready_operation, spin_issued, ahead_issued, past_fences}
 use Rattle.script_follower.proofs.Operations.{IsKnown, IsShown, line_to, line_from}
 use Rattle.script_follower.proofs.Histories.{IsSame, Extends, extends_trans, extends_more, answers_before_less, all_answered_before, HasLastReply}
 use Rattle.script_follower.proofs.Histories.{last_reply_before, last_reply_kept, last_reply_unique, last_known}
@@ -170,9 +170,9 @@ match_false true P Q h k = cc
 abbrev load_at : ℕ → Operation
 load_at a = record { address = a; op = op.Load }
 
--- the operation that is ready may come next, and then what may follow it
+-- the operation that is ready_operation may come next, and then what may follow it
 pub step_to : (spin : Option OpenSpin) (ahead : List Line) (last : Option Reply) (q : List Invocation) (o : Invocation) (ops : List Invocation) →
-    ready spin ahead last ≡ Some o.operation → IsKnown last q o.issue → BeginsWithLoads ahead → WantsLoad spin last →
+    ready_operation spin ahead last ≡ Some o.operation → IsKnown last q o.issue → BeginsWithLoads ahead → WantsLoad spin last →
     Continues (spin_issued spin ahead) (ahead_issued spin ahead) (q ++ o ∷ []) ops → Continues spin ahead q (o ∷ ops)
 step_to (Some s) ahead None q o ops h known loads wants k = cc
 step_to (Some s) ahead (Some reply) q o ops h known loads wants k = (
@@ -192,10 +192,10 @@ abbrev pub HasNoFence : List Line → Type 0
 HasNoFence (line.Fence ∷ lines) = ⊥
 HasNoFence lines = Unit {0}
 
--- the operation that comes next is the one that is ready, and what may follow it may follow
+-- the operation that comes next is the one that is ready_operation, and what may follow it may follow
 pub step_ready : (spin : Option OpenSpin) (ahead : List Line) (last : Option Reply) (q : List Invocation) (o : Invocation) (ops : List Invocation) →
     IsShown last q o.issue → BeginsWithLoads ahead → WantsLoad spin last → (spin ≡ None → AreAnsweredBefore q o.issue → HasNoFence ahead) →
-    Continues spin ahead q (o ∷ ops) → ready spin ahead last ≡ Some o.operation
+    Continues spin ahead q (o ∷ ops) → ready_operation spin ahead last ≡ Some o.operation
 step_ready (Some s) ahead None q o ops shown loads wants fence k = let e = shown k.0 k.1 in cc
 step_ready (Some s) ahead (Some reply) q o ops shown loads wants fence k =
     let e : reply ≡ k.0 = same_Some reply k.0 (shown k.0 k.1) in
@@ -213,7 +213,7 @@ abbrev pub IsOneReply : Option Reply → List Invocation → ℕ → Type 0
 IsOneReply last q t = (x y : Reply) → last ≡ Some x → IsLastReply q t y → x ≡ y
 
 pub step_from : (spin : Option OpenSpin) (ahead : List Line) (last : Option Reply) (q : List Invocation) (o : Invocation) (ops : List Invocation) →
-    ready spin ahead last ≡ Some o.operation → IsOneReply last q o.issue → BeginsWithLoads ahead → WantsLoad spin last →
+    ready_operation spin ahead last ≡ Some o.operation → IsOneReply last q o.issue → BeginsWithLoads ahead → WantsLoad spin last →
     Continues spin ahead q (o ∷ ops) → Continues (spin_issued spin ahead) (ahead_issued spin ahead) (q ++ o ∷ []) ops
 step_from (Some s) ahead None q o ops h one loads wants k = cc
 step_from (Some s) ahead (Some reply) q o ops h one loads wants k =
@@ -228,7 +228,7 @@ step_from None (first ∷ lines) last q o ops h one loads wants k = k.1
 
 -- one more operation
 module _ (lines : List Line) (past : List Invocation) (spin : Option OpenSpin) (ahead : List Line) (last : Option Reply) (o : Operation) (t : ℕ)
-    (h : Leads lines past spin ahead) (next : ready spin ahead last ≡ Some o) (last_is : last ≡ last_reply past) (before : AreAnswersBefore past t)
+    (h : Leads lines past spin ahead) (next : ready_operation spin ahead last ≡ Some o) (last_is : last ≡ last_reply past) (before : AreAnswersBefore past t)
     (loads : BeginsWithLoads ahead) (wants : WantsLoad spin last) where
   issued_to_at : (q : List Invocation) (p : Invocation) (ops : List Invocation) → Extends past q → IsSame (record { operation = o; issue = t; answer = None }) p
       →

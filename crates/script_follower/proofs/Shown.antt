@@ -12,7 +12,7 @@ use Rattle.script_follower.specs.declared.spin.OpenSpin.{OpenSpin}
 use Rattle.script_follower.specs.Scripts.{Invocation, IsFollowable, AreAnswered, AreAnswersBefore, FollowsScript, HasFinished, last_reply, unanswered}
 use Rattle.script_follower.specs.Scripts.{IsAddressIn}
 use Rattle.script_follower.specs.Following.{Following, ShowsPast, starts, issues, answers, first_of, next_operation_of, after_issue, after_answer}
-use Rattle.script_follower.specs.Following.{last_answered, other_answered, is_finished, is_empty, left_of, loads_left, ready, past_fences, unfenced}
+use Rattle.script_follower.specs.Following.{last_answered, other_answered, is_finished, is_empty, left_of, loads_left, ready_operation, past_fences, unfenced}
 use Rattle.script_follower.specs.Following.{spin_answered, spin_issued, ahead_issued}
 use Rattle.script_follower.proofs.Histories.{extends_refl, extends_set, with_answer, HasLastReply, last_reply_more, last_reply_answered, last_reply_other}
 use Rattle.script_follower.proofs.Histories.{last_shown, last_shown_before, last_known, last_reply_before, unanswered_more, unanswered_set, none_waits}
@@ -189,19 +189,19 @@ module _ (lines : List Line) (past : List Invocation) (f : Following) (followabl
       (λ n told. s.fence (s.waiting ∙ none_waits past (λ i p g. let r = told i p g in (r.1.0, r.0, r.1.1))) n)
       (s.leads.from past (o ∷ []) (extends_refl past) k)
 
--- something is ready unless all is done
+-- something is ready_operation unless all is done
 known_last : (past : List Invocation) (last : Option Reply) → last ≡ last_reply past → AreAnswered past → (past ≡ [] → ⊥) → IsSome last
 known_last [] last e answered some = absurd (some refl)
 known_last (x ∷ past) last e answered some = let r = some_last x past answered in ap is_some (e ∙ r.1)
 
-known_load : (a : ℕ) (last : Option Reply) → IsSome last → IsSome (ready (Some (record { address = a; sought = 0; left = 0 })) [] last)
+known_load : (a : ℕ) (last : Option Reply) → IsSome last → IsSome (ready_operation (Some (record { address = a; sought = 0; left = 0 })) [] last)
 known_load a None h = cc
 known_load a (Some reply) h = refl
 
 ready_unless : (spin : Option OpenSpin) (ahead : List Line) (last : Option Reply) (waiting : ℕ) (past : List Invocation) → last ≡ last_reply past
     → AreAnswered past →
     (spin ≡ None → HasNoFence ahead) → (past ≡ [] → (spin ≡ None) × BeginsPlainly ahead) → waiting ≡ 0 →
-    (is_empty ahead && is_none spin && (waiting == 0)) ≡ false → IsSome (ready spin ahead last)
+    (is_empty ahead && is_none spin && (waiting == 0)) ≡ false → IsSome (ready_operation spin ahead last)
 ready_unless (Some s) ahead last waiting past e answered fence begins zero_ test =
     known_load s.address last (known_last past last e answered (λ n. let k = (begins n).0 in cc))
 ready_unless None [] last waiting past e answered fence begins zero_ test =

@@ -14,7 +14,7 @@ use Rattle.script.specs.declared.line.Value.TheVariants.{Number, Last}
 use Rattle.script.specs.Scripts.{IsWord, IsAcceptedLine}
 use Rattle.script_follower.specs.declared.spin.OpenSpin.{OpenSpin}
 use Rattle.script_follower.specs.Scripts.{Invocation, IsFollowable, reply_number, reply_of, last_reply}
-use Rattle.script_follower.specs.Following.{Following, ShowsPast, next_operation_of, ready, operation_of, asked, operand_of}
+use Rattle.script_follower.specs.Following.{Following, ShowsPast, next_operation_of, ready_operation, operation_asked, asked, operand_of}
 use Rattle.script_follower.proofs.Places.{Each, IsLineIn}
 use Rattle.script_follower.proofs.Shown.{stands}
 
@@ -57,7 +57,7 @@ loads_below a o h =
     let same : record { address = a; op = Load } ≡ o = cc in
     subst (λ (p : Operation). Below (values_of_op p.op)) same none_below
 
-line_below : (words : ℕ) (first : Line) (last : Option Reply) (o : Operation) → IsAcceptedLine words first → Known last → operation_of first last ≡ Some o
+line_below : (words : ℕ) (first : Line) (last : Option Reply) (o : Operation) → IsAcceptedLine words first → Known last → operation_asked first last ≡ Some o
     → Below (values_of_op o.op)
 line_below words (line.Load a) last o ok known h = loads_below a o h
 line_below words (line.Store a v) last o ok known h = asked_below Store one_below a v last o ok.1 known (operand_of v last) refl h
@@ -73,7 +73,7 @@ line_below words line.Fence last o ok known h = cc
 line_below words (line.Spin a v m) last o ok known h = loads_below a o h
 
 ready_below : (words : ℕ) (spin : Option OpenSpin) (ahead : List Line) (last : Option Reply) (o : Operation) → Each (IsAcceptedLine words) ahead → Known last
-    → ready spin ahead last ≡ Some o → Below (values_of_op o.op)
+    → ready_operation spin ahead last ≡ Some o → Below (values_of_op o.op)
 ready_below words None [] last o each known h = cc
 ready_below words None (first ∷ lines) last o each known h = line_below words first last o each.0 known h
 ready_below words (Some s) ahead None o each known h = cc

@@ -39,35 +39,35 @@ abbrev pub asked : (ℕ → Op) → ℕ → Value → Option Reply → Option Op
 asked kind a v last = option_map (λ x. record { address = a; op = kind x }) (operand_of v last)
 
 -- the operation of a line where the operation before has this reply; a spin's is its first load
-abbrev pub operation_of : Line → Option Reply → Option Operation
-operation_of (line.Load a) last = Some (record { address = a; op = op.Load })
-operation_of (line.Store a v) last = asked op.Store a v last
-operation_of (line.Swap a v) last = asked op.Swap a v last
-operation_of (line.Cas a e n) last =
+abbrev pub operation_asked : Line → Option Reply → Option Operation
+operation_asked (line.Load a) last = Some (record { address = a; op = op.Load })
+operation_asked (line.Store a v) last = asked op.Store a v last
+operation_asked (line.Swap a v) last = asked op.Swap a v last
+operation_asked (line.Cas a e n) last =
     option_and_then (λ x. asked (op.Cas x) a n last) (operand_of e last)
-operation_of (line.Add a v) last = asked op.Add a v last
-operation_of (line.And a v) last = asked op.And a v last
-operation_of (line.Or a v) last = asked op.Or a v last
-operation_of (line.Xor a v) last = asked op.Xor a v last
-operation_of (line.Max a v) last = asked op.Max a v last
-operation_of (line.Min a v) last = asked op.Min a v last
-operation_of line.Fence last = None
-operation_of (line.Spin a v m) last = Some (record { address = a; op = op.Load })
+operation_asked (line.Add a v) last = asked op.Add a v last
+operation_asked (line.And a v) last = asked op.And a v last
+operation_asked (line.Or a v) last = asked op.Or a v last
+operation_asked (line.Xor a v) last = asked op.Xor a v last
+operation_asked (line.Max a v) last = asked op.Max a v last
+operation_asked (line.Min a v) last = asked op.Min a v last
+operation_asked line.Fence last = None
+operation_asked (line.Spin a v m) last = Some (record { address = a; op = op.Load })
 
 -- the operation of the first line
 abbrev pub first_operation : List Line → Option Reply → Option Operation
 first_operation [] last = None
-first_operation (first ∷ lines) last = operation_of first last
+first_operation (first ∷ lines) last = operation_asked first last
 
 -- the next operation of the first line, or of the spin that isn't over: its next load when the one
 -- before is answered
-abbrev pub ready : Option OpenSpin → List Line → Option Reply → Option Operation
-ready None ahead last = first_operation ahead last
-ready (Some s) ahead last = option_map (λ reply. record { address = s.address; op = op.Load }) last
+abbrev pub ready_operation : Option OpenSpin → List Line → Option Reply → Option Operation
+ready_operation None ahead last = first_operation ahead last
+ready_operation (Some s) ahead last = option_map (λ reply. record { address = s.address; op = op.Load }) last
 
--- the operation that is ready to be issued, if there is one
+-- the operation that is ready_operation to be issued, if there is one
 unfoldable pub next_operation_of : Following → Option Operation
-next_operation_of f = ready f.spin f.ahead f.last
+next_operation_of f = ready_operation f.spin f.ahead f.last
 
 -- the spin that the issue of a line's operation opens
 abbrev pub opened : Line → Option OpenSpin
@@ -96,7 +96,7 @@ first_of lines = record {
   last = None;
 }
 
--- the follower after the issue of the operation that is ready
+-- the follower after the issue of the operation that is ready_operation
 unfoldable pub after_issue : Following → Following
 after_issue f = record {
   ahead = ahead_issued f.spin f.ahead;
@@ -172,7 +172,7 @@ unfoldable pub left_of : Following → ℕ
 left_of f = loads_left f.spin + operation_count f.ahead
 
 -- a follower of these lines shows these operations: its calls led there, each operation issued when
--- it was ready and later than every answer before, and each answered at most once, with any reply,
+-- it was ready_operation and later than every answer before, and each answered at most once, with any reply,
 -- at any step (a reachable state and its history)
 pub data ShowsPast (lines : List Line) : List Invocation → Following → Type 0 where
   starts : ShowsPast lines [] (first_of lines)

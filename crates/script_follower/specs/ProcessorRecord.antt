@@ -1,6 +1,6 @@
 -- What a processor keeps of its operations: the record of a processor.
 use Rattle.std.specs.Prelude.{ℕ, ◌/◌, ◌%◌, List, [], ◌∷◌, ◌++◌, Some, None, Option, option_map, option_and_then}
-use Rattle.std.specs.Prelude.{slice_set, slice_index_or}
+use Rattle.std.specs.Prelude.{replicate, slice_set, slice_index_or}
 use Rattle.torus.specs.declared.step.OpId.{OpId}
 use Rattle.packet.specs.declared.kinds.Op.TheVariants.{Load as Loads}
 use Rattle.packet.specs.declared.kinds.Operation.{Operation}
@@ -22,6 +22,12 @@ pub record ProcessorRecord : Type 0 where
   pub issued : List Operation
   pub answers : List Answer
 
+-- the record of a processor with so many tags and this script, before any operation (this project's
+-- own format)
+abbrev pub first_record : ℕ → List Line → ProcessorRecord
+first_record tags lines =
+    record { following = first_of lines; tags = replicate tags None; issued = []; answers = [] }
+
 -- in place of the record of a processor that isn't there
 abbrev pub no_processor : ProcessorRecord
 no_processor = record { following = first_of []; tags = []; issued = []; answers = [] }
@@ -41,8 +47,8 @@ abbrev pub index_of : ProcessorRecord → ℕ → ℕ
 index_of b tag = index_in (slice_index_or b.tags tag None)
 
 -- the operation that holds a tag of the processor
-abbrev pub operation_of : ProcessorRecord → ℕ → Operation
-operation_of b tag = slice_index_or b.issued (index_of b tag) (record { address = 0; op = Loads })
+abbrev pub operation_under : ProcessorRecord → ℕ → Operation
+operation_under b tag = slice_index_or b.issued (index_of b tag) (record { address = 0; op = Loads })
 
 -- the record after an issue under a tag
 abbrev pub issued_by : ProcessorRecord → ℕ → Operation → ProcessorRecord
@@ -67,7 +73,7 @@ request_of tiles t tag o = record {
 abbrev pub answer_of : ProcessorRecord → Response → Answer
 answer_of b r = record {
   index = index_of b r.tag.0;
-  op = (operation_of b r.tag.0).op;
+  op = (operation_under b r.tag.0).op;
   reply = r.reply;
   bank = r.source;
   place = r.place;

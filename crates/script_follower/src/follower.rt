@@ -4,7 +4,7 @@ ghost use Rattle.std.specs.Prelude.{◌≡◌, ℕ, ◌^◌, ◌<◌, ◌≤◌,
 ghost use Rattle.std.specs.Prelude.{Some, None, ◌+◌, option_map, OnOk, OnErr};
 ghost use Rattle.script.specs.Scripts.{operation_count, operations_of};
 ghost use Rattle.script_follower.specs.Scripts.{IsFollowable};
-ghost use Rattle.script_follower.specs.Following.{operand_of, operation_of, ready, first_operation, opened};
+ghost use Rattle.script_follower.specs.Following.{operand_of, operation_asked, ready_operation, first_operation, opened};
 ghost use Rattle.script_follower.specs.Following.{spin_issued, ahead_issued, unfenced, is_empty, past_fences, first_of};
 ghost use Rattle.script_follower.specs.Following.{next_operation_of, after_issue, after_answer, is_finished};
 ghost use Rattle.script_follower.specs.Following.{follower_with, left_of};
@@ -59,15 +59,15 @@ impl<A: Allocator> Follower<A> {
         }
     }
 
-    /// The address and the operation that is ready to be issued, each `last` replaced. `None` exactly
-    /// when none is ready.
+    /// The address and the operation that is ready_operation to be issued, each `last` replaced. `None` exactly
+    /// when none is ready_operation.
     pub fn next_operation(&self) -> Option<(u32, Op)>
         ensures { result ≡ option_map (λ o. (o.address, o.op)) (next_operation_of self.now) }
     {
         ready(self.spin, self.lines.as_slice(), self.at, self.last)
     }
 
-    /// Issues the operation that is ready: its index, counted from 0.
+    /// Issues the operation that is ready_operation: its index, counted from 0.
     pub fn issue(&mut self) -> u32
         requires { IsSome (next_operation_of self.old) }
         ensures index { result ≡ self.old.issued }
@@ -132,7 +132,7 @@ fn operand_of(value: Value, last: Option<Reply>) -> Option<u64>
 /// The operation of a line, where the operation before has this reply. `None` where it isn't known,
 /// and of a fence.
 fn operation_of(line: Line, last: Option<Reply>) -> Option<Operation>
-    ensures { result ≡ operation_of line last }
+    ensures { result ≡ operation_asked line last }
 {
     let (address, op) = match line {
         Line::Load(address) => (address, Op::Load),
@@ -154,7 +154,7 @@ fn operation_of(line: Line, last: Option<Reply>) -> Option<Operation>
     Some(Operation { address, op })
 }
 
-/// The operation that is ready, where a spin is open or the lines from `at` on are ahead, and the
+/// The operation that is ready_operation, where a spin is open or the lines from `at` on are ahead, and the
 /// last operation has this reply.
 fn ready(
     spin: Option<OpenSpin>,
@@ -162,7 +162,7 @@ fn ready(
     at: usize,
     last: Option<Reply>,
 ) -> Option<(u32, Op)>
-    ensures { result ≡ option_map (λ o. (o.address, o.op)) (ready spin (drop at lines.now) last) }
+    ensures { result ≡ option_map (λ o. (o.address, o.op)) (ready_operation spin (drop at lines.now) last) }
 {
     match spin {
         Some(open) => last.map(|_| (open.address, Op::Load)),
@@ -196,7 +196,7 @@ fn opened(line: Line) -> Option<OpenSpin>
     }
 }
 
-/// The spin, and the first line ahead, once the operation that is ready is issued.
+/// The spin, and the first line ahead, once the operation that is ready_operation is issued.
 fn moved_on(spin: Option<OpenSpin>, lines: &[Line], at: usize) -> (Option<OpenSpin>, usize)
     requires left { (s : OpenSpin) → spin ≡ Some s → 0 < s.left }
     requires line { spin ≡ None → at < length lines.now }

@@ -11,7 +11,7 @@ ghost use Rattle.script_follower.specs.Scripts.{Invocation, FollowsScript, HasFi
 ghost use Rattle.script_follower.specs.Scripts.{AreAnswered, AreAnswersBefore, last_reply, reply_number, unanswered};
 ghost use Rattle.script_follower.specs.Homes.{script_home_count, issued_home_count};
 ghost use Rattle.script_follower.specs.Following.{Following, ShowsPast, first_of, next_operation_of, after_issue};
-ghost use Rattle.script_follower.specs.Following.{after_answer, is_finished, left_of, operation_of, follower_with};
+ghost use Rattle.script_follower.specs.Following.{after_answer, is_finished, left_of, operation_asked, follower_with};
 
 /// A script that the reader accepts, for a memory of any number of words, can be followed.
 pub fn accepted_scripts_can_be_followed()
@@ -154,5 +154,5 @@ pub fn lines_come_at_the_end()
     ensures left { (f : Following) (line : Line)
         → left_of (follower_with line f) ≡ left_of f + operations_of line }
     ensures ended { (f : Following) (line : Line) → is_finished f ≡ true
-        → next_operation_of (follower_with line f) ≡ operation_of line f.last }
+        → next_operation_of (follower_with line f) ≡ operation_asked line f.last }
 {}

@@ -65,9 +65,9 @@ IsAcceptableTo p Router choice found = IsRoutable p.design.shape choice found
 IsAcceptableTo p Bank choice found = IsAcceptableToBank choice found
 
 -- a service of the bank has room for its entry (this project's own limits)
-abbrev pub HasRoomFor : PlacedTile → Agent → Choice → Type 0
-HasRoomFor v Bank choice.Serve = length v.place.bank.state.entries < v.room
-HasRoomFor v _ _ = Unit {0}
+abbrev pub HasRoomForEntry : PlacedTile → Agent → Choice → Type 0
+HasRoomForEntry v Bank choice.Serve = length v.place.bank.state.entries < v.room
+HasRoomForEntry v _ _ = Unit {0}
 
 -- the tile after an attempt of one of its agents over a row, at once; None where it has no
 -- operation or doesn't move (this project's own format)

@@ -11,7 +11,7 @@ ghost use Rattle.tile_laws.specs.script_follower.specs.Following.{is_finished, l
 ghost use Rattle.tile_laws.specs.script_follower.specs.ProcessorTable.{processor_with, processor_open};
 ghost use Rattle.tile_laws.specs.Tile.{Processor as ProcessorAgent, Router as RouterAgent, Bank as BankOfTile};
 ghost use Rattle.tile_laws.specs.Agents.{agent_numbered, agent_op, tile_next_op, tile_absorbed};
-ghost use Rattle.tile.specs.Placed.{with_place, with_room, with_processor, first_tile, IsAcceptableTo, HasRoomFor, agent_attempted};
+ghost use Rattle.tile.specs.Placed.{with_place, with_room, with_processor, first_tile, IsAcceptableTo, HasRoomForEntry, agent_attempted};
 ghost use Rattle.tile.specs.Placed.{tile_attempted};
 
 use flit_buffer::WordOp;
@@ -137,7 +137,7 @@ impl<A: Allocator> TileAgents<A> {
         requires tried { IsSome (tile_next_op self.old.place step) }
         requires flit { IsAcceptableTo self.old.place (agent_numbered (step.agent % 3)) step.choice
             got }
-        requires entries { HasRoomFor self.old (agent_numbered (step.agent % 3)) step.choice }
+        requires entries { HasRoomForEntry self.old (agent_numbered (step.agent % 3)) step.choice }
         ensures { MatchOption (tile_absorbed self.old.place step got)
             ((result ≡ stepped.Idle) × (self.new ≡ self.old))
             (λ p. (result ≡ stepped.Moved) × (self.new ≡ with_place self.old p)) }
@@ -200,7 +200,7 @@ impl<A: Allocator> TileAgents<A> {
         requires flit { IfSome (agent_op self.old.place BankOfTile choice)
             (λ o. IsAcceptableTo self.old.place BankOfTile choice
             (slice_index row.old.items (word_of o))) }
-        requires entries { HasRoomFor self.old BankOfTile choice }
+        requires entries { HasRoomForEntry self.old BankOfTile choice }
         ensures row { row.new.items
             ≡ performed_by row.old.items (agent_op self.old.place BankOfTile choice) }
         ensures step { MatchOption (agent_attempted self.old.place BankOfTile choice row.old.items)
@@ -218,7 +218,7 @@ impl<A: Allocator> TileAgents<A> {
         requires flit { IfSome (tile_next_op self.old.place step)
             (λ o. IsAcceptableTo self.old.place (agent_numbered (step.agent % 3)) step.choice
             (slice_index row.old.items (word_of o))) }
-        requires entries { HasRoomFor self.old (agent_numbered (step.agent % 3)) step.choice }
+        requires entries { HasRoomForEntry self.old (agent_numbered (step.agent % 3)) step.choice }
         ensures row { row.new.items
             ≡ performed_by row.old.items (tile_next_op self.old.place step) }
         ensures step { MatchOption (tile_attempted self.old.place step row.old.items)

@@ -1,5 +1,6 @@
--- Which choices an agent has.
-use Rattle.std.specs.Prelude.{ℕ, zero, suc, nat_lt, Bool, true, false}
+-- Which choices an agent has, and their order in a round.
+use Rattle.std.specs.Prelude.{ℕ, zero, suc, nat_lt, Bool, true, false, List, [], ◌∷◌, ◌++◌, map}
+use Rattle.std.specs.List.{range_with_len}
 use Rattle.torus.specs.declared.step.Choice.{Choice}
 use Rattle.torus.specs.declared.step.Choice.TheVariants.{Send, Take, TakeFrom, Put, Credit, CreditOf, Serve, Done, Look}
 
@@ -29,9 +30,30 @@ is_of_bank Credit = true
 is_of_bank _ = false
 
 -- whether agent k of a tile has a choice: agent 0 is its processor, 1 its router, with so many
--- inputs and as many
--- outputs, 2 its bank (this project's own format)
+-- inputs and as many outputs, 2 its bank (this project's own format)
 abbrev pub has_choice : ℕ → ℕ → Choice → Bool
 has_choice ports zero choice = is_of_processor choice
 has_choice ports (suc zero) choice = is_of_router ports choice
 has_choice ports (suc (suc k)) choice = is_of_bank choice
+
+-- a processor's choices in the order of a round, and a bank's (this project's own format)
+abbrev pub processor_choices : List Choice
+processor_choices = Send ∷ Take ∷ Credit ∷ Done ∷ Look ∷ []
+
+abbrev pub bank_choices : List Choice
+bank_choices = Take ∷ Serve ∷ Send ∷ Credit ∷ []
+
+-- a router's choices of so many ports: a take and a put of each input, and a credit of each output
+-- (this project's own format)
+abbrev pub takes_of_all : ℕ → List Choice
+takes_of_all ports = map (λ i. TakeFrom i) (range_with_len 0 ports)
+
+abbrev pub puts_of_all : ℕ → List Choice
+puts_of_all ports = map (λ i. Put i) (range_with_len 0 ports)
+
+abbrev pub credits_of_all : ℕ → List Choice
+credits_of_all ports = map (λ o. CreditOf o) (range_with_len 0 ports)
+
+-- all of these, in the order of a round
+abbrev pub router_choices : ℕ → List Choice
+router_choices ports = takes_of_all ports ++ puts_of_all ports ++ credits_of_all ports

@@ -3,14 +3,10 @@ use Rattle.std.specs.Prelude.{ℕ, ◌+◌, ◌-◌, ◌&&◌, ◌==◌, Bool, t
 use Rattle.std.specs.Prelude.{◌∷◌, take, Option, Some, None, option_map, unwrap_or, is_some}
 use Rattle.std.specs.Prelude.{if◌then◌else◌, codes}
 use Rattle.std.specs.Str.{bytes_eq}
-use Rattle.lexer.specs.Words.{words_of, begins_comment}
+use Rattle.lexer.specs.Words.{first_words, begins_comment}
 use Rattle.lexer.specs.Numbers.{value_of}
 use Rattle.trace_reasons.specs.declared.before.Wanted.{Wanted}
 use Rattle.trace_reasons.specs.declared.before.Wanted.TheVariants as wanted
-
--- the first words of a line; a line that means something has fewer, comments apart
-abbrev pub first_words : List ℕ → List (List ℕ)
-first_words line = take 7 (words_of line)
 
 -- the number that a word spells, 2 ^ 64 from there on; 0 for any other word
 abbrev pub number : List ℕ → ℕ
@@ -26,11 +22,6 @@ abbrev pub second_number : List (List ℕ) → ℕ
 second_number [] = 0
 second_number (first ∷ []) = 0
 second_number (first ∷ word ∷ more) = number word
-
--- the line of a number, where these lines count from another number
-abbrev pub line_at : ℕ → ℕ → List (List ℕ) → Option (List ℕ)
-line_at stop at [] = None
-line_at stop at (line ∷ lines) = if at == stop then Some line else line_at stop (at + 1) lines
 
 -- whether a line of a first word and of these numbers behind it gives what is wanted
 abbrev pub fits_word : Wanted → List ℕ → ℕ → ℕ → Bool

@@ -14,7 +14,8 @@ use Rattle.trace_reasons.specs.declared.reason.Keyword.TheVariants.{Words, Init,
 use Rattle.trace_reasons.specs.declared.reason.TraceReason.{TraceReason}
 use Rattle.trace_reasons.specs.declared.reason.TraceReason.TheVariants as reason
 use Rattle.trace_reasons.specs.Reasons.{Explains, keyword_of}
-use Rattle.trace_reasons.specs.Before.{first_words, number, line_at, given, count, line_of}
+use Rattle.lexer.specs.Words.{first_words, line_at}
+use Rattle.trace_reasons.specs.Before.{number, given, count, line_of}
 use Rattle.trace_reasons.specs.Before.{is_given, words_given}
 
 -- the first of two things that may be wrong

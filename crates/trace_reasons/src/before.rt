@@ -2,7 +2,8 @@
 
 ghost use Rattle.std.specs.Prelude.{◌≡◌, map, option_map};
 ghost use Rattle.std.specs.Str.Lines.{lines};
-ghost use Rattle.trace_reasons.specs.Before.{number, first_number, second_number, line_at};
+ghost use Rattle.lexer.specs.Words.{line_at};
+ghost use Rattle.trace_reasons.specs.Before.{number, first_number, second_number};
 ghost use Rattle.trace_reasons.specs.Before.{fits, fits_word, given, count, line_of, is_given};
 ghost use Rattle.trace_reasons.specs.Before.{words_given};
 
@@ -58,22 +59,6 @@ fn second_number(values: &[&[u8]]) -> u128
         [_] => 0,
         [_, word, ..] => number(word),
     }
-}
-
-/// The line of a number.
-pub(crate) fn line_at(text: &[u8], wanted: u64) -> Option<&[u8]>
-    ensures { option_map (λ line. line.now) result ≡ line_at wanted 1 (lines text.now) }
-{
-    let mut at = 1u64;
-    let mut rest = text;
-    while let Some((line, after)) = next_line(rest) {
-        if at == wanted {
-            return Some(line);
-        }
-        at += 1;
-        rest = after;
-    }
-    None
 }
 
 impl Wanted {

@@ -6,10 +6,10 @@ ghost use Rattle.trace_reasons.specs.Reasons.{Explains, fault_of};
 ghost use Rattle.trace_reasons.specs.Wrong.{IsReason, trace_wrong, end_wrong, words_wrong};
 ghost use Rattle.trace_reasons.specs.Wrong.{keyword_wrong};
 
-use crate::before::{Before, Wanted, line_at};
+use crate::before::{Before, Wanted};
 use crate::reason::{Keyword, TraceReason};
 use crate::setting::title_wrong;
-use lexer::first_words;
+use lexer::{first_words, line_at};
 use torus::Fault;
 
 /// Why a trace text has a fault at a line, as `trace_text::read_trace` tells both: the first check

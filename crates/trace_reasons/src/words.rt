@@ -1,8 +1,7 @@
 //! The words of a line, as a sentence quotes them.
 
-use crate::before::line_at;
 use explained::Quoted;
-use lexer::first_words;
+use lexer::{first_words, line_at};
 use std::fmt;
 
 /// The first words of a line; those that it hasn't are empty. Prints as the words that it has, with a

@@ -19,7 +19,7 @@ use Rattle.trace_text.specs.Traced.{TraceSpec, opening_of}
 use Rattle.trace_report.specs.declared.times.Times.{Times}
 use Rattle.trace_report.specs.declared.service.Service.{Service}
 use Rattle.trace_report.specs.Numbers.{waits_of}
-use Rattle.trace_report.specs.Services.{call_at, is_home, place_of, service_of, service_with}
+use Rattle.trace_report.specs.Services.{call_at, is_home, service_place, service_of, service_with}
 use Rattle.trace_report.proofs.Replayed.{told_reply}
 use Rattle.trace_order.proofs.Lists.{take_get, get_take}
 use Rattle.report_lines.specs.Contents.{items_of}
@@ -132,19 +132,19 @@ abbrev home_at : ℕ → List Call → ℕ → ℕ
 home_at tiles order k = (call_at order k).operation.address % tiles
 
 pub place_read : (tiles : ℕ) (order : List Call) (counts : List ℕ) (k p : ℕ) → 0 < tiles → length counts ≡ tiles → p ≡ get_or counts (home_at tiles order k) p
-    → ((b : ℕ) → b < tiles → slice_index_or counts b 0 ≡ count_by (is_home tiles b) (take k order)) → p ≡ place_of tiles order k
+    → ((b : ℕ) → b < tiles → slice_index_or counts b 0 ≡ count_by (is_home tiles b) (take k order)) → p ≡ service_place tiles order k
 place_read tiles order counts k p some size is counted =
     let b : ℕ = home_at tiles order k in
     let low : b < tiles = omega arith in
     is ∙ (same_read counts b p 0 (omega arith) ∙ counted b low)
 
-pub place_low : (tiles : ℕ) (order : List Call) (k : ℕ) → place_of tiles order k ≤ length order
+pub place_low : (tiles : ℕ) (order : List Call) (k : ℕ) → service_place tiles order k ≤ length order
 place_low tiles order k =
     let p = is_home tiles (home_at tiles order k) in
     omega (arith, count_by-le-length p order, sum_by-take-le (λ c. cond (p c) 1 0) order k)
 
 pub count_step : (tiles : ℕ) (order : List Call) (counts : List ℕ) (k p : ℕ) → 0 < tiles → k < length order → length counts ≡ tiles
-    → p ≡ place_of tiles order k
+    → p ≡ service_place tiles order k
     → ((b : ℕ) → b < tiles → slice_index_or counts b 0 ≡ count_by (is_home tiles b) (take k order)) → (b : ℕ) → b < tiles
     → slice_index_or (slice_set counts (home_at tiles order k) (p + 1)) b 0 ≡ count_by (is_home tiles b) (take (k + 1) order)
 count_step tiles order counts k p some l size is counted b low =
@@ -163,7 +163,7 @@ count_step tiles order counts k p some l size is counted b low =
 
 -- a service of its parts
 pub service_is : (t : TraceSpec) (tiles : ℕ) (times : List Times) (order : List Call) (told : List Reply) (places waits : List ℕ) (x : ℕ) (d : Reply)
-    → x < length order → told ≡ replies (operations_of order) (opening_of t) → places ≡ map (place_of tiles order) (range_with_len 0 (length order))
+    → x < length order → told ≡ replies (operations_of order) (opening_of t) → places ≡ map (service_place tiles order) (range_with_len 0 (length order))
     → waits ≡ waits_of times order
     → service_with t.issued times waits (call_at order x) (home_at tiles order x) (get_or told x d) (get_or places x 0) (get_or waits x 0 + x + 1)
     ≡ service_of t tiles times order x
@@ -171,8 +171,8 @@ service_is t tiles times order told places waits x d l are stand wait =
     let r : Reply = reply_of_one (call_at order x).operation (memory_of (opening_of t) (take x order)) in
     let reply : get_or told x d ≡ r =
     get_or_from_slice_get told x r d (ap (λ (rs : List Reply). slice_get rs x) are ∙ told_reply (opening_of t) order x l) in
-    let place : get_or places x 0 ≡ place_of tiles order x =
-    ap (λ (ps : List ℕ). get_or ps x 0) stand ∙ get_or-map-range_with_len (place_of tiles order) 0 (length order) x x 0 l (omega arith) in
+    let place : get_or places x 0 ≡ service_place tiles order x =
+    ap (λ (ps : List ℕ). get_or ps x 0) stand ∙ get_or-map-range_with_len (service_place tiles order) 0 (length order) x x 0 l (omega arith) in
     let make : Reply → ℕ → List ℕ → Service =
     λ u p ws. service_with t.issued times ws (call_at order x) (home_at tiles order x) u p (get_or ws x 0 + x + 1) in
-    ap (λ u. make u (get_or places x 0) waits) reply ∙ (ap (λ p. make r p waits) place ∙ ap (make r (place_of tiles order x)) wait)
+    ap (λ u. make u (get_or places x 0) waits) reply ∙ (ap (λ p. make r p waits) place ∙ ap (make r (service_place tiles order x)) wait)

@@ -32,8 +32,8 @@ abbrev pub is_home : ℕ → ℕ → Call → Bool
 is_home tiles bank c = c.operation.address % tiles == bank
 
 -- how many operations on words of the same bank stand before one of an order
-abbrev pub place_of : ℕ → List Call → ℕ → ℕ
-place_of tiles order x =
+abbrev pub service_place : ℕ → List Call → ℕ → ℕ
+service_place tiles order x =
     count_by (is_home tiles ((call_at order x).operation.address % tiles)) (take x order)
 
 -- the service of an operation, in its place of a bank, with its reply and the number of its service
@@ -57,7 +57,7 @@ service_of t tiles times order x =
     service_with t.issued times (waits_of times order) (call_at order x)
     ((call_at order x).operation.address % tiles)
     (reply_of_one (call_at order x).operation (memory_of (opening_of t) (take x order)))
-    (place_of tiles order x) (service_number (waits_of times order) x)
+    (service_place tiles order x) (service_number (waits_of times order) x)
 
 -- the services of an order
 abbrev pub services_of : TraceSpec → ℕ → List Times → List Call → List Service

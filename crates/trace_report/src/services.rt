@@ -8,7 +8,7 @@ ghost use Rattle.trace_order.specs.Orders.{memory_of, operations_of};
 ghost use Rattle.trace_text.specs.Traced.{opening_of};
 ghost use Rattle.trace_report.specs.Times.{AreLow};
 ghost use Rattle.trace_report.specs.Numbers.{waits_of, IsRising};
-ghost use Rattle.trace_report.specs.Services.{issued_of, place_of, service_with, services_of};
+ghost use Rattle.trace_report.specs.Services.{issued_of, service_place, service_with, services_of};
 
 use crate::numbers::{answer_number, event_number};
 use crate::service::Service;
@@ -69,7 +69,7 @@ pub(crate) fn places<A: Allocator + Copy>(
     requires few { length order.now ≤ 65536 }
     ensures { IfOk result
         (λ places. places.items
-        ≡ map (place_of tiles order.now) (range_with_len 0 (length order.now))) }
+        ≡ map (service_place tiles order.now) (range_with_len 0 (length order.now))) }
 {
     let mut counts = vec![in alloc; 0u32; tiles as usize]?;
     let mut places = Vec::new(alloc);
@@ -130,7 +130,7 @@ pub(crate) fn services_with<A: Allocator + Copy>(
     requires low { AreLow times.now }
     requires replies { told.now ≡ replies (operations_of order.now) (opening_of trace.now) }
     requires places { places.now
-        ≡ map (place_of tiles order.now) (range_with_len 0 (length order.now)) }
+        ≡ map (service_place tiles order.now) (range_with_len 0 (length order.now)) }
     requires waits { waits.now ≡ waits_of times.now order.now }
     ensures { IfOk result
         (λ services. services.items ≡ services_of trace.now tiles times.now order.now) }

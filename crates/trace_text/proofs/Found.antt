@@ -19,7 +19,7 @@ use Rattle.trace_judge.specs.declared.judge.Verdict.{Verdict}
 use Rattle.trace_judge.specs.declared.judge.Verdict.TheVariants.{Linearizable, No}
 use Rattle.trace_judge.specs.Verdicts.{Tells}
 use Rattle.trace_text.specs.declared.linearize.Unfound.{Unfound}
-use Rattle.trace_text.specs.Findings.{place_of, address_of, words_of, trace_read, unfound_at, IsUnfound}
+use Rattle.trace_text.specs.Findings.{place_of_address, address_of, words_of, trace_read, unfound_at, IsUnfound}
 use Rattle.trace_text.specs.Kept.{IsKept}
 use Rattle.trace_text.specs.Renumbered.{moved_call, moved_event, IsRenumbering}
 use Rattle.trace_text.specs.Traced.{Reading, opening_of, value_at}
@@ -33,7 +33,7 @@ read_is (y ∷ ys) (suc k) x d h = read_is ys k x d h
 
 -- the events with places
 abbrev pub moved : Reading → List Event
-moved r = map (moved_event (place_of r.places)) r.events
+moved r = map (moved_event (place_of_address r.places)) r.events
 
 -- the words with places
 abbrev pub others : Reading → List ℕ
@@ -42,12 +42,12 @@ others r = words_of r.inits r.addresses
 abbrev word_at : Reading → ℕ → ℕ
 word_at r a = unwrap_or (value_at r.inits a) 0
 
-place_is : (r : Reading) (a p : ℕ) → value_at r.places a ≡ Some p → place_of r.places a ≡ p
+place_is : (r : Reading) (a p : ℕ) → value_at r.places a ≡ Some p → place_of_address r.places a ≡ p
 place_is r a p h = ap (λ o. unwrap_or o 0) h
 
 -- places are numbers of their own
 pub renumbering : (r : Reading) → IsKept r
-    → IsRenumbering (place_of r.places) (address_of r.addresses) (opening_of (trace_read r)) (others r) r.events
+    → IsRenumbering (place_of_address r.places) (address_of r.addresses) (opening_of (trace_read r)) (others r) r.events
 renumbering r k = record {
   inside = λ i c h.
       let low = k.trace.inside i c h in
@@ -85,19 +85,19 @@ renumbering_take place back opening words trace n r = record {
 pub trace_moved : (r : Reading) → IsKept r → IsTrace (length (others r)) (moved r)
 trace_moved r k = record {
   rising = λ i j a b l h m.
-      let c = issue_back (place_of r.places) r.events i a h in
-      let d = issue_back (place_of r.places) r.events j b m in
+      let c = issue_back (place_of_address r.places) r.events i a h in
+      let d = issue_back (place_of_address r.places) r.events j b m in
       let low = k.trace.rising i j c.0 d.0 l c.1 d.1 in
       let e = ap (λ (x : Call). x.id) c.2 in
       let f = ap (λ (x : Call). x.id) d.2 in
       subst (λ (n : ℕ). n < b.id) e (subst (λ (n : ℕ). c.0.id < n) f low);
   issued = λ j id reply h.
-      let w = k.trace.issued j id reply (answer_back (place_of r.places) r.events j id reply h) in
-      (w.0, moved_call (place_of r.places) w.1, w.2, w.3, map_get (moved_event (place_of r.places)) r.events w.0 (Issue w.1) w.4);
+      let w = k.trace.issued j id reply (answer_back (place_of_address r.places) r.events j id reply h) in
+      (w.0, moved_call (place_of_address r.places) w.1, w.2, w.3, map_get (moved_event (place_of_address r.places)) r.events w.0 (Issue w.1) w.4);
   once = λ i j id s t h m.
-      k.trace.once i j id s t (answer_back (place_of r.places) r.events i id s h) (answer_back (place_of r.places) r.events j id t m);
+      k.trace.once i j id s t (answer_back (place_of_address r.places) r.events i id s h) (answer_back (place_of_address r.places) r.events j id t m);
   inside = λ i c h.
-      let b = issue_back (place_of r.places) r.events i c h in
+      let b = issue_back (place_of_address r.places) r.events i c h in
       let low = (renumbering r k).placed i b.0 b.1 in
       subst (λ (x : Call). x.operation.address < length (others r)) b.2 low;
 }
@@ -106,13 +106,13 @@ trace_moved r k = record {
 pub found_yes : (r : Reading) → IsKept r → (order : List Call) → IsOrder (others r) (moved r) order
     → IsOrder (opening_of (trace_read r)) r.events (map (moved_call (address_of r.addresses)) order)
 found_yes r k order o =
-    order_back (place_of r.places) (address_of r.addresses) (opening_of (trace_read r)) (others r) r.events (renumbering r k) order o
+    order_back (place_of_address r.places) (address_of r.addresses) (opening_of (trace_read r)) (others r) r.events (renumbering r k) order o
 
 -- beginnings are linearizable together
 beginning_back : (r : Reading) → IsKept r → (n : ℕ) → IsLinearizable (others r) (take n (moved r))
     → IsLinearizable (opening_of (trace_read r)) (take n r.events)
 beginning_back r k n is =
-    let place = place_of r.places in
+    let place = place_of_address r.places in
     let back = address_of r.addresses in
     let o : IsOrder (others r) (map (moved_event place) (take n r.events)) is.0 =
     subst (λ (t : List Event). IsOrder (others r) t is.0) (take_map (moved_event place) n r.events) is.1 in (
@@ -124,7 +124,7 @@ beginning_back r k n is =
 beginning_there : (r : Reading) → IsKept r → (n : ℕ) → IsLinearizable (opening_of (trace_read r)) (take n r.events)
     → IsLinearizable (others r) (take n (moved r))
 beginning_there r k n is =
-    let place = place_of r.places in
+    let place = place_of_address r.places in
     let back = address_of r.addresses in (
       map (moved_call place) is.0,
       subst (λ (t : List Event). IsOrder (others r) t (map (moved_call place) is.0))
@@ -147,13 +147,13 @@ pub found_no : (r : Reading) → IsKept r → (event : ℕ) → event < length (
     × IsLinearizable (opening_of (trace_read r)) (take e r.events)
     × (IsLinearizable (opening_of (trace_read r)) (take (e + 1) r.events) → ⊥)
 found_no r k event low good bad =
-    let sized = length-map r.events (moved_event (place_of r.places)) in
+    let sized = length-map r.events (moved_event (place_of_address r.places)) in
     (event, line_is r k event (omega arith), beginning_back r k event good, λ is. bad (beginning_there r k (event + 1) is))
 
 -- an answer of the events with places
 answer_in : (r : Reading) (event : ℕ) → IsAnAnswer (moved r) event → IsAnAnswer r.events event
 answer_in r event a =
-    (a.0, a.1, answer_back (place_of r.places) r.events event a.0 a.1 a.2)
+    (a.0, a.1, answer_back (place_of_address r.places) r.events event a.0 a.1 a.2)
 
 -- a crowd of the events with places
 pub crowd_in : (place back : ℕ → ℕ) (opening words : List ℕ) (trace : List Event) → IsRenumbering place back opening words trace → (event : ℕ)
@@ -208,7 +208,7 @@ unfound r k (undecided.Configurations event) u =
     let a = answer_in r event u in
     (event, line_is r k event (get_within r.events event (Answer a.0 a.1) a.2), a)
 unfound r k (undecided.Operations event) u =
-    let w = crowd_in (place_of r.places) (address_of r.addresses) (opening_of (trace_read r)) (others r) r.events (renumbering r k) event u in
+    let w = crowd_in (place_of_address r.places) (address_of r.addresses) (opening_of (trace_read r)) (others r) r.events (renumbering r k) event u in
     (event, line_is r k event (get_within r.events event (Issue w.another) w.issue), w)
 
 -- the same, of the words and the events that the judge was given

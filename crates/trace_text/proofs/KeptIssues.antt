@@ -13,7 +13,7 @@ use Rattle.trace_order.proofs.Lists.{get_push_cases, get_append_left, get_push, 
 use Rattle.script.specs.Form.{below, checked_word}
 use Rattle.trace_text.specs.declared.issued.Issued.{Issued}
 use Rattle.trace_text.specs.declared.form.Form.{Form}
-use Rattle.trace_text.specs.Form.{a_number, form_of, operation_of}
+use Rattle.trace_text.specs.Form.{a_number, form_of, form_operation}
 use Rattle.trace_text.specs.IssueNumbers.{numbers_of, with_number}
 use Rattle.trace_text.specs.Kept.{IsKept, IsKnownAs, AreIndexed}
 use Rattle.trace_text.specs.Traced.{Reading, value_at, with_value, with_issue, placed, after_issue_line}
@@ -145,7 +145,7 @@ placed_kept r next k a low h = ⊎_elim
     else Ok (record r { places = with_value r.places a (length r.addresses); addresses = r.addresses ++ a ∷ [] })) next h)
 
 -- a good operation is inside the memory
-inside_of : (words : ℕ) (form : Form) (o : Operation) → operation_of words form ≡ Ok o → o.address < words
+inside_of : (words : ℕ) (form : Form) (o : Operation) → form_operation words form ≡ Ok o → o.address < words
 inside_of words form o h =
     let low = bind_ok (below form.address words) _ o h in
     let first = bind_ok (checked_word form.first) _ o low.2 in
@@ -161,7 +161,7 @@ issue_line_kept r next k line (processor ∷ rest) h =
     let form = bind_ok (form_of rest) _ next p.2 in
     let given = else_ok (r.words == 0) fault.Setting _ next form.2 in
     let low = else_ok (not (nat_lt p.0 4096)) fault.Processor _ next given.1 in
-    let o = bind_ok (operation_of r.words form.0) _ next low.1 in
+    let o = bind_ok (form_operation r.words form.0) _ next low.1 in
     let room = else_ok (not (nat_lt (length r.issued) (2 ^ 22))) fault.Length _ next o.2 in
     let place = bind_ok (placed r o.0.address) _ next room.1 in
     let inside = inside_of r.words form.0 o.0 o.1 in

@@ -12,8 +12,8 @@ use Rattle.trace_text.specs.declared.linearize.Unfound.TheVariants.{Memory, Conf
 use Rattle.trace_text.specs.Traced.{Reading, TraceSpec, opening_of, value_at}
 
 -- the place of an address; 0 where it has none
-abbrev pub place_of : List (ℕ × ℕ) → ℕ → ℕ
-place_of places a = unwrap_or (value_at places a) 0
+abbrev pub place_of_address : List (ℕ × ℕ) → ℕ → ℕ
+place_of_address places a = unwrap_or (value_at places a) 0
 
 -- the address at a place; 0 where there is none
 abbrev pub address_of : List ℕ → ℕ → ℕ

@@ -63,8 +63,8 @@ form_of (keyword ∷ a ∷ x ∷ y ∷ z ∷ more) = Err fault.Line
 
 -- the operation of a form: the address is below the number of words, and each value is a word, from
 -- left to right
-abbrev pub operation_of : ℕ → Form → Result Operation Fault
-operation_of words form = below form.address words >>= λ _.
+abbrev pub form_operation : ℕ → Form → Result Operation Fault
+form_operation words form = below form.address words >>= λ _.
     checked_word form.first >>= λ first. checked_word form.second >>= λ second.
     Ok (record { address = form.address; op = op_with form.code first second })
 

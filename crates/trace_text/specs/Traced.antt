@@ -22,7 +22,7 @@ use Rattle.script.specs.declared.fault.LineFault.{LineFault}
 use Rattle.script.specs.Outcome.{◌>>=◌, then_lines}
 use Rattle.trace_text.specs.declared.form.Form.{Form}
 use Rattle.trace_text.specs.declared.issued.Issued.{Issued}
-use Rattle.trace_text.specs.Form.{a_number, form_of, operation_of, told_of, reply_of}
+use Rattle.trace_text.specs.Form.{a_number, form_of, form_operation, told_of, reply_of}
 use Rattle.trace_text.specs.IssueNumbers.{no_numbers, numbers_of, with_number}
 
 -- what stands at an address in a list of addresses with something each, addresses rising
@@ -150,7 +150,7 @@ abbrev pub after_issue : Reading → ℕ → ℕ → Form → Result Reading Fau
 after_issue r line p form =
     if r.words == 0 then Err fault.Setting
     else (if not (nat_lt p 4096) then Err fault.Processor
-    else (operation_of r.words form >>= add_issue r line p))
+    else (form_operation r.words form >>= add_issue r line p))
 
 abbrev pub after_issue_line : Reading → ℕ → List (List ℕ) → Result Reading Fault
 after_issue_line r line (processor ∷ rest) =

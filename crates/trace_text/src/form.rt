@@ -4,7 +4,7 @@ ghost use Rattle.std.specs.Prelude.{◌≡◌, ◌≤◌, ◌^◌, map};
 ghost use Rattle.packet.specs.Reading.{op_with};
 ghost use Rattle.script.specs.Form.{checked_word};
 ghost use Rattle.trace_text.specs.Form.{changed_by, form_of, two_words, three_words, four_words, told_of};
-ghost use Rattle.trace_text.specs.Form.{operation_of, reply_of};
+ghost use Rattle.trace_text.specs.Form.{form_operation, reply_of};
 
 use crate::number::a_number;
 use packet::{Code, Op, Operation, Reply};
@@ -149,7 +149,7 @@ impl Form {
     /// `Fault::Range` for a value of 2^64 or more.
     pub(crate) fn operation(self, words: u64) -> Result<Operation, Fault>
         requires { words ≤ 2 ^ 32 }
-        ensures { result ≡ operation_of words self }
+        ensures { result ≡ form_operation words self }
     {
         if self.address >= u128::from(words) {
             return Err(Fault::Address);

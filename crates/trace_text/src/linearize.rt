@@ -5,7 +5,7 @@ ghost use Rattle.std.specs.List.{slice_index_or};
 ghost use Rattle.packet.specs.declared.kinds.Reply.{Reply};
 ghost use Rattle.trace_order.specs.Traces.{IsAnsweredAt};
 ghost use Rattle.trace_text.specs.Allowed.{IsAllowed, trace_answered_so};
-ghost use Rattle.trace_text.specs.Findings.{Tells, IsUnfound, trace_read, place_of, address_of, words_of, unfound_at};
+ghost use Rattle.trace_text.specs.Findings.{Tells, IsUnfound, trace_read, place_of_address, address_of, words_of, unfound_at};
 ghost use Rattle.trace_text.specs.Kept.{IsKept};
 ghost use Rattle.trace_text.specs.Renumbered.{moved_call, moved_event};
 ghost use Rattle.trace_text.specs.Traced.{value_at, opening_of};
@@ -41,7 +41,7 @@ pub enum Unfound {
 
 /// The place of an address, 0 where it has none.
 fn place_of<A: Allocator>(places: &BTreeMap<u32, u32, A>, address: u32) -> u32
-    ensures { result ≡ place_of places.now.entries address }
+    ensures { result ≡ place_of_address places.now.entries address }
 {
     places.get(&address).copied().unwrap_or(0)
 }
@@ -62,7 +62,7 @@ fn address_at(addresses: &[u32], place: u32) -> u32
 
 /// An event with the place of its address.
 fn moved<A: Allocator>(places: &BTreeMap<u32, u32, A>, event: Event) -> Event
-    ensures { result ≡ moved_event (place_of places.now.entries) event }
+    ensures { result ≡ moved_event (place_of_address places.now.entries) event }
 {
     match event {
         Event::Issue(call) => Event::Issue(Call {
@@ -83,7 +83,7 @@ fn moved_events<A: Allocator + Copy>(
     events: &[Event],
 ) -> Result<Vec<Event, A>, AllocError>
     ensures { IfOk result
-        (λ v. v.items ≡ map (moved_event (place_of places.now.entries)) events.now) }
+        (λ v. v.items ≡ map (moved_event (place_of_address places.now.entries)) events.now) }
 {
     let mut all = Vec::new(alloc);
     for i in 0..events.len() {

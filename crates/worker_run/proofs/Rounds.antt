@@ -9,7 +9,7 @@ use Rattle.torus.specs.declared.step.Step.{Step}
 use Rattle.torus.specs.declared.step.Choice.{Choice}
 use Rattle.torus.specs.declared.step.Choice.TheVariants.{TakeFrom, Put, CreditOf}
 use Rattle.fabric.specs.core_laws.specs.Core.{attempts_of, round_at}
-use Rattle.worker_run.specs.Places.{processor_choices, router_choices, bank_choices}
+use Rattle.torus.specs.Choices.{processor_choices, router_choices, bank_choices}
 
 -- an element of the first list stands in both together, and one of the second stands behind it
 front : {X : Type 0} (xs ys : List X) (i : ℕ) (x : X) → slice_get xs i ≡ Some x → slice_get (xs ++ ys) i ≡ Some x

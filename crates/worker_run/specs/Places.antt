@@ -7,20 +7,6 @@ use Rattle.fabric.specs.fabric_rule.specs.Groups.{Owns}
 use Rattle.fabric.specs.Asking.{IsNextTile}
 use Rattle.worker_run.specs.declared.place.Place.{Place}
 
--- the choices of a tile's agents in the order of a round, where the router has so many ports (this
--- project's own format)
-abbrev pub processor_choices : List Choice
-processor_choices = Send ∷ Take ∷ Credit ∷ Done ∷ Look ∷ []
-
-abbrev pub router_choices : ℕ → List Choice
-router_choices ports =
-    map (λ i. TakeFrom i) (range_with_len 0 ports)
-    ++ map (λ i. Put i) (range_with_len 0 ports)
-    ++ map (λ o. CreditOf o) (range_with_len 0 ports)
-
-abbrev pub bank_choices : List Choice
-bank_choices = Take ∷ Serve ∷ Send ∷ Credit ∷ []
-
 -- how many choices the agents of a tile have, whose router has so many ports (this project's own
 -- format)
 abbrev pub choice_count : ℕ → ℕ

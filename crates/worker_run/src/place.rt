@@ -2,7 +2,8 @@ ghost use Rattle.std.specs.Prelude.{◌≡◌, ◌<◌, ◌≤◌, ◌+◌, ◌*
 ghost use Rattle.torus.specs.Shape.{dims_of};
 ghost use Rattle.channel_number.specs.Ports.{port_count};
 ghost use Rattle.fabric.specs.core_laws.specs.Core.{round_at};
-ghost use Rattle.worker_run.specs.Places.{EndsPass, IsWithin, Follows, IsFirst, processor_choices, router_choices, bank_choices};
+ghost use Rattle.torus.specs.Choices.{processor_choices, router_choices, bank_choices};
+ghost use Rattle.worker_run.specs.Places.{EndsPass, IsWithin, Follows, IsFirst};
 
 use fabric::seats::TileSeat;
 use std::alloc::Allocator;

@@ -7,7 +7,7 @@ use Rattle.trace_order.specs.declared.event.Call.{Call}
 use Rattle.trace_order.specs.Orders.{operations_of}
 use Rattle.trace_text.specs.Traced.{opening_of}
 use Rattle.trace_report.specs.Numbers.{issues_of, IsRising}
-use Rattle.trace_report.specs.Services.{place_of, service_of}
+use Rattle.trace_report.specs.Services.{service_place, service_of}
 use Rattle.trace_report.proofs.Growing.{image_more, service_is}
 use Rattle.trace_report.proofs.Numbered.{waits_count}
 use Rattle.trace_report.proofs.Waits.{wait_most}
@@ -39,7 +39,7 @@ bounds-places-i g c =
     omega (
       arith,
       ap length c.requires.places,
-      length-map-range_with_len (place_of c.args.tiles c.args.order.now) 0 (length c.args.order.now),
+      length-map-range_with_len (service_place c.args.tiles c.args.order.now) 0 (length c.args.order.now),
     )
 
 pub service-made-requires-clause-rising : goal.service-made-requires-clause-rising

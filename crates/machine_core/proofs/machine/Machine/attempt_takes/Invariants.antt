@@ -1,7 +1,7 @@
 use Rattle.std.proofs.Common.{◌≡◌, ◌+◌, ◌*◌}
 use Rattle.machine_wake.specs.core_laws.specs.Core.{attempts_of}
 use Rattle.machine_wake.specs.core_machine.specs.Core.{core_after}
-use Rattle.machine_core.specs.Rounds.{takes_of_all}
+use Rattle.torus.specs.Choices.{takes_of_all}
 use Rattle.machine_core.proofs.machine.Machine.attempt_takes.Given as goal
 
 -- the ports so far are attempted

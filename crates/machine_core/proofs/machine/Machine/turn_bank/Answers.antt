@@ -1,7 +1,7 @@
 use Rattle.std.proofs.Common.{◌≡◌, ◌+◌, ◌*◌, sym, ◌∙◌, subst, arith}
 use Rattle.machine_wake.specs.core_laws.specs.Core.{attempts_of}
 use Rattle.machine_wake.specs.core_machine.specs.Core.{Core, core_after}
-use Rattle.machine_core.specs.Rounds.{bank_choices}
+use Rattle.torus.specs.Choices.{bank_choices}
 use Rattle.machine_core.proofs.Standing.{few_tiles}
 use Rattle.machine_core.proofs.Agents.{tile_within}
 use Rattle.machine_core.proofs.Sleeping.{of_bank, slept, falls_asleep}

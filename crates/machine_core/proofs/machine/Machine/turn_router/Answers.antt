@@ -1,7 +1,7 @@
 use Rattle.std.proofs.Common.{◌≡◌, ◌+◌, ◌*◌, sym, ◌∙◌, subst, arith}
 use Rattle.machine_wake.specs.core_laws.specs.Core.{attempts_of}
 use Rattle.machine_wake.specs.core_machine.specs.Core.{Core, core_after}
-use Rattle.machine_core.specs.Rounds.{router_choices, takes_of_all, puts_of_all}
+use Rattle.torus.specs.Choices.{router_choices, takes_of_all, puts_of_all}
 use Rattle.machine_core.proofs.Standing.{few_tiles}
 use Rattle.machine_core.proofs.Agents.{tile_within}
 use Rattle.machine_core.proofs.Rounds.{router_parts, tile_stays}

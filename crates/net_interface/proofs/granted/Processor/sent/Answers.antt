@@ -1,6 +1,6 @@
 use Rattle.std.proofs.Common.{◌+◌, [], arith, refl}
 use Rattle.script_follower.specs.ProcessorRecord.{ready}
-use Rattle.net_interface.specs.Inside.{place_of, flits_in_course}
+use Rattle.net_interface.specs.Inside.{processor_place_of, flits_in_course}
 use Rattle.net_interface.proofs.Course.{some_due, put_within, left_more, left_none, sent_place}
 use Rattle.net_interface.proofs.granted.Processor.sent.Goals as goal
 
@@ -9,7 +9,7 @@ overflow_add-self-inside g c =
     let s = c.self.inside in
     let is = c.self.invariant in
     let low = put_within s.tiles s.words s.tile s.put s.flits.items s.operations is.flits is.left
-    (some_due (place_of s) c.args.self.now c.self.view_is c.requires) in
+    (some_due (processor_place_of s) c.args.self.now c.self.view_is c.requires) in
     omega (arith, low, c.len-count.ensures)
 
 pub invariant_of-self-else-self-count : goal.invariant_of-self-else-self-count
@@ -31,15 +31,15 @@ pub returns-then-self-count : goal.returns-then-self-count
 returns-then-self-count g c =
     let s = c.self.inside in
     let is = c.self.invariant in
-    rw (← c.self.view_is) (sent_place (place_of s) c.begin.new.operations (flits_in_course (s.put + 1) s.flits.items) s.put s.flits.items refl is.left
+    rw (← c.self.view_is) (sent_place (processor_place_of s) c.begin.new.operations (flits_in_course (s.put + 1) s.flits.items) s.put s.flits.items refl is.left
     (c.begin.ensures s.tiles s.words s.tile)
-    (left_more s.tiles s.words s.tile s.put s.flits.items s.operations is.flits is.left (some_due (place_of s) c.args.self.now c.self.view_is c.requires)))
+    (left_more s.tiles s.words s.tile s.put s.flits.items s.operations is.flits is.left (some_due (processor_place_of s) c.args.self.now c.self.view_is c.requires)))
 
 pub returns-else-self-count : goal.returns-else-self-count
 returns-else-self-count g c =
     let s = c.self.inside in
     let is = c.self.invariant in
-    rw (← c.self.view_is) (sent_place (place_of s) c.begin.new.operations [] s.put s.flits.items refl is.left
+    rw (← c.self.view_is) (sent_place (processor_place_of s) c.begin.new.operations [] s.put s.flits.items refl is.left
     (c.begin.ensures s.tiles s.words s.tile)
-    (left_none s.tiles s.words s.tile s.put s.flits.items s.operations is.flits is.left (some_due (place_of s) c.args.self.now c.self.view_is c.requires)
+    (left_none s.tiles s.words s.tile s.put s.flits.items s.operations is.flits is.left (some_due (processor_place_of s) c.args.self.now c.self.view_is c.requires)
     (omega (arith, c.len-count.ensures, c.if-self-count.false))))

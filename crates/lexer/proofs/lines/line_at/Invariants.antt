@@ -1,7 +1,7 @@
 use Rattle.std.proofs.Common.{◌≡◌, ◌+◌, ◌≤◌, length}
 use Rattle.std.specs.Str.Lines.{lines}
-use Rattle.fault_reasons.specs.Before.{line_at}
-use Rattle.fault_reasons.proofs.before.line_at.Given as goal
+use Rattle.lexer.specs.Words.{line_at}
+use Rattle.lexer.proofs.lines.line_at.Given as goal
 
 abbrev pub decreases-loop-line : goal.decreases-loop-line
 decreases-loop-line l = length l.rest
