@@ -11,7 +11,7 @@ use crate::before::number;
 use crate::machine::explained;
 use crate::operation::{Operation, made};
 use crate::reason::Reason;
-use lexer::{first_words, line_at, index, next_line};
+use lexer::{first_words, index, line_at, next_line};
 use torus::Fault;
 
 /// Why a script text, read for a machine of so many tiles and words, has a fault at a line, as

@@ -11,7 +11,7 @@ ghost use Rattle.fault_reasons.specs.Steps.{step_words_wrong, steps_wrong};
 use crate::before::number;
 use crate::machine::explained;
 use crate::reason::{Agent, Reason};
-use lexer::{first_words, line_at, index};
+use lexer::{first_words, index, line_at};
 use torus::Fault;
 
 /// Why a steps text, read for a machine of so many tiles (at most 64) and dimensions (at most 3), has

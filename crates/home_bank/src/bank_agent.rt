@@ -1,7 +1,7 @@
 //! The bank of a tile, as an agent.
 
 ghost use Rattle.std.specs.Prelude.{◌≡◌, ◌<◌, ◌≤◌, ◌↔◌, ◌*◌, length, IsTrue, IfOk, IfSome, IsSome, MatchOption};
-ghost use Rattle.std.specs.Prelude.{vec_len, slice_index, Some, is_some, ◌+◌, ◌-◌, OnOk, OnErr};
+ghost use Rattle.std.specs.Prelude.{vec_len, slice_index, Some, is_some, ◌+◌, ◌-◌};
 ghost use Rattle.torus.specs.Shape.{tiles_of};
 ghost use Rattle.torus.specs.declared.step.Choice.TheVariants as choice;
 ghost use Rattle.torus.specs.declared.step.Stepped.TheVariants as stepped;
@@ -11,17 +11,14 @@ ghost use Rattle.flit_buffer.specs.Words.{word_of};
 ghost use Rattle.flit_buffer.specs.Wants.{HasPort};
 ghost use Rattle.flit_buffer.specs.declared.want.Want.{Want};
 ghost use Rattle.flit_buffer.specs.declared.want.Want.TheVariants as wants_to;
-ghost use Rattle.channel_number.specs.dateline_route.specs.Walk.{IsChannel};
-ghost use Rattle.channel_number.specs.Order.{channel_index};
 ghost use Rattle.home_bank.specs.BankTable.{bank_wants, bank_after, served};
-ghost use Rattle.home_bank.specs.BankAgent.{NamesWord, IsAcceptable, HasRoom, with_agent, with_room};
+ghost use Rattle.home_bank.specs.BankAgent.{NamesWord, IsAcceptable, HasRoom, with_agent};
 ghost use Rattle.home_bank.specs.Beginning.{empty_bank, new_ports};
 
+use crate::ServiceList;
 use crate::flits_left::FlitsLeft;
 use crate::start::new_ports;
-use crate::{Entry, ServiceList};
-use channel_number::{Channel, Kind, channel_count, channel_index};
-use flit_buffer::{Ports, Receiver, Sender, Want, WordOp};
+use flit_buffer::{Ports, Want, WordOp};
 use packet::{Assembler, Head, Offered, Packet, Request, apply, flits, head};
 use std::alloc::{AllocError, Allocator, Global};
 use std::marker::Model;

@@ -1,31 +1,11 @@
 //! What the bank of a tile shows, and its room for entries.
 
-ghost use Rattle.std.specs.Prelude.{◌≡◌, ◌<◌, ◌≤◌, ◌↔◌, ◌*◌, length, IsTrue, IfOk, IfSome, IsSome, MatchOption};
-ghost use Rattle.std.specs.Prelude.{vec_len, slice_index, Some, is_some, ◌+◌, ◌-◌, OnOk, OnErr};
-ghost use Rattle.torus.specs.Shape.{tiles_of};
-ghost use Rattle.torus.specs.declared.step.Choice.TheVariants as choice;
-ghost use Rattle.torus.specs.declared.step.Stepped.TheVariants as stepped;
-ghost use Rattle.flit_buffer.specs.Agent.{next_op, absorbed, attempted};
-ghost use Rattle.flit_buffer.specs.Tries.{performed_by};
-ghost use Rattle.flit_buffer.specs.Words.{word_of};
-ghost use Rattle.flit_buffer.specs.Wants.{HasPort};
-ghost use Rattle.flit_buffer.specs.declared.want.Want.{Want};
-ghost use Rattle.flit_buffer.specs.declared.want.Want.TheVariants as wants_to;
-ghost use Rattle.channel_number.specs.dateline_route.specs.Walk.{IsChannel};
-ghost use Rattle.channel_number.specs.Order.{channel_index};
-ghost use Rattle.home_bank.specs.BankTable.{bank_wants, bank_after, served};
-ghost use Rattle.home_bank.specs.BankAgent.{NamesWord, IsAcceptable, HasRoom, with_agent, with_room};
-ghost use Rattle.home_bank.specs.Beginning.{empty_bank, new_ports};
+ghost use Rattle.std.specs.Prelude.{◌≡◌, ◌<◌, ◌≤◌, ◌↔◌, length, IsTrue, ◌+◌, ◌-◌, OnOk, OnErr};
+ghost use Rattle.home_bank.specs.BankAgent.{with_room};
 
-use crate::flits_left::FlitsLeft;
-use crate::{Entry, ServiceList};
-use channel_number::{Channel, Kind, channel_count, channel_index};
-use flit_buffer::{Ports, Receiver, Sender, Want, WordOp};
-use packet::{Assembler, Head, Offered, Packet, Request, apply, flits, head};
-use std::alloc::{AllocError, Allocator, Global};
-use std::marker::Model;
-use torus::{Choice, Class, Stepped, Torus};
+use crate::Entry;
 use crate::bank_agent::BankAgent;
+use std::alloc::{AllocError, Allocator};
 
 impl<A: Allocator> BankAgent<A> {
     /// The tile whose bank it is.

@@ -1,10 +1,10 @@
 //! The processor of a tile, as an agent.
 #![tactic(auto)]
 
-pub mod laws;
-pub mod processor;
 mod granted;
 mod growing;
+pub mod laws;
+pub mod processor;
 mod record;
 mod requests;
 mod shown;

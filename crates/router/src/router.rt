@@ -14,17 +14,17 @@ ghost use Rattle.channel_number.specs.Ports.{port_count, output_number};
 ghost use Rattle.router.specs.Beginning.{new_ports};
 ghost use Rattle.router.specs.Table.{empty_router, output_for, router_wants, router_after, IsRoutable, NamesTile};
 ghost use Rattle.router.specs.Table.{with_agent};
-ghost use Rattle.router.specs.Ways.{onward, HasDimension};
+ghost use Rattle.router.specs.Ways.{onward};
 
 use crate::outputs::{onward, output_number};
 use crate::owners::Owners;
 use crate::start::new_ports;
 use dateline_route::{Input, Output, next};
 use flit_buffer::{Ports, Want, WordOp};
-use packet::{Head, head, is_tail};
+use packet::{head, is_tail};
 use std::alloc::{AllocError, Allocator, Global};
 use std::marker::Model;
-use torus::{Choice, Class, Dir, Stepped, Torus};
+use torus::{Choice, Class, Stepped, Torus};
 
 /// The router of a tile: a latch for each input, the output that each input owns, and the ends of
 /// the channels at its inputs and outputs.
