@@ -1,11 +1,10 @@
 -- Who has reported, and agents that don't see a further line.
-use Rattle.std.proofs.Common.{◌≡◌, ◌≢◌, ℕ, zero, suc, ◌*◌, ◌/◌, ◌%◌, ◌<◌, Bool, true, false, List, [], ◌∷◌, map, length, Option, Some, None, refl, sym, ◌∙◌}
+use Rattle.std.proofs.Common.{◌≡◌, ◌≢◌, ℕ, zero, suc, ◌<◌, Bool, true, false, List, [], ◌∷◌, map, length, Option, Some, None, refl, sym, ◌∙◌}
 use Rattle.std.proofs.Common.{ap, subst, arith, slice_get, slice_set, inl, inr}
 use Rattle.std.specs.Prelude.{option_and_then, option_map}
 use Rattle.std.proofs.lemmas.Bool.{cases_eq}
 use Rattle.std.proofs.lemmas.Option.{same_Some}
 use Rattle.std.proofs.lemmas.List.{take_all}
-use Rattle.std.proofs.Math.Nat.{div-add-mod}
 use Rattle.torus.specs.Shape.{tiles_of, dims_of}
 use Rattle.torus.specs.declared.step.Step.{Step}
 use Rattle.torus.specs.declared.step.Choice.{Choice}
@@ -18,8 +17,12 @@ use Rattle.core_moves.specs.script_follower.specs.ProcessorTable.{ProcessorState
 use Rattle.router.specs.Table.{RouterState}
 use Rattle.home_bank.specs.BankTable.{BankState}
 use Rattle.core_moves.specs.tile_laws.specs.Wiring.{processor_wiring}
-use Rattle.core_moves.specs.tile_laws.specs.Tile.{Design, TileState, Agent, Processor, Router, Bank, tile_step}
-use Rattle.core_moves.specs.core_laws.specs.Core.{Load, State, first_state, first_tile, step, or_same, next, after, after_from, agent_numbered, design_of}
+use Rattle.core_moves.specs.tile_laws.specs.declared.agent.Agent.{Agent}
+use Rattle.core_moves.specs.tile_laws.specs.declared.agent.Agent.TheVariants.{Processor, Router, Bank}
+use Rattle.core_moves.specs.tile_laws.specs.Tile.{Design, TileState, tile_step}
+use Rattle.core_moves.specs.tile_laws.specs.Agents.{agent_number, agent_kind, agent_tile}
+use Rattle.core_moves.specs.tile_laws.proofs.AgentNumbers.{number_is}
+use Rattle.core_moves.specs.core_laws.specs.Core.{Load, State, first_state, first_tile, step, or_same, next, after, after_from, design_of}
 use Rattle.core_moves.specs.core_laws.specs.Reports.{CountsReports}
 use Rattle.core_moves.specs.core_laws.proofs.AgentSteps.{did, option_map_some}
 use Rattle.core_moves.specs.core_laws.proofs.Reached.{reports_counted}
@@ -66,19 +69,6 @@ unfinished_unreported l c steps p tile h there goes_on =
       unreported = bool_false tile.processor.reported (λ e. let ended = counted.finished p tile there e in absurd (cc));
     }
 
--- the processor of tile p is agent 3p
-numbered_processor : (k : ℕ) → agent_numbered k ≡ Processor → k ≡ 0
-numbered_processor zero h = refl
-numbered_processor (suc zero) h = absurd (cc)
-numbered_processor (suc (suc k)) h = absurd (cc)
-
-is_processor : (n p : ℕ) → n / 3 ≡ p → agent_numbered (n % 3) ≡ Processor → n ≡ 3 * p
-is_processor n p here is =
-    let rest : n % 3 ≡ 0 = numbered_processor (n % 3) is in
-    let whole = div-add-mod n 3 in
-    let same : 3 * (n / 3) ≡ 3 * p = ap (λ (k : ℕ). 3 * k) here in
-    omega (arith, rest, whole, same)
-
 -- a choice but Done leaves the mark
 mark_stays : (tiles words t : ℕ) (p : ProcessorState) (c : Choice) (w : Want) (learned : ℕ) → (c ≡ choice.Done → ⊥)
     → (processor_after tiles words t p c w learned).reported ≡ p.reported
@@ -108,51 +98,51 @@ module _ (d : Design) (s : State) (attempt : Step) where
   made ts a = record { tiles = ts; around = a }
 
   abbrev left : List TileState → TileState × Surroundings → State
-  left tiles q = record { tiles = slice_set tiles (attempt.agent / 3) q.0; around = q.1 }
+  left tiles q = record { tiles = slice_set tiles (agent_tile attempt.agent) q.0; around = q.1 }
 
   abbrev stepped : List TileState → Option TileState → Option State
   stepped tiles o =
       option_and_then
       (λ (v : TileState). option_map (left tiles)
-      (tile_step d (attempt.agent / 3) v s.around (agent_numbered (attempt.agent % 3)) attempt.choice)) o
+      (tile_step d (agent_tile attempt.agent) v s.around (agent_kind attempt.agent) attempt.choice)) o
 
   unreported_left : (p : ℕ) (tile : TileState) (q : TileState × Surroundings)
-      → slice_get s.tiles (attempt.agent / 3) ≡ Some tile
-      → tile_step d (attempt.agent / 3) tile s.around (agent_numbered (attempt.agent % 3)) attempt.choice ≡ Some q
+      → slice_get s.tiles (agent_tile attempt.agent) ≡ Some tile
+      → tile_step d (agent_tile attempt.agent) tile s.around (agent_kind attempt.agent) attempt.choice ≡ Some q
       → IsNoReport p attempt
       → IsUnreported s p → IsUnreported (left s.tiles q) p
-  unreported_left p tile q there is apart un = elim (cases_eq (attempt.agent / 3) p) [
+  unreported_left p tile q there is apart un = elim (cases_eq (agent_tile attempt.agent) p) [
     | inl same ↦
         let here : tile ≡ un.tile = same_Some tile un.tile (sym there ∙ (ap (slice_get s.tiles) same ∙ un.there)) in
         let stays =
-        tile_stays d (attempt.agent / 3) tile s.around (agent_numbered (attempt.agent % 3)) attempt.choice q is
-        (λ e. apart (is_processor attempt.agent p same e)) in
+        tile_stays d (agent_tile attempt.agent) tile s.around (agent_kind attempt.agent) attempt.choice q is
+        (λ e. apart (number_is attempt.agent p Processor same e)) in
         record {
           tile = q.0;
-          there = subst (λ (k : ℕ). slice_get (slice_set s.tiles (attempt.agent / 3) q.0) k ≡ Some q.0) same
-              (written_same s.tiles (attempt.agent / 3) tile q.0 there);
+          there = subst (λ (k : ℕ). slice_get (slice_set s.tiles (agent_tile attempt.agent) q.0) k ≡ Some q.0) same
+              (written_same s.tiles (agent_tile attempt.agent) tile q.0 there);
           unreported = stays ∙ (ap (λ (t : TileState). t.processor.reported) here ∙ un.unreported);
         }
     | inr other ↦ record {
       tile = un.tile;
-      there = written_other s.tiles p (attempt.agent / 3) q.0 other ∙ un.there;
+      there = written_other s.tiles p (agent_tile attempt.agent) q.0 other ∙ un.there;
       unreported = un.unreported;
     }
   ]
 
-  unreported_by : (p : ℕ) (t : State) (o : Option TileState) → slice_get s.tiles (attempt.agent / 3) ≡ o
+  unreported_by : (p : ℕ) (t : State) (o : Option TileState) → slice_get s.tiles (agent_tile attempt.agent) ≡ o
       → stepped s.tiles o ≡ Some t → IsNoReport p attempt
       → IsUnreported s p → IsUnreported t p
   unreported_by p t None there h apart un = absurd (cc)
   unreported_by p t (Some tile) there h apart un =
       let x = option_map_some (left s.tiles)
-      (tile_step d (attempt.agent / 3) tile s.around (agent_numbered (attempt.agent % 3)) attempt.choice) t h in
+      (tile_step d (agent_tile attempt.agent) tile s.around (agent_kind attempt.agent) attempt.choice) t h in
       subst (λ (u : State). IsUnreported u p) x.2 (unreported_left p tile x.0 there x.1 apart un)
 
   -- a step but its Done leaves a processor unreported
   pub unreported_step : (p : ℕ) (t : State) → step d s attempt ≡ Some t → IsNoReport p attempt → IsUnreported s p
       → IsUnreported t p
-  unreported_step p t h apart un = unreported_by p t (slice_get s.tiles (attempt.agent / 3)) refl h apart un
+  unreported_step p t h apart un = unreported_by p t (slice_get s.tiles (agent_tile attempt.agent)) refl h apart un
 
   unreported_same : (p : ℕ) (o : Option State) → step d s attempt ≡ o → IsNoReport p attempt → IsUnreported s p
       → IsUnreported (or_same s o) p
@@ -164,60 +154,60 @@ module _ (d : Design) (s : State) (attempt : Step) where
 
   -- agents but processor p step as without the line
   module _ (line : Line) where
-    map_other : (p : ℕ) (o : Option (TileState × Surroundings)) → (attempt.agent / 3 ≡ p → ⊥)
+    map_other : (p : ℕ) (o : Option (TileState × Surroundings)) → (agent_tile attempt.agent ≡ p → ⊥)
         → option_map (left (changed_at (tile_with line) s.tiles p)) o
         ≡ option_map (λ (t : State). state_with t p line) (option_map (left s.tiles) o)
     map_other p None apart = refl
     map_other p (Some q) apart =
         ap (λ (ts : List TileState). Some (made ts q.1))
-        (set_other (tile_with line) s.tiles p (attempt.agent / 3) q.0 apart)
+        (set_other (tile_with line) s.tiles p (agent_tile attempt.agent) q.0 apart)
 
     map_this : (o : Option (TileState × Surroundings))
-        → option_map (left (changed_at (tile_with line) s.tiles (attempt.agent / 3)))
-        (option_map (pair_with d (attempt.agent / 3) line) o)
-        ≡ option_map (λ (t : State). state_with t (attempt.agent / 3) line) (option_map (left s.tiles) o)
+        → option_map (left (changed_at (tile_with line) s.tiles (agent_tile attempt.agent)))
+        (option_map (pair_with d (agent_tile attempt.agent) line) o)
+        ≡ option_map (λ (t : State). state_with t (agent_tile attempt.agent) line) (option_map (left s.tiles) o)
     map_this None = refl
     map_this (Some q) =
-        ap (λ (ts : List TileState). Some (made ts q.1)) (set_same (tile_with line) s.tiles (attempt.agent / 3) q.0)
+        ap (λ (ts : List TileState). Some (made ts q.1)) (set_same (tile_with line) s.tiles (agent_tile attempt.agent) q.0)
 
-    at_other : (p : ℕ) (o : Option TileState) → (attempt.agent / 3 ≡ p → ⊥)
+    at_other : (p : ℕ) (o : Option TileState) → (agent_tile attempt.agent ≡ p → ⊥)
         → stepped (changed_at (tile_with line) s.tiles p) o
         ≡ option_map (λ (t : State). state_with t p line) (stepped s.tiles o)
     at_other p None apart = refl
     at_other p (Some v) apart =
-        map_other p (tile_step d (attempt.agent / 3) v s.around (agent_numbered (attempt.agent % 3)) attempt.choice)
+        map_other p (tile_step d (agent_tile attempt.agent) v s.around (agent_kind attempt.agent) attempt.choice)
         apart
 
-    at_this : (o : Option TileState) → (agent_numbered (attempt.agent % 3) ≡ Processor → ⊥)
-        → stepped (changed_at (tile_with line) s.tiles (attempt.agent / 3)) (option_map (tile_with line) o)
-        ≡ option_map (λ (t : State). state_with t (attempt.agent / 3) line) (stepped s.tiles o)
+    at_this : (o : Option TileState) → (agent_kind attempt.agent ≡ Processor → ⊥)
+        → stepped (changed_at (tile_with line) s.tiles (agent_tile attempt.agent)) (option_map (tile_with line) o)
+        ≡ option_map (λ (t : State). state_with t (agent_tile attempt.agent) line) (stepped s.tiles o)
     at_this None apart = refl
     at_this (Some v) apart =
-        ap (option_map (left (changed_at (tile_with line) s.tiles (attempt.agent / 3))))
-        (other_agent d (attempt.agent / 3) line v s.around (agent_numbered (attempt.agent % 3)) attempt.choice
+        ap (option_map (left (changed_at (tile_with line) s.tiles (agent_tile attempt.agent))))
+        (other_agent d (agent_tile attempt.agent) line v s.around (agent_kind attempt.agent) attempt.choice
         apart)
-        ∙ map_this (tile_step d (attempt.agent / 3) v s.around (agent_numbered (attempt.agent % 3)) attempt.choice)
+        ∙ map_this (tile_step d (agent_tile attempt.agent) v s.around (agent_kind attempt.agent) attempt.choice)
 
-    this_tile : (agent_numbered (attempt.agent % 3) ≡ Processor → ⊥)
-        → step d (state_with s (attempt.agent / 3) line) attempt
-        ≡ option_map (λ (t : State). state_with t (attempt.agent / 3) line) (step d s attempt)
+    this_tile : (agent_kind attempt.agent ≡ Processor → ⊥)
+        → step d (state_with s (agent_tile attempt.agent) line) attempt
+        ≡ option_map (λ (t : State). state_with t (agent_tile attempt.agent) line) (step d s attempt)
     this_tile apart =
-        ap (stepped (changed_at (tile_with line) s.tiles (attempt.agent / 3)))
-        (get_map (tile_with line) s.tiles (attempt.agent / 3))
-        ∙ at_this (slice_get s.tiles (attempt.agent / 3)) apart
+        ap (stepped (changed_at (tile_with line) s.tiles (agent_tile attempt.agent)))
+        (get_map (tile_with line) s.tiles (agent_tile attempt.agent))
+        ∙ at_this (slice_get s.tiles (agent_tile attempt.agent)) apart
 
-    pub others_step : (p : ℕ) → attempt.agent ≢ 3 * p
+    pub others_step : (p : ℕ) → attempt.agent ≢ agent_number p Processor
         → step d (state_with s p line) attempt ≡ option_map (λ (t : State). state_with t p line) (step d s attempt)
-    others_step p apart = elim (cases_eq (attempt.agent / 3) p) [
+    others_step p apart = elim (cases_eq (agent_tile attempt.agent) p) [
       | inl same ↦ subst
-          (λ (k : ℕ). (attempt.agent ≢ 3 * k)
+          (λ (k : ℕ). (attempt.agent ≢ agent_number k Processor)
           → step d (state_with s k line) attempt ≡ option_map (λ (t : State). state_with t k line) (step d s attempt))
           same
-          (λ away. this_tile (λ e. away (is_processor attempt.agent (attempt.agent / 3) refl e))) apart
+          (λ away. this_tile (λ e. away (number_is attempt.agent (agent_tile attempt.agent) Processor refl e))) apart
       | inr other ↦
           ap (stepped (changed_at (tile_with line) s.tiles p))
-          (get_other (tile_with line) s.tiles p (attempt.agent / 3) other)
-          ∙ at_other p (slice_get s.tiles (attempt.agent / 3)) other
+          (get_other (tile_with line) s.tiles p (agent_tile attempt.agent) other)
+          ∙ at_other p (slice_get s.tiles (agent_tile attempt.agent)) other
     ]
 
 -- and a list of steps without its Done

@@ -1,6 +1,6 @@
 -- A step of a machine that is handed a line: where it is enabled without the line, it is enabled with it, leaves the
 -- same but for the line, and is the same event.
-use Rattle.std.proofs.Common.{◌≡◌, ℕ, ◌/◌, ◌%◌, false, List, Option, Some, None, refl, sym, ◌∙◌, ap, subst, slice_get, slice_set, slice_index_or, inl, inr}
+use Rattle.std.proofs.Common.{◌≡◌, ℕ, false, List, Option, Some, None, refl, sym, ◌∙◌, ap, subst, slice_get, slice_set, slice_index_or, inl, inr}
 use Rattle.std.specs.Prelude.{option_and_then, option_map}
 use Rattle.std.proofs.lemmas.Option.{same_Some}
 use Rattle.std.proofs.lemmas.Bool.{cases_eq}
@@ -10,8 +10,10 @@ use Rattle.one_order.specs.Events.{Served, Answered}
 use Rattle.flit_buffer.specs.Surroundings.{Surroundings}
 use Rattle.core_moves.specs.script_follower.specs.ProcessorRecord.{ProcessorRecord, no_processor, index_of, operation_under, answer_of, record_with}
 use Rattle.core_moves.specs.order_abstract.specs.Flight.{Move, Sends, Serves, Takes, event_by}
-use Rattle.core_moves.specs.tile_laws.specs.Tile.{Design, TileState, Agent, tile_step}
-use Rattle.core_moves.specs.core_laws.specs.Core.{State, step, agent_numbered, records_of}
+use Rattle.core_moves.specs.tile_laws.specs.declared.agent.Agent.{Agent}
+use Rattle.core_moves.specs.tile_laws.specs.Tile.{Design, TileState, tile_step}
+use Rattle.core_moves.specs.tile_laws.specs.Agents.{agent_kind, agent_tile}
+use Rattle.core_moves.specs.core_laws.specs.Core.{State, step, records_of}
 use Rattle.core_moves.specs.core_laws.specs.Moves.{tile_move, move_of}
 use Rattle.core_moves.specs.core_laws.specs.Runs.{without_packets}
 use Rattle.core_moves.specs.core_laws.proofs.AgentSteps.{option_map_some}
@@ -48,14 +50,14 @@ event_same words s p line (Some (Takes r)) =
 
 module _ (d : Design) (s : State) (line : Line) (attempt : Step) where
   abbrev i : ℕ
-  i = attempt.agent / 3
+  i = agent_tile attempt.agent
 
   abbrev agent : Agent
-  agent = agent_numbered (attempt.agent % 3)
+  agent = agent_kind attempt.agent
 
   -- the state with a tile and surroundings in place of what they were
   abbrev left : List TileState → TileState × Surroundings → State
-  left tiles q = record { tiles = slice_set tiles (attempt.agent / 3) q.0; around = q.1 }
+  left tiles q = record { tiles = slice_set tiles (agent_tile attempt.agent) q.0; around = q.1 }
 
   abbrev made : List TileState → Surroundings → State
   made ts a = record { tiles = ts; around = a }
@@ -64,12 +66,12 @@ module _ (d : Design) (s : State) (line : Line) (attempt : Step) where
   stepped tiles o =
       option_and_then
       (λ (v : TileState). option_map (left tiles)
-      (tile_step d (attempt.agent / 3) v s.around (agent_numbered (attempt.agent % 3)) attempt.choice)) o
+      (tile_step d (agent_tile attempt.agent) v s.around (agent_kind attempt.agent) attempt.choice)) o
 
   abbrev move_at : Option TileState → Option Move
   move_at o =
       option_and_then
-      (λ (v : TileState). tile_move d (attempt.agent / 3) v s.around (agent_numbered (attempt.agent % 3))
+      (λ (v : TileState). tile_move d (agent_tile attempt.agent) v s.around (agent_kind attempt.agent)
       attempt.choice) o
 
   pub record Grows (p : ℕ) (t : State) : Type 0 where
@@ -82,22 +84,22 @@ module _ (d : Design) (s : State) (line : Line) (attempt : Step) where
       → tile_step d i tile s.around agent attempt.choice ≡ Some q → IsUnreported (left s.tiles q) i
       → Grows i (left s.tiles q)
   of_this tile q there is un =
-      let now : slice_get (slice_set s.tiles (attempt.agent / 3) q.0) (attempt.agent / 3) ≡ Some q.0 =
-      written_same s.tiles (attempt.agent / 3) tile q.0 there in
+      let now : slice_get (slice_set s.tiles (agent_tile attempt.agent) q.0) (agent_tile attempt.agent) ≡ Some q.0 =
+      written_same s.tiles (agent_tile attempt.agent) tile q.0 there in
       let un_left : q.0.processor.reported ≡ false =
       ap (λ (t : TileState). t.processor.reported) (same_Some q.0 un.tile (sym now ∙ un.there)) ∙ un.unreported in
-      let x = same_step d (attempt.agent / 3) line tile s.around (agent_numbered (attempt.agent % 3)) attempt.choice q
+      let x = same_step d (agent_tile attempt.agent) line tile s.around (agent_kind attempt.agent) attempt.choice q
       is un_left in
-      let there_with : slice_get (changed_at (tile_with line) s.tiles (attempt.agent / 3)) (attempt.agent / 3)
+      let there_with : slice_get (changed_at (tile_with line) s.tiles (agent_tile attempt.agent)) (agent_tile attempt.agent)
       ≡ Some (tile_with line tile) =
-      get_same (tile_with line) s.tiles (attempt.agent / 3) tile there in
+      get_same (tile_with line) s.tiles (agent_tile attempt.agent) tile there in
       record {
         unreported = record { tile = tile; there = there; unreported = x.unreported };
         step =
-            ap (stepped (changed_at (tile_with line) s.tiles (attempt.agent / 3))) there_with
-            ∙ (ap (option_map (left (changed_at (tile_with line) s.tiles (attempt.agent / 3)))) x.step
+            ap (stepped (changed_at (tile_with line) s.tiles (agent_tile attempt.agent))) there_with
+            ∙ (ap (option_map (left (changed_at (tile_with line) s.tiles (agent_tile attempt.agent)))) x.step
             ∙ ap (λ (ts : List TileState). Some (made ts q.1))
-            (set_same (tile_with line) s.tiles (attempt.agent / 3) q.0));
+            (set_same (tile_with line) s.tiles (agent_tile attempt.agent) q.0));
         move = ap move_at there_with ∙ (x.move ∙ sym (ap move_at there));
       }
 
@@ -106,19 +108,19 @@ module _ (d : Design) (s : State) (line : Line) (attempt : Step) where
       → tile_step d i tile s.around agent attempt.choice ≡ Some q → IsUnreported (left s.tiles q) p
       → Grows p (left s.tiles q)
   of_other p tile q apart there is un =
-      let there_with : slice_get (changed_at (tile_with line) s.tiles p) (attempt.agent / 3) ≡ Some tile =
-      get_other (tile_with line) s.tiles p (attempt.agent / 3) apart ∙ there in
+      let there_with : slice_get (changed_at (tile_with line) s.tiles p) (agent_tile attempt.agent) ≡ Some tile =
+      get_other (tile_with line) s.tiles p (agent_tile attempt.agent) apart ∙ there in
       record {
         unreported = record {
           tile = un.tile;
-          there = sym (written_other s.tiles p (attempt.agent / 3) q.0 apart) ∙ un.there;
+          there = sym (written_other s.tiles p (agent_tile attempt.agent) q.0 apart) ∙ un.there;
           unreported = un.unreported;
         };
         step =
             ap (stepped (changed_at (tile_with line) s.tiles p)) there_with
             ∙ (ap (option_map (left (changed_at (tile_with line) s.tiles p))) is
             ∙ ap (λ (ts : List TileState). Some (made ts q.1))
-            (set_other (tile_with line) s.tiles p (attempt.agent / 3) q.0 apart));
+            (set_other (tile_with line) s.tiles p (agent_tile attempt.agent) q.0 apart));
         move = ap move_at there_with ∙ sym (ap move_at there);
       }
 

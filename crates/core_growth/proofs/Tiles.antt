@@ -25,7 +25,9 @@ use Rattle.core_moves.specs.script_follower.specs.ProcessorTable.{processor_want
 use Rattle.router.specs.Table.{RouterState}
 use Rattle.home_bank.specs.BankTable.{BankState}
 use Rattle.core_moves.specs.tile_laws.specs.Wiring.{processor_wiring}
-use Rattle.core_moves.specs.tile_laws.specs.Tile.{Design, TileState, Agent, Processor, Router, Bank, tile_step}
+use Rattle.core_moves.specs.tile_laws.specs.declared.agent.Agent.{Agent}
+use Rattle.core_moves.specs.tile_laws.specs.declared.agent.Agent.TheVariants.{Processor, Router, Bank}
+use Rattle.core_moves.specs.tile_laws.specs.Tile.{Design, TileState, tile_step}
 use Rattle.core_moves.specs.core_laws.specs.Moves.{issue_of, processor_move, tile_move}
 use Rattle.core_moves.specs.core_laws.proofs.AgentSteps.{did, did_learn}
 use Rattle.core_growth.specs.Appended.{tile_with}

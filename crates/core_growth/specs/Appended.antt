@@ -6,7 +6,9 @@ use Rattle.torus.specs.declared.step.Choice.TheVariants.{Done}
 use Rattle.script.specs.declared.line.Line.{Line}
 use Rattle.script.specs.Scripts.{operations_of, operation_count, total_count, script_of, mentions_last, IsAcceptedLine}
 use Rattle.core_moves.specs.script_follower.specs.ProcessorTable.{processor_with}
+use Rattle.core_moves.specs.tile_laws.specs.declared.agent.Agent.TheVariants.{Processor}
 use Rattle.core_moves.specs.tile_laws.specs.Tile.{TileState}
+use Rattle.core_moves.specs.tile_laws.specs.Agents.{agent_number}
 use Rattle.core_moves.specs.core_laws.specs.Core.{Load, State}
 use Rattle.core_moves.specs.core_machine.specs.Core.{Core}
 
@@ -68,6 +70,7 @@ pub record MayFollow (l : Load) (p : ℕ) (line : Line) : Type 0 where
   pub few : operation_count (script_of l.scripts p) + operations_of line ≤ 4096
   pub few_in_all : total_count l.scripts + operations_of line ≤ 65536
 
--- a step is no report of processor p, agent 3p
+-- a step is no report of processor p
 abbrev pub IsNoReport : ℕ → Step → Type 0
-IsNoReport p attempt = attempt.agent ≡ 3 * p → attempt.choice ≡ Done → ⊥
+IsNoReport p attempt =
+    attempt.agent ≡ agent_number p Processor → attempt.choice ≡ Done → ⊥

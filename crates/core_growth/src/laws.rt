@@ -10,7 +10,9 @@ ghost use Rattle.script.specs.Scripts.{IsAcceptedLine, add_line, operations_of};
 ghost use Rattle.core_moves.specs.script_follower.specs.Following.{Following, first_of, next_operation_of};
 ghost use Rattle.core_moves.specs.script_follower.specs.Following.{after_issue, after_answer, is_finished};
 ghost use Rattle.core_moves.specs.script_follower.specs.Following.{follower_with};
+ghost use Rattle.core_moves.specs.tile_laws.specs.declared.agent.Agent.TheVariants.{Processor};
 ghost use Rattle.core_moves.specs.tile_laws.specs.Tile.{Design, TileState};
+ghost use Rattle.core_moves.specs.tile_laws.specs.Agents.{agent_number};
 ghost use Rattle.core_moves.specs.core_laws.specs.Core.{Load, State, first_state, step, after};
 ghost use Rattle.core_moves.specs.core_laws.specs.Runs.{IsAccepted};
 ghost use Rattle.core_moves.specs.core_progress.specs.Moves.{most_moves};
@@ -76,7 +78,7 @@ pub fn processors_are_unreported()
 /// both states or in neither, and leaves the same but for the line. So who is asleep stays asleep.
 pub fn other_agents_see_no_line()
     ensures { (d : Design) (s : State) (p : ℕ) (line : Line) (attempt : Step)
-        → attempt.agent ≢ 3 * p
+        → attempt.agent ≢ agent_number p Processor
         → step d (state_with s p line) attempt
         ≡ option_map (λ t. state_with t p line) (step d s attempt) }
 {}

@@ -1,5 +1,5 @@
 -- An enabled attempt is of a choice that its agent has.
-use Rattle.std.proofs.Common.{◌≡◌, ℕ, zero, suc, ◌%◌, ◌/◌, Bool, true, false, Option, Some, None, refl, sym, ◌∙◌, slice_get}
+use Rattle.std.proofs.Common.{◌≡◌, ℕ, zero, suc, Bool, true, false, Option, Some, None, refl, sym, ◌∙◌, slice_get}
 use Rattle.std.specs.Prelude.{nat_lt, slice_set}
 use Rattle.std.proofs.lemmas.Option.{option_and_then_some}
 use Rattle.torus.specs.Shape.{Shape, tiles_of, dims_of}
@@ -16,9 +16,12 @@ use Rattle.tile_laws.specs.router.specs.Beginning.{router_wiring}
 use Rattle.order_abstract.specs.script_follower.specs.ProcessorTable.{ProcessorState, processor_wants, processor_after}
 use Rattle.order_abstract.specs.home_bank.specs.BankTable.{BankState, bank_wants, bank_after}
 use Rattle.tile_laws.specs.Wiring.{processor_wiring, bank_wiring}
-use Rattle.tile_laws.specs.Tile.{Design, TileState, Processor, Router, Bank, tile_step}
-use Rattle.core_laws.specs.Choices.{has_choice}
-use Rattle.core_laws.specs.Core.{State, agent_numbered, step}
+use Rattle.tile_laws.specs.declared.agent.Agent.{Agent}
+use Rattle.tile_laws.specs.declared.agent.Agent.TheVariants.{Processor, Router, Bank}
+use Rattle.tile_laws.specs.Tile.{Design, TileState, tile_step}
+use Rattle.tile_laws.specs.Agents.{agent_numbered, agent_kind, agent_tile}
+use Rattle.tile_laws.specs.Choices.{has_choice}
+use Rattle.core_laws.specs.Core.{State, step}
 use Rattle.core_laws.proofs.AgentSteps.{did, option_map_some}
 use Rattle.core_laws.proofs.RouterChoices.{if_true}
 
@@ -57,28 +60,27 @@ router_has s t r choice.Done w h = absurd (cc)
 router_has s t r choice.Look w h = absurd (cc)
 
 module _ (d : Design) (t : ℕ) (tile : TileState) (around : Surroundings) (c : Choice) (after : TileState × Surroundings) where
-  tile_has : (kind : ℕ) → tile_step d t tile around (agent_numbered kind) c ≡ Some after
-      → has_choice (port_count (dims_of d.shape)) (agent_numbered kind) c ≡ true
-  tile_has zero h =
+  tile_has : (kind : Agent) → tile_step d t tile around kind c ≡ Some after → has_choice (port_count (dims_of d.shape)) kind c ≡ true
+  tile_has Processor h =
       let f = option_map_some (λ (p : ProcessorState × Surroundings). (record tile { processor = p.0 }, p.1)) _ after h in
       let x = did (processor_wants (tiles_of d.shape) d.words t) (processor_after (tiles_of d.shape) d.words t) d.depth (processor_wiring d.shape t)
       tile.processor around c f.0.0 f.0.1 f.1 in
       processor_has (port_count (dims_of d.shape)) (tiles_of d.shape) d.words t tile.processor c x.want x.wanted
-  tile_has (suc zero) h =
+  tile_has Router h =
       let f = option_map_some (λ (p : RouterState × Surroundings). (record tile { router = p.0 }, p.1)) _ after h in
       let x = did (router_wants d.shape t) router_after d.depth (router_wiring d.shape t) tile.router around c f.0.0 f.0.1 f.1 in
       router_has d.shape t tile.router c x.want x.wanted
-  tile_has (suc (suc k)) h =
+  tile_has Bank h =
       let f = option_map_some (λ (p : BankState × Surroundings). (record tile { bank = p.0 }, p.1)) _ after h in
       let x = did (bank_wants (tiles_of d.shape) t) (bank_after (tiles_of d.shape) t) d.depth (bank_wiring d.shape t) tile.bank around c f.0.0 f.0.1 f.1 in
       bank_has (port_count (dims_of d.shape)) (tiles_of d.shape) t tile.bank c x.want x.wanted
 
 -- An enabled attempt is of a choice of its agent.
 pub own_choice : (d : Design) (s : State) (attempt : Step) (next : State) → step d s attempt ≡ Some next
-    → has_choice (port_count (dims_of d.shape)) (agent_numbered (attempt.agent % 3)) attempt.choice ≡ true
-own_choice d s attempt next h = option_and_then_some _ (slice_get s.tiles (attempt.agent / 3)) next h (λ tile there f.
-    let k = option_map_some (λ (p : TileState × Surroundings). record { tiles = slice_set s.tiles (attempt.agent / 3) p.0; around = p.1 }) _ next f in
-    tile_has d (attempt.agent / 3) tile s.around attempt.choice k.0 (attempt.agent % 3) k.1)
+    → has_choice (port_count (dims_of d.shape)) (agent_kind attempt.agent) attempt.choice ≡ true
+own_choice d s attempt next h = option_and_then_some _ (slice_get s.tiles (agent_tile attempt.agent)) next h (λ tile there f.
+    let k = option_map_some (λ (p : TileState × Surroundings). record { tiles = slice_set s.tiles (agent_tile attempt.agent) p.0; around = p.1 }) _ next f in
+    tile_has d (agent_tile attempt.agent) tile s.around attempt.choice k.0 (agent_kind attempt.agent) k.1)
 
 none_where : (o : Option State) (b : Bool) → ((next : State) → o ≡ Some next → b ≡ true) → b ≡ false → o ≡ None
 none_where None b has lacks = refl
@@ -86,7 +88,7 @@ none_where (Some next) b has lacks = let z : ◌≡◌ {A = Bool} true false = s
 
 -- An attempt of a choice that its agent doesn't have isn't enabled.
 pub other_choice : (d : Design) (s : State) (attempt : Step)
-    → has_choice (port_count (dims_of d.shape)) (agent_numbered (attempt.agent % 3)) attempt.choice ≡ false → step d s attempt ≡ None
+    → has_choice (port_count (dims_of d.shape)) (agent_kind attempt.agent) attempt.choice ≡ false → step d s attempt ≡ None
 other_choice d s attempt lacks = none_where (step d s attempt) _ (own_choice d s attempt) lacks
 
 -- the agent of a number has the choices of that number

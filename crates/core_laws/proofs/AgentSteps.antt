@@ -15,6 +15,15 @@ pub option_map_none : {A B : Type 0} (f : A → B) (o : Option A) → option_map
 option_map_none f None h = refl
 option_map_none f (Some x) h = absurd (cc)
 
+-- an agent's step that is granted
+pub stepped : {S : Type 0} (wants : S → Choice → Option Want) (after : S → Choice → Want → ℕ → S) (depth : ℕ) (wiring : Wiring) (state : S)
+    (around : Surroundings) (choice : Choice) (w : Want) (learned : ℕ)
+    → wants state choice ≡ Some w → granted around wiring w ≡ Some learned
+    → agent_step wants after depth wiring state around choice ≡ Some (after state choice w learned, surroundings_after depth around wiring w)
+stepped {S} wants after depth wiring state around choice w learned is grants =
+    ap (λ (o : Option Want). option_and_then (λ want. step_with wants after depth wiring state around choice want (granted around wiring want)) o) is
+    ∙ ap (λ (g : Option ℕ). step_with wants after depth wiring state around choice w g) grants
+
 module _ {S : Type 0} (wants : S → Choice → Option Want) (after : S → Choice → Want → ℕ → S) (depth : ℕ) (wiring : Wiring) (state : S) (around : Surroundings)
     (choice : Choice) where
   -- the want, what was learned, and what stands after it

@@ -1,5 +1,5 @@
 -- The steps of a bank that serve nothing keep what holds of every reached state.
-use Rattle.std.proofs.Common.{◌≡◌, ◌≢◌, ℕ, ◌%◌, ◌<◌, Bool, true, false, cond, List, [], ◌∷◌, Option, Some, None, refl, sym, ◌∙◌, ap, subst, slice_set}
+use Rattle.std.proofs.Common.{◌≡◌, ◌≢◌, ℕ, ◌<◌, Bool, true, false, cond, List, [], ◌∷◌, Option, Some, None, refl, sym, ◌∙◌, ap, subst, slice_set}
 use Rattle.std.proofs.Common.{is_none, if◌then◌else◌}
 use Rattle.std.specs.Prelude.{option_map, nat_lt, ◌&&◌}
 use Rattle.std.proofs.lemmas.Bool.{ltb-true}
@@ -26,8 +26,10 @@ use Rattle.core_laws.specs.Heads.{is_head}
 use Rattle.order_abstract.specs.home_bank.specs.BankTable.{BankState, bank_wants, bank_after, is_nil, waiting_offered}
 use Rattle.channel_number.specs.Ports.{injection_channel, ejection_channel}
 use Rattle.tile_laws.specs.Wiring.{bank_wiring}
-use Rattle.tile_laws.specs.Tile.{Design, Bank, tile_step}
-use Rattle.core_laws.specs.Core.{State, next, agent_numbered}
+use Rattle.tile_laws.specs.declared.agent.Agent.TheVariants.{Bank}
+use Rattle.tile_laws.specs.Tile.{Design, tile_step}
+use Rattle.tile_laws.specs.Agents.{agent_kind}
+use Rattle.core_laws.specs.Core.{State, next}
 use Rattle.core_laws.specs.Moves.{bank_move, tile_move, move_of}
 use Rattle.core_laws.proofs.Projection.{net_of, first_flit}
 use Rattle.core_laws.proofs.Networks.{network}
@@ -189,6 +191,6 @@ module _ (d : Design) (accepted : IsAccepted d.shape) (tags : ℕ) (opening : Li
         (record { stands = st; may = tt }) (then_bank choice) h
 
   -- Each attempt of a bank that is no service keeps what holds of every reached state.
-  pub bank_quiet : (attempt : Step) → agent_numbered (attempt.agent % 3) ≡ Bank → move_of d s attempt ≡ None
+  pub bank_quiet : (attempt : Step) → agent_kind attempt.agent ≡ Bank → move_of d s attempt ≡ None
       → Stays d tags opening g order (next d s attempt) (network_event d s attempt)
   bank_quiet = attempt_stays d tags opening s g order st Bank bank_choice_quiet

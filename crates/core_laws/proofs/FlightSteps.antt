@@ -1,5 +1,5 @@
 -- A step of the core is, of the machine without its network, the step's move.
-use Rattle.std.proofs.Common.{◌≡◌, ℕ, ◌/◌, ◌%◌, List, [], ◌∷◌, ◌++◌, map, Option, Some, None, refl, sym, ◌∙◌, ap, subst, slice_get, slice_index, slice_set}
+use Rattle.std.proofs.Common.{◌≡◌, ℕ, List, [], ◌∷◌, ◌++◌, map, Option, Some, None, refl, sym, ◌∙◌, ap, subst, slice_get, slice_index, slice_set}
 use Rattle.std.proofs.Common.{set, get_or}
 use Rattle.std.specs.Prelude.{option_and_then, option_map}
 use Rattle.std.proofs.lemmas.Option.{slice_get_within, get_or_from_slice_get}
@@ -20,8 +20,11 @@ use Rattle.order_abstract.specs.Flight.{Flight, Move, Sends, Serves, Takes, move
 use Rattle.order_abstract.specs.script_follower.specs.ProcessorTable.{ProcessorState, processor_wants, processor_after}
 use Rattle.order_abstract.specs.home_bank.specs.BankTable.{BankState, bank_wants, bank_after}
 use Rattle.tile_laws.specs.Wiring.{processor_wiring, bank_wiring}
-use Rattle.tile_laws.specs.Tile.{Design, TileState, Agent, Processor, Router, Bank, tile_step}
-use Rattle.core_laws.specs.Core.{State, next, or_same, agent_numbered, records_of, show}
+use Rattle.tile_laws.specs.declared.agent.Agent.{Agent}
+use Rattle.tile_laws.specs.declared.agent.Agent.TheVariants.{Processor, Router, Bank}
+use Rattle.tile_laws.specs.Tile.{Design, TileState, tile_step}
+use Rattle.tile_laws.specs.Agents.{agent_kind, agent_tile}
+use Rattle.core_laws.specs.Core.{State, next, or_same, records_of, show}
 use Rattle.core_laws.specs.Moves.{tile_move, move_of, processor_move, bank_move}
 use Rattle.core_laws.proofs.AgentSteps.{refused, option_map_none}
 use Rattle.core_laws.proofs.TileMoves.{IsHere, TileMoved, tile_moves}
@@ -153,13 +156,13 @@ module _ (d : Design) (s : State) (asked : List Request) (told : List Response) 
       tile_flight t tile agent choice (tile_step d t tile s.around agent choice) (tile_move d t tile s.around agent choice) there refl refl here
 
   -- What a step does to the machine without its network is what its move says.
-  pub flight_step : (attempt : Step) → ((k : Move) → move_of d s attempt ≡ Some k → IsHere tiles d.words (attempt.agent / 3) k)
+  pub flight_step : (attempt : Step) → ((k : Move) → move_of d s attempt ≡ Some k → IsHere tiles d.words (agent_tile attempt.agent) k)
       → flight_with d.words (next d s attempt) (moved_by tiles before (move_of d s attempt)).asked (moved_by tiles before (move_of d s attempt)).told
       ≡ moved_by tiles before (move_of d s attempt)
   flight_step attempt here =
-      found_flight (attempt.agent / 3) (agent_numbered (attempt.agent % 3)) attempt.choice (slice_get s.tiles (attempt.agent / 3)) refl here
+      found_flight (agent_tile attempt.agent) (agent_kind attempt.agent) attempt.choice (slice_get s.tiles (agent_tile attempt.agent)) refl here
 
   -- and so what is shown
-  pub show_step : (attempt : Step) → ((k : Move) → move_of d s attempt ≡ Some k → IsHere tiles d.words (attempt.agent / 3) k)
+  pub show_step : (attempt : Step) → ((k : Move) → move_of d s attempt ≡ Some k → IsHere tiles d.words (agent_tile attempt.agent) k)
       → show d.words (next d s attempt) ≡ flight.show (moved_by tiles before (move_of d s attempt))
   show_step attempt here = ap (λ (f : Flight). flight.show f) (flight_step attempt here)

@@ -1,5 +1,5 @@
 -- The steps that are issues, services and answers lead to the states that keep what holds; the rest is assumed.
-use Rattle.std.proofs.Common.{◌≡◌, ℕ, ◌/◌, ◌%◌, ◌<◌, Bool, true, false, cond, List, [], ◌∷◌, ◌++◌, length, Option, Some, None, refl, sym, ◌∙◌, ap, ap₂, subst}
+use Rattle.std.proofs.Common.{◌≡◌, ℕ, ◌<◌, Bool, true, false, cond, List, [], ◌∷◌, ◌++◌, length, Option, Some, None, refl, sym, ◌∙◌, ap, ap₂, subst}
 use Rattle.std.proofs.Common.{slice_get, slice_index, slice_set}
 use Rattle.std.specs.Prelude.{option_and_then, option_map, nat_lt, IfSome}
 use Rattle.std.proofs.lemmas.Bool.{ltb-true}
@@ -26,7 +26,7 @@ use Rattle.flit_buffer.specs.Channel.{first_of, rest}
 use Rattle.flit_buffer.specs.declared.want.Want.{Want}
 use Rattle.flit_buffer.specs.declared.want.Want.TheVariants as want
 use Rattle.flit_buffer.specs.Wants.{told_by}
-use Rattle.flit_buffer.specs.Surroundings.{Surroundings, Wiring, ring, granted, surroundings_after, agent_step, step_with}
+use Rattle.flit_buffer.specs.Surroundings.{Surroundings, ring, granted, surroundings_after}
 use Rattle.wormhole.specs.Net.{IsNet}
 use Rattle.order_abstract.specs.script_follower.specs.ProcessorRecord.{ProcessorRecord, ready, request_of}
 use Rattle.order_abstract.specs.Flight.{Move, Sends, Serves, Takes, event_by}
@@ -35,11 +35,14 @@ use Rattle.order_abstract.specs.script_follower.specs.ProcessorTable.{ProcessorS
 use Rattle.order_abstract.specs.home_bank.specs.BankTable.{BankState, bank_wants, bank_after, served}
 use Rattle.channel_number.specs.Ports.{injection_channel, ejection_channel}
 use Rattle.tile_laws.specs.Wiring.{processor_wiring, bank_wiring}
-use Rattle.tile_laws.specs.Tile.{Design, TileState, Agent, Processor, Router, Bank, tile_step}
+use Rattle.tile_laws.specs.declared.agent.Agent.{Agent}
+use Rattle.tile_laws.specs.declared.agent.Agent.TheVariants.{Processor, Router, Bank}
+use Rattle.tile_laws.specs.Tile.{Design, TileState, tile_step}
+use Rattle.tile_laws.specs.Agents.{agent_kind, agent_tile}
 use Rattle.core_laws.specs.Heads.{is_head}
-use Rattle.core_laws.specs.Core.{State, next, or_same, agent_numbered}
+use Rattle.core_laws.specs.Core.{State, next, or_same}
 use Rattle.core_laws.specs.Moves.{learned_by, issue_of, processor_move, bank_move, tile_move, move_of}
-use Rattle.core_laws.proofs.AgentSteps.{option_map_some}
+use Rattle.core_laws.proofs.AgentSteps.{option_map_some, stepped}
 use Rattle.core_laws.proofs.Projection.{net_of, first_flit}
 use Rattle.core_laws.proofs.ChannelFacts.{injection_in}
 use Rattle.core_laws.proofs.PacketFacts.{is_parcel}
@@ -51,28 +54,10 @@ use Rattle.core_laws.proofs.Answers.{taken_state, taken_ghost, found, taken_stan
 use Rattle.wormhole.specs.Events.{Event, InjectHead, CanHappen}
 use Rattle.core_laws.specs.Network.{request_parcel, request_event, processor_event, bank_event, tile_event, network_event}
 use Rattle.core_laws.specs.Noted.{noted_by}
-use Rattle.core_laws.proofs.QuietSteps.{Stays}
+use Rattle.core_laws.proofs.GivenSteps.{IsRestAt}
 use Rattle.core_laws.proofs.Completes.{accepts}
 use Rattle.core_laws.proofs.Accepting.{may_happen}
-use Rattle.core_laws.proofs.Stands.{Ghost, Stands, IsProperRequest, IsProperResponse, tile_at, no_tile, flight_of}
-
--- an agent's step that is granted
-pub stepped : {S : Type 0} (wants : S → Choice → Option Want) (after : S → Choice → Want → ℕ → S) (depth : ℕ) (wiring : Wiring) (state : S)
-    (around : Surroundings) (choice : Choice) (w : Want) (learned : ℕ)
-    → wants state choice ≡ Some w → granted around wiring w ≡ Some learned
-    → agent_step wants after depth wiring state around choice ≡ Some (after state choice w learned, surroundings_after depth around wiring w)
-stepped {S} wants after depth wiring state around choice w learned is grants =
-    ap (λ (o : Option Want). option_and_then (λ want. step_with wants after depth wiring state around choice want (granted around wiring want)) o) is
-    ∙ ap (λ (g : Option ℕ). step_with wants after depth wiring state around choice w g) grants
-
--- what is given: of the machine's values, and of the steps that are no issue, service or answer
-pub record IsRestAt (d : Design) (tags : ℕ) (opening : List ℕ) (s : State) (g : Ghost) (order : List LinearizationPoint) : Type 0 where
-  pub requests : (t tag : ℕ) (o : Operation) → t < tiles_of d.shape → ready (tile_at s t).processor.operations ≡ Some (tag, o)
-      → IsProperRequest d (request_of (tiles_of d.shape) t tag o) × (o.address < length opening)
-  pub responses : (t : ℕ) (r : Asking) → t < tiles_of d.shape → (tile_at s t).bank.waiting ≡ Some r
-      → IsProperResponse d (response_of t (length (tile_at s t).bank.entries) r
-      (reply_to r.op (slice_index s.around.words (address_of t (tiles_of d.shape) r.word))))
-  pub quiet : (attempt : Step) → move_of d s attempt ≡ None → Stays d tags opening g order (next d s attempt) (network_event d s attempt)
+use Rattle.core_laws.proofs.Stands.{Ghost, Stands, tile_at, no_tile, flight_of}
 
 module _ (d : Design) (net : IsNet (net_of d)) (tags : ℕ) (opening : List ℕ) (s : State) (g : Ghost) (order : List LinearizationPoint)
     (st : Stands d tags opening s g order) (rest_is : IsRestAt d tags opening s g order) (n : ℕ) where
@@ -286,8 +271,8 @@ module _ (d : Design) (net : IsNet (net_of d)) (tags : ℕ) (opening : List ℕ)
 
   then_move : (attempt : Step) (m : Move) → move_of d s attempt ≡ Some m → Then (next d s attempt) m (network_event d s attempt)
   then_move attempt m h =
-      let t : ℕ = attempt.agent / 3 in
-      let agent : Agent = agent_numbered (attempt.agent % 3) in
+      let t : ℕ = agent_tile attempt.agent in
+      let agent : Agent = agent_kind attempt.agent in
       option_and_then_some (λ tile. tile_move d t tile s.around agent attempt.choice) (slice_get s.tiles t) m h (λ tile there e.
       let is : tile_at s t ≡ tile = get_or_from_slice_get s.tiles t tile no_tile there in
       let within : t < tiles_of d.shape = subst (λ (k : ℕ). t < k) st.tiles (slice_get_within s.tiles t tile there) in

@@ -23,6 +23,7 @@ pub mod Services
 pub mod Begins
 pub mod Finished
 pub mod Answers
+pub mod GivenSteps
 pub mod Keeps
 pub mod Quiet
 pub mod Networks

@@ -1,5 +1,5 @@
 -- What a step touches: one agent of one tile, and what that agent wanted of the surroundings.
-use Rattle.std.proofs.Common.{◌≡◌, ◌≢◌, ℕ, ◌/◌, Some, sym, ◌∙◌, ap, slice_get, slice_set}
+use Rattle.std.proofs.Common.{◌≡◌, ◌≢◌, ℕ, Some, sym, ◌∙◌, ap, slice_get, slice_set}
 use Rattle.std.proofs.lemmas.Option.{option_and_then_some}
 use Rattle.order_abstract.specs.one_order.proofs.Lists.{get_set_other}
 use Rattle.torus.specs.Shape.{tiles_of}
@@ -11,17 +11,19 @@ use Rattle.tile_laws.specs.router.specs.Beginning.{router_wiring}
 use Rattle.order_abstract.specs.script_follower.specs.ProcessorTable.{ProcessorState, processor_wants, processor_after}
 use Rattle.order_abstract.specs.home_bank.specs.BankTable.{BankState, bank_wants, bank_after}
 use Rattle.tile_laws.specs.Wiring.{processor_wiring, bank_wiring}
-use Rattle.tile_laws.specs.Tile.{Design, TileState, Processor, Router, Bank, tile_step}
+use Rattle.tile_laws.specs.declared.agent.Agent.TheVariants.{Processor, Router, Bank}
+use Rattle.tile_laws.specs.Tile.{Design, TileState, tile_step}
+use Rattle.tile_laws.specs.Agents.{agent_tile}
 use Rattle.core_laws.specs.Core.{State, step}
 use Rattle.core_laws.specs.Touches.{ProcessorAlone, RouterAlone, BankAlone}
 use Rattle.core_laws.proofs.AgentSteps.{did, option_map_some}
 
 -- other tiles stay
-pub other_tiles : (d : Design) (s : State) (attempt : Step) (next : State) (u : ℕ) → step d s attempt ≡ Some next → u ≢ attempt.agent / 3
+pub other_tiles : (d : Design) (s : State) (attempt : Step) (next : State) (u : ℕ) → step d s attempt ≡ Some next → u ≢ agent_tile attempt.agent
     → slice_get next.tiles u ≡ slice_get s.tiles u
-other_tiles d s attempt next u h other = option_and_then_some _ (slice_get s.tiles (attempt.agent / 3)) next h (λ tile there f.
-    let k = option_map_some (λ (p : TileState × Surroundings). record { tiles = slice_set s.tiles (attempt.agent / 3) p.0; around = p.1 }) _ next f in
-    ap (λ (x : State). slice_get x.tiles u) (sym k.2) ∙ get_set_other s.tiles (attempt.agent / 3) u k.0.0 other)
+other_tiles d s attempt next u h other = option_and_then_some _ (slice_get s.tiles (agent_tile attempt.agent)) next h (λ tile there f.
+    let k = option_map_some (λ (p : TileState × Surroundings). record { tiles = slice_set s.tiles (agent_tile attempt.agent) p.0; around = p.1 }) _ next f in
+    ap (λ (x : State). slice_get x.tiles u) (sym k.2) ∙ get_set_other s.tiles (agent_tile attempt.agent) u k.0.0 other)
 
 module _ (d : Design) (t : ℕ) (tile : TileState) (around : Surroundings) (c : Choice) (left : TileState) (after : Surroundings) where
   pub processor_alone : tile_step d t tile around Processor c ≡ Some (left, after) → ProcessorAlone d t tile around c left after

@@ -1,5 +1,5 @@
 -- The steps of a processor that are no issue and no answer keep what holds of every reached state.
-use Rattle.std.proofs.Common.{◌≡◌, ◌≢◌, ℕ, ◌%◌, ◌<◌, ◌==◌, Bool, true, false, List, [], ◌∷◌, Option, Some, None, refl, sym, ◌∙◌, ap, subst, slice_index}
+use Rattle.std.proofs.Common.{◌≡◌, ◌≢◌, ℕ, ◌<◌, ◌==◌, Bool, true, false, List, [], ◌∷◌, Option, Some, None, refl, sym, ◌∙◌, ap, subst, slice_index}
 use Rattle.std.proofs.Common.{slice_set}
 use Rattle.std.specs.Prelude.{option_map, nat_lt, not, ◌&&◌}
 use Rattle.std.proofs.lemmas.Bool.{ltb-true, eqb-true}
@@ -27,8 +27,10 @@ use Rattle.packet.specs.Flits.{is_tail, offered}
 use Rattle.order_abstract.specs.script_follower.specs.ProcessorTable.{ProcessorState, processor_wants, processor_after, flits_due, record_sent, record_offered}
 use Rattle.channel_number.specs.Ports.{injection_channel, ejection_channel}
 use Rattle.tile_laws.specs.Wiring.{processor_wiring}
-use Rattle.tile_laws.specs.Tile.{Design, Processor, tile_step}
-use Rattle.core_laws.specs.Core.{State, next, agent_numbered}
+use Rattle.tile_laws.specs.declared.agent.Agent.TheVariants.{Processor}
+use Rattle.tile_laws.specs.Tile.{Design, tile_step}
+use Rattle.tile_laws.specs.Agents.{agent_kind}
+use Rattle.core_laws.specs.Core.{State, next}
 use Rattle.core_laws.specs.Moves.{processor_move, answer_by, issue_of, tile_move, move_of}
 use Rattle.core_laws.proofs.Projection.{net_of}
 use Rattle.core_laws.proofs.Networks.{network}
@@ -168,6 +170,6 @@ module _ (d : Design) (accepted : IsAccepted d.shape) (tags : ℕ) (opening : Li
         (record { stands = st; may = tt }) (then_processor choice) h
 
   -- Each attempt of a processor that is no issue and no answer keeps what holds of every reached state.
-  pub processor_quiet : (attempt : Step) → agent_numbered (attempt.agent % 3) ≡ Processor → move_of d s attempt ≡ None
+  pub processor_quiet : (attempt : Step) → agent_kind attempt.agent ≡ Processor → move_of d s attempt ≡ None
       → Stays d tags opening g order (next d s attempt) (network_event d s attempt)
   processor_quiet = attempt_stays d tags opening s g order st Processor processor_choice_quiet

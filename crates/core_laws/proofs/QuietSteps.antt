@@ -1,5 +1,5 @@
 -- From the steps of agents that are no issue, service or answer to those of the machine.
-use Rattle.std.proofs.Common.{◌≡◌, ℕ, ◌/◌, ◌%◌, ◌<◌, Bool, true, false, List, Option, Some, None, refl, sym, ◌∙◌, ap, subst, slice_get, slice_set}
+use Rattle.std.proofs.Common.{◌≡◌, ℕ, ◌<◌, Bool, true, false, List, Option, Some, None, refl, sym, ◌∙◌, ap, subst, slice_get, slice_set}
 use Rattle.std.proofs.Common.{if◌then◌else◌, is_none}
 use Rattle.std.specs.Prelude.{option_and_then, option_map, ◌&&◌, not, IfSome}
 use Rattle.std.proofs.lemmas.Option.{slice_get_within, get_or_from_slice_get}
@@ -10,8 +10,10 @@ use Rattle.order_abstract.specs.one_order.specs.Order.{LinearizationPoint}
 use Rattle.flit_buffer.specs.declared.want.Want.{Want}
 use Rattle.flit_buffer.specs.Surroundings.{Surroundings, Wiring, granted, surroundings_after, agent_step, step_with}
 use Rattle.order_abstract.specs.Flight.{Move}
-use Rattle.tile_laws.specs.Tile.{Design, TileState, Agent, tile_step}
-use Rattle.core_laws.specs.Core.{State, next, or_same, agent_numbered}
+use Rattle.tile_laws.specs.declared.agent.Agent.{Agent}
+use Rattle.tile_laws.specs.Tile.{Design, TileState, tile_step}
+use Rattle.tile_laws.specs.Agents.{agent_kind, agent_tile}
+use Rattle.core_laws.specs.Core.{State, next, or_same}
 use Rattle.core_laws.specs.Moves.{learned_by, tile_move, move_of}
 use Rattle.wormhole.specs.Events.{Event, CanHappen}
 use Rattle.core_laws.specs.Network.{net_of, tile_event, network_event, network_after}
@@ -90,10 +92,10 @@ module _ (d : Design) (tags : ℕ) (opening : List ℕ) (s : State) (g : Ghost) 
       is
       (does t within choice (ap (λ (x : TileState). tile_move d t x s.around agent choice) is ∙ h))
 
-  pub attempt_stays : (attempt : Step) → agent_numbered (attempt.agent % 3) ≡ agent → move_of d s attempt ≡ None
+  pub attempt_stays : (attempt : Step) → agent_kind attempt.agent ≡ agent → move_of d s attempt ≡ None
       → Stays d tags opening g order (next d s attempt) (network_event d s attempt)
   attempt_stays attempt is h =
-      let t : ℕ = attempt.agent / 3 in
+      let t : ℕ = agent_tile attempt.agent in
       subst (λ (a : Agent). Stays d tags opening g order (next_by a t attempt.choice (slice_get s.tiles t)) (event_by a t attempt.choice (slice_get s.tiles t)))
       (sym is)
       (at_tile t attempt.choice (slice_get s.tiles t) refl (ap (λ (a : Agent). move_by a t attempt.choice (slice_get s.tiles t)) (sym is) ∙ h))

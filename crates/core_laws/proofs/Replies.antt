@@ -15,7 +15,7 @@ use Rattle.flit_buffer.specs.Places.{Ring, IsRing, put_in_ring}
 use Rattle.flit_buffer.specs.Surroundings.{ring, changed, AreRings}
 use Rattle.flit_buffer.proofs.RingLaws.{put_ring}
 use Rattle.flit_buffer.proofs.ManyRings.{changed_here, changed_other}
-use Rattle.wormhole.specs.Net.{Net, IsNet, IsOn, Parcel, IsParcel, IsTailShaped}
+use Rattle.wormhole.specs.Net.{Net, IsNet, Parcel, IsParcel}
 use Rattle.wormhole.specs.State.{Line as Lane, Note}
 use Rattle.wormhole.specs.Events.{InjectHead, CanInjectHead, after, put}
 use Rattle.wormhole.specs.Delivery.{whole, whole_of}
@@ -33,31 +33,15 @@ use Rattle.channel_number.specs.Ports.{injection_channel}
 use Rattle.tile_laws.specs.Tile.{Design, TileState}
 use Rattle.core_laws.specs.Core.{State}
 use Rattle.core_laws.proofs.Projection.{net_of, parcel_of, response_parcel, first_flit}
-use Rattle.core_laws.proofs.ChannelFacts.{channels_of, injects_at, injection_in, is_head_of}
+use Rattle.core_laws.proofs.ChannelFacts.{channels_of, injects_at, injection_in}
 use Rattle.core_laws.proofs.Parcels.{response_ends}
 use Rattle.core_laws.proofs.PacketFacts.{is_parcel}
 use Rattle.core_laws.proofs.FlightSteps.{record_in, entries_in, same_flight, part_stays}
 use Rattle.core_laws.proofs.SendFacts.{injection_tile, injection_class, count_set, head_some}
-use Rattle.core_laws.proofs.ResponseLists.{no_head}
+use Rattle.core_laws.proofs.ResponseLists.{no_head, last_on, one_of_map, no_head_after}
 use Rattle.core_laws.specs.Delivery.{notice_by}
 use Rattle.core_laws.proofs.Stands.{Ghost, Stands, Mirrors, Carries, IsLane, IsInPhase, IsProperResponse, tile_at, no_tile, flight_of, in_course}
 use Rattle.core_laws.proofs.Stands.{responses_from, last_of, unsent}
-
--- the last of some responses is one of them
-last_on : (rs : List Telling) (q : Telling) → last_of rs ≡ q ∷ [] → IsOn q rs
-last_on [] q h = absurd (cc)
-last_on (r ∷ []) q h = ([], [], h)
-last_on (r ∷ p ∷ rs) q h = let on = last_on (p ∷ rs) q h in (r ∷ on.0, on.1, ap (λ xs. r ∷ xs) on.2)
-
-one_of_map : {A B : Type 0} (f : A → B) (xs : List A) (y : B) → map f xs ≡ y ∷ [] → (x : A) × (xs ≡ x ∷ []) × (f x ≡ y)
-one_of_map f [] y h = absurd (cc)
-one_of_map f (x ∷ []) y h = (x, refl, cc)
-one_of_map f (x ∷ z ∷ xs) y h = absurd (cc)
-
--- what follows a head doesn't begin with one
-pub no_head_after : (d : Design) (flits : List ℕ) → IsTailShaped (net_of d) flits → is_head (first_flit flits) ≡ false
-no_head_after d [] h = no_head
-no_head_after d (flit ∷ flits) h = sym (is_head_of d flit) ∙ h.0
 
 module _ (d : Design) (net : IsNet (net_of d)) (tags : ℕ) (opening : List ℕ) (s : State) (g : Ghost) (order : List LinearizationPoint)
     (st : Stands d tags opening s g order)

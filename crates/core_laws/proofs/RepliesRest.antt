@@ -23,7 +23,7 @@ use Rattle.core_laws.proofs.ChannelFacts.{channels_of, injects_at, injection_in}
 use Rattle.core_laws.proofs.SendFacts.{injection_tile, injection_class}
 use Rattle.core_laws.proofs.Quiet.{quiet_state, quiet_ghost, quiet_new, quiet_other, quiet_part, IsQuietStep, end_mirrors, quiet_stands}
 use Rattle.core_laws.proofs.Stands.{Ghost, Stands, tile_at, in_course}
-use Rattle.core_laws.proofs.Replies.{no_head_after}
+use Rattle.core_laws.proofs.ResponseLists.{no_head_after}
 
 module _ (d : Design) (net : IsNet (net_of d)) (tags : ℕ) (opening : List ℕ) (s : State) (g : Ghost) (order : List LinearizationPoint)
     (st : Stands d tags opening s g order)

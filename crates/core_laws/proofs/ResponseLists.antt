@@ -1,5 +1,5 @@
 -- Lists of requests and responses, and the flits that begin them.
-use Rattle.std.proofs.Common.{◌≡◌, ℕ, zero, suc, ◌+◌, Bool, true, false, cond, List, [], ◌∷◌, ◌++◌, length, Some, refl, sym, ◌∙◌, ap, ap₂, arith, slice_get}
+use Rattle.std.proofs.Common.{◌≡◌, ℕ, zero, suc, ◌+◌, Bool, true, false, cond, List, [], ◌∷◌, ◌++◌, map, length, Some, refl, sym, ◌∙◌, ap, ap₂, arith, slice_get}
 use Rattle.std.proofs.Common.{eq-eqb}
 use Rattle.std.specs.Prelude.{filter, remove, ◌&&◌}
 use Rattle.std.proofs.lemmas.Option.{same_Some}
@@ -10,8 +10,11 @@ use Rattle.packet.specs.Spelling.{Spells}
 use Rattle.packet.proofs.Shapes.{TellsPacket-spelled, length-spelled}
 use Rattle.order_abstract.specs.home_bank.specs.declared.entry.Entry.{Entry}
 use Rattle.packet.specs.Flits.{flits_of}
+use Rattle.wormhole.specs.Net.{IsOn, IsTailShaped}
+use Rattle.tile_laws.specs.Tile.{Design}
 use Rattle.core_laws.specs.Heads.{is_head}
-use Rattle.core_laws.proofs.Projection.{first_flit}
+use Rattle.core_laws.proofs.Projection.{net_of, first_flit}
+use Rattle.core_laws.proofs.ChannelFacts.{is_head_of}
 use Rattle.core_laws.specs.Delivery.{response_made, responses_made}
 use Rattle.core_laws.specs.Network.{last_response}
 use Rattle.core_laws.proofs.Stands.{response_of_entry, responses_from, last_of}
@@ -63,3 +66,19 @@ pub last_is : (rs : List Telling) (q : Telling) → last_of rs ≡ q ∷ [] → 
 last_is [] q h = absurd (cc)
 last_is (r ∷ []) q h = ap Some (cc)
 last_is (r ∷ p ∷ rs) q h = last_is (p ∷ rs) q h
+
+-- the last of some responses is one of them
+pub last_on : (rs : List Telling) (q : Telling) → last_of rs ≡ q ∷ [] → IsOn q rs
+last_on [] q h = absurd (cc)
+last_on (r ∷ []) q h = ([], [], h)
+last_on (r ∷ p ∷ rs) q h = let on = last_on (p ∷ rs) q h in (r ∷ on.0, on.1, ap (λ xs. r ∷ xs) on.2)
+
+pub one_of_map : {A B : Type 0} (f : A → B) (xs : List A) (y : B) → map f xs ≡ y ∷ [] → (x : A) × (xs ≡ x ∷ []) × (f x ≡ y)
+one_of_map f [] y h = absurd (cc)
+one_of_map f (x ∷ []) y h = (x, refl, cc)
+one_of_map f (x ∷ z ∷ xs) y h = absurd (cc)
+
+-- what follows a head doesn't begin with one
+pub no_head_after : (d : Design) (flits : List ℕ) → IsTailShaped (net_of d) flits → is_head (first_flit flits) ≡ false
+no_head_after d [] h = no_head
+no_head_after d (flit ∷ flits) h = sym (is_head_of d flit) ∙ h.0

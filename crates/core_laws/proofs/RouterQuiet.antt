@@ -9,7 +9,8 @@ use Rattle.tile_laws.specs.router.specs.Table.{RouterState, router_wants, router
 use Rattle.tile_laws.specs.router.specs.Beginning.{router_wiring}
 use Rattle.order_abstract.specs.Flight.{Move}
 use Rattle.wormhole.specs.Events.{Event}
-use Rattle.tile_laws.specs.Tile.{Design, Router, tile_step}
+use Rattle.tile_laws.specs.declared.agent.Agent.TheVariants.{Router}
+use Rattle.tile_laws.specs.Tile.{Design, tile_step}
 use Rattle.core_laws.specs.Core.{State}
 use Rattle.core_laws.specs.Moves.{learned_by}
 use Rattle.core_laws.specs.Network.{router_event, tile_event}

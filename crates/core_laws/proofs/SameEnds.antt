@@ -19,7 +19,8 @@ use Rattle.tile_laws.specs.router.specs.Beginning.{router_wiring}
 use Rattle.order_abstract.specs.script_follower.specs.ProcessorTable.{ProcessorState, processor_wants, processor_after}
 use Rattle.order_abstract.specs.home_bank.specs.BankTable.{BankState, bank_wants, bank_after}
 use Rattle.tile_laws.specs.Wiring.{processor_wiring, bank_wiring}
-use Rattle.tile_laws.specs.Tile.{Design, TileState, Processor, Router, Bank, tile_step}
+use Rattle.tile_laws.specs.declared.agent.Agent.TheVariants.{Processor, Router, Bank}
+use Rattle.tile_laws.specs.Tile.{Design, TileState, tile_step}
 use Rattle.core_laws.proofs.AgentSteps.{did, option_map_some}
 
 -- a channel of which something is granted is there

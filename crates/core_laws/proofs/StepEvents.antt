@@ -1,5 +1,5 @@
 -- Every step of the core is an event that may happen, where what holds of reached states holds.
-use Rattle.std.proofs.Common.{◌≡◌, ℕ, ◌/◌, ◌%◌, ◌<◌, List, [], ◌∷◌, ◌++◌, length, map, Option, Some, refl, sym, ◌∙◌, ap, subst, slice_get, slice_index_or}
+use Rattle.std.proofs.Common.{◌≡◌, ℕ, ◌<◌, List, [], ◌∷◌, ◌++◌, length, map, Option, Some, refl, sym, ◌∙◌, ap, subst, slice_get, slice_index_or}
 use Rattle.std.proofs.lemmas.Option.{same_Some, slice_get_within, get_or_from_slice_get, option_and_then_some}
 use Rattle.std.proofs.lemmas.List.{get_or-map, length-map}
 use Rattle.torus.specs.Shape.{tiles_of}
@@ -27,8 +27,11 @@ use Rattle.packet.specs.Flits.{offered}
 use Rattle.order_abstract.specs.script_follower.specs.ProcessorTable.{processor_wants}
 use Rattle.channel_number.specs.Ports.{ejection_channel}
 use Rattle.tile_laws.specs.Wiring.{processor_wiring}
-use Rattle.tile_laws.specs.Tile.{Design, TileState, Agent, Processor, Router, Bank}
-use Rattle.core_laws.specs.Core.{State, next, agent_numbered, show}
+use Rattle.tile_laws.specs.declared.agent.Agent.{Agent}
+use Rattle.tile_laws.specs.declared.agent.Agent.TheVariants.{Processor, Router, Bank}
+use Rattle.tile_laws.specs.Tile.{Design, TileState}
+use Rattle.tile_laws.specs.Agents.{agent_kind, agent_tile}
+use Rattle.core_laws.specs.Core.{State, next, show}
 use Rattle.core_laws.specs.Moves.{learned_by, issue_of, answer_by, processor_move, bank_move, tile_move, move_of}
 use Rattle.core_laws.proofs.AgentSteps.{option_map_some}
 use Rattle.core_laws.proofs.Projection.{net_of}
@@ -116,14 +119,14 @@ module _ (d : Design) (net : IsNet (net_of d)) (tags : ℕ) (opening : List ℕ)
   found_tile t t_in Bank choice m h = option_and_then_some (bank_move (tile_at s t).bank choice) _ m h (λ learned is e. found_bank t choice learned m e)
 
   -- the move of a step is found
-  pub found : (attempt : Step) (m : Move) → move_of d s attempt ≡ Some m → AreFound (attempt.agent / 3) m
+  pub found : (attempt : Step) (m : Move) → move_of d s attempt ≡ Some m → AreFound (agent_tile attempt.agent) m
   found attempt m h =
-      let t : ℕ = attempt.agent / 3 in
-      option_and_then_some (λ tile. tile_move d t tile s.around (agent_numbered (attempt.agent % 3)) attempt.choice) (slice_get s.tiles t) m h (λ tile there e.
+      let t : ℕ = agent_tile attempt.agent in
+      option_and_then_some (λ tile. tile_move d t tile s.around (agent_kind attempt.agent) attempt.choice) (slice_get s.tiles t) m h (λ tile there e.
       let is : tile_at s t ≡ tile = get_or_from_slice_get s.tiles t tile no_tile there in
       let within : t < tiles_of d.shape = subst (λ (n : ℕ). t < n) st.tiles (slice_get_within s.tiles t tile there) in
-      found_tile t within (agent_numbered (attempt.agent % 3)) attempt.choice m
-      (ap (λ (x : TileState). tile_move d t x s.around (agent_numbered (attempt.agent % 3)) attempt.choice) is ∙ e))
+      found_tile t within (agent_kind attempt.agent) attempt.choice m
+      (ap (λ (x : TileState). tile_move d t x s.around (agent_kind attempt.agent) attempt.choice) is ∙ e))
 
   -- the event of a step
   abbrev pub event_here : Step → Event

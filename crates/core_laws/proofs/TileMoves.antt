@@ -33,7 +33,9 @@ use Rattle.order_abstract.specs.script_follower.specs.ProcessorTable.{ProcessorS
 use Rattle.order_abstract.specs.home_bank.specs.BankTable.{BankState, bank_wants, bank_after, is_nil, served}
 use Rattle.tile_laws.specs.Wiring.{processor_wiring, bank_wiring}
 use Rattle.tile_laws.specs.router.specs.Beginning.{router_wiring}
-use Rattle.tile_laws.specs.Tile.{Design, TileState, Agent, Processor, Router, Bank, tile_step}
+use Rattle.tile_laws.specs.declared.agent.Agent.{Agent}
+use Rattle.tile_laws.specs.declared.agent.Agent.TheVariants.{Processor, Router, Bank}
+use Rattle.tile_laws.specs.Tile.{Design, TileState, tile_step}
 use Rattle.core_laws.specs.Moves.{issue_of, answer_by, processor_move, bank_move, tile_move}
 use Rattle.core_laws.proofs.AgentSteps.{Did, did, did_learn, option_map_some}
 use Rattle.core_laws.proofs.ChannelWants.{channel_words, router_of_channel}

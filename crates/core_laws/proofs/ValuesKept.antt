@@ -1,5 +1,5 @@
 -- Each step keeps what holds of values.
-use Rattle.std.proofs.Common.{◌≡◌, ◌≢◌, ⊎_elim, ℕ, ◌/◌, ◌%◌, ◌^◌, ◌<◌, ◌≤◌, List, [], ◌∷◌, length, Option, Some, None, refl, sym, ◌∙◌, ap, subst, arith}
+use Rattle.std.proofs.Common.{◌≡◌, ◌≢◌, ⊎_elim, ℕ, ◌^◌, ◌<◌, ◌≤◌, List, [], ◌∷◌, length, Option, Some, None, refl, sym, ◌∙◌, ap, subst, arith}
 use Rattle.std.proofs.Common.{slice_get, slice_index, slice_set}
 use Rattle.std.specs.Prelude.{option_map, option_and_then}
 use Rattle.std.proofs.lemmas.Bool.{cases_lt}
@@ -30,8 +30,11 @@ use Rattle.order_abstract.specs.script_follower.specs.ProcessorTable.{ProcessorS
 use Rattle.order_abstract.specs.home_bank.specs.BankTable.{BankState, bank_wants, bank_after}
 use Rattle.tile_laws.specs.Wiring.{processor_wiring, bank_wiring}
 use Rattle.tile_laws.specs.router.specs.Beginning.{router_wiring}
-use Rattle.tile_laws.specs.Tile.{Design, TileState, Agent, Processor, Router, Bank, tile_step}
-use Rattle.core_laws.specs.Core.{State, next, or_same, agent_numbered}
+use Rattle.tile_laws.specs.declared.agent.Agent.{Agent}
+use Rattle.tile_laws.specs.declared.agent.Agent.TheVariants.{Processor, Router, Bank}
+use Rattle.tile_laws.specs.Tile.{Design, TileState, tile_step}
+use Rattle.tile_laws.specs.Agents.{agent_kind, agent_tile}
+use Rattle.core_laws.specs.Core.{State, next, or_same}
 use Rattle.core_laws.proofs.AgentSteps.{did, option_map_some}
 use Rattle.core_laws.proofs.TileMoves.{reply_learned}
 use Rattle.core_laws.proofs.Values.{IsLimited, AreSome, HasTileValues, HasValues}
@@ -150,22 +153,22 @@ module _ (d : Design) (tags : ℕ) (limits : IsLimited d tags) (opening : List �
 
   abbrev at_tile : Step → Option TileState → State
   at_tile attempt o = or_same s (option_and_then (λ tile.
-      option_map (λ p. record { tiles = slice_set s.tiles (attempt.agent / 3) p.0; around = p.1 })
-      (tile_step d (attempt.agent / 3) tile s.around (agent_numbered (attempt.agent % 3)) attempt.choice)) o)
+      option_map (λ p. record { tiles = slice_set s.tiles (agent_tile attempt.agent) p.0; around = p.1 })
+      (tile_step d (agent_tile attempt.agent) tile s.around (agent_kind attempt.agent) attempt.choice)) o)
 
-  tile_found : (attempt : Step) (o : Option TileState) → slice_get s.tiles (attempt.agent / 3) ≡ o → HasValues d (at_tile attempt o)
+  tile_found : (attempt : Step) (o : Option TileState) → slice_get s.tiles (agent_tile attempt.agent) ≡ o → HasValues d (at_tile attempt o)
   tile_found attempt None there = h
   tile_found attempt (Some tile) there =
-      let t : ℕ = attempt.agent / 3 in
+      let t : ℕ = agent_tile attempt.agent in
       let is : tile_at s t ≡ tile = get_or_from_slice_get s.tiles t tile no_tile there in
       let t_in : t < tiles_of d.shape = subst (λ (k : ℕ). t < k) st.tiles (slice_get_within s.tiles t tile there) in
       subst (λ (x : TileState). HasValues d (at_tile attempt (Some x))) is
-      (step_kept t t_in (agent_numbered (attempt.agent % 3)) attempt.choice
-      (tile_step d t (tile_at s t) s.around (agent_numbered (attempt.agent % 3)) attempt.choice) refl)
+      (step_kept t t_in (agent_kind attempt.agent) attempt.choice
+      (tile_step d t (tile_at s t) s.around (agent_kind attempt.agent) attempt.choice) refl)
 
   -- Each step keeps what holds of values.
   pub values_kept : (attempt : Step) → HasValues d (next d s attempt)
-  values_kept attempt = tile_found attempt (slice_get s.tiles (attempt.agent / 3)) refl
+  values_kept attempt = tile_found attempt (slice_get s.tiles (agent_tile attempt.agent)) refl
 
   -- No flit of a request in course is 0.
   pub course_some : (t flit : ℕ) (more : List ℕ) → (tile_at s t).processor.to_put ≡ flit ∷ more → flit ≢ 0

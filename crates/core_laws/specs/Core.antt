@@ -1,6 +1,6 @@
 -- The core: all tiles and what they share, its steps, runs and rounds.
 pub use Rattle.tile_laws.specs.Agents.{agent_numbered}
-use Rattle.std.specs.Prelude.{ℕ, ◌+◌, ◌*◌, ◌/◌, ◌%◌, false, List, [], ◌∷◌, ◌++◌, length, map, take}
+use Rattle.std.specs.Prelude.{ℕ, false, List, [], ◌∷◌, ◌++◌, length, map, take}
 use Rattle.std.specs.Prelude.{replicate, Option, Some, None, option_map, option_and_then, slice_get, slice_set}
 use Rattle.std.specs.List.{flat_map, range_with_len}
 use Rattle.torus.specs.Shape.{Shape, tiles_of, dims_of}
@@ -16,7 +16,9 @@ use Rattle.order_abstract.specs.one_order.specs.Observed.{Observed, Run}
 use Rattle.order_abstract.specs.script_follower.specs.ProcessorRecord.{ProcessorRecord}
 use Rattle.channel_number.specs.Ports.{port_count}
 pub use Rattle.order_abstract.specs.Load.{Load}
+use Rattle.tile_laws.specs.declared.agent.Agent.TheVariants.{Processor, Router, Bank}
 use Rattle.tile_laws.specs.Tile.{Design, TileState, tile_step}
+use Rattle.tile_laws.specs.Agents.{agent_number, agent_kind, agent_tile}
 
 -- the state of a machine: its tiles, and what they share, that is the channels, and the words of
 -- the memory with the done word behind them
@@ -28,10 +30,11 @@ pub record State : Type 0 where
 -- 13 and 16)
 abbrev pub step : Design → State → Step → Option State
 step d s attempt = option_and_then (λ tile.
-    option_map (λ p. record { tiles = slice_set s.tiles (attempt.agent / 3) p.0; around = p.1 })
-    (tile_step d (attempt.agent / 3) tile s.around (agent_numbered (attempt.agent % 3))
+    option_map
+    (λ p. record { tiles = slice_set s.tiles (agent_tile attempt.agent) p.0; around = p.1 })
+    (tile_step d (agent_tile attempt.agent) tile s.around (agent_kind attempt.agent)
     attempt.choice))
-    (slice_get s.tiles (attempt.agent / 3))
+    (slice_get s.tiles (agent_tile attempt.agent))
 
 -- the next state where there is one, and else the same
 abbrev pub or_same : State → Option State → State
@@ -115,10 +118,10 @@ attempts_of agent choices = map (λ c. record { agent = agent; choice = c }) cho
 -- once
 abbrev pub round_at : ℕ → ℕ → List Step
 round_at ports t =
-    attempts_of (3 * t) (Send ∷ Take ∷ Credit ∷ Done ∷ Look ∷ [])
-    ++ attempts_of (3 * t + 1) (map (λ i. TakeFrom i) (range_with_len 0 ports)
+    attempts_of (agent_number t Processor) (Send ∷ Take ∷ Credit ∷ Done ∷ Look ∷ [])
+    ++ attempts_of (agent_number t Router) (map (λ i. TakeFrom i) (range_with_len 0 ports)
     ++ map (λ i. Put i) (range_with_len 0 ports) ++ map (λ o. CreditOf o) (range_with_len 0 ports))
-    ++ attempts_of (3 * t + 2) (Take ∷ Serve ∷ Send ∷ Credit ∷ [])
+    ++ attempts_of (agent_number t Bank) (Take ∷ Serve ∷ Send ∷ Credit ∷ [])
 
 -- a round: the agents in order (this project's own format)
 abbrev pub round : Shape → List Step

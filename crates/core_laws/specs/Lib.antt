@@ -11,7 +11,6 @@ pub mod Moves
 pub mod Runs
 pub mod Delivery
 pub mod Reports
-pub mod Choices
 pub mod Touches
 pub mod Asks
 pub mod Mirrors

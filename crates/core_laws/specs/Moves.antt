@@ -1,5 +1,5 @@
 -- What a step is of the operations.
-use Rattle.std.specs.Prelude.{ℕ, ◌/◌, ◌%◌, List, [], ◌∷◌, Option, Some, None, option_map, option_and_then, slice_get}
+use Rattle.std.specs.Prelude.{ℕ, List, [], ◌∷◌, Option, Some, None, option_map, option_and_then, slice_get}
 use Rattle.torus.specs.Shape.{tiles_of}
 use Rattle.torus.specs.declared.step.Step.{Step}
 use Rattle.torus.specs.declared.step.Choice.{Choice}
@@ -16,8 +16,11 @@ use Rattle.packet.specs.Flits.{offered}
 use Rattle.order_abstract.specs.script_follower.specs.ProcessorTable.{ProcessorState, processor_wants}
 use Rattle.order_abstract.specs.home_bank.specs.BankTable.{BankState, bank_wants}
 use Rattle.tile_laws.specs.Wiring.{processor_wiring, bank_wiring}
-use Rattle.tile_laws.specs.Tile.{Design, TileState, Agent, Processor, Router, Bank}
-use Rattle.core_laws.specs.Core.{State, agent_numbered}
+use Rattle.tile_laws.specs.declared.agent.Agent.{Agent}
+use Rattle.tile_laws.specs.declared.agent.Agent.TheVariants.{Processor, Router, Bank}
+use Rattle.tile_laws.specs.Tile.{Design, TileState}
+use Rattle.tile_laws.specs.Agents.{agent_kind, agent_tile}
+use Rattle.core_laws.specs.Core.{State}
 
 -- what an agent learns by a choice; None where it isn't enabled
 abbrev pub learned_by : {S : Type 0} → (S → Choice → Option Want) → Wiring → S → Surroundings
@@ -59,6 +62,6 @@ tile_move d t tile around Bank choice = option_and_then (bank_move tile.bank cho
 -- what a step is of the operations: an issue, a service, an answer, or nothing
 abbrev pub move_of : Design → State → Step → Option Move
 move_of d s attempt = option_and_then (λ tile.
-    tile_move d (attempt.agent / 3) tile s.around (agent_numbered (attempt.agent % 3))
+    tile_move d (agent_tile attempt.agent) tile s.around (agent_kind attempt.agent)
     attempt.choice)
-    (slice_get s.tiles (attempt.agent / 3))
+    (slice_get s.tiles (agent_tile attempt.agent))

@@ -1,5 +1,5 @@
 -- The network of a machine, its packets there, and the event of the network that each step is.
-use Rattle.std.specs.Prelude.{ℕ, ◌/◌, ◌%◌, if◌then◌else◌, List, [], ◌∷◌, Option, Some, None, option_map}
+use Rattle.std.specs.Prelude.{ℕ, if◌then◌else◌, List, [], ◌∷◌, Option, Some, None, option_map}
 use Rattle.std.specs.Prelude.{option_and_then, slice_get}
 use Rattle.torus.specs.Shape.{Shape, tiles_of}
 use Rattle.torus.specs.declared.shape.Class.TheVariants as class
@@ -27,9 +27,12 @@ use Rattle.order_abstract.specs.script_follower.specs.ProcessorRecord.{ready, re
 use Rattle.order_abstract.specs.script_follower.specs.ProcessorTable.{ProcessorState, processor_wants}
 use Rattle.order_abstract.specs.home_bank.specs.BankTable.{BankState, bank_wants}
 use Rattle.tile_laws.specs.Wiring.{processor_wiring, bank_wiring}
-use Rattle.tile_laws.specs.Tile.{Design, TileState, Agent, Processor, Router, Bank}
+use Rattle.tile_laws.specs.declared.agent.Agent.{Agent}
+use Rattle.tile_laws.specs.declared.agent.Agent.TheVariants.{Processor, Router, Bank}
+use Rattle.tile_laws.specs.Tile.{Design, TileState}
+use Rattle.tile_laws.specs.Agents.{agent_kind, agent_tile}
 use Rattle.core_laws.specs.Heads.{is_head}
-use Rattle.core_laws.specs.Core.{State, agent_numbered}
+use Rattle.core_laws.specs.Core.{State}
 use Rattle.core_laws.specs.Moves.{learned_by}
 use Rattle.core_laws.specs.Delivery.{next_flit, responses_made}
 
@@ -132,9 +135,9 @@ module _ (d : Design) (t : ℕ) where
 -- chapters 13 and 16)
 abbrev pub network_event : Design → State → Step → Option Event
 network_event d s attempt = option_and_then (λ tile.
-    tile_event d (attempt.agent / 3) tile s.around (agent_numbered (attempt.agent % 3))
+    tile_event d (agent_tile attempt.agent) tile s.around (agent_kind attempt.agent)
     attempt.choice)
-    (slice_get s.tiles (attempt.agent / 3))
+    (slice_get s.tiles (agent_tile attempt.agent))
 
 -- the network after an event, or none
 abbrev pub network_after : Net → NetState → Option Event → NetState

@@ -1,6 +1,6 @@
 //! Laws of every run of the core, each the contract of a function that does nothing.
 
-ghost use Rattle.std.specs.Prelude.{◌≡◌, ◌≢◌, ◌≤◌, ◌<◌, ◌/◌, ◌%◌, ℕ, List, [], take, length, Some, None, true, false};
+ghost use Rattle.std.specs.Prelude.{◌≡◌, ◌≢◌, ◌≤◌, ◌<◌, ℕ, List, [], take, length, Some, None, true, false};
 ghost use Rattle.std.specs.Prelude.{option_map, slice_get, IfSome};
 ghost use Rattle.torus.specs.Shape.{tiles_of, dims_of};
 ghost use Rattle.torus.specs.Choices.{has_choice as numbered_has};
@@ -24,11 +24,13 @@ ghost use Rattle.order_abstract.specs.Scripts.{FollowScripts};
 ghost use Rattle.order_abstract.specs.script_follower.specs.ProcessorTable.{processor_wants};
 ghost use Rattle.order_abstract.specs.home_bank.specs.BankTable.{bank_wants};
 ghost use Rattle.tile_laws.specs.Wiring.{processor_wiring, bank_wiring};
-ghost use Rattle.tile_laws.specs.Tile.{Design, TileState, Processor, Router, Bank, tile_step};
-ghost use Rattle.core_laws.specs.Core.{Load, State, design_of, agent_numbered, step, after_from, run_of};
+ghost use Rattle.tile_laws.specs.declared.agent.Agent.TheVariants.{Processor, Router, Bank};
+ghost use Rattle.tile_laws.specs.Tile.{Design, TileState, tile_step};
+ghost use Rattle.tile_laws.specs.Agents.{agent_numbered, agent_kind, agent_tile};
+ghost use Rattle.core_laws.specs.Core.{Load, State, design_of, step, after_from, run_of};
 ghost use Rattle.core_laws.specs.Runs.{IsAccepted, state_after, event_of};
 ghost use Rattle.core_laws.specs.Delivery.{DeliversPackets};
-ghost use Rattle.core_laws.specs.Choices.{has_choice};
+ghost use Rattle.tile_laws.specs.Choices.{has_choice};
 ghost use Rattle.core_laws.specs.Touches.{ProcessorAlone, RouterAlone, BankAlone};
 ghost use Rattle.core_laws.specs.Reports.{CountsReports};
 ghost use Rattle.script.specs.declared.line.Line.{Line};
@@ -127,10 +129,10 @@ pub fn done_word_counts_reports()
 pub fn enabled_choices_are_the_agents()
     ensures enabled { (d : Design) (s : State) (attempt : Step) (next : State)
         → step d s attempt ≡ Some next
-        → has_choice (port_count (dims_of d.shape)) (agent_numbered (attempt.agent % 3))
+        → has_choice (port_count (dims_of d.shape)) (agent_kind attempt.agent)
         attempt.choice ≡ true }
     ensures other { (d : Design) (s : State) (attempt : Step)
-        → has_choice (port_count (dims_of d.shape)) (agent_numbered (attempt.agent % 3))
+        → has_choice (port_count (dims_of d.shape)) (agent_kind attempt.agent)
         attempt.choice ≡ false → step d s attempt ≡ None }
     ensures numbered { (ports kind : ℕ) (choice : Choice)
         → has_choice ports (agent_numbered kind) choice ≡ numbered_has ports kind choice }
@@ -193,7 +195,7 @@ pub fn choices_change_their_own_part_alike()
 /// channels and words it changes what the agent wanted, which is one end of a channel or one word.
 pub fn steps_touch_one_agent()
     ensures tiles { (d : Design) (s : State) (attempt : Step) (next : State) (u : ℕ)
-        → step d s attempt ≡ Some next → u ≢ attempt.agent / 3
+        → step d s attempt ≡ Some next → u ≢ agent_tile attempt.agent
         → slice_get next.tiles u ≡ slice_get s.tiles u }
     ensures processor { (d : Design) (t : ℕ) (tile : TileState) (around : Surroundings)
         (choice : Choice) (left : TileState) (after : Surroundings)

@@ -1,5 +1,5 @@
 -- Where steps lead from a load: the machine there, and further steps.
-use Rattle.std.proofs.Common.{◌≡◌, ◌↔◌, ℕ, ◌-◌, ◌/◌, ◌%◌, ◌<◌, true, List, [], ◌∷◌, ◌++◌, length, Option, Some, None, refl, sym, ◌∙◌, ap, subst, arith}
+use Rattle.std.proofs.Common.{◌≡◌, ◌↔◌, ℕ, ◌-◌, ◌<◌, true, List, [], ◌∷◌, ◌++◌, length, Option, Some, None, refl, sym, ◌∙◌, ap, subst, arith}
 use Rattle.std.proofs.Common.{slice_get, append_assoc, map}
 use Rattle.std.specs.Prelude.{option_and_then, option_map, slice_set}
 use Rattle.std.proofs.lemmas.List.{append-nil}
@@ -16,8 +16,10 @@ use Rattle.flit_buffer.specs.Surroundings.{Surroundings}
 use Rattle.core_progress.specs.order_abstract.specs.Flight.{Move, event_by}
 use Rattle.core_progress.specs.order_abstract.specs.Scripts.{AreFinished}
 use Rattle.core_progress.specs.order_abstract.specs.EventBook.{EventBook, first_book, noted_event}
-use Rattle.core_progress.specs.tile_laws.specs.Tile.{Design, TileState, Agent, tile_step}
-use Rattle.core_progress.specs.core_laws.specs.Core.{Load, State, design_of, step, or_same, first_state, after, run_of, agent_numbered}
+use Rattle.core_progress.specs.tile_laws.specs.declared.agent.Agent.{Agent}
+use Rattle.core_progress.specs.tile_laws.specs.Tile.{Design, TileState, tile_step}
+use Rattle.core_progress.specs.tile_laws.specs.Agents.{agent_kind, agent_tile}
+use Rattle.core_progress.specs.core_laws.specs.Core.{Load, State, design_of, step, or_same, first_state, after, run_of}
 use Rattle.core_progress.specs.core_laws.specs.Moves.{move_of, tile_move}
 use Rattle.core_progress.specs.core_laws.specs.Runs.{IsAccepted, without_packets}
 use Rattle.core_progress.specs.core_laws.proofs.AgentSteps.{option_map_none}
@@ -104,7 +106,8 @@ refused_at d s agent t choice (Some tile) h =
     refused_tile d s [] [] t tile agent choice (option_map_none (state_left s t) (tile_step d t tile s.around agent choice) h)
 
 refused_step : (d : Design) (s : State) (attempt : Step) → step d s attempt ≡ None → move_of d s attempt ≡ None
-refused_step d s attempt h = refused_at d s (agent_numbered (attempt.agent % 3)) (attempt.agent / 3) attempt.choice (slice_get s.tiles (attempt.agent / 3)) h
+refused_step d s attempt h =
+    refused_at d s (agent_kind attempt.agent) (agent_tile attempt.agent) attempt.choice (slice_get s.tiles (agent_tile attempt.agent)) h
 
 module _ (l : Load) (steps : List Step) (attempt : Step) where
   abbrev s : State

@@ -2,7 +2,7 @@
 use Rattle.std.proofs.Common.{◌≡◌, ℕ, ◌+◌, ◌≤◌, List, [], ◌∷◌, ◌++◌, length, map, Option, Some, None, refl, sym, ◌∙◌, ap, subst, arith}
 use Rattle.torus.specs.Shape.{tiles_of}
 use Rattle.torus.specs.declared.step.Step.{Step}
-use Rattle.std.specs.Prelude.{option_and_then, option_map, slice_set, slice_get, ◌/◌, ◌%◌}
+use Rattle.std.specs.Prelude.{option_and_then, option_map, slice_set, slice_get}
 use Rattle.flit_buffer.specs.Surroundings.{Surroundings}
 use Rattle.script.specs.Scripts.{operation_count}
 use Rattle.rounds.specs.Rounds as rounds
@@ -10,7 +10,8 @@ use Rattle.rounds.specs.Rounds.{after_attempts, moves_in, IsEnabled}
 use Rattle.core_machine.specs.order_abstract.specs.Flight.{Move, event_by}
 use Rattle.core_machine.specs.order_abstract.specs.EventBook.{EventBook, first_book, noted_event}
 use Rattle.core_machine.specs.tile_laws.specs.Tile.{Design, TileState, tile_step}
-use Rattle.core_machine.specs.core_laws.specs.Core.{Load, State, design_of, first_state, step, next, or_same, after, after_from, agent_numbered}
+use Rattle.core_machine.specs.tile_laws.specs.Agents.{agent_kind, agent_tile}
+use Rattle.core_machine.specs.core_laws.specs.Core.{Load, State, design_of, first_state, step, next, or_same, after, after_from}
 use Rattle.core_machine.specs.core_laws.specs.Moves.{tile_move, move_of}
 use Rattle.core_machine.specs.core_laws.proofs.AgentSteps.{option_map_none}
 use Rattle.core_machine.specs.core_laws.proofs.FlightSteps.{refused_tile}
@@ -29,18 +30,18 @@ use Rattle.core_moves.proofs.Enabled as generic
 refused_by : (d : Design) (s : State) (x : Step) (tile : Option TileState)
     → option_and_then {U = State} (λ (v : TileState).
     option_map
-    (λ (p : TileState × Surroundings). record { tiles = slice_set s.tiles (x.agent / 3) p.0; around = p.1 })
-    (tile_step d (x.agent / 3) v s.around (agent_numbered (x.agent % 3)) x.choice)) tile ≡ None
+    (λ (p : TileState × Surroundings). record { tiles = slice_set s.tiles (agent_tile x.agent) p.0; around = p.1 })
+    (tile_step d (agent_tile x.agent) v s.around (agent_kind x.agent) x.choice)) tile ≡ None
     → option_and_then (λ (v : TileState).
-    tile_move d (x.agent / 3) v s.around (agent_numbered (x.agent % 3)) x.choice) tile ≡ None
+    tile_move d (agent_tile x.agent) v s.around (agent_kind x.agent) x.choice) tile ≡ None
 refused_by d s x None h = refl
 refused_by d s x (Some tile) h =
-    refused_tile d s [] [] (x.agent / 3) tile (agent_numbered (x.agent % 3)) x.choice
+    refused_tile d s [] [] (agent_tile x.agent) tile (agent_kind x.agent) x.choice
     (option_map_none {B = State}
-    (λ (p : TileState × Surroundings). record { tiles = slice_set s.tiles (x.agent / 3) p.0; around = p.1 }) _ h)
+    (λ (p : TileState × Surroundings). record { tiles = slice_set s.tiles (agent_tile x.agent) p.0; around = p.1 }) _ h)
 
 refused_step : (d : Design) (s : State) (x : Step) → step d s x ≡ None → move_of d s x ≡ None
-refused_step d s x h = refused_by d s x (slice_get s.tiles (x.agent / 3)) h
+refused_step d s x h = refused_by d s x (slice_get s.tiles (agent_tile x.agent)) h
 
 module _ (d : Design) where
   -- a list of attempts of the core, in the words of rounds

@@ -1,5 +1,5 @@
 -- Which attempts are in a round.
-use Rattle.std.proofs.Common.{◌≡◌, ℕ, zero, suc, ◌+◌, ◌*◌, ◌<◌, List, [], ◌∷◌, ◌++◌, map, sym, ◌∙◌, ap, subst, arith, append_assoc}
+use Rattle.std.proofs.Common.{◌≡◌, ℕ, zero, suc, ◌+◌, ◌<◌, List, [], ◌∷◌, ◌++◌, map, sym, ◌∙◌, ap, subst, arith, append_assoc}
 use Rattle.std.specs.List.{flat_map, range_with_len}
 use Rattle.torus.specs.Shape.{Shape, tiles_of, dims_of}
 use Rattle.torus.specs.declared.step.Step.{Step}
@@ -7,6 +7,8 @@ use Rattle.torus.specs.declared.step.Choice.{Choice}
 use Rattle.torus.specs.declared.step.Choice.TheVariants.{Send, Take, TakeFrom, Put, Credit, CreditOf, Serve, Done, Look}
 use Rattle.wormhole.specs.Net.{IsOn}
 use Rattle.channel_number.specs.Ports.{port_count}
+use Rattle.core_laws.specs.tile_laws.specs.declared.agent.Agent.TheVariants.{Processor, Router, Bank}
+use Rattle.core_laws.specs.tile_laws.specs.Agents.{agent_number}
 use Rattle.core_laws.specs.Core.{attempts_of, round_at, round}
 use Rattle.rounds.proofs.Members.{on_head, on_tail}
 
@@ -46,10 +48,6 @@ module _ (s : Shape) (t : ℕ) (here : t < tiles_of s) where
   in_round a on = on_flat_map (round_at (port_count (dims_of s))) t a (range_with_len 0 (tiles_of s))
       (subst (λ z. IsOn z (range_with_len 0 (tiles_of s))) (let e : 0 + t ≡ t = omega arith in e) (on_range 0 (tiles_of s) t here)) on
 
-  numbered : (agent other : ℕ) (choice : Choice) → agent ≡ other → IsOn (record { agent = agent; choice = choice }) (round_at (port_count (dims_of s)) t)
-      → IsOn (record { agent = other; choice = choice }) (round_at (port_count (dims_of s)) t)
-  numbered agent other choice same on = subst (λ n. IsOn (record { agent = n; choice = choice }) (round_at (port_count (dims_of s)) t)) same on
-
   abbrev pub processor_choices : List Choice
   processor_choices = Send ∷ Take ∷ Credit ∷ Done ∷ Look ∷ []
 
@@ -60,25 +58,32 @@ module _ (s : Shape) (t : ℕ) (here : t < tiles_of s) where
   router_choices = map (λ i. TakeFrom i) (range_with_len 0 (port_count (dims_of s))) ++ map (λ i. Put i) (range_with_len 0 (port_count (dims_of s)))
       ++ map (λ o. CreditOf o) (range_with_len 0 (port_count (dims_of s)))
 
-  pub processor_on : (choice : Choice) → IsOn choice processor_choices → IsOn (record { agent = t * 3 + 0; choice = choice }) (round s)
-  processor_on choice on = in_round (record { agent = t * 3 + 0; choice = choice }) (numbered (3 * t) (t * 3 + 0) choice (omega arith)
-      (on_left (record { agent = 3 * t; choice = choice }) (attempts_of (3 * t) processor_choices)
-      (attempts_of (3 * t + 1) router_choices ++ attempts_of (3 * t + 2) bank_choices)
-      (on_map (λ c. record { agent = 3 * t; choice = c }) choice processor_choices on)))
+  -- the round's attempts at the tile, by agent
+  abbrev of_processor : List Step
+  of_processor = attempts_of (agent_number t Processor) processor_choices
 
-  pub router_on : (choice : Choice) → IsOn choice router_choices → IsOn (record { agent = t * 3 + 1; choice = choice }) (round s)
-  router_on choice on = in_round (record { agent = t * 3 + 1; choice = choice }) (numbered (3 * t + 1) (t * 3 + 1) choice (omega arith)
-      (on_right (record { agent = 3 * t + 1; choice = choice }) (attempts_of (3 * t) processor_choices)
-      (attempts_of (3 * t + 1) router_choices ++ attempts_of (3 * t + 2) bank_choices)
-      (on_left (record { agent = 3 * t + 1; choice = choice }) (attempts_of (3 * t + 1) router_choices) (attempts_of (3 * t + 2) bank_choices)
-      (on_map (λ c. record { agent = 3 * t + 1; choice = c }) choice router_choices on))))
+  abbrev of_router : List Step
+  of_router = attempts_of (agent_number t Router) router_choices
 
-  pub bank_on : (choice : Choice) → IsOn choice bank_choices → IsOn (record { agent = t * 3 + 2; choice = choice }) (round s)
-  bank_on choice on = in_round (record { agent = t * 3 + 2; choice = choice }) (numbered (3 * t + 2) (t * 3 + 2) choice (omega arith)
-      (on_right (record { agent = 3 * t + 2; choice = choice }) (attempts_of (3 * t) processor_choices)
-      (attempts_of (3 * t + 1) router_choices ++ attempts_of (3 * t + 2) bank_choices)
-      (on_right (record { agent = 3 * t + 2; choice = choice }) (attempts_of (3 * t + 1) router_choices) (attempts_of (3 * t + 2) bank_choices)
-      (on_map (λ c. record { agent = 3 * t + 2; choice = c }) choice bank_choices on))))
+  abbrev of_bank : List Step
+  of_bank = attempts_of (agent_number t Bank) bank_choices
+
+  pub processor_on : (choice : Choice) → IsOn choice processor_choices → IsOn (record { agent = agent_number t Processor; choice = choice }) (round s)
+  processor_on choice on = in_round (record { agent = agent_number t Processor; choice = choice })
+      (on_left (record { agent = agent_number t Processor; choice = choice }) of_processor (of_router ++ of_bank)
+      (on_map (λ c. record { agent = agent_number t Processor; choice = c }) choice processor_choices on))
+
+  pub router_on : (choice : Choice) → IsOn choice router_choices → IsOn (record { agent = agent_number t Router; choice = choice }) (round s)
+  router_on choice on = in_round (record { agent = agent_number t Router; choice = choice })
+      (on_right (record { agent = agent_number t Router; choice = choice }) of_processor (of_router ++ of_bank)
+      (on_left (record { agent = agent_number t Router; choice = choice }) of_router of_bank
+      (on_map (λ c. record { agent = agent_number t Router; choice = c }) choice router_choices on)))
+
+  pub bank_on : (choice : Choice) → IsOn choice bank_choices → IsOn (record { agent = agent_number t Bank; choice = choice }) (round s)
+  bank_on choice on = in_round (record { agent = agent_number t Bank; choice = choice })
+      (on_right (record { agent = agent_number t Bank; choice = choice }) of_processor (of_router ++ of_bank)
+      (on_right (record { agent = agent_number t Bank; choice = choice }) of_router of_bank
+      (on_map (λ c. record { agent = agent_number t Bank; choice = c }) choice bank_choices on)))
 
   port_on : (f : ℕ → Choice) (i : ℕ) → i < port_count (dims_of s) → IsOn (f i) (map f (range_with_len 0 (port_count (dims_of s))))
   port_on f i low = on_map f i (range_with_len 0 (port_count (dims_of s)))

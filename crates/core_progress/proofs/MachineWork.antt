@@ -1,5 +1,5 @@
 -- Each enabled step of the machine makes at least one of the moves that are owed.
-use Rattle.std.proofs.Common.{◌≡◌, ℕ, ◌/◌, ◌%◌, ◌<◌, List, length, Option, Some, None, refl, sym, ◌∙◌, ap, subst, slice_get, slice_set, get_or-set_same}
+use Rattle.std.proofs.Common.{◌≡◌, ℕ, ◌<◌, List, length, Option, Some, None, refl, sym, ◌∙◌, ap, subst, slice_get, slice_set, get_or-set_same}
 use Rattle.std.proofs.Common.{get_or-set_other}
 use Rattle.std.specs.Prelude.{option_map, option_and_then}
 use Rattle.std.proofs.lemmas.Option.{slice_get_within, get_or_from_slice_get}
@@ -18,8 +18,11 @@ use Rattle.core_laws.specs.script_follower.specs.ProcessorTable.{processor_wants
 use Rattle.core_laws.specs.home_bank.specs.BankTable.{bank_wants, bank_after}
 use Rattle.core_laws.specs.tile_laws.specs.Wiring.{processor_wiring, bank_wiring}
 use Rattle.core_laws.specs.router.specs.Beginning.{router_wiring}
-use Rattle.core_laws.specs.tile_laws.specs.Tile.{Design, TileState, Agent, Processor, Router, Bank, tile_step}
-use Rattle.core_laws.specs.Core.{State, step, agent_numbered}
+use Rattle.core_laws.specs.tile_laws.specs.declared.agent.Agent.{Agent}
+use Rattle.core_laws.specs.tile_laws.specs.declared.agent.Agent.TheVariants.{Processor, Router, Bank}
+use Rattle.core_laws.specs.tile_laws.specs.Tile.{Design, TileState, tile_step}
+use Rattle.core_laws.specs.tile_laws.specs.Agents.{agent_kind, agent_tile}
+use Rattle.core_laws.specs.Core.{State, step}
 use Rattle.core_laws.proofs.AgentSteps.{Did, did, option_map_some}
 use Rattle.core_laws.proofs.Projection.{net_of}
 use Rattle.core_laws.proofs.Stands.{Ghost, tile_at, no_tile, IsProperRequest}
@@ -108,22 +111,22 @@ module _ (d : Design) (tags : ℕ) (opening : List ℕ) (s : State) (g : Ghost) 
   -- the tile whose agent makes the step
   pub record HasStepped (a : Step) (after : State) : Type 0 where
     pub tile : TileState
-    pub there : slice_get s.tiles (a.agent / 3) ≡ Some tile
+    pub there : slice_get s.tiles (agent_tile a.agent) ≡ Some tile
     pub moved : TileState × Surroundings
-    pub enabled : tile_step d (a.agent / 3) tile s.around (agent_numbered (a.agent % 3)) a.choice ≡ Some moved
-    pub is : record { tiles = slice_set s.tiles (a.agent / 3) moved.0; around = moved.1 } ≡ after
+    pub enabled : tile_step d (agent_tile a.agent) tile s.around (agent_kind a.agent) a.choice ≡ Some moved
+    pub is : record { tiles = slice_set s.tiles (agent_tile a.agent) moved.0; around = moved.1 } ≡ after
 
   has_stepped : (a : Step) (after : State) → step d s a ≡ Some after → HasStepped a after
-  has_stepped a after enabled = by_tile (slice_get s.tiles (a.agent / 3)) refl enabled
+  has_stepped a after enabled = by_tile (slice_get s.tiles (agent_tile a.agent)) refl enabled
     where
-      by_tile : (o : Option TileState) → slice_get s.tiles (a.agent / 3) ≡ o
-          → option_and_then (λ tile. option_map (λ (p : TileState × Surroundings). record { tiles = slice_set s.tiles (a.agent / 3) p.0; around = p.1 })
-          (tile_step d (a.agent / 3) tile s.around (agent_numbered (a.agent % 3)) a.choice)) o ≡ Some after
+      by_tile : (o : Option TileState) → slice_get s.tiles (agent_tile a.agent) ≡ o
+          → option_and_then (λ tile. option_map (λ (p : TileState × Surroundings). record { tiles = slice_set s.tiles (agent_tile a.agent) p.0; around = p.1 })
+          (tile_step d (agent_tile a.agent) tile s.around (agent_kind a.agent) a.choice)) o ≡ Some after
           → HasStepped a after
       by_tile None there h = absurd (cc)
       by_tile (Some tile) there h =
-          let p = option_map_some (λ (p : TileState × Surroundings). record { tiles = slice_set s.tiles (a.agent / 3) p.0; around = p.1 })
-          (tile_step d (a.agent / 3) tile s.around (agent_numbered (a.agent % 3)) a.choice) after h in
+          let p = option_map_some (λ (p : TileState × Surroundings). record { tiles = slice_set s.tiles (agent_tile a.agent) p.0; around = p.1 })
+          (tile_step d (agent_tile a.agent) tile s.around (agent_kind a.agent) a.choice) after h in
           record { tile = tile; there = there; moved = p.0; enabled = p.1; is = p.2 }
 
   -- an enabled step of the machine is one of the ends' and the network's
@@ -131,11 +134,11 @@ module _ (d : Design) (tags : ℕ) (opening : List ℕ) (s : State) (g : Ghost) 
       → IsStep (net_of d) (tiles_of d.shape) (ends_at cap s) g.net (ends_at cap after) (network_after (net_of d) g.net (network.network_event d s a))
   machine_step a after enabled =
       let h : HasStepped a after = has_stepped a after enabled in
-      let t : ℕ = a.agent / 3 in
+      let t : ℕ = agent_tile a.agent in
       let low : t < length s.tiles = slice_get_within s.tiles t h.tile h.there in
       let here : t < tiles_of d.shape = subst (λ n. t < n) at.stands.tiles low in
       let now : tile_at s t ≡ h.tile = get_or_from_slice_get s.tiles t h.tile no_tile h.there in
-      let agent : Agent = agent_numbered (a.agent % 3) in
+      let agent : Agent = agent_kind a.agent in
       let e = tile_event t here agent a.choice h.moved (ap (λ (u : TileState). tile_step d t u s.around agent a.choice) now ∙ h.enabled) in
       let told : network.tile_event d t (tile_at s t) s.around agent a.choice ≡ network.network_event d s a =
       ap (λ (u : TileState). network.tile_event d t u s.around agent a.choice) now

@@ -1,6 +1,6 @@
 -- The moves that lists of attempts make.
 use Rattle.std.proofs.Common.{◌≡◌, ℕ, zero, suc, ◌+◌, List, [], ◌∷◌, ◌++◌, length, take, Option, Some, None, refl, ap, arith, slice_get}
-use Rattle.std.specs.Prelude.{option_and_then, option_map, slice_set, ◌/◌, ◌%◌}
+use Rattle.std.specs.Prelude.{option_and_then, option_map, slice_set}
 use Rattle.torus.specs.Shape.{tiles_of}
 use Rattle.torus.specs.declared.step.Step.{Step}
 use Rattle.torus.specs.declared.step.Choice.{Choice}
@@ -10,10 +10,13 @@ use Rattle.core_laws.specs.router.specs.Beginning.{router_wiring}
 use Rattle.core_laws.specs.script_follower.specs.ProcessorTable.{ProcessorState, processor_wants, processor_after}
 use Rattle.core_laws.specs.home_bank.specs.BankTable.{BankState, bank_wants, bank_after}
 use Rattle.core_laws.specs.tile_laws.specs.Wiring.{processor_wiring, bank_wiring}
-use Rattle.core_laws.specs.tile_laws.specs.Tile.{Design, TileState, Agent, Processor, Router, Bank, tile_step}
+use Rattle.core_laws.specs.tile_laws.specs.declared.agent.Agent.{Agent}
+use Rattle.core_laws.specs.tile_laws.specs.declared.agent.Agent.TheVariants.{Processor, Router, Bank}
+use Rattle.core_laws.specs.tile_laws.specs.Tile.{Design, TileState, tile_step}
+use Rattle.core_laws.specs.tile_laws.specs.Agents.{agent_kind, agent_tile}
 use Rattle.rounds.specs.Rounds as rounds
 use Rattle.rounds.specs.Rounds.{moves_in, one_if_moved}
-use Rattle.core_laws.specs.Core.{State, step, next, or_same, after_from, agent_numbered}
+use Rattle.core_laws.specs.Core.{State, step, next, or_same, after_from}
 use Rattle.core_laws.specs.Network.{tile_event, network_event, processor_event, router_event, bank_event}
 use Rattle.core_laws.proofs.AgentSteps.{refused, option_map_none}
 
@@ -74,12 +77,12 @@ module _ (d : Design) (t : ℕ) (tile : TileState) (around : Surroundings) where
 
 still_by : (d : Design) (s : State) (a : Step) (o : Option TileState)
     → option_and_then {U = State}
-    (λ tile. option_map (λ (p : TileState × Surroundings). record { tiles = slice_set s.tiles (a.agent / 3) p.0; around = p.1 })
-    (tile_step d (a.agent / 3) tile s.around (agent_numbered (a.agent % 3)) a.choice)) o ≡ None
-    → option_and_then (λ tile. tile_event d (a.agent / 3) tile s.around (agent_numbered (a.agent % 3)) a.choice) o ≡ None
+    (λ tile. option_map (λ (p : TileState × Surroundings). record { tiles = slice_set s.tiles (agent_tile a.agent) p.0; around = p.1 })
+    (tile_step d (agent_tile a.agent) tile s.around (agent_kind a.agent) a.choice)) o ≡ None
+    → option_and_then (λ tile. tile_event d (agent_tile a.agent) tile s.around (agent_kind a.agent) a.choice) o ≡ None
 still_by d s a None h = refl
-still_by d s a (Some tile) h = still_tile d (a.agent / 3) tile s.around (agent_numbered (a.agent % 3)) a.choice
-    (option_map_none {B = State} (λ (p : TileState × Surroundings). record { tiles = slice_set s.tiles (a.agent / 3) p.0; around = p.1 }) _ h)
+still_by d s a (Some tile) h = still_tile d (agent_tile a.agent) tile s.around (agent_kind a.agent) a.choice
+    (option_map_none {B = State} (λ (p : TileState × Surroundings). record { tiles = slice_set s.tiles (agent_tile a.agent) p.0; around = p.1 }) _ h)
 
 pub still : (d : Design) (s : State) (a : Step) → step d s a ≡ None → network_event d s a ≡ None
-still d s a h = still_by d s a (slice_get s.tiles (a.agent / 3)) h
+still d s a h = still_by d s a (slice_get s.tiles (agent_tile a.agent)) h

@@ -1,7 +1,6 @@
 -- Each step that is enabled is an attempt of the round.
-use Rattle.std.proofs.Common.{◌≡◌, ℕ, zero, suc, ◌+◌, ◌*◌, ◌/◌, ◌%◌, ◌<◌, true, List, [], ◌∷◌, length, Option, Some, None, refl, subst, arith, slice_get}
+use Rattle.std.proofs.Common.{◌≡◌, ℕ, ◌<◌, true, List, [], ◌∷◌, length, Option, Some, None, refl, subst, slice_get}
 use Rattle.std.specs.Prelude.{option_and_then, option_map, slice_set}
-use Rattle.std.proofs.Math.Nat.{div-add-mod, mod-lt}
 use Rattle.std.proofs.lemmas.Bool.{ltb-true}
 use Rattle.std.proofs.lemmas.Option.{slice_get_within}
 use Rattle.torus.specs.Shape.{Shape, tiles_of, dims_of}
@@ -12,10 +11,14 @@ use Rattle.channel_number.specs.Ports.{port_count}
 use Rattle.rounds.specs.Rounds.{IsEnabled}
 use Rattle.rounds.proofs.Rounds.{found_enabled, none_enabled}
 use Rattle.wormhole.specs.Net.{IsOn}
-use Rattle.core_laws.specs.tile_laws.specs.Tile.{Design, TileState, Processor, Router, Bank, tile_step}
-use Rattle.core_laws.specs.Core.{Load, State, design_of, agent_numbered, step, round}
+use Rattle.core_laws.specs.tile_laws.specs.declared.agent.Agent.{Agent}
+use Rattle.core_laws.specs.tile_laws.specs.declared.agent.Agent.TheVariants.{Processor, Router, Bank}
+use Rattle.core_laws.specs.tile_laws.specs.Tile.{Design, TileState, tile_step}
+use Rattle.core_laws.specs.tile_laws.specs.Choices.{has_choice}
+use Rattle.core_laws.specs.tile_laws.specs.Agents.{agent_number, agent_kind, agent_tile}
+use Rattle.core_laws.specs.tile_laws.proofs.AgentNumbers.{number_of_agent}
+use Rattle.core_laws.specs.Core.{Load, State, design_of, step, round}
 use Rattle.core_laws.specs.Runs.{IsAccepted, state_after}
-use Rattle.core_laws.specs.Choices.{has_choice}
 use Rattle.core_laws.proofs.AgentChoices.{own_choice}
 use Rattle.core_laws.proofs.EveryRun.{holds_in}
 use Rattle.core_progress.specs.Moves.{enabled_step}
@@ -57,32 +60,30 @@ module _ (s : Shape) (t : ℕ) (here : t < tiles_of s) where
   banks (choice.CreditOf o) h = absurd (cc)
 
   -- of one of the tile's agents
-  by_agent : (k : ℕ) (c : Choice) → k < 3 → has_choice (port_count (dims_of s)) (agent_numbered k) c ≡ true
-      → IsOn (record { agent = t * 3 + k; choice = c }) (round s)
-  by_agent zero c low h = processor_on s t here c (processors c h)
-  by_agent (suc zero) c low h = router_on s t here c (routers c h)
-  by_agent (suc (suc zero)) c low h = bank_on s t here c (banks c h)
-  by_agent (suc (suc (suc k))) c low h = absurd (omega arith)
+  by_agent : (a : Agent) (c : Choice) → has_choice (port_count (dims_of s)) a c ≡ true
+      → IsOn (record { agent = agent_number t a; choice = c }) (round s)
+  by_agent Processor c h = processor_on s t here c (processors c h)
+  by_agent Router c h = router_on s t here c (routers c h)
+  by_agent Bank c h = bank_on s t here c (banks c h)
 
 -- an attempt of an agent that is there, of a choice that it has
-pub on_round : (s : Shape) (a : Step) → a.agent / 3 < tiles_of s → has_choice (port_count (dims_of s)) (agent_numbered (a.agent % 3)) a.choice ≡ true
+pub on_round : (s : Shape) (a : Step) → agent_tile a.agent < tiles_of s → has_choice (port_count (dims_of s)) (agent_kind a.agent) a.choice ≡ true
     → IsOn a (round s)
 on_round s a here has =
-    let same : a.agent / 3 * 3 + a.agent % 3 ≡ a.agent = omega (arith, div-add-mod a.agent 3) in
-    subst (λ (n : ℕ). IsOn (record { agent = n; choice = a.choice }) (round s)) same
-    (by_agent s (a.agent / 3) here (a.agent % 3) a.choice (mod-lt a.agent (omega arith)) has)
+    subst (λ (n : ℕ). IsOn (record { agent = n; choice = a.choice }) (round s)) (number_of_agent a.agent)
+    (by_agent s (agent_tile a.agent) here (agent_kind a.agent) a.choice has)
 
 -- an enabled step is of a tile that is there
-tile_there : (d : Design) (s : State) (a : Step) (after : State) → step d s a ≡ Some after → a.agent / 3 < length s.tiles
-tile_there d s a after enabled = by_tile (slice_get s.tiles (a.agent / 3)) refl enabled
+tile_there : (d : Design) (s : State) (a : Step) (after : State) → step d s a ≡ Some after → agent_tile a.agent < length s.tiles
+tile_there d s a after enabled = by_tile (slice_get s.tiles (agent_tile a.agent)) refl enabled
   where
-    by_tile : (o : Option TileState) → slice_get s.tiles (a.agent / 3) ≡ o
+    by_tile : (o : Option TileState) → slice_get s.tiles (agent_tile a.agent) ≡ o
         → option_and_then {U = State}
-        (λ tile. option_map (λ p. record { tiles = slice_set s.tiles (a.agent / 3) p.0; around = p.1 })
-        (tile_step d (a.agent / 3) tile s.around (agent_numbered (a.agent % 3)) a.choice)) o ≡ Some after
-        → a.agent / 3 < length s.tiles
+        (λ tile. option_map (λ p. record { tiles = slice_set s.tiles (agent_tile a.agent) p.0; around = p.1 })
+        (tile_step d (agent_tile a.agent) tile s.around (agent_kind a.agent) a.choice)) o ≡ Some after
+        → agent_tile a.agent < length s.tiles
     by_tile None there h = absurd (cc)
-    by_tile (Some tile) there h = slice_get_within s.tiles (a.agent / 3) tile there
+    by_tile (Some tile) there h = slice_get_within s.tiles (agent_tile a.agent) tile there
 
 module _ (l : Load) (ok : IsAccepted l) (steps : List Step) (n : ℕ) where
   abbrev d : Design
@@ -94,8 +95,8 @@ module _ (l : Load) (ok : IsAccepted l) (steps : List Step) (n : ℕ) where
   -- in every reached state each enabled step is of the round
   pub enabled_on : (a : Step) → IsEnabled (step d) now a → IsOn a (round l.shape)
   enabled_on a at =
-      let here : a.agent / 3 < length now.tiles = tile_there d now a at.0 at.1 in
-      on_round l.shape a (subst (λ (k : ℕ). a.agent / 3 < k) (holds_in l ok steps n).stands.tiles here) (own_choice d now a at.0 at.1)
+      let here : agent_tile a.agent < length now.tiles = tile_there d now a at.0 at.1 in
+      on_round l.shape a (subst (λ (k : ℕ). agent_tile a.agent < k) (holds_in l ok steps n).stands.tiles here) (own_choice d now a at.0 at.1)
 
   -- the first enabled step is enabled; where there is none, no step is
   pub found_is : (a : Step) → enabled_step d now ≡ Some a → IsEnabled (step d) now a

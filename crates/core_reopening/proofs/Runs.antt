@@ -1,5 +1,5 @@
 -- The moves of a list of steps without the reports among them.
-use Rattle.std.proofs.Common.{◌≡◌, ℕ, zero, suc, ◌+◌, ◌/◌, ◌%◌, Bool, true, false, List, [], ◌∷◌, map, length, Option, Some, None, refl, sym, ◌∙◌, ap, subst}
+use Rattle.std.proofs.Common.{◌≡◌, ℕ, zero, suc, ◌+◌, Bool, true, false, List, [], ◌∷◌, map, length, Option, Some, None, refl, sym, ◌∙◌, ap, subst}
 use Rattle.std.proofs.Common.{arith, slice_get, slice_set, slice_index_or}
 use Rattle.std.specs.Prelude.{option_and_then, option_map, if◌then◌else◌}
 use Rattle.std.proofs.lemmas.List.{map-set}
@@ -14,7 +14,8 @@ use Rattle.flit_buffer.specs.Surroundings.{Surroundings}
 use Rattle.core_growth.specs.order_abstract.specs.Flight.{Move, Sends, Serves, Takes, event_by}
 use Rattle.core_growth.specs.order_abstract.specs.EventBook.{EventBook, noted_event}
 use Rattle.core_growth.specs.tile_laws.specs.Tile.{Design, TileState, tile_step}
-use Rattle.core_growth.specs.core_laws.specs.Core.{State, step, or_same, next, after_from, agent_numbered, records_of}
+use Rattle.core_growth.specs.tile_laws.specs.Agents.{agent_kind, agent_tile}
+use Rattle.core_growth.specs.core_laws.specs.Core.{State, step, or_same, next, after_from, records_of}
 use Rattle.core_growth.specs.core_laws.specs.Moves.{tile_move, move_of}
 use Rattle.core_growth.specs.core_laws.specs.Runs.{without_packets}
 use Rattle.core_growth.specs.core_laws.proofs.AgentSteps.{option_map_some}
@@ -60,7 +61,7 @@ AllServeWords d s =
 
 module _ (d : Design) (s : State) (x : Step) where
   abbrev left : List TileState → TileState × Surroundings → State
-  left tiles q = record { tiles = slice_set tiles (x.agent / 3) q.0; around = q.1 }
+  left tiles q = record { tiles = slice_set tiles (agent_tile x.agent) q.0; around = q.1 }
 
   abbrev made : List TileState → Surroundings → State
   made ts a = record { tiles = ts; around = a }
@@ -69,37 +70,37 @@ module _ (d : Design) (s : State) (x : Step) where
   stepped tiles around o =
       option_and_then
       (λ (v : TileState). option_map (left tiles)
-      (tile_step d (x.agent / 3) v around (agent_numbered (x.agent % 3)) x.choice)) o
+      (tile_step d (agent_tile x.agent) v around (agent_kind x.agent) x.choice)) o
 
   abbrev move_at : Surroundings → Option TileState → Option Move
   move_at around o =
-      option_and_then (λ (v : TileState). tile_move d (x.agent / 3) v around (agent_numbered (x.agent % 3)) x.choice) o
+      option_and_then (λ (v : TileState). tile_move d (agent_tile x.agent) v around (agent_kind x.agent) x.choice) o
 
   -- the tile that steps, and what it leaves
   pub record Stepped (t : State) : Type 0 where
     pub tile : TileState
     pub q : TileState × Surroundings
-    pub there : slice_get s.tiles (x.agent / 3) ≡ Some tile
-    pub is : tile_step d (x.agent / 3) tile s.around (agent_numbered (x.agent % 3)) x.choice ≡ Some q
+    pub there : slice_get s.tiles (agent_tile x.agent) ≡ Some tile
+    pub is : tile_step d (agent_tile x.agent) tile s.around (agent_kind x.agent) x.choice ≡ Some q
     pub leaves : left s.tiles q ≡ t
 
-  by_tile : (t : State) (o : Option TileState) → slice_get s.tiles (x.agent / 3) ≡ o
+  by_tile : (t : State) (o : Option TileState) → slice_get s.tiles (agent_tile x.agent) ≡ o
       → stepped s.tiles s.around o ≡ Some t → Stepped t
   by_tile t None there h = absurd (cc)
   by_tile t (Some tile) there h =
       let y = option_map_some (left s.tiles)
-      (tile_step d (x.agent / 3) tile s.around (agent_numbered (x.agent % 3)) x.choice) t h in
+      (tile_step d (agent_tile x.agent) tile s.around (agent_kind x.agent) x.choice) t h in
       record { tile = tile; q = y.0; there = there; is = y.1; leaves = y.2 }
 
   stepped_by : (t : State) → step d s x ≡ Some t → Stepped t
-  stepped_by t h = by_tile t (slice_get s.tiles (x.agent / 3)) refl h
+  stepped_by t h = by_tile t (slice_get s.tiles (agent_tile x.agent)) refl h
 
   marks_left : (t : State) (y : Stepped t) → reports_in t + marks y.tile ≡ reports_in s + marks y.q.0
   marks_left t y =
-      let low = slice_get_within s.tiles (x.agent / 3) y.tile y.there in
-      let sums = sum_by-set marks s.tiles (x.agent / 3) y.q.0 y.tile low in
-      let here : marks (slice_index_or s.tiles (x.agent / 3) y.tile) ≡ marks y.tile =
-      ap marks (get_or_from_slice_get s.tiles (x.agent / 3) y.tile y.tile y.there) in
+      let low = slice_get_within s.tiles (agent_tile x.agent) y.tile y.there in
+      let sums = sum_by-set marks s.tiles (agent_tile x.agent) y.q.0 y.tile low in
+      let here : marks (slice_index_or s.tiles (agent_tile x.agent) y.tile) ≡ marks y.tile =
+      ap marks (get_or_from_slice_get s.tiles (agent_tile x.agent) y.tile y.tile y.there) in
       let is : reports_in (left s.tiles y.q) ≡ reports_in t = ap reports_in y.leaves in
       omega (arith, sums, here, is)
 
@@ -111,10 +112,10 @@ module _ (d : Design) (s : State) (x : Step) where
   pub plain_step : (t : State) → step d s x ≡ Some t → is_report x.choice ≡ false → AllServeWords d s → Opens t
   plain_step t h plain words =
       let y = stepped_by t h in
-      let z = same_step d (x.agent / 3) y.tile s.around (agent_numbered (x.agent % 3)) x.choice y.q y.is plain
-      (words (x.agent / 3) y.tile y.there) in
-      let there_open : slice_get (map tile_open s.tiles) (x.agent / 3) ≡ Some (tile_open y.tile) =
-      get_map tile_open s.tiles (x.agent / 3) y.tile y.there in
+      let z = same_step d (agent_tile x.agent) y.tile s.around (agent_kind x.agent) x.choice y.q y.is plain
+      (words (agent_tile x.agent) y.tile y.there) in
+      let there_open : slice_get (map tile_open s.tiles) (agent_tile x.agent) ≡ Some (tile_open y.tile) =
+      get_map tile_open s.tiles (agent_tile x.agent) y.tile y.there in
       let sums = marks_left t y in
       let same = z.marks in
       record {
@@ -122,7 +123,7 @@ module _ (d : Design) (s : State) (x : Step) where
             ap (stepped (map tile_open s.tiles) (around_open d.words s.around)) there_open
             ∙ (ap (option_map (left (map tile_open s.tiles))) z.step
             ∙ (ap (λ (ts : List TileState). Some (made ts (around_open d.words y.q.1)))
-            (sym (map-set tile_open s.tiles (x.agent / 3) y.q.0))
+            (sym (map-set tile_open s.tiles (agent_tile x.agent) y.q.0))
             ∙ ap (λ (u : State). Some (state_open d u)) y.leaves));
         event =
             ap (event_by (without_packets d.words (state_open d s)))
@@ -140,17 +141,17 @@ module _ (d : Design) (s : State) (x : Step) where
   pub reporting_step : (t : State) → step d s x ≡ Some t → is_report x.choice ≡ true → Reports t
   reporting_step t h is =
       let y = stepped_by t h in
-      let z = report_step d (x.agent / 3) y.tile s.around (agent_numbered (x.agent % 3)) x.choice y.q y.is is in
+      let z = report_step d (agent_tile x.agent) y.tile s.around (agent_kind x.agent) x.choice y.q y.is is in
       let none : move_of d s x ≡ None =
       ap (move_at s.around) y.there
-      ∙ report_move d (x.agent / 3) y.tile s.around (agent_numbered (x.agent % 3)) x.choice is in
+      ∙ report_move d (agent_tile x.agent) y.tile s.around (agent_kind x.agent) x.choice is in
       let sums = marks_left t y in
       let more = z.marks in
       record {
         state =
             ap (state_open d) (sym y.leaves)
             ∙ (ap (λ (ts : List TileState). made ts (around_open d.words y.q.1))
-            (part_stays tile_open (tile_open no_tile) s.tiles (x.agent / 3) y.tile y.q.0 y.there z.tile_is)
+            (part_stays tile_open (tile_open no_tile) s.tiles (agent_tile x.agent) y.tile y.q.0 y.there z.tile_is)
             ∙ ap (made (map tile_open s.tiles)) z.around_is);
         book = λ g. ap (λ (m : Option Move). noted_event (tiles_of d.shape) g (event_by (without_packets d.words s) m))
             none;

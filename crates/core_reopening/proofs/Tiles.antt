@@ -16,7 +16,9 @@ use Rattle.core_growth.specs.script_follower.specs.ProcessorTable.{ProcessorStat
 use Rattle.router.specs.Table.{RouterState, router_wants, router_after}
 use Rattle.router.specs.Beginning.{router_wiring}
 use Rattle.core_growth.specs.tile_laws.specs.Wiring.{processor_wiring, bank_wiring}
-use Rattle.core_growth.specs.tile_laws.specs.Tile.{Design, TileState, Agent, Processor, Router, Bank, tile_step}
+use Rattle.core_growth.specs.tile_laws.specs.declared.agent.Agent.{Agent}
+use Rattle.core_growth.specs.tile_laws.specs.declared.agent.Agent.TheVariants.{Processor, Router, Bank}
+use Rattle.core_growth.specs.tile_laws.specs.Tile.{Design, TileState, tile_step}
 use Rattle.core_growth.specs.core_laws.specs.Moves.{processor_move, bank_move, tile_move}
 use Rattle.core_growth.specs.order_abstract.specs.Flight.{Move}
 use Rattle.core_growth.specs.core_laws.proofs.AgentSteps.{Did, did, option_map_some}

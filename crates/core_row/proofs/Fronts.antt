@@ -1,5 +1,5 @@
 -- The front of a channel counts the flits that were taken from it, round the ring.
-use Rattle.std.proofs.Common.{◌≡◌, ℕ, ◌+◌, ◌*◌, ◌/◌, ◌%◌, ◌<◌, List, [], ◌∷◌, ◌++◌, length, take, get_or, Option, Some, None, refl, sym, ap, ◌∙◌, subst}
+use Rattle.std.proofs.Common.{◌≡◌, ℕ, ◌+◌, ◌*◌, ◌%◌, ◌<◌, List, [], ◌∷◌, ◌++◌, length, take, get_or, Option, Some, None, refl, sym, ap, ◌∙◌, subst}
 use Rattle.std.proofs.Common.{arith, mod-eq_of_lt, slice_get, slice_set}
 use Rattle.std.specs.Prelude.{is_some, if◌then◌else◌, option_map, option_and_then}
 use Rattle.std.proofs.lemmas.List.{get_or-replicate}
@@ -16,8 +16,10 @@ use Rattle.flit_buffer.proofs.RingArithmetic.{place_from}
 use Rattle.core_laws.specs.script_follower.specs.ProcessorTable.{processor_wants, processor_after}
 use Rattle.core_laws.specs.home_bank.specs.BankTable.{bank_wants, bank_after}
 use Rattle.core_laws.specs.router.specs.Table.{router_wants, router_after}
-use Rattle.core_laws.specs.tile_laws.specs.Tile.{Design, TileState, Agent, Processor, Router, Bank, tile_step}
-use Rattle.core_laws.specs.tile_laws.specs.Agents.{agent_numbered, wiring_of, tile_wants}
+use Rattle.core_laws.specs.tile_laws.specs.declared.agent.Agent.{Agent}
+use Rattle.core_laws.specs.tile_laws.specs.declared.agent.Agent.TheVariants.{Processor, Router, Bank}
+use Rattle.core_laws.specs.tile_laws.specs.Tile.{Design, TileState, tile_step}
+use Rattle.core_laws.specs.tile_laws.specs.Agents.{wiring_of, tile_wants, agent_kind, agent_tile}
 use Rattle.core_laws.specs.tile_laws.specs.Refinement.{IsSurrounded, IsPossibleChoice}
 use Rattle.core_laws.specs.tile_laws.proofs.Channels.{wired}
 use Rattle.core_laws.specs.Core.{Load, State, design_of, first_state, after, after_from, next, or_same}
@@ -103,7 +105,7 @@ module _ (l : Load) (ok : IsAccepted l) (steps : List Step) (n : ℕ) (attempt :
   s = state_after l steps n
 
   abbrev t : ℕ
-  t = attempt.agent / 3
+  t = agent_tile attempt.agent
 
   there : x < length s.around.rings
   there = let k = reached.surrounded l ok steps n in subst (λ (m : ℕ). x < m) (sym k.count) x_in
@@ -119,8 +121,8 @@ module _ (l : Load) (ok : IsAccepted l) (steps : List Step) (n : ℕ) (attempt :
       let t_in : t < tiles_of l.shape = subst (λ (m : ℕ). t < m) (reached.tiles_there l ok steps n) (slice_get_within s.tiles t tile e) in
       ap (λ (o : Option State). (ring (or_same s o).around.rings x).front) (step_of_tile (design_of l) s attempt tile e)
       ∙ (ap (λ (a : Surroundings). (ring a.rings x).front)
-      (left_next s t (tile_step (design_of l) t tile s.around (agent_numbered (attempt.agent % 3)) attempt.choice))
-      ∙ tile_front (design_of l) ok.shape t t_in tile s.around k attempt.choice x there (agent_numbered (attempt.agent % 3))
+      (left_next s t (tile_step (design_of l) t tile s.around (agent_kind attempt.agent) attempt.choice))
+      ∙ tile_front (design_of l) ok.shape t t_in tile s.around k attempt.choice x there (agent_kind attempt.agent)
       (reached.possible_there l ok steps n attempt tile e))
 
   step_front : (ring (next (design_of l) s attempt).around.rings x).front ≡ ((ring s.around.rings x).front + step_takes (design_of l) s attempt x) % l.depth

@@ -30,7 +30,9 @@ use Rattle.core_laws.specs.router.specs.Beginning.{router_wiring}
 use Rattle.core_laws.specs.router.specs.Reach.{IsRouterState}
 use Rattle.core_laws.specs.router.proofs.WantedPorts as router
 use Rattle.core_laws.specs.tile_laws.specs.Wiring.{processor_wiring, bank_wiring}
-use Rattle.core_laws.specs.tile_laws.specs.Tile.{Design, Agent, Processor, Router, Bank}
+use Rattle.core_laws.specs.tile_laws.specs.declared.agent.Agent.{Agent}
+use Rattle.core_laws.specs.tile_laws.specs.declared.agent.Agent.TheVariants.{Processor, Router, Bank}
+use Rattle.core_laws.specs.tile_laws.specs.Tile.{Design}
 use Rattle.core_laws.specs.tile_laws.specs.Refinement.{IsSurrounded, IsPossibleChoice}
 use Rattle.core_laws.specs.Core.{State}
 use Rattle.core_laws.proofs.AgentSteps.{option_map_some}

@@ -1,5 +1,5 @@
 -- The row of every state that a run reaches, and what attempts do to it.
-use Rattle.std.proofs.Common.{◌≡◌, ◌≢◌, ◌↔◌, ℕ, ◌+◌, ◌*◌, ◌/◌, ◌%◌, ◌<◌, ◌≤◌, List, [], ◌∷◌, ◌++◌, length, get_or, get_or-take, Option, Some, None, All, refl}
+use Rattle.std.proofs.Common.{◌≡◌, ◌≢◌, ◌↔◌, ℕ, ◌+◌, ◌*◌, ◌%◌, ◌<◌, ◌≤◌, List, [], ◌∷◌, ◌++◌, length, get_or, get_or-take, Option, Some, None, All, refl}
 use Rattle.std.proofs.Common.{sym, ap, ◌∙◌, subst, arith, append_assoc, slice_get}
 use Rattle.std.proofs.Math.Nat.{mul-le-mul}
 use Rattle.std.proofs.Math.Seq.{take-length}
@@ -11,8 +11,9 @@ use Rattle.torus.specs.declared.step.Step.{Step}
 use Rattle.core_laws.specs.one_order.specs.Events.{order_after}
 use Rattle.channel_number.specs.Order.{channel_count, channels_at_tile}
 use Rattle.flit_buffer.specs.Surroundings.{ring, ShowsAll}
-use Rattle.core_laws.specs.tile_laws.specs.Tile.{TileState, Agent}
-use Rattle.core_laws.specs.tile_laws.specs.Agents.{TilePlace, agent_numbered}
+use Rattle.core_laws.specs.tile_laws.specs.declared.agent.Agent.{Agent}
+use Rattle.core_laws.specs.tile_laws.specs.Tile.{TileState}
+use Rattle.core_laws.specs.tile_laws.specs.Agents.{TilePlace, agent_kind, agent_tile}
 use Rattle.core_laws.specs.tile_laws.specs.Refinement.{IsSurrounded, IsPossibleChoice, KeepsOthers, OnlyAgent}
 use Rattle.core_laws.specs.Core.{Load, State, design_of, first_state, after, after_from, next, or_same, step, show}
 use Rattle.core_laws.specs.Runs.{IsAccepted, state_after}
@@ -47,9 +48,9 @@ module _ (l : Load) (ok : IsAccepted l) (steps : List Step) (n : ℕ) where
       (possible.possible_here (design_of l) l.tags (limited l ok) l.opening s (noted l steps n) (order_after (event_at l steps) n) st
       (holds_in l ok steps n).values t t_in a attempt.choice)
 
-  pub possible_there : (attempt : Step) (tile : TileState) → slice_get s.tiles (attempt.agent / 3) ≡ Some tile
-      → IsPossibleChoice (design_of l) (attempt.agent / 3) tile s.around (agent_numbered (attempt.agent % 3)) attempt.choice
-  possible_there attempt tile e = possible_at (attempt.agent / 3) tile e (agent_numbered (attempt.agent % 3)) attempt
+  pub possible_there : (attempt : Step) (tile : TileState) → slice_get s.tiles (agent_tile attempt.agent) ≡ Some tile
+      → IsPossibleChoice (design_of l) (agent_tile attempt.agent) tile s.around (agent_kind attempt.agent) attempt.choice
+  possible_there attempt tile e = possible_at (agent_tile attempt.agent) tile e (agent_kind attempt.agent) attempt
 
   pub tiles_there : length s.tiles ≡ tiles_of l.shape
   tiles_there = st.tiles
@@ -62,16 +63,16 @@ module _ (l : Load) (ok : IsAccepted l) (steps : List Step) (n : ℕ) where
   is_operation attempt = steps_of.is_operation (design_of l) s ok.shape st.tiles surrounded possible_at attempt
 
   pub others_stay : (attempt : Step) (left : State) → step (design_of l) s attempt ≡ Some left
-      → KeepsOthers (design_of l) (attempt.agent / 3) (agent_numbered (attempt.agent % 3)) s.around left.around
+      → KeepsOthers (design_of l) (agent_tile attempt.agent) (agent_kind attempt.agent) s.around left.around
   others_stay attempt left e = steps_of.others_stay (design_of l) s ok.shape st.tiles surrounded possible_at attempt left e
 
-  pub tile_stays : (attempt : Step) (left : State) (u : ℕ) → step (design_of l) s attempt ≡ Some left → u ≢ attempt.agent / 3
+  pub tile_stays : (attempt : Step) (left : State) (u : ℕ) → step (design_of l) s attempt ≡ Some left → u ≢ agent_tile attempt.agent
       → tile_in (design_of l) left u ≡ tile_in (design_of l) s u
   tile_stays attempt left u e other = steps_of.tile_stays (design_of l) s ok.shape st.tiles surrounded possible_at attempt left e u other
 
   pub only_own : (attempt : Step) (left : State) (p q : TilePlace) → step (design_of l) s attempt ≡ Some left
-      → tile_in (design_of l) s (attempt.agent / 3) ≡ Some p → tile_in (design_of l) left (attempt.agent / 3) ≡ Some q
-      → OnlyAgent (agent_numbered (attempt.agent % 3)) p q
+      → tile_in (design_of l) s (agent_tile attempt.agent) ≡ Some p → tile_in (design_of l) left (agent_tile attempt.agent) ≡ Some q
+      → OnlyAgent (agent_kind attempt.agent) p q
   only_own attempt left p q e before now = steps_of.only_own (design_of l) s ok.shape st.tiles surrounded possible_at attempt left p q e before now
 
   -- the row
@@ -134,7 +135,7 @@ run_append l s (x ∷ xs) ys = run_append l (next (design_of l) s x) xs ys
 
 module _ (l : Load) (ok : IsAccepted l) where
   -- a step of another tile, enabled or not
-  next_leaves : (xs : List Step) (attempt : Step) (u : ℕ) → attempt.agent / 3 ≢ u
+  next_leaves : (xs : List Step) (attempt : Step) (u : ℕ) → agent_tile attempt.agent ≢ u
       → tile_in (design_of l) (next (design_of l) (after l xs) attempt) u ≡ tile_in (design_of l) (after l xs) u
   next_leaves xs attempt u other =
       subst (λ (z : State). tile_in (design_of l) (next (design_of l) z attempt) u ≡ tile_in (design_of l) z u) (all_steps l xs)
@@ -146,11 +147,11 @@ module _ (l : Load) (ok : IsAccepted l) where
       by_step (Some left) e = tile_stays l ok xs (length xs) attempt left u e (λ q. other (sym q))
 
   -- steps of other tiles leave a tile
-  pub run_leaves : (steps more : List Step) (u : ℕ) → All (λ attempt. attempt.agent / 3 ≢ u) more
+  pub run_leaves : (steps more : List Step) (u : ℕ) → All (λ attempt. agent_tile attempt.agent ≢ u) more
       → tile_in (design_of l) (after l (steps ++ more)) u ≡ tile_in (design_of l) (after l steps) u
   run_leaves steps [] u all = ap (λ xs. tile_in (design_of l) (after l xs) u) (append-nil steps)
   run_leaves steps (attempt ∷ more) u all =
       ap (λ xs. tile_in (design_of l) (after l xs) u) (sym (append_assoc steps (attempt ∷ []) more))
-      ∙ (run_leaves (steps ++ attempt ∷ []) more u (All-tail (λ x. x.agent / 3 ≢ u) attempt more all)
+      ∙ (run_leaves (steps ++ attempt ∷ []) more u (All-tail (λ x. agent_tile x.agent ≢ u) attempt more all)
       ∙ (ap (λ (z : State). tile_in (design_of l) z u) (run_append l (first_state l) steps (attempt ∷ []))
-      ∙ next_leaves steps attempt u (All-head (λ x. x.agent / 3 ≢ u) attempt more all)))
+      ∙ next_leaves steps attempt u (All-head (λ x. agent_tile x.agent ≢ u) attempt more all)))

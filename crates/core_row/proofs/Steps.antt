@@ -1,5 +1,5 @@
 -- A step of the core, at any state whose channels are channels and whose wants are possible.
-use Rattle.std.proofs.Common.{◌≡◌, ◌≢◌, ℕ, ◌/◌, ◌%◌, ◌==◌, ◌<◌, Bool, true, List, length, Option, Some, None, refl, sym, ap, ◌∙◌, subst, slice_get, slice_set}
+use Rattle.std.proofs.Common.{◌≡◌, ◌≢◌, ℕ, ◌==◌, ◌<◌, Bool, true, List, length, Option, Some, None, refl, sym, ap, ◌∙◌, subst, slice_get, slice_set}
 use Rattle.std.proofs.Common.{eq-eqb}
 use Rattle.std.specs.Prelude.{option_map, option_and_then, if◌then◌else◌, MatchOption}
 use Rattle.std.proofs.lemmas.Option.{slice_get_within, same_Some}
@@ -9,8 +9,10 @@ use Rattle.torus.specs.declared.step.Step.{Step}
 use Rattle.flit_buffer.specs.Words.{word_of, performed}
 use Rattle.flit_buffer.specs.Surroundings.{Surroundings}
 use Rattle.flit_buffer.specs.declared.word_op.WordOp.{WordOp}
-use Rattle.core_laws.specs.tile_laws.specs.Tile.{Design, TileState, Agent, Processor, Router, Bank, tile_step}
-use Rattle.core_laws.specs.tile_laws.specs.Agents.{TilePlace, agent_numbered, tile_placed, agent_op, agent_absorbed, tile_next_op, tile_absorbed}
+use Rattle.core_laws.specs.tile_laws.specs.declared.agent.Agent.{Agent}
+use Rattle.core_laws.specs.tile_laws.specs.declared.agent.Agent.TheVariants.{Processor, Router, Bank}
+use Rattle.core_laws.specs.tile_laws.specs.Tile.{Design, TileState, tile_step}
+use Rattle.core_laws.specs.tile_laws.specs.Agents.{TilePlace, tile_placed, agent_op, agent_absorbed, tile_next_op, tile_absorbed, agent_kind, agent_tile}
 use Rattle.core_laws.specs.tile_laws.specs.Refinement.{IsSurrounded, IsPossibleChoice, TileStays, TileMoves, TileRefines, KeepsOthers, OnlyAgent}
 use Rattle.core_laws.specs.tile_laws.proofs.Tiles.{tile_refines, tile_keeps}
 use Rattle.core_laws.specs.Core.{State, step}
@@ -21,28 +23,28 @@ use Rattle.core_row.specs.Attempts.{tile_in, step_absorbed, found_by, LeavesRow,
 use Rattle.core_row.proofs.Rows.{row_shows, only_row}
 
 -- the step of a tile that is there, and of none
-pub step_of_tile : (d : Design) (s : State) (attempt : Step) (tile : TileState) → slice_get s.tiles (attempt.agent / 3) ≡ Some tile
-    → step d s attempt ≡ option_map (λ p. record { tiles = slice_set s.tiles (attempt.agent / 3) p.0; around = p.1 })
-    (tile_step d (attempt.agent / 3) tile s.around (agent_numbered (attempt.agent % 3)) attempt.choice)
+pub step_of_tile : (d : Design) (s : State) (attempt : Step) (tile : TileState) → slice_get s.tiles (agent_tile attempt.agent) ≡ Some tile
+    → step d s attempt ≡ option_map (λ p. record { tiles = slice_set s.tiles (agent_tile attempt.agent) p.0; around = p.1 })
+    (tile_step d (agent_tile attempt.agent) tile s.around (agent_kind attempt.agent) attempt.choice)
 step_of_tile d s attempt tile e =
-    let with_tile : TileState × Surroundings → State = λ p. record { tiles = slice_set s.tiles (attempt.agent / 3) p.0; around = p.1 } in
+    let with_tile : TileState × Surroundings → State = λ p. record { tiles = slice_set s.tiles (agent_tile attempt.agent) p.0; around = p.1 } in
     ap (λ (o : Option TileState). option_and_then
-    (λ y. option_map with_tile (tile_step d (attempt.agent / 3) y s.around (agent_numbered (attempt.agent % 3)) attempt.choice)) o) e
+    (λ y. option_map with_tile (tile_step d (agent_tile attempt.agent) y s.around (agent_kind attempt.agent) attempt.choice)) o) e
 
-pub step_of_none : (d : Design) (s : State) (attempt : Step) → slice_get s.tiles (attempt.agent / 3) ≡ None → step d s attempt ≡ None
+pub step_of_none : (d : Design) (s : State) (attempt : Step) → slice_get s.tiles (agent_tile attempt.agent) ≡ None → step d s attempt ≡ None
 step_of_none d s attempt e =
-    let with_tile : TileState × Surroundings → State = λ p. record { tiles = slice_set s.tiles (attempt.agent / 3) p.0; around = p.1 } in
+    let with_tile : TileState × Surroundings → State = λ p. record { tiles = slice_set s.tiles (agent_tile attempt.agent) p.0; around = p.1 } in
     ap (λ (o : Option TileState). option_and_then
-    (λ y. option_map with_tile (tile_step d (attempt.agent / 3) y s.around (agent_numbered (attempt.agent % 3)) attempt.choice)) o) e
+    (λ y. option_map with_tile (tile_step d (agent_tile attempt.agent) y s.around (agent_kind attempt.agent) attempt.choice)) o) e
 
 module _ (d : Design) (s : State) (ok : IsAccepted d.shape) (count : length s.tiles ≡ tiles_of d.shape) (in_network : IsSurrounded d s.around)
     (possible : (t : ℕ) (tile : TileState) → slice_get s.tiles t ≡ Some tile → (a : Agent) (attempt : Step)
     → IsPossibleChoice d t tile s.around a attempt.choice) (attempt : Step) where
   abbrev t : ℕ
-  t = attempt.agent / 3
+  t = agent_tile attempt.agent
 
   abbrev a : Agent
-  a = agent_numbered (attempt.agent % 3)
+  a = agent_kind attempt.agent
 
   abbrev with_tile : TileState × Surroundings → State
   with_tile p = record { tiles = slice_set s.tiles t p.0; around = p.1 }

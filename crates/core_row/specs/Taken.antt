@@ -1,10 +1,10 @@
 -- How many flits the steps of a run take from a channel.
-use Rattle.std.specs.Prelude.{ℕ, ◌+◌, ◌/◌, ◌%◌, is_some, if◌then◌else◌, List, [], ◌∷◌, Option, Some, None, slice_get}
+use Rattle.std.specs.Prelude.{ℕ, ◌+◌, is_some, if◌then◌else◌, List, [], ◌∷◌, Option, Some, None, slice_get}
 use Rattle.torus.specs.declared.step.Step.{Step}
 use Rattle.flit_buffer.specs.Surroundings.{Surroundings, Wiring, granted, taken_from}
 use Rattle.flit_buffer.specs.declared.want.Want.{Want}
 use Rattle.core_laws.specs.tile_laws.specs.Tile.{Design, TileState}
-use Rattle.core_laws.specs.tile_laws.specs.Agents.{agent_numbered, wiring_of, tile_wants}
+use Rattle.core_laws.specs.tile_laws.specs.Agents.{wiring_of, tile_wants, agent_kind, agent_tile}
 use Rattle.core_laws.specs.Core.{State, Load, design_of, first_state, next}
 
 -- how many flits a choice takes from channel x, by what it wants: one where that is the channel's
@@ -17,12 +17,13 @@ want_takes around wiring x (Some want) = if is_some (granted around wiring want)
 abbrev pub tile_takes : Design → Surroundings → Step → ℕ → Option TileState → ℕ
 tile_takes d around attempt x None = 0
 tile_takes d around attempt x (Some tile) =
-    want_takes around (wiring_of d.shape (attempt.agent / 3) (agent_numbered (attempt.agent % 3))) x
-    (tile_wants d (attempt.agent / 3) tile (agent_numbered (attempt.agent % 3)) attempt.choice)
+    want_takes around (wiring_of d.shape (agent_tile attempt.agent) (agent_kind attempt.agent)) x
+    (tile_wants d (agent_tile attempt.agent) tile (agent_kind attempt.agent) attempt.choice)
 
 -- how many flits an attempt takes from channel x (Dally and Towles, chapter 13)
 abbrev pub step_takes : Design → State → Step → ℕ → ℕ
-step_takes d s attempt x = tile_takes d s.around attempt x (slice_get s.tiles (attempt.agent / 3))
+step_takes d s attempt x =
+    tile_takes d s.around attempt x (slice_get s.tiles (agent_tile attempt.agent))
 
 -- how many a list of attempts takes, one after the other
 abbrev pub takes_of : Design → State → List Step → ℕ → ℕ

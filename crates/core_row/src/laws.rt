@@ -1,6 +1,6 @@
 //! Laws of the row that shows a state, each the contract of a function that does nothing.
 
-ghost use Rattle.std.specs.Prelude.{◌≡◌, ◌≢◌, ◌↔◌, ◌<◌, ◌≤◌, ◌+◌, ◌*◌, ◌/◌, ◌%◌, ◌++◌, [], ◌∷◌, ℕ, List, Some, All};
+ghost use Rattle.std.specs.Prelude.{◌≡◌, ◌≢◌, ◌↔◌, ◌<◌, ◌≤◌, ◌+◌, ◌*◌, ◌%◌, ◌++◌, [], ◌∷◌, ℕ, List, Some, All};
 ghost use Rattle.std.specs.Prelude.{length, replicate, slice_get, slice_index, take};
 ghost use Rattle.torus.specs.Shape.{dims_of, tiles_of};
 ghost use Rattle.torus.specs.declared.step.Step.{Step};
@@ -8,7 +8,7 @@ ghost use Rattle.script.specs.declared.line.Line.{Line};
 ghost use Rattle.channel_number.specs.Order.{channel_count};
 ghost use Rattle.flit_buffer.specs.Surroundings.{Surroundings, ring, AreRings, ShowsAll};
 ghost use Rattle.core_laws.specs.tile_laws.specs.Tile.{TileState};
-ghost use Rattle.core_laws.specs.tile_laws.specs.Agents.{TilePlace, agent_numbered};
+ghost use Rattle.core_laws.specs.tile_laws.specs.Agents.{TilePlace, agent_kind, agent_tile};
 ghost use Rattle.core_laws.specs.tile_laws.specs.Beginning.{new_tile};
 ghost use Rattle.core_laws.specs.tile_laws.specs.Refinement.{IsSurrounded, IsPossibleChoice, KeepsOthers, OnlyAgent};
 ghost use Rattle.core_laws.specs.Core.{Load, State, design_of, first_state, first_tile, after, step, show};
@@ -83,9 +83,9 @@ pub fn attempts_are_word_operations()
         → IsSurrounded (design_of l) (state_after l steps n).around }
     ensures possible { (l : Load) → IsAccepted l
         → (steps : List Step) (n : ℕ) (attempt : Step) (tile : TileState)
-        → slice_get (state_after l steps n).tiles (attempt.agent / 3) ≡ Some tile
-        → IsPossibleChoice (design_of l) (attempt.agent / 3) tile (state_after l steps n).around
-        (agent_numbered (attempt.agent % 3)) attempt.choice }
+        → slice_get (state_after l steps n).tiles (agent_tile attempt.agent) ≡ Some tile
+        → IsPossibleChoice (design_of l) (agent_tile attempt.agent) tile
+        (state_after l steps n).around (agent_kind attempt.agent) attempt.choice }
     ensures operations { (l : Load) → IsAccepted l → (steps : List Step) (n : ℕ) (attempt : Step)
         → IsWordOperation (design_of l) (state_after l steps n) attempt }
 {}
@@ -96,20 +96,21 @@ pub fn other_agents_keep_their_ports()
     ensures ports { (l : Load) → IsAccepted l
         → (steps : List Step) (n : ℕ) (attempt : Step) (next : State)
         → step (design_of l) (state_after l steps n) attempt ≡ Some next
-        → KeepsOthers (design_of l) (attempt.agent / 3) (agent_numbered (attempt.agent % 3))
+        → KeepsOthers (design_of l) (agent_tile attempt.agent) (agent_kind attempt.agent)
         (state_after l steps n).around next.around }
     ensures tiles { (l : Load) → IsAccepted l
         → (steps : List Step) (n : ℕ) (attempt : Step) (next : State) (u : ℕ)
-        → step (design_of l) (state_after l steps n) attempt ≡ Some next → u ≢ attempt.agent / 3
+        → step (design_of l) (state_after l steps n) attempt ≡ Some next
+        → u ≢ agent_tile attempt.agent
         → tile_in (design_of l) next u ≡ tile_in (design_of l) (state_after l steps n) u }
     ensures agents { (l : Load) → IsAccepted l
         → (steps : List Step) (n : ℕ) (attempt : Step) (next : State) (p q : TilePlace)
         → step (design_of l) (state_after l steps n) attempt ≡ Some next
-        → tile_in (design_of l) (state_after l steps n) (attempt.agent / 3) ≡ Some p
-        → tile_in (design_of l) next (attempt.agent / 3) ≡ Some q
-        → OnlyAgent (agent_numbered (attempt.agent % 3)) p q }
+        → tile_in (design_of l) (state_after l steps n) (agent_tile attempt.agent) ≡ Some p
+        → tile_in (design_of l) next (agent_tile attempt.agent) ≡ Some q
+        → OnlyAgent (agent_kind attempt.agent) p q }
     ensures runs { (l : Load) → IsAccepted l → (steps more : List Step) (u : ℕ)
-        → All (λ attempt. attempt.agent / 3 ≢ u) more
+        → All (λ attempt. agent_tile attempt.agent ≢ u) more
         → tile_in (design_of l) (after l (steps ++ more)) u
         ≡ tile_in (design_of l) (after l steps) u }
 {}

@@ -1,5 +1,5 @@
 -- An attempt over the row that shows a reached state leads to the next state's tiles and row.
-use Rattle.std.proofs.Common.{◌≡◌, ◌≢◌, ⊎_elim, ℕ, ◌/◌, ◌<◌, List, length, Option, Some, None, refl, sym, ◌∙◌, ap, subst, slice_get, slice_set, slice_index}
+use Rattle.std.proofs.Common.{◌≡◌, ◌≢◌, ⊎_elim, ℕ, ◌<◌, List, length, Option, Some, None, refl, sym, ◌∙◌, ap, subst, slice_get, slice_set, slice_index}
 use Rattle.std.specs.Prelude.{option_and_then, MatchOption}
 use Rattle.std.proofs.lemmas.Bool.{cases_eq}
 use Rattle.std.proofs.lemmas.Option.{slice_get_within}
@@ -9,7 +9,7 @@ use Rattle.flit_buffer.specs.Words.{word_of, performed}
 use Rattle.flit_buffer.specs.Tries.{performed_by}
 use Rattle.flit_buffer.specs.declared.word_op.WordOp.{WordOp}
 use Rattle.core_machine.specs.tile_laws.specs.Tile.{Design}
-use Rattle.core_machine.specs.tile_laws.specs.Agents.{TilePlace, tile_next_op, tile_absorbed}
+use Rattle.core_machine.specs.tile_laws.specs.Agents.{TilePlace, tile_next_op, tile_absorbed, agent_tile}
 use Rattle.core_machine.specs.core_laws.specs.Core.{Load, State, design_of, step}
 use Rattle.core_machine.specs.core_laws.specs.Runs.{IsAccepted, state_after}
 use Rattle.core_row.specs.Row.{row_of}
@@ -19,7 +19,7 @@ use Rattle.core_seen.specs.Seen.{IsShown, LeadsOn}
 
 module _ (l : Load) (ok : IsAccepted l) (steps : List Step) (n : ℕ) (places : List TilePlace) (row : List ℕ)
     (shown : IsShown (design_of l) (state_after l steps n) places row) (attempt : Step) (p : TilePlace)
-    (there : slice_get places (attempt.agent / 3) ≡ Some p) where
+    (there : slice_get places (agent_tile attempt.agent) ≡ Some p) where
   abbrev d : Design
   d = design_of l
 
@@ -27,7 +27,7 @@ module _ (l : Load) (ok : IsAccepted l) (steps : List Step) (n : ℕ) (places : 
   s = state_after l steps n
 
   abbrev t : ℕ
-  t = attempt.agent / 3
+  t = agent_tile attempt.agent
 
   place : tile_in d s t ≡ Some p
   place = sym (shown.tiles t) ∙ there

@@ -9,7 +9,8 @@ use Rattle.channel_number.specs.Ports.{port_count, injection_channel, ejection_c
 use Rattle.channel_number.specs.Ports.{input_router, input_port, output_router, output_port}
 use Rattle.channel_number.proofs.Ports.{has_input, has_output}
 use Rattle.wormhole_torus.proofs.Ends.{is_ejection_at, is_injection_at}
-use Rattle.core_machine.specs.tile_laws.specs.Tile.{Agent, Processor, Router, Bank}
+use Rattle.core_machine.specs.tile_laws.specs.declared.agent.Agent.{Agent}
+use Rattle.core_machine.specs.tile_laws.specs.declared.agent.Agent.TheVariants.{Processor, Router, Bank}
 use Rattle.core_machine.specs.tile_laws.specs.Agents.{wiring_of}
 
 -- a number stands in a list

@@ -1,5 +1,5 @@
 -- What is noted of an enabled attempt after the steps of a run.
-use Rattle.std.proofs.Common.{◌≡◌, ℕ, ◌/◌, ◌<◌, ◌≤◌, List, length, take, Some, None, subst, arith, slice_get}
+use Rattle.std.proofs.Common.{◌≡◌, ℕ, ◌<◌, ◌≤◌, List, length, take, Some, None, subst, arith, slice_get}
 use Rattle.std.proofs.lemmas.List.{take_all}
 use Rattle.torus.specs.Shape.{tiles_of}
 use Rattle.torus.specs.declared.step.Step.{Step}
@@ -7,6 +7,7 @@ use Rattle.home_bank.specs.declared.entry.Entry.{Entry}
 use Rattle.one_order.specs.declared.answer.Answer.{Answer}
 use Rattle.core_machine.specs.order_abstract.specs.EventBook.{EventBook, noted_event}
 use Rattle.core_machine.specs.tile_laws.specs.Tile.{TileState}
+use Rattle.core_machine.specs.tile_laws.specs.Agents.{agent_tile}
 use Rattle.core_machine.specs.core_laws.specs.Core.{Load, State, design_of, step, after, records_of}
 use Rattle.core_machine.specs.core_laws.specs.Runs.{IsAccepted}
 use Rattle.core_machine.specs.Core.{book_after, event_in}
@@ -16,7 +17,8 @@ use Rattle.core_seen.proofs.NotesReached as reached
 -- what holds wherever a tile makes an enabled attempt holds of the one of this list of steps
 abbrev Noting : Load → (List Step → Step → State → TileState → TileState → Type 0) → List Step → Type 0
 Noting l P steps = (attempt : Step) (next : State) → step (design_of l) (after l steps) attempt ≡ Some next
-    → (before left : TileState) → slice_get (after l steps).tiles (attempt.agent / 3) ≡ Some before → slice_get next.tiles (attempt.agent / 3) ≡ Some left
+    → (before left : TileState) → slice_get (after l steps).tiles (agent_tile attempt.agent) ≡ Some before
+    → slice_get next.tiles (agent_tile attempt.agent) ≡ Some left
     → P steps attempt next before left
 
 at_end : (l : Load) (P : List Step → Step → State → TileState → TileState → Type 0) → ((steps : List Step) (n : ℕ) → Noting l P (take n steps))
@@ -26,17 +28,17 @@ at_end l P h steps = subst (Noting l P) (take_all (length steps) steps (omega ar
 module _ (l : Load) (ok : IsAccepted l) where
   -- what holds of the attempt after these steps, which leads to a next state, and of its tile before and after it
   abbrev Told : List Step → Step → State → TileState → TileState → Type 0
-  Told steps attempt next before left = (g : EventBook) → book_noted (attempt.agent / 3) (records_of next)
+  Told steps attempt next before left = (g : EventBook) → book_noted (agent_tile attempt.agent) (records_of next)
       (length before.processor.operations.issued) (length before.processor.operations.answers) (length before.bank.entries) left g
       ≡ noted_event (tiles_of l.shape) g (event_in (design_of l) (after l steps) attempt)
 
   abbrev HasIssueRoom : List Step → Step → State → TileState → TileState → Type 0
   HasIssueRoom steps attempt next before left = length before.processor.operations.issued < length left.processor.operations.issued
-      → RoomToNoteIssue l (book_after l steps) (attempt.agent / 3)
+      → RoomToNoteIssue l (book_after l steps) (agent_tile attempt.agent)
 
   abbrev HasServiceRoom : List Step → Step → State → TileState → TileState → Type 0
   HasServiceRoom steps attempt next before left = (e : Entry) → slice_get left.bank.entries (length before.bank.entries) ≡ Some e
-      → RoomToNoteService l (book_after l steps) (attempt.agent / 3) e.source (index_served (records_of next) e)
+      → RoomToNoteService l (book_after l steps) (agent_tile attempt.agent) e.source (index_served (records_of next) e)
 
   abbrev HasAnswerRoom : List Step → Step → State → TileState → TileState → Type 0
   HasAnswerRoom steps attempt next before left =

@@ -1,5 +1,5 @@
 -- What is noted of an enabled attempt after some of the steps of a run.
-use Rattle.std.proofs.Common.{◌≡◌, ℕ, ◌/◌, ◌<◌, ◌≤◌, Bool, true, false, List, length, take, Option, Some, None, refl, sym, ◌∙◌, ap, subst, arith, slice_get}
+use Rattle.std.proofs.Common.{◌≡◌, ℕ, ◌<◌, ◌≤◌, Bool, true, false, List, length, take, Option, Some, None, refl, sym, ◌∙◌, ap, subst, arith, slice_get}
 use Rattle.std.proofs.Common.{nat_lt, if◌then◌else◌}
 use Rattle.std.proofs.lemmas.Option.{slice_get_within}
 use Rattle.std.proofs.lemmas.Bool.{ltb-true, ltb-false}
@@ -16,6 +16,7 @@ use Rattle.core_machine.specs.order_abstract.specs.Room.{IsBookWithin, HasRoomFo
 use Rattle.core_machine.specs.order_abstract.proofs.Bounds.{within, book_within, room_for}
 use Rattle.core_machine.specs.order_abstract.proofs.EventBooks.{IsBookOf, kept, order_of_book}
 use Rattle.core_machine.specs.tile_laws.specs.Tile.{Design, TileState}
+use Rattle.core_machine.specs.tile_laws.specs.Agents.{agent_tile}
 use Rattle.core_machine.specs.core_laws.specs.Core.{Load, State, design_of, step, records_of, run_of}
 use Rattle.core_machine.specs.core_laws.specs.Moves.{move_of}
 use Rattle.core_machine.specs.core_laws.specs.Runs.{IsAccepted, state_after}
@@ -67,7 +68,8 @@ module _ (l : Load) (ok : IsAccepted l) (steps : List Step) (n : ℕ) where
 
 module _ (l : Load) (ok : IsAccepted l) (steps : List Step) (n : ℕ) (attempt : Step) (next : State)
     (is : step (design_of l) (state_after l steps n) attempt ≡ Some next) (before left : TileState)
-    (there : slice_get (state_after l steps n).tiles (attempt.agent / 3) ≡ Some before) (later : slice_get next.tiles (attempt.agent / 3) ≡ Some left) where
+    (there : slice_get (state_after l steps n).tiles (agent_tile attempt.agent) ≡ Some before)
+    (later : slice_get next.tiles (agent_tile attempt.agent) ≡ Some left) where
   abbrev d : Design
   d = design_of l
 
@@ -75,7 +77,7 @@ module _ (l : Load) (ok : IsAccepted l) (steps : List Step) (n : ℕ) (attempt :
   s = state_after l steps n
 
   abbrev t : ℕ
-  t = attempt.agent / 3
+  t = agent_tile attempt.agent
 
   abbrev move : Option Move
   move = move_of d s attempt

@@ -1,5 +1,5 @@
 -- A bank keeps within its room, and one without room has no request left to serve.
-use Rattle.std.proofs.Common.{◌≡◌, ℕ, ◌/◌, ◌%◌, ◌≤◌, List, length, Option, Some, None, refl, sym, ◌∙◌, ap, arith, slice_get, slice_set}
+use Rattle.std.proofs.Common.{◌≡◌, ℕ, ◌≤◌, List, length, Option, Some, None, refl, sym, ◌∙◌, ap, arith, slice_get, slice_set}
 use Rattle.std.specs.Prelude.{option_and_then, option_map}
 use Rattle.std.proofs.lemmas.Option.{get_or_from_slice_get}
 use Rattle.torus.specs.Shape.{tiles_of}
@@ -15,8 +15,10 @@ use Rattle.home_bank.specs.ServiceList.{address_of}
 use Rattle.core_machine.specs.order_abstract.specs.Room.{home_room}
 use Rattle.core_machine.specs.order_abstract.proofs.Parts.{list_at_map}
 use Rattle.core_machine.specs.order_abstract.proofs.Reports.{all_followable, course_within}
-use Rattle.core_machine.specs.tile_laws.specs.Tile.{Design, TileState, Bank, tile_step}
-use Rattle.core_machine.specs.tile_laws.specs.Agents.{TilePlace, agent_numbered}
+use Rattle.core_machine.specs.tile_laws.specs.declared.agent.Agent.{Agent}
+use Rattle.core_machine.specs.tile_laws.specs.declared.agent.Agent.TheVariants.{Bank}
+use Rattle.core_machine.specs.tile_laws.specs.Tile.{Design, TileState, tile_step}
+use Rattle.core_machine.specs.tile_laws.specs.Agents.{TilePlace, agent_kind, agent_tile}
 use Rattle.core_machine.specs.core_laws.specs.Core.{Load, State, design_of, step}
 use Rattle.core_machine.specs.core_laws.specs.Noted.{flight_after, move_after}
 use Rattle.core_machine.specs.core_laws.specs.Runs.{IsAccepted, state_after}
@@ -64,25 +66,25 @@ module _ (l : Load) (ok : IsAccepted l) (steps : List Step) (n : ℕ) where
     idle full = none_served (design_of l) t tile s.around (none_waits full tile.bank.waiting refl)
 
   -- so a full bank serves nothing
-  full_at : (attempt : Step) (tile : TileState) → slice_get s.tiles (attempt.agent / 3) ≡ Some tile
-      → length tile.bank.entries ≡ home_room (tiles_of l.shape) (attempt.agent / 3) l.scripts
-      → attempt.agent % 3 ≡ 2 → attempt.choice ≡ choice.Serve → step (design_of l) s attempt ≡ None
+  full_at : (attempt : Step) (tile : TileState) → slice_get s.tiles (agent_tile attempt.agent) ≡ Some tile
+      → length tile.bank.entries ≡ home_room (tiles_of l.shape) (agent_tile attempt.agent) l.scripts
+      → agent_kind attempt.agent ≡ Bank → attempt.choice ≡ choice.Serve → step (design_of l) s attempt ≡ None
   full_at attempt tile there full third serves =
-      let tried : ℕ → Choice → Option (TileState × Surroundings) = λ k c. tile_step (design_of l) (attempt.agent / 3) tile s.around (agent_numbered k) c in
+      let tried : Agent → Choice → Option (TileState × Surroundings) = λ a c. tile_step (design_of l) (agent_tile attempt.agent) tile s.around a c in
       step_of_tile (design_of l) s attempt tile there
-      ∙ ap (λ (o : Option (TileState × Surroundings)). option_map (λ p. record { tiles = slice_set s.tiles (attempt.agent / 3) p.0; around = p.1 }) o)
-      (ap (λ (k : ℕ). tried k attempt.choice) third ∙ (ap (λ (c : Choice). tried 2 c) serves ∙ idle (attempt.agent / 3) tile there full))
+      ∙ ap (λ (o : Option (TileState × Surroundings)). option_map (λ p. record { tiles = slice_set s.tiles (agent_tile attempt.agent) p.0; around = p.1 }) o)
+      (ap (λ (a : Agent). tried a attempt.choice) third ∙ (ap (λ (c : Choice). tried Bank c) serves ∙ idle (agent_tile attempt.agent) tile there full))
 
   pub full_reached : (t : ℕ) (tile : TileState) → slice_get s.tiles t ≡ Some tile
       → length tile.bank.entries ≡ home_room (tiles_of l.shape) t l.scripts
-      → (attempt : Step) → attempt.agent / 3 ≡ t → attempt.agent % 3 ≡ 2 → attempt.choice ≡ choice.Serve → step (design_of l) s attempt ≡ None
+      → (attempt : Step) → agent_tile attempt.agent ≡ t → agent_kind attempt.agent ≡ Bank → attempt.choice ≡ choice.Serve → step (design_of l) s attempt ≡ None
   full_reached t tile there full attempt own =
       full_at attempt tile (ap (λ (k : ℕ). slice_get s.tiles k) own ∙ there) (full ∙ ap (λ (k : ℕ). home_room (tiles_of l.shape) k l.scripts) (sym own))
 
 pub full_shown : (l : Load) (ok : IsAccepted l) (steps : List Step) (n : ℕ) (places : List TilePlace) (row : List ℕ)
-    → IsShown (design_of l) (state_after l steps n) places row → (attempt : Step) (p : TilePlace) → slice_get places (attempt.agent / 3) ≡ Some p
-    → length p.bank.state.entries ≡ home_room (tiles_of l.shape) (attempt.agent / 3) l.scripts
-    → attempt.agent % 3 ≡ 2 → attempt.choice ≡ choice.Serve → step (design_of l) (state_after l steps n) attempt ≡ None
+    → IsShown (design_of l) (state_after l steps n) places row → (attempt : Step) (p : TilePlace) → slice_get places (agent_tile attempt.agent) ≡ Some p
+    → length p.bank.state.entries ≡ home_room (tiles_of l.shape) (agent_tile attempt.agent) l.scripts
+    → agent_kind attempt.agent ≡ Bank → attempt.choice ≡ choice.Serve → step (design_of l) (state_after l steps n) attempt ≡ None
 full_shown l ok steps n places row shown attempt p there full =
     let k = tile_shown l ok steps n places row shown attempt p there in
     full_at l ok steps n attempt k.0 k.1 (ap (λ (q : TilePlace). length q.bank.state.entries) k.2 ∙ full)

@@ -11,7 +11,9 @@ use Rattle.flit_buffer.specs.Ends.{SendingEnd, ReceivingEnd}
 use Rattle.flit_buffer.specs.Places.{receiving, sending}
 use Rattle.flit_buffer.specs.Surroundings.{Surroundings, ring}
 use Rattle.flit_buffer.proofs.SeenLaws.{surroundings_seen}
-use Rattle.core_machine.specs.tile_laws.specs.Tile.{Design, TileState, Agent, Processor, Router, Bank}
+use Rattle.core_machine.specs.tile_laws.specs.declared.agent.Agent.{Agent}
+use Rattle.core_machine.specs.tile_laws.specs.declared.agent.Agent.TheVariants.{Processor, Router, Bank}
+use Rattle.core_machine.specs.tile_laws.specs.Tile.{Design, TileState}
 use Rattle.core_machine.specs.tile_laws.specs.Agents.{TilePlace, wiring_of, state_of, tile_placed}
 use Rattle.core_machine.specs.tile_laws.specs.Refinement.{IsSurrounded}
 use Rattle.core_machine.specs.core_laws.specs.Core.{State}

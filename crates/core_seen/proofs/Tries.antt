@@ -1,5 +1,5 @@
 -- What an attempt finds in the row of a reached state is as its agent asks.
-use Rattle.std.proofs.Common.{◌≡◌, ◌≢◌, ℕ, ◌/◌, ◌%◌, ◌==◌, ◌<◌, Bool, true, false, List, length, get_or, Option, Some, None, refl, sym, ◌∙◌, ap, subst, arith}
+use Rattle.std.proofs.Common.{◌≡◌, ◌≢◌, ℕ, ◌==◌, ◌<◌, Bool, true, false, List, length, get_or, Option, Some, None, refl, sym, ◌∙◌, ap, subst, arith}
 use Rattle.std.proofs.Common.{slice_get, is_none, if◌then◌else◌, nat_lt, ltb-true}
 use Rattle.std.specs.Prelude.{◌&&◌, IfSome, IsSome, MatchOption, option_and_then, option_map}
 use Rattle.std.proofs.lemmas.List.FromFn.{get_or-map-range_with_len, length-map-range_with_len}
@@ -25,8 +25,10 @@ use Rattle.home_bank.specs.BankTable.{is_nil}
 use Rattle.core_machine.specs.script_follower.specs.ProcessorRecord.{ProcessorRecord}
 use Rattle.tile.specs.net_interface.specs.Place.{IsForProcessor}
 use Rattle.router.specs.Table.{NamesTile, latch_of, wants_to_take}
-use Rattle.core_machine.specs.tile_laws.specs.Tile.{Design, TileState, Agent, Processor, Router, Bank}
-use Rattle.core_machine.specs.tile_laws.specs.Agents.{TilePlace, agent_numbered, wiring_of, tile_placed, agent_op, tile_next_op}
+use Rattle.core_machine.specs.tile_laws.specs.declared.agent.Agent.{Agent}
+use Rattle.core_machine.specs.tile_laws.specs.declared.agent.Agent.TheVariants.{Processor, Router, Bank}
+use Rattle.core_machine.specs.tile_laws.specs.Tile.{Design, TileState}
+use Rattle.core_machine.specs.tile_laws.specs.Agents.{TilePlace, wiring_of, tile_placed, agent_op, tile_next_op, agent_kind, agent_tile}
 use Rattle.core_machine.specs.tile_laws.proofs.Channels.{wired}
 use Rattle.tile.specs.Placed.{IsAcceptableTo}
 use Rattle.core_machine.specs.core_laws.specs.Asks.{flit_found, IsNextFlit, IsResponseTo}
@@ -150,32 +152,33 @@ module _ (l : Load) (ok : IsAccepted l) (steps : List Step) (n t : ℕ) (tile : 
 
   -- at the tile of the attempt
   pub may_try : (attempt : Step)
-      → IfSome (tile_next_op placed attempt) (λ o. IsAcceptableTo placed (agent_numbered (attempt.agent % 3)) attempt.choice (get_or row (word_of o) 0))
-  may_try attempt = by_tile (attempt.agent / 3 == t) (may (agent_numbered (attempt.agent % 3)) attempt.choice)
+      → IfSome (tile_next_op placed attempt) (λ o. IsAcceptableTo placed (agent_kind attempt.agent) attempt.choice (get_or row (word_of o) 0))
+  may_try attempt = by_tile (agent_tile attempt.agent == t) (may (agent_kind attempt.agent) attempt.choice)
     where
-      by_tile : (b : Bool) → MayTry (agent_numbered (attempt.agent % 3)) attempt.choice
-          → IfSome (if b then agent_op placed (agent_numbered (attempt.agent % 3)) attempt.choice else None)
-          (λ o. IsAcceptableTo placed (agent_numbered (attempt.agent % 3)) attempt.choice (get_or row (word_of o) 0))
+      by_tile : (b : Bool) → MayTry (agent_kind attempt.agent) attempt.choice
+          → IfSome (if b then agent_op placed (agent_kind attempt.agent) attempt.choice else None)
+          (λ o. IsAcceptableTo placed (agent_kind attempt.agent) attempt.choice (get_or row (word_of o) 0))
       by_tile true k = k
       by_tile false k = tt
 
 module _ (l : Load) (ok : IsAccepted l) (steps : List Step) (n : ℕ) (places : List TilePlace) (row : List ℕ)
     (shown : IsShown (design_of l) (state_after l steps n) places row) (attempt : Step) (p : TilePlace)
-    (there : slice_get places (attempt.agent / 3) ≡ Some p) where
+    (there : slice_get places (agent_tile attempt.agent) ≡ Some p) where
   abbrev now : State
   now = state_after l steps n
 
-  place : tile_in (design_of l) now (attempt.agent / 3) ≡ Some p
-  place = sym (shown.tiles (attempt.agent / 3)) ∙ there
+  place : tile_in (design_of l) now (agent_tile attempt.agent) ≡ Some p
+  place = sym (shown.tiles (agent_tile attempt.agent)) ∙ there
 
   -- the tile of the state that stands in the place
-  pub tile_shown : (tile : TileState) × (slice_get now.tiles (attempt.agent / 3) ≡ Some tile)
-      × (tile_placed (design_of l) (attempt.agent / 3) tile now.around ≡ p)
-  tile_shown = by_state (slice_get now.tiles (attempt.agent / 3)) refl place
+  pub tile_shown : (tile : TileState) × (slice_get now.tiles (agent_tile attempt.agent) ≡ Some tile)
+      × (tile_placed (design_of l) (agent_tile attempt.agent) tile now.around ≡ p)
+  tile_shown = by_state (slice_get now.tiles (agent_tile attempt.agent)) refl place
     where
-      by_state : (o : Option TileState) → slice_get now.tiles (attempt.agent / 3) ≡ o
-          → option_map (λ tile. tile_placed (design_of l) (attempt.agent / 3) tile now.around) o ≡ Some p
-          → (tile : TileState) × (slice_get now.tiles (attempt.agent / 3) ≡ Some tile) × (tile_placed (design_of l) (attempt.agent / 3) tile now.around ≡ p)
+      by_state : (o : Option TileState) → slice_get now.tiles (agent_tile attempt.agent) ≡ o
+          → option_map (λ tile. tile_placed (design_of l) (agent_tile attempt.agent) tile now.around) o ≡ Some p
+          → (tile : TileState) × (slice_get now.tiles (agent_tile attempt.agent) ≡ Some tile)
+          × (tile_placed (design_of l) (agent_tile attempt.agent) tile now.around ≡ p)
       by_state None e h = absurd (cc)
       by_state (Some tile) e h = (tile, e, same_Some _ _ h)
 
@@ -195,11 +198,11 @@ module _ (l : Load) (ok : IsAccepted l) (steps : List Step) (n : ℕ) (places : 
       (subst (λ (o : Option TilePlace). Tells (option_and_then (λ (q : TilePlace). tile_next_op q attempt) o)) place (is_operation l ok steps n attempt))
 
   -- and the word found is as the agent asks
-  pub word_asked : IfSome (tile_next_op p attempt) (λ o. IsAcceptableTo p (agent_numbered (attempt.agent % 3)) attempt.choice (get_or row (word_of o) 0))
+  pub word_asked : IfSome (tile_next_op p attempt) (λ o. IsAcceptableTo p (agent_kind attempt.agent) attempt.choice (get_or row (word_of o) 0))
   word_asked =
       let k = tile_shown in
       subst (λ (r : List ℕ). IfSome (tile_next_op p attempt)
-      (λ o. IsAcceptableTo p (agent_numbered (attempt.agent % 3)) attempt.choice (get_or r (word_of o) 0))) (sym shown.row_is)
+      (λ o. IsAcceptableTo p (agent_kind attempt.agent) attempt.choice (get_or r (word_of o) 0))) (sym shown.row_is)
       (subst (λ (q : TilePlace). IfSome (tile_next_op q attempt)
-      (λ o. IsAcceptableTo q (agent_numbered (attempt.agent % 3)) attempt.choice (get_or (row_of (design_of l) now) (word_of o) 0))) k.2
-      (may_try l ok steps n (attempt.agent / 3) k.0 k.1 attempt))
+      (λ o. IsAcceptableTo q (agent_kind attempt.agent) attempt.choice (get_or (row_of (design_of l) now) (word_of o) 0))) k.2
+      (may_try l ok steps n (agent_tile attempt.agent) k.0 k.1 attempt))

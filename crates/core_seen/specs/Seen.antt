@@ -1,5 +1,5 @@
 -- The state that tiles in their places and a row show: what a machine's fields stand for.
-use Rattle.std.specs.Prelude.{◌≡◌, ℕ, ◌*◌, ◌/◌, ◌<◌, ◌==◌, if◌then◌else◌, List, [], ◌∷◌, ◌++◌, length, map, Some}
+use Rattle.std.specs.Prelude.{◌≡◌, ℕ, ◌*◌, ◌<◌, ◌==◌, if◌then◌else◌, List, [], ◌∷◌, ◌++◌, length, map, Some}
 use Rattle.std.specs.Prelude.{None, slice_get, slice_set}
 use Rattle.std.specs.Prelude.{slice_index_or, MatchOption}
 use Rattle.std.specs.List.{flat_map}
@@ -14,7 +14,7 @@ use Rattle.flit_buffer.specs.Tries.{performed_by}
 use Rattle.core_machine.specs.script_follower.specs.ProcessorRecord.{no_processor, index_of}
 use Rattle.core_machine.specs.order_abstract.specs.EventBook.{EventBook, noted_issue, noted_service, noted_answer}
 use Rattle.core_machine.specs.tile_laws.specs.Tile.{Design, TileState}
-use Rattle.core_machine.specs.tile_laws.specs.Agents.{TilePlace, state_of, tile_next_op}
+use Rattle.core_machine.specs.tile_laws.specs.Agents.{TilePlace, state_of, tile_next_op, agent_tile}
 use Rattle.tile.specs.Placed.{tile_attempted}
 use Rattle.core_machine.specs.core_laws.specs.Core.{State, records_of, step}
 use Rattle.core_row.specs.Row.{row_of}
@@ -64,7 +64,8 @@ LeadsOn d s places row attempt p =
     MatchOption (tile_attempted p attempt row)
     ((step d s attempt ≡ None) × (performed_by row (tile_next_op p attempt) ≡ row))
     (λ q. (next : State) × (step d s attempt ≡ Some next)
-    × IsShown d next (slice_set places (attempt.agent / 3) q) (performed_by row (tile_next_op p attempt)))
+    × IsShown d next (slice_set places (agent_tile attempt.agent) q)
+    (performed_by row (tile_next_op p attempt)))
 
 -- What is noted of a step, told by how many operations, answers and entries its tile t has before
 -- and after it: one operation more is an issue, one answer more an answer, one entry more a service

@@ -1,14 +1,15 @@
 //! Laws of what a machine's agents ask, each the contract of a function that does nothing.
 
-ghost use Rattle.std.specs.Prelude.{◌≡◌, ◌≤◌, ◌<◌, ◌/◌, ◌%◌, ℕ, List, length, Some, None, IfSome, slice_get};
+ghost use Rattle.std.specs.Prelude.{◌≡◌, ◌≤◌, ◌<◌, ℕ, List, length, Some, None, IfSome, slice_get};
 ghost use Rattle.std.specs.Prelude.{slice_index};
 ghost use Rattle.torus.specs.Shape.{tiles_of};
 ghost use Rattle.torus.specs.declared.step.Step.{Step};
 ghost use Rattle.torus.specs.declared.step.Choice.TheVariants as choice;
 ghost use Rattle.flit_buffer.specs.Words.{word_of};
 ghost use Rattle.core_machine.specs.order_abstract.specs.Room.{home_room};
+ghost use Rattle.core_machine.specs.tile_laws.specs.declared.agent.Agent.TheVariants.{Bank};
 ghost use Rattle.core_machine.specs.tile_laws.specs.Tile.{TileState};
-ghost use Rattle.core_machine.specs.tile_laws.specs.Agents.{TilePlace, agent_numbered, tile_next_op};
+ghost use Rattle.core_machine.specs.tile_laws.specs.Agents.{TilePlace, tile_next_op, agent_kind, agent_tile};
 ghost use Rattle.tile.specs.Placed.{IsAcceptableTo};
 ghost use Rattle.core_machine.specs.core_laws.specs.Core.{Load, design_of, step};
 ghost use Rattle.core_machine.specs.core_laws.specs.Runs.{IsAccepted, state_after};
@@ -20,14 +21,14 @@ pub fn agents_may_try()
     ensures room { (l : Load) → IsAccepted l
         → (steps : List Step) (n : ℕ) (places : List TilePlace) (row : List ℕ)
         → IsShown (design_of l) (state_after l steps n) places row
-        → (attempt : Step) (p : TilePlace) → slice_get places (attempt.agent / 3) ≡ Some p
+        → (attempt : Step) (p : TilePlace) → slice_get places (agent_tile attempt.agent) ≡ Some p
         → IfSome (tile_next_op p attempt) (λ o. word_of o < length row) }
     ensures flit { (l : Load) → IsAccepted l
         → (steps : List Step) (n : ℕ) (places : List TilePlace) (row : List ℕ)
         → IsShown (design_of l) (state_after l steps n) places row
-        → (attempt : Step) (p : TilePlace) → slice_get places (attempt.agent / 3) ≡ Some p
+        → (attempt : Step) (p : TilePlace) → slice_get places (agent_tile attempt.agent) ≡ Some p
         → IfSome (tile_next_op p attempt)
-        (λ o. IsAcceptableTo p (agent_numbered (attempt.agent % 3)) attempt.choice
+        (λ o. IsAcceptableTo p (agent_kind attempt.agent) attempt.choice
         (slice_index row (word_of o))) }
 {}
 
@@ -38,15 +39,16 @@ pub fn full_banks_serve_nothing()
     ensures reached { (l : Load) → IsAccepted l → (steps : List Step) (n t : ℕ) (tile : TileState)
         → slice_get (state_after l steps n).tiles t ≡ Some tile
         → length tile.bank.entries ≡ home_room (tiles_of l.shape) t l.scripts
-        → (attempt : Step) → attempt.agent / 3 ≡ t → attempt.agent % 3 ≡ 2
+        → (attempt : Step) → agent_tile attempt.agent ≡ t → agent_kind attempt.agent ≡ Bank
         → attempt.choice ≡ choice.Serve
         → step (design_of l) (state_after l steps n) attempt ≡ None }
     ensures shown { (l : Load) → IsAccepted l
         → (steps : List Step) (n : ℕ) (places : List TilePlace) (row : List ℕ)
         → IsShown (design_of l) (state_after l steps n) places row
-        → (attempt : Step) (p : TilePlace) → slice_get places (attempt.agent / 3) ≡ Some p
-        → length p.bank.state.entries ≡ home_room (tiles_of l.shape) (attempt.agent / 3) l.scripts
-        → attempt.agent % 3 ≡ 2 → attempt.choice ≡ choice.Serve
+        → (attempt : Step) (p : TilePlace) → slice_get places (agent_tile attempt.agent) ≡ Some p
+        → length p.bank.state.entries
+        ≡ home_room (tiles_of l.shape) (agent_tile attempt.agent) l.scripts
+        → agent_kind attempt.agent ≡ Bank → attempt.choice ≡ choice.Serve
         → step (design_of l) (state_after l steps n) attempt ≡ None }
 {}
 

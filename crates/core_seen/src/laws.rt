@@ -1,11 +1,11 @@
 //! Laws of what a machine's tiles and row show, each the contract of a function that does nothing.
 
-ghost use Rattle.std.specs.Prelude.{◌≡◌, ◌/◌, ℕ, List, Some, slice_get};
+ghost use Rattle.std.specs.Prelude.{◌≡◌, ℕ, List, Some, slice_get};
 ghost use Rattle.torus.specs.declared.step.Step.{Step};
 ghost use Rattle.torus.specs.Shape.{tiles_of};
 ghost use Rattle.core_machine.specs.order_abstract.specs.EventBook.{EventBook, noted_event};
 ghost use Rattle.core_machine.specs.tile_laws.specs.Tile.{TileState};
-ghost use Rattle.core_machine.specs.tile_laws.specs.Agents.{TilePlace};
+ghost use Rattle.core_machine.specs.tile_laws.specs.Agents.{TilePlace, agent_tile};
 ghost use Rattle.core_machine.specs.core_laws.specs.Core.{Load, State, design_of, step};
 ghost use Rattle.core_machine.specs.core_laws.specs.Runs.{IsAccepted, state_after};
 ghost use Rattle.core_seen.specs.Seen.{IsShown, LeadsOn, IsToldByCounts, state_seen};
@@ -26,7 +26,7 @@ pub fn attempts_lead_on()
     ensures { (l : Load) → IsAccepted l
         → (steps : List Step) (n : ℕ) (places : List TilePlace) (row : List ℕ)
         → IsShown (design_of l) (state_after l steps n) places row
-        → (attempt : Step) (p : TilePlace) → slice_get places (attempt.agent / 3) ≡ Some p
+        → (attempt : Step) (p : TilePlace) → slice_get places (agent_tile attempt.agent) ≡ Some p
         → LeadsOn (design_of l) (state_after l steps n) places row attempt p }
 {}
 
@@ -37,9 +37,10 @@ pub fn events_are_told_by_counts()
         → (steps : List Step) (n : ℕ) (attempt : Step) (next : State)
         → step (design_of l) (state_after l steps n) attempt ≡ Some next
         → (before after : TileState)
-        → slice_get (state_after l steps n).tiles (attempt.agent / 3) ≡ Some before
-        → slice_get next.tiles (attempt.agent / 3) ≡ Some after
-        → (g : EventBook) → IsToldByCounts (state_after l steps n) (attempt.agent / 3) before after
+        → slice_get (state_after l steps n).tiles (agent_tile attempt.agent) ≡ Some before
+        → slice_get next.tiles (agent_tile attempt.agent) ≡ Some after
+        → (g : EventBook)
+        → IsToldByCounts (state_after l steps n) (agent_tile attempt.agent) before after
         g
         (noted_event (tiles_of l.shape) g
         (event_in (design_of l) (state_after l steps n) attempt)) }

@@ -6,4 +6,4 @@ pub mod asking;
 pub mod laws;
 pub mod noting;
 
-pub use tile::TileAgents;
+pub use tile::{Agent, TileAgents, agent_kind, agent_number, agent_tile};

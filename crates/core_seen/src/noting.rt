@@ -1,12 +1,13 @@
 //! Laws of what a machine notes of its steps, each the contract of a function that does nothing.
 
-ghost use Rattle.std.specs.Prelude.{◌≡◌, ◌/◌, ◌<◌, ◌≤◌, ℕ, List, Some, None, length, slice_get};
+ghost use Rattle.std.specs.Prelude.{◌≡◌, ◌<◌, ◌≤◌, ℕ, List, Some, None, length, slice_get};
 ghost use Rattle.torus.specs.declared.step.Step.{Step};
 ghost use Rattle.torus.specs.Shape.{tiles_of};
 ghost use Rattle.home_bank.specs.declared.entry.Entry.{Entry};
 ghost use Rattle.one_order.specs.declared.answer.Answer.{Answer};
 ghost use Rattle.core_machine.specs.order_abstract.specs.EventBook.{EventBook, noted_event};
 ghost use Rattle.core_machine.specs.tile_laws.specs.Tile.{TileState};
+ghost use Rattle.core_machine.specs.tile_laws.specs.Agents.{agent_tile};
 ghost use Rattle.core_machine.specs.core_laws.specs.Core.{Load, State, design_of, step, after, records_of};
 ghost use Rattle.core_machine.specs.core_laws.specs.Runs.{IsAccepted};
 ghost use Rattle.core_machine.specs.Core.{book_after, event_in};
@@ -18,9 +19,9 @@ pub fn notes_tell_the_book()
     ensures { (l : Load) → IsAccepted l → (steps : List Step) (attempt : Step) (next : State)
         → step (design_of l) (after l steps) attempt ≡ Some next
         → (before left : TileState)
-        → slice_get (after l steps).tiles (attempt.agent / 3) ≡ Some before
-        → slice_get next.tiles (attempt.agent / 3) ≡ Some left
-        → (g : EventBook) → book_noted (attempt.agent / 3) (records_of next)
+        → slice_get (after l steps).tiles (agent_tile attempt.agent) ≡ Some before
+        → slice_get next.tiles (agent_tile attempt.agent) ≡ Some left
+        → (g : EventBook) → book_noted (agent_tile attempt.agent) (records_of next)
         (length before.processor.operations.issued) (length before.processor.operations.answers)
         (length before.bank.entries) left g
         ≡ noted_event (tiles_of l.shape) g (event_in (design_of l) (after l steps) attempt) }
@@ -34,24 +35,24 @@ pub fn books_have_room()
     ensures issue { (l : Load) → IsAccepted l → (steps : List Step) (attempt : Step) (next : State)
         → step (design_of l) (after l steps) attempt ≡ Some next
         → (before left : TileState)
-        → slice_get (after l steps).tiles (attempt.agent / 3) ≡ Some before
-        → slice_get next.tiles (attempt.agent / 3) ≡ Some left
+        → slice_get (after l steps).tiles (agent_tile attempt.agent) ≡ Some before
+        → slice_get next.tiles (agent_tile attempt.agent) ≡ Some left
         → length before.processor.operations.issued < length left.processor.operations.issued
-        → RoomToNoteIssue l (book_after l steps) (attempt.agent / 3) }
+        → RoomToNoteIssue l (book_after l steps) (agent_tile attempt.agent) }
     ensures service { (l : Load) → IsAccepted l
         → (steps : List Step) (attempt : Step) (next : State)
         → step (design_of l) (after l steps) attempt ≡ Some next
         → (before left : TileState)
-        → slice_get (after l steps).tiles (attempt.agent / 3) ≡ Some before
-        → slice_get next.tiles (attempt.agent / 3) ≡ Some left
+        → slice_get (after l steps).tiles (agent_tile attempt.agent) ≡ Some before
+        → slice_get next.tiles (agent_tile attempt.agent) ≡ Some left
         → (e : Entry) → slice_get left.bank.entries (length before.bank.entries) ≡ Some e
-        → RoomToNoteService l (book_after l steps) (attempt.agent / 3) e.source
+        → RoomToNoteService l (book_after l steps) (agent_tile attempt.agent) e.source
         (index_served (records_of next) e) }
     ensures answer { (l : Load) → IsAccepted l → (steps : List Step) (attempt : Step) (next : State)
         → step (design_of l) (after l steps) attempt ≡ Some next
         → (before left : TileState)
-        → slice_get (after l steps).tiles (attempt.agent / 3) ≡ Some before
-        → slice_get next.tiles (attempt.agent / 3) ≡ Some left
+        → slice_get (after l steps).tiles (agent_tile attempt.agent) ≡ Some before
+        → slice_get next.tiles (agent_tile attempt.agent) ≡ Some left
         → (a : Answer) → slice_get left.processor.operations.answers
         (length before.processor.operations.answers) ≡ Some a
         → RoomToNoteAnswer (book_after l steps) a.bank a.place }
@@ -62,8 +63,8 @@ pub fn services_leave_records()
     ensures { (l : Load) → IsAccepted l → (steps : List Step) (attempt : Step) (next : State)
         → step (design_of l) (after l steps) attempt ≡ Some next
         → (before left : TileState)
-        → slice_get (after l steps).tiles (attempt.agent / 3) ≡ Some before
-        → slice_get next.tiles (attempt.agent / 3) ≡ Some left
+        → slice_get (after l steps).tiles (agent_tile attempt.agent) ≡ Some before
+        → slice_get next.tiles (agent_tile attempt.agent) ≡ Some left
         → (e : Entry) → slice_get left.bank.entries (length before.bank.entries) ≡ Some e
         → records_of next ≡ records_of (after l steps) }
 {}
@@ -74,15 +75,15 @@ pub fn counts_rise_by_one()
     ensures rise { (l : Load) → IsAccepted l → (steps : List Step) (attempt : Step) (next : State)
         → step (design_of l) (after l steps) attempt ≡ Some next
         → (before left : TileState)
-        → slice_get (after l steps).tiles (attempt.agent / 3) ≡ Some before
-        → slice_get next.tiles (attempt.agent / 3) ≡ Some left
+        → slice_get (after l steps).tiles (agent_tile attempt.agent) ≡ Some before
+        → slice_get next.tiles (agent_tile attempt.agent) ≡ Some left
         → RisesByOne before left }
     ensures nothing { (l : Load) → IsAccepted l
         → (steps : List Step) (attempt : Step) (next : State)
         → step (design_of l) (after l steps) attempt ≡ Some next
         → (before left : TileState)
-        → slice_get (after l steps).tiles (attempt.agent / 3) ≡ Some before
-        → slice_get next.tiles (attempt.agent / 3) ≡ Some left
+        → slice_get (after l steps).tiles (agent_tile attempt.agent) ≡ Some before
+        → slice_get next.tiles (agent_tile attempt.agent) ≡ Some left
         → length left.processor.operations.issued ≤ length before.processor.operations.issued
         → slice_get left.processor.operations.answers (length before.processor.operations.answers)
         ≡ None

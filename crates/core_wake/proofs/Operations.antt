@@ -31,8 +31,10 @@ use Rattle.core_seen.specs.script_follower.specs.ProcessorRecord.{ready}
 use Rattle.core_seen.specs.script_follower.specs.ProcessorTable.{ProcessorState, processor_wants, flits_due}
 use Rattle.home_bank.specs.BankTable.{bank_wants, is_nil}
 use Rattle.home_bank.specs.ServiceList.{address_of}
-use Rattle.core_seen.specs.tile_laws.specs.Tile.{Design, TileState, Agent, Processor, Router, Bank}
-use Rattle.core_seen.specs.tile_laws.specs.Agents.{wiring_of, tile_wants, tile_placed, agent_numbered, agent_op, tile_next_op}
+use Rattle.core_seen.specs.tile_laws.specs.declared.agent.Agent.{Agent}
+use Rattle.core_seen.specs.tile_laws.specs.declared.agent.Agent.TheVariants.{Processor, Router, Bank}
+use Rattle.core_seen.specs.tile_laws.specs.Tile.{Design, TileState}
+use Rattle.core_seen.specs.tile_laws.specs.Agents.{wiring_of, tile_wants, tile_placed, agent_op, tile_next_op, agent_kind, agent_tile}
 use Rattle.core_seen.specs.tile_laws.specs.Refinement.{IsSurrounded}
 use Rattle.core_seen.specs.tile_laws.proofs.Channels.{wired}
 use Rattle.core_seen.specs.core_laws.specs.Core.{Load, State, design_of, after}
@@ -50,7 +52,7 @@ use Rattle.core_wake.proofs.Wakes.{IsReady, ready_after, Asks, asks_of, low, pos
 -- the operation of an attempt is that of what it wants
 module _ (d : Design) (s : State) (attempt : Step) where
   abbrev t : ℕ
-  t = attempt.agent / 3
+  t = agent_tile attempt.agent
 
   abbrev ports : PortEnds
   ports = ports_of d.depth s.around (wiring_at d.shape attempt.agent)
@@ -63,10 +65,10 @@ module _ (d : Design) (s : State) (attempt : Step) where
 
   of_tile : (o : Option TileState)
       → option_and_then (λ p. tile_next_op p attempt) (option_map (λ tile. tile_placed d t tile s.around) o)
-      ≡ option_and_then (want_op ports) (option_and_then (λ tile. tile_wants d t tile (agent_numbered (attempt.agent % 3)) attempt.choice) o)
+      ≡ option_and_then (want_op ports) (option_and_then (λ tile. tile_wants d t tile (agent_kind attempt.agent) attempt.choice) o)
   of_tile None = refl
   of_tile (Some tile) =
-      let a : Agent = agent_numbered (attempt.agent % 3) in
+      let a : Agent = agent_kind attempt.agent in
       ap (λ (b : Bool). if b then agent_op (tile_placed d t tile s.around) a attempt.choice else None) (eq-eqb t t refl) ∙ of_agent tile a
 
   op_is : step_op d s attempt ≡ option_and_then (want_op ports) (wanted d s attempt)
@@ -198,7 +200,7 @@ module _ (d : Design) (s : State) (is_ready : IsReady d s) (surrounded : IsSurro
       ∙ sym (in_rest n o h)
 
   is_wired : (want : Want) → Asks d s is_ready attempt want → IsWired (channel_count d.shape) v
-  is_wired want x = wired d.shape is_ready.shape (attempt.agent / 3) (low d s is_ready attempt want x) (agent_numbered (attempt.agent % 3))
+  is_wired want x = wired d.shape is_ready.shape (agent_tile attempt.agent) (low d s is_ready attempt want x) (agent_kind attempt.agent)
 
   there_is : (x : ℕ) → x < channel_count d.shape → x < length s.around.rings
   there_is x h = let e = surrounded.count in omega (arith, e, h)
@@ -229,7 +231,8 @@ module _ (d : Design) (s : State) (is_ready : IsReady d s) (surrounded : IsSurro
       let f = some_if (nat_lt end.credits end.depth) (word_op.Load (end.base + (end.next + end.credits) % end.depth)) op e in
       ap (woken_by_operation d) f.1
   tells (Access n o) op x e =
-      by_access n o (accesses d (attempt.agent / 3) x.tile (in_memory (attempt.agent / 3) x.tile x.here) n o (agent_numbered (attempt.agent % 3)) attempt.choice
+      by_access n o (accesses d (agent_tile attempt.agent) x.tile (in_memory (agent_tile attempt.agent) x.tile x.here) n o
+      (agent_kind attempt.agent) attempt.choice
       x.asks)
       ∙ ap (woken_by_operation d) (same_Some _ _ e)
   tells (Await n value) op x e = ap (woken_by_operation d) (same_Some _ _ e)

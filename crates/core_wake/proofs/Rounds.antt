@@ -1,5 +1,5 @@
 -- A round that leaves out sleepers leads where the round leads.
-use Rattle.std.proofs.Common.{◌≡◌, ℕ, ◌+◌, ◌*◌, ◌%◌, ◌==◌, ◌&&◌, Bool, true, false, List, [], ◌∷◌, ◌++◌, Option, Some, None, refl, sym, ◌∙◌, ap, subst, arith}
+use Rattle.std.proofs.Common.{◌≡◌, ℕ, ◌==◌, ◌&&◌, Bool, true, false, List, [], ◌∷◌, ◌++◌, Option, Some, None, refl, sym, ◌∙◌, ap, subst}
 use Rattle.std.proofs.Common.{if◌then◌else◌}
 use Rattle.std.specs.Prelude.{◌||◌, not}
 use Rattle.std.specs.List.{flat_map, range_with_len}
@@ -7,8 +7,12 @@ use Rattle.std.proofs.lemmas.Bool.{eqb-true}
 use Rattle.torus.specs.Shape.{tiles_of, dims_of}
 use Rattle.torus.specs.declared.step.Step.{Step}
 use Rattle.channel_number.specs.Ports.{port_count}
-use Rattle.core_seen.specs.tile_laws.specs.Tile.{Design, Agent, Processor, Router}
-use Rattle.core_seen.specs.core_laws.specs.Core.{Load, State, design_of, agent_numbered, step, or_same, next, after_from, first_state, after, attempts_of}
+use Rattle.core_seen.specs.tile_laws.specs.declared.agent.Agent.{Agent}
+use Rattle.core_seen.specs.tile_laws.specs.declared.agent.Agent.TheVariants.{Processor, Router, Bank}
+use Rattle.core_seen.specs.tile_laws.specs.Tile.{Design}
+use Rattle.core_seen.specs.tile_laws.specs.Agents.{agent_number, agent_kind}
+use Rattle.core_seen.specs.tile_laws.proofs.AgentNumbers.{kind_of_number}
+use Rattle.core_seen.specs.core_laws.specs.Core.{Load, State, design_of, step, or_same, next, after_from, first_state, after, attempts_of}
 use Rattle.core_seen.specs.core_laws.specs.Core.{round_at, round}
 use Rattle.core_seen.specs.core_laws.specs.Runs.{IsAccepted}
 use Rattle.core_seen.specs.core_machine.proofs.Books.{after_append}
@@ -110,7 +114,7 @@ module _ (l : Load) (ok : IsAccepted l) where
       by_awake : (b : Bool) → w.awake agent ≡ b → Turned w (attempts_at l.shape agent)
           (if b then rested (after_watching d w (attempts_at l.shape agent)) agent (has_moved d w.state (attempts_at l.shape agent)) else w)
       by_awake true e = by_moved (has_moved d w.state (attempts_at l.shape agent)) refl
-      by_awake false e = (h, sym (same d w.state agent (choices_of (port_count (dims_of l.shape)) (agent_numbered (agent % 3))) (h.sleep agent e)))
+      by_awake false e = (h, sym (same d w.state agent (choices_of (port_count (dims_of l.shape)) (agent_kind agent)) (h.sleep agent e)))
 
   -- one turn after another
   both_turned : (w now last : Watch) (xs ys : List Step) → Turned w xs now → Turned now ys last → Turned w (xs ++ ys) last
@@ -120,26 +124,28 @@ module _ (l : Load) (ok : IsAccepted l) where
   abbrev by_kind : ℕ → Agent → List Step
   by_kind agent a = attempts_of agent (choices_of (port_count (dims_of l.shape)) a)
 
-  turns_are : (t : ℕ) → attempts_at l.shape (3 * t) ++ (attempts_at l.shape (3 * t + 1) ++ attempts_at l.shape (3 * t + 2))
+  attempts_are : (t : ℕ) (a : Agent) → attempts_at l.shape (agent_number t a) ≡ by_kind (agent_number t a) a
+  attempts_are t a = ap (by_kind (agent_number t a)) (kind_of_number t a)
+
+  turns_are : (t : ℕ) → attempts_at l.shape (agent_number t Processor)
+      ++ (attempts_at l.shape (agent_number t Router) ++ attempts_at l.shape (agent_number t Bank))
       ≡ round_at (port_count (dims_of l.shape)) t
   turns_are t =
-      let p : (3 * t) % 3 ≡ 0 = omega arith in
-      let r : (3 * t + 1) % 3 ≡ 1 = omega arith in
-      let b : (3 * t + 2) % 3 ≡ 2 = omega arith in
-      ap (λ (k : ℕ). by_kind (3 * t) (agent_numbered k) ++ (attempts_at l.shape (3 * t + 1) ++ attempts_at l.shape (3 * t + 2))) p
-      ∙ (ap (λ (k : ℕ). by_kind (3 * t) Processor ++ (by_kind (3 * t + 1) (agent_numbered k) ++ attempts_at l.shape (3 * t + 2))) r
-      ∙ ap (λ (k : ℕ). by_kind (3 * t) Processor ++ (by_kind (3 * t + 1) Router ++ by_kind (3 * t + 2) (agent_numbered k))) b)
+      ap (λ (xs : List Step). xs ++ (attempts_at l.shape (agent_number t Router) ++ attempts_at l.shape (agent_number t Bank))) (attempts_are t Processor)
+      ∙ (ap (λ (xs : List Step). by_kind (agent_number t Processor) Processor ++ (xs ++ attempts_at l.shape (agent_number t Bank))) (attempts_are t Router)
+      ∙ ap (λ (xs : List Step). by_kind (agent_number t Processor) Processor ++ (by_kind (agent_number t Router) Router ++ xs)) (attempts_are t Bank))
 
   tile_turned : (w : Watch) (t : ℕ) → Holds w → Turned w (round_at (port_count (dims_of l.shape)) t) (tile_turn d w t)
   tile_turned w t h =
-      let v : Watch = agent_turn d w (3 * t) in
-      let u : Watch = agent_turn d v (3 * t + 1) in
-      let x = agent_turned w (3 * t) h in
-      let y = agent_turned v (3 * t + 1) x.0 in
-      let z = agent_turned u (3 * t + 2) y.0 in
+      let v : Watch = agent_turn d w (agent_number t Processor) in
+      let u : Watch = agent_turn d v (agent_number t Router) in
+      let x = agent_turned w (agent_number t Processor) h in
+      let y = agent_turned v (agent_number t Router) x.0 in
+      let z = agent_turned u (agent_number t Bank) y.0 in
       subst (λ (xs : List Step). Turned w xs (tile_turn d w t)) (turns_are t)
-      (both_turned w v (tile_turn d w t) (attempts_at l.shape (3 * t)) (attempts_at l.shape (3 * t + 1) ++ attempts_at l.shape (3 * t + 2)) x
-      (both_turned v u (tile_turn d w t) (attempts_at l.shape (3 * t + 1)) (attempts_at l.shape (3 * t + 2)) y z))
+      (both_turned w v (tile_turn d w t) (attempts_at l.shape (agent_number t Processor))
+      (attempts_at l.shape (agent_number t Router) ++ attempts_at l.shape (agent_number t Bank)) x
+      (both_turned v u (tile_turn d w t) (attempts_at l.shape (agent_number t Router)) (attempts_at l.shape (agent_number t Bank)) y z))
 
   tiles_turned : (w : Watch) (tiles : List ℕ) → Holds w → Turned w (flat_map (round_at (port_count (dims_of l.shape))) tiles) (tile_turns d w tiles)
   tiles_turned w [] h = (h, refl)

@@ -1,5 +1,5 @@
 -- Attempts of agents that are asleep, and who falls asleep.
-use Rattle.std.proofs.Common.{◌≡◌, ℕ, zero, suc, ◌+◌, ◌%◌, ◌<◌, Bool, true, false, List, [], ◌∷◌, ◌++◌, Option, Some, None, refl, ◌∙◌, ap, subst, arith}
+use Rattle.std.proofs.Common.{◌≡◌, ℕ, zero, suc, ◌+◌, ◌<◌, Bool, true, false, List, [], ◌∷◌, ◌++◌, Option, Some, None, refl, ◌∙◌, ap, subst, arith}
 use Rattle.std.specs.Prelude.{◌||◌, is_some, map}
 use Rattle.std.specs.List.{range_with_len}
 use Rattle.std.proofs.lemmas.Bool.{ltb-true}
@@ -8,9 +8,12 @@ use Rattle.torus.specs.declared.step.Step.{Step}
 use Rattle.torus.specs.declared.step.Choice.{Choice}
 use Rattle.torus.specs.declared.step.Choice.TheVariants as choice
 use Rattle.channel_number.specs.Ports.{port_count}
-use Rattle.core_seen.specs.tile_laws.specs.Tile.{Design, Agent, Processor, Router, Bank}
-use Rattle.core_seen.specs.core_laws.specs.Core.{State, agent_numbered, step, or_same, after_from, attempts_of}
-use Rattle.core_seen.specs.core_laws.specs.Choices.{has_choice}
+use Rattle.core_seen.specs.tile_laws.specs.declared.agent.Agent.{Agent}
+use Rattle.core_seen.specs.tile_laws.specs.declared.agent.Agent.TheVariants.{Processor, Router, Bank}
+use Rattle.core_seen.specs.tile_laws.specs.Tile.{Design}
+use Rattle.core_seen.specs.tile_laws.specs.Agents.{agent_kind}
+use Rattle.core_seen.specs.core_laws.specs.Core.{State, step, or_same, after_from, attempts_of}
+use Rattle.core_seen.specs.tile_laws.specs.Choices.{has_choice}
 use Rattle.core_seen.specs.core_laws.proofs.AgentChoices.{other_choice}
 use Rattle.core_seen.specs.core_machine.specs.Core.{Core, built_to, event_in, core_with, core_after}
 use Rattle.core_wake.specs.Sleep.{IsAsleep, choices_of, attempts_at, has_moved}
@@ -106,12 +109,12 @@ module _ (d : Design) (s : State) where
   each_idle agent (c ∷ cs) h = let x = settled (attempts_of agent cs) (step d s (record { agent = agent; choice = c })) h in (x.0, each_idle agent cs x.1)
 
   pub falls : (agent : ℕ) → has_moved d s (attempts_at d.shape agent) ≡ false → IsAsleep d s agent
-  falls agent h c = by_choice (has_choice (port_count (dims_of d.shape)) (agent_numbered (agent % 3)) c) refl
+  falls agent h c = by_choice (has_choice (port_count (dims_of d.shape)) (agent_kind agent) c) refl
     where
-      by_choice : (b : Bool) → has_choice (port_count (dims_of d.shape)) (agent_numbered (agent % 3)) c ≡ b → Idle agent c
+      by_choice : (b : Bool) → has_choice (port_count (dims_of d.shape)) (agent_kind agent) c ≡ b → Idle agent c
       by_choice true has =
           let ports : ℕ = port_count (dims_of d.shape) in
-          let a : Agent = agent_numbered (agent % 3) in
+          let a : Agent = agent_kind agent in
           own (Idle agent) ports a (each_idle agent (choices_of ports a) h) c has
       by_choice false lacks = other_choice d s (record { agent = agent; choice = c }) lacks
 

@@ -1,9 +1,8 @@
 -- A step, by what it wants: it is enabled where that is granted, and leaves what other agents want.
-use Rattle.std.proofs.Common.{◌≡◌, ◌≢◌, ◌↔◌, ℕ, zero, suc, ◌+◌, ◌*◌, ◌/◌, ◌%◌, ◌<◌, inl, inr, Option, Some, None, refl, sym, ◌∙◌, ap, arith, slice_get}
+use Rattle.std.proofs.Common.{◌≡◌, ◌≢◌, ◌↔◌, ℕ, inl, inr, Option, Some, None, refl, sym, ◌∙◌, ap, slice_get}
 use Rattle.std.proofs.Common.{slice_set}
 use Rattle.std.specs.Prelude.{option_map, option_and_then}
 use Rattle.std.proofs.lemmas.Bool.{cases_eq}
-use Rattle.std.proofs.lemmas.Nat.{mod_below}
 use Rattle.std.proofs.lemmas.Option.{slice_get_within}
 use Rattle.one_order.proofs.Lists.{get_set_same, get_set_other}
 use Rattle.torus.specs.Shape.{tiles_of}
@@ -16,13 +15,16 @@ use Rattle.router.specs.Beginning.{router_wiring}
 use Rattle.core_seen.specs.script_follower.specs.ProcessorTable.{ProcessorState, processor_wants, processor_after}
 use Rattle.home_bank.specs.BankTable.{BankState, bank_wants, bank_after}
 use Rattle.core_seen.specs.tile_laws.specs.Wiring.{processor_wiring, bank_wiring}
-use Rattle.core_seen.specs.tile_laws.specs.Tile.{Design, TileState, Agent, Processor, Router, Bank, tile_step}
-use Rattle.core_seen.specs.tile_laws.specs.Agents.{wiring_of, tile_wants, agent_numbered}
+use Rattle.core_seen.specs.tile_laws.specs.declared.agent.Agent.{Agent}
+use Rattle.core_seen.specs.tile_laws.specs.declared.agent.Agent.TheVariants.{Processor, Router, Bank}
+use Rattle.core_seen.specs.tile_laws.specs.Tile.{Design, TileState, tile_step}
+use Rattle.core_seen.specs.tile_laws.specs.Agents.{wiring_of, tile_wants, agent_kind, agent_tile}
+use Rattle.core_seen.specs.tile_laws.proofs.AgentNumbers.{number_of_agent, number_is}
 use Rattle.core_seen.specs.core_laws.specs.Core.{State, step}
 use Rattle.core_seen.specs.core_laws.proofs.AgentSteps.{option_map_some, option_map_none, refused}
 use Rattle.core_seen.specs.core_laws.proofs.OneAgent.{processor_alone, router_alone, bank_alone}
 use Rattle.core_seen.specs.core_row.proofs.Steps.{step_of_tile, step_of_none}
-use Rattle.core_wake.specs.Waking.{place_of, wiring_at, wanted}
+use Rattle.core_wake.specs.Waking.{wiring_at, wanted}
 
 map_none : {A B : Type 0} (f : A → B) (o : Option A) → o ≡ None → option_map f o ≡ None
 map_none f None h = refl
@@ -71,14 +73,14 @@ module _ (d : Design) (t : ℕ) (tile : TileState) (around : Surroundings) (c : 
     pub want : Want
     pub wants : tile_wants d t tile a c ≡ Some want
     pub leaves : p.1 ≡ surroundings_after d.depth around (wiring_of d.shape t a) want
-    pub others : (b : Agent) (choice : Choice) → place_of b ≢ place_of a → tile_wants d t p.0 b choice ≡ tile_wants d t tile b choice
+    pub others : (b : Agent) (choice : Choice) → b ≢ a → tile_wants d t p.0 b choice ≡ tile_wants d t tile b choice
 
   alone : (a : Agent) (p : TileState × Surroundings) → tile_step d t tile around a c ≡ Some p → Alone a p
   alone Processor p h =
       let x = processor_alone d t tile around c p.0 p.1 h in
       record { want = x.want; wants = x.wanted; leaves = x.shared; others = others }
     where
-      others : (b : Agent) (choice : Choice) → place_of b ≢ 0 → tile_wants d t p.0 b choice ≡ tile_wants d t tile b choice
+      others : (b : Agent) (choice : Choice) → b ≢ Processor → tile_wants d t p.0 b choice ≡ tile_wants d t tile b choice
       others Processor choice ne = absurd (ne refl)
       others Router choice ne = ap (λ (r : RouterState). router_wants d.shape t r choice) (processor_alone d t tile around c p.0 p.1 h).router
       others Bank choice ne = ap (λ (b : BankState). bank_wants (tiles_of d.shape) t b choice) (processor_alone d t tile around c p.0 p.1 h).bank
@@ -86,7 +88,7 @@ module _ (d : Design) (t : ℕ) (tile : TileState) (around : Surroundings) (c : 
       let x = router_alone d t tile around c p.0 p.1 h in
       record { want = x.want; wants = x.wanted; leaves = x.shared; others = others }
     where
-      others : (b : Agent) (choice : Choice) → place_of b ≢ 1 → tile_wants d t p.0 b choice ≡ tile_wants d t tile b choice
+      others : (b : Agent) (choice : Choice) → b ≢ Router → tile_wants d t p.0 b choice ≡ tile_wants d t tile b choice
       others Router choice ne = absurd (ne refl)
       others Processor choice ne =
           ap (λ (r : ProcessorState). processor_wants (tiles_of d.shape) d.words t r choice) (router_alone d t tile around c p.0 p.1 h).processor
@@ -95,7 +97,7 @@ module _ (d : Design) (t : ℕ) (tile : TileState) (around : Surroundings) (c : 
       let x = bank_alone d t tile around c p.0 p.1 h in
       record { want = x.want; wants = x.wanted; leaves = x.shared; others = others }
     where
-      others : (b : Agent) (choice : Choice) → place_of b ≢ 2 → tile_wants d t p.0 b choice ≡ tile_wants d t tile b choice
+      others : (b : Agent) (choice : Choice) → b ≢ Bank → tile_wants d t p.0 b choice ≡ tile_wants d t tile b choice
       others Bank choice ne = absurd (ne refl)
       others Processor choice ne =
           ap (λ (r : ProcessorState). processor_wants (tiles_of d.shape) d.words t r choice) (bank_alone d t tile around c p.0 p.1 h).processor
@@ -104,10 +106,10 @@ module _ (d : Design) (t : ℕ) (tile : TileState) (around : Surroundings) (c : 
 -- of a tile in the machine
 module _ (d : Design) (s : State) (attempt : Step) where
   abbrev t : ℕ
-  t = attempt.agent / 3
+  t = agent_tile attempt.agent
 
   abbrev a : Agent
-  a = agent_numbered (attempt.agent % 3)
+  a = agent_kind attempt.agent
 
   abbrev with_tile : TileState × Surroundings → State
   with_tile p = record { tiles = slice_set s.tiles t p.0; around = p.1 }
@@ -144,39 +146,29 @@ module _ (d : Design) (s : State) (attempt : Step) where
   pub stepped : (next : State) → step d s attempt ≡ Some next → Stepped next
   stepped next is = stepped_at (slice_get s.tiles t) refl next is
 
--- the agent of a number among its tile's three
-place_is : (k : ℕ) → k < 3 → place_of (agent_numbered k) ≡ k
-place_is zero h = refl
-place_is (suc zero) h = refl
-place_is (suc (suc zero)) h = refl
-place_is (suc (suc (suc k))) h = absurd (omega arith)
-
-pub agent_is : (agent : ℕ) → 3 * (agent / 3) + place_of (agent_numbered (agent % 3)) ≡ agent
-agent_is agent = let k = place_is (agent % 3) (mod_below agent 3 (omega arith)) in omega (arith, k)
-
--- two agents of one tile stand at two places
-places_differ : (m n : ℕ) → m ≢ n → m / 3 ≡ n / 3 → place_of (agent_numbered (m % 3)) ≢ place_of (agent_numbered (n % 3))
-places_differ m n ne same e =
-    ne (sym (agent_is m) ∙ (ap (λ (k : ℕ). 3 * k + place_of (agent_numbered (m % 3))) same ∙ (ap (λ (k : ℕ). 3 * (n / 3) + k) e ∙ agent_is n)))
+-- two agents of one tile are of two kinds
+kinds_differ : (m n : ℕ) → m ≢ n → agent_tile m ≡ agent_tile n → agent_kind m ≢ agent_kind n
+kinds_differ m n ne same e = ne (number_is m (agent_tile n) (agent_kind n) same e ∙ number_of_agent n)
 
 -- after a step every other agent wants what it did
 module _ (d : Design) (s : State) (attempt : Step) (next : State) (other : Step) (x : Stepped d s attempt next) where
   abbrev wanted_by : Option TileState → Option Want
-  wanted_by o = option_and_then (λ (tile : TileState). tile_wants d (other.agent / 3) tile (agent_numbered (other.agent % 3)) other.choice) o
+  wanted_by o = option_and_then (λ (tile : TileState). tile_wants d (agent_tile other.agent) tile (agent_kind other.agent) other.choice) o
 
   wanted_next : other.agent ≢ attempt.agent
-      → wanted_by (slice_get (slice_set s.tiles (attempt.agent / 3) x.p.0) (other.agent / 3)) ≡ wanted_by (slice_get s.tiles (other.agent / 3))
-  wanted_next ne = elim (cases_eq (other.agent / 3) (attempt.agent / 3)) [
+      → wanted_by (slice_get (slice_set s.tiles (agent_tile attempt.agent) x.p.0) (agent_tile other.agent))
+      ≡ wanted_by (slice_get s.tiles (agent_tile other.agent))
+  wanted_next ne = elim (cases_eq (agent_tile other.agent) (agent_tile attempt.agent)) [
     | inl same ↦
-        let t : ℕ = attempt.agent / 3 in
+        let t : ℕ = agent_tile attempt.agent in
         ap (λ (k : ℕ). wanted_by (slice_get (slice_set s.tiles t x.p.0) k)) same
         ∙ (ap wanted_by (get_set_same s.tiles t x.p.0 (slice_get_within s.tiles t x.tile x.here))
-        ∙ (ap (λ (k : ℕ). tile_wants d k x.p.0 (agent_numbered (other.agent % 3)) other.choice) same
-        ∙ ((x.alone).others (agent_numbered (other.agent % 3)) other.choice (places_differ other.agent attempt.agent ne same)
-        ∙ (ap (λ (k : ℕ). tile_wants d k x.tile (agent_numbered (other.agent % 3)) other.choice) (sym same)
+        ∙ (ap (λ (k : ℕ). tile_wants d k x.p.0 (agent_kind other.agent) other.choice) same
+        ∙ ((x.alone).others (agent_kind other.agent) other.choice (kinds_differ other.agent attempt.agent ne same)
+        ∙ (ap (λ (k : ℕ). tile_wants d k x.tile (agent_kind other.agent) other.choice) (sym same)
         ∙ (ap wanted_by (sym x.here)
         ∙ ap (λ (k : ℕ). wanted_by (slice_get s.tiles k)) (sym same))))))
-    | inr away ↦ ap wanted_by (get_set_other s.tiles (attempt.agent / 3) (other.agent / 3) x.p.0 away)
+    | inr away ↦ ap wanted_by (get_set_other s.tiles (agent_tile attempt.agent) (agent_tile other.agent) x.p.0 away)
   ]
 
   pub wants_kept : other.agent ≢ attempt.agent → wanted d next other ≡ wanted d s other

@@ -1,5 +1,5 @@
 -- Whom a move can wake.
-use Rattle.std.proofs.Common.{◌≡◌, ◌≢◌, ◌↔◌, ℕ, ◌+◌, ◌*◌, ◌/◌, ◌%◌, ◌<◌, ◌==◌, ◌&&◌, Bool, true, false, List, [], ◌∷◌, length, Option, Some, None, refl, sym}
+use Rattle.std.proofs.Common.{◌≡◌, ◌≢◌, ◌↔◌, ℕ, ◌<◌, ◌==◌, ◌&&◌, Bool, true, false, List, [], ◌∷◌, length, Option, Some, None, refl, sym}
 use Rattle.std.proofs.Common.{◌∙◌, ap, subst, arith, slice_get, eq-eqb, if◌then◌else◌}
 use Rattle.std.specs.Prelude.{◌||◌, not, is_none, option_map, option_and_then}
 use Rattle.std.specs.List.{list_any}
@@ -24,8 +24,11 @@ use Rattle.core_seen.specs.script_follower.specs.ProcessorRecord.{ready}
 use Rattle.core_seen.specs.script_follower.specs.ProcessorTable.{ProcessorState, processor_wants, flits_due}
 use Rattle.home_bank.specs.BankTable.{BankState, bank_wants, is_nil}
 use Rattle.home_bank.specs.ServiceList.{address_of}
-use Rattle.core_seen.specs.tile_laws.specs.Tile.{Design, TileState, Agent, Processor, Router, Bank}
-use Rattle.core_seen.specs.tile_laws.specs.Agents.{tile_wants, agent_numbered}
+use Rattle.core_seen.specs.tile_laws.specs.declared.agent.Agent.{Agent}
+use Rattle.core_seen.specs.tile_laws.specs.declared.agent.Agent.TheVariants.{Processor, Router, Bank}
+use Rattle.core_seen.specs.tile_laws.specs.Tile.{Design, TileState}
+use Rattle.core_seen.specs.tile_laws.specs.Agents.{tile_wants, agent_number, agent_kind, agent_tile}
+use Rattle.core_seen.specs.tile_laws.proofs.AgentNumbers.{number_of_agent, number_is}
 use Rattle.core_seen.specs.tile_laws.specs.Refinement.{IsPossibleChoice}
 use Rattle.core_seen.specs.tile_laws.proofs.Channels.{apart}
 use Rattle.core_seen.specs.core_laws.specs.Core.{Load, State, design_of, step, after}
@@ -36,18 +39,18 @@ use Rattle.core_seen.specs.core_laws.proofs.AskedFor.{bank_asked}
 use Rattle.core_seen.specs.core_laws.proofs.ChannelWants.{router_of_channel}
 use Rattle.core_seen.specs.core_row.proofs.Reached.{all_steps}
 use Rattle.core_seen.specs.core_row.proofs.Reached as reached
-use Rattle.core_wake.specs.Waking.{place_of, receiver_of, sender_of, wiring_at, wanted, Meets, Disturbs, processors, woken_by, woken, is_woken}
+use Rattle.core_wake.specs.Waking.{receiver_of, sender_of, wiring_at, wanted, Meets, Disturbs, processors, woken_by, woken, is_woken}
 use Rattle.core_wake.specs.Sleep.{IsAsleep}
 use Rattle.core_wake.proofs.Ends.{receiver_is, sender_is}
 use Rattle.core_wake.proofs.Grants.{granted_alike}
-use Rattle.core_wake.proofs.Steps.{step_idle, stepped, agent_is, wants_kept}
+use Rattle.core_wake.proofs.Steps.{step_idle, stepped, wants_kept}
 
 -- a state with its tiles, whose agents want what is there
 pub record IsReady (d : Design) (s : State) : Type 0 where
   pub shape : IsAcceptedShape d.shape
   pub count : length s.tiles ≡ tiles_of d.shape
-  pub possible : (attempt : Step) (tile : TileState) → slice_get s.tiles (attempt.agent / 3) ≡ Some tile
-      → IsPossibleChoice d (attempt.agent / 3) tile s.around (agent_numbered (attempt.agent % 3)) attempt.choice
+  pub possible : (attempt : Step) (tile : TileState) → slice_get s.tiles (agent_tile attempt.agent) ≡ Some tile
+      → IsPossibleChoice d (agent_tile attempt.agent) tile s.around (agent_kind attempt.agent) attempt.choice
 
 pub ready_after : (l : Load) → IsAccepted l → (steps : List Step) → IsReady (design_of l) (after l steps)
 ready_after l ok steps = subst (IsReady (design_of l)) (all_steps l steps) (record {
@@ -89,7 +92,7 @@ module _ (tiles words t n value : ℕ) where
   bank_awaits b (choice.CreditOf o) e = cc
 
 tile_awaits : (d : Design) (t n value : ℕ) (tile : TileState) (a : Agent) (c : Choice) → tile_wants d t tile a c ≡ Some (Await n value)
-    → (n ≡ d.words) × (place_of a ≡ 0)
+    → (n ≡ d.words) × (a ≡ Processor)
 tile_awaits d t n value tile Processor c e = (processor_awaits (tiles_of d.shape) d.words t n value tile.processor c e, refl)
 tile_awaits d t n value tile Router c e = absurd (router_of_channel d.shape t tile.router c (Await n value) e)
 tile_awaits d t n value tile Bank c e = absurd (bank_awaits (tiles_of d.shape) d.words t n value tile.bank c e)
@@ -103,10 +106,10 @@ or_false true b h = absurd (cc)
 or_false false b h = (refl, h)
 
 -- every processor is among them
-processor_among : (tiles t agent : ℕ) → t < tiles → 3 * t ≡ agent → list_any (λ k. k == agent) (processors tiles) ≡ true
+processor_among : (tiles t agent : ℕ) → t < tiles → agent_number t Processor ≡ agent → list_any (λ k. k == agent) (processors tiles) ≡ true
 processor_among tiles t agent low is =
-    list_any_at (λ k. k == agent) (processors tiles) t 0 (omega (arith, length-map-range_with_len (λ u. 3 * u) 0 tiles))
-    (eq-eqb _ agent (get_or-map-range_with_len (λ u. 3 * u) 0 tiles t t 0 low (omega arith) ∙ is))
+    list_any_at (λ k. k == agent) (processors tiles) t 0 (omega (arith, length-map-range_with_len (λ u. agent_number u Processor) 0 tiles))
+    (eq-eqb _ agent (get_or-map-range_with_len (λ u. agent_number u Processor) 0 tiles t t 0 low (omega arith) ∙ is))
 
 only_one : (k agent : ℕ) → k ≡ agent → list_any (λ k. k == agent) (k ∷ []) ≡ true
 only_one k agent is = ap (λ b. b || false) (eq-eqb k agent is)
@@ -115,17 +118,17 @@ module _ (d : Design) (s : State) (is_ready : IsReady d s) where
   -- an attempt that wants something, of a tile that is there
   pub record Asks (attempt : Step) (want : Want) : Type 0 where
     pub tile : TileState
-    pub here : slice_get s.tiles (attempt.agent / 3) ≡ Some tile
-    pub asks : tile_wants d (attempt.agent / 3) tile (agent_numbered (attempt.agent % 3)) attempt.choice ≡ Some want
+    pub here : slice_get s.tiles (agent_tile attempt.agent) ≡ Some tile
+    pub asks : tile_wants d (agent_tile attempt.agent) tile (agent_kind attempt.agent) attempt.choice ≡ Some want
 
   pub asks_of : (attempt : Step) (want : Want) → wanted d s attempt ≡ Some want → Asks attempt want
   asks_of attempt want e =
-      option_and_then_some (λ (tile : TileState). tile_wants d (attempt.agent / 3) tile (agent_numbered (attempt.agent % 3)) attempt.choice)
-      (slice_get s.tiles (attempt.agent / 3)) want e
+      option_and_then_some (λ (tile : TileState). tile_wants d (agent_tile attempt.agent) tile (agent_kind attempt.agent) attempt.choice)
+      (slice_get s.tiles (agent_tile attempt.agent)) want e
       (λ tile here asks. record { tile = tile; here = here; asks = asks })
 
-  pub low : (attempt : Step) (want : Want) → Asks attempt want → attempt.agent / 3 < tiles_of d.shape
-  low attempt want x = subst (λ (n : ℕ). attempt.agent / 3 < n) is_ready.count (slice_get_within s.tiles (attempt.agent / 3) x.tile x.here)
+  pub low : (attempt : Step) (want : Want) → Asks attempt want → agent_tile attempt.agent < tiles_of d.shape
+  low attempt want x = subst (λ (n : ℕ). agent_tile attempt.agent < n) is_ready.count (slice_get_within s.tiles (agent_tile attempt.agent) x.tile x.here)
 
   pub possible_of : (attempt : Step) (want : Want) → Asks attempt want → IsPossible s.around (wiring_at d.shape attempt.agent) want
   possible_of attempt want x = is_ready.possible attempt x.tile x.here want x.asks
@@ -133,11 +136,9 @@ module _ (d : Design) (s : State) (is_ready : IsReady d s) where
   apart_of : (one other : Step) (want sought : Want) → Asks one want → Asks other sought → other.agent ≢ one.agent
       → AreDisjoint (wiring_at d.shape one.agent) (wiring_at d.shape other.agent)
   apart_of one other want sought x y ne =
-      apart d.shape is_ready.shape (one.agent / 3) (other.agent / 3) (agent_numbered (one.agent % 3)) (agent_numbered (other.agent % 3)) (low one want x)
+      apart d.shape is_ready.shape (agent_tile one.agent) (agent_tile other.agent) (agent_kind one.agent) (agent_kind other.agent) (low one want x)
       (low other sought y)
-      (λ p. ne (sym (agent_is other.agent)
-      ∙ (ap (λ (k : ℕ). 3 * k + place_of (agent_numbered (other.agent % 3))) p.0
-      ∙ (ap (λ (a : Agent). 3 * (one.agent / 3) + place_of a) p.1 ∙ agent_is one.agent))))
+      (λ p. ne (number_is other.agent (agent_tile one.agent) (agent_kind one.agent) p.0 p.1 ∙ number_of_agent one.agent))
 
   -- one step and another's choice
   module _ (attempt : Step) (next : State) (moves : step d s attempt ≡ Some next) (other : Step) (ne : other.agent ≢ attempt.agent)
@@ -164,7 +165,7 @@ module _ (d : Design) (s : State) (is_ready : IsReady d s) where
         let y = x.alone in
         let wants : wanted d s attempt ≡ Some y.want =
         ap (λ (o : Option TileState). option_and_then
-        (λ (tile : TileState). tile_wants d (attempt.agent / 3) tile (agent_numbered (attempt.agent % 3)) attempt.choice) o) x.here ∙ y.wants in
+        (λ (tile : TileState). tile_wants d (agent_tile attempt.agent) tile (agent_kind attempt.agent) attempt.choice) o) x.here ∙ y.wants in
         let around : next.around ≡ left y.want = ap (λ (z : State). z.around) (sym x.is) ∙ y.leaves in
         let same : asked next.around (wanted d next other) ≡ asked (left y.want) (wanted d s other) =
         ap (λ (z : Surroundings). asked z (wanted d next other)) around ∙ ap (asked (left y.want)) (wants_kept d s attempt next other x ne) in
@@ -182,17 +183,17 @@ module _ (d : Design) (s : State) (is_ready : IsReady d s) where
         → list_any (λ k. k == other.agent) (woken_by d (wiring_at d.shape attempt.agent) (Some want)) ≡ true
     wakes (Take i) (Credit o) x y m =
         only_one _ other.agent (ap (sender_of d.shape) m
-        ∙ (sender_is d.shape is_ready.shape (other.agent / 3) (low other (Credit o) y) (agent_numbered (other.agent % 3)) o (possible_of other (Credit o) y)
-        ∙ agent_is other.agent))
+        ∙ (sender_is d.shape is_ready.shape (agent_tile other.agent) (low other (Credit o) y) (agent_kind other.agent) o (possible_of other (Credit o) y)
+        ∙ number_of_agent other.agent))
     wakes (Put o flit) (Take i) x y m =
         only_one _ other.agent (ap (receiver_of d.shape) m
-        ∙ (receiver_is d.shape is_ready.shape (other.agent / 3) (low other (Take i) y) (agent_numbered (other.agent % 3)) i (possible_of other (Take i) y)
-        ∙ agent_is other.agent))
+        ∙ (receiver_is d.shape is_ready.shape (agent_tile other.agent) (low other (Take i) y) (agent_kind other.agent) i (possible_of other (Take i) y)
+        ∙ number_of_agent other.agent))
     wakes (Access word op) (Await n value) x y m =
-        let w = tile_awaits d (other.agent / 3) n value y.tile (agent_numbered (other.agent % 3)) other.choice y.asks in
+        let w = tile_awaits d (agent_tile other.agent) n value y.tile (agent_kind other.agent) other.choice y.asks in
         ap (λ (b : Bool). list_any (λ k. k == other.agent) (if b then processors (tiles_of d.shape) else [])) (eq-eqb word d.words (m ∙ w.0))
-        ∙ processor_among (tiles_of d.shape) (other.agent / 3) other.agent (low other (Await n value) y)
-        (let p = w.1 in let a = agent_is other.agent in omega (arith, p, a))
+        ∙ processor_among (tiles_of d.shape) (agent_tile other.agent) other.agent (low other (Await n value) y)
+        (sym (number_is other.agent (agent_tile other.agent) Processor refl w.1))
     wakes (Take i) (Take j) x y m = absurd m
     wakes (Take i) (Put p more) x y m = absurd m
     wakes (Take i) (Access n act) x y m = absurd m
@@ -234,12 +235,12 @@ module _ (d : Design) (s : State) (is_ready : IsReady d s) where
       both.1 (asleep c)
 
 -- a service wakes no other agent
-module _ (l : Load) (ok : IsAccepted l) (steps : List Step) (agent : ℕ) (is_bank : agent_numbered (agent % 3) ≡ Bank) where
+module _ (l : Load) (ok : IsAccepted l) (steps : List Step) (agent : ℕ) (is_bank : agent_kind agent ≡ Bank) where
   abbrev d : Design
   d = design_of l
 
   abbrev t : ℕ
-  t = agent / 3
+  t = agent_tile agent
 
   asks_after : (tile : TileState) → slice_get (after l steps).tiles t ≡ Some tile → BankAsks (design_of l) l.scripts t tile.bank (after l steps).around
   asks_after tile = subst (λ (s : State). slice_get s.tiles t ≡ Some tile → BankAsks (design_of l) l.scripts t tile.bank s.around) (all_steps l steps)

@@ -1,13 +1,16 @@
 -- Agents that are asleep: no choice of theirs is enabled.
-use Rattle.std.specs.Prelude.{◌≡◌, ℕ, ◌%◌, ◌||◌, Bool, false, List, [], ◌∷◌, ◌++◌, map, None, is_some}
+use Rattle.std.specs.Prelude.{◌≡◌, ℕ, ◌||◌, Bool, false, List, [], ◌∷◌, ◌++◌, map, None, is_some}
 use Rattle.std.specs.List.{range_with_len}
 use Rattle.torus.specs.Shape.{Shape, dims_of}
 use Rattle.torus.specs.declared.step.Step.{Step}
 use Rattle.torus.specs.declared.step.Choice.{Choice}
 use Rattle.torus.specs.declared.step.Choice.TheVariants.{Send, Take, TakeFrom, Put, Credit, CreditOf, Serve, Done, Look}
 use Rattle.channel_number.specs.Ports.{port_count}
-use Rattle.core_seen.specs.tile_laws.specs.Tile.{Design, Agent, Processor, Router, Bank}
-use Rattle.core_seen.specs.core_laws.specs.Core.{State, step, next, agent_numbered, attempts_of}
+use Rattle.core_seen.specs.tile_laws.specs.declared.agent.Agent.{Agent}
+use Rattle.core_seen.specs.tile_laws.specs.declared.agent.Agent.TheVariants.{Processor, Router, Bank}
+use Rattle.core_seen.specs.tile_laws.specs.Tile.{Design}
+use Rattle.core_seen.specs.tile_laws.specs.Agents.{agent_kind}
+use Rattle.core_seen.specs.core_laws.specs.Core.{State, step, next, attempts_of}
 
 -- no choice of the agent is enabled (this project's own format)
 abbrev pub IsAsleep : Design → State → ℕ → Type 0
@@ -30,7 +33,7 @@ choices_of ports Bank = Take ∷ Serve ∷ Send ∷ Credit ∷ []
 -- format)
 abbrev pub attempts_at : Shape → ℕ → List Step
 attempts_at s agent = attempts_of agent
-    (choices_of (port_count (dims_of s)) (agent_numbered (agent % 3)))
+    (choices_of (port_count (dims_of s)) (agent_kind agent))
 
 -- whether any of a list of attempts is enabled where it comes
 abbrev pub has_moved : Design → State → List Step → Bool

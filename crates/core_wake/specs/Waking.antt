@@ -1,5 +1,5 @@
 -- Which agents a move can wake.
-use Rattle.std.specs.Prelude.{◌≡◌, ℕ, ◌+◌, ◌*◌, ◌/◌, ◌%◌, ◌==◌, Bool, if◌then◌else◌, List, [], ◌∷◌, map}
+use Rattle.std.specs.Prelude.{◌≡◌, ℕ, ◌==◌, Bool, if◌then◌else◌, List, [], ◌∷◌, map}
 use Rattle.std.specs.Prelude.{slice_index, slice_get, Option, Some, None, option_and_then}
 use Rattle.std.specs.List.{list_any, range_with_len}
 use Rattle.torus.specs.Shape.{Shape, tiles_of}
@@ -11,15 +11,11 @@ use Rattle.channel_number.specs.Ports.{is_injection, is_ejection, input_router, 
 use Rattle.flit_buffer.specs.Surroundings.{Wiring}
 use Rattle.flit_buffer.specs.declared.want.Want.{Want}
 use Rattle.flit_buffer.specs.declared.want.Want.TheVariants.{Take, Put, Credit, Access, Await}
-use Rattle.core_seen.specs.tile_laws.specs.Tile.{Design, Agent, Processor, Router, Bank}
-use Rattle.core_seen.specs.tile_laws.specs.Agents.{wiring_of, tile_wants, agent_numbered}
+use Rattle.core_seen.specs.tile_laws.specs.declared.agent.Agent.{Agent}
+use Rattle.core_seen.specs.tile_laws.specs.declared.agent.Agent.TheVariants.{Processor, Router, Bank}
+use Rattle.core_seen.specs.tile_laws.specs.Tile.{Design}
+use Rattle.core_seen.specs.tile_laws.specs.Agents.{wiring_of, tile_wants, agent_number, agent_kind, agent_tile}
 use Rattle.core_seen.specs.core_laws.specs.Core.{State}
-
--- the number of an agent among its tile's three (this project's own format)
-abbrev pub place_of : Agent → ℕ
-place_of Processor = 0
-place_of Router = 1
-place_of Bank = 2
 
 -- the agent that takes the packets of a class out of the network, and the one that sends them into
 -- it (Dally and Towles, chapter 20)
@@ -35,26 +31,26 @@ speaker class.Reply = Bank
 abbrev pub receiver_of : Shape → ℕ → ℕ
 receiver_of s x =
     if is_ejection (channel_at s x).kind
-    then 3 * (channel_at s x).tile + place_of (taker (channel_at s x).class)
-    else 3 * input_router s x + 1
+    then agent_number (channel_at s x).tile (taker (channel_at s x).class)
+    else agent_number (input_router s x) Router
 
 -- the number of the agent at the sending end of channel x (this project's own format)
 abbrev pub sender_of : Shape → ℕ → ℕ
 sender_of s x =
     if is_injection (channel_at s x).kind
-    then 3 * (channel_at s x).tile + place_of (speaker (channel_at s x).class)
-    else 3 * output_router s x + 1
+    then agent_number (channel_at s x).tile (speaker (channel_at s x).class)
+    else agent_number (output_router s x) Router
 
 -- the channels of the agent of a number
 abbrev pub wiring_at : Shape → ℕ → Wiring
-wiring_at s agent = wiring_of s (agent / 3) (agent_numbered (agent % 3))
+wiring_at s agent = wiring_of s (agent_tile agent) (agent_kind agent)
 
 -- what an attempt wants in a state; None where the agent hasn't the choice or its own part of the
 -- condition fails
 abbrev pub wanted : Design → State → Step → Option Want
 wanted d s attempt = option_and_then (λ tile.
-    tile_wants d (attempt.agent / 3) tile (agent_numbered (attempt.agent % 3)) attempt.choice)
-    (slice_get s.tiles (attempt.agent / 3))
+    tile_wants d (agent_tile attempt.agent) tile (agent_kind attempt.agent) attempt.choice)
+    (slice_get s.tiles (agent_tile attempt.agent))
 
 -- what one agent's granted want changes another agent's want looks at: a take returns the credit
 -- that the sender looks for, a put brings the flit that the receiver looks for, and a change of a
@@ -75,7 +71,7 @@ pub record Disturbs (d : Design) (s : State) (attempt other : Step) : Type 0 whe
 
 -- the processors of so many tiles
 abbrev pub processors : ℕ → List ℕ
-processors tiles = map (λ t. 3 * t) (range_with_len 0 tiles)
+processors tiles = map (λ t. agent_number t Processor) (range_with_len 0 tiles)
 
 -- the other agents that a granted want wakes: a take the sender, a put the receiver, a change of
 -- the done word the processors, and any other want none (this project's own format)

@@ -1,10 +1,12 @@
 -- Rounds that keep who is awake, and leave out the agents that aren't.
-use Rattle.std.specs.Prelude.{ℕ, ◌+◌, ◌*◌, ◌==◌, ◌&&◌, ◌||◌, Bool, not, if◌then◌else◌, List, [], ◌∷◌}
+use Rattle.std.specs.Prelude.{ℕ, ◌==◌, ◌&&◌, ◌||◌, Bool, not, if◌then◌else◌, List, [], ◌∷◌}
 use Rattle.std.specs.Prelude.{Option, Some, None}
 use Rattle.std.specs.List.{range_with_len}
 use Rattle.torus.specs.Shape.{tiles_of}
 use Rattle.torus.specs.declared.step.Step.{Step}
+use Rattle.core_seen.specs.tile_laws.specs.declared.agent.Agent.TheVariants.{Processor, Router, Bank}
 use Rattle.core_seen.specs.tile_laws.specs.Tile.{Design}
+use Rattle.core_seen.specs.tile_laws.specs.Agents.{agent_number}
 use Rattle.core_seen.specs.core_laws.specs.Core.{State, step}
 use Rattle.core_wake.specs.Waking.{is_woken}
 use Rattle.core_wake.specs.Sleep.{attempts_at, has_moved}
@@ -45,7 +47,10 @@ agent_turn d w agent =
 
 -- after the turns of a tile's three agents
 abbrev pub tile_turn : Design → Watch → ℕ → Watch
-tile_turn d w t = agent_turn d (agent_turn d (agent_turn d w (3 * t)) (3 * t + 1)) (3 * t + 2)
+tile_turn d w t =
+    agent_turn d
+    (agent_turn d (agent_turn d w (agent_number t Processor)) (agent_number t Router))
+    (agent_number t Bank)
 
 -- after the turns of a list of tiles
 abbrev pub tile_turns : Design → Watch → List ℕ → Watch

@@ -1,20 +1,22 @@
 //! Laws of who is awake, each the contract of a function that does nothing.
 
-ghost use Rattle.std.specs.Prelude.{◌≡◌, ◌≢◌, ◌↔◌, ◌<◌, ◌+◌, ◌*◌, ◌%◌, ◌||◌, [], ◌∷◌, ℕ, Bool, List, Some, None};
+ghost use Rattle.std.specs.Prelude.{◌≡◌, ◌≢◌, ◌↔◌, ◌<◌, ◌||◌, [], ◌∷◌, ℕ, Bool, List, Some, None};
 ghost use Rattle.std.specs.Prelude.{true, false, length, slice_index};
 ghost use Rattle.torus.specs.Shape.{Shape, IsAccepted as IsAcceptedShape, tiles_of};
 ghost use Rattle.torus.specs.declared.step.Step.{Step};
 ghost use Rattle.torus.specs.declared.step.Choice.{Choice};
 ghost use Rattle.torus.specs.declared.step.Choice.TheVariants.{Serve};
 ghost use Rattle.flit_buffer.specs.declared.word_op.WordOp.{WordOp};
-ghost use Rattle.core_seen.specs.tile_laws.specs.Tile.{Design, Agent, Bank};
-ghost use Rattle.core_seen.specs.tile_laws.specs.Agents.{wiring_of};
-ghost use Rattle.core_seen.specs.core_laws.specs.Core.{Load, State, design_of, agent_numbered, step, after_from};
+ghost use Rattle.core_seen.specs.tile_laws.specs.declared.agent.Agent.{Agent};
+ghost use Rattle.core_seen.specs.tile_laws.specs.declared.agent.Agent.TheVariants.{Bank};
+ghost use Rattle.core_seen.specs.tile_laws.specs.Tile.{Design};
+ghost use Rattle.core_seen.specs.tile_laws.specs.Agents.{wiring_of, agent_number, agent_kind};
+ghost use Rattle.core_seen.specs.core_laws.specs.Core.{Load, State, design_of, step, after_from};
 ghost use Rattle.core_seen.specs.core_laws.specs.Core.{after, attempts_of, round};
 ghost use Rattle.core_seen.specs.core_laws.specs.Runs.{IsAccepted};
 ghost use Rattle.core_seen.specs.core_row.specs.Attempts.{step_op};
 ghost use Rattle.core_seen.specs.core_machine.specs.Core.{Core, built_to, core_after};
-ghost use Rattle.core_wake.specs.Waking.{place_of, receiver_of, sender_of, Disturbs, woken, is_woken};
+ghost use Rattle.core_wake.specs.Waking.{receiver_of, sender_of, Disturbs, woken, is_woken};
 ghost use Rattle.core_wake.specs.Sleep.{IsAsleep, OthersSleep, attempts_at, has_moved};
 ghost use Rattle.core_wake.specs.Operations.{woken_by_operation};
 ghost use Rattle.core_wake.specs.Watch.{Watch, round_awake};
@@ -33,10 +35,10 @@ pub fn steps_leave_distant_choices()
 pub fn channels_have_two_agents()
     ensures receiver { (s : Shape) → IsAcceptedShape s → (t : ℕ) (a : Agent) (i : ℕ)
         → t < tiles_of s → i < length (wiring_of s t a).inputs
-        → receiver_of s (slice_index (wiring_of s t a).inputs i) ≡ 3 * t + place_of a }
+        → receiver_of s (slice_index (wiring_of s t a).inputs i) ≡ agent_number t a }
     ensures sender { (s : Shape) → IsAcceptedShape s → (t : ℕ) (a : Agent) (o : ℕ) → t < tiles_of s
         → o < length (wiring_of s t a).outputs
-        → sender_of s (slice_index (wiring_of s t a).outputs o) ≡ 3 * t + place_of a }
+        → sender_of s (slice_index (wiring_of s t a).outputs o) ≡ agent_number t a }
 {}
 
 /// A move wakes its own agent, and besides at most the agent at the other end of the channel that it
@@ -52,7 +54,7 @@ pub fn moves_wake_few()
         → is_woken (design_of l) (after l steps) attempt agent ≡ false
         → IsAsleep (design_of l) (after l steps) agent → IsAsleep (design_of l) next agent }
     ensures services { (l : Load) → IsAccepted l → (steps : List Step) (agent : ℕ)
-        → agent_numbered (agent % 3) ≡ Bank
+        → agent_kind agent ≡ Bank
         → woken (design_of l) (after l steps) (record { agent = agent; choice = Serve })
         ≡ agent ∷ [] }
 {}

@@ -3,4 +3,4 @@
 
 pub mod laws;
 
-pub use core_seen::TileAgents;
+pub use core_seen::{Agent, TileAgents, agent_kind, agent_number, agent_tile};

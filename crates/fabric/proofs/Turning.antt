@@ -1,5 +1,5 @@
 -- From what an operation told to what a turn says.
-use Rattle.std.proofs.Common.{◌≡◌, ◌≢◌, ℕ, ◌%◌, append_assoc, ◌<◌, Bool, true, false, List, [], ◌∷◌, ◌++◌, Option, Some, None, refl, sym, ap, ◌∙◌, subst}
+use Rattle.std.proofs.Common.{◌≡◌, ◌≢◌, ℕ, append_assoc, ◌<◌, Bool, true, false, List, [], ◌∷◌, ◌++◌, Option, Some, None, refl, sym, ap, ◌∙◌, subst}
 use Rattle.std.proofs.lemmas.List.{append-nil}
 use Rattle.std.specs.Prelude.{IsSome, MatchBool, MatchOption, is_some, option_and_then, unwrap_or}
 use Rattle.torus.specs.Shape.{tiles_of}
@@ -9,8 +9,8 @@ use Rattle.torus.specs.declared.step.Stepped.TheVariants.{Moved, Idle}
 use Rattle.fabric_rule.specs.order_abstract.specs.Room.{home_room}
 use Rattle.flit_buffer.specs.declared.word_op.WordOp.{WordOp}
 use Rattle.flit_buffer.specs.Words.{word_of}
-use Rattle.fabric_rule.specs.tile_laws.specs.Agents.{TilePlace, agent_numbered, tile_next_op, tile_absorbed}
-use Rattle.fabric_rule.specs.tile.specs.Placed.{PlacedTile, with_place, IsAcceptableTo, HasRoomForEntry}
+use Rattle.fabric_rule.specs.tile_laws.specs.Agents.{TilePlace, tile_next_op, tile_absorbed, agent_kind}
+use Rattle.fabric_rule.specs.tile.specs.Placed.{PlacedTile, with_place, IsAcceptableTo, HasRoomFor}
 use Rattle.fabric_rule.specs.core_laws.specs.Core.{Load}
 use Rattle.fabric_rule.specs.core_laws.specs.Runs.{IsAccepted}
 use Rattle.fabric_rule.specs.Known.{tile_of, known, op_of, moves, left_by, Suits, row_length}
@@ -52,15 +52,15 @@ op_is p c q e = sym e
 pub asked : (p : TilePlace) (c : Step) (o : WordOp) → Some o ≡ tile_next_op p c → IsSome (tile_next_op p c)
 asked p c o e = subst IsSome e refl
 
-pub accepts : (load : Load) (p : TilePlace) (c : Step) (n : ℕ) → Suits load p c n → IsAcceptableTo p (agent_numbered (c.agent % 3)) c.choice n
+pub accepts : (load : Load) (p : TilePlace) (c : Step) (n : ℕ) → Suits load p c n → IsAcceptableTo p (agent_kind c.agent) c.choice n
 unfolding Suits
 accepts load p c n k = k.0
 
 pub has_room : (load : Load) (v : PlacedTile) (c : Step) (n : ℕ) → v.room ≡ home_room (tiles_of load.shape) (tile_of c) load.scripts → Suits load v.place c n
-    → HasRoomForEntry v (agent_numbered (c.agent % 3)) c.choice
+    → HasRoomFor v (agent_kind c.agent) c.choice
 unfolding Suits
 has_room load v c n room k =
-    let P : ℕ → Type 0 = λ m. HasRoomForEntry (record { place = v.place; room = m }) (agent_numbered (c.agent % 3)) c.choice in
+    let P : ℕ → Type 0 = λ m. HasRoomFor (record { place = v.place; room = m }) (agent_kind c.agent) c.choice in
     subst P (sym room) k.1
 
 -- what a tile's code made of the word

@@ -1,11 +1,12 @@
 -- What a turn makes of a view.
-use Rattle.std.specs.Prelude.{◌≡◌, ◌≢◌, ℕ, ◌%◌, Bool, true, false, List, [], ◌∷◌, ◌++◌, MatchBool, is_some}
+use Rattle.std.specs.Prelude.{◌≡◌, ◌≢◌, ℕ, Bool, true, false, List, [], ◌∷◌, ◌++◌, MatchBool, is_some}
 use Rattle.std.specs.Prelude.{option_and_then}
 use Rattle.atomic_table.specs.declared.shared.Seat.{Seat}
 use Rattle.torus.specs.Shape.{Shape, dims_of}
 use Rattle.torus.specs.declared.step.Step.{Step}
-use Rattle.torus.specs.Choices.{has_choice as numbered_has}
 use Rattle.channel_number.specs.Ports.{port_count}
+use Rattle.fabric_rule.specs.tile_laws.specs.Choices.{has_choice as agent_has}
+use Rattle.fabric_rule.specs.tile_laws.specs.Agents.{agent_kind}
 use Rattle.fabric_rule.specs.core_laws.specs.Core.{Load}
 use Rattle.fabric_rule.specs.Known.{tile_of, known, enabled, op_of}
 use Rattle.fabric_rule.specs.View.{View}
@@ -15,7 +16,7 @@ use Rattle.fabric_rule.specs.Rule.{Learned}
 -- whether the step's agent has its choice, by the number of the router's ports (this project's own
 -- format)
 abbrev pub has_choice : Shape → Step → Bool
-has_choice s attempt = numbered_has (port_count (dims_of s)) (attempt.agent % 3) attempt.choice
+has_choice s attempt = agent_has (port_count (dims_of s)) (agent_kind attempt.agent) attempt.choice
 
 -- whether the agent's own condition for the step holds after a run
 unfoldable pub is_ready : Load → List Step → Step → Bool

@@ -11,7 +11,7 @@ ghost use Rattle.fabric.specs.declared.steps.Turned.TheVariants.{Moved, Idle, No
 use crate::steps::{Both, Halves, Look, Merge, Note, OneRun, Turned, take_in, turn_tile};
 use crate::view::{Dealing, Knowledge};
 use atomic_table::{Seat, Table};
-use machine_core::TileAgents;
+use machine_core::{TileAgents, agent_kind, agent_tile};
 use std::alloc::{Allocator, Global};
 use std::marker::{Brand, Model};
 use torus::{Step, Torus};
@@ -101,14 +101,14 @@ impl<A: Allocator> Fabric<A> {
         ensures later { Begins seat.new.run seat.old.run }
         ensures one_order { HasLawfulRun seat.new.load seat.new.run }
     {
-        let number = (step.agent / 3) as usize;
+        let number = agent_tile(step.agent) as usize;
         if number >= seat.slots.len() {
             return Turned::NotMine;
         }
         let Some(tile) = &mut seat.slots[number] else {
             return Turned::NotMine;
         };
-        if !step.choice.is_of(step.agent % 3, self.ports) {
+        if !agent_kind(step.agent).has_choice(step.choice, self.ports) {
             return Turned::NotMine;
         }
         turn_tile::<A, Brand>(&self.table.shared, &mut seat.seat, tile, step)

@@ -1,5 +1,5 @@
 -- What a run that is the beginning of a longer one, and one word of the row, tell of the longer one.
-use Rattle.std.proofs.Common.{◌≡◌, ◌≢◌, ℕ, ◌+◌, ◌*◌, ◌/◌, ◌%◌, ◌<◌, Bool, true, false, List, [], ◌∷◌, ◌++◌, length, Option, Some, None, All, refl, sym, ap}
+use Rattle.std.proofs.Common.{◌≡◌, ◌≢◌, ℕ, ◌+◌, ◌*◌, ◌<◌, Bool, true, false, List, [], ◌∷◌, ◌++◌, length, Option, Some, None, All, refl, sym, ap}
 use Rattle.std.proofs.Common.{◌∙◌, subst, arith}
 use Rattle.std.specs.Prelude.{slice_get, slice_index, is_some, unwrap_or, option_map, option_and_then, MatchOption, if◌then◌else◌, IfSome}
 use Rattle.std.proofs.lemmas.List.Elements.{All-nil, All-cons}
@@ -13,9 +13,11 @@ use Rattle.flit_buffer.specs.Words.{word_of, performed}
 use Rattle.flit_buffer.specs.declared.word_op.WordOp.{WordOp}
 use Rattle.channel_number.specs.Order.{channel_count}
 use Rattle.core_seen.specs.order_abstract.specs.Room.{home_room}
-use Rattle.core_seen.specs.tile_laws.specs.Tile.{Design, TileState, Agent, Processor, Router, Bank}
-use Rattle.core_seen.specs.tile_laws.specs.Agents.{TilePlace, agent_numbered, tile_placed, agent_op, tile_next_op, tile_absorbed}
-use Rattle.core_seen.specs.tile.specs.Placed.{IsAcceptableTo, HasRoomForEntry}
+use Rattle.core_seen.specs.tile_laws.specs.declared.agent.Agent.{Agent}
+use Rattle.core_seen.specs.tile_laws.specs.declared.agent.Agent.TheVariants.{Processor, Router, Bank}
+use Rattle.core_seen.specs.tile_laws.specs.Tile.{Design, TileState}
+use Rattle.core_seen.specs.tile_laws.specs.Agents.{TilePlace, tile_placed, agent_op, tile_next_op, tile_absorbed, agent_kind, agent_tile}
+use Rattle.core_seen.specs.tile.specs.Placed.{IsAcceptableTo, HasRoomFor}
 use Rattle.core_seen.specs.core_laws.specs.Core.{Load, State, design_of, first_state, after, next, or_same, step}
 use Rattle.core_seen.specs.core_laws.specs.Runs.{IsAccepted, state_after}
 use Rattle.core_seen.specs.core_laws.proofs.AskedFor.{bank_asked}
@@ -27,9 +29,9 @@ use Rattle.core_seen.proofs.Tries.{may_try}
 use Rattle.fabric_rule.specs.Known.{tile_of, known, enabled, Shows, word_after, row_length, op_of, moves, left_by, Suits}
 use Rattle.fabric_rule.specs.Told.{Away, grown, Tells}
 
-away_all : (t : ℕ) (more : List Step) → Away t more → All (λ (attempt : Step). attempt.agent / 3 ≢ t) more
-away_all t [] away = All-nil (λ (attempt : Step). attempt.agent / 3 ≢ t)
-away_all t (attempt ∷ more) away = All-cons (λ (x : Step). x.agent / 3 ≢ t) attempt more away.0 (away_all t more away.1)
+away_all : (t : ℕ) (more : List Step) → Away t more → All (λ (attempt : Step). agent_tile attempt.agent ≢ t) more
+away_all t [] away = All-nil (λ (attempt : Step). agent_tile attempt.agent ≢ t)
+away_all t (attempt ∷ more) away = All-cons (λ (x : Step). agent_tile x.agent ≢ t) attempt more away.0 (away_all t more away.1)
 
 -- a service that has an operation has a request that waits
 served : (d : Design) (p : TilePlace) (room : ℕ) (op : WordOp) → ((r : Request) → p.bank.state.waiting ≡ Some r → length p.bank.state.entries < room)
@@ -136,18 +138,18 @@ module _ (load : Load) (ok : IsAccepted load) where
     suits_here shows here asks =
         let k = tile_last run t p (to_last run t p here) in
         let asked = bank_asked load ok run (length run) t k.0 k.1 in
-        let of_agent : agent_op p (agent_numbered (attempt.agent % 3)) attempt.choice ≡ Some op = own_op _ _ op asks in
+        let of_agent : agent_op p (agent_kind attempt.agent) attempt.choice ≡ Some op = own_op _ _ op asks in
         let accepts : IfSome (tile_next_op p attempt)
-        (λ o. IsAcceptableTo p (agent_numbered (attempt.agent % 3)) attempt.choice (slice_index (row_of d (last run)) (word_of o))) =
+        (λ o. IsAcceptableTo p (agent_kind attempt.agent) attempt.choice (slice_index (row_of d (last run)) (word_of o))) =
         subst (λ (q : TilePlace). IfSome (tile_next_op q attempt)
-        (λ o. IsAcceptableTo q (agent_numbered (attempt.agent % 3)) attempt.choice (slice_index (row_of d (last run)) (word_of o)))) k.2
+        (λ o. IsAcceptableTo q (agent_kind attempt.agent) attempt.choice (slice_index (row_of d (last run)) (word_of o)))) k.2
         (may_try load ok run (length run) t k.0 k.1 attempt) in
         let row_is : row_of d (last run) ≡ row = ap (λ (z : State). row_of d z) (all_steps load run) ∙ sym shows in (
-          subst (λ (r : List ℕ). IsAcceptableTo p (agent_numbered (attempt.agent % 3)) attempt.choice (slice_index r (word_of op))) row_is
+          subst (λ (r : List ℕ). IsAcceptableTo p (agent_kind attempt.agent) attempt.choice (slice_index r (word_of op))) row_is
               (if_some (tile_next_op p attempt)
-              (λ o. IsAcceptableTo p (agent_numbered (attempt.agent % 3)) attempt.choice (slice_index (row_of d (last run)) (word_of o))) op asks
+              (λ o. IsAcceptableTo p (agent_kind attempt.agent) attempt.choice (slice_index (row_of d (last run)) (word_of o))) op asks
               accepts),
-          has_room d p (home_room (tiles_of load.shape) t load.scripts) op (agent_numbered (attempt.agent % 3)) attempt.choice
+          has_room d p (home_room (tiles_of load.shape) t load.scripts) op (agent_kind attempt.agent) attempt.choice
               (subst (λ (q : TilePlace). (r : Request) → q.bank.state.waiting ≡ Some r
               → length q.bank.state.entries < home_room (tiles_of load.shape) t load.scripts) k.2 asked.room) of_agent,
         )

@@ -1,5 +1,5 @@
 -- After a store nobody looks at the word that was there.
-use Rattle.std.proofs.Common.{◌≡◌, ℕ, ◌%◌, Bool, true, false, Option, Some, None, ap}
+use Rattle.std.proofs.Common.{◌≡◌, ℕ, Bool, true, false, Option, Some, None, ap}
 use Rattle.std.specs.Prelude.{if◌then◌else◌, is_none, is_some, unwrap_or, nat_lt, option_and_then, ◌&&◌}
 use Rattle.torus.specs.Shape.{dims_of}
 use Rattle.torus.specs.declared.step.Step.{Step}
@@ -11,8 +11,9 @@ use Rattle.flit_buffer.specs.declared.word_op.WordOp.TheVariants.{Store}
 use Rattle.channel_number.specs.Ports.{port_count}
 use Rattle.home_bank.specs.BankTable.{is_nil}
 use Rattle.router.specs.Table.{latch_of, wants_to_take}
-use Rattle.core_seen.specs.tile_laws.specs.Tile.{Agent, Processor, Router, Bank}
-use Rattle.core_seen.specs.tile_laws.specs.Agents.{TilePlace, agent_numbered, agent_op}
+use Rattle.core_seen.specs.tile_laws.specs.declared.agent.Agent.{Agent}
+use Rattle.core_seen.specs.tile_laws.specs.declared.agent.Agent.TheVariants.{Processor, Router, Bank}
+use Rattle.core_seen.specs.tile_laws.specs.Agents.{TilePlace, agent_op, agent_kind}
 use Rattle.core_seen.specs.tile_laws.proofs.OwnSteps.{blind}
 use Rattle.core_seen.specs.tile.specs.Placed.{IsAcceptableTo}
 use Rattle.core_seen.specs.core_laws.specs.Core.{Load}
@@ -77,4 +78,4 @@ accepts p w v n m Bank (choice.CreditOf i) e k = tt
 
 pub blind_suits : (load : Load) (p : TilePlace) (c : Step) (w v n m : ℕ) → op_of p c ≡ Some (Store w v) → Suits load p c n → Suits load p c m
 unfolding op_of Suits
-blind_suits load p c w v n m e k = (accepts p w v n m (agent_numbered (c.agent % 3)) c.choice (own_op _ _ (Store w v) e) k.0, k.1)
+blind_suits load p c w v n m e k = (accepts p w v n m (agent_kind c.agent) c.choice (own_op _ _ (Store w v) e) k.0, k.1)

@@ -1,20 +1,20 @@
 -- What is known of a run: a tile in its place after it, which attempts it enables, and which row
 -- shows it.
-use Rattle.std.specs.Prelude.{◌≡◌, ℕ, ◌+◌, ◌*◌, ◌/◌, ◌%◌, Bool, List, length, Option, is_some, unwrap_or, slice_index}
+use Rattle.std.specs.Prelude.{◌≡◌, ℕ, ◌+◌, ◌*◌, Bool, List, length, Option, is_some, unwrap_or, slice_index}
 use Rattle.torus.specs.Shape.{tiles_of}
 use Rattle.torus.specs.declared.step.Step.{Step}
 use Rattle.channel_number.specs.Order.{channel_count}
 use Rattle.core_seen.specs.order_abstract.specs.Room.{home_room}
 use Rattle.flit_buffer.specs.declared.word_op.WordOp.{WordOp}
-use Rattle.core_seen.specs.tile_laws.specs.Agents.{TilePlace, agent_numbered, tile_next_op, tile_absorbed}
-use Rattle.core_seen.specs.tile.specs.Placed.{IsAcceptableTo, HasRoomForEntry}
+use Rattle.core_seen.specs.tile_laws.specs.Agents.{TilePlace, tile_next_op, tile_absorbed, agent_kind, agent_tile}
+use Rattle.core_seen.specs.tile.specs.Placed.{IsAcceptableTo, HasRoomFor}
 use Rattle.core_seen.specs.core_laws.specs.Core.{Load, design_of, after, step}
 use Rattle.core_seen.specs.core_row.specs.Row.{row_of}
 use Rattle.core_seen.specs.core_row.specs.Attempts.{tile_in}
 
--- the tile of an attempt: tile t has the agents 3t, 3t + 1 and 3t + 2 (this project's own format)
+-- the tile of an attempt
 abbrev pub tile_of : Step → ℕ
-tile_of attempt = attempt.agent / 3
+tile_of attempt = agent_tile attempt.agent
 
 -- a tile in its place after a run; None where there is no such tile
 unfoldable pub known : Load → List Step → ℕ → Option TilePlace
@@ -54,9 +54,9 @@ left_by p attempt found = unwrap_or (tile_absorbed p attempt found) p
 -- own limits)
 unfoldable pub Suits : Load → TilePlace → Step → ℕ → Type 0
 Suits load p attempt found =
-    IsAcceptableTo p (agent_numbered (attempt.agent % 3)) attempt.choice found
-    × HasRoomForEntry (record {
+    IsAcceptableTo p (agent_kind attempt.agent) attempt.choice found
+    × HasRoomFor (record {
       place = p;
       room = home_room (tiles_of load.shape) (tile_of attempt) load.scripts;
     })
-    (agent_numbered (attempt.agent % 3)) attempt.choice
+    (agent_kind attempt.agent) attempt.choice

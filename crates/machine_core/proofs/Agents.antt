@@ -1,10 +1,9 @@
 -- An attempt of one of the three agents of a tile, by the part of the tile that it is.
-use Rattle.std.proofs.Common.{◌≡◌, ℕ, ◌+◌, ◌-◌, ◌*◌, ◌/◌, ◌%◌, ◌<◌, List, length, Option, Some, None, refl, sym, ◌∙◌, ap, subst, arith, eq-eqb}
+use Rattle.std.proofs.Common.{◌≡◌, ℕ, ◌-◌, ◌<◌, List, length, Option, Some, None, refl, sym, ◌∙◌, ap, subst, arith, eq-eqb}
 use Rattle.std.proofs.Common.{slice_get, slice_set, slice_index, vec_len}
 use Rattle.std.specs.Prelude.{Vec, option_map, option_and_then}
 use Rattle.std.specs.Option.{IfSome}
 use Rattle.std.proofs.lemmas.Bool.{cond-true}
-use Rattle.std.proofs.lemmas.Nat.{div-mul-add, mod-mul-add}
 use Rattle.std.proofs.lemmas.Option.{slice_get_within, slice_get-map, same_Some}
 use Rattle.torus.specs.Shape.{tiles_of}
 use Rattle.torus.specs.declared.step.Choice.{Choice}
@@ -23,8 +22,10 @@ use Rattle.machine_wake.specs.script_follower.specs.ProcessorTable.{ProcessorSta
 use Rattle.home_bank.specs.BankTable.{BankState}
 use Rattle.router.specs.Table.{RouterState, router_wants, router_after}
 use Rattle.order_book.specs.RoomyBook.{RoomyBook, KeepsRoom}
-use Rattle.machine_wake.specs.tile_laws.specs.Tile.{Design, TileState, Agent, Router}
-use Rattle.machine_wake.specs.tile_laws.specs.Agents.{TilePlace, agent_numbered, state_of, tile_placed, tile_next_op, agent_op, agent_absorbed}
+use Rattle.machine_wake.specs.tile_laws.specs.declared.agent.Agent.{Agent}
+use Rattle.machine_wake.specs.tile_laws.specs.declared.agent.Agent.TheVariants.{Router, Bank}
+use Rattle.machine_wake.specs.tile_laws.specs.Tile.{Design, TileState}
+use Rattle.machine_wake.specs.tile_laws.specs.Agents.{TilePlace, state_of, tile_placed, tile_next_op, agent_op, agent_absorbed, agent_kind, agent_tile}
 use Rattle.machine_wake.specs.tile.specs.Placed.{PlacedTile, IsAcceptableTo, with_place, agent_attempted, tile_attempted}
 use Rattle.machine_wake.specs.tile.proofs.OwnAttempts.{own_attempt}
 use Rattle.machine_wake.specs.core_laws.specs.Core.{design_of, after}
@@ -39,13 +40,6 @@ use Rattle.machine_core.proofs.Standing.{tiles_counted}
 use Rattle.machine_core.proofs.Attempting.{word_in, word_fits, full_stays, without_op, idle}
 use Rattle.machine_core.proofs.Moving.{can_note, one_left, moved}
 use Rattle.machine_core.proofs.NotedBooks.{noted_as_nothing}
-
--- agent k of a tile
-pub of_tile : (n t k : ℕ) → n ≡ 3 * t + k → k < 3 → n / 3 ≡ t
-of_tile n t k is small = ap (λ (m : ℕ). m / 3) (let e : n ≡ t * 3 + k = omega (arith, is) in e) ∙ div-mul-add t 3 k small
-
-pub of_kind : (n t k : ℕ) → n ≡ 3 * t + k → k < 3 → n % 3 ≡ k
-of_kind n t k is small = ap (λ (m : ℕ). m % 3) (let e : n ≡ t * 3 + k = omega (arith, is) in e) ∙ mod-mul-add t 3 k small
 
 -- a tile in its place has its number
 placed_at : (d : Design) (t : ℕ) (around : Surroundings) (o : Option TileState) (p : TilePlace) → option_map (λ tile. tile_placed d t tile around) o ≡ Some p
@@ -91,27 +85,27 @@ keeps_room g = record {
   banks = refl;
 }
 
-module _ {A : Type 0} (a : Inside A) (is : IsMachine a) (attempt : Step) (tile k : ℕ) (at : attempt.agent / 3 ≡ tile) (which : attempt.agent % 3 ≡ k) where
-  abbrev agent : Agent
-  agent = agent_numbered k
-
+module _ {A : Type 0} (a : Inside A) (is : IsMachine a) (attempt : Step) (tile : ℕ) (agent : Agent) (at : agent_tile attempt.agent ≡ tile)
+    (which : agent_kind attempt.agent ≡ agent) where
   module _ (v : PlacedTile) (there : slice_get a.tiles.items tile ≡ Some v) where
-    here : slice_get a.tiles.items (attempt.agent / 3) ≡ Some v
+    here : slice_get a.tiles.items (agent_tile attempt.agent) ≡ Some v
     here = ap (slice_get a.tiles.items) at ∙ there
 
-    own : attempt.agent / 3 ≡ v.place.tile
-    own = sym (placed_at (design_of is.load) (attempt.agent / 3) (after is.load is.steps).around (slice_get (after is.load is.steps).tiles (attempt.agent / 3))
-        v.place (sym (is.seen.tiles (attempt.agent / 3)) ∙ slice_get-map (λ (w : PlacedTile). w.place) a.tiles.items (attempt.agent / 3)
+    own : agent_tile attempt.agent ≡ v.place.tile
+    own = sym (placed_at (design_of is.load) (agent_tile attempt.agent) (after is.load is.steps).around
+        (slice_get (after is.load is.steps).tiles (agent_tile attempt.agent)) v.place
+        (sym (is.seen.tiles (agent_tile attempt.agent))
+        ∙ slice_get-map (λ (w : PlacedTile). w.place) a.tiles.items (agent_tile attempt.agent)
         ∙ ap (option_map (λ (w : PlacedTile). w.place)) here))
 
-    own_op : tile_next_op v.place attempt ≡ agent_op v.place (agent_numbered (attempt.agent % 3)) attempt.choice
+    own_op : tile_next_op v.place attempt ≡ agent_op v.place (agent_kind attempt.agent) attempt.choice
     own_op = cond-true _ _ _ (eq-eqb _ _ own)
 
     op_is : tile_next_op v.place attempt ≡ agent_op v.place agent attempt.choice
-    op_is = own_op ∙ ap (λ (n : ℕ). agent_op v.place (agent_numbered n) attempt.choice) which
+    op_is = own_op ∙ ap (λ (b : Agent). agent_op v.place b attempt.choice) which
 
     attempted_is : tile_attempted v.place attempt a.row.items ≡ agent_attempted v.place agent attempt.choice a.row.items
-    attempted_is = own_attempt v.place attempt a.row.items own ∙ ap (λ (n : ℕ). agent_attempted v.place (agent_numbered n) attempt.choice a.row.items) which
+    attempted_is = own_attempt v.place attempt a.row.items own ∙ ap (λ (b : Agent). agent_attempted v.place b attempt.choice a.row.items) which
 
     -- what the agent asks
     pub agent_word : IfSome (agent_op v.place agent attempt.choice) (λ o. word_of o < vec_len a.row)
@@ -119,10 +113,10 @@ module _ {A : Type 0} (a : Inside A) (is : IsMachine a) (attempt : Step) (tile k
 
     pub agent_fits : IfSome (agent_op v.place agent attempt.choice) (λ o. IsAcceptableTo v.place agent attempt.choice (slice_index a.row.items (word_of o)))
     agent_fits =
-        subst (λ (n : ℕ). IfSome (agent_op v.place (agent_numbered n) attempt.choice)
-        (λ o. IsAcceptableTo v.place (agent_numbered n) attempt.choice (slice_index a.row.items (word_of o)))) which
+        subst (λ (b : Agent). IfSome (agent_op v.place b attempt.choice)
+        (λ o. IsAcceptableTo v.place b attempt.choice (slice_index a.row.items (word_of o)))) which
         (subst (λ (x : Option WordOp). IfSome x
-        (λ o. IsAcceptableTo v.place (agent_numbered (attempt.agent % 3)) attempt.choice (slice_index a.row.items (word_of o)))) own_op
+        (λ o. IsAcceptableTo v.place (agent_kind attempt.agent) attempt.choice (slice_index a.row.items (word_of o)))) own_op
         (word_fits a is attempt v here))
 
     -- an attempt without an operation isn't enabled
@@ -172,7 +166,8 @@ module _ {A : Type 0} (a : Inside A) (is : IsMachine a) (attempt : Step) (tile k
             op (op_is ∙ asked) awake awake_is
 
 -- the fields after a router's move: the book stays
-module _ {A : Type 0} (a : Inside A) (is : IsMachine a) (attempt : Step) (tile : ℕ) (at : attempt.agent / 3 ≡ tile) (which : attempt.agent % 3 ≡ 1) where
+module _ {A : Type 0} (a : Inside A) (is : IsMachine a) (attempt : Step) (tile : ℕ) (at : agent_tile attempt.agent ≡ tile)
+    (which : agent_kind attempt.agent ≡ Router) where
   pub router_moved : (v : PlacedTile) → slice_get a.tiles.items tile ≡ Some v
       → (q : TilePlace) → agent_attempted v.place Router attempt.choice a.row.items ≡ Some q → (w : PlacedTile) → w ≡ with_place v q
       → (tiles : Vec PlacedTile A) → tiles.items ≡ slice_set a.tiles.items tile w
@@ -183,7 +178,7 @@ module _ {A : Type 0} (a : Inside A) (is : IsMachine a) (attempt : Step) (tile :
       let new_there : slice_get tiles.items tile ≡ Some (with_place v q) =
       ap (λ (vs : List PlacedTile). slice_get vs tile) (tiles_are ∙ ap (slice_set a.tiles.items tile) new_tile)
       ∙ get_set_same a.tiles.items tile (with_place v q) (slice_get_within a.tiles.items tile v there) in
-      agent_moved a is attempt tile 1 at which v there q attempted w new_tile tiles tiles_are row row_is a.book (keeps_room a.book)
+      agent_moved a is attempt tile Router at which v there q attempted w new_tile tiles tiles_are row row_is a.book (keeps_room a.book)
       (λ x at_x. subst (λ (y : PlacedTile). a.book.book
       ≡ book_noted tile (records_in tiles.items) (length v.place.processor.state.operations.issued) (length v.place.processor.state.operations.answers)
       (length v.place.bank.state.entries) (state_of y.place) a.book.book)
@@ -192,7 +187,7 @@ module _ {A : Type 0} (a : Inside A) (is : IsMachine a) (attempt : Step) (tile :
       op asked awake awake_is
 
 -- a bank that has no room serves nothing
-pub bank_stays : {A : Type 0} (a : Inside A) (is : IsMachine a) (attempt : Step) (tile : ℕ) → attempt.agent / 3 ≡ tile → attempt.agent % 3 ≡ 2
+pub bank_stays : {A : Type 0} (a : Inside A) (is : IsMachine a) (attempt : Step) (tile : ℕ) → agent_tile attempt.agent ≡ tile → agent_kind attempt.agent ≡ Bank
     → (v : PlacedTile) → slice_get a.tiles.items tile ≡ Some v → IsOfFullBank v attempt.choice → Steps (core_of a) (core_of a) Idle attempt
 bank_stays a is attempt tile at which v there full = full_stays a is attempt v (ap (slice_get a.tiles.items) at ∙ there) which full
 

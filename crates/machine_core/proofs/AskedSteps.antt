@@ -1,12 +1,12 @@
 -- What a machine is asked of its next step: a tile's answer over the row is whether the step is enabled, and the first
 -- step of a round that is enabled tells whether there is any.
-use Rattle.std.proofs.Common.{◌≡◌, ◌/◌, ◌≤◌, false, List, length, Option, Some, None, refl, sym, ◌∙◌, ap, slice_get, slice_set}
+use Rattle.std.proofs.Common.{◌≡◌, ◌≤◌, false, List, length, Option, Some, None, refl, sym, ◌∙◌, ap, slice_get, slice_set}
 use Rattle.std.specs.Prelude.{MatchOption, is_some}
 use Rattle.std.specs.Option.{IsSome}
 use Rattle.torus.specs.declared.step.Step.{Step}
 use Rattle.flit_buffer.specs.Tries.{performed_by}
 use Rattle.machine_wake.specs.tile_laws.specs.Tile.{Design}
-use Rattle.machine_wake.specs.tile_laws.specs.Agents.{TilePlace, tile_next_op}
+use Rattle.machine_wake.specs.tile_laws.specs.Agents.{TilePlace, tile_next_op, agent_tile}
 use Rattle.machine_wake.specs.tile.specs.Placed.{PlacedTile, tile_attempted}
 use Rattle.machine_wake.specs.core_laws.specs.Core.{Load, State, design_of, step, after}
 use Rattle.machine_wake.specs.core_laws.specs.Runs.{state_after}
@@ -24,11 +24,11 @@ use Rattle.machine_wake.specs.core_machine.proofs.Moves.{built, same_finished}
 
 module _ {A : Type 0} (a : Inside A) (is : IsMachine a) (attempt : Step) where
   -- a tile that isn't there makes no step
-  pub past_asked : length a.tiles.items ≤ attempt.agent / 3 → false ≡ is_some (step (built_to (core_of a)) (core_of a).state attempt)
+  pub past_asked : length a.tiles.items ≤ agent_tile attempt.agent → false ≡ is_some (step (built_to (core_of a)) (core_of a).state attempt)
   past_asked h = sym (ap is_some (none_past a is attempt h))
 
   -- a tile that is there moves exactly where the step is enabled
-  pub tile_asked : (v : PlacedTile) → slice_get a.tiles.items (attempt.agent / 3) ≡ Some v
+  pub tile_asked : (v : PlacedTile) → slice_get a.tiles.items (agent_tile attempt.agent) ≡ Some v
       → is_some (tile_attempted v.place attempt a.row.items) ≡ is_some (step (built_to (core_of a)) (core_of a).state attempt)
   tile_asked v there = by_tile (tile_attempted v.place attempt a.row.items) (leads a is attempt v there) ∙ ap is_some (sym (step_is a is attempt))
     where
@@ -36,7 +36,7 @@ module _ {A : Type 0} (a : Inside A) (is : IsMachine a) (attempt : Step) where
           → MatchOption o ((step (design_of is.load) (after is.load is.steps) attempt ≡ None)
           × (performed_by a.row.items (tile_next_op v.place attempt) ≡ a.row.items))
           (λ q. (next : State) × (step (design_of is.load) (after is.load is.steps) attempt ≡ Some next)
-          × IsShown (design_of is.load) next (slice_set (places_in a) (attempt.agent / 3) q) (performed_by a.row.items (tile_next_op v.place attempt)))
+          × IsShown (design_of is.load) next (slice_set (places_in a) (agent_tile attempt.agent) q) (performed_by a.row.items (tile_next_op v.place attempt)))
           → is_some o ≡ is_some (step (design_of is.load) (after is.load is.steps) attempt)
       by_tile None h = sym (ap is_some h.0)
       by_tile (Some q) h = sym (ap is_some h.1)

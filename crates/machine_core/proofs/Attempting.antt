@@ -1,5 +1,5 @@
 -- What an attempt at a tile asks and finds; where it is not enabled, the machine stays as it is.
-use Rattle.std.proofs.Common.{◌≡◌, ℕ, ◌/◌, ◌%◌, ◌<◌, List, length, map, Option, Some, None, sym, ◌∙◌, ap, subst}
+use Rattle.std.proofs.Common.{◌≡◌, ℕ, ◌<◌, List, length, map, Option, Some, None, sym, ◌∙◌, ap, subst}
 use Rattle.std.proofs.Common.{slice_get, slice_set, slice_index, vec_len}
 use Rattle.std.specs.Prelude.{Vec, MatchOption, option_and_then}
 use Rattle.std.specs.Option.{option_map, IfSome}
@@ -10,8 +10,9 @@ use Rattle.one_order.specs.Events.{Event}
 use Rattle.flit_buffer.specs.Tries.{performed_by}
 use Rattle.flit_buffer.specs.Words.{word_of}
 use Rattle.flit_buffer.specs.declared.word_op.WordOp.{WordOp}
+use Rattle.machine_wake.specs.tile_laws.specs.declared.agent.Agent.TheVariants.{Bank}
 use Rattle.machine_wake.specs.tile_laws.specs.Tile.{Design}
-use Rattle.machine_wake.specs.tile_laws.specs.Agents.{TilePlace, agent_numbered, tile_next_op, tile_absorbed}
+use Rattle.machine_wake.specs.tile_laws.specs.Agents.{TilePlace, tile_next_op, tile_absorbed, agent_kind, agent_tile}
 use Rattle.machine_wake.specs.tile.specs.Placed.{PlacedTile, IsAcceptableTo, tile_attempted}
 use Rattle.machine_wake.specs.core_laws.specs.Core.{Load, State, design_of, step, after}
 use Rattle.machine_wake.specs.core_seen.specs.Seen.{IsShown, LeadsOn, state_seen}
@@ -34,7 +35,7 @@ module _ {A : Type 0} (a : Inside A) (is : IsMachine a) where
 
   module _ (attempt : Step) where
     abbrev t : ℕ
-    t = attempt.agent / 3
+    t = agent_tile attempt.agent
 
     abbrev event : Event
     event = event_in (design_of l) s attempt
@@ -55,11 +56,11 @@ module _ {A : Type 0} (a : Inside A) (is : IsMachine a) where
           (word_there l is.after.accepted is.steps (length is.steps) (places_in a) a.row.items (shown_now a is) attempt v.place place_there)
 
       pub word_fits : IfSome (tile_next_op v.place attempt)
-          (λ o. IsAcceptableTo v.place (agent_numbered (attempt.agent % 3)) attempt.choice (slice_index a.row.items (word_of o)))
+          (λ o. IsAcceptableTo v.place (agent_kind attempt.agent) attempt.choice (slice_index a.row.items (word_of o)))
       word_fits = word_asked l is.after.accepted is.steps (length is.steps) (places_in a) a.row.items (shown_now a is) attempt v.place place_there
 
       -- a full bank serves nothing
-      pub full_stays : attempt.agent % 3 ≡ 2 → IsOfFullBank v attempt.choice → Steps (core_of a) (core_of a) Idle attempt
+      pub full_stays : agent_kind attempt.agent ≡ Bank → IsOfFullBank v attempt.choice → Steps (core_of a) (core_of a) Idle attempt
       full_stays bank full =
           let none = full_shown l is.after.accepted is.steps (length is.steps) (places_in a) a.row.items (shown_now a is) attempt v.place place_there
           (full.full ∙ is.banks t v there) bank full.service in

@@ -1,5 +1,5 @@
 -- A machine's fields after an attempt that is enabled: they are those of the machine that the attempt makes.
-use Rattle.std.proofs.Common.{◌≡◌, ◌≢◌, ⊎_elim, ℕ, ◌-◌, ◌/◌, ◌<◌, ◌≤◌, List, [], ◌∷◌, ◌++◌, length, map, take, Option, Some, None, sym, ◌∙◌, ap, subst, arith}
+use Rattle.std.proofs.Common.{◌≡◌, ◌≢◌, ⊎_elim, ℕ, ◌-◌, ◌<◌, ◌≤◌, List, [], ◌∷◌, ◌++◌, length, map, take, Option, Some, None, sym, ◌∙◌, ap, subst, arith}
 use Rattle.std.proofs.Common.{slice_get, slice_set}
 use Rattle.std.specs.Prelude.{Vec, MatchOption, option_and_then}
 use Rattle.std.proofs.lemmas.Bool.{cases_eq}
@@ -23,7 +23,7 @@ use Rattle.machine_wake.specs.core_row.specs.Attempts.{step_op}
 use Rattle.order_book.specs.RoomyBook.{RoomyBook, KeepsRoom}
 use Rattle.rounds.specs.Rounds.{moves_in, one_if_moved}
 use Rattle.machine_wake.specs.tile_laws.specs.Tile.{Design}
-use Rattle.machine_wake.specs.tile_laws.specs.Agents.{TilePlace, state_of, tile_next_op}
+use Rattle.machine_wake.specs.tile_laws.specs.Agents.{TilePlace, state_of, tile_next_op, agent_tile}
 use Rattle.machine_wake.specs.tile.specs.Placed.{PlacedTile, with_place, tile_attempted}
 use Rattle.machine_wake.specs.core_laws.specs.Core.{Load, State, design_of, step, or_same, first_state, after, records_of}
 use Rattle.machine_wake.specs.core_seen.specs.Seen.{IsShown, state_seen}
@@ -53,7 +53,7 @@ module _ {A : Type 0} (a : Inside A) (is : IsMachine a) where
 
   module _ (attempt : Step) where
     abbrev t : ℕ
-    t = attempt.agent / 3
+    t = agent_tile attempt.agent
 
     abbrev event : Event
     event = event_in (design_of l) s attempt

@@ -1,13 +1,16 @@
 -- Turns of agents in a round: one that is asleep changes nothing, and who falls asleep.
-use Rattle.std.proofs.Common.{◌≡◌, ℕ, ◌+◌, ◌*◌, ◌%◌, false, List, [], ◌∷◌, Option, Some, None, refl, sym, ◌∙◌, ap, subst, arith}
+use Rattle.std.proofs.Common.{◌≡◌, ℕ, ◌+◌, ◌*◌, false, List, [], ◌∷◌, Option, Some, None, refl, sym, ◌∙◌, ap, subst, arith}
 use Rattle.std.specs.Prelude.{◌||◌, is_some}
 use Rattle.torus.specs.Shape.{Shape, dims_of}
 use Rattle.torus.specs.declared.step.Step.{Step}
 use Rattle.torus.specs.declared.step.Choice.{Choice}
 use Rattle.channel_number.specs.Ports.{port_count}
 use Rattle.rounds.specs.Rounds.{one_if_moved, moves_in, or_same}
+use Rattle.machine_wake.specs.tile_laws.specs.declared.agent.Agent.{Agent}
+use Rattle.machine_wake.specs.tile_laws.specs.declared.agent.Agent.TheVariants.{Processor, Router, Bank}
 use Rattle.machine_wake.specs.tile_laws.specs.Tile.{Design}
-use Rattle.machine_wake.specs.core_laws.specs.Core.{State, agent_numbered, design_of, step, or_same as state_or, after, attempts_of}
+use Rattle.machine_wake.specs.tile_laws.proofs.AgentNumbers.{kind_of_number}
+use Rattle.machine_wake.specs.core_laws.specs.Core.{State, design_of, step, or_same as state_or, after, attempts_of}
 use Rattle.machine_wake.specs.core_machine.specs.Core.{Core, IsAfter, built_to, core_after}
 use Rattle.machine_wake.specs.core_machine.proofs.Moves.{left_after}
 use Rattle.machine_wake.specs.Awake.{Awake, is_awake, rested}
@@ -23,19 +26,16 @@ use Rattle.machine_core.proofs.Standing.{design_is, state_is}
 -- each agent's choices are those of a round
 pub of_processor : (s : Shape) (t : ℕ) → attempts_of (3 * t) processor_choices ≡ attempts_at s (3 * t)
 of_processor s t =
-    let kind : 0 ≡ (3 * t) % 3 = omega arith in
-    ap (λ (k : ℕ). attempts_of (3 * t) (choices_of (port_count (dims_of s)) (agent_numbered k))) kind
+    ap (λ (a : Agent). attempts_of (3 * t) (choices_of (port_count (dims_of s)) a)) (sym (kind_of_number t Processor))
 
 pub of_router : (s : Shape) (t ports : ℕ) → ports ≡ port_count (dims_of s) → attempts_of (3 * t + 1) (router_choices ports) ≡ attempts_at s (3 * t + 1)
 of_router s t ports all =
-    let kind : 1 ≡ (3 * t + 1) % 3 = omega arith in
     ap (λ (n : ℕ). attempts_of (3 * t + 1) (router_choices n)) all
-    ∙ ap (λ (k : ℕ). attempts_of (3 * t + 1) (choices_of (port_count (dims_of s)) (agent_numbered k))) kind
+    ∙ ap (λ (a : Agent). attempts_of (3 * t + 1) (choices_of (port_count (dims_of s)) a)) (sym (kind_of_number t Router))
 
 pub of_bank : (s : Shape) (t : ℕ) → attempts_of (3 * t + 2) bank_choices ≡ attempts_at s (3 * t + 2)
 of_bank s t =
-    let kind : 2 ≡ (3 * t + 2) % 3 = omega arith in
-    ap (λ (k : ℕ). attempts_of (3 * t + 2) (choices_of (port_count (dims_of s)) (agent_numbered k))) kind
+    ap (λ (a : Agent). attempts_of (3 * t + 2) (choices_of (port_count (dims_of s)) a)) (sym (kind_of_number t Bank))
 
 -- attempts of which none is enabled have not moved
 none_moved : (d : Design) (s : State) (xs : List Step) → moves_in (step d) s xs ≡ 0 → has_moved d s xs ≡ false

@@ -1,11 +1,11 @@
 -- Where a machine stands, said of its fields.
-use Rattle.std.proofs.Common.{◌≡◌, ℕ, ◌/◌, ◌≤◌, List, length, map, take, None, refl, sym, ◌∙◌, ap, subst, arith}
+use Rattle.std.proofs.Common.{◌≡◌, ℕ, ◌≤◌, List, length, map, take, None, refl, sym, ◌∙◌, ap, subst, arith}
 use Rattle.std.proofs.Common.{slice_get}
 use Rattle.std.proofs.lemmas.List.{length-map, take_all}
 use Rattle.std.proofs.lemmas.Option.{slice_get_past}
 use Rattle.torus.specs.Shape.{Shape, tiles_of}
 use Rattle.torus.specs.declared.step.Step.{Step}
-use Rattle.machine_wake.specs.tile_laws.specs.Agents.{state_of}
+use Rattle.machine_wake.specs.tile_laws.specs.Agents.{state_of, agent_tile}
 use Rattle.machine_wake.specs.tile.specs.Placed.{PlacedTile}
 use Rattle.machine_wake.specs.core_laws.specs.Core.{Load, State, design_of, step, after}
 use Rattle.machine_wake.specs.core_laws.specs.Runs.{state_after}
@@ -56,8 +56,9 @@ module _ {A : Type 0} (a : Inside A) (is : IsMachine a) where
   few_tiles = let h = is.after.accepted.shape.tiles in let e = tiles_counted in omega arith
 
   -- there is no attempt of a tile that isn't there
-  pub none_past : (attempt : Step) → length a.tiles.items ≤ attempt.agent / 3 → step (built_to (core_of a)) (core_of a).state attempt ≡ None
+  pub none_past : (attempt : Step) → length a.tiles.items ≤ agent_tile attempt.agent → step (built_to (core_of a)) (core_of a).state attempt ≡ None
   none_past attempt h =
-      let past : slice_get (map state_of (places_in a)) (attempt.agent / 3) ≡ None = slice_get_past (map state_of (places_in a)) (attempt.agent / 3)
+      let past : slice_get (map state_of (places_in a)) (agent_tile attempt.agent) ≡ None =
+      slice_get_past (map state_of (places_in a)) (agent_tile attempt.agent)
       (omega (arith, length-map (places_in a) state_of, length-map a.tiles.items (λ (v : PlacedTile). v.place))) in
       rw past refl

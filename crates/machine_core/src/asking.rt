@@ -9,6 +9,7 @@ ghost use Rattle.torus.specs.Choices.{takes_of_all, puts_of_all, credits_of_all}
 ghost use Rattle.machine_core.specs.Rounds.{first_in};
 
 use crate::machine::Machine;
+use machine_wake::agent_tile;
 use std::alloc::Allocator;
 use torus::{Choice, Step};
 
@@ -29,7 +30,7 @@ impl<A: Allocator> Machine<A> {
     pub fn enabled(&self, attempt: Step) -> bool
         ensures { result ≡ is_some (step (built_to self.now) self.now.state attempt) }
     {
-        let tile = (attempt.agent / 3) as usize;
+        let tile = agent_tile(attempt.agent) as usize;
         if tile >= self.tiles.len() {
             return false;
         }

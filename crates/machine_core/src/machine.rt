@@ -19,7 +19,7 @@ ghost use Rattle.machine_core.specs.Rounds.{rounds_of, NeedsRounds};
 use crate::loading::{first_row, first_tiles, most_moves};
 use channel_number::channel_count;
 use home_bank::Entry;
-use machine_wake::{TileAgents, WakeFlags};
+use machine_wake::{Agent, TileAgents, WakeFlags, agent_kind, agent_tile};
 use one_order::{Answer, Ordered};
 use order_book::EventBook;
 use order_rooms::{all_room, home_rooms, processor_rooms};
@@ -139,14 +139,14 @@ impl<A: Allocator> Machine<A> {
         ensures step { Steps self.old self.new result step }
         ensures runs_on { RunsOn self.old self.new (step ∷ []) }
     {
-        let tile = (step.agent / 3) as usize;
+        let tile = agent_tile(step.agent) as usize;
         if tile >= self.tiles.len() {
             return Stepped::Idle;
         }
-        match step.agent % 3 {
-            0 => self.step_processor(tile, step.choice),
-            1 => self.step_router(tile, step.choice),
-            _ => self.step_bank(tile, step.choice),
+        match agent_kind(step.agent) {
+            Agent::Processor => self.step_processor(tile, step.choice),
+            Agent::Router => self.step_router(tile, step.choice),
+            Agent::Bank => self.step_bank(tile, step.choice),
         }
     }
 

@@ -3,7 +3,7 @@
 
 ghost use Rattle.std.specs.Prelude.{◌≡◌, ◌<◌, length, false, IsTrue, Some, slice_get};
 ghost use Rattle.machine_wake.specs.script_follower.specs.ProcessorRecord.{index_of};
-ghost use Rattle.machine_wake.specs.tile_laws.specs.Tile.{Bank};
+ghost use Rattle.machine_wake.specs.tile_laws.specs.declared.agent.Agent.TheVariants.{Bank};
 ghost use Rattle.machine_wake.specs.tile_laws.specs.Agents.{state_of};
 ghost use Rattle.order_book.specs.RoomyBook.{KeepsRoom};
 ghost use Rattle.machine_wake.specs.tile.specs.Placed.{HasRoomForEntry, PlacedTile};

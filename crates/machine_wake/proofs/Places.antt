@@ -1,10 +1,9 @@
 -- The agents at the ends of a place, and that there are flags for them.
-use Rattle.std.proofs.Common.{◌≡◌, ℕ, ◌+◌, ◌*◌, ◌/◌, ◌<◌, ◌≤◌, Bool, List, sym, ◌∙◌, ap, subst, arith, slice_index_or, if◌then◌else◌}
+use Rattle.std.proofs.Common.{◌≡◌, ℕ, ◌*◌, ◌/◌, ◌<◌, Bool, List, sym, ◌∙◌, ap, subst, arith, slice_index_or, if◌then◌else◌}
 use Rattle.std.proofs.lemmas.Nat.{div_below}
 use Rattle.std.proofs.lemmas.List.FromFn.{get_or-map-range_with_len}
 use Rattle.torus.specs.Shape.{Shape, IsAccepted, IsNeighbour, tiles_of, dims_of, radix_of, digit_of, one_hop}
 use Rattle.torus.specs.declared.shape.Class.{Class}
-use Rattle.torus.specs.declared.shape.Class.TheVariants.{Request, Reply}
 use Rattle.torus.specs.declared.shape.Dir.{Dir}
 use Rattle.torus.proofs.Hops.{one_neighbour}
 use Rattle.dateline_route.specs.Route.{with_digit}
@@ -16,45 +15,40 @@ use Rattle.dateline_route.proofs.Neighbours.{hop_is}
 use Rattle.channel_number.specs.Order.{channel_at, channel_count}
 use Rattle.channel_number.specs.Ports.{is_injection, is_ejection, tile_after}
 use Rattle.channel_number.proofs.Decoding.{decoded}
-use Rattle.core_wake.specs.Waking.{place_of, taker, speaker, receiver_of, sender_of}
+use Rattle.core_wake.specs.tile_laws.specs.declared.agent.Agent.TheVariants.{Router}
+use Rattle.core_wake.specs.tile_laws.specs.Agents.{agent_number}
+use Rattle.core_wake.specs.tile_laws.proofs.AgentNumbers.{number_low}
+use Rattle.core_wake.specs.Waking.{taker, speaker, receiver_of, sender_of}
 use Rattle.machine_wake.specs.Ends.{all_ends, ends_of}
 use Rattle.machine_wake.specs.declared.ends.Ends.{Ends}
 
 -- the agent at the far end of a channel of a tile, by its kind
 abbrev received_at : Shape → Channel → ℕ
-received_at s x = if is_ejection x.kind then 3 * x.tile + place_of (taker x.class) else 3 * tile_after s x.tile x.kind + 1
+received_at s x = if is_ejection x.kind then agent_number x.tile (taker x.class) else agent_number (tile_after s x.tile x.kind) Router
 
 -- that of a hop
 pub received_by_hop : (s : Shape) → IsAccepted s → (index d u : ℕ) (dir : Dir) (bit : Bool) (x : Channel) → x.tile < tiles_of s → d < dims_of s
-    → x ≡ channel_at s index → x.kind ≡ Hop d dir bit → IsNeighbour s x.tile d dir u → 3 * u + 1 ≡ receiver_of s index
+    → x ≡ channel_at s index → x.kind ≡ Hop d dir bit → IsNeighbour s x.tile d dir u → agent_number u Router ≡ receiver_of s index
 received_by_hop s ok index d u dir bit x low inside at is near =
-    ap (λ (v : ℕ). 3 * v + 1)
+    ap (λ (v : ℕ). agent_number v Router)
     (one_neighbour s ok x.tile d u (with_digit s x.tile d (one_hop dir (radix_of s d) (digit_of s x.tile d))) dir near
     (hop_is s ok x.tile d dir low inside))
     ∙ (ap (λ (k : Kind). received_at s (record { tile = x.tile; class = x.class; kind = k })) (sym is)
     ∙ ap (received_at s) at)
 
 -- an agent that is there
-small_speaker : (class : Class) → place_of (speaker class) ≤ 2
-small_speaker Request = omega arith
-small_speaker Reply = omega arith
-
-small_taker : (class : Class) → place_of (taker class) ≤ 2
-small_taker Request = omega arith
-small_taker Reply = omega arith
-
 module _ (s : Shape) (ok : IsAccepted s) where
   sender_within : (t : ℕ) (class : Class) (kind : Kind) → t < tiles_of s
-      → (if is_injection kind then 3 * t + place_of (speaker class) else 3 * t + 1) < 3 * tiles_of s
-  sender_within t class Injection low = omega (arith, low, small_speaker class)
-  sender_within t class (Hop d dir bit) low = omega (arith, low)
-  sender_within t class Ejection low = omega (arith, low)
+      → (if is_injection kind then agent_number t (speaker class) else agent_number t Router) < 3 * tiles_of s
+  sender_within t class Injection low = number_low t (tiles_of s) (speaker class) low
+  sender_within t class (Hop d dir bit) low = number_low t (tiles_of s) Router low
+  sender_within t class Ejection low = number_low t (tiles_of s) Router low
 
   receiver_within : (t : ℕ) (class : Class) (kind : Kind) → t < tiles_of s → IsInside s kind
       → received_at s (record { tile = t; class = class; kind = kind }) < 3 * tiles_of s
-  receiver_within t class Ejection low inside = omega (arith, low, small_taker class)
-  receiver_within t class Injection low inside = omega (arith, low)
-  receiver_within t class (Hop d dir bit) low inside = let there = (hop_is s ok t d dir low inside).tile in omega (arith, there)
+  receiver_within t class Ejection low inside = number_low t (tiles_of s) (taker class) low
+  receiver_within t class Injection low inside = number_low t (tiles_of s) Router low
+  receiver_within t class (Hop d dir bit) low inside = number_low _ (tiles_of s) Router (hop_is s ok t d dir low inside).tile
 
   pub sender_below : (x : ℕ) → x < channel_count s → sender_of s x < 192
   sender_below x there =

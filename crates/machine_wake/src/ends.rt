@@ -1,17 +1,18 @@
 //! The agents at the two ends of each channel.
 
-ghost use Rattle.std.specs.Prelude.{◌≡◌, ◌+◌, ◌*◌, ◌<◌, ◌≤◌, IfOk};
+ghost use Rattle.std.specs.Prelude.{◌≡◌, ◌*◌, ◌<◌, ◌≤◌, IfOk};
 ghost use Rattle.torus.specs.Shape.{tiles_of};
 ghost use Rattle.channel_number.specs.Order.{channel_count};
-ghost use Rattle.core_wake.specs.Waking.{place_of, taker, speaker, receiver_of, sender_of};
+ghost use Rattle.core_wake.specs.Waking.{taker, speaker, receiver_of, sender_of};
 ghost use Rattle.machine_wake.specs.Ends.{all_ends, ends_of};
 
 use channel_number::{channel_at, channel_count};
+use core_wake::{Agent, agent_number};
 use dateline_route::Kind;
 use std::alloc::{AllocError, Allocator};
 use torus::{Class, Torus};
 
-/// The agents at the ends of a channel, by number: tile t has the agents 3t, 3t + 1 and 3t + 2.
+/// The agents at the ends of a channel, by number.
 #[derive(Clone, Copy)]
 pub struct Ends {
     /// The agent that sends on it.
@@ -21,24 +22,22 @@ pub struct Ends {
 }
 
 /// Which agent of its tile sends the packets of a class into the network.
-fn speaker(class: Class) -> u32
-    ensures value { result ≡ place_of (speaker class) }
-    ensures small { result ≤ 2 }
+fn speaker(class: Class) -> Agent
+    ensures { result ≡ speaker class }
 {
     match class {
-        Class::Request => 0,
-        Class::Reply => 2,
+        Class::Request => Agent::Processor,
+        Class::Reply => Agent::Bank,
     }
 }
 
 /// Which agent of its tile takes the packets of a class out of the network.
-fn taker(class: Class) -> u32
-    ensures value { result ≡ place_of (taker class) }
-    ensures small { result ≤ 2 }
+fn taker(class: Class) -> Agent
+    ensures { result ≡ taker class }
 {
     match class {
-        Class::Request => 2,
-        Class::Reply => 0,
+        Class::Request => Agent::Bank,
+        Class::Reply => Agent::Processor,
     }
 }
 
@@ -51,9 +50,9 @@ fn sender_of(torus: &Torus, index: u32) -> u32
     let _tiles = torus.tiles();
     let channel = channel_at(torus, index);
     match channel.kind {
-        Kind::Injection => 3 * channel.tile + speaker(channel.class),
-        Kind::Hop { .. } => 3 * channel.tile + 1,
-        Kind::Ejection => 3 * channel.tile + 1,
+        Kind::Injection => agent_number(channel.tile, speaker(channel.class)),
+        Kind::Hop { .. } => agent_number(channel.tile, Agent::Router),
+        Kind::Ejection => agent_number(channel.tile, Agent::Router),
     }
 }
 
@@ -66,9 +65,11 @@ fn receiver_of(torus: &Torus, index: u32) -> u32
     let _tiles = torus.tiles();
     let channel = channel_at(torus, index);
     match channel.kind {
-        Kind::Injection => 3 * channel.tile + 1,
-        Kind::Hop { dim, dir, .. } => 3 * torus.neighbour(channel.tile, dim, dir) + 1,
-        Kind::Ejection => 3 * channel.tile + taker(channel.class),
+        Kind::Injection => agent_number(channel.tile, Agent::Router),
+        Kind::Hop { dim, dir, .. } => {
+            agent_number(torus.neighbour(channel.tile, dim, dir), Agent::Router)
+        }
+        Kind::Ejection => agent_number(channel.tile, taker(channel.class)),
     }
 }
 

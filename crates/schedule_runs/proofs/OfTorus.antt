@@ -1,5 +1,5 @@
 -- What is enabled is of an agent and a choice that the torus has.
-use Rattle.std.proofs.Common.{◌≡◌, ◌<◌, ◌/◌, ◌%◌, List, [], ◌∷◌, length, Option, Some, None, refl, sym, ap, ◌∙◌, arith}
+use Rattle.std.proofs.Common.{◌≡◌, ℕ, ◌*◌, ◌<◌, ◌%◌, List, [], ◌∷◌, length, Option, Some, None, refl, sym, ap, subst, ◌∙◌, arith}
 use Rattle.std.specs.Prelude.{slice_get, slice_set}
 use Rattle.std.specs.List.{All}
 use Rattle.std.proofs.lemmas.List.{length-set}
@@ -12,25 +12,28 @@ use Rattle.flit_buffer.specs.Surroundings.{Surroundings}
 use Rattle.rounds.specs.Rounds as rounds
 use Rattle.schedule_lines.specs.Schedule.{IsStepOf}
 use Rattle.core_machine.specs.tile_laws.specs.Tile.{Design, TileState}
+use Rattle.core_machine.specs.tile_laws.specs.Agents.{agent_kind, agent_tile}
+use Rattle.core_machine.specs.tile_laws.proofs.AgentNumbers.{number_of_agent, number_low}
 use Rattle.core_machine.specs.core_laws.specs.Core.{State, step}
 use Rattle.core_machine.specs.core_laws.proofs.AgentSteps.{option_map_some}
 use Rattle.core_machine.specs.core_laws.proofs.AgentChoices.{own_choice, numbered}
 use Rattle.core_moves.specs.Enabled.{ahead_if_moved, enabled_of}
 
 module _ (d : Design) (s : State) (x : Step) (t : State) (is : step d s x ≡ Some t) where
-  pub inside : x.agent / 3 < length s.tiles
-  inside = option_and_then_some _ (slice_get s.tiles (x.agent / 3)) t is (λ tile there f. slice_get_within s.tiles (x.agent / 3) tile there)
+  pub inside : agent_tile x.agent < length s.tiles
+  inside = option_and_then_some _ (slice_get s.tiles (agent_tile x.agent)) t is (λ tile there f. slice_get_within s.tiles (agent_tile x.agent) tile there)
 
   pub same_count : length t.tiles ≡ length s.tiles
-  same_count = option_and_then_some _ (slice_get s.tiles (x.agent / 3)) t is (λ tile there f.
-      let k = option_map_some (λ (p : TileState × Surroundings). record { tiles = slice_set s.tiles (x.agent / 3) p.0; around = p.1 }) _ t f in
-      ap (λ (u : State). length u.tiles) (sym k.2) ∙ length-set s.tiles (x.agent / 3) k.0.0)
+  same_count = option_and_then_some _ (slice_get s.tiles (agent_tile x.agent)) t is (λ tile there f.
+      let k = option_map_some (λ (p : TileState × Surroundings). record { tiles = slice_set s.tiles (agent_tile x.agent) p.0; around = p.1 }) _ t f in
+      ap (λ (u : State). length u.tiles) (sym k.2) ∙ length-set s.tiles (agent_tile x.agent) k.0.0)
 
   pub enabled_is : length s.tiles ≡ tiles_of d.shape → IsStepOf d.shape x
   enabled_is count =
-      let below : x.agent / 3 < length s.tiles = inside in
+      let below : agent_tile x.agent < length s.tiles = inside in
       record {
-        agent = omega (arith, below, count);
+        agent = subst (λ (n : ℕ). n < 3 * tiles_of d.shape) (number_of_agent x.agent)
+            (number_low (agent_tile x.agent) (tiles_of d.shape) (agent_kind x.agent) (omega (arith, below, count)));
         choice = sym (numbered (port_count (dims_of d.shape)) (x.agent % 3) x.choice) ∙ own_choice d s x t is;
       }
 

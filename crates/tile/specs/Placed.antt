@@ -14,7 +14,9 @@ use Rattle.home_bank.specs.Beginning.{empty_bank}
 use Rattle.tile_laws.specs.script_follower.specs.ProcessorTable.{ProcessorState}
 use Rattle.tile_laws.specs.net_interface.specs.Place.{IsAcceptable as IsAcceptableToProcessor}
 use Rattle.tile_laws.specs.net_interface.specs.Beginning.{first_processor}
-use Rattle.tile_laws.specs.Tile.{Design, TileState, Agent, Processor, Router, Bank}
+use Rattle.tile_laws.specs.declared.agent.Agent.{Agent}
+use Rattle.tile_laws.specs.declared.agent.Agent.TheVariants.{Processor, Router, Bank}
+use Rattle.tile_laws.specs.Tile.{Design, TileState}
 use Rattle.tile_laws.specs.Agents.{TilePlace, agent_op, agent_absorbed, tile_next_op, tile_absorbed}
 use Rattle.tile_laws.specs.Beginning.{new_tile}
 

@@ -1,39 +1,36 @@
-ghost use Rattle.std.specs.Prelude.{◌≡◌, ◌<◌, ◌≤◌, ◌↔◌, ◌%◌, length, IsTrue, IfOk, IfSome, IsSome, MatchOption};
+ghost use Rattle.std.specs.Prelude.{◌≡◌, ◌<◌, ◌≤◌, length, IfOk, IfSome, IsSome, MatchOption};
 ghost use Rattle.std.specs.Prelude.{vec_len, slice_index, is_some, true, ℕ, ◌+◌, ◌-◌, OnOk, OnErr};
 ghost use Rattle.torus.specs.Shape.{tiles_of};
 ghost use Rattle.torus.specs.declared.step.Stepped.TheVariants as stepped;
 ghost use Rattle.script.specs.Scripts.{operation_count, operations_of, mentions_last};
 ghost use Rattle.flit_buffer.specs.Tries.{performed_by};
 ghost use Rattle.flit_buffer.specs.Words.{word_of};
-ghost use Rattle.tag_table.specs.Tags.{holder_of};
 ghost use Rattle.tile_laws.specs.script_follower.specs.Scripts.{IsFollowable};
-ghost use Rattle.tile_laws.specs.script_follower.specs.Following.{is_finished, left_of};
+ghost use Rattle.tile_laws.specs.script_follower.specs.Following.{left_of};
 ghost use Rattle.tile_laws.specs.script_follower.specs.ProcessorTable.{processor_with, processor_open};
-ghost use Rattle.tile_laws.specs.Tile.{Processor as ProcessorAgent, Router as RouterAgent, Bank as BankOfTile};
-ghost use Rattle.tile_laws.specs.Agents.{agent_numbered, agent_op, tile_next_op, tile_absorbed};
-ghost use Rattle.tile.specs.Placed.{with_place, with_room, with_processor, first_tile, IsAcceptableTo, HasRoomForEntry, agent_attempted};
+ghost use Rattle.tile_laws.specs.declared.agent.Agent.TheVariants.{Processor as ProcessorAgent, Router as RouterAgent, Bank as BankOfTile};
+ghost use Rattle.tile_laws.specs.Agents.{agent_op, tile_next_op, tile_absorbed, agent_kind};
+ghost use Rattle.tile.specs.Placed.{with_place, with_room, with_processor, first_tile, IsAcceptableTo, HasRoomFor, agent_attempted};
 ghost use Rattle.tile.specs.Placed.{tile_attempted};
 
 use flit_buffer::WordOp;
-use home_bank::{BankAgent, Entry};
-use packet::Operation;
+use home_bank::BankAgent;
 use router::Router;
 use script::Line;
 use std::alloc::{AllocError, Allocator, Global};
 use std::marker::Model;
-use tag_table::{OpId, Tag};
-use tile_laws::{Answer, Processor};
+use tile_laws::{Agent, Processor, agent_kind, agent_tile};
 use torus::{Choice, Step, Stepped, Torus};
 
 /// The three agents of a tile: its processor, its router and its bank, each with the ends of its
 /// channels. Tile t has the agents 3t, 3t + 1 and 3t + 2, in this order.
 #[derive(Drop)]
 pub struct TileAgents<A: Allocator = Global> {
-    tile: u32,
-    depth: u32,
-    processor: Processor<A>,
-    router: Router<A>,
-    bank: BankAgent<A>,
+    pub(crate) tile: u32,
+    pub(crate) depth: u32,
+    pub(crate) processor: Processor<A>,
+    pub(crate) router: Router<A>,
+    pub(crate) bank: BankAgent<A>,
 }
 
 impl<A: Allocator> Model for TileAgents<A> {
@@ -96,13 +93,13 @@ impl<A: Allocator> TileAgents<A> {
     pub fn next_op(&self, step: Step) -> Option<WordOp>
         ensures { result ≡ tile_next_op self.now.place step }
     {
-        if step.agent / 3 != self.tile {
+        if agent_tile(step.agent) != self.tile {
             return None;
         }
-        match step.agent % 3 {
-            0 => self.processor.next_op(step.choice),
-            1 => self.router.next_op(step.choice),
-            _ => self.bank.next_op(step.choice),
+        match agent_kind(step.agent) {
+            Agent::Processor => self.processor.next_op(step.choice),
+            Agent::Router => self.router.next_op(step.choice),
+            Agent::Bank => self.bank.next_op(step.choice),
         }
     }
 
@@ -135,20 +132,20 @@ impl<A: Allocator> TileAgents<A> {
     /// and a service has room for its entry.
     pub fn absorb(&mut self, step: Step, got: u64) -> Stepped
         requires tried { IsSome (tile_next_op self.old.place step) }
-        requires flit { IsAcceptableTo self.old.place (agent_numbered (step.agent % 3)) step.choice
+        requires flit { IsAcceptableTo self.old.place (agent_kind step.agent) step.choice
             got }
-        requires entries { HasRoomForEntry self.old (agent_numbered (step.agent % 3)) step.choice }
+        requires entries { HasRoomFor self.old (agent_kind step.agent) step.choice }
         ensures { MatchOption (tile_absorbed self.old.place step got)
             ((result ≡ stepped.Idle) × (self.new ≡ self.old))
             (λ p. (result ≡ stepped.Moved) × (self.new ≡ with_place self.old p)) }
     {
-        if step.agent / 3 != self.tile {
+        if agent_tile(step.agent) != self.tile {
             return Stepped::Idle;
         }
-        match step.agent % 3 {
-            0 => self.processor.absorb(step.choice, got),
-            1 => self.router.absorb(step.choice, got),
-            _ => self.bank.absorb(step.choice, got),
+        match agent_kind(step.agent) {
+            Agent::Processor => self.processor.absorb(step.choice, got),
+            Agent::Router => self.router.absorb(step.choice, got),
+            Agent::Bank => self.bank.absorb(step.choice, got),
         }
     }
 
@@ -216,25 +213,22 @@ impl<A: Allocator> TileAgents<A> {
         requires room { IfSome (tile_next_op self.old.place step)
             (λ o. word_of o < vec_len row.old) }
         requires flit { IfSome (tile_next_op self.old.place step)
-            (λ o. IsAcceptableTo self.old.place (agent_numbered (step.agent % 3)) step.choice
+            (λ o. IsAcceptableTo self.old.place (agent_kind step.agent) step.choice
             (slice_index row.old.items (word_of o))) }
-        requires entries { HasRoomForEntry self.old (agent_numbered (step.agent % 3)) step.choice }
+        requires entries { HasRoomFor self.old (agent_kind step.agent) step.choice }
         ensures row { row.new.items
             ≡ performed_by row.old.items (tile_next_op self.old.place step) }
         ensures step { MatchOption (tile_attempted self.old.place step row.old.items)
             ((result ≡ stepped.Idle) × (self.new ≡ self.old))
             (λ p. (result ≡ stepped.Moved) × (self.new ≡ with_place self.old p)) }
     {
-        if step.agent / 3 != self.tile {
+        if agent_tile(step.agent) != self.tile {
             return Stepped::Idle;
         }
-        let agent = step.agent % 3;
-        if agent == 0 {
-            self.attempt_processor(step.choice, row)
-        } else if agent == 1 {
-            self.attempt_router(step.choice, row)
-        } else {
-            self.attempt_bank(step.choice, row)
+        match agent_kind(step.agent) {
+            Agent::Processor => self.attempt_processor(step.choice, row),
+            Agent::Router => self.attempt_router(step.choice, row),
+            Agent::Bank => self.attempt_bank(step.choice, row),
         }
     }
 
@@ -245,95 +239,14 @@ impl<A: Allocator> TileAgents<A> {
             (λ o. word_of o < vec_len row.now) }
         ensures { result ≡ is_some (tile_attempted self.now.place step row.now.items) }
     {
-        if step.agent / 3 != self.tile {
+        if agent_tile(step.agent) != self.tile {
             return false;
         }
-        let agent: u32 = step.agent % 3;
-        if agent == 0 {
-            self.processor.would_move(step.choice, row)
-        } else if agent == 1 {
-            self.router.would_move(step.choice, row)
-        } else {
-            self.bank.would_move(step.choice, row)
+        match agent_kind(step.agent) {
+            Agent::Processor => self.processor.would_move(step.choice, row),
+            Agent::Router => self.router.would_move(step.choice, row),
+            Agent::Bank => self.bank.would_move(step.choice, row),
         }
-    }
-
-    /// The number of the tile.
-    pub fn tile(&self) -> u32
-        ensures { result ≡ self.now.place.tile }
-    {
-        self.tile
-    }
-
-    /// The depth of the channels.
-    pub fn depth(&self) -> u32
-        ensures { result ≡ self.now.place.design.depth }
-    {
-        self.depth
-    }
-
-    /// The operations that the processor has issued, in the order of issue.
-    pub fn issued(&self) -> &[Operation]
-        ensures { result.now ≡ self.now.place.processor.state.operations.issued }
-    {
-        self.processor.issued()
-    }
-
-    /// The answers that the processor has received, in the order of answering.
-    pub fn answers(&self) -> &[Answer]
-        ensures { result.now ≡ self.now.place.processor.state.operations.answers }
-    {
-        self.processor.answers()
-    }
-
-    /// The operation of the processor that holds a tag; None exactly where the tag isn't out.
-    pub fn holder(&self, tag: Tag) -> Option<OpId>
-        ensures { result ≡ holder_of self.now.place.processor.state.operations.tags tag.0 }
-    {
-        self.processor.holder(tag)
-    }
-
-    /// Whether the processor's script is finished.
-    pub fn is_finished(&self) -> bool
-        ensures { result ≡ is_finished self.now.place.processor.state.operations.following }
-    {
-        self.processor.is_finished()
-    }
-
-    /// Whether the processor has seen that all processors have reported.
-    pub fn has_seen(&self) -> bool
-        ensures { result ≡ self.now.place.processor.state.seen }
-    {
-        self.processor.has_seen()
-    }
-
-    /// The entries of the bank, in the order of the services.
-    pub fn entries(&self) -> &[Entry]
-        ensures { result.now ≡ self.now.place.bank.state.entries }
-    {
-        self.bank.entries()
-    }
-
-    /// Whether the bank has room for no further entry.
-    pub fn is_full(&self) -> bool
-        ensures full { IsTrue result ↔ (length self.now.place.bank.state.entries ≡ self.now.room) }
-        ensures within { length self.now.place.bank.state.entries ≤ self.now.room }
-    {
-        self.bank.is_full()
-    }
-
-    /// Whether the processor has reported that its script is finished.
-    pub fn has_reported(&self) -> bool
-        ensures { result ≡ self.now.place.processor.state.reported }
-    {
-        self.processor.has_reported()
-    }
-
-    /// For how many entries the bank has room.
-    pub fn room(&self) -> usize
-        ensures { result ≡ self.now.room }
-    {
-        self.bank.room()
     }
 
     /// Makes room for so many entries of the bank more, at most 65536 in all.

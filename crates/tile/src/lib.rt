@@ -2,5 +2,7 @@
 #![tactic(auto)]
 
 pub mod agents;
+pub mod shown;
 
 pub use agents::TileAgents;
+pub use tile_laws::{Agent, agent_kind, agent_number, agent_tile};

@@ -15,7 +15,8 @@ use Rattle.channel_number.proofs.Ports.{is_input, is_output}
 use Rattle.flit_buffer.specs.Joined.{AreDisjoint}
 use Rattle.flit_buffer.specs.Surroundings.{IsWired}
 use Rattle.router.proofs.EmptyChannels.{is_wired, input_at, output_at}
-use Rattle.tile_laws.specs.Tile.{Agent, Processor, Router, Bank}
+use Rattle.tile_laws.specs.declared.agent.Agent.{Agent}
+use Rattle.tile_laws.specs.declared.agent.Agent.TheVariants.{Processor, Router, Bank}
 use Rattle.tile_laws.specs.Agents.{wiring_of}
 
 -- who receives from an ejection of a class, and who sends into an injection

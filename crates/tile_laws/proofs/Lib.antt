@@ -1,3 +1,4 @@
+pub mod AgentNumbers
 pub mod Channels
 pub mod OneAgent
 pub mod Tiles

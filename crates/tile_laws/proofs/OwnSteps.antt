@@ -1,5 +1,5 @@
 -- A tile tells its own steps, and doesn't look at a word that it stored over.
-use Rattle.std.proofs.Common.{◌≡◌, ◌≢◌, ℕ, ◌/◌, ◌%◌, ◌==◌, Bool, true, false, Some, None, refl, ap}
+use Rattle.std.proofs.Common.{◌≡◌, ◌≢◌, ℕ, ◌==◌, Bool, true, false, Some, None, refl, ap}
 use Rattle.std.specs.Prelude.{if◌then◌else◌, option_map}
 use Rattle.std.proofs.lemmas.Bool.{ne_eqb}
 use Rattle.torus.specs.Shape.{tiles_of}
@@ -11,16 +11,17 @@ use Rattle.flit_buffer.proofs.AgentSteps.{stores_blind}
 use Rattle.router.specs.Table.{RouterState, router_wants, router_after}
 use Rattle.net_interface.specs.script_follower.specs.ProcessorTable.{ProcessorState, processor_wants, processor_after}
 use Rattle.net_interface.specs.home_bank.specs.BankTable.{BankState, bank_wants, bank_after}
-use Rattle.tile_laws.specs.Tile.{Agent, Processor, Router, Bank}
-use Rattle.tile_laws.specs.Agents.{TilePlace, agent_numbered, agent_op, agent_absorbed, tile_next_op, tile_absorbed}
+use Rattle.tile_laws.specs.declared.agent.Agent.{Agent}
+use Rattle.tile_laws.specs.declared.agent.Agent.TheVariants.{Processor, Router, Bank}
+use Rattle.tile_laws.specs.Agents.{TilePlace, agent_op, agent_absorbed, tile_next_op, tile_absorbed, agent_kind, agent_tile}
 
-pub no_op : (p : TilePlace) (attempt : Step) → attempt.agent / 3 ≢ p.tile → tile_next_op p attempt ≡ None
+pub no_op : (p : TilePlace) (attempt : Step) → agent_tile attempt.agent ≢ p.tile → tile_next_op p attempt ≡ None
 no_op p attempt other =
-    ap (λ (b : Bool). if b then agent_op p (agent_numbered (attempt.agent % 3)) attempt.choice else None) (ne_eqb (attempt.agent / 3) p.tile other)
+    ap (λ (b : Bool). if b then agent_op p (agent_kind attempt.agent) attempt.choice else None) (ne_eqb (agent_tile attempt.agent) p.tile other)
 
-pub no_step : (p : TilePlace) (attempt : Step) (found : ℕ) → attempt.agent / 3 ≢ p.tile → tile_absorbed p attempt found ≡ None
+pub no_step : (p : TilePlace) (attempt : Step) (found : ℕ) → agent_tile attempt.agent ≢ p.tile → tile_absorbed p attempt found ≡ None
 no_step p attempt found other =
-    ap (λ (b : Bool). if b then agent_absorbed p (agent_numbered (attempt.agent % 3)) attempt.choice found else None) (ne_eqb (attempt.agent / 3) p.tile other)
+    ap (λ (b : Bool). if b then agent_absorbed p (agent_kind attempt.agent) attempt.choice found else None) (ne_eqb (agent_tile attempt.agent) p.tile other)
 
 agent_blind : (p : TilePlace) (a : Agent) (choice : Choice) (word v m n : ℕ) → agent_op p a choice ≡ Some (Store word v)
     → agent_absorbed p a choice m ≡ agent_absorbed p a choice n
@@ -42,4 +43,4 @@ blind_by false p a choice word v m n e = refl
 
 pub blind : (p : TilePlace) (attempt : Step) (word v m n : ℕ) → tile_next_op p attempt ≡ Some (Store word v)
     → tile_absorbed p attempt m ≡ tile_absorbed p attempt n
-blind p attempt word v m n e = blind_by (attempt.agent / 3 == p.tile) p (agent_numbered (attempt.agent % 3)) attempt.choice word v m n e
+blind p attempt word v m n e = blind_by (agent_tile attempt.agent == p.tile) p (agent_kind attempt.agent) attempt.choice word v m n e

@@ -12,7 +12,9 @@ use Rattle.router.specs.Table.{RouterState, router_wants, router_after}
 use Rattle.net_interface.specs.script_follower.specs.ProcessorTable.{ProcessorState, processor_wants, processor_after}
 use Rattle.net_interface.specs.home_bank.specs.BankTable.{BankState, bank_wants, bank_after}
 use Rattle.tile_laws.specs.Wiring.{processor_wiring, bank_wiring}
-use Rattle.tile_laws.specs.Tile.{Design, TileState, Agent, Processor, Router, Bank, tile_step}
+use Rattle.tile_laws.specs.declared.agent.Agent.{Agent}
+use Rattle.tile_laws.specs.declared.agent.Agent.TheVariants.{Processor, Router, Bank}
+use Rattle.tile_laws.specs.Tile.{Design, TileState, tile_step}
 use Rattle.tile_laws.specs.Agents.{TilePlace, wiring_of, tile_placed}
 use Rattle.tile_laws.specs.Refinement.{IsSurrounded, IsPossibleChoice, TileStays, TileMoves, TileRefines, KeepsOthers}
 use Rattle.tile_laws.proofs.Channels.{wired, apart}

@@ -1,5 +1,5 @@
 -- The agents of a tile with their ports, and what an attempt of one of them does by one word.
-use Rattle.std.specs.Prelude.{ℕ, zero, suc, ◌/◌, ◌%◌, ◌==◌, if◌then◌else◌, Option, None, option_map}
+use Rattle.std.specs.Prelude.{ℕ, zero, suc, ◌+◌, ◌*◌, ◌/◌, ◌%◌, ◌==◌, if◌then◌else◌, Option, None, option_map}
 use Rattle.torus.specs.Shape.{Shape, tiles_of}
 use Rattle.torus.specs.declared.step.Step.{Step}
 use Rattle.torus.specs.declared.step.Choice.{Choice}
@@ -12,14 +12,30 @@ use Rattle.router.specs.Table.{RouterState, router_wants, router_after}
 use Rattle.net_interface.specs.script_follower.specs.ProcessorTable.{ProcessorState, processor_wants, processor_after}
 use Rattle.net_interface.specs.home_bank.specs.BankTable.{BankState, bank_wants, bank_after}
 use Rattle.tile_laws.specs.Wiring.{processor_wiring, bank_wiring}
-use Rattle.tile_laws.specs.Tile.{Design, TileState, Agent, Processor, Router, Bank}
+use Rattle.tile_laws.specs.declared.agent.Agent.{Agent}
+use Rattle.tile_laws.specs.declared.agent.Agent.TheVariants.{Processor, Router, Bank}
+use Rattle.tile_laws.specs.Tile.{Design, TileState}
 
--- which agent of its tile an agent is: tile t has the agents 3t, 3t + 1 and 3t + 2 (this project's
--- own format)
+-- the number of an agent of a tile: tile t has the agents 3t, 3t + 1 and 3t + 2 (this project's own
+-- format)
+abbrev pub agent_number : ℕ → Agent → ℕ
+agent_number t Processor = 3 * t
+agent_number t Router = 3 * t + 1
+agent_number t Bank = 3 * t + 2
+
+-- the agents of a tile in the order of their numbers
 abbrev pub agent_numbered : ℕ → Agent
 agent_numbered zero = Processor
 agent_numbered (suc zero) = Router
 agent_numbered (suc (suc k)) = Bank
+
+-- the tile of the agent of a number
+abbrev pub agent_tile : ℕ → ℕ
+agent_tile agent = agent / 3
+
+-- which agent of its tile the agent of a number is
+abbrev pub agent_kind : ℕ → Agent
+agent_kind agent = agent_numbered (agent % 3)
 
 -- the channels of an agent of a tile (this project's own format)
 abbrev pub wiring_of : Shape → ℕ → Agent → Wiring
@@ -90,12 +106,14 @@ agent_absorbed p Bank choice found = option_map (λ a. record p { bank = a })
 -- format)
 abbrev pub tile_next_op : TilePlace → Step → Option WordOp
 tile_next_op p attempt =
-    if attempt.agent / 3 == p.tile then agent_op p (agent_numbered (attempt.agent % 3)) attempt.choice else None
+    if agent_tile attempt.agent == p.tile
+    then agent_op p (agent_kind attempt.agent) attempt.choice
+    else None
 
 -- the tile after the operation of an attempt found a word; None where the attempt doesn't move, and
 -- where it is of another tile (this project's own format)
 abbrev pub tile_absorbed : TilePlace → Step → ℕ → Option TilePlace
 tile_absorbed p attempt found =
-    if attempt.agent / 3 == p.tile
-    then agent_absorbed p (agent_numbered (attempt.agent % 3)) attempt.choice found
+    if agent_tile attempt.agent == p.tile
+    then agent_absorbed p (agent_kind attempt.agent) attempt.choice found
     else None

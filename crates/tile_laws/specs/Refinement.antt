@@ -8,7 +8,9 @@ use Rattle.flit_buffer.specs.Words.{word_of, performed}
 use Rattle.flit_buffer.specs.Surroundings.{Surroundings, AreRings, ShowsAll, IsPossible, ports_of}
 use Rattle.flit_buffer.specs.declared.want.Want.{Want}
 use Rattle.flit_buffer.specs.declared.word_op.WordOp.{WordOp}
-use Rattle.tile_laws.specs.Tile.{Design, TileState, Agent, Processor, Router, Bank, tile_step}
+use Rattle.tile_laws.specs.declared.agent.Agent.{Agent}
+use Rattle.tile_laws.specs.declared.agent.Agent.TheVariants.{Processor, Router, Bank}
+use Rattle.tile_laws.specs.Tile.{Design, TileState, tile_step}
 use Rattle.tile_laws.specs.Agents.{TilePlace, wiring_of, tile_wants, tile_placed, agent_op, agent_absorbed}
 
 -- the surroundings have the channels of the torus, and each is one of the design's depth (Dally and

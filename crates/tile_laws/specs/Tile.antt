@@ -2,6 +2,8 @@
 use Rattle.std.specs.Prelude.{ℕ, Option, option_map}
 use Rattle.torus.specs.Shape.{Shape, tiles_of}
 use Rattle.torus.specs.declared.step.Choice.{Choice}
+use Rattle.tile_laws.specs.declared.agent.Agent.{Agent}
+use Rattle.tile_laws.specs.declared.agent.Agent.TheVariants.{Processor, Router, Bank}
 use Rattle.flit_buffer.specs.Surroundings.{Surroundings, agent_step}
 use Rattle.router.specs.Table.{RouterState, router_wants, router_after}
 use Rattle.net_interface.specs.script_follower.specs.ProcessorTable.{ProcessorState, processor_wants, processor_after}
@@ -21,12 +23,6 @@ pub record TileState : Type 0 where
   pub processor : ProcessorState
   pub router : RouterState
   pub bank : BankState
-
--- the agents of a tile
-pub data Agent : Type 0 where
-  Processor : Agent
-  Router : Agent
-  Bank : Agent
 
 module _ (d : Design) (t : ℕ) where
   -- the tile and the surroundings after a choice of one of its agents; None where it isn't enabled

@@ -1,6 +1,6 @@
 //! Laws of one tile, each the contract of a function that does nothing.
 
-ghost use Rattle.std.specs.Prelude.{◌≡◌, ◌≢◌, ◌<◌, ◌/◌, ℕ, List, Option, Some, None};
+ghost use Rattle.std.specs.Prelude.{◌≡◌, ◌≢◌, ◌<◌, ℕ, List, Option, Some, None};
 ghost use Rattle.torus.specs.Shape.{Shape, IsAccepted, tiles_of};
 ghost use Rattle.torus.specs.declared.step.Step.{Step};
 ghost use Rattle.torus.specs.declared.step.Choice.{Choice};
@@ -10,8 +10,9 @@ ghost use Rattle.flit_buffer.specs.Surroundings.{Surroundings, ShowsAll, IsWired
 ghost use Rattle.flit_buffer.specs.declared.word_op.WordOp.{WordOp};
 ghost use Rattle.flit_buffer.specs.declared.word_op.WordOp.TheVariants.{Store};
 ghost use Rattle.router.specs.Beginning.{empty_surroundings};
-ghost use Rattle.tile_laws.specs.Tile.{Design, TileState, Agent, tile_step};
-ghost use Rattle.tile_laws.specs.Agents.{TilePlace, wiring_of, tile_placed, tile_next_op, tile_absorbed};
+ghost use Rattle.tile_laws.specs.declared.agent.Agent.{Agent};
+ghost use Rattle.tile_laws.specs.Tile.{Design, TileState, tile_step};
+ghost use Rattle.tile_laws.specs.Agents.{TilePlace, wiring_of, tile_placed, tile_next_op, tile_absorbed, agent_tile};
 ghost use Rattle.tile_laws.specs.Beginning.{new_tile};
 ghost use Rattle.tile_laws.specs.Refinement.{IsSurrounded, IsPossibleChoice, TileRefines, KeepsOthers};
 
@@ -52,10 +53,10 @@ pub fn new_tiles_see_empty_channels()
 /// A tile has no operation for an attempt of another tile, and doesn't move by it; and after a store it
 /// doesn't look at the word that was there.
 pub fn tiles_tell_their_own_steps()
-    ensures op { (p : TilePlace) (attempt : Step) → attempt.agent / 3 ≢ p.tile
+    ensures op { (p : TilePlace) (attempt : Step) → agent_tile attempt.agent ≢ p.tile
         → tile_next_op p attempt ≡ None }
-    ensures absorbed { (p : TilePlace) (attempt : Step) (found : ℕ) → attempt.agent / 3 ≢ p.tile
-        → tile_absorbed p attempt found ≡ None }
+    ensures absorbed { (p : TilePlace) (attempt : Step) (found : ℕ)
+        → agent_tile attempt.agent ≢ p.tile → tile_absorbed p attempt found ≡ None }
     ensures store { (p : TilePlace) (attempt : Step) (word v m n : ℕ)
         → tile_next_op p attempt ≡ Some (Store word v)
         → tile_absorbed p attempt m ≡ tile_absorbed p attempt n }

@@ -3,29 +3,30 @@ use Rattle.std.specs.Vec.{with_item}
 use Rattle.std.proofs.lemmas.List.{length-set}
 use Rattle.std.proofs.lemmas.Option.{same_Some}
 use Rattle.torus.specs.declared.step.Stepped.TheVariants.{Moved}
-use Rattle.machine_wake.specs.tile_laws.specs.Tile.{Processor}
+use Rattle.machine_wake.specs.tile_laws.specs.declared.agent.Agent.TheVariants.{Processor}
 use Rattle.machine_wake.specs.tile_laws.specs.Agents.{agent_op}
+use Rattle.machine_wake.specs.tile_laws.proofs.AgentNumbers.{tile_of_number, kind_of_number}
 use Rattle.machine_wake.specs.tile.specs.Placed.{PlacedTile, agent_attempted}
 use Rattle.machine_core.specs.declared.noting.Counts.{Counts}
 use Rattle.machine_core.specs.Noted.{HasRoomToNote, counts_of}
 use Rattle.machine_core.proofs.Fields.{Led, vec_at, with_parts, moved_tile, idle_tile, noted_same}
 use Rattle.machine_core.proofs.Standing.{few_tiles}
-use Rattle.machine_core.proofs.Agents.{of_tile, of_kind, tile_within, agent_word, agent_fits, agent_without_op, agent_idle, agent_can_note, agent_left}
+use Rattle.machine_core.proofs.Agents.{tile_within, agent_word, agent_fits, agent_without_op, agent_idle, agent_can_note, agent_left}
 use Rattle.machine_core.proofs.Agents.{agent_moved}
 use Rattle.machine_core.proofs.machine.Machine.step_processor.Given.{Over}
 use Rattle.machine_core.proofs.machine.Machine.step_processor.Goals as goal
 
 pub attempt_processor-requires-clause-room : goal.attempt_processor-requires-clause-room
 attempt_processor-requires-clause-room g c =
-    agent_word c.self.inside c.self.invariant (record { agent = 3 * c.args.tile; choice = c.args.choice }) c.args.tile 0
-    (of_tile (3 * c.args.tile) c.args.tile 0 (omega arith) (omega arith)) (of_kind (3 * c.args.tile) c.args.tile 0 (omega arith) (omega arith))
+    agent_word c.self.inside c.self.invariant (record { agent = 3 * c.args.tile; choice = c.args.choice }) c.args.tile Processor
+    (tile_of_number c.args.tile Processor) (kind_of_number c.args.tile Processor)
     c.index_mut.result.now (vec_at c.self.inside.tiles c.args.tile c.index_mut.result.now
     (tile_within c.self.inside c.self.invariant c.args.self.now c.self.view_is c.args.tile c.requires) c.index_mut.ensures.value)
 
 pub attempt_processor-requires-clause-flit : goal.attempt_processor-requires-clause-flit
 attempt_processor-requires-clause-flit g c =
-    agent_fits c.self.inside c.self.invariant (record { agent = 3 * c.args.tile; choice = c.args.choice }) c.args.tile 0
-    (of_tile (3 * c.args.tile) c.args.tile 0 (omega arith) (omega arith)) (of_kind (3 * c.args.tile) c.args.tile 0 (omega arith) (omega arith))
+    agent_fits c.self.inside c.self.invariant (record { agent = 3 * c.args.tile; choice = c.args.choice }) c.args.tile Processor
+    (tile_of_number c.args.tile Processor) (kind_of_number c.args.tile Processor)
     c.index_mut.result.now (vec_at c.self.inside.tiles c.args.tile c.index_mut.result.now
     (tile_within c.self.inside c.self.invariant c.args.self.now c.self.view_is c.args.tile c.requires) c.index_mut.ensures.value)
 
@@ -57,8 +58,8 @@ note-requires-clause-room g c =
     let k = moved_tile (agent_attempted v.place Processor c.args.choice c.self.inside.row.items) c.attempt_processor.result v c.attempt_processor.new.self
     c.attempt_processor.ensures.step c.in-Moved.is in
     subst (λ (b : Counts). HasRoomToNote c.as_slice.result.now c.args.tile b c.self.inside.book) (sym before)
-    (agent_can_note c.self.inside c.self.invariant (record { agent = 3 * c.args.tile; choice = c.args.choice }) c.args.tile 0
-    (of_tile (3 * c.args.tile) c.args.tile 0 (omega arith) (omega arith)) (of_kind (3 * c.args.tile) c.args.tile 0 (omega arith) (omega arith)) v at k.0
+    (agent_can_note c.self.inside c.self.invariant (record { agent = 3 * c.args.tile; choice = c.args.choice }) c.args.tile Processor
+    (tile_of_number c.args.tile Processor) (kind_of_number c.args.tile Processor) v at k.0
     k.1 c.attempt_processor.new.self k.2 c.as_slice.result.now c.as_slice.ensures.value c.attempt_processor.new.row.items c.attempt_processor.ensures.row)
 
 -- the operation of the choice
@@ -87,8 +88,8 @@ led g c =
     let k = moved_tile (agent_attempted v.place Processor c.args.choice c.self.inside.row.items) c.attempt_processor.result v c.attempt_processor.new.self
     c.attempt_processor.ensures.step c.in-Moved.is in
     let tiles = with_item c.self.inside.tiles c.args.tile c.attempt_processor.new.self in
-    agent_moved c.self.inside c.self.invariant (record { agent = 3 * c.args.tile; choice = c.args.choice }) c.args.tile 0
-    (of_tile (3 * c.args.tile) c.args.tile 0 (omega arith) (omega arith)) (of_kind (3 * c.args.tile) c.args.tile 0 (omega arith) (omega arith)) v at k.0 k.1
+    agent_moved c.self.inside c.self.invariant (record { agent = 3 * c.args.tile; choice = c.args.choice }) c.args.tile Processor
+    (tile_of_number c.args.tile Processor) (kind_of_number c.args.tile Processor) v at k.0 k.1
     c.attempt_processor.new.self k.2 tiles refl c.attempt_processor.new.row c.attempt_processor.ensures.row c.note.new.book c.note.ensures.room
     (noted_same c.as_slice.result.now tiles.items c.of-before.result (counts_of v) c.args.tile c.note.new.book.book c.self.inside.book.book
     c.as_slice.ensures.value before c.note.ensures.book)
@@ -102,8 +103,8 @@ overflow_sub-self g c =
     (tile_within c.self.inside c.self.invariant c.args.self.now c.self.view_is c.args.tile c.requires) c.index_mut.ensures.value in
     let k = moved_tile (agent_attempted v.place Processor c.args.choice c.self.inside.row.items) c.attempt_processor.result v c.attempt_processor.new.self
     c.attempt_processor.ensures.step c.in-Moved.is in
-    let some = agent_left c.self.inside c.self.invariant (record { agent = 3 * c.args.tile; choice = c.args.choice }) c.args.tile 0
-    (of_tile (3 * c.args.tile) c.args.tile 0 (omega arith) (omega arith)) (of_kind (3 * c.args.tile) c.args.tile 0 (omega arith) (omega arith)) v at k.0
+    let some = agent_left c.self.inside c.self.invariant (record { agent = 3 * c.args.tile; choice = c.args.choice }) c.args.tile Processor
+    (tile_of_number c.args.tile Processor) (kind_of_number c.args.tile Processor) v at k.0
     k.1 c.attempt_processor.new.self k.2 (slice_set c.self.inside.tiles.items c.args.tile c.attempt_processor.new.self) refl
     c.attempt_processor.new.row.items c.attempt_processor.ensures.row in
     omega (arith, some)
@@ -122,8 +123,8 @@ invariant_of-self-in-Idle g c =
     (tile_within c.self.inside c.self.invariant c.args.self.now c.self.view_is c.args.tile c.requires) c.index_mut.ensures.value in
     let k = idle_tile (agent_attempted v.place Processor c.args.choice c.self.inside.row.items) c.attempt_processor.result v c.attempt_processor.new.self
     c.attempt_processor.ensures.step c.in-Idle.is in
-    (agent_idle c.self.inside c.self.invariant (record { agent = 3 * c.args.tile; choice = c.args.choice }) c.args.tile 0
-    (of_tile (3 * c.args.tile) c.args.tile 0 (omega arith) (omega arith)) (of_kind (3 * c.args.tile) c.args.tile 0 (omega arith) (omega arith)) v at
+    (agent_idle c.self.inside c.self.invariant (record { agent = 3 * c.args.tile; choice = c.args.choice }) c.args.tile Processor
+    (tile_of_number c.args.tile Processor) (kind_of_number c.args.tile Processor) v at
     (with_item c.self.inside.tiles c.args.tile c.attempt_processor.new.self) c.attempt_processor.new.row k.0 c.attempt_processor.new.self k.1 refl
     c.attempt_processor.ensures.row).machine
 
@@ -135,16 +136,16 @@ returns-in-Idle g c =
     (tile_within c.self.inside c.self.invariant c.args.self.now c.self.view_is c.args.tile c.requires) c.index_mut.ensures.value in
     let k = idle_tile (agent_attempted v.place Processor c.args.choice c.self.inside.row.items) c.attempt_processor.result v c.attempt_processor.new.self
     c.attempt_processor.ensures.step c.in-Idle.is in
-    rw (← c.self.view_is) (agent_idle c.self.inside c.self.invariant (record { agent = 3 * c.args.tile; choice = c.args.choice }) c.args.tile 0
-    (of_tile (3 * c.args.tile) c.args.tile 0 (omega arith) (omega arith)) (of_kind (3 * c.args.tile) c.args.tile 0 (omega arith) (omega arith)) v at
+    rw (← c.self.view_is) (agent_idle c.self.inside c.self.invariant (record { agent = 3 * c.args.tile; choice = c.args.choice }) c.args.tile Processor
+    (tile_of_number c.args.tile Processor) (kind_of_number c.args.tile Processor) v at
     (with_item c.self.inside.tiles c.args.tile c.attempt_processor.new.self) c.attempt_processor.new.row k.0 c.attempt_processor.new.self k.1 refl
     c.attempt_processor.ensures.row).steps
 
 -- a choice without an operation isn't enabled
 pub returns-in_default : goal.returns-in_default
 returns-in_default g c =
-    rw (← c.self.view_is) (agent_without_op c.self.inside c.self.invariant (record { agent = 3 * c.args.tile; choice = c.args.choice }) c.args.tile 0
-    (of_tile (3 * c.args.tile) c.args.tile 0 (omega arith) (omega arith)) (of_kind (3 * c.args.tile) c.args.tile 0 (omega arith) (omega arith))
+    rw (← c.self.view_is) (agent_without_op c.self.inside c.self.invariant (record { agent = 3 * c.args.tile; choice = c.args.choice }) c.args.tile Processor
+    (tile_of_number c.args.tile Processor) (kind_of_number c.args.tile Processor)
     c.index.result.now
     (vec_at c.self.inside.tiles c.args.tile c.index.result.now
     (tile_within c.self.inside c.self.invariant c.args.self.now c.self.view_is c.args.tile c.requires) c.index.ensures) (sym c.in_default.ensures))

@@ -2,25 +2,26 @@ use Rattle.std.proofs.Common.{◌≡◌, ◌+◌, ◌-◌, ◌*◌, Some, refl, 
 use Rattle.std.specs.Vec.{with_item}
 use Rattle.std.proofs.lemmas.Option.{same_Some}
 use Rattle.torus.specs.declared.step.Stepped.TheVariants.{Moved}
-use Rattle.machine_wake.specs.tile_laws.specs.Tile.{Router}
+use Rattle.machine_wake.specs.tile_laws.specs.declared.agent.Agent.TheVariants.{Router}
 use Rattle.machine_wake.specs.tile_laws.specs.Agents.{agent_op}
+use Rattle.machine_wake.specs.tile_laws.proofs.AgentNumbers.{tile_of_number, kind_of_number}
 use Rattle.machine_wake.specs.tile.specs.Placed.{PlacedTile, agent_attempted}
 use Rattle.machine_core.proofs.Fields.{Led, vec_at, with_parts, moved_tile, idle_tile}
-use Rattle.machine_core.proofs.Agents.{of_tile, of_kind, tile_within, agent_word, agent_fits, agent_without_op, agent_idle, agent_left, router_moved}
+use Rattle.machine_core.proofs.Agents.{tile_within, agent_word, agent_fits, agent_without_op, agent_idle, agent_left, router_moved}
 use Rattle.machine_core.proofs.machine.Machine.step_router.Given.{Over}
 use Rattle.machine_core.proofs.machine.Machine.step_router.Goals as goal
 
 pub attempt_router-requires-clause-room : goal.attempt_router-requires-clause-room
 attempt_router-requires-clause-room g c =
-    agent_word c.self.inside c.self.invariant (record { agent = 3 * c.args.tile + 1; choice = c.args.choice }) c.args.tile 1
-    (of_tile (3 * c.args.tile + 1) c.args.tile 1 (omega arith) (omega arith)) (of_kind (3 * c.args.tile + 1) c.args.tile 1 (omega arith) (omega arith))
+    agent_word c.self.inside c.self.invariant (record { agent = 3 * c.args.tile + 1; choice = c.args.choice }) c.args.tile Router
+    (tile_of_number c.args.tile Router) (kind_of_number c.args.tile Router)
     c.index_mut.result.now (vec_at c.self.inside.tiles c.args.tile c.index_mut.result.now
     (tile_within c.self.inside c.self.invariant c.args.self.now c.self.view_is c.args.tile c.requires) c.index_mut.ensures.value)
 
 pub attempt_router-requires-clause-flit : goal.attempt_router-requires-clause-flit
 attempt_router-requires-clause-flit g c =
-    agent_fits c.self.inside c.self.invariant (record { agent = 3 * c.args.tile + 1; choice = c.args.choice }) c.args.tile 1
-    (of_tile (3 * c.args.tile + 1) c.args.tile 1 (omega arith) (omega arith)) (of_kind (3 * c.args.tile + 1) c.args.tile 1 (omega arith) (omega arith))
+    agent_fits c.self.inside c.self.invariant (record { agent = 3 * c.args.tile + 1; choice = c.args.choice }) c.args.tile Router
+    (tile_of_number c.args.tile Router) (kind_of_number c.args.tile Router)
     c.index_mut.result.now (vec_at c.self.inside.tiles c.args.tile c.index_mut.result.now
     (tile_within c.self.inside c.self.invariant c.args.self.now c.self.view_is c.args.tile c.requires) c.index_mut.ensures.value)
 
@@ -32,8 +33,8 @@ overflow_sub-self g c =
     (tile_within c.self.inside c.self.invariant c.args.self.now c.self.view_is c.args.tile c.requires) c.index_mut.ensures.value in
     let k = moved_tile (agent_attempted v.place Router c.args.choice c.self.inside.row.items) c.attempt_router.result v c.attempt_router.new.self
     c.attempt_router.ensures.step c.in-Moved.is in
-    let some = agent_left c.self.inside c.self.invariant (record { agent = 3 * c.args.tile + 1; choice = c.args.choice }) c.args.tile 1
-    (of_tile (3 * c.args.tile + 1) c.args.tile 1 (omega arith) (omega arith)) (of_kind (3 * c.args.tile + 1) c.args.tile 1 (omega arith) (omega arith)) v
+    let some = agent_left c.self.inside c.self.invariant (record { agent = 3 * c.args.tile + 1; choice = c.args.choice }) c.args.tile Router
+    (tile_of_number c.args.tile Router) (kind_of_number c.args.tile Router) v
     at k.0 k.1 c.attempt_router.new.self k.2 (slice_set c.self.inside.tiles.items c.args.tile c.attempt_router.new.self) refl
     c.attempt_router.new.row.items c.attempt_router.ensures.row in
     omega (arith, some)
@@ -60,7 +61,7 @@ led g c =
     let k = moved_tile (agent_attempted v.place Router c.args.choice c.self.inside.row.items) c.attempt_router.result v c.attempt_router.new.self
     c.attempt_router.ensures.step c.in-Moved.is in
     router_moved c.self.inside c.self.invariant (record { agent = 3 * c.args.tile + 1; choice = c.args.choice }) c.args.tile
-    (of_tile (3 * c.args.tile + 1) c.args.tile 1 (omega arith) (omega arith)) (of_kind (3 * c.args.tile + 1) c.args.tile 1 (omega arith) (omega arith)) v at
+    (tile_of_number c.args.tile Router) (kind_of_number c.args.tile Router) v at
     k.0 k.1 c.attempt_router.new.self k.2
     (with_item c.self.inside.tiles c.args.tile c.attempt_router.new.self) refl c.attempt_router.new.row c.attempt_router.ensures.row
     c.in-Some.op (asked g c) c.wake.new.self c.wake.ensures
@@ -79,8 +80,8 @@ invariant_of-self-in-Idle g c =
     (tile_within c.self.inside c.self.invariant c.args.self.now c.self.view_is c.args.tile c.requires) c.index_mut.ensures.value in
     let k = idle_tile (agent_attempted v.place Router c.args.choice c.self.inside.row.items) c.attempt_router.result v c.attempt_router.new.self
     c.attempt_router.ensures.step c.in-Idle.is in
-    (agent_idle c.self.inside c.self.invariant (record { agent = 3 * c.args.tile + 1; choice = c.args.choice }) c.args.tile 1
-    (of_tile (3 * c.args.tile + 1) c.args.tile 1 (omega arith) (omega arith)) (of_kind (3 * c.args.tile + 1) c.args.tile 1 (omega arith) (omega arith)) v
+    (agent_idle c.self.inside c.self.invariant (record { agent = 3 * c.args.tile + 1; choice = c.args.choice }) c.args.tile Router
+    (tile_of_number c.args.tile Router) (kind_of_number c.args.tile Router) v
     at
     (with_item c.self.inside.tiles c.args.tile c.attempt_router.new.self) c.attempt_router.new.row k.0 c.attempt_router.new.self k.1 refl
     c.attempt_router.ensures.row).machine
@@ -93,8 +94,8 @@ returns-in-Idle g c =
     (tile_within c.self.inside c.self.invariant c.args.self.now c.self.view_is c.args.tile c.requires) c.index_mut.ensures.value in
     let k = idle_tile (agent_attempted v.place Router c.args.choice c.self.inside.row.items) c.attempt_router.result v c.attempt_router.new.self
     c.attempt_router.ensures.step c.in-Idle.is in
-    rw (← c.self.view_is) (agent_idle c.self.inside c.self.invariant (record { agent = 3 * c.args.tile + 1; choice = c.args.choice }) c.args.tile 1
-    (of_tile (3 * c.args.tile + 1) c.args.tile 1 (omega arith) (omega arith)) (of_kind (3 * c.args.tile + 1) c.args.tile 1 (omega arith) (omega arith)) v
+    rw (← c.self.view_is) (agent_idle c.self.inside c.self.invariant (record { agent = 3 * c.args.tile + 1; choice = c.args.choice }) c.args.tile Router
+    (tile_of_number c.args.tile Router) (kind_of_number c.args.tile Router) v
     at
     (with_item c.self.inside.tiles c.args.tile c.attempt_router.new.self) c.attempt_router.new.row k.0 c.attempt_router.new.self k.1 refl
     c.attempt_router.ensures.row).steps
@@ -102,8 +103,8 @@ returns-in-Idle g c =
 -- a choice without an operation isn't enabled
 pub returns-in_default : goal.returns-in_default
 returns-in_default g c =
-    rw (← c.self.view_is) (agent_without_op c.self.inside c.self.invariant (record { agent = 3 * c.args.tile + 1; choice = c.args.choice }) c.args.tile 1
-    (of_tile (3 * c.args.tile + 1) c.args.tile 1 (omega arith) (omega arith)) (of_kind (3 * c.args.tile + 1) c.args.tile 1 (omega arith) (omega arith))
+    rw (← c.self.view_is) (agent_without_op c.self.inside c.self.invariant (record { agent = 3 * c.args.tile + 1; choice = c.args.choice }) c.args.tile Router
+    (tile_of_number c.args.tile Router) (kind_of_number c.args.tile Router)
     c.index.result.now
     (vec_at c.self.inside.tiles c.args.tile c.index.result.now
     (tile_within c.self.inside c.self.invariant c.args.self.now c.self.view_is c.args.tile c.requires) c.index.ensures) (sym c.in_default.ensures))

@@ -1,0 +1,92 @@
+//! What the agents of a tile show.
+
+ghost use Rattle.std.specs.Prelude.{◌≡◌, ◌≤◌, ◌↔◌, length, IsTrue};
+ghost use Rattle.tag_table.specs.Tags.{holder_of};
+ghost use Rattle.tile_laws.specs.script_follower.specs.Following.{is_finished};
+
+use crate::agents::TileAgents;
+use home_bank::Entry;
+use packet::Operation;
+use std::alloc::Allocator;
+use tag_table::{OpId, Tag};
+use tile_laws::Answer;
+
+impl<A: Allocator> TileAgents<A> {
+    /// The number of the tile.
+    pub fn tile(&self) -> u32
+        ensures { result ≡ self.now.place.tile }
+    {
+        self.tile
+    }
+
+    /// The depth of the channels.
+    pub fn depth(&self) -> u32
+        ensures { result ≡ self.now.place.design.depth }
+    {
+        self.depth
+    }
+
+    /// The operations that the processor has issued, in the order of issue.
+    pub fn issued(&self) -> &[Operation]
+        ensures { result.now ≡ self.now.place.processor.state.operations.issued }
+    {
+        self.processor.issued()
+    }
+
+    /// The answers that the processor has received, in the order of answering.
+    pub fn answers(&self) -> &[Answer]
+        ensures { result.now ≡ self.now.place.processor.state.operations.answers }
+    {
+        self.processor.answers()
+    }
+
+    /// The operation of the processor that holds a tag; None exactly where the tag isn't out.
+    pub fn holder(&self, tag: Tag) -> Option<OpId>
+        ensures { result ≡ holder_of self.now.place.processor.state.operations.tags tag.0 }
+    {
+        self.processor.holder(tag)
+    }
+
+    /// Whether the processor's script is finished.
+    pub fn is_finished(&self) -> bool
+        ensures { result ≡ is_finished self.now.place.processor.state.operations.following }
+    {
+        self.processor.is_finished()
+    }
+
+    /// Whether the processor has seen that all processors have reported.
+    pub fn has_seen(&self) -> bool
+        ensures { result ≡ self.now.place.processor.state.seen }
+    {
+        self.processor.has_seen()
+    }
+
+    /// The entries of the bank, in the order of the services.
+    pub fn entries(&self) -> &[Entry]
+        ensures { result.now ≡ self.now.place.bank.state.entries }
+    {
+        self.bank.entries()
+    }
+
+    /// Whether the bank has room for no further entry.
+    pub fn is_full(&self) -> bool
+        ensures full { IsTrue result ↔ (length self.now.place.bank.state.entries ≡ self.now.room) }
+        ensures within { length self.now.place.bank.state.entries ≤ self.now.room }
+    {
+        self.bank.is_full()
+    }
+
+    /// Whether the processor has reported that its script is finished.
+    pub fn has_reported(&self) -> bool
+        ensures { result ≡ self.now.place.processor.state.reported }
+    {
+        self.processor.has_reported()
+    }
+
+    /// For how many entries the bank has room.
+    pub fn room(&self) -> usize
+        ensures { result ≡ self.now.room }
+    {
+        self.bank.room()
+    }
+}
