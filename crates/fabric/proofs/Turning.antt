@@ -10,7 +10,7 @@ use Rattle.fabric_rule.specs.order_abstract.specs.Room.{home_room}
 use Rattle.flit_buffer.specs.declared.word_op.WordOp.{WordOp}
 use Rattle.flit_buffer.specs.Words.{word_of}
 use Rattle.fabric_rule.specs.tile_laws.specs.Agents.{TilePlace, tile_next_op, tile_absorbed, agent_kind}
-use Rattle.fabric_rule.specs.tile.specs.Placed.{PlacedTile, with_place, IsAcceptableTo, HasRoomFor}
+use Rattle.fabric_rule.specs.tile.specs.Placed.{PlacedTile, with_place, IsAcceptableTo, HasRoomForEntry}
 use Rattle.fabric_rule.specs.core_laws.specs.Core.{Load}
 use Rattle.fabric_rule.specs.core_laws.specs.Runs.{IsAccepted}
 use Rattle.fabric_rule.specs.Known.{tile_of, known, op_of, moves, left_by, Suits, row_length}
@@ -57,10 +57,10 @@ unfolding Suits
 accepts load p c n k = k.0
 
 pub has_room : (load : Load) (v : PlacedTile) (c : Step) (n : ℕ) → v.room ≡ home_room (tiles_of load.shape) (tile_of c) load.scripts → Suits load v.place c n
-    → HasRoomFor v (agent_kind c.agent) c.choice
+    → HasRoomForEntry v (agent_kind c.agent) c.choice
 unfolding Suits
 has_room load v c n room k =
-    let P : ℕ → Type 0 = λ m. HasRoomFor (record { place = v.place; room = m }) (agent_kind c.agent) c.choice in
+    let P : ℕ → Type 0 = λ m. HasRoomForEntry (record { place = v.place; room = m }) (agent_kind c.agent) c.choice in
     subst P (sym room) k.1
 
 -- what a tile's code made of the word

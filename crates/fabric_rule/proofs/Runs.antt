@@ -17,7 +17,7 @@ use Rattle.core_seen.specs.tile_laws.specs.declared.agent.Agent.{Agent}
 use Rattle.core_seen.specs.tile_laws.specs.declared.agent.Agent.TheVariants.{Processor, Router, Bank}
 use Rattle.core_seen.specs.tile_laws.specs.Tile.{Design, TileState}
 use Rattle.core_seen.specs.tile_laws.specs.Agents.{TilePlace, tile_placed, agent_op, tile_next_op, tile_absorbed, agent_kind, agent_tile}
-use Rattle.core_seen.specs.tile.specs.Placed.{IsAcceptableTo, HasRoomFor}
+use Rattle.core_seen.specs.tile.specs.Placed.{IsAcceptableTo, HasRoomForEntry}
 use Rattle.core_seen.specs.core_laws.specs.Core.{Load, State, design_of, first_state, after, next, or_same, step}
 use Rattle.core_seen.specs.core_laws.specs.Runs.{IsAccepted, state_after}
 use Rattle.core_seen.specs.core_laws.proofs.AskedFor.{bank_asked}

@@ -10,7 +10,7 @@ ghost use Rattle.tile_laws.specs.script_follower.specs.Following.{left_of};
 ghost use Rattle.tile_laws.specs.script_follower.specs.ProcessorTable.{processor_with, processor_open};
 ghost use Rattle.tile_laws.specs.declared.agent.Agent.TheVariants.{Processor as ProcessorAgent, Router as RouterAgent, Bank as BankOfTile};
 ghost use Rattle.tile_laws.specs.Agents.{agent_op, tile_next_op, tile_absorbed, agent_kind};
-ghost use Rattle.tile.specs.Placed.{with_place, with_room, with_processor, first_tile, IsAcceptableTo, HasRoomFor, agent_attempted};
+ghost use Rattle.tile.specs.Placed.{with_place, with_room, with_processor, first_tile, IsAcceptableTo, HasRoomForEntry, agent_attempted};
 ghost use Rattle.tile.specs.Placed.{tile_attempted};
 
 use flit_buffer::WordOp;
@@ -134,7 +134,7 @@ impl<A: Allocator> TileAgents<A> {
         requires tried { IsSome (tile_next_op self.old.place step) }
         requires flit { IsAcceptableTo self.old.place (agent_kind step.agent) step.choice
             got }
-        requires entries { HasRoomFor self.old (agent_kind step.agent) step.choice }
+        requires entries { HasRoomForEntry self.old (agent_kind step.agent) step.choice }
         ensures { MatchOption (tile_absorbed self.old.place step got)
             ((result ≡ stepped.Idle) × (self.new ≡ self.old))
             (λ p. (result ≡ stepped.Moved) × (self.new ≡ with_place self.old p)) }
@@ -215,7 +215,7 @@ impl<A: Allocator> TileAgents<A> {
         requires flit { IfSome (tile_next_op self.old.place step)
             (λ o. IsAcceptableTo self.old.place (agent_kind step.agent) step.choice
             (slice_index row.old.items (word_of o))) }
-        requires entries { HasRoomFor self.old (agent_kind step.agent) step.choice }
+        requires entries { HasRoomForEntry self.old (agent_kind step.agent) step.choice }
         ensures row { row.new.items
             ≡ performed_by row.old.items (tile_next_op self.old.place step) }
         ensures step { MatchOption (tile_attempted self.old.place step row.old.items)
