@@ -6,7 +6,7 @@ use Rattle.std.specs.List.{flat_map, range_with_len}
 use Rattle.torus.specs.Shape.{Shape, tiles_of, dims_of}
 use Rattle.torus.specs.declared.step.Step.{Step}
 use Rattle.torus.specs.declared.step.Choice.{Choice}
-use Rattle.torus.specs.declared.step.Choice.TheVariants.{Send, Take, TakeFrom, Put, Credit, CreditOf, Serve, Done, Look}
+use Rattle.torus.specs.Choices.{processor_choices, router_choices, bank_choices}
 use Rattle.script.specs.declared.line.Line.{Line}
 use Rattle.flit_buffer.specs.Places.{empty_ring}
 use Rattle.flit_buffer.specs.Surroundings.{Surroundings}
@@ -118,10 +118,9 @@ attempts_of agent choices = map (λ c. record { agent = agent; choice = c }) cho
 -- once
 abbrev pub round_at : ℕ → ℕ → List Step
 round_at ports t =
-    attempts_of (agent_number t Processor) (Send ∷ Take ∷ Credit ∷ Done ∷ Look ∷ [])
-    ++ attempts_of (agent_number t Router) (map (λ i. TakeFrom i) (range_with_len 0 ports)
-    ++ map (λ i. Put i) (range_with_len 0 ports) ++ map (λ o. CreditOf o) (range_with_len 0 ports))
-    ++ attempts_of (agent_number t Bank) (Take ∷ Serve ∷ Send ∷ Credit ∷ [])
+    attempts_of (agent_number t Processor) processor_choices
+    ++ attempts_of (agent_number t Router) (router_choices ports)
+    ++ attempts_of (agent_number t Bank) bank_choices
 
 -- a round: the agents in order (this project's own format)
 abbrev pub round : Shape → List Step

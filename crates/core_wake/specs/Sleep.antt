@@ -1,10 +1,9 @@
 -- Agents that are asleep: no choice of theirs is enabled.
-use Rattle.std.specs.Prelude.{◌≡◌, ℕ, ◌||◌, Bool, false, List, [], ◌∷◌, ◌++◌, map, None, is_some}
-use Rattle.std.specs.List.{range_with_len}
+use Rattle.std.specs.Prelude.{◌≡◌, ℕ, ◌||◌, Bool, false, List, [], ◌∷◌, None, is_some}
 use Rattle.torus.specs.Shape.{Shape, dims_of}
 use Rattle.torus.specs.declared.step.Step.{Step}
 use Rattle.torus.specs.declared.step.Choice.{Choice}
-use Rattle.torus.specs.declared.step.Choice.TheVariants.{Send, Take, TakeFrom, Put, Credit, CreditOf, Serve, Done, Look}
+use Rattle.torus.specs.Choices.{processor_choices, router_choices, bank_choices}
 use Rattle.channel_number.specs.Ports.{port_count}
 use Rattle.core_seen.specs.tile_laws.specs.declared.agent.Agent.{Agent}
 use Rattle.core_seen.specs.tile_laws.specs.declared.agent.Agent.TheVariants.{Processor, Router, Bank}
@@ -23,11 +22,9 @@ OthersSleep d s awake = (agent : ℕ) → awake agent ≡ false → IsAsleep d s
 -- the choices of an agent in the order of a round, where the router has so many inputs and as many
 -- outputs (this project's own format)
 abbrev pub choices_of : ℕ → Agent → List Choice
-choices_of ports Processor = Send ∷ Take ∷ Credit ∷ Done ∷ Look ∷ []
-choices_of ports Router =
-    map (λ i. TakeFrom i) (range_with_len 0 ports)
-    ++ map (λ i. Put i) (range_with_len 0 ports) ++ map (λ o. CreditOf o) (range_with_len 0 ports)
-choices_of ports Bank = Take ∷ Serve ∷ Send ∷ Credit ∷ []
+choices_of ports Processor = processor_choices
+choices_of ports Router = router_choices ports
+choices_of ports Bank = bank_choices
 
 -- the attempts of a round by the agent of a number: each of its choices once (this project's own
 -- format)
