@@ -12,6 +12,6 @@ pub mod parts;
 
 pub use home_bank::Entry;
 pub use machine::Machine;
-pub use machine_wake::TileAgents;
+pub use machine_growth::TileAgents;
 pub use one_order::{Answer, Ordered};
 pub use parts::Parts;
