@@ -1,7 +1,8 @@
 -- What a machine's scripts allow is within the limits.
-use Rattle.std.proofs.Common.{◌≡◌, ℕ, ◌-◌, ◌≤◌, List, [], length, Some, sym, ◌∙◌, ap, arith, slice_get, get_or}
+use Rattle.std.proofs.Common.{◌≡◌, ⊎_elim, ℕ, ◌-◌, ◌<◌, ◌≤◌, List, [], length, Some, sym, ◌∙◌, ap, arith, slice_get, slice_index, get_or}
 use Rattle.std.specs.Prelude.{sum, min, Option, option_map}
-use Rattle.std.proofs.lemmas.List.{length-map, get_or-map}
+use Rattle.std.proofs.lemmas.Bool.{cases_lt}
+use Rattle.std.proofs.lemmas.List.{length-map, get_or-map, get_or_past}
 use Rattle.std.proofs.lemmas.List.Sums.{sum-map}
 use Rattle.std.proofs.lemmas.Option.{slice_get_within, get_or_from_slice_get}
 use Rattle.script.specs.Scripts.{operation_count}
@@ -25,6 +26,17 @@ module _ {A : Type 0} (a : Inside A) (is : IsMachine a) where
       ∙ get_or-map operation_count is.load.scripts p [] 0 (omega (arith, there, many)) in
       let few = (is.after.accepted.scripts.each p).count in
       omega (arith, here, same, few)
+
+  pub each_small : (p : ℕ) → slice_index a.allowed.items p ≤ 4096
+  each_small p =
+      let long = ap {A = List ℕ} length is.after.allowed ∙ length-map is.load.scripts operation_count in
+      ⊎_elim
+      (λ (low : p < length is.load.scripts).
+      let same = ap (λ (ns : List ℕ). get_or ns p 0) is.after.allowed ∙ get_or-map operation_count is.load.scripts p [] 0 low in
+      let few = (is.after.accepted.scripts.each p).count in
+      omega (arith, same, few))
+      (λ (past : length is.load.scripts ≤ p). let none = get_or_past a.allowed.items p 0 (omega (arith, past, long)) in omega (arith, none))
+      (cases_lt p (length is.load.scripts))
 
 -- the room of a processor that is there
 pub room_is : (allowed : List ℕ) (p own all left : ℕ) → slice_get allowed p ≡ Some own → all ≡ sum allowed → left ≡ min (4096 - own) (65536 - all)

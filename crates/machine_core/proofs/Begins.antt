@@ -11,25 +11,25 @@ use Rattle.script.specs.Machine.{MachineSpec, IsAcceptedMachine}
 use Rattle.script.specs.Scripts.{ScriptsSpec, AreAcceptedScripts, Fit, operation_count, script_of, total_count}
 use Rattle.script.specs.declared.line.Line.{Line}
 use Rattle.channel_number.specs.Order.{channel_count}
-use Rattle.machine_wake.specs.order_abstract.specs.Load.{load_of}
-use Rattle.machine_wake.specs.order_abstract.specs.Room.{home_room}
-use Rattle.machine_wake.specs.order_abstract.specs.EventBook.{EventBook, first_book}
-use Rattle.machine_wake.specs.order_abstract.proofs.LoadingAccepted.{accepted_load}
-use Rattle.machine_wake.specs.tile_laws.specs.Tile.{TileState}
-use Rattle.machine_wake.specs.tile_laws.specs.Agents.{tile_placed}
-use Rattle.machine_wake.specs.tile.specs.Placed.{PlacedTile, first_tile}
-use Rattle.machine_wake.specs.core_laws.specs.Core.{Load, design_of, first_state, first_tile as first_tile_state}
-use Rattle.machine_wake.specs.core_laws.specs.Runs.{IsAccepted}
-use Rattle.machine_wake.specs.core_row.specs.Attempts.{tile_in}
-use Rattle.machine_wake.specs.core_row.proofs.First.{first_row, first_tiles as first_places}
-use Rattle.machine_wake.specs.core_progress.specs.Moves.{most_moves}
-use Rattle.machine_wake.specs.core_machine.specs.Core.{IsAfter, IsLawful}
-use Rattle.machine_wake.specs.core_machine.proofs.Lawful.{lawful}
-use Rattle.machine_wake.specs.core_seen.specs.Seen.{IsShown}
-use Rattle.machine_wake.specs.core_seen.proofs.Reached.{seen_state}
-use Rattle.machine_wake.specs.Awake.{Awake, is_awake}
-use Rattle.machine_wake.specs.core_wake.specs.Sleep.{OthersSleep}
-use Rattle.machine_wake.proofs.KeptSleepers.{fresh}
+use Rattle.machine_growth.specs.order_abstract.specs.Load.{load_of}
+use Rattle.machine_growth.specs.order_abstract.specs.Room.{home_room}
+use Rattle.machine_growth.specs.order_abstract.specs.EventBook.{EventBook, first_book}
+use Rattle.machine_growth.specs.order_abstract.proofs.LoadingAccepted.{accepted_load}
+use Rattle.machine_growth.specs.tile_laws.specs.Tile.{TileState}
+use Rattle.machine_growth.specs.tile_laws.specs.Agents.{tile_placed}
+use Rattle.machine_growth.specs.tile.specs.Placed.{PlacedTile, first_tile}
+use Rattle.machine_growth.specs.core_laws.specs.Core.{Load, design_of, first_state, first_tile as first_tile_state}
+use Rattle.machine_growth.specs.core_laws.specs.Runs.{IsAccepted}
+use Rattle.machine_growth.specs.core_row.specs.Attempts.{tile_in}
+use Rattle.machine_growth.specs.core_row.proofs.First.{first_row, first_tiles as first_places}
+use Rattle.machine_growth.specs.core_progress.specs.Moves.{most_moves}
+use Rattle.machine_growth.specs.core_machine.specs.Core.{IsAfter, IsLawful}
+use Rattle.machine_growth.specs.core_machine.proofs.Lawful.{lawful}
+use Rattle.machine_growth.specs.core_seen.specs.Seen.{IsShown}
+use Rattle.machine_growth.specs.core_seen.proofs.Reached.{seen_state}
+use Rattle.machine_growth.specs.machine_wake.specs.Awake.{Awake, is_awake}
+use Rattle.machine_growth.specs.core_wake.specs.Sleep.{OthersSleep}
+use Rattle.machine_growth.specs.machine_wake.proofs.KeptSleepers.{fresh}
 use Rattle.machine_core.specs.declared.machine.Machine.TheInside.{Inside}
 use Rattle.machine_core.specs.Inside.{design_in, places_in, core_of, HaveRoom, HasRoomForScripts, IsMachine}
 use Rattle.machine_core.specs.Loaded.{first_tiles}

@@ -16,3 +16,5 @@ pub mod FreshMachines
 pub mod FirstEnabled
 pub mod AskedSteps
 pub mod Allowed
+pub mod Handing
+pub mod HandedMachines

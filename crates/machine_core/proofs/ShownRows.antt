@@ -3,14 +3,14 @@ use Rattle.std.proofs.Common.{◌≡◌, ℕ, ◌+◌, ◌%◌, List, length, ta
 use Rattle.std.proofs.Math.Seq.{take-length}
 use Rattle.torus.specs.declared.step.Step.{Step}
 use Rattle.flit_buffer.proofs.RingArithmetic.{place_from}
-use Rattle.machine_wake.specs.core_laws.specs.Core.{Load}
-use Rattle.machine_wake.specs.core_laws.specs.Runs.{IsAccepted}
-use Rattle.machine_wake.specs.core_laws.proofs.Reached.{reports_counted}
-use Rattle.machine_wake.specs.core_row.specs.Taken.{taken}
-use Rattle.machine_wake.specs.core_row.proofs.Reached as reached
-use Rattle.machine_wake.specs.core_row.proofs.Fronts.{front_counts_taken, flit_behind_taken}
-use Rattle.machine_wake.specs.core_machine.specs.Core.{Core, IsAfter, core_after_load}
-use Rattle.machine_wake.specs.core_machine.proofs.Machines.{named_machine}
+use Rattle.machine_growth.specs.core_laws.specs.Core.{Load}
+use Rattle.machine_growth.specs.core_laws.specs.Runs.{IsAccepted}
+use Rattle.machine_growth.specs.core_laws.proofs.Reached.{reports_counted}
+use Rattle.machine_growth.specs.core_row.specs.Taken.{taken}
+use Rattle.machine_growth.specs.core_row.proofs.Reached as reached
+use Rattle.machine_growth.specs.core_row.proofs.Fronts.{front_counts_taken, flit_behind_taken}
+use Rattle.machine_growth.specs.core_machine.specs.Core.{Core, IsAfter, core_after_load}
+use Rattle.machine_growth.specs.core_machine.proofs.Machines.{named_machine}
 use Rattle.machine_core.specs.Shown.{ShowsRow}
 
 -- a place counted on from a remainder

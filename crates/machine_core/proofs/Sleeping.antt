@@ -6,17 +6,17 @@ use Rattle.torus.specs.declared.step.Step.{Step}
 use Rattle.torus.specs.declared.step.Choice.{Choice}
 use Rattle.channel_number.specs.Ports.{port_count}
 use Rattle.rounds.specs.Rounds.{one_if_moved, moves_in, or_same}
-use Rattle.machine_wake.specs.tile_laws.specs.declared.agent.Agent.{Agent}
-use Rattle.machine_wake.specs.tile_laws.specs.declared.agent.Agent.TheVariants.{Processor, Router, Bank}
-use Rattle.machine_wake.specs.tile_laws.specs.Tile.{Design}
-use Rattle.machine_wake.specs.tile_laws.proofs.AgentNumbers.{kind_of_number}
-use Rattle.machine_wake.specs.core_laws.specs.Core.{State, design_of, step, or_same as state_or, after, attempts_of}
-use Rattle.machine_wake.specs.core_machine.specs.Core.{Core, IsAfter, built_to, core_after}
-use Rattle.machine_wake.specs.core_machine.proofs.Moves.{left_after}
-use Rattle.machine_wake.specs.Awake.{Awake, is_awake, rested}
-use Rattle.machine_wake.specs.core_wake.specs.Sleep.{IsAsleep, OthersSleep, choices_of, attempts_at, has_moved}
-use Rattle.machine_wake.specs.core_wake.proofs.Sleepers.{falls, same_machine}
-use Rattle.machine_wake.proofs.KeptSleepers.{rests}
+use Rattle.machine_growth.specs.tile_laws.specs.declared.agent.Agent.{Agent}
+use Rattle.machine_growth.specs.tile_laws.specs.declared.agent.Agent.TheVariants.{Processor, Router, Bank}
+use Rattle.machine_growth.specs.tile_laws.specs.Tile.{Design}
+use Rattle.machine_growth.specs.tile_laws.proofs.AgentNumbers.{kind_of_number}
+use Rattle.machine_growth.specs.core_laws.specs.Core.{State, design_of, step, or_same as state_or, after, attempts_of}
+use Rattle.machine_growth.specs.core_machine.specs.Core.{Core, IsAfter, built_to, core_after}
+use Rattle.machine_growth.specs.core_machine.proofs.Moves.{left_after}
+use Rattle.machine_growth.specs.machine_wake.specs.Awake.{Awake, is_awake, rested}
+use Rattle.machine_growth.specs.core_wake.specs.Sleep.{IsAsleep, OthersSleep, choices_of, attempts_at, has_moved}
+use Rattle.machine_growth.specs.core_wake.proofs.Sleepers.{falls, same_machine}
+use Rattle.machine_growth.specs.machine_wake.proofs.KeptSleepers.{rests}
 use Rattle.machine_core.specs.declared.machine.Machine.TheInside.{Inside}
 use Rattle.machine_core.specs.Inside.{core_of, IsMachine}
 use Rattle.torus.specs.Choices.{processor_choices, bank_choices, router_choices}

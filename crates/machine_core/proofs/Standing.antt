@@ -5,13 +5,13 @@ use Rattle.std.proofs.lemmas.List.{length-map, take_all}
 use Rattle.std.proofs.lemmas.Option.{slice_get_past}
 use Rattle.torus.specs.Shape.{Shape, tiles_of}
 use Rattle.torus.specs.declared.step.Step.{Step}
-use Rattle.machine_wake.specs.tile_laws.specs.Agents.{state_of, agent_tile}
-use Rattle.machine_wake.specs.tile.specs.Placed.{PlacedTile}
-use Rattle.machine_wake.specs.core_laws.specs.Core.{Load, State, design_of, step, after}
-use Rattle.machine_wake.specs.core_laws.specs.Runs.{state_after}
-use Rattle.machine_wake.specs.core_laws.proofs.EveryRun.{holds_in}
-use Rattle.machine_wake.specs.core_seen.specs.Seen.{IsShown}
-use Rattle.machine_wake.specs.core_machine.specs.Core.{built_to, book_after}
+use Rattle.machine_growth.specs.tile_laws.specs.Agents.{state_of, agent_tile}
+use Rattle.machine_growth.specs.tile.specs.Placed.{PlacedTile}
+use Rattle.machine_growth.specs.core_laws.specs.Core.{Load, State, design_of, step, after}
+use Rattle.machine_growth.specs.core_laws.specs.Runs.{state_after}
+use Rattle.machine_growth.specs.core_laws.proofs.EveryRun.{holds_in}
+use Rattle.machine_growth.specs.core_seen.specs.Seen.{IsShown}
+use Rattle.machine_growth.specs.core_machine.specs.Core.{built_to, book_after}
 use Rattle.machine_core.specs.declared.machine.Machine.TheInside.{Inside}
 use Rattle.machine_core.specs.Inside.{design_in, places_in, core_of, IsMachine}
 

@@ -4,16 +4,16 @@ use Rattle.torus.specs.Shape.{tiles_of}
 use Rattle.torus.specs.declared.step.Step.{Step}
 use Rattle.script.specs.declared.line.Line.{Line}
 use Rattle.script.specs.Scripts.{operation_count, total_count}
-use Rattle.machine_wake.specs.order_abstract.specs.Room.{home_room}
+use Rattle.machine_growth.specs.order_abstract.specs.Room.{home_room}
 use Rattle.order_book.specs.RoomyBook.{RoomyBook}
-use Rattle.machine_wake.specs.tile_laws.specs.Tile.{Design}
-use Rattle.machine_wake.specs.tile_laws.specs.Agents.{TilePlace}
-use Rattle.machine_wake.specs.tile.specs.Placed.{PlacedTile}
-use Rattle.machine_wake.specs.core_laws.specs.Core.{Load, design_of, after as state_after_steps}
-use Rattle.machine_wake.specs.core_seen.specs.Seen.{IsShown, state_seen}
-use Rattle.machine_wake.specs.core_machine.specs.Core.{Core, IsAfter}
-use Rattle.machine_wake.specs.core_wake.specs.Sleep.{OthersSleep}
-use Rattle.machine_wake.specs.Awake.{is_awake}
+use Rattle.machine_growth.specs.tile_laws.specs.Tile.{Design}
+use Rattle.machine_growth.specs.tile_laws.specs.Agents.{TilePlace}
+use Rattle.machine_growth.specs.tile.specs.Placed.{PlacedTile}
+use Rattle.machine_growth.specs.core_laws.specs.Core.{Load, design_of, after as state_after_steps}
+use Rattle.machine_growth.specs.core_seen.specs.Seen.{IsShown, state_seen}
+use Rattle.machine_growth.specs.core_machine.specs.Core.{Core, IsAfter}
+use Rattle.machine_growth.specs.core_wake.specs.Sleep.{OthersSleep}
+use Rattle.machine_growth.specs.machine_wake.specs.Awake.{is_awake}
 use Rattle.machine_core.specs.declared.machine.Machine.TheInside.{Inside}
 
 -- what the machine is built to

@@ -1,6 +1,6 @@
-pub use Rattle.machine_wake.specs.core_machine
-pub use Rattle.machine_wake.specs.core_laws
-pub use Rattle.machine_wake.specs.order_abstract
+pub use Rattle.machine_growth.specs.core_machine
+pub use Rattle.machine_growth.specs.core_laws
+pub use Rattle.machine_growth.specs.order_abstract
 pub mod Inside
 pub mod Loaded
 pub mod Rounds

@@ -3,10 +3,10 @@ use Rattle.std.specs.Prelude.{◌≡◌, ◌≢◌, ℕ, ◌+◌, ◌*◌, ◌%�
 use Rattle.torus.specs.declared.step.Step.{Step}
 use Rattle.channel_number.specs.Order.{channel_count}
 use Rattle.flit_buffer.specs.Surroundings.{ring}
-use Rattle.machine_wake.specs.core_laws.specs.Core.{Load}
-use Rattle.machine_wake.specs.core_row.specs.Row.{row_of}
-use Rattle.machine_wake.specs.core_row.specs.Taken.{taken}
-use Rattle.machine_wake.specs.core_machine.specs.Core.{Core, built_to, shown}
+use Rattle.machine_growth.specs.core_laws.specs.Core.{Load}
+use Rattle.machine_growth.specs.core_row.specs.Row.{row_of}
+use Rattle.machine_growth.specs.core_row.specs.Taken.{taken}
+use Rattle.machine_growth.specs.core_machine.specs.Core.{Core, built_to, shown}
 
 -- the row of a machine's words (this project's own format)
 abbrev pub row_in : Core → List ℕ

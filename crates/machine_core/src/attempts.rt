@@ -6,9 +6,9 @@ ghost use Rattle.torus.specs.Shape.{tiles_of, dims_of};
 ghost use Rattle.torus.specs.declared.step.Step.{Step};
 ghost use Rattle.channel_number.specs.Ports.{port_count};
 ghost use Rattle.rounds.specs.Rounds.{moves_in};
-ghost use Rattle.machine_wake.specs.core_laws.specs.Core.{step, attempts_of, round_at, round};
-ghost use Rattle.machine_wake.specs.core_machine.specs.Core.{RunsOn, MakesMove, Steps, core_after, built_to};
-ghost use Rattle.machine_wake.specs.core_machine.specs.Core.{all_finished};
+ghost use Rattle.machine_growth.specs.core_laws.specs.Core.{step, attempts_of, round_at, round};
+ghost use Rattle.machine_growth.specs.core_machine.specs.Core.{RunsOn, MakesMove, Steps, core_after, built_to};
+ghost use Rattle.machine_growth.specs.core_machine.specs.Core.{all_finished};
 ghost use Rattle.torus.specs.Choices.{processor_choices, bank_choices, takes_of_all, puts_of_all};
 ghost use Rattle.torus.specs.Choices.{credits_of_all, router_choices};
 

@@ -12,6 +12,6 @@ pub mod parts;
 
 pub use home_bank::Entry;
 pub use machine::Machine;
-pub use machine_wake::{TileAgents, agent_kind, agent_tile};
+pub use machine_growth::{TileAgents, agent_kind, agent_tile};
 pub use one_order::{Answer, Ordered};
 pub use parts::Parts;

@@ -4,22 +4,22 @@ ghost use Rattle.std.specs.Option.{option_copied};
 ghost use Rattle.torus.specs.declared.step.Step.{Step};
 ghost use Rattle.script.specs.Scripts.{Fit};
 ghost use Rattle.script.specs.ScriptViews.{lists_of};
-ghost use Rattle.machine_wake.specs.script_follower.specs.Following.{is_finished};
-ghost use Rattle.machine_wake.specs.order_abstract.specs.Load.{load_of};
-ghost use Rattle.machine_wake.specs.order_abstract.specs.Scripts.{AreFinished};
+ghost use Rattle.machine_growth.specs.script_follower.specs.Following.{is_finished};
+ghost use Rattle.machine_growth.specs.order_abstract.specs.Load.{load_of};
+ghost use Rattle.machine_growth.specs.order_abstract.specs.Scripts.{AreFinished};
 ghost use Rattle.rounds.specs.Rounds.{moves_in};
-ghost use Rattle.machine_wake.specs.core_laws.specs.Core.{Load, run_of, step};
-ghost use Rattle.machine_wake.specs.core_laws.specs.Runs.{IsAccepted};
-ghost use Rattle.machine_wake.specs.core_row.specs.Row.{row_of};
-ghost use Rattle.machine_wake.specs.core_machine.specs.Core.{IsAfter, RunsOn, HasOneOrderSoFar, Steps, core_after, shown};
-ghost use Rattle.machine_wake.specs.core_machine.specs.Core.{built_to, all_finished};
-ghost use Rattle.machine_wake.specs.core_progress.specs.Moves.{IsLive, moves_left};
+ghost use Rattle.machine_growth.specs.core_laws.specs.Core.{Load, run_of, step};
+ghost use Rattle.machine_growth.specs.core_laws.specs.Runs.{IsAccepted};
+ghost use Rattle.machine_growth.specs.core_row.specs.Row.{row_of};
+ghost use Rattle.machine_growth.specs.core_machine.specs.Core.{IsAfter, RunsOn, HasOneOrderSoFar, Steps, core_after, shown};
+ghost use Rattle.machine_growth.specs.core_machine.specs.Core.{built_to, all_finished};
+ghost use Rattle.machine_growth.specs.core_progress.specs.Moves.{IsLive, moves_left};
 ghost use Rattle.machine_core.specs.Rounds.{rounds_of, NeedsRounds};
 
 use crate::loading::{first_row, first_tiles, most_moves};
 use channel_number::channel_count;
 use home_bank::Entry;
-use machine_wake::{Agent, TileAgents, WakeFlags, agent_kind, agent_tile};
+use machine_growth::{Agent, TileAgents, WakeFlags, agent_kind, agent_tile};
 use one_order::{Answer, Ordered};
 use order_book::EventBook;
 use order_rooms::{all_room, home_rooms, processor_rooms};
@@ -47,7 +47,7 @@ pub struct Machine<A: Allocator = Global> {
 }
 
 impl<A: Allocator> Model for Machine<A> {
-    ghost use Rattle.machine_wake.specs.core_machine.specs.Core.{Core};
+    ghost use Rattle.machine_growth.specs.core_machine.specs.Core.{Core};
 
     ghost Value = { Core };
 

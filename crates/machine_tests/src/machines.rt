@@ -8,21 +8,26 @@ use std::test::Fail;
 use torus::{Choice, Fault, Step, Stepped, Tag};
 
 /// Two tiles, eight words.
-const PAIR: &[u8] = b"radix 2\ndims 1\ndepth 4\ntags 4\nwords 8\n";
+pub const PAIR: &[u8] = b"radix 2\ndims 1\ndepth 4\ntags 4\nwords 8\n";
 
 /// Sixty-four tiles, channels of one flit, one tag.
-const SQUARE: &[u8] = b"radix 8\ndims 2\ndepth 1\ntags 1\nwords 64\ninit 36 5\n";
+pub const SQUARE: &[u8] = b"radix 8\ndims 2\ndepth 1\ntags 1\nwords 64\ninit 36 5\n";
 
 /// What was asked for when a call failed.
 #[derive(Clone, Copy)]
-enum Call {
+pub enum Call {
     Read,
     Load,
     Order,
 }
 
 /// The machine of a text and of scripts, which are a text that stands so many times, or the fault.
-fn machine_of(alloc: Global, machine: &[u8], scripts: &[u8], times: u32) -> Result<Machine, Fault> {
+pub fn machine_of(
+    alloc: Global,
+    machine: &[u8],
+    scripts: &[u8],
+    times: u32,
+) -> Result<Machine, Fault> {
     let mut text = Vec::new(alloc);
     for _ in 0..times {
         if text.extend_from_slice(scripts).is_err() {
@@ -594,7 +599,7 @@ fn round_steps(alloc: Global, tiles: u8, ports: u8) -> Result<Vec<Step>, AllocEr
 }
 
 /// The machine of a text, with drawn scripts for its tiles.
-fn drawn_machine(alloc: Global, text: &[u8], tiles: u8, seed: u64) -> Result<Machine, Fault> {
+pub fn drawn_machine(alloc: Global, text: &[u8], tiles: u8, seed: u64) -> Result<Machine, Fault> {
     match drawn_script(alloc, tiles, seed) {
         Ok(script) => machine_of(alloc, text, script.as_slice(), 1),
         Err(_) => Err(Fault::Memory),
@@ -602,7 +607,7 @@ fn drawn_machine(alloc: Global, text: &[u8], tiles: u8, seed: u64) -> Result<Mac
 }
 
 /// Whether two machines of at most eight tiles show the same, word by word.
-fn are_alike(alloc: Global, one: &Machine, other: &Machine) -> bool {
+pub fn are_alike(alloc: Global, one: &Machine, other: &Machine) -> bool {
     for at in 0..400 {
         if one.row(at) != other.row(at) {
             return false;
@@ -673,7 +678,7 @@ fn rounds_lead_where_their_steps_lead(rt: HostRuntime) -> Result<(), Fail> {
 }
 
 /// Reads both texts and loads the machine, so that it is told which of them was refused.
-fn loaded<A: Allocator + Copy>(
+pub fn loaded<A: Allocator + Copy>(
     alloc: A,
     machine: &[u8],
     scripts: &[u8],

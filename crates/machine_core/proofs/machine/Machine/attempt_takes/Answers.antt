@@ -1,6 +1,6 @@
 use Rattle.std.proofs.Common.{ℕ, ◌+◌, ◌*◌, refl}
 use Rattle.torus.specs.declared.step.Choice.TheVariants.{TakeFrom}
-use Rattle.machine_wake.specs.core_laws.specs.Core.{attempts_of}
+use Rattle.machine_growth.specs.core_laws.specs.Core.{attempts_of}
 use Rattle.torus.specs.Choices.{takes_of_all}
 use Rattle.machine_core.proofs.Rounds.{port_more, tile_stays}
 use Rattle.machine_core.proofs.machine.Machine.attempt_takes.Goals as goal

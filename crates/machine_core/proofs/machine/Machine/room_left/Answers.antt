@@ -1,7 +1,6 @@
-use Rattle.std.proofs.Common.{◌≡◌, ℕ, List, Some, map, sum, ◌∙◌, ap, slice_get}
+use Rattle.std.proofs.Common.{◌≡◌, ℕ, List, Some, sum, ◌∙◌, ap, slice_get}
 use Rattle.std.specs.Prelude.{Option}
-use Rattle.script.specs.Scripts.{operation_count}
-use Rattle.machine_wake.specs.core_machine.specs.Core.{Core}
+use Rattle.machine_growth.specs.core_machine.specs.Core.{Core}
 use Rattle.machine_core.specs.Growing.{room_left}
 use Rattle.machine_core.proofs.Allowed.{own_small, room_is}
 use Rattle.machine_core.proofs.NotedBooks.{looked_up}

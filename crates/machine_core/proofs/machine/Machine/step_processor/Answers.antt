@@ -3,10 +3,10 @@ use Rattle.std.specs.Vec.{with_item}
 use Rattle.std.proofs.lemmas.List.{length-set}
 use Rattle.std.proofs.lemmas.Option.{same_Some}
 use Rattle.torus.specs.declared.step.Stepped.TheVariants.{Moved}
-use Rattle.machine_wake.specs.tile_laws.specs.declared.agent.Agent.TheVariants.{Processor}
-use Rattle.machine_wake.specs.tile_laws.specs.Agents.{agent_op}
-use Rattle.machine_wake.specs.tile_laws.proofs.AgentNumbers.{tile_of_number, kind_of_number}
-use Rattle.machine_wake.specs.tile.specs.Placed.{PlacedTile, agent_attempted}
+use Rattle.machine_growth.specs.tile_laws.specs.declared.agent.Agent.TheVariants.{Processor}
+use Rattle.machine_growth.specs.tile_laws.specs.Agents.{agent_op}
+use Rattle.machine_growth.specs.tile_laws.proofs.AgentNumbers.{tile_of_number, kind_of_number}
+use Rattle.machine_growth.specs.tile.specs.Placed.{PlacedTile, agent_attempted}
 use Rattle.machine_core.specs.declared.noting.Counts.{Counts}
 use Rattle.machine_core.specs.Noted.{HasRoomToNote, counts_of}
 use Rattle.machine_core.proofs.Fields.{Led, vec_at, with_parts, moved_tile, idle_tile, noted_same}

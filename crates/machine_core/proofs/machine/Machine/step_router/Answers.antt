@@ -2,10 +2,10 @@ use Rattle.std.proofs.Common.{◌≡◌, ◌+◌, ◌-◌, ◌*◌, Some, refl, 
 use Rattle.std.specs.Vec.{with_item}
 use Rattle.std.proofs.lemmas.Option.{same_Some}
 use Rattle.torus.specs.declared.step.Stepped.TheVariants.{Moved}
-use Rattle.machine_wake.specs.tile_laws.specs.declared.agent.Agent.TheVariants.{Router}
-use Rattle.machine_wake.specs.tile_laws.specs.Agents.{agent_op}
-use Rattle.machine_wake.specs.tile_laws.proofs.AgentNumbers.{tile_of_number, kind_of_number}
-use Rattle.machine_wake.specs.tile.specs.Placed.{PlacedTile, agent_attempted}
+use Rattle.machine_growth.specs.tile_laws.specs.declared.agent.Agent.TheVariants.{Router}
+use Rattle.machine_growth.specs.tile_laws.specs.Agents.{agent_op}
+use Rattle.machine_growth.specs.tile_laws.proofs.AgentNumbers.{tile_of_number, kind_of_number}
+use Rattle.machine_growth.specs.tile.specs.Placed.{PlacedTile, agent_attempted}
 use Rattle.machine_core.proofs.Fields.{Led, vec_at, with_parts, moved_tile, idle_tile}
 use Rattle.machine_core.proofs.Agents.{tile_within, agent_word, agent_fits, agent_without_op, agent_idle, agent_left, router_moved}
 use Rattle.machine_core.proofs.machine.Machine.step_router.Given.{Over}

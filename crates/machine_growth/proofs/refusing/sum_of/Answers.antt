@@ -2,7 +2,7 @@ use Rattle.std.proofs.Common.{◌≡◌, ◌≤◌, ◌+◌, ℕ, List, arith, t
 use Rattle.std.specs.Prelude.{sum}
 use Rattle.std.proofs.lemmas.List.{take_all}
 use Rattle.std.proofs.lemmas.List.Sums.{sum_by_more, sum_by-take-le}
-use Rattle.machine_core.proofs.growing.sum_of.Goals as goal
+use Rattle.machine_growth.proofs.refusing.sum_of.Goals as goal
 
 pub overflow_add-all : goal.overflow_add-all
 overflow_add-all c =

@@ -1,0 +1,4 @@
+pub mod Items
+pub mod Refused
+pub mod Handing
+pub mod Rooms

@@ -1,0 +1,14 @@
+pub use Rattle.machine_wake
+pub use Rattle.machine_wake.specs.core_wake
+pub use Rattle.machine_wake.specs.core_laws
+pub use Rattle.machine_wake.specs.core_progress
+pub use Rattle.machine_wake.specs.core_row
+pub use Rattle.machine_wake.specs.order_abstract
+pub use Rattle.machine_wake.specs.core_machine
+pub use Rattle.machine_wake.specs.core_seen
+pub use Rattle.machine_wake.specs.script_follower
+pub use Rattle.machine_wake.specs.tile_laws
+pub use Rattle.machine_wake.specs.tile
+pub use Rattle.core_reopening
+pub use Rattle.core_reopening.specs.core_growth
+pub mod Grown
