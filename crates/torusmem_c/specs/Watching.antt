@@ -44,23 +44,23 @@ told_outcome (Err Memory) = no_memory
 told_outcome (Err Configurations) = outcome code.TooMany 0
 
 -- what holds of a watch that followed a trace: what is seen of the event is so, or it follows what
--- it followed
-abbrev pub Watches : Event → Watch Global → Watch Global → Result Seen Full → Type 0
-Watches event old new (Ok seen) = (opening : List ℕ) (trace : List Event)
+-- it followed, and the reason why the event isn't judged holds of it
+abbrev pub Watches : Event → ℕ → Watch Global → Watch Global → Result Seen Full → Type 0
+Watches event bound old new (Ok seen) = (opening : List ℕ) (trace : List Event)
     → Follows opening trace old → TellsSeen opening trace event new seen
-Watches event old new (Err full) = TellsFull event full
-    × ((opening : List ℕ) (trace : List Event) → Follows opening trace old
-    → Follows opening trace new)
+Watches event bound old new (Err full) = (opening : List ℕ) (trace : List Event)
+    → Follows opening trace old
+    → Follows opening trace new × TellsFull opening trace event bound full
 
--- an event is judged
-abbrev pub TellsEvent : Event → Watch Global → Watch Global → Outcome → Type 0
-TellsEvent event old new r =
-    (told : Result Seen Full) × Watches event old new told × (r ≡ told_outcome told)
+-- an event is judged, with at most so many configurations of its word at once
+abbrev pub TellsEvent : Event → ℕ → Watch Global → Watch Global → Outcome → Type 0
+TellsEvent event bound old new r =
+    (told : Result Seen Full) × Watches event bound old new told × (r ≡ told_outcome told)
 
 -- the event that is named is judged, and nothing happens where none is
-abbrev pub TakesEvent : Option Event → Watch Global → Watch Global → Outcome → Type 0
-TakesEvent None old new r = (new ≡ old) × (r ≡ outcome code.NoSuch 0)
-TakesEvent (Some event) old new r = TellsEvent event old new r
+abbrev pub TakesEvent : Option Event → ℕ → Watch Global → Watch Global → Outcome → Type 0
+TakesEvent None bound old new r = (new ≡ old) × (r ≡ outcome code.NoSuch 0)
+TakesEvent (Some event) bound old new r = TellsEvent event bound old new r
 
 -- a call works on the watch that a handle holds, and leaves it there; where none is held it answers
 -- so, and still none is held

@@ -83,13 +83,8 @@ fn told_outcome(told: Result<Seen, Full>) -> Outcome
 }
 
 /// Takes the event that is named, if one is.
-fn taken(
-    alloc: Global,
-    watch: &mut Kept,
-    event: Option<Event>,
-    configurations: u64,
-) -> Outcome
-    ensures { TakesEvent event watch.old watch.new result }
+fn taken(alloc: Global, watch: &mut Kept, event: Option<Event>, configurations: u64) -> Outcome
+    ensures { TakesEvent event configurations watch.old watch.new result }
 {
     match event {
         Some(event) => told_outcome(watch.event(alloc, event, configurations as usize)),
@@ -111,7 +106,7 @@ pub extern "C" fn torusmem_watch_issue(
     first: u64,
     second: u64,
 ) -> Outcome
-    ensures { OnWatch (TakesEvent (issue_named number operation address first second))
+    ensures { OnWatch (TakesEvent (issue_named number operation address first second) 0)
         (held handle.old) (held handle.new) result }
 {
     match handle.watch() {
@@ -139,11 +134,16 @@ pub extern "C" fn torusmem_watch_answer(
     old: u64,
     configurations: u64,
 ) -> Outcome
-    ensures { OnWatch (TakesEvent (answer_named number has_old old)) (held handle.old)
-        (held handle.new) result }
+    ensures { OnWatch (TakesEvent (answer_named number has_old old) configurations)
+        (held handle.old) (held handle.new) result }
 {
     match handle.watch() {
-        Some(watch) => taken(alloc, watch, answer_named(number, has_old, old), configurations),
+        Some(watch) => taken(
+            alloc,
+            watch,
+            answer_named(number, has_old, old),
+            configurations,
+        ),
         None => Outcome::empty(),
     }
 }

@@ -35,7 +35,8 @@ impl<A: Allocator + Copy> Kept<A> {
             → Follows opening trace self.old → TellsSeen opening trace event self.new seen) }
         ensures same { IfErr result (λ full. (opening : List ℕ) (trace : List Event)
             → Follows opening trace self.old → Follows opening trace self.new) }
-        ensures full { IfErr result (λ full. TellsFull event full) }
+        ensures full { IfErr result (λ full. (opening : List ℕ) (trace : List Event)
+            → Follows opening trace self.old → TellsFull opening trace event bound full) }
     {
         self.watch.event(alloc, event, bound)
     }

@@ -7,6 +7,9 @@ use Rattle.torusmem_c.proofs.watching.torusmem_watch_answer.Goals as goal
 
 pub returns-in-Some : goal.returns-in-Some
 returns-in-Some c =
-    rw (c.in-Some.ensures.value)
-    (c.taken.new.watch, refl, subst (λ (e : Option Event). TakesEvent e c.in-Some.watch.now c.taken.new.watch c.taken.result)
-    c.answer_named.ensures c.taken.ensures)
+    rw (c.in-Some.ensures.value) (
+      c.taken.new.watch,
+      refl,
+      subst (λ (e : Option Event). TakesEvent e c.args.configurations c.in-Some.watch.now c.taken.new.watch c.taken.result)
+          c.answer_named.ensures c.taken.ensures,
+    )
