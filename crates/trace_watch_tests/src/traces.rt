@@ -146,6 +146,31 @@ fn bounds_are_kept(rt: HostRuntime) -> Result<(), Fail> {
     Ok(())
 }
 
+/// A swap that is answered while six others are pending on its word.
+fn beside_six_swaps(alloc: Global, bound: usize) -> Told {
+    let events = [
+        issue(0, 0, Op::Swap(1)),
+        issue(1, 0, Op::Swap(2)),
+        issue(2, 0, Op::Swap(3)),
+        issue(3, 0, Op::Swap(4)),
+        issue(4, 0, Op::Swap(5)),
+        issue(5, 0, Op::Swap(6)),
+        issue(6, 0, Op::Swap(7)),
+        read(0, 0),
+    ];
+    told_of(alloc, &events, bound)
+}
+
+#[test]
+fn bounds_above_what_is_compared(rt: HostRuntime) -> Result<(), Fail> {
+    let alloc = rt.alloc();
+    // In 1957 ways some of the six took effect, in some order; and then the answered one did, or didn't yet.
+    let most = Told::Full(7, Full::Configurations);
+    assert!(rt; beside_six_swaps(alloc, 3913) == most);
+    assert!(rt; beside_six_swaps(alloc, 3914) == Told::Taken);
+    Ok(())
+}
+
 /// What a watch tells of an answer, where an event before it was not taken.
 fn told_after(
     alloc: Global,
