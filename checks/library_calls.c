@@ -467,6 +467,95 @@ static void traces_are_refused(void) {
   MUST(order[0] == 1 && order[1] == 0 && order[2] == 2 && order[3] == 3);
 }
 
+/* Issues and answers of a watch: what they answer, of which OK is all that changes anything. */
+static torusmem_outcome issues(torusmem_watch *w, uint64_t number, uint32_t operation, uint32_t address, uint64_t first) {
+  return torusmem_watch_issue(w, number, operation, address, first, 0);
+}
+
+static torusmem_outcome says_old(torusmem_watch *w, uint64_t number, uint64_t old) {
+  return torusmem_watch_answer(w, number, 1, old, 1000);
+}
+
+static torusmem_outcome says_ok(torusmem_watch *w, uint64_t number) {
+  return torusmem_watch_answer(w, number, 0, 99, 1000);
+}
+
+static void a_watch_is_empty(torusmem_watch *w) {
+  MUST(!w->full && says(issues(w, 1, TORUSMEM_LOAD, 0, 0), TORUSMEM_EMPTY, 0) && live == 0);
+  MUST(says(says_old(w, 1, 0), TORUSMEM_EMPTY, 0) && says(says_ok(w, 1), TORUSMEM_EMPTY, 0));
+  torusmem_watch_end(w);
+  MUST(!w->full && live == 0);
+}
+
+/* Two reads beside a write, as above: the later one may not read the older word. What isn't taken changes nothing. */
+static void traces_are_watched(void) {
+  static const uint64_t opening[4] = { 3, 0, 0, 0 };
+  torusmem_watch w = TORUSMEM_WATCH_INIT, moved;
+  a_watch_is_empty(&w);
+  MUST(says(torusmem_watch_begin(&w, opening, 4), TORUSMEM_OK, 0) && w.full && live > 0);
+  MUST(says(torusmem_watch_begin(&w, opening, 4), TORUSMEM_FULL, 0) && w.full);
+  MUST(says(issues(&w, 7, TORUSMEM_STORE, 1, 1), TORUSMEM_OK, 0));
+  MUST(says(issues(&w, 7, TORUSMEM_LOAD, 1, 0), TORUSMEM_NONE, 0));
+  MUST(says(issues(&w, 6, TORUSMEM_LOAD, 1, 0), TORUSMEM_NONE, 0));
+  MUST(says(issues(&w, 8, TORUSMEM_LOAD, 4, 0), TORUSMEM_NONE, 0));
+  MUST(says(issues(&w, 8, TORUSMEM_MIN + 1, 1, 0), TORUSMEM_NONE, 0));
+  MUST(says(says_old(&w, 8, 0), TORUSMEM_NONE, 0) && says(says_ok(&w, 6), TORUSMEM_NONE, 0));
+  MUST(says(torusmem_watch_answer(&w, 7, 2, 0, 1000), TORUSMEM_NONE, 0));
+  MUST(says(issues(&w, 8, TORUSMEM_LOAD, 1, 0), TORUSMEM_OK, 0));
+  MUST(says(torusmem_watch_answer(&w, 8, 1, 1, 1), TORUSMEM_TOO_MANY, 0));
+  MUST(says(says_old(&w, 8, 2), TORUSMEM_NOT_LINEARIZABLE, 0) && says(says_old(&w, 8, 1), TORUSMEM_OK, 0));
+  MUST(says(says_old(&w, 8, 1), TORUSMEM_NONE, 0));
+  moved = w;
+  MUST(says(issues(&moved, UINT64_MAX, TORUSMEM_LOAD, 1, 0), TORUSMEM_OK, 0));
+  MUST(says(says_old(&moved, UINT64_MAX, 0), TORUSMEM_NOT_LINEARIZABLE, 0));
+  MUST(says(says_ok(&moved, 7), TORUSMEM_OK, 0) && says(says_old(&moved, UINT64_MAX, 1), TORUSMEM_OK, 0));
+  torusmem_watch_end(&moved);
+  a_watch_is_empty(&moved);
+  MUST(says(torusmem_watch_begin(&moved, NULL, 0), TORUSMEM_OK, 0));
+  MUST(says(issues(&moved, 1, TORUSMEM_LOAD, 0, 0), TORUSMEM_NONE, 0));
+  torusmem_watch_end(&moved);
+  a_watch_is_empty(&moved);
+}
+
+/* Every operation, by its reply and the word that it leaves. */
+static void operations_are_watched(void) {
+  static const struct { uint64_t first, second, old, left; } made[TORUSMEM_MIN + 1] = {
+    { 0, 0, 6, 6 }, { 9, 0, 0, 9 }, { 5, 0, 9, 5 }, { 5, 8, 5, 8 }, { 4, 0, 8, 12 },
+    { 10, 0, 12, 8 }, { 3, 0, 8, 11 }, { 1, 0, 11, 10 }, { 20, 0, 10, 20 }, { 2, 0, 20, 2 }
+  };
+  const uint64_t six = 6;
+  uint64_t number = 0;
+  torusmem_watch w = TORUSMEM_WATCH_INIT;
+  MUST(says(torusmem_watch_begin(&w, &six, 1), TORUSMEM_OK, 0));
+  for (uint32_t it = 0; it <= TORUSMEM_MIN; it++) {
+    MUST(says(torusmem_watch_issue(&w, number, it, 0, made[it].first, made[it].second), TORUSMEM_OK, 0));
+    MUST(says(it == TORUSMEM_STORE ? says_ok(&w, number) : says_old(&w, number, made[it].old), TORUSMEM_OK, 0));
+    MUST(says(issues(&w, number + 1, TORUSMEM_LOAD, 0, 0), TORUSMEM_OK, 0));
+    MUST(says(says_old(&w, number + 1, made[it].left), TORUSMEM_OK, 0));
+    number += 2;
+  }
+  torusmem_watch_end(&w);
+  MUST(live == 0);
+}
+
+/* Blocks of memory are as many after 20,000 operations as after 20. */
+static void memory_of_a_watch_stays(void) {
+  const uint64_t zero = 0;
+  int64_t early = 0;
+  torusmem_watch w = TORUSMEM_WATCH_INIT;
+  MUST(says(torusmem_watch_begin(&w, &zero, 1), TORUSMEM_OK, 0));
+  for (uint64_t it = 0; it < 10000; it++) {
+    bool taken = issues(&w, 2 * it, TORUSMEM_ADD, 0, 1).code == TORUSMEM_OK;
+    taken = taken && issues(&w, 2 * it + 1, TORUSMEM_ADD, 0, 1).code == TORUSMEM_OK;
+    taken = taken && says_old(&w, 2 * it + 1, 2 * it).code == TORUSMEM_OK;
+    MUST(taken && says(says_old(&w, 2 * it, 2 * it + 1), TORUSMEM_OK, 0));
+    if (it == 10) early = live;
+  }
+  MUST(early > 0 && live == early);
+  torusmem_watch_end(&w);
+  MUST(live == 0);
+}
+
 static void codes(void) {
   torusmem_machine m = TORUSMEM_MACHINE_INIT, moved = TORUSMEM_MACHINE_INIT, other = TORUSMEM_MACHINE_INIT;
   every_call_says_empty(&m);
@@ -477,6 +566,9 @@ static void codes(void) {
   spins_run_out(&other);
   traces_of_a_register();
   traces_are_refused();
+  traces_are_watched();
+  operations_are_watched();
+  memory_of_a_watch_stays();
   MUST(says(load(&m), TORUSMEM_OK, 0) && m.full);
   what_is_not_there(&m);
   MUST(says(torusmem_step(&m, 0, TORUSMEM_SEND, 99), TORUSMEM_OK, 1));
@@ -529,6 +621,30 @@ static void judge_with_little_memory(void) {
   torusmem_free(&m);
 }
 
+/* A watch, for which memory may be refused: what isn't taken is taken once there is memory. */
+static void watch_with_little_memory(void) {
+  const uint64_t zero = 0;
+  uint64_t kept = refused;
+  torusmem_watch w = TORUSMEM_WATCH_INIT;
+  torusmem_outcome said = torusmem_watch_begin(&w, &zero, 1);
+  if (said.code != TORUSMEM_OK) {
+    MUST(says(said, TORUSMEM_FAULT_MEMORY, 0) && !w.full && live == 0);
+    return;
+  }
+  for (int event = 0; event < 4; event++) {
+    for (int again = 0; again < 2; again++) {
+      said = event < 2 ? issues(&w, (uint64_t)event, TORUSMEM_ADD, 0, 1)
+                       : says_old(&w, (uint64_t)(3 - event), (uint64_t)(event - 2));
+      if (said.code == TORUSMEM_OK) break;
+      MUST(says(said, TORUSMEM_FAULT_MEMORY, 0) && refused != 0 && again == 0);
+      refused = 0;
+    }
+    refused = kept;
+  }
+  torusmem_watch_end(&w);
+  MUST(!w.full && live == 0);
+}
+
 /* A run in which a request for memory may be refused: each call works or says so, and what is asked again once there
    is memory is as it has to be. */
 static void run_with_little_memory(void) {
@@ -538,6 +654,8 @@ static void run_with_little_memory(void) {
   explain_with_little_memory();
   MUST(live == 0);
   judge_with_little_memory();
+  MUST(live == 0);
+  watch_with_little_memory();
   MUST(live == 0);
   said = load(&m);
   if (said.code != TORUSMEM_OK) {

@@ -6,7 +6,9 @@
 
    MEMORY. torusmem_load takes what the machine needs, and torusmem_free gives it back; torusmem_report, torusmem_check,
    torusmem_explain, torusmem_spins_out, torusmem_network and torusmem_linearize take some, and give all of it back
-   before they return. No other call takes any.
+   before they return. torusmem_watch_begin takes what a watch needs at first, torusmem_watch_issue and
+   torusmem_watch_answer take and give back what follows the open operations, and torusmem_watch_end gives all of it
+   back. No other call takes any.
 
    Link libtorusmem_c.a and torusmem_heap.c; or what `make install` makes of them, libtorusmem.so or libtorusmem.a, as
    `pkg-config --cflags --libs torusmem` says. In both of these are the three functions of torusmem_heap.c; those that a
@@ -14,11 +16,12 @@
 
    WHAT THE CALLER OWES. Nothing checks it, and without it nothing that is said here holds.
    - Each `m` points to a torusmem_machine that was begun by TORUSMEM_MACHINE_INIT and since then changed by calls of
-     this library alone. Its bytes may move, if they are not used in the old place again; they are never doubled.
+     this library alone. Its bytes may move, if they are not used in the old place again; they are never doubled. So it
+     is with each `w`, a torusmem_watch that was begun by TORUSMEM_WATCH_INIT.
    - Each pointer that comes with a length points to that many readable bytes or items. Where the length is 0 it may be
      any, also null. Texts, attempts, events and opening words are only read, and may overlap or be one and the same;
-     what `out` points to is writable. None of them has a byte of the machine.
-   - One call at a time for each machine, and all calls for it from one thread. Machines share nothing.
+     what `out` points to is writable. None of them has a byte of the machine or watch.
+   - One call at a time for each machine and watch, and all calls for it from one thread. They share nothing.
    - malloc, realloc and free, which torusmem_heap.c calls, are of one allocator and align each block to every power of
      two up to 16 that divides its size. No call comes from a signal handler, nor in the child that a process with
      threads forked.
@@ -56,13 +59,13 @@ enum {
      value is 0. */
   TORUSMEM_FAULT_MEMORY = 12,
   TORUSMEM_BAD_REPORT = 15, /* value: the first bad line, from 1 */
-  TORUSMEM_EMPTY = 16,      /* no machine is held: none was loaded, or it was freed */
-  TORUSMEM_FULL = 17,       /* a machine is held already: free it first */
+  TORUSMEM_EMPTY = 16,      /* no machine is held: none was loaded, or it was freed; or no watch is */
+  TORUSMEM_FULL = 17,       /* a machine is held already: free it first; or a watch is: end it first */
   TORUSMEM_NONE = 18,       /* there is no such tile, address, place or index */
   TORUSMEM_SHORT = 19,      /* the buffer is too short; value: how long it has to be */
   TORUSMEM_NO_ROUTE = 20,   /* a pair of a network has no route; value: the length of the verdict's text */
   TORUSMEM_CYCLE = 21,      /* a network can lock up: there is a cycle; value: the length of the verdict's text */
-  /* Of a trace; value: the event, from 0. */
+  /* Of a trace; value: the event, from 0; of a watch, which is given one event at a time: 0. */
   TORUSMEM_NOT_LINEARIZABLE = 22, /* no order explains it up to this event */
   TORUSMEM_TOO_MANY = 23, /* it isn't decided: at this answer a word has more configurations than were allowed */
   TORUSMEM_TOO_OPEN = 24  /* it isn't decided: at this issue 64 other operations are open on its word */
@@ -301,7 +304,40 @@ typedef struct torusmem_event {
 torusmem_outcome torusmem_linearize(const uint64_t *opening, size_t opening_length, const torusmem_event *events,
                                     size_t events_length, uint64_t configurations, uint64_t *out, size_t out_length);
 
-/* The library's own calls take no null pointer. So a C program that calls one of the ten below has a call in front of
+/* A watch of a trace that goes on: what torusmem_linearize judges at the end, it judges at each event, so that a host
+   checks itself while it runs. Its memory follows the operations that are open, and not the length of the trace. Room
+   for a watch is the caller's, as that of a machine: begun by TORUSMEM_WATCH_INIT, then changed by calls alone. */
+typedef struct torusmem_watch {
+  bool full;
+  void *at;
+} torusmem_watch;
+#define TORUSMEM_WATCH_INIT { false, NULL }
+
+/* Begins a watch of a trace, before its first event, over a memory that opens with these words. Each address is below
+   opening_length. OK; FULL; FAULT_MEMORY. On anything but OK, *w is as it was. The words may go after the call. */
+torusmem_outcome torusmem_watch_begin(torusmem_watch *w, const uint64_t *opening, size_t opening_length);
+
+/* Takes the next event, the issue of an operation, TORUSMEM_LOAD .. TORUSMEM_MIN with its values as in a
+   torusmem_event. number: any that is above the numbers of all operations that were issued before; its answer names it.
+   OK: the event is taken. Else it isn't, and the watch goes on as if it had not been given:
+   NONE: there is no such operation or address, or the number isn't above the last one; FAULT_MEMORY; EMPTY. */
+torusmem_outcome torusmem_watch_issue(torusmem_watch *w, uint64_t number, uint32_t operation, uint32_t address,
+                                      uint64_t first, uint64_t second);
+
+/* Takes the next event, the answer to the operation of a number: has_old is 1 for an old word, 0 for `ok`, that of a
+   store. configurations: how many of its word are looked at, at once; 1000000 is what the program takes.
+   OK: the event is taken, and one order explains the trace with it. Else it isn't taken, and the watch goes on as if it
+   had not been given:
+   NOT_LINEARIZABLE: with this event no order explains the trace any more, and without it one does.
+   TOO_MANY: it isn't decided, since its word has more configurations; FAULT_MEMORY.
+   NONE: no operation of this number is open, or has_old is neither 0 nor 1; EMPTY. */
+torusmem_outcome torusmem_watch_answer(torusmem_watch *w, uint64_t number, uint32_t has_old, uint64_t old,
+                                       uint64_t configurations);
+
+/* Ends the watch that *w holds, if any, and gives its memory back. It may be begun again then. */
+void torusmem_watch_end(torusmem_watch *w);
+
+/* The library's own calls take no null pointer. So a C program that calls one of the eleven below has a call in front of
    it, by which a pointer with the length 0 becomes one to an item that is not looked at. */
 static inline const uint8_t *torusmem_text_at(const uint8_t *at, size_t length) {
   static const uint8_t none = 0;
@@ -377,6 +413,13 @@ static inline torusmem_outcome torusmem_linearize_events(const uint64_t *opening
                             out_length > 0 ? out : &none, out_length);
 }
 #define torusmem_linearize torusmem_linearize_events
+
+static inline torusmem_outcome torusmem_watch_begin_at(torusmem_watch *w, const uint64_t *opening,
+                                                       size_t opening_length) {
+  static const uint64_t none = 0;
+  return torusmem_watch_begin(w, opening_length > 0 ? opening : &none, opening_length);
+}
+#define torusmem_watch_begin torusmem_watch_begin_at
 
 static inline torusmem_outcome torusmem_route_into(torusmem_machine *m, uint32_t src, uint32_t dst, uint32_t reply,
                                                    torusmem_channel *out, size_t out_length) {

@@ -12,3 +12,4 @@ pub mod Networks
 pub mod Explained
 pub mod Spins
 pub mod Traces
+pub mod Watching

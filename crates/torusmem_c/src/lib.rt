@@ -14,3 +14,4 @@ pub mod spinning;
 pub mod stepping;
 pub mod texts;
 pub mod traces;
+pub mod watching;

@@ -24,7 +24,7 @@ pub struct EventRecord {
 }
 
 /// The operation of a number, with these values; `None` exactly where none has it.
-fn op_numbered(number: u32, first: u64, second: u64) -> Option<Op>
+pub fn op_numbered(number: u32, first: u64, second: u64) -> Option<Op>
     ensures { result ≡ op_numbered number first second }
 {
     match number {
@@ -43,7 +43,7 @@ fn op_numbered(number: u32, first: u64, second: u64) -> Option<Op>
 }
 
 /// The reply that is `ok` or an old word; `None` exactly where it is neither.
-fn reply_numbered(has_old: u32, old: u64) -> Option<Reply>
+pub fn reply_numbered(has_old: u32, old: u64) -> Option<Reply>
     ensures { result ≡ reply_numbered has_old old }
 {
     match has_old {

@@ -2,7 +2,10 @@ pub mod Events
 pub mod Quiet
 pub mod Effects
 pub mod Walk
+pub mod Sifting
 pub mod Growth
 pub mod Loops
+pub mod Beginning
 pub mod Watching
+pub mod Crowding
 pub mod Answering

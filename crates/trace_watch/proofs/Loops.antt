@@ -8,7 +8,8 @@ use Rattle.trace_watch.specs.declared.state.Effect.{Effect}
 use Rattle.trace_watch.specs.declared.state.State.{State}
 use Rattle.trace_watch.specs.States.{Config, IsWithout, AreReleased, after, config_of, configs_of}
 use Rattle.trace_watch.specs.Closed.{GoesOn, IsOneMore, Expands, Copies, Closes}
-use Rattle.trace_watch.proofs.Growth.{get_config, configs_push, long_configs, expands_nothing, expands_one, Copying, copying_more, copying_all, Closing, closing_skip, closing_expand, closing_all, Keeping, this, keeping_skip, keeping_push, keeping_all}
+use Rattle.trace_watch.proofs.Growth.{get_config, configs_push, long_configs, expands_nothing, expands_one, Copying, copying_more, copying_all, Closing, closing_skip, closing_expand, closing_all}
+use Rattle.trace_watch.proofs.Sifting.{Keeping, this, keeping_skip, keeping_push, keeping_all}
 
 -- what stands at a place, as the code reads it
 pub index_there : {A : Type 0} (xs : List A) (k : ℕ) (x : A) → k < length xs → x ≡ get_or xs k x

@@ -1,6 +1,7 @@
 -- What a watch knows of the trace so far, and what it says of an event.
 use Rattle.std.specs.Prelude.{◌≡◌, ◌<◌, ◌++◌, ◌∷◌, ℕ, [], List, Vec, length, map, slice_index_or}
 use Rattle.packet.specs.declared.kinds.Reply.{Reply}
+use Rattle.trace_order.specs.declared.event.Call.{Call}
 use Rattle.trace_order.specs.declared.event.Event.{Event}
 use Rattle.trace_order.specs.declared.event.Event.TheVariants.{Answer}
 use Rattle.trace_order.specs.Traces.{IsTrace}
@@ -13,7 +14,8 @@ use Rattle.trace_watch.specs.declared.watch.Seen.TheVariants.{Linearizable, NotL
 use Rattle.trace_watch.specs.declared.watch.Full.{Full}
 use Rattle.trace_watch.specs.declared.watch.Full.TheVariants.{Memory, Configurations}
 use Rattle.trace_watch.specs.States.{Config, configs_of}
-use Rattle.trace_watch.specs.Known.{Knows, ArePending, IsNewest}
+use Rattle.trace_watch.specs.Known.{Knows, AreExplained, ArePending, IsNewest, IsPending}
+use Rattle.trace_watch.specs.Crowds.{IsCrowd}
 
 -- what there is of each word
 abbrev pub states_of : {A : Type 0} → List (Vec (State A) A) → ℕ → List Config
@@ -42,7 +44,24 @@ TellsSeen opening trace event watch NotLinearizable = Follows opening trace watc
 TellsSeen opening trace event watch NoTrace = Follows opening trace watch
     × (IsTrace (length opening) (trace ++ event ∷ []) → ⊥)
 
--- an event that isn't decided is an answer, or memory was refused
-abbrev pub TellsFull : Event → Full → Type 0
-TellsFull event Memory = Unit {0}
-TellsFull event Configurations = (id : ℕ) × (reply : Reply) × (event ≡ Answer id reply)
+-- a word has more configurations than so many, or more than 1024: orders lead to them, and no two
+-- say the same
+pub record HasMany (opening : List ℕ) (trace : List Event) (w bound : ℕ) : Type 0 where
+  pub configs : List Config
+  pub explained : AreExplained opening trace w configs
+  pub crowd : IsCrowd bound configs
+
+-- an event that isn't decided answers an open operation on a word that has too many configurations
+-- before the answer
+pub record AnswersMany (opening : List ℕ) (trace : List Event) (event : Event) (bound : ℕ) : Type 0
+  where
+    pub call : Call
+    pub pending : IsPending trace call
+    pub reply : Reply
+    pub answer : event ≡ Answer call.id reply
+    pub many : HasMany opening trace call.operation.address bound
+
+-- it is such an answer, or memory was refused
+abbrev pub TellsFull : List ℕ → List Event → Event → ℕ → Full → Type 0
+TellsFull opening trace event bound Memory = Unit {0}
+TellsFull opening trace event bound Configurations = AnswersMany opening trace event bound

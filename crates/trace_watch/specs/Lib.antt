@@ -1,4 +1,5 @@
 pub mod States
 pub mod Known
 pub mod Closed
+pub mod Crowds
 pub mod Follows

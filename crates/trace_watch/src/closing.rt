@@ -1,10 +1,14 @@
 //! Lets open operations take effect, until the answered one has.
 
-ghost use Rattle.std.specs.Prelude.{◌≡◌, ◌<◌, ℕ, [], ◌∷◌, ◌++◌, Some, IfOk, OnOk, length, slice_get};
+ghost use Rattle.std.specs.Prelude.{◌≡◌, ◌<◌, ℕ, List, [], ◌∷◌, ◌++◌, Some, IfErr, IfOk, OnOk, length, slice_get};
+ghost use Rattle.trace_order.specs.declared.event.Call.{Call};
 ghost use Rattle.trace_search.specs.Configs.{IsIn};
 ghost use Rattle.trace_watch.specs.States.{Config, AreReleased, IsAmong, IsExpanded, config_of, configs_of};
+ghost use Rattle.trace_watch.specs.declared.watch.Full.TheVariants.{Configurations};
+ghost use Rattle.trace_watch.specs.Crowds.{GivesUp, IsCrowd, IsOverfull};
 ghost use Rattle.trace_watch.specs.Closed.{GoesOn, Expands, Copies, Closes, IsAnsweredBy, IsOneMore};
 
+use crate::crowds::are_too_many;
 use crate::index::{Index, empty_index};
 use crate::state::{Effect, State, after, copy_of, has_effect, is_in, without};
 use crate::watch::Full;
@@ -27,17 +31,20 @@ fn add<A: Allocator + Copy>(
     state: State<A>,
     bound: usize,
 ) -> Result<(), Full>
-    ensures { OnOk result
+    ensures added { OnOk result
         (IsOneMore (configs_of found.old.items) (config_of state) (configs_of found.new.items)) }
+    ensures full { IfErr result (λ full. full ≡ Configurations
+        → IsOneMore (configs_of found.old.items) (config_of state) (configs_of found.new.items)
+        × IsCrowd bound (configs_of found.new.items)) }
 {
     let Some(place) = index.place_for(found, &state) else {
         return Ok(());
     };
-    if found.len() >= bound {
-        return Err(Full::Configurations);
-    }
     index.note(place)?;
     push(found, state)?;
+    if are_too_many(found, bound) {
+        return Err(Full::Configurations);
+    }
     Ok(())
 }
 
@@ -51,8 +58,10 @@ fn attempt<A: Allocator + Copy>(
     bound: usize,
 ) -> Result<(), Full>
     requires { at < length found.old.items }
-    ensures { OnOk result
+    ensures expands { OnOk result
         (Expands at (call ∷ []) (configs_of found.old.items) (configs_of found.new.items)) }
+    ensures full { IfErr result (λ full. full ≡ Configurations
+        → GivesUp (call ∷ []) bound (configs_of found.old.items) (configs_of found.new.items)) }
 {
     let state = &found[at];
     if has_effect(&state.effects, call.id) {
@@ -73,8 +82,10 @@ fn expand<A: Allocator + Copy>(
     bound: usize,
 ) -> Result<(), Full>
     requires { at < length found.old.items }
-    ensures { OnOk result
+    ensures expands { OnOk result
         (Expands at calls.now (configs_of found.old.items) (configs_of found.new.items)) }
+    ensures full { IfErr result (λ full. full ≡ Configurations
+        → GivesUp calls.now bound (configs_of found.old.items) (configs_of found.new.items)) }
 {
     for i in 0..calls.len() {
         attempt(alloc, found, index, at, calls[i], bound)?;
@@ -89,7 +100,9 @@ fn copies<A: Allocator + Copy>(
     index: &mut Index<A>,
     bound: usize,
 ) -> Result<Vec<State<A>, A>, Full>
-    ensures { IfOk result (λ v. Copies (configs_of states.now) (configs_of v.items)) }
+    ensures copies { IfOk result (λ v. Copies (configs_of states.now) (configs_of v.items)) }
+    ensures full { IfErr result (λ full. full ≡ Configurations → (calls : List Call)
+        → IsOverfull calls bound (configs_of states.now)) }
 {
     let mut found = Vec::new(alloc);
     for i in 0..states.len() {
@@ -111,10 +124,13 @@ fn close<A: Allocator + Copy>(
     id: u64,
     bound: usize,
 ) -> Result<Vec<State<A>, A>, Full>
-    ensures { IfOk result (λ v. Closes id calls.now (configs_of states.now) (configs_of v.items)) }
+    ensures closes { IfOk result (λ v. Closes id calls.now (configs_of states.now)
+        (configs_of v.items)) }
+    ensures full { IfErr result (λ full. full ≡ Configurations
+        → IsOverfull calls.now bound (configs_of states.now)) }
 {
     let mut found = copies(alloc, states, index, bound)?;
-    for next in 0..bound {
+    for next in 0..usize::MAX {
         if next >= found.len() {
             return Ok(found);
         }
@@ -124,10 +140,8 @@ fn close<A: Allocator + Copy>(
             expand(alloc, &mut found, index, next, calls, bound)?;
         }
     }
-    if found.len() > bound {
-        return Err(Full::Configurations);
-    }
-    Ok(found)
+    // No memory has room for so many.
+    Err(Full::Memory)
 }
 
 /// The states in which the operation of this number has replied so, without it.
@@ -159,8 +173,10 @@ pub(crate) fn answered<A: Allocator + Copy>(
     reply: Reply,
     bound: usize,
 ) -> Result<Vec<State<A>, A>, Full>
-    ensures { IfOk result (λ v. IsAnsweredBy id reply calls.now (configs_of states.now)
+    ensures answered { IfOk result (λ v. IsAnsweredBy id reply calls.now (configs_of states.now)
         (configs_of v.items)) }
+    ensures full { IfErr result (λ full. full ≡ Configurations
+        → IsOverfull calls.now bound (configs_of states.now)) }
 {
     let mut index = empty_index(alloc)?;
     let found = close(alloc, states, &mut index, calls, id, bound)?;

@@ -3,6 +3,7 @@
 #![tactic(auto)]
 
 mod closing;
+mod crowds;
 mod index;
 mod pending;
 pub mod state;

@@ -76,6 +76,31 @@ pub(crate) fn is_like<A: Allocator>(one: &State<A>, other: &State<A>) -> bool
     one.word == other.word && are_same(&one.effects, &other.effects)
 }
 
+/// Whether some effects have one that others don't have.
+fn has_more(some: &[Effect], others: &[Effect]) -> bool
+    ensures { result ≡ true → (e : Effect) × IsIn some.now e × (IsIn others.now e → ⊥) }
+{
+    for i in 0..some.len() {
+        if !is_in(others, some[i]) {
+            return true;
+        }
+    }
+    false
+}
+
+/// Whether two states don't say the same.
+pub(crate) fn is_unlike<A: Allocator>(one: &State<A>, other: &State<A>) -> bool
+    ensures { result ≡ true → IsLike (config_of one.now) (config_of other.now) → ⊥ }
+{
+    if one.word != other.word {
+        return true;
+    }
+    if has_more(&one.effects, &other.effects) {
+        return true;
+    }
+    has_more(&other.effects, &one.effects)
+}
+
 /// The same effects.
 fn copied<A: Allocator>(alloc: A, effects: &[Effect]) -> Result<Vec<Effect, A>, AllocError>
     ensures { IfOk result (λ v. v.items ≡ effects.now) }

@@ -127,6 +127,9 @@ impl<A: Allocator + Copy> Watch<A> {
             → TellsSeen opening trace (Answer id reply) self.new seen) }
         ensures same { IfErr result (λ full. (opening : List ℕ) (trace : List Event)
             → Follows opening trace self.old → Follows opening trace self.new) }
+        ensures full { IfErr result (λ full. (opening : List ℕ) (trace : List Event)
+            → Follows opening trace self.old
+            → TellsFull opening trace (Answer id reply) bound full) }
     {
         let Some(call) = call_of(&self.pending, id) else {
             return Ok(Seen::NoTrace);
@@ -153,7 +156,8 @@ impl<A: Allocator + Copy> Watch<A> {
             → Follows opening trace self.old → TellsSeen opening trace event self.new seen) }
         ensures same { IfErr result (λ full. (opening : List ℕ) (trace : List Event)
             → Follows opening trace self.old → Follows opening trace self.new) }
-        ensures full { IfErr result (λ full. TellsFull event full) }
+        ensures full { IfErr result (λ full. (opening : List ℕ) (trace : List Event)
+            → Follows opening trace self.old → TellsFull opening trace event bound full) }
     {
         match event {
             Event::Issue(call) => self.issue(alloc, call),

@@ -15,7 +15,7 @@ import warnings
 import torusmem
 from torusmem import Answer, Answered, BadReport, Channel, Choice, Closed, Cycle, Entry, EventFault, Issued, Kind
 from torusmem import Linearizable, Link, Machine, NoRoute, NotLinearizable, Operation, Rising, Spin, TextFault
-from torusmem import Undecided, WrongThread, linearize, network
+from torusmem import TooMany, Undecided, Watch, WrongThread, linearize, network
 
 ROOT = os.path.dirname(os.path.dirname(os.path.dirname(os.path.dirname(os.path.realpath(__file__)))))
 EXAMPLES = os.path.join(ROOT, "examples")
@@ -400,6 +400,72 @@ class Traces(unittest.TestCase):
         self.assertRaises(ValueError, linearize, [self.LOAD], {2**63: -1})
 
 
+class Watches(unittest.TestCase):
+    def test_traces_are_watched(self):
+        watch = Watch([0, 5])
+        self.assertRaises(IndexError, watch.issue, Operation.LOAD, 2)
+        store, load = watch.issue(Operation.STORE, 0, 1), watch.issue(Operation.LOAD, 0)
+        self.assertEqual((store, load), (0, 1))
+        self.assertRaises(TooMany, watch.answer, load, 1, 1)
+        self.assertRaises(IndexError, watch.answer, 2, 0)
+        self.assertEqual([watch.answer(load, 2), watch.answer(load, 1)], [False, True])
+        self.assertRaises(IndexError, watch.answer, load, 1)
+        later = watch.issue(Operation.LOAD, 0)
+        self.assertEqual([watch.answer(later, 0), watch.answer(store), watch.answer(later, 1)], [False, True, True])
+        cas = watch.issue(Operation.CAS, 1, 5, 6)
+        self.assertEqual([watch.answer(cas, 6), watch.answer(cas, 5)], [False, True])
+        for bad in (lambda: watch.issue(Operation.STORE, 0), lambda: watch.answer(0, -1), lambda: Watch([2**64])):
+            self.assertRaises(ValueError, bad)
+        self.assertRaises(TypeError, pickle.dumps, watch)
+        self.assertEqual((watch.closed, repr(watch)), (False, "<torusmem.Watch of 4 operations>"))
+        watch.close()
+        watch.close()
+        self.assertTrue(watch.closed)
+        self.assertRaises(torusmem.Closed, watch.issue, Operation.LOAD, 0)
+
+    def test_every_operation_is_watched(self):
+        rows = {
+            "LOAD": ((), 6, 6),
+            "STORE": ((9,), None, 9),
+            "SWAP": ((5,), 9, 5),
+            "CAS": ((5, 8), 5, 8),
+            "ADD": ((4,), 8, 12),
+            "AND": ((10,), 12, 8),
+            "OR": ((3,), 8, 11),
+            "XOR": ((1,), 11, 10),
+            "MAX": ((20,), 10, 20),
+            "MIN": ((2,), 20, 2),
+        }
+        with Watch([6]) as watch:
+            for name, (values, old, left) in rows.items():
+                self.assertTrue(watch.answer(watch.issue(Operation[name], 0, *values), old), name)
+                self.assertTrue(watch.answer(watch.issue(Operation.LOAD, 0), left), name)
+
+    def test_a_watch_stays_in_its_thread(self):
+        watch, seen = Watch([0]), []
+
+        def elsewhere():
+            for call in (watch.close, lambda: watch.issue(Operation.LOAD, 0), lambda: watch.answer(0, 0)):
+                try:
+                    seen.append(call())
+                except WrongThread as why:
+                    seen.append(type(why))
+
+        thread = threading.Thread(target=elsewhere)
+        thread.start()
+        thread.join()
+        self.assertEqual(seen, [WrongThread] * 3)
+        self.assertTrue(watch.answer(watch.issue(Operation.LOAD, 0), 0))
+
+    def test_a_long_trace_takes_no_more_memory(self):
+        with Watch([0]) as watch:
+            for it in range(0, 20000, 2):
+                one, other = watch.issue(Operation.ADD, 0, 1), watch.issue(Operation.ADD, 0, 1)
+                self.assertTrue(watch.answer(other, it) and watch.answer(one, it + 1))
+        with open("/proc/self/statm", encoding="ascii") as file:
+            self.assertLess(int(file.read().split()[1]) * os.sysconf("SC_PAGESIZE"), 150_000_000)
+
+
 class Threads(unittest.TestCase):
     def test_a_machine_stays_in_its_thread(self):
         machine, seen = first(), []
@@ -467,7 +533,7 @@ class Words(unittest.TestCase):
             it = getattr(torusmem, name)
             names = ("EVENT_REASONS", "Event", "Judged", "NETWORK_REASONS", "REASONS", "Verdict")
             self.assertTrue(name in names or it.__doc__, name)
-        for name, it in vars(Machine).items():
+        for name, it in {**vars(Machine), **vars(Watch)}.items():
             self.assertTrue(name.startswith("_") or (getattr(it, "__func__", it).__doc__), name)
 
     def test_the_numbers_are_those_of_the_header(self):

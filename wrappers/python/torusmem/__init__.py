@@ -17,7 +17,8 @@ Texts, agents, choices, channels and reports are those of docs/FORMATS.md. Tile 
 the reason: TextFault, BadReport.
 
 network() judges any network that is written down: whether its packets arrive, and whether it can lock up. linearize()
-finds the one order that explains a trace of calls and answers, or the event from which on there is none.
+finds the one order that explains a trace of calls and answers, or the event from which on there is none. A Watch judges
+a trace event by event, while it goes on.
 
 The library beneath is proved; this package, which only passes numbers and texts on, is tested.
 """
@@ -65,8 +66,10 @@ __all__ = [
     "Spin",
     "Steps",
     "TextFault",
+    "TooMany",
     "Undecided",
     "Verdict",
+    "Watch",
     "WrongThread",
     "check",
     "linearize",
@@ -159,11 +162,15 @@ class EventFault(ValueError):
 
 
 class Closed(ValueError):
-    """The machine is closed."""
+    """The machine or watch is closed."""
 
 
 class WrongThread(RuntimeError):
-    """The machine was made in another thread, and stays there."""
+    """The machine or watch was made in another thread, and stays there."""
+
+
+class TooMany(RuntimeError):
+    """An answer isn't decided, since its word has more configurations than were allowed; the watch hasn't taken it."""
 
 
 class Choice(IntEnum):
@@ -744,6 +751,97 @@ def linearize(
     if said.code == _library.FAULT_MEMORY:
         raise MemoryError(f"torusmem: {REASONS[12]} (F12)")
     raise EventFault(said.value, said.code)
+
+
+class Watch:
+    """A watch of a trace that goes on: what linearize() judges at the end, it judges at each event, so that a host checks
+    itself while it runs. Its memory follows the operations that are open. opening: the words by address, from 0; there
+    are no other addresses.
+
+    All calls must come from the thread in which it was made: others are refused (WrongThread). `with` or close() gives
+    its memory back, and so does dropping it in its thread.
+
+        >>> from torusmem import Operation, Watch
+        >>> with Watch([0] * 8) as watch:
+        ...     store, load = watch.issue(Operation.STORE, 5, 17), watch.issue(Operation.LOAD, 5)
+        ...     first, later = watch.answer(load, 17), watch.issue(Operation.LOAD, 5)
+        ...     print(first, watch.answer(later, 0), watch.answer(later, 17), watch.answer(store))
+        True False True True
+    """
+
+    def __init__(self, opening: Iterable[int]) -> None:
+        words = [_word(it, "an opening word") for it in opening]
+        self._calls = _library.library()
+        self._owner = _thread()
+        self._held = _library.Held(False, None)
+        self._at = byref(self._held)
+        self._next = 0
+        self._taken(self._calls.watch_begin(self._at, (c_uint64 * (len(words) or 1))(*words), len(words)), "watch")
+
+    def _here(self) -> Any:
+        """Where the watch is, for a call from its own thread."""
+        if _thread() is not self._owner:
+            raise WrongThread("a watch stays in the thread that made it")
+        return self._at
+
+    def _taken(self, said: Any, what: str) -> bool:
+        """Whether the event is taken; an exception says why it isn't judged."""
+        if said.code in (_library.OK, _library.NOT_LINEARIZABLE):
+            return bool(said.code == _library.OK)
+        if said.code == _library.EMPTY:
+            raise Closed("the watch is closed")
+        if said.code == _library.FAULT_MEMORY:
+            raise MemoryError(f"torusmem: {REASONS[12]} (F12)")
+        if said.code == _library.TOO_MANY:
+            raise TooMany("a word has more configurations than were allowed")
+        raise IndexError(f"there is no {what}")
+
+    def issue(self, operation: Operation, address: int, *values: int) -> int:
+        """Takes the issue of an operation, with none of a load, expected and new of a cas, else one value. Its number,
+        by which its answer names it."""
+        if len(values) != _VALUES.get(operation, 1):
+            raise ValueError(f"{Operation(operation).name} doesn't have the values {values!r}")
+        first, second = ([_word(it, "a value") for it in values] + [0, 0])[:2]
+        asked = _number(operation, "an operation"), _number(address, "address"), first, second
+        self._taken(self._calls.watch_issue(self._here(), self._next, *asked), f"address {address}")
+        self._next += 1
+        return self._next - 1
+
+    def answer(self, number: int, old: Optional[int] = None, configurations: int = 1_000_000) -> bool:
+        """Takes the answer to the operation of a number, whose old word is None of a store; whether one order explains
+        the trace with it. Where none does the answer isn't taken, and the watch goes on as if it had not been given; so
+        it is where more configurations of the word than these would be looked at, at once (TooMany)."""
+        has_old, word = (0, 0) if old is None else (1, _word(old, "an old word"))
+        told = _word(number, "a number"), has_old, word, _word(configurations, "configurations")
+        return self._taken(self._calls.watch_answer(self._here(), *told), f"open operation {number}")
+
+    @property
+    def closed(self) -> bool:
+        """Whether it is closed."""
+        return not self._held.full
+
+    def close(self) -> None:
+        """Gives its memory back. A second time nothing happens."""
+        self._calls.watch_end(self._here())
+
+    def __enter__(self) -> Watch:
+        return self
+
+    def __exit__(self, *why: object) -> None:
+        self.close()
+
+    def __del__(self) -> None:
+        try:
+            if _thread() is self._owner:
+                self._calls.watch_end(self._at)
+        except (AttributeError, TypeError):
+            pass  # it was never begun, or Python ends
+
+    def __reduce__(self) -> NoReturn:
+        raise TypeError("a watch can't be copied or pickled")
+
+    def __repr__(self) -> str:
+        return f"<torusmem.Watch {'closed' if self.closed else 'of ' + str(self._next) + ' operations'}>"
 
 
 def _word(number: int, what: str) -> int:

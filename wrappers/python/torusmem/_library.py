@@ -22,7 +22,7 @@ class LibraryNotFound(ImportError):
 
 
 class Held(Structure):
-    """Room for a machine."""
+    """Room for a machine, or for a watch."""
 
     _fields_ = [("full", c_bool), ("at", c_void_p)]
 
@@ -105,6 +105,10 @@ CALLS = {
         Outcome,
         [POINTER(c_uint64), c_size_t, POINTER(RawEvent), c_size_t, c_uint64, POINTER(c_uint64), c_size_t],
     ),
+    "watch_begin": (Outcome, [_M, POINTER(c_uint64), c_size_t]),
+    "watch_issue": (Outcome, [_M, c_uint64, c_uint32, c_uint32, c_uint64, c_uint64]),
+    "watch_answer": (Outcome, [_M, c_uint64, c_uint32, c_uint64, c_uint64]),
+    "watch_end": (None, [_M]),
 }
 
 

@@ -14,6 +14,15 @@ pub struct torusmem_machine {
 
 pub const TORUSMEM_MACHINE_INIT: torusmem_machine = torusmem_machine { full: false, at: core::ptr::null_mut() };
 
+/// A watch: `TORUSMEM_WATCH_INIT` before the first call, then changed by calls alone. It may be moved.
+#[repr(C)]
+pub struct torusmem_watch {
+    pub full: bool,
+    pub at: *mut c_void,
+}
+
+pub const TORUSMEM_WATCH_INIT: torusmem_watch = torusmem_watch { full: false, at: core::ptr::null_mut() };
+
 /// What a call answers: a code, and a number whose meaning each call states.
 #[repr(C)]
 #[derive(Clone, Copy, Debug, PartialEq, Eq)]
@@ -230,4 +239,21 @@ extern "C" {
         out: *mut u64,
         out_length: usize,
     ) -> torusmem_outcome;
+    pub fn torusmem_watch_begin(w: *mut torusmem_watch, opening: *const u64, opening_length: usize) -> torusmem_outcome;
+    pub fn torusmem_watch_issue(
+        w: *mut torusmem_watch,
+        number: u64,
+        operation: u32,
+        address: u32,
+        first: u64,
+        second: u64,
+    ) -> torusmem_outcome;
+    pub fn torusmem_watch_answer(
+        w: *mut torusmem_watch,
+        number: u64,
+        has_old: u32,
+        old: u64,
+        configurations: u64,
+    ) -> torusmem_outcome;
+    pub fn torusmem_watch_end(w: *mut torusmem_watch);
 }

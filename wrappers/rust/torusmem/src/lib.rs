@@ -22,6 +22,7 @@ mod network;
 #[allow(unsafe_code)]
 mod raw;
 mod trace;
+mod watch;
 
 pub use network::{network, By, Link, Verdict, Why};
 use raw::Raw;
@@ -29,6 +30,7 @@ use std::error::Error;
 use std::fmt;
 use torusmem_sys as sys;
 pub use trace::{linearize, Event, EventFault, Judged};
+pub use watch::{NotTaken, Watch};
 
 /// Why a text was refused.
 #[derive(Clone, Copy, Debug, PartialEq, Eq)]

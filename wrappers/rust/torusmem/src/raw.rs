@@ -2,8 +2,9 @@
 //!
 //! What a caller owes is what include/torusmem.h says: a machine that began as zeros, was changed by calls alone, isn't
 //! doubled, goes to one call at a time, and stays on one thread; and for each pointer as much behind it as the length
-//! says, where what is written is nobody else's and what is read may overlap. The machine is a private field behind a
-//! `&mut`, and has a raw pointer, so that it is neither `Send` nor `Sync`; pointers with their lengths come from slices.
+//! says, where what is written is nobody else's and what is read may overlap. So it is with a watch. Each is a private
+//! field behind a `&mut`, and has a raw pointer, so that it is neither `Send` nor `Sync`; pointers with their lengths come
+//! from slices.
 //! The library's own calls, which these are, take no null pointer. That of an empty slice becomes one to a byte, or a
 //! channel, that is there, as in the header.
 use torusmem_sys::*;
@@ -138,4 +139,34 @@ pub fn linearize(opening: &[u64], events: &[torusmem_event], configurations: u64
     let at = buffer_at(out, &mut no_place);
     // SAFETY: the slices have as many items as they say; what is written is nobody else's. There is no machine.
     unsafe { torusmem_linearize(opening_at, opening.len(), events_at, events.len(), configurations, at, room) }
+}
+
+pub struct RawWatch(torusmem_watch);
+
+impl Drop for RawWatch {
+    fn drop(&mut self) {
+        // SAFETY: the watch is this one's alone, and nobody has it afterwards.
+        unsafe { torusmem_watch_end(&mut self.0) }
+    }
+}
+
+impl RawWatch {
+    pub fn empty() -> RawWatch {
+        RawWatch(TORUSMEM_WATCH_INIT)
+    }
+
+    pub fn begin(&mut self, opening: &[u64]) -> torusmem_outcome {
+        // SAFETY: the watch is this one's alone; the slice has as many words as it says, and is only read.
+        unsafe { torusmem_watch_begin(&mut self.0, list_at(opening, &0), opening.len()) }
+    }
+
+    pub fn issue(&mut self, number: u64, operation: u32, address: u32, values: (u64, u64)) -> torusmem_outcome {
+        // SAFETY: the watch is this one's alone, for as long as the call takes. Numbers may be any.
+        unsafe { torusmem_watch_issue(&mut self.0, number, operation, address, values.0, values.1) }
+    }
+
+    pub fn answer(&mut self, number: u64, has_old: u32, old: u64, configurations: u64) -> torusmem_outcome {
+        // SAFETY: the watch is this one's alone, for as long as the call takes. Numbers may be any.
+        unsafe { torusmem_watch_answer(&mut self.0, number, has_old, old, configurations) }
+    }
 }

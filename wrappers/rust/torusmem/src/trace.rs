@@ -116,17 +116,21 @@ fn raw_of(event: &Event, memory: &mut Memory) -> sys::torusmem_event {
             sys::torusmem_event { kind, processor, operation, address, first, second, ..Default::default() }
         }
         Event::Answer { processor, index, reply } => {
-            let (has_old, old) = match reply {
-                Reply::Ok => (0, 0),
-                Reply::Old(old) => (1, old),
-            };
+            let (has_old, old) = numbers_of_reply(reply);
             let kind = sys::TORUSMEM_ANSWER;
             sys::torusmem_event { kind, processor, index, has_old, old, ..Default::default() }
         }
     }
 }
 
-fn numbers_of(operation: Operation) -> (u32, u64, u64) {
+pub(super) fn numbers_of_reply(reply: Reply) -> (u32, u64) {
+    match reply {
+        Reply::Ok => (0, 0),
+        Reply::Old(old) => (1, old),
+    }
+}
+
+pub(super) fn numbers_of(operation: Operation) -> (u32, u64, u64) {
     match operation {
         Operation::Load => (sys::TORUSMEM_LOAD, 0, 0),
         Operation::Store(value) => (sys::TORUSMEM_STORE, value, 0),

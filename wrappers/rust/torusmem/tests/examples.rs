@@ -3,7 +3,7 @@ use std::fs;
 use std::path::{Path, PathBuf};
 use std::thread;
 use torusmem::{check, explain, linearize, network, Answer, By, Channel, Choice, Class, Dir, Entry, Event, EventFault};
-use torusmem::{Fault, Judged, Kind, Link, Machine, Operation, Reply, Spin, Text, Verdict, Why};
+use torusmem::{Fault, Judged, Kind, Link, Machine, NotTaken, Operation, Reply, Spin, Text, Verdict, Watch, Why};
 
 fn path(name: &str) -> PathBuf {
     Path::new(env!("CARGO_MANIFEST_DIR")).join("../../..").join(name)
@@ -365,6 +365,53 @@ fn events_that_can_not_stand() {
     let twice = [store, stored(0, 0), stored(0, 0)];
     let fault = linearize([], &twice, 1000).expect_err("a fault");
     assert_eq!((fault, fault.to_string().as_str()), (EventFault::Event { fault: 5, event: 2 }, "fault F5 at event 2"));
+}
+
+#[test]
+fn traces_are_watched() {
+    let mut watch = Watch::begin(&[0, 5]).expect("it is begun");
+    assert_eq!(watch.issue(2, Operation::Load), Err(NotTaken::NoSuch));
+    let store = watch.issue(0, Operation::Store(1)).unwrap();
+    let load = watch.issue(0, Operation::Load).unwrap();
+    assert_eq!((store, load), (0, 1));
+    assert_eq!(watch.answer_within(load, Reply::Old(1), 1), Err(NotTaken::TooMany));
+    assert_eq!(watch.answer(2, Reply::Old(0)), Err(NotTaken::NoSuch));
+    assert_eq!(watch.answer(load, Reply::Old(2)), Err(NotTaken::NotLinearizable));
+    assert_eq!(watch.answer(load, Reply::Old(1)), Ok(()));
+    assert_eq!(watch.answer(load, Reply::Old(1)), Err(NotTaken::NoSuch));
+    let later = watch.issue(0, Operation::Load).unwrap();
+    assert_eq!(watch.answer(later, Reply::Old(0)), Err(NotTaken::NotLinearizable));
+    assert_eq!((watch.answer(store, Reply::Ok), watch.answer(later, Reply::Old(1))), (Ok(()), Ok(())));
+    let mut other = watch;
+    let cas = other.issue(1, Operation::Cas { expected: 5, new: 6 }).unwrap();
+    assert_eq!(other.answer(cas, Reply::Old(6)), Err(NotTaken::NotLinearizable));
+    assert_eq!(other.answer(cas, Reply::Old(5)), Ok(()));
+    assert_eq!(Watch::begin(&[]).unwrap().issue(0, Operation::Load), Err(NotTaken::NoSuch));
+    assert_eq!(NotTaken::NotLinearizable.to_string(), "not linearizable");
+}
+
+#[test]
+fn every_operation_is_watched() {
+    let old = Reply::Old;
+    let rows = [
+        (Operation::Load, old(6), 6),
+        (Operation::Store(9), Reply::Ok, 9),
+        (Operation::Swap(5), old(9), 5),
+        (Operation::Cas { expected: 5, new: 8 }, old(5), 8),
+        (Operation::Add(4), old(8), 12),
+        (Operation::And(10), old(12), 8),
+        (Operation::Or(3), old(8), 11),
+        (Operation::Xor(1), old(11), 10),
+        (Operation::Max(20), old(10), 20),
+        (Operation::Min(2), old(20), 2),
+    ];
+    let mut watch = Watch::begin(&[6]).expect("it is begun");
+    for (operation, reply, left) in rows {
+        let number = watch.issue(0, operation).unwrap();
+        assert_eq!(watch.answer(number, reply), Ok(()), "{operation:?}");
+        let load = watch.issue(0, Operation::Load).unwrap();
+        assert_eq!(watch.answer(load, old(left)), Ok(()), "{operation:?}");
+    }
 }
 
 #[test]

@@ -1,6 +1,8 @@
 use Rattle.std.proofs.Common.{◌<◌, length, refl, arith}
 use Rattle.std.proofs.lemmas.Option.{slice_get_read}
+use Rattle.std.proofs.lemmas.Result.{err_from_is_err_and}
 use Rattle.trace_watch.specs.States.{configs_of}
+use Rattle.trace_watch.proofs.Crowding.{closing_overfull}
 use Rattle.trace_watch.proofs.Growth.{closing_none}
 use Rattle.trace_watch.proofs.Loops.{close_skip, close_more, close_all}
 use Rattle.trace_watch.proofs.closing.close.Goals as goal
@@ -15,7 +17,7 @@ loop-next-preserved g c =
     elim c.if-not-has_effect.branch [
       | then-not-has_effect+in_ok-widen+in_ok-expand w ↦ rw w.found-is
           (close_more c.args.id c.args.calls.now (configs_of c.in_ok-found.found.items) c.loop-next.next
-          c.loop-next.found.items w.expand.new.found.items l w.in_ok-expand.ensures c.loop-next.invariant)
+          c.loop-next.found.items w.expand.new.found.items l w.in_ok-expand.ensures.expands c.loop-next.invariant)
       | else-not-has_effect w ↦ rw w.found-is
           (close_skip c.args.id c.args.calls.now (configs_of c.in_ok-found.found.items) c.loop-next.next
           c.loop-next.found.items c.index-state.result.now c.deref.result.now
@@ -24,12 +26,16 @@ loop-next-preserved g c =
           (w.if-not-has_effect.ensures.yes refl) c.loop-next.invariant)
     ]
 
-pub returns-then-next-len : goal.returns-then-next-len
-returns-then-next-len g c =
-    close_all c.args.id c.args.calls.now c.args.states.now c.in_ok-found.found.items c.loop-next.found.items c.loop-next.next
-    (omega arith) c.in_ok-found.ensures c.loop-next.invariant
+pub returns-in_err-expand-clause-full : goal.returns-in_err-expand-clause-full
+returns-in_err-expand-clause-full g c =
+    let p = err_from_is_err_and c.from_residual-in_err-expand.result c.from_residual-in_err-expand.ensures.1 in
+    rw (p.1, p.2) (λ e.
+    closing_overfull c.args.id c.args.calls.now c.args.bound (configs_of c.args.states.now)
+    (configs_of c.in_ok-found.found.items) c.loop-next.next (configs_of c.loop-next.found.items)
+    (configs_of c.expand.new.found.items) c.in_ok-found.ensures.copies (c.in_err-expand.ensures.full e)
+    c.loop-next.invariant)
 
-pub returns : goal.returns
-returns g c =
+pub returns-then-next-len-clause-closes : goal.returns-then-next-len-clause-closes
+returns-then-next-len-clause-closes g c =
     close_all c.args.id c.args.calls.now c.args.states.now c.in_ok-found.found.items c.loop-next.found.items c.loop-next.next
-    (omega arith) c.in_ok-found.ensures c.loop-next.invariant
+    (omega arith) c.in_ok-found.ensures.copies c.loop-next.invariant

@@ -1,6 +1,8 @@
 use Rattle.std.proofs.Common.{◌<◌, List, length, sym, subst, arith}
+use Rattle.std.proofs.lemmas.Result.{err_from_is_err_and}
 use Rattle.trace_watch.specs.declared.state.State.{State}
 use Rattle.trace_watch.specs.States.{configs_of}
+use Rattle.trace_watch.proofs.Crowding.{copies_full}
 use Rattle.trace_watch.proofs.Growth.{Copying, copying_none}
 use Rattle.trace_watch.proofs.Loops.{index_there, copies_more, copies_all}
 use Rattle.trace_watch.proofs.closing.copies.Goals as goal
@@ -13,7 +15,17 @@ pub loop-i-preserved : goal.loop-i-preserved
 loop-i-preserved g c =
     let l : c.loop-i.i < length c.args.states.now = omega arith in
     copies_more c.args.states.now c.loop-i.i c.loop-i.found.items c.add.new.found.items _ c.in_ok-copy.copy
-    (index_there c.args.states.now c.loop-i.i c.index-states-i.result l c.index-states-i.is) c.in_ok-copy.ensures c.in_ok-add.ensures c.loop-i.invariant
+    (index_there c.args.states.now c.loop-i.i c.index-states-i.result l c.index-states-i.is) c.in_ok-copy.ensures c.in_ok-add.ensures.added c.loop-i.invariant
 
-pub returns : goal.returns
-returns g c = copies_all c.args.states.now c.loop-i.i c.loop-i.found.items (omega arith) c.loop-i.invariant
+pub returns-in_err-add-clause-full : goal.returns-in_err-add-clause-full
+returns-in_err-add-clause-full g c =
+    let p = err_from_is_err_and c.from_residual-in_err-add.result c.from_residual-in_err-add.ensures.1 in
+    let l : c.loop-i.i < length c.args.states.now = omega arith in
+    rw (p.1, p.2) (λ e.
+    let r = c.in_err-add.ensures.full e in
+    copies_full c.args.bound c.args.states.now c.loop-i.i c.loop-i.found.items c.add.new.found.items _ c.in_ok-copy.copy
+    (index_there c.args.states.now c.loop-i.i c.index-states-i.result l c.index-states-i.is) c.in_ok-copy.ensures r.0 r.1
+    c.loop-i.invariant)
+
+pub returns-clause-copies : goal.returns-clause-copies
+returns-clause-copies g c = copies_all c.args.states.now c.loop-i.i c.loop-i.found.items (omega arith) c.loop-i.invariant

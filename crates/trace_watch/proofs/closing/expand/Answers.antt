@@ -1,6 +1,8 @@
 use Rattle.std.proofs.Common.{◌<◌, length, arith}
 use Rattle.std.proofs.lemmas.Option.{slice_get-get_or}
+use Rattle.std.proofs.lemmas.Result.{err_from_is_err_and}
 use Rattle.trace_watch.specs.States.{configs_of}
+use Rattle.trace_watch.proofs.Crowding.{more_give_up}
 use Rattle.trace_watch.proofs.Growth.{expanding_none, expanding_more, expanding_all, low_config}
 use Rattle.trace_watch.proofs.Loops.{at_inside}
 use Rattle.trace_watch.proofs.closing.expand.Goals as goal
@@ -17,9 +19,18 @@ loop-i-preserved g c =
     let l : c.loop-i.i < length c.args.calls.now = omega arith in
     expanding_more c.args.at c.args.calls.now (configs_of c.args.found.now.items) c.loop-i.i (configs_of c.loop-i.found.items)
     (configs_of c.attempt.new.found.items) _ (slice_get-get_or c.args.calls.now c.loop-i.i _ l)
-    (low_config c.args.found.now.items c.args.at c.requires) c.in_ok-attempt.ensures c.loop-i.invariant
+    (low_config c.args.found.now.items c.args.at c.requires) c.in_ok-attempt.ensures.expands c.loop-i.invariant
 
-pub returns : goal.returns
-returns g c =
+pub returns-in_err-attempt-clause-full : goal.returns-in_err-attempt-clause-full
+returns-in_err-attempt-clause-full g c =
+    let p = err_from_is_err_and c.from_residual.result c.from_residual.ensures.1 in
+    let l : c.loop-i.i < length c.args.calls.now = omega arith in
+    rw (p.1, p.2) (λ e.
+    more_give_up c.args.at c.args.calls.now c.args.bound (configs_of c.args.found.now.items) c.loop-i.i
+    (configs_of c.loop-i.found.items) (configs_of c.attempt.new.found.items) _
+    (slice_get-get_or c.args.calls.now c.loop-i.i _ l) (c.in_err-attempt.ensures.full e) c.loop-i.invariant)
+
+pub returns-clause-expands : goal.returns-clause-expands
+returns-clause-expands g c =
     expanding_all c.args.at c.args.calls.now (configs_of c.args.found.now.items) c.loop-i.i (configs_of c.loop-i.found.items)
     (omega arith) c.loop-i.invariant

@@ -1,7 +1,7 @@
 use Rattle.std.proofs.Common.{◌<◌, List, length, refl, sym, subst, arith}
 use Rattle.trace_watch.specs.declared.state.State.{State}
 use Rattle.trace_watch.specs.States.{configs_of}
-use Rattle.trace_watch.proofs.Growth.{Keeping, keeping_none}
+use Rattle.trace_watch.proofs.Sifting.{Keeping, keeping_none}
 use Rattle.trace_watch.proofs.Loops.{index_there, keep_skip, keep_push, keep_all}
 use Rattle.trace_watch.proofs.closing.keep.Goals as goal
 use Rattle.trace_watch.proofs.closing.keep.Goals.{then-is_in+in_ok-less+in_ok-push, else-is_in}

@@ -1,5 +1,5 @@
 use Rattle.trace_watch.specs.States.{configs_of}
-use Rattle.trace_watch.proofs.Growth.{Keeping}
+use Rattle.trace_watch.proofs.Sifting.{Keeping}
 use Rattle.trace_watch.proofs.closing.keep.Given as goal
 
 abbrev pub invariant-loop-i : goal.invariant-loop-i

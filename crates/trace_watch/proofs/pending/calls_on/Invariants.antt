@@ -1,6 +1,6 @@
 use Rattle.std.proofs.Common.{◌≡◌}
 use Rattle.trace_order.specs.declared.event.Call.{Call}
-use Rattle.trace_watch.proofs.Growth.{Filtered}
+use Rattle.trace_watch.proofs.Sifting.{Filtered}
 use Rattle.trace_watch.proofs.pending.calls_on.Given as goal
 
 abbrev pub invariant-loop-i : goal.invariant-loop-i

@@ -1,7 +1,7 @@
 use Rattle.std.proofs.Common.{◌≡◌, ◌<◌, ◌+◌, List, length, sym, subst, arith}
 use Rattle.std.proofs.lemmas.Option.{slice_get-get_or}
 use Rattle.trace_watch.specs.declared.state.Effect.{Effect}
-use Rattle.trace_watch.proofs.Growth.{Filtered, filtered_none, filtered_skip, filtered_push, filtered_all}
+use Rattle.trace_watch.proofs.Sifting.{Filtered, filtered_none, filtered_skip, filtered_push, filtered_all}
 use Rattle.trace_watch.proofs.state.others.Goals as goal
 use Rattle.trace_watch.proofs.state.others.Goals.{then-effect-id+in_ok-push, else-effect-id}
 

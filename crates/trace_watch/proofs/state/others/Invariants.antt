@@ -1,6 +1,6 @@
 use Rattle.std.proofs.Common.{◌≡◌}
 use Rattle.trace_watch.specs.declared.state.Effect.{Effect}
-use Rattle.trace_watch.proofs.Growth.{Filtered}
+use Rattle.trace_watch.proofs.Sifting.{Filtered}
 use Rattle.trace_watch.proofs.state.others.Given as goal
 
 abbrev pub invariant-loop-i : goal.invariant-loop-i

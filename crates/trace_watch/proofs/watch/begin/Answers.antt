@@ -1,4 +1,4 @@
-use Rattle.trace_watch.proofs.Watching.{follows_begin}
+use Rattle.trace_watch.proofs.Beginning.{follows_begin}
 use Rattle.trace_watch.proofs.watch.begin.Goals as goal
 
 pub returns : goal.returns

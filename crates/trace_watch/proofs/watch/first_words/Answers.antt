@@ -1,5 +1,5 @@
 use Rattle.std.proofs.Common.{◌<◌, length, arith}
-use Rattle.trace_watch.proofs.Watching.{words_push, words_long}
+use Rattle.trace_watch.proofs.Beginning.{words_push, words_long}
 use Rattle.trace_watch.proofs.watch.first_words.Goals as goal
 
 pub loop-i-preserved : goal.loop-i-preserved

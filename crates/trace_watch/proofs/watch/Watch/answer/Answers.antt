@@ -1,7 +1,9 @@
 use Rattle.std.proofs.Common.{List, refl, ◌∙◌, ap, subst, arith, slice_get}
 use Rattle.std.proofs.lemmas.Option.{MatchOption-at_none}
+use Rattle.std.proofs.lemmas.Result.{err_from_is_err_and}
 use Rattle.trace_order.specs.declared.event.Call.{Call}
 use Rattle.trace_search.specs.Configs.{IsIn}
+use Rattle.trace_watch.proofs.Crowding.{calls_read, over_read, full_told, answers_many}
 use Rattle.trace_watch.proofs.Watching.{seen_not_pending, seen_no_word}
 use Rattle.trace_watch.proofs.Answering.{is_read, answer_yes, answer_no}
 use Rattle.trace_watch.proofs.watch.Watch.answer.Goals as goal
@@ -19,6 +21,21 @@ returns-then-word-len-clause-seen g c = λ opening trace f.
     seen_no_word opening trace c.args.self.now c.in-Some.call c.args.id c.args.reply
     (subst (λ (cs : List Call). IsIn cs c.in-Some.call) c.deref.ensures.value c.in-Some.ensures.0) (omega arith) f
 
+pub returns-in_err-later-clause-full : goal.returns-in_err-later-clause-full
+returns-in_err-later-clause-full g c =
+    let p = err_from_is_err_and c.from_residual-in_err-later.result c.from_residual-in_err-later.ensures.1 in
+    let near = c.if-word-len.false in
+    let long = c.len.ensures in
+    rw (p.1, p.2) (λ opening trace f.
+    full_told opening trace c.args.id c.args.reply c.args.bound _ (λ e.
+    answers_many opening trace c.args.self.now c.in-Some.call c.args.id c.args.reply c.args.bound c.in_ok-calls.calls.items
+    (subst (λ (cs : List Call). IsIn cs c.in-Some.call) c.deref.ensures.value c.in-Some.ensures.0) c.in-Some.ensures.1
+    (calls_read c.args.self.now c.in-Some.call c.deref-2.result.now c.in_ok-calls.calls.items c.deref-2.ensures.value
+    c.in_ok-calls.ensures)
+    (over_read c.args.self.now c.in-Some.call c.args.bound c.in_ok-calls.calls.items c.deref-4.result.now
+    c.index.result.now c.deref-3.result.now c.deref-4.ensures.value c.deref-3.ensures.value c.index.ensures (omega arith)
+    (c.in_err-later.ensures.full e)) f))
+
 pub returns-then-is_empty-clause-seen : goal.returns-then-is_empty-clause-seen
 returns-then-is_empty-clause-seen g c = λ opening trace f.
     let near = c.if-word-len.false in
@@ -28,7 +45,7 @@ returns-then-is_empty-clause-seen g c = λ opening trace f.
     (is_read c.args.self.now c.in-Some.call c.args.id c.args.reply c.deref.result.now c.deref-2.result.now
     c.in_ok-calls.calls.items c.deref-4.result.now c.index.result.now c.deref-3.result.now _ c.deref.ensures.value
     c.deref-2.ensures.value c.deref-4.ensures.value c.deref-3.ensures.value c.index.ensures (omega arith)
-    c.in-Some.ensures c.in_ok-calls.ensures c.in_ok-later.ensures)
+    c.in-Some.ensures c.in_ok-calls.ensures c.in_ok-later.ensures.answered)
     c.if-is_empty.ensures f
 
 pub returns-clause-seen : goal.returns-clause-seen
@@ -40,5 +57,5 @@ returns-clause-seen g c = λ opening trace f.
     (is_read c.args.self.now c.in-Some.call c.args.id c.args.reply c.deref.result.now c.deref-2.result.now
     c.in_ok-calls.calls.items c.deref-4.result.now c.index.result.now c.deref-3.result.now _ c.deref.ensures.value
     c.deref-2.ensures.value c.deref-4.ensures.value c.deref-3.ensures.value c.index.ensures (omega arith)
-    c.in-Some.ensures c.in_ok-calls.ensures c.in_ok-later.ensures)
+    c.in-Some.ensures c.in_ok-calls.ensures c.in_ok-later.ensures.answered)
     c.if-is_empty.ensures c.deref-5.ensures.value c.in_ok-self.ensures refl f

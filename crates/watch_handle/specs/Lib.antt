@@ -1,0 +1,3 @@
+pub use Rattle.trace_watch
+pub mod Row
+pub mod Held

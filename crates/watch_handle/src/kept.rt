@@ -1,0 +1,43 @@
+ghost use Rattle.std.specs.Prelude.{◌≡◌, ℕ, List, IfOk, IfErr};
+ghost use Rattle.trace_order.specs.declared.event.Event.{Event};
+ghost use Rattle.trace_watch.specs.Follows.{Follows, TellsFull, TellsSeen};
+
+use std::alloc::{Allocator, Global};
+use std::marker::Model;
+use trace_order::Event;
+use trace_watch::{Full, Seen, Watch};
+
+/// A watch as a handle holds it: contracts see the watch.
+#[derive(Drop)]
+pub struct Kept<A: Allocator = Global> {
+    watch: Watch<A>,
+}
+
+impl<A: Allocator> Model for Kept<A> {
+    ghost use Rattle.trace_watch.specs.declared.watch.Watch.{Watch};
+
+    ghost Value = { Watch A };
+
+    ghost view = { λ kept. kept.watch };
+}
+
+impl<A: Allocator + Copy> Kept<A> {
+    /// The watch, to be held.
+    pub fn of(watch: Watch<A>) -> Kept<A>
+        ensures { result ≡ watch }
+    {
+        Kept { watch }
+    }
+
+    /// Takes the next event, as `Watch::event` does.
+    pub fn event(&mut self, alloc: A, event: Event, bound: usize) -> Result<Seen, Full>
+        ensures seen { IfOk result (λ seen. (opening : List ℕ) (trace : List Event)
+            → Follows opening trace self.old → TellsSeen opening trace event self.new seen) }
+        ensures same { IfErr result (λ full. (opening : List ℕ) (trace : List Event)
+            → Follows opening trace self.old → Follows opening trace self.new) }
+        ensures full { IfErr result (λ full. (opening : List ℕ) (trace : List Event)
+            → Follows opening trace self.old → TellsFull opening trace event bound full) }
+    {
+        self.watch.event(alloc, event, bound)
+    }
+}
