@@ -1,5 +1,10 @@
 //! The answers of a report.
 
+ghost use Rattle.std.specs.Prelude.{◌≡◌, IfOk, map};
+ghost use Rattle.std.specs.Str.Lines.{lines};
+ghost use Rattle.lexer.specs.Words.{words_of};
+ghost use Rattle.run_told.specs.Answers.{answer_of, answers_of, number_of};
+
 use lexer::{first_words, next_line, value};
 use std::alloc::{AllocError, Allocator};
 
@@ -15,13 +20,12 @@ pub struct Answer {
 /// The answers of a report, in its order: by processor, and then by index.
 ///
 /// Errors: memory ran out.
-pub fn answers_of<A: Allocator>(alloc: A, report: &[u8]) -> Result<Vec<Answer, A>, AllocError> {
+pub fn answers_of<A: Allocator>(alloc: A, report: &[u8]) -> Result<Vec<Answer, A>, AllocError>
+    ensures { IfOk result (λ answers. answers.items ≡ answers_of (lines report.now)) }
+{
     let mut answers = Vec::new(alloc);
     let mut rest = report;
-    for _ in 0..u64::MAX {
-        let Some((line, after)) = next_line(rest) else {
-            break;
-        };
+    while let Some((line, after)) = next_line(rest) {
         if let Some(answer) = answer_of(line) {
             answers.push(answer)?;
         }
@@ -31,19 +35,30 @@ pub fn answers_of<A: Allocator>(alloc: A, report: &[u8]) -> Result<Vec<Answer, A
 }
 
 /// The answer that a line of a report tells: `answer P INDEX BANK PLACE REPLY`.
-fn answer_of(line: &[u8]) -> Option<Answer> {
+fn answer_of(line: &[u8]) -> Option<Answer>
+    ensures { result ≡ answer_of (words_of line.now) }
+{
     let (words, count) = first_words(line);
-    if count != 6 || words[0] != b"answer".as_slice() {
-        return None;
+    answer_in(&words[..count])
+}
+
+/// The answer of the words of a line.
+fn answer_in(words: &[&[u8]]) -> Option<Answer>
+    ensures { result ≡ answer_of (map (λ word. word.now) words.now) }
+{
+    match words {
+        [b"answer", processor, index, _bank, _place, reply] => Some(Answer {
+            processor: lexer::index(processor)?,
+            index: lexer::index(index)?,
+            reply: number(reply).unwrap_or(0),
+        }),
+        _ => None,
     }
-    Some(Answer {
-        processor: lexer::index(words[1])?,
-        index: lexer::index(words[2])?,
-        reply: number(words[5]).unwrap_or(0),
-    })
 }
 
 /// The number of 64 bits that a word spells.
-pub(crate) fn number(word: &[u8]) -> Option<u64> {
+pub(crate) fn number(word: &[u8]) -> Option<u64>
+    ensures { result ≡ number_of word.now }
+{
     u64::try_from(value(word)?).ok()
 }

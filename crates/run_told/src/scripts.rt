@@ -1,5 +1,9 @@
 //! A run's answers beside the lines of its scripts.
 
+ghost use Rattle.std.specs.Prelude.{◌≡◌, IfOk, length};
+ghost use Rattle.std.specs.Str.Lines.{lines};
+ghost use Rattle.run_told.specs.Answers.{answers_of};
+
 use crate::answers::{Answer, answers_of, number};
 use lexer::{first_words, index, next_line};
 use std::alloc::{AllocError, Allocator};
@@ -54,7 +58,10 @@ pub fn told<A: Allocator + Copy>(
     alloc: A,
     scripts: &[u8],
     report: &[u8],
-) -> Result<EndedScripts<A>, AllocError> {
+) -> Result<EndedScripts<A>, AllocError>
+    ensures answered { IfOk result
+        (λ ended. ended.answered ≡ length (answers_of (lines report.now))) }
+{
     let answers = answers_of(alloc, report)?;
     let mut places = first_places(&answers);
     let mut spins = Vec::new(alloc);

@@ -1,5 +1,8 @@
 //! What became of a run, in words.
 
+ghost use Rattle.std.specs.Fmt.{WritesOnOk};
+ghost use Rattle.run_told.specs.Sentences.{counted, course_text, unfinished_text};
+
 use crate::scripts::EndedSpin;
 use std::fmt;
 
@@ -12,6 +15,11 @@ pub struct SpinSentence<'a> {
 }
 
 impl<'a> fmt::Display for SpinSentence<'a> {
+    ghost use Rattle.std.specs.Prelude.{Some};
+    ghost use Rattle.run_told.specs.Sentences.{spin_text};
+
+    ghost output = { λ s. Some (spin_text s) };
+
     fn fmt<W: fmt::Write>(&self, f: &mut fmt::Formatter<W>) -> fmt::Result {
         let spin = self.spin;
         write!(
@@ -50,7 +58,10 @@ pub struct EndSentence {
 
 impl EndSentence {
     /// Writes what the run was made of.
-    fn put_course<W: fmt::Write>(&self, f: &mut fmt::Formatter<W>) -> fmt::Result {
+    fn put_course<W: fmt::Write>(&self, f: &mut fmt::Formatter<W>) -> fmt::Result
+        ensures { WritesOnOk W.write_str_gives f.old result
+            (course_text self.now.finished self.now.course) f.new }
+    {
         match self.course {
             Course::Steps { moves } => put_count(f, moves, "move", ", "),
             Course::Rounds { rounds, moves } => {
@@ -68,7 +79,10 @@ impl EndSentence {
     }
 
     /// Writes how many scripts aren't finished.
-    fn put_unfinished<W: fmt::Write>(&self, f: &mut fmt::Formatter<W>) -> fmt::Result {
+    fn put_unfinished<W: fmt::Write>(&self, f: &mut fmt::Formatter<W>) -> fmt::Result
+        ensures { WritesOnOk W.write_str_gives f.old result
+            (unfinished_text self.now.unfinished) f.new }
+    {
         match self.unfinished {
             0 => f.write_str(", not every processor has reported it"),
             1 => f.write_str(", 1 script isn't finished"),
@@ -78,6 +92,11 @@ impl EndSentence {
 }
 
 impl fmt::Display for EndSentence {
+    ghost use Rattle.std.specs.Prelude.{Some};
+    ghost use Rattle.run_told.specs.Sentences.{end_text};
+
+    ghost output = { λ s. Some (end_text s) };
+
     fn fmt<W: fmt::Write>(&self, f: &mut fmt::Formatter<W>) -> fmt::Result {
         let begin = if self.finished {
             "finished: "
@@ -105,7 +124,10 @@ fn put_count<W: fmt::Write>(
     count: u64,
     name: &str,
     behind: &str,
-) -> fmt::Result {
+) -> fmt::Result
+    ensures { WritesOnOk W.write_str_gives f.old result
+        (counted count name.now behind.now) f.new }
+{
     let plural = if count == 1 { "" } else { "s" };
     write!(f, "{count} {name}{plural}{behind}")
 }

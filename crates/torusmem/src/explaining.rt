@@ -1,6 +1,6 @@
 //! A line on standard error, behind the one that names a fault, that says why it is one.
 
-use crate::texts::{Texts, Unread};
+use crate::texts::{Texts, Unread, names};
 use command_line::Job;
 use commands::ProgramFault;
 use explained::{
@@ -56,6 +56,7 @@ fn explain_line<'a, R: Eprint + AllocGlobal>(rt: &R, job: &Job<'a>, texts: &'a T
         Job::Linearize { trace, .. } | Job::Report { trace, .. } => {
             told(rt, trace_sentence(alloc, named(trace, &texts.first)))
         }
+        Job::Check { .. } => false,
         _ => told(rt, sentence(alloc, job, texts)),
     }
 }
@@ -105,64 +106,17 @@ fn explain_report<R: Eprint + AllocGlobal>(rt: &R, job: &Job, texts: &Texts) {
     }
 }
 
-/// Which text of the job has the first fault, at which line, and why.
+/// Which text of a job with a machine has the first fault, at which line, and why.
 fn sentence<'a>(alloc: Global, job: &Job<'a>, texts: &'a Texts) -> Option<Sentence<'a>> {
-    match *job {
-        Job::Steps {
-            machine,
-            script,
-            steps,
-        } => of_steps(alloc, machine, script, steps, texts),
-        Job::Moves {
-            machine,
-            script,
-            steps,
-        } => of_steps(alloc, machine, script, steps, texts),
-        Job::Round {
-            machine,
-            script,
-            ..
-        } => of_scripts(alloc, machine, script, texts),
-        Job::Run {
-            machine,
-            script,
-            ..
-        } => of_scripts(alloc, machine, script, texts),
-        Job::Schedule {
-            machine,
-            script,
-            ..
-        } => of_scripts(alloc, machine, script, texts),
-        Job::Draw {
-            machine,
-            script,
-            ..
-        } => of_scripts(alloc, machine, script, texts),
-        Job::Route { machine, .. } => machine_sentence(alloc, named(machine, &texts.first)),
-        Job::Channels { machine } => machine_sentence(alloc, named(machine, &texts.first)),
-        _ => None,
-    }
-}
-
-fn of_scripts<'a>(
-    alloc: Global,
-    machine: &'a str,
-    script: &'a str,
-    texts: &'a Texts,
-) -> Option<Sentence<'a>> {
-    let machine = named(machine, &texts.first);
-    scripts_sentence(alloc, machine, named(script, &texts.second))
-}
-
-fn of_steps<'a>(
-    alloc: Global,
-    machine: &'a str,
-    script: &'a str,
-    steps: &'a str,
-    texts: &'a Texts,
-) -> Option<Sentence<'a>> {
-    let machine = named(machine, &texts.first);
+    let (machine, script, steps) = names(job);
+    let machine = named(machine?, &texts.first);
+    let Some(script) = script else {
+        return machine_sentence(alloc, machine);
+    };
     let script = named(script, &texts.second);
+    let Some(steps) = steps else {
+        return scripts_sentence(alloc, machine, script);
+    };
     steps_sentence(alloc, machine, script, named(steps, &texts.third))
 }
 

@@ -3,27 +3,22 @@
 
 ghost use Rattle.command_line.specs.Job.{IsWithinLimits};
 
+mod answering;
 mod explaining;
 mod kept;
 mod progress_line;
+mod running;
 mod telling;
 mod texts;
 mod turns_line;
 
-use command_line::{Job, Request, read_request};
-use commands::{
-    Open, ProgramFault, channels_text, check_text, fault_text, round_text_with, route_text,
-    run_text_with, status_of, steps_text_with,
-};
+use answering::{Outcome, answer};
+use command_line::{Request, read_request};
+use commands::{ProgramFault, fault_text, status_of};
 use explaining::{explain, explain_no_order, explain_unread};
 use kept::Kept;
-use linearize_command::{Judged, linearize_text, report_text, status, verdict_text};
-use network_command::network_text;
-use progress_line::ProgressLine;
-use report_lines::{Out, Piped};
-use run_told::Course;
-use schedule_commands::{draw_text, moves_text, schedule_text};
-use std::alloc::Global;
+use linearize_command::{Judged, status, verdict_text};
+use report_lines::Piped;
 use std::io::{BufWriter, Input, IsTerminal, Write};
 use std::process::ExitCode;
 use std::rt::{Clock, Env, Files};
@@ -33,20 +28,6 @@ use std::{env, io};
 use telling::tell_end;
 use texts::{Failure, Texts, read_texts};
 use torus::Fault;
-use turns_line::TurnsLine;
-
-/// What a job answers.
-#[derive(Drop)]
-enum Outcome {
-    /// That a job without scripts is done.
-    Done,
-    /// Whether every script is finished, and of a run with a report what it was made of.
-    Ran(bool, Option<Course>),
-    /// Whether the numbers of a network's channels rise.
-    Rising(bool),
-    /// What a trace is judged to be, with so many configurations at most.
-    Judged(Judged, u32),
-}
 
 fn main(rt: HostRuntime) -> ExitCode {
     let is_seen = rt.stderr().is_terminal();
@@ -173,109 +154,4 @@ fn printed<R: Print + Eprint + Clock + AllocGlobal + Threads + Wait + Sync>(
         tell_end(rt, &request.job, &texts.second, &report, *finished, *course);
     }
     Ok(answer)
-}
-
-/// The answer of the job.
-fn answer<R: Eprint + Clock + AllocGlobal + Threads + Wait + Sync, W: Out>(
-    rt: &R,
-    job: &Job,
-    texts: &Texts,
-    is_seen: bool,
-    out: &mut W,
-) -> Result<Outcome, ProgramFault>
-    requires { IsWithinLimits job.now }
-{
-    let alloc = rt.alloc();
-    let first = texts.first.as_slice();
-    match *job {
-        Job::Network { .. } => Ok(Outcome::Rising(network_text(alloc, first, out)?)),
-        Job::Linearize { configurations, .. } => {
-            let judged = linearize_text(alloc, first, u64::from(configurations), out)?;
-            Ok(Outcome::Judged(judged, configurations))
-        }
-        Job::Report { configurations, .. } => {
-            let judged = report_text(alloc, first, u64::from(configurations), out)?;
-            Ok(Outcome::Judged(judged, configurations))
-        }
-        Job::Route {
-            src,
-            dst,
-            class,
-            ..
-        } => {
-            route_text(alloc, first, src, dst, class, out)?;
-            Ok(Outcome::Done)
-        }
-        Job::Channels { .. } => {
-            channels_text(alloc, first, out)?;
-            Ok(Outcome::Done)
-        }
-        Job::Check { .. } => {
-            check_text(alloc, first, out)?;
-            Ok(Outcome::Done)
-        }
-        Job::Schedule { .. } | Job::Draw { .. } | Job::Moves { .. } => {
-            Ok(Outcome::Ran(scheduled(alloc, job, texts, out)?, None))
-        }
-        _ => ran(rt, job, texts, is_seen, out),
-    }
-}
-
-/// Prints the moves of a run of the job's scripts, and answers whether every script is finished.
-fn scheduled<W: Out>(
-    alloc: Global,
-    job: &Job,
-    texts: &Texts,
-    out: &mut W,
-) -> Result<bool, ProgramFault> {
-    let (machine, script) = (texts.first.as_slice(), texts.second.as_slice());
-    match *job {
-        Job::Schedule { rounds, .. } => {
-            schedule_text(alloc, machine, script, u64::from(rounds), out)
-        }
-        Job::Draw { seed, steps, .. } => draw_text(alloc, machine, script, seed, steps, out),
-        Job::Moves { .. } => moves_text(alloc, machine, script, &texts.third, out),
-        _ => Ok(true),
-    }
-}
-
-/// Runs the scripts of the job, and answers whether every script is finished.
-fn ran<R: Eprint + Clock + AllocGlobal + Threads + Wait + Sync, W: Out>(
-    rt: &R,
-    job: &Job,
-    texts: &Texts,
-    is_seen: bool,
-    out: &mut W,
-) -> Result<Outcome, ProgramFault>
-    requires { IsWithinLimits job.now }
-{
-    let alloc = rt.alloc();
-    let (machine, script) = (texts.first.as_slice(), texts.second.as_slice());
-    match *job {
-        Job::Steps { .. } => {
-            let mut line = ProgressLine::new(rt, is_seen);
-            let finished = steps_text_with(alloc, machine, script, &texts.third, out, &mut line)?;
-            let moves = line.moves_made();
-            Ok(Outcome::Ran(finished, Some(Course::Steps { moves })))
-        }
-        Job::Round { rounds, .. } => {
-            let mut line = ProgressLine::new(rt, is_seen);
-            let rounds = u64::from(rounds);
-            let finished = round_text_with(alloc, machine, script, rounds, out, &mut line)?;
-            let course = Course::Rounds {
-                rounds: line.rounds_made(),
-                moves: line.moves_made(),
-            };
-            Ok(Outcome::Ran(finished, Some(course)))
-        }
-        Job::Run { workers, turns, .. } => {
-            let (workers, turns) = (workers as usize, u64::from(turns));
-            let line = TurnsLine::new(rt, is_seen);
-            let finished = run_text_with(
-                rt, alloc, machine, script, workers, turns, &Open, &line, out,
-            )?;
-            Ok(Outcome::Ran(finished, Some(Course::Turns(turns))))
-        }
-        _ => Ok(Outcome::Done),
-    }
 }

@@ -63,9 +63,14 @@ pub(crate) fn read_texts<'a, R: Files + Input + AllocGlobal>(
 }
 
 /// The names of the texts of a job.
-fn names<'a>(job: &Job<'a>) -> (Option<&'a str>, Option<&'a str>, Option<&'a str>) {
+pub(crate) fn names<'a>(job: &Job<'a>) -> (Option<&'a str>, Option<&'a str>, Option<&'a str>) {
     match *job {
         Job::Steps {
+            machine,
+            script,
+            steps,
+        }
+        | Job::Moves {
             machine,
             script,
             steps,
@@ -74,32 +79,28 @@ fn names<'a>(job: &Job<'a>) -> (Option<&'a str>, Option<&'a str>, Option<&'a str
             machine,
             script,
             ..
-        } => (Some(machine), Some(script), None),
-        Job::Run {
+        }
+        | Job::Run {
+            machine,
+            script,
+            ..
+        }
+        | Job::Schedule {
+            machine,
+            script,
+            ..
+        }
+        | Job::Draw {
             machine,
             script,
             ..
         } => (Some(machine), Some(script), None),
-        Job::Schedule {
-            machine,
-            script,
-            ..
-        } => (Some(machine), Some(script), None),
-        Job::Draw {
-            machine,
-            script,
-            ..
-        } => (Some(machine), Some(script), None),
-        Job::Moves {
-            machine,
-            script,
-            steps,
-        } => (Some(machine), Some(script), Some(steps)),
-        Job::Route { machine, .. } => (Some(machine), None, None),
-        Job::Channels { machine } => (Some(machine), None, None),
-        Job::Check { report } => (Some(report), None, None),
-        Job::Network { network } => (Some(network), None, None),
-        Job::Linearize { trace, .. } | Job::Report { trace, .. } => (Some(trace), None, None),
+        Job::Route { machine: name, .. }
+        | Job::Channels { machine: name }
+        | Job::Check { report: name }
+        | Job::Network { network: name }
+        | Job::Linearize { trace: name, .. }
+        | Job::Report { trace: name, .. } => (Some(name), None, None),
     }
 }
 
