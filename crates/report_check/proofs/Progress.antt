@@ -12,7 +12,7 @@ use Rattle.report_reader.specs.Reading.{line_at}
 use Rattle.report_check.specs.Seen.{Seen, nothing_seen, after, seen_of}
 use Rattle.report_check.specs.Good.{Allowed, MayStand, AllStand, AreGood, GoodReport, FirstBad, IsStuck}
 use Rattle.report_check.specs.Shows.{Shows}
-use Rattle.report_reader.proofs.Found.{read_of}
+use Rattle.report_reader.proofs.LinesFound.{read_of}
 use Rattle.report_reader.proofs.Joined.{line_some}
 
 -- the lines that were read stand, and the rest is left

@@ -15,3 +15,4 @@ pub mod Counts
 pub mod OrderNext
 pub mod Whole
 mod WrongOnes
+mod WholeReport

@@ -1,25 +1,20 @@
 -- What is read is spelled so, line by line.
-use Rattle.std.proofs.Common.{◌≡◌, ◌≢◌, ◌<◌, ℕ, ◌^◌, ◌==◌, ◌&&◌, nat_lt, if◌then◌else◌, Bool, true, false, List, ◌∷◌, ◌++◌, Option, Some, None, IfSome, IfNone}
-use Rattle.std.proofs.Common.{decimal, codes, refl, sym, ap, subst, ◌∙◌}
+use Rattle.std.proofs.Common.{◌≡◌, ◌<◌, ℕ, ◌^◌, ◌==◌, ◌&&◌, nat_lt, if◌then◌else◌, Bool, true, false, List, ◌∷◌, ◌++◌, Option, Some, None, IfSome}
+use Rattle.std.proofs.Common.{decimal, codes, refl, ap, ◌∙◌}
 use Rattle.std.specs.Option.{option_or}
 use Rattle.std.proofs.lemmas.Bool.{eq-eqb, ltb-true}
-use Rattle.std.proofs.lemmas.Option.{none-some, IfSome_then}
+use Rattle.std.proofs.lemmas.Option.{IfSome_then}
 use Rattle.packet.specs.declared.kinds.Op.{Op}
 use Rattle.packet.specs.declared.kinds.Op.TheVariants.{Load, Store, Swap, Cas, Add, And, Or, Xor, Max, Min}
 use Rattle.packet.specs.declared.kinds.Reply.{Reply}
 use Rattle.packet.specs.declared.kinds.Reply.TheVariants.{Old, Ok as Stored}
-use Rattle.report_lines.specs.Line.{line_text}
-use Rattle.report_lines.specs.Fits.{FitsLine, FitsOp, FitsReply, FitsRadices}
+use Rattle.report_lines.specs.Fits.{FitsOp, FitsReply, FitsRadices}
 use Rattle.report_lines.specs.declared.line.Radices.{Radices}
 use Rattle.report_lines.specs.declared.line.Radices.TheVariants.{One, Two, Three}
-use Rattle.report_lines.specs.declared.line.ReportLine.{ReportLine}
-use Rattle.report_lines.specs.declared.line.ReportLine.TheVariants.{Header, Shape, Init, Entry, Answer, Word, Order, End}
-use Rattle.report_reader.proofs.Spelled.{reply_then, event_then, pair_then, op_then, radices_then, line_then}
-use Rattle.report_reader.specs.Reading.{◌>>=◌, Gives, instead, behind, number_at, index_at, reply_at, event_at, pair_at, valued_at, load_at, cas_at, newer_at, op_at}
-use Rattle.report_reader.specs.Reading.{four_at, entry_at, answer_at, order_at, uniform_at, two_at, three_at, radices_at, shape_at, header_at, end_at, word_at, line_at}
+use Rattle.report_reader.proofs.Spelled.{reply_then, event_then, pair_then, op_then, radices_then}
+use Rattle.report_reader.specs.Reading.{◌>>=◌, instead, behind, number_at, index_at, reply_at, event_at, pair_at, valued_at, load_at, cas_at, newer_at, op_at}
+use Rattle.report_reader.specs.Reading.{four_at, uniform_at, two_at, three_at, radices_at}
 use Rattle.report_reader.proofs.Sound.{behind_sound, number_sound}
-use Rattle.report_reader.proofs.Again.{line_again}
-use Rattle.report_reader.proofs.Joined.{line_then-is}
 
 -- what holds of each value that there may be
 each_some : {X : Type 0} (r : Option X) (P : X → Type 0) → ((x : X) → r ≡ Some x → P x) → IfSome r P
@@ -27,18 +22,18 @@ each_some None P each = tt
 each_some (Some x) P each = each x refl
 
 -- of what is read after something
-then_some : {X Y : Type 0} (Q : Y → Type 0) (r : Option X) (f : X → Option Y) {P : X → Type 0} → IfSome r P → ((x : X) → P x → IfSome (f x) Q)
+pub then_some : {X Y : Type 0} (Q : Y → Type 0) (r : Option X) (f : X → Option Y) {P : X → Type 0} → IfSome r P → ((x : X) → P x → IfSome (f x) Q)
     → IfSome (r >>= f) Q
 then_some Q None f h each = tt
 then_some Q (Some x) f h each = each x h
 
 -- of one of two readings
-instead_some : {X Y : Type 0} (Q : Y → Type 0) (r : Option X) (f : X → Option Y) (other : Option Y) {P : X → Type 0} → IfSome r P
+pub instead_some : {X Y : Type 0} (Q : Y → Type 0) (r : Option X) (f : X → Option Y) (other : Option Y) {P : X → Type 0} → IfSome r P
     → ((x : X) → P x → IfSome (f x) Q) → IfSome other Q → IfSome (instead r f other) Q
 instead_some Q None f other h each last = last
 instead_some Q (Some x) f other h each last = each x h
 
-or_some : {Y : Type 0} (Q : Y → Type 0) (r other : Option Y) → IfSome r Q → IfSome other Q → IfSome (option_or r other) Q
+pub or_some : {Y : Type 0} (Q : Y → Type 0) (r other : Option Y) → IfSome r Q → IfSome other Q → IfSome (option_or r other) Q
 or_some Q None other h last = last
 or_some Q (Some y) other h last = h
 
@@ -52,7 +47,7 @@ if_some Q false r other holds fails = fails refl
 abbrev SpellsBehind : List ℕ → List ℕ → List ℕ → Type 0
 SpellsBehind word text rest = text ≡ word ++ rest
 
-behind_spelled : (word text : List ℕ) → IfSome (behind word text) (SpellsBehind word text)
+pub behind_spelled : (word text : List ℕ) → IfSome (behind word text) (SpellsBehind word text)
 behind_spelled word text = each_some (behind word text) (SpellsBehind word text) (λ rest h. behind_sound word text rest h)
 
 abbrev SpellsNumber : ℕ → ℕ → List ℕ → ℕ × List ℕ → Type 0
@@ -61,7 +56,7 @@ SpellsNumber bits end text n = (n.0 < 2 ^ bits) × (text ≡ decimal n.0 ++ end 
 number_spelled : (end : ℕ) (text : List ℕ) → IfSome (number_at end text) (SpellsNumber 64 end text)
 number_spelled end text = each_some (number_at end text) (SpellsNumber 64 end text) (λ n h. number_sound end text n h)
 
-index_spelled : (end : ℕ) (text : List ℕ) → IfSome (index_at end text) (SpellsNumber 32 end text)
+pub index_spelled : (end : ℕ) (text : List ℕ) → IfSome (index_at end text) (SpellsNumber 32 end text)
 unfolding index_at
 index_spelled end text =
     then_some _ (number_at end text) (λ n. if nat_lt n.0 (2 ^ 32) then Some (n.0, n.1) else None) (number_spelled end text)
@@ -80,7 +75,7 @@ pair_spelled end text =
 abbrev SpellsValued : ℕ → List ℕ → List ℕ → ℕ × ℕ × List ℕ → Type 0
 SpellsValued end word text p = (p.0 < 2 ^ 32) × (p.1 < 2 ^ 64) × (text ≡ word ++ pair_then end p.0 p.1 p.2)
 
-valued_spelled : (end : ℕ) (word text : List ℕ) → IfSome (valued_at end word text) (SpellsValued end word text)
+pub valued_spelled : (end : ℕ) (word text : List ℕ) → IfSome (valued_at end word text) (SpellsValued end word text)
 unfolding valued_at
 valued_spelled end word text =
     then_some _ (behind word text) (pair_at end) (behind_spelled word text)
@@ -91,7 +86,7 @@ SpellsFour word text x =
     (x.0 < 2 ^ 32) × (x.1 < 2 ^ 32) × (x.2 < 2 ^ 32) × (x.3 < 2 ^ 32)
     × (text ≡ word ++ (decimal x.0 ++ 32 ∷ (decimal x.1 ++ 32 ∷ (decimal x.2 ++ 32 ∷ (decimal x.3 ++ 32 ∷ x.4)))))
 
-four_spelled : (word text : List ℕ) → IfSome (four_at word text) (SpellsFour word text)
+pub four_spelled : (word text : List ℕ) → IfSome (four_at word text) (SpellsFour word text)
 unfolding four_at
 four_spelled word text =
     then_some _ (behind word text)
@@ -112,7 +107,7 @@ four_spelled word text =
 abbrev SpellsReply : List ℕ → Reply × List ℕ → Type 0
 SpellsReply text r = FitsReply r.0 × (text ≡ reply_then r.0 r.1)
 
-reply_spelled : (text : List ℕ) → IfSome (reply_at text) (SpellsReply text)
+pub reply_spelled : (text : List ℕ) → IfSome (reply_at text) (SpellsReply text)
 unfolding reply_at
 reply_spelled text =
     instead_some _ (behind (codes "ok\n") text) (λ rest. Some (Stored, rest)) (number_at 10 text >>= λ n. Some (Old n.0, n.1))
@@ -123,7 +118,7 @@ reply_spelled text =
 abbrev SpellsEvent : List ℕ → Option ℕ × List ℕ → Type 0
 SpellsEvent text e = IfSome e.0 (λ n. n < 2 ^ 32) × (text ≡ event_then e.0 e.1)
 
-event_spelled : (text : List ℕ) → IfSome (event_at text) (SpellsEvent text)
+pub event_spelled : (text : List ℕ) → IfSome (event_at text) (SpellsEvent text)
 unfolding event_at
 event_spelled text =
     instead_some _ (behind (codes "-\n") text) (λ rest. Some (None, rest)) (index_at 10 text >>= λ n. Some (Some n.0, n.1))
@@ -173,7 +168,7 @@ newer_spelled text =
     (valued_op Max (codes "max ") text _ (λ v small. small) (λ a v rest. refl)
     (valued_op Min (codes "min ") text None (λ v small. small) (λ a v rest. refl) tt))))
 
-op_spelled : (text : List ℕ) → IfSome (op_at text) (SpellsOp text)
+pub op_spelled : (text : List ℕ) → IfSome (op_at text) (SpellsOp text)
 unfolding op_at
 op_spelled text =
     or_some _ (load_at text) _ (load_spelled text)
@@ -241,126 +236,10 @@ three_spelled text =
     let second : j.1 ≡ decimal k.0 ++ 120 ∷ (decimal l.0 ++ 32 ∷ (codes "3 " ++ rest)) = hk.1 ∙ ap (λ (t : List ℕ). decimal k.0 ++ 120 ∷ t) third in
     ((hj.0, hk.0, hl.0), rw apart (hj.1 ∙ ap (λ (t : List ℕ). decimal j.0 ++ 120 ∷ t) second)))))))
 
-radices_spelled : (text : List ℕ) → IfSome (radices_at text) (SpellsRadices text)
+pub radices_spelled : (text : List ℕ) → IfSome (radices_at text) (SpellsRadices text)
 unfolding radices_at
 radices_spelled text =
     or_some _ (uniform_at text) (option_or (two_at text) (three_at text)) (uniform_spelled text)
     (or_some _ (two_at text) (three_at text) (two_spelled text) (three_spelled text))
 
 -- lines
-abbrev SpellsLine : List ℕ → ReportLine × List ℕ → Type 0
-SpellsLine text x = FitsLine x.0 × (text ≡ line_then x.0 x.1)
-
-entry_spelled : (text : List ℕ) → IfSome (entry_at text) (SpellsLine text)
-unfolding entry_at
-entry_spelled text =
-    then_some _ (four_at (codes "entry ") text)
-    (λ x. op_at x.4 >>= λ op. reply_at op.2
-    >>= λ reply. Some (Entry (record { bank = x.0; place = x.1; source = x.2; tag = x.3; address = op.1; op = op.0; reply = reply.0 }), reply.1))
-    (four_spelled (codes "entry ") text)
-    (λ x hx. then_some _ (op_at x.4)
-    (λ op. reply_at op.2
-    >>= λ reply. Some (Entry (record { bank = x.0; place = x.1; source = x.2; tag = x.3; address = op.1; op = op.0; reply = reply.0 }), reply.1))
-    (op_spelled x.4)
-    (λ op ho. then_some _ (reply_at op.2)
-    (λ reply. Some (Entry (record { bank = x.0; place = x.1; source = x.2; tag = x.3; address = op.1; op = op.0; reply = reply.0 }), reply.1))
-    (reply_spelled op.2)
-    (λ reply hr. (
-      record { bank = hx.0; place = hx.1; source = hx.2; tag = hx.3; address = ho.1; op = ho.0; reply = hr.0 },
-      hx.4
-          ∙ ap (λ (t : List ℕ). codes "entry " ++ (decimal x.0 ++ 32 ∷ (decimal x.1 ++ 32 ∷ (decimal x.2 ++ 32 ∷ (decimal x.3 ++ 32 ∷ t)))))
-          (ho.2 ∙ ap (λ (t : List ℕ). op_then op.0 op.1 t) hr.1),
-    ))))
-
-answer_spelled : (text : List ℕ) → IfSome (answer_at text) (SpellsLine text)
-unfolding answer_at
-answer_spelled text =
-    then_some _ (four_at (codes "answer ") text)
-    (λ x. reply_at x.4 >>= λ reply. Some (Answer (record { processor = x.0; index = x.1; bank = x.2; place = x.3; reply = reply.0 }), reply.1))
-    (four_spelled (codes "answer ") text)
-    (λ x hx. then_some _ (reply_at x.4)
-    (λ reply. Some (Answer (record { processor = x.0; index = x.1; bank = x.2; place = x.3; reply = reply.0 }), reply.1))
-    (reply_spelled x.4)
-    (λ reply hr. (
-      record { processor = hx.0; index = hx.1; bank = hx.2; place = hx.3; reply = hr.0 },
-      hx.4
-          ∙ ap (λ (t : List ℕ). codes "answer " ++ (decimal x.0 ++ 32 ∷ (decimal x.1 ++ 32 ∷ (decimal x.2 ++ 32 ∷ (decimal x.3 ++ 32 ∷ t))))) hr.1,
-    )))
-
-order_spelled : (text : List ℕ) → IfSome (order_at text) (SpellsLine text)
-unfolding order_at
-order_spelled text =
-    then_some _ (four_at (codes "order ") text)
-    (λ x. event_at x.4 >>= λ e. Some (Order (record { bank = x.0; place = x.1; issued = x.2; served = x.3; answered = e.0 }), e.1))
-    (four_spelled (codes "order ") text)
-    (λ x hx. then_some _ (event_at x.4)
-    (λ e. Some (Order (record { bank = x.0; place = x.1; issued = x.2; served = x.3; answered = e.0 }), e.1))
-    (event_spelled x.4)
-    (λ e he. (
-      record { bank = hx.0; place = hx.1; issued = hx.2; served = hx.3; answered = he.0 },
-      hx.4
-          ∙ ap (λ (t : List ℕ). codes "order " ++ (decimal x.0 ++ 32 ∷ (decimal x.1 ++ 32 ∷ (decimal x.2 ++ 32 ∷ (decimal x.3 ++ 32 ∷ t))))) he.1,
-    )))
-
-shape_spelled : (text : List ℕ) → IfSome (shape_at text) (SpellsLine text)
-unfolding shape_at
-shape_spelled text =
-    then_some _ (behind (codes "shape ") text) (λ rest. radices_at rest >>= λ radices. index_at 10 radices.1 >>= λ words. Some (Shape radices.0 words.0, words.1))
-    (behind_spelled (codes "shape ") text)
-    (λ rest is. then_some _ (radices_at rest) (λ radices. index_at 10 radices.1 >>= λ words. Some (Shape radices.0 words.0, words.1)) (radices_spelled rest)
-    (λ radices hr. then_some _ (index_at 10 radices.1) (λ words. Some (Shape radices.0 words.0, words.1)) (index_spelled 10 radices.1)
-    (λ words hw. (
-      (hr.0, hw.0),
-      is ∙ ap (λ (t : List ℕ). codes "shape " ++ t) (hr.1 ∙ ap (λ (t : List ℕ). radices_then radices.0 t) hw.1),
-    ))))
-
-header_spelled : (text : List ℕ) → IfSome (header_at text) (SpellsLine text)
-unfolding header_at
-header_spelled text =
-    then_some _ (behind (codes "torusmem ") text) (λ rest. index_at 10 rest >>= λ version. Some (Header version.0, version.1))
-    (behind_spelled (codes "torusmem ") text)
-    (λ rest is. then_some _ (index_at 10 rest) (λ version. Some (Header version.0, version.1)) (index_spelled 10 rest)
-    (λ version hv. (hv.0, is ∙ ap (λ (t : List ℕ). codes "torusmem " ++ t) hv.1)))
-
-end_spelled : (text : List ℕ) → IfSome (end_at text) (SpellsLine text)
-unfolding end_at
-end_spelled text =
-    instead_some _ (behind (codes "end complete\n") text) (λ rest. Some (End true, rest)) _ (behind_spelled (codes "end complete\n") text) (λ rest is. (tt, is))
-    (instead_some _ (behind (codes "end incomplete\n") text) (λ rest. Some (End false, rest)) None (behind_spelled (codes "end incomplete\n") text)
-    (λ rest is. (tt, is)) tt)
-
-word_spelled : (text : List ℕ) → IfSome (word_at text) (SpellsLine text)
-unfolding word_at
-word_spelled text =
-    instead_some _ (valued_at 10 (codes "word ") text) (λ p. Some (Word p.0 p.1, p.2)) _ (valued_spelled 10 (codes "word ") text)
-    (λ p is. ((is.0, is.1), is.2))
-    (instead_some _ (valued_at 10 (codes "init ") text) (λ p. Some (Init p.0 p.1, p.2)) None (valued_spelled 10 (codes "init ") text)
-    (λ p is. ((is.0, is.1), is.2)) tt)
-
--- the line that a text begins with
-line_read : (text : List ℕ) → IfSome (line_at text) (SpellsLine text)
-unfolding line_at
-line_read text =
-    or_some _ (entry_at text) _ (entry_spelled text)
-    (or_some _ (answer_at text) _ (answer_spelled text)
-    (or_some _ (order_at text) _ (order_spelled text)
-    (or_some _ (word_at text) _ (word_spelled text)
-    (or_some _ (end_at text) _ (end_spelled text) (or_some _ (shape_at text) (header_at text) (shape_spelled text) (header_spelled text))))))
-
-pub line_spelled : (text : List ℕ) → IfSome (line_at text) (λ x. FitsLine x.0 × (text ≡ line_text x.0 ++ x.1))
-line_spelled text = IfSome_then (line_at text) (line_read text) (λ x is. (is.0, is.1 ∙ line_then-is x.0 x.1))
-
--- a text that begins with a line is read so
-pub read_of : (line : ReportLine) (more rest : List ℕ) → FitsLine line → rest ≡ line_text line ++ more → line_at rest ≡ Some (line, more)
-read_of line more rest fits is = ap line_at (is ∙ sym (line_then-is line more)) ∙ line_again line more fits
-
--- what a function returned, by what it reads
-pub gives_found : {X Y : Type 0} (view : X → Y) (r : Option X) (read : Option Y) (P : Y → Type 0) → Gives view r read → IfSome read P → IfSome r (λ x. P (view x))
-gives_found view None read P gives all = tt
-gives_found {X} {Y} view (Some x) read P gives all =
-    let All : Option Y → Type 0 = λ o. IfSome o P in subst All gives all
-
-pub gives_none : {X : Type 0} (view : X → ReportLine × List ℕ) (r : Option X) (text : List ℕ) → Gives view r (line_at text)
-    → IfNone r ((line : ReportLine) (rest : List ℕ) → FitsLine line → text ≢ line_text line ++ rest)
-gives_none view None text gives = λ line rest fits is. none-some (line, rest) (sym gives ∙ read_of line rest text fits is)
-gives_none view (Some x) text gives = tt

@@ -10,7 +10,7 @@ use Rattle.report_reader.specs.Reading.{Gives, line_at}
 use Rattle.report_check.specs.Seen.{Seen, nothing_seen, after, seen_of}
 use Rattle.report_check.specs.Good.{Allowed, AllStand, FirstBad, IsStuck}
 use Rattle.report_check.proofs.Progress.{all_stand_push}
-use Rattle.report_reader.proofs.Found.{read_of}
+use Rattle.report_reader.proofs.LinesFound.{read_of}
 
 -- the lines before number are read, those from it on to the first bad line are ahead
 pub record Going (text rest : List ℕ) (number line : ℕ) (s : Seen) : Type 0 where

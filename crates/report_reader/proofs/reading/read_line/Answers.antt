@@ -1,4 +1,4 @@
-use Rattle.report_reader.proofs.Found.{line_spelled, gives_found, gives_none}
+use Rattle.report_reader.proofs.LinesFound.{line_spelled, gives_found, gives_none}
 use Rattle.report_reader.proofs.reading.read_line.Goals as goal
 
 pub returns-clause-found : goal.returns-clause-found
