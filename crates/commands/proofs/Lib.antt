@@ -6,5 +6,6 @@ pub mod Numbers
 pub mod Counted
 pub mod Shares
 pub mod Joined
+pub mod Lent
 pub mod ByWorkers
 pub mod Watched

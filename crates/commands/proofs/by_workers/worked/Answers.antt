@@ -7,7 +7,8 @@ use Rattle.history.specs.worker_run.specs.fabric.specs.Seats.{IsOf}
 use Rattle.history.specs.worker_run.specs.Watching.{IsWatched}
 use Rattle.history.specs.worker_run.specs.Working.{Working, HasWorked}
 use Rattle.commands.specs.Workers.{new_worker}
-use Rattle.commands.proofs.ByWorkers.{lent, own_after, worked_open}
+use Rattle.commands.proofs.ByWorkers.{own_after, worked_open}
+use Rattle.commands.proofs.Lent.{lent}
 use Rattle.commands.proofs.Watched.{watched_open}
 use Rattle.commands.proofs.by_workers.worked.Goals as goal
 
