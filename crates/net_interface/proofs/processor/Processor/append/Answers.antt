@@ -1,5 +1,5 @@
 use Rattle.script_follower.specs.ProcessorRecord.{ready}
-use Rattle.net_interface.proofs.growing.Processor.append.Goals as goal
+use Rattle.net_interface.proofs.processor.Processor.append.Goals as goal
 
 pub invariant_of-self-then-self-eq0 : goal.invariant_of-self-then-self-eq0
 invariant_of-self-then-self-eq0 g c =

@@ -2,7 +2,7 @@ use Rattle.std.proofs.Common.{◌+◌, [], arith, refl}
 use Rattle.script_follower.specs.ProcessorRecord.{ready}
 use Rattle.net_interface.specs.Inside.{processor_place_of, flits_in_course}
 use Rattle.net_interface.proofs.Course.{some_due, put_within, left_more, left_none, sent_place}
-use Rattle.net_interface.proofs.granted.Processor.sent.Goals as goal
+use Rattle.net_interface.proofs.processor.Processor.sent.Goals as goal
 
 pub overflow_add-self-inside : goal.overflow_add-self-inside
 overflow_add-self-inside g c =
