@@ -13,6 +13,7 @@ import fcntl
 import hashlib
 import os
 import re
+import resource
 import shutil
 import signal
 import subprocess
@@ -119,13 +120,19 @@ def end_with_parent() -> None:
     ctypes.CDLL(None).prctl(1, signal.SIGKILL)
 
 
+def processor_time() -> float:
+    """The processor seconds of all child processes that have ended."""
+    used = resource.getrusage(resource.RUSAGE_CHILDREN)
+    return used.ru_utime + used.ru_stime
+
+
 class Run:
     """A crate that is being proved, in its view."""
 
     def __init__(self, name: str, view: str, jobs: int, held: int) -> None:
         self.name, self.view, self.jobs, self.held = name, view, jobs, held
         self.folder = f"{view}/crates/{name}"
-        self.began = time.monotonic()
+        self.began, self.spent = time.monotonic(), 0.0
         words = ["run", "--jobs", str(jobs), "--", "check", "stdout"] if name == PROGRAM else ["lib", "--jobs", str(jobs)]
         with open(f"{view}/said", "wb") as said:
             self.child = subprocess.Popen(
@@ -137,6 +144,14 @@ class Run:
                 start_new_session=True,
                 preexec_fn=end_with_parent,
             )
+
+    def has_ended(self) -> bool:
+        """Whether it has ended; then the processor time of all its processes is known."""
+        before = processor_time()
+        if self.child.poll() is None:
+            return False
+        self.spent = processor_time() - before
+        return True
 
     def said(self) -> bytes:
         with open(f"{self.view}/said", "rb") as file:
@@ -271,7 +286,8 @@ class Build:
             else:
                 os.rename(out, to)
         with open(self.log_name, "ab") as log:
-            log.write(b"== %s\n%s" % (run.name.encode(), run.said()))
+            spent = f"{run.spent:.0f} s of processor time" if run.spent else "was ended"
+            log.write(f"== {run.name}: {spent}\n".encode() + run.said())
         os.close(run.held)
         shutil.rmtree(run.view, ignore_errors=True)
         del self.running[run.name]
@@ -290,7 +306,7 @@ class Build:
         while len(self.finished) < self.total:
             self.start_more()
             for run in [*self.running.values()]:
-                if run.child.poll() is not None:
+                if run.has_ended():
                     self.ended(run)
             self.draw()
             time.sleep(0.1)

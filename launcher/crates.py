@@ -78,7 +78,8 @@ class Plan:
         name = max(ready, key=lambda it: self.way[it])
         farthest = max(self.way[it] for it in self.uses if it not in done)
         is_long = self.way[name] > 0.9 * farthest
-        return name, max(1, min(self.most if is_long else 2, free - (len(ready) - 1) * (not is_long)))
+        # A second process makes a proof dearer by a third, so a crate has one alone unless the whole waits for it.
+        return name, max(1, min(self.most, free)) if is_long else 1
 
     def left(self, done: set[str], running: dict[str, tuple[int, float]]) -> float:
         """The seconds that are left, where some crates are proved, and some are worked on by so many processes for so long."""
