@@ -468,7 +468,8 @@ static void traces_are_refused(void) {
 }
 
 /* Issues and answers of a watch: what they answer, of which OK is all that changes anything. */
-static torusmem_outcome issues(torusmem_watch *w, uint64_t number, uint32_t operation, uint32_t address, uint64_t first) {
+static torusmem_outcome issues(torusmem_watch *w, uint64_t number, uint32_t operation, uint32_t address,
+                               uint64_t first) {
   return torusmem_watch_issue(w, number, operation, address, first, 0);
 }
 

@@ -337,8 +337,8 @@ torusmem_outcome torusmem_watch_answer(torusmem_watch *w, uint64_t number, uint3
 /* Ends the watch that *w holds, if any, and gives its memory back. It may be begun again then. */
 void torusmem_watch_end(torusmem_watch *w);
 
-/* The library's own calls take no null pointer. So a C program that calls one of the eleven below has a call in front of
-   it, by which a pointer with the length 0 becomes one to an item that is not looked at. */
+/* The library's own calls take no null pointer. So a C program that calls one of the eleven below has a call in front
+   of it, by which a pointer with the length 0 becomes one to an item that is not looked at. */
 static inline const uint8_t *torusmem_text_at(const uint8_t *at, size_t length) {
   static const uint8_t none = 0;
   return length > 0 ? at : &none;

@@ -754,9 +754,9 @@ def linearize(
 
 
 class Watch:
-    """A watch of a trace that goes on: what linearize() judges at the end, it judges at each event, so that a host checks
-    itself while it runs. Its memory follows the operations that are open. opening: the words by address, from 0; there
-    are no other addresses.
+    """A watch of a trace that goes on: what linearize() judges at the end, it judges at each event, so that a host
+    checks itself while it runs. Its memory follows the operations that are open. opening: the words by address, from 0;
+    there are no other addresses.
 
     All calls must come from the thread in which it was made: others are refused (WrongThread). `with` or close() gives
     its memory back, and so does dropping it in its thread.

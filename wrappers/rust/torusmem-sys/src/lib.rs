@@ -239,7 +239,8 @@ extern "C" {
         out: *mut u64,
         out_length: usize,
     ) -> torusmem_outcome;
-    pub fn torusmem_watch_begin(w: *mut torusmem_watch, opening: *const u64, opening_length: usize) -> torusmem_outcome;
+    pub fn torusmem_watch_begin(w: *mut torusmem_watch, opening: *const u64, opening_length: usize)
+        -> torusmem_outcome;
     pub fn torusmem_watch_issue(
         w: *mut torusmem_watch,
         number: u64,

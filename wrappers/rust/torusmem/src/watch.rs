@@ -33,8 +33,7 @@ impl fmt::Display for NotTaken {
 impl Error for NotTaken {}
 
 /// A watch of a trace that goes on: what [`linearize`](crate::linearize) judges at the end, it judges at each event, so
-/// that a host checks itself while it runs. Its memory follows the operations that are open. It stays on its thread, and
-/// isn't shared:
+/// that a host checks itself while it runs. Its memory follows the operations that are open.
 ///
 /// ```
 /// use torusmem::{NotTaken, Operation, Reply, Watch};
@@ -49,6 +48,8 @@ impl Error for NotTaken {}
 /// watch.answer(store, Reply::Ok)?;
 /// # Ok::<(), NotTaken>(())
 /// ```
+///
+/// It stays on its thread, and isn't shared:
 ///
 /// ```compile_fail,E0277
 /// fn sent<T: Send>() {}
