@@ -10,7 +10,8 @@ use Rattle.trace_search.specs.declared.opened.Node.{Node}
 use Rattle.trace_search.specs.Configs.{IsIn, MayTake}
 use Rattle.trace_search.specs.Searches.{configs_of}
 use Rattle.trace_order.proofs.Lists.{get_push_cases, get_append_left, get_push}
-use Rattle.trace_search.proofs.Sound.{grown, node_of, sound_add}
+use Rattle.trace_search.proofs.Picking.{grown, node_of}
+use Rattle.trace_search.proofs.Sound.{sound_add}
 use Rattle.trace_search.proofs.Fewer.{sound_fewer}
 use Rattle.trace_search.proofs.Start.{in_map, map_in}
 use Rattle.trace_judge.specs.Sets.{GoesOn, with_set, StaysSound}

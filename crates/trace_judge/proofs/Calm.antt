@@ -16,7 +16,7 @@ use Rattle.trace_search.specs.declared.opened.Branch.{Branch}
 use Rattle.trace_search.specs.declared.opened.Node.{Node}
 use Rattle.trace_search.specs.Configs.{IsIn, IsLeft, MayTake, Agrees, IsIdle, IsAsGood, effect, with_bit}
 use Rattle.trace_search.proofs.Dominance.{good_same, good_more, good_idle}
-use Rattle.trace_search.proofs.Sound.{grown, node_of}
+use Rattle.trace_search.proofs.Picking.{grown, node_of}
 use Rattle.trace_order.proofs.Lists.{get_push, get_push_cases, get_append_left}
 use Rattle.trace_judge.specs.declared.idles.Idle.{Idle}
 use Rattle.trace_judge.specs.Idles.{FitsAt, IsListed, AreListed, AreLow, fits_at, applies, calmed, settled}

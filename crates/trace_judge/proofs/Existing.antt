@@ -12,7 +12,7 @@ use Rattle.trace_search.specs.declared.opened.Branch.{Branch}
 use Rattle.trace_search.specs.declared.opened.Node.{Node}
 use Rattle.trace_search.specs.Configs.{IsIn}
 use Rattle.trace_search.specs.Searches.{IsTrail, IsSound, order_of}
-use Rattle.trace_search.proofs.Sound.{trail_below}
+use Rattle.trace_search.proofs.Trails.{trail_below}
 use Rattle.trace_judge.specs.declared.search.Search.{Search}
 use Rattle.trace_judge.specs.Sets.{lists_of}
 use Rattle.trace_judge.specs.Searched.{Holds}

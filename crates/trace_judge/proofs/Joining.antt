@@ -7,7 +7,7 @@ use Rattle.trace_search.specs.declared.opened.Node.{Node}
 use Rattle.trace_search.specs.Configs.{IsIn, IsAsGood, HasAsGood, release}
 use Rattle.trace_search.specs.Searches.{configs_of}
 use Rattle.trace_search.proofs.Dominance.{good_more, good_unanswered}
-use Rattle.trace_search.proofs.Sound.{grown, node_of}
+use Rattle.trace_search.proofs.Picking.{grown, node_of}
 use Rattle.trace_order.proofs.Lists.{get_push_cases}
 use Rattle.trace_judge.specs.declared.idles.Idle.{Idle}
 use Rattle.trace_judge.specs.Idles.{AreListed, AreLow, settled}

@@ -9,7 +9,7 @@ use Rattle.trace_search.specs.Configs.{IsIn}
 use Rattle.trace_order.specs.declared.event.Call.{Call}
 use Rattle.trace_search.specs.declared.opened.Branch.{Branch}
 use Rattle.trace_search.specs.Searches.{IsTrail, Picks, order_of}
-use Rattle.trace_search.proofs.Sound.{put, put_same, put_other, order_push}
+use Rattle.trace_search.proofs.Trails.{put, put_same, put_other, order_push}
 use Rattle.trace_order.proofs.Lists.{take_push, get_push_cases, get_append_left, get_push, get_within, set_get_same, get_set_other, within_length}
 use Rattle.trace_judge.specs.Marks.{AreNodes, IsBelow, AreMarked}
 

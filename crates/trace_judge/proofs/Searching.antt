@@ -15,7 +15,7 @@ use Rattle.trace_order.specs.Traces.{IsTrace, IsIssuedAt, IsAnsweredAt}
 use Rattle.trace_search.specs.Configs.{IsIn}
 use Rattle.trace_search.specs.Searches.{IsAt, IsPending, IsTable, Fits, IsCovered, IsSearched, first_branch, configs_of, order_of}
 use Rattle.trace_search.proofs.Start.{none_at, searched_none, searched_issue, searched_more, pending_now}
-use Rattle.trace_search.proofs.Sound.{put, put_same, put_other}
+use Rattle.trace_search.proofs.Trails.{put, put_same, put_other}
 use Rattle.trace_order.proofs.Lists.{get_push}
 use Rattle.trace_judge.specs.declared.search.Search.{Search}
 use Rattle.trace_judge.specs.declared.index.Index.{Index}

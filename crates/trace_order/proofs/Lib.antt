@@ -5,5 +5,6 @@ pub mod Legal
 pub mod Beginnings
 pub mod PathOrders
 pub mod WordOrders
+pub mod Fronts
 pub mod Merging
 mod WrongOnes

@@ -1,5 +1,5 @@
 -- One order for each word, merged into one order of all.
-use Rattle.std.proofs.Common.{◌≡◌, ◌≢◌, ◌⊎◌, inl, inr, ⊎_elim, ℕ, zero, suc, ◌+◌, ◌<◌, ◌≤◌, List, [], ◌∷◌, ◌++◌, length, Some, None, refl, sym, ◌∙◌, ap}
+use Rattle.std.proofs.Common.{◌≡◌, ◌≢◌, ◌⊎◌, ⊎_elim, ℕ, zero, suc, ◌+◌, ◌<◌, ◌≤◌, List, [], ◌∷◌, ◌++◌, length, Some, None, refl, sym, ◌∙◌, ap}
 use Rattle.std.proofs.Common.{subst, arith, slice_get, take, get_or}
 use Rattle.std.proofs.lemmas.Bool.{cases_eq, cases_lt}
 use Rattle.packet.specs.declared.kinds.Reply.{Reply}
@@ -16,6 +16,7 @@ use Rattle.trace_order.proofs.Issues.{one_call, on_push}
 use Rattle.trace_order.proofs.Legal.{legal_none, legal_issue, legal_answer, legal_effect, legal_all, push_on}
 use Rattle.trace_order.proofs.Memory.{word_changed, word_kept}
 use Rattle.trace_order.proofs.WordOrders.{word_of}
+use Rattle.trace_order.proofs.Fronts.{with_front, front_same, front_other}
 
 -- each word has its order
 abbrev HaveOrders : List ℕ → List Event → (ℕ → List Call) → Type 0
@@ -34,30 +35,6 @@ record IsMerged (opening : List ℕ) (trace : List Event) (orders : ℕ → List
       → IsOn order c.id → ⊥
   pub later : (w x : ℕ) (c : Call) → w < length opening → fronts w ≤ x → slice_get (orders w) x ≡ Some c
       → IsUnanswered trace k c.id
-
--- one number of a list by place is another
-pick : (v w n old : ℕ) → (v ≡ w) ⊎ (v ≢ w) → ℕ
-pick v w n old (inl e) = n
-pick v w n old (inr ne) = old
-
-pick_same : (v w n old : ℕ) (s : (v ≡ w) ⊎ (v ≢ w)) → v ≡ w → pick v w n old s ≡ n
-unfolding pick
-pick_same v w n old (inl e) h = refl
-pick_same v w n old (inr ne) h = absurd (ne h)
-
-pick_other : (v w n old : ℕ) (s : (v ≡ w) ⊎ (v ≢ w)) → v ≢ w → pick v w n old s ≡ old
-unfolding pick
-pick_other v w n old (inl e) h = absurd (h e)
-pick_other v w n old (inr ne) h = refl
-
-abbrev with_front : (ℕ → ℕ) → ℕ → ℕ → ℕ → ℕ
-with_front fronts w n v = pick v w n (fronts v) (cases_eq v w)
-
-front_same : (fronts : ℕ → ℕ) (w n v : ℕ) → v ≡ w → with_front fronts w n v ≡ n
-front_same fronts w n v e = pick_same v w n (fronts v) (cases_eq v w) e
-
-front_other : (fronts : ℕ → ℕ) (w n v : ℕ) → v ≢ w → with_front fronts w n v ≡ fronts v
-front_other fronts w n v ne = pick_other v w n (fronts v) (cases_eq v w) ne
 
 merged_none : (opening : List ℕ) (trace : List Event) (orders : ℕ → List Call)
     → IsMerged opening trace orders 0 (λ w. 0) []

@@ -2,6 +2,8 @@ pub mod Bits
 pub mod Table
 pub mod Dominance
 pub mod Fits
+pub mod Trails
+pub mod Picking
 pub mod Sound
 pub mod Walking
 pub mod Complete

@@ -1,8 +1,7 @@
 -- Soundness: whatever branches are picked, one for each word, the order of the nodes on their trails explains the trace so far.
-use Rattle.std.proofs.Common.{◌≡◌, ◌≢◌, ◌⊎◌, ⊎_elim, ℕ, zero, suc, ◌<◌, ◌≤◌, ◌==◌, Bool, true, false, cond, List, [], ◌∷◌, ◌++◌, length, Option, Some, None}
-use Rattle.std.proofs.Common.{refl, sym, ◌∙◌, ap, subst, arith, slice_get, set, get_or, eq-eqb, append-nil}
-use Rattle.std.proofs.lemmas.Bool.{cases_eq, cases_Bool, ne_eqb, cond-true, cond-false}
-use Rattle.std.specs.Option.{IfSome}
+use Rattle.std.proofs.Common.{◌≡◌, ◌≢◌, ◌⊎◌, ⊎_elim, ℕ, suc, ◌<◌, ◌≤◌, Bool, true, false, cond, List, [], ◌∷◌, ◌++◌, length, Option, Some, None}
+use Rattle.std.proofs.Common.{refl, sym, ◌∙◌, ap, subst, arith, slice_get, set, get_or, append-nil}
+use Rattle.std.proofs.lemmas.Bool.{cases_eq}
 use Rattle.packet.specs.declared.kinds.Reply.{Reply}
 use Rattle.packet.specs.Memory.{reply_to}
 use Rattle.trace_order.specs.declared.event.Call.{Call}
@@ -12,87 +11,14 @@ use Rattle.trace_search.specs.declared.opened.Branch.{Branch}
 use Rattle.trace_search.specs.declared.opened.Node.{Node}
 use Rattle.trace_order.specs.Traces.{IsTrace, IsIssuedAt, IsAnsweredAt}
 use Rattle.trace_order.specs.Orders.{IsOrder, memory_of}
-use Rattle.trace_search.specs.Configs.{MayTake, Agrees, IsIn, effect, release}
+use Rattle.trace_search.specs.Configs.{MayTake, IsIn, effect, release}
 use Rattle.trace_search.specs.Searches.{IsAt, AreTables, IsPending, Fits, order_of, IsTrail, Picks, IsExplained, IsSound, AreReleased}
-use Rattle.trace_order.proofs.Lists.{get_push_cases, get_append_left, get_push, get_within}
+use Rattle.trace_order.proofs.Lists.{get_push_cases}
 use Rattle.trace_order.proofs.Legal.{legal_all, legal_issue, legal_answer, legal_effect}
 use Rattle.trace_order.proofs.Issues.{one_issue}
 use Rattle.trace_search.proofs.Fits.{fits_effect, fits_other, fits_issued, fits_answer, fits_widened}
-
--- a function with a new value at one place
-abbrev pub put : {A : Type 0} → (ℕ → A) → ℕ → A → ℕ → A
-put f w x v = cond (v == w) x (f v)
-
-pub put_same : {A : Type 0} (f : ℕ → A) (w : ℕ) (x : A) (v : ℕ) → v ≡ w → put f w x v ≡ x
-put_same f w x v e = cond-true (v == w) x (f v) (eq-eqb v w e)
-
-pub put_other : {A : Type 0} (f : ℕ → A) (w : ℕ) (x : A) (v : ℕ) → v ≢ w → put f w x v ≡ f v
-put_other f w x v ne = cond-false (v == w) x (f v) (ne_eqb v w ne)
-
--- what the word replies is what the trace tells
-pub told : (trace : List Event) (k : ℕ) (o : Open) (word : ℕ) → IsPending trace k o → Agrees o word
-    → (j : ℕ) (reply : Reply) → IsAnsweredAt trace j o.call.id reply
-    → reply ≡ reply_to o.call.operation.op word
-told trace k o word p agrees j reply h =
-    let is = p.kept j reply h in
-    sym (subst (λ (q : Option Reply). IfSome q (λ r. reply_to o.call.operation.op word ≡ r)) is agrees)
-
--- one more node
-pub order_push : (nodes : List Node) (node : Node) (marks : List Bool) (mark : Bool)
-    → length marks ≡ length nodes
-    → order_of (nodes ++ node ∷ []) (marks ++ mark ∷ []) ≡ order_of nodes marks ++ cond mark (node.call ∷ []) []
-order_push [] node [] mark e = refl
-order_push [] node (m ∷ marks) mark e = absurd (omega arith)
-order_push (n ∷ nodes) node [] mark e = absurd (omega arith)
-order_push (n ∷ nodes) node (true ∷ marks) mark e = ap (λ (cs : List Call). n.call ∷ cs)
-    (order_push nodes node marks mark (omega arith))
-order_push (n ∷ nodes) node (false ∷ marks) mark e = order_push nodes node marks mark (omega arith)
-
--- a list with an element has a last one
-pub split_last : {A : Type 0} (xs : List A) (n : ℕ) → length xs ≡ suc n
-    → (ys : List A) × (y : A) × (xs ≡ ys ++ y ∷ []) × (length ys ≡ n)
-split_last [] n e = absurd (omega arith)
-split_last (x ∷ []) n e = ([], x, refl, omega arith)
-split_last (x ∷ z ∷ xs) zero e = absurd (omega arith)
-split_last (x ∷ z ∷ xs) (suc n) e = let r = split_last (z ∷ xs) n (omega arith) in
-    (x ∷ r.0, r.1, ap (λ zs. x ∷ zs) r.2, omega (arith, r.3))
-
--- the nodes on a trail are there
-pub trail_below : (nodes : List Node)
-    → ((i j : ℕ) (node : Node) → slice_get nodes i ≡ Some node → node.before ≡ Some j → j < i)
-    → (trail : List ℕ) (last : Option ℕ) (n : ℕ) → IsTrail nodes last trail → ((i : ℕ) → last ≡ Some i → i < n)
-    → (i : ℕ) → IsIn trail i → i < n
-trail_below nodes back [] last n is low i at = absurd (let e : None ≡ Some i = at.1 in cc)
-trail_below nodes back (j ∷ trail) last n is low i (zero, at) = low i
-    (let e : j ≡ i = cc in is.1 ∙ ap (λ (m : ℕ). Some m) e)
-trail_below nodes back (j ∷ trail) last n is low i (suc k, at) =
-    trail_below nodes back trail is.0.before n is.3
-    (λ m e. let l = back j m is.0 is.2 e in let h = low j is.1 in omega arith) i (k, at)
-
--- a trail stays as nodes are added, and was there before, if it begins below them
-pub trail_push : (nodes : List Node) (node : Node) (trail : List ℕ) (last : Option ℕ) → IsTrail nodes last trail
-    → IsTrail (nodes ++ node ∷ []) last trail
-trail_push nodes node [] last is = is
-trail_push nodes node (i ∷ trail) last is =
-    (is.0, is.1, get_append_left nodes (node ∷ []) i is.0 is.2, trail_push nodes node trail is.0.before is.3)
-
-pub trail_old : (nodes : List Node) (node : Node)
-    → ((i j : ℕ) (n : Node) → slice_get nodes i ≡ Some n → n.before ≡ Some j → j < i)
-    → (trail : List ℕ) (last : Option ℕ) → ((i : ℕ) → last ≡ Some i → i < length nodes)
-    → IsTrail (nodes ++ node ∷ []) last trail → IsTrail nodes last trail
-trail_old nodes node back [] last low is = is
-trail_old nodes node back (i ∷ trail) last low is =
-    let l = low i is.1 in
-    let at : slice_get nodes i ≡ Some is.0 = ⊎_elim
-    (λ h. h)
-    (λ (r : (i ≡ length nodes) × (node ≡ is.0)). absurd (let e = r.0 in omega arith))
-    (get_push_cases nodes node i is.0 is.2) in (
-      is.0,
-      is.1,
-      at,
-      trail_old nodes node back trail is.0.before
-          (λ j e. let m = back i j is.0 at e in omega arith) is.3,
-    )
+use Rattle.trace_search.proofs.Trails.{put, put_same, put_other, told, order_push, split_last}
+use Rattle.trace_search.proofs.Picking.{grown, node_of, length-node_push, picks_old, picks_new}
 
 pub sound_issue : (opening : List ℕ) (trace : List Event) (k : ℕ) (tables later : ℕ → List (Option Open))
     (sets : ℕ → List Branch) (nodes : List Node) (s : ℕ) (b : Open)
@@ -135,158 +61,6 @@ sound_more opening trace k tables later sets nodes w new same sound = record {
         fits = λ v l. fits_widened opening tables later w new same v (order_of nodes marks) (pick v).config (was.fits v l);
       };
 }
-
--- the branch in which an operation has taken effect
-abbrev pub grown : List Node → Branch → ℕ → Open → Branch
-grown nodes b s o = record { config = effect b.config s o; trail = Some (length nodes) }
-
-abbrev pub node_of : Branch → Open → Node
-node_of b o = record { call = o.call; before = b.trail }
-
--- a trail that begins with a new node
-new_trail : (nodes : List Node) (node : Node) (trail : List ℕ)
-    → IsTrail (nodes ++ node ∷ []) (Some (length nodes)) trail
-    → (rest : List ℕ) × (trail ≡ length nodes ∷ rest) × IsTrail (nodes ++ node ∷ []) node.before rest
-new_trail nodes node [] is = cc
-new_trail nodes node (i ∷ trail) is =
-    let e : length nodes ≡ i = let h = is.1 in cc in
-    let at : slice_get (nodes ++ node ∷ []) i ≡ Some node = ap (λ (j : ℕ). slice_get (nodes ++ node ∷ []) j) (sym e)
-    ∙ get_push nodes node in
-    let same : is.0 ≡ node = let h = is.2 in cc in (
-      trail,
-      ap (λ (j : ℕ). j ∷ trail) (sym e),
-      subst
-          (λ (n : Node). IsTrail (nodes ++ node ∷ []) n.before trail) same is.3,
-    )
-
-pub length-node_push : (ns : List Node) (n : Node) → length (ns ++ n ∷ []) ≡ suc (length ns)
-length-node_push [] n = refl
-length-node_push (m ∷ ns) n = ap suc (length-node_push ns n)
-
-get_init : {A : Type 0} (xs : List A) (y : A) (k : ℕ) (x : A) → k < length xs
-    → slice_get (xs ++ y ∷ []) k ≡ Some x → slice_get xs k ≡ Some x
-get_init xs y k x l h = ⊎_elim
-    (λ old. old)
-    (λ (r : (k ≡ length xs) × (y ≡ x)). absurd (let e = r.0 in omega arith))
-    (get_push_cases xs y k x h)
-
--- Where all that are picked were there before, the last node is not marked.
-picks_old : (words : ℕ) (sets later : ℕ → List Branch) (nodes : List Node) (node : Node) (pick : ℕ → Branch)
-    (trails : ℕ → List ℕ) (marks init : List Bool) (m : Bool)
-    → ((i j : ℕ) (n : Node) → slice_get nodes i ≡ Some n → n.before ≡ Some j → j < i)
-    → ((w i : ℕ) (b : Branch) → w < words → IsIn (sets w) b → b.trail ≡ Some i → i < length nodes)
-    → marks ≡ init ++ m ∷ [] → length init ≡ length nodes → ((v : ℕ) → v < words → IsIn (sets v) (pick v))
-    → Picks words later (nodes ++ node ∷ []) pick trails marks
-    → Picks words sets nodes pick trails init × (m ≡ false)
-picks_old words sets later nodes node pick trails marks init m back inside e sized old picks =
-    let trailed : (v : ℕ) → v < words → IsTrail nodes (pick v).trail (trails v) =
-    λ v l. trail_old nodes node back (trails v) (pick v).trail (λ i h. inside v i (pick v) l (old v l) h)
-    (picks.trailed v l) in
-    let below : (v i : ℕ) → v < words → IsIn (trails v) i → i < length init =
-    λ v i l at. let r = trail_below nodes back (trails v) (pick v).trail (length nodes) (trailed v l)
-    (λ j h. inside v j (pick v) l (old v l) h) i at in omega arith in (
-      record {
-        sized = sized;
-        picked = old;
-        trailed = trailed;
-        marked = λ v i l at. get_init init m i true (below v i l at)
-            (ap (λ (ms : List Bool). slice_get ms i) (sym e) ∙ picks.marked v i l at);
-        only = λ i h. picks.only i
-            (ap (λ (ms : List Bool). slice_get ms i) e ∙ get_append_left init (m ∷ []) i true h);
-      },
-      ⊎_elim
-          (λ (yes : m ≡ true).
-          let at : slice_get marks (length init) ≡ Some true = ap (λ (ms : List Bool). slice_get ms (length init)) e
-          ∙ (get_push init m ∙ ap (λ (x : Bool). Some x) yes) in
-          let r = picks.only (length init) at in
-          absurd (let l = below r.0 (length init) r.1 r.2 in omega arith))
-          (λ (no : m ≡ false). no)
-          (cases_Bool m),
-    )
-
--- Where the one that is picked for word w goes on by the last node, that is marked, and the others' marks are those of its beginning.
-picks_new : (words : ℕ) (sets later : ℕ → List Branch) (nodes : List Node) (node : Node) (pick : ℕ → Branch)
-    (trails : ℕ → List ℕ) (marks init : List Bool) (m : Bool) (w : ℕ) (b : Branch)
-    → ((i j : ℕ) (n : Node) → slice_get nodes i ≡ Some n → n.before ≡ Some j → j < i)
-    → ((w i : ℕ) (b : Branch) → w < words → IsIn (sets w) b → b.trail ≡ Some i → i < length nodes)
-    → marks ≡ init ++ m ∷ [] → length init ≡ length nodes → w < words → IsIn (sets w) b → b.trail ≡ node.before
-    → (pick w).trail ≡ Some (length nodes)
-    → ((v : ℕ) → v < words → v ≢ w → IsIn (sets v) (pick v))
-    → Picks words later (nodes ++ node ∷ []) pick trails marks
-    → (rest : List ℕ) × Picks words sets nodes (put pick w b) (put trails w rest) init × (m ≡ true)
-picks_new words sets later nodes node pick trails marks init m w b back inside e sized there in' leads new old picks =
-    let trail = new_trail nodes node (trails w)
-    (subst (λ (last : Option ℕ). IsTrail (nodes ++ node ∷ []) last (trails w)) new (picks.trailed w there)) in
-    let rest : List ℕ = trail.0 in
-    let pick' : ℕ → Branch = put pick w b in
-    let trails' : ℕ → List ℕ = put trails w rest in
-    let picked : (v : ℕ) → v < words → IsIn (sets v) (pick' v) = λ v l. ⊎_elim {C = IsIn (sets v) (pick' v)}
-    (λ (here : v ≡ w). subst (λ (c : Branch). IsIn (sets v) c) (sym (put_same pick w b v here))
-    (subst (λ (u : ℕ). IsIn (sets u) b) (sym here) in'))
-    (λ (ne : v ≢ w). subst (λ (c : Branch). IsIn (sets v) c) (sym (put_other pick w b v ne)) (old v l ne))
-    (cases_eq v w) in
-    let is_trail : (v : ℕ) → v < words → IsTrail (nodes ++ node ∷ []) (pick' v).trail
-    (trails' v) = λ v l. ⊎_elim {C = IsTrail (nodes ++ node ∷ []) (pick' v).trail (trails' v)}
-    (λ (here : v ≡ w).
-    subst (λ (c : Branch). IsTrail (nodes ++ node ∷ []) c.trail (trails' v)) (sym (put_same pick w b v here))
-    (subst (λ (is : List ℕ). IsTrail (nodes ++ node ∷ []) b.trail is) (sym (put_same trails w rest v here))
-    (subst (λ (last : Option ℕ). IsTrail (nodes ++ node ∷ []) last rest) (sym leads) trail.2)))
-    (λ (ne : v ≢ w).
-    subst (λ (c : Branch). IsTrail (nodes ++ node ∷ []) c.trail (trails' v)) (sym (put_other pick w b v ne))
-    (subst (λ (is : List ℕ). IsTrail (nodes ++ node ∷ []) (pick v).trail is) (sym (put_other trails w rest v ne))
-    (picks.trailed v l)))
-    (cases_eq v w) in
-    let trailed : (v : ℕ) → v < words → IsTrail nodes (pick' v).trail (trails' v) =
-    λ v l. trail_old nodes node back (trails' v) (pick' v).trail (λ i h. inside v i (pick' v) l (picked v l) h)
-    (is_trail v l) in
-    let below : (v i : ℕ) → v < words → IsIn (trails' v) i → i < length init =
-    λ v i l at. let r = trail_below nodes back (trails' v) (pick' v).trail (length nodes) (trailed v l)
-    (λ j h. inside v j (pick' v) l (picked v l) h) i at in omega arith in
-    let on : (v i : ℕ) → v < words → IsIn (trails' v) i → IsIn
-    (trails v) i = λ v i l at. ⊎_elim {C = IsIn (trails v) i}
-    (λ (here : v ≡ w).
-    let r : IsIn rest i = subst (λ (is : List ℕ). IsIn is i) (put_same trails w rest v here) at in
-    let q : IsIn (length nodes ∷ rest) i = (suc r.0, r.1) in
-    subst (λ (u : ℕ). IsIn (trails u) i) (sym here) (subst (λ (is : List ℕ). IsIn is i) (sym trail.1) q))
-    (λ (ne : v ≢ w). subst (λ (is : List ℕ). IsIn is i) (put_other trails w rest v ne) at)
-    (cases_eq v w) in (
-      rest,
-      record {
-        sized = sized;
-        picked = picked;
-        trailed = trailed;
-        marked = λ v i l at. get_init init m i true (below v i l at)
-            (ap (λ (ms : List Bool). slice_get ms i) (sym e) ∙ picks.marked v i l (on v i l at));
-        only = λ i h.
-            let far : slice_get marks i ≡ Some true = ap (λ (ms : List Bool). slice_get ms i) e
-            ∙ get_append_left init (m ∷ []) i true h in
-            let r = picks.only i far in
-            let v = r.0 in (
-              v,
-              r.1,
-              ⊎_elim {C = IsIn (trails' v) i}
-                  (λ (here : v ≡ w).
-                  let q : IsIn (length nodes ∷ rest) i = subst (λ (is : List ℕ). IsIn is i) trail.1
-                  (subst (λ (u : ℕ). IsIn (trails u) i) here r.2) in
-                  let p : IsIn rest i = behind (length nodes) rest i q
-                  (λ same. let l = get_within init i true h in omega arith) in
-                  subst (λ (is : List ℕ). IsIn is i) (sym (put_same trails w rest v here)) p)
-                  (λ (ne : v ≢ w). subst (λ (is : List ℕ). IsIn is i) (sym (put_other trails w rest v ne)) r.2)
-                  (cases_eq v w),
-            );
-      },
-      (let first : IsIn (length nodes ∷ rest) (length nodes) = (zero, refl) in
-          let at : slice_get marks (length nodes) ≡ Some true = picks.marked w (length nodes) there
-          (subst (λ (is : List ℕ). IsIn is (length nodes)) (sym trail.1) first) in
-          let is : slice_get marks (length init) ≡ Some m = ap (λ (ms : List Bool). slice_get ms (length init)) e
-          ∙ get_push init m in
-          let same : slice_get marks (length init) ≡ Some true = ap (λ (j : ℕ). slice_get marks j) sized ∙ at in
-          cc),
-    )
-  where
-    behind : (n : ℕ) (rest : List ℕ) (i : ℕ) → IsIn (n ∷ rest) i → i ≢ n → IsIn rest i
-    behind n rest i (zero, at) ne = absurd (ne (let e : n ≡ i = cc in sym e))
-    behind n rest i (suc k, at) ne = (k, at)
 
 -- An operation takes effect in one of the branches, which makes a node, and a new branch.
 pub sound_add : (opening : List ℕ) (trace : List Event) (k : ℕ) (tables : ℕ → List (Option Open))
