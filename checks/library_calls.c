@@ -118,6 +118,7 @@ static void every_call_says_empty(torusmem_machine *m) {
   MUST(says(torusmem_run(m, &attempt, 1), TORUSMEM_EMPTY, 0) && says(torusmem_run(m, NULL, 0), TORUSMEM_EMPTY, 0));
   MUST(says(torusmem_round(m), TORUSMEM_EMPTY, 0));
   MUST(says(torusmem_finish(m), TORUSMEM_EMPTY, 0));
+  MUST(says(torusmem_append(m, 0, TORUSMEM_LOAD, 0, 0, 0, 0), TORUSMEM_EMPTY, 0));
   MUST(says(torusmem_finished(m), TORUSMEM_EMPTY, 0));
   MUST(says(torusmem_moves_left(m), TORUSMEM_EMPTY, 0));
   MUST(says(torusmem_tiles(m), TORUSMEM_EMPTY, 0));
@@ -173,6 +174,48 @@ static void texts_that_meet(torusmem_machine *m) {
   torusmem_free(m);
   MUST(!m->full && live == 0);
   MUST(says(torusmem_load(m, machine, length, NULL, 0), TORUSMEM_OK, 0) && says(torusmem_finished(m), TORUSMEM_OK, 1));
+  torusmem_free(m);
+  MUST(!m->full && live == 0);
+}
+
+static bool was_answered(torusmem_machine *m, uint32_t processor, uint32_t i, uint32_t has_old, uint64_t old) {
+  torusmem_answer answer = torusmem_answer_at(m, processor, i);
+  return answer.code == TORUSMEM_OK && answer.index == i && answer.has_old == has_old && answer.old == old;
+}
+
+/* Makes rounds until all scripts are finished, and two more, in which all processors report and see it. */
+static bool reports(torusmem_machine *m) {
+  return torusmem_finish(m).code == TORUSMEM_OK && says(torusmem_round(m), TORUSMEM_OK, 0) &&
+         says(torusmem_round(m), TORUSMEM_OK, 0) && says(torusmem_finished(m), TORUSMEM_OK, 1);
+}
+
+/* Lines that come later: each fault, in its order, after which the machine is as it was; and lines that are taken, with
+   values that are numbers or `last`. */
+static void lines_that_come_later(torusmem_machine *m) {
+  MUST(says(load_texts(m, "radix 2\ndims 1\ndepth 4\ntags 4\nwords 8\n", "0 store 5 17\n"), TORUSMEM_OK, 0));
+  MUST(reports(m));
+  uint64_t left = torusmem_moves_left(m).value;
+  MUST(says(torusmem_append(m, 2, 12, 8, 0, 0, 0), TORUSMEM_NONE, 0));
+  MUST(says(torusmem_append(m, 2, TORUSMEM_LOAD, 8, 0, 0, 0), 8, 0));
+  MUST(says(torusmem_append(m, 0, TORUSMEM_SPIN, 8, 0, 0, 0), 7, 0));
+  MUST(says(torusmem_append(m, 0, TORUSMEM_SPIN, 7, 0, 0, 0), 6, 0));
+  MUST(says(torusmem_append(m, 0, TORUSMEM_SPIN, 7, 0, 4097, 0), 6, 0));
+  MUST(says(torusmem_append(m, 0, TORUSMEM_SPIN, 7, 0, UINT64_C(4294967297), 0), 6, 0));
+  MUST(says(torusmem_append(m, 1, TORUSMEM_STORE, 7, 0, 0, TORUSMEM_FIRST_IS_LAST), 10, 0));
+  MUST(says(torusmem_append(m, 1, TORUSMEM_CAS, 7, 0, 0, TORUSMEM_SECOND_IS_LAST), 10, 0));
+  MUST(says(torusmem_append(m, 0, TORUSMEM_SPIN, 7, 0, 4096, 0), 9, 0));
+  MUST(says(torusmem_moves_left(m), TORUSMEM_OK, left) && says(torusmem_row(m, 104), TORUSMEM_OK, 2));
+  MUST(says(torusmem_append(m, 1, TORUSMEM_LOAD, 5, 9, 9, 3), TORUSMEM_OK, 0));
+  MUST(says(torusmem_row(m, 104), TORUSMEM_OK, 0) && says(torusmem_finished(m), TORUSMEM_OK, 0));
+  MUST(reports(m) && was_answered(m, 1, 0, 1, 17) && says(torusmem_row(m, 104), TORUSMEM_OK, 2));
+  MUST(says(torusmem_append(m, 1, TORUSMEM_CAS, 5, 0, 9, TORUSMEM_FIRST_IS_LAST), TORUSMEM_OK, 0));
+  MUST(says(torusmem_append(m, 1, TORUSMEM_FENCE, 99, 0, 0, 0), TORUSMEM_OK, 0));
+  MUST(says(torusmem_append(m, 1, TORUSMEM_CAS, 5, 9, 0, TORUSMEM_SECOND_IS_LAST), TORUSMEM_OK, 0));
+  MUST(says(torusmem_append(m, 1, TORUSMEM_ADD, 6, 3, 0, TORUSMEM_SECOND_IS_LAST), TORUSMEM_OK, 0));
+  MUST(says(torusmem_append(m, 0, TORUSMEM_SPIN, 6, 3, 4000, 0), TORUSMEM_OK, 0));
+  MUST(says(torusmem_append(m, 0, TORUSMEM_MIN, 6, 2, 0, 0), TORUSMEM_OK, 0));
+  MUST(reports(m) && was_answered(m, 1, 1, 1, 17) && was_answered(m, 1, 2, 1, 9) && was_answered(m, 1, 3, 1, 0));
+  MUST(says(torusmem_word(m, 5), TORUSMEM_OK, 17) && says(torusmem_word(m, 6), TORUSMEM_OK, 2));
   torusmem_free(m);
   MUST(!m->full && live == 0);
 }
@@ -562,6 +605,7 @@ static void codes(void) {
   every_call_says_empty(&m);
   faults_keep_nothing(&m);
   texts_that_meet(&other);
+  lines_that_come_later(&other);
   faults_are_explained();
   networks_are_judged();
   spins_run_out(&other);

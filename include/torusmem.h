@@ -158,6 +158,26 @@ torusmem_outcome torusmem_round(torusmem_machine *m);
 /* Makes rounds until every script is finished. OK, value: how many rounds, the least number that does; EMPTY. */
 torusmem_outcome torusmem_finish(torusmem_machine *m);
 
+/* Lines of a script beside the operations: the next operation is issued when every earlier one is answered; loads of the
+   address, one at a time, until one is answered with the first value, at most as many as the second says. */
+enum { TORUSMEM_FENCE = 10, TORUSMEM_SPIN = 11 };
+
+/* Which values of a line are `last`, the number replied to the operation just before it: add them for both. */
+enum { TORUSMEM_FIRST_IS_LAST = 1, TORUSMEM_SECOND_IS_LAST = 2 };
+
+/* Gives a processor a further line at the end of its script, at any time, before steps or after them: an operation
+   (TORUSMEM_LOAD .. TORUSMEM_MIN), a fence or a spin. Where the processor has reported that its script is finished, all
+   reports are taken back first. A value that the line doesn't have isn't looked at; nor is the address of a fence.
+   first: the value of a store, swap, add, and, or, xor, max or min; what a cas expects; what a spin waits for.
+   second: what a cas writes; how many loads a spin may make, 1 to 4096.
+   OK, value 0: the line is taken; NONE: no line has this number; EMPTY; the first fault that the line has, value 0, in
+   this order: 8, there is no such processor; 7, no such address; 6, a spin hasn't 1 to 4096 loads; 10, `last` with no
+   operation before it; 9, a script has at most 4096 operations, and all together at most 65536; or
+   TORUSMEM_FAULT_MEMORY. But for OK nothing has changed. It is the one call after torusmem_load that takes memory for
+   the machine. */
+torusmem_outcome torusmem_append(torusmem_machine *m, uint32_t processor, uint32_t operation, uint32_t address,
+                                 uint64_t first, uint64_t second, uint32_t lasts);
+
 /* Whether every script is finished. OK, value 1 or 0; EMPTY. */
 torusmem_outcome torusmem_finished(torusmem_machine *m);
 

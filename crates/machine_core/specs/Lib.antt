@@ -1,6 +1,8 @@
 pub use Rattle.machine_growth.specs.core_machine
 pub use Rattle.machine_growth.specs.core_laws
 pub use Rattle.machine_growth.specs.order_abstract
+pub use Rattle.machine_growth.specs.core_growth
+pub use Rattle.machine_growth.specs.core_reopening
 pub mod Inside
 pub mod Loaded
 pub mod Rounds

@@ -1,11 +1,11 @@
-use crate::machines::{PAIR, SQUARE, are_alike, drawn_machine, loaded, machine_of};
+use crate::machines::{PAIR, SQUARE, are_alike, drawn_machine, loaded, machine_of, round_steps};
 use linked_list_allocator::LocalHeap;
 use machine_core::Machine;
 use packet::Reply;
 use script::{Line, Value};
 use std::alloc::{AllocError, Allocator, Global};
 use std::test::Fail;
-use torus::Fault;
+use torus::{Choice, Fault, Step, Stepped};
 
 /// What is done to a machine, and what is wanted of it.
 #[derive(Clone, Copy)]
@@ -295,24 +295,61 @@ const LINES: [(u32, Line, &[u8]); 7] = [
     (0, LOAD, b"0 load 5\n"),
 ];
 
-/// Whether a machine that is handed the lines from one on before its first step is, round by round, the
-/// machine that is loaded with all of them.
-fn leads_alike(alloc: Global, from: usize) -> Result<bool, Fault> {
-    let mut part = Vec::new(alloc);
-    let mut whole = Vec::new(alloc);
-    for (number, &(_, _, text)) in LINES.iter().enumerate() {
-        if whole.extend_from_slice(text).is_err() {
-            return Err(Fault::Memory);
-        }
-        if number < from && part.extend_from_slice(text).is_err() {
+/// The machine that is loaded with so many of the lines.
+fn with_lines(alloc: Global, count: usize) -> Result<Machine, Fault> {
+    let mut text = Vec::new(alloc);
+    for &(_, _, line) in LINES.iter().take(count) {
+        if text.extend_from_slice(line).is_err() {
             return Err(Fault::Memory);
         }
     }
-    let mut longer = machine_of(alloc, PAIR, whole.as_slice(), 1)?;
-    let mut grown = machine_of(alloc, PAIR, part.as_slice(), 1)?;
+    machine_of(alloc, PAIR, text.as_slice(), 1)
+}
+
+fn is_report(step: Step) -> bool {
+    step.choice == Choice::Done || step.choice == Choice::Look
+}
+
+/// The moves that a machine of two tiles makes in so many rounds.
+fn moves_in(alloc: Global, machine: &mut Machine, rounds: u32) -> Result<Vec<Step>, AllocError> {
+    let steps = round_steps(alloc, 2, 10)?;
+    let mut moves = Vec::new(alloc);
+    for _ in 0..rounds {
+        for &step in steps.as_slice() {
+            if machine.step(step) == Stepped::Moved {
+                moves.push(step)?;
+            }
+        }
+    }
+    Ok(moves)
+}
+
+/// Gives a machine that has made these moves the lines from one on; where a line's processor has reported,
+/// its moves are those without the reports then.
+fn handed(machine: &mut Machine, moves: &mut Vec<Step>, from: usize) -> Result<(), Fault> {
     for &(processor, line, _) in LINES.iter().skip(from) {
-        grown.append(processor, line)?;
+        let report = Step {
+            agent: processor.wrapping_mul(3),
+            choice: Choice::Done,
+        };
+        if moves.as_slice().contains(&report) {
+            moves.retain(|step| !is_report(*step));
+        }
+        machine.append(processor, line)?;
     }
+    Ok(())
+}
+
+/// Whether a machine that is handed the lines from one on after so many rounds stands where its moves lead
+/// from the load with all the lines, and is round by round the same as that one.
+fn leads_alike(alloc: Global, from: usize, rounds: u32) -> Result<bool, Fault> {
+    let mut grown = with_lines(alloc, from)?;
+    let mut longer = with_lines(alloc, LINES.len())?;
+    let Ok(mut moves) = moves_in(alloc, &mut grown, rounds) else {
+        return Err(Fault::Memory);
+    };
+    handed(&mut grown, &mut moves, from)?;
+    longer.run(moves.as_slice());
     for _ in 0..100 {
         if !are_alike(alloc, &longer, &grown) {
             return Ok(false);
@@ -324,10 +361,12 @@ fn leads_alike(alloc: Global, from: usize) -> Result<bool, Fault> {
 }
 
 #[test]
-fn lines_before_the_first_step_are_as_loaded(rt: HostRuntime) -> Result<(), Fail> {
+fn lines_lead_where_the_longer_load_leads(rt: HostRuntime) -> Result<(), Fail> {
     for from in 0..8 {
-        let alike = leads_alike(rt.alloc(), from)?;
-        assert!(rt; alike, "lines from {from} on");
+        for &rounds in &[0, 1, 2, 3, 5, 8, 12, 20, 60] {
+            let alike = leads_alike(rt.alloc(), from, rounds)?;
+            assert!(rt; alike, "lines from {from} on, after {rounds} rounds");
+        }
     }
     Ok(())
 }

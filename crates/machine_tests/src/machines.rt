@@ -570,7 +570,7 @@ const PROCESSOR_CHOICES: &[Choice] = &[
 const BANK_CHOICES: &[Choice] = &[Choice::Take, Choice::Serve, Choice::Send, Choice::Credit];
 
 /// The attempts of a round: each choice of each agent, in order.
-fn round_steps(alloc: Global, tiles: u8, ports: u8) -> Result<Vec<Step>, AllocError> {
+pub fn round_steps(alloc: Global, tiles: u8, ports: u8) -> Result<Vec<Step>, AllocError> {
     let mut steps = Vec::new(alloc);
     for tile in 0..tiles {
         let agent = 3 * u32::from(tile);

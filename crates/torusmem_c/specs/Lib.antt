@@ -13,3 +13,4 @@ pub mod Explained
 pub mod Spins
 pub mod Traces
 pub mod Watching
+pub mod Appending

@@ -1,6 +1,7 @@
 //! The machine as a static library for C: each call's clauses are those of the call below it, said of what C sees.
 #![tactic(auto)]
 
+pub mod appending;
 mod choice;
 pub mod explaining;
 pub mod networks;

@@ -6,7 +6,7 @@ import random
 import unittest
 
 from model import Model
-from torusmem import Machine
+from torusmem import FENCE, SPIN, Machine, Operation
 
 MACHINES = {
     "a ring of two": "radix 2\ndims 1\ndepth 1\ntags 1\nwords 3\ninit 1 7\n",
@@ -34,6 +34,27 @@ def drawn_script(draw: random.Random, tiles: int, words: int, lines: int) -> str
             begun.add(tile)
         made.append(" ".join([str(tile), *words_of]) + "\n")
     return "".join(made)
+
+
+class Appended(unittest.TestCase):
+    """Lines that come later."""
+
+    def test_lines_that_come_later(self) -> None:
+        with Machine("radix 2\ndims 1\ndepth 4\ntags 4\nwords 8\n", "0 store 5 17\n") as machine:
+            machine.finish()
+            machine.append(1, Operation.LOAD, 5)
+            machine.append(1, FENCE)
+            machine.append(1, Operation.CAS, 5, None, 2**64 - 1)
+            machine.append(0, SPIN, 5, 2**64 - 1, 4000)
+            machine.append(0, Operation.STORE, 6, None)
+            machine.finish()
+            self.assertEqual((machine.word(5), machine.word(6)), (2**64 - 1, 2**64 - 1))
+            self.assertEqual([it.old for it in machine.answers(1)], [17, 17])
+            for refused in ((2, Operation.LOAD, 0), (0, Operation.LOAD, 8), (0, SPIN, 0, 0, 4097), (1, SPIN, 0, 0, 4096)):
+                self.assertRaises(ValueError, machine.append, *refused)
+            self.assertRaises(ValueError, machine.append, 0, Operation.STORE, 0, 2**64)
+            self.assertRaises(IndexError, machine.append, 0, 12)
+            self.assertTrue(machine.finished)
 
 
 class Beside(unittest.TestCase):

@@ -49,6 +49,7 @@ __all__ = [
     "Entry",
     "Event",
     "EventFault",
+    "FENCE",
     "Issued",
     "Judged",
     "Kind",
@@ -63,6 +64,7 @@ __all__ = [
     "Operation",
     "REASONS",
     "Rising",
+    "SPIN",
     "Spin",
     "Steps",
     "TextFault",
@@ -200,6 +202,11 @@ class Operation(IntEnum):
     XOR = 7
     MAX = 8
     MIN = 9
+
+
+# Lines of a script that are no operation, for Machine.append.
+FENCE = _library.FENCE
+SPIN = _library.SPIN
 
 
 class Kind(IntEnum):
@@ -441,6 +448,32 @@ class Machine:
     def finish(self) -> int:
         """Makes rounds until every script is finished; how many. Such a call ends, and can't be interrupted before."""
         return self._value(self._calls.finish(self._here()))
+
+    def append(
+        self,
+        processor: int,
+        operation: int,
+        address: int = 0,
+        first: Optional[int] = 0,
+        second: Optional[int] = 0,
+    ) -> None:
+        """Gives a processor a further line at the end of its script, at any time: an Operation, FENCE or SPIN.
+
+        first: the value of a store, swap, add, and, or, xor, max or min; what a cas expects; what a spin waits for
+        second: what a cas writes; how many loads a spin may make, 1 to 4096
+
+        A value that is None is `last`, the number replied to the operation just before it. What the line doesn't have
+        isn't looked at. ValueError tells why the line is refused; the machine is as it was then.
+        """
+        words = _number(processor, "processor"), _number(operation, "operation"), _number(address, "address")
+        values = [0 if it is None else _whole(it) for it in (first, second)]
+        if not all(0 <= it < 2**64 for it in values):
+            raise ValueError("a value is a word of 64 bits")
+        lasts = (_library.FIRST_IS_LAST if first is None else 0) + (_library.SECOND_IS_LAST if second is None else 0)
+        said = self._calls.append(self._here(), *words, *values, lasts)
+        if said.code in REASONS and said.code != _library.FAULT_MEMORY:
+            raise ValueError(f"torusmem: {REASONS[said.code]} (F{said.code})")
+        self._value(said, "such line")
 
     @property
     def finished(self) -> bool:

@@ -13,6 +13,7 @@ SONAME = "libtorusmem.so.0.1"
 OK, FAULT_MEMORY, BAD_REPORT, EMPTY, FULL, NONE, SHORT, NO_ROUTE, CYCLE = 0, 12, 15, 16, 17, 18, 19, 20, 21
 NOT_LINEARIZABLE, TOO_MANY, TOO_OPEN = 22, 23, 24
 ISSUE, ANSWER = 0, 1
+FENCE, SPIN, FIRST_IS_LAST, SECOND_IS_LAST = 10, 11, 1, 2
 NO_TEXT, MACHINE_TEXT, SCRIPTS_TEXT = 0, 1, 2
 LONGEST_ROUTE = 10
 
@@ -84,6 +85,7 @@ CALLS = {
     "enabled": (Outcome, [_M, c_uint32, c_uint32, c_uint32]),
     "round": (Outcome, [_M]),
     "finish": (Outcome, [_M]),
+    "append": (Outcome, [_M, c_uint32, c_uint32, c_uint32, c_uint64, c_uint64, c_uint32]),
     "finished": (Outcome, [_M]),
     "moves_left": (Outcome, [_M]),
     "tiles": (Outcome, [_M]),

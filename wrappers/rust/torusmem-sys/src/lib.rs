@@ -65,6 +65,12 @@ pub const TORUSMEM_XOR: u32 = 7;
 pub const TORUSMEM_MAX: u32 = 8;
 pub const TORUSMEM_MIN: u32 = 9;
 
+pub const TORUSMEM_FENCE: u32 = 10;
+pub const TORUSMEM_SPIN: u32 = 11;
+
+pub const TORUSMEM_FIRST_IS_LAST: u32 = 1;
+pub const TORUSMEM_SECOND_IS_LAST: u32 = 2;
+
 pub const TORUSMEM_INJECTION: u32 = 0;
 pub const TORUSMEM_HOP: u32 = 1;
 pub const TORUSMEM_EJECTION: u32 = 2;
@@ -193,6 +199,15 @@ extern "C" {
     pub fn torusmem_enabled(m: *mut torusmem_machine, agent: u32, choice: u32, number: u32) -> torusmem_outcome;
     pub fn torusmem_round(m: *mut torusmem_machine) -> torusmem_outcome;
     pub fn torusmem_finish(m: *mut torusmem_machine) -> torusmem_outcome;
+    pub fn torusmem_append(
+        m: *mut torusmem_machine,
+        processor: u32,
+        operation: u32,
+        address: u32,
+        first: u64,
+        second: u64,
+        lasts: u32,
+    ) -> torusmem_outcome;
     pub fn torusmem_finished(m: *mut torusmem_machine) -> torusmem_outcome;
     pub fn torusmem_moves_left(m: *mut torusmem_machine) -> torusmem_outcome;
     pub fn torusmem_tiles(m: *mut torusmem_machine) -> torusmem_outcome;

@@ -1,0 +1,79 @@
+-- A further line for a script, as C sees it.
+use Rattle.std.specs.Prelude.{◌≡◌, ◌⊎◌, ◌||◌, ◌==◌, ℕ, Bool, true, false, List, [], ◌∷◌, min, Option, Some, None, slice_get}
+use Rattle.torus.specs.declared.fault.Fault.{Fault}
+use Rattle.torus.specs.declared.fault.Fault.TheVariants as fault
+use Rattle.torus.specs.declared.step.Step.{Step}
+use Rattle.script.specs.declared.line.Line.{Line}
+use Rattle.script.specs.declared.line.Line.TheVariants as line
+use Rattle.script.specs.declared.line.Value.{Value}
+use Rattle.script.specs.declared.line.Value.TheVariants.{Number, Last}
+use Rattle.machine_handle.specs.core_machine.specs.Core.{Core, IsAfter}
+use Rattle.machine_handle.specs.machine_core.specs.core_laws.specs.Core.{Load}
+use Rattle.machine_handle.specs.machine_core.specs.core_growth.specs.Appended.{load_with}
+use Rattle.machine_handle.specs.machine_core.specs.core_reopening.specs.Handed.{handed, moves_kept, refused}
+use Rattle.torusmem_c.specs.declared.outcome.Outcome.{Outcome}
+use Rattle.torusmem_c.specs.declared.outcome.Code.TheVariants as code
+use Rattle.torusmem_c.specs.Outcome.{outcome}
+
+-- a value: a number, or `last`
+abbrev pub value_of : Bool → ℕ → Value
+value_of true number = Last
+value_of false number = Number number
+
+-- whether the first value is `last`, by the number that says so of both: 1 of the first, 2 of the
+-- second, 3 of both
+abbrev pub is_first_last : ℕ → Bool
+is_first_last lasts = (lasts == 1) || (lasts == 3)
+
+abbrev pub is_second_last : ℕ → Bool
+is_second_last lasts = (lasts == 2) || (lasts == 3)
+
+-- the lines of an address and two values by their numbers, from 0: the operations, a fence, and a
+-- spin for a number, with so many loads; no spin has more than 4096
+abbrev pub lines : ℕ → Value → Value → ℕ → ℕ → List Line
+lines address one two sought loads =
+    line.Load address
+    ∷ line.Store address one
+    ∷ line.Swap address one
+    ∷ line.Cas address one two
+    ∷ line.Add address one
+    ∷ line.And address one
+    ∷ line.Or address one
+    ∷ line.Xor address one
+    ∷ line.Max address one
+    ∷ line.Min address one
+    ∷ line.Fence
+    ∷ line.Spin address sought (min loads 4097)
+    ∷ []
+
+-- the line that has a number
+abbrev pub line_of : ℕ → ℕ → Value → Value → ℕ → ℕ → Option Line
+line_of number address one two sought loads = slice_get (lines address one two sought loads) number
+
+-- the same, of two numbers, of which `lasts` says whether they stand for `last`
+abbrev pub line_named : ℕ → ℕ → ℕ → ℕ → ℕ → Option Line
+line_named number address first second lasts =
+    line_of number address (value_of (is_first_last lasts) first)
+    (value_of (is_second_last lasts) second) first second
+
+-- the machine takes a line for a processor: it is the one that is handed the line, and stands where
+-- its moves lead from the load with the line
+pub record TakesLine (p : ℕ) (line : Line) (old new : Core) (r : Outcome) : Type 0 where
+  pub taken : refused old p line ≡ None
+  pub state : new ≡ handed old p line
+  pub law : (l : Load) (steps : List Step) → IsAfter l old steps
+      → IsAfter (load_with l p line) new (moves_kept l old p steps)
+  pub answer : r ≡ outcome code.Done 0
+
+-- it refuses the line for this reason, or there is no memory, and stays as it was
+pub record RefusesLine (p : ℕ) (line : Line) (old new : Core) (r : Outcome) : Type 0 where
+  pub reason : Fault
+  pub why : (refused old p line ≡ Some reason)
+      ⊎ ((refused old p line ≡ None) × (reason ≡ fault.Memory))
+  pub same : new ≡ old
+  pub answer : r ≡ outcome (code.Fault reason) 0
+
+-- it takes the line that is named, or refuses it; where none is, nothing changes
+abbrev pub Appends : ℕ → Option Line → Core → Core → Outcome → Type 0
+Appends p None old new r = (new ≡ old) × (r ≡ outcome code.NoSuch 0)
+Appends p (Some line) old new r = TakesLine p line old new r ⊎ RefusesLine p line old new r

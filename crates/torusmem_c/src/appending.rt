@@ -1,0 +1,113 @@
+//! A further line for the script of a processor of the machine that a handle holds.
+
+ghost use Rattle.std.specs.Prelude.{◌≡◌};
+ghost use Rattle.machine_handle.specs.Held.{held};
+ghost use Rattle.torusmem_c.specs.Appending.{Appends, is_first_last, is_second_last, line_named, line_of, value_of};
+ghost use Rattle.torusmem_c.specs.Held.{OnHeld};
+
+use crate::outcome::{Code, Outcome};
+use machine_handle::Handle;
+use machine_report::Machine;
+use script::{Line, Value};
+
+/// A value: a number, or `last`.
+fn value_of(is_last: bool, number: u64) -> Value
+    ensures { result ≡ value_of is_last number }
+{
+    if is_last {
+        Value::Last
+    } else {
+        Value::Number(number)
+    }
+}
+
+/// Whether the first value is `last`.
+fn is_first_last(lasts: u32) -> bool
+    ensures { result ≡ is_first_last lasts }
+{
+    lasts == 1 || lasts == 3
+}
+
+/// Whether the second value is.
+fn is_second_last(lasts: u32) -> bool
+    ensures { result ≡ is_second_last lasts }
+{
+    lasts == 2 || lasts == 3
+}
+
+/// The line that has this number, from 0: an operation, a fence, or a spin for a number.
+fn line_of(
+    number: u32,
+    address: u32,
+    one: Value,
+    two: Value,
+    sought: u64,
+    loads: u64,
+) -> Option<Line>
+    ensures { result ≡ line_of number address one two sought loads }
+{
+    match number {
+        0 => Some(Line::Load(address)),
+        1 => Some(Line::Store(address, one)),
+        2 => Some(Line::Swap(address, one)),
+        3 => Some(Line::Cas(address, one, two)),
+        4 => Some(Line::Add(address, one)),
+        5 => Some(Line::And(address, one)),
+        6 => Some(Line::Or(address, one)),
+        7 => Some(Line::Xor(address, one)),
+        8 => Some(Line::Max(address, one)),
+        9 => Some(Line::Min(address, one)),
+        10 => Some(Line::Fence),
+        11 => Some(Line::Spin(address, sought, loads.min(4097) as u32)),
+        _ => None,
+    }
+}
+
+/// The line that has this number, of two numbers, of which `lasts` says whether they stand for `last`.
+fn line_named(number: u32, address: u32, first: u64, second: u64, lasts: u32) -> Option<Line>
+    ensures { result ≡ line_named number address first second lasts }
+{
+    let one = value_of(is_first_last(lasts), first);
+    let two = value_of(is_second_last(lasts), second);
+    line_of(number, address, one, two, first, second)
+}
+
+/// Gives a processor the line that is named.
+fn appended(machine: &mut Machine, processor: u32, line: Option<Line>) -> Outcome
+    ensures { Appends processor line machine.old machine.new result }
+{
+    let Some(line) = line else {
+        return Outcome::no_such();
+    };
+    match machine.append(processor, line) {
+        Ok(()) => Outcome::done(0),
+        Err(fault) => Outcome::of(Code::Fault(fault), 0),
+    }
+}
+
+/// Gives a processor a further line at the end of its script: an operation on a word with its values, of
+/// which `lasts` says which are `last`, a fence, or a spin.
+///
+/// Errors: why the machine refuses the line, or want of memory; it is as it was then.
+#[unsafe(no_mangle)]
+pub extern "C" fn torusmem_append(
+    handle: &mut Handle,
+    processor: u32,
+    operation: u32,
+    address: u32,
+    first: u64,
+    second: u64,
+    lasts: u32,
+) -> Outcome
+    ensures { OnHeld (Appends processor (line_named operation address first second lasts))
+        (held handle.old) (held handle.new) result }
+{
+    match handle.machine() {
+        Some(machine) => appended(
+            machine,
+            processor,
+            line_named(operation, address, first, second, lasts),
+        ),
+        None => Outcome::empty(),
+    }
+}
