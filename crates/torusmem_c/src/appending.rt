@@ -88,7 +88,7 @@ fn appended(machine: &mut Machine, processor: u32, line: Option<Line>) -> Outcom
 /// Gives a processor a further line at the end of its script: an operation on a word with its values, of
 /// which `lasts` says which are `last`, a fence, or a spin.
 ///
-/// Errors: why the machine refuses the line, or want of memory; it is as it was then.
+/// Errors: why the machine refuses the line, or out of memory; it is as it was then.
 #[unsafe(no_mangle)]
 pub extern "C" fn torusmem_append(
     handle: &mut Handle,
