@@ -47,13 +47,13 @@ pub record HasMoved (asked : Result Asked LineFault) (moves : ℕ) : Type 0 wher
   pub read : asked ≡ Ok run
   pub made : moves ≡ moves_made run.load run.steps
 
--- a fault of a text, or want of memory
+-- a fault of a text, or out of memory
 abbrev pub IsReadFault : {A : Type 0} → Result A LineFault → ProgramFault → Type 0
 IsReadFault asked (program.Line found) = asked ≡ Err found
 IsReadFault asked (program.Fault which) = which ≡ fault.Memory
 IsReadFault asked _ = ⊥
 
--- no fault, want of memory aside
+-- no fault, out of memory aside
 abbrev pub IsNoFault : ProgramFault → Type 0
 IsNoFault f = ⊥
 

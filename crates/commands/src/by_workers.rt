@@ -39,7 +39,7 @@ use torus::Fault;
 /// most, 1 to 1000000000. Prints the report of the run, without order lines. Answers whether every
 /// script is finished.
 ///
-/// Errors: the first fault of the texts, taken in the order machine, scripts, or want of memory; and
+/// Errors: the first fault of the texts, taken in the order machine, scripts, or out of memory; and
 /// nothing was written then. If the output fails, a beginning was written.
 pub fn run_text<R: Threads + Wait + Sync, A: Allocator + Copy + Send + Sync, W: Out>(
     rt: &R,

@@ -19,7 +19,7 @@ use torus::Torus;
 /// Prints the number of each channel, in channel order, and `rising`, which the check says of these
 /// numbers: they rise along every route.
 ///
-/// Errors: the machine text's first fault, or want of memory; and nothing was written then. If the
+/// Errors: the machine text's first fault, or out of memory; and nothing was written then. If the
 /// output fails, a beginning was written.
 pub fn channels_text<A: Allocator + Copy, W: Out>(
     alloc: A,

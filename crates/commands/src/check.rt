@@ -9,7 +9,7 @@ use std::alloc::Allocator;
 
 /// Checks a report, and prints `good report` if it is one.
 ///
-/// Errors: the first bad line of a report that is not good, or want of memory; and nothing was
+/// Errors: the first bad line of a report that is not good, or out of memory; and nothing was
 /// written then. If the output fails, a beginning was written.
 pub fn check_text<A: Allocator + Copy, W: Out>(
     alloc: A,

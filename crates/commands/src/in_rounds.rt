@@ -58,7 +58,7 @@ impl Progress for Silent {
 /// script is finished, and at most so many rounds. Prints the report of the run. Answers whether
 /// every script is finished.
 ///
-/// Errors: the first fault of the texts, taken in the order machine, scripts, or want of memory; and
+/// Errors: the first fault of the texts, taken in the order machine, scripts, or out of memory; and
 /// nothing was written then. If the output fails, a beginning was written.
 pub fn round_text<A: Allocator + Copy, W: Out>(
     alloc: A,

@@ -20,7 +20,7 @@ use torus::{Class, Torus};
 /// Prints the route of a packet of this class from tile `src` to tile `dst`, one line a channel, with
 /// the channels' numbers.
 ///
-/// Errors: the machine text's first fault; want of memory; a tile that is not there; and nothing was
+/// Errors: the machine text's first fault; out of memory; a tile that is not there; and nothing was
 /// written then. If the output fails, a beginning was written.
 pub fn route_text<A: Allocator + Copy, W: Out>(
     alloc: A,

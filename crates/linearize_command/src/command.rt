@@ -31,7 +31,7 @@ pub enum Judged {
 /// linearizable, the operations are printed in an order that explains it, a line each, and
 /// `linearizable` behind them; else nothing is written.
 ///
-/// Errors: the first fault of the text, or want of memory; and nothing was written then. If the output
+/// Errors: the first fault of the text, or out of memory; and nothing was written then. If the output
 /// fails, a beginning was written.
 pub fn linearize_text<A: Allocator + Copy, W: Out>(
     alloc: A,

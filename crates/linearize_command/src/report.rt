@@ -53,7 +53,7 @@ fn put_report<A: Allocator + Copy, W: Out>(
 /// linearizable, the report of an order that explains it is printed, if it is within the limits of
 /// reports; else nothing is written.
 ///
-/// Errors: the first fault of the text, or want of memory; and nothing was written then. If the output
+/// Errors: the first fault of the text, or out of memory; and nothing was written then. If the output
 /// fails, a beginning was written.
 pub fn report_text<A: Allocator + Copy, W: Out>(
     alloc: A,

@@ -25,6 +25,6 @@ pub record HasLoaded (asked : Result Load LineFault) (c : Core) : Type 0 where
   pub read : asked ≡ Ok load
   pub after : IsAfter load c []
 
--- the first fault of the texts, or want of memory, at line 0
+-- the first fault of the texts, or out of memory, at line 0
 abbrev pub IsLoadFault : Result Load LineFault → LineFault → Type 0
 IsLoadFault asked f = (asked ≡ Err f) ⊎ (f ≡ record { fault = fault.Memory; line = 0 })

@@ -35,7 +35,7 @@ abbrev pub Wrote : {A : Type 0} → (A → List ℕ → Type 0) → (Output → 
     → Output → Output → A → Type 0
 Wrote gives takes old new x = (text : List ℕ) × gives x text × takes old new text
 
--- a fault: of the output, after a beginning of a right text; want of memory; or a right one. But in
+-- a fault: of the output, after a beginning of a right text; out of memory; or a right one. But in
 -- the first case nothing was written
 abbrev pub Refused : {A : Type 0} → (A → List ℕ → Type 0) → (ProgramFault → Type 0) → Output
     → Output → ProgramFault → Type 0

@@ -6,7 +6,7 @@ use Rattle.torus.specs.FaultCode.{fault_code}
 use Rattle.program_fault.specs.declared.fault.ProgramFault.{ProgramFault}
 use Rattle.program_fault.specs.declared.fault.ProgramFault.TheVariants as program
 
--- the fault and its line; want of memory has none
+-- the fault and its line; out of memory has none
 abbrev pub line_text_of : Fault → ℕ → List ℕ
 line_text_of fault.Memory line = codes "fault F12"
 line_text_of which line = codes "fault " ++ fault_code which ++ codes " at line " ++ decimal line

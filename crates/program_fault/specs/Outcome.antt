@@ -8,7 +8,7 @@ use Rattle.report_check.specs.declared.fault.CheckFault.TheVariants.{BadReport, 
 use Rattle.program_fault.specs.declared.fault.ProgramFault.{ProgramFault}
 use Rattle.program_fault.specs.declared.fault.ProgramFault.TheVariants as program
 
--- a fault of a text, of which want of memory is at no line
+-- a fault of a text, of which out of memory is at no line
 abbrev pub of_found : Fault → LineFault → ProgramFault
 of_found fault.Memory found = program.Fault fault.Memory
 of_found _ found = program.Line found

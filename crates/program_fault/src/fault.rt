@@ -14,7 +14,7 @@ use torus::Fault;
 pub enum ProgramFault {
     /// The first fault of a text.
     Line(LineFault),
-    /// A fault that is of no line of a text, as want of memory is.
+    /// A fault that is of no line of a text, as out of memory is.
     Fault(Fault),
     /// The output took none of some bytes that it was given.
     Output,
@@ -94,7 +94,7 @@ pub fn finished(answer: Result<(), ProgramFault>) -> Result<bool, ProgramFault>
 }
 
 /// The status that the program ends with: 0 good and, if scripts were run, all are finished; 1 a
-/// fault of a text, a bad report, or want of memory; 2 a tile that is not there; 3 a script is not
+/// fault of a text, a bad report, or out of memory; 2 a tile that is not there; 3 a script is not
 /// finished; 4 the output failed.
 pub fn status_of(answer: &Result<bool, ProgramFault>) -> u8
     ensures { result ≡ status_of answer.now }

@@ -33,7 +33,7 @@ fn put_line(text: &mut FaultText, words: &str, line: u64)
     text.push_str(digits.format(line));
 }
 
-/// The fault and its line; want of memory has none.
+/// The fault and its line; out of memory has none.
 fn line_text(found: LineFault) -> FaultText
     ensures { result.bytes ≡ line_text_of found.fault found.line }
 {

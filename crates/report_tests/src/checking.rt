@@ -7,7 +7,7 @@ use std::test::Fail;
 const ROW: &str =
     "torusmem 1\nshape 2 1 8\nentry 1 0 0 0 store 5 17 ok\nentry 1 1 0 0 load 5 17\nanswer 0 0 1 0 ok\nanswer 0 1 1 1 17\nword 5 17\norder 1 0 1 2 3\norder 1 1 4 5 6\nend complete\n";
 
-/// Stands for want of memory.
+/// Stands for out of memory.
 const REFUSED: u64 = 1_000_000;
 
 /// 0 for a good report, else the first bad line.

@@ -278,7 +278,7 @@ fn step_sentences(rt: HostRuntime) -> Result<(), Fail> {
     Ok(())
 }
 
-/// Faults that the line hasn't, and want of memory.
+/// Faults that the line hasn't, and out of memory.
 #[test]
 fn other_machine_faults(rt: HostRuntime) -> Result<(), Fail> {
     let rows: [(&[u8], Fault, u64, &str); 2] = [
@@ -303,7 +303,7 @@ fn other_machine_faults(rt: HostRuntime) -> Result<(), Fail> {
     Ok(())
 }
 
-/// Faults that the line hasn't, and want of memory.
+/// Faults that the line hasn't, and out of memory.
 #[test]
 fn other_script_faults(rt: HostRuntime) -> Result<(), Fail> {
     let rows: [(&[u8], Fault, u64, &str); 4] = [
@@ -330,7 +330,7 @@ fn other_script_faults(rt: HostRuntime) -> Result<(), Fail> {
     Ok(())
 }
 
-/// Faults that the line hasn't, and want of memory.
+/// Faults that the line hasn't, and out of memory.
 #[test]
 fn other_step_faults(rt: HostRuntime) -> Result<(), Fail> {
     let rows: [(&[u8], Fault, u64, &str); 2] = [

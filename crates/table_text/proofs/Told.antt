@@ -11,7 +11,7 @@ use Rattle.table_net.specs.Table.{Table}
 use Rattle.table_net.specs.Replies.{IsReply, AreReplies}
 use Rattle.table_text.specs.Network.{NetworkSpec}
 
--- but for want of memory it stands at its line
+-- but for out of memory it stands at its line
 at_line : (e : Fault) (n : ℕ) → (e ≡ Memory) ⊎ (line_of_fault e n ≡ n)
 at_line Radix n = inr refl
 at_line Dimensions n = inr refl

@@ -82,7 +82,7 @@ pub record Tells {A : Type 0} (n : NetworkSpec) (a : Answer A) : Type 0 where
   pub rising : a.rising ≡ is_rising verdict
 
 -- what is answered to a text of these lines: the verdict of its network, or its first fault, or
--- want of memory
+-- out of memory
 abbrev pub Answers : {A : Type 0} → List (List ℕ) → Result (Answer A) LineFault → Type 0
 Answers lines (Ok a) = (n : NetworkSpec) × (network_of lines ≡ Ok n) × Tells n a
 Answers lines (Err e) = (e ≡ record { fault = fault.Memory; line = 0 }) ⊎ (network_of lines ≡ Err e)

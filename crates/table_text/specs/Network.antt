@@ -173,7 +173,7 @@ network_with r =
     if count_of r == 0 then Err fault.Setting
     else Ok (record { table = (begun r).table; replies = r.replies })
 
--- that network, or its fault, or want of memory
+-- that network, or its fault, or out of memory
 abbrev pub MakesNetwork : Result NetworkSpec Fault → Result NetworkSpec Fault → Type 0
 MakesNetwork (Ok n) made = made ≡ Ok n
 MakesNetwork (Err e) made = (e ≡ fault.Memory) ⊎ (made ≡ Err e)

@@ -32,7 +32,7 @@ of_texts (Err e) scripts = Some (record { text = Machine; fault = e })
 abbrev pub first_fault : List (List ℕ) → List (List ℕ) → Option Found
 first_fault machine scripts = of_texts (machine_of machine) scripts
 
--- the number by which C knows the text that a fault is in; want of memory is in none
+-- the number by which C knows the text that a fault is in; out of memory is in none
 abbrev pub text_number : Text → Fault → ℕ
 text_number text fault.Memory = 0
 text_number Machine _ = 1

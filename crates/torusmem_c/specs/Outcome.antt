@@ -57,6 +57,6 @@ counted (Some x) count = outcome code.Done (count x)
 abbrev pub no_memory : Outcome
 no_memory = outcome (code.Fault fault.Memory) 0
 
--- a fault of a text with its line; want of memory is at line 0
+-- a fault of a text with its line; out of memory is at line 0
 abbrev pub fault_outcome : LineFault → Outcome
 fault_outcome found = outcome (code.Fault found.fault) found.line

@@ -33,7 +33,7 @@ pub struct Explanation {
     pub length: u64,
 }
 
-/// The number by which C knows the text that a fault is in; want of memory is in none.
+/// The number by which C knows the text that a fault is in; out of memory is in none.
 fn text_number(text: Text, fault: Fault) -> u32
     ensures { result ≡ text_number text fault }
 {

@@ -35,7 +35,7 @@ fn put_verdict(alloc: Global, verdict: &Verdict<Global>, out: &mut [u8]) -> Outc
 
 /// Judges the network of a text, and puts the text of the verdict into a buffer.
 ///
-/// Errors: the text's first fault, or want of memory. The buffer is as it was then.
+/// Errors: the text's first fault, or out of memory. The buffer is as it was then.
 #[unsafe(no_mangle)]
 pub extern "C" fn torusmem_network(alloc: Global, network: &[u8], out: &mut [u8]) -> Outcome
     ensures { TellsText Global (network_of (lines network.now)) out.old out.new result

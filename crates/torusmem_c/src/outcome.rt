@@ -12,7 +12,7 @@ use torus::Fault;
 pub enum Code {
     /// The call did what it is for.
     Done,
-    /// A fault of a text, or want of memory.
+    /// A fault of a text, or out of memory.
     Fault(Fault),
     /// A report breaks a rule.
     BadReport,

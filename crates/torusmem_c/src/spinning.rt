@@ -43,7 +43,7 @@ fn spin_record(processor: u32, spin: SpentSpin) -> SpinRecord
 
 /// The scripts of a text for the machine of a text.
 ///
-/// Errors: the first fault of the texts, taken in this order, or want of memory.
+/// Errors: the first fault of the texts, taken in this order, or out of memory.
 fn scripts_by(alloc: Global, machine: &[u8], scripts: &[u8]) -> Result<Scripts, LineFault>
     ensures { Gives (λ s. s) result (scripts_by (lines machine.now) (lines scripts.now)) }
 {
@@ -130,7 +130,7 @@ fn put_spins(
 /// Puts the spins that ran out of loads so far into a buffer: those of the scripts text, by the answers
 /// that the processors have.
 ///
-/// Errors: the first fault of the texts, or want of memory. The buffer is as it was then.
+/// Errors: the first fault of the texts, or out of memory. The buffer is as it was then.
 #[unsafe(no_mangle)]
 pub extern "C" fn torusmem_spins_out(
     alloc: Global,

@@ -58,7 +58,7 @@ fn check_outcome(fault: CheckFault) -> Outcome
 
 /// Loads the machine of a text, whose processors follow the scripts of a text, into an empty handle.
 ///
-/// Errors: the first fault of the texts, taken in the order machine, scripts; want of memory; or that
+/// Errors: the first fault of the texts, taken in the order machine, scripts; out of memory; or that
 /// the handle holds a machine already. It holds what it held then.
 #[unsafe(no_mangle)]
 pub extern "C" fn torusmem_load(
@@ -131,7 +131,7 @@ pub extern "C" fn torusmem_report(alloc: Global, handle: &mut Handle, out: &mut 
     }
 }
 
-/// Checks a report. Errors: its first bad line, or want of memory.
+/// Checks a report. Errors: its first bad line, or out of memory.
 #[unsafe(no_mangle)]
 pub extern "C" fn torusmem_check(alloc: Global, report: &[u8]) -> Outcome
     ensures verdict { IsVerdict report.now result }

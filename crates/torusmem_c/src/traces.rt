@@ -68,7 +68,7 @@ fn put_judged(
 /// configurations of a word at once, and puts an order that explains it into a buffer, as the places
 /// of its operations' issues among the records.
 ///
-/// Errors: the first record that can't stand, or want of memory. The buffer is as it was then.
+/// Errors: the first record that can't stand, or out of memory. The buffer is as it was then.
 #[unsafe(no_mangle)]
 pub extern "C" fn torusmem_linearize(
     alloc: Global,

@@ -16,7 +16,7 @@ use watch_handle::{Handle, Kept};
 /// Begins a watch of a trace over a memory that opens with these words, before its first event, in an
 /// empty handle.
 ///
-/// Errors: want of memory, or that the handle holds a watch already. It holds what it held then.
+/// Errors: out of memory, or that the handle holds a watch already. It holds what it held then.
 #[unsafe(no_mangle)]
 pub extern "C" fn torusmem_watch_begin(
     alloc: Global,
@@ -95,7 +95,7 @@ fn taken(alloc: Global, watch: &mut Kept, event: Option<Event>, configurations: 
 /// Takes the issue of an operation, which has this number from now on.
 ///
 /// Errors: the handle holds no watch; there is no such operation or address, or the number is not above
-/// that of each operation before; or want of memory. The event isn't taken then.
+/// that of each operation before; or out of memory. The event isn't taken then.
 #[unsafe(no_mangle)]
 pub extern "C" fn torusmem_watch_issue(
     alloc: Global,
@@ -123,7 +123,7 @@ pub extern "C" fn torusmem_watch_issue(
 /// Takes the answer to the operation of a number, with at most so many configurations of its word at once.
 ///
 /// Errors: with the event no order explains the trace; the handle holds no watch; no such operation is
-/// open, or there is no such reply; the word has more configurations; or want of memory. The event
+/// open, or there is no such reply; the word has more configurations; or out of memory. The event
 /// isn't taken then.
 #[unsafe(no_mangle)]
 pub extern "C" fn torusmem_watch_answer(

@@ -129,7 +129,7 @@ fn goodness<A: Allocator + Copy>(
 /// doesn't have isn't told.
 ///
 /// Errors: the first limit of reports that is passed, of the words, the operations of the order,
-/// the events, and for each operation its processor and its index; or want of memory.
+/// the events, and for each operation its processor and its index; or out of memory.
 pub fn report_of_order<A: Allocator + Copy>(
     alloc: A,
     trace: &TraceText<A>,
