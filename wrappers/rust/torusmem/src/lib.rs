@@ -18,12 +18,14 @@
 //! The library beneath is proved; these bindings are not. They add nothing but types.
 #![deny(unsafe_code)]
 
+mod line;
 mod network;
 #[allow(unsafe_code)]
 mod raw;
 mod trace;
 mod watch;
 
+pub use line::{Line, Refused, Value};
 pub use network::{network, By, Link, Verdict, Why};
 use raw::Raw;
 use std::error::Error;

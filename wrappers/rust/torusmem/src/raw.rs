@@ -83,6 +83,18 @@ impl Raw {
         next = torusmem_next(at, input, dst) -> torusmem_outcome;
     }
 
+    pub fn append(
+        &mut self,
+        processor: u32,
+        operation: u32,
+        address: u32,
+        values: (u64, u64),
+        lasts: u32,
+    ) -> torusmem_outcome {
+        // SAFETY: the machine is this one's alone, for as long as the call takes. Numbers may be any.
+        unsafe { torusmem_append(&mut self.0, processor, operation, address, values.0, values.1, lasts) }
+    }
+
     pub fn run(&mut self, attempts: &[torusmem_attempt]) -> torusmem_outcome {
         let none = torusmem_attempt::default();
         // SAFETY: the machine is this one's alone; the slice has as many attempts as it says, and is only read.

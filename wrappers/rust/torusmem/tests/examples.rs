@@ -3,7 +3,8 @@ use std::fs;
 use std::path::{Path, PathBuf};
 use std::thread;
 use torusmem::{check, explain, linearize, network, Answer, By, Channel, Choice, Class, Dir, Entry, Event, EventFault};
-use torusmem::{Fault, Judged, Kind, Link, Machine, NotTaken, Operation, Reply, Spin, Text, Verdict, Watch, Why};
+use torusmem::{Fault, Judged, Kind, Line, Link, Machine, NotTaken, Operation, Refused, Reply, Spin, Text, Value};
+use torusmem::{Verdict, Watch, Why};
 
 fn path(name: &str) -> PathBuf {
     Path::new(env!("CARGO_MANIFEST_DIR")).join("../../..").join(name)
@@ -43,6 +44,36 @@ fn step(words: &[&str]) -> (u32, Choice) {
         _ => panic!("{words:?}"),
     };
     (number(0), choice)
+}
+
+/// A machine that has reported takes lines: what they ask, what is refused, and the report at the end.
+#[test]
+fn lines_come_later() {
+    let mut machine = first();
+    machine.finish();
+    machine.round();
+    let refused = [
+        (2, Line::Load(8), Refused::Processor),
+        (0, Line::Load(8), Refused::Address),
+        (0, Line::Spin { address: 5, sought: 0, loads: 0 }, Refused::Loads),
+        (0, Line::Spin { address: 5, sought: 0, loads: 4097 }, Refused::Loads),
+        (1, Line::Store(5, Value::Last), Refused::Last),
+        (0, Line::Spin { address: 5, sought: 0, loads: 4096 }, Refused::Length),
+    ];
+    for (processor, line, why) in refused {
+        assert_eq!(machine.append(processor, line), Err(why), "{line:?}");
+    }
+    assert!(machine.finished());
+    assert_eq!(machine.append(1, Line::Load(5)), Ok(()));
+    assert_eq!(machine.append(1, Line::Fence), Ok(()));
+    let cas = Line::Cas { address: 5, expected: Value::Last, new: 18.into() };
+    assert_eq!(machine.append(1, cas), Ok(()));
+    assert!(!machine.finished());
+    machine.finish();
+    let answers: Vec<_> = machine.answers(1).unwrap().iter().map(|answer| answer.reply).collect();
+    assert_eq!(answers, [Reply::Old(17), Reply::Old(17)]);
+    assert_eq!(machine.word(5), Some(18));
+    assert_eq!(check(&machine.report().unwrap()), Ok(()));
 }
 
 #[test]

@@ -1,0 +1,116 @@
+//! Lines that come later, for the script of a processor.
+use crate::Machine;
+use std::error::Error;
+use std::fmt;
+use torusmem_sys as sys;
+
+/// A value of a line: a number, or the one replied to the operation just before it.
+#[derive(Clone, Copy, Debug, PartialEq, Eq, Hash)]
+pub enum Value {
+    Number(u64),
+    Last,
+}
+
+impl From<u64> for Value {
+    fn from(number: u64) -> Value {
+        Value::Number(number)
+    }
+}
+
+/// A line of a script: an operation on the word at an address, with its values; a fence, which waits for all answers;
+/// or a spin, which loads a word until it finds a number, at most as many times as it says, 1 to 4096.
+#[derive(Clone, Copy, Debug, PartialEq, Eq, Hash)]
+pub enum Line {
+    Load(u32),
+    Store(u32, Value),
+    Swap(u32, Value),
+    Cas { address: u32, expected: Value, new: Value },
+    Add(u32, Value),
+    And(u32, Value),
+    Or(u32, Value),
+    Xor(u32, Value),
+    Max(u32, Value),
+    Min(u32, Value),
+    Fence,
+    Spin { address: u32, sought: u64, loads: u32 },
+}
+
+/// Why a machine refuses a line; it is as it was then.
+#[derive(Clone, Copy, Debug, PartialEq, Eq, Hash)]
+pub enum Refused {
+    /// There is no such processor (F8).
+    Processor,
+    /// There is no such address (F7).
+    Address,
+    /// A spin hasn't 1 to 4096 loads (F6).
+    Loads,
+    /// A value is the one last replied, and no operation stands before the line (F10).
+    Last,
+    /// A script has at most 4096 operations, and all together at most 65536 (F9).
+    Length,
+    /// A request for memory was refused (F12).
+    Memory,
+}
+
+impl fmt::Display for Refused {
+    fn fmt(&self, f: &mut fmt::Formatter) -> fmt::Result {
+        f.write_str(match self {
+            Refused::Processor => "there is no such processor (F8)",
+            Refused::Address => "there is no such address (F7)",
+            Refused::Loads => "a spin makes 1 to 4096 loads (F6)",
+            Refused::Last => "there is no operation before a line with `last` (F10)",
+            Refused::Length => "a script has at most 4096 operations, and all together at most 65536 (F9)",
+            Refused::Memory => "a request for memory was refused (F12)",
+        })
+    }
+}
+
+impl Error for Refused {}
+
+impl Machine {
+    /// Gives a processor a further line at the end of its script, at any time, before steps or after them. Where the
+    /// processor has reported that its script is finished, all reports are taken back first.
+    pub fn append(&mut self, processor: u32, line: Line) -> Result<(), Refused> {
+        let (operation, address, first, second) = parts(line);
+        let lasts = [(first, sys::TORUSMEM_FIRST_IS_LAST), (second, sys::TORUSMEM_SECOND_IS_LAST)];
+        let lasts = lasts.iter().filter(|(value, _)| *value == Value::Last).map(|(_, flag)| flag).sum();
+        let said = self.raw.append(processor, operation, address, (number(first), number(second)), lasts);
+        match said.code {
+            sys::TORUSMEM_OK => Ok(()),
+            8 => Err(Refused::Processor),
+            7 => Err(Refused::Address),
+            6 => Err(Refused::Loads),
+            10 => Err(Refused::Last),
+            9 => Err(Refused::Length),
+            _ => Err(Refused::Memory),
+        }
+    }
+}
+
+/// A line's number, its address, and its values, where it has them.
+fn parts(line: Line) -> (u32, u32, Value, Value) {
+    const NONE: Value = Value::Number(0);
+    match line {
+        Line::Load(address) => (sys::TORUSMEM_LOAD, address, NONE, NONE),
+        Line::Store(address, value) => (sys::TORUSMEM_STORE, address, value, NONE),
+        Line::Swap(address, value) => (sys::TORUSMEM_SWAP, address, value, NONE),
+        Line::Cas { address, expected, new } => (sys::TORUSMEM_CAS, address, expected, new),
+        Line::Add(address, value) => (sys::TORUSMEM_ADD, address, value, NONE),
+        Line::And(address, value) => (sys::TORUSMEM_AND, address, value, NONE),
+        Line::Or(address, value) => (sys::TORUSMEM_OR, address, value, NONE),
+        Line::Xor(address, value) => (sys::TORUSMEM_XOR, address, value, NONE),
+        Line::Max(address, value) => (sys::TORUSMEM_MAX, address, value, NONE),
+        Line::Min(address, value) => (sys::TORUSMEM_MIN, address, value, NONE),
+        Line::Fence => (sys::TORUSMEM_FENCE, 0, NONE, NONE),
+        Line::Spin { address, sought, loads } => {
+            (sys::TORUSMEM_SPIN, address, Value::Number(sought), Value::Number(loads.into()))
+        }
+    }
+}
+
+fn number(value: Value) -> u64 {
+    match value {
+        Value::Number(number) => number,
+        Value::Last => 0,
+    }
+}
