@@ -12,7 +12,7 @@ use Rattle.one_order.specs.declared.ordered.Ordered.{Ordered}
 use Rattle.one_order.specs.Observed.{Observed, list_at, total, HasIssued}
 use Rattle.one_order.specs.Consequences.{AnswersAreNumbered, AnswersNameEntries, AreEventNumbers, EntryStands, EventKind, Issue, NameEntries, ReplaysByBank}
 use Rattle.home_bank.specs.MemoryReplay.{entry_operation}
-use Rattle.one_order.specs.Consequences.{Response, Service, event_number, entry_operation}
+use Rattle.one_order.specs.Consequences.{Response, Service, event_number}
 use Rattle.one_order.proofs.Lists.{within_length}
 use Rattle.report_lines.specs.declared.line.OrderLine.{OrderLine}
 use Rattle.report_lines.specs.declared.parts.EntryRow.{EntryRow}
