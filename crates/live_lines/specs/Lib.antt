@@ -1,0 +1,3 @@
+pub mod Operation
+pub mod Command
+pub mod Text

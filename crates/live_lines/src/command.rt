@@ -1,0 +1,25 @@
+use script::Line;
+use torus::Fault;
+
+/// What a line of a dialogue asks for.
+#[derive(Clone, Copy)]
+pub enum Command {
+    /// Nothing: the line has no word, or is a comment.
+    Nothing,
+    /// That a processor is handed a line of a script.
+    Ask(u32, Line),
+    /// So many rounds, 1 to 1000000.
+    Rounds(u32),
+    /// The answer to the operation of a processor that has this index.
+    Wait(u32, u32),
+    /// Rounds until every script is finished.
+    Finish,
+    /// The report.
+    Report,
+    /// The end of the dialogue.
+    Quit,
+    /// Something of the right shape that can't be asked for, and why.
+    Refused(Fault),
+    /// The line is of another shape.
+    Bad,
+}

@@ -1,0 +1,4 @@
+pub mod Numbered
+pub mod Standing
+pub mod OneMore
+pub mod Waiting

@@ -1,0 +1,92 @@
+-- A machine that is asked for operations: which of its scripts have spins, and which index an
+-- operation has that is asked.
+use Rattle.std.specs.Prelude.{◌≡◌, ℕ, ◌<◌, ◌==◌, ◌&&◌, ◌||◌, Bool, true, false, not, List, ◌++◌, map, take, length}
+use Rattle.std.specs.Prelude.{Option, Some, None, is_some, option_and_then, slice_get, slice_set, slice_index_or}
+use Rattle.std.specs.Prelude.{if◌then◌else◌}
+use Rattle.std.specs.List.{find, list_any}
+use Rattle.torus.specs.declared.step.Step.{Step}
+use Rattle.script.specs.declared.line.Line.{Line}
+use Rattle.script.specs.declared.line.Line.TheVariants as line
+use Rattle.script.specs.Scripts.{script_of}
+use Rattle.one_order.specs.declared.answer.Answer.{Answer}
+use Rattle.one_order.specs.Observed.{Run}
+use Rattle.machine_texts.specs.machine_core.specs.core_growth.specs.script_follower.specs.Scripts.{Invocation, IsOf}
+use Rattle.machine_texts.specs.order_abstract.specs.Scripts.{AreInvocationsOf}
+use Rattle.machine_texts.specs.core_laws.specs.Core.{Load, run_of}
+use Rattle.machine_texts.specs.machine_core.specs.core_machine.specs.Core.{Core, IsAfter, all_finished, core_after, shown}
+use Rattle.machine_texts.specs.machine_core.specs.Rounds.{rounds_of}
+
+-- a line is a spin: nobody can tell beforehand how many loads it makes
+abbrev pub is_spin : Line → Bool
+is_spin (line.Spin a v m) = true
+is_spin first = false
+
+-- a line is one operation, and so neither a fence nor a spin
+abbrev pub is_operation : Line → Bool
+is_operation line.Fence = false
+is_operation (line.Spin a v m) = false
+is_operation first = true
+
+-- a script has a spin
+abbrev pub has_spin : List Line → Bool
+has_spin lines = list_any is_spin lines
+
+-- a machine, and of each of its scripts whether it has a spin (this project's own format)
+pub record Asked : Type 0 where
+  pub core : Core
+  pub spins : List Bool
+
+-- the machine stands where some steps lead from an accepted load, whose scripts have these spins
+pub record IsAsked (v : Asked) : Type 0 where
+  pub load : Load
+  pub steps : List Step
+  pub after : IsAfter load v.core steps
+  pub spins : v.spins ≡ map has_spin load.scripts
+
+-- in another state, with the same scripts
+abbrev pub asked_in : Asked → Core → Asked
+asked_in v c = record { core = c; spins = v.spins }
+
+-- which scripts have spins once processor p is handed a line
+abbrev pub spins_with : List Bool → ℕ → Line → List Bool
+spins_with spins p line = slice_set spins p (slice_index_or spins p false || is_spin line)
+
+-- whether the script of processor p has a spin; one that isn't there has none
+abbrev pub is_behind_spin : Asked → ℕ → Bool
+is_behind_spin v p = slice_index_or v.spins p false
+
+-- the index, among the operations of processor p, that a line's operation has which is put behind
+-- what the script has: as many as the script makes, where that is known. A fence or a spin has none
+abbrev pub index_asked : Asked → ℕ → Line → Option ℕ
+index_asked v p line =
+    if is_operation line && not (is_behind_spin v p) then slice_get v.core.allowed p else None
+
+-- the operation of this index that processor p has issued in the first n steps of a run, if it has,
+-- is that of the line, as its script says
+pub record IsIssuedAs (run : Run) (n p : ℕ) (line : Line) (index : ℕ) : Type 0 where
+  pub ops : List Invocation
+  pub are : AreInvocationsOf run n p ops
+  pub is : (o : Invocation) → slice_get ops index ≡ Some o → IsOf line (take index ops) o
+
+-- So it is in whatever a machine comes to: wherever steps lead from a load whose script of p begins
+-- with that of this load.
+abbrev pub IsNumbered : Load → ℕ → Line → ℕ → Type 0
+IsNumbered l p line index =
+    (grown : Load) (more : List Line) (c : Core) (steps : List Step) → p < length grown.scripts
+    → script_of grown.scripts p ≡ script_of l.scripts p ++ more → IsAfter grown c steps
+    → IsIssuedAs (run_of grown steps) (length steps) p line index
+
+-- the answer to the operation of this index of processor p, if it has one
+abbrev pub answer_to : Core → ℕ → ℕ → Option Answer
+answer_to c p index =
+    option_and_then (find (λ a. a.index == index)) (slice_get (shown c).answers p)
+
+-- nobody has to wait for it: it is answered, or every script is finished
+abbrev pub is_settled : Core → ℕ → ℕ → Bool
+is_settled c p index = is_some (answer_to c p index) || all_finished c.state
+
+-- the least number of rounds after which nobody has to wait for the operation (this project's own
+-- format)
+pub record NeedsToWait (c : Core) (p index k : ℕ) : Type 0 where
+  pub settled : is_settled (core_after c (rounds_of c.shape k)) p index ≡ true
+  pub least : (j : ℕ) → j < k → is_settled (core_after c (rounds_of c.shape j)) p index ≡ false

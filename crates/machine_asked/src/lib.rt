@@ -1,0 +1,9 @@
+//! A machine that is asked for operations while it runs, and tells the index of each.
+#![tactic(auto)]
+
+pub mod asked;
+mod flags;
+pub mod laws;
+
+pub use asked::AskedMachine;
+pub use machine_texts::Machine;
