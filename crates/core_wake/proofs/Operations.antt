@@ -71,7 +71,7 @@ module _ (d : Design) (s : State) (attempt : Step) where
       let a : Agent = agent_kind attempt.agent in
       ap (λ (b : Bool). if b then agent_op (tile_placed d t tile s.around) a attempt.choice else None) (eq-eqb t t refl) ∙ of_agent tile a
 
-  op_is : step_op d s attempt ≡ option_and_then (want_op ports) (wanted d s attempt)
+  pub op_is : step_op d s attempt ≡ option_and_then (want_op ports) (wanted d s attempt)
   op_is = of_tile (slice_get s.tiles t)
 
   -- so it wants something
@@ -149,10 +149,10 @@ module _ (d : Design) (s : State) (is_ready : IsReady d s) (surrounded : IsSurro
 
   -- a place of a channel is among the places, and tells the channel
   module _ (x q : ℕ) (there : x < channel_count d.shape) (within : q < d.depth) where
-    in_places : nat_lt (x * d.depth + q) (places_in d) ≡ true
+    pub in_places : nat_lt (x * d.depth + q) (places_in d) ≡ true
     in_places = is_less _ _ (let b = before d.depth x (channel_count d.shape) there in omega (arith, b, within))
 
-    of_channel : (x * d.depth + q) / d.depth ≡ x
+    pub of_channel : (x * d.depth + q) / d.depth ≡ x
     of_channel = div-mul-add x d.depth q within
 
     told : (f : ℕ → ℕ) → (f x ∷ []) ≡ (if nat_lt (x * d.depth + q) (places_in d) then f ((x * d.depth + q) / d.depth) ∷ [] else [])
@@ -199,10 +199,10 @@ module _ (d : Design) (s : State) (is_ready : IsReady d s) (surrounded : IsSurro
       ap (λ (b : Bool). if b then processors (tiles_of d.shape) else []) (ne_eqb n d.words (λ z. omega (arith, h, z)))
       ∙ sym (in_rest n o h)
 
-  is_wired : (want : Want) → Asks d s is_ready attempt want → IsWired (channel_count d.shape) v
+  pub is_wired : (want : Want) → Asks d s is_ready attempt want → IsWired (channel_count d.shape) v
   is_wired want x = wired d.shape is_ready.shape (agent_tile attempt.agent) (low d s is_ready attempt want x) (agent_kind attempt.agent)
 
-  there_is : (x : ℕ) → x < channel_count d.shape → x < length s.around.rings
+  pub there_is : (x : ℕ) → x < channel_count d.shape → x < length s.around.rings
   there_is x h = let e = surrounded.count in omega (arith, e, h)
 
   tells : (want : Want) (op : WordOp) → Asks d s is_ready attempt want → want_op ends want ≡ Some op → woken_by d v (Some want) ≡ woken_by_operation d op
@@ -244,10 +244,10 @@ module _ (d : Design) (s : State) (is_ready : IsReady d s) (surrounded : IsSurro
       (ap (woken_by d v) f.1 ∙ tells f.0 op (asks_of d s is_ready attempt f.0 f.1) f.2)
 
 module _ (l : Load) (ok : IsAccepted l) (steps : List Step) where
-  surrounded_after : IsSurrounded (design_of l) (after l steps).around
+  pub surrounded_after : IsSurrounded (design_of l) (after l steps).around
   surrounded_after = subst (λ (s : State). IsSurrounded (design_of l) s.around) (all_steps l steps) (reached.surrounded l ok steps (length steps))
 
-  in_memory_after : (t : ℕ) (tile : TileState) → slice_get (after l steps).tiles t ≡ Some tile → (r : Asking) → tile.bank.waiting ≡ Some r
+  pub in_memory_after : (t : ℕ) (tile : TileState) → slice_get (after l steps).tiles t ≡ Some tile → (r : Asking) → tile.bank.waiting ≡ Some r
       → address_of t (tiles_of l.shape) r.word < length l.opening
   in_memory_after t tile = subst
       (λ (s : State). slice_get s.tiles t ≡ Some tile → (r : Asking) → tile.bank.waiting ≡ Some r → address_of t (tiles_of l.shape) r.word < length l.opening)

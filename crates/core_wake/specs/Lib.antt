@@ -10,4 +10,5 @@ pub use Rattle.core_seen.specs.tile
 pub mod Waking
 pub mod Sleep
 pub mod Watch
+pub mod Routers
 pub mod Operations

@@ -1,14 +1,14 @@
 //! Laws of who is awake, each the contract of a function that does nothing.
 
 ghost use Rattle.std.specs.Prelude.{◌≡◌, ◌≢◌, ◌↔◌, ◌<◌, ◌||◌, [], ◌∷◌, ℕ, Bool, List, Some, None};
-ghost use Rattle.std.specs.Prelude.{true, false, length, slice_index};
+ghost use Rattle.std.specs.Prelude.{true, false, length, map, slice_index};
 ghost use Rattle.torus.specs.Shape.{Shape, IsAccepted as IsAcceptedShape, tiles_of};
 ghost use Rattle.torus.specs.declared.step.Step.{Step};
 ghost use Rattle.torus.specs.declared.step.Choice.{Choice};
-ghost use Rattle.torus.specs.declared.step.Choice.TheVariants.{Serve};
+ghost use Rattle.torus.specs.declared.step.Choice.TheVariants.{Serve, Put};
 ghost use Rattle.flit_buffer.specs.declared.word_op.WordOp.{WordOp};
 ghost use Rattle.core_seen.specs.tile_laws.specs.declared.agent.Agent.{Agent};
-ghost use Rattle.core_seen.specs.tile_laws.specs.declared.agent.Agent.TheVariants.{Bank};
+ghost use Rattle.core_seen.specs.tile_laws.specs.declared.agent.Agent.TheVariants.{Router, Bank};
 ghost use Rattle.core_seen.specs.tile_laws.specs.Tile.{Design};
 ghost use Rattle.core_seen.specs.tile_laws.specs.Agents.{wiring_of, agent_number, agent_kind};
 ghost use Rattle.core_seen.specs.core_laws.specs.Core.{Load, State, design_of, step, after_from};
@@ -20,6 +20,8 @@ ghost use Rattle.core_wake.specs.Waking.{receiver_of, sender_of, Disturbs, woken
 ghost use Rattle.core_wake.specs.Sleep.{IsAsleep, OthersSleep, attempts_at, has_moved};
 ghost use Rattle.core_wake.specs.Operations.{woken_by_operation};
 ghost use Rattle.core_wake.specs.Watch.{Watch, round_awake};
+ghost use Rattle.core_wake.specs.Routers.{PortFlags, OtherPortsSleep, of_router, ports_woken};
+ghost use Rattle.core_wake.specs.Routers.{router_moved, latch_at};
 
 /// A step leaves the choices of another agent that look at nothing that it changes enabled, or not
 /// enabled, as they were.
@@ -108,4 +110,30 @@ pub fn rounds_may_skip_sleepers()
         → OthersSleep (design_of l) (after l steps) awake
         → OthersSleep (design_of l) (after_from (design_of l) (after l steps) (round l.shape))
         (round_awake (design_of l) (record { state = after l steps; awake = awake })).awake }
+{}
+
+/// That all takes, puts and credits of routers but those counted as awake are asleep, and all latches but
+/// those counted as full are empty, is kept by a move of a processor or a bank, where the take to which it
+/// brings a flit and the credit that it returns are counted too; and by a move of a router, where besides
+/// the take is whose latch it empties, and its puts of full latches that it may free are. A put of an
+/// empty latch isn't enabled. And it hangs on the channels and the routers alone.
+pub fn moves_keep_sleeping_ports()
+    ensures others { (l : Load) → IsAccepted l → (steps : List Step) (attempt : Step) (op : WordOp)
+        (next : State) (f : PortFlags) → step_op (design_of l) (after l steps) attempt ≡ Some op
+        → step (design_of l) (after l steps) attempt ≡ Some next
+        → ((t : ℕ) → agent_number t Router ≢ attempt.agent)
+        → OtherPortsSleep (design_of l) (after l steps) f
+        → OtherPortsSleep (design_of l) next (ports_woken (design_of l) op f) }
+    ensures routers { (l : Load) → IsAccepted l → (steps : List Step) (t : ℕ) (choice : Choice)
+        (op : WordOp) (next : State) (f : PortFlags)
+        → step_op (design_of l) (after l steps) (of_router t choice) ≡ Some op
+        → step (design_of l) (after l steps) (of_router t choice) ≡ Some next
+        → OtherPortsSleep (design_of l) (after l steps) f
+        → OtherPortsSleep (design_of l) next (router_moved t choice (ports_woken (design_of l) op f)) }
+    ensures empty { (d : Design) (s : State) (t i : ℕ) → latch_at s t i ≡ None
+        → step d s (of_router t (Put i)) ≡ None }
+    ensures alike { (d : Design) (s other : State) (f : PortFlags)
+        → other.around.rings ≡ s.around.rings
+        → map (λ tile. tile.router) other.tiles ≡ map (λ tile. tile.router) s.tiles
+        → OtherPortsSleep d s f → OtherPortsSleep d other f }
 {}

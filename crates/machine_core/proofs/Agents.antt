@@ -32,6 +32,8 @@ use Rattle.machine_growth.specs.core_laws.specs.Core.{design_of, after}
 use Rattle.machine_growth.specs.core_seen.specs.Notes.{book_noted}
 use Rattle.machine_growth.specs.core_machine.specs.Core.{Core, Steps}
 use Rattle.machine_growth.specs.machine_wake.specs.Awake.{Awake, woken}
+use Rattle.machine_growth.specs.machine_wake.specs.Ports.{AwakePorts}
+use Rattle.machine_core.proofs.RouterFlags.{FollowMove}
 use Rattle.machine_core.specs.declared.machine.Machine.TheInside.{Inside}
 use Rattle.machine_core.specs.Noted.{HasRoomToNote, IsOfFullBank, counts_of, records_in}
 use Rattle.machine_core.specs.Inside.{core_of, IsMachine}
@@ -126,7 +128,7 @@ module _ {A : Type 0} (a : Inside A) (is : IsMachine a) (attempt : Step) (tile :
     -- the fields after an attempt that isn't enabled
     pub agent_idle : (tiles : Vec PlacedTile A) (row : Vec ℕ A) → agent_attempted v.place agent attempt.choice a.row.items ≡ None
         → (w : PlacedTile) → w ≡ v → tiles.items ≡ slice_set a.tiles.items tile w → row.items ≡ performed_by a.row.items (agent_op v.place agent attempt.choice)
-        → Led a (with_parts a tiles row a.book a.awake a.left) Idle attempt
+        → Led a (with_parts a tiles row a.book a.awake a.ports a.left) Idle attempt
     agent_idle tiles row none w same tiles_are row_is =
         idle a is attempt v here tiles row (attempted_is ∙ none) w same
         (tiles_are ∙ ap (λ (n : ℕ). slice_set a.tiles.items n w) (sym at)) (row_is ∙ ap (performed_by a.row.items) (sym op_is))
@@ -156,14 +158,17 @@ module _ {A : Type 0} (a : Inside A) (is : IsMachine a) (attempt : Step) (tile :
             → g.book ≡ book_noted tile (records_in tiles.items) (length v.place.processor.state.operations.issued)
             (length v.place.processor.state.operations.answers) (length v.place.bank.state.entries) (state_of x.place) a.book.book)
             → (op : WordOp) → agent_op v.place agent attempt.choice ≡ Some op → (awake : Awake) → awake ≡ woken a.awake op
-            → Led a (with_parts a tiles row g awake (a.left - 1)) Moved attempt
-        agent_moved tiles tiles_are row row_is g keeps noted op asked awake awake_is =
+            → (ports : AwakePorts) → FollowMove agent a.ports ports tile attempt.choice op
+            → Led a (with_parts a tiles row g awake ports (a.left - 1)) Moved attempt
+        agent_moved tiles tiles_are row row_is g keeps noted op asked awake awake_is ports ports_are =
             moved a is attempt v here q (attempted_is ∙ attempted) w new_tile tiles
             (tiles_are ∙ ap (λ (n : ℕ). slice_set a.tiles.items n w) (sym at)) row (row_is ∙ ap (performed_by a.row.items) (sym op_is)) g keeps
             (subst (λ (n : ℕ). (x : PlacedTile) → slice_get tiles.items n ≡ Some x
             → g.book ≡ book_noted n (records_in tiles.items) (length v.place.processor.state.operations.issued)
             (length v.place.processor.state.operations.answers) (length v.place.bank.state.entries) (state_of x.place) a.book.book) (sym at) noted)
-            op (op_is ∙ asked) awake awake_is
+            op (op_is ∙ asked) awake awake_is ports
+            (subst (λ (b : Agent). FollowMove b a.ports ports (agent_tile attempt.agent) attempt.choice op) (sym which)
+            (subst (λ (n : ℕ). FollowMove agent a.ports ports n attempt.choice op) (sym at) ports_are))
 
 -- the fields after a router's move: the book stays
 module _ {A : Type 0} (a : Inside A) (is : IsMachine a) (attempt : Step) (tile : ℕ) (at : agent_tile attempt.agent ≡ tile)
@@ -173,8 +178,9 @@ module _ {A : Type 0} (a : Inside A) (is : IsMachine a) (attempt : Step) (tile :
       → (tiles : Vec PlacedTile A) → tiles.items ≡ slice_set a.tiles.items tile w
       → (row : Vec ℕ A) → row.items ≡ performed_by a.row.items (agent_op v.place Router attempt.choice)
       → (op : WordOp) → agent_op v.place Router attempt.choice ≡ Some op → (awake : Awake) → awake ≡ woken a.awake op
-      → Led a (with_parts a tiles row a.book awake (a.left - 1)) Moved attempt
-  router_moved v there q attempted w new_tile tiles tiles_are row row_is op asked awake awake_is =
+      → (ports : AwakePorts) → FollowMove Router a.ports ports tile attempt.choice op
+      → Led a (with_parts a tiles row a.book awake ports (a.left - 1)) Moved attempt
+  router_moved v there q attempted w new_tile tiles tiles_are row row_is op asked awake awake_is ports ports_are =
       let new_there : slice_get tiles.items tile ≡ Some (with_place v q) =
       ap (λ (vs : List PlacedTile). slice_get vs tile) (tiles_are ∙ ap (slice_set a.tiles.items tile) new_tile)
       ∙ get_set_same a.tiles.items tile (with_place v q) (slice_get_within a.tiles.items tile v there) in
@@ -184,7 +190,7 @@ module _ {A : Type 0} (a : Inside A) (is : IsMachine a) (attempt : Step) (tile :
       (length v.place.bank.state.entries) (state_of y.place) a.book.book)
       (same_Some _ _ (sym new_there ∙ at_x))
       (nothing_noted tile (records_in tiles.items) v q a.book.book (router_alone v.place q attempt.choice a.row.items attempted)))
-      op asked awake awake_is
+      op asked awake awake_is ports ports_are
 
 -- a bank that has no room serves nothing
 pub bank_stays : {A : Type 0} (a : Inside A) (is : IsMachine a) (attempt : Step) (tile : ℕ) → agent_tile attempt.agent ≡ tile → agent_kind attempt.agent ≡ Bank

@@ -88,12 +88,12 @@ module _ {A : Type 0} (a : Inside A) (is : IsMachine a) where
       -- the fields after an attempt that isn't enabled
       pub idle : (tiles : Vec PlacedTile A) (row : Vec ℕ A) → tile_attempted v.place attempt a.row.items ≡ None
           → (w : PlacedTile) → w ≡ v → tiles.items ≡ slice_set a.tiles.items t w → row.items ≡ performed_by a.row.items (tile_next_op v.place attempt)
-          → Led a (with_parts a tiles row a.book a.awake a.left) Idle attempt
+          → Led a (with_parts a tiles row a.book a.awake a.ports a.left) Idle attempt
       idle tiles row none w same tiles_are row_is =
           let k = idles (tile_attempted v.place attempt a.row.items) none leads in
           let tiles_stay : tiles.items ≡ a.tiles.items = tiles_are ∙ (ap (slice_set a.tiles.items t) same ∙ set_there a.tiles.items t v there) in
           let row_stays : row.items ≡ a.row.items = row_is ∙ k.1 in
-          let core_stays : core_of (with_parts a tiles row a.book a.awake a.left) ≡ core_of a =
+          let core_stays : core_of (with_parts a tiles row a.book a.awake a.ports a.left) ≡ core_of a =
           ap (λ (vs : List PlacedTile). core_by a (state_seen (design_in a) (map (λ v. v.place) vs) row.items) a.book.book a.left) tiles_stay
           ∙ ap (λ (ws : List ℕ). core_by a (state_seen (design_in a) (places_in a) ws) a.book.book a.left) row_stays in
           record {
@@ -107,6 +107,8 @@ module _ {A : Type 0} (a : Inside A) (is : IsMachine a) where
               room = is.room;
               built = is.built;
               sleepers = is.sleepers;
+              routed = is.routed;
+              ports = is.ports;
             };
             steps = subst (λ (c : Core). Steps (core_of a) c Idle attempt) (sym core_stays) (stays (core_of a) attempt (step_is ∙ k.0));
           }

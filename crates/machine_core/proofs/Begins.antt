@@ -28,12 +28,15 @@ use Rattle.machine_growth.specs.core_machine.proofs.Lawful.{lawful}
 use Rattle.machine_growth.specs.core_seen.specs.Seen.{IsShown}
 use Rattle.machine_growth.specs.core_seen.proofs.Reached.{seen_state}
 use Rattle.machine_growth.specs.machine_wake.specs.Awake.{Awake, is_awake}
+use Rattle.machine_growth.specs.machine_wake.specs.Ports.{flags_of, all_ports_awake}
+use Rattle.machine_growth.specs.core_wake.specs.Routers.{PortFlags, OtherPortsSleep}
 use Rattle.machine_growth.specs.core_wake.specs.Sleep.{OthersSleep}
 use Rattle.machine_growth.specs.machine_wake.proofs.KeptSleepers.{fresh}
 use Rattle.machine_core.specs.declared.machine.Machine.TheInside.{Inside}
 use Rattle.machine_core.specs.Inside.{design_in, places_in, core_of, HaveRoom, HasRoomForScripts, IsMachine}
 use Rattle.machine_core.specs.Loaded.{first_tiles}
 use Rattle.machine_core.proofs.BeginsTiles.{at}
+use Rattle.machine_core.proofs.RouterFlags.{all_awake}
 
 -- the load of which these are the fields
 abbrev pub load_in : {A : Type 0} → Inside A → List (List Line) → Load
@@ -52,6 +55,8 @@ pub record Begun {A : Type 0} (a : Inside A) (scripts : List (List Line)) : Type
   pub allowed : a.allowed.items ≡ map operation_count scripts
   pub left : a.left ≡ most_moves (load_in a scripts)
   pub awake : a.awake ≡ record { design = design_in a; flags = replicate 192 true }
+  pub routed : a.ports.design ≡ design_in a
+  pub ports : flags_of a.ports ≡ all_ports_awake
 
 module _ (l : Load) (ok : IsAccepted l) (rooms : ℕ → ℕ) where
   abbrev first_at : ℕ → List Line → PlacedTile
@@ -119,6 +124,9 @@ module _ {A : Type 0} (a : Inside A) (scripts : List (List Line)) (ok : IsAccept
     built = ap (λ (w : Awake). w.design) b.awake;
     sleepers = subst (λ (w : Awake). OthersSleep (design_in a) (first_state (load_in a scripts)) (is_awake w)) (sym b.awake)
         (fresh (design_in a) (first_state (load_in a scripts)));
+    routed = b.routed;
+    ports = subst (λ (f : PortFlags). OtherPortsSleep (design_in a) (first_state (load_in a scripts)) f) (sym b.ports)
+        (all_awake (design_in a) (first_state (load_in a scripts)));
   }
 
 -- a part of a list is its first elements

@@ -25,6 +25,7 @@ use Rattle.machine_core.specs.declared.machine.Machine.TheInside.{Inside}
 use Rattle.machine_core.specs.Noted.{records_in}
 use Rattle.machine_core.specs.Inside.{core_of, IsMachine}
 use Rattle.machine_growth.specs.machine_wake.specs.Awake.{Awake}
+use Rattle.machine_growth.specs.machine_wake.specs.Ports.{AwakePorts}
 
 -- a step from where some steps led leads on
 pub follows : (old new : Core) (stepped : Stepped) (attempt : Step) → Steps old new stepped attempt
@@ -88,8 +89,8 @@ noted_same xs ys b c t g h e f k =
     k)
 
 -- a machine's fields with other tiles, another row, another book and others awake, and with so many moves left
-abbrev pub with_parts : {A : Type 0} → Inside A → Vec PlacedTile A → Vec ℕ A → RoomyBook → Awake → ℕ → Inside A
-with_parts a tiles row book awake left = record {
+abbrev pub with_parts : {A : Type 0} → Inside A → Vec PlacedTile A → Vec ℕ A → RoomyBook → Awake → AwakePorts → ℕ → Inside A
+with_parts a tiles row book awake ports left = record {
   torus = a.torus;
   depth = a.depth;
   tags = a.tags;
@@ -100,6 +101,7 @@ with_parts a tiles row book awake left = record {
   allowed = a.allowed;
   left = left;
   awake = awake;
+  ports = ports;
 }
 
 -- what they make, by the lists alone

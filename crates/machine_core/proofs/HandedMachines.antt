@@ -23,6 +23,9 @@ use Rattle.machine_growth.specs.core_seen.specs.Seen.{IsShown, state_seen}
 use Rattle.machine_growth.specs.core_seen.proofs.Reached.{seen_state}
 use Rattle.machine_growth.specs.core_wake.specs.Sleep.{OthersSleep}
 use Rattle.machine_growth.specs.machine_wake.specs.Awake.{Awake, is_awake, roused}
+use Rattle.machine_growth.specs.machine_wake.specs.Ports.{flags_of}
+use Rattle.machine_growth.specs.core_wake.specs.Routers.{OtherPortsSleep}
+use Rattle.machine_core.proofs.HandedPorts.{ports_handed}
 use Rattle.machine_growth.specs.core_growth.specs.Appended.{load_with, MayFollow}
 use Rattle.machine_growth.specs.core_growth.proofs.Places.{changed_set}
 use Rattle.machine_growth.specs.core_growth.proofs.Loads.{total_with}
@@ -134,6 +137,7 @@ module _ {A : Type 0} (a : Inside A) (is : IsMachine a) (seen : Core) (view : co
         allowed = allowed;
         left = left;
         awake = woken;
+        ports = a.ports;
       }
 
       as_reported : AreAsReported (tiles_given first p home a.tiles.items) tiles.items a.row.items row.items a.awake awake marks (has_reported c.state p)
@@ -207,4 +211,8 @@ module _ {A : Type 0} (a : Inside A) (is : IsMachine a) (seen : Core) (view : co
         built = ap (λ (w : Awake). w.design) woken_is ∙
             (design_then c p first home a.tiles.items tiles.items a.row.items row.items a.awake awake marks as_reported ∙ is.built);
         sleepers = subst (λ (w : Awake). OthersSleep (design_of l) (after l_with steps) (is_awake w)) (sym woken_is) asleep_now;
+        routed = is.routed;
+        ports = subst (λ (s : State). OtherPortsSleep (design_of l) s (flags_of a.ports)) after_then.state
+            (ports_handed c p first (design_of l) (flags_of a.ports)
+            (subst (λ (s : State). OtherPortsSleep (design_of l) s (flags_of a.ports)) (sym is.after.state) is.ports));
       }

@@ -56,6 +56,7 @@ with_book a tiles g = record {
   allowed = a.allowed;
   left = a.left;
   awake = a.awake;
+  ports = a.ports;
 }
 
 module _ {A : Type 0} (a : Inside A) (is : IsMachine a) where
@@ -91,6 +92,8 @@ module _ {A : Type 0} (a : Inside A) (is : IsMachine a) where
       room = kept_room g keeps;
       built = is.built;
       sleepers = is.sleepers;
+      routed = is.routed;
+      ports = is.ports;
     }
 
   -- a tile that is there, with its place in the book

@@ -1,4 +1,5 @@
 pub mod NotedBooks
+pub mod RouterFlags
 pub mod Fields
 pub mod Standing
 pub mod Attempting
@@ -17,4 +18,6 @@ pub mod FirstEnabled
 pub mod AskedSteps
 pub mod Allowed
 pub mod Handing
+pub mod HandedPorts
 pub mod HandedMachines
+pub mod Skips

@@ -1,5 +1,5 @@
 -- A machine's fields after an attempt that is enabled: they are those of the machine that the attempt makes.
-use Rattle.std.proofs.Common.{◌≡◌, ◌≢◌, ⊎_elim, ℕ, ◌-◌, ◌<◌, ◌≤◌, List, [], ◌∷◌, ◌++◌, length, map, take, Option, Some, None, sym, ◌∙◌, ap, subst, arith}
+use Rattle.std.proofs.Common.{◌≡◌, ◌≢◌, ⊎_elim, ℕ, ◌-◌, ◌<◌, ◌≤◌, List, [], ◌∷◌, ◌++◌, length, map, take, Option, Some, None, refl, sym, ◌∙◌, ap, subst, arith}
 use Rattle.std.proofs.Common.{slice_get, slice_set}
 use Rattle.std.specs.Prelude.{Vec, MatchOption, option_and_then}
 use Rattle.std.proofs.lemmas.Bool.{cases_eq}
@@ -23,7 +23,7 @@ use Rattle.machine_growth.specs.core_row.specs.Attempts.{step_op}
 use Rattle.order_book.specs.RoomyBook.{RoomyBook, KeepsRoom}
 use Rattle.rounds.specs.Rounds.{moves_in, one_if_moved}
 use Rattle.machine_growth.specs.tile_laws.specs.Tile.{Design}
-use Rattle.machine_growth.specs.tile_laws.specs.Agents.{TilePlace, state_of, tile_next_op, agent_tile}
+use Rattle.machine_growth.specs.tile_laws.specs.Agents.{TilePlace, state_of, tile_next_op, agent_kind, agent_tile}
 use Rattle.machine_growth.specs.tile.specs.Placed.{PlacedTile, with_place, tile_attempted}
 use Rattle.machine_growth.specs.core_laws.specs.Core.{Load, State, design_of, step, or_same, first_state, after, records_of}
 use Rattle.machine_growth.specs.core_seen.specs.Seen.{IsShown, state_seen}
@@ -38,6 +38,9 @@ use Rattle.machine_core.specs.declared.machine.Machine.TheInside.{Inside}
 use Rattle.machine_core.specs.Noted.{HasRoomForIssue, HasRoomForService, HasRoomToNote, counts_of, records_in}
 use Rattle.machine_core.specs.Inside.{design_in, places_in, core_of, HaveRoom, HasRoomForScripts as HasRoomForScripts, IsMachine}
 use Rattle.machine_growth.specs.machine_wake.specs.Awake.{Awake, is_awake, woken}
+use Rattle.machine_growth.specs.machine_wake.specs.Ports.{AwakePorts, flags_of}
+use Rattle.machine_growth.specs.core_wake.specs.Routers.{PortFlags, OtherPortsSleep}
+use Rattle.machine_core.proofs.RouterFlags.{FollowMove, ports_kept}
 use Rattle.machine_growth.specs.core_wake.specs.Sleep.{OthersSleep}
 use Rattle.machine_core.proofs.Fields.{Led, state_at, records_shown, with_parts, core_by}
 use Rattle.machine_core.proofs.Standing.{design_is, book_is, tiles_counted}
@@ -228,12 +231,23 @@ module _ {A : Type 0} (a : Inside A) (is : IsMachine a) where
           rows = omega (arith, is.room.rows, keeps.rows);
         }
 
+        asked_by : (op : WordOp) → tile_next_op v.place attempt ≡ Some op → step_op (design_of l) s attempt ≡ Some op
+        asked_by op asked = ap (option_and_then (λ (p : TilePlace). tile_next_op p attempt)) (sym (is.seen.tiles t) ∙ (place_there a is attempt v there)) ∙ asked
+
+        -- no choice of a router is enabled that doesn't count as awake
+        ports_led : (op : WordOp) → tile_next_op v.place attempt ≡ Some op → (ports : AwakePorts)
+            → FollowMove (agent_kind attempt.agent) a.ports ports t attempt.choice op
+            → OtherPortsSleep (design_of l) (after l (is.steps ++ attempt ∷ [])) (flags_of ports)
+        ports_led op asked ports ports_are =
+            subst (λ (x : State). OtherPortsSleep (design_of l) x (flags_of ports)) (sym next_after)
+            (subst (λ (f : PortFlags). OtherPortsSleep (design_of l) next f) (sym ports_are.flags)
+            (ports_kept l is.after.accepted is.steps attempt op next a.ports is.routed is.ports (asked_by op asked) led.1 (agent_kind attempt.agent) refl))
+
         -- who doesn't count as awake is asleep
         sleepers_led : (op : WordOp) → tile_next_op v.place attempt ≡ Some op → (awake : Awake) → awake ≡ woken a.awake op
             → OthersSleep (design_of l) (after l (is.steps ++ attempt ∷ [])) (is_awake awake)
         sleepers_led op asked awake awake_is =
-            let by : step_op (design_of l) s attempt ≡ Some op =
-            ap (option_and_then (λ (p : TilePlace). tile_next_op p attempt)) (sym (is.seen.tiles t) ∙ (place_there a is attempt v there)) ∙ asked in
+            let by = asked_by op asked in
             subst (λ (x : State). OthersSleep (design_of l) x (is_awake awake)) (sym next_after)
             (subst (λ (w : Awake). OthersSleep (design_of l) next (is_awake w)) (sym awake_is)
             (kept.moved l is.after.accepted is.steps attempt op next a.awake is.built is.sleepers by led.1))
@@ -247,9 +261,10 @@ module _ {A : Type 0} (a : Inside A) (is : IsMachine a) where
           → g.book ≡ book_noted t (records_in tiles.items) (length v.place.processor.state.operations.issued)
           (length v.place.processor.state.operations.answers) (length v.place.bank.state.entries) (state_of x.place) a.book.book)
           → (op : WordOp) → tile_next_op v.place attempt ≡ Some op → (awake : Awake) → awake ≡ woken a.awake op
-          → Led a (with_parts a tiles row g awake (a.left - 1)) Moved attempt
-      moved q attempted w new_tile tiles tiles_are row row_is g keeps noted op asked awake awake_is =
-          let change : core_of (with_parts a tiles row g awake (a.left - 1)) ≡ core_next (core_of a) attempt =
+          → (ports : AwakePorts) → FollowMove (agent_kind attempt.agent) a.ports ports t attempt.choice op
+          → Led a (with_parts a tiles row g awake ports (a.left - 1)) Moved attempt
+      moved q attempted w new_tile tiles tiles_are row row_is g keeps noted op asked awake awake_is ports ports_are =
+          let change : core_of (with_parts a tiles row g awake ports (a.left - 1)) ≡ core_next (core_of a) attempt =
           core_led q attempted w new_tile tiles.items tiles_are row.items row_is g.book
           (book_led q attempted w new_tile tiles.items tiles_are row.items row_is g noted) in
           record {
@@ -262,6 +277,8 @@ module _ {A : Type 0} (a : Inside A) (is : IsMachine a) where
               room = room_led q attempted w new_tile tiles.items tiles_are row.items row_is g keeps;
               built = ap (λ (x : Awake). x.design) awake_is ∙ is.built;
               sleepers = sleepers_led q attempted w new_tile tiles.items tiles_are row.items row_is op asked awake awake_is;
+              routed = ports_are.design ∙ is.routed;
+              ports = ports_led q attempted w new_tile tiles.items tiles_are row.items row_is op asked ports ports_are;
             };
             steps = record {
               result = sym (ap told (next_is q attempted w new_tile tiles.items tiles_are row.items row_is));

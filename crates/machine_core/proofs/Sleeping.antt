@@ -71,7 +71,7 @@ module _ {A : Type 0} (start : Inside A) (is : IsMachine start) (c : Core) (view
 
   -- then the machine is as it was, and the agent may count as asleep
   pub falls_asleep : (b : Inside A) (mb : IsMachine b) (now : Core) → core_of b ≡ now → now ≡ core_after c (attempts_of agent choices) → b.left ≡ start.left
-      → (awake : Awake) → awake ≡ rested b.awake agent → IsMachine (with_parts b b.tiles b.row b.book awake b.left)
+      → (awake : Awake) → awake ≡ rested b.awake agent → IsMachine (with_parts b b.tiles b.row b.book awake b.ports b.left)
   falls_asleep b mb now view_b made same awake awake_is =
       let left : (core_after c (attempts_of agent choices)).moves_left ≡ c.moves_left =
       ap (λ (x : Core). x.moves_left) (sym made) ∙ (ap (λ (x : Core). x.moves_left) (sym view_b) ∙ (same ∙ ap (λ (x : Core). x.moves_left) view)) in
@@ -96,4 +96,6 @@ module _ {A : Type 0} (start : Inside A) (is : IsMachine start) (c : Core) (view
         built = ap (λ (w : Awake). w.design) awake_is ∙ mb.built;
         sleepers = subst (λ (w : Awake). OthersSleep (design_of mb.load) (after mb.load mb.steps) (is_awake w)) (sym awake_is)
             (rests (design_of mb.load) (after mb.load mb.steps) agent b.awake mb.sleepers there);
+        routed = mb.routed;
+        ports = mb.ports;
       }

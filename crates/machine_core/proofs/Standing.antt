@@ -1,17 +1,18 @@
 -- Where a machine stands, said of its fields.
-use Rattle.std.proofs.Common.{◌≡◌, ℕ, ◌≤◌, List, length, map, take, None, refl, sym, ◌∙◌, ap, subst, arith}
+use Rattle.std.proofs.Common.{◌≡◌, ℕ, ◌<◌, ◌≤◌, List, length, map, take, None, refl, sym, ◌∙◌, ap, subst, arith}
 use Rattle.std.proofs.Common.{slice_get}
 use Rattle.std.proofs.lemmas.List.{length-map, take_all}
 use Rattle.std.proofs.lemmas.Option.{slice_get_past}
-use Rattle.torus.specs.Shape.{Shape, tiles_of}
+use Rattle.torus.specs.Shape.{Shape, tiles_of, dims_of}
 use Rattle.torus.specs.declared.step.Step.{Step}
+use Rattle.channel_number.specs.Ports.{port_count}
 use Rattle.machine_growth.specs.tile_laws.specs.Agents.{state_of, agent_tile}
 use Rattle.machine_growth.specs.tile.specs.Placed.{PlacedTile}
 use Rattle.machine_growth.specs.core_laws.specs.Core.{Load, State, design_of, step, after}
 use Rattle.machine_growth.specs.core_laws.specs.Runs.{state_after}
 use Rattle.machine_growth.specs.core_laws.proofs.EveryRun.{holds_in}
 use Rattle.machine_growth.specs.core_seen.specs.Seen.{IsShown}
-use Rattle.machine_growth.specs.core_machine.specs.Core.{built_to, book_after}
+use Rattle.machine_growth.specs.core_machine.specs.Core.{Core, built_to, book_after}
 use Rattle.machine_core.specs.declared.machine.Machine.TheInside.{Inside}
 use Rattle.machine_core.specs.Inside.{design_in, places_in, core_of, IsMachine}
 
@@ -62,3 +63,10 @@ module _ {A : Type 0} (a : Inside A) (is : IsMachine a) where
       slice_get_past (map state_of (places_in a)) (agent_tile attempt.agent)
       (omega (arith, length-map (places_in a) state_of, length-map a.tiles.items (λ (v : PlacedTile). v.place))) in
       rw past refl
+
+  -- a router has few ports
+  pub ports_few : (c : Core) → core_of a ≡ c → (ports : ℕ) → ports ≡ port_count (dims_of c.shape) → ports < 32
+  ports_few c view ports all =
+      let few = is.after.accepted.shape.dims_high in
+      let same : dims_of c.shape ≡ dims_of is.load.shape = ap (λ (x : Core). dims_of x.shape) (sym view) ∙ ap dims_of is.after.shape in
+      omega (arith, few, same, all)

@@ -1,18 +1,23 @@
 -- The parts of a round, that is the choices that an agent is asked for, in order; and rounds, one
 -- after the other.
-use Rattle.std.specs.Prelude.{◌≡◌, ℕ, zero, suc, ◌<◌, true, false, List, [], ◌∷◌, ◌++◌, map, Option}
+use Rattle.std.specs.Prelude.{◌≡◌, ℕ, zero, suc, ◌-◌, ◌<◌, true, false, List, [], ◌∷◌, ◌++◌, map, Option}
 use Rattle.std.specs.List.{range_with_len}
 use Rattle.torus.specs.Shape.{Shape}
 use Rattle.torus.specs.declared.step.Step.{Step}
 use Rattle.torus.specs.declared.step.Choice.{Choice}
 use Rattle.torus.specs.declared.step.Choice.TheVariants.{Send, Take, TakeFrom, Put, Credit, CreditOf, Serve, Done, Look}
 use Rattle.rounds.specs.Rounds.{first_enabled}
-use Rattle.machine_growth.specs.core_laws.specs.Core.{step, round}
+use Rattle.machine_growth.specs.core_laws.specs.Core.{step, attempts_of, round}
 use Rattle.machine_growth.specs.core_machine.specs.Core.{Core, built_to, core_after, all_finished}
 
 -- the first of some attempts that is enabled in a machine now (this project's own format)
 abbrev pub first_in : Core → List Step → Option Step
 first_in c attempts = first_enabled (step (built_to c)) c.state attempts
+
+-- the attempts of an agent's choice for each number from one on and below another (this project's
+-- own format)
+abbrev pub attempts_between : (ℕ → Choice) → ℕ → ℕ → ℕ → List Step
+attempts_between f agent from to = attempts_of agent (map f (range_with_len from (to - from)))
 
 -- the attempts of so many rounds of a torus, one after the other (this project's own format)
 abbrev pub rounds_of : Shape → ℕ → List Step

@@ -9,8 +9,7 @@ ghost use Rattle.rounds.specs.Rounds.{moves_in};
 ghost use Rattle.machine_growth.specs.core_laws.specs.Core.{step, attempts_of, round_at, round};
 ghost use Rattle.machine_growth.specs.core_machine.specs.Core.{RunsOn, MakesMove, Steps, core_after, built_to};
 ghost use Rattle.machine_growth.specs.core_machine.specs.Core.{all_finished};
-ghost use Rattle.torus.specs.Choices.{processor_choices, bank_choices, takes_of_all, puts_of_all};
-ghost use Rattle.torus.specs.Choices.{credits_of_all, router_choices};
+ghost use Rattle.torus.specs.Choices.{processor_choices, bank_choices, router_choices};
 
 use crate::machine::Machine;
 use crate::noting::{Counts, lacks_room, note};
@@ -31,6 +30,7 @@ impl<A: Allocator> Machine<A> {
         match self.tiles[tile].attempt_processor(choice, &mut self.row) {
             Stepped::Moved => {
                 self.awake.wake(op);
+                self.ports.wake(op);
                 note(self.tiles.as_slice(), &mut self.book, tile, before);
                 self.left -= 1;
                 Stepped::Moved
@@ -52,6 +52,7 @@ impl<A: Allocator> Machine<A> {
         match self.tiles[tile].attempt_router(choice, &mut self.row) {
             Stepped::Moved => {
                 self.awake.wake(op);
+                self.ports.router_moved(tile, choice, op);
                 self.left -= 1;
                 Stepped::Moved
             }
@@ -76,6 +77,7 @@ impl<A: Allocator> Machine<A> {
         match self.tiles[tile].attempt_bank(choice, &mut self.row) {
             Stepped::Moved => {
                 self.awake.wake(op);
+                self.ports.wake(op);
                 note(self.tiles.as_slice(), &mut self.book, tile, before);
                 self.left -= 1;
                 Stepped::Moved
@@ -173,37 +175,6 @@ impl<A: Allocator> Machine<A> {
         let _ = self.step_processor(tile, Choice::Credit);
         let _ = self.step_processor(tile, Choice::Done);
         let _ = self.step_processor(tile, Choice::Look);
-    }
-
-    /// Attempts to take a flit of each input of a tile's router, in order.
-    fn attempt_takes(&mut self, tile: usize, ports: u32)
-        requires { tile < tiles_of self.old.shape }
-        ensures { self.new ≡ core_after self.old (attempts_of (3 * tile + 1) (takes_of_all ports)) }
-    {
-        for input in 0..ports {
-            let _ = self.step_router(tile, Choice::TakeFrom(input));
-        }
-    }
-
-    /// Attempts to put the flit that a tile's router took of each input, in order.
-    fn attempt_puts(&mut self, tile: usize, ports: u32)
-        requires { tile < tiles_of self.old.shape }
-        ensures { self.new ≡ core_after self.old (attempts_of (3 * tile + 1) (puts_of_all ports)) }
-    {
-        for input in 0..ports {
-            let _ = self.step_router(tile, Choice::Put(input));
-        }
-    }
-
-    /// Attempts to find a credit of each output of a tile's router, in order.
-    fn attempt_credits(&mut self, tile: usize, ports: u32)
-        requires { tile < tiles_of self.old.shape }
-        ensures { self.new
-            ≡ core_after self.old (attempts_of (3 * tile + 1) (credits_of_all ports)) }
-    {
-        for output in 0..ports {
-            let _ = self.step_router(tile, Choice::CreditOf(output));
-        }
     }
 
     /// Attempts each choice of a tile's bank.

@@ -9,6 +9,7 @@ mod loading;
 pub mod machine;
 mod noting;
 pub mod parts;
+mod routers;
 
 pub use home_bank::Entry;
 pub use machine::Machine;

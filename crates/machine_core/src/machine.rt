@@ -2,36 +2,28 @@ ghost use Rattle.std.specs.Prelude.{◌≡◌, ◌+◌, ◌<◌, ◌≤◌, ◌�
 ghost use Rattle.std.specs.Prelude.{slice_get};
 ghost use Rattle.std.specs.Option.{option_copied};
 ghost use Rattle.torus.specs.declared.step.Step.{Step};
-ghost use Rattle.script.specs.Scripts.{Fit};
-ghost use Rattle.script.specs.ScriptViews.{lists_of};
 ghost use Rattle.machine_growth.specs.script_follower.specs.Following.{is_finished};
-ghost use Rattle.machine_growth.specs.order_abstract.specs.Load.{load_of};
 ghost use Rattle.machine_growth.specs.order_abstract.specs.Scripts.{AreFinished};
 ghost use Rattle.rounds.specs.Rounds.{moves_in};
 ghost use Rattle.machine_growth.specs.core_laws.specs.Core.{Load, run_of, step};
-ghost use Rattle.machine_growth.specs.core_laws.specs.Runs.{IsAccepted};
 ghost use Rattle.machine_growth.specs.core_row.specs.Row.{row_of};
 ghost use Rattle.machine_growth.specs.core_machine.specs.Core.{IsAfter, RunsOn, HasOneOrderSoFar, Steps, core_after, shown};
 ghost use Rattle.machine_growth.specs.core_machine.specs.Core.{built_to, all_finished};
 ghost use Rattle.machine_growth.specs.core_progress.specs.Moves.{IsLive, moves_left};
 ghost use Rattle.machine_core.specs.Rounds.{rounds_of, NeedsRounds};
 
-use crate::loading::{first_row, first_tiles, most_moves};
-use channel_number::channel_count;
 use home_bank::Entry;
-use machine_growth::{Agent, TileAgents, WakeFlags, agent_kind, agent_tile};
+use machine_growth::{Agent, RouterFlags, TileAgents, WakeFlags, agent_kind, agent_tile};
 use one_order::{Answer, Ordered};
 use order_book::EventBook;
-use order_rooms::{all_room, home_rooms, processor_rooms};
-use script::{LineList, MachineText, Scripts};
-use std::alloc::{AllocError, Allocator, Global};
+use std::alloc::{Allocator, Global};
 use std::marker::Model;
 use torus::{Fault, Step, Stepped, Torus};
 
 /// A machine: the agents of all tiles, the row of words that they share (the places of the
 /// channels, the memory, and the done word), the book of the events so far, how many operations each of
-/// its scripts can make at most, how many moves they still allow, and which agents count as awake: all
-/// others are asleep, no choice of theirs is enabled.
+/// its scripts can make at most, how many moves they still allow, and which agents and which choices of
+/// routers count as awake: all others are asleep, that is not enabled.
 #[derive(Drop)]
 pub struct Machine<A: Allocator = Global> {
     pub(crate) torus: Torus,
@@ -44,6 +36,7 @@ pub struct Machine<A: Allocator = Global> {
     pub(crate) allowed: Vec<usize, A>,
     pub(crate) left: u64,
     pub(crate) awake: WakeFlags<A>,
+    pub(crate) ports: RouterFlags<A>,
 }
 
 impl<A: Allocator> Model for Machine<A> {
@@ -56,79 +49,6 @@ impl<A: Allocator> Model for Machine<A> {
     ghost view = { core_of };
 
     ghost invariant = { IsMachine };
-}
-
-impl<A: Allocator + Copy> Machine<A> {
-    /// A machine that has made no step, with all the room that its steps will need.
-    fn begin(
-        alloc: A,
-        torus: Torus,
-        depth: u32,
-        tags: u32,
-        opening: Vec<u64, A>,
-        lists: Vec<LineList<A>, A>,
-    ) -> Result<Machine<A>, AllocError>
-        requires { IsAccepted
-            (record {
-              shape = torus;
-              depth = depth;
-              tags = tags;
-              opening = opening.items;
-              scripts = lists_of lists.items;
-            }) }
-        ensures { IfOk result
-            (λ m. IsAfter (record {
-              shape = torus;
-              depth = depth;
-              tags = tags;
-              opening = opening.items;
-              scripts = lists_of lists.items;
-            }) m []) }
-    {
-        let tiles = torus.tiles() as usize;
-        let issues = processor_rooms(lists.as_slice());
-        let entries = home_rooms(torus.tiles(), lists.as_slice());
-        let rows = all_room(lists.as_slice());
-        let allowed = Vec::from_slice(alloc, &issues[..tiles])?;
-        let book = EventBook::new(alloc, &issues[..tiles], &entries[..tiles], rows)?;
-        let places = channel_count(&torus) as usize * depth as usize;
-        let row = first_row(alloc, places, opening.as_slice())?;
-        let words = opening.len() as u32;
-        let tiles = first_tiles(alloc, torus, words, depth, tags, &entries, lists)?;
-        let awake = WakeFlags::new(alloc, torus, depth, words)?;
-        let left = most_moves(rows, torus.tiles());
-        Ok(Machine {
-            torus,
-            depth,
-            tags,
-            opening,
-            tiles,
-            row,
-            book,
-            allowed,
-            left,
-            awake,
-        })
-    }
-
-    /// Loads a machine text with scripts that fit it: the machine has made no step.
-    ///
-    /// Errors: `Fault::Memory` alone. All memory is taken here: no step takes any.
-    pub fn load(alloc: A, machine: MachineText<A>, scripts: Scripts<A>) -> Result<Machine<A>, Fault>
-        requires { Fit scripts machine }
-        ensures start { IfOk result (λ m. IsAfter (load_of machine scripts) m []) }
-        ensures fault { IfErr result (λ fault. fault ≡ Fault.Memory) }
-    {
-        let torus = *machine.torus();
-        let depth = machine.depth();
-        let tags = machine.tags();
-        let opening = machine.into_opening();
-        let lists = scripts.into_lists();
-        match Machine::begin(alloc, torus, depth, tags, opening, lists) {
-            Ok(loaded) => Ok(loaded),
-            Err(_) => Err(Fault::Memory),
-        }
-    }
 }
 
 impl<A: Allocator> Machine<A> {

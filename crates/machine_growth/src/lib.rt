@@ -8,7 +8,7 @@ mod reports;
 mod words;
 
 pub use lines::{home_of, put_line};
-pub use machine_wake::{Agent, TileAgents, WakeFlags, agent_kind, agent_tile};
+pub use machine_wake::{Agent, RouterFlags, TileAgents, WakeFlags, agent_kind, agent_tile};
 pub use refusing::{refusal, sum_of};
 pub use reports::take_back;
 pub use words::brings_words;

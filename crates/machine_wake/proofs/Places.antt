@@ -1,5 +1,5 @@
 -- The agents at the ends of a place, and that there are flags for them.
-use Rattle.std.proofs.Common.{◌≡◌, ℕ, ◌*◌, ◌/◌, ◌<◌, Bool, List, sym, ◌∙◌, ap, subst, arith, slice_index_or, if◌then◌else◌}
+use Rattle.std.proofs.Common.{◌≡◌, ℕ, ◌*◌, ◌/◌, ◌<◌, Bool, List, Option, Some, None, sym, ◌∙◌, ap, subst, arith, slice_index_or, if◌then◌else◌}
 use Rattle.std.proofs.lemmas.Nat.{div_below}
 use Rattle.std.proofs.lemmas.List.FromFn.{get_or-map-range_with_len}
 use Rattle.torus.specs.Shape.{Shape, IsAccepted, IsNeighbour, tiles_of, dims_of, radix_of, digit_of, one_hop}
@@ -13,11 +13,12 @@ use Rattle.dateline_route.specs.declared.channel.Kind.{Kind}
 use Rattle.dateline_route.specs.declared.channel.Kind.TheVariants.{Injection, Hop, Ejection}
 use Rattle.dateline_route.proofs.Neighbours.{hop_is}
 use Rattle.channel_number.specs.Order.{channel_at, channel_count}
-use Rattle.channel_number.specs.Ports.{is_injection, is_ejection, tile_after}
+use Rattle.channel_number.specs.Ports.{is_injection, is_ejection, tile_after, input_port}
 use Rattle.channel_number.proofs.Decoding.{decoded}
 use Rattle.core_wake.specs.tile_laws.specs.declared.agent.Agent.TheVariants.{Router}
 use Rattle.core_wake.specs.tile_laws.specs.Agents.{agent_number}
 use Rattle.core_wake.specs.tile_laws.proofs.AgentNumbers.{number_low}
+use Rattle.core_wake.specs.Routers.{input_end}
 use Rattle.core_wake.specs.Waking.{taker, speaker, receiver_of, sender_of}
 use Rattle.machine_wake.specs.Ends.{all_ends, ends_of}
 use Rattle.machine_wake.specs.declared.ends.Ends.{Ends}
@@ -35,6 +36,19 @@ received_by_hop s ok index d u dir bit x low inside at is near =
     (hop_is s ok x.tile d dir low inside))
     ∙ (ap (λ (k : Kind). received_at s (record { tile = x.tile; class = x.class; kind = k })) (sym is)
     ∙ ap (received_at s) at)
+
+-- the router's end of a hop where it is received
+abbrev end_at : Shape → Channel → ℕ → Option (ℕ × ℕ)
+end_at s x port = if is_ejection x.kind then None else Some (tile_after s x.tile x.kind, port)
+
+pub end_of_hop : (s : Shape) → IsAccepted s → (index d u port : ℕ) (dir : Dir) (bit : Bool) (x : Channel) → x.tile < tiles_of s → d < dims_of s
+    → x ≡ channel_at s index → x.kind ≡ Hop d dir bit → IsNeighbour s x.tile d dir u → port ≡ input_port s index → Some (u, port) ≡ input_end s index
+end_of_hop s ok index d u port dir bit x low inside at is near port_is =
+    ap (λ (v : ℕ). Some (v, port))
+    (one_neighbour s ok x.tile d u (with_digit s x.tile d (one_hop dir (radix_of s d) (digit_of s x.tile d))) dir near
+    (hop_is s ok x.tile d dir low inside))
+    ∙ (ap (λ (k : Kind). end_at s (record { tile = x.tile; class = x.class; kind = k }) port) (sym is)
+    ∙ (ap (λ (y : Channel). end_at s y port) at ∙ ap (end_at s (channel_at s index)) port_is))
 
 -- an agent that is there
 module _ (s : Shape) (ok : IsAccepted s) where

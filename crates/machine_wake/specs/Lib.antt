@@ -11,3 +11,5 @@ pub use Rattle.core_wake.specs.tile
 pub mod Ends
 pub mod Awake
 pub mod Inside
+pub mod Ports
+pub mod InsidePorts

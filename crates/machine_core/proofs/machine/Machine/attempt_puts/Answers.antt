@@ -1,19 +1,31 @@
-use Rattle.std.proofs.Common.{ℕ, ◌+◌, ◌*◌, refl}
+use Rattle.std.proofs.Common.{◌≡◌, ℕ, ◌+◌, ◌*◌, refl, ◌∙◌, ap, arith}
 use Rattle.torus.specs.declared.step.Choice.TheVariants.{Put}
 use Rattle.machine_growth.specs.core_laws.specs.Core.{attempts_of}
+use Rattle.machine_growth.specs.core_machine.specs.Core.{core_after}
 use Rattle.torus.specs.Choices.{puts_of_all}
-use Rattle.machine_core.proofs.Rounds.{port_more, tile_stays}
+use Rattle.machine_core.proofs.Rounds.{tile_stays}
+use Rattle.machine_core.proofs.Skips.{further}
 use Rattle.machine_core.proofs.machine.Machine.attempt_puts.Goals as goal
 
-pub loop-input-init : goal.loop-input-init
-loop-input-init g c = refl
+pub loop-from-init : goal.loop-from-init
+loop-from-init g c = record { made = refl; within = omega arith }
 
-pub loop-input-preserved : goal.loop-input-preserved
-loop-input-preserved g c =
-    port_more (λ (k : ℕ). Put k) (3 * c.args.tile + 1) c.loop-input.input c.args.self.now c.loop-input.self c.step_router.new.self c.loop-input.invariant
-    c.step_router.ensures.change
+pub loop-from-preserved : goal.loop-from-preserved
+loop-from-preserved g c =
+    let later = c.attempt_put-from.ensures.later in
+    record {
+      made = further (λ (k : ℕ). Put k) (3 * c.args.tile + 1) c.args.self.now c.loop-from.self c.attempt_put-from.new.self c.loop-from.from
+          c.attempt_put-from.result (omega (arith, later)) c.loop-from.invariant.made c.attempt_put-from.ensures.state;
+      within = c.attempt_put-from.ensures.within;
+    }
 
-pub step_router-requires : goal.step_router-requires
-step_router-requires g c =
-    tile_stays c.args.tile c.args.self.now c.loop-input.self (attempts_of (3 * c.args.tile + 1) (puts_of_all c.loop-input.input)) c.loop-input.invariant
-    c.requires
+pub attempt_put-from-requires-clause-tile : goal.attempt_put-from-requires-clause-tile
+attempt_put-from-requires-clause-tile g c =
+    tile_stays c.args.tile c.args.self.now c.loop-from.self (attempts_of (3 * c.args.tile + 1) (puts_of_all c.loop-from.from)) c.loop-from.invariant.made
+    c.requires.tile
+
+pub returns : goal.returns
+returns g c =
+    let within = c.loop-from.invariant.within in
+    let e : c.loop-from.from ≡ c.args.ports = omega (arith, within) in
+    c.loop-from.invariant.made ∙ ap (λ (n : ℕ). core_after c.args.self.now (attempts_of (3 * c.args.tile + 1) (puts_of_all n))) e

@@ -1,9 +1,15 @@
-use Rattle.std.proofs.Common.{◌≡◌, ◌+◌, ◌*◌}
+use Rattle.std.proofs.Common.{◌≡◌, ◌+◌, ◌-◌, ◌*◌, ◌≤◌}
 use Rattle.machine_growth.specs.core_laws.specs.Core.{attempts_of}
 use Rattle.machine_growth.specs.core_machine.specs.Core.{core_after}
 use Rattle.torus.specs.Choices.{puts_of_all}
 use Rattle.machine_core.proofs.machine.Machine.attempt_puts.Given as goal
 
 -- the ports so far are attempted
-abbrev pub invariant-loop-input : goal.invariant-loop-input
-invariant-loop-input g l = l.self ≡ core_after l.fn.self (attempts_of (3 * l.tile + 1) (puts_of_all l.input))
+abbrev pub invariant-loop-from : goal.invariant-loop-from
+invariant-loop-from g l = record {
+  made : l.self ≡ core_after l.fn.self (attempts_of (3 * l.tile + 1) (puts_of_all l.from));
+  within : l.from ≤ l.ports;
+}
+
+abbrev pub decreases-loop-from : goal.decreases-loop-from
+decreases-loop-from g l = l.ports - l.from

@@ -23,6 +23,7 @@ begun : (g : Over) (c : goal.After-most_moves-left g) → Begun
       allowed = c.in_ok-allowed.allowed;
       left = c.most_moves-left.result;
       awake = c.in_ok-awake.awake;
+      ports = c.in_ok-ports.ports;
     })
     (lists_of c.args.lists.items)
 begun g c =
@@ -69,6 +70,8 @@ begun g c =
           omega (arith, c.most_moves-left.ensures, all, c.tiles-2.ensures.value);
       awake = c.in_ok-awake.ensures
           ∙ ap (λ (n : ℕ). record { design = record { shape = c.args.torus; depth = c.args.depth; words = n }; flags = replicate 192 true }) words;
+      routed = c.in_ok-ports.ensures.0 ∙ ap (λ (n : ℕ). record { shape = c.args.torus; depth = c.args.depth; words = n }) words;
+      ports = c.in_ok-ports.ensures.1;
     }
 
 pub most_moves-left-requires : goal.most_moves-left-requires
@@ -129,6 +132,12 @@ returns g c = is_after_none _ (lists_of c.args.lists.items) c.requires (begun g 
 
 pub new-requires-2-clause-words : goal.new-requires-2-clause-words
 new-requires-2-clause-words g c =
+    let counted = c.args.opening.ok.0 in
+    let few = c.requires.size.1 in
+    omega (arith, c.len-words.ensures, counted, few)
+
+pub new-requires-3-clause-words : goal.new-requires-3-clause-words
+new-requires-3-clause-words g c =
     let counted = c.args.opening.ok.0 in
     let few = c.requires.size.1 in
     omega (arith, c.len-words.ensures, counted, few)

@@ -75,7 +75,7 @@ asked g c =
 
 led : (g : Over) (c : goal.After-self-in-Moved-1 g)
     → Led c.self.inside (with_parts c.self.inside (with_item c.self.inside.tiles c.args.tile c.attempt_bank.new.self) c.attempt_bank.new.row c.note.new.book
-    c.wake.new.self (c.self.inside.left - 1)) Moved (record { agent = 3 * c.args.tile + 2; choice = c.args.choice })
+    c.wake.new.self c.wake-in-Moved.new.self (c.self.inside.left - 1)) Moved (record { agent = 3 * c.args.tile + 2; choice = c.args.choice })
 led g c =
     let v : PlacedTile = c.index_mut.result.now in
     let at : slice_get c.self.inside.tiles.items c.args.tile ≡ Some v =
@@ -93,7 +93,8 @@ led g c =
     k.0 k.1 c.attempt_bank.new.self k.2 tiles refl c.attempt_bank.new.row c.attempt_bank.ensures.row c.note.new.book c.note.ensures.room
     (noted_same c.as_slice.result.now tiles.items c.of-before.result (counts_of v) c.args.tile c.note.new.book.book c.self.inside.book.book
     c.as_slice.ensures.value before c.note.ensures.book)
-    c.in-Some.op (asked g c) c.wake.new.self c.wake.ensures
+    c.in-Some.op (asked g c) c.wake.new.self c.wake.ensures c.wake-in-Moved.new.self
+    (record { design = c.wake-in-Moved.ensures.design; flags = c.wake-in-Moved.ensures.flags })
 
 pub overflow_sub-self : goal.overflow_sub-self
 overflow_sub-self g c =

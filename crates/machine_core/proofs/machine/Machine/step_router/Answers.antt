@@ -7,6 +7,7 @@ use Rattle.machine_growth.specs.tile_laws.specs.Agents.{agent_op}
 use Rattle.machine_growth.specs.tile_laws.proofs.AgentNumbers.{tile_of_number, kind_of_number}
 use Rattle.machine_growth.specs.tile.specs.Placed.{PlacedTile, agent_attempted}
 use Rattle.machine_core.proofs.Fields.{Led, vec_at, with_parts, moved_tile, idle_tile}
+use Rattle.machine_core.proofs.Standing.{few_tiles}
 use Rattle.machine_core.proofs.Agents.{tile_within, agent_word, agent_fits, agent_without_op, agent_idle, agent_left, router_moved}
 use Rattle.machine_core.proofs.machine.Machine.step_router.Given.{Over}
 use Rattle.machine_core.proofs.machine.Machine.step_router.Goals as goal
@@ -52,7 +53,7 @@ asked g c =
 
 led : (g : Over) (c : goal.After-self-in-Moved-1 g)
     → Led c.self.inside (with_parts c.self.inside (with_item c.self.inside.tiles c.args.tile c.attempt_router.new.self) c.attempt_router.new.row
-    c.self.inside.book c.wake.new.self (c.self.inside.left - 1)) Moved (record { agent = 3 * c.args.tile + 1; choice = c.args.choice })
+    c.self.inside.book c.wake.new.self c.router_moved.new.self (c.self.inside.left - 1)) Moved (record { agent = 3 * c.args.tile + 1; choice = c.args.choice })
 led g c =
     let v : PlacedTile = c.index_mut.result.now in
     let at : slice_get c.self.inside.tiles.items c.args.tile ≡ Some v =
@@ -64,7 +65,8 @@ led g c =
     (tile_of_number c.args.tile Router) (kind_of_number c.args.tile Router) v at
     k.0 k.1 c.attempt_router.new.self k.2
     (with_item c.self.inside.tiles c.args.tile c.attempt_router.new.self) refl c.attempt_router.new.row c.attempt_router.ensures.row
-    c.in-Some.op (asked g c) c.wake.new.self c.wake.ensures
+    c.in-Some.op (asked g c) c.wake.new.self c.wake.ensures c.router_moved.new.self
+    (record { design = c.router_moved.ensures.design; flags = c.router_moved.ensures.flags })
 
 pub invariant_of-self : goal.invariant_of-self
 invariant_of-self g c = (led g c).machine
@@ -108,3 +110,10 @@ returns-in_default g c =
     c.index.result.now
     (vec_at c.self.inside.tiles c.args.tile c.index.result.now
     (tile_within c.self.inside c.self.invariant c.args.self.now c.self.view_is c.args.tile c.requires) c.index.ensures) (sym c.in_default.ensures))
+
+pub router_moved-requires : goal.router_moved-requires
+router_moved-requires g c =
+    let few = few_tiles c.self.inside c.self.invariant in
+    let long = c.self.inside.tiles.ok.0 in
+    let low = tile_within c.self.inside c.self.invariant c.args.self.now c.self.view_is c.args.tile c.requires in
+    omega (arith, few, long, low)

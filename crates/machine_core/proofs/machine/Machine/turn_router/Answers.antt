@@ -2,7 +2,7 @@ use Rattle.std.proofs.Common.{◌≡◌, ◌+◌, ◌*◌, sym, ◌∙◌, subst
 use Rattle.machine_growth.specs.core_laws.specs.Core.{attempts_of}
 use Rattle.machine_growth.specs.core_machine.specs.Core.{Core, core_after}
 use Rattle.torus.specs.Choices.{router_choices, takes_of_all, puts_of_all}
-use Rattle.machine_core.proofs.Standing.{few_tiles}
+use Rattle.machine_core.proofs.Standing.{few_tiles, ports_few}
 use Rattle.machine_core.proofs.Agents.{tile_within}
 use Rattle.machine_core.proofs.Rounds.{router_parts, tile_stays}
 use Rattle.machine_core.proofs.Sleeping.{of_router, slept, falls_asleep}
@@ -28,17 +28,27 @@ rest-requires g c =
     let low = tile_within c.self.inside c.self.invariant c.args.self.now c.self.view_is c.args.tile c.requires.tile in
     omega (arith, few, long, low)
 
-pub attempt_puts-requires : goal.attempt_puts-requires
-attempt_puts-requires g c =
+pub attempt_puts-requires-clause-tile : goal.attempt_puts-requires-clause-tile
+attempt_puts-requires-clause-tile g c =
     tile_stays c.args.tile c.args.self.now c.attempt_takes.new.self (attempts_of (3 * c.args.tile + 1) (takes_of_all c.args.ports)) c.attempt_takes.ensures
     c.requires.tile
 
-pub attempt_credits-requires : goal.attempt_credits-requires
-attempt_credits-requires g c =
+pub attempt_credits-requires-clause-tile : goal.attempt_credits-requires-clause-tile
+attempt_credits-requires-clause-tile g c =
     let low = tile_stays c.args.tile c.args.self.now c.attempt_takes.new.self (attempts_of (3 * c.args.tile + 1) (takes_of_all c.args.ports))
     c.attempt_takes.ensures c.requires.tile in
     tile_stays c.args.tile c.attempt_takes.new.self c.attempt_puts.new.self (attempts_of (3 * c.args.tile + 1) (puts_of_all c.args.ports))
     c.attempt_puts.ensures low
+
+-- a router has at most 26 ports
+pub attempt_takes-requires-clause-ports : goal.attempt_takes-requires-clause-ports
+attempt_takes-requires-clause-ports g c = ports_few c.self.inside c.self.invariant c.args.self.now c.self.view_is c.args.ports c.requires.ports
+
+pub attempt_puts-requires-clause-ports : goal.attempt_puts-requires-clause-ports
+attempt_puts-requires-clause-ports g c = ports_few c.self.inside c.self.invariant c.args.self.now c.self.view_is c.args.ports c.requires.ports
+
+pub attempt_credits-requires-clause-ports : goal.attempt_credits-requires-clause-ports
+attempt_credits-requires-clause-ports g c = ports_few c.self.inside c.self.invariant c.args.self.now c.self.view_is c.args.ports c.requires.ports
 
 -- the three parts of the turn
 pub returns-then-self-left : goal.returns-then-self-left
