@@ -7,10 +7,12 @@ import os
 
 HERE = os.path.dirname(os.path.realpath(__file__))
 ROOT = os.path.dirname(HERE)
-# The share of a check that further processes don't shorten.
-ALONE = 0.33
 # The seconds of a crate that `seconds.txt` doesn't name.
 PLAIN = 20.0
+# The share of them that go before the first function, where `seconds.txt` doesn't say it.
+START = 0.25
+# The share of what is behind that further processes don't shorten.
+ALONE = 0.25
 
 
 def rows(root: str) -> dict[str, tuple[str, list[str]]]:
@@ -38,13 +40,13 @@ def below(listed: dict[str, tuple[str, list[str]]], name: str) -> list[str]:
     return found
 
 
-def seconds() -> dict[str, float]:
-    """The processor seconds of a proof of each crate, as they were measured once."""
+def seconds() -> dict[str, list[float]]:
+    """The processor seconds of a proof of each crate, as they were measured once, and for some those before the first function."""
     found = {}
     with open(f"{HERE}/seconds.txt", encoding="utf-8") as file:
         for line in (it.partition("#")[0].split() for it in file):
             if line:
-                found[line[0]] = float(line[1])
+                found[line[0]] = [float(it) for it in line[1:]]
     return found
 
 
@@ -54,7 +56,8 @@ class Plan:
     def __init__(self, uses: dict[str, list[str]], cores: int) -> None:
         self.uses, self.cores = uses, cores
         known = seconds()
-        self.cost = {it: known.get(it, PLAIN) for it in uses}
+        self.cost = {it: known.get(it, [PLAIN])[0] for it in uses}
+        self.start = {it: START * self.cost[it] if len(known.get(it, [])) < 2 else known[it][1] for it in uses}
         self.way: dict[str, float] = {}
         for it in reversed(list(uses)):
             above = [self.way[other] for other in uses if it in uses[other]]
@@ -67,7 +70,10 @@ class Plan:
         return self.left(set(), {})
 
     def wall(self, it: str, jobs: int) -> float:
-        return self.cost[it] * (ALONE + (1 - ALONE) / jobs)
+        """The seconds of a crate. Where several processes share it, each reads what it stands on, and one of them at the end once more."""
+        if jobs == 1:
+            return self.cost[it]
+        return 2 * self.start[it] + (self.cost[it] - self.start[it]) * (ALONE + (1 - ALONE) / jobs)
 
     def chosen(self, done: set[str], running: dict[str, int]) -> tuple[str, int] | None:
         """The crate to begin now, and its number of processes."""
@@ -78,8 +84,10 @@ class Plan:
         name = max(ready, key=lambda it: self.way[it])
         farthest = max(self.way[it] for it in self.uses if it not in done)
         is_long = self.way[name] > 0.9 * farthest
-        # A second process makes a proof dearer by a third, so a crate has one alone unless the whole waits for it.
-        return name, max(1, min(self.most, free)) if is_long else 1
+        # Further processes make a proof dearer, so a crate has one, unless the whole waits for it, no other crate is there
+        # for the core, and it is much shorter with them.
+        jobs = max(1, min(self.most, free - (len(ready) - 1)))
+        return name, jobs if is_long and self.wall(name, jobs) < 0.8 * self.cost[name] else 1
 
     def left(self, done: set[str], running: dict[str, tuple[int, float]]) -> float:
         """The seconds that are left, where some crates are proved, and some are worked on by so many processes for so long."""

@@ -2,7 +2,6 @@
 ghost use Rattle.command_line.specs.Job.{IsWithinLimits};
 
 use crate::running::ran;
-use crate::texts::Texts;
 use command_line::Job;
 use commands::{ProgramFault, channels_text, check_text, route_text};
 use linearize_command::{Judged, linearize_text, report_text};
@@ -14,6 +13,7 @@ use std::alloc::Global;
 use std::rt::Clock;
 use std::sync::Wait;
 use std::thread::Threads;
+use text_files::Texts;
 
 /// What a job answers.
 #[derive(Drop)]

@@ -4,29 +4,24 @@
 ghost use Rattle.command_line.specs.Job.{IsWithinLimits};
 
 mod answering;
-mod explaining;
-mod kept;
-mod progress_line;
+mod naming;
 mod running;
-mod telling;
-mod texts;
-mod turns_line;
 
 use answering::{Outcome, answer};
-use command_line::{Request, read_request};
+use command_line::{Job, Request, read_request};
 use commands::{ProgramFault, fault_text, status_of};
-use explaining::{explain, explain_no_order, explain_unread};
-use kept::Kept;
+use fault_lines::{explain, explain_no_order, explain_unread};
 use linearize_command::{Judged, status, verdict_text};
+use naming::{kind, names};
 use report_lines::Piped;
+use run_lines::{Kept, tell_end};
 use std::io::{BufWriter, Input, IsTerminal, Write};
 use std::process::ExitCode;
 use std::rt::{Clock, Env, Files};
 use std::sync::Wait;
 use std::thread::Threads;
 use std::{env, io};
-use telling::tell_end;
-use texts::{Failure, Texts, read_texts};
+use text_files::{Failure, Texts, read_texts};
 use torus::Fault;
 
 fn main(rt: HostRuntime) -> ExitCode {
@@ -68,7 +63,8 @@ fn done<R: Files + Input + Print + Eprint + Clock + AllocGlobal + Threads + Wait
     requires { IsWithinLimits request.now.job }
 {
     let is_explained = request.explain || is_seen;
-    let texts = match read_texts(rt, &request.job) {
+    let names = names(&request.job);
+    let texts = match read_texts(rt, &names) {
         Ok(texts) => texts,
         Err(Failure::Unread(name, why)) => {
             let _ = eprintln!(rt; "cannot read {name}");
@@ -77,21 +73,26 @@ fn done<R: Files + Input + Print + Eprint + Clock + AllocGlobal + Threads + Wait
             }
             return 1;
         }
-        Err(Failure::Fault(fault)) => return fault_told(rt, fault),
+        Err(Failure::Memory) => return fault_told(rt, ProgramFault::Fault(Fault::Memory)),
     };
     match printed(rt, request, &texts, is_seen) {
         Ok(answer) => {
             let no_order = line_without_order(&answer);
             let status = status_told(rt, answer);
-            if is_explained && let Some((line, configurations)) = no_order {
-                explain_no_order(rt, &request.job, &texts, line, configurations);
+            if is_explained
+                && let (Job::Linearize { trace, .. }, Some((line, configurations))) = (
+                    request.job,
+                    no_order,
+                )
+            {
+                explain_no_order(rt, trace, &texts.first, line, configurations);
             }
             status
         }
         Err(fault) => {
             let status = fault_told(rt, fault);
             if is_explained {
-                explain(rt, &request.job, &texts, &fault);
+                explain(rt, kind(&request.job), &names, &texts, &fault);
             }
             status
         }
@@ -150,8 +151,11 @@ fn printed<R: Print + Eprint + Clock + AllocGlobal + Threads + Wait + Sync>(
     if writer.flush().is_err() {
         return Err(ProgramFault::Output);
     }
-    if let (Outcome::Ran(finished, Some(course)), Some(report)) = (&answer, report) {
-        tell_end(rt, &request.job, &texts.second, &report, *finished, *course);
+    let name = names(&request.job).second;
+    if let (Outcome::Ran(finished, Some(course)), Some(report), Some(name)) = (
+        &answer, report, name,
+    ) {
+        tell_end(rt, name, &texts.second, &report, *finished, *course);
     }
     Ok(answer)
 }

@@ -3,16 +3,15 @@ ghost use Rattle.std.specs.Prelude.{◌≤◌};
 ghost use Rattle.command_line.specs.Job.{IsWithinLimits};
 
 use crate::answering::Outcome;
-use crate::progress_line::ProgressLine;
-use crate::texts::Texts;
-use crate::turns_line::TurnsLine;
 use command_line::Job;
 use commands::{Open, ProgramFault, round_text_with, run_text_with, steps_text_with};
 use report_lines::Out;
+use run_lines::{ProgressLine, TurnsLine};
 use run_told::Course;
 use std::rt::Clock;
 use std::sync::Wait;
 use std::thread::Threads;
+use text_files::Texts;
 
 /// Runs the scripts of the job, and answers whether every script is finished.
 pub(crate) fn ran<R: Eprint + Clock + AllocGlobal + Threads + Wait + Sync, W: Out>(

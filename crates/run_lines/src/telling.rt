@@ -1,21 +1,17 @@
 //! Lines on standard error, behind a report on standard output, that tell how its run ended.
 
-use command_line::Job;
 use run_told::{Course, EndSentence, SpinSentence, told};
 
-/// Tells which spins ran out of loads, and how the run of a report ended. Nothing is told where
-/// memory runs out.
-pub(crate) fn tell_end<R: Eprint + AllocGlobal>(
+/// Tells which spins of the scripts ran out of loads, and how the run of a report ended; the scripts'
+/// text has this name. Nothing is told where memory runs out.
+pub fn tell_end<R: Eprint + AllocGlobal>(
     rt: &R,
-    job: &Job,
+    name: &str,
     scripts: &[u8],
     report: &[u8],
     finished: bool,
     course: Course,
 ) {
-    let Some(name) = script_of(job) else {
-        return;
-    };
     let Ok(ended) = told(rt.alloc(), scripts, report) else {
         return;
     };
@@ -30,14 +26,4 @@ pub(crate) fn tell_end<R: Eprint + AllocGlobal>(
         unfinished: ended.unfinished,
     };
     let _ = eprintln!(rt; "{sentence}");
-}
-
-/// The name of the script text of a job that prints a report; `None` of another.
-fn script_of<'a>(job: &Job<'a>) -> Option<&'a str> {
-    match *job {
-        Job::Steps { script, .. } | Job::Round { script, .. } | Job::Run { script, .. } => {
-            Some(script)
-        }
-        _ => None,
-    }
 }

@@ -1,3 +1,5 @@
+//! A line that tells how far a run in rounds is.
+
 use commands::Progress;
 use std::rt::Clock;
 use std::time::Instant;
@@ -11,7 +13,7 @@ const SECONDS_A_LINE: u64 = 1;
 /// A line on standard error that tells how far a run in rounds is, and rewrites itself: first after
 /// `ROUNDS_A_LOOK` rounds, and then about once in `SECONDS_A_LINE`.
 #[derive(Drop)]
-pub(crate) struct ProgressLine<'a, R> {
+pub struct ProgressLine<'a, R> {
     rt: &'a R,
     is_wanted: bool,
     /// How many rounds were made.
@@ -26,7 +28,7 @@ pub(crate) struct ProgressLine<'a, R> {
 
 impl<'a, R: Eprint + Clock> ProgressLine<'a, R> {
     /// The line of a run that begins. Nothing is ever written where it isn't wanted.
-    pub(crate) fn new(rt: &'a R, is_wanted: bool) -> Self {
+    pub fn new(rt: &'a R, is_wanted: bool) -> Self {
         ProgressLine {
             rt,
             is_wanted,
@@ -38,12 +40,12 @@ impl<'a, R: Eprint + Clock> ProgressLine<'a, R> {
     }
 
     /// How many rounds were made.
-    pub(crate) fn rounds_made(&self) -> u64 {
+    pub fn rounds_made(&self) -> u64 {
         self.rounds_made
     }
 
     /// How many moves the run has made, once it has ended.
-    pub(crate) fn moves_made(&self) -> u64 {
+    pub fn moves_made(&self) -> u64 {
         self.moves_made
     }
 

@@ -1,3 +1,5 @@
+//! A line that tells how far a run by workers is.
+
 use commands::Watch;
 use std::rt::Clock;
 use std::sync::atomic::{AtomicU64, Ordering};
@@ -9,7 +11,7 @@ const PASSES_A_LOOK: u32 = 1024;
 /// A line on standard error that tells how far a run by workers is, and rewrites itself about once a
 /// second. It is gone when no worker is at work.
 #[derive(Drop)]
-pub(crate) struct TurnsLine<'a, R> {
+pub struct TurnsLine<'a, R> {
     rt: &'a R,
     is_wanted: bool,
     /// When the run began; `None` where there is no clock.
@@ -24,7 +26,7 @@ pub(crate) struct TurnsLine<'a, R> {
 
 /// What is kept of a worker.
 #[derive(Drop)]
-pub(crate) struct Looks {
+pub struct Looks {
     /// How many of its turns are counted.
     counted: u64,
     /// How many passes it made since it last looked at the clock.
@@ -33,7 +35,7 @@ pub(crate) struct Looks {
 
 impl<'a, R: Eprint + Clock> TurnsLine<'a, R> {
     /// The line of a run that begins. Nothing is ever written where it isn't wanted.
-    pub(crate) fn new(rt: &'a R, is_wanted: bool) -> Self {
+    pub fn new(rt: &'a R, is_wanted: bool) -> Self {
         TurnsLine {
             rt,
             is_wanted,

@@ -4,7 +4,7 @@ use report_lines::Out;
 
 /// An output, and what it took so far, where that `is_kept`. Where memory runs out, nothing is.
 #[derive(Drop)]
-pub(crate) struct Kept<W> {
+pub struct Kept<W> {
     out: W,
     bytes: Vec<u8>,
     is_kept: bool,
@@ -12,7 +12,7 @@ pub(crate) struct Kept<W> {
 
 impl<W: Out + Drop> Kept<W> {
     /// An output that took nothing yet.
-    pub(crate) fn new(out: W, bytes: Vec<u8>, is_kept: bool) -> Self {
+    pub fn new(out: W, bytes: Vec<u8>, is_kept: bool) -> Self {
         Kept {
             out,
             bytes,
@@ -21,7 +21,7 @@ impl<W: Out + Drop> Kept<W> {
     }
 
     /// All bytes that it took, where they are kept.
-    pub(crate) fn into_kept(self) -> Option<Vec<u8>> {
+    pub fn into_kept(self) -> Option<Vec<u8>> {
         if self.is_kept { Some(self.bytes) } else { None }
     }
 }

@@ -1,0 +1,63 @@
+//! The texts that a job names, and what they are.
+
+use command_line::Job;
+use fault_lines::Kind;
+use text_files::Names;
+
+/// The names of the texts of a job.
+pub(crate) fn names<'a>(job: &Job<'a>) -> Names<'a> {
+    let (first, second, third) = match *job {
+        Job::Steps {
+            machine,
+            script,
+            steps,
+        }
+        | Job::Moves {
+            machine,
+            script,
+            steps,
+        } => (machine, Some(script), Some(steps)),
+        Job::Round {
+            machine,
+            script,
+            ..
+        }
+        | Job::Run {
+            machine,
+            script,
+            ..
+        }
+        | Job::Schedule {
+            machine,
+            script,
+            ..
+        }
+        | Job::Draw {
+            machine,
+            script,
+            ..
+        } => (machine, Some(script), None),
+        Job::Route { machine: name, .. }
+        | Job::Channels { machine: name }
+        | Job::Check { report: name }
+        | Job::Network { network: name }
+        | Job::Linearize { trace: name, .. }
+        | Job::Report { trace: name, .. } => (name, None, None),
+    };
+    Names {
+        first: Some(first),
+        second,
+        third,
+    }
+}
+
+/// What the texts of a job are.
+pub(crate) fn kind(job: &Job) -> Kind {
+    match *job {
+        Job::Network { .. } => Kind::Network,
+        Job::Linearize { .. } | Job::Report { .. } => Kind::Trace,
+        Job::Check { .. } => Kind::Report,
+        Job::Route { src, dst, .. } => Kind::Route { src, dst },
+        _ => Kind::Machine,
+    }
+}
