@@ -1,6 +1,7 @@
 use crate::answers::{PAIR, SCRIPT, Sink};
-use commands::{Gate, Open, ProgramFault, Unwatched, Watch, check_text, run_text, run_text_with};
+use commands::{ProgramFault, check_text};
 use report_lines::{Out, Piped};
+use run_command::{Gate, Open, Unwatched, Watch, run_text, run_text_with};
 use script::LineFault;
 use std::alloc::AllocError;
 use std::sync::Wait;

@@ -8,7 +8,7 @@ use Rattle.script.specs.Steps.{steps_of}
 use Rattle.machine_texts.specs.order_abstract.specs.Load.{load_of}
 use Rattle.core_machine.specs.Core.{Core, IsLawful, all_finished}
 use Rattle.report_lines.specs.Line.{text_of}
-use Rattle.history.specs.machine_report.specs.Report.{machine_report}
+use Rattle.machine_report.specs.Report.{machine_report}
 use Rattle.program_fault.specs.declared.fault.ProgramFault.{ProgramFault}
 use Rattle.program_fault.specs.declared.fault.ProgramFault.TheVariants as program
 use Rattle.program_fault.specs.Done.{Does, Output}

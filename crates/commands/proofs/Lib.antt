@@ -4,8 +4,3 @@ pub mod InRounds
 pub mod Telling
 pub mod Numbers
 pub mod Counted
-pub mod Shares
-pub mod Joined
-pub mod Lent
-pub mod ByWorkers
-pub mod Watched

@@ -4,5 +4,3 @@ pub mod Run
 pub mod Rounds
 pub mod Calls
 pub mod Telling
-pub mod Workers
-pub mod Watched

@@ -14,7 +14,7 @@ use Rattle.machine_texts.specs.order_abstract.specs.Scripts.{AreFinished}
 use Rattle.machine_texts.specs.Loading.{◌then◌}
 use Rattle.report_lines.specs.Line.{text_of}
 use Rattle.report_check.specs.Good.{GoodReport}
-use Rattle.history.specs.machine_report.specs.Report.{machine_report}
+use Rattle.machine_report.specs.Report.{machine_report}
 use Rattle.program_fault.specs.declared.fault.ProgramFault.{ProgramFault}
 use Rattle.program_fault.specs.declared.fault.ProgramFault.TheVariants as program
 use Rattle.program_fault.specs.Done.{Does, Output}

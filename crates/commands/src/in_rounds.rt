@@ -103,8 +103,10 @@ pub fn round_text_with<A: Allocator + Copy, W: Out, P: Progress>(
     print_run(alloc, &machine, out)
 }
 
-/// The machine before any step.
-pub(crate) fn loaded<A: Allocator + Copy>(
+/// The machine of two texts before any step.
+///
+/// Errors: the first fault of the texts, taken in the order machine, scripts, or memory refused.
+pub fn loaded<A: Allocator + Copy>(
     alloc: A,
     machine: &[u8],
     scripts: &[u8],

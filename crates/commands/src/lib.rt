@@ -2,7 +2,6 @@
 //! program ends with, and what it prints for a fault.
 #![tactic(auto)]
 
-pub mod by_workers;
 pub mod channels;
 pub mod check;
 pub mod in_rounds;
@@ -10,11 +9,9 @@ mod line;
 pub mod route;
 pub mod steps;
 
-pub use by_workers::{run_text, run_text_with};
 pub use channel_number::channel_count;
 pub use channels::{channels_text, put_numbers};
 pub use check::check_text;
-pub use history::{Gate, Open, Unwatched, Watch};
 pub use in_rounds::{Progress, Silent, round_text, round_text_with};
 pub use program_fault::{ProgramFault, fault_text, finished, status_of};
 pub use route::route_text;

@@ -7,7 +7,7 @@ ghost use Rattle.commands.specs.Telling.{TellsSteps};
 use crate::ProgramFault;
 use crate::in_rounds::{Progress, Silent};
 use core_machine::laws::{moves_are_counted, steps_decide_the_machine};
-use history::{of_run, write_report};
+use machine_report::{of_run, write_report};
 use machine_texts::Machine;
 use report_lines::Out;
 use script::{read_machine, read_scripts, read_steps};

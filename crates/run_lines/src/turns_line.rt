@@ -1,9 +1,9 @@
 //! A line that tells how far a run by workers is.
 
-use commands::Watch;
 use std::rt::Clock;
 use std::sync::atomic::{AtomicU64, Ordering};
 use std::time::Instant;
+use worker_run::Watch;
 
 /// How many passes a worker makes over its tiles between two looks at the clock.
 const PASSES_A_LOOK: u32 = 1024;

@@ -4,8 +4,9 @@ ghost use Rattle.command_line.specs.Job.{IsWithinLimits};
 
 use crate::answering::Outcome;
 use command_line::Job;
-use commands::{Open, ProgramFault, round_text_with, run_text_with, steps_text_with};
+use commands::{ProgramFault, round_text_with, steps_text_with};
 use report_lines::Out;
+use run_command::{Open, run_text_with};
 use run_lines::{ProgressLine, TurnsLine};
 use run_told::Course;
 use std::rt::Clock;

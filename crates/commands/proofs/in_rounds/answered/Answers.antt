@@ -4,7 +4,7 @@ use Rattle.std.specs.Option.{option_copied}
 use Rattle.torus.specs.Shape.{tiles_of}
 use Rattle.core_machine.specs.Core.{shown}
 use Rattle.core_machine.specs.Reported.{ReportsWell}
-use Rattle.history.specs.machine_report.proofs.RowMore.{none_past}
+use Rattle.machine_report.proofs.RowMore.{none_past}
 use Rattle.commands.proofs.Counted.{count_more}
 use Rattle.commands.proofs.in_rounds.answered.Goals.{in-Some, in_default}
 use Rattle.commands.proofs.in_rounds.answered.Goals as goal

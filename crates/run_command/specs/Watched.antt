@@ -10,7 +10,7 @@ use Rattle.history.specs.worker_run.specs.Calls.{Call}
 use Rattle.history.specs.worker_run.specs.Watching.{AreCallsOfRun}
 use Rattle.program_fault.specs.declared.fault.ProgramFault.{ProgramFault}
 use Rattle.program_fault.specs.declared.fault.ProgramFault.TheVariants as program
-use Rattle.commands.specs.Workers.{crew, held}
+use Rattle.run_command.specs.Workers.{crew, held}
 
 -- A watcher hears all calls for a worker of a run of a load, by what may be all of them: those behind
 -- the turns that it makes with its tiles from the empty run on, and its end. What the worker knows as

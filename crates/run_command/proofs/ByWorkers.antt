@@ -32,8 +32,8 @@ use Rattle.history.specs.worker_run.specs.declared.worker.End.TheVariants.{Held,
 use Rattle.report_lines.specs.Line.{text_of}
 use Rattle.history.specs.machine_report.specs.Report.{report_of}
 use Rattle.machine_texts.specs.Loading.{HasLoaded}
-use Rattle.commands.specs.Workers.{HasDonePart, IsMadeByWorkers, IsOfEnded, IsTakenIn, IsWorkersText, LetsAll, crew, first_held, held, new_worker}
-use Rattle.commands.proofs.Shares.{holder, holds_tiles, shares}
+use Rattle.run_command.specs.Workers.{HasDonePart, IsMadeByWorkers, IsOfEnded, IsTakenIn, IsWorkersText, LetsAll, crew, first_held, held, new_worker}
+use Rattle.run_command.proofs.Shares.{holder, holds_tiles, shares}
 
 -- a tile is known where the state has it
 some_there : {X : Type 0} (o : Option X) → is_some o ≡ true → (x : X) × (o ≡ Some x)

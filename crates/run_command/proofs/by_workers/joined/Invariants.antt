@@ -1,6 +1,6 @@
 use Rattle.std.proofs.Common.{vec_len}
-use Rattle.commands.proofs.Joined.{IsJoining}
-use Rattle.commands.proofs.by_workers.joined.Given as goal
+use Rattle.run_command.proofs.Joined.{IsJoining}
+use Rattle.run_command.proofs.by_workers.joined.Given as goal
 
 -- the seat has taken in the workers that are gone
 abbrev pub invariant-loop-worker : goal.invariant-loop-worker

@@ -1,6 +1,6 @@
 use Rattle.std.proofs.Common.{◌≡◌, map}
-use Rattle.commands.specs.Workers.{new_worker}
-use Rattle.commands.proofs.by_workers.workers_of.Given as goal
+use Rattle.run_command.specs.Workers.{new_worker}
+use Rattle.run_command.proofs.by_workers.workers_of.Given as goal
 
 -- the seats so far have workers
 abbrev pub invariant-loop-seat : goal.invariant-loop-seat

@@ -2,9 +2,9 @@
 use Rattle.std.proofs.Common.{ℕ, List, Err, ap, sym, ◌∙◌, subst, ⊎_elim}
 use Rattle.torus.specs.Shape.{tiles_of}
 use Rattle.history.specs.worker_run.specs.fabric.specs.Opening.{CanDeal}
-use Rattle.commands.proofs.Shares.{can_deal_shares}
-use Rattle.commands.proofs.ByWorkers.{seats_dealt}
-use Rattle.commands.proofs.by_workers.opened.Goals as goal
+use Rattle.run_command.proofs.Shares.{can_deal_shares}
+use Rattle.run_command.proofs.ByWorkers.{seats_dealt}
+use Rattle.run_command.proofs.by_workers.opened.Goals as goal
 
 pub returns-in-Ok-clause-seats : goal.returns-in-Ok-clause-seats
 returns-in-Ok-clause-seats g c =

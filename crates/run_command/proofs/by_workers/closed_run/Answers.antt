@@ -5,10 +5,10 @@ use Rattle.std.proofs.lemmas.List.{length-map}
 use Rattle.torus.specs.Shape.{tiles_of}
 use Rattle.history.specs.worker_run.specs.fabric.specs.Seats.{Knowing}
 use Rattle.core_machine.specs.Core.{core_after}
-use Rattle.commands.specs.Workers.{crew, new_worker}
-use Rattle.commands.proofs.ByWorkers.{IsCrew, crew_made, crew_whole, made_by_workers, seats_count, seats_own}
-use Rattle.commands.proofs.Watched.{hears_workers}
-use Rattle.commands.proofs.by_workers.closed_run.Goals as goal
+use Rattle.run_command.specs.Workers.{crew, new_worker}
+use Rattle.run_command.proofs.ByWorkers.{IsCrew, crew_made, crew_whole, made_by_workers, seats_count, seats_own}
+use Rattle.run_command.proofs.Watched.{hears_workers}
+use Rattle.run_command.proofs.by_workers.closed_run.Goals as goal
 
 pub worked-requires-clause-own : goal.worked-requires-clause-own
 worked-requires-clause-own g c κs within =

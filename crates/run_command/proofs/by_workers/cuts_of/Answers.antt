@@ -1,8 +1,8 @@
 -- One more worker's first tile.
 use Rattle.std.proofs.Common.{◌≡◌, ◌+◌, ◌++◌, ◌∷◌, [], ℕ, List, sym, ap, ◌∙◌, arith}
 use Rattle.std.proofs.lemmas.List.FromFn.{map-range_with_len_more}
-use Rattle.commands.specs.Workers.{first_held}
-use Rattle.commands.proofs.by_workers.cuts_of.Goals as goal
+use Rattle.run_command.specs.Workers.{first_held}
+use Rattle.run_command.proofs.by_workers.cuts_of.Goals as goal
 
 pub loop-before-preserved : goal.loop-before-preserved
 loop-before-preserved c =

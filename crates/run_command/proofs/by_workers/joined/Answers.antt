@@ -1,8 +1,8 @@
 -- The seat takes in one worker's seat after the other.
 use Rattle.std.proofs.Common.{◌≡◌, [], ◌∷◌, ◌++◌, sym, arith}
 use Rattle.std.proofs.lemmas.List.{nil_from_length}
-use Rattle.commands.proofs.Joined.{joins_first, joins_own, joins_more, joins_all}
-use Rattle.commands.proofs.by_workers.joined.Goals as goal
+use Rattle.run_command.proofs.Joined.{joins_first, joins_own, joins_more, joins_all}
+use Rattle.run_command.proofs.by_workers.joined.Goals as goal
 
 pub loop-worker-init : goal.loop-worker-init
 loop-worker-init g c =

@@ -10,7 +10,7 @@ use Rattle.std.proofs.lemmas.Nat.{le-div}
 use Rattle.history.specs.worker_run.specs.fabric.specs.fabric_rule.specs.Groups.{Owns}
 use Rattle.history.specs.worker_run.specs.fabric.specs.Key.{count_up, ranges, Rises}
 use Rattle.history.specs.worker_run.specs.fabric.specs.Opening.{CanDeal}
-use Rattle.commands.specs.Workers.{first_held, held}
+use Rattle.run_command.specs.Workers.{first_held, held}
 
 owns_count : (a k t : ℕ) → Owns (count_up a k) t → (a ≤ t) × (t < a + k)
 owns_count a zero t o = absurd o

@@ -12,13 +12,12 @@ ghost use Rattle.history.specs.worker_run.specs.Watching.{IsWatched};
 ghost use Rattle.history.specs.worker_run.specs.Working.{HasWorked, Working};
 ghost use Rattle.program_fault.specs.Done.{Does, output};
 ghost use Rattle.commands.specs.Run.{IsNoFault};
-ghost use Rattle.commands.specs.Workers.{IsMadeByWorkers, IsOfEnded, IsTakenIn, LetsAll, PrintsWorkers, first_held};
-ghost use Rattle.commands.specs.Workers.{held, new_worker};
-ghost use Rattle.commands.specs.Watched.{HearsWorkers, TellsWorkers};
+ghost use Rattle.run_command.specs.Workers.{IsMadeByWorkers, IsOfEnded, IsTakenIn, LetsAll, PrintsWorkers, first_held};
+ghost use Rattle.run_command.specs.Workers.{held, new_worker};
+ghost use Rattle.run_command.specs.Watched.{HearsWorkers, TellsWorkers};
 
-use crate::ProgramFault;
-use crate::in_rounds::loaded;
 use arrayvec::ArrayVec;
+use commands::in_rounds::loaded;
 use core_machine::laws::{
     ended_followers_finish_scripts, steps_decide_the_machine, steps_lead_on,
     steps_lead_to_a_machine,
@@ -28,6 +27,7 @@ use history::{
     write_report,
 };
 use machine_texts::Machine;
+use program_fault::ProgramFault;
 use report_lines::Out;
 use std::alloc::{AllocError, Allocator};
 use std::sync::Wait;

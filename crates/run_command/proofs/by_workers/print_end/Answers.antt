@@ -2,7 +2,7 @@
 use Rattle.std.proofs.Common.{ap}
 use Rattle.std.proofs.lemmas.Result.{err_from_is_err_and}
 use Rattle.report_lines.specs.Line.{text_of}
-use Rattle.commands.proofs.by_workers.print_end.Goals as goal
+use Rattle.run_command.proofs.by_workers.print_end.Goals as goal
 
 pub returns-in_err-write_report : goal.returns-in_err-write_report
 returns-in_err-write_report g c =

@@ -6,7 +6,7 @@ use Rattle.history.specs.worker_run.specs.fabric.specs.fabric_rule.specs.Groups.
 use Rattle.history.specs.worker_run.specs.fabric.specs.fabric_rule.proofs.Groups.{in_one, others_append, others_sub, owns_left, owns_right}
 use Rattle.history.specs.worker_run.specs.fabric.specs.Seats.{Knowing, Origin, IsOf, JoinsTo}
 use Rattle.history.specs.worker_run.specs.Working.{Working}
-use Rattle.commands.specs.Workers.{IsTakenIn}
+use Rattle.run_command.specs.Workers.{IsTakenIn}
 
 -- what the seat of two takes in
 in_first : (v u w : Knowing) → JoinsTo v u w → IsTakenIn v w

@@ -1,8 +1,8 @@
 use Rattle.std.proofs.Common.{◌≡◌, map}
 use Rattle.std.specs.List.{range_with_len}
 use Rattle.arrayvec.specs.ArrayVec.{array_vec_len}
-use Rattle.commands.specs.Workers.{first_held}
-use Rattle.commands.proofs.by_workers.cuts_of.Given as goal
+use Rattle.run_command.specs.Workers.{first_held}
+use Rattle.run_command.proofs.by_workers.cuts_of.Given as goal
 
 -- the cuts so far are there
 abbrev pub invariant-loop-before : goal.invariant-loop-before

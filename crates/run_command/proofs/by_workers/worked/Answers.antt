@@ -6,11 +6,11 @@ use Rattle.std.proofs.lemmas.List.Elements.{All-map}
 use Rattle.history.specs.worker_run.specs.fabric.specs.Seats.{IsOf}
 use Rattle.history.specs.worker_run.specs.Watching.{IsWatched}
 use Rattle.history.specs.worker_run.specs.Working.{Working, HasWorked}
-use Rattle.commands.specs.Workers.{new_worker}
-use Rattle.commands.proofs.ByWorkers.{own_after, worked_open}
-use Rattle.commands.proofs.Lent.{lent}
-use Rattle.commands.proofs.Watched.{watched_open}
-use Rattle.commands.proofs.by_workers.worked.Goals as goal
+use Rattle.run_command.specs.Workers.{new_worker}
+use Rattle.run_command.proofs.ByWorkers.{own_after, worked_open}
+use Rattle.run_command.proofs.Lent.{lent}
+use Rattle.run_command.proofs.Watched.{watched_open}
+use Rattle.run_command.proofs.by_workers.worked.Goals as goal
 
 pub run_workers-requires-clause-own : goal.run_workers-requires-clause-own
 run_workers-requires-clause-own g c κs within =

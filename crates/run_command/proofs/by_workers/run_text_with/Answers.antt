@@ -6,11 +6,11 @@ use Rattle.script.specs.declared.fault.LineFault.{LineFault}
 use Rattle.machine_texts.specs.order_abstract.specs.Load.{Load}
 use Rattle.commands.specs.Run.{IsNoFault, IsReadFault, IsTextsFault}
 use Rattle.machine_texts.specs.Loading.{HasLoaded, load_by}
-use Rattle.commands.specs.Workers.{IsMadeByWorkers, IsOfEnded, IsWorkersText}
+use Rattle.run_command.specs.Workers.{IsMadeByWorkers, IsOfEnded, IsWorkersText}
 use Rattle.commands.proofs.Asked.{does_more}
-use Rattle.commands.proofs.ByWorkers.{workers_printed}
-use Rattle.commands.proofs.Watched.{no_workers_told, workers_told}
-use Rattle.commands.proofs.by_workers.run_text_with.Goals as goal
+use Rattle.run_command.proofs.ByWorkers.{workers_printed}
+use Rattle.run_command.proofs.Watched.{no_workers_told, workers_told}
+use Rattle.run_command.proofs.by_workers.run_text_with.Goals as goal
 
 pub returns-clause-prints : goal.returns-clause-prints
 returns-clause-prints g c =

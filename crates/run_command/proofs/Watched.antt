@@ -17,9 +17,9 @@ use Rattle.history.specs.worker_run.specs.declared.worker.End.TheVariants.{Held,
 use Rattle.program_fault.specs.declared.fault.ProgramFault.{ProgramFault}
 use Rattle.program_fault.specs.declared.fault.ProgramFault.TheVariants as program
 use Rattle.commands.specs.Run.{IsReadFault}
-use Rattle.commands.specs.Workers.{LetsAll, crew, held, new_worker}
-use Rattle.commands.specs.Watched.{HearsPart, HearsWorkers, TellsWorkers}
-use Rattle.commands.proofs.ByWorkers.{seat_of, worker_starts}
+use Rattle.run_command.specs.Workers.{LetsAll, crew, held, new_worker}
+use Rattle.run_command.specs.Watched.{HearsPart, HearsWorkers, TellsWorkers}
+use Rattle.run_command.proofs.ByWorkers.{seat_of, worker_starts}
 
 module _ (stops : Step → Type 0) (turns : ℕ) (v w : Knowing) (lets : (step : Step) → stops step → ⊥) where
   -- the calls behind turns that a gate may have stopped, and never did

@@ -1,0 +1,5 @@
+pub mod ByWorkers
+pub mod Shares
+pub mod Joined
+pub mod Lent
+pub mod Watched
