@@ -1,0 +1,11 @@
+use Rattle.std.proofs.Common.{◌≡◌}
+use Rattle.machine_asked.specs.machine_core.specs.core_machine.specs.Core.{core_after}
+use Rattle.machine_asked.specs.machine_core.specs.Rounds.{rounds_of}
+use Rattle.live_command.proofs.obeying.made.Given as goal
+
+-- so many rounds are made
+abbrev pub invariant-loop-made : goal.invariant-loop-made
+invariant-loop-made g l = record {
+  state : l.machine.core ≡ core_after l.fn.machine.core (rounds_of l.fn.machine.core.shape l.made);
+  spins : l.machine.spins ≡ l.fn.machine.spins;
+}

@@ -1,0 +1,117 @@
+-- What a machine does for a line of a dialogue, and what is answered (this project's own format).
+use Rattle.std.specs.Prelude.{◌≡◌, ◌⊎◌, ℕ, nat_lt, List, Option, Some, None, map, slice_get}
+use Rattle.std.specs.Bool.{MatchBool}
+use Rattle.torus.specs.declared.fault.Fault.{Fault}
+use Rattle.torus.specs.declared.fault.Fault.TheVariants as fault
+use Rattle.torus.specs.declared.step.Step.{Step}
+use Rattle.script.specs.declared.line.Line.{Line}
+use Rattle.one_order.specs.declared.answer.Answer.{Answer}
+use Rattle.report_lines.specs.Line.{text_of}
+use Rattle.report_check.specs.Good.{GoodReport}
+use Rattle.machine_report.specs.Report.{machine_report}
+use Rattle.machine_asked.specs.core_laws.specs.Core.{Load}
+use Rattle.machine_asked.specs.machine_core.specs.core_growth.specs.Appended.{load_with}
+use Rattle.machine_asked.specs.machine_core.specs.core_reopening.specs.Handed.{handed, moves_kept, refused}
+use Rattle.machine_asked.specs.machine_core.specs.core_machine.specs.Core.{IsAfter, RunsOn, core_after}
+use Rattle.machine_asked.specs.machine_core.specs.Rounds.{rounds_of, NeedsRounds}
+use Rattle.machine_asked.specs.Asked.{Asked, IsNumbered, NeedsToWait, answer_to, has_spin, index_asked, spins_with}
+use Rattle.live_lines.specs.declared.command.Command.{Command}
+use Rattle.live_lines.specs.declared.command.Command.TheVariants as command
+use Rattle.live_lines.specs.declared.told.Told.{Told as ToldLine}
+use Rattle.live_lines.specs.declared.told.Told.TheVariants as reply
+use Rattle.live_command.specs.declared.said.Said.{Said}
+use Rattle.live_command.specs.declared.said.Said.TheVariants.{Told, Report}
+
+-- processor p is handed a line: the machine stands where its moves lead from the load with the line,
+-- and the index of the line's operation is told, where it is known: the operation that p issues
+-- under it, whenever it does, is that of the line
+pub record TakesLine (p : ℕ) (line : Line) (old new : Asked) (told : ToldLine) : Type 0 where
+  pub taken : refused old.core p line ≡ None
+  pub state : new.core ≡ handed old.core p line
+  pub spins : new.spins ≡ spins_with old.spins p line
+  pub law : (l : Load) (steps : List Step) → IsAfter l old.core steps
+      → IsAfter (load_with l p line) new.core (moves_kept l old.core p steps)
+  pub answer : told ≡ reply.Asked p (index_asked old p line)
+  pub numbered : (index : ℕ) → index_asked old p line ≡ Some index
+      → (l : Load) (steps : List Step) → IsAfter l old.core steps
+      → old.spins ≡ map has_spin l.scripts → IsNumbered (load_with l p line) p line index
+
+-- it refuses the line for this reason, or there is no memory, and stays as it was
+pub record RefusesLine (p : ℕ) (line : Line) (old new : Asked) (told : ToldLine) : Type 0 where
+  pub reason : Fault
+  pub why : (refused old.core p line ≡ Some reason)
+      ⊎ ((refused old.core p line ≡ None) × (reason ≡ fault.Memory))
+  pub same : new ≡ old
+  pub answer : told ≡ reply.Refused reason
+
+abbrev pub Asks : ℕ → Line → Asked → Asked → ToldLine → Type 0
+Asks p line old new told = TakesLine p line old new told ⊎ RefusesLine p line old new told
+
+-- the machine makes so many rounds, and their number is told
+pub record MakesRounds (count : ℕ) (old new : Asked) (told : ToldLine) : Type 0 where
+  pub state : new.core ≡ core_after old.core (rounds_of old.core.shape count)
+  pub spins : new.spins ≡ old.spins
+  pub runs_on : RunsOn old.core new.core (rounds_of old.core.shape count)
+  pub answer : told ≡ reply.Rounds count
+
+-- the same, of the least number of rounds that finish every script
+pub record Finishes (old new : Asked) (told : ToldLine) : Type 0 where
+  pub rounds : ℕ
+  pub needed : NeedsRounds old.core rounds
+  pub made : MakesRounds rounds old new told
+
+-- what is told at the end of a wait: the reply, or that every script is finished without it
+abbrev pub told_of_wait : ℕ → ℕ → Option Answer → ToldLine
+told_of_wait p index None = reply.Idle
+told_of_wait p index (Some answer) = reply.Answered p index answer.reply
+
+-- the machine makes the least number of rounds until the operation of processor p that has this
+-- index is answered, or every script is finished
+pub record Waits (p index : ℕ) (old new : Asked) (told : ToldLine) : Type 0 where
+  pub rounds : ℕ
+  pub needed : NeedsToWait old.core p index rounds
+  pub state : new.core ≡ core_after old.core (rounds_of old.core.shape rounds)
+  pub spins : new.spins ≡ old.spins
+  pub runs_on : RunsOn old.core new.core (rounds_of old.core.shape rounds)
+  pub answer : told ≡ told_of_wait p index (answer_to new.core p index)
+
+-- nothing changes, and this is told
+abbrev pub Tells : {T : Type 0} → T → Asked → Asked → T → Type 0
+Tells what old new told = (new ≡ old) × (told ≡ what)
+
+-- an operation is waited for that the script of its processor, which makes so many, can make
+abbrev pub WaitsWithin : ℕ → ℕ → Option ℕ → Asked → Asked → ToldLine → Type 0
+WaitsWithin p index None old new told = Tells (reply.Refused fault.Processor) old new told
+WaitsWithin p index (Some most) old new told =
+    MatchBool (nat_lt index most) (Waits p index old new told)
+    (Tells (reply.Refused fault.Range) old new told)
+
+abbrev pub WaitsFor : ℕ → ℕ → Asked → Asked → ToldLine → Type 0
+WaitsFor p index old new told =
+    WaitsWithin p index (slice_get old.core.allowed p) old new told
+
+-- the machine's report is told, a good one, unless there is no memory
+pub record TellsReport {A : Type 0} (v : Asked) (said : Said A) : Type 0 where
+  pub is : said ≡ Report (machine_report v.core)
+  pub good : GoodReport (text_of (machine_report v.core))
+
+abbrev pub Reports : {A : Type 0} → Asked → Said A → Type 0
+Reports v said = TellsReport v said ⊎ (said ≡ Told (reply.Refused fault.Memory))
+
+-- one line is told, as is said of it
+pub record IsLine {A : Type 0} (is : ToldLine → Type 0) (said : Said A) : Type 0 where
+  pub line : ToldLine
+  pub said_is : said ≡ Told line
+  pub right : is line
+
+-- what a machine does for what a line asks for, and what is answered
+abbrev pub Obeys : {A : Type 0} → Command → Asked → Asked → Said A → Type 0
+Obeys command.Nothing old new said = Tells (Told reply.Nothing) old new said
+Obeys (command.Ask p line) old new said = IsLine (Asks p line old new) said
+Obeys (command.Rounds count) old new said = IsLine (MakesRounds count old new) said
+Obeys (command.Wait p index) old new said = IsLine (WaitsFor p index old new) said
+Obeys command.Finish old new said = IsLine (Finishes old new) said
+Obeys command.Report old new said = (new ≡ old) × Reports old said
+Obeys command.Quit old new said = Tells (Told reply.Nothing) old new said
+Obeys (command.Refused reason) old new said = Tells (Told (reply.Refused reason)) old new said
+Obeys command.Bad old new said = Tells (Told reply.BadLine) old new said
