@@ -12,7 +12,6 @@ pub mod Balance
 pub mod Balanced
 pub mod Tags
 pub mod Machine
-pub mod Invocations
 pub mod Live
 pub mod Rows
 pub mod RouterWork

@@ -30,7 +30,7 @@ use Rattle.core_laws.proofs.EveryRun.{holds_in, has_one_order}
 use Rattle.core_laws.proofs.Stands.{tile_at, no_tile}
 use Rattle.core_progress.specs.Moves.{IsLive, all_finished}
 use Rattle.core_progress.proofs.Balanced.{run_balanced}
-use Rattle.core_progress.proofs.Invocations.{AnswersOnce, same_invocations, all_at, all_from}
+use Rattle.core_laws.specs.order_abstract.proofs.Finished.{AnswersOnce, same_invocations, all_at, all_from}
 use Rattle.core_progress.proofs.Machine.{StandsLive, machine_is_live}
 
 module _ (l : Load) (ok : IsAccepted l) (steps : List Step) (n : ℕ) where

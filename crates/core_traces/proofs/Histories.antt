@@ -13,7 +13,7 @@ use Rattle.trace_order.specs.declared.event.Event.TheVariants.{Answer}
 use Rattle.trace_order.specs.Traces.{IsTrace}
 use Rattle.trace_order.specs.Orders.{IsLinearizable}
 use Rattle.trace_order.proofs.Lists.{get_within}
-use Rattle.core_traces.specs.TraceOfRun.{numbered, numbers_after, told_of, trace_after}
+use Rattle.core_traces.specs.TraceOfRun.{numbers_with, numbers_after, told_in_trace, trace_after}
 use Rattle.core_traces.proofs.Told.{IsNumber, IsTold, told_none, told_nothing}
 use Rattle.core_traces.proofs.ToldIssues.{told_issue}
 use Rattle.core_traces.proofs.ToldServices.{told_serve}
@@ -37,7 +37,7 @@ told_event : (tiles tags : ℕ) (opening : List ℕ) (n : ℕ) (s : Observed) (o
     (numbers : List (List ℕ)) (trace : List Event) (event : RunEvent)
     → MayHappen tiles tags opening s order event → Told tiles opening n s order numbers trace
     → Told tiles opening (suc n) (happens tiles s event) (order ++ points_of event (suc n))
-    (numbered numbers n event) (trace ++ told_of numbers n event)
+    (numbers_with numbers n event) (trace ++ told_in_trace numbers n event)
 told_event tiles tags opening n s order numbers trace Nothing may w =
     subst (λ (xs : List LinearizationPoint). Told tiles opening (suc n) s xs numbers (trace ++ []))
     (sym (append-nil order))
@@ -45,7 +45,7 @@ told_event tiles tags opening n s order numbers trace Nothing may w =
     (w.0, told_nothing tiles opening n s order numbers trace w.0 w.1))
 told_event tiles tags opening n s order numbers trace (Issued p o) may w =
     subst (λ (xs : List LinearizationPoint). Told tiles opening (suc n) (happens tiles s (Issued p o)) xs
-    (numbered numbers n (Issued p o)) (trace ++ told_of numbers n (Issued p o)))
+    (numbers_with numbers n (Issued p o)) (trace ++ told_in_trace numbers n (Issued p o)))
     (sym (append-nil order))
     (w.0, told_issue tiles opening n s order numbers trace w.0 p o may w.1)
 told_event tiles tags opening n s order numbers trace (Served p i tag o) may w =
@@ -62,7 +62,7 @@ told_event tiles tags opening n s order numbers trace (Answered p a) may w =
     let e : r.0 ≡ get_or (list_at numbers p) a.index 0 = sym
     (get_or_from_slice_get (list_at numbers p) a.index r.0 0 number) in
     subst (λ (xs : List LinearizationPoint). Told tiles opening (suc n) (happens tiles s (Answered p a)) xs numbers
-    (trace ++ told_of numbers n (Answered p a)))
+    (trace ++ told_in_trace numbers n (Answered p a)))
     (sym (append-nil order))
     (subst (λ (v : ℕ). Told tiles opening (suc n) (happens tiles s (Answered p a)) order numbers
     (trace ++ Answer v a.reply ∷ [])) e

@@ -11,30 +11,30 @@ use Rattle.core_laws.specs.Runs.{event_of}
 
 -- the numbers of each processor's issues, with those of an event: an issue has the number of its
 -- step
-abbrev pub numbered : List (List ℕ) → ℕ → RunEvent → List (List ℕ)
-numbered numbers k Nothing = numbers
-numbered numbers k (Issued p o) = push_at numbers p k
-numbered numbers k (Served p i tag o) = numbers
-numbered numbers k (Answered p a) = numbers
+abbrev pub numbers_with : List (List ℕ) → ℕ → RunEvent → List (List ℕ)
+numbers_with numbers k Nothing = numbers
+numbers_with numbers k (Issued p o) = push_at numbers p k
+numbers_with numbers k (Served p i tag o) = numbers
+numbers_with numbers k (Answered p a) = numbers
 
 -- the numbers of the issues of the first n steps
 abbrev pub numbers_after : ℕ → (ℕ → RunEvent) → ℕ → List (List ℕ)
 numbers_after tiles event zero = replicate tiles []
-numbers_after tiles event (suc n) = numbered (numbers_after tiles event n) n (event n)
+numbers_after tiles event (suc n) = numbers_with (numbers_after tiles event n) n (event n)
 
 -- what a trace tells of an event (Herlihy and Wing, TOPLAS 12(3), 1990: invocations and responses)
-abbrev pub told_of : List (List ℕ) → ℕ → RunEvent → List Event
-told_of numbers k Nothing = []
-told_of numbers k (Issued p o) = Issue (record { id = k; operation = o }) ∷ []
-told_of numbers k (Served p i tag o) = []
-told_of numbers k (Answered p a) = Answer (slice_index (list_at numbers p) a.index) a.reply ∷ []
+abbrev pub told_in_trace : List (List ℕ) → ℕ → RunEvent → List Event
+told_in_trace numbers k Nothing = []
+told_in_trace numbers k (Issued p o) = Issue (record { id = k; operation = o }) ∷ []
+told_in_trace numbers k (Served p i tag o) = []
+told_in_trace numbers k (Answered p a) = Answer (slice_index (list_at numbers p) a.index) a.reply ∷ []
 
 -- the trace of the first n steps
 abbrev pub trace_after : ℕ → (ℕ → RunEvent) → ℕ → List Event
 trace_after tiles event zero = []
 trace_after tiles event (suc n) =
-    trace_after tiles event n ++ told_of (numbers_after tiles event n) n (event n)
+    trace_after tiles event n ++ told_in_trace (numbers_after tiles event n) n (event n)
 
 -- the trace of a list of steps from a load
-abbrev pub trace_of : Load → List Step → List Event
-trace_of l steps = trace_after (tiles_of l.shape) (event_of l steps) (length steps)
+abbrev pub trace_of_run : Load → List Step → List Event
+trace_of_run l steps = trace_after (tiles_of l.shape) (event_of l steps) (length steps)

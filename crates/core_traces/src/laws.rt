@@ -8,7 +8,7 @@ ghost use Rattle.trace_order.specs.Orders.{IsLinearizable};
 ghost use Rattle.trace_order.specs.Traces.{IsTrace};
 ghost use Rattle.core_laws.specs.Core.{Load};
 ghost use Rattle.core_laws.specs.Runs.{IsAccepted};
-ghost use Rattle.core_traces.specs.TraceOfRun.{trace_after, trace_of};
+ghost use Rattle.core_traces.specs.TraceOfRun.{trace_after, trace_of_run};
 
 /// Whatever machine makes a history of issues, services and answers, each where it may happen: the
 /// trace of its issues and answers is linearizable.
@@ -25,5 +25,5 @@ pub fn histories_are_linearizable_traces()
 /// Of every run from an accepted load the trace of its issues and answers is linearizable.
 pub fn runs_are_linearizable_traces()
     ensures { (l : Load) (steps : List Step) → IsAccepted l
-        → IsLinearizable l.opening (trace_of l steps) }
+        → IsLinearizable l.opening (trace_of_run l steps) }
 {}

@@ -87,12 +87,12 @@ same_invocations run n p xs ys once f g = same_list xs ys (f.count ∙ sym g.cou
     (record { none = f.unanswered i x there; some = λ t reply is. f.answered i x t reply there is })
     (record { none = g.unanswered i y also; some = λ t reply is. g.answered i y t reply also is })))
 
-all_at : {A : Type 0} (test : A → Bool) (xs : List A) (k : ℕ) (d : A) → list_all test xs ≡ true → k < length xs → test (slice_index_or xs k d) ≡ true
+pub all_at : {A : Type 0} (test : A → Bool) (xs : List A) (k : ℕ) (d : A) → list_all test xs ≡ true → k < length xs → test (slice_index_or xs k d) ≡ true
 all_at test [] k d h l = absurd (omega arith)
 all_at test (x ∷ xs) zero d h l = (and_parts (test x) (list_all test xs) h).0
 all_at test (x ∷ xs) (suc k) d h l = all_at test xs k d (and_parts (test x) (list_all test xs) h).1 (omega arith)
 
-all_from : {A : Type 0} (test : A → Bool) (xs : List A) (d : A) → ((k : ℕ) → k < length xs → test (slice_index_or xs k d) ≡ true) → list_all test xs ≡ true
+pub all_from : {A : Type 0} (test : A → Bool) (xs : List A) (d : A) → ((k : ℕ) → k < length xs → test (slice_index_or xs k d) ≡ true) → list_all test xs ≡ true
 all_from test [] d h = refl
 all_from test (x ∷ xs) d h = ap (λ (b : Bool). b && list_all test xs) (h 0 (omega arith)) ∙ all_from test xs d (λ k l. h (suc k) (omega arith))
 

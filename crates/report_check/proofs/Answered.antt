@@ -9,9 +9,9 @@ use Rattle.report_lines.specs.declared.line.EntryLine.{EntryLine}
 use Rattle.report_lines.specs.declared.line.AnswerLine.{AnswerLine}
 use Rattle.report_lines.specs.declared.line.ReportLine.{ReportLine}
 use Rattle.report_lines.specs.declared.line.ReportLine.TheVariants.{Header, Shape, Init, Entry, Answer, Word, Order, End}
-use Rattle.report_check.specs.Seen.{Seen, nothing_seen, after, seen_of, entries_at, is_answered}
+use Rattle.report_check.specs.Seen.{Seen, nothing_seen, seen_after, seen_of, entries_at, is_answered}
 use Rattle.report_check.specs.Good.{MayStand, AllStand, AreGood, IsAllAnswered}
-use Rattle.report_check.specs.Meaning.{NamesEntry, IsNamed, AnswersEntries}
+use Rattle.report_check.specs.Meaning.{NamesOwnEntry, IsNamed, AnswersEntries}
 use Rattle.report_check.proofs.Standing.{kept_by_all}
 
 -- what stands in a list with one more element
@@ -50,7 +50,7 @@ answer_of s bank place h =
     answer_in s bank place any
 
 record Answers (s : Seen) : Type 0 where
-  named : (i : ℕ) (a : AnswerLine) → slice_get s.answers i ≡ Some a → NamesEntry s a
+  named : (i : ℕ) (a : AnswerLine) → slice_get s.answers i ≡ Some a → NamesOwnEntry s a
   once : (i j : ℕ) (a b : AnswerLine) → slice_get s.answers i ≡ Some a → slice_get s.answers j ≡ Some b → a.bank ≡ b.bank → a.place ≡ b.place → i ≡ j
   none : s.section ≤ 4 → s.answers ≡ []
 
@@ -72,7 +72,7 @@ answers_stay s t entries answers early x =
     λ i a h. ap (λ (xs : List AnswerLine). slice_get xs i) (sym answers) ∙ h in
     record {
       named = λ i a h.
-          let of : NamesEntry s a = x.named i a (back i a h) in
+          let of : NamesOwnEntry s a = x.named i a (back i a h) in
           record {
             entry = of.entry;
             there = ap (λ (es : List EntryLine). slice_get (entries_at es a.bank) a.place) entries ∙ of.there;
@@ -83,15 +83,15 @@ answers_stay s t entries answers early x =
       none = λ is. answers ∙ x.none (early is);
     }
 
-answers_push : (s : Seen) (a : AnswerLine) → MayStand s (Answer a) → Answers s → Answers (after s (Answer a))
+answers_push : (s : Seen) (a : AnswerLine) → MayStand s (Answer a) → Answers s → Answers (seen_after s (Answer a))
 answers_push s a may x =
-    let new : NamesEntry (after s (Answer a)) a = record {
+    let new : NamesOwnEntry (seen_after s (Answer a)) a = record {
       entry = may.allowed.names.entry;
       there = may.allowed.names.there;
       source = may.allowed.names.source;
       reply = may.allowed.names.reply;
     } in
-    let other : (b : AnswerLine) → NamesEntry s b → NamesEntry (after s (Answer a)) b = λ b n. record {
+    let other : (b : AnswerLine) → NamesOwnEntry s b → NamesOwnEntry (seen_after s (Answer a)) b = λ b n. record {
       entry = n.entry;
       there = n.there;
       source = n.source;
@@ -102,7 +102,7 @@ answers_push s a may x =
     absurd (cc) in
     record {
       named = λ i b h. ⊎_elim (λ (old : slice_get s.answers i ≡ Some b). other b (x.named i b old))
-          (λ (last : (i ≡ length s.answers) × (a ≡ b)). subst (NamesEntry (after s (Answer a))) last.1 new) (in_pushed s.answers a b i h);
+          (λ (last : (i ≡ length s.answers) × (a ≡ b)). subst (NamesOwnEntry (seen_after s (Answer a))) last.1 new) (in_pushed s.answers a b i h);
       once = λ i j b c h g of at.
           ⊎_elim
           (λ (old : slice_get s.answers i ≡ Some b).
@@ -121,23 +121,23 @@ answers_push s a may x =
       none = λ is. absurd (omega (arith, is));
     }
 
-answers_after : (x : Unit {0}) (s : Seen) (line : ReportLine) → MayStand s line → Answers s → Answers (after s line)
-answers_after x s (Header version) may known = answers_stay s (after s (Header version)) refl refl (λ _. omega (arith, may.allowed.first)) known
-answers_after x s (Shape radices words) may known = answers_none (after s (Shape radices words)) refl
-answers_after x s (Init a v) may known = answers_stay s (after s (Init a v)) refl refl (λ _. omega (arith, may.allowed.section.early)) known
-answers_after x s (Entry e) may known = answers_none (after s (Entry e)) (known.none may.allowed.section.early)
+answers_after : (x : Unit {0}) (s : Seen) (line : ReportLine) → MayStand s line → Answers s → Answers (seen_after s line)
+answers_after x s (Header version) may known = answers_stay s (seen_after s (Header version)) refl refl (λ _. omega (arith, may.allowed.first)) known
+answers_after x s (Shape radices words) may known = answers_none (seen_after s (Shape radices words)) refl
+answers_after x s (Init a v) may known = answers_stay s (seen_after s (Init a v)) refl refl (λ _. omega (arith, may.allowed.section.early)) known
+answers_after x s (Entry e) may known = answers_none (seen_after s (Entry e)) (known.none may.allowed.section.early)
 answers_after x s (Answer a) may known = answers_push s a may known
-answers_after x s (Word a v) may known = answers_stay s (after s (Word a v)) refl refl (λ is. absurd (omega (arith, is))) known
-answers_after x s (Order o) may known = answers_stay s (after s (Order o)) refl refl (λ is. absurd (omega (arith, is))) known
-answers_after x s (End complete) may known = answers_stay s (after s (End complete)) refl refl (λ is. absurd (omega (arith, is))) known
+answers_after x s (Word a v) may known = answers_stay s (seen_after s (Word a v)) refl refl (λ is. absurd (omega (arith, is))) known
+answers_after x s (Order o) may known = answers_stay s (seen_after s (Order o)) refl refl (λ is. absurd (omega (arith, is))) known
+answers_after x s (End complete) may known = answers_stay s (seen_after s (End complete)) refl refl (λ is. absurd (omega (arith, is))) known
 
 abbrev AllAnswered : Seen → Type 0
 AllAnswered s = IsAllAnswered s.entries s.answers
 
 -- behind a last line that says so, each entry has an answer
-complete_end : (s : Seen) (before : List ReportLine) → AllStand s (before ++ End true ∷ []) → AllAnswered (fold after s (before ++ End true ∷ []))
+complete_end : (s : Seen) (before : List ReportLine) → AllStand s (before ++ End true ∷ []) → AllAnswered (fold seen_after s (before ++ End true ∷ []))
 complete_end s [] stand = stand.0.allowed.all_answered refl
-complete_end s (line ∷ before) stand = complete_end (after s line) before stand.1
+complete_end s (line ∷ before) stand = complete_end (seen_after s line) before stand.1
 
 pub answers_entries : (lines : List ReportLine) → AreGood lines → AnswersEntries lines
 answers_entries lines good =

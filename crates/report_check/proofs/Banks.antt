@@ -12,7 +12,7 @@ use Rattle.report_lines.specs.Contents.{is_newer}
 use Rattle.report_lines.specs.declared.line.EntryLine.{EntryLine}
 use Rattle.report_lines.specs.declared.line.AnswerLine.{AnswerLine}
 use Rattle.report_check.specs.Seen.{entries_at, has_newer, is_answered}
-use Rattle.report_check.specs.Shows.{bank_of, IsAnswered, EntriesShown, kept, marked}
+use Rattle.report_check.specs.Shows.{bank_of, AreAllAnswered, EntriesShown, kept, marked}
 
 -- a bank that was read
 pub bank_of_read : {A : Type 0} → (banks : List (Vec Served A)) (i : ℕ) (v : Vec Served A) → i < length banks → v ≡ get_or banks i v → bank_of banks i ≡ v.items
@@ -20,7 +20,7 @@ bank_of_read {A} banks i v inside read = get_or-map (λ (w : Vec Served A). w.it
 
 -- each entry has an answer, in the words of the banks and of the lines
 pub all_answered : {A : Type 0} → (entries : List EntryLine) (answers : List AnswerLine) (last count : ℕ) (newer : Bool) (banks : List (Vec Served A))
-    → EntriesShown entries answers last count newer banks → ((bank : ℕ) → IsAnswered (bank_of banks bank)) → (bank place : ℕ)
+    → EntriesShown entries answers last count newer banks → ((bank : ℕ) → AreAllAnswered (bank_of banks bank)) → (bank place : ℕ)
     → place < length (entries_at entries bank) → is_answered answers bank place ≡ true
 all_answered {A} entries answers last count newer banks shown all bank place inside =
     let here : (e : EntryLine) → slice_get (entries_at entries bank) place ≡ Some e → is_answered answers bank place ≡ true =
@@ -30,7 +30,7 @@ all_answered {A} entries answers last count newer banks shown all bank place ins
 -- and back
 pub all_kept_answered : {A : Type 0} → (entries : List EntryLine) (answers : List AnswerLine) (last count : ℕ) (newer : Bool) (banks : List (Vec Served A))
     → EntriesShown entries answers last count newer banks
-    → ((bank place : ℕ) → place < length (entries_at entries bank) → is_answered answers bank place ≡ true) → (bank : ℕ) → IsAnswered (bank_of banks bank)
+    → ((bank place : ℕ) → place < length (entries_at entries bank) → is_answered answers bank place ≡ true) → (bank : ℕ) → AreAllAnswered (bank_of banks bank)
 all_kept_answered {A} entries answers last count newer banks shown all bank place k is =
     let inside : place < length (bank_of banks bank) = slice_get_within (bank_of banks bank) place k is in
     let e_inside : place < length (entries_at entries bank) = omega (arith, shown.sized bank) in

@@ -10,7 +10,7 @@ use Rattle.report_lines.proofs.Indexes.{range-more}
 use Rattle.report_lines.specs.declared.line.OrderLine.{OrderLine}
 use Rattle.report_lines.specs.declared.line.ReportLine.{ReportLine}
 use Rattle.report_lines.specs.declared.line.ReportLine.TheVariants.{Header, Shape, Init, Entry, Answer, Word, Order, End}
-use Rattle.report_check.specs.Seen.{Seen, nothing_seen, after, seen_of, above_last, entries_at, orders_at}
+use Rattle.report_check.specs.Seen.{Seen, nothing_seen, seen_after, seen_of, above_last, entries_at, orders_at}
 use Rattle.report_check.specs.Good.{MayStand, AreGood, IsNewEvent, IsWholeOrder}
 use Rattle.report_check.specs.Meaning.{IsTimely, OrdersEntries}
 use Rattle.report_check.proofs.Orders.{orders_at_here, orders_at_other}
@@ -107,7 +107,7 @@ places_push s o bank next os =
     ap (map place_in) there ∙ os.places bank ∙ ap (λ (xs : List OrderLine). range_with_len 0 (length xs)) (sym there))
     (cases_eq bank o.bank)
 
-orders_push : (s : Seen) (o : OrderLine) → MayStand s (Order o) → Orders s → Orders (after s (Order o))
+orders_push : (s : Seen) (o : OrderLine) → MayStand s (Order o) → Orders s → Orders (seen_after s (Order o))
 orders_push s o may os =
     record {
       places = λ bank. places_push s o bank may.allowed.next.next os;
@@ -118,18 +118,18 @@ orders_push s o may os =
       whole = λ is. absurd (omega (arith, is));
     }
 
-orders_after : (x : Unit {0}) (s : Seen) (line : ReportLine) → MayStand s line → Orders s → Orders (after s line)
+orders_after : (x : Unit {0}) (s : Seen) (line : ReportLine) → MayStand s line → Orders s → Orders (seen_after s line)
 orders_after x s (Header version) may os =
-    orders_stay s (after s (Header version)) refl (λ _. omega (arith, may.allowed.first)) (λ is. absurd (omega (arith, is))) os
-orders_after x s (Shape radices words) may os = orders_none (after s (Shape radices words)) refl (λ is. absurd (omega (arith, is)))
+    orders_stay s (seen_after s (Header version)) refl (λ _. omega (arith, may.allowed.first)) (λ is. absurd (omega (arith, is))) os
+orders_after x s (Shape radices words) may os = orders_none (seen_after s (Shape radices words)) refl (λ is. absurd (omega (arith, is)))
 orders_after x s (Init a v) may os =
-    orders_stay s (after s (Init a v)) refl (λ _. omega (arith, may.allowed.section.early)) (λ is. absurd (omega (arith, is))) os
-orders_after x s (Entry e) may os = orders_stay s (after s (Entry e)) refl (λ _. omega (arith, may.allowed.section.early)) (λ is. absurd (omega (arith, is))) os
+    orders_stay s (seen_after s (Init a v)) refl (λ _. omega (arith, may.allowed.section.early)) (λ is. absurd (omega (arith, is))) os
+orders_after x s (Entry e) may os = orders_stay s (seen_after s (Entry e)) refl (λ _. omega (arith, may.allowed.section.early)) (λ is. absurd (omega (arith, is))) os
 orders_after x s (Answer a) may os =
-    orders_stay s (after s (Answer a)) refl (λ _. omega (arith, may.allowed.section.section.early)) (λ is. absurd (omega (arith, is))) os
-orders_after x s (Word a v) may os = orders_stay s (after s (Word a v)) refl (λ _. may.allowed.section.section.early) (λ is. absurd (omega (arith, is))) os
+    orders_stay s (seen_after s (Answer a)) refl (λ _. omega (arith, may.allowed.section.section.early)) (λ is. absurd (omega (arith, is))) os
+orders_after x s (Word a v) may os = orders_stay s (seen_after s (Word a v)) refl (λ _. may.allowed.section.section.early) (λ is. absurd (omega (arith, is))) os
 orders_after x s (Order o) may os = orders_push s o may os
-orders_after x s (End complete) may os = orders_stay s (after s (End complete)) refl (λ is. absurd (omega (arith, is))) (λ _. may.allowed.orders) os
+orders_after x s (End complete) may os = orders_stay s (seen_after s (End complete)) refl (λ is. absurd (omega (arith, is))) (λ _. may.allowed.orders) os
 
 pub orders_whole : (lines : List ReportLine) → AreGood lines → (seen_of lines).orders ≢ [] → OrdersEntries (seen_of lines)
 orders_whole lines good some =

@@ -8,10 +8,10 @@ use Rattle.report_lines.specs.Line.{line_text, text_of}
 use Rattle.report_lines.specs.declared.line.ReportLine.{ReportLine}
 use Rattle.report_check.specs.declared.checker.Checker.{Checker}
 use Rattle.report_lines.specs.Fits.{FitsLine}
-use Rattle.report_reader.specs.Reading.{line_at}
-use Rattle.report_check.specs.Seen.{Seen, nothing_seen, after, seen_of}
+use Rattle.report_reader.specs.Reading.{report_line_at}
+use Rattle.report_check.specs.Seen.{Seen, nothing_seen, seen_after, seen_of}
 use Rattle.report_check.specs.Good.{Allowed, MayStand, AllStand, AreGood, GoodReport, FirstBad, IsStuck}
-use Rattle.report_check.specs.Shows.{Shows}
+use Rattle.report_check.specs.Shows.{KeepsSeen}
 use Rattle.report_reader.proofs.LinesFound.{read_of}
 use Rattle.report_reader.proofs.Joined.{line_some}
 
@@ -21,15 +21,15 @@ pub record Progress {A : Type 0} (text rest : List ℕ) (number : ℕ) (c : Chec
   pub printed : text ≡ text_of lines ++ rest
   pub each : AllStand nothing_seen lines
   pub counted : number ≡ length lines + 1
-  pub shows : Shows (seen_of lines) c
+  pub shows : KeepsSeen (seen_of lines) c
 
-pub progress_start : {A : Type 0} (text : List ℕ) (c : Checker A) → Shows nothing_seen c → Progress text text 1 c
+pub progress_start : {A : Type 0} (text : List ℕ) (c : Checker A) → KeepsSeen nothing_seen c → Progress text text 1 c
 progress_start text c shows = record { lines = []; printed = refl; each = tt; counted = refl; shows = shows }
 
-pub all_stand_push : (s : Seen) (lines : List ReportLine) (line : ReportLine) → AllStand s lines → MayStand (fold after s lines) line
+pub all_stand_push : (s : Seen) (lines : List ReportLine) (line : ReportLine) → AllStand s lines → MayStand (fold seen_after s lines) line
     → AllStand s (lines ++ line ∷ [])
 all_stand_push s [] line each may = (may, tt)
-all_stand_push s (l ∷ lines) line each may = (each.0, all_stand_push (after s l) lines line each.1 may)
+all_stand_push s (l ∷ lines) line each may = (each.0, all_stand_push (seen_after s l) lines line each.1 may)
 
 text_of_push : (lines : List ReportLine) (line : ReportLine) (rest : List ℕ) → text_of (lines ++ line ∷ []) ++ rest ≡ text_of lines ++ (line_text line ++ rest)
 text_of_push lines line rest =
@@ -38,11 +38,11 @@ text_of_push lines line rest =
 
 -- a line that may stand
 pub progress_more : {A : Type 0} (text rest more : List ℕ) (number : ℕ) (c new : Checker A) (line : ReportLine) (p : Progress text rest number c)
-    → rest ≡ line_text line ++ more → FitsLine line → Allowed (seen_of p.lines) line × Shows (after (seen_of p.lines) line) new
+    → rest ≡ line_text line ++ more → FitsLine line → Allowed (seen_of p.lines) line × KeepsSeen (seen_after (seen_of p.lines) line) new
     → Progress text more (number + 1) new
 progress_more text rest more number c new line p cut fits taken =
-    let now : seen_of (p.lines ++ line ∷ []) ≡ after (seen_of p.lines) line = fold_push after nothing_seen p.lines line in
-    let P : Seen → Type 0 = λ s. Shows s new in
+    let now : seen_of (p.lines ++ line ∷ []) ≡ seen_after (seen_of p.lines) line = fold_push seen_after nothing_seen p.lines line in
+    let P : Seen → Type 0 = λ s. KeepsSeen s new in
     let may : MayStand (seen_of p.lines) line = record { fits = fits; allowed = taken.0 } in
     record {
       lines = p.lines ++ line ∷ [];
@@ -53,13 +53,13 @@ progress_more text rest more number c new line p cut fits taken =
     }
 
 -- where no line is read, or where it may not stand, the check ends
-pub stuck_unread : (s : Seen) (rest : List ℕ) → line_at rest ≡ None → (s.section ≡ 8 → rest ≢ []) → IsStuck s rest
+pub stuck_unread : (s : Seen) (rest : List ℕ) → report_line_at rest ≡ None → (s.section ≡ 8 → rest ≢ []) → IsStuck s rest
 stuck_unread s rest unread left = record {
   none = λ line more may is. none-some (line, more) (sym unread ∙ read_of line more rest may.fits is);
   not_good = left;
 }
 
-pub stuck_refused : (s : Seen) (rest more : List ℕ) (line : ReportLine) → line_at rest ≡ Some (line, more) → rest ≡ line_text line ++ more → (Allowed s line → ⊥)
+pub stuck_refused : (s : Seen) (rest more : List ℕ) (line : ReportLine) → report_line_at rest ≡ Some (line, more) → rest ≡ line_text line ++ more → (Allowed s line → ⊥)
     → IsStuck s rest
 stuck_refused s rest more line read is refused = record {
   none = λ other behind may same.

@@ -12,7 +12,7 @@ use Rattle.report_lines.specs.Contents.{set_words}
 use Rattle.report_lines.specs.declared.line.EntryLine.{EntryLine}
 use Rattle.report_lines.specs.declared.line.ReportLine.{ReportLine}
 use Rattle.report_lines.specs.declared.line.ReportLine.TheVariants.{Header, Shape, Init, Entry, Answer, Word, Order, End}
-use Rattle.report_check.specs.Seen.{Seen, nothing_seen, after, seen_of, above_last, entries_at, line_operation}
+use Rattle.report_check.specs.Seen.{Seen, nothing_seen, seen_after, seen_of, above_last, entries_at, line_operation}
 use Rattle.report_check.specs.Good.{MayStand, AllStand, AreGood, ToldBelow}
 use Rattle.report_check.specs.Meaning.{opening_after, opening_of, told_words, word_in, EntriesReplay}
 use Rattle.report_check.proofs.Banks.{entries_at_here, entries_at_other}
@@ -41,7 +41,7 @@ record Replays (m : List ℕ) (s : Seen) : Type 0 where
   sized : length m ≡ s.words
   none : s.section ≤ 3 → s.entries ≡ []
 
-replays_init : (m : List ℕ) (s : Seen) (a v : ℕ) → s.entries ≡ [] → Replays m s → Replays (slice_set m a v) (after s (Init a v))
+replays_init : (m : List ℕ) (s : Seen) (a v : ℕ) → s.entries ≡ [] → Replays m s → Replays (slice_set m a v) (seen_after s (Init a v))
 replays_init m s a v none r =
     let P : List EntryLine → Type 0 = λ es. map reply_in es ≡ replies (operations es) (slice_set m a v) in
     let Q : List EntryLine → Type 0 = λ es. slice_set (memory_after (operations es) m) a v ≡ memory_after (operations es) (slice_set m a v) in
@@ -52,7 +52,7 @@ replays_init m s a v none r =
       none = λ _. none;
     }
 
-replays_entry : (m : List ℕ) (s : Seen) (e : EntryLine) → e.reply ≡ reply_of_one (line_operation e) s.memory → Replays m s → Replays m (after s (Entry e))
+replays_entry : (m : List ℕ) (s : Seen) (e : EntryLine) → e.reply ≡ reply_of_one (line_operation e) s.memory → Replays m s → Replays m (seen_after s (Entry e))
 replays_entry m s e reply r =
     record {
       whole = map-append reply_in s.entries (e ∷ [])
@@ -64,7 +64,7 @@ replays_entry m s e reply r =
       none = λ is. absurd (omega (arith, is));
     }
 
-replays_after : (m : List ℕ) (s : Seen) (line : ReportLine) → MayStand s line → Replays m s → Replays (opening_after m line) (after s line)
+replays_after : (m : List ℕ) (s : Seen) (line : ReportLine) → MayStand s line → Replays m s → Replays (opening_after m line) (seen_after s line)
 replays_after m s (Header version) may r = record { whole = r.whole; memory = r.memory; sized = r.sized; none = λ _. r.none (omega (arith, may.allowed.first)) }
 replays_after m s (Shape radices words) may r = record { whole = refl; memory = refl; sized = length-replicate words 0; none = λ _. refl }
 replays_after m s (Init a v) may r = replays_init m s a v (r.none may.allowed.section.early) r
@@ -110,7 +110,7 @@ same_effect e x y a in_x in_y at here =
     (cases_eq a e.address)
 
 bank_own : (m : List ℕ) (s : Seen) (e : EntryLine) → e.address < s.words → e.address % s.tiles ≡ e.bank → e.reply ≡ reply_of_one (line_operation e) s.memory
-    → BankReplays e.bank m s → BankReplays e.bank m (after s (Entry e))
+    → BankReplays e.bank m s → BankReplays e.bank m (seen_after s (Entry e))
 bank_own m s e inside home reply b =
     let es : List EntryLine = entries_at s.entries e.bank in
     let now : entries_at (s.entries ++ e ∷ []) e.bank ≡ es ++ e ∷ [] = entries_at_here s.entries e in
@@ -131,7 +131,7 @@ bank_own m s e inside home reply b =
     }
 
 bank_other : (bank : ℕ) (m : List ℕ) (s : Seen) (e : EntryLine) → bank ≢ e.bank → e.address % s.tiles ≡ e.bank
-    → e.reply ≡ reply_of_one (line_operation e) s.memory → BankReplays bank m s → BankReplays bank m (after s (Entry e))
+    → e.reply ≡ reply_of_one (line_operation e) s.memory → BankReplays bank m s → BankReplays bank m (seen_after s (Entry e))
 bank_other bank m s e apart home reply b =
     let now : entries_at (s.entries ++ e ∷ []) bank ≡ entries_at s.entries bank = entries_at_other s.entries e bank apart in
     record {
@@ -143,21 +143,21 @@ bank_other bank m s e apart home reply b =
           ∙ b.words a low at_home ∙ sym (ap (λ (xs : List EntryLine). slice_index (memory_after (operations xs) m) a) now);
     }
 
-bank_entry : (bank : ℕ) (m : List ℕ) (s : Seen) (e : EntryLine) → MayStand s (Entry e) → BankReplays bank m s → BankReplays bank m (after s (Entry e))
+bank_entry : (bank : ℕ) (m : List ℕ) (s : Seen) (e : EntryLine) → MayStand s (Entry e) → BankReplays bank m s → BankReplays bank m (seen_after s (Entry e))
 bank_entry bank m s e may b =
-    let P : ℕ → Type 0 = λ k. BankReplays k m s → BankReplays k m (after s (Entry e)) in
+    let P : ℕ → Type 0 = λ k. BankReplays k m s → BankReplays k m (seen_after s (Entry e)) in
     ⊎_elim
     (λ (same : bank ≡ e.bank). subst P (sym same) (bank_own m s e may.allowed.home.inside may.allowed.home.home may.allowed.reply) b)
     (λ (apart : bank ≢ e.bank). bank_other bank m s e apart may.allowed.home.home may.allowed.reply b)
     (cases_eq bank e.bank)
 
 bank_after : (bank : ℕ) (m : List ℕ) (s : Seen) (line : ReportLine) → MayStand s line → BankReplays bank m s
-    → BankReplays bank (opening_after m line) (after s line)
+    → BankReplays bank (opening_after m line) (seen_after s line)
 bank_after bank m s (Header version) may b = record { replays = replays_after m s (Header version) may b.replays; here = b.here; words = b.words }
 bank_after bank m s (Shape radices words) may b =
-    bank_first bank (replicate words 0) (after s (Shape radices words)) (replays_after m s (Shape radices words) may b.replays) refl
+    bank_first bank (replicate words 0) (seen_after s (Shape radices words)) (replays_after m s (Shape radices words) may b.replays) refl
 bank_after bank m s (Init a v) may b =
-    bank_first bank (slice_set m a v) (after s (Init a v)) (replays_after m s (Init a v) may b.replays) (b.replays.none may.allowed.section.early)
+    bank_first bank (slice_set m a v) (seen_after s (Init a v)) (replays_after m s (Init a v) may b.replays) (b.replays.none may.allowed.section.early)
 bank_after bank m s (Entry e) may b = bank_entry bank m s e may b
 bank_after bank m s (Answer a) may b = record { replays = replays_after m s (Answer a) may b.replays; here = b.here; words = b.words }
 bank_after bank m s (Word a v) may b = record { replays = replays_after m s (Word a v) may b.replays; here = b.here; words = b.words }
@@ -177,7 +177,7 @@ nothing_told told s memory t none =
     let P : List ℕ → Type 0 = λ ns. set_words (take (above_last ns) s.memory) ≡ set_words (take (above_last ns) memory) in
     append-nil told ∙ t.so_far ∙ subst P (sym none) refl
 
-tells_word : (told : List (ℕ × ℕ)) (s : Seen) (a v : ℕ) → MayStand s (Word a v) → Tells told s → Tells (told ++ (a, v) ∷ []) (after s (Word a v))
+tells_word : (told : List (ℕ × ℕ)) (s : Seen) (a v : ℕ) → MayStand s (Word a v) → Tells told s → Tells (told ++ (a, v) ∷ []) (seen_after s (Word a v))
 tells_word told s a v may t =
     let inside : a < length s.memory = omega (arith, may.allowed.inside, t.sized) in
     let now : above_last (s.told ++ a ∷ []) ≡ a + 1 = fold_push (λ _ n. n + 1) 0 s.told a in
@@ -191,7 +191,7 @@ tells_word told s a v may t =
       whole = λ is. absurd (omega (arith, is));
     }
 
-tells_after : (told : List (ℕ × ℕ)) (s : Seen) (line : ReportLine) → MayStand s line → Tells told s → Tells (told ++ word_in line) (after s line)
+tells_after : (told : List (ℕ × ℕ)) (s : Seen) (line : ReportLine) → MayStand s line → Tells told s → Tells (told ++ word_in line) (seen_after s line)
 tells_after told s (Header version) may t =
     let none : s.told ≡ [] = t.none (omega (arith, may.allowed.first)) in
     record { so_far = nothing_told told s s.memory t none; none = λ _. none; sized = t.sized; whole = λ is. absurd (omega (arith, is)) }

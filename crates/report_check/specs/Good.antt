@@ -16,7 +16,7 @@ use Rattle.report_lines.specs.declared.line.ReportLine.TheVariants.{End}
 use Rattle.report_check.specs.declared.fault.CheckFault.{CheckFault}
 use Rattle.report_check.specs.declared.fault.CheckFault.TheVariants.{BadReport, Memory}
 use Rattle.report_lines.specs.Fits.{FitsLine}
-use Rattle.report_check.specs.Seen.{Seen, nothing_seen, after, seen_of, above_last, last_bank, entries_at, has_newer}
+use Rattle.report_check.specs.Seen.{Seen, nothing_seen, seen_after, seen_of, above_last, last_bank, entries_at, has_newer}
 use Rattle.report_check.specs.Seen.{is_answered, key_of, line_operation, orders_at, is_named}
 
 -- behind the shape, and not behind a line of a later kind
@@ -168,7 +168,7 @@ pub record MayStand (s : Seen) (line : ReportLine) : Type 0 where
 -- each line may stand behind those before it
 abbrev pub AllStand : Seen → List ReportLine → Type 0
 AllStand s [] = Unit {0}
-AllStand s (line ∷ lines) = MayStand s line × AllStand (after s line) lines
+AllStand s (line ∷ lines) = MayStand s line × AllStand (seen_after s line) lines
 
 -- the lines of a good report: each may stand behind those before it, and the last one is the end
 pub record AreGood (lines : List ReportLine) : Type 0 where
@@ -195,7 +195,7 @@ pub record FirstBad (text : List ℕ) (number : ℕ) : Type 0 where
   pub counted : number ≡ length lines + 1
   pub stuck : IsStuck (seen_of lines) rest
 
--- a fault tells the first bad line, or want of memory
+-- a fault tells the first bad line, or that memory was refused
 abbrev pub HasFault : List ℕ → CheckFault → Type 0
 HasFault text (BadReport number) = FirstBad text number
 HasFault text Memory = Unit {0}

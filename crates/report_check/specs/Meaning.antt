@@ -67,7 +67,7 @@ pub record OrdersEntries (s : Seen) : Type 0 where
   pub timely : All IsTimely s.orders
 
 -- the entry that an answer names: of its bank, at its place, and of its processor; with its reply
-pub record NamesEntry (s : Seen) (a : AnswerLine) : Type 0 where
+pub record NamesOwnEntry (s : Seen) (a : AnswerLine) : Type 0 where
   pub entry : EntryLine
   pub there : slice_get (entries_at s.entries a.bank) a.place ≡ Some entry
   pub source : entry.source ≡ a.processor
@@ -86,7 +86,7 @@ pub record IsNamed (s : Seen) (bank place : ℕ) : Type 0 where
 -- 12(3), 1990: a response answers one invocation)
 pub record AnswersEntries (lines : List ReportLine) : Type 0 where
   pub named : (i : ℕ) (a : AnswerLine) → slice_get (seen_of lines).answers i ≡ Some a
-      → NamesEntry (seen_of lines) a
+      → NamesOwnEntry (seen_of lines) a
   pub once : (i j : ℕ) (a b : AnswerLine) → slice_get (seen_of lines).answers i ≡ Some a
       → slice_get (seen_of lines).answers j ≡ Some b → a.bank ≡ b.bank → a.place ≡ b.place → i ≡ j
   pub complete : (before : List ReportLine) → lines ≡ before ++ End true ∷ [] → (bank place : ℕ)

@@ -68,28 +68,28 @@ abbrev pub line_operation : EntryLine → Operation
 line_operation e = record { address = e.address; op = e.op }
 
 -- with one more line
-abbrev pub after : Seen → ReportLine → Seen
-after s (Header version) = record s { section = 1; version = version }
-after s (Shape radices words) = shaped_seen s.version (product (radix_list radices)) words
-after s (Init address value) =
+abbrev pub seen_after : Seen → ReportLine → Seen
+seen_after s (Header version) = record s { section = 1; version = version }
+seen_after s (Shape radices words) = shaped_seen s.version (product (radix_list radices)) words
+seen_after s (Init address value) =
     record s {
       section = 3;
       inits = s.inits ++ address ∷ [];
       memory = slice_set s.memory address value;
     }
-after s (Entry e) = record s {
+seen_after s (Entry e) = record s {
   section = 4;
   entries = s.entries ++ e ∷ [];
   memory = memory_after_one (line_operation e) s.memory;
 }
-after s (Answer a) = record s { section = 5; answers = s.answers ++ a ∷ [] }
-after s (Word address value) = record s { section = 6; told = s.told ++ address ∷ [] }
-after s (Order o) = record s { section = 7; orders = s.orders ++ o ∷ [] }
-after s (End complete) = record s { section = 8 }
+seen_after s (Answer a) = record s { section = 5; answers = s.answers ++ a ∷ [] }
+seen_after s (Word address value) = record s { section = 6; told = s.told ++ address ∷ [] }
+seen_after s (Order o) = record s { section = 7; orders = s.orders ++ o ∷ [] }
+seen_after s (End complete) = record s { section = 8 }
 
 -- what some lines say
 abbrev pub seen_of : List ReportLine → Seen
-seen_of lines = fold after nothing_seen lines
+seen_of lines = fold seen_after nothing_seen lines
 
 -- one more than the last of some numbers, or 0: a number rises above them exactly when it is not
 -- below this

@@ -7,7 +7,7 @@ use Rattle.report_lines.specs.declared.line.OrderLine.{OrderLine}
 use Rattle.report_lines.specs.declared.line.ReportLine.{ReportLine}
 use Rattle.report_check.specs.declared.checker.Served.{Served}
 use Rattle.report_check.specs.declared.checker.Checker.{Checker}
-use Rattle.report_check.specs.Seen.{Seen, after, above_last, last_bank, entries_at, has_newer, is_answered, key_of}
+use Rattle.report_check.specs.Seen.{Seen, seen_after, above_last, last_bank, entries_at, has_newer, is_answered, key_of}
 use Rattle.report_check.specs.Seen.{orders_at, is_named}
 use Rattle.report_check.specs.Good.{Allowed, ToldBelow}
 
@@ -21,8 +21,8 @@ abbrev pub bank_of : {A : Type 0} → List (Vec Served A) → ℕ → List Serve
 bank_of banks bank = slice_index_or (map (λ v. v.items) banks) bank []
 
 -- each entry of a bank has an answer
-abbrev pub IsAnswered : List Served → Type 0
-IsAnswered bank = (place : ℕ) (k : Served) → slice_get bank place ≡ Some k → k.answered ≡ true
+abbrev pub AreAllAnswered : List Served → Type 0
+AreAllAnswered bank = (place : ℕ) (k : Served) → slice_get bank place ≡ Some k → k.answered ≡ true
 
 -- the entry at that place has an answer from now on
 abbrev pub marked : List Served → ℕ → List Served
@@ -50,7 +50,7 @@ pub record OrdersShown (orders : List OrderLine) (next : ℕ) (ordered : List �
   pub named : (event : ℕ) → event ≤ 196608 → slice_index_or used event false ≡ is_named orders event
 
 -- what is kept of what was seen
-pub record Shows {A : Type 0} (s : Seen) (c : Checker A) : Type 0 where
+pub record KeepsSeen {A : Type 0} (s : Seen) (c : Checker A) : Type 0 where
   pub section : c.section ≡ s.section
   pub version : c.version ≡ s.version
   pub tiles : c.tiles ≡ s.tiles
@@ -68,5 +68,5 @@ pub record Shows {A : Type 0} (s : Seen) (c : Checker A) : Type 0 where
 
 -- what a check of one more line answers and leaves
 abbrev pub Checks : {A : Type 0} → Seen → ReportLine → Bool → Checker A → Type 0
-Checks s line true new = Allowed s line × Shows (after s line) new
+Checks s line true new = Allowed s line × KeepsSeen (seen_after s line) new
 Checks s line false new = Allowed s line → ⊥

@@ -3,7 +3,7 @@ ghost use Rattle.report_lines.specs.Line.{line_text};
 ghost use Rattle.report_lines.specs.declared.line.ReportLine.{ReportLine};
 ghost use Rattle.report_check.specs.Seen.{Seen};
 ghost use Rattle.report_check.specs.Good.{GoodReport, HasFault};
-ghost use Rattle.report_check.specs.Shows.{Shows, Checks};
+ghost use Rattle.report_check.specs.Shows.{KeepsSeen, Checks};
 
 use crate::checker::Checker;
 use crate::fault::CheckFault;
@@ -19,7 +19,7 @@ fn take_line<A: Allocator + Copy>(
     line: &ReportLine,
 ) -> Result<bool, AllocError>
     ensures { IfOk result
-        (λ taken. (s : Seen) → Shows s checker.old → Checks s line.now taken checker.new) }
+        (λ taken. (s : Seen) → KeepsSeen s checker.old → Checks s line.now taken checker.new) }
 {
     match line {
         ReportLine::Header(version) => Ok(checker.take_header(*version)),

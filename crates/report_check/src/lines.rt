@@ -5,7 +5,7 @@ ghost use Rattle.torus.specs.Shape.{product};
 ghost use Rattle.report_lines.specs.Line.{radix_list};
 ghost use Rattle.report_check.specs.Seen.{Seen};
 ghost use Rattle.report_check.specs.Good.{BehindEntries, IsAllAnswered, IsWholeOrder, ToldBelow, AreRadices};
-ghost use Rattle.report_check.specs.Shows.{Shows, Checks, IsAnswered, bank_of};
+ghost use Rattle.report_check.specs.Shows.{KeepsSeen, Checks, AreAllAnswered, bank_of};
 
 use crate::checker::{Checker, Served};
 use crate::making::shaped;
@@ -22,7 +22,7 @@ impl<A: Allocator> Checker<A> {
 
     /// Whether a line behind the entries may come, up to the latest kind.
     pub fn is_behind_entries(&self, latest: u8) -> bool
-        ensures behind { (s : Seen) → Shows s self.now → IsTrue result ↔ BehindEntries s latest }
+        ensures behind { (s : Seen) → KeepsSeen s self.now → IsTrue result ↔ BehindEntries s latest }
         ensures late { IsTrue result → self.now.section ≤ latest }
     {
         self.is_in_section(latest) && (self.version != 2 || self.has_newer)
@@ -30,7 +30,7 @@ impl<A: Allocator> Checker<A> {
 
     /// Takes the first line.
     pub fn take_header(&mut self, version: u32) -> bool
-        ensures { (s : Seen) → Shows s self.old
+        ensures { (s : Seen) → KeepsSeen s self.old
             → Checks s (ReportLine.Header version) result self.new }
     {
         if self.section != 0 || (version != 1 && version != 2) {
@@ -43,7 +43,7 @@ impl<A: Allocator> Checker<A> {
 
     /// Takes an `init` line.
     pub fn take_init(&mut self, address: u32, value: u64) -> bool
-        ensures { (s : Seen) → Shows s self.old
+        ensures { (s : Seen) → KeepsSeen s self.old
             → Checks s (ReportLine.Init address value) result self.new }
     {
         if !self.is_in_section(3)
@@ -77,7 +77,7 @@ impl<A: Allocator> Checker<A> {
 
     /// Takes a `word` line.
     pub fn take_word(&mut self, address: u32, value: u64) -> bool
-        ensures { (s : Seen) → Shows s self.old
+        ensures { (s : Seen) → KeepsSeen s self.old
             → Checks s (ReportLine.Word address value) result self.new }
     {
         if !self.is_behind_entries(6)
@@ -97,7 +97,7 @@ impl<A: Allocator> Checker<A> {
 
     /// Whether each word that is not 0 has its line.
     pub fn is_told(&self) -> bool
-        ensures { (s : Seen) → Shows s self.now
+        ensures { (s : Seen) → KeepsSeen s self.now
             → IsTrue result ↔ ToldBelow s.told s.memory s.words }
     {
         self.section == 7 || self.is_told_below(self.words)
@@ -128,14 +128,14 @@ impl<A: Allocator> Checker<A> {
     /// Whether there is no order line, or one for each entry.
     fn has_whole_order(&self) -> bool
         requires { self.now.section ≤ 7 }
-        ensures { (s : Seen) → Shows s self.now → IsTrue result ↔ IsWholeOrder s }
+        ensures { (s : Seen) → KeepsSeen s self.now → IsTrue result ↔ IsWholeOrder s }
     {
         self.section <= 6 || self.is_each_ordered()
     }
 
     /// Whether each entry has an answer.
     fn is_all_answered(&self) -> bool
-        ensures { IsTrue result ↔ ((bank : ℕ) → IsAnswered (bank_of self.now.banks.items bank)) }
+        ensures { IsTrue result ↔ ((bank : ℕ) → AreAllAnswered (bank_of self.now.banks.items bank)) }
     {
         for bank in &self.banks {
             if !is_bank_answered(bank.as_slice()) {
@@ -147,7 +147,7 @@ impl<A: Allocator> Checker<A> {
 
     /// Whether each entry has an answer, where that is said.
     fn may_be_complete(&self, complete: bool) -> bool
-        ensures { (s : Seen) → Shows s self.now
+        ensures { (s : Seen) → KeepsSeen s self.now
             → IsTrue result ↔ (IsTrue complete → IsAllAnswered s.entries s.answers) }
     {
         !complete || self.is_all_answered()
@@ -155,7 +155,7 @@ impl<A: Allocator> Checker<A> {
 
     /// Takes the last line.
     pub fn take_end(&mut self, complete: bool) -> bool
-        ensures { (s : Seen) → Shows s self.old
+        ensures { (s : Seen) → KeepsSeen s self.old
             → Checks s (ReportLine.End complete) result self.new }
     {
         if !self.is_behind_entries(7) || !self.is_told() || !self.has_whole_order() {
@@ -173,7 +173,7 @@ impl<A: Allocator + Copy> Checker<A> {
     /// Takes the shape, and makes room for the words and the banks.
     pub fn take_shape(&mut self, alloc: A, radices: Radices, words: u32) -> Result<bool, AllocError>
         ensures { IfOk result
-            (λ taken. (s : Seen) → Shows s self.old
+            (λ taken. (s : Seen) → KeepsSeen s self.old
             → Checks s (ReportLine.Shape radices words) taken self.new) }
     {
         if self.section != 1 || words < 1 || 65536 < words {
@@ -189,7 +189,7 @@ impl<A: Allocator + Copy> Checker<A> {
 
 /// Whether each entry of a bank has an answer.
 fn is_bank_answered(bank: &[Served]) -> bool
-    ensures { IsTrue result ↔ IsAnswered bank.now }
+    ensures { IsTrue result ↔ AreAllAnswered bank.now }
 {
     for served in bank {
         if !served.answered {

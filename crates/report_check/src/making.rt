@@ -2,7 +2,7 @@
 
 ghost use Rattle.std.specs.Prelude.{◌≡◌, ◌≤◌, ℕ, IfOk, [], false, replicate, slice_index_or, vec_len};
 ghost use Rattle.report_check.specs.Seen.{nothing_seen, shaped_seen};
-ghost use Rattle.report_check.specs.Shows.{Shows, bank_of};
+ghost use Rattle.report_check.specs.Shows.{KeepsSeen, bank_of};
 
 use crate::checker::{Checker, EVENTS, Served};
 use std::alloc::{AllocError, Allocator};
@@ -39,7 +39,7 @@ fn no_events<A: Allocator + Copy>(alloc: A, count: usize) -> Result<Vec<bool, A>
 
 /// What is kept before the first line.
 pub fn start<A: Allocator + Copy>(alloc: A) -> Result<Checker<A>, AllocError>
-    ensures { IfOk result (λ c. Shows nothing_seen c) }
+    ensures { IfOk result (λ c. KeepsSeen nothing_seen c) }
 {
     let mut checker = shaped(alloc, 0, 0, 0)?;
     checker.section = 0;
@@ -55,7 +55,7 @@ pub fn shaped<A: Allocator + Copy>(
 ) -> Result<Checker<A>, AllocError>
     requires tiles { tiles ≤ 64 }
     requires words { words ≤ 65536 }
-    ensures { IfOk result (λ c. Shows (shaped_seen version tiles words) c) }
+    ensures { IfOk result (λ c. KeepsSeen (shaped_seen version tiles words) c) }
 {
     let banks = empty_banks(alloc, tiles)?;
     Ok(Checker {

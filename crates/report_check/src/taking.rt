@@ -7,7 +7,7 @@ ghost use Rattle.std.specs.List.{list_any};
 ghost use Rattle.report_lines.specs.Contents.{is_newer};
 ghost use Rattle.report_check.specs.Seen.{Seen, events_in, key_of as key};
 ghost use Rattle.report_check.specs.Good.{HasNewEvents, IsHome, IsNewEvent, IsNext, NamesUnansweredEntry, OrdersNext};
-ghost use Rattle.report_check.specs.Shows.{Shows, Checks, bank_of, marked};
+ghost use Rattle.report_check.specs.Shows.{KeepsSeen, Checks, bank_of, marked};
 
 use crate::checker::{Checker, EVENTS, Served};
 use packet::{Op, Reply, apply};
@@ -25,7 +25,7 @@ impl<A: Allocator> Checker<A> {
 
     /// Whether the entry is the next one of its bank, and banks do not fall.
     fn is_next(&self, entry: &EntryLine) -> bool
-        ensures next { (s : Seen) → Shows s self.now → IsTrue result ↔ IsNext s entry.now }
+        ensures next { (s : Seen) → KeepsSeen s self.now → IsTrue result ↔ IsNext s entry.now }
         ensures bank { IsTrue result → entry.now.bank < self.now.tiles }
         ensures room { IsTrue result → self.now.entry_count < 65536 }
     {
@@ -40,7 +40,7 @@ impl<A: Allocator> Checker<A> {
     /// Whether the address is at home in the entry's bank.
     fn is_home(&self, entry: &EntryLine) -> bool
         requires { 0 < self.now.tiles }
-        ensures home { (s : Seen) → Shows s self.now → IsTrue result ↔ IsHome s entry.now }
+        ensures home { (s : Seen) → KeepsSeen s self.now → IsTrue result ↔ IsHome s entry.now }
         ensures inside { IsTrue result → entry.now.address < self.now.words }
     {
         entry.address < self.words && entry.address % self.tiles == entry.bank
@@ -48,7 +48,7 @@ impl<A: Allocator> Checker<A> {
 
     /// Whether the version of the report has the operation.
     fn has_version(&self, op: Op) -> bool
-        ensures { (s : Seen) → Shows s self.now
+        ensures { (s : Seen) → KeepsSeen s self.now
             → IsTrue result ↔ (is_newer op ≡ true → s.version ≡ 2) }
     {
         !is_newer(op) || self.version == 2
@@ -57,7 +57,7 @@ impl<A: Allocator> Checker<A> {
     /// Takes an `entry` line.
     pub fn take_entry(&mut self, entry: &EntryLine) -> Result<bool, AllocError>
         ensures { IfOk result
-            (λ taken. (s : Seen) → Shows s self.old
+            (λ taken. (s : Seen) → KeepsSeen s self.old
             → Checks s (ReportLine.Entry entry.now) taken self.new) }
     {
         if !self.is_in_section(4) || !self.is_next(entry) || !self.is_home(entry) {
@@ -86,7 +86,7 @@ impl<A: Allocator> Checker<A> {
 
     /// Whether the answer names an entry that has none yet.
     fn names_entry(&self, answer: &AnswerLine) -> bool
-        ensures named { (s : Seen) → Shows s self.now
+        ensures named { (s : Seen) → KeepsSeen s self.now
             → IsTrue result ↔ NamesUnansweredEntry s answer.now }
         ensures inside { IsTrue result
             → answer.now.place < length (bank_of self.now.banks.items answer.now.bank) }
@@ -103,7 +103,7 @@ impl<A: Allocator> Checker<A> {
 
     /// Takes an `answer` line.
     pub fn take_answer(&mut self, answer: &AnswerLine) -> bool
-        ensures { (s : Seen) → Shows s self.old
+        ensures { (s : Seen) → KeepsSeen s self.old
             → Checks s (ReportLine.Answer answer.now) result self.new }
     {
         let key = key_of(answer);
@@ -121,7 +121,7 @@ impl<A: Allocator> Checker<A> {
 
     /// Whether no order line has named the event.
     fn is_new(&self, event: u32) -> bool
-        ensures new { (s : Seen) → Shows s self.now → IsTrue result ↔ IsNewEvent s event }
+        ensures new { (s : Seen) → KeepsSeen s self.now → IsTrue result ↔ IsNewEvent s event }
         ensures high { IsTrue result → event ≤ 196608 }
     {
         1 <= event && event <= EVENTS && !self.used[event as usize]
@@ -130,7 +130,7 @@ impl<A: Allocator> Checker<A> {
     /// Whether the order line is that of the next entry of its bank, and says whether it is
     /// answered.
     fn orders_next(&self, order: &OrderLine) -> bool
-        ensures next { (s : Seen) → Shows s self.now → IsTrue result ↔ OrdersNext s order.now }
+        ensures next { (s : Seen) → KeepsSeen s self.now → IsTrue result ↔ OrdersNext s order.now }
         ensures inside { IsTrue result → order.now.bank < self.now.tiles }
         ensures few { IsTrue result
             → slice_index self.now.ordered.items order.now.bank ≡ order.now.place }
@@ -147,7 +147,7 @@ impl<A: Allocator> Checker<A> {
 
     /// Whether the events are new and rise.
     fn has_new_events(&self, order: &OrderLine) -> bool
-        ensures new { (s : Seen) → Shows s self.now → IsTrue result ↔ HasNewEvents s order.now }
+        ensures new { (s : Seen) → KeepsSeen s self.now → IsTrue result ↔ HasNewEvents s order.now }
         ensures issued { IsTrue result → order.now.issued ≤ 196608 }
         ensures served { IsTrue result → order.now.served ≤ 196608 }
         ensures answered { IsTrue result → IfSome order.now.answered (λ n. n ≤ 196608) }
@@ -166,7 +166,7 @@ impl<A: Allocator> Checker<A> {
 
     /// Takes an `order` line.
     pub fn take_order(&mut self, order: &OrderLine) -> bool
-        ensures { (s : Seen) → Shows s self.old
+        ensures { (s : Seen) → KeepsSeen s self.old
             → Checks s (ReportLine.Order order.now) result self.new }
     {
         if !self.is_behind_entries(7) || !self.is_told() || order.served < self.next_served {

@@ -15,17 +15,17 @@ use Rattle.report_lines.specs.declared.line.OrderLine.{OrderLine}
 use Rattle.report_lines.specs.declared.line.ReportLine.TheVariants.{Entry, Answer, Order}
 use Rattle.report_lines.specs.Fits.{FitsEntry, FitsAnswer, FitsOrder, FitsOp, FitsReply}
 use Rattle.report_reader.proofs.Spelled.{reply_then, event_then, pair_then, four_then, op_then, line_then}
-use Rattle.report_reader.specs.Reading.{behind, digits_on, number_at, index_at, reply_at, event_at, pair_at, valued_at, load_at, cas_at, newer_at, op_at}
+use Rattle.report_reader.specs.Reading.{behind, digits_on, number_read_at, index_at, reply_read_at, event_at, pair_at, valued_at, load_at, cas_at, newer_at, op_at}
 use Rattle.report_reader.specs.Reading.{four_at, entry_at, answer_at, order_at}
 
 digit_true : (d : ℕ) → d < 10 → is_ascii_digit (48 + d) ≡ true
 digit_true d small = grind (arith, nat_tests)
 
 -- a number that is not 0 begins a reading of digits
-begun : (end n : ℕ) → n < 2 ^ 64 → 0 < n → (rest : List ℕ) → number_at end (decimal n ++ rest) ≡ digits_on end n rest
-unfolding number_at digits_on
+begun : (end n : ℕ) → n < 2 ^ 64 → 0 < n → (rest : List ℕ) → number_read_at end (decimal n ++ rest) ≡ digits_on end n rest
+unfolding number_read_at digits_on
 begun end n small some =
-    let P : ℕ → List ℕ → Type 0 = λ m ds. m < 2 ^ 64 → 0 < m → (t : List ℕ) → number_at end (ds ++ t) ≡ digits_on end m t in
+    let P : ℕ → List ℕ → Type 0 = λ m ds. m < 2 ^ 64 → 0 < m → (t : List ℕ) → number_read_at end (ds ++ t) ≡ digits_on end m t in
     decimal_by_steps P
     (λ m low fits above t.
     let zero : ((48 + m) == 48) ≡ false = ne_eqb (48 + m) 48 (λ h. absurd (omega (arith, h, above))) in
@@ -38,27 +38,27 @@ begun end n small some =
     let test : nat_lt m (2 ^ 64) ≡ true = lt-ltb m (2 ^ 64) fits in
     let front : m / 10 < 2 ^ 64 = omega (arith, fits) in
     let more : 0 < m / 10 = omega (arith, high) in
-    ap (number_at end) (append_assoc ds ((48 + m % 10) ∷ []) t) ∙ before front more ((48 + m % 10) ∷ t) ∙ rw (digit, value, test))
+    ap (number_read_at end) (append_assoc ds ((48 + m % 10) ∷ []) t) ∙ before front more ((48 + m % 10) ∷ t) ∙ rw (digit, value, test))
     n small small some
 
 -- a number and its end
-pub number_again : (end n : ℕ) (rest : List ℕ) → is_ascii_digit end ≡ false → n < 2 ^ 64 → number_at end (decimal n ++ end ∷ rest) ≡ Some (n, rest)
-unfolding number_at digits_on behind
+pub number_again : (end n : ℕ) (rest : List ℕ) → is_ascii_digit end ≡ false → n < 2 ^ 64 → number_read_at end (decimal n ++ end ∷ rest) ≡ Some (n, rest)
+unfolding number_read_at digits_on behind
 number_again end zero rest other small =
     let none : decimal 0 ≡ 48 ∷ [] = decimal_digit 0 (lit< tt) in
     let test : (end == end) ≡ true = eq-eqb end end refl in
-    ap (λ (d : List ℕ). number_at end (d ++ end ∷ rest)) none ∙ rw test
+    ap (λ (d : List ℕ). number_read_at end (d ++ end ∷ rest)) none ∙ rw test
 number_again end (suc n) rest other small =
     let test : (end == end) ≡ true = eq-eqb end end refl in
     begun end (suc n) small (omega arith) (end ∷ rest) ∙ rw (other, test)
 
 -- a number and another end
-pub number_stops : (end stop n : ℕ) (rest : List ℕ) → is_ascii_digit stop ≡ false → stop ≢ end → n < 2 ^ 64 → number_at end (decimal n ++ stop ∷ rest) ≡ None
-unfolding number_at digits_on behind
+pub number_stops : (end stop n : ℕ) (rest : List ℕ) → is_ascii_digit stop ≡ false → stop ≢ end → n < 2 ^ 64 → number_read_at end (decimal n ++ stop ∷ rest) ≡ None
+unfolding number_read_at digits_on behind
 number_stops end stop zero rest other apart small =
     let none : decimal 0 ≡ 48 ∷ [] = decimal_digit 0 (lit< tt) in
     let test : (stop == end) ≡ false = ne_eqb stop end apart in
-    ap (λ (d : List ℕ). number_at end (d ++ stop ∷ rest)) none ∙ rw test
+    ap (λ (d : List ℕ). number_read_at end (d ++ stop ∷ rest)) none ∙ rw test
 number_stops end stop (suc n) rest other apart small =
     let test : (stop == end) ≡ false = ne_eqb stop end apart in
     begun end (suc n) small (omega arith) (stop ∷ rest) ∙ rw (other, test)
@@ -88,8 +88,8 @@ not_word b word n rest other small =
     n small rest
 
 -- a word is read where no number stands
-unread_reply : (word : ℕ) (rest : List ℕ) → word < 2 ^ 64 → reply_at (decimal word ++ 10 ∷ rest) ≡ Some (Old word, rest)
-unfolding reply_at
+unread_reply : (word : ℕ) (rest : List ℕ) → word < 2 ^ 64 → reply_read_at (decimal word ++ 10 ∷ rest) ≡ Some (Old word, rest)
+unfolding reply_read_at
 unread_reply word rest small =
     let none : behind (codes "ok\n") (decimal word ++ 10 ∷ rest) ≡ None = not_word 111 (codes "k\n") word (10 ∷ rest) refl small in
     rw (none, number_again 10 word rest refl small)
@@ -100,8 +100,8 @@ unread_event n rest small =
     let none : behind (codes "-\n") (decimal n ++ 10 ∷ rest) ≡ None = not_word 45 (codes "\n") n (10 ∷ rest) refl (omega (arith, small)) in
     rw (none, index_again 10 n rest refl small)
 
-reply_again : (r : Reply) (rest : List ℕ) → FitsReply r → reply_at (reply_then r rest) ≡ Some (r, rest)
-unfolding reply_at behind
+reply_again : (r : Reply) (rest : List ℕ) → FitsReply r → reply_read_at (reply_then r rest) ≡ Some (r, rest)
+unfolding reply_read_at behind
 reply_again Stored rest fits = refl
 reply_again (Old word) rest fits = unread_reply word rest fits
 

@@ -12,7 +12,7 @@ use Rattle.report_lines.specs.Fits.{FitsOp, FitsReply, FitsRadices}
 use Rattle.report_lines.specs.declared.line.Radices.{Radices}
 use Rattle.report_lines.specs.declared.line.Radices.TheVariants.{One, Two, Three}
 use Rattle.report_reader.proofs.Spelled.{reply_then, event_then, pair_then, op_then, radices_then}
-use Rattle.report_reader.specs.Reading.{◌>>=◌, instead, behind, number_at, index_at, reply_at, event_at, pair_at, valued_at, load_at, cas_at, newer_at, op_at}
+use Rattle.report_reader.specs.Reading.{◌>>=◌, instead, behind, number_read_at, index_at, reply_read_at, event_at, pair_at, valued_at, load_at, cas_at, newer_at, op_at}
 use Rattle.report_reader.specs.Reading.{four_at, uniform_at, two_at, three_at, radices_at}
 use Rattle.report_reader.proofs.Sound.{behind_sound, number_sound}
 
@@ -53,13 +53,13 @@ behind_spelled word text = each_some (behind word text) (SpellsBehind word text)
 abbrev SpellsNumber : ℕ → ℕ → List ℕ → ℕ × List ℕ → Type 0
 SpellsNumber bits end text n = (n.0 < 2 ^ bits) × (text ≡ decimal n.0 ++ end ∷ n.1)
 
-number_spelled : (end : ℕ) (text : List ℕ) → IfSome (number_at end text) (SpellsNumber 64 end text)
-number_spelled end text = each_some (number_at end text) (SpellsNumber 64 end text) (λ n h. number_sound end text n h)
+number_spelled : (end : ℕ) (text : List ℕ) → IfSome (number_read_at end text) (SpellsNumber 64 end text)
+number_spelled end text = each_some (number_read_at end text) (SpellsNumber 64 end text) (λ n h. number_sound end text n h)
 
 pub index_spelled : (end : ℕ) (text : List ℕ) → IfSome (index_at end text) (SpellsNumber 32 end text)
 unfolding index_at
 index_spelled end text =
-    then_some _ (number_at end text) (λ n. if nat_lt n.0 (2 ^ 32) then Some (n.0, n.1) else None) (number_spelled end text)
+    then_some _ (number_read_at end text) (λ n. if nat_lt n.0 (2 ^ 32) then Some (n.0, n.1) else None) (number_spelled end text)
     (λ n is. if_some _ (nat_lt n.0 (2 ^ 32)) (Some (n.0, n.1)) None (λ small. (ltb-true n.0 (2 ^ 32) small, is.1)) (λ much. tt))
 
 abbrev SpellsPair : ℕ → List ℕ → ℕ × ℕ × List ℕ → Type 0
@@ -68,8 +68,8 @@ SpellsPair end text p = (p.0 < 2 ^ 32) × (p.1 < 2 ^ 64) × (text ≡ pair_then 
 pair_spelled : (end : ℕ) (text : List ℕ) → IfSome (pair_at end text) (SpellsPair end text)
 unfolding pair_at
 pair_spelled end text =
-    then_some _ (index_at 32 text) (λ a. number_at end a.1 >>= λ v. Some (a.0, v.0, v.1)) (index_spelled 32 text)
-    (λ a is. then_some _ (number_at end a.1) (λ v. Some (a.0, v.0, v.1)) (number_spelled end a.1)
+    then_some _ (index_at 32 text) (λ a. number_read_at end a.1 >>= λ v. Some (a.0, v.0, v.1)) (index_spelled 32 text)
+    (λ a is. then_some _ (number_read_at end a.1) (λ v. Some (a.0, v.0, v.1)) (number_spelled end a.1)
     (λ v next. (is.0, next.0, is.1 ∙ ap (λ (t : List ℕ). decimal a.0 ++ 32 ∷ t) next.1)))
 
 abbrev SpellsValued : ℕ → List ℕ → List ℕ → ℕ × ℕ × List ℕ → Type 0
@@ -107,13 +107,13 @@ four_spelled word text =
 abbrev SpellsReply : List ℕ → Reply × List ℕ → Type 0
 SpellsReply text r = FitsReply r.0 × (text ≡ reply_then r.0 r.1)
 
-pub reply_spelled : (text : List ℕ) → IfSome (reply_at text) (SpellsReply text)
-unfolding reply_at
+pub reply_spelled : (text : List ℕ) → IfSome (reply_read_at text) (SpellsReply text)
+unfolding reply_read_at
 reply_spelled text =
-    instead_some _ (behind (codes "ok\n") text) (λ rest. Some (Stored, rest)) (number_at 10 text >>= λ n. Some (Old n.0, n.1))
+    instead_some _ (behind (codes "ok\n") text) (λ rest. Some (Stored, rest)) (number_read_at 10 text >>= λ n. Some (Old n.0, n.1))
     (behind_spelled (codes "ok\n") text)
     (λ rest is. (tt, is))
-    (then_some _ (number_at 10 text) (λ n. Some (Old n.0, n.1)) (number_spelled 10 text) (λ n is. (is.0, is.1)))
+    (then_some _ (number_read_at 10 text) (λ n. Some (Old n.0, n.1)) (number_spelled 10 text) (λ n is. (is.0, is.1)))
 
 abbrev SpellsEvent : List ℕ → Option ℕ × List ℕ → Type 0
 SpellsEvent text e = IfSome e.0 (λ n. n < 2 ^ 32) × (text ≡ event_then e.0 e.1)
@@ -141,11 +141,11 @@ cas_spelled : (text : List ℕ) → IfSome (cas_at text) (SpellsOp text)
 unfolding cas_at
 cas_spelled text =
     then_some _ (behind (codes "cas ") text)
-    (λ rest. index_at 32 rest >>= λ a. number_at 32 a.1 >>= λ e. number_at 32 e.1 >>= λ n. Some (Cas e.0 n.0, a.0, n.1))
+    (λ rest. index_at 32 rest >>= λ a. number_read_at 32 a.1 >>= λ e. number_read_at 32 e.1 >>= λ n. Some (Cas e.0 n.0, a.0, n.1))
     (behind_spelled (codes "cas ") text)
-    (λ rest is. then_some _ (index_at 32 rest) (λ a. number_at 32 a.1 >>= λ e. number_at 32 e.1 >>= λ n. Some (Cas e.0 n.0, a.0, n.1)) (index_spelled 32 rest)
-    (λ a ha. then_some _ (number_at 32 a.1) (λ e. number_at 32 e.1 >>= λ n. Some (Cas e.0 n.0, a.0, n.1)) (number_spelled 32 a.1)
-    (λ e he. then_some _ (number_at 32 e.1) (λ n. Some (Cas e.0 n.0, a.0, n.1)) (number_spelled 32 e.1)
+    (λ rest is. then_some _ (index_at 32 rest) (λ a. number_read_at 32 a.1 >>= λ e. number_read_at 32 e.1 >>= λ n. Some (Cas e.0 n.0, a.0, n.1)) (index_spelled 32 rest)
+    (λ a ha. then_some _ (number_read_at 32 a.1) (λ e. number_read_at 32 e.1 >>= λ n. Some (Cas e.0 n.0, a.0, n.1)) (number_spelled 32 a.1)
+    (λ e he. then_some _ (number_read_at 32 e.1) (λ n. Some (Cas e.0 n.0, a.0, n.1)) (number_spelled 32 e.1)
     (λ n hn.
     let values : a.1 ≡ decimal e.0 ++ 32 ∷ (decimal n.0 ++ 32 ∷ n.1) = he.1 ∙ ap (λ (t : List ℕ). decimal e.0 ++ 32 ∷ t) hn.1 in
     ((he.0, hn.0), ha.0, is ∙ ap (λ (t : List ℕ). codes "cas " ++ t) (ha.1 ∙ ap (λ (t : List ℕ). decimal a.0 ++ 32 ∷ t) values))))))

@@ -10,7 +10,7 @@ use Rattle.report_lines.specs.declared.line.ReportLine.TheVariants.{Header, Shap
 use Rattle.report_lines.specs.Fits.{FitsLine, FitsRadices}
 use Rattle.report_reader.proofs.Spelled.{radices_then, line_then}
 use Rattle.report_reader.specs.Reading.{behind, valued_at}
-use Rattle.report_reader.specs.Reading.{four_at, entry_at, answer_at, order_at, uniform_at, two_at, three_at, radices_at, shape_at, header_at, end_at, word_at, line_at}
+use Rattle.report_reader.specs.Reading.{four_at, entry_at, answer_at, order_at, uniform_at, two_at, three_at, radices_at, shape_at, header_at, end_at, word_at, report_line_at}
 use Rattle.report_reader.proofs.Again.{index_again, index_stops, pair_again, entry_again, answer_again, order_again}
 
 uniform_one : (k : ℕ) (rest : List ℕ) → k < 2 ^ 32 → uniform_at (decimal k ++ 32 ∷ (codes "1 " ++ rest)) ≡ Some (One k, rest)
@@ -114,11 +114,11 @@ shape_none text none = rw none
 
 -- a text that begins with none of the first three words
 later : (text : List ℕ) → behind (codes "entry ") text ≡ None → behind (codes "answer ") text ≡ None → behind (codes "order ") text ≡ None
-    → line_at text ≡ option_or (word_at text) (option_or (end_at text) (option_or (shape_at text) (header_at text)))
-unfolding line_at
+    → report_line_at text ≡ option_or (word_at text) (option_or (end_at text) (option_or (shape_at text) (header_at text)))
+unfolding report_line_at
 later text none either third = rw (entry_none text none, answer_none text either, order_none text third)
 
-end_again : (complete : Bool) (rest : List ℕ) → line_at (line_then (End complete) rest) ≡ Some (End complete, rest)
+end_again : (complete : Bool) (rest : List ℕ) → report_line_at (line_then (End complete) rest) ≡ Some (End complete, rest)
 unfolding behind end_at
 end_again true rest =
     let t : List ℕ = line_then (End true) rest in
@@ -128,8 +128,8 @@ end_again false rest =
     later t refl refl refl ∙ rw (word_none t refl refl)
 
 -- a line and what stands behind it
-pub line_again : (line : ReportLine) (rest : List ℕ) → FitsLine line → line_at (line_then line rest) ≡ Some (line, rest)
-unfolding line_at behind
+pub line_again : (line : ReportLine) (rest : List ℕ) → FitsLine line → report_line_at (line_then line rest) ≡ Some (line, rest)
+unfolding report_line_at behind
 line_again (Header version) rest fits =
     let t : List ℕ = line_then (Header version) rest in
     later t refl refl refl ∙ rw (word_none t refl refl, end_none t refl refl, shape_none t refl, header_again version rest fits)

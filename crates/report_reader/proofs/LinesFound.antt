@@ -7,8 +7,8 @@ use Rattle.report_lines.specs.Fits.{FitsLine}
 use Rattle.report_lines.specs.declared.line.ReportLine.{ReportLine}
 use Rattle.report_lines.specs.declared.line.ReportLine.TheVariants.{Header, Shape, Init, Entry, Answer, Word, Order, End}
 use Rattle.report_reader.proofs.Spelled.{op_then, radices_then, line_then}
-use Rattle.report_reader.specs.Reading.{◌>>=◌, Gives, behind, index_at, reply_at, event_at, valued_at, op_at}
-use Rattle.report_reader.specs.Reading.{four_at, entry_at, answer_at, order_at, radices_at, shape_at, header_at, end_at, word_at, line_at}
+use Rattle.report_reader.specs.Reading.{◌>>=◌, GivesRead, behind, index_at, reply_read_at, event_at, valued_at, op_at}
+use Rattle.report_reader.specs.Reading.{four_at, entry_at, answer_at, order_at, radices_at, shape_at, header_at, end_at, word_at, report_line_at}
 use Rattle.report_reader.proofs.LinesAgain.{line_again}
 use Rattle.report_reader.proofs.Joined.{line_then-is}
 use Rattle.report_reader.proofs.Found.{then_some, instead_some, or_some, behind_spelled, index_spelled, valued_spelled, four_spelled, reply_spelled, event_spelled, op_spelled, radices_spelled}
@@ -20,14 +20,14 @@ entry_spelled : (text : List ℕ) → IfSome (entry_at text) (SpellsLine text)
 unfolding entry_at
 entry_spelled text =
     then_some _ (four_at (codes "entry ") text)
-    (λ x. op_at x.4 >>= λ op. reply_at op.2
+    (λ x. op_at x.4 >>= λ op. reply_read_at op.2
     >>= λ reply. Some (Entry (record { bank = x.0; place = x.1; source = x.2; tag = x.3; address = op.1; op = op.0; reply = reply.0 }), reply.1))
     (four_spelled (codes "entry ") text)
     (λ x hx. then_some _ (op_at x.4)
-    (λ op. reply_at op.2
+    (λ op. reply_read_at op.2
     >>= λ reply. Some (Entry (record { bank = x.0; place = x.1; source = x.2; tag = x.3; address = op.1; op = op.0; reply = reply.0 }), reply.1))
     (op_spelled x.4)
-    (λ op ho. then_some _ (reply_at op.2)
+    (λ op ho. then_some _ (reply_read_at op.2)
     (λ reply. Some (Entry (record { bank = x.0; place = x.1; source = x.2; tag = x.3; address = op.1; op = op.0; reply = reply.0 }), reply.1))
     (reply_spelled op.2)
     (λ reply hr. (
@@ -41,9 +41,9 @@ answer_spelled : (text : List ℕ) → IfSome (answer_at text) (SpellsLine text)
 unfolding answer_at
 answer_spelled text =
     then_some _ (four_at (codes "answer ") text)
-    (λ x. reply_at x.4 >>= λ reply. Some (Answer (record { processor = x.0; index = x.1; bank = x.2; place = x.3; reply = reply.0 }), reply.1))
+    (λ x. reply_read_at x.4 >>= λ reply. Some (Answer (record { processor = x.0; index = x.1; bank = x.2; place = x.3; reply = reply.0 }), reply.1))
     (four_spelled (codes "answer ") text)
-    (λ x hx. then_some _ (reply_at x.4)
+    (λ x hx. then_some _ (reply_read_at x.4)
     (λ reply. Some (Answer (record { processor = x.0; index = x.1; bank = x.2; place = x.3; reply = reply.0 }), reply.1))
     (reply_spelled x.4)
     (λ reply hr. (
@@ -103,8 +103,8 @@ word_spelled text =
     (λ p is. ((is.0, is.1), is.2)) tt)
 
 -- the line that a text begins with
-line_read : (text : List ℕ) → IfSome (line_at text) (SpellsLine text)
-unfolding line_at
+line_read : (text : List ℕ) → IfSome (report_line_at text) (SpellsLine text)
+unfolding report_line_at
 line_read text =
     or_some _ (entry_at text) _ (entry_spelled text)
     (or_some _ (answer_at text) _ (answer_spelled text)
@@ -112,20 +112,20 @@ line_read text =
     (or_some _ (word_at text) _ (word_spelled text)
     (or_some _ (end_at text) _ (end_spelled text) (or_some _ (shape_at text) (header_at text) (shape_spelled text) (header_spelled text))))))
 
-pub line_spelled : (text : List ℕ) → IfSome (line_at text) (λ x. FitsLine x.0 × (text ≡ line_text x.0 ++ x.1))
-line_spelled text = IfSome_then (line_at text) (line_read text) (λ x is. (is.0, is.1 ∙ line_then-is x.0 x.1))
+pub line_spelled : (text : List ℕ) → IfSome (report_line_at text) (λ x. FitsLine x.0 × (text ≡ line_text x.0 ++ x.1))
+line_spelled text = IfSome_then (report_line_at text) (line_read text) (λ x is. (is.0, is.1 ∙ line_then-is x.0 x.1))
 
 -- a text that begins with a line is read so
-pub read_of : (line : ReportLine) (more rest : List ℕ) → FitsLine line → rest ≡ line_text line ++ more → line_at rest ≡ Some (line, more)
-read_of line more rest fits is = ap line_at (is ∙ sym (line_then-is line more)) ∙ line_again line more fits
+pub read_of : (line : ReportLine) (more rest : List ℕ) → FitsLine line → rest ≡ line_text line ++ more → report_line_at rest ≡ Some (line, more)
+read_of line more rest fits is = ap report_line_at (is ∙ sym (line_then-is line more)) ∙ line_again line more fits
 
 -- what a function returned, by what it reads
-pub gives_found : {X Y : Type 0} (view : X → Y) (r : Option X) (read : Option Y) (P : Y → Type 0) → Gives view r read → IfSome read P → IfSome r (λ x. P (view x))
+pub gives_found : {X Y : Type 0} (view : X → Y) (r : Option X) (read : Option Y) (P : Y → Type 0) → GivesRead view r read → IfSome read P → IfSome r (λ x. P (view x))
 gives_found view None read P gives all = tt
 gives_found {X} {Y} view (Some x) read P gives all =
     let All : Option Y → Type 0 = λ o. IfSome o P in subst All gives all
 
-pub gives_none : {X : Type 0} (view : X → ReportLine × List ℕ) (r : Option X) (text : List ℕ) → Gives view r (line_at text)
+pub gives_none : {X : Type 0} (view : X → ReportLine × List ℕ) (r : Option X) (text : List ℕ) → GivesRead view r (report_line_at text)
     → IfNone r ((line : ReportLine) (rest : List ℕ) → FitsLine line → text ≢ line_text line ++ rest)
 gives_none view None text gives = λ line rest fits is. none-some (line, rest) (sym gives ∙ read_of line rest text fits is)
 gives_none view (Some x) text gives = tt

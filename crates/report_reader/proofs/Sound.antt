@@ -6,7 +6,7 @@ use Rattle.std.proofs.lemmas.Bool.{cases_Bool, cases_eq, eqb-false, eqb-true, eq
 use Rattle.std.proofs.lemmas.Bool.Decides.{nat_tests}
 use Rattle.std.proofs.lemmas.Fmt.{decimal_digit, decimal_step}
 use Rattle.std.proofs.lemmas.Option.{none-some, same_Some}
-use Rattle.report_reader.specs.Reading.{behind, digits_on, number_at}
+use Rattle.report_reader.specs.Reading.{behind, digits_on, number_read_at}
 
 pub behind_sound : (word text rest : List ℕ) → behind word text ≡ Some rest → text ≡ word ++ rest
 unfolding behind
@@ -82,26 +82,26 @@ digits_alone end b text m some digit h =
     record { small = more.small; spelled = sym (ap (λ (t : List ℕ). t ++ text) (one ∙ ap (λ x. x ∷ []) is)) ∙ more.spelled }
 
 -- a number that begins with another digit than 0
-number_long : (end b : ℕ) (text : List ℕ) (n : ℕ × List ℕ) → (b == 48) ≡ false → number_at end (b ∷ text) ≡ Some n → IsSpelled end (b ∷ text) n
-unfolding number_at
+number_long : (end b : ℕ) (text : List ℕ) (n : ℕ × List ℕ) → (b == 48) ≡ false → number_read_at end (b ∷ text) ≡ Some n → IsSpelled end (b ∷ text) n
+unfolding number_read_at
 number_long end b text n some h =
     ⊎_elim
     (λ (digit : is_ascii_digit b ≡ true).
-    let step : number_at end (b ∷ text) ≡ digits_on end (b - 48) text = rw (some, digit) in
+    let step : number_read_at end (b ∷ text) ≡ digits_on end (b - 48) text = rw (some, digit) in
     digits_alone end b text n some digit (sym step ∙ h))
     (λ (other : is_ascii_digit b ≡ false).
-    let none : number_at end (b ∷ text) ≡ None = rw (some, other) in absurd (none-some n (sym none ∙ h)))
+    let none : number_read_at end (b ∷ text) ≡ None = rw (some, other) in absurd (none-some n (sym none ∙ h)))
     (cases_Bool (is_ascii_digit b))
 
 -- the number 0
-number_zero : (end b : ℕ) (text : List ℕ) (n : ℕ × List ℕ) → (b == 48) ≡ true → number_at end (b ∷ text) ≡ Some n → IsSpelled end (b ∷ text) n
-unfolding number_at behind
+number_zero : (end b : ℕ) (text : List ℕ) (n : ℕ × List ℕ) → (b == 48) ≡ true → number_read_at end (b ∷ text) ≡ Some n → IsSpelled end (b ∷ text) n
+unfolding number_read_at behind
 number_zero end b [] n zero h =
-    let none : number_at end (b ∷ []) ≡ None = rw zero in absurd (none-some n (sym none ∙ h))
+    let none : number_read_at end (b ∷ []) ≡ None = rw zero in absurd (none-some n (sym none ∙ h))
 number_zero end b (c ∷ text) n zero h =
     ⊎_elim
     (λ (same : (c == end) ≡ true).
-    let here : number_at end (b ∷ c ∷ text) ≡ Some (0, text) = rw (zero, same) in
+    let here : number_read_at end (b ∷ c ∷ text) ≡ Some (0, text) = rw (zero, same) in
     let is : (0, text) ≡ n = same_Some (0, text) n (sym here ∙ h) in
     let P : ℕ × List ℕ → Type 0 = IsSpelled end (b ∷ c ∷ text) in
     let first : b ≡ 48 = eqb-true b 48 zero in
@@ -112,16 +112,16 @@ number_zero end b (c ∷ text) n zero h =
       spelled = ap (λ x. x ∷ c ∷ text) first ∙ ap (λ x. 48 ∷ x ∷ text) second ∙ ap (λ (d : List ℕ). d ++ end ∷ text) (sym none);
     }))
     (λ (apart : (c == end) ≡ false).
-    let none : number_at end (b ∷ c ∷ text) ≡ None = rw (zero, apart) in absurd (none-some n (sym none ∙ h)))
+    let none : number_read_at end (b ∷ c ∷ text) ≡ None = rw (zero, apart) in absurd (none-some n (sym none ∙ h)))
     (cases_Bool (c == end))
 
-number_none : (end : ℕ) (n : ℕ × List ℕ) → number_at end [] ≡ Some n → IsSpelled end [] n
-unfolding number_at
+number_none : (end : ℕ) (n : ℕ × List ℕ) → number_read_at end [] ≡ Some n → IsSpelled end [] n
+unfolding number_read_at
 number_none end n h = absurd (cc)
 
-number_spelled : (end : ℕ) (text : List ℕ) (n : ℕ × List ℕ) → number_at end text ≡ Some n → IsSpelled end text n
+number_spelled : (end : ℕ) (text : List ℕ) (n : ℕ × List ℕ) → number_read_at end text ≡ Some n → IsSpelled end text n
 number_spelled end [] n h = number_none end n h
 number_spelled end (b ∷ text) n h = ⊎_elim (λ zero. number_zero end b text n zero h) (λ some. number_long end b text n some h) (cases_Bool (b == 48))
 
-pub number_sound : (end : ℕ) (text : List ℕ) (n : ℕ × List ℕ) → number_at end text ≡ Some n → (n.0 < 2 ^ 64) × (text ≡ decimal n.0 ++ end ∷ n.1)
+pub number_sound : (end : ℕ) (text : List ℕ) (n : ℕ × List ℕ) → number_read_at end text ≡ Some n → (n.0 < 2 ^ 64) × (text ≡ decimal n.0 ++ end ∷ n.1)
 number_sound end text n h = let is = number_spelled end text n h in (is.small, is.spelled)

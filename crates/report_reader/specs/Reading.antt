@@ -20,9 +20,9 @@ None >>= f = None
 (Some x) >>= f = f x
 
 -- what a function returned, seen by view, is what reading gives
-abbrev pub Gives : {X Y : Type 0} → (X → Y) → Option X → Option Y → Type 0
-Gives view None read = read ≡ None
-Gives view (Some x) read = read ≡ Some (view x)
+abbrev pub GivesRead : {X Y : Type 0} → (X → Y) → Option X → Option Y → Type 0
+GivesRead view None read = read ≡ None
+GivesRead view (Some x) read = read ≡ Some (view x)
 
 -- what stands behind these bytes, where the text begins with them
 unfoldable pub behind : List ℕ → List ℕ → Option (List ℕ)
@@ -39,16 +39,16 @@ digits_on end n (b ∷ text) =
     else (if b == end then Some (n, text) else None)
 
 -- a number of 64 bits up to an end, and what stands behind that
-unfoldable pub number_at : ℕ → List ℕ → Option (ℕ × List ℕ)
-number_at end [] = None
-number_at end (b ∷ text) =
+unfoldable pub number_read_at : ℕ → List ℕ → Option (ℕ × List ℕ)
+number_read_at end [] = None
+number_read_at end (b ∷ text) =
     if b == 48 then (behind (end ∷ []) text >>= λ rest. Some (0, rest))
     else (if is_ascii_digit b then digits_on end (b - 48) text else None)
 
 -- a number of 32 bits
 unfoldable pub index_at : ℕ → List ℕ → Option (ℕ × List ℕ)
 index_at end text = do
-  n ← number_at end text
+  n ← number_read_at end text
   if nat_lt n.0 (2 ^ 32) then Some (n.0, n.1) else None
 
 -- what follows a word that the text begins with, else the other reading
@@ -57,9 +57,9 @@ instead None f other = other
 instead (Some x) f other = f x
 
 -- a reply at the end of a line
-unfoldable pub reply_at : List ℕ → Option (Reply × List ℕ)
-reply_at text = instead (behind (codes "ok\n") text) (λ rest. Some (Stored, rest))
-    (number_at 10 text >>= λ n. Some (Old n.0, n.1))
+unfoldable pub reply_read_at : List ℕ → Option (Reply × List ℕ)
+reply_read_at text = instead (behind (codes "ok\n") text) (λ rest. Some (Stored, rest))
+    (number_read_at 10 text >>= λ n. Some (Old n.0, n.1))
 
 -- an event number or a dash at the end of a line
 unfoldable pub event_at : List ℕ → Option (Option ℕ × List ℕ)
@@ -70,7 +70,7 @@ event_at text = instead (behind (codes "-\n") text) (λ rest. Some (None, rest))
 unfoldable pub pair_at : ℕ → List ℕ → Option (ℕ × ℕ × List ℕ)
 pair_at end text = do
   a ← index_at 32 text
-  v ← number_at end a.1
+  v ← number_read_at end a.1
   Some (a.0, v.0, v.1)
 
 -- an address and a value behind a word
@@ -91,8 +91,8 @@ unfoldable pub cas_at : List ℕ → Option (Op × ℕ × List ℕ)
 cas_at text = do
   rest ← behind (codes "cas ") text
   a ← index_at 32 rest
-  e ← number_at 32 a.1
-  n ← number_at 32 e.1
+  e ← number_read_at 32 a.1
+  n ← number_read_at 32 e.1
   Some (Cas e.0 n.0, a.0, n.1)
 
 -- an operation that is one of and, or, xor, max and min
@@ -130,7 +130,7 @@ unfoldable pub entry_at : List ℕ → Option (ReportLine × List ℕ)
 entry_at text = do
   x ← four_at (codes "entry ") text
   op ← op_at x.4
-  reply ← reply_at op.2
+  reply ← reply_read_at op.2
   Some (
     Entry (record {
       bank = x.0;
@@ -148,7 +148,7 @@ entry_at text = do
 unfoldable pub answer_at : List ℕ → Option (ReportLine × List ℕ)
 answer_at text = do
   x ← four_at (codes "answer ") text
-  reply ← reply_at x.4
+  reply ← reply_read_at x.4
   Some (
     Answer (record { processor = x.0; index = x.1; bank = x.2; place = x.3; reply = reply.0 }),
     reply.1,
@@ -222,8 +222,8 @@ word_at text =
     (instead (valued_at 10 (codes "init ") text) (λ p. Some (Init p.0 p.1, p.2)) None)
 
 -- the line that the text begins with, and what stands behind it
-unfoldable pub line_at : List ℕ → Option (ReportLine × List ℕ)
-line_at text =
+unfoldable pub report_line_at : List ℕ → Option (ReportLine × List ℕ)
+report_line_at text =
     option_or (entry_at text) (option_or (answer_at text)
     (option_or (order_at text) (option_or (word_at text)
     (option_or (end_at text) (option_or (shape_at text) (header_at text))))))

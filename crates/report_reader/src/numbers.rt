@@ -1,12 +1,12 @@
 //! The words and numbers at the beginning of a text.
 
 ghost use Rattle.std.specs.Prelude.{◌≡◌, ◌≤◌, ◌<◌, ◌+◌, ◌-◌, ◌*◌, ◌^◌, MatchOption};
-ghost use Rattle.report_reader.specs.Reading.{Gives, behind, digits_on, number_at, index_at, pair_at};
+ghost use Rattle.report_reader.specs.Reading.{GivesRead, behind, digits_on, number_read_at, index_at, pair_at};
 ghost use Rattle.report_reader.specs.Reading.{valued_at, four_at};
 
 /// What stands behind a word, where the text begins with it.
 pub(crate) fn behind<'a>(text: &'a [u8], word: &str) -> Option<&'a [u8]>
-    ensures { Gives (λ rest. rest.now) result (behind word.now text.now) }
+    ensures { GivesRead (λ rest. rest.now) result (behind word.now text.now) }
 {
     if text.starts_with(word.as_bytes()) {
         Some(&text[word.len()..])
@@ -31,7 +31,7 @@ fn with_digit(number: u64, digit: u8) -> Option<u64>
 
 /// The number whose digits go on up to an end, and what stands behind the end.
 fn digits_on(text: &[u8], end: u8, first: u64) -> Option<(u64, &[u8])>
-    ensures { Gives (λ x. (x.0, x.1.now)) result (digits_on end first text.now) }
+    ensures { GivesRead (λ x. (x.0, x.1.now)) result (digits_on end first text.now) }
 {
     let mut number = first;
     for (at, &byte) in text.iter().enumerate() {
@@ -51,9 +51,9 @@ fn digits_on(text: &[u8], end: u8, first: u64) -> Option<(u64, &[u8])>
 }
 
 /// A number of 64 bits up to an end, without leading zeros, and what stands behind the end.
-#[tactic(auto, unfolding(crate::specs::Reading::number_at, crate::specs::Reading::behind))]
+#[tactic(auto, unfolding(crate::specs::Reading::number_read_at, crate::specs::Reading::behind))]
 pub(crate) fn read_number(text: &[u8], end: u8) -> Option<(u64, &[u8])>
-    ensures { Gives (λ x. (x.0, x.1.now)) result (number_at end text.now) }
+    ensures { GivesRead (λ x. (x.0, x.1.now)) result (number_read_at end text.now) }
 {
     let (first, rest) = text.split_first()?;
     if *first == b'0' {
@@ -70,7 +70,7 @@ pub(crate) fn read_number(text: &[u8], end: u8) -> Option<(u64, &[u8])>
 /// A number of 32 bits up to an end, and what stands behind the end.
 #[tactic(auto, unfolding(crate::specs::Reading::index_at))]
 pub(crate) fn read_index(text: &[u8], end: u8) -> Option<(u32, &[u8])>
-    ensures { Gives (λ x. (x.0, x.1.now)) result (index_at end text.now) }
+    ensures { GivesRead (λ x. (x.0, x.1.now)) result (index_at end text.now) }
 {
     let (number, rest) = read_number(text, end)?;
     if number < 0x1_0000_0000 {
@@ -83,7 +83,7 @@ pub(crate) fn read_index(text: &[u8], end: u8) -> Option<(u32, &[u8])>
 /// An address and a value up to an end, and what stands behind the end.
 #[tactic(auto, unfolding(crate::specs::Reading::pair_at))]
 fn read_pair(text: &[u8], end: u8) -> Option<(u32, u64, &[u8])>
-    ensures { Gives (λ x. (x.0, x.1, x.2.now)) result (pair_at end text.now) }
+    ensures { GivesRead (λ x. (x.0, x.1, x.2.now)) result (pair_at end text.now) }
 {
     let (address, rest) = read_index(text, b' ')?;
     let (value, rest) = read_number(rest, end)?;
@@ -93,7 +93,7 @@ fn read_pair(text: &[u8], end: u8) -> Option<(u32, u64, &[u8])>
 /// An address and a value behind a word, and what stands behind their end.
 #[tactic(auto, unfolding(crate::specs::Reading::valued_at))]
 pub(crate) fn read_valued<'a>(text: &'a [u8], word: &str, end: u8) -> Option<(u32, u64, &'a [u8])>
-    ensures { Gives (λ x. (x.0, x.1, x.2.now)) result (valued_at end word.now text.now) }
+    ensures { GivesRead (λ x. (x.0, x.1, x.2.now)) result (valued_at end word.now text.now) }
 {
     let rest = behind(text, word)?;
     read_pair(rest, end)
@@ -102,7 +102,7 @@ pub(crate) fn read_valued<'a>(text: &'a [u8], word: &str, end: u8) -> Option<(u3
 /// Four indexes behind a word, each up to a space.
 #[tactic(auto, unfolding(crate::specs::Reading::four_at))]
 pub(crate) fn read_four<'a>(text: &'a [u8], word: &str) -> Option<(u32, u32, u32, u32, &'a [u8])>
-    ensures { Gives (λ x. (x.0, x.1, x.2, x.3, x.4.now)) result (four_at word.now text.now) }
+    ensures { GivesRead (λ x. (x.0, x.1, x.2, x.3, x.4.now)) result (four_at word.now text.now) }
 {
     let rest = behind(text, word)?;
     let (first, rest) = read_index(rest, b' ')?;

@@ -1,15 +1,15 @@
 //! The operations of entries, and the replies and events of lines.
 
 ghost use Rattle.std.specs.Prelude.{◌≡◌};
-ghost use Rattle.report_reader.specs.Reading.{Gives, reply_at, event_at, load_at, cas_at, newer_at, op_at};
+ghost use Rattle.report_reader.specs.Reading.{GivesRead, reply_read_at, event_at, load_at, cas_at, newer_at, op_at};
 
 use crate::numbers::{behind, read_index, read_number, read_valued};
 use packet::{Op, Reply};
 
 /// A reply at the end of a line.
-#[tactic(auto, unfolding(crate::specs::Reading::reply_at))]
+#[tactic(auto, unfolding(crate::specs::Reading::reply_read_at))]
 pub(crate) fn read_reply(text: &[u8]) -> Option<(Reply, &[u8])>
-    ensures { Gives (λ x. (x.0, x.1.now)) result (reply_at text.now) }
+    ensures { GivesRead (λ x. (x.0, x.1.now)) result (reply_read_at text.now) }
 {
     if let Some(rest) = behind(text, "ok\n") {
         return Some((Reply::Ok, rest));
@@ -21,7 +21,7 @@ pub(crate) fn read_reply(text: &[u8]) -> Option<(Reply, &[u8])>
 /// An event number or a dash at the end of a line.
 #[tactic(auto, unfolding(crate::specs::Reading::event_at))]
 pub(crate) fn read_event(text: &[u8]) -> Option<(Option<u32>, &[u8])>
-    ensures { Gives (λ x. (x.0, x.1.now)) result (event_at text.now) }
+    ensures { GivesRead (λ x. (x.0, x.1.now)) result (event_at text.now) }
 {
     if let Some(rest) = behind(text, "-\n") {
         return Some((None, rest));
@@ -33,7 +33,7 @@ pub(crate) fn read_event(text: &[u8]) -> Option<(Option<u32>, &[u8])>
 /// A load and its address.
 #[tactic(auto, unfolding(crate::specs::Reading::load_at))]
 fn read_load(text: &[u8]) -> Option<(Op, u32, &[u8])>
-    ensures { Gives (λ x. (x.0, x.1, x.2.now)) result (load_at text.now) }
+    ensures { GivesRead (λ x. (x.0, x.1, x.2.now)) result (load_at text.now) }
 {
     let rest = behind(text, "load ")?;
     let (address, rest) = read_index(rest, b' ')?;
@@ -43,7 +43,7 @@ fn read_load(text: &[u8]) -> Option<(Op, u32, &[u8])>
 /// A compare-and-swap, its address and its values.
 #[tactic(auto, unfolding(crate::specs::Reading::cas_at))]
 fn read_cas(text: &[u8]) -> Option<(Op, u32, &[u8])>
-    ensures { Gives (λ x. (x.0, x.1, x.2.now)) result (cas_at text.now) }
+    ensures { GivesRead (λ x. (x.0, x.1, x.2.now)) result (cas_at text.now) }
 {
     let rest = behind(text, "cas ")?;
     let (address, rest) = read_index(rest, b' ')?;
@@ -55,7 +55,7 @@ fn read_cas(text: &[u8]) -> Option<(Op, u32, &[u8])>
 /// One of and, or, xor, max and min, with its address, up to the space behind them.
 #[tactic(auto, unfolding(crate::specs::Reading::newer_at))]
 fn read_newer(text: &[u8]) -> Option<(Op, u32, &[u8])>
-    ensures { Gives (λ x. (x.0, x.1, x.2.now)) result (newer_at text.now) }
+    ensures { GivesRead (λ x. (x.0, x.1, x.2.now)) result (newer_at text.now) }
 {
     if let Some((address, value, rest)) = read_valued(text, "and ", b' ') {
         return Some((Op::And(value), address, rest));
@@ -78,7 +78,7 @@ fn read_newer(text: &[u8]) -> Option<(Op, u32, &[u8])>
 /// An operation with its address, up to the space behind them.
 #[tactic(auto, unfolding(crate::specs::Reading::op_at))]
 pub(crate) fn read_op(text: &[u8]) -> Option<(Op, u32, &[u8])>
-    ensures { Gives (λ x. (x.0, x.1, x.2.now)) result (op_at text.now) }
+    ensures { GivesRead (λ x. (x.0, x.1, x.2.now)) result (op_at text.now) }
 {
     if let Some(read) = read_load(text) {
         return Some(read);

@@ -4,8 +4,8 @@ ghost use Rattle.std.specs.Prelude.{◌≡◌, ◌≢◌, ◌++◌, ℕ, List, I
 ghost use Rattle.report_lines.specs.Fits.{FitsLine};
 ghost use Rattle.report_lines.specs.Line.{line_text};
 ghost use Rattle.report_lines.specs.declared.line.ReportLine.{ReportLine};
-ghost use Rattle.report_reader.specs.Reading.{Gives, entry_at, answer_at, order_at, shape_at, header_at};
-ghost use Rattle.report_reader.specs.Reading.{end_at, word_at, line_at};
+ghost use Rattle.report_reader.specs.Reading.{GivesRead, entry_at, answer_at, order_at, shape_at, header_at};
+ghost use Rattle.report_reader.specs.Reading.{end_at, word_at, report_line_at};
 
 use crate::numbers::{behind, read_four, read_index, read_valued};
 use crate::operation::{read_event, read_op, read_reply};
@@ -14,7 +14,7 @@ use report_lines::{AnswerLine, EntryLine, OrderLine, ReportLine};
 
 #[tactic(auto, unfolding(crate::specs::Reading::entry_at))]
 fn read_entry(text: &[u8]) -> Option<(ReportLine, &[u8])>
-    ensures { Gives (λ x. (x.0, x.1.now)) result (entry_at text.now) }
+    ensures { GivesRead (λ x. (x.0, x.1.now)) result (entry_at text.now) }
 {
     let (bank, place, source, tag, rest) = read_four(text, "entry ")?;
     let (op, address, rest) = read_op(rest)?;
@@ -33,7 +33,7 @@ fn read_entry(text: &[u8]) -> Option<(ReportLine, &[u8])>
 
 #[tactic(auto, unfolding(crate::specs::Reading::answer_at))]
 fn read_answer(text: &[u8]) -> Option<(ReportLine, &[u8])>
-    ensures { Gives (λ x. (x.0, x.1.now)) result (answer_at text.now) }
+    ensures { GivesRead (λ x. (x.0, x.1.now)) result (answer_at text.now) }
 {
     let (processor, index, bank, place, rest) = read_four(text, "answer ")?;
     let (reply, rest) = read_reply(rest)?;
@@ -49,7 +49,7 @@ fn read_answer(text: &[u8]) -> Option<(ReportLine, &[u8])>
 
 #[tactic(auto, unfolding(crate::specs::Reading::order_at))]
 fn read_order(text: &[u8]) -> Option<(ReportLine, &[u8])>
-    ensures { Gives (λ x. (x.0, x.1.now)) result (order_at text.now) }
+    ensures { GivesRead (λ x. (x.0, x.1.now)) result (order_at text.now) }
 {
     let (bank, place, issued, served, rest) = read_four(text, "order ")?;
     let (answered, rest) = read_event(rest)?;
@@ -65,7 +65,7 @@ fn read_order(text: &[u8]) -> Option<(ReportLine, &[u8])>
 
 #[tactic(auto, unfolding(crate::specs::Reading::shape_at))]
 fn read_shape(text: &[u8]) -> Option<(ReportLine, &[u8])>
-    ensures { Gives (λ x. (x.0, x.1.now)) result (shape_at text.now) }
+    ensures { GivesRead (λ x. (x.0, x.1.now)) result (shape_at text.now) }
 {
     let rest = behind(text, "shape ")?;
     let (radices, rest) = read_radices(rest)?;
@@ -75,7 +75,7 @@ fn read_shape(text: &[u8]) -> Option<(ReportLine, &[u8])>
 
 #[tactic(auto, unfolding(crate::specs::Reading::header_at))]
 fn read_header(text: &[u8]) -> Option<(ReportLine, &[u8])>
-    ensures { Gives (λ x. (x.0, x.1.now)) result (header_at text.now) }
+    ensures { GivesRead (λ x. (x.0, x.1.now)) result (header_at text.now) }
 {
     let rest = behind(text, "torusmem ")?;
     let (version, rest) = read_index(rest, b'\n')?;
@@ -84,7 +84,7 @@ fn read_header(text: &[u8]) -> Option<(ReportLine, &[u8])>
 
 #[tactic(auto, unfolding(crate::specs::Reading::end_at))]
 fn read_end(text: &[u8]) -> Option<(ReportLine, &[u8])>
-    ensures { Gives (λ x. (x.0, x.1.now)) result (end_at text.now) }
+    ensures { GivesRead (λ x. (x.0, x.1.now)) result (end_at text.now) }
 {
     if let Some(rest) = behind(text, "end complete\n") {
         return Some((ReportLine::End(true), rest));
@@ -96,7 +96,7 @@ fn read_end(text: &[u8]) -> Option<(ReportLine, &[u8])>
 /// A line that tells a word.
 #[tactic(auto, unfolding(crate::specs::Reading::word_at))]
 fn read_word(text: &[u8]) -> Option<(ReportLine, &[u8])>
-    ensures { Gives (λ x. (x.0, x.1.now)) result (word_at text.now) }
+    ensures { GivesRead (λ x. (x.0, x.1.now)) result (word_at text.now) }
 {
     if let Some((address, value, rest)) = read_valued(text, "word ", b'\n') {
         return Some((ReportLine::Word(address, value), rest));
@@ -106,9 +106,9 @@ fn read_word(text: &[u8]) -> Option<(ReportLine, &[u8])>
 }
 
 /// A line of any kind.
-#[tactic(auto, unfolding(crate::specs::Reading::line_at))]
+#[tactic(auto, unfolding(crate::specs::Reading::report_line_at))]
 fn read_any(text: &[u8]) -> Option<(ReportLine, &[u8])>
-    ensures { Gives (λ x. (x.0, x.1.now)) result (line_at text.now) }
+    ensures { GivesRead (λ x. (x.0, x.1.now)) result (report_line_at text.now) }
 {
     if let Some(read) = read_entry(text) {
         return Some(read);
@@ -134,8 +134,8 @@ fn read_any(text: &[u8]) -> Option<(ReportLine, &[u8])>
 /// The line that the text begins with, and what stands behind its line feed; `None` where the text
 /// begins with no line of a report.
 pub fn read_line(text: &[u8]) -> Option<(ReportLine, &[u8])>
-    // What is read is what `line_at` reads.
-    ensures reads { Gives (λ x. (x.0, x.1.now)) result (line_at text.now) }
+    // What is read is what `report_line_at` reads.
+    ensures reads { GivesRead (λ x. (x.0, x.1.now)) result (report_line_at text.now) }
     // It is a line whose numbers fit, printed at the beginning of the text.
     ensures found { IfSome result
         (λ x. FitsLine x.0 × (text.now ≡ line_text x.0 ++ x.1.now)) }

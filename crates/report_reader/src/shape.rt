@@ -1,7 +1,7 @@
 //! The radices of a shape.
 
 ghost use Rattle.std.specs.Prelude.{◌≡◌};
-ghost use Rattle.report_reader.specs.Reading.{Gives, uniform_at, two_at, three_at, radices_at};
+ghost use Rattle.report_reader.specs.Reading.{GivesRead, uniform_at, two_at, three_at, radices_at};
 
 use crate::numbers::{behind, read_index};
 use report_lines::Radices;
@@ -9,7 +9,7 @@ use report_lines::Radices;
 /// Radices that are all the same, and their number.
 #[tactic(auto, unfolding(crate::specs::Reading::uniform_at))]
 fn read_uniform(text: &[u8]) -> Option<(Radices, &[u8])>
-    ensures { Gives (λ x. (x.0, x.1.now)) result (uniform_at text.now) }
+    ensures { GivesRead (λ x. (x.0, x.1.now)) result (uniform_at text.now) }
 {
     let (k, rest) = read_index(text, b' ')?;
     if let Some(rest) = behind(rest, "1 ") {
@@ -26,7 +26,7 @@ fn read_uniform(text: &[u8]) -> Option<(Radices, &[u8])>
 
 #[tactic(auto, unfolding(crate::specs::Reading::two_at))]
 fn read_two(text: &[u8]) -> Option<(Radices, &[u8])>
-    ensures { Gives (λ x. (x.0, x.1.now)) result (two_at text.now) }
+    ensures { GivesRead (λ x. (x.0, x.1.now)) result (two_at text.now) }
 {
     let (j, rest) = read_index(text, b'x')?;
     let (k, rest) = read_index(rest, b' ')?;
@@ -40,7 +40,7 @@ fn read_two(text: &[u8]) -> Option<(Radices, &[u8])>
 
 #[tactic(auto, unfolding(crate::specs::Reading::three_at))]
 fn read_three(text: &[u8]) -> Option<(Radices, &[u8])>
-    ensures { Gives (λ x. (x.0, x.1.now)) result (three_at text.now) }
+    ensures { GivesRead (λ x. (x.0, x.1.now)) result (three_at text.now) }
 {
     let (j, rest) = read_index(text, b'x')?;
     let (k, rest) = read_index(rest, b'x')?;
@@ -56,7 +56,7 @@ fn read_three(text: &[u8]) -> Option<(Radices, &[u8])>
 /// The radices and the number of dimensions.
 #[tactic(auto, unfolding(crate::specs::Reading::radices_at))]
 pub(crate) fn read_radices(text: &[u8]) -> Option<(Radices, &[u8])>
-    ensures { Gives (λ x. (x.0, x.1.now)) result (radices_at text.now) }
+    ensures { GivesRead (λ x. (x.0, x.1.now)) result (radices_at text.now) }
 {
     if let Some(read) = read_uniform(text) {
         return Some(read);

@@ -2,7 +2,7 @@
 use Rattle.std.proofs.Common.{◌≡◌, ◌≢◌, ℕ, ◌≤◌, List, [], length, refl, ap, ◌∙◌, arith}
 use Rattle.report_lines.specs.declared.line.ReportLine.{ReportLine}
 use Rattle.report_lines.specs.declared.line.ReportLine.TheVariants.{Header, Shape, Init, Entry, Answer, Word, Order, End}
-use Rattle.report_check.specs.Seen.{Seen, nothing_seen, after, seen_of, entries_at, orders_at}
+use Rattle.report_check.specs.Seen.{Seen, nothing_seen, seen_after, seen_of, entries_at, orders_at}
 use Rattle.report_check.specs.Good.{MayStand, AllStand}
 use Rattle.report_check.proofs.Banks.{entries_at_other}
 use Rattle.report_check.proofs.Orders.{orders_at_other}
@@ -13,7 +13,7 @@ pub record Banked (s : Seen) : Type 0 where
   pub entries : (bank : ℕ) → s.tiles ≤ bank → entries_at s.entries bank ≡ []
   pub orders : (bank : ℕ) → s.tiles ≤ bank → orders_at s.orders bank ≡ []
 
-next : (s : Seen) (line : ReportLine) → MayStand s line → Banked s → Banked (after s line)
+next : (s : Seen) (line : ReportLine) → MayStand s line → Banked s → Banked (seen_after s line)
 next s (Header version) may b = record { entries = b.entries; orders = b.orders }
 next s (Shape radices words) may b = record { entries = λ bank past. refl; orders = λ bank past. refl }
 next s (Init address value) may b = record { entries = b.entries; orders = b.orders }

@@ -6,8 +6,8 @@ use Rattle.std.proofs.lemmas.List.Concat.{flat_map-append}
 use Rattle.std.proofs.lemmas.Option.{none-some, same_Some}
 use Rattle.report_lines.specs.Line.{line_text, text_of}
 use Rattle.report_lines.specs.declared.line.ReportLine.{ReportLine}
-use Rattle.report_reader.specs.Reading.{Gives, line_at}
-use Rattle.report_check.specs.Seen.{Seen, nothing_seen, after, seen_of}
+use Rattle.report_reader.specs.Reading.{GivesRead, report_line_at}
+use Rattle.report_check.specs.Seen.{Seen, nothing_seen, seen_after, seen_of}
 use Rattle.report_check.specs.Good.{Allowed, AllStand, FirstBad, IsStuck}
 use Rattle.report_check.proofs.Progress.{all_stand_push}
 use Rattle.report_reader.proofs.LinesFound.{read_of}
@@ -24,7 +24,7 @@ pub record Going (text rest : List ℕ) (number line : ℕ) (s : Seen) : Type 0 
   pub printed : rest ≡ text_of ahead ++ tail
   pub each : AllStand (seen_of before) ahead
   pub left : line ≡ number + length ahead
-  pub stuck : IsStuck (fold after (seen_of before) ahead) tail
+  pub stuck : IsStuck (fold seen_after (seen_of before) ahead) tail
 
 pub going_start : (text : List ℕ) (line : ℕ) (s : Seen) → FirstBad text line → s ≡ nothing_seen → Going text text 1 line s
 going_start text line s bad none = record {
@@ -50,20 +50,20 @@ text_of_push lines line rest =
 record Step (text rest : List ℕ) (number line : ℕ) (s : Seen) : Type 0 where
   found : ReportLine
   more : List ℕ
-  read : line_at rest ≡ Some (found, more)
+  read : report_line_at rest ≡ Some (found, more)
   allowed : Allowed s found
-  next : Going text more (number + 1) line (after s found)
+  next : Going text more (number + 1) line (seen_after s found)
 
 step : (text rest : List ℕ) (number line : ℕ) (s : Seen) (before ahead : List ReportLine) (tail : List ℕ) → text ≡ text_of before ++ rest → s ≡ seen_of before
     → AllStand nothing_seen before → number ≡ length before + 1 → rest ≡ text_of ahead ++ tail → AllStand (seen_of before) ahead → line ≡ number + length ahead
-    → IsStuck (fold after (seen_of before) ahead) tail → number < line → Step text rest number line s
+    → IsStuck (fold seen_after (seen_of before) ahead) tail → number < line → Step text rest number line s
 step text rest number line s before [] tail whole shown stood counted printed each left stuck low = absurd (omega (arith, left, low))
 step text rest number line s before (l ∷ ls) tail whole shown stood counted printed each left stuck low =
     let cut : rest ≡ line_text l ++ (text_of ls ++ tail) = printed ∙ append_assoc (line_text l) (text_of ls) tail in
-    let now : seen_of (before ++ l ∷ []) ≡ after (seen_of before) l = fold_push after nothing_seen before l in
+    let now : seen_of (before ++ l ∷ []) ≡ seen_after (seen_of before) l = fold_push seen_after nothing_seen before l in
     let Allows : Seen → Type 0 = λ z. Allowed z l in
     let Stands : Seen → Type 0 = λ z. AllStand z ls in
-    let Stuck : Seen → Type 0 = λ z. IsStuck (fold after z ls) tail in
+    let Stuck : Seen → Type 0 = λ z. IsStuck (fold seen_after z ls) tail in
     record {
       found = l;
       more = text_of ls ++ tail;
@@ -74,7 +74,7 @@ step text rest number line s before (l ∷ ls) tail whole shown stood counted pr
         ahead = ls;
         tail = tail;
         whole = whole ∙ ap (λ (t : List ℕ). text_of before ++ t) cut ∙ sym (text_of_push before l (text_of ls ++ tail));
-        shown = ap (λ z. after z l) shown ∙ sym now;
+        shown = ap (λ z. seen_after z l) shown ∙ sym now;
         stood = all_stand_push nothing_seen before l stood each.0;
         counted = omega (arith, counted, length_push before l);
         printed = refl;
@@ -89,28 +89,28 @@ going_step text rest number line s g low =
     step text rest number line s g.before g.ahead g.tail g.whole g.shown g.stood g.counted g.printed g.each g.left g.stuck low
 
 -- what was read, seen by view, where something is to be read
-gives_is : {X Y : Type 0} (view : X → Y) (r : Option X) (read : Option Y) (y : Y) → Gives view r read → read ≡ Some y → IsSome r
+gives_is : {X Y : Type 0} (view : X → Y) (r : Option X) (read : Option Y) (y : Y) → GivesRead view r read → read ≡ Some y → IsSome r
 gives_is view None read y h e = absurd (none-some y (sym h ∙ e))
 gives_is view (Some x) read y h e = refl
 
 -- a line is read there
 pub going_reads : {X : Type 0} (view : X → ReportLine × List ℕ) (r : Option X) (text rest : List ℕ) (number line : ℕ) (s : Seen) → Going text rest number line s
-    → number < line → Gives view r (line_at rest) → IsSome r
+    → number < line → GivesRead view r (report_line_at rest) → IsSome r
 going_reads view r text rest number line s g low gives =
     let next = going_step text rest number line s g low in
-    gives_is view r (line_at rest) (next.found, next.more) gives next.read
+    gives_is view r (report_line_at rest) (next.found, next.more) gives next.read
 
 -- it is allowed, and leaves what it says
 pub record Taken (text rest : List ℕ) (number line : ℕ) (s : Seen) (found : ReportLine) (more : List ℕ) : Type 0 where
   pub allowed : Allowed s found
-  pub next : (new : Seen) → new ≡ after s found → Going text more (number + 1) line new
+  pub next : (new : Seen) → new ≡ seen_after s found → Going text more (number + 1) line new
 
 pub going_takes : {X : Type 0} (view : X → ReportLine × List ℕ) (r : Option X) (x : X) (text rest : List ℕ) (number line : ℕ) (s : Seen)
-    → Going text rest number line s → number < line → Gives view r (line_at rest) → r ≡ Some x → Taken text rest number line s (view x).0 (view x).1
+    → Going text rest number line s → number < line → GivesRead view r (report_line_at rest) → r ≡ Some x → Taken text rest number line s (view x).0 (view x).1
 going_takes {X} view r x text rest number line s g low gives is =
     let next = going_step text rest number line s g low in
-    let G : Option X → Type 0 = λ o. Gives view o (line_at rest) in
-    let read : line_at rest ≡ Some (view x) = subst G is gives in
+    let G : Option X → Type 0 = λ o. GivesRead view o (report_line_at rest) in
+    let read : report_line_at rest ≡ Some (view x) = subst G is gives in
     let one : (next.found, next.more) ≡ view x = same_Some (next.found, next.more) (view x) (sym next.read ∙ read) in
     let T : ReportLine × List ℕ → Type 0 = λ p. Taken text rest number line s p.0 p.1 in
     let Next : List ℕ → Seen → Type 0 = λ m new. Going text m (number + 1) line new in
@@ -130,7 +130,7 @@ pub record Stopped (text rest : List ℕ) (line : ℕ) (s : Seen) : Type 0 where
 
 stop : (text rest : List ℕ) (number line : ℕ) (s : Seen) (before ahead : List ReportLine) (tail : List ℕ) → text ≡ text_of before ++ rest → s ≡ seen_of before
     → AllStand nothing_seen before → number ≡ length before + 1 → rest ≡ text_of ahead ++ tail → line ≡ number + length ahead
-    → IsStuck (fold after (seen_of before) ahead) tail → line ≤ number → Stopped text rest line s
+    → IsStuck (fold seen_after (seen_of before) ahead) tail → line ≤ number → Stopped text rest line s
 stop text rest number line s before [] tail whole shown stood counted printed left stuck high =
     let Stuck : List ℕ → Type 0 = λ t. IsStuck (seen_of before) t in
     record { lines = before; whole = whole; shown = shown; stood = stood; counted = omega (arith, left, counted); stuck = subst Stuck (sym printed) stuck }

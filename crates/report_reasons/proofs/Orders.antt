@@ -1,5 +1,6 @@
 -- An order line and a last line that break no rule are allowed.
-use Rattle.std.proofs.Common.{◌≡◌, ◌⊎◌, ℕ, ◌<◌, ◌==◌, Bool, true, false, List, [], ◌∷◌, Option, Some, None, IfSome, is_some, IsTrue, length, map, nat_le, if◌then◌else◌}
+use Rattle.std.proofs.Common.{◌≡◌, ◌⊎◌, ℕ, ◌<◌, ◌==◌, Bool, true, false, List, [], ◌∷◌, Option, Some, None, IfSome, is_some, IsTrue, length, map, nat_le}
+use Rattle.std.proofs.Common.{if◌then◌else◌}
 use Rattle.std.proofs.Common.{refl, sym, ap, inl, inr, ◌∙◌, arith}
 use Rattle.std.proofs.lemmas.Bool.{eqb-true, ltb-true, leb-true, cases_lt, false≢true, ne_eqb}
 use Rattle.report_lines.specs.declared.line.OrderLine.{OrderLine}
@@ -7,8 +8,9 @@ use Rattle.report_check.specs.Seen.{Seen, above_last, entries_at, is_answered, o
 use Rattle.report_check.specs.Good.{IsNewEvent, OrdersNext, AllowedOrder, IsWholeOrder, IsAllAnswered, AllowedEnd}
 use Rattle.report_reasons.specs.declared.rule.Kind.TheVariants as kind
 use Rattle.report_reasons.specs.declared.rule.Rule.{Rule}
-use Rattle.report_reasons.specs.Broken.{◌<|>◌, answer_untimely, event_broken, answer_event_broken, turn_broken, events_broken, order_broken, behind_broken, left_out}
-use Rattle.report_reasons.specs.Broken.{bank_unordered, unordered, orders_broken, place_unanswered, unanswered_at, unanswered, end_broken}
+use Rattle.report_reasons.specs.Broken.{◌<|>◌, answer_untimely, event_broken, answer_event_broken, turn_broken, events_broken, order_broken, behind_broken}
+use Rattle.report_reasons.specs.Broken.{left_out}
+use Rattle.report_reasons.specs.Broken.{bank_unordered, unordered, orders_broken, place_unanswered, unanswered_at, first_unanswered, end_broken}
 use Rattle.report_reasons.proofs.Tests.{unless_kept, or_kept, last_kept, and_both, not_true, same_true, first_from-none}
 use Rattle.report_reasons.proofs.Heads.{behind_kept, told_kept}
 use Rattle.report_reasons.proofs.Banked.{Banked}
@@ -78,7 +80,7 @@ orders_kept s banked h =
       | inr all ↦ inr (each_bank s banked all)
     ]
 
-all_answered : (s : Seen) → Banked s → unanswered s true ≡ None → IsAllAnswered s.entries s.answers
+all_answered : (s : Seen) → Banked s → first_unanswered s true ≡ None → IsAllAnswered s.entries s.answers
 all_answered s banked h bank place inside =
     elim (cases_lt bank s.tiles) [
       | inl low ↦ unless_kept (is_answered s.answers bank place) _
@@ -87,13 +89,13 @@ all_answered s banked h bank place inside =
       | inr past ↦ let none : length (entries_at s.entries bank) ≡ 0 = ap length (banked.entries bank past) in absurd (omega (arith, inside, none))
     ]
 
-complete_kept : (s : Seen) (complete : Bool) → Banked s → unanswered s complete ≡ None → IsTrue complete → IsAllAnswered s.entries s.answers
+complete_kept : (s : Seen) (complete : Bool) → Banked s → first_unanswered s complete ≡ None → IsTrue complete → IsAllAnswered s.entries s.answers
 complete_kept s true banked h said = all_answered s banked h
 complete_kept s false banked h said = absurd (false≢true said)
 
 pub end_kept : (s : Seen) (complete : Bool) → Banked s → end_broken s complete ≡ None → AllowedEnd s complete
 end_kept s complete banked h =
-    let all = or_kept (behind_broken s 7 kind.End <|> left_out s s.words <|> orders_broken s) (unanswered s complete) h in
+    let all = or_kept (behind_broken s 7 kind.End <|> left_out s s.words <|> orders_broken s) (first_unanswered s complete) h in
     let orders = or_kept (behind_broken s 7 kind.End <|> left_out s s.words) (orders_broken s) all.0 in
     let told = or_kept (behind_broken s 7 kind.End) (left_out s s.words) orders.0 in
     record {

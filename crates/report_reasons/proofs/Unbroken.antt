@@ -1,5 +1,6 @@
 -- A line that is allowed breaks no rule.
-use Rattle.std.proofs.Common.{◌≡◌, ◌≢◌, ℕ, ◌+◌, ◌-◌, ◌%◌, ◌≤◌, ◌<◌, ◌==◌, ◌&&◌, ◌||◌, Bool, true, false, not, zero, suc, List, [], ◌∷◌, Option, Some, None, IfSome, is_some}
+use Rattle.std.proofs.Common.{◌≡◌, ◌≢◌, ℕ, ◌+◌, ◌-◌, ◌%◌, ◌≤◌, ◌<◌, ◌==◌, ◌&&◌, ◌||◌, Bool, true, false, not, zero, suc, List, [], ◌∷◌, Option, Some, None}
+use Rattle.std.proofs.Common.{IfSome, is_some}
 use Rattle.std.proofs.Common.{length, map, nat_le, if◌then◌else◌, slice_index, refl, sym, ap, ◌∙◌, inl, inr, arith}
 use Rattle.std.specs.Prelude.{slice_get}
 use Rattle.std.specs.List.{AllByRecursion}
@@ -19,7 +20,8 @@ use Rattle.report_lines.specs.declared.line.ReportLine.{ReportLine}
 use Rattle.report_lines.specs.declared.line.ReportLine.TheVariants.{Header, Shape, Init, Entry, Answer, Word, Order, End}
 use Rattle.report_check.specs.Seen.{Seen, above_last, last_bank, entries_at, has_newer, is_answered, key_of, line_operation, orders_at, is_named}
 use Rattle.report_check.specs.Good.{InSection, BehindEntries, AllowedHeader, AllowedShape, AllowedInit, IsNext, IsHome, AllowedEntry, NamesUnansweredEntry}
-use Rattle.report_check.specs.Good.{AllowedAnswer, ToldBelow, AllowedWord, IsNewEvent, OrdersNext, HasNewEvents, AllowedOrder, IsWholeOrder, IsAllAnswered, AllowedEnd, Allowed}
+use Rattle.report_check.specs.Good.{AllowedAnswer, ToldBelow, AllowedWord, IsNewEvent, OrdersNext, HasNewEvents, AllowedOrder, IsWholeOrder, IsAllAnswered}
+use Rattle.report_check.specs.Good.{AllowedEnd, Allowed}
 use Rattle.report_reasons.specs.declared.rule.Kind.{Kind}
 use Rattle.report_reasons.specs.declared.rule.Kind.TheVariants as kind
 use Rattle.report_reasons.specs.declared.rule.Rule.{Rule}
@@ -27,7 +29,7 @@ use Rattle.report_reasons.specs.Lists.{same_reply, first_or, first_from}
 use Rattle.report_reasons.specs.Broken.{unless, is_same, place_broken, header_broken, radix_broken, radices_broken, shape_broken, word_broken, init_broken}
 use Rattle.report_reasons.specs.Broken.{next_broken, home_broken, reply_broken, entry_broken, behind_broken, named_broken, answer_broken, word_left, left_out}
 use Rattle.report_reasons.specs.Broken.{told_broken, answer_untimely, event_broken, answer_event_broken, turn_broken, events_broken, order_broken}
-use Rattle.report_reasons.specs.Broken.{bank_unordered, unordered, orders_broken, place_unanswered, unanswered_at, unanswered, end_broken, line_broken}
+use Rattle.report_reasons.specs.Broken.{bank_unordered, unordered, orders_broken, place_unanswered, unanswered_at, first_unanswered, end_broken, line_broken}
 
 unless_none : (b : Bool) (wrong : Rule) → b ≡ true → unless b wrong ≡ None
 unless_none b wrong e = ap (λ x. unless x wrong) e
@@ -245,7 +247,7 @@ orders_none s h =
           (λ bank low high. unless_none _ _ (eq-eqb (length (orders_at s.orders bank)) (length (entries_at s.entries bank)) (each bank))))
     ]
 
-unanswered_none : (s : Seen) (complete : Bool) → (complete ≡ true → IsAllAnswered s.entries s.answers) → unanswered s complete ≡ None
+unanswered_none : (s : Seen) (complete : Bool) → (complete ≡ true → IsAllAnswered s.entries s.answers) → first_unanswered s complete ≡ None
 unanswered_none s false h = refl
 unanswered_none s true h =
     all_none (unanswered_at s) 0 s.tiles
@@ -255,7 +257,7 @@ unanswered_none s true h =
 
 end_none : (s : Seen) (complete : Bool) → AllowedEnd s complete → end_broken s complete ≡ None
 end_none s complete h =
-    or_none _ (unanswered s complete)
+    or_none _ (first_unanswered s complete)
     (or_none _ (orders_broken s)
     (or_none (behind_broken s 7 kind.End) (left_out s s.words) (behind_none s 7 kind.End h.section) (told_none s s.words h.told))
     (orders_none s h.orders))

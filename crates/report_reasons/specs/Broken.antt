@@ -1,7 +1,9 @@
 -- The first rule of good reports that a line breaks: the rules of each kind of lines in their order
 -- (this project's own format).
-use Rattle.std.specs.Prelude.{◌≡◌, ◌⊎◌, ◌++◌, ℕ, ◌-◌, ◌%◌, ◌==◌, ◌&&◌, ◌||◌, not, if◌then◌else◌, List, [], ◌∷◌, Bool, true, false}
-use Rattle.std.specs.Prelude.{Option, Some, None, is_some, nat_le, nat_lt, length, map, slice_index, slice_get}
+use Rattle.std.specs.Prelude.{◌≡◌, ◌⊎◌, ◌++◌, ℕ, ◌-◌, ◌%◌, ◌==◌, ◌&&◌, ◌||◌, not, if◌then◌else◌}
+use Rattle.std.specs.Prelude.{List, [], ◌∷◌, Bool, true, false}
+use Rattle.std.specs.Prelude.{Option, Some, None, is_some, nat_le, nat_lt, length, map, slice_index}
+use Rattle.std.specs.Prelude.{slice_get}
 use Rattle.std.specs.List.{list_any}
 use Rattle.std.specs.Option.{option_or}
 use Rattle.torus.specs.Shape.{product}
@@ -15,8 +17,9 @@ use Rattle.report_lines.specs.declared.line.OrderLine.{OrderLine}
 use Rattle.report_lines.specs.declared.line.ReportLine.{ReportLine}
 use Rattle.report_lines.specs.declared.line.ReportLine.TheVariants as line
 use Rattle.report_lines.specs.Fits.{FitsLine}
-use Rattle.report_reader.specs.Reading.{line_at}
-use Rattle.report_check.specs.Seen.{Seen, above_last, last_bank, entries_at, has_newer, is_answered, key_of}
+use Rattle.report_reader.specs.Reading.{report_line_at}
+use Rattle.report_check.specs.Seen.{Seen, above_last, last_bank, entries_at, has_newer, is_answered}
+use Rattle.report_check.specs.Seen.{key_of}
 use Rattle.report_check.specs.Seen.{line_operation, orders_at, is_named}
 use Rattle.report_reasons.specs.declared.rule.Kind.{Kind}
 use Rattle.report_reasons.specs.declared.rule.Kind.TheVariants as kind
@@ -225,15 +228,15 @@ unanswered_at s bank =
     first_from (place_unanswered s bank) 0 (length (entries_at s.entries bank))
 
 -- the first entry that has no answer, where each must have one
-abbrev pub unanswered : Seen → Bool → Option Rule
-unanswered s false = None
-unanswered s true = first_from (unanswered_at s) 0 s.tiles
+abbrev pub first_unanswered : Seen → Bool → Option Rule
+first_unanswered s false = None
+first_unanswered s true = first_from (unanswered_at s) 0 s.tiles
 
 -- the last line: every word is told, the order is whole, and behind `end complete` each entry has
 -- an answer
 abbrev pub end_broken : Seen → Bool → Option Rule
 end_broken s complete =
-    behind_broken s 7 kind.End <|> left_out s s.words <|> orders_broken s <|> unanswered s complete
+    behind_broken s 7 kind.End <|> left_out s s.words <|> orders_broken s <|> first_unanswered s complete
 
 -- the first rule that a line breaks behind what was seen
 abbrev pub line_broken : Seen → ReportLine → Option Rule
@@ -260,7 +263,7 @@ read_broken s rest None = Some (misspelled s rest)
 read_broken s rest (Some read) = line_broken s read.0
 
 -- a text goes on with a line that breaks no rule
-pub record GoesOn (s : Seen) (rest : List ℕ) : Type 0 where
+pub record GoesOnUnbroken (s : Seen) (rest : List ℕ) : Type 0 where
   pub line : ReportLine
   pub more : List ℕ
   pub fits : FitsLine line
@@ -269,7 +272,7 @@ pub record GoesOn (s : Seen) (rest : List ℕ) : Type 0 where
 
 -- a text goes on so, or it is at its end, behind the line of the end
 abbrev pub IsUnbroken : Seen → List ℕ → Type 0
-IsUnbroken s rest = GoesOn s rest ⊎ ((s.section ≡ 8) × (rest ≡ []))
+IsUnbroken s rest = GoesOnUnbroken s rest ⊎ ((s.section ≡ 8) × (rest ≡ []))
 
 -- the first rule that what is left of a text breaks: none where it begins with a line that may
 -- stand, nor at its end, behind the line of the end
@@ -277,4 +280,4 @@ abbrev pub broken : Seen → List ℕ → Option Rule
 broken s rest =
     if s.section == 8 then (if length rest == 0 then None else Some rule.BehindEnd)
     else (if length rest == 0 then Some rule.NoEnd
-    else read_broken s rest (line_at rest))
+    else read_broken s rest (report_line_at rest))

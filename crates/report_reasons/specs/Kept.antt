@@ -19,8 +19,8 @@ seen b = record {
 }
 
 -- what lines say that are kept
-abbrev pub shown : {A : Type 0} → Kept A → Seen
-shown k = record {
+abbrev pub shown_lines : {A : Type 0} → Kept A → Seen
+shown_lines k = record {
   section = k.section;
   version = k.version;
   tiles = k.tiles;

@@ -3,10 +3,10 @@
 ghost use Rattle.std.specs.Prelude.{◌≡◌, IfOk, OnOk, replicate, slice_set};
 ghost use Rattle.packet.specs.Memory.{memory_after_one};
 ghost use Rattle.report_lines.specs.Line.{radix_list};
-ghost use Rattle.report_check.specs.Seen.{nothing_seen, shaped_seen, after};
+ghost use Rattle.report_check.specs.Seen.{nothing_seen, shaped_seen, seen_after};
 ghost use Rattle.report_check.specs.Good.{Allowed, AreRadices};
 ghost use Rattle.torus.specs.Shape.{product};
-ghost use Rattle.report_reasons.specs.Kept.{seen, shown};
+ghost use Rattle.report_reasons.specs.Kept.{seen, shown_lines};
 
 use crate::before::Before;
 use packet::{Op, apply};
@@ -70,7 +70,7 @@ fn tiles_of(radices: Radices) -> u32
 
 /// Nothing, before the first line.
 pub(crate) fn nothing<A: Allocator + Copy>(alloc: A) -> Kept<A>
-    ensures { shown result ≡ nothing_seen }
+    ensures { shown_lines result ≡ nothing_seen }
 {
     Kept {
         section: 0,
@@ -93,7 +93,7 @@ fn shaped<A: Allocator + Copy>(
     tiles: u32,
     words: u32,
 ) -> Result<Kept<A>, AllocError>
-    ensures { IfOk result (λ kept. shown kept ≡ shaped_seen version tiles words) }
+    ensures { IfOk result (λ kept. shown_lines kept ≡ shaped_seen version tiles words) }
 {
     let memory = zeros(alloc, words)?;
     Ok(Kept {
@@ -113,7 +113,7 @@ fn shaped<A: Allocator + Copy>(
 impl<A: Allocator + Copy> Kept<A> {
     /// What is kept, to be looked at.
     pub(crate) fn before(&self) -> Before<'_>
-        ensures { seen result ≡ shown self.now }
+        ensures { seen result ≡ shown_lines self.now }
     {
         Before {
             section: self.section,
@@ -131,7 +131,7 @@ impl<A: Allocator + Copy> Kept<A> {
 
     fn keep_init(&mut self, address: u32, value: u64) -> Result<(), AllocError>
         ensures { OnOk result
-            (shown self.new ≡ after (shown self.old) (ReportLine.Init address value)) }
+            (shown_lines self.new ≡ seen_after (shown_lines self.old) (ReportLine.Init address value)) }
     {
         self.inits.push(address)?;
         write_word(&mut self.memory, address, value);
@@ -141,7 +141,7 @@ impl<A: Allocator + Copy> Kept<A> {
 
     fn keep_entry(&mut self, entry: &EntryLine) -> Result<(), AllocError>
         ensures { OnOk result
-            (shown self.new ≡ after (shown self.old) (ReportLine.Entry entry.now)) }
+            (shown_lines self.new ≡ seen_after (shown_lines self.old) (ReportLine.Entry entry.now)) }
     {
         self.entries.push(*entry)?;
         perform(&mut self.memory, entry.address, entry.op);
@@ -151,7 +151,7 @@ impl<A: Allocator + Copy> Kept<A> {
 
     fn keep_answer(&mut self, answer: &AnswerLine) -> Result<(), AllocError>
         ensures { OnOk result
-            (shown self.new ≡ after (shown self.old) (ReportLine.Answer answer.now)) }
+            (shown_lines self.new ≡ seen_after (shown_lines self.old) (ReportLine.Answer answer.now)) }
     {
         self.answers.push(*answer)?;
         self.section = 5;
@@ -160,7 +160,7 @@ impl<A: Allocator + Copy> Kept<A> {
 
     fn keep_word(&mut self, address: u32, value: u64) -> Result<(), AllocError>
         ensures { OnOk result
-            (shown self.new ≡ after (shown self.old) (ReportLine.Word address value)) }
+            (shown_lines self.new ≡ seen_after (shown_lines self.old) (ReportLine.Word address value)) }
     {
         let _ = value;
         self.told.push(address)?;
@@ -170,7 +170,7 @@ impl<A: Allocator + Copy> Kept<A> {
 
     fn keep_order(&mut self, order: &OrderLine) -> Result<(), AllocError>
         ensures { OnOk result
-            (shown self.new ≡ after (shown self.old) (ReportLine.Order order.now)) }
+            (shown_lines self.new ≡ seen_after (shown_lines self.old) (ReportLine.Order order.now)) }
     {
         self.orders.push(*order)?;
         self.section = 7;
@@ -179,8 +179,8 @@ impl<A: Allocator + Copy> Kept<A> {
 
     /// Keeps one more line.
     pub(crate) fn keep(&mut self, alloc: A, line: &ReportLine) -> Result<(), AllocError>
-        requires { Allowed (shown self.old) line.now }
-        ensures { OnOk result (shown self.new ≡ after (shown self.old) line.now) }
+        requires { Allowed (shown_lines self.old) line.now }
+        ensures { OnOk result (shown_lines self.new ≡ seen_after (shown_lines self.old) line.now) }
     {
         match line {
             ReportLine::Header(version) => {

@@ -6,6 +6,7 @@ mod kept;
 pub mod laws;
 mod line_rules;
 mod order_rules;
+mod pieces;
 mod queries;
 pub mod rule;
 pub mod sentence;

@@ -5,7 +5,7 @@ ghost use Rattle.report_reasons.specs.Kept.{seen};
 ghost use Rattle.report_reasons.specs.Broken.{answer_untimely, event_broken, answer_event_broken};
 ghost use Rattle.report_reasons.specs.Broken.{turn_broken, events_broken, order_broken};
 ghost use Rattle.report_reasons.specs.Broken.{bank_unordered, unordered, orders_broken};
-ghost use Rattle.report_reasons.specs.Broken.{place_unanswered, unanswered_at, unanswered};
+ghost use Rattle.report_reasons.specs.Broken.{place_unanswered, unanswered_at, first_unanswered};
 ghost use Rattle.report_reasons.specs.Broken.{end_broken, is_same as same};
 
 use crate::before::Before;
@@ -172,8 +172,8 @@ impl<'a> Before<'a> {
     }
 
     /// Whether an entry has no answer, where each must have one.
-    fn unanswered(self, complete: bool) -> Option<Rule>
-        ensures { result ≡ unanswered (seen self.entry) complete }
+    fn first_unanswered(self, complete: bool) -> Option<Rule>
+        ensures { result ≡ first_unanswered (seen self.entry) complete }
     {
         if !complete {
             return None;
@@ -196,7 +196,7 @@ impl<'a> Before<'a> {
             .or(self.orders_broken());
         match orders {
             Some(rule) => Some(rule),
-            None => self.unanswered(complete),
+            None => self.first_unanswered(complete),
         }
     }
 }

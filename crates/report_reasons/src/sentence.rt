@@ -1,5 +1,6 @@
 //! The sentence that tells a reader which rule a line breaks.
 
+use crate::pieces::{Sentence, but, number, one, plain, two, up_to, words};
 use crate::rule::{BadReport, Kind, Origin, Rule};
 use packet::Reply;
 use std::fmt;
@@ -63,89 +64,6 @@ impl fmt::Display for WrongReply {
             Reply::Old(word) => write!(f, "the word is {word} ({})", self.origin),
         }
     }
-}
-
-/// The greatest number below this one.
-fn last_below(count: u64) -> u64 {
-    count.saturating_sub(1)
-}
-
-/// Words and the number behind them, if there is one.
-#[derive(Clone, Copy)]
-struct Piece {
-    words: &'static str,
-    number: Option<u64>,
-}
-
-impl fmt::Display for Piece {
-    fn fmt<W: fmt::Write>(&self, f: &mut fmt::Formatter<W>) -> fmt::Result {
-        f.write_str(self.words)?;
-        match self.number {
-            None => Ok(()),
-            Some(number) => write!(f, "{number}"),
-        }
-    }
-}
-
-/// Words without a number.
-fn words(words: &'static str) -> Piece {
-    Piece {
-        words,
-        number: None,
-    }
-}
-
-/// Words and a number behind them.
-fn number(words: &'static str, number: u64) -> Piece {
-    Piece {
-        words,
-        number: Some(number),
-    }
-}
-
-/// A sentence of three pieces.
-#[derive(Clone, Copy)]
-struct Sentence(Piece, Piece, Piece);
-
-impl fmt::Display for Sentence {
-    fn fmt<W: fmt::Write>(&self, f: &mut fmt::Formatter<W>) -> fmt::Result {
-        write!(f, "{}{}{}", self.0, self.1, self.2)
-    }
-}
-
-/// A sentence without numbers.
-fn plain(text: &'static str) -> Sentence {
-    Sentence(words(text), words(""), words(""))
-}
-
-/// A sentence with one number.
-fn one(before: &'static str, found: u32, behind: &'static str) -> Sentence {
-    Sentence(number(before, u64::from(found)), words(behind), words(""))
-}
-
-/// A sentence with two numbers and words behind them.
-fn two(
-    before: &'static str,
-    first: u64,
-    between: &'static str,
-    second: u64,
-    behind: &'static str,
-) -> Sentence {
-    Sentence(
-        number(before, first),
-        number(between, second),
-        words(behind),
-    )
-}
-
-/// A sentence that ends with a number that was wanted.
-fn but(before: &'static str, found: u32, between: &'static str, wanted: u64) -> Sentence {
-    two(before, u64::from(found), between, wanted, "")
-}
-
-/// A sentence that ends with the greatest number below a count.
-fn up_to(before: &'static str, found: u32, between: &'static str, count: u64) -> Sentence {
-    but(before, found, between, last_below(count))
 }
 
 impl Rule {

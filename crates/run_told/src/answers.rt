@@ -3,7 +3,7 @@
 ghost use Rattle.std.specs.Prelude.{◌≡◌, IfOk, map};
 ghost use Rattle.std.specs.Str.Lines.{lines};
 ghost use Rattle.lexer.specs.Words.{words_of};
-ghost use Rattle.run_told.specs.Answers.{answer_of, answers_of, number_of};
+ghost use Rattle.run_told.specs.Answers.{line_answer, report_answers, word_number};
 
 use lexer::{first_words, next_line, value};
 use std::alloc::{AllocError, Allocator};
@@ -20,13 +20,13 @@ pub struct Answer {
 /// The answers of a report, in its order: by processor, and then by index.
 ///
 /// Errors: memory ran out.
-pub fn answers_of<A: Allocator>(alloc: A, report: &[u8]) -> Result<Vec<Answer, A>, AllocError>
-    ensures { IfOk result (λ answers. answers.items ≡ answers_of (lines report.now)) }
+pub fn report_answers<A: Allocator>(alloc: A, report: &[u8]) -> Result<Vec<Answer, A>, AllocError>
+    ensures { IfOk result (λ answers. answers.items ≡ report_answers (lines report.now)) }
 {
     let mut answers = Vec::new(alloc);
     let mut rest = report;
     while let Some((line, after)) = next_line(rest) {
-        if let Some(answer) = answer_of(line) {
+        if let Some(answer) = line_answer(line) {
             answers.push(answer)?;
         }
         rest = after;
@@ -35,8 +35,8 @@ pub fn answers_of<A: Allocator>(alloc: A, report: &[u8]) -> Result<Vec<Answer, A
 }
 
 /// The answer that a line of a report tells: `answer P INDEX BANK PLACE REPLY`.
-fn answer_of(line: &[u8]) -> Option<Answer>
-    ensures { result ≡ answer_of (words_of line.now) }
+fn line_answer(line: &[u8]) -> Option<Answer>
+    ensures { result ≡ line_answer (words_of line.now) }
 {
     let (words, count) = first_words(line);
     answer_in(&words[..count])
@@ -44,7 +44,7 @@ fn answer_of(line: &[u8]) -> Option<Answer>
 
 /// The answer of the words of a line.
 fn answer_in(words: &[&[u8]]) -> Option<Answer>
-    ensures { result ≡ answer_of (map (λ word. word.now) words.now) }
+    ensures { result ≡ line_answer (map (λ word. word.now) words.now) }
 {
     match words {
         [b"answer", processor, index, _bank, _place, reply] => Some(Answer {
@@ -58,7 +58,7 @@ fn answer_in(words: &[&[u8]]) -> Option<Answer>
 
 /// The number of 64 bits that a word spells.
 pub(crate) fn number(word: &[u8]) -> Option<u64>
-    ensures { result ≡ number_of word.now }
+    ensures { result ≡ word_number word.now }
 {
     u64::try_from(value(word)?).ok()
 }

@@ -2,9 +2,9 @@
 
 ghost use Rattle.std.specs.Prelude.{◌≡◌, IfOk, length};
 ghost use Rattle.std.specs.Str.Lines.{lines};
-ghost use Rattle.run_told.specs.Answers.{answers_of};
+ghost use Rattle.run_told.specs.Answers.{report_answers};
 
-use crate::answers::{Answer, answers_of, number};
+use crate::answers::{Answer, number, report_answers};
 use lexer::{first_words, index, next_line};
 use std::alloc::{AllocError, Allocator};
 
@@ -60,9 +60,9 @@ pub fn told<A: Allocator + Copy>(
     report: &[u8],
 ) -> Result<EndedScripts<A>, AllocError>
     ensures answered { IfOk result
-        (λ ended. ended.answered ≡ length (answers_of (lines report.now))) }
+        (λ ended. ended.answered ≡ length (report_answers (lines report.now))) }
 {
-    let answers = answers_of(alloc, report)?;
+    let answers = report_answers(alloc, report)?;
     let mut places = first_places(&answers);
     let mut spins = Vec::new(alloc);
     let mut rest = scripts;

@@ -11,7 +11,7 @@ use Rattle.script.specs.Machine.{MachineSpec}
 use Rattle.script.specs.Steps.{after_words, steps_from, steps_of}
 use Rattle.schedule_lines.specs.declared.line.ScheduleLine.{ScheduleLine}
 use Rattle.schedule_lines.specs.declared.line.ScheduleLine.TheVariants.{Round, Move, End}
-use Rattle.schedule_lines.specs.Line.{words_of, text_of}
+use Rattle.schedule_lines.specs.Line.{schedule_words, text_of}
 use Rattle.schedule_lines.specs.Schedule.{IsStepOf, IsOfTorus, with_move, moves_among, round_lines, lines_of_rounds, schedule_of, moves_schedule}
 use Rattle.schedule_lines.proofs.Cuts.{IsWord, word-from, words_of-join, printed, lines-ended}
 use Rattle.schedule_lines.proofs.Numerals.{decimal_is_word, decimal_begins_no_comment}
@@ -25,7 +25,7 @@ small_of_torus : (s : Shape) (step : Step) → IsAccepted s → IsStepOf s step 
 small_of_torus s step is of = choice_is_small (8 * dims_of s + 2) (step.agent % 3) step.choice (omega (arith, is.dims_high)) of.choice
 
 -- the words of a line are words
-line_is_words : (s : Shape) (line : ScheduleLine) → IsAccepted s → IsOfTorus s line → All IsWord (words_of line)
+line_is_words : (s : Shape) (line : ScheduleLine) → IsAccepted s → IsOfTorus s line → All IsWord (schedule_words line)
 line_is_words s (Round number) is of =
     All-cons IsWord (codes "#") (codes "round" ∷ decimal number ∷ []) (word-from (codes "#") (omega arith) refl)
     (All-cons IsWord (codes "round") (decimal number ∷ []) (word-from (codes "round") (omega arith) refl)
@@ -40,7 +40,7 @@ line_is_words s (End false) is of =
 
 -- what the words of a line make of the steps before it
 line-again : (s : Shape) (line : ScheduleLine) (steps : List Step) → IsAccepted s → IsOfTorus s line
-    → after_words (tiles_of s) (dims_of s) steps (words_of line) ≡ Ok (steps ++ with_move line [])
+    → after_words (tiles_of s) (dims_of s) steps (schedule_words line) ≡ Ok (steps ++ with_move line [])
 line-again s (Round number) steps is of = ap Ok (sym (append-nil steps))
 line-again s (Move step) steps is of =
     let low : step.agent < 2 ^ 31 = agent_is_small s step is of in
@@ -57,17 +57,17 @@ with_move-append (End finished) steps = refl
 
 -- a text begins with the words of its first line
 lines-first : (s : Shape) (line : ScheduleLine) (rest : List ScheduleLine) → IsAccepted s → IsOfTorus s line
-    → lines (text_of (line ∷ rest)) ≡ join_with_byte 32 (words_of line) ∷ lines (text_of rest)
+    → lines (text_of (line ∷ rest)) ≡ join_with_byte 32 (schedule_words line) ∷ lines (text_of rest)
 lines-first s line rest is of =
-    ap lines (append_assoc (join_with_byte 32 (words_of line)) (10 ∷ []) (text_of rest))
-    ∙ lines-ended (join_with_byte 32 (words_of line)) (text_of rest) (printed (words_of line) (line_is_words s line is of))
+    ap lines (append_assoc (join_with_byte 32 (schedule_words line)) (10 ∷ []) (text_of rest))
+    ∙ lines-ended (join_with_byte 32 (schedule_words line)) (text_of rest) (printed (schedule_words line) (line_is_words s line is of))
 
 text-again : (s : Shape) (ls : List ScheduleLine) (steps : List Step) (number : ℕ) → IsAccepted s → All (IsOfTorus s) ls
     → steps_from (tiles_of s) (dims_of s) steps number (lines (text_of ls)) ≡ Ok (steps ++ moves_among ls)
 text-again s [] steps number is all = ap Ok (sym (append-nil steps))
 text-again s (line ∷ rest) steps number is all =
     let of : IsOfTorus s line = All-head (IsOfTorus s) line rest all in
-    let words : cut (join_with_byte 32 (words_of line)) ≡ words_of line = words_of-join (words_of line) (line_is_words s line is of) in
+    let words : cut (join_with_byte 32 (schedule_words line)) ≡ schedule_words line = words_of-join (schedule_words line) (line_is_words s line is of) in
     let next : List Step = steps ++ with_move line [] in
     ap (steps_from (tiles_of s) (dims_of s) steps number) (lines-first s line rest is of)
     ∙ rw (words, line-again s line steps is of)

@@ -3,7 +3,8 @@ use Rattle.std.specs.Prelude.{ℕ, List, [], ◌∷◌, ◌++◌, true, false, c
 use Rattle.std.specs.List.{join_with_byte, flat_map}
 use Rattle.torus.specs.declared.step.Step.{Step}
 use Rattle.torus.specs.declared.step.Choice.{Choice}
-use Rattle.torus.specs.declared.step.Choice.TheVariants.{Send, Take, TakeFrom, Put, Credit, CreditOf, Serve, Done, Look}
+use Rattle.torus.specs.declared.step.Choice.TheVariants.{Send, Take, TakeFrom, Put, Credit}
+use Rattle.torus.specs.declared.step.Choice.TheVariants.{CreditOf, Serve, Done, Look}
 use Rattle.schedule_lines.specs.declared.line.ScheduleLine.{ScheduleLine}
 use Rattle.schedule_lines.specs.declared.line.ScheduleLine.TheVariants.{Round, Move, End}
 
@@ -24,11 +25,11 @@ abbrev pub step_words : Step → List (List ℕ)
 step_words step = decimal step.agent ∷ choice_words step.choice
 
 -- the words of a line; that of a round and the last one begin with `#`, as comments do
-abbrev pub words_of : ScheduleLine → List (List ℕ)
-words_of (Round number) = codes "#" ∷ codes "round" ∷ decimal number ∷ []
-words_of (Move step) = step_words step
-words_of (End true) = codes "#" ∷ codes "finished" ∷ []
-words_of (End false) = codes "#" ∷ codes "stopped" ∷ []
+abbrev pub schedule_words : ScheduleLine → List (List ℕ)
+schedule_words (Round number) = codes "#" ∷ codes "round" ∷ decimal number ∷ []
+schedule_words (Move step) = step_words step
+schedule_words (End true) = codes "#" ∷ codes "finished" ∷ []
+schedule_words (End false) = codes "#" ∷ codes "stopped" ∷ []
 
 -- words that go on with a line, each after a space
 abbrev pub joined_on : List (List ℕ) → List ℕ
@@ -36,7 +37,7 @@ joined_on words = flat_map (λ word. 32 ∷ word) words
 
 -- the bytes of a line: its words with one space between each two, and a line feed
 abbrev pub line_text : ScheduleLine → List ℕ
-line_text line = join_with_byte 32 (words_of line) ++ 10 ∷ []
+line_text line = join_with_byte 32 (schedule_words line) ++ 10 ∷ []
 
 -- the bytes of lines, one after another
 abbrev pub text_of : List ScheduleLine → List ℕ

@@ -1,7 +1,8 @@
 ghost use Rattle.std.specs.Prelude.{◌≡◌, ◌+◌, ◌≤◌, ◌∷◌, ◌++◌, length, decimal, [], codes};
 ghost use Rattle.std.specs.List.{join_with_byte};
 ghost use Rattle.arrayvec.specs.ArrayString.{array_string_len};
-ghost use Rattle.schedule_lines.specs.Line.{choice_words, step_words, words_of, line_text, joined_on};
+ghost use Rattle.schedule_lines.specs.Line.{choice_words, step_words, schedule_words, line_text};
+ghost use Rattle.schedule_lines.specs.Line.{joined_on};
 
 use crate::line::ScheduleLine;
 use arrayvec::ArrayString;
@@ -76,7 +77,7 @@ fn move_text(step: Step) -> LineText
 
 /// The text of a round's heading without its line feed.
 fn round_text(number: u64) -> LineText
-    ensures text { result.bytes ≡ join_with_byte 32 (words_of (ScheduleLine.Round number)) }
+    ensures text { result.bytes ≡ join_with_byte 32 (schedule_words (ScheduleLine.Round number)) }
     ensures len { array_string_len result ≤ 28 }
 {
     let mut digits = Buffer::new();

@@ -8,7 +8,7 @@ use Rattle.script.specs.declared.line.Line.{Line}
 use Rattle.script.specs.declared.line.Line.TheVariants.{Load, Store, Swap, Cas, Add, And, Or, Xor, Max, Min, Fence, Spin}
 use Rattle.spins_told.specs.declared.spins.SpentSpin.{SpentSpin}
 use Rattle.spins_told.specs.Spins.{spent_from, spent_spins, spun}
-use Rattle.spins_told.specs.RunsOut.{AreOthers, AreReplies, AreSpent, HaveFound, RanOut}
+use Rattle.spins_told.specs.RunsOut.{AreOthers, AreRepliesTo, AreSpent, HaveFound, RanOut}
 use Rattle.spins_told.proofs.RunningOut.{IsAmong}
 
 -- a load that found another number
@@ -78,7 +78,7 @@ one_line at first front behind a v m before loads after n rest is over t =
     (ap (λ (xs : List (Option ℕ)). xs ++ (loads ++ after)) is)
     (ap (λ (xs : List SpentSpin). slice_get xs t.0) (over (rest ++ (loads ++ after))) ∙ t.1)
 
-told_at : (at : ℕ) (front behind : List Line) (a v m : ℕ) (before loads after : List (Option ℕ)) → AreReplies front before → AreSpent v m loads
+told_at : (at : ℕ) (front behind : List Line) (a v m : ℕ) (before loads after : List (Option ℕ)) → AreRepliesTo front before → AreSpent v m loads
     → IsAmong (spent_from at (front ++ Spin a v m ∷ behind) (before ++ (loads ++ after))) (spin_at (at + length front) a v m)
 told_at at [] behind a v m before loads after r h =
     renamed at (at + zero) (Spin a v m ∷ behind) (before ++ (loads ++ after)) (loads ++ after) a v m 0 at (omega arith)

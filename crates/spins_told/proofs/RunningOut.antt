@@ -8,7 +8,7 @@ use Rattle.script.specs.declared.line.Line.{Line}
 use Rattle.script.specs.declared.line.Line.TheVariants.{Load, Store, Swap, Cas, Add, And, Or, Xor, Max, Min, Fence, Spin}
 use Rattle.spins_told.specs.declared.spins.SpentSpin.{SpentSpin}
 use Rattle.spins_told.specs.Spins.{replied, spent_from, spent_spins, spun}
-use Rattle.spins_told.specs.RunsOut.{AreReplies, AreSpent, HaveFound, RanOut}
+use Rattle.spins_told.specs.RunsOut.{AreRepliesTo, AreSpent, HaveFound, RanOut}
 
 -- a spin is one of these
 abbrev pub IsAmong : List SpentSpin → SpentSpin → Type 0
@@ -76,12 +76,12 @@ record RanOutFrom (at : ℕ) (lines : List Line) (replies : List (Option ℕ)) (
   pub loads : List (Option ℕ)
   pub after : List (Option ℕ)
   pub replied : replies ≡ before ++ (loads ++ after)
-  pub reached : AreReplies front before
+  pub reached : AreRepliesTo front before
   pub spent : AreSpent spin.sought spin.loads loads
 
 -- one line more in front
 in_front : (at : ℕ) (first : Line) (lines : List Line) (taken replies rest : List (Option ℕ)) (x : SpentSpin) → replies ≡ taken ++ rest
-    → ((front : List Line) (before : List (Option ℕ)) → AreReplies front before → AreReplies (first ∷ front) (taken ++ before))
+    → ((front : List Line) (before : List (Option ℕ)) → AreRepliesTo front before → AreRepliesTo (first ∷ front) (taken ++ before))
     → RanOutFrom (at + 1) lines rest x → RanOutFrom at (first ∷ lines) replies x
 in_front at first lines taken replies rest x is takes r = record {
   front = first ∷ r.front;

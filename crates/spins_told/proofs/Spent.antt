@@ -4,10 +4,10 @@ use Rattle.std.specs.Prelude.{Option}
 use Rattle.script.specs.declared.line.Line.{Line}
 use Rattle.script.specs.declared.line.Line.TheVariants.{Load, Store, Swap, Cas, Add, And, Or, Xor, Max, Min, Fence, Spin}
 use Rattle.spins_told.specs.declared.spins.SpentSpin.{SpentSpin}
-use Rattle.spins_told.specs.Spins.{replied, reply_at, spent_from, spun}
+use Rattle.spins_told.specs.Spins.{replied, reply_of_next, spent_from, spun}
 
 -- the reply that is next, and those behind it
-next_is : (replies : List (Option ℕ)) (at reply : ℕ) → reply_at (drop at replies) ≡ Some reply
+next_is : (replies : List (Option ℕ)) (at reply : ℕ) → reply_of_next (drop at replies) ≡ Some reply
     → drop at replies ≡ Some reply ∷ drop (at + 1) replies
 next_is [] zero reply h = absurd (let e : None ≡ Some reply = h in cc)
 next_is [] (suc at) reply h = absurd (let e : None ≡ Some reply = h in cc)
@@ -17,32 +17,32 @@ next_is (r ∷ rs) (suc at) reply h =
     ∙ ap (λ (n : ℕ). Some reply ∷ drop n (r ∷ rs)) (let e : suc (at + 1) ≡ suc at + 1 = omega arith in e)
 
 -- no reply is next
-none_of : (spin : SpentSpin) (over : List (Option ℕ) → List SpentSpin) (left : ℕ) (xs : List (Option ℕ)) → reply_at xs ≡ None
+none_of : (spin : SpentSpin) (over : List (Option ℕ) → List SpentSpin) (left : ℕ) (xs : List (Option ℕ)) → reply_of_next xs ≡ None
     → spun (suc left) spin over xs ≡ []
 none_of spin over left [] h = refl
 none_of spin over left (None ∷ xs) h = refl
 none_of spin over left (Some r ∷ xs) h = absurd (let e : Some r ≡ None = h in cc)
 
-pub stops : (spin : SpentSpin) (over : List (Option ℕ) → List SpentSpin) (left : ℕ) (xs : List (Option ℕ)) → 0 < left → reply_at xs ≡ None
+pub stops : (spin : SpentSpin) (over : List (Option ℕ) → List SpentSpin) (left : ℕ) (xs : List (Option ℕ)) → 0 < left → reply_of_next xs ≡ None
     → spun left spin over xs ≡ []
 stops spin over zero xs more h = absurd (omega (arith, more))
 stops spin over (suc left) xs more h = none_of spin over left xs h
 
-pub stops_line : (over : List (Option ℕ) → List SpentSpin) (xs : List (Option ℕ)) → reply_at xs ≡ None → replied over xs ≡ []
+pub stops_line : (over : List (Option ℕ) → List SpentSpin) (xs : List (Option ℕ)) → reply_of_next xs ≡ None → replied over xs ≡ []
 stops_line over [] h = refl
 stops_line over (None ∷ xs) h = refl
 stops_line over (Some r ∷ xs) h = absurd (let e : Some r ≡ None = h in cc)
 
 -- the number sought is next
 pub finds : (spin : SpentSpin) (over : List (Option ℕ) → List SpentSpin) (left at reply : ℕ) (replies : List (Option ℕ)) → 0 < left
-    → reply_at (drop at replies) ≡ Some reply → (reply == spin.sought) ≡ true → spun left spin over (drop at replies) ≡ over (drop (at + 1) replies)
+    → reply_of_next (drop at replies) ≡ Some reply → (reply == spin.sought) ≡ true → spun left spin over (drop at replies) ≡ over (drop (at + 1) replies)
 finds spin over zero at reply replies more h same = absurd (omega (arith, more))
 finds spin over (suc left) at reply replies more h same =
     ap (spun (suc left) spin over) (next_is replies at reply h) ∙ (rw same refl)
 
 -- another number is next
 pub misses : (spin : SpentSpin) (over : List (Option ℕ) → List SpentSpin) (left at reply : ℕ) (replies : List (Option ℕ)) → 0 < left
-    → reply_at (drop at replies) ≡ Some reply → (reply == spin.sought) ≡ false
+    → reply_of_next (drop at replies) ≡ Some reply → (reply == spin.sought) ≡ false
     → spun left spin over (drop at replies) ≡ spun (left - 1) spin over (drop (at + 1) replies)
 misses spin over zero at reply replies more h other = absurd (omega (arith, more))
 misses spin over (suc left) at reply replies more h other =
@@ -50,7 +50,7 @@ misses spin over (suc left) at reply replies more h other =
     ∙ ((rw other refl) ∙ ap (λ (n : ℕ). spun n spin over (drop (at + 1) replies)) (let e : left ≡ suc left - 1 = omega arith in e))
 
 -- a line of one operation
-pub passes : (over : List (Option ℕ) → List SpentSpin) (at reply : ℕ) (replies : List (Option ℕ)) → reply_at (drop at replies) ≡ Some reply
+pub passes : (over : List (Option ℕ) → List SpentSpin) (at reply : ℕ) (replies : List (Option ℕ)) → reply_of_next (drop at replies) ≡ Some reply
     → replied over (drop at replies) ≡ over (drop (at + 1) replies)
 passes over at reply replies h = ap (replied over) (next_is replies at reply h)
 

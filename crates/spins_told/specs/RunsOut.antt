@@ -1,5 +1,6 @@
 -- When a spin has run out of loads, said of what its script's operations were replied.
-use Rattle.std.specs.Prelude.{◌≡◌, ◌⊎◌, ℕ, ◌≤◌, ◌==◌, false, List, [], ◌∷◌, ◌++◌, Option, Some, length}
+use Rattle.std.specs.Prelude.{◌≡◌, ◌⊎◌, ℕ, ◌≤◌, ◌==◌, false, List, [], ◌∷◌, ◌++◌, Option, Some}
+use Rattle.std.specs.Prelude.{length}
 use Rattle.script.specs.declared.line.Line.{Line}
 use Rattle.script.specs.declared.line.Line.TheVariants.{Fence, Spin}
 use Rattle.spins_told.specs.declared.spins.SpentSpin.{SpentSpin}
@@ -21,14 +22,14 @@ HaveFound sought most loads = (others : List (Option ℕ)) × (loads ≡ others 
 
 -- these are the replies to all operations of the lines, one after the other: none to a fence, those
 -- to its loads to a spin, and one to each other line (this project's own format)
-abbrev pub AreReplies : List Line → List (Option ℕ) → Type 0
-AreReplies [] replies = replies ≡ []
-AreReplies (Fence ∷ lines) replies = AreReplies lines replies
-AreReplies (Spin a v m ∷ lines) replies =
+abbrev pub AreRepliesTo : List Line → List (Option ℕ) → Type 0
+AreRepliesTo [] replies = replies ≡ []
+AreRepliesTo (Fence ∷ lines) replies = AreRepliesTo lines replies
+AreRepliesTo (Spin a v m ∷ lines) replies =
     (loads rest : List (Option ℕ)) × (replies ≡ loads ++ rest)
-    × (AreSpent v m loads ⊎ HaveFound v m loads) × AreReplies lines rest
-AreReplies (first ∷ lines) replies =
-    (n : ℕ) × (rest : List (Option ℕ)) × (replies ≡ Some n ∷ rest) × AreReplies lines rest
+    × (AreSpent v m loads ⊎ HaveFound v m loads) × AreRepliesTo lines rest
+AreRepliesTo (first ∷ lines) replies =
+    (n : ℕ) × (rest : List (Option ℕ)) × (replies ≡ Some n ∷ rest) × AreRepliesTo lines rest
 
 -- A spin of a script ran out of loads: behind the replies to all operations of the lines before it
 -- stand those to all its loads, and none found the number sought.
@@ -41,5 +42,5 @@ pub record RanOut (script : List Line) (replies : List (Option ℕ)) (spin : Spe
   pub loads : List (Option ℕ)
   pub after : List (Option ℕ)
   pub replied : replies ≡ before ++ (loads ++ after)
-  pub reached : AreReplies front before
+  pub reached : AreRepliesTo front before
   pub spent : AreSpent spin.sought spin.loads loads

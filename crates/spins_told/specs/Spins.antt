@@ -1,5 +1,6 @@
 -- Which spins of a script ran out of loads, by what its operations were replied.
-use Rattle.std.specs.Prelude.{ℕ, zero, suc, ◌+◌, ◌==◌, List, [], ◌∷◌, Option, Some, None, if◌then◌else◌}
+use Rattle.std.specs.Prelude.{ℕ, zero, suc, ◌+◌, ◌==◌, List, [], ◌∷◌, Option, Some, None}
+use Rattle.std.specs.Prelude.{if◌then◌else◌}
 use Rattle.script.specs.declared.line.Line.{Line}
 use Rattle.script.specs.declared.line.Line.TheVariants.{Fence, Spin}
 use Rattle.spins_told.specs.declared.spins.SpentSpin.{SpentSpin}
@@ -36,6 +37,6 @@ abbrev pub spent_spins : List Line → List (Option ℕ) → List SpentSpin
 spent_spins script replies = spent_from 0 script replies
 
 -- what the next operation is replied, if it is answered
-abbrev pub reply_at : List (Option ℕ) → Option ℕ
-reply_at [] = None
-reply_at (reply ∷ replies) = reply
+abbrev pub reply_of_next : List (Option ℕ) → Option ℕ
+reply_of_next [] = None
+reply_of_next (reply ∷ replies) = reply

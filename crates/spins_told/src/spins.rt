@@ -3,7 +3,7 @@
 ghost use Rattle.std.specs.Prelude.{◌≡◌, ◌+◌, ◌∷◌, ℕ, List, [], Option, MatchOption, IfOk, drop};
 ghost use Rattle.std.specs.List.{cons_option};
 ghost use Rattle.script.specs.declared.line.Line.{Line};
-ghost use Rattle.spins_told.specs.Spins.{spun, spent_from, spent_spins, reply_at};
+ghost use Rattle.spins_told.specs.Spins.{spun, spent_from, spent_spins, reply_of_next};
 
 use script::Line;
 use std::alloc::{AllocError, Allocator};
@@ -28,8 +28,8 @@ struct LineEnd {
 }
 
 /// What an operation was replied; `None` where it isn't answered.
-fn reply_at(replies: &[Option<u64>], at: usize) -> Option<u64>
-    ensures { result ≡ reply_at (drop at replies.now) }
+fn reply_of_next(replies: &[Option<u64>], at: usize) -> Option<u64>
+    ensures { result ≡ reply_of_next (drop at replies.now) }
 {
     replies.get(at).copied().flatten()
 }
@@ -44,7 +44,7 @@ fn end_of_spin(replies: &[Option<u64>], first: usize, spin: SpentSpin) -> Option
     let mut next = first;
     let mut left = spin.loads;
     while left > 0 {
-        let reply = reply_at(replies, next)?;
+        let reply = reply_of_next(replies, next)?;
         next += 1;
         if reply == spin.sought {
             return Some(LineEnd { spent: None, next });
@@ -79,7 +79,7 @@ fn end_of_line(replies: &[Option<u64>], first: usize, place: u64, line: Line) ->
             end_of_spin(replies, first, spin)
         }
         _ => {
-            let _reply = reply_at(replies, first)?;
+            let _reply = reply_of_next(replies, first)?;
             Some(LineEnd {
                 spent: None,
                 next: first + 1,

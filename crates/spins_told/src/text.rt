@@ -3,7 +3,7 @@
 ghost use Rattle.std.specs.Prelude.{◌≡◌, IfOk, map};
 ghost use Rattle.std.specs.Str.Lines.{lines};
 ghost use Rattle.lexer.specs.Words.{words_of};
-ghost use Rattle.spins_told.specs.Texts.{at_line, is_of, numbers_from, spent_lines};
+ghost use Rattle.spins_told.specs.Texts.{placed_at_line, is_script_line, numbers_from, spent_lines};
 
 use crate::replies::replies_in;
 use crate::spins::{SpentSpin, spent_spins};
@@ -13,8 +13,8 @@ use script::Line;
 use std::alloc::{AllocError, Allocator};
 
 /// Whether words are a line of this processor's script.
-fn is_of(processor: u32, words: &[&[u8]]) -> bool
-    ensures { result ≡ is_of processor (map (λ word. word.now) words.now) }
+fn is_script_line(processor: u32, words: &[&[u8]]) -> bool
+    ensures { result ≡ is_script_line processor (map (λ word. word.now) words.now) }
 {
     match words {
         [] => false,
@@ -28,10 +28,10 @@ fn is_of(processor: u32, words: &[&[u8]]) -> bool
 
 /// Whether a line of a text of scripts is one of this processor's.
 fn is_line_of(processor: u32, line: &[u8]) -> bool
-    ensures { result ≡ is_of processor (words_of line.now) }
+    ensures { result ≡ is_script_line processor (words_of line.now) }
 {
     let (words, count) = first_words(line);
-    is_of(processor, &words[..count])
+    is_script_line(processor, &words[..count])
 }
 
 /// The numbers of the lines of a processor's script in a text.
@@ -57,8 +57,8 @@ fn numbers_of<A: Allocator>(
 }
 
 /// A spin at its line among these, at 0 where there is none.
-fn at_line(numbers: &[u64], spin: SpentSpin) -> SpentSpin
-    ensures { result ≡ at_line numbers.now spin }
+fn placed_at_line(numbers: &[u64], spin: SpentSpin) -> SpentSpin
+    ensures { result ≡ placed_at_line numbers.now spin }
 {
     SpentSpin {
         place: numbers.get(spin.place as usize).copied().unwrap_or(0),
@@ -74,11 +74,11 @@ fn at_lines<A: Allocator>(
     numbers: &[u64],
     spins: &[SpentSpin],
 ) -> Result<Vec<SpentSpin, A>, AllocError>
-    ensures { IfOk result (λ lines. lines.items ≡ map (at_line numbers.now) spins.now) }
+    ensures { IfOk result (λ lines. lines.items ≡ map (placed_at_line numbers.now) spins.now) }
 {
     let mut lines = Vec::new(alloc);
     for spin in spins {
-        lines.push(at_line(numbers, *spin))?;
+        lines.push(placed_at_line(numbers, *spin))?;
     }
     Ok(lines)
 }

@@ -18,7 +18,7 @@ module _ (n : Net) (s : State) (tiles : Tiles) (Go : Type 0) (net : IsNet n) (de
   abbrev pub HeldGoes : ℕ → Type 0
   HeldGoes x = x < n.channels → (f : ℕ) (fs : List ℕ) → in_line (s.lines x) ≡ f ∷ fs → Go
 
-  abbrev Above : ℕ → Type 0
+  abbrev pub Above : ℕ → Type 0
   Above x = (y : ℕ) → n.number x < n.number y → HeldGoes y
 
   -- a full channel above: somebody goes there
@@ -28,7 +28,7 @@ module _ (n : Net) (s : State) (tiles : Tiles) (Go : Type 0) (net : IsNet n) (de
   from_full x y f fs ih within rises (Some g) latched listed = ih y rises within g (f ∷ fs) (in_line_is s y (Some g) (f ∷ fs) latched listed)
 
   -- the channel above has a credit, or somebody goes
-  into : (x y : ℕ) → Above x → y < n.channels → n.number x < n.number y → (0 < (s.lines y).held → Go) → (fs : List ℕ) → (s.lines y).flits ≡ fs → Go
+  pub into : (x y : ℕ) → Above x → y < n.channels → n.number x < n.number y → (0 < (s.lines y).held → Go) → (fs : List ℕ) → (s.lines y).flits ≡ fs → Go
   into x y ih within rises then [] listed = with_credit n s tiles Go deep words routes goes y within listed then
   into x y ih within rises then (f ∷ fs) listed = from_full x y f fs ih within rises (s.lines y).latch refl listed
 
@@ -65,7 +65,7 @@ module _ (n : Net) (s : State) (tiles : Tiles) (Go : Type 0) (net : IsNet n) (de
       (record { here = within; input = input; full = latched; rest = bit; owned = own.1; credit = credit })) (s.lines own.0).flits refl)
       (words.owning x input)
 
-  at_router : (x f : ℕ) (fs : List ℕ) → Above x → x < n.channels → n.ejects x ≡ false → (l : Option ℕ) → (s.lines x).latch ≡ l
+  pub at_router : (x f : ℕ) (fs : List ℕ) → Above x → x < n.channels → n.ejects x ≡ false → (l : Option ℕ) → (s.lines x).latch ≡ l
       → option_to_list l ++ (s.lines x).flits ≡ f ∷ fs → Go
   at_router x f fs ih within input (Some g) latched listed = by_bit x g ih within input latched (n.is_head g) refl
   at_router x f fs ih within input None latched listed = goes.moves (Latch x f fs) tt (record { here = within; input = input; free = latched; first = listed })

@@ -40,9 +40,10 @@ or_all Q P (suc m) each = ⊎_elim
     (each m (omega arith)))
     (or_all Q P m (λ x h. each x (omega arith)))
 
-module _ (n : Net) (s : State) (tiles : Tiles) (Go : Type 0) (net : IsNet n) (deep : 0 < n.depth) (words : Words n s) (routes : Routes n s)
-    (are : AreTiles n tiles) (goes : Goes n s tiles Go) where
-  by_owed : (x : ℕ) → x < n.channels → in_line (s.lines x) ≡ [] → (o : List ℕ) → (s.notes x).owed ≡ o → Go ⊎ IsQuiet n s x
+-- a channel in which nothing stands is quiet, or somebody goes there
+module _ (n : Net) (s : State) (tiles : Tiles) (Go : Type 0) (deep : 0 < n.depth) (words : Words n s) (routes : Routes n s)
+    (goes : Goes n s tiles Go) where
+  pub by_owed : (x : ℕ) → x < n.channels → in_line (s.lines x) ≡ [] → (o : List ℕ) → (s.notes x).owed ≡ o → Go ⊎ IsQuiet n s x
   by_owed x within line (f ∷ fs) owes =
       inl (owed_goes n s tiles Go deep words routes goes x within (no_latch (s.lines x).latch (s.lines x).flits line) f fs owes)
   by_owed x within line [] owes =
@@ -54,8 +55,10 @@ module _ (n : Net) (s : State) (tiles : Tiles) (Go : Type 0) (net : IsNet n) (de
         | inr stays ↦ inr (record { line = line; owed = owes; awaited = none.0; parcels = none.1; credits = omega arith })
       ]
 
+module _ (n : Net) (s : State) (tiles : Tiles) (Go : Type 0) (net : IsNet n) (deep : 0 < n.depth) (words : Words n s) (routes : Routes n s)
+    (are : AreTiles n tiles) (goes : Goes n s tiles Go) where
   by_line : (x : ℕ) → x < n.channels → (l : List ℕ) → in_line (s.lines x) ≡ l → Go ⊎ IsQuiet n s x
-  by_line x within [] line = by_owed x within line (s.notes x).owed refl
+  by_line x within [] line = by_owed n s tiles Go deep words routes goes x within line (s.notes x).owed refl
   by_line x within (f ∷ fs) line = inl (held_goes n s tiles Go net deep words routes goes are x within f fs line)
 
   -- somebody goes, or the whole network is quiet

@@ -1,13 +1,13 @@
 use Rattle.std.proofs.Common.{◌≡◌, ◌∙◌, Some, None, ap, sym, arith}
 use Rattle.report_reasons.specs.Kept.{seen}
-use Rattle.report_reasons.specs.Broken.{unanswered_at, unanswered}
+use Rattle.report_reasons.specs.Broken.{unanswered_at, first_unanswered}
 use Rattle.report_reasons.proofs.Firsts.{first_from-hit, first_from-miss, first_from-start}
-use Rattle.report_reasons.proofs.before.Before.unanswered.Goals as goal
+use Rattle.report_reasons.proofs.before.Before.first_unanswered.Goals as goal
 
 pub loop-bank-init : goal.loop-bank-init
 loop-bank-init c =
     first_from-start (unanswered_at (seen c.args.self)) c.args.self.tiles
-    ∙ ap (λ complete. unanswered (seen c.args.self) complete) (sym c.if-not-complete.false)
+    ∙ ap (λ complete. first_unanswered (seen c.args.self) complete) (sym c.if-not-complete.false)
 
 pub returns-in-Some : goal.returns-in-Some
 returns-in-Some c =
