@@ -185,42 +185,50 @@ fn hash(config: Config) -> u64 {
     (mixed ^ (mixed >> 29)).wrapping_mul(0xbf58_476d_1ce4_e5b9) >> 24
 }
 
-/// A set of the configurations that were found, which is emptied by forgetting the homes.
+#[derive(Clone, Copy)]
+struct Place {
+    round: u32,
+    at: u32,
+}
+
+/// A set of the configurations that were found, which is emptied by beginning another round.
 struct Index {
-    places: Vec<usize>,
-    homes: Vec<usize>,
+    places: Vec<Place>,
+    round: u32,
 }
 
 impl Index {
+    fn new(count: usize) -> Index {
+        Index { places: vec![Place { round: 0, at: 0 }; count], round: 1 }
+    }
+
     fn place_for(&self, found: &[Branch], config: Config) -> Option<usize> {
-        let count = self.places.len();
-        let mut place = hash(config) as usize % count;
+        let last = self.places.len() - 1;
+        let mut place = hash(config) as usize & last;
         loop {
-            let at = self.places[place];
-            if at >= self.homes.len() || self.homes[at] != place {
+            let taken = self.places[place];
+            if taken.round != self.round {
                 return Some(place);
             }
-            if found[at].config == config {
+            if found[taken.at as usize].config == config {
                 return None;
             }
-            place = if place + 1 < count { place + 1 } else { 0 };
+            place = (place + 1) & last;
         }
     }
 
-    fn note(&mut self, place: usize) {
-        self.places[place] = self.homes.len();
-        self.homes.push(place);
+    fn note(&mut self, place: usize, at: usize) {
+        self.places[place] = Place { round: self.round, at: at as u32 };
     }
 
     fn widen(&mut self, found: &[Branch]) {
         if found.len() <= self.places.len() / 4 {
             return;
         }
-        self.places = vec![0; self.places.len() * 4];
-        self.homes.clear();
+        *self = Index::new(self.places.len() * 4);
         for at in 0..found.len() {
             let place = self.place_for(&found[..at], found[at].config).unwrap();
-            self.note(place);
+            self.note(place, at);
         }
     }
 }
@@ -307,7 +315,7 @@ impl Closing<'_> {
                 to.trail = Some(self.nodes.len() - 1);
             }
         }
-        self.index.note(place);
+        self.index.note(place, self.found.len());
         self.found.push(to);
         true
     }
@@ -316,6 +324,9 @@ impl Closing<'_> {
         for slot in 0..self.table.len() {
             let Some(open) = self.table[slot] else { continue };
             if has(from.config.taken, slot) {
+                continue;
+            }
+            if matches!(open.promise, Some(Reply::Old(told)) if told != from.config.word) {
                 continue;
             }
             let (word, reply) = apply(open.call.op, from.config.word);
@@ -331,7 +342,7 @@ impl Closing<'_> {
     }
 
     fn close(&mut self, branches: &[Branch], slot: usize) -> bool {
-        self.index.homes.clear();
+        self.index.round = self.index.round.wrapping_add(1);
         for branch in branches {
             self.index.widen(&self.found);
             if !self.add(branch.config, branch.trail, None) {
@@ -369,7 +380,7 @@ impl Search {
                 .map(|word| vec![Branch { config: Config { word: *word, taken: 0 }, trail: None }])
                 .collect(),
             nodes: Vec::new(),
-            index: Index { places: vec![0; 64], homes: Vec::new() },
+            index: Index::new(64),
             most: NODES,
             stuck: None,
         }

@@ -37,34 +37,21 @@ less_unlike c d es fs here there has like =
     has.2 (subst (λ (gs : List Effect). IsIn gs has.0) (sym there)
     ((like.effects has.0).1 (subst (λ (gs : List Effect). IsIn gs has.0) here has.1)))
 
--- one state more is unlike another
-pub unlike_more : {A : Type 0} (found : List (State A)) (at i : ℕ) (s t : State A)
-    → slice_get found i ≡ Some s → slice_get found at ≡ Some t → (IsLike (config_of s) (config_of t) → ⊥)
-    → ((k : ℕ) (c d : Config) → k < i → slice_get (configs_of found) k ≡ Some c
-    → slice_get (configs_of found) at ≡ Some d → IsLike c d → ⊥)
-    → (k : ℕ) (c d : Config) → k < i + 1 → slice_get (configs_of found) k ≡ Some c
-    → slice_get (configs_of found) at ≡ Some d → IsLike c d → ⊥
-unlike_more found at i s t here there never was k c d l h g like = ⊎_elim {C = ⊥}
-    (λ (e : k ≡ i).
-    let h2 : slice_get (configs_of found) i ≡ Some c = ap (λ (n : ℕ). slice_get (configs_of found) n) (sym e) ∙ h in
-    never (subst (λ (x : Config). IsLike x (config_of t)) (sym (config_at found i s c here h2))
-    (subst (λ (x : Config). IsLike c x) (sym (config_at found at t d there g)) like)))
-    (λ (ne : k ≢ i). was k c d (omega arith) h g like)
-    (cases_eq k i)
-
--- a state that is unlike all before it
-pub new_more : (at : ℕ) (configs : List Config)
-    → ((i : ℕ) (c d : Config) → i < at → slice_get configs i ≡ Some c → slice_get configs at ≡ Some d → IsLike c d → ⊥)
-    → AreUnlike at configs → AreUnlike (at + 1) configs
-new_more at configs new was i j c d l m h g like = ⊎_elim {C = ⊥}
-    (λ (e : j ≡ at).
-    let g2 : slice_get configs at ≡ Some d = ap (λ (n : ℕ). slice_get configs n) (sym e) ∙ g in
-    new i c d (omega arith) h g2 like)
-    (λ (ne : j ≢ at). was i j c d l (omega arith) h g like)
-    (cases_eq j at)
-
-pub new_none : (configs : List Config) → AreUnlike 0 configs
-new_none configs i j c d l m h g like = absurd (omega arith)
+-- each effect of either is one of the other
+pub both_like : (c d : Config) (es fs gs hs : List Effect) → es ≡ c.effects → fs ≡ d.effects → gs ≡ d.effects
+    → hs ≡ c.effects → c.word ≡ d.word → ((k : ℕ) (e : Effect) → slice_get es k ≡ Some e → IsIn fs e)
+    → ((k : ℕ) (e : Effect) → slice_get gs k ≡ Some e → IsIn hs e) → IsLike c d
+both_like c d es fs gs hs here there back again word in_d in_c = record {
+  word = word;
+  effects = λ e. (
+    (λ on.
+        let h : IsIn es e = subst (λ (xs : List Effect). IsIn xs e) (sym here) on in
+        subst (λ (xs : List Effect). IsIn xs e) there (in_d h.0 e h.1)),
+    (λ on.
+        let h : IsIn gs e = subst (λ (xs : List Effect). IsIn xs e) (sym back) on in
+        subst (λ (xs : List Effect). IsIn xs e) again (in_c h.0 e h.1)),
+  );
+}
 
 -- an operation takes effect, and there are too many
 pub one_gives_up : (at : ℕ) (call : Call) (bound : ℕ) (old new : List Config) → Expands at (call ∷ []) old new
@@ -79,16 +66,6 @@ more_give_up at calls bound old i new later call here next was = record {
       next.sound all (λ c on. subst (λ (d : Call). IsIn all d) (one_in call c on) (among call (i, here))) opening trace w
       inside pending (was.sound all among opening trace w inside pending explained);
   crowd = next.crowd;
-}
-
--- the first so many states are too many
-pub crowd_of : {A : Type 0} (states : List (State A)) (count bound : ℕ) → count ≤ length states
-    → AreUnlike count (configs_of states) → (bound < count) ⊎ (1024 < count) → IsCrowd bound (configs_of states)
-crowd_of states count bound low unlike many = record {
-  count = count;
-  there = let e = long_configs states in omega arith;
-  unlike = unlike;
-  many = many;
 }
 
 -- copies are too many

@@ -45,7 +45,7 @@ more_goes old new c more = ⊎_elim {C = GoesOn old new}
     (λ (e : new ≡ old ++ c ∷ []). (c ∷ [], e))
     more
 
-like_self : (c : Config) → IsLike c c
+pub like_self : (c : Config) → IsLike c c
 like_self c = record { word = refl; effects = λ e. ((λ on. on), (λ on. on)) }
 
 pub more_among : (old new : List Config) (c : Config) → IsOneMore old c new → IsAmong new c

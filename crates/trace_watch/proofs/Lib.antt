@@ -8,4 +8,6 @@ pub mod Loops
 pub mod Beginning
 pub mod Watching
 pub mod Crowding
+pub mod Chains
+pub mod Few
 pub mod Answering

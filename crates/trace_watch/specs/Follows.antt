@@ -14,8 +14,8 @@ use Rattle.trace_watch.specs.declared.watch.Seen.TheVariants.{Linearizable, NotL
 use Rattle.trace_watch.specs.declared.watch.Full.{Full}
 use Rattle.trace_watch.specs.declared.watch.Full.TheVariants.{Memory, Configurations}
 use Rattle.trace_watch.specs.States.{Config, configs_of}
-use Rattle.trace_watch.specs.Known.{Knows, AreExplained, ArePending, IsNewest, IsPending}
-use Rattle.trace_watch.specs.Crowds.{IsCrowd}
+use Rattle.trace_watch.specs.Known.{Knows, AreExplained, ArePending, ArePendingOn, IsNewest, IsPending}
+use Rattle.trace_watch.specs.Crowds.{AreFew, IsCrowd}
 
 -- what there is of each word
 abbrev pub states_of : {A : Type 0} → List (Vec (State A) A) → ℕ → List Config
@@ -44,8 +44,7 @@ TellsSeen opening trace event watch NotLinearizable = Follows opening trace watc
 TellsSeen opening trace event watch NoTrace = Follows opening trace watch
     × (IsTrace (length opening) (trace ++ event ∷ []) → ⊥)
 
--- a word has more configurations than so many, or more than 1024: orders lead to them, and no two
--- say the same
+-- a word has more configurations than so many: orders lead to them, and no two say the same
 pub record HasMany (opening : List ℕ) (trace : List Event) (w bound : ℕ) : Type 0 where
   pub configs : List Config
   pub explained : AreExplained opening trace w configs
@@ -65,3 +64,11 @@ pub record AnswersMany (opening : List ℕ) (trace : List Event) (event : Event)
 abbrev pub TellsFull : List ℕ → List Event → Event → ℕ → Full → Type 0
 TellsFull opening trace event bound Memory = Unit {0}
 TellsFull opening trace event bound Configurations = AnswersMany opening trace event bound
+
+-- where an event answers an open operation, the open ones on its word lead to no more than so many
+-- configurations from those that a watch holds of it
+abbrev pub AnswersFew : {A : Type 0} → List Event → Event → ℕ → Watch A → Type 0
+AnswersFew trace event bound watch = (call : Call) (reply : Reply) (calls : List Call)
+    → IsPending trace call → event ≡ Answer call.id reply
+    → ArePendingOn trace call.operation.address calls
+    → AreFew call.id calls bound (states_of watch.words.items call.operation.address)

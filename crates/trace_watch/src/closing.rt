@@ -1,15 +1,15 @@
 //! Lets open operations take effect, until the answered one has.
 
-ghost use Rattle.std.specs.Prelude.{◌≡◌, ◌<◌, ℕ, List, [], ◌∷◌, ◌++◌, Some, IfErr, IfOk, OnOk, length, slice_get};
+ghost use Rattle.std.specs.Prelude.{◌≡◌, ◌<◌, ◌≤◌, ℕ, List, [], ◌∷◌, ◌++◌, Some, IfErr, IfOk, OnOk, length, max, slice_get};
 ghost use Rattle.trace_order.specs.declared.event.Call.{Call};
 ghost use Rattle.trace_search.specs.Configs.{IsIn};
 ghost use Rattle.trace_watch.specs.States.{Config, AreReleased, IsAmong, IsExpanded, config_of, configs_of};
 ghost use Rattle.trace_watch.specs.declared.watch.Full.TheVariants.{Configurations};
-ghost use Rattle.trace_watch.specs.Crowds.{GivesUp, IsCrowd, IsOverfull};
+ghost use Rattle.trace_watch.specs.Chains.{IsIndexed};
+ghost use Rattle.trace_watch.specs.Crowds.{AreFew, GivesUp, IsCrowd, IsOverfull};
 ghost use Rattle.trace_watch.specs.Closed.{GoesOn, Expands, Copies, Closes, IsAnsweredBy, IsOneMore};
 
-use crate::crowds::are_too_many;
-use crate::index::{Index, empty_index};
+use crate::index::{Index, empty_index, widen};
 use crate::state::{Effect, State, after, copy_of, has_effect, is_in, without};
 use crate::watch::Full;
 use packet::Reply;
@@ -31,18 +31,21 @@ fn add<A: Allocator + Copy>(
     state: State<A>,
     bound: usize,
 ) -> Result<(), Full>
+    requires { IsIndexed index.old (configs_of found.old.items) }
     ensures added { OnOk result
         (IsOneMore (configs_of found.old.items) (config_of state) (configs_of found.new.items)) }
     ensures full { IfErr result (λ full. full ≡ Configurations
         → IsOneMore (configs_of found.old.items) (config_of state) (configs_of found.new.items)
         × IsCrowd bound (configs_of found.new.items)) }
+    ensures few { OnOk result (length found.new.items ≤ max bound (length found.old.items)) }
+    ensures indexed { OnOk result (IsIndexed index.new (configs_of found.new.items)) }
 {
-    let Some(place) = index.place_for(found, &state) else {
+    if index.is_there(found, &state) {
         return Ok(());
-    };
-    index.note(place)?;
+    }
+    index.note(&state)?;
     push(found, state)?;
-    if are_too_many(found, bound) {
+    if found.len() > bound {
         return Err(Full::Configurations);
     }
     Ok(())
@@ -57,11 +60,14 @@ fn attempt<A: Allocator + Copy>(
     call: Call,
     bound: usize,
 ) -> Result<(), Full>
-    requires { at < length found.old.items }
+    requires inside { at < length found.old.items }
+    requires indexed { IsIndexed index.old (configs_of found.old.items) }
     ensures expands { OnOk result
         (Expands at (call ∷ []) (configs_of found.old.items) (configs_of found.new.items)) }
     ensures full { IfErr result (λ full. full ≡ Configurations
         → GivesUp (call ∷ []) bound (configs_of found.old.items) (configs_of found.new.items)) }
+    ensures few { OnOk result (length found.new.items ≤ max bound (length found.old.items)) }
+    ensures indexed { OnOk result (IsIndexed index.new (configs_of found.new.items)) }
 {
     let state = &found[at];
     if has_effect(&state.effects, call.id) {
@@ -81,11 +87,14 @@ fn expand<A: Allocator + Copy>(
     calls: &[Call],
     bound: usize,
 ) -> Result<(), Full>
-    requires { at < length found.old.items }
+    requires inside { at < length found.old.items }
+    requires indexed { IsIndexed index.old (configs_of found.old.items) }
     ensures expands { OnOk result
         (Expands at calls.now (configs_of found.old.items) (configs_of found.new.items)) }
     ensures full { IfErr result (λ full. full ≡ Configurations
         → GivesUp calls.now bound (configs_of found.old.items) (configs_of found.new.items)) }
+    ensures few { OnOk result (length found.new.items ≤ max bound (length found.old.items)) }
+    ensures indexed { OnOk result (IsIndexed index.new (configs_of found.new.items)) }
 {
     for i in 0..calls.len() {
         attempt(alloc, found, index, at, calls[i], bound)?;
@@ -100,15 +109,18 @@ fn copies<A: Allocator + Copy>(
     index: &mut Index<A>,
     bound: usize,
 ) -> Result<Vec<State<A>, A>, Full>
+    requires { IsIndexed index.old [] }
     ensures copies { IfOk result (λ v. Copies (configs_of states.now) (configs_of v.items)) }
     ensures full { IfErr result (λ full. full ≡ Configurations → (calls : List Call)
         → IsOverfull calls bound (configs_of states.now)) }
+    ensures few { IfOk result (λ v. length v.items ≤ bound) }
+    ensures indexed { IfOk result (λ v. IsIndexed index.new (configs_of v.items)) }
 {
     let mut found = Vec::new(alloc);
     for i in 0..states.len() {
         let state = &states[i];
         let copy = copy_of(alloc, state)?;
-        index.widen(alloc, &found)?;
+        widen(alloc, index, &found)?;
         add(&mut found, index, copy, bound)?;
     }
     Ok(found)
@@ -124,10 +136,12 @@ fn close<A: Allocator + Copy>(
     id: u64,
     bound: usize,
 ) -> Result<Vec<State<A>, A>, Full>
+    requires { IsIndexed index.old [] }
     ensures closes { IfOk result (λ v. Closes id calls.now (configs_of states.now)
         (configs_of v.items)) }
     ensures full { IfErr result (λ full. full ≡ Configurations
         → IsOverfull calls.now bound (configs_of states.now)) }
+    ensures few { IfOk result (λ v. AreFew id calls.now bound (configs_of states.now)) }
 {
     let mut found = copies(alloc, states, index, bound)?;
     for next in 0..usize::MAX {
@@ -136,7 +150,7 @@ fn close<A: Allocator + Copy>(
         }
         let state = &found[next];
         if !has_effect(&state.effects, id) {
-            index.widen(alloc, &found)?;
+            widen(alloc, index, &found)?;
             expand(alloc, &mut found, index, next, calls, bound)?;
         }
     }
@@ -177,6 +191,7 @@ pub(crate) fn answered<A: Allocator + Copy>(
         (configs_of v.items)) }
     ensures full { IfErr result (λ full. full ≡ Configurations
         → IsOverfull calls.now bound (configs_of states.now)) }
+    ensures few { IfOk result (λ v. AreFew id calls.now bound (configs_of states.now)) }
 {
     let mut index = empty_index(alloc)?;
     let found = close(alloc, states, &mut index, calls, id, bound)?;

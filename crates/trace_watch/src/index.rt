@@ -1,111 +1,156 @@
 //! Where states are among those that were found.
 
-ghost use Rattle.std.specs.Prelude.{◌≡◌, None};
-ghost use Rattle.trace_watch.specs.States.{IsAmong, config_of, configs_of};
+ghost use Rattle.std.specs.Prelude.{◌≡◌, ◌<◌, ◌+◌, ◌*◌, ◌%◌, ◌^◌, ℕ, List, [], Some, true, false, length, slice_get};
+ghost use Rattle.std.specs.Prelude.{IfOk, OnOk, bit_or};
+ghost use Rattle.trace_watch.specs.Chains.{AreChained, IsIndexed, IsMask, place_of, spot_of, told};
+ghost use Rattle.trace_watch.specs.States.{Config, IsAmong, config_of, configs_of};
 
 use crate::state::{Effect, State, is_like};
 use packet::Reply;
 use std::alloc::{AllocError, Allocator};
 
-/// How many places there are at first: a power of two, as later on.
-const PLACES: usize = 64;
+/// How many places there are at first: an odd number, as later on, so that each bit of a mask counts.
+const PLACES: usize = 97;
 
 /// Where there are more places than these, they stay as many.
 const MOST_PLACES: usize = 1 << 40;
 
-/// Places of which some tell the number of a state. What a place tells counts where the home of this
-/// state is that place, so to forget all is to forget the homes.
+/// Chains of states, of which each begins at a place. A number is one more than that of a state, and
+/// 0 where there is none.
 #[derive(Drop)]
 pub struct Index<A: Allocator> {
-    pub places: Vec<usize, A>,
-    pub homes: Vec<usize, A>,
+    /// Of each place the newest state of its chain.
+    pub heads: Vec<usize, A>,
+    /// Of each state the one before it in its chain.
+    pub links: Vec<usize, A>,
 }
 
-/// An index that knows of no state.
-pub(crate) fn empty_index<A: Allocator + Copy>(alloc: A) -> Result<Index<A>, AllocError> {
+/// An index of no states, with so many places.
+fn index_of<A: Allocator + Copy>(alloc: A, count: usize) -> Result<Index<A>, AllocError>
+    requires { 0 < count }
+    ensures { IfOk result (λ index. IsIndexed index []) }
+{
     Ok(Index {
-        places: vec![in alloc; 0usize; PLACES]?,
-        homes: Vec::new(alloc),
+        heads: vec![in alloc; 0usize; count]?,
+        links: Vec::new(alloc),
     })
 }
 
-/// What an effect adds to the place at which the search for its state begins.
-fn share(effect: Effect) -> u64 {
-    let told = match effect.reply {
-        Reply::Ok => 1,
-        Reply::Old(word) => word.wrapping_mul(0xc2b2_ae3d_27d4_eb4f) ^ 2,
-    };
-    let mixed = effect.id.wrapping_mul(0x9e37_79b9_7f4a_7c15) ^ told;
-    (mixed ^ (mixed >> 29)).wrapping_mul(0xbf58_476d_1ce4_e5b9)
+/// An index of no states.
+pub(crate) fn empty_index<A: Allocator + Copy>(alloc: A) -> Result<Index<A>, AllocError>
+    ensures { IfOk result (λ index. IsIndexed index []) }
+{
+    index_of(alloc, PLACES)
 }
 
-/// The place at which the search for a state begins, in whatever order its operations took effect.
-fn hash<A: Allocator>(state: &State<A>) -> u64 {
-    let mut sum = state.word.wrapping_mul(0xd6e8_feb8_6659_fd93);
-    for i in 0..state.effects.len() {
-        sum = sum.wrapping_add(share(state.effects[i]));
+/// The word of a reply, or 0.
+fn told(reply: Reply) -> u64
+    ensures { result ≡ told reply }
+{
+    match reply {
+        Reply::Ok => 0,
+        Reply::Old(word) => word,
     }
-    (sum ^ (sum >> 32)).wrapping_mul(0xbf58_476d_1ce4_e5b9) >> 24
+}
+
+/// The mask with the bit of one more effect.
+fn marked(mask: u64, effect: Effect) -> u64
+    ensures { result ≡ bit_or mask (1 * 2 ^ spot_of effect % 2 ^ 64) }
+{
+    let spot = (effect.id % 64 + told(effect.reply) % 64 * 11) % 64;
+    mask | (1 << spot)
+}
+
+/// The bits of effects.
+fn mask_of(effects: &[Effect]) -> u64
+    ensures { IsMask effects.now result }
+{
+    let mut mask = 0;
+    for i in 0..effects.len() {
+        mask = marked(mask, effects[i]);
+    }
+    mask
+}
+
+/// Of so many places the one of a state, in whatever order its operations took effect.
+fn place<A: Allocator>(state: &State<A>, count: usize) -> usize
+    requires { 0 < count }
+    ensures low { result < count }
+    ensures place { (mask : ℕ) × IsMask state.now.effects.items mask
+        × (result ≡ place_of count state.now.word mask) }
+{
+    let mask = mask_of(&state.effects);
+    let count = count as u64;
+    ((state.word % count).wrapping_add(mask % count) % count) as usize
 }
 
 impl<A: Allocator + Copy> Index<A> {
-    /// The number of a state that a place tells.
-    fn told(&self, place: usize) -> Option<usize> {
-        if place >= self.places.len() {
-            return None;
-        }
-        let at = self.places[place];
-        if at < self.homes.len() && self.homes[at] == place {
-            Some(at)
-        } else {
-            None
-        }
-    }
-
-    /// Where the next state is to be noted, if there is none that says the same.
-    pub(crate) fn place_for(&self, found: &[State<A>], state: &State<A>) -> Option<usize>
-        ensures { result ≡ None → IsAmong (configs_of found.now) (config_of state.now) }
+    /// Whether one of the states says the same as this one.
+    pub(crate) fn is_there(&self, found: &[State<A>], state: &State<A>) -> bool
+        requires { IsIndexed self.now (configs_of found.now) }
+        ensures yes { result ≡ true → IsAmong (configs_of found.now) (config_of state.now) }
+        ensures no { result ≡ false → IsAmong (configs_of found.now) (config_of state.now) → ⊥ }
     {
-        let count = self.places.len();
-        if count == 0 {
-            return Some(0);
-        }
-        let last = count - 1;
-        let mut place = hash(state) as usize & last;
-        for _ in 0..count {
-            let Some(at) = self.told(place) else {
-                return Some(place);
-            };
-            if at < found.len() && is_like(&found[at], state) {
-                return None;
+        let mut next = self.heads[place(state, self.heads.len())];
+        while next > 0 {
+            let at = next - 1;
+            if is_like(&found[at], state) {
+                return true;
             }
-            place = place.wrapping_add(1) & last;
+            next = self.links[at];
         }
-        Some(count)
+        false
     }
 
-    /// Notes the next state.
-    pub(crate) fn note(&mut self, place: usize) -> Result<(), AllocError> {
-        if place < self.places.len() {
-            let at = self.homes.len();
-            self.places[place] = at;
-        }
-        self.homes.push(place)?;
+    /// Puts the next state into its chain.
+    pub(crate) fn note(&mut self, state: &State<A>) -> Result<(), AllocError>
+        requires { 0 < length self.old.heads.items }
+        ensures places { OnOk result (length self.new.heads.items ≡ length self.old.heads.items) }
+        ensures long { OnOk result
+            (length self.new.links.items ≡ length self.old.links.items + 1) }
+        ensures chained { OnOk result ((found : List Config)
+            → AreChained self.old.heads.items self.old.links.items found
+            → slice_get found (length self.old.links.items) ≡ Some (config_of state.now)
+            → AreChained self.new.heads.items self.new.links.items found) }
+    {
+        let place = place(state, self.heads.len());
+        self.links.push(self.heads[place])?;
+        self.heads[place] = self.links.len();
         Ok(())
     }
+}
 
-    /// Makes four times as many places, where a quarter is taken.
-    pub(crate) fn widen(&mut self, alloc: A, found: &[State<A>]) -> Result<(), AllocError> {
-        let count = self.places.len();
-        if found.len() <= count / 4 || count > MOST_PLACES {
-            return Ok(());
-        }
-        self.places = vec![in alloc; 0usize; count * 4]?;
-        self.homes.clear();
-        for at in 0..found.len() {
-            let place = self.place_for(&found[..at], &found[at]);
-            self.note(place.unwrap_or(count * 4))?;
-        }
-        Ok(())
+/// An index of these states, with so many places.
+fn index_with<A: Allocator + Copy>(
+    alloc: A,
+    count: usize,
+    found: &[State<A>],
+) -> Result<Index<A>, AllocError>
+    requires { 0 < count }
+    ensures { IfOk result (λ index. AreChained index.heads.items index.links.items
+        (configs_of found.now) × (length index.links.items ≡ length found.now)
+        × (0 < length index.heads.items)) }
+{
+    let mut index = index_of(alloc, count)?;
+    for at in 0..found.len() {
+        index.note(&found[at])?;
     }
+    Ok(index)
+}
+
+/// Makes four times as many places, where there are more states than places.
+pub(crate) fn widen<A: Allocator + Copy>(
+    alloc: A,
+    index: &mut Index<A>,
+    found: &[State<A>],
+) -> Result<(), AllocError>
+    requires { IsIndexed index.old (configs_of found.now) }
+    ensures { OnOk result (IsIndexed index.new (configs_of found.now)) }
+{
+    let count = index.heads.len();
+    if found.len() <= count || count > MOST_PLACES {
+        return Ok(());
+    }
+    *index = index_with(alloc, count * 4 + 1, found)?;
+    Ok(())
 }

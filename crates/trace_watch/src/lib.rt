@@ -3,8 +3,7 @@
 #![tactic(auto)]
 
 mod closing;
-mod crowds;
-mod index;
+pub mod index;
 mod pending;
 pub mod state;
 pub mod watch;

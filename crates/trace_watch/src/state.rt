@@ -51,8 +51,9 @@ pub(crate) fn is_in(effects: &[Effect], effect: Effect) -> bool
 
 /// Whether each of some effects is one of others.
 fn are_in(some: &[Effect], others: &[Effect]) -> bool
-    ensures { result ≡ true → (k : ℕ) (e : Effect) → slice_get some.now k ≡ Some e
+    ensures yes { result ≡ true → (k : ℕ) (e : Effect) → slice_get some.now k ≡ Some e
         → IsIn others.now e }
+    ensures no { result ≡ false → (e : Effect) × IsIn some.now e × (IsIn others.now e → ⊥) }
 {
     for i in 0..some.len() {
         if !is_in(others, some[i]) {
@@ -62,43 +63,18 @@ fn are_in(some: &[Effect], others: &[Effect]) -> bool
     true
 }
 
-/// Whether the effects of one are those of another.
-fn are_same(some: &[Effect], others: &[Effect]) -> bool
-    ensures { result ≡ true → (e : Effect) → IsIn some.now e ↔ IsIn others.now e }
-{
-    some.len() == others.len() && are_in(some, others) && are_in(others, some)
-}
-
 /// Whether two states say the same.
 pub(crate) fn is_like<A: Allocator>(one: &State<A>, other: &State<A>) -> bool
-    ensures { result ≡ true → IsLike (config_of one.now) (config_of other.now) }
-{
-    one.word == other.word && are_same(&one.effects, &other.effects)
-}
-
-/// Whether some effects have one that others don't have.
-fn has_more(some: &[Effect], others: &[Effect]) -> bool
-    ensures { result ≡ true → (e : Effect) × IsIn some.now e × (IsIn others.now e → ⊥) }
-{
-    for i in 0..some.len() {
-        if !is_in(others, some[i]) {
-            return true;
-        }
-    }
-    false
-}
-
-/// Whether two states don't say the same.
-pub(crate) fn is_unlike<A: Allocator>(one: &State<A>, other: &State<A>) -> bool
-    ensures { result ≡ true → IsLike (config_of one.now) (config_of other.now) → ⊥ }
+    ensures yes { result ≡ true → IsLike (config_of one.now) (config_of other.now) }
+    ensures no { result ≡ false → IsLike (config_of one.now) (config_of other.now) → ⊥ }
 {
     if one.word != other.word {
-        return true;
+        return false;
     }
-    if has_more(&one.effects, &other.effects) {
-        return true;
+    if !are_in(&one.effects, &other.effects) {
+        return false;
     }
-    has_more(&other.effects, &one.effects)
+    are_in(&other.effects, &one.effects)
 }
 
 /// The same effects.

@@ -5,7 +5,7 @@ ghost use Rattle.std.specs.Prelude.{slice_index};
 ghost use Rattle.trace_order.specs.declared.event.Event.{Event};
 ghost use Rattle.trace_order.specs.declared.event.Event.TheVariants.{Issue, Answer};
 ghost use Rattle.trace_watch.specs.declared.watch.Full.TheVariants.{Memory};
-ghost use Rattle.trace_watch.specs.Follows.{Follows, TellsFull, TellsSeen, states_of};
+ghost use Rattle.trace_watch.specs.Follows.{AnswersFew, Follows, TellsFull, TellsSeen, states_of};
 ghost use Rattle.trace_watch.specs.States.{configs_of};
 
 use crate::closing::answered;
@@ -130,6 +130,9 @@ impl<A: Allocator + Copy> Watch<A> {
         ensures full { IfErr result (λ full. (opening : List ℕ) (trace : List Event)
             → Follows opening trace self.old
             → TellsFull opening trace (Answer id reply) bound full) }
+        ensures few { IfOk result (λ seen. (opening : List ℕ) (trace : List Event)
+            → Follows opening trace self.old
+            → AnswersFew trace (Answer id reply) bound self.old) }
     {
         let Some(call) = call_of(&self.pending, id) else {
             return Ok(Seen::NoTrace);
@@ -158,6 +161,8 @@ impl<A: Allocator + Copy> Watch<A> {
             → Follows opening trace self.old → Follows opening trace self.new) }
         ensures full { IfErr result (λ full. (opening : List ℕ) (trace : List Event)
             → Follows opening trace self.old → TellsFull opening trace event bound full) }
+        ensures few { IfOk result (λ seen. (opening : List ℕ) (trace : List Event)
+            → Follows opening trace self.old → AnswersFew trace event bound self.old) }
     {
         match event {
             Event::Issue(call) => self.issue(alloc, call),

@@ -162,7 +162,7 @@ fn beside_six_swaps(alloc: Global, bound: usize) -> Told {
 }
 
 #[test]
-fn bounds_above_what_is_compared(rt: HostRuntime) -> Result<(), Fail> {
+fn bounds_of_thousands(rt: HostRuntime) -> Result<(), Fail> {
     let alloc = rt.alloc();
     // In 1957 ways some of the six took effect, in some order; and then the answered one did, or didn't yet.
     let most = Told::Full(7, Full::Configurations);

@@ -1,6 +1,12 @@
+use Rattle.std.proofs.Common.{◌≤◌, length}
 use Rattle.trace_watch.specs.States.{configs_of}
+use Rattle.trace_watch.specs.Chains.{IsIndexed}
 use Rattle.trace_watch.proofs.Growth.{Closing}
 use Rattle.trace_watch.proofs.closing.close.Given as goal
 
 abbrev pub invariant-loop-next : goal.invariant-loop-next
-invariant-loop-next g l = Closing l.id l.calls (configs_of l.initial.found.items) l.next (configs_of l.found.items)
+invariant-loop-next g l = record {
+  was : Closing l.id l.calls (configs_of l.initial.found.items) l.next (configs_of l.found.items);
+  few : length l.found.items ≤ l.bound;
+  indexed : IsIndexed l.index (configs_of l.found.items);
+}

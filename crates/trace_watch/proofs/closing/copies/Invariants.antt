@@ -1,6 +1,12 @@
+use Rattle.std.proofs.Common.{◌≤◌, length}
 use Rattle.trace_watch.specs.States.{configs_of}
+use Rattle.trace_watch.specs.Chains.{IsIndexed}
 use Rattle.trace_watch.proofs.Growth.{Copying}
 use Rattle.trace_watch.proofs.closing.copies.Given as goal
 
 abbrev pub invariant-loop-i : goal.invariant-loop-i
-invariant-loop-i g l = Copying (configs_of l.states) l.i (configs_of l.found.items)
+invariant-loop-i g l = record {
+  was : Copying (configs_of l.states) l.i (configs_of l.found.items);
+  few : length l.found.items ≤ l.bound;
+  indexed : IsIndexed l.index (configs_of l.found.items);
+}

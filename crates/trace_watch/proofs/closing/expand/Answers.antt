@@ -8,18 +8,27 @@ use Rattle.trace_watch.proofs.Loops.{at_inside}
 use Rattle.trace_watch.proofs.closing.expand.Goals as goal
 
 pub loop-i-init : goal.loop-i-init
-loop-i-init g c = expanding_none c.args.at c.args.calls.now (configs_of c.args.found.now.items)
+loop-i-init g c = record {
+  was = expanding_none c.args.at c.args.calls.now (configs_of c.args.found.now.items);
+  few = omega arith;
+  indexed = c.requires.indexed;
+}
 
-pub attempt-requires : goal.attempt-requires
-attempt-requires g c =
-    at_inside c.args.found.now.items c.loop-i.found.items c.args.at c.requires c.loop-i.invariant.grows
+pub attempt-requires-clause-inside : goal.attempt-requires-clause-inside
+attempt-requires-clause-inside g c =
+    at_inside c.args.found.now.items c.loop-i.found.items c.args.at c.requires.inside c.loop-i.invariant.was.grows
 
 pub loop-i-preserved : goal.loop-i-preserved
 loop-i-preserved g c =
     let l : c.loop-i.i < length c.args.calls.now = omega arith in
-    expanding_more c.args.at c.args.calls.now (configs_of c.args.found.now.items) c.loop-i.i (configs_of c.loop-i.found.items)
-    (configs_of c.attempt.new.found.items) _ (slice_get-get_or c.args.calls.now c.loop-i.i _ l)
-    (low_config c.args.found.now.items c.args.at c.requires) c.in_ok-attempt.ensures.expands c.loop-i.invariant
+    record {
+      was = expanding_more c.args.at c.args.calls.now (configs_of c.args.found.now.items) c.loop-i.i
+          (configs_of c.loop-i.found.items) (configs_of c.attempt.new.found.items) _
+          (slice_get-get_or c.args.calls.now c.loop-i.i _ l)
+          (low_config c.args.found.now.items c.args.at c.requires.inside) c.in_ok-attempt.ensures.expands c.loop-i.invariant.was;
+      few = let m = c.in_ok-attempt.ensures.few in let n = c.loop-i.invariant.few in omega arith;
+      indexed = c.in_ok-attempt.ensures.indexed;
+    }
 
 pub returns-in_err-attempt-clause-full : goal.returns-in_err-attempt-clause-full
 returns-in_err-attempt-clause-full g c =
@@ -28,9 +37,9 @@ returns-in_err-attempt-clause-full g c =
     rw (p.1, p.2) (λ e.
     more_give_up c.args.at c.args.calls.now c.args.bound (configs_of c.args.found.now.items) c.loop-i.i
     (configs_of c.loop-i.found.items) (configs_of c.attempt.new.found.items) _
-    (slice_get-get_or c.args.calls.now c.loop-i.i _ l) (c.in_err-attempt.ensures.full e) c.loop-i.invariant)
+    (slice_get-get_or c.args.calls.now c.loop-i.i _ l) (c.in_err-attempt.ensures.full e) c.loop-i.invariant.was)
 
 pub returns-clause-expands : goal.returns-clause-expands
 returns-clause-expands g c =
     expanding_all c.args.at c.args.calls.now (configs_of c.args.found.now.items) c.loop-i.i (configs_of c.loop-i.found.items)
-    (omega arith) c.loop-i.invariant
+    (omega arith) c.loop-i.invariant.was

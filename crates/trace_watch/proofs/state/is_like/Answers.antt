@@ -1,15 +1,20 @@
-use Rattle.std.proofs.Common.{List, sym, subst}
-use Rattle.trace_search.specs.Configs.{IsIn}
-use Rattle.trace_watch.specs.declared.state.Effect.{Effect}
+use Rattle.std.proofs.Common.{refl}
+use Rattle.trace_watch.specs.States.{config_of}
+use Rattle.trace_watch.proofs.Crowding.{more_unlike, less_unlike, both_like}
 use Rattle.trace_watch.proofs.state.is_like.Goals as goal
 
-pub returns-then-one-other : goal.returns-then-one-other
-returns-then-one-other g c = λ e. record {
-  word = c.if-one-other.true;
-  effects = λ f. (
-    (λ on. subst (λ (es : List Effect). IsIn es f) c.deref-then-one-other.ensures.value
-        ((c.are_same.ensures e f).0 (subst (λ (es : List Effect). IsIn es f) (sym c.deref.ensures.value) on))),
-    (λ on. subst (λ (es : List Effect). IsIn es f) c.deref.ensures.value
-        ((c.are_same.ensures e f).1 (subst (λ (es : List Effect). IsIn es f) (sym c.deref-then-one-other.ensures.value) on))),
-  );
-}
+pub returns-then-not-are_in-clause-no : goal.returns-then-not-are_in-clause-no
+returns-then-not-are_in-clause-no g c = λ t.
+    more_unlike (config_of c.args.one.now) (config_of c.args.other.now) c.deref.result.now c.deref-2.result.now
+    c.deref.ensures.value c.deref-2.ensures.value (c.if-not-are_in.ensures.no refl)
+
+pub returns-clause-yes : goal.returns-clause-yes
+returns-clause-yes g c = λ t.
+    both_like (config_of c.args.one.now) (config_of c.args.other.now) c.deref.result.now c.deref-2.result.now
+    c.deref-3.result.now c.deref-4.result.now c.deref.ensures.value c.deref-2.ensures.value c.deref-3.ensures.value
+    c.deref-4.ensures.value c.if-one-other.false (c.if-not-are_in.ensures.yes refl) (c.are_in-2.ensures.yes t)
+
+pub returns-clause-no : goal.returns-clause-no
+returns-clause-no g c = λ t.
+    less_unlike (config_of c.args.one.now) (config_of c.args.other.now) c.deref-3.result.now c.deref-4.result.now
+    c.deref-3.ensures.value c.deref-4.ensures.value (c.are_in-2.ensures.no t)

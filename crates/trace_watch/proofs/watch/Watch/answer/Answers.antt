@@ -4,6 +4,7 @@ use Rattle.std.proofs.lemmas.Result.{err_from_is_err_and}
 use Rattle.trace_order.specs.declared.event.Call.{Call}
 use Rattle.trace_search.specs.Configs.{IsIn}
 use Rattle.trace_watch.proofs.Crowding.{calls_read, over_read, full_told, answers_many}
+use Rattle.trace_watch.proofs.Few.{answers_few, far_few, few_read, none_few}
 use Rattle.trace_watch.proofs.Watching.{seen_not_pending, seen_no_word}
 use Rattle.trace_watch.proofs.Answering.{is_read, answer_yes, answer_no}
 use Rattle.trace_watch.proofs.watch.Watch.answer.Goals as goal
@@ -59,3 +60,40 @@ returns-clause-seen g c = λ opening trace f.
     c.deref-2.ensures.value c.deref-4.ensures.value c.deref-3.ensures.value c.index.ensures (omega arith)
     c.in-Some.ensures c.in_ok-calls.ensures c.in_ok-later.ensures.answered)
     c.if-is_empty.ensures c.deref-5.ensures.value c.in_ok-self.ensures refl f
+
+pub returns-then-word-len-clause-few : goal.returns-then-word-len-clause-few
+returns-then-word-len-clause-few g c = λ opening trace f.
+    let far = c.if-word-len.true in
+    let long = c.len.ensures in
+    far_few opening trace c.args.self.now c.in-Some.call c.args.id c.args.reply c.args.bound
+    (subst (λ (cs : List Call). IsIn cs c.in-Some.call) c.deref.ensures.value c.in-Some.ensures.0) (omega arith) f
+
+pub returns-then-is_empty-clause-few : goal.returns-then-is_empty-clause-few
+returns-then-is_empty-clause-few g c = λ opening trace f.
+    let near = c.if-word-len.false in
+    let long = c.len.ensures in
+    answers_few opening trace c.args.self.now c.in-Some.call c.args.id c.args.reply c.args.bound c.in_ok-calls.calls.items
+    (subst (λ (cs : List Call). IsIn cs c.in-Some.call) c.deref.ensures.value c.in-Some.ensures.0) c.in-Some.ensures.1
+    (calls_read c.args.self.now c.in-Some.call c.deref-2.result.now c.in_ok-calls.calls.items c.deref-2.ensures.value
+    c.in_ok-calls.ensures)
+    (few_read c.args.self.now c.in-Some.call c.args.id c.args.bound c.in_ok-calls.calls.items c.deref-4.result.now
+    c.index.result.now c.deref-3.result.now c.deref-4.ensures.value c.deref-3.ensures.value c.index.ensures (omega arith)
+    c.in_ok-later.ensures.few) f
+
+pub returns-clause-few : goal.returns-clause-few
+returns-clause-few g c = λ opening trace f.
+    let near = c.if-word-len.false in
+    let long = c.len.ensures in
+    answers_few opening trace c.args.self.now c.in-Some.call c.args.id c.args.reply c.args.bound c.in_ok-calls.calls.items
+    (subst (λ (cs : List Call). IsIn cs c.in-Some.call) c.deref.ensures.value c.in-Some.ensures.0) c.in-Some.ensures.1
+    (calls_read c.args.self.now c.in-Some.call c.deref-2.result.now c.in_ok-calls.calls.items c.deref-2.ensures.value
+    c.in_ok-calls.ensures)
+    (few_read c.args.self.now c.in-Some.call c.args.id c.args.bound c.in_ok-calls.calls.items c.deref-4.result.now
+    c.index.result.now c.deref-3.result.now c.deref-4.ensures.value c.deref-3.ensures.value c.index.ensures (omega arith)
+    c.in_ok-later.ensures.few) f
+
+pub returns-in_default-clause-few : goal.returns-in_default-clause-few
+returns-in_default-clause-few g c = λ opening trace f.
+    none_few opening trace c.args.self.now c.args.id c.args.reply c.args.bound
+    (λ k call h. (MatchOption-at_none {o = c.call_of.result} _ _ c.in_default.is c.call_of.ensures) k call
+    (ap (λ (cs : List Call). slice_get cs k) c.deref.ensures.value ∙ h)) f
