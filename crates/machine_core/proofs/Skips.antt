@@ -16,7 +16,9 @@ use Rattle.machine_growth.specs.core_wake.specs.Routers.{PortFlags, OtherPortsSl
 use Rattle.machine_growth.specs.machine_wake.specs.Ports.{AwakePorts, flags_of, take_rested, put_rested, credit_rested}
 use Rattle.machine_core.specs.declared.machine.Machine.TheInside.{Inside}
 use Rattle.machine_core.specs.Inside.{core_of, IsMachine}
-use Rattle.machine_core.specs.Rounds.{attempts_between}
+use Rattle.machine_core.specs.Rounds.{attempts_between, first_in}
+use Rattle.machine_core.proofs.FirstEnabled.{from_port, port_skipped}
+use Rattle.std.specs.Prelude.{is_some}
 use Rattle.machine_core.proofs.Fields.{with_parts}
 use Rattle.machine_core.proofs.RouterFlags.{lowered_is}
 use Rattle.machine_core.proofs.Rounds.{core_append, attempt_more}
@@ -96,6 +98,24 @@ module _ (f : ℕ → Choice) (agent : ℕ) where
       ∙ ap (core_after c)
       (sym (map-append (λ (choice : Choice). record { agent = agent; choice = choice }) first second)
       ∙ ap (attempts_of agent) (ap (λ (k : ℕ). first ++ map f (range_with_len k (to - from))) z ∙ sym (from_both 0 from (to - from)) ∙ ap (λ (n : ℕ). map f (range_with_len 0 n)) e))))
+
+-- the first of those from a port on is the first behind those that aren't enabled
+module _ (f : ℕ → Choice) (agent : ℕ) (c : Core) (ports : ℕ) where
+  some_passed : (n from : ℕ) → from + n ≤ ports → ((k : ℕ) → from ≤ k → k < from + n → IsIdle c (record { agent = agent; choice = f k }))
+      → first_in c (from_port f agent ports from) ≡ first_in c (from_port f agent ports (from + n))
+  some_passed zero from low none = let e : from ≡ from + 0 = omega arith in ap (λ (k : ℕ). first_in c (from_port f agent ports k)) e
+  some_passed (suc n) from low none =
+      let e : from + 1 + n ≡ from + suc n = omega arith in
+      port_skipped c f agent ports from (omega (arith, low)) (ap (λ (o : Option State). is_some o) (none from (omega arith) (omega arith)))
+      ∙ (some_passed n (from + 1) (omega (arith, low)) (λ k l m. none k (omega (arith, l)) (omega (arith, m)))
+      ∙ ap (λ (k : ℕ). first_in c (from_port f agent ports k)) e)
+
+  pub passed : (from to : ℕ) → from ≤ to → to ≤ ports → ((k : ℕ) → from ≤ k → k < to → IsIdle c (record { agent = agent; choice = f k }))
+      → first_in c (from_port f agent ports from) ≡ first_in c (from_port f agent ports to)
+  passed from to low high none =
+      let e : from + (to - from) ≡ to = omega (arith, low) in
+      some_passed (to - from) from (omega (arith, low, high)) (λ k l m. none k l (omega (arith, l, m, low)))
+      ∙ ap (λ (k : ℕ). first_in c (from_port f agent ports k)) e
 
 module _ {A : Type 0} (a : Inside A) (is : IsMachine a) where
   abbrev d : Design

@@ -1,6 +1,6 @@
 //! What a machine may be asked of its next step: whether a step is enabled, and which is the first.
 
-ghost use Rattle.std.specs.Prelude.{◌≡◌, ◌<◌, ◌↔◌, IsSome, None, false, is_some};
+ghost use Rattle.std.specs.Prelude.{◌≡◌, ◌+◌, ◌*◌, ◌<◌, ◌↔◌, IsSome, None, false, is_some};
 ghost use Rattle.torus.specs.declared.step.Step.{Step};
 ghost use Rattle.machine_growth.specs.core_laws.specs.Core.{step, attempts_of, round_at};
 ghost use Rattle.machine_growth.specs.core_progress.specs.Moves.{enabled_step};
@@ -58,6 +58,7 @@ impl<A: Allocator> Machine<A> {
     /// The first of the part of a round at one tile, of so many ports of its router.
     fn enabled_at(&self, ports: u32, tile: u32) -> Option<Step>
         requires tile { tile < 64 }
+        requires ports { ports < 32 }
         ensures { result ≡ first_in self.now (round_at ports tile) }
     {
         let processor = 3 * tile;
@@ -65,15 +66,15 @@ impl<A: Allocator> Machine<A> {
         if found.is_some() {
             return found;
         }
-        let found = self.enabled_take(processor + 1, ports);
+        let found = self.enabled_take(tile, ports);
         if found.is_some() {
             return found;
         }
-        let found = self.enabled_put(processor + 1, ports);
+        let found = self.enabled_put(tile, ports);
         if found.is_some() {
             return found;
         }
-        let found = self.enabled_credit(processor + 1, ports);
+        let found = self.enabled_credit(tile, ports);
         if found.is_some() {
             return found;
         }
@@ -96,50 +97,71 @@ impl<A: Allocator> Machine<A> {
         None
     }
 
-    /// The first take of a router, by its inputs.
-    fn enabled_take(&self, agent: u32, ports: u32) -> Option<Step>
-        ensures { result ≡ first_in self.now (attempts_of agent (takes_of_all ports)) }
+    /// The first take of a tile's router, by its inputs; one that doesn't count as awake isn't enabled.
+    fn enabled_take(&self, tile: u32, ports: u32) -> Option<Step>
+        requires tile { tile < 64 }
+        requires ports { ports < 32 }
+        ensures { result ≡ first_in self.now (attempts_of (3 * tile + 1) (takes_of_all ports)) }
     {
-        for input in 0..ports {
+        let mut from = 0;
+        while from < ports {
+            let Some(input) = self.ports.next_take(tile as usize, from, ports) else {
+                return None;
+            };
             let attempt = Step {
-                agent,
+                agent: 3 * tile + 1,
                 choice: Choice::TakeFrom(input),
             };
             if self.enabled(attempt) {
                 return Some(attempt);
             }
+            from = input + 1;
         }
         None
     }
 
-    /// The first put of a router, by its inputs.
-    fn enabled_put(&self, agent: u32, ports: u32) -> Option<Step>
-        ensures { result ≡ first_in self.now (attempts_of agent (puts_of_all ports)) }
+    /// The first put of a tile's router, by its inputs; one that doesn't count as awake isn't enabled.
+    fn enabled_put(&self, tile: u32, ports: u32) -> Option<Step>
+        requires tile { tile < 64 }
+        requires ports { ports < 32 }
+        ensures { result ≡ first_in self.now (attempts_of (3 * tile + 1) (puts_of_all ports)) }
     {
-        for input in 0..ports {
+        let mut from = 0;
+        while from < ports {
+            let Some(input) = self.ports.next_put(tile as usize, from, ports) else {
+                return None;
+            };
             let attempt = Step {
-                agent,
+                agent: 3 * tile + 1,
                 choice: Choice::Put(input),
             };
             if self.enabled(attempt) {
                 return Some(attempt);
             }
+            from = input + 1;
         }
         None
     }
 
-    /// The first credit of a router, by its outputs.
-    fn enabled_credit(&self, agent: u32, ports: u32) -> Option<Step>
-        ensures { result ≡ first_in self.now (attempts_of agent (credits_of_all ports)) }
+    /// The first credit of a tile's router, by its outputs; one that doesn't count as awake isn't enabled.
+    fn enabled_credit(&self, tile: u32, ports: u32) -> Option<Step>
+        requires tile { tile < 64 }
+        requires ports { ports < 32 }
+        ensures { result ≡ first_in self.now (attempts_of (3 * tile + 1) (credits_of_all ports)) }
     {
-        for output in 0..ports {
+        let mut from = 0;
+        while from < ports {
+            let Some(output) = self.ports.next_credit(tile as usize, from, ports) else {
+                return None;
+            };
             let attempt = Step {
-                agent,
+                agent: 3 * tile + 1,
                 choice: Choice::CreditOf(output),
             };
             if self.enabled(attempt) {
                 return Some(attempt);
             }
+            from = output + 1;
         }
         None
     }

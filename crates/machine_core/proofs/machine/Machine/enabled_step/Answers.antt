@@ -68,3 +68,9 @@ returns-clause-live g c = λ busy.
     let value : None ≡ enabled_step (built_to c.args.self.now) c.args.self.now.state = returns-clause-value g c in
     let after = subst (λ (v : Core). IsAfter c.self.invariant.load v c.self.invariant.steps) c.self.view_is c.self.invariant.after in
     ap is_some value ∙ live_asked c.self.invariant.load c.args.self.now c.self.invariant.steps after busy
+
+pub enabled_at-found-requires-clause-ports : goal.enabled_at-found-requires-clause-ports
+enabled_at-found-requires-clause-ports g c =
+    let few = c.dims.ensures.accepted.dims_high in
+    let same = c.dims.ensures.value in
+    omega (arith, few, same)
