@@ -6,10 +6,13 @@ use Rattle.run_told.specs.declared.sentence.EndSentence.{EndSentence}
 use Rattle.run_told.specs.declared.sentence.Course.{Course}
 use Rattle.run_told.specs.declared.sentence.Course.TheVariants.{Steps, Rounds, Turns}
 
--- a number of things of this name, which takes an s but for one, and what stands behind
+-- what a name takes for so many things: an s but for one
+abbrev pub plural_text : ℕ → List ℕ
+plural_text count = if count == 1 then [] else codes "s"
+
+-- a number of things of this name, and what stands behind
 abbrev pub so_many : ℕ → List ℕ → List ℕ → List ℕ
-so_many count name behind =
-    decimal count ++ codes " " ++ name ++ (if count == 1 then [] else codes "s") ++ behind
+so_many count name behind = decimal count ++ codes " " ++ name ++ plural_text count ++ behind
 
 -- the sentence on a spin that ran out of loads
 abbrev pub spin_text : SpinSentence → List ℕ
@@ -36,9 +39,16 @@ unfinished_text count = if count == 0 then codes ", not every processor has repo
 abbrev pub answered_text : ℕ → List ℕ
 answered_text count = if count == 1 then codes " is answered" else codes " are answered"
 
+-- how the sentence on a run begins
+abbrev pub begin_text : Bool → List ℕ
+begin_text finished = if finished then codes "finished: " else codes "stopped: "
+
+-- how many scripts aren't finished, where one isn't
+abbrev pub rest_text : Bool → ℕ → List ℕ
+rest_text finished count = if finished then [] else unfinished_text count
+
 -- the sentence on how a run ended
 abbrev pub end_text : EndSentence → List ℕ
-end_text s = (if s.finished then codes "finished: " else codes "stopped: ")
-    ++ course_text s.finished s.course
+end_text s = begin_text s.finished ++ course_text s.finished s.course
     ++ so_many s.answered (codes "operation") (answered_text s.answered)
-    ++ (if s.finished then [] else unfinished_text s.unfinished)
+    ++ rest_text s.finished s.unfinished

@@ -1,7 +1,9 @@
 //! What became of a run, in words.
 
 ghost use Rattle.std.specs.Fmt.{WritesOnOk};
-ghost use Rattle.run_told.specs.Sentences.{so_many, course_text, unfinished_text};
+ghost use Rattle.std.specs.Prelude.{◌≡◌, ◌++◌, codes};
+ghost use Rattle.run_told.specs.Sentences.{answered_text, begin_text, so_many, course_text, plural_text, rest_text};
+ghost use Rattle.run_told.specs.Sentences.{unfinished_text};
 
 use crate::scripts::EndedSpin;
 use std::fmt;
@@ -64,17 +66,26 @@ impl EndSentence {
     {
         match self.course {
             Course::Steps { moves } => put_count(f, moves, "move", ", "),
-            Course::Rounds { rounds, moves } => {
-                put_count(f, rounds, "round", ", ")?;
-                put_count(f, moves, "move", ", ")
-            }
+            Course::Rounds { rounds, moves } => put_rounds(f, rounds, moves),
             Course::Turns(turns) => {
                 if self.finished {
-                    return Ok(());
+                    Ok(())
+                } else {
+                    put_turns(f, turns)
                 }
-                f.write_str("the workers made their ")?;
-                put_count(f, turns, "turn", ", ")
             }
+        }
+    }
+
+    /// Writes how many scripts aren't finished, where one isn't.
+    fn put_rest<W: fmt::Write>(&self, f: &mut fmt::Formatter<W>) -> fmt::Result
+        ensures { WritesOnOk W.write_str_gives f.old result
+            (rest_text self.now.finished self.now.unfinished) f.new }
+    {
+        if self.finished {
+            Ok(())
+        } else {
+            self.put_unfinished(f)
         }
     }
 
@@ -98,23 +109,11 @@ impl fmt::Display for EndSentence {
     ghost output = { λ s. Some (end_text s) };
 
     fn fmt<W: fmt::Write>(&self, f: &mut fmt::Formatter<W>) -> fmt::Result {
-        let begin = if self.finished {
-            "finished: "
-        } else {
-            "stopped: "
-        };
-        let answered = if self.answered == 1 {
-            " is answered"
-        } else {
-            " are answered"
-        };
-        f.write_str(begin)?;
+        f.write_str(begin_word(self.finished))?;
         self.put_course(f)?;
-        put_count(f, self.answered as u64, "operation", answered)?;
-        if self.finished {
-            return Ok(());
-        }
-        self.put_unfinished(f)
+        let answered = self.answered as u64;
+        put_count(f, answered, "operation", answered_words(answered))?;
+        self.put_rest(f)
     }
 }
 
@@ -128,6 +127,50 @@ fn put_count<W: fmt::Write>(
     ensures { WritesOnOk W.write_str_gives f.old result
         (so_many count name.now behind.now) f.new }
 {
-    let plural = if count == 1 { "" } else { "s" };
+    let plural = plural(count);
     write!(f, "{count} {name}{plural}{behind}")
+}
+
+/// What a name takes for so many things.
+fn plural(count: u64) -> &'static str
+    ensures { result.now ≡ plural_text count }
+{
+    if count == 1 { "" } else { "s" }
+}
+
+/// How the sentence on a run begins.
+fn begin_word(finished: bool) -> &'static str
+    ensures { result.now ≡ begin_text finished }
+{
+    if finished { "finished: " } else { "stopped: " }
+}
+
+/// What stands behind the number of operations that are answered.
+fn answered_words(count: u64) -> &'static str
+    ensures { result.now ≡ answered_text count }
+{
+    if count == 1 {
+        " is answered"
+    } else {
+        " are answered"
+    }
+}
+
+/// Writes how many rounds and moves a run was made of.
+fn put_rounds<W: fmt::Write>(f: &mut fmt::Formatter<W>, rounds: u64, moves: u64) -> fmt::Result
+    ensures { WritesOnOk W.write_str_gives f.old result
+        (so_many rounds (codes "round") (codes ", ") ++ so_many moves (codes "move") (codes ", "))
+        f.new }
+{
+    put_count(f, rounds, "round", ", ")?;
+    put_count(f, moves, "move", ", ")
+}
+
+/// Writes how many turns each worker made.
+fn put_turns<W: fmt::Write>(f: &mut fmt::Formatter<W>, turns: u64) -> fmt::Result
+    ensures { WritesOnOk W.write_str_gives f.old result
+        (codes "the workers made their " ++ so_many turns (codes "turn") (codes ", ")) f.new }
+{
+    f.write_str("the workers made their ")?;
+    put_count(f, turns, "turn", ", ")
 }
