@@ -119,6 +119,8 @@ static void every_call_says_empty(torusmem_machine *m) {
   MUST(says(torusmem_round(m), TORUSMEM_EMPTY, 0));
   MUST(says(torusmem_finish(m), TORUSMEM_EMPTY, 0));
   MUST(says(torusmem_append(m, 0, TORUSMEM_LOAD, 0, 0, 0, 0), TORUSMEM_EMPTY, 0));
+  MUST(says(torusmem_ask(m, 0, TORUSMEM_LOAD, 0, 0, 0, 0), TORUSMEM_EMPTY, 0));
+  MUST(torusmem_answer_of(m, 0, 0).code == TORUSMEM_EMPTY);
   MUST(says(torusmem_finished(m), TORUSMEM_EMPTY, 0));
   MUST(says(torusmem_moves_left(m), TORUSMEM_EMPTY, 0));
   MUST(says(torusmem_tiles(m), TORUSMEM_EMPTY, 0));
@@ -216,6 +218,41 @@ static void lines_that_come_later(torusmem_machine *m) {
   MUST(says(torusmem_append(m, 0, TORUSMEM_MIN, 6, 2, 0, 0), TORUSMEM_OK, 0));
   MUST(reports(m) && was_answered(m, 1, 1, 1, 17) && was_answered(m, 1, 2, 1, 9) && was_answered(m, 1, 3, 1, 0));
   MUST(says(torusmem_word(m, 5), TORUSMEM_OK, 17) && says(torusmem_word(m, 6), TORUSMEM_OK, 2));
+  torusmem_free(m);
+  MUST(!m->full && live == 0);
+}
+
+/* The operation of an index is answered by this old word. */
+static bool is_answered(torusmem_machine *m, uint32_t processor, uint32_t index, uint64_t old) {
+  torusmem_answer answer = torusmem_answer_of(m, processor, index);
+  return answer.code == TORUSMEM_OK && answer.index == index && answer.has_old == 1 && answer.old == old;
+}
+
+/* Operations that are asked: each refusal, in its order, after which the machine is as it was; the indices of those that
+   are taken, and their answers. */
+static void operations_that_are_asked(torusmem_machine *m) {
+  MUST(says(load_texts(m, "radix 2\ndims 1\ndepth 4\ntags 4\nwords 8\n", "0 spin 5 0 2\n1 load 5\n"), TORUSMEM_OK, 0));
+  uint64_t left = torusmem_moves_left(m).value;
+  MUST(says(torusmem_ask(m, 0, TORUSMEM_FENCE, 9, 0, 0, 0), TORUSMEM_NONE, 0));
+  MUST(says(torusmem_ask(m, 1, TORUSMEM_SPIN, 9, 0, 0, 0), TORUSMEM_NONE, 0));
+  MUST(says(torusmem_ask(m, 0, TORUSMEM_LOAD, 9, 0, 0, 0), TORUSMEM_BEHIND_SPIN, 0));
+  MUST(says(torusmem_ask(m, 2, TORUSMEM_LOAD, 9, 0, 0, 0), 8, 0));
+  MUST(says(torusmem_ask(m, 1, TORUSMEM_LOAD, 8, 0, 0, 0), 7, 0));
+  MUST(says(torusmem_moves_left(m), TORUSMEM_OK, left));
+  MUST(torusmem_answer_of(m, 1, 0).code == TORUSMEM_NOT_YET && torusmem_answer_of(m, 1, 1).code == TORUSMEM_NONE);
+  MUST(torusmem_answer_of(m, 0, 1).code == TORUSMEM_NOT_YET && torusmem_answer_of(m, 0, 2).code == TORUSMEM_NONE);
+  MUST(torusmem_answer_of(m, 2, 0).code == TORUSMEM_NONE);
+  MUST(says(torusmem_ask(m, 1, TORUSMEM_SWAP, 6, 7, 0, 0), TORUSMEM_OK, 1));
+  MUST(says(torusmem_append(m, 1, TORUSMEM_FENCE, 0, 0, 0, 0), TORUSMEM_OK, 0));
+  MUST(says(torusmem_ask(m, 1, TORUSMEM_CAS, 6, 7, 9, 0), TORUSMEM_OK, 2));
+  MUST(says(torusmem_ask(m, 1, TORUSMEM_ADD, 6, 0, 0, TORUSMEM_FIRST_IS_LAST), TORUSMEM_OK, 3));
+  MUST(torusmem_answer_of(m, 1, 3).code == TORUSMEM_NOT_YET && torusmem_answer_of(m, 1, 4).code == TORUSMEM_NONE);
+  MUST(reports(m) && is_answered(m, 1, 1, 0) && is_answered(m, 1, 2, 7) && is_answered(m, 1, 3, 9));
+  MUST(torusmem_answer_of(m, 0, 1).code == TORUSMEM_NOT_YET);
+  MUST(says(torusmem_word(m, 6), TORUSMEM_OK, 16));
+  MUST(says(torusmem_ask(m, 1, TORUSMEM_STORE, 6, 1, 0, 0), TORUSMEM_OK, 4));
+  MUST(says(torusmem_append(m, 1, TORUSMEM_SPIN, 6, 1, 4, 0), TORUSMEM_OK, 0));
+  MUST(says(torusmem_ask(m, 1, TORUSMEM_STORE, 6, 1, 0, 0), TORUSMEM_BEHIND_SPIN, 0));
   torusmem_free(m);
   MUST(!m->full && live == 0);
 }
@@ -606,6 +643,7 @@ static void codes(void) {
   faults_keep_nothing(&m);
   texts_that_meet(&other);
   lines_that_come_later(&other);
+  operations_that_are_asked(&other);
   faults_are_explained();
   networks_are_judged();
   spins_run_out(&other);

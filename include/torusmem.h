@@ -4,11 +4,11 @@
    freed. Each call is a function with a contract, and proved (docs/PROVED.md, "torusmem_c: the library for C").
    Nothing here prints, ends the process or starts a thread, and each call ends.
 
-   MEMORY. torusmem_load takes what the machine needs, and torusmem_free gives it back; torusmem_report, torusmem_check,
-   torusmem_explain, torusmem_spins_out, torusmem_network and torusmem_linearize take some, and give all of it back
-   before they return. torusmem_watch_begin takes what a watch needs at first, torusmem_watch_issue and
-   torusmem_watch_answer take and give back what follows the open operations, and torusmem_watch_end gives all of it
-   back. No other call takes any.
+   MEMORY. torusmem_load takes what the machine needs, torusmem_append and torusmem_ask what a further line needs, and
+   torusmem_free gives all of it back; torusmem_report, torusmem_check, torusmem_explain, torusmem_spins_out,
+   torusmem_network and torusmem_linearize take some, and give all of it back before they return. torusmem_watch_begin
+   takes what a watch needs at first, torusmem_watch_issue and torusmem_watch_answer take and give back what follows the
+   open operations, and torusmem_watch_end gives all of it back. No other call takes any.
 
    Link libtorusmem_c.a and torusmem_heap.c; or what `make install` makes of them, libtorusmem.so or libtorusmem.a, as
    `pkg-config --cflags --libs torusmem` says. In both of these are the three functions of torusmem_heap.c; those that a
@@ -68,7 +68,9 @@ enum {
   /* Of a trace; value: the event, from 0; of a watch, which is given one event at a time: 0. */
   TORUSMEM_NOT_LINEARIZABLE = 22, /* no order explains it up to this event */
   TORUSMEM_TOO_MANY = 23, /* it isn't decided: at this answer a word has more configurations than were allowed */
-  TORUSMEM_TOO_OPEN = 24  /* it isn't decided: at this issue 64 other operations are open on its word */
+  TORUSMEM_TOO_OPEN = 24, /* it isn't decided: at this issue 64 other operations are open on its word */
+  TORUSMEM_BEHIND_SPIN = 25, /* the script has a spin, so that the index of what is asked behind it isn't known */
+  TORUSMEM_NOT_YET = 26      /* the operation isn't answered yet */
 };
 
 /* Choices of agents. Tile t has the agents 3t, its processor; 3t + 1, its router; and 3t + 2, its bank. */
@@ -173,10 +175,19 @@ enum { TORUSMEM_FIRST_IS_LAST = 1, TORUSMEM_SECOND_IS_LAST = 2 };
    OK, value 0: the line is taken; NONE: no line has this number; EMPTY; the first fault that the line has, value 0, in
    this order: 8, there is no such processor; 7, no such address; 6, a spin hasn't 1 to 4096 loads; 10, `last` with no
    operation before it; 9, a script has at most 4096 operations, and all together at most 65536; or
-   TORUSMEM_FAULT_MEMORY. But for OK nothing has changed. It is the one call after torusmem_load that takes memory for
-   the machine. */
+   TORUSMEM_FAULT_MEMORY. But for OK nothing has changed. It and torusmem_ask are the calls after torusmem_load that take
+   memory for the machine. */
 torusmem_outcome torusmem_append(torusmem_machine *m, uint32_t processor, uint32_t operation, uint32_t address,
                                  uint64_t first, uint64_t second, uint32_t lasts);
+
+/* Gives a processor an operation, TORUSMEM_LOAD .. TORUSMEM_MIN, as torusmem_append does, and tells which one it is: the
+   operation that the processor issues under this index, whenever it does, is the one that was asked. So a host asks,
+   makes rounds, and takes the answer by torusmem_answer_of.
+   OK, value: the index among the operations of the processor, from 0 in the order of issue. BEHIND_SPIN: its script has
+   a spin, from its text or appended, and nobody can tell beforehand how many loads that makes; NONE: no operation has
+   this number; EMPTY; or a fault, as of torusmem_append. But for OK nothing has changed. Takes memory as it does. */
+torusmem_outcome torusmem_ask(torusmem_machine *m, uint32_t processor, uint32_t operation, uint32_t address,
+                              uint64_t first, uint64_t second, uint32_t lasts);
 
 /* Whether every script is finished. OK, value 1 or 0; EMPTY. */
 torusmem_outcome torusmem_finished(torusmem_machine *m);
@@ -202,7 +213,7 @@ torusmem_outcome torusmem_rows(torusmem_machine *m, uint64_t *out, size_t out_le
 
 /* An answer of a processor. */
 typedef struct torusmem_answer {
-  uint32_t code;          /* OK, EMPTY or NONE; the rest is 0 unless it is OK */
+  uint32_t code;          /* OK, EMPTY, NONE or NOT_YET; the rest is 0 unless it is OK */
   uint32_t index;         /* among the operations of its processor, from 0 in the order of issue */
   uint32_t operation;     /* TORUSMEM_LOAD .. TORUSMEM_MIN */
   uint32_t bank;          /* the tile of the bank that served it */
@@ -218,6 +229,11 @@ torusmem_outcome torusmem_answers(torusmem_machine *m, uint32_t processor);
 
 /* Answer i of a processor, from 0 in the order of answering. Code NONE: no such tile, or no such answer yet. */
 torusmem_answer torusmem_answer_at(torusmem_machine *m, uint32_t processor, uint32_t i);
+
+/* The answer of a processor to its operation of this index, from 0 in the order of issue, as torusmem_ask tells it.
+   Code NOT_YET: it isn't answered yet; of a script with a spin it may never be issued. NONE: no such tile, or the script
+   can't make so many operations. EMPTY. */
+torusmem_answer torusmem_answer_of(torusmem_machine *m, uint32_t processor, uint32_t index);
 
 /* An entry of a bank: one service. */
 typedef struct torusmem_entry {

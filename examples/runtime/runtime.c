@@ -2,8 +2,8 @@
 
    A task is a board with some queens; it makes a task for each way to place one more. Each processor has a deque of
    tasks in shared words: it puts and takes at the bottom, and where it has none it steals at the top of another's, by
-   `cas`. What it asks next follows from what it was answered last: torusmem_append gives it one operation at a time,
-   and torusmem_round moves the machine on for all of them.
+   `cas`. What it asks next follows from what it was answered last: torusmem_ask gives it one operation at a time,
+   torusmem_round moves the machine on for all of them, and torusmem_answer_of has the answer once it is there.
 
    Beside the machine stands a plain memory, on whose words each operation is done when its bank has served it. All
    replies and words must be the same in both, and each machine's report a good one. A processor has at most 4096
@@ -195,22 +195,23 @@ static bool follow(runtime *r, uint32_t bank) {
 
 /* Takes the answer of a processor if it is there, and lets it decide. */
 static bool take_answer(runtime *r, processor *p) {
-  torusmem_answer got = torusmem_answer_at(&r->machine, p->number, p->asked - 1);
-  if (got.code != TORUSMEM_OK) return true;
-  bool is_served = p->is_served && got.index == p->asked - 1 && got.has_old == (p->next.kind != TORUSMEM_STORE);
+  torusmem_answer got = torusmem_answer_of(&r->machine, p->number, p->asked - 1);
+  if (got.code == TORUSMEM_NOT_YET) return true;
+  bool is_served = p->is_served && got.code == TORUSMEM_OK && got.has_old == (p->next.kind != TORUSMEM_STORE);
   if (!same("served for", p->number, is_served, 1) || !same("reply to", p->number, got.old, p->plain)) return false;
   p->waits = p->is_served = false;
   decide(p, got.old);
   return true;
 }
 
-/* Appends what a processor asks next. */
-static bool append(runtime *r, processor *p) {
+/* Gives the machine what a processor asks next. */
+static bool give(runtime *r, processor *p) {
   const operation *o = &p->next;
+  torusmem_outcome said = torusmem_ask(&r->machine, p->number, o->kind, o->address, o->first, o->second, 0);
   p->waits = true;
-  p->asked += 1;
+  p->asked = (uint32_t)said.value + 1;
   r->operations += 1;
-  return granted("append", torusmem_append(&r->machine, p->number, o->kind, o->address, o->first, o->second, 0));
+  return granted("ask", said);
 }
 
 /* Runs a machine until no processor has more to ask, or one has no room; and all have their answers. */
@@ -220,7 +221,7 @@ static bool run(runtime *r) {
     bool is_waiting = false;
     for (processor *p = r->processors; p < end; p++) is_closing |= p->asked == ROOM && !p->waits;
     for (processor *p = r->processors; p < end; p++) {
-      if (!p->waits && !p->is_done && !is_closing && !append(r, p)) return false;
+      if (!p->waits && !p->is_done && !is_closing && !give(r, p)) return false;
       is_waiting |= p->waits;
     }
     if (!is_waiting) return true;

@@ -87,6 +87,10 @@ round_app = with_rule (with_rule (loading_app (codes "round")) rounds) explain
 abbrev pub run_app : App
 run_app = with_rule (with_rule (with_rule (loading_app (codes "run")) workers) turns) explain
 
+-- `live MACHINE [--explain]`
+abbrev pub live_app : App
+live_app = with_rule (with_rule (new_app (codes "live")) (needed (codes "MACHINE"))) explain
+
 -- `schedule MACHINE SCRIPT [--rounds R] [--explain]`
 abbrev pub schedule_app : App
 schedule_app = with_rule (with_rule (loading_app (codes "schedule")) rounds) explain
@@ -127,9 +131,9 @@ top_app = let app = new_app (codes "torusmem") in
 abbrev pub stepping_app : App
 stepping_app = with_subcommand (with_subcommand top_app steps_app.top) round_app.top
 
--- and with the one that runs them in more
+-- and with the one that runs them in more, and the one that holds a dialogue
 abbrev pub running_app : App
-running_app = with_subcommand stepping_app run_app.top
+running_app = with_subcommand (with_subcommand stepping_app run_app.top) live_app.top
 
 -- and with those that print schedules
 abbrev pub scheduling_app : App

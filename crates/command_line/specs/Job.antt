@@ -5,7 +5,7 @@ use Rattle.clap.specs.Words.{Row, Text, first_of, one_of}
 use Rattle.torus.specs.declared.shape.Class.{Class}
 use Rattle.torus.specs.declared.shape.Class.TheVariants.{Request, Reply}
 use Rattle.command_line.specs.declared.command.Job.{Job}
-use Rattle.command_line.specs.declared.command.Job.TheVariants.{Steps, Round, Run, Route}
+use Rattle.command_line.specs.declared.command.Job.TheVariants.{Steps, Round, Run, Live, Route}
 use Rattle.command_line.specs.declared.command.Job.TheVariants.{Channels, Check}
 use Rattle.command_line.specs.declared.command.Job.TheVariants.{Network, Linearize, Report}
 use Rattle.command_line.specs.declared.command.Job.TheVariants.{Schedule, Draw, Moves}
@@ -35,6 +35,7 @@ abbrev pub name_of : Job → Text
 name_of (Steps machine script steps) = codes "steps"
 name_of (Round machine script rounds) = codes "round"
 name_of (Run machine script workers turns) = codes "run"
+name_of (Live machine) = codes "live"
 name_of (Route machine src dst class) = codes "route"
 name_of (Channels machine) = codes "channels"
 name_of (Check report) = codes "check"
@@ -62,6 +63,7 @@ AreOf (Run machine script workers turns) rows = (first_of (codes "MACHINE") rows
     × (first_of (codes "SCRIPT") rows ≡ Some script.now)
     × (number_in (codes "workers") rows ≡ Some workers)
     × (number_in (codes "turns") rows ≡ Some turns)
+AreOf (Live machine) rows = first_of (codes "MACHINE") rows ≡ Some machine.now
 AreOf (Route machine src dst class) rows = (first_of (codes "MACHINE") rows ≡ Some machine.now)
     × (number_in (codes "SRC") rows ≡ Some src) × (number_in (codes "DST") rows ≡ Some dst)
     × (one_of (codes "reply") rows ≡ Some (class_word class))

@@ -15,6 +15,9 @@ pub(crate) fn command<'a>(alloc: Global) -> Making<'a>
     let about = "Runs in rounds until every script is finished, and prints the report";
     let command = with_subcommand(command, in_rounds(alloc, "round", about));
     let command = with_subcommand(command, run(alloc));
+    let about = "Does what lines on standard input ask for, and answers line by line";
+    let live = of_one_file(alloc, "live", about, "MACHINE", "The file of the machine");
+    let command = with_subcommand(command, live);
     let about = "Runs in rounds until every script is finished, and prints the moves as steps";
     let command = with_subcommand(command, in_rounds(alloc, "schedule", about));
     let command = with_subcommand(command, draw(alloc));

@@ -5,8 +5,8 @@ ghost use Rattle.command_line.specs.Job.{AreOf, IsFlag, IsWithinLimits, name_of,
 
 use crate::building::command;
 use crate::jobs::{
-    channels_job, check_job, draw_job, linearize_job, network_job, round_job, route_job, run_job,
-    schedule_job, steps_job,
+    channels_job, check_job, draw_job, linearize_job, live_job, network_job, round_job, route_job,
+    run_job, schedule_job, steps_job,
 };
 use crate::values::flag_of;
 use clap::error::ErrorKind;
@@ -36,6 +36,10 @@ pub enum Job<'a> {
         script: &'a str,
         workers: u32,
         turns: u32,
+    },
+    /// Hold a dialogue with a machine, over standard input and output.
+    Live {
+        machine: &'a str,
     },
     /// Print a route.
     Route {
@@ -149,6 +153,7 @@ fn job_of<'a>(matches: &ArgMatches<'a>) -> Option<Job<'a>>
         "steps" => steps_job(given),
         "round" => round_job(given),
         "run" => run_job(given),
+        "live" => live_job(given),
         "schedule" => schedule_job(given),
         "draw" => draw_job(given),
         "route" => route_job(given),

@@ -52,6 +52,14 @@ pub(crate) fn run_job<'a>(given: &ArgMatches<'a>) -> Option<Job<'a>>
     })
 }
 
+pub(crate) fn live_job<'a>(given: &ArgMatches<'a>) -> Option<Job<'a>>
+    ensures { IfSome result (IsOf (codes "live") (rows_of (found_of given.now))) }
+{
+    Some(Job::Live {
+        machine: word(given, "MACHINE")?,
+    })
+}
+
 pub(crate) fn schedule_job<'a>(given: &ArgMatches<'a>) -> Option<Job<'a>>
     ensures { IfSome result (IsOf (codes "schedule") (rows_of (found_of given.now))) }
 {

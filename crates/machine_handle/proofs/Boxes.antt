@@ -21,7 +21,7 @@ use Rattle.std.proofs.boxed.Box.TheLaws.{the_field_loose}
 use Rattle.std.specs.contracts.alloc.Global.{the_row as G}
 use Rattle.std.proofs.alloc.Global.TheLaws.{the_row_laws as global_laws, lowers as global_lowers}
 use Rattle.std.specs.contracts.impls.GlobalAllocator.TheImpl.{ghosts, dict}
-use Rattle.machine_core.proofs.machine.Machine.TheLaws.{the_row_laws as laws_of}
+use Rattle.machine_asked.proofs.asked.AskedMachine.TheLaws.{the_row_laws as laws_of}
 use Rattle.machine_handle.specs.Row.{machine_row as T}
 
 abbrev pub Passed : RattleType
@@ -67,4 +67,4 @@ box_tells = Tells-lowered (box_type T G ghosts) (RawPtr-laws, (heap_field, tt))
 
 -- the drop of a machine
 abbrev pub drops : Dict
-drops = impl ("machine_handle::machine_core++machine++Machine+Destruct::drop" ∷ []) (tcons (layout Heap) tnil) (dcons dict (dcons no_drop dnil))
+drops = impl ("machine_handle::machine_asked++asked++AskedMachine+Destruct::drop" ∷ []) (tcons (layout Heap) tnil) (dcons dict (dcons no_drop dnil))

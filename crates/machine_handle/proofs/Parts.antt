@@ -14,7 +14,7 @@ use denote.RawPtr.{ptr_val}
 use mir.Val.{vbool}
 use Rattle.machine_handle.proofs.slot.Slot.TheLaws.{lowers}
 use Rattle.std.specs.contracts.impls.GlobalAllocator.TheImpl.{ghosts}
-use Rattle.machine_core.specs.core_machine.specs.Core.{Core}
+use Rattle.machine_asked.specs.Asked.{Asked}
 use Rattle.machine_handle.specs.declared.slot.Slot.{Slot}
 use Rattle.machine_handle.specs.contracts.slot.Slot.{the_row as R, the_type}
 use Rattle.machine_handle.specs.Row.{machine_row as T, heap}
@@ -42,7 +42,7 @@ module _ {M : Type 1} {𝓤 : Ura M} (𝓛 : Logic 𝓤) where
   abbrev pub Rest : Slot → List Val → ℕ → ℕ → SProp 𝓤
   Rest s us b o = sep 𝓤 (sem 𝓛 (Frees s.at)) (sep 𝓤 (sem 𝓛 (Fields (record s { full = true }) us)) (sem 𝓛 (cell_at full_share R.mir us b o)))
 
-  pub whole_with : (s : Slot) (us : List Val) (b o b' o' : ℕ) → s.at ≡ block_ptr b' o' → (w : Core)
+  pub whole_with : (s : Slot) (us : List Val) (b o b' o' : ℕ) → s.at ≡ block_ptr b' o' → (w : Asked)
       → ent 𝓤 (sep 𝓤 (sem 𝓛 ((mem T).own_at w b' o')) (Rest s us b o)) (sem 𝓛 ((mem R).own_at (slot_with s w) b o))
   unfolding part_of
   whole_with s us b o b' o' e w =

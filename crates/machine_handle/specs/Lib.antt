@@ -1,4 +1,5 @@
-pub use Rattle.machine_core
-pub use Rattle.machine_core.specs.core_machine
+pub use Rattle.machine_asked
+pub use Rattle.machine_asked.specs.machine_core
+pub use Rattle.machine_asked.specs.machine_core.specs.core_machine
 pub mod Row
 pub mod Held

@@ -5,11 +5,11 @@ use Rattle.std.specs.Box.Ownership.{box_owns}
 use Rattle.std.specs.Global.{Global}
 use Rattle.std.specs.contracts.alloc.Global as global
 use Rattle.std.specs.contracts.impls.GlobalAllocator.TheImpl.{ghosts}
-use Rattle.machine_core.specs.core_machine.specs.Core.{Core}
-use Rattle.machine_core.specs.contracts.machine.Machine.{the_row}
+use Rattle.machine_asked.specs.Asked.{Asked}
+use Rattle.machine_asked.specs.contracts.asked.AskedMachine.{the_row}
 use denote.RawPtr.{Ptr}
 
--- `Machine<Global>`, as the logic has the type
+-- `AskedMachine<Global>`, as the logic has the type
 abbrev pub machine_row : RattleType
 machine_row = the_row global.the_row ghosts
 
@@ -19,6 +19,6 @@ heap = record { memory = record { seal = tt } }
 
 -- a full slot owns the machine behind its pointer and the right to free its block, and an empty one
 -- nothing
-abbrev pub slot_owns : Bool → Ptr → Core → Fml
+abbrev pub slot_owns : Bool → Ptr → Asked → Fml
 slot_owns true at core = box_owns (ghosts.dealloc_token heap) machine_row at core
 slot_owns false at core = ftrue

@@ -3,7 +3,7 @@ ghost use Rattle.std.specs.Borrow.{sem};
 ghost use Rattle.machine_handle.specs.Held.{held, LendsHeld};
 
 use crate::slot::Slot;
-use machine_core::Machine;
+use machine_asked::AskedMachine;
 use std::alloc::{AllocError, Global};
 
 /// What a C program holds a machine by, as `struct { bool full; void *at; }`: the heap's handle takes
@@ -17,7 +17,7 @@ pub struct Handle {
 impl Handle {
     /// The machine that it holds, to look at and to change, or `None` where it holds none.
     #[inline(always)]
-    pub fn machine(&mut self) -> Option<&mut Machine>
+    pub fn machine(&mut self) -> Option<&mut AskedMachine>
         ensures* writes_back { sem 𝓛 (LendsHeld self.entry result) }
         ensures value { MatchOption result (held self.old ≡ None)
             (λ m. held self.old ≡ Some m.now) }
@@ -41,7 +41,7 @@ impl Handle {
     /// Holds a machine from now on, where it held none (`is_full` tells).
     ///
     /// Errors: the heap has no room for it. The machine is then dropped, and the handle is as it was.
-    pub fn hold(&mut self, machine: Machine) -> Result<(), AllocError>
+    pub fn hold(&mut self, machine: AskedMachine) -> Result<(), AllocError>
         requires { held self.old ≡ None }
         ensures held { IfOk result (λ _. held self.new ≡ Some machine) }
         ensures unchanged { IfErr result (λ _. self.new ≡ self.old) }

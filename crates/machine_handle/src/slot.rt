@@ -1,9 +1,9 @@
 ghost use Rattle.std.specs.Prelude.{◌≡◌, IsTrue, true, false};
 ghost use Rattle.std.specs.Borrow.{sem};
-ghost use Rattle.machine_core.specs.core_machine.specs.Core.{Core};
+ghost use Rattle.machine_asked.specs.Asked.{Asked};
 ghost use Rattle.machine_handle.specs.Row.{machine_row};
 
-use machine_core::Machine;
+use machine_asked::AskedMachine;
 use std::alloc::Global;
 use std::marker::Model;
 
@@ -13,7 +13,7 @@ use std::marker::Model;
 pub struct Slot {
     full: bool,
     at: *mut (),
-    ghost core: { Core } by { machine_row.coded },
+    ghost core: { Asked } by { machine_row.coded },
 }
 
 impl Model for Slot {
@@ -36,16 +36,16 @@ impl Slot {
 
     /// The machine in it, which stays where it lies.
     #[inline(always)]
-    pub fn get_mut(&mut self) -> &mut Machine
+    pub fn get_mut(&mut self) -> &mut AskedMachine
         requires { IsTrue self.old.full }
         ensures* writes_back { sem 𝓛 (LendsMachine self.entry result) }
         ensures value { result.now ≡ self.old.core }
     {
-        unsafe { &mut *(self.at as *mut Machine) }
+        unsafe { &mut *(self.at as *mut AskedMachine) }
     }
 
     /// Puts a machine into it.
-    pub fn put(&mut self, boxed: Box<Machine>)
+    pub fn put(&mut self, boxed: Box<AskedMachine>)
         requires { self.old.full ≡ false }
         ensures full { IsTrue self.new.full }
         ensures core { self.new.core ≡ boxed.value }
@@ -55,12 +55,12 @@ impl Slot {
     }
 
     /// Takes the machine out of it.
-    pub fn take(&mut self, alloc: Global) -> Box<Machine>
+    pub fn take(&mut self, alloc: Global) -> Box<AskedMachine>
         requires { IsTrue self.old.full }
         ensures core { result.value ≡ self.old.core }
         ensures empty { self.new.full ≡ false }
     {
         self.full = false;
-        unsafe { Box::from_raw(alloc, self.at as *mut Machine) }
+        unsafe { Box::from_raw(alloc, self.at as *mut AskedMachine) }
     }
 }

@@ -6,6 +6,7 @@ ghost use Rattle.command_line.specs.Job.{IsWithinLimits};
 mod answering;
 mod naming;
 mod running;
+mod talking;
 
 use answering::{Outcome, answer};
 use command_line::{Job, Request, read_request};
@@ -21,7 +22,8 @@ use std::rt::{Clock, Env, Files};
 use std::sync::Wait;
 use std::thread::Threads;
 use std::{env, io};
-use text_files::{Failure, Texts, read_texts};
+use talking::{is_input_taken, talk};
+use text_files::{Failure, Texts, Unread, read_texts};
 use torus::Fault;
 
 fn main(rt: HostRuntime) -> ExitCode {
@@ -64,7 +66,12 @@ fn done<R: Files + Input + Print + Eprint + Clock + AllocGlobal + Threads + Wait
 {
     let is_explained = request.explain || is_seen;
     let names = names(&request.job);
-    let texts = match read_texts(rt, &names) {
+    let read = if is_input_taken(&request.job) {
+        Err(Failure::Unread("-", Unread::Taken))
+    } else {
+        read_texts(rt, &names)
+    };
+    let texts = match read {
         Ok(texts) => texts,
         Err(Failure::Unread(name, why)) => {
             let _ = eprintln!(rt; "cannot read {name}");
@@ -133,7 +140,7 @@ fn status_told<R: Eprint>(rt: &R, answer: Outcome) -> u8 {
 
 /// The answer of the job, whose output was written to its last byte. How a run ended is told behind
 /// its report, where that is asked for or standard error `is_seen`.
-fn printed<R: Print + Eprint + Clock + AllocGlobal + Threads + Wait + Sync>(
+fn printed<R: Input + Print + Eprint + Clock + AllocGlobal + Threads + Wait + Sync>(
     rt: &R,
     request: &Request,
     texts: &Texts,
@@ -141,6 +148,10 @@ fn printed<R: Print + Eprint + Clock + AllocGlobal + Threads + Wait + Sync>(
 ) -> Result<Outcome, ProgramFault>
     requires { IsWithinLimits request.now.job }
 {
+    if let Job::Live { .. } = request.job {
+        talk(rt, &texts.first)?;
+        return Ok(Outcome::Done);
+    }
     let Ok(mut writer) = BufWriter::new(rt.alloc(), io::writer(rt)) else {
         return Err(ProgramFault::Fault(Fault::Memory));
     };

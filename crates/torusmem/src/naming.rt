@@ -37,7 +37,8 @@ pub(crate) fn names<'a>(job: &Job<'a>) -> Names<'a> {
             script,
             ..
         } => (machine, Some(script), None),
-        Job::Route { machine: name, .. }
+        Job::Live { machine: name }
+        | Job::Route { machine: name, .. }
         | Job::Channels { machine: name }
         | Job::Check { report: name }
         | Job::Network { network: name }

@@ -1,5 +1,7 @@
 -- A further line for a script, as C sees it.
-use Rattle.std.specs.Prelude.{◌≡◌, ◌⊎◌, ◌||◌, ◌==◌, ℕ, Bool, true, false, List, [], ◌∷◌, min, Option, Some, None, slice_get}
+use Rattle.std.specs.Prelude.{◌≡◌, ◌⊎◌, ◌||◌, ◌==◌, ℕ, nat_le, Bool, true, false, List, [], ◌∷◌, map, min, Option, Some, None}
+use Rattle.std.specs.Prelude.{slice_get, if◌then◌else◌}
+use Rattle.std.specs.Bool.{MatchBool}
 use Rattle.torus.specs.declared.fault.Fault.{Fault}
 use Rattle.torus.specs.declared.fault.Fault.TheVariants as fault
 use Rattle.torus.specs.declared.step.Step.{Step}
@@ -7,11 +9,13 @@ use Rattle.script.specs.declared.line.Line.{Line}
 use Rattle.script.specs.declared.line.Line.TheVariants as line
 use Rattle.script.specs.declared.line.Value.{Value}
 use Rattle.script.specs.declared.line.Value.TheVariants.{Number, Last}
-use Rattle.machine_handle.specs.core_machine.specs.Core.{Core, IsAfter}
+use Rattle.machine_handle.specs.core_machine.specs.Core.{IsAfter}
+use Rattle.machine_handle.specs.machine_asked.specs.Asked.{Asked, IsNumbered, has_spin, is_behind_spin, spins_with}
 use Rattle.machine_handle.specs.machine_core.specs.core_laws.specs.Core.{Load}
 use Rattle.machine_handle.specs.machine_core.specs.core_growth.specs.Appended.{load_with}
 use Rattle.machine_handle.specs.machine_core.specs.core_reopening.specs.Handed.{handed, moves_kept, refused}
 use Rattle.torusmem_c.specs.declared.outcome.Outcome.{Outcome}
+use Rattle.torusmem_c.specs.declared.outcome.Code.{Code}
 use Rattle.torusmem_c.specs.declared.outcome.Code.TheVariants as code
 use Rattle.torusmem_c.specs.Outcome.{outcome}
 
@@ -58,22 +62,52 @@ line_named number address first second lasts =
 
 -- the machine takes a line for a processor: it is the one that is handed the line, and stands where
 -- its moves lead from the load with the line
-pub record TakesLine (p : ℕ) (line : Line) (old new : Core) (r : Outcome) : Type 0 where
-  pub taken : refused old p line ≡ None
-  pub state : new ≡ handed old p line
-  pub law : (l : Load) (steps : List Step) → IsAfter l old steps
-      → IsAfter (load_with l p line) new (moves_kept l old p steps)
-  pub answer : r ≡ outcome code.Done 0
+pub record IsHanded (p : ℕ) (line : Line) (old new : Asked) : Type 0 where
+  pub taken : refused old.core p line ≡ None
+  pub state : new.core ≡ handed old.core p line
+  pub spins : new.spins ≡ spins_with old.spins p line
+  pub law : (l : Load) (steps : List Step) → IsAfter l old.core steps
+      → IsAfter (load_with l p line) new.core (moves_kept l old.core p steps)
+
+abbrev pub TakesLine : ℕ → Line → Asked → Asked → Outcome → Type 0
+TakesLine p line old new r = IsHanded p line old new × (r ≡ outcome code.Done 0)
 
 -- it refuses the line for this reason, or there is no memory, and stays as it was
-pub record RefusesLine (p : ℕ) (line : Line) (old new : Core) (r : Outcome) : Type 0 where
+pub record RefusesLine (p : ℕ) (line : Line) (old new : Asked) (r : Outcome) : Type 0 where
   pub reason : Fault
-  pub why : (refused old p line ≡ Some reason)
-      ⊎ ((refused old p line ≡ None) × (reason ≡ fault.Memory))
+  pub why : (refused old.core p line ≡ Some reason)
+      ⊎ ((refused old.core p line ≡ None) × (reason ≡ fault.Memory))
   pub same : new ≡ old
   pub answer : r ≡ outcome (code.Fault reason) 0
 
 -- it takes the line that is named, or refuses it; where none is, nothing changes
-abbrev pub Appends : ℕ → Option Line → Core → Core → Outcome → Type 0
+abbrev pub Appends : ℕ → Option Line → Asked → Asked → Outcome → Type 0
 Appends p None old new r = (new ≡ old) × (r ≡ outcome code.NoSuch 0)
 Appends p (Some line) old new r = TakesLine p line old new r ⊎ RefusesLine p line old new r
+
+-- the operation that has a number: no fence and no spin
+abbrev pub operation_named : ℕ → ℕ → ℕ → ℕ → ℕ → Option Line
+operation_named number address first second lasts =
+    if nat_le number 9 then line_named number address first second lasts else None
+
+-- the machine takes an operation, and answers its index: as many as the script of its processor can
+-- make. Wherever steps and further lines lead from there, the operation that the processor issues
+-- under it is the one that was asked
+pub record Numbers (p : ℕ) (line : Line) (old new : Asked) (r : Outcome) : Type 0 where
+  pub handed : IsHanded p line old new
+  pub index : ℕ
+  pub many : slice_get old.core.allowed p ≡ Some index
+  pub numbered : (l : Load) (steps : List Step) → IsAfter l old.core steps
+      → old.spins ≡ map has_spin l.scripts → IsNumbered (load_with l p line) p line index
+  pub answer : r ≡ outcome code.Done index
+
+-- nothing changes, and this is told
+abbrev pub Stays : Code → Asked → Asked → Outcome → Type 0
+Stays why old new r = (new ≡ old) × (r ≡ outcome why 0)
+
+-- it takes the operation that is named, and answers its index, or refuses it. Behind a spin, where
+-- no index is known, and where none is named nothing changes
+abbrev pub Asks : ℕ → Option Line → Asked → Asked → Outcome → Type 0
+Asks p None old new r = Stays code.NoSuch old new r
+Asks p (Some line) old new r = MatchBool (is_behind_spin old p) (Stays code.BehindSpin old new r)
+    (Numbers p line old new r ⊎ RefusesLine p line old new r)

@@ -1,19 +1,31 @@
 -- What a call does to what a handle holds, and what it answers (this project's own format).
 use Rattle.std.specs.Prelude.{◌≡◌, Option, Some, None}
 use Rattle.machine_handle.specs.core_machine.specs.Core.{Core}
+use Rattle.machine_handle.specs.machine_asked.specs.Asked.{Asked}
 use Rattle.torusmem_c.specs.declared.outcome.Outcome.{Outcome}
 use Rattle.torusmem_c.specs.declared.outcome.Code.TheVariants as code
 use Rattle.torusmem_c.specs.Outcome.{outcome}
 
--- A call works on the machine that a handle holds, and leaves it there. Where none is held it
--- answers so, and still none is held.
-abbrev pub OfHeld : {R : Type 0} → R → (Core → Core → R → Type 0) → Option Core → Option Core → R
+-- A call works on what a handle holds, a machine and which of its scripts have spins, and leaves it
+-- there. Where none is held it answers so, and still none is held.
+abbrev pub OfAsked : {R : Type 0} → R → (Asked → Asked → R → Type 0) → Option Asked → Option Asked
+    → R → Type 0
+OfAsked empty does None new r = (new ≡ None) × (r ≡ empty)
+OfAsked empty does (Some v) new r = (w : Asked) × (new ≡ Some w) × does v w r
+
+-- it works on the machine alone: its scripts stay as they are
+pub record OnCore {R : Type 0} (does : Core → Core → R → Type 0) (old new : Asked) (r : R) : Type 0
+  where
+    pub spins : new.spins ≡ old.spins
+    pub core : does old.core new.core r
+
+abbrev pub OfHeld : {R : Type 0} → R → (Core → Core → R → Type 0) → Option Asked → Option Asked → R
     → Type 0
-OfHeld empty does None new r = (new ≡ None) × (r ≡ empty)
-OfHeld empty does (Some c) new r = (d : Core) × (new ≡ Some d) × does c d r
+OfHeld empty does = OfAsked empty (OnCore does)
 
 -- the same, of a call that answers by an outcome
-abbrev pub OnHeld : (Core → Core → Outcome → Type 0) → Option Core → Option Core → Outcome → Type 0
+abbrev pub OnHeld : (Core → Core → Outcome → Type 0) → Option Asked → Option Asked → Outcome
+    → Type 0
 OnHeld does = OfHeld (outcome code.Empty 0) does
 
 -- a call changes nothing of the machine, and answers what there is to tell of it

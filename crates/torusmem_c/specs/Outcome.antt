@@ -38,6 +38,8 @@ number_of code.Cycle = 21
 number_of code.NotLinearizable = 22
 number_of code.TooMany = 23
 number_of code.TooOpen = 24
+number_of code.BehindSpin = 25
+number_of code.NotYet = 26
 
 -- a code, and the number that goes with it
 abbrev pub outcome : Code → ℕ → Outcome

@@ -1,5 +1,5 @@
 -- What C is told of a machine (this project's own format).
-use Rattle.std.specs.Prelude.{◌≡◌, ℕ, List, length, Option, Some, None, option_and_then, slice_get}
+use Rattle.std.specs.Prelude.{◌≡◌, ℕ, List, length, Option, Some, None, nat_lt, option_and_then, slice_get, if◌then◌else◌}
 use Rattle.torus.specs.Shape.{tiles_of}
 use Rattle.machine_handle.specs.core_machine.specs.Core.{Core, built_to, shown}
 use Rattle.core_row.specs.Row.{row_of}
@@ -8,7 +8,9 @@ use Rattle.torusmem_c.specs.declared.outcome.Code.TheVariants as code
 use Rattle.torusmem_c.specs.declared.records.AnswerRecord.{AnswerRecord}
 use Rattle.torusmem_c.specs.declared.records.EntryRecord.{EntryRecord}
 use Rattle.torusmem_c.specs.Outcome.{outcome}
-use Rattle.torusmem_c.specs.Records.{answer_or_none, entry_or_none}
+use Rattle.machine_handle.specs.machine_asked.specs.Asked.{answer_to}
+use Rattle.one_order.specs.declared.answer.Answer.{Answer}
+use Rattle.torusmem_c.specs.Records.{answer_or_none, entry_or_none, no_answer}
 use Rattle.torusmem_c.specs.Room.{put_over, put_outcome}
 use Rattle.torusmem_c.specs.Routes.{next_number}
 
@@ -51,6 +53,18 @@ abbrev pub answer_told : ℕ → ℕ → Core → AnswerRecord
 answer_told processor i c =
     answer_or_none (option_and_then (λ answers. slice_get answers i)
     (slice_get (shown c).answers processor))
+
+-- the answer of a processor to its operation of this index; or that it isn't answered yet, of one
+-- that its script can make; or that there is none such
+abbrev pub answer_or_wait : ℕ → Option ℕ → Option Answer → AnswerRecord
+answer_or_wait index most (Some answer) = answer_or_none (Some answer)
+answer_or_wait index None None = no_answer code.NoSuch
+answer_or_wait index (Some most) None =
+    if nat_lt index most then no_answer code.NotYet else no_answer code.NoSuch
+
+abbrev pub answer_of_told : ℕ → ℕ → Core → AnswerRecord
+answer_of_told processor index c =
+    answer_or_wait index (slice_get c.allowed processor) (answer_to c processor index)
 
 -- how many entries a bank has, and entry i of them
 abbrev pub entries_told : ℕ → Core → Outcome

@@ -1,8 +1,9 @@
 -- Loads, reports and their check, as C sees them (this project's own format).
-use Rattle.std.specs.Prelude.{◌≡◌, ◌⊎◌, ℕ, List, Result, Option, Some, None}
+use Rattle.std.specs.Prelude.{◌≡◌, ◌⊎◌, ℕ, List, map, Result, Ok, Option, Some, None}
 use Rattle.script.specs.declared.fault.LineFault.{LineFault}
 use Rattle.machine_handle.specs.machine_core.specs.order_abstract.specs.Load.{Load}
 use Rattle.machine_handle.specs.core_machine.specs.Core.{Core}
+use Rattle.machine_handle.specs.machine_asked.specs.Asked.{Asked, has_spin}
 use Rattle.report_lines.specs.Line.{text_of}
 use Rattle.report_check.specs.Good.{GoodReport, HasFault}
 use Rattle.report_check.specs.declared.fault.CheckFault.{CheckFault}
@@ -21,14 +22,16 @@ check_outcome Memory = no_memory
 
 -- what an empty handle holds after a load: nothing, and the answer is the first fault of the texts
 -- or that memory was refused; or the machine that the texts ask for, which has made no step
-abbrev pub LoadsEmpty : Result Load LineFault → Option Core → Outcome → Type 0
+abbrev pub LoadsEmpty : Result Load LineFault → Option Asked → Outcome → Type 0
 LoadsEmpty asked None r = (f : LineFault) × IsLoadFault asked f × (r ≡ fault_outcome f)
-LoadsEmpty asked (Some c) r = HasLoaded asked c × (r ≡ outcome code.Done 0)
+LoadsEmpty asked (Some v) r =
+    HasLoaded asked v.core × ((l : Load) → asked ≡ Ok l → v.spins ≡ map has_spin l.scripts)
+    × (r ≡ outcome code.Done 0)
 
 -- a load: where a machine is held already, it stays, and the answer says so
-abbrev pub Loads : Result Load LineFault → Option Core → Option Core → Outcome → Type 0
+abbrev pub Loads : Result Load LineFault → Option Asked → Option Asked → Outcome → Type 0
 Loads asked None new r = LoadsEmpty asked new r
-Loads asked (Some c) new r = (new ≡ Some c) × (r ≡ outcome code.Full 0)
+Loads asked (Some v) new r = (new ≡ Some v) × (r ≡ outcome code.Full 0)
 
 -- the text of a machine's report, a good one, is put into a buffer
 pub record PutsText (c : Core) (before after : List ℕ) (r : Outcome) : Type 0 where

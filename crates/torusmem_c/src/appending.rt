@@ -1,13 +1,16 @@
 //! A further line for the script of a processor of the machine that a handle holds.
 
-ghost use Rattle.std.specs.Prelude.{◌≡◌};
+ghost use Rattle.std.specs.Prelude.{◌≡◌, ◌⊎◌, IfSome, false, true, unwrap_or};
 ghost use Rattle.machine_handle.specs.Held.{held};
-ghost use Rattle.torusmem_c.specs.Appending.{Appends, is_first_last, is_second_last, line_named, line_of, value_of};
-ghost use Rattle.torusmem_c.specs.Held.{OnHeld};
+ghost use Rattle.machine_asked.specs.Asked.{is_behind_spin, is_operation};
+ghost use Rattle.torusmem_c.specs.Appending.{Appends, Asks, Numbers, RefusesLine, is_first_last, is_second_last, line_named, line_of};
+ghost use Rattle.torusmem_c.specs.Appending.{operation_named, value_of};
+ghost use Rattle.torusmem_c.specs.Held.{OfAsked};
+ghost use Rattle.torusmem_c.specs.Outcome.{outcome};
 
 use crate::outcome::{Code, Outcome};
+use machine_asked::AskedMachine;
 use machine_handle::Handle;
-use machine_report::Machine;
 use script::{Line, Value};
 
 /// A value: a number, or `last`.
@@ -73,7 +76,7 @@ fn line_named(number: u32, address: u32, first: u64, second: u64, lasts: u32) ->
 }
 
 /// Gives a processor the line that is named.
-fn appended(machine: &mut Machine, processor: u32, line: Option<Line>) -> Outcome
+fn appended(machine: &mut AskedMachine, processor: u32, line: Option<Line>) -> Outcome
     ensures { Appends processor line machine.old machine.new result }
 {
     let Some(line) = line else {
@@ -99,14 +102,92 @@ pub extern "C" fn torusmem_append(
     second: u64,
     lasts: u32,
 ) -> Outcome
-    ensures { OnHeld (Appends processor (line_named operation address first second lasts))
-        (held handle.old) (held handle.new) result }
+    ensures { OfAsked (outcome Code.Empty 0)
+        (Appends processor (line_named operation address first second lasts)) (held handle.old)
+        (held handle.new) result }
 {
     match handle.machine() {
         Some(machine) => appended(
             machine,
             processor,
             line_named(operation, address, first, second, lasts),
+        ),
+        None => Outcome::empty(),
+    }
+}
+
+/// The operation that has this number, of two numbers, of which `lasts` says whether they stand for `last`.
+fn operation_named(number: u32, address: u32, first: u64, second: u64, lasts: u32) -> Option<Line>
+    ensures { result ≡ operation_named number address first second lasts }
+{
+    if number <= 9 {
+        line_named(number, address, first, second, lasts)
+    } else {
+        None
+    }
+}
+
+/// The number of an index, or 0.
+fn index_number(index: Option<u32>) -> u64
+    ensures { result ≡ unwrap_or index 0 }
+{
+    match index {
+        Some(index) => u64::from(index),
+        None => 0,
+    }
+}
+
+/// Gives a processor an operation, and answers its index.
+fn numbered(machine: &mut AskedMachine, processor: u32, line: Line) -> Outcome
+    requires operation { is_operation line ≡ true }
+    requires plain { is_behind_spin machine.old processor ≡ false }
+    ensures { Numbers processor line machine.old machine.new result
+        ⊎ RefusesLine processor line machine.old machine.new result }
+{
+    match machine.ask(processor, line) {
+        Ok(index) => Outcome::done(index_number(index)),
+        Err(fault) => Outcome::of(Code::Fault(fault), 0),
+    }
+}
+
+/// Gives a processor the operation that is named, and answers its index, if it is known.
+fn asked(machine: &mut AskedMachine, processor: u32, line: Option<Line>) -> Outcome
+    requires { IfSome line (λ line. is_operation line ≡ true) }
+    ensures { Asks processor line machine.old machine.new result }
+{
+    let Some(line) = line else {
+        return Outcome::no_such();
+    };
+    if machine.is_behind_spin(processor) {
+        return Outcome::of(Code::BehindSpin, 0);
+    }
+    numbered(machine, processor, line)
+}
+
+/// Gives a processor an operation at the end of its script, and answers which of the processor's operations
+/// it is, from 0 in the order of issue.
+///
+/// Errors: that the script has a spin, so that this isn't known; why the machine refuses the operation, or
+/// out of memory. It is as it was then.
+#[unsafe(no_mangle)]
+pub extern "C" fn torusmem_ask(
+    handle: &mut Handle,
+    processor: u32,
+    operation: u32,
+    address: u32,
+    first: u64,
+    second: u64,
+    lasts: u32,
+) -> Outcome
+    ensures { OfAsked (outcome Code.Empty 0)
+        (Asks processor (operation_named operation address first second lasts)) (held handle.old)
+        (held handle.new) result }
+{
+    match handle.machine() {
+        Some(machine) => asked(
+            machine,
+            processor,
+            operation_named(operation, address, first, second, lasts),
         ),
         None => Outcome::empty(),
     }

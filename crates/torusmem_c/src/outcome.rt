@@ -34,13 +34,17 @@ pub enum Code {
     TooMany,
     /// More operations of a trace are open on one word than are looked at.
     TooOpen,
+    /// The script of a processor has a spin, so that the index of what is asked behind it isn't known.
+    BehindSpin,
+    /// The operation isn't answered yet.
+    NotYet,
 }
 
 impl Code {
     /// The number by which C knows it.
     pub fn number(self) -> u32
         ensures value { result ≡ number_of self }
-        ensures small { result ≤ 24 }
+        ensures small { result ≤ 26 }
     {
         match self {
             Code::Done => 0,
@@ -55,6 +59,8 @@ impl Code {
             Code::NotLinearizable => 22,
             Code::TooMany => 23,
             Code::TooOpen => 24,
+            Code::BehindSpin => 25,
+            Code::NotYet => 26,
         }
     }
 }

@@ -7,13 +7,14 @@ ghost use Rattle.machine_handle.specs.core_machine.specs.Core.{built_to};
 ghost use Rattle.torusmem_c.specs.Room.{put_over, put_outcome};
 ghost use Rattle.torusmem_c.specs.Held.{OfHeld, OnHeld, Tells};
 ghost use Rattle.torusmem_c.specs.Records.{no_answer, no_entry};
-ghost use Rattle.torusmem_c.specs.Shown.{PutsRow, answer_told, answers_told, entries_told, entry_told, next_told};
+ghost use Rattle.torusmem_c.specs.Shown.{PutsRow, answer_of_told, answer_told, answers_told, entries_told, entry_told, next_told};
 ghost use Rattle.torusmem_c.specs.Shown.{number_outcome, row_told, tiles_told, word_told, words_told};
 ghost use Rattle.torusmem_c.specs.declared.outcome.Code.TheVariants as code;
 
 use crate::outcome::{Code, Outcome};
 use crate::ports::next_number;
 use crate::records::{AnswerRecord, EntryRecord};
+use machine_asked::AskedMachine;
 use machine_handle::Handle;
 use machine_report::Machine;
 
@@ -33,7 +34,7 @@ pub extern "C" fn torusmem_tiles(handle: &mut Handle) -> Outcome
     ensures { OnHeld (Tells tiles_told) (held handle.old) (held handle.new) result }
 {
     match handle.machine() {
-        Some(machine) => Outcome::done(u64::from(machine.torus().tiles())),
+        Some(machine) => Outcome::done(u64::from(machine.machine().torus().tiles())),
         None => Outcome::empty(),
     }
 }
@@ -44,7 +45,7 @@ pub extern "C" fn torusmem_words(handle: &mut Handle) -> Outcome
     ensures { OnHeld (Tells words_told) (held handle.old) (held handle.new) result }
 {
     match handle.machine() {
-        Some(machine) => Outcome::done(u64::from(machine.words())),
+        Some(machine) => Outcome::done(u64::from(machine.machine().words())),
         None => Outcome::empty(),
     }
 }
@@ -55,7 +56,7 @@ pub extern "C" fn torusmem_word(handle: &mut Handle, address: u32) -> Outcome
     ensures { OnHeld (Tells (word_told address)) (held handle.old) (held handle.new) result }
 {
     match handle.machine() {
-        Some(machine) => number_outcome(machine.word(address)),
+        Some(machine) => number_outcome(machine.machine().word(address)),
         None => Outcome::empty(),
     }
 }
@@ -66,7 +67,7 @@ pub extern "C" fn torusmem_row(handle: &mut Handle, at: u32) -> Outcome
     ensures { OnHeld (Tells (row_told at)) (held handle.old) (held handle.new) result }
 {
     match handle.machine() {
-        Some(machine) => number_outcome(machine.row(at)),
+        Some(machine) => number_outcome(machine.machine().row(at)),
         None => Outcome::empty(),
     }
 }
@@ -78,7 +79,7 @@ pub extern "C" fn torusmem_rows(handle: &mut Handle, out: &mut [u64]) -> Outcome
     ensures empty { held handle.old ≡ None → out.new ≡ out.old }
 {
     match handle.machine() {
-        Some(machine) => put_row(machine, out),
+        Some(machine) => put_row(machine.machine(), out),
         None => Outcome::empty(),
     }
 }
@@ -117,7 +118,7 @@ pub extern "C" fn torusmem_answers(handle: &mut Handle, processor: u32) -> Outco
     ensures { OnHeld (Tells (answers_told processor)) (held handle.old) (held handle.new) result }
 {
     match handle.machine() {
-        Some(machine) => match machine.answers(processor) {
+        Some(machine) => match machine.machine().answers(processor) {
             Some(answers) => Outcome::done(answers.len() as u64),
             None => Outcome::no_such(),
         },
@@ -132,7 +133,7 @@ pub extern "C" fn torusmem_answer_at(handle: &mut Handle, processor: u32, i: u32
         (held handle.new) result }
 {
     match handle.machine() {
-        Some(machine) => answer_of(machine, processor, i),
+        Some(machine) => answer_of(machine.machine(), processor, i),
         None => AnswerRecord::none(Code::Empty),
     }
 }
@@ -147,13 +148,42 @@ fn answer_of(machine: &Machine, processor: u32, i: u32) -> AnswerRecord
     }
 }
 
+/// The answer of a processor to its operation of this index, from 0 in the order of issue.
+#[unsafe(no_mangle)]
+pub extern "C" fn torusmem_answer_of(
+    handle: &mut Handle,
+    processor: u32,
+    index: u32,
+) -> AnswerRecord
+    ensures { OfHeld (no_answer code.Empty) (Tells (answer_of_told processor index))
+        (held handle.old) (held handle.new) result }
+{
+    match handle.machine() {
+        Some(machine) => answer_or_wait(machine, processor, index),
+        None => AnswerRecord::none(Code::Empty),
+    }
+}
+
+/// What C sees of the answer to an operation, or that there is none yet.
+fn answer_or_wait(machine: &AskedMachine, processor: u32, index: u32) -> AnswerRecord
+    ensures { result ≡ answer_of_told processor index machine.now.core }
+{
+    if let Some(answer) = machine.answer_to(processor, index) {
+        return AnswerRecord::of_found(Some(answer));
+    }
+    match machine.operations(processor) {
+        Some(most) if index < most => AnswerRecord::none(Code::NotYet),
+        _ => AnswerRecord::none(Code::NoSuch),
+    }
+}
+
 /// How many entries a bank has.
 #[unsafe(no_mangle)]
 pub extern "C" fn torusmem_entries(handle: &mut Handle, bank: u32) -> Outcome
     ensures { OnHeld (Tells (entries_told bank)) (held handle.old) (held handle.new) result }
 {
     match handle.machine() {
-        Some(machine) => match machine.bank(bank) {
+        Some(machine) => match machine.machine().bank(bank) {
             Some(entries) => Outcome::done(entries.len() as u64),
             None => Outcome::no_such(),
         },
@@ -168,7 +198,7 @@ pub extern "C" fn torusmem_entry_at(handle: &mut Handle, bank: u32, i: u32) -> E
         (held handle.new) result }
 {
     match handle.machine() {
-        Some(machine) => entry_of(machine, bank, i),
+        Some(machine) => entry_of(machine.machine(), bank, i),
         None => EntryRecord::none(Code::Empty),
     }
 }
@@ -190,7 +220,7 @@ pub extern "C" fn torusmem_next(handle: &mut Handle, at: u32, input: u32, dst: u
     ensures { OnHeld (Tells (next_told at input dst)) (held handle.old) (held handle.new) result }
 {
     match handle.machine() {
-        Some(machine) => match next_number(machine.torus(), at, input, dst) {
+        Some(machine) => match next_number(machine.machine().torus(), at, input, dst) {
             Some(output) => Outcome::done(u64::from(output)),
             None => Outcome::no_such(),
         },

@@ -116,7 +116,7 @@ pub extern "C" fn torusmem_route(
     ensures empty { held handle.old ≡ None → out.new ≡ out.old }
 {
     match handle.machine() {
-        Some(machine) => put_route(machine.torus(), src, dst, class, out),
+        Some(machine) => put_route(machine.machine().torus(), src, dst, class, out),
         None => Outcome::empty(),
     }
 }

@@ -144,7 +144,7 @@ pub extern "C" fn torusmem_spins_out(
     ensures empty { held handle.old ≡ None → out.new ≡ out.old }
 {
     match handle.machine() {
-        Some(held) => put_spins(alloc, held, machine, scripts, out),
+        Some(held) => put_spins(alloc, held.machine(), machine, scripts, out),
         None => Outcome::empty(),
     }
 }

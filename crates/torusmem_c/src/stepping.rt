@@ -3,13 +3,14 @@
 ghost use Rattle.std.specs.Prelude.{◌≡◌};
 ghost use Rattle.machine_handle.specs.Held.{held};
 ghost use Rattle.torusmem_c.specs.Choices.{attempt_named};
-ghost use Rattle.torusmem_c.specs.Held.{OnHeld};
+ghost use Rattle.torusmem_c.specs.Held.{OnCore, OnHeld};
 ghost use Rattle.torusmem_c.specs.Outcome.{outcome};
 ghost use Rattle.torusmem_c.specs.Steps.{Attempts, Finishes, MakesRound, MakesSteps, TellsEnabled, TellsFinished};
 ghost use Rattle.torusmem_c.specs.Steps.{TellsMovesLeft, is_enabled, moved, steps_named};
 
 use crate::choice::attempt_named;
 use crate::outcome::{Code, Outcome};
+use machine_asked::AskedMachine;
 use machine_handle::Handle;
 use machine_report::Machine;
 use torus::{Step, Stepped};
@@ -33,8 +34,8 @@ pub extern "C" fn torusmem_step(
 
 /// Makes the step that is named, if one is.
 #[inline(always)]
-fn made(machine: &mut Machine, attempt: Option<Step>) -> Outcome
-    ensures { Attempts attempt machine.old machine.new result }
+fn made(machine: &mut AskedMachine, attempt: Option<Step>) -> Outcome
+    ensures { OnCore (Attempts attempt) machine.old machine.new result }
 {
     match attempt {
         Some(attempt) => Outcome::done(moved(machine.step(attempt))),
@@ -75,20 +76,27 @@ pub extern "C" fn torusmem_run(handle: &mut Handle, attempts: &[AttemptRecord]) 
     }
 }
 
+/// How many moves are left.
+fn moves_left(machine: &AskedMachine) -> u64
+    ensures { result ≡ machine.now.core.moves_left }
+{
+    machine.machine().moves_left()
+}
+
 /// Makes the steps that are named, one after the other, and answers how many of them moved: each move
 /// takes one from the moves that are left.
-fn made_all(machine: &mut Machine, attempts: &[AttemptRecord]) -> u64
-    ensures { MakesSteps (steps_named attempts.now) machine.old machine.new
+fn made_all(machine: &mut AskedMachine, attempts: &[AttemptRecord]) -> u64
+    ensures { OnCore (MakesSteps (steps_named attempts.now)) machine.old machine.new
         (outcome Code.Done result) }
 {
     machine.reached();
-    let left = machine.moves_left();
+    let left = moves_left(machine);
     for it in attempts {
         if let Some(attempt) = attempt_named(it.agent, it.choice, it.number) {
             let _ = machine.step(attempt);
         }
     }
-    left - machine.moves_left()
+    left - moves_left(machine)
 }
 
 /// Whether one choice of one agent is enabled: 1 or 0.
@@ -103,7 +111,10 @@ pub extern "C" fn torusmem_enabled(
         (held handle.new) result }
 {
     match handle.machine() {
-        Some(machine) => Outcome::told(is_enabled(machine, attempt_named(agent, choice, number))),
+        Some(machine) => Outcome::told(is_enabled(
+            machine.machine(),
+            attempt_named(agent, choice, number),
+        )),
         None => Outcome::empty(),
     }
 }
@@ -149,7 +160,7 @@ pub extern "C" fn torusmem_finished(handle: &mut Handle) -> Outcome
     ensures { OnHeld TellsFinished (held handle.old) (held handle.new) result }
 {
     match handle.machine() {
-        Some(machine) => Outcome::told(machine.finished()),
+        Some(machine) => Outcome::told(machine.machine().finished()),
         None => Outcome::empty(),
     }
 }
@@ -160,7 +171,7 @@ pub extern "C" fn torusmem_moves_left(handle: &mut Handle) -> Outcome
     ensures { OnHeld TellsMovesLeft (held handle.old) (held handle.new) result }
 {
     match handle.machine() {
-        Some(machine) => Outcome::done(machine.moves_left()),
+        Some(machine) => Outcome::done(machine.machine().moves_left()),
         None => Outcome::empty(),
     }
 }

@@ -14,9 +14,9 @@ ghost use Rattle.torusmem_c.specs.Texts.{check_outcome};
 
 use crate::outcome::{Code, Outcome, fault_outcome, no_memory};
 use crate::room::put_over;
+use machine_asked::AskedMachine;
 use machine_handle::Handle;
 use machine_report::{Machine, Out, check_report, of_run, write_report};
-use machine_texts::load;
 use report_check::CheckFault;
 use std::alloc::{AllocError, Global};
 
@@ -73,7 +73,7 @@ pub extern "C" fn torusmem_load(
     if let Some(_held) = handle.machine() {
         return Outcome::of(Code::Full, 0);
     }
-    match load(alloc, machine, scripts) {
+    match AskedMachine::load(alloc, machine, scripts) {
         Ok(machine) => match handle.hold(machine) {
             Ok(()) => Outcome::done(0),
             Err(_) => no_memory(),
@@ -126,7 +126,7 @@ pub extern "C" fn torusmem_report(alloc: Global, handle: &mut Handle, out: &mut 
     ensures empty { held handle.old ≡ None → out.new ≡ out.old }
 {
     match handle.machine() {
-        Some(machine) => put_report(alloc, machine, out),
+        Some(machine) => put_report(alloc, machine.machine(), out),
         None => Outcome::empty(),
     }
 }

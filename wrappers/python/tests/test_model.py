@@ -6,7 +6,7 @@ import random
 import unittest
 
 from model import Model
-from torusmem import FENCE, SPIN, Machine, Operation
+from torusmem import FENCE, SPIN, Closed, Machine, Operation
 
 MACHINES = {
     "a ring of two": "radix 2\ndims 1\ndepth 1\ntags 1\nwords 3\ninit 1 7\n",
@@ -55,6 +55,31 @@ class Appended(unittest.TestCase):
             self.assertRaises(ValueError, machine.append, 0, Operation.STORE, 0, 2**64)
             self.assertRaises(IndexError, machine.append, 0, 12)
             self.assertTrue(machine.finished)
+
+
+class Asked(unittest.TestCase):
+    """Operations that are asked while the machine runs."""
+
+    def test_operations_that_are_asked(self) -> None:
+        with Machine("radix 2\ndims 1\ndepth 4\ntags 4\nwords 8\n", "0 spin 5 0 2\n") as machine:
+            self.assertEqual(machine.ask(1, Operation.STORE, 5, 17), 0)
+            machine.append(1, FENCE)
+            self.assertEqual(machine.ask(1, Operation.CAS, 5, 17, 2**64 - 1), 1)
+            self.assertIsNone(machine.answer_of(1, 1))
+            while machine.answer_of(1, 1) is None:
+                machine.round()
+            self.assertEqual(machine.ask(1, Operation.ADD, 5, None), 2)
+            machine.finish()
+            found = [machine.answer_of(1, index) for index in range(3)]
+            self.assertEqual([(it.index, it.old) for it in found], [(0, None), (1, 17), (2, 2**64 - 1)])
+            self.assertEqual(machine.word(5), 16)
+            for refused in ((0, Operation.LOAD, 5), (2, Operation.LOAD, 5), (1, Operation.LOAD, 8)):
+                self.assertRaises(ValueError, machine.ask, *refused)
+            self.assertRaises(IndexError, machine.ask, 1, FENCE)
+            self.assertRaises(IndexError, machine.answer_of, 1, 3)
+            self.assertRaises(IndexError, machine.answer_of, 2, 0)
+            self.assertTrue(machine.finished)
+        self.assertRaises(Closed, machine.ask, 1, Operation.LOAD, 5)
 
 
 class Beside(unittest.TestCase):

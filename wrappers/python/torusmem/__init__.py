@@ -31,7 +31,8 @@ from array import array
 from ctypes import byref, c_uint64, create_string_buffer
 from enum import IntEnum
 from operator import index as _whole
-from typing import Any, Dict, Iterable, List, Mapping, NamedTuple, NoReturn, Optional, Sequence, Tuple, Union
+from typing import Any, Dict, Iterable, List, Mapping, NamedTuple, NoReturn, Optional, Sequence, Tuple
+from typing import TypeVar, Union
 
 from . import _library
 from ._library import LibraryNotFound
@@ -356,7 +357,60 @@ def _values(raw: Any, operation: Operation) -> Tuple[int, ...]:
     return (raw.first, raw.second)[: _VALUES.get(operation, 1)]
 
 
-class Machine:
+def _answer(raw: Any) -> Answer:
+    """An answer of the library."""
+    operation, old = Operation(raw.operation), raw.old if raw.has_old else None
+    return Answer(raw.index, operation, _values(raw, operation), raw.bank, raw.place, old)
+
+
+_Own = TypeVar("_Own", bound="_Kept")
+
+
+class _Kept:
+    """What the library keeps for its caller, in the thread that made it, until it is closed."""
+
+    _what = ""  # how messages call it
+    _letting_go = ""  # the call that gives its memory back
+
+    def _begin(self) -> None:
+        self._calls = _library.library()
+        self._owner = _thread()
+        self._held = _library.Held(False, None)
+        self._at = byref(self._held)
+
+    def _here(self) -> Any:
+        """Where it is, for a call from its own thread."""
+        if _thread() is not self._owner:
+            raise WrongThread(f"a {self._what} stays in the thread that made it")
+        return self._at
+
+    @property
+    def closed(self) -> bool:
+        """Whether it is closed."""
+        return not self._held.full
+
+    def close(self) -> None:
+        """Gives its memory back. A second time nothing happens."""
+        getattr(self._calls, self._letting_go)(self._here())
+
+    def __enter__(self: _Own) -> _Own:
+        return self
+
+    def __exit__(self, *why: object) -> None:
+        self.close()
+
+    def __del__(self) -> None:
+        try:
+            if _thread() is self._owner:
+                getattr(self._calls, self._letting_go)(self._at)
+        except (AttributeError, TypeError):
+            pass  # it was never begun, or Python ends
+
+    def __reduce__(self) -> NoReturn:
+        raise TypeError(f"a {self._what} can't be copied or pickled")
+
+
+class Machine(_Kept):
     """A machine: its tiles, with a processor, a router and a bank each, their channels, and the memory.
 
     Machine(machine_text, scripts_text) is loaded and hasn't moved yet; Machine.read(machine_file, scripts_file) reads
@@ -365,6 +419,8 @@ class Machine:
     All calls must come from the thread in which it was made: others are refused (WrongThread). `with` or close() gives
     its memory back, and so does dropping it in its thread.
     """
+
+    _what, _letting_go = "machine", "free"
 
     def __init__(self, machine: Text, scripts: Text = b"") -> None:
         self._load(_bytes(machine, "machine"), _bytes(scripts, "scripts"), ("machine text", "scripts text"))
@@ -381,12 +437,9 @@ class Machine:
         return made
 
     def _load(self, machine: bytes, scripts: bytes, files: Tuple[str, str]) -> None:
-        self._calls = _library.library()
+        self._begin()
         self._step = self._calls.step
-        self._owner = _thread()
-        self._held = _library.Held(False, None)
         self._row: Any = None  # room for the row, once it was asked for
-        self._at = byref(self._held)
         said = self._calls.load(self._at, machine, len(machine), scripts, len(scripts))
         if said.code == _library.OK:
             return
@@ -394,13 +447,7 @@ class Machine:
             raise MemoryError(f"torusmem: {REASONS[12]} (F12)")
         raise _fault(self._calls, machine, scripts, files)
 
-    # What every call begins with, and what it makes of the code.
-
-    def _here(self) -> Any:
-        """Where the machine is, for a call from its own thread."""
-        if _thread() is not self._owner:
-            raise WrongThread("a machine stays in the thread that made it")
-        return self._at
+    # What every call makes of the code.
 
     def _refuse(self, code: int, what: str) -> NoReturn:
         if code == _library.EMPTY:
@@ -465,15 +512,39 @@ class Machine:
         A value that is None is `last`, the number replied to the operation just before it. What the line doesn't have
         isn't looked at. ValueError tells why the line is refused; the machine is as it was then.
         """
+        self._given(self._calls.append, processor, operation, address, first, second)
+
+    def ask(
+        self,
+        processor: int,
+        operation: int,
+        address: int = 0,
+        first: Optional[int] = 0,
+        second: Optional[int] = 0,
+    ) -> int:
+        """Gives a processor an Operation, as append() does; its index among the operations of the processor, from 0 in the
+        order of issue: what the processor issues under this index, whenever it does, is what was asked.
+
+        ValueError tells why it is refused, as of append(); also where the script has a spin, since nobody can tell
+        beforehand how many loads that makes.
+        """
+        return self._given(self._calls.ask, processor, operation, address, first, second)
+
+    def _given(
+        self, call: Any, processor: int, operation: int, address: int, first: Optional[int], second: Optional[int]
+    ) -> int:
+        """What a call answers that gives a processor a line."""
         words = _number(processor, "processor"), _number(operation, "operation"), _number(address, "address")
         values = [0 if it is None else _whole(it) for it in (first, second)]
         if not all(0 <= it < 2**64 for it in values):
             raise ValueError("a value is a word of 64 bits")
         lasts = (_library.FIRST_IS_LAST if first is None else 0) + (_library.SECOND_IS_LAST if second is None else 0)
-        said = self._calls.append(self._here(), *words, *values, lasts)
+        said = call(self._here(), *words, *values, lasts)
         if said.code in REASONS and said.code != _library.FAULT_MEMORY:
             raise ValueError(f"torusmem: {REASONS[said.code]} (F{said.code})")
-        self._value(said, "such line")
+        if said.code == _library.BEHIND_SPIN:
+            raise ValueError("torusmem: the script has a spin, and the index of what comes behind it isn't known")
+        return self._value(said, "such line")
 
     @property
     def finished(self) -> bool:
@@ -532,10 +603,19 @@ class Machine:
         count = self._value(self._calls.answers(at, processor), f"processor {processor}")
         made = []
         for number in range(_number(first, "first"), count):
-            raw = self._calls.answer_at(at, processor, number)
-            operation, old = Operation(raw.operation), raw.old if raw.has_old else None
-            made.append(Answer(raw.index, operation, _values(raw, operation), raw.bank, raw.place, old))
+            made.append(_answer(self._calls.answer_at(at, processor, number)))
         return made
+
+    def answer_of(self, processor: int, index: int) -> Optional[Answer]:
+        """The answer of a processor (by its tile) to its operation of this index, from 0 in the order of issue; None where
+        it isn't answered yet. IndexError where the script of the processor can't make so many operations."""
+        words = _number(processor, "processor"), _number(index, "index")
+        raw = self._calls.answer_of(self._here(), *words)
+        if raw.code == _library.NOT_YET:
+            return None
+        if raw.code != _library.OK:
+            self._refuse(raw.code, f"operation {index} of processor {processor}")
+        return _answer(raw)
 
     def entries(self, bank: int, first: int = 0) -> List[Entry]:
         """The services of a bank (by its tile), in their order; those from number `first` on."""
@@ -588,31 +668,10 @@ class Machine:
 
     # Its end.
 
-    @property
-    def closed(self) -> bool:
-        """Whether it is closed."""
-        return not self._held.full
-
     def close(self) -> None:
         """Gives its memory back. A second time nothing happens."""
-        self._calls.free(self._here())
+        super().close()
         self._row = None
-
-    def __enter__(self) -> Machine:
-        return self
-
-    def __exit__(self, *why: object) -> None:
-        self.close()
-
-    def __del__(self) -> None:
-        try:
-            if _thread() is self._owner:
-                self._calls.free(self._at)
-        except (AttributeError, TypeError):
-            pass  # it was never loaded, or Python ends
-
-    def __reduce__(self) -> NoReturn:
-        raise TypeError("a machine can't be copied or pickled")
 
     def __repr__(self) -> str:
         return f"<torusmem.Machine {'closed' if self.closed else 'of ' + str(self._size()) + ' tiles'}>"
@@ -786,7 +845,7 @@ def linearize(
     raise EventFault(said.value, said.code)
 
 
-class Watch:
+class Watch(_Kept):
     """A watch of a trace that goes on: what linearize() judges at the end, it judges at each event, so that a host
     checks itself while it runs. Its memory follows the operations that are open. opening: the words by address, from 0;
     there are no other addresses.
@@ -802,20 +861,13 @@ class Watch:
         True False True True
     """
 
+    _what, _letting_go = "watch", "watch_end"
+
     def __init__(self, opening: Iterable[int]) -> None:
         words = [_word(it, "an opening word") for it in opening]
-        self._calls = _library.library()
-        self._owner = _thread()
-        self._held = _library.Held(False, None)
-        self._at = byref(self._held)
+        self._begin()
         self._next = 0
         self._taken(self._calls.watch_begin(self._at, (c_uint64 * (len(words) or 1))(*words), len(words)), "watch")
-
-    def _here(self) -> Any:
-        """Where the watch is, for a call from its own thread."""
-        if _thread() is not self._owner:
-            raise WrongThread("a watch stays in the thread that made it")
-        return self._at
 
     def _taken(self, said: Any, what: str) -> bool:
         """Whether the event is taken; an exception says why it isn't judged."""
@@ -847,31 +899,6 @@ class Watch:
         has_old, word = (0, 0) if old is None else (1, _word(old, "an old word"))
         told = _word(number, "a number"), has_old, word, _word(configurations, "configurations")
         return self._taken(self._calls.watch_answer(self._here(), *told), f"open operation {number}")
-
-    @property
-    def closed(self) -> bool:
-        """Whether it is closed."""
-        return not self._held.full
-
-    def close(self) -> None:
-        """Gives its memory back. A second time nothing happens."""
-        self._calls.watch_end(self._here())
-
-    def __enter__(self) -> Watch:
-        return self
-
-    def __exit__(self, *why: object) -> None:
-        self.close()
-
-    def __del__(self) -> None:
-        try:
-            if _thread() is self._owner:
-                self._calls.watch_end(self._at)
-        except (AttributeError, TypeError):
-            pass  # it was never begun, or Python ends
-
-    def __reduce__(self) -> NoReturn:
-        raise TypeError("a watch can't be copied or pickled")
 
     def __repr__(self) -> str:
         return f"<torusmem.Watch {'closed' if self.closed else 'of ' + str(self._next) + ' operations'}>"

@@ -12,6 +12,7 @@ SONAME = "libtorusmem.so.0.1"
 # The number of calls, codes and limits that the header has.
 OK, FAULT_MEMORY, BAD_REPORT, EMPTY, FULL, NONE, SHORT, NO_ROUTE, CYCLE = 0, 12, 15, 16, 17, 18, 19, 20, 21
 NOT_LINEARIZABLE, TOO_MANY, TOO_OPEN = 22, 23, 24
+BEHIND_SPIN, NOT_YET = 25, 26
 ISSUE, ANSWER = 0, 1
 FENCE, SPIN, FIRST_IS_LAST, SECOND_IS_LAST = 10, 11, 1, 2
 NO_TEXT, MACHINE_TEXT, SCRIPTS_TEXT = 0, 1, 2
@@ -86,6 +87,7 @@ CALLS = {
     "round": (Outcome, [_M]),
     "finish": (Outcome, [_M]),
     "append": (Outcome, [_M, c_uint32, c_uint32, c_uint32, c_uint64, c_uint64, c_uint32]),
+    "ask": (Outcome, [_M, c_uint32, c_uint32, c_uint32, c_uint64, c_uint64, c_uint32]),
     "finished": (Outcome, [_M]),
     "moves_left": (Outcome, [_M]),
     "tiles": (Outcome, [_M]),
@@ -95,6 +97,7 @@ CALLS = {
     "rows": (Outcome, [_M, POINTER(c_uint64), c_size_t]),
     "answers": (Outcome, [_M, c_uint32]),
     "answer_at": (RawAnswer, [_M, c_uint32, c_uint32]),
+    "answer_of": (RawAnswer, [_M, c_uint32, c_uint32]),
     "entries": (Outcome, [_M, c_uint32]),
     "entry_at": (RawEntry, [_M, c_uint32, c_uint32]),
     "spins_out": (Outcome, [_M, c_char_p, c_size_t, c_char_p, c_size_t, POINTER(RawSpin), c_size_t]),

@@ -43,6 +43,8 @@ pub const TORUSMEM_CYCLE: u32 = 21;
 pub const TORUSMEM_NOT_LINEARIZABLE: u32 = 22;
 pub const TORUSMEM_TOO_MANY: u32 = 23;
 pub const TORUSMEM_TOO_OPEN: u32 = 24;
+pub const TORUSMEM_BEHIND_SPIN: u32 = 25;
+pub const TORUSMEM_NOT_YET: u32 = 26;
 
 pub const TORUSMEM_SEND: u32 = 0;
 pub const TORUSMEM_TAKE: u32 = 1;
@@ -208,6 +210,15 @@ extern "C" {
         second: u64,
         lasts: u32,
     ) -> torusmem_outcome;
+    pub fn torusmem_ask(
+        m: *mut torusmem_machine,
+        processor: u32,
+        operation: u32,
+        address: u32,
+        first: u64,
+        second: u64,
+        lasts: u32,
+    ) -> torusmem_outcome;
     pub fn torusmem_finished(m: *mut torusmem_machine) -> torusmem_outcome;
     pub fn torusmem_moves_left(m: *mut torusmem_machine) -> torusmem_outcome;
     pub fn torusmem_tiles(m: *mut torusmem_machine) -> torusmem_outcome;
@@ -217,6 +228,7 @@ extern "C" {
     pub fn torusmem_rows(m: *mut torusmem_machine, out: *mut u64, out_length: usize) -> torusmem_outcome;
     pub fn torusmem_answers(m: *mut torusmem_machine, processor: u32) -> torusmem_outcome;
     pub fn torusmem_answer_at(m: *mut torusmem_machine, processor: u32, i: u32) -> torusmem_answer;
+    pub fn torusmem_answer_of(m: *mut torusmem_machine, processor: u32, index: u32) -> torusmem_answer;
     pub fn torusmem_entries(m: *mut torusmem_machine, bank: u32) -> torusmem_outcome;
     pub fn torusmem_entry_at(m: *mut torusmem_machine, bank: u32, i: u32) -> torusmem_entry;
     pub fn torusmem_spins_out(

@@ -179,6 +179,13 @@ pub enum Reply {
     Old(u64),
 }
 
+/// What has become of an operation that was asked.
+#[derive(Clone, Copy, Debug, PartialEq, Eq, Hash)]
+pub enum Asked {
+    Answered(Answer),
+    NotYet,
+}
+
 /// An operation of a processor that is answered.
 #[derive(Clone, Copy, Debug, PartialEq, Eq, Hash)]
 pub struct Answer {
@@ -355,6 +362,17 @@ impl Machine {
         let mut row = vec![0; self.raw.rows(&mut []).value as usize];
         self.raw.rows(&mut row);
         row
+    }
+
+    /// What has become of the operation of a processor that has this index, from 0 in the order of issue; `None` where
+    /// there is no such processor, or its script can't make so many operations.
+    pub fn answer_of(&mut self, processor: u32, index: u32) -> Option<Asked> {
+        let answer = self.raw.answer_of(processor, index);
+        match answer.code {
+            sys::TORUSMEM_OK => Some(Asked::Answered(answer_of(&answer))),
+            sys::TORUSMEM_NOT_YET => Some(Asked::NotYet),
+            _ => None,
+        }
     }
 
     /// The answers that a processor has, in the order of answering.

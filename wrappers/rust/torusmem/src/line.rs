@@ -50,6 +50,10 @@ pub enum Refused {
     Length,
     /// A request for memory was refused (F12).
     Memory,
+    /// Of what is asked: it is a fence or a spin, and no operation.
+    NoOperation,
+    /// Of what is asked: the script has a spin, so that the index of what comes behind it isn't known.
+    BehindSpin,
 }
 
 impl fmt::Display for Refused {
@@ -61,6 +65,8 @@ impl fmt::Display for Refused {
             Refused::Last => "there is no operation before a line with `last` (F10)",
             Refused::Length => "a script has at most 4096 operations, and all together at most 65536 (F9)",
             Refused::Memory => "a request for memory was refused (F12)",
+            Refused::NoOperation => "a fence or a spin is no operation that can be asked",
+            Refused::BehindSpin => "the script has a spin, and the index of what comes behind it isn't known",
         })
     }
 }
@@ -72,19 +78,40 @@ impl Machine {
     /// processor has reported that its script is finished, all reports are taken back first.
     pub fn append(&mut self, processor: u32, line: Line) -> Result<(), Refused> {
         let (operation, address, first, second) = parts(line);
-        let lasts = [(first, sys::TORUSMEM_FIRST_IS_LAST), (second, sys::TORUSMEM_SECOND_IS_LAST)];
-        let lasts = lasts.iter().filter(|(value, _)| *value == Value::Last).map(|(_, flag)| flag).sum();
-        let said = self.raw.append(processor, operation, address, (number(first), number(second)), lasts);
-        match said.code {
-            sys::TORUSMEM_OK => Ok(()),
-            8 => Err(Refused::Processor),
-            7 => Err(Refused::Address),
-            6 => Err(Refused::Loads),
-            10 => Err(Refused::Last),
-            9 => Err(Refused::Length),
-            _ => Err(Refused::Memory),
-        }
+        let values = (number(first), number(second));
+        let said = self.raw.append(processor, operation, address, values, lasts(first, second));
+        refused(said).map(|_| ())
     }
+
+    /// Gives a processor an operation, as `append` does, and answers its index among the processor's operations, from 0
+    /// in the order of issue: the operation that the processor issues under it is the one that was asked.
+    pub fn ask(&mut self, processor: u32, line: Line) -> Result<u32, Refused> {
+        let (operation, address, first, second) = parts(line);
+        let values = (number(first), number(second));
+        let said = self.raw.ask(processor, operation, address, values, lasts(first, second));
+        refused(said).map(|index| index as u32)
+    }
+}
+
+/// What is answered where a line is taken, or why it is refused.
+fn refused(said: sys::torusmem_outcome) -> Result<u64, Refused> {
+    Err(match said.code {
+        sys::TORUSMEM_OK => return Ok(said.value),
+        sys::TORUSMEM_NONE => Refused::NoOperation,
+        sys::TORUSMEM_BEHIND_SPIN => Refused::BehindSpin,
+        8 => Refused::Processor,
+        7 => Refused::Address,
+        6 => Refused::Loads,
+        10 => Refused::Last,
+        9 => Refused::Length,
+        _ => Refused::Memory,
+    })
+}
+
+/// Which of two values are `last`.
+fn lasts(first: Value, second: Value) -> u32 {
+    let flags = [(first, sys::TORUSMEM_FIRST_IS_LAST), (second, sys::TORUSMEM_SECOND_IS_LAST)];
+    flags.iter().filter(|(value, _)| *value == Value::Last).map(|(_, flag)| flag).sum()
 }
 
 /// A line's number, its address, and its values, where it has them.

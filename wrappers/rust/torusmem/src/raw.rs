@@ -78,6 +78,7 @@ impl Raw {
         row = torusmem_row(at) -> torusmem_outcome;
         answers = torusmem_answers(processor) -> torusmem_outcome;
         answer_at = torusmem_answer_at(processor, i) -> torusmem_answer;
+        answer_of = torusmem_answer_of(processor, index) -> torusmem_answer;
         entries = torusmem_entries(bank) -> torusmem_outcome;
         entry_at = torusmem_entry_at(bank, i) -> torusmem_entry;
         next = torusmem_next(at, input, dst) -> torusmem_outcome;
@@ -93,6 +94,18 @@ impl Raw {
     ) -> torusmem_outcome {
         // SAFETY: the machine is this one's alone, for as long as the call takes. Numbers may be any.
         unsafe { torusmem_append(&mut self.0, processor, operation, address, values.0, values.1, lasts) }
+    }
+
+    pub fn ask(
+        &mut self,
+        processor: u32,
+        operation: u32,
+        address: u32,
+        values: (u64, u64),
+        lasts: u32,
+    ) -> torusmem_outcome {
+        // SAFETY: the machine is this one's alone, for as long as the call takes. Numbers may be any.
+        unsafe { torusmem_ask(&mut self.0, processor, operation, address, values.0, values.1, lasts) }
     }
 
     pub fn run(&mut self, attempts: &[torusmem_attempt]) -> torusmem_outcome {

@@ -2,7 +2,7 @@
 use std::fs;
 use std::path::{Path, PathBuf};
 use std::thread;
-use torusmem::{check, explain, linearize, network, Answer, By, Channel, Choice, Class, Dir, Entry, Event, EventFault};
+use torusmem::{check, explain, linearize, network, Answer, Asked, By, Channel, Choice, Class, Dir, Entry, Event, EventFault};
 use torusmem::{Fault, Judged, Kind, Line, Link, Machine, NotTaken, Operation, Refused, Reply, Spin, Text, Value};
 use torusmem::{Verdict, Watch, Why};
 
@@ -74,6 +74,30 @@ fn lines_come_later() {
     assert_eq!(answers, [Reply::Old(17), Reply::Old(17)]);
     assert_eq!(machine.word(5), Some(18));
     assert_eq!(check(&machine.report().unwrap()), Ok(()));
+}
+
+/// Operations are asked one after the other, and answered under the indices that were told.
+#[test]
+fn operations_are_asked() {
+    let mut machine = Machine::load(&read("examples/machine.txt"), b"0 spin 5 0 2\n").unwrap();
+    assert_eq!(machine.ask(0, Line::Load(5)), Err(Refused::BehindSpin));
+    assert_eq!(machine.ask(1, Line::Fence), Err(Refused::NoOperation));
+    assert_eq!(machine.ask(1, Line::Load(8)), Err(Refused::Address));
+    assert_eq!(machine.ask(2, Line::Load(5)), Err(Refused::Processor));
+    assert_eq!(machine.answer_of(1, 0), None);
+    assert_eq!(machine.ask(1, Line::Store(5, 17.into())), Ok(0));
+    assert_eq!(machine.append(1, Line::Fence), Ok(()));
+    assert_eq!(machine.ask(1, Line::Add(5, 3.into())), Ok(1));
+    assert_eq!((machine.answer_of(1, 1), machine.answer_of(1, 2)), (Some(Asked::NotYet), None));
+    machine.finish();
+    let reply = |asked| match asked {
+        Some(Asked::Answered(answer)) => Some(answer.reply),
+        _ => None,
+    };
+    assert_eq!(reply(machine.answer_of(1, 0)), Some(Reply::Ok));
+    assert_eq!(reply(machine.answer_of(1, 1)), Some(Reply::Old(17)));
+    assert_eq!(machine.answer_of(2, 0), None);
+    assert_eq!(machine.word(5), Some(20));
 }
 
 #[test]
