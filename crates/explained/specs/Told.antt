@@ -1,5 +1,5 @@
 -- What a sentence tells of the texts of a command.
-use Rattle.std.specs.Prelude.{◌≡◌, ◌≢◌, ◌⊎◌, ℕ, ◌≤◌, ◌<◌, true, List, Option, Some, None, Result}
+use Rattle.std.specs.Prelude.{◌≡◌, ◌⊎◌, ℕ, ◌≤◌, ◌<◌, true, List, Option, Some, None, Result}
 use Rattle.std.specs.Prelude.{Ok, Err, is_ok}
 use Rattle.std.specs.Str.Lines.{lines}
 use Rattle.torus.specs.declared.fault.Fault.TheVariants as fault
@@ -18,52 +18,59 @@ use Rattle.explained.specs.declared.sentence.TileSentence.{TileSentence}
 abbrev pub fault_in : Sentence → LineFault
 fault_in s = record { fault = fault_of s.reason; line = s.line }
 
--- a sentence is about the first fault of what is read, or about want of memory; there is none
--- where no text has a fault
-abbrev pub Tells : {A : Type 0} → Result A LineFault → Option Sentence → Type 0
-Tells read None = is_ok read ≡ true
-Tells read (Some s) = (read ≡ Err (fault_in s)) ⊎ (fault_in s ≡ record { fault = fault.Memory; line = 0 })
+-- a sentence is about the first fault of what is read, or about a refusal of memory; there is
+-- none where no text has a fault
+abbrev pub TellsReading : {A : Type 0} → Result A LineFault → Option Sentence → Type 0
+TellsReading read None = is_ok read ≡ true
+TellsReading read (Some s) =
+    (read ≡ Err (fault_in s)) ⊎ (fault_in s ≡ record { fault = fault.Memory; line = 0 })
 
 -- what is read next, unless the texts before have a fault
-abbrev pub after : {A B : Type 0} → Result A LineFault → (A → Result B LineFault) → Result B LineFault
-after (Ok x) next = next x
-after (Err e) next = Err e
+abbrev pub read_after :
+    {A B : Type 0} → Result A LineFault → (A → Result B LineFault) → Result B LineFault
+read_after (Ok x) next = next x
+read_after (Err e) next = Err e
 
 -- the scripts of a machine text and a script text
 abbrev pub scripts_read : List (List ℕ) → List (List ℕ) → Result ScriptsSpec LineFault
-scripts_read machine scripts = after (machine_of machine) (λ m. scripts_of m scripts)
+scripts_read machine scripts = read_after (machine_of machine) (λ m. scripts_of m scripts)
 
 -- the steps of a machine text, a script text and a steps text
 abbrev pub steps_read : List (List ℕ) → List (List ℕ) → List (List ℕ) → Result (List Step) LineFault
-steps_read machine scripts steps = after (machine_of machine) (λ m. after (scripts_of m scripts) (λ s. steps_of m steps))
+steps_read machine scripts steps =
+    read_after (machine_of machine) (λ m. read_after (scripts_of m scripts) (λ s. steps_of m steps))
 
--- a sentence has the name and the bytes of a text
-pub record IsAbout (t : Named) (s : Sentence) : Type 0 where
-  pub name : s.name.now ≡ t.name.now
-  pub text : s.text.now ≡ t.text.now
+-- a name and bytes are those of a text
+pub record IsAbout (t : Named) (name text : List ℕ) : Type 0 where
+  pub name_is : name ≡ t.name.now
+  pub text_is : text ≡ t.text.now
+
+-- a sentence has them
+abbrev pub IsAboutText : Named → Sentence → Type 0
+IsAboutText t s = IsAbout t s.name.now s.text.now
 
 -- a sentence is about this fault of this text
-pub record IsOf (found : LineFault) (t : Named) (s : Sentence) : Type 0 where
+pub record IsOfFault (found : LineFault) (t : Named) (s : Sentence) : Type 0 where
   pub fault : fault_in s ≡ found
-  pub about : IsAbout t s
+  pub about : IsAboutText t s
 
 -- a sentence is about a text where that has a fault, and else about what is said of the texts
 -- behind it
 abbrev pub IsFrom : {A : Type 0} → Result A LineFault → Named → (A → Type 0) → Sentence → Type 0
-IsFrom (Err e) t behind s = IsAbout t s
+IsFrom (Err e) t behind s = IsAboutText t s
 IsFrom (Ok x) t behind s = behind x
 
 -- it is about the first text with a fault, of a machine text and a script text; or memory was
 -- refused
 abbrev pub IsFromScripts : Named → Named → Sentence → Type 0
 IsFromScripts machine scripts s = (fault_of s.reason ≡ fault.Memory)
-    ⊎ IsFrom (machine_of (lines machine.text.now)) machine (λ _. IsAbout scripts s) s
+    ⊎ IsFrom (machine_of (lines machine.text.now)) machine (λ _. IsAboutText scripts s) s
 
 -- the same of a machine text, a script text and a steps text
 abbrev pub IsFromSteps : Named → Named → Named → Sentence → Type 0
 IsFromSteps machine scripts steps s = (fault_of s.reason ≡ fault.Memory)
     ⊎ IsFrom (machine_of (lines machine.text.now)) machine
-    (λ m. IsFrom (scripts_of m (lines scripts.text.now)) scripts (λ _. IsAbout steps s) s) s
+    (λ m. IsFrom (scripts_of m (lines scripts.text.now)) scripts (λ _. IsAboutText steps s) s) s
 
 -- a tile that a machine hasn't, and how many it has: the first of two
 pub record IsOutside (tiles src dst : ℕ) (t : TileSentence) : Type 0 where

@@ -10,7 +10,7 @@ pub struct Sentence<'a> {
     /// The name of the text.
     pub name: &'a str,
     pub text: &'a [u8],
-    /// The line of the fault, from 1; 0 for want of memory.
+    /// The line of the fault, from 1; 0 where a request for memory was refused.
     pub line: u64,
     pub reason: Reason,
 }

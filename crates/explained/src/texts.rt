@@ -3,8 +3,9 @@
 ghost use Rattle.std.specs.Prelude.{◌≡◌, ◌⊎◌, Err, IfOk, IfErr, IfSome};
 ghost use Rattle.std.specs.Str.Lines.{lines};
 ghost use Rattle.script.specs.Machine.{machine_of};
-ghost use Rattle.explained.specs.Told.{IsAbout, IsFromScripts, IsFromSteps};
-ghost use Rattle.explained.specs.Told.{Tells, IsOf, TellsTile, scripts_read, steps_read};
+ghost use Rattle.explained.specs.Told.{IsAboutText, IsFromScripts, IsFromSteps};
+ghost use Rattle.explained.specs.Told.{TellsReading, IsOfFault, TellsTile, scripts_read};
+ghost use Rattle.explained.specs.Told.{steps_read};
 
 use crate::sentence::{Sentence, TileSentence};
 use fault_reasons::{machine_reason, scripts_reason, steps_reason};
@@ -24,8 +25,8 @@ pub fn machine_sentence<'a, A: Allocator + Copy>(
     alloc: A,
     machine: Named<'a>,
 ) -> Option<Sentence<'a>>
-    ensures tells { Tells (machine_of (lines machine.entry.text.now)) result }
-    ensures text { IfSome result (IsAbout machine.entry) }
+    ensures tells { TellsReading (machine_of (lines machine.entry.text.now)) result }
+    ensures text { IfSome result (IsAboutText machine.entry) }
 {
     match read_machine(alloc, machine.text) {
         Ok(_) => None,
@@ -40,7 +41,8 @@ pub fn scripts_sentence<'a, A: Allocator + Copy>(
     machine: Named<'a>,
     scripts: Named<'a>,
 ) -> Option<Sentence<'a>>
-    ensures tells { Tells (scripts_read (lines machine.entry.text.now) (lines scripts.entry.text.now)) result }
+    ensures tells { TellsReading
+        (scripts_read (lines machine.entry.text.now) (lines scripts.entry.text.now)) result }
     ensures text { IfSome result (IsFromScripts machine.entry scripts.entry) }
 {
     let read = match read_machine(alloc, machine.text) {
@@ -61,7 +63,8 @@ pub fn steps_sentence<'a, A: Allocator + Copy>(
     scripts: Named<'a>,
     steps: Named<'a>,
 ) -> Option<Sentence<'a>>
-    ensures tells { Tells (steps_read (lines machine.entry.text.now) (lines scripts.entry.text.now)
+    ensures tells { TellsReading
+        (steps_read (lines machine.entry.text.now) (lines scripts.entry.text.now)
         (lines steps.entry.text.now)) result }
     ensures text { IfSome result (IsFromSteps machine.entry scripts.entry steps.entry) }
 {
@@ -80,7 +83,7 @@ pub fn steps_sentence<'a, A: Allocator + Copy>(
 
 /// The sentence of a machine text's fault.
 fn of_machine<'a>(text: Named<'a>, fault: LineFault) -> Sentence<'a>
-    ensures { IsOf fault text.entry result }
+    ensures { IsOfFault fault text.entry result }
 {
     Sentence {
         name: text.name,
@@ -96,7 +99,7 @@ fn of_scripts<'a, A: Allocator>(
     text: Named<'a>,
     fault: LineFault,
 ) -> Sentence<'a>
-    ensures { IsOf fault text.entry result }
+    ensures { IsOfFault fault text.entry result }
 {
     let tiles = machine.torus().tiles();
     Sentence {
@@ -113,7 +116,7 @@ fn of_steps<'a, A: Allocator>(
     text: Named<'a>,
     fault: LineFault,
 ) -> Sentence<'a>
-    ensures { IsOf fault text.entry result }
+    ensures { IsOfFault fault text.entry result }
 {
     let torus = machine.torus();
     Sentence {

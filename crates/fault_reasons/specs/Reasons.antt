@@ -1,6 +1,6 @@
 -- Which fault has which reason, and what the keywords of a machine text want (this project's own
 -- format).
-use Rattle.std.specs.Prelude.{◌≡◌, ◌≢◌, ◌⊎◌, ℕ, ◌&&◌, ◌==◌, Bool, nat_le, List, Option, Some, None}
+use Rattle.std.specs.Prelude.{ℕ, ◌&&◌, ◌==◌, Bool, nat_le, List, Option, Some, None}
 use Rattle.std.specs.Prelude.{if◌then◌else◌}
 use Rattle.std.specs.Prelude.{codes}
 use Rattle.std.specs.Str.{bytes_eq}
@@ -52,15 +52,19 @@ fault_of (reason.PortLimits ports) = fault.Step
 fault_of reason.Memory = fault.Memory
 fault_of (reason.Other e) = e
 
--- what is told of a fault: the reason that is found, if this is its fault
-abbrev pub Explains : Fault → Option Reason → Reason → Type 0
-Explains e None told = told ≡ reason.Other e
-Explains e (Some found) told =
-    ((fault_of found ≡ e) × (told ≡ found)) ⊎ ((fault_of found ≢ e) × (told ≡ reason.Other e))
+-- the word of a keyword
+abbrev pub keyword_bytes : Keyword → List ℕ
+keyword_bytes Radix = codes "radix"
+keyword_bytes Dims = codes "dims"
+keyword_bytes Dateline = codes "dateline"
+keyword_bytes Depth = codes "depth"
+keyword_bytes Tags = codes "tags"
+keyword_bytes Words = codes "words"
+keyword_bytes Init = codes "init"
 
 -- the keyword that a word spells
-abbrev pub keyword_of : List ℕ → Option Keyword
-keyword_of word =
+abbrev pub setting_named : List ℕ → Option Keyword
+setting_named word =
     if bytes_eq word (codes "radix") then Some Radix
     else (if bytes_eq word (codes "dims") then Some Dims
     else (if bytes_eq word (codes "dateline") then Some Dateline
@@ -71,11 +75,11 @@ keyword_of word =
     else None))))))
 
 -- how many numbers may stand behind a keyword
-abbrev pub takes : Keyword → ℕ → Bool
-takes Radix count = nat_le 1 count && nat_le count 3
-takes Dims count = count == 1
-takes Dateline count = nat_le 1 count && nat_le count 3
-takes Depth count = count == 1
-takes Tags count = count == 1
-takes Words count = count == 1
-takes Init count = count == 2
+abbrev pub takes_numbers : Keyword → ℕ → Bool
+takes_numbers Radix count = nat_le 1 count && nat_le count 3
+takes_numbers Dims count = count == 1
+takes_numbers Dateline count = nat_le 1 count && nat_le count 3
+takes_numbers Depth count = count == 1
+takes_numbers Tags count = count == 1
+takes_numbers Words count = count == 1
+takes_numbers Init count = count == 2

@@ -2,7 +2,7 @@
 -- in the order of the format (this project's own format).
 use Rattle.std.specs.Prelude.{ℕ, ◌+◌, ◌&&◌, ◌||◌, ◌==◌, Bool, true, false, not, nat_lt, nat_le}
 use Rattle.std.specs.Prelude.{List, [], ◌∷◌, length}
-use Rattle.std.specs.Prelude.{Option, Some, None, is_some, if◌then◌else◌, codes}
+use Rattle.std.specs.Prelude.{Option, Some, None, option_map, is_some, if◌then◌else◌, codes}
 use Rattle.std.specs.List.{list_any}
 use Rattle.std.specs.Str.{bytes_eq}
 use Rattle.lexer.specs.Words.{begins_comment}
@@ -13,16 +13,9 @@ use Rattle.fault_reasons.specs.declared.operation.Operation.TheVariants.{Spin}
 use Rattle.fault_reasons.specs.declared.reason.Reason.{Reason}
 use Rattle.fault_reasons.specs.declared.reason.Reason.TheVariants as reason
 use Rattle.lexer.specs.Words.{first_words, line_at}
-use Rattle.fault_reasons.specs.Before.{number}
-use Rattle.fault_reasons.specs.Machine.{first, bad_number, within, is_value}
-
--- the operations of an address and one value
-abbrev pub is_update : List ℕ → Bool
-is_update word =
-    bytes_eq word (codes "store") || bytes_eq word (codes "swap") || bytes_eq word (codes "add")
-    || bytes_eq word (codes "and")
-    || bytes_eq word (codes "or") || bytes_eq word (codes "xor") || bytes_eq word (codes "max")
-    || bytes_eq word (codes "min")
+use Rattle.line_reasons.specs.Reasons.{or_later}
+use Rattle.line_reasons.specs.Spelled.{number, bad_number, is_value, large_value, is_update}
+use Rattle.fault_reasons.specs.Machine.{within}
 
 -- the operation that a word spells
 abbrev pub operation_named : List ℕ → Option Operation
@@ -43,14 +36,14 @@ operands Cas = 3
 operands Spin = 3
 
 -- the word `last`
-abbrev pub is_last : List ℕ → Bool
-is_last word = bytes_eq word (codes "last")
+abbrev pub spells_last : List ℕ → Bool
+spells_last word = bytes_eq word (codes "last")
 
 -- the first of some words that is neither a number nor `last`
 abbrev pub bad_value : ℕ → List (List ℕ) → Option Reason
 bad_value at [] = None
 bad_value at (word ∷ more) =
-    if is_last word || is_some (index_of word) then bad_value (at + 1) more
+    if spells_last word || is_some (index_of word) then bad_value (at + 1) more
     else Some (reason.NotValue at)
 
 -- an address, and then values
@@ -60,24 +53,18 @@ values_wrong (address ∷ values) =
     if is_some (index_of address) then bad_value 3 values else Some (reason.NotNumber 2)
 
 -- the words behind an operation: numbers, or values of an operation
-abbrev pub operands_wrong : Operation → List (List ℕ) → Option Reason
-operands_wrong Fence rest = None
-operands_wrong Load rest = bad_number 2 rest
-operands_wrong Update rest = values_wrong rest
-operands_wrong Cas rest = values_wrong rest
-operands_wrong Spin rest = bad_number 2 rest
+abbrev pub operand_words_wrong : Operation → List (List ℕ) → Option Reason
+operand_words_wrong Fence rest = None
+operand_words_wrong Load rest = option_map reason.NotNumber (bad_number 2 rest)
+operand_words_wrong Update rest = values_wrong rest
+operand_words_wrong Cas rest = values_wrong rest
+operand_words_wrong Spin rest = option_map reason.NotNumber (bad_number 2 rest)
 
 -- the words from the operation on: the right count, and numbers or values
-abbrev pub operation_wrong : Operation → List (List ℕ) → Option Reason
-operation_wrong operation rest =
-    if length rest == operands operation then operands_wrong operation rest
+abbrev pub operation_words_wrong : Operation → List (List ℕ) → Option Reason
+operation_words_wrong operation rest =
+    if length rest == operands operation then operand_words_wrong operation rest
     else Some reason.OperandCount
-
--- the first of some values that is a number from 2 ^ 64 on
-abbrev pub large_value : ℕ → List (List ℕ) → Option Reason
-large_value at [] = None
-large_value at (word ∷ more) =
-    if is_value word then large_value (at + 1) more else Some (reason.ValueLimits at)
 
 -- a spin: the number is a word, and it makes 1 to 4096 loads
 abbrev pub spin_limits : List (List ℕ) → Option Reason
@@ -91,8 +78,8 @@ spin_limits (value ∷ loads ∷ more) =
 abbrev pub values_limits : Operation → List (List ℕ) → Option Reason
 values_limits Fence values = None
 values_limits Load values = None
-values_limits Update values = large_value 3 values
-values_limits Cas values = large_value 3 values
+values_limits Update values = option_map reason.ValueLimits (large_value 3 values)
+values_limits Cas values = option_map reason.ValueLimits (large_value 3 values)
 values_limits Spin values = spin_limits values
 
 -- the numbers behind an operation: the address is below the number of words, each value is a word
@@ -103,61 +90,67 @@ operation_limits words operation (address ∷ values) =
     else Some (reason.AddressLimits 2 words)
 
 -- the most operations that a line of an operation makes
-abbrev pub made_by : Operation → List (List ℕ) → ℕ
-made_by Fence rest = 0
-made_by Load rest = 1
-made_by Update rest = 1
-made_by Cas rest = 1
-made_by Spin [] = 0
-made_by Spin (address ∷ []) = 0
-made_by Spin (address ∷ value ∷ []) = 0
-made_by Spin (address ∷ value ∷ loads ∷ more) = number loads
+abbrev pub operations_of_line : Operation → List (List ℕ) → ℕ
+operations_of_line Fence rest = 0
+operations_of_line Load rest = 1
+operations_of_line Update rest = 1
+operations_of_line Cas rest = 1
+operations_of_line Spin [] = 0
+operations_of_line Spin (address ∷ []) = 0
+operations_of_line Spin (address ∷ value ∷ []) = 0
+operations_of_line Spin (address ∷ value ∷ loads ∷ more) = number loads
 
 -- the same where the word is an operation
-abbrev pub made_if : Option Operation → List (List ℕ) → ℕ
-made_if None rest = 0
-made_if (Some operation) rest = made_by operation rest
+abbrev pub operations_if : Option Operation → List (List ℕ) → ℕ
+operations_if None rest = 0
+operations_if (Some operation) rest = operations_of_line operation rest
 
 -- the most operations that a line makes
-abbrev pub made : List (List ℕ) → ℕ
-made [] = 0
-made (processor ∷ []) = 0
-made (processor ∷ word ∷ rest) =
-    if begins_comment processor then 0 else made_if (operation_named word) rest
+abbrev pub operations_made : List (List ℕ) → ℕ
+operations_made [] = 0
+operations_made (processor ∷ []) = 0
+operations_made (processor ∷ word ∷ rest) =
+    if begins_comment processor then 0 else operations_if (operation_named word) rest
 
 -- whether a line is of a processor; of none are the lines of all
-abbrev pub is_of : Option ℕ → List (List ℕ) → Bool
-is_of None words = true
-is_of (Some p) [] = false
-is_of (Some p) (processor ∷ rest) = number processor == p
+abbrev pub is_line_of_processor : Option ℕ → List (List ℕ) → Bool
+is_line_of_processor None words = true
+is_line_of_processor (Some p) [] = false
+is_line_of_processor (Some p) (processor ∷ rest) = number processor == p
 
 -- the most operations that the lines before the line `stop` make, of one processor or of all, and
 -- so many more
-abbrev pub made_before : Option ℕ → ℕ → ℕ → ℕ → List (List ℕ) → ℕ
-made_before p stop sum at [] = sum
-made_before p stop sum at (line ∷ lines) =
+abbrev pub operations_before : Option ℕ → ℕ → ℕ → ℕ → List (List ℕ) → ℕ
+operations_before p stop sum at [] = sum
+operations_before p stop sum at (line ∷ lines) =
     if not (nat_lt at stop) then sum
-    else made_before p stop (if is_of p (first_words line) then sum + made (first_words line)
+    else operations_before p stop
+    (if is_line_of_processor p (first_words line) then sum + operations_made (first_words line)
     else sum) (at + 1) lines
 
+-- the same with those of a line of an operation
+abbrev pub operations_with : Option ℕ → ℕ → List (List ℕ) → Operation → List (List ℕ) → ℕ
+operations_with p stop lines operation rest =
+    operations_before p stop 0 1 lines + operations_of_line operation rest
+
 -- whether a line has the word `last` for a value
-abbrev pub mentions_last : Operation → List (List ℕ) → Bool
-mentions_last Fence rest = false
-mentions_last Load rest = false
-mentions_last Update rest = list_any is_last rest
-mentions_last Cas rest = list_any is_last rest
-mentions_last Spin rest = false
+abbrev pub has_last : Operation → List (List ℕ) → Bool
+has_last Fence rest = false
+has_last Load rest = false
+has_last Update rest = list_any spells_last rest
+has_last Cas rest = list_any spells_last rest
+has_last Spin rest = false
 
 -- the count of operations with this line: `last` has one before it; at most 4096 of the processor,
 -- and 65536 of all
 abbrev pub counts_wrong : ℕ → List (List ℕ) → ℕ → Operation → List (List ℕ) → Option Reason
 counts_wrong stop lines p operation rest =
-    if mentions_last operation rest && (made_before (Some p) stop 0 1 lines == 0)
+    if has_last operation rest && (operations_before (Some p) stop 0 1 lines == 0)
     then Some reason.LastFirst
-    else (if not (nat_le (made_before (Some p) stop 0 1 lines + made_by operation rest) 4096)
-    then Some (reason.ScriptLength (made_before (Some p) stop 0 1 lines + made_by operation rest))
-    else (if not (nat_le (made_before None stop 0 1 lines + made_by operation rest) 65536)
-    then Some (reason.ScriptsLength (made_before None stop 0 1 lines + made_by operation rest))
+    else (if not (nat_le (operations_with (Some p) stop lines operation rest) 4096)
+    then Some (reason.ScriptLength (operations_with (Some p) stop lines operation rest))
+    else (if not (nat_le (operations_with None stop lines operation rest) 65536)
+    then Some (reason.ScriptsLength (operations_with None stop lines operation rest))
     else None))
 
 -- the checks behind the shape, in their order: the processor, the address and the values, the
@@ -165,7 +158,7 @@ counts_wrong stop lines p operation rest =
 abbrev pub checks_wrong : ℕ → ℕ → ℕ → List (List ℕ) → ℕ → Operation → List (List ℕ) → Option Reason
 checks_wrong tiles words stop lines p operation rest =
     if not (nat_lt p tiles) then Some (reason.ProcessorLimits tiles)
-    else first (operation_limits words operation rest) (counts_wrong stop lines p operation rest)
+    else or_later (operation_limits words operation rest) (counts_wrong stop lines p operation rest)
 
 -- where the word behind the processor is an operation
 abbrev pub if_operation : Option Operation → (Operation → Option Reason) → Option Reason
@@ -177,7 +170,7 @@ abbrev pub processor_wrong : ℕ → ℕ → ℕ → List (List ℕ) → ℕ →
 processor_wrong tiles words stop lines p [] = Some reason.ProcessorAlone
 processor_wrong tiles words stop lines p (word ∷ rest) =
     if_operation (operation_named word)
-    (λ operation. first (operation_wrong operation rest)
+    (λ operation. or_later (operation_words_wrong operation rest)
     (checks_wrong tiles words stop lines p operation rest))
 
 -- a line; nothing is wrong with one without words, nor with a comment

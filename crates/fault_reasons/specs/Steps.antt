@@ -1,6 +1,6 @@
 -- What is wrong with a line of a steps text: the first check that it fails,
 -- in the order of the format (this project's own format).
-use Rattle.std.specs.Prelude.{ℕ, ◌+◌, ◌*◌, ◌%◌, ◌||◌, ◌==◌, Bool, false, not, nat_lt, List, [], ◌∷◌}
+use Rattle.std.specs.Prelude.{ℕ, ◌+◌, ◌*◌, ◌%◌, ◌||◌, ◌==◌, Bool, not, nat_lt, List, [], ◌∷◌}
 use Rattle.std.specs.Prelude.{Option, Some}
 use Rattle.std.specs.Prelude.{None, is_some, if◌then◌else◌, codes}
 use Rattle.std.specs.Str.{bytes_eq}
@@ -11,11 +11,12 @@ use Rattle.fault_reasons.specs.declared.reason.Agent.TheVariants.{Processor, Rou
 use Rattle.fault_reasons.specs.declared.reason.Reason.{Reason}
 use Rattle.fault_reasons.specs.declared.reason.Reason.TheVariants as reason
 use Rattle.lexer.specs.Words.{first_words, line_at}
-use Rattle.fault_reasons.specs.Before.{number}
+use Rattle.line_reasons.specs.Reasons.{or_later}
+use Rattle.line_reasons.specs.Spelled.{number}
 
 -- the kind of an agent: each tile has a processor, a router and a bank
-abbrev pub agent_of : ℕ → Agent
-agent_of n = if n % 3 == 0 then Processor else (if n % 3 == 1 then Router else Bank)
+abbrev pub kind_of_agent : ℕ → Agent
+kind_of_agent n = if n % 3 == 0 then Processor else (if n % 3 == 1 then Router else Bank)
 
 -- whether a word is a choice of a kind of agents
 abbrev pub has : Agent → List ℕ → Bool
@@ -47,8 +48,8 @@ port_wrong dims Bank (Some n) = Some (reason.PortUnwanted Bank)
 abbrev pub step_wrong : ℕ → ℕ → ℕ → List ℕ → Option ℕ → Option Reason
 step_wrong tiles dims agent word port =
     if not (nat_lt agent (3 * tiles)) then Some (reason.AgentLimits (3 * tiles))
-    else (if has (agent_of agent) word then port_wrong dims (agent_of agent) port
-    else Some (reason.NoChoice (agent_of agent)))
+    else (if has (kind_of_agent agent) word then port_wrong dims (kind_of_agent agent) port
+    else Some (reason.NoChoice (kind_of_agent agent)))
 
 -- an agent and a choice
 abbrev pub named_wrong : List ℕ → List ℕ → Option Reason
@@ -56,15 +57,10 @@ named_wrong agent word =
     if not (is_some (index_of agent)) then Some (reason.NotNumber 0)
     else (if is_choice word then None else Some reason.UnknownChoice)
 
--- two things that may be wrong
-abbrev pub or_else : Option Reason → Option Reason → Option Reason
-or_else (Some found) later = Some found
-or_else None later = later
-
 -- an agent and a choice alone
 abbrev pub two_wrong : ℕ → ℕ → List ℕ → List ℕ → Option Reason
 two_wrong tiles dims agent word =
-    or_else (named_wrong agent word) (step_wrong tiles dims (number agent) word None)
+    or_later (named_wrong agent word) (step_wrong tiles dims (number agent) word None)
 
 -- the number behind a choice
 abbrev pub numbered_wrong : ℕ → ℕ → List ℕ → List ℕ → List ℕ → Option Reason
@@ -75,7 +71,7 @@ numbered_wrong tiles dims agent word port =
 -- an agent, a choice and a number
 abbrev pub three_wrong : ℕ → ℕ → List ℕ → List ℕ → List ℕ → Option Reason
 three_wrong tiles dims agent word port =
-    or_else (named_wrong agent word) (numbered_wrong tiles dims agent word port)
+    or_later (named_wrong agent word) (numbered_wrong tiles dims agent word port)
 
 -- the words behind an agent: a choice, and perhaps a number
 abbrev pub agent_wrong : ℕ → ℕ → List ℕ → List (List ℕ) → Option Reason

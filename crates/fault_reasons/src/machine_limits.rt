@@ -3,14 +3,15 @@
 ghost use Rattle.std.specs.Prelude.{◌≡◌, ◌≤◌, ◌*◌, ◌==◌, if◌then◌else◌, length, map};
 ghost use Rattle.std.specs.Str.Lines.{lines};
 ghost use Rattle.torus.specs.Refusal.{is_radix};
-ghost use Rattle.fault_reasons.specs.Machine.{bad_radix, tiles_of, counted, together, radix_at};
-ghost use Rattle.fault_reasons.specs.Machine.{bad_dateline, dated};
-ghost use Rattle.fault_reasons.specs.Machine.{within, words_before, is_value, init_wrong};
+ghost use Rattle.fault_reasons.specs.Machine.{bad_radix, tiles_spelled, radices_wrong, tiles_wrong};
+ghost use Rattle.fault_reasons.specs.Machine.{radix_at, bad_dateline, datelines_wrong};
+ghost use Rattle.fault_reasons.specs.Machine.{within, words_before, init_twice, init_wrong};
 ghost use Rattle.fault_reasons.specs.Machine.{limits_wrong};
 
-use crate::before::{Before, behind, first_number, number};
+use crate::before::{Opening, number_given, words_behind};
 use crate::reason::{Keyword, Reason};
-use lexer::{first_words, value};
+use lexer::first_words;
+use line_reasons::{Before, first_spelled, is_value, number};
 
 /// Whether a number is a radix.
 fn is_radix(radix: u32) -> bool
@@ -37,8 +38,8 @@ fn bad_radix(values: &[&[u8]]) -> Option<Reason>
 }
 
 /// The number of tiles of some radices, of which one stands for all dimensions.
-fn tiles_of(radices: &[&[u8]], dims: u32) -> u128
-    ensures { result ≡ tiles_of dims (map (λ value. value.now) radices.now) }
+fn tiles_spelled(radices: &[&[u8]], dims: u32) -> u128
+    ensures { result ≡ tiles_spelled dims (map (λ value. value.now) radices.now) }
 {
     match radices {
         [] => 0,
@@ -62,13 +63,13 @@ fn powered(radix: u32, dims: u32) -> u128
 }
 
 /// Whether radices go with a number of dimensions.
-fn counted(radices: &[&[u8]], dims: u32) -> Option<Reason>
-    ensures { result ≡ counted (map (λ value. value.now) radices.now) dims }
+fn radices_wrong(radices: &[&[u8]], dims: u32) -> Option<Reason>
+    ensures { result ≡ radices_wrong (map (λ value. value.now) radices.now) dims }
 {
     if radices.len() != 1 && radices.len() != dims as usize {
         return Some(Reason::RadixCount(radices.len() as u64, u64::from(dims)));
     }
-    let tiles = tiles_of(radices, dims);
+    let tiles = tiles_spelled(radices, dims);
     if tiles > 64 {
         return Some(Reason::TooManyTiles(tiles));
     }
@@ -121,109 +122,107 @@ pub(crate) fn within(low: u32, high: u32, wrong: Reason, number: u32) -> Option<
     }
 }
 
-/// Whether a word spells a number below 2^64.
-pub(crate) fn is_value(word: &[u8]) -> bool
-    ensures { result ≡ is_value word.now }
+/// What is wrong with the numbers of a `radix` line.
+fn radix_wrong(before: Before<'_>, values: &[&[u8]]) -> Option<Reason>
+    requires { length values.now ≤ 7 }
+    ensures { result ≡ limits_wrong before.entry.stop (lines before.entry.text.now) Keyword.Radix
+        (map (λ value. value.now) values.now) }
 {
-    value(word).unwrap_or(0) <= u128::from(u64::MAX)
+    if let Some(reason) = bad_radix(values) {
+        return Some(reason);
+    }
+    match number_given(before, Keyword::Dims) {
+        Some(dims) => radices_wrong(values, dims),
+        None => None,
+    }
 }
 
-impl<'a> Before<'a> {
-    /// What is wrong with the numbers of a `radix` line.
-    fn radix_wrong(self, values: &[&[u8]]) -> Option<Reason>
-        requires { length values.now ≤ 7 }
-        ensures { result ≡ limits_wrong self.entry.stop (lines self.entry.text.now) Keyword.Radix
-            (map (λ value. value.now) values.now) }
-    {
-        if let Some(reason) = bad_radix(values) {
-            return Some(reason);
-        }
-        match self.number_of(b"dims") {
-            Some(dims) => counted(values, dims),
-            None => None,
-        }
+/// What is wrong with the number of a `dims` line.
+fn dims_wrong(before: Before<'_>, values: &[&[u8]]) -> Option<Reason>
+    ensures { result ≡ limits_wrong before.entry.stop (lines before.entry.text.now) Keyword.Dims
+        (map (λ value. value.now) values.now) }
+{
+    let dims = first_spelled(values);
+    if let Some(reason) = within(1, 3, Reason::DimsLimits, dims) {
+        return Some(reason);
     }
-
-    /// What is wrong with the number of a `dims` line.
-    fn dims_wrong(self, values: &[&[u8]]) -> Option<Reason>
-        ensures { result ≡ limits_wrong self.entry.stop (lines self.entry.text.now) Keyword.Dims
-            (map (λ value. value.now) values.now) }
-    {
-        let dims = first_number(values);
-        if let Some(reason) = within(1, 3, Reason::DimsLimits, dims) {
-            return Some(reason);
+    match before.given(Keyword::Radix, 0) {
+        Some((_, line)) => {
+            let (words, count) = first_words(line);
+            radices_wrong(words_behind(&words[..count]), dims)
         }
-        match self.given(b"radix") {
-            Some((_, line)) => {
-                let (words, count) = first_words(line);
-                counted(behind(&words[..count]), dims)
-            }
-            None => None,
-        }
+        None => None,
     }
+}
 
-    /// What is wrong with the numbers of a `dateline` line.
-    fn dateline_wrong(self, values: &[&[u8]]) -> Option<Reason>
-        requires { length values.now ≤ 7 }
-        ensures { result ≡ limits_wrong self.entry.stop (lines self.entry.text.now) Keyword.Dateline
-            (map (λ value. value.now) values.now) }
-    {
-        let Some((_, line)) = self.given(b"radix") else {
-            return None;
-        };
-        let Some(dims) = self.number_of(b"dims") else {
-            return None;
-        };
-        if values.len() != dims as usize {
-            return Some(Reason::DatelineCount(values.len() as u64, u64::from(dims)));
-        }
-        let (words, count) = first_words(line);
-        bad_dateline(behind(&words[..count]), values)
+/// What is wrong with the numbers of a `dateline` line.
+fn dateline_wrong(before: Before<'_>, values: &[&[u8]]) -> Option<Reason>
+    requires { length values.now ≤ 7 }
+    ensures { result ≡ limits_wrong before.entry.stop (lines before.entry.text.now) Keyword.Dateline
+        (map (λ value. value.now) values.now) }
+{
+    let Some((_, line)) = before.given(Keyword::Radix, 0) else {
+        return None;
+    };
+    let Some(dims) = number_given(before, Keyword::Dims) else {
+        return None;
+    };
+    if values.len() != dims as usize {
+        return Some(Reason::DatelineCount(values.len() as u64, u64::from(dims)));
     }
+    let (words, count) = first_words(line);
+    bad_dateline(words_behind(&words[..count]), values)
+}
 
-    /// The number of words of the memory; 0 before it is given.
-    fn words_before(self) -> u32
-        ensures { result ≡ words_before self.entry.stop (lines self.entry.text.now) }
-    {
-        self.number_of(b"words").unwrap_or(0)
+/// The number of words of the memory; 0 before it is given.
+fn words_before(before: Before<'_>) -> u32
+    ensures { result ≡ words_before before.entry.stop (lines before.entry.text.now) }
+{
+    number_given(before, Keyword::Words).unwrap_or(0)
+}
+
+/// An opening word that is given already.
+fn init_twice(before: Before<'_>, address: &[u8]) -> Option<Reason>
+    ensures { result ≡ init_twice before.entry.stop (lines before.entry.text.now) address.now }
+{
+    match before.line_that_gives(Opening { address }) {
+        Some(line) => Some(Reason::InitTwice(line)),
+        None => None,
     }
+}
 
-    /// What is wrong with an opening word.
-    fn init_wrong(self, address: &[u8], value: &[u8]) -> Option<Reason>
-        ensures { result ≡ init_wrong self.entry.stop (lines self.entry.text.now) address.now value.now }
-    {
-        let words = self.words_before();
-        let address = number(address);
-        if address >= words {
-            return Some(Reason::AddressLimits(1, words));
-        }
-        if !is_value(value) {
-            return Some(Reason::ValueLimits(2));
-        }
-        match self.named(address) {
-            Some(line) => Some(Reason::InitTwice(line)),
-            None => None,
-        }
+/// What is wrong with an opening word.
+fn init_wrong(before: Before<'_>, address: &[u8], value: &[u8]) -> Option<Reason>
+    ensures { result
+        ≡ init_wrong before.entry.stop (lines before.entry.text.now) address.now value.now }
+{
+    let words = words_before(before);
+    if number(address) >= words {
+        return Some(Reason::AddressLimits(1, words));
     }
+    if !is_value(value) {
+        return Some(Reason::ValueLimits(2));
+    }
+    init_twice(before, address)
+}
 
-    /// What is wrong with the numbers of a line.
-    pub(crate) fn limits_wrong(self, keyword: Keyword, values: &[&[u8]]) -> Option<Reason>
-        requires { length values.now ≤ 7 }
-        ensures { result ≡ limits_wrong self.entry.stop (lines self.entry.text.now) keyword
-            (map (λ value. value.now) values.now) }
-    {
-        match keyword {
-            Keyword::Radix => self.radix_wrong(values),
-            Keyword::Dims => self.dims_wrong(values),
-            Keyword::Dateline => self.dateline_wrong(values),
-            Keyword::Depth => within(1, 8, Reason::DepthLimits, first_number(values)),
-            Keyword::Tags => within(1, 16, Reason::TagsLimits, first_number(values)),
-            Keyword::Words => within(1, 65536, Reason::WordsLimits, first_number(values)),
-            Keyword::Init => match values {
-                [] => None,
-                [_] => None,
-                [address, value, ..] => self.init_wrong(address, value),
-            },
-        }
+/// What is wrong with the numbers of a line.
+pub(crate) fn limits_wrong(before: Before<'_>, keyword: Keyword, values: &[&[u8]]) -> Option<Reason>
+    requires { length values.now ≤ 7 }
+    ensures { result ≡ limits_wrong before.entry.stop (lines before.entry.text.now) keyword
+        (map (λ value. value.now) values.now) }
+{
+    match keyword {
+        Keyword::Radix => radix_wrong(before, values),
+        Keyword::Dims => dims_wrong(before, values),
+        Keyword::Dateline => dateline_wrong(before, values),
+        Keyword::Depth => within(1, 8, Reason::DepthLimits, first_spelled(values)),
+        Keyword::Tags => within(1, 16, Reason::TagsLimits, first_spelled(values)),
+        Keyword::Words => within(1, 65536, Reason::WordsLimits, first_spelled(values)),
+        Keyword::Init => match values {
+            [] => None,
+            [_] => None,
+            [address, value, ..] => init_wrong(before, address, value),
+        },
     }
 }

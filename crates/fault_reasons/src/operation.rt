@@ -1,19 +1,18 @@
 //! The operations of script texts, and the words behind them.
 
-ghost use Rattle.std.specs.Prelude.{◌≡◌, ◌≤◌, ◌||◌, is_some, length, map};
+ghost use Rattle.std.specs.Prelude.{◌≡◌, ◌≤◌, ◌||◌, is_some, length, map, option_map};
 ghost use Rattle.lexer.specs.Numbers.{index_of};
-ghost use Rattle.fault_reasons.specs.Scripts.{is_update, operation_named, operands, is_last};
+ghost use Rattle.line_reasons.specs.Spelled.{bad_number, large_value};
+ghost use Rattle.fault_reasons.specs.Scripts.{operation_named, operands, spells_last};
 ghost use Rattle.fault_reasons.specs.Scripts.{bad_value, values_wrong};
-ghost use Rattle.fault_reasons.specs.Scripts.{operands_wrong, operation_wrong, large_value};
-ghost use Rattle.fault_reasons.specs.Scripts.{spin_limits};
-ghost use Rattle.fault_reasons.specs.Scripts.{values_limits, operation_limits, made_by, made};
-ghost use Rattle.fault_reasons.specs.Scripts.{mentions_last};
+ghost use Rattle.fault_reasons.specs.Scripts.{operand_words_wrong, operation_words_wrong};
+ghost use Rattle.fault_reasons.specs.Scripts.{spin_limits, values_limits, operation_limits};
+ghost use Rattle.fault_reasons.specs.Scripts.{operations_of_line, operations_made, has_last};
 
-use crate::before::number;
-use crate::machine_limits::{is_value, within};
+use crate::machine_limits::within;
 use crate::reason::Reason;
-use crate::shape::bad_number;
 use lexer::index;
+use line_reasons::{bad_number, is_update, is_value, large_value, number};
 
 /// What a word of a script asks for.
 #[derive(Clone, Copy)]
@@ -26,32 +25,18 @@ pub(crate) enum Operation {
     Spin,
 }
 
-/// Whether a word is an operation of an address and one value.
-fn is_update(word: &[u8]) -> bool
-    ensures { result ≡ is_update word.now }
-{
-    word == b"store".as_slice()
-        || word == b"swap".as_slice()
-        || word == b"add".as_slice()
-        || word == b"and".as_slice()
-        || word == b"or".as_slice()
-        || word == b"xor".as_slice()
-        || word == b"max".as_slice()
-        || word == b"min".as_slice()
-}
-
 /// Whether a word is `last`.
-fn is_last(word: &[u8]) -> bool
-    ensures { result ≡ is_last word.now }
+fn spells_last(word: &[u8]) -> bool
+    ensures { result ≡ spells_last word.now }
 {
     word == b"last".as_slice()
 }
 
 /// Whether a word is a number or `last`.
 fn is_last_or_number(word: &[u8]) -> bool
-    ensures { result ≡ (is_last word.now || is_some (index_of word.now)) }
+    ensures { result ≡ (spells_last word.now || is_some (index_of word.now)) }
 {
-    if is_last(word) {
+    if spells_last(word) {
         return true;
     }
     match index(word) {
@@ -77,21 +62,28 @@ fn bad_value(values: &[&[u8]]) -> Option<Reason>
     None
 }
 
-/// The first of some values that is a number from 2^64 on; the first of them stands at place 3.
-fn large_value(values: &[&[u8]]) -> Option<Reason>
-    requires { length values.now ≤ 7 }
-    ensures { result ≡ large_value 3 (map (λ value. value.now) values.now) }
+/// What is wrong with words that are to be numbers, from place 2 on.
+fn numbers_wrong(rest: &[&[u8]]) -> Option<Reason>
+    requires { length rest.now ≤ 7 }
+    ensures { result
+        ≡ option_map Reason.NotNumber (bad_number 2 (map (λ word. word.now) rest.now)) }
 {
-    let mut at = 3u32;
-    let mut rest = values;
-    while let [word, more @ ..] = rest {
-        if !is_value(word) {
-            return Some(Reason::ValueLimits(at));
-        }
-        at += 1;
-        rest = more;
+    match bad_number(2, rest) {
+        Some(place) => Some(Reason::NotNumber(place)),
+        None => None,
     }
-    None
+}
+
+/// What is wrong with values, from place 3 on.
+fn values_large(values: &[&[u8]]) -> Option<Reason>
+    requires { length values.now ≤ 7 }
+    ensures { result
+        ≡ option_map Reason.ValueLimits (large_value 3 (map (λ word. word.now) values.now)) }
+{
+    match large_value(3, values) {
+        Some(place) => Some(Reason::ValueLimits(place)),
+        None => None,
+    }
 }
 
 /// What is wrong with an address and values.
@@ -128,11 +120,11 @@ fn spin_limits(values: &[&[u8]]) -> Option<Reason>
 
 /// Whether one of some words is `last`.
 fn is_any_last(values: &[&[u8]]) -> bool
-    ensures { result ≡ mentions_last Operation.Update (map (λ value. value.now) values.now) }
+    ensures { result ≡ has_last Operation.Update (map (λ value. value.now) values.now) }
 {
     let mut rest = values;
     while let [word, more @ ..] = rest {
-        if is_last(word) {
+        if spells_last(word) {
             return true;
         }
         rest = more;
@@ -179,17 +171,17 @@ impl Operation {
     /// What is wrong with the shape of the words behind it.
     pub(crate) fn wrong(self, rest: &[&[u8]]) -> Option<Reason>
         requires { length rest.now ≤ 7 }
-        ensures { result ≡ operation_wrong self (map (λ value. value.now) rest.now) }
+        ensures { result ≡ operation_words_wrong self (map (λ value. value.now) rest.now) }
     {
         if rest.len() != self.operands() {
             return Some(Reason::OperandCount);
         }
         match self {
             Operation::Fence => None,
-            Operation::Load => bad_number(2, rest),
+            Operation::Load => numbers_wrong(rest),
             Operation::Update => values_wrong(rest),
             Operation::Cas => values_wrong(rest),
-            Operation::Spin => bad_number(2, rest),
+            Operation::Spin => numbers_wrong(rest),
         }
     }
 
@@ -201,8 +193,8 @@ impl Operation {
         match self {
             Operation::Fence => None,
             Operation::Load => None,
-            Operation::Update => large_value(values),
-            Operation::Cas => large_value(values),
+            Operation::Update => values_large(values),
+            Operation::Cas => values_large(values),
             Operation::Spin => spin_limits(values),
         }
     }
@@ -224,8 +216,8 @@ impl Operation {
     }
 
     /// The most operations that its line makes.
-    pub(crate) fn made(self, rest: &[&[u8]]) -> u32
-        ensures { result ≡ made_by self (map (λ value. value.now) rest.now) }
+    pub(crate) fn operations_made(self, rest: &[&[u8]]) -> u32
+        ensures { result ≡ operations_of_line self (map (λ value. value.now) rest.now) }
     {
         match self {
             Operation::Fence => 0,
@@ -242,8 +234,8 @@ impl Operation {
     }
 
     /// Whether a value of its line is `last`.
-    pub(crate) fn mentions_last(self, rest: &[&[u8]]) -> bool
-        ensures { result ≡ mentions_last self (map (λ value. value.now) rest.now) }
+    pub(crate) fn has_last(self, rest: &[&[u8]]) -> bool
+        ensures { result ≡ has_last self (map (λ value. value.now) rest.now) }
     {
         match self {
             Operation::Fence => false,
@@ -256,15 +248,15 @@ impl Operation {
 }
 
 /// The most operations that the words of a line make.
-pub(crate) fn made(words: &[&[u8]]) -> u32
-    ensures { result ≡ made (map (λ word. word.now) words.now) }
+pub(crate) fn operations_made(words: &[&[u8]]) -> u32
+    ensures { result ≡ operations_made (map (λ word. word.now) words.now) }
 {
     match words {
         [] => 0,
         [_] => 0,
         [[b'#', ..], _, ..] => 0,
         [_, word, rest @ ..] => match Operation::of(word) {
-            Some(operation) => operation.made(rest),
+            Some(operation) => operation.operations_made(rest),
             None => 0,
         },
     }

@@ -1,5 +1,7 @@
 ghost use Rattle.std.specs.Prelude.{◌≡◌};
-ghost use Rattle.fault_reasons.specs.Reasons.{fault_of, keyword_of, takes};
+ghost use Rattle.line_reasons.specs.Reasons.{TellsReason};
+ghost use Rattle.fault_reasons.specs.Reasons.{fault_of, setting_named, keyword_bytes};
+ghost use Rattle.fault_reasons.specs.Reasons.{takes_numbers};
 
 use torus::Fault;
 
@@ -149,10 +151,27 @@ impl Reason {
     }
 }
 
+/// What is told of a fault: the reason that is found, if this is its fault.
+pub(crate) fn explained(fault: Fault, found: Option<Reason>) -> Reason
+    ensures reason { TellsReason fault_of Reason.Other fault found result }
+    ensures code { fault_of result ≡ fault }
+{
+    match found {
+        Some(reason) => {
+            if reason.fault() == fault {
+                reason
+            } else {
+                Reason::Other(fault)
+            }
+        }
+        None => Reason::Other(fault),
+    }
+}
+
 impl Keyword {
     /// The keyword that a word spells.
     pub fn of(word: &[u8]) -> Option<Keyword>
-        ensures { result ≡ keyword_of word.now }
+        ensures { result ≡ setting_named word.now }
     {
         if word == b"radix".as_slice() {
             return Some(Keyword::Radix);
@@ -178,9 +197,24 @@ impl Keyword {
         None
     }
 
+    /// The word of it.
+    pub(crate) fn word(self) -> &'static [u8]
+        ensures { result.now ≡ keyword_bytes self }
+    {
+        match self {
+            Keyword::Radix => b"radix",
+            Keyword::Dims => b"dims",
+            Keyword::Dateline => b"dateline",
+            Keyword::Depth => b"depth",
+            Keyword::Tags => b"tags",
+            Keyword::Words => b"words",
+            Keyword::Init => b"init",
+        }
+    }
+
     /// Whether so many numbers may stand behind it.
-    pub(crate) fn takes(self, count: usize) -> bool
-        ensures { result ≡ takes self count }
+    pub(crate) fn takes_numbers(self, count: usize) -> bool
+        ensures { result ≡ takes_numbers self count }
     {
         match self {
             Keyword::Radix => 1 <= count && count <= 3,

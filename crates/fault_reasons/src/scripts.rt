@@ -2,16 +2,18 @@
 
 ghost use Rattle.std.specs.Prelude.{◌≡◌, ◌≢◌, ◌≤◌, ◌^◌, length, map};
 ghost use Rattle.std.specs.Str.Lines.{lines};
-ghost use Rattle.fault_reasons.specs.Reasons.{Explains, fault_of};
-ghost use Rattle.fault_reasons.specs.Scripts.{is_of, made_before, counts_wrong, checks_wrong};
+ghost use Rattle.line_reasons.specs.Reasons.{TellsReason};
+ghost use Rattle.fault_reasons.specs.Reasons.{fault_of};
+ghost use Rattle.fault_reasons.specs.Scripts.{is_line_of_processor, operations_before};
+ghost use Rattle.fault_reasons.specs.Scripts.{counts_wrong};
+ghost use Rattle.fault_reasons.specs.Scripts.{checks_wrong};
 ghost use Rattle.fault_reasons.specs.Scripts.{processor_wrong};
 ghost use Rattle.fault_reasons.specs.Scripts.{script_words_wrong, scripts_wrong};
 
-use crate::before::number;
-use crate::machine::explained;
-use crate::operation::{Operation, made};
-use crate::reason::Reason;
+use crate::operation::{Operation, operations_made};
+use crate::reason::{Reason, explained};
 use lexer::{first_words, index, line_at, next_line};
+use line_reasons::number;
 use torus::Fault;
 
 /// Why a script text, read for a machine of so many tiles and words, has a fault at a line, as
@@ -20,7 +22,8 @@ use torus::Fault;
 pub fn scripts_reason(tiles: u32, words: u32, text: &[u8], fault: Fault, line: u64) -> Reason
     ensures memory { fault ≡ Fault.Memory → result ≡ Reason.Memory }
     ensures reason { fault ≢ Fault.Memory
-        → Explains fault (scripts_wrong tiles words line (lines text.now)) result }
+        → TellsReason fault_of Reason.Other fault (scripts_wrong tiles words line (lines text.now))
+        result }
     ensures code { fault_of result ≡ fault }
 {
     if fault == Fault::Memory {
@@ -45,8 +48,8 @@ struct Script<'a> {
 }
 
 /// Whether a line is of a processor; of none are the lines of all.
-fn is_of(processor: Option<u32>, words: &[&[u8]]) -> bool
-    ensures { result ≡ is_of processor (map (λ word. word.now) words.now) }
+fn is_line_of_processor(processor: Option<u32>, words: &[&[u8]]) -> bool
+    ensures { result ≡ is_line_of_processor processor (map (λ word. word.now) words.now) }
 {
     match processor {
         None => true,
@@ -58,8 +61,8 @@ fn is_of(processor: Option<u32>, words: &[&[u8]]) -> bool
 }
 
 /// The most operations that the lines before a line make, of one processor or of all.
-fn made_before(processor: Option<u32>, text: &[u8], stop: u64) -> u128
-    ensures value { result ≡ made_before processor stop 0 1 (lines text.now) }
+fn operations_before(processor: Option<u32>, text: &[u8], stop: u64) -> u128
+    ensures value { result ≡ operations_before processor stop 0 1 (lines text.now) }
     ensures small { result ≤ 2 ^ 96 }
 {
     let mut sum = 0u128;
@@ -70,8 +73,8 @@ fn made_before(processor: Option<u32>, text: &[u8], stop: u64) -> u128
             return sum;
         }
         let (words, count) = first_words(line);
-        if is_of(processor, &words[..count]) {
-            sum += u128::from(made(&words[..count]));
+        if is_line_of_processor(processor, &words[..count]) {
+            sum += u128::from(operations_made(&words[..count]));
         }
         at += 1;
         rest = after;
@@ -82,7 +85,8 @@ fn made_before(processor: Option<u32>, text: &[u8], stop: u64) -> u128
 impl<'a> Script<'a> {
     /// What is wrong with the line.
     fn wrong(self) -> Option<Reason>
-        ensures { result ≡ scripts_wrong self.entry.tiles self.entry.words self.entry.stop (lines self.entry.text.now) }
+        ensures { result ≡ scripts_wrong self.entry.tiles self.entry.words self.entry.stop
+            (lines self.entry.text.now) }
     {
         match line_at(self.text, self.stop) {
             Some(line) => {
@@ -96,8 +100,8 @@ impl<'a> Script<'a> {
     /// What is wrong with the words of a line.
     fn words_wrong(self, words: &[&[u8]]) -> Option<Reason>
         requires { length words.now ≤ 7 }
-        ensures { result ≡ script_words_wrong self.entry.tiles self.entry.words self.entry.stop (lines self.entry.text.now)
-            (map (λ word. word.now) words.now) }
+        ensures { result ≡ script_words_wrong self.entry.tiles self.entry.words self.entry.stop
+            (lines self.entry.text.now) (map (λ word. word.now) words.now) }
     {
         match words {
             [] => None,
@@ -114,8 +118,8 @@ impl<'a> Script<'a> {
     /// What is wrong with the words behind a processor.
     fn processor_wrong(self, p: u32, rest: &[&[u8]]) -> Option<Reason>
         requires { length rest.now ≤ 7 }
-        ensures { result ≡ processor_wrong self.entry.tiles self.entry.words self.entry.stop (lines self.entry.text.now) p
-            (map (λ word. word.now) rest.now) }
+        ensures { result ≡ processor_wrong self.entry.tiles self.entry.words self.entry.stop
+            (lines self.entry.text.now) p (map (λ word. word.now) rest.now) }
     {
         match rest {
             [] => Some(Reason::ProcessorAlone),
@@ -134,8 +138,8 @@ impl<'a> Script<'a> {
     /// What is wrong behind the shape.
     fn checks_wrong(self, p: u32, operation: Operation, rest: &[&[u8]]) -> Option<Reason>
         requires { length rest.now ≤ 7 }
-        ensures { result ≡ checks_wrong self.entry.tiles self.entry.words self.entry.stop (lines self.entry.text.now) p
-            operation (map (λ word. word.now) rest.now) }
+        ensures { result ≡ checks_wrong self.entry.tiles self.entry.words self.entry.stop
+            (lines self.entry.text.now) p operation (map (λ word. word.now) rest.now) }
     {
         if p >= self.tiles {
             return Some(Reason::ProcessorLimits(self.tiles));
@@ -151,15 +155,15 @@ impl<'a> Script<'a> {
         ensures { result ≡ counts_wrong self.entry.stop (lines self.entry.text.now) p operation
             (map (λ word. word.now) rest.now) }
     {
-        let before = made_before(Some(p), self.text, self.stop);
-        if operation.mentions_last(rest) && before == 0 {
+        let before = operations_before(Some(p), self.text, self.stop);
+        if operation.has_last(rest) && before == 0 {
             return Some(Reason::LastFirst);
         }
-        let own = u128::from(operation.made(rest));
+        let own = u128::from(operation.operations_made(rest));
         if before + own > 4096 {
             return Some(Reason::ScriptLength(before + own));
         }
-        let all = made_before(None, self.text, self.stop);
+        let all = operations_before(None, self.text, self.stop);
         if all + own > 65536 {
             return Some(Reason::ScriptsLength(all + own));
         }

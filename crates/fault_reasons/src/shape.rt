@@ -1,109 +1,91 @@
 //! The shape of a line of a machine text, and the order of its lines.
 
-ghost use Rattle.std.specs.Prelude.{◌≡◌, ◌+◌, ◌≤◌, length, map};
+ghost use Rattle.std.specs.Prelude.{◌≡◌, ◌≤◌, length, map};
 ghost use Rattle.std.specs.Str.Lines.{lines};
-ghost use Rattle.fault_reasons.specs.Machine.{bad_number, shape_wrong, missing, twice, undated};
+ghost use Rattle.fault_reasons.specs.Machine.{setting_shape_wrong, missing, twice, undated};
 ghost use Rattle.fault_reasons.specs.Machine.{order_wrong};
 
-use crate::before::Before;
 use crate::reason::{Keyword, Reason};
-use lexer::index;
+use line_reasons::{Before, bad_number};
 
-/// The first of some words that is no number; the first of them stands at a place of the line.
-pub(crate) fn bad_number(first: u32, values: &[&[u8]]) -> Option<Reason>
-    requires few { length values.now ≤ 7 }
-    requires low { first ≤ 7 }
-    ensures { result ≡ bad_number first (map (λ value. value.now) values.now) }
+/// What is wrong with the shape of a line.
+pub(crate) fn setting_shape_wrong(keyword: Keyword, values: &[&[u8]]) -> Option<Reason>
+    requires { length values.now ≤ 7 }
+    ensures { result ≡ setting_shape_wrong keyword (map (λ value. value.now) values.now) }
 {
-    let mut at = first;
-    let mut rest = values;
-    while let [word, more @ ..] = rest {
-        let Some(_) = index(word) else {
-            return Some(Reason::NotNumber(at));
-        };
-        at += 1;
-        rest = more;
+    if !keyword.takes_numbers(values.len()) {
+        return Some(Reason::NumberCount(keyword));
+    }
+    match bad_number(1, values) {
+        Some(place) => Some(Reason::NotNumber(place)),
+        None => None,
+    }
+}
+
+/// The first of the settings that an opening word wants and that no line gives.
+pub(crate) fn missing(before: Before<'_>) -> Option<Keyword>
+    ensures { result ≡ missing before.entry.stop (lines before.entry.text.now) }
+{
+    if !before.is_given(Keyword::Radix) {
+        return Some(Keyword::Radix);
+    }
+    if !before.is_given(Keyword::Dims) {
+        return Some(Keyword::Dims);
+    }
+    if !before.is_given(Keyword::Depth) {
+        return Some(Keyword::Depth);
+    }
+    if !before.is_given(Keyword::Tags) {
+        return Some(Keyword::Tags);
+    }
+    if !before.is_given(Keyword::Words) {
+        return Some(Keyword::Words);
     }
     None
 }
 
-/// What is wrong with the shape of a line.
-pub(crate) fn shape_wrong(keyword: Keyword, values: &[&[u8]]) -> Option<Reason>
-    requires { length values.now ≤ 7 }
-    ensures { result ≡ shape_wrong keyword (map (λ value. value.now) values.now) }
+/// A setting that is given already.
+fn twice(before: Before<'_>, keyword: Keyword) -> Option<Reason>
+    ensures { result ≡ twice keyword before.entry.stop (lines before.entry.text.now) }
 {
-    if !keyword.takes(values.len()) {
-        return Some(Reason::NumberCount(keyword));
+    match before.line_that_gives(keyword) {
+        Some(line) => Some(Reason::GivenTwice(line)),
+        None => None,
     }
-    bad_number(1, values)
 }
 
-impl<'a> Before<'a> {
-    /// The first of the settings that an opening word wants and that no line gives.
-    pub(crate) fn missing(self) -> Option<Keyword>
-        ensures { result ≡ missing self.entry.stop (lines self.entry.text.now) }
-    {
-        if !self.is_given(b"radix") {
-            return Some(Keyword::Radix);
-        }
-        if !self.is_given(b"dims") {
-            return Some(Keyword::Dims);
-        }
-        if !self.is_given(b"depth") {
-            return Some(Keyword::Depth);
-        }
-        if !self.is_given(b"tags") {
-            return Some(Keyword::Tags);
-        }
-        if !self.is_given(b"words") {
-            return Some(Keyword::Words);
-        }
-        None
+/// A dateline that comes before what it wants.
+fn undated(before: Before<'_>) -> Option<Reason>
+    ensures { result ≡ undated before.entry.stop (lines before.entry.text.now) }
+{
+    if !before.is_given(Keyword::Radix) {
+        return Some(Reason::DatelineBefore(Keyword::Radix));
     }
-
-    /// A setting that is given already.
-    fn twice(self, word: &[u8]) -> Option<Reason>
-        ensures { result ≡ twice word.now self.entry.stop (lines self.entry.text.now) }
-    {
-        match self.line_of(word) {
-            Some(line) => Some(Reason::GivenTwice(line)),
-            None => None,
-        }
+    if !before.is_given(Keyword::Dims) {
+        return Some(Reason::DatelineBefore(Keyword::Dims));
     }
+    None
+}
 
-    /// A dateline that comes before what it wants.
-    fn undated(self) -> Option<Reason>
-        ensures { result ≡ undated self.entry.stop (lines self.entry.text.now) }
-    {
-        if !self.is_given(b"radix") {
-            return Some(Reason::DatelineBefore(Keyword::Radix));
-        }
-        if !self.is_given(b"dims") {
-            return Some(Reason::DatelineBefore(Keyword::Dims));
-        }
-        None
-    }
-
-    /// What is wrong with the order of lines.
-    pub(crate) fn order_wrong(self, keyword: Keyword) -> Option<Reason>
-        ensures { result ≡ order_wrong self.entry.stop (lines self.entry.text.now) keyword }
-    {
-        match keyword {
-            Keyword::Radix => self.twice(b"radix"),
-            Keyword::Dims => self.twice(b"dims"),
-            Keyword::Dateline => {
-                if let Some(reason) = self.twice(b"dateline") {
-                    return Some(reason);
-                }
-                self.undated()
+/// What is wrong with the order of lines.
+pub(crate) fn order_wrong(before: Before<'_>, keyword: Keyword) -> Option<Reason>
+    ensures { result ≡ order_wrong before.entry.stop (lines before.entry.text.now) keyword }
+{
+    match keyword {
+        Keyword::Radix => twice(before, Keyword::Radix),
+        Keyword::Dims => twice(before, Keyword::Dims),
+        Keyword::Dateline => {
+            if let Some(reason) = twice(before, Keyword::Dateline) {
+                return Some(reason);
             }
-            Keyword::Depth => self.twice(b"depth"),
-            Keyword::Tags => self.twice(b"tags"),
-            Keyword::Words => self.twice(b"words"),
-            Keyword::Init => match self.missing() {
-                Some(keyword) => Some(Reason::InitBefore(keyword)),
-                None => None,
-            },
+            undated(before)
         }
+        Keyword::Depth => twice(before, Keyword::Depth),
+        Keyword::Tags => twice(before, Keyword::Tags),
+        Keyword::Words => twice(before, Keyword::Words),
+        Keyword::Init => match missing(before) {
+            Some(keyword) => Some(Reason::InitBefore(keyword)),
+            None => None,
+        },
     }
 }

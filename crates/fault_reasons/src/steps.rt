@@ -2,16 +2,16 @@
 
 ghost use Rattle.std.specs.Prelude.{◌≡◌, ◌≢◌, ◌≤◌, map};
 ghost use Rattle.std.specs.Str.Lines.{lines};
-ghost use Rattle.fault_reasons.specs.Reasons.{Explains, fault_of};
-ghost use Rattle.fault_reasons.specs.Steps.{agent_of, agent_wrong, two_wrong, three_wrong};
+ghost use Rattle.line_reasons.specs.Reasons.{TellsReason};
+ghost use Rattle.fault_reasons.specs.Reasons.{fault_of};
+ghost use Rattle.fault_reasons.specs.Steps.{kind_of_agent, agent_wrong, two_wrong, three_wrong};
 ghost use Rattle.fault_reasons.specs.Steps.{has, is_choice, port_wrong, step_wrong};
 ghost use Rattle.fault_reasons.specs.Steps.{named_wrong};
 ghost use Rattle.fault_reasons.specs.Steps.{step_words_wrong, steps_wrong};
 
-use crate::before::number;
-use crate::machine::explained;
-use crate::reason::{Agent, Reason};
+use crate::reason::{Agent, Reason, explained};
 use lexer::{first_words, index, line_at};
+use line_reasons::number;
 use torus::Fault;
 
 /// Why a steps text, read for a machine of so many tiles (at most 64) and dimensions (at most 3), has
@@ -22,7 +22,8 @@ pub fn steps_reason(tiles: u32, dims: u32, text: &[u8], fault: Fault, line: u64)
     requires dims { dims ≤ 3 }
     ensures memory { fault ≡ Fault.Memory → result ≡ Reason.Memory }
     ensures reason { fault ≢ Fault.Memory
-        → Explains fault (steps_wrong tiles dims line (lines text.now)) result }
+        → TellsReason fault_of Reason.Other fault (steps_wrong tiles dims line (lines text.now))
+        result }
     ensures code { fault_of result ≡ fault }
 {
     if fault == Fault::Memory {
@@ -140,7 +141,7 @@ fn step_wrong(tiles: u32, dims: u32, agent: u32, word: &[u8], port: Option<u32>)
 impl Agent {
     /// The kind of an agent.
     fn of(agent: u32) -> Agent
-        ensures { result ≡ agent_of agent }
+        ensures { result ≡ kind_of_agent agent }
     {
         match agent % 3 {
             0 => Agent::Processor,

@@ -20,8 +20,9 @@ use Rattle.network_reasons.specs.declared.before.Wanted.TheVariants as wanted
 use Rattle.network_reasons.specs.declared.reason.Keyword.{Keyword}
 use Rattle.network_reasons.specs.declared.reason.Keyword.TheVariants.{Channels, Inject, Eject, Join, Next, Reply}
 use Rattle.network_reasons.specs.declared.reason.NetworkReason.{NetworkReason}
-use Rattle.network_reasons.specs.Reasons.{keyword_of}
-use Rattle.network_reasons.specs.Before.{first_number, second_number, third_number, fits_values, fits_keyword, fits_word, fits}
+use Rattle.network_reasons.specs.Reasons.{network_keyword_of}
+use Rattle.line_reasons.specs.Spelled.{first_spelled, second_spelled, third_spelled}
+use Rattle.network_reasons.specs.Before.{numbers_give, keyword_gives, word_gives, words_give}
 use Rattle.network_reasons.proofs.Shapes.{Shaped, one_shape, two_shape, three_shape}
 use Rattle.network_reasons.proofs.Keywords.{after_values, after_word, by_keyword, no_keyword}
 use Rattle.network_reasons.proofs.Ejections.{hops_alone, injects, ejects_one, ejects_others}
@@ -80,14 +81,14 @@ positive zero h = absurd (cc)
 positive (suc n) h = not_zero n
 
 -- the number of channels
-channels_facts : (r new : Reading) (n b : ℕ) → after_channels r n ≡ Ok new → Facts r new (λ v. fits_values v Channels n b) n
+channels_facts : (r new : Reading) (n b : ℕ) → after_channels r n ≡ Ok new → Facts r new (λ v. numbers_give v Channels n b) n
 channels_facts r new n b h =
     let one = passed (not (count_of r == 0)) fault.Setting _ new h in
     let two = accepted (leb 1 n && leb n 16384) fault.Range _ new one.1 in
     let none : count_of r == 0 ≡ true = not-false (count_of r == 0) one.0 in
     let empty : count_of r ≡ 0 = eqb-true (count_of r) 0 none in
     let past : (j : ℕ) → is_ejection (slice_get r.table.kinds j) ≡ false = λ j. ap is_ejection (slice_get_past r.table.kinds j (omega arith)) in
-    subst (λ z. Facts r z (λ v. fits_values v Channels n b) n) two.1 (record {
+    subst (λ z. Facts r z (λ v. numbers_give v Channels n b) n) two.1 (record {
       count = length-replicate n Hop ∙ sym (ap (λ v. cond v n (count_of r)) none);
       some = λ _. positive n two.0;
       begun_is = or_none r.begun false refl;
@@ -95,13 +96,13 @@ channels_facts r new n b h =
     })
 
 -- an injection channel
-inject_facts : (r new : Reading) (x b n : ℕ) → after_inject r x ≡ Ok new → Facts r new (λ v. fits_values v Inject x b) n
+inject_facts : (r new : Reading) (x b n : ℕ) → after_inject r x ≡ Ok new → Facts r new (λ v. numbers_give v Inject x b) n
 inject_facts r new x b n h =
     let one = passed (count_of r == 0) fault.Setting _ new h in
     let two = passed (not (ltb x (count_of r))) fault.Range _ new one.1 in
     let three = passed (not (is_hop (get_or r.table.kinds x Hop))) fault.Setting _ new two.1 in
     let hop : is_hop (get_or r.table.kinds x Hop) ≡ true = not-false (is_hop (get_or r.table.kinds x Hop)) three.0 in
-    subst (λ z. Facts r z (λ v. fits_values v Inject x b) n) (ok_is (with_kind r x Injection) new three.1) (record {
+    subst (λ z. Facts r z (λ v. numbers_give v Inject x b) n) (ok_is (with_kind r x Injection) new three.1) (record {
       count = length-set r.table.kinds x Injection ∙ stay (count_of r) false n refl;
       some = λ no. absurd (cc);
       begun_is = or_none r.begun false refl;
@@ -109,7 +110,7 @@ inject_facts r new x b n h =
     })
 
 -- an ejection channel
-eject_facts : (r new : Reading) (x b n : ℕ) → after_eject r x ≡ Ok new → Facts r new (λ v. fits_values v Eject x b) n
+eject_facts : (r new : Reading) (x b n : ℕ) → after_eject r x ≡ Ok new → Facts r new (λ v. numbers_give v Eject x b) n
 eject_facts r new x b n h =
     let one = passed (count_of r == 0) fault.Setting _ new h in
     let two = passed (not (ltb x (count_of r))) fault.Range _ new one.1 in
@@ -123,7 +124,7 @@ eject_facts r new x b n h =
           ∙ sym (or_true _ (x == j) it.0)
       | inr it ↦ ejects_others r.table.kinds x j it.0 ∙ or_none _ (x == j) it.0
     ] in
-    subst (λ z. Facts r z (λ v. fits_values v Eject x b) n) (ok_is (with_kind r x Ejection) new five.1) (record {
+    subst (λ z. Facts r z (λ v. numbers_give v Eject x b) n) (ok_is (with_kind r x Ejection) new five.1) (record {
       count = length-set r.table.kinds x Ejection ∙ stay (count_of r) false n refl;
       some = λ no. absurd (cc);
       begun_is = or_none r.begun false refl;
@@ -131,14 +132,14 @@ eject_facts r new x b n h =
     })
 
 -- a pair
-join_facts : (r new : Reading) (i j n : ℕ) → after_join r i j ≡ Ok new → Facts r new (λ v. fits_values v Join i j) n
+join_facts : (r new : Reading) (i j n : ℕ) → after_join r i j ≡ Ok new → Facts r new (λ v. numbers_give v Join i j) n
 join_facts r new i j n h =
     let one = passed (count_of r == 0) fault.Setting _ new h in
     let two = passed (not (ltb i (count_of r))) fault.Range _ new one.1 in
     let three = passed (not (ltb j (count_of r))) fault.Range _ new two.1 in
     let four = passed (leb 1048576 (length r.table.joins)) fault.Length _ new three.1 in
-    subst (λ z. Facts r z (λ v. fits_values v Join i j) n) (ok_is _ new four.1)
-    (unchanged r _ (λ v. fits_values v Join i j) n refl refl refl refl (λ _. refl))
+    subst (λ z. Facts r z (λ v. numbers_give v Join i j) n) (ok_is _ new four.1)
+    (unchanged r _ (λ v. numbers_give v Join i j) n refl refl refl refl (λ _. refl))
 
 -- with choices the channels stay
 begun_kinds : (r : Reading) → (begun r).table.kinds ≡ r.table.kinds
@@ -151,14 +152,14 @@ begun_begun r =
     at r.begun refl
 
 -- a choice
-next_facts : (r new : Reading) (x j y n : ℕ) → after_next r x j y ≡ Ok new → Facts r new (λ v. fits_values v Next x j) n
+next_facts : (r new : Reading) (x j y n : ℕ) → after_next r x j y ≡ Ok new → Facts r new (λ v. numbers_give v Next x j) n
 next_facts r new x j y n h =
     let one = passed (count_of r == 0) fault.Setting _ new h in
     let two = passed (not (ltb x (count_of r))) fault.Range _ new one.1 in
     let three = passed (not (is_ejection (slice_get r.table.kinds j))) fault.Range _ new two.1 in
     let four = passed (not (ltb y (count_of r))) fault.Range _ new three.1 in
     let five = passed (not (slice_index (begun r).table.choices (cell_of r x j) == count_of (begun r))) fault.Setting _ new four.1 in
-    subst (λ z. Facts r z (λ v. fits_values v Next x j) n) (ok_is _ new five.1) (record {
+    subst (λ z. Facts r z (λ v. numbers_give v Next x j) n) (ok_is _ new five.1) (record {
       count = ap length (begun_kinds r) ∙ stay (count_of r) false n refl;
       some = λ no. absurd (cc);
       begun_is = begun_begun r ∙ sym (or_true r.begun true refl);
@@ -166,15 +167,15 @@ next_facts r new x j y n h =
     })
 
 -- a reply
-reply_facts : (r new : Reading) (x y n : ℕ) → after_reply r x y ≡ Ok new → Facts r new (λ v. fits_values v Reply x y) n
+reply_facts : (r new : Reading) (x y n : ℕ) → after_reply r x y ≡ Ok new → Facts r new (λ v. numbers_give v Reply x y) n
 reply_facts r new x y n h =
     let one = passed (count_of r == 0) fault.Setting _ new h in
     let two = passed (not (is_ejection (slice_get r.table.kinds x))) fault.Range _ new one.1 in
     let three = passed (not (is_injection (slice_get r.table.kinds y))) fault.Range _ new two.1 in
     let four = passed (has_reply r.replies x y) fault.Setting _ new three.1 in
     let with_it = reading_with r.table (r.replies ++ record { from = x; to = y } ∷ []) r.begun in
-    subst (λ z. Facts r z (λ v. fits_values v Reply x y) n) (ok_is with_it new four.1)
-    (unchanged r with_it (λ v. fits_values v Reply x y) n refl refl refl refl (λ _. refl))
+    subst (λ z. Facts r z (λ v. numbers_give v Reply x y) n) (ok_is with_it new four.1)
+    (unchanged r with_it (λ v. numbers_give v Reply x y) n refl refl refl refl (λ _. refl))
 
 -- a fault is no value
 abbrev err : (A : Type 0) → Fault → Result A Fault
@@ -192,47 +193,47 @@ read wrong made of new it h = elim it [
 
 -- a line of a keyword
 values_facts : (r new : Reading) (k : Keyword) (values : List (List ℕ)) → after_values r k values ≡ Ok new
-    → Facts r new (λ v. fits_keyword v k values) (first_number values)
+    → Facts r new (λ v. keyword_gives v k values) (first_spelled values)
 values_facts r new Channels values h =
-    channels_facts r new (first_number values) (second_number values) (read _ _ _ new (one_shape Channels (after_channels r) values) h)
+    channels_facts r new (first_spelled values) (second_spelled values) (read _ _ _ new (one_shape Channels (after_channels r) values) h)
 values_facts r new Inject values h =
-    inject_facts r new (first_number values) (second_number values) _ (read _ _ _ new (one_shape Inject (after_inject r) values) h)
+    inject_facts r new (first_spelled values) (second_spelled values) _ (read _ _ _ new (one_shape Inject (after_inject r) values) h)
 values_facts r new Eject values h =
-    eject_facts r new (first_number values) (second_number values) _ (read _ _ _ new (one_shape Eject (after_eject r) values) h)
+    eject_facts r new (first_spelled values) (second_spelled values) _ (read _ _ _ new (one_shape Eject (after_eject r) values) h)
 values_facts r new Join values h =
-    join_facts r new (first_number values) (second_number values) _ (read _ _ _ new (two_shape Join (after_join r) values) h)
+    join_facts r new (first_spelled values) (second_spelled values) _ (read _ _ _ new (two_shape Join (after_join r) values) h)
 values_facts r new Next values h =
-    next_facts r new (first_number values) (second_number values) (third_number values) _ (read _ _ _ new (three_shape Next (after_next r) values) h)
+    next_facts r new (first_spelled values) (second_spelled values) (third_spelled values) _ (read _ _ _ new (three_shape Next (after_next r) values) h)
 values_facts r new Reply values h =
-    reply_facts r new (first_number values) (second_number values) _ (read _ _ _ new (two_shape Reply (after_reply r) values) h)
+    reply_facts r new (first_spelled values) (second_spelled values) _ (read _ _ _ new (two_shape Reply (after_reply r) values) h)
 
 -- a line whose first word may be a keyword
 word_facts : (r new : Reading) (o : Option Keyword) (values : List (List ℕ)) → after_word r o values ≡ Ok new
-    → Facts r new (λ v. fits_word v o values) (first_number values)
+    → Facts r new (λ v. word_gives v o values) (first_spelled values)
 word_facts r new None values h = absurd (cc)
 word_facts r new (Some k) values h = values_facts r new k values h
 
 -- the second of some words is the first of those behind the first
-second_is : (word : List ℕ) (values : List (List ℕ)) → first_number values ≡ second_number (word ∷ values)
+second_is : (word : List ℕ) (values : List (List ℕ)) → first_spelled values ≡ second_spelled (word ∷ values)
 second_is word [] = refl
 second_is word (a ∷ more) = refl
 
 -- a line
 pub line_facts : (r new : Reading) (words : List (List ℕ)) → after_words r words ≡ Ok new
-    → Facts r new (λ v. fits v words) (second_number words)
+    → Facts r new (λ v. words_give v words) (second_spelled words)
 line_facts r new [] h =
     subst (λ z. Facts r z (λ v. false) 0) (ok_is r new h) (unchanged r r (λ v. false) 0 refl refl refl refl (λ _. refl))
 line_facts r new (word ∷ values) h =
     let F : (Wanted → Bool) → ℕ → Type 0 = λ gives n. Facts r new gives n in
-    let cases : (b : Bool) → begins_comment word ≡ b → F (λ v. fits_word v (keyword_of word) values) (first_number values) =
-    λ b. elim b as (λ z. begins_comment word ≡ z → F (λ v. fits_word v (keyword_of word) values) (first_number values)) [
+    let cases : (b : Bool) → begins_comment word ≡ b → F (λ v. word_gives v (network_keyword_of word) values) (first_spelled values) =
+    λ b. elim b as (λ z. begins_comment word ≡ z → F (λ v. word_gives v (network_keyword_of word) values) (first_spelled values)) [
       | true ↦ λ is.
           let none = no_keyword word is in
           let made : ok r ≡ ok new = sym (cond-true (begins_comment word) (Ok r) _ is) ∙ h in
-          let no : (v : Wanted) → fits_word v (keyword_of word) values ≡ false = λ v. ap (λ o. fits_word v o values) none in
-          subst (λ z. Facts r z (λ v. fits_word v (keyword_of word) values) (first_number values)) (ok_is r new made)
-          (unchanged r r (λ v. fits_word v (keyword_of word) values) (first_number values) refl refl (no wanted.Channels) (no wanted.Next)
+          let no : (v : Wanted) → word_gives v (network_keyword_of word) values ≡ false = λ v. ap (λ o. word_gives v o values) none in
+          subst (λ z. Facts r z (λ v. word_gives v (network_keyword_of word) values) (first_spelled values)) (ok_is r new made)
+          (unchanged r r (λ v. word_gives v (network_keyword_of word) values) (first_spelled values) refl refl (no wanted.Channels) (no wanted.Next)
           (λ j. no (wanted.Ejection j)))
-      | false ↦ λ is. word_facts r new (keyword_of word) values (sym (by_keyword r word values is) ∙ h)
+      | false ↦ λ is. word_facts r new (network_keyword_of word) values (sym (by_keyword r word values is) ∙ h)
     ] in
-    subst (λ n. F (λ v. fits_word v (keyword_of word) values) n) (second_is word values) (cases (begins_comment word) refl)
+    subst (λ n. F (λ v. word_gives v (network_keyword_of word) values) n) (second_is word values) (cases (begins_comment word) refl)

@@ -10,7 +10,7 @@ use Rattle.table_text.specs.Network.{Reading, after_one, after_two, after_three,
 use Rattle.table_text.specs.Network.{after_channels, after_inject, after_eject, after_join, after_next, after_reply}
 use Rattle.network_reasons.specs.declared.reason.Keyword.{Keyword}
 use Rattle.network_reasons.specs.declared.reason.Keyword.TheVariants.{Channels, Inject, Eject, Join, Next, Reply}
-use Rattle.network_reasons.specs.Reasons.{keyword_of}
+use Rattle.network_reasons.specs.Reasons.{network_keyword_of}
 
 -- what the words behind a keyword make
 abbrev pub after_values : Reading → Keyword → List (List ℕ) → Result Reading Fault
@@ -33,7 +33,7 @@ push f false x y u v e d = d
 
 -- a line that is no comment, by its first word
 pub by_keyword : (r : Reading) (word : List ℕ) (values : List (List ℕ)) → begins_comment word ≡ false
-    → after_words r (word ∷ values) ≡ after_word r (keyword_of word) values
+    → after_words r (word ∷ values) ≡ after_word r (network_keyword_of word) values
 by_keyword r word values plain =
     let f : Option Keyword → Result Reading Fault = λ k. after_word r k values in
     let last = push f (bytes_eq word (codes "reply")) (Some Reply) None _ _ refl refl in
@@ -45,8 +45,8 @@ by_keyword r word values plain =
     cond-false (begins_comment word) (Ok r) _ plain ∙ all
 
 -- a comment has no keyword
-pub no_keyword : (word : List ℕ) → begins_comment word ≡ true → keyword_of word ≡ None
+pub no_keyword : (word : List ℕ) → begins_comment word ≡ true → network_keyword_of word ≡ None
 no_keyword [] h = absurd (cc)
 no_keyword (c ∷ cs) h =
-    let P : ℕ → Type 0 = λ n. keyword_of (n ∷ cs) ≡ None in
+    let P : ℕ → Type 0 = λ n. network_keyword_of (n ∷ cs) ≡ None in
     subst P (sym (eqb-true c 35 h)) refl

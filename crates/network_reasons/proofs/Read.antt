@@ -10,7 +10,9 @@ use Rattle.table_text.proofs.SevenWords.{words_seven}
 use Rattle.network_reasons.specs.declared.before.Wanted.{Wanted}
 use Rattle.network_reasons.specs.declared.before.Wanted.TheVariants as wanted
 use Rattle.lexer.specs.Words.{first_words}
-use Rattle.network_reasons.specs.Before.{second_number, fits, given, channels_in}
+use Rattle.line_reasons.specs.Spelled.{second_spelled}
+use Rattle.line_reasons.specs.Before.{given}
+use Rattle.network_reasons.specs.Before.{words_give, channels_in}
 use Rattle.network_reasons.specs.Wrong.{reading_to}
 use Rattle.network_reasons.proofs.Facts.{Facts, ok, not_zero, line_facts}
 
@@ -41,7 +43,7 @@ or_found false true p o = refl
 or_found false false p o = refl
 
 channels_cond : (b : Bool) (p : ℕ × List ℕ) (o : Option (ℕ × List ℕ))
-    → channels_in (cond b (Some p) o) ≡ cond b (second_number (first_words p.1)) (channels_in o)
+    → channels_in (cond b (Some p) o) ≡ cond b (second_spelled (first_words p.1)) (channels_in o)
 channels_cond true p o = refl
 channels_cond false p o = refl
 
@@ -56,9 +58,9 @@ counts (suc c) one two n m b is next some =
 
 -- a line, and the lines behind it
 more : (r new all : Reading) (gives : Wanted → Bool) (first : Wanted → Option (ℕ × List ℕ)) (p : ℕ × List ℕ)
-    → Facts r new gives (second_number (first_words p.1)) → Found new all first → Found r all (λ w. cond (gives w) (Some p) (first w))
+    → Facts r new gives (second_spelled (first_words p.1)) → Found new all first → Found r all (λ w. cond (gives w) (Some p) (first w))
 more r new all gives first p line behind = record {
-  count = counts (count_of r) (count_of new) (count_of all) (second_number (first_words p.1)) (channels_in (first wanted.Channels)) (gives wanted.Channels)
+  count = counts (count_of r) (count_of new) (count_of all) (second_spelled (first_words p.1)) (channels_in (first wanted.Channels)) (gives wanted.Channels)
       line.count behind.count line.some
       ∙ sym (ap (λ n. cond (count_of r == 0) n (count_of r)) (channels_cond (gives wanted.Channels) p (first wanted.Channels)));
   begun_is = behind.begun_is ∙ ap (λ b. b || is_some (first wanted.Next)) line.begun_is ∙ or_found r.begun (gives wanted.Next) p (first wanted.Next);
@@ -68,20 +70,21 @@ more r new all gives first p line behind = record {
 
 -- the lines before one
 pub found : (stop at : ℕ) (r new : Reading) (lines : List (List ℕ)) → reading_to stop at r lines ≡ Ok new
-    → Found r new (λ w. given w stop at lines)
+    → Found r new (λ w. given (words_give w) stop 0 at lines)
 found stop at r new [] h = nothing r new h
 found stop at r new (line ∷ lines) h =
     let made = after_words r (words_of line) in
     let step : Reading → Result Reading Fault = λ next. reading_to stop (at + 1) next lines in
     let later : (m : Result Reading Fault) → made ≡ m → (m >>= step) ≡ Ok new
-    → Found r new (λ w. cond (fits w (first_words line)) (Some (at, line)) (given w stop (at + 1) lines)) =
-    λ m. elim m as (λ z. made ≡ z → (z >>= step) ≡ Ok new → Found r new (λ w. cond (fits w (first_words line)) (Some (at, line)) (given w stop (at + 1) lines))) [
-      | Ok next ↦ λ is all. more r next new (λ w. fits w (first_words line)) (λ w. given w stop (at + 1) lines) (at, line)
+    → Found r new (λ w. cond (words_give w (first_words line)) (Some (at, line)) (given (words_give w) stop 0 (at + 1) lines)) =
+    λ m. elim m as (λ z. made ≡ z → (z >>= step) ≡ Ok new
+    → Found r new (λ w. cond (words_give w (first_words line)) (Some (at, line)) (given (words_give w) stop 0 (at + 1) lines))) [
+      | Ok next ↦ λ is all. more r next new (λ w. words_give w (first_words line)) (λ w. given (words_give w) stop 0 (at + 1) lines) (at, line)
           (line_facts r next (first_words line) (words_seven r (words_of line) ∙ is)) (found stop (at + 1) next new lines all)
       | Err e ↦ λ is all. absurd (cc)
     ] in
     elim (ltb at stop) as (λ b. cond (not b) (Ok r) (made >>= step) ≡ Ok new
-    → Found r new (λ w. cond (not b) None (cond (fits w (first_words line)) (Some (at, line)) (given w stop (at + 1) lines)))) [
+    → Found r new (λ w. cond (not b) None (cond (words_give w (first_words line)) (Some (at, line)) (given (words_give w) stop 0 (at + 1) lines)))) [
       | true ↦ λ all. later made refl all
       | false ↦ λ all. nothing r new all
     ] h

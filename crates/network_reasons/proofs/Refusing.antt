@@ -8,17 +8,17 @@ use Rattle.table_text.specs.Network.{Reading, nothing_read, count_of, network_wi
 use Rattle.network_reasons.specs.declared.reason.NetworkReason.{NetworkReason}
 use Rattle.network_reasons.specs.declared.reason.NetworkReason.TheVariants as reason
 use Rattle.network_reasons.specs.declared.refusal.Refusal.{Refusal}
-use Rattle.network_reasons.specs.Reasons.{fault_of}
+use Rattle.network_reasons.specs.Reasons.{network_fault_of}
 use Rattle.lexer.specs.Words.{first_words, line_at}
 use Rattle.network_reasons.specs.Told.{is_memory, at_line_told, network_told, refusal_at, refusal_told}
-use Rattle.network_reasons.specs.Wrong.{at_line_wrong, after_reading, network_wrong, Tells}
+use Rattle.network_reasons.specs.Wrong.{network_line_wrong, after_reading, network_wrong, TellsRefusal}
 use Rattle.network_reasons.proofs.Read.{Found, found}
 use Rattle.network_reasons.proofs.Located.{Fails, IsAt, located}
 use Rattle.network_reasons.proofs.Telling.{Knows, IsTold, AreTold, told_last, words_are}
 
 -- a line, or the end of the text
 at_line : (r : Reading) (stop : ℕ) (lines : List (List ℕ)) (o : Option (List ℕ)) (f : Fault) → Knows r stop lines → Fails r f o
-    → AreTold f (at_line_wrong r stop lines o) (at_line_told f stop lines o)
+    → AreTold f (network_line_wrong r stop lines o) (at_line_told f stop lines o)
 at_line r stop lines (Some line) f knows h = words_are r stop lines (first_words line) f knows h
 at_line r stop lines None f knows h = record {
   why = reason.ChannelsMissing;
@@ -31,7 +31,7 @@ record IsRefused (lines : List (List ℕ)) (f : Fault) (n : ℕ) : Type 0 where
   pub why : NetworkReason
   pub told : network_told f n lines ≡ Some why
   pub wrong : network_wrong n lines ≡ Some why
-  pub code : fault_of why ≡ f
+  pub code : network_fault_of why ≡ f
 
 is_refused : (lines : List (List ℕ)) (f : Fault) (n : ℕ) → network_of lines ≡ Err (record { fault = f; line = n }) → IsRefused lines f n
 is_refused lines f n h =
@@ -48,11 +48,11 @@ is_refused lines f n h =
 
 -- what is told of a text that is not read
 pub tells : (lines : List (List ℕ)) (e : LineFault) → (e ≡ record { fault = fault.Memory; line = 0 }) ⊎ (network_of lines ≡ Err e)
-    → Tells lines (refusal_told e.fault e.line lines)
+    → TellsRefusal lines (refusal_told e.fault e.line lines)
 tells lines e h = elim h [
-  | inl m ↦ let P : LineFault → Type 0 = λ x. Tells lines (refusal_told x.fault x.line lines) in subst P (sym m) (inl refl)
+  | inl m ↦ let P : LineFault → Type 0 = λ x. TellsRefusal lines (refusal_told x.fault x.line lines) in subst P (sym m) (inl refl)
   | inr bad ↦
       let it = is_refused lines e.fault e.line bad in
-      let P : Option NetworkReason → Type 0 = λ o. Tells lines (option_map (refusal_at e.line) o) in
+      let P : Option NetworkReason → Type 0 = λ o. TellsRefusal lines (option_map (refusal_at e.line) o) in
       subst P (sym it.told) (inr (bad ∙ ap (λ g. Err (record { fault = g; line = e.line })) (sym it.code), it.wrong))
 ]

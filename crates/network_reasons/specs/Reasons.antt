@@ -11,28 +11,28 @@ use Rattle.network_reasons.specs.declared.reason.NetworkReason.{NetworkReason}
 use Rattle.network_reasons.specs.declared.reason.NetworkReason.TheVariants as reason
 
 -- the fault that has a reason
-abbrev pub fault_of : NetworkReason → Fault
-fault_of reason.UnknownKeyword = fault.Line
-fault_of (reason.NumberCount keyword) = fault.Line
-fault_of (reason.NotNumber place) = fault.Line
-fault_of reason.ChannelsFirst = fault.Setting
-fault_of reason.ChannelsMissing = fault.Setting
-fault_of (reason.ChannelsTwice line) = fault.Setting
-fault_of reason.ChannelsLimits = fault.Range
-fault_of (reason.ChannelLimits place count) = fault.Range
-fault_of (reason.KindTwice line) = fault.Setting
-fault_of (reason.EjectionLate line) = fault.Setting
-fault_of reason.EjectionsLimits = fault.Length
-fault_of reason.JoinsLimits = fault.Length
-fault_of (reason.NotEjection place) = fault.Range
-fault_of (reason.NotInjection place) = fault.Range
-fault_of (reason.ChoiceTwice line) = fault.Setting
-fault_of (reason.ReplyTwice line) = fault.Setting
-fault_of reason.Memory = fault.Memory
+abbrev pub network_fault_of : NetworkReason → Fault
+network_fault_of reason.UnknownKeyword = fault.Line
+network_fault_of (reason.NumberCount keyword) = fault.Line
+network_fault_of (reason.NotNumber place) = fault.Line
+network_fault_of reason.ChannelsFirst = fault.Setting
+network_fault_of reason.ChannelsMissing = fault.Setting
+network_fault_of (reason.ChannelsTwice line) = fault.Setting
+network_fault_of reason.ChannelsLimits = fault.Range
+network_fault_of (reason.ChannelLimits place count) = fault.Range
+network_fault_of (reason.KindTwice line) = fault.Setting
+network_fault_of (reason.EjectionLate line) = fault.Setting
+network_fault_of reason.EjectionsLimits = fault.Length
+network_fault_of reason.JoinsLimits = fault.Length
+network_fault_of (reason.NotEjection place) = fault.Range
+network_fault_of (reason.NotInjection place) = fault.Range
+network_fault_of (reason.ChoiceTwice line) = fault.Setting
+network_fault_of (reason.ReplyTwice line) = fault.Setting
+network_fault_of reason.Memory = fault.Memory
 
 -- the keyword that a word spells
-abbrev pub keyword_of : List ℕ → Option Keyword
-keyword_of word =
+abbrev pub network_keyword_of : List ℕ → Option Keyword
+network_keyword_of word =
     if bytes_eq word (codes "channels") then Some Channels
     else (if bytes_eq word (codes "inject") then Some Inject
     else (if bytes_eq word (codes "eject") then Some Eject
@@ -42,10 +42,10 @@ keyword_of word =
     else None)))))
 
 -- how many numbers stand behind a keyword
-abbrev pub takes : Keyword → ℕ
-takes Channels = 1
-takes Inject = 1
-takes Eject = 1
-takes Join = 2
-takes Next = 3
-takes Reply = 2
+abbrev pub numbers_behind : Keyword → ℕ
+numbers_behind Channels = 1
+numbers_behind Inject = 1
+numbers_behind Eject = 1
+numbers_behind Join = 2
+numbers_behind Next = 3
+numbers_behind Reply = 2

@@ -12,6 +12,8 @@ use Rattle.table_net.specs.declared.table.Kind.TheVariants.{Hop}
 use Rattle.table_net.specs.Table.{columns_of, is_injection, is_ejection}
 use Rattle.table_text.specs.Network.{Reading, NetworkSpec, nothing_read, count_of, is_hop, begun}
 use Rattle.table_text.specs.Network.{cell_of, has_reply, after_words, network_of}
+use Rattle.line_reasons.specs.Spelled.{first_spelled, second_spelled, third_spelled}
+use Rattle.line_reasons.specs.Reasons.{or_later}
 use Rattle.network_reasons.specs.declared.before.Wanted.TheVariants as wanted
 use Rattle.network_reasons.specs.declared.reason.Keyword.{Keyword}
 use Rattle.network_reasons.specs.declared.reason.Keyword.TheVariants.{Channels, Inject, Eject, Join}
@@ -19,12 +21,11 @@ use Rattle.network_reasons.specs.declared.reason.Keyword.TheVariants.{Next, Repl
 use Rattle.network_reasons.specs.declared.reason.NetworkReason.{NetworkReason}
 use Rattle.network_reasons.specs.declared.reason.NetworkReason.TheVariants as reason
 use Rattle.network_reasons.specs.declared.refusal.Refusal.{Refusal}
-use Rattle.network_reasons.specs.Reasons.{fault_of, keyword_of}
+use Rattle.network_reasons.specs.Reasons.{network_fault_of, network_keyword_of}
 use Rattle.lexer.specs.Words.{first_words}
-use Rattle.network_reasons.specs.Before.{first_number, second_number, third_number}
 use Rattle.lexer.specs.Words.{line_at}
-use Rattle.network_reasons.specs.Before.{line_of}
-use Rattle.network_reasons.specs.Told.{shape_wrong}
+use Rattle.network_reasons.specs.Before.{line_giving}
+use Rattle.network_reasons.specs.Told.{network_shape_wrong}
 
 -- what is read of the lines before the line `stop`, where these lines count from `at` and what the
 -- lines before them made is given
@@ -37,7 +38,8 @@ reading_to stop at r (line ∷ lines) =
 -- a number of channels: given once, 1 to 16384
 abbrev pub channels_wrong : Reading → ℕ → List (List ℕ) → ℕ → Option NetworkReason
 channels_wrong r stop lines count =
-    if not (count_of r == 0) then Some (reason.ChannelsTwice (line_of wanted.Channels stop lines))
+    if not (count_of r == 0)
+    then Some (reason.ChannelsTwice (line_giving wanted.Channels stop lines))
     else (if nat_le 1 count && nat_le count 16384 then None else Some reason.ChannelsLimits)
 
 -- an injection channel: below the number of channels, a hop so far
@@ -46,7 +48,7 @@ inject_wrong r stop lines x =
     if count_of r == 0 then Some reason.ChannelsFirst
     else (if not (nat_lt x (count_of r)) then Some (reason.ChannelLimits 1 (count_of r))
     else (if not (is_hop (slice_index_or r.table.kinds x Hop))
-    then Some (reason.KindTwice (line_of (wanted.Kind x) stop lines))
+    then Some (reason.KindTwice (line_giving (wanted.Kind x) stop lines))
     else None))
 
 -- an ejection channel: before all choices, a hop so far, and the 1024th at most
@@ -54,9 +56,9 @@ abbrev pub eject_wrong : Reading → ℕ → List (List ℕ) → ℕ → Option 
 eject_wrong r stop lines x =
     if count_of r == 0 then Some reason.ChannelsFirst
     else (if not (nat_lt x (count_of r)) then Some (reason.ChannelLimits 1 (count_of r))
-    else (if r.begun then Some (reason.EjectionLate (line_of wanted.Next stop lines))
+    else (if r.begun then Some (reason.EjectionLate (line_giving wanted.Next stop lines))
     else (if not (is_hop (slice_index_or r.table.kinds x Hop))
-    then Some (reason.KindTwice (line_of (wanted.Kind x) stop lines))
+    then Some (reason.KindTwice (line_giving (wanted.Kind x) stop lines))
     else (if nat_le 1024 (columns_of r.table) then Some reason.EjectionsLimits
     else None))))
 
@@ -78,58 +80,55 @@ next_wrong r stop lines x j y =
     else (if not (is_ejection (slice_get r.table.kinds j)) then Some (reason.NotEjection 2)
     else (if not (nat_lt y (count_of r)) then Some (reason.ChannelLimits 3 (count_of r))
     else (if not (slice_index (begun r).table.choices (cell_of r x j) == count_of (begun r))
-    then Some (reason.ChoiceTwice (line_of (wanted.Choice x j) stop lines))
+    then Some (reason.ChoiceTwice (line_giving (wanted.Choice x j) stop lines))
     else None)))))
 
 -- a reply: from an ejection channel to an injection channel, given once
-abbrev pub reply_wrong : Reading → ℕ → List (List ℕ) → ℕ → ℕ → Option NetworkReason
-reply_wrong r stop lines x y =
+abbrev pub network_reply_wrong : Reading → ℕ → List (List ℕ) → ℕ → ℕ → Option NetworkReason
+network_reply_wrong r stop lines x y =
     if count_of r == 0 then Some reason.ChannelsFirst
     else (if not (nat_lt x (count_of r)) then Some (reason.ChannelLimits 1 (count_of r))
     else (if not (is_ejection (slice_get r.table.kinds x)) then Some (reason.NotEjection 1)
     else (if not (nat_lt y (count_of r)) then Some (reason.ChannelLimits 2 (count_of r))
     else (if not (is_injection (slice_get r.table.kinds y)) then Some (reason.NotInjection 2)
     else (if has_reply r.replies x y
-    then Some (reason.ReplyTwice (line_of (wanted.Reply x y) stop lines))
+    then Some (reason.ReplyTwice (line_giving (wanted.Reply x y) stop lines))
     else None)))))
 
 -- a line of a keyword and its numbers
-abbrev pub numbers_wrong : Reading → ℕ → List (List ℕ) → Keyword → ℕ → ℕ → ℕ → Option NetworkReason
-numbers_wrong r stop lines Channels a b c = channels_wrong r stop lines a
-numbers_wrong r stop lines Inject a b c = inject_wrong r stop lines a
-numbers_wrong r stop lines Eject a b c = eject_wrong r stop lines a
-numbers_wrong r stop lines Join a b c = join_wrong r a b
-numbers_wrong r stop lines Next a b c = next_wrong r stop lines a b c
-numbers_wrong r stop lines Reply a b c = reply_wrong r stop lines a b
-
--- the first of two things that may be wrong
-abbrev pub first : Option NetworkReason → Option NetworkReason → Option NetworkReason
-first None later = later
-first (Some found) later = Some found
+abbrev pub network_numbers_wrong :
+    Reading → ℕ → List (List ℕ) → Keyword → ℕ → ℕ → ℕ → Option NetworkReason
+network_numbers_wrong r stop lines Channels a b c = channels_wrong r stop lines a
+network_numbers_wrong r stop lines Inject a b c = inject_wrong r stop lines a
+network_numbers_wrong r stop lines Eject a b c = eject_wrong r stop lines a
+network_numbers_wrong r stop lines Join a b c = join_wrong r a b
+network_numbers_wrong r stop lines Next a b c = next_wrong r stop lines a b c
+network_numbers_wrong r stop lines Reply a b c = network_reply_wrong r stop lines a b
 
 -- a line whose first word may be a keyword: its shape, then its numbers
-abbrev pub word_wrong :
+abbrev pub first_word_wrong :
     Reading → ℕ → List (List ℕ) → Option Keyword → List (List ℕ) → Option NetworkReason
-word_wrong r stop lines None values = Some reason.UnknownKeyword
-word_wrong r stop lines (Some keyword) values =
-    first (shape_wrong keyword values)
-    (numbers_wrong r stop lines keyword
-    (first_number values) (second_number values) (third_number values))
+first_word_wrong r stop lines None values = Some reason.UnknownKeyword
+first_word_wrong r stop lines (Some keyword) values =
+    or_later (network_shape_wrong keyword values)
+    (network_numbers_wrong r stop lines keyword
+    (first_spelled values) (second_spelled values) (third_spelled values))
 
 -- a line; nothing is wrong with one without words, nor with a comment
-abbrev pub words_wrong : Reading → ℕ → List (List ℕ) → List (List ℕ) → Option NetworkReason
-words_wrong r stop lines [] = None
-words_wrong r stop lines (word ∷ values) =
-    if begins_comment word then None else word_wrong r stop lines (keyword_of word) values
+abbrev pub network_words_wrong : Reading → ℕ → List (List ℕ) → List (List ℕ) → Option NetworkReason
+network_words_wrong r stop lines [] = None
+network_words_wrong r stop lines (word ∷ values) =
+    if begins_comment word then None
+    else first_word_wrong r stop lines (network_keyword_of word) values
 
 -- the line of a number, or the end of the text, where the number of channels may be missing
-abbrev pub at_line_wrong : Reading → ℕ → List (List ℕ) → Option (List ℕ) → Option NetworkReason
-at_line_wrong r stop lines (Some line) = words_wrong r stop lines (first_words line)
-at_line_wrong r stop lines None = if count_of r == 0 then Some reason.ChannelsMissing else None
+abbrev pub network_line_wrong : Reading → ℕ → List (List ℕ) → Option (List ℕ) → Option NetworkReason
+network_line_wrong r stop lines (Some line) = network_words_wrong r stop lines (first_words line)
+network_line_wrong r stop lines None = if count_of r == 0 then Some reason.ChannelsMissing else None
 
 -- the same after what is read of the lines before
 abbrev pub after_reading : Result Reading Fault → ℕ → List (List ℕ) → Option NetworkReason
-after_reading (Ok r) stop lines = at_line_wrong r stop lines (line_at stop 1 lines)
+after_reading (Ok r) stop lines = network_line_wrong r stop lines (line_at stop 1 lines)
 after_reading (Err e) stop lines = None
 
 -- what is wrong with the line of this number of a network text
@@ -137,17 +136,17 @@ abbrev pub network_wrong : ℕ → List (List ℕ) → Option NetworkReason
 network_wrong stop lines = after_reading (reading_to stop 1 nothing_read lines) stop lines
 
 -- the fault that a refusal tells
-abbrev pub fault_in : Refusal → LineFault
-fault_in s = record { fault = fault_of s.reason; line = s.line }
+abbrev pub refused_fault : Refusal → LineFault
+refused_fault s = record { fault = network_fault_of s.reason; line = s.line }
 
 -- a refusal is of the first fault of a text, for the reason that its line has, or of the refusal of
 -- memory
 abbrev pub Refuses : List (List ℕ) → Refusal → Type 0
 Refuses lines s =
-    (fault_in s ≡ record { fault = fault.Memory; line = 0 })
-    ⊎ ((network_of lines ≡ Err (fault_in s)) × (network_wrong s.line lines ≡ Some s.reason))
+    (refused_fault s ≡ record { fault = fault.Memory; line = 0 })
+    ⊎ ((network_of lines ≡ Err (refused_fault s)) × (network_wrong s.line lines ≡ Some s.reason))
 
 -- what is told of a text: no refusal where it has no fault
-abbrev pub Tells : List (List ℕ) → Option Refusal → Type 0
-Tells lines None = is_ok (network_of lines) ≡ true
-Tells lines (Some s) = Refuses lines s
+abbrev pub TellsRefusal : List (List ℕ) → Option Refusal → Type 0
+TellsRefusal lines None = is_ok (network_of lines) ≡ true
+TellsRefusal lines (Some s) = Refuses lines s

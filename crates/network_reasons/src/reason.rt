@@ -1,5 +1,6 @@
 ghost use Rattle.std.specs.Prelude.{◌≡◌};
-ghost use Rattle.network_reasons.specs.Reasons.{fault_of, keyword_of, takes};
+ghost use Rattle.network_reasons.specs.Reasons.{network_fault_of, network_keyword_of};
+ghost use Rattle.network_reasons.specs.Reasons.{numbers_behind};
 
 use torus::Fault;
 
@@ -56,7 +57,7 @@ pub enum NetworkReason {
 impl NetworkReason {
     /// The fault that has this reason.
     pub fn fault(self) -> Fault
-        ensures { result ≡ fault_of self }
+        ensures { result ≡ network_fault_of self }
     {
         match self {
             NetworkReason::UnknownKeyword => Fault::Line,
@@ -83,7 +84,7 @@ impl NetworkReason {
 impl Keyword {
     /// The keyword that a word spells.
     pub fn of(word: &[u8]) -> Option<Keyword>
-        ensures { result ≡ keyword_of word.now }
+        ensures { result ≡ network_keyword_of word.now }
     {
         if word == b"channels".as_slice() {
             return Some(Keyword::Channels);
@@ -107,8 +108,8 @@ impl Keyword {
     }
 
     /// How many numbers stand behind it.
-    pub fn takes(self) -> usize
-        ensures { result ≡ takes self }
+    pub fn numbers_behind(self) -> usize
+        ensures { result ≡ numbers_behind self }
     {
         match self {
             Keyword::Channels => 1,

@@ -3,7 +3,7 @@
 ghost use Rattle.std.specs.Prelude.{◌≡◌};
 ghost use Rattle.std.specs.Str.Lines.{lines};
 ghost use Rattle.network_reasons.specs.Told.{refusal_told};
-ghost use Rattle.network_reasons.specs.Wrong.{Tells};
+ghost use Rattle.network_reasons.specs.Wrong.{TellsRefusal};
 
 use crate::reason::NetworkReason;
 use crate::told::network_told;
@@ -24,7 +24,7 @@ pub struct Refusal {
 /// the reader that this line fails after what the lines before it made; or that a request for memory
 /// was refused. `None` exactly where the text has no fault and memory was there.
 pub fn network_refusal<A: Allocator + Copy>(alloc: A, text: &[u8]) -> Option<Refusal>
-    ensures { Tells (lines text.now) result }
+    ensures { TellsRefusal (lines text.now) result }
 {
     let Err(found) = read_network(alloc, text) else {
         return None;

@@ -2,8 +2,9 @@
 
 ghost use Rattle.std.specs.Prelude.{IfSome, option_map};
 ghost use Rattle.std.specs.Str.Lines.{lines};
-ghost use Rattle.network_reasons.specs.Wrong.{Tells};
-ghost use Rattle.network_reasons.specs.Sentences.{refusal_in, IsAbout};
+ghost use Rattle.network_reasons.specs.Wrong.{TellsRefusal};
+ghost use Rattle.explained.specs.Told.{IsAbout};
+ghost use Rattle.network_reasons.specs.Sentences.{refusal_in};
 
 use crate::reason::{Keyword, NetworkReason};
 use crate::refusal::{Refusal, network_refusal};
@@ -26,8 +27,8 @@ pub fn network_sentence<'a, A: Allocator + Copy>(
     alloc: A,
     network: Named<'a>,
 ) -> Option<NetworkSentence<'a>>
-    ensures tells { Tells (lines network.entry.text.now) (option_map refusal_in result) }
-    ensures text { IfSome result (IsAbout network.entry) }
+    ensures tells { TellsRefusal (lines network.entry.text.now) (option_map refusal_in result) }
+    ensures text { IfSome result (λ s. IsAbout network.entry s.name.now s.text.now) }
 {
     let refusal = network_refusal(alloc, network.text)?;
     Some(NetworkSentence {

@@ -124,7 +124,8 @@ orders_after x s (Header version) may os =
 orders_after x s (Shape radices words) may os = orders_none (seen_after s (Shape radices words)) refl (λ is. absurd (omega (arith, is)))
 orders_after x s (Init a v) may os =
     orders_stay s (seen_after s (Init a v)) refl (λ _. omega (arith, may.allowed.section.early)) (λ is. absurd (omega (arith, is))) os
-orders_after x s (Entry e) may os = orders_stay s (seen_after s (Entry e)) refl (λ _. omega (arith, may.allowed.section.early)) (λ is. absurd (omega (arith, is))) os
+orders_after x s (Entry e) may os =
+    orders_stay s (seen_after s (Entry e)) refl (λ _. omega (arith, may.allowed.section.early)) (λ is. absurd (omega (arith, is))) os
 orders_after x s (Answer a) may os =
     orders_stay s (seen_after s (Answer a)) refl (λ _. omega (arith, may.allowed.section.section.early)) (λ is. absurd (omega (arith, is))) os
 orders_after x s (Word a v) may os = orders_stay s (seen_after s (Word a v)) refl (λ _. may.allowed.section.section.early) (λ is. absurd (omega (arith, is))) os

@@ -59,7 +59,8 @@ stuck_unread s rest unread left = record {
   not_good = left;
 }
 
-pub stuck_refused : (s : Seen) (rest more : List ℕ) (line : ReportLine) → report_line_at rest ≡ Some (line, more) → rest ≡ line_text line ++ more → (Allowed s line → ⊥)
+pub stuck_refused : (s : Seen) (rest more : List ℕ) (line : ReportLine) → report_line_at rest ≡ Some (line, more) → rest ≡ line_text line ++ more
+    → (Allowed s line → ⊥)
     → IsStuck s rest
 stuck_refused s rest more line read is refused = record {
   none = λ other behind may same.

@@ -1,5 +1,6 @@
 -- The good reports, and the first bad line of any other text (this project's own format).
-use Rattle.std.specs.Prelude.{◌≡◌, ◌≢◌, ◌⊎◌, ℕ, ◌+◌, ◌%◌, ◌<◌, ◌≤◌, List, [], ◌∷◌, ◌++◌, length, map, Bool, true}
+use Rattle.std.specs.Prelude.{◌≡◌, ◌≢◌, ◌⊎◌, ℕ, ◌+◌, ◌%◌, ◌<◌, ◌≤◌, List, [], ◌∷◌, ◌++◌, length}
+use Rattle.std.specs.Prelude.{map, Bool, true}
 use Rattle.std.specs.Prelude.{false, Some, IsTrue, IfSome, is_some, slice_index, slice_get}
 use Rattle.std.specs.List.{AllByRecursion}
 use Rattle.torus.specs.Shape.{product}
@@ -11,12 +12,14 @@ use Rattle.report_lines.specs.declared.line.EntryLine.{EntryLine}
 use Rattle.report_lines.specs.declared.line.AnswerLine.{AnswerLine}
 use Rattle.report_lines.specs.declared.line.OrderLine.{OrderLine}
 use Rattle.report_lines.specs.declared.line.ReportLine.{ReportLine}
-use Rattle.report_lines.specs.declared.line.ReportLine.TheVariants.{Header, Shape, Init, Entry, Answer, Word, Order}
+use Rattle.report_lines.specs.declared.line.ReportLine.TheVariants.{Header, Shape, Init, Entry}
+use Rattle.report_lines.specs.declared.line.ReportLine.TheVariants.{Answer, Word, Order}
 use Rattle.report_lines.specs.declared.line.ReportLine.TheVariants.{End}
 use Rattle.report_check.specs.declared.fault.CheckFault.{CheckFault}
 use Rattle.report_check.specs.declared.fault.CheckFault.TheVariants.{BadReport, Memory}
 use Rattle.report_lines.specs.Fits.{FitsLine}
-use Rattle.report_check.specs.Seen.{Seen, nothing_seen, seen_after, seen_of, above_last, last_bank, entries_at, has_newer}
+use Rattle.report_check.specs.Seen.{Seen, nothing_seen, seen_after, seen_of, above_last, last_bank}
+use Rattle.report_check.specs.Seen.{entries_at, has_newer}
 use Rattle.report_check.specs.Seen.{is_answered, key_of, line_operation, orders_at, is_named}
 
 -- behind the shape, and not behind a line of a later kind

@@ -1,5 +1,6 @@
 -- What the checker keeps of the lines so far.
-use Rattle.std.specs.Prelude.{◌≡◌, ◌≢◌, ℕ, ◌≤◌, List, [], ◌∷◌, length, map, Bool, true, false, zero, suc, Some}
+use Rattle.std.specs.Prelude.{◌≡◌, ◌≢◌, ℕ, ◌≤◌, List, [], ◌∷◌, length, map, Bool, true, false, zero}
+use Rattle.std.specs.Prelude.{suc, Some}
 use Rattle.std.specs.Prelude.{slice_index, slice_index_or, slice_get, option_map, Vec}
 use Rattle.report_lines.specs.declared.line.EntryLine.{EntryLine}
 use Rattle.report_lines.specs.declared.line.AnswerLine.{AnswerLine}
@@ -7,7 +8,8 @@ use Rattle.report_lines.specs.declared.line.OrderLine.{OrderLine}
 use Rattle.report_lines.specs.declared.line.ReportLine.{ReportLine}
 use Rattle.report_check.specs.declared.checker.Served.{Served}
 use Rattle.report_check.specs.declared.checker.Checker.{Checker}
-use Rattle.report_check.specs.Seen.{Seen, seen_after, above_last, last_bank, entries_at, has_newer, is_answered, key_of}
+use Rattle.report_check.specs.Seen.{Seen, seen_after, above_last, last_bank, entries_at, has_newer}
+use Rattle.report_check.specs.Seen.{is_answered, key_of}
 use Rattle.report_check.specs.Seen.{orders_at, is_named}
 use Rattle.report_check.specs.Good.{Allowed, ToldBelow}
 

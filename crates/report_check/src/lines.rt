@@ -1,10 +1,12 @@
 //! One more line: the first line, the shape, the opening and last words, and the end.
 
-ghost use Rattle.std.specs.Prelude.{◌≡◌, ℕ, ◌↔◌, ◌≤◌, ◌<◌, IsTrue, IfOk, MatchOption, All, slice_index, length};
+ghost use Rattle.std.specs.Prelude.{◌≡◌, ℕ, ◌↔◌, ◌≤◌, ◌<◌, IsTrue, IfOk, MatchOption, All};
+ghost use Rattle.std.specs.Prelude.{slice_index, length};
 ghost use Rattle.torus.specs.Shape.{product};
 ghost use Rattle.report_lines.specs.Line.{radix_list};
 ghost use Rattle.report_check.specs.Seen.{Seen};
-ghost use Rattle.report_check.specs.Good.{BehindEntries, IsAllAnswered, IsWholeOrder, ToldBelow, AreRadices};
+ghost use Rattle.report_check.specs.Good.{BehindEntries, IsAllAnswered, IsWholeOrder, ToldBelow};
+ghost use Rattle.report_check.specs.Good.{AreRadices};
 ghost use Rattle.report_check.specs.Shows.{KeepsSeen, Checks, AreAllAnswered, bank_of};
 
 use crate::checker::{Checker, Served};
@@ -22,7 +24,8 @@ impl<A: Allocator> Checker<A> {
 
     /// Whether a line behind the entries may come, up to the latest kind.
     pub fn is_behind_entries(&self, latest: u8) -> bool
-        ensures behind { (s : Seen) → KeepsSeen s self.now → IsTrue result ↔ BehindEntries s latest }
+        ensures behind { (s : Seen) → KeepsSeen s self.now
+            → IsTrue result ↔ BehindEntries s latest }
         ensures late { IsTrue result → self.now.section ≤ latest }
     {
         self.is_in_section(latest) && (self.version != 2 || self.has_newer)
@@ -135,7 +138,8 @@ impl<A: Allocator> Checker<A> {
 
     /// Whether each entry has an answer.
     fn is_all_answered(&self) -> bool
-        ensures { IsTrue result ↔ ((bank : ℕ) → AreAllAnswered (bank_of self.now.banks.items bank)) }
+        ensures { IsTrue result
+            ↔ ((bank : ℕ) → AreAllAnswered (bank_of self.now.banks.items bank)) }
     {
         for bank in &self.banks {
             if !is_bank_answered(bank.as_slice()) {

@@ -1,6 +1,7 @@
 //! What is kept before the first line, and behind the shape.
 
-ghost use Rattle.std.specs.Prelude.{◌≡◌, ◌≤◌, ℕ, IfOk, [], false, replicate, slice_index_or, vec_len};
+ghost use Rattle.std.specs.Prelude.{◌≡◌, ◌≤◌, ℕ, IfOk, [], false, replicate, slice_index_or};
+ghost use Rattle.std.specs.Prelude.{vec_len};
 ghost use Rattle.report_check.specs.Seen.{nothing_seen, shaped_seen};
 ghost use Rattle.report_check.specs.Shows.{KeepsSeen, bank_of};
 

@@ -1,12 +1,15 @@
 //! One more line: an entry, an answer, or the order of an entry.
 
-ghost use Rattle.std.specs.Prelude.{◌≡◌, ◌≢◌, ℕ, ◌↔◌, ◌+◌, ◌≤◌, ◌<◌, ◌^◌, ◌==◌, ◌||◌, ◌∷◌, ◌++◌, [], true, false};
-ghost use Rattle.std.specs.Prelude.{IsTrue, IfOk, IfSome, OnOk, length, slice_get, slice_index, slice_index_or};
+ghost use Rattle.std.specs.Prelude.{◌≡◌, ◌≢◌, ℕ, ◌↔◌, ◌+◌, ◌≤◌, ◌<◌, ◌^◌, ◌==◌, ◌||◌, ◌∷◌, ◌++◌};
+ghost use Rattle.std.specs.Prelude.{[], true, false};
+ghost use Rattle.std.specs.Prelude.{IsTrue, IfOk, IfSome, OnOk, length, slice_get, slice_index};
+ghost use Rattle.std.specs.Prelude.{slice_index_or};
 ghost use Rattle.std.specs.Prelude.{vec_len};
 ghost use Rattle.std.specs.List.{list_any};
 ghost use Rattle.report_lines.specs.Contents.{is_newer};
 ghost use Rattle.report_check.specs.Seen.{Seen, events_in, key_of as key};
-ghost use Rattle.report_check.specs.Good.{HasNewEvents, IsHome, IsNewEvent, IsNext, NamesUnansweredEntry, OrdersNext};
+ghost use Rattle.report_check.specs.Good.{HasNewEvents, IsHome, IsNewEvent, IsNext};
+ghost use Rattle.report_check.specs.Good.{NamesUnansweredEntry, OrdersNext};
 ghost use Rattle.report_check.specs.Shows.{KeepsSeen, Checks, bank_of, marked};
 
 use crate::checker::{Checker, EVENTS, Served};

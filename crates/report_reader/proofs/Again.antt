@@ -15,7 +15,8 @@ use Rattle.report_lines.specs.declared.line.OrderLine.{OrderLine}
 use Rattle.report_lines.specs.declared.line.ReportLine.TheVariants.{Entry, Answer, Order}
 use Rattle.report_lines.specs.Fits.{FitsEntry, FitsAnswer, FitsOrder, FitsOp, FitsReply}
 use Rattle.report_reader.proofs.Spelled.{reply_then, event_then, pair_then, four_then, op_then, line_then}
-use Rattle.report_reader.specs.Reading.{behind, digits_on, number_read_at, index_at, reply_read_at, event_at, pair_at, valued_at, load_at, cas_at, newer_at, op_at}
+use Rattle.report_reader.specs.Reading.{behind, digits_on, number_read_at, index_at, reply_read_at, event_at, pair_at, valued_at, load_at, cas_at, newer_at}
+use Rattle.report_reader.specs.Reading.{op_at}
 use Rattle.report_reader.specs.Reading.{four_at, entry_at, answer_at, order_at}
 
 digit_true : (d : ℕ) → d < 10 → is_ascii_digit (48 + d) ≡ true
@@ -53,7 +54,8 @@ number_again end (suc n) rest other small =
     begun end (suc n) small (omega arith) (end ∷ rest) ∙ rw (other, test)
 
 -- a number and another end
-pub number_stops : (end stop n : ℕ) (rest : List ℕ) → is_ascii_digit stop ≡ false → stop ≢ end → n < 2 ^ 64 → number_read_at end (decimal n ++ stop ∷ rest) ≡ None
+pub number_stops : (end stop n : ℕ) (rest : List ℕ) → is_ascii_digit stop ≡ false → stop ≢ end → n < 2 ^ 64
+    → number_read_at end (decimal n ++ stop ∷ rest) ≡ None
 unfolding number_read_at digits_on behind
 number_stops end stop zero rest other apart small =
     let none : decimal 0 ≡ 48 ∷ [] = decimal_digit 0 (lit< tt) in

@@ -12,7 +12,8 @@ use Rattle.report_lines.specs.Fits.{FitsOp, FitsReply, FitsRadices}
 use Rattle.report_lines.specs.declared.line.Radices.{Radices}
 use Rattle.report_lines.specs.declared.line.Radices.TheVariants.{One, Two, Three}
 use Rattle.report_reader.proofs.Spelled.{reply_then, event_then, pair_then, op_then, radices_then}
-use Rattle.report_reader.specs.Reading.{◌>>=◌, instead, behind, number_read_at, index_at, reply_read_at, event_at, pair_at, valued_at, load_at, cas_at, newer_at, op_at}
+use Rattle.report_reader.specs.Reading.{◌>>=◌, instead, behind, number_read_at, index_at, reply_read_at, event_at, pair_at, valued_at, load_at, cas_at}
+use Rattle.report_reader.specs.Reading.{newer_at, op_at}
 use Rattle.report_reader.specs.Reading.{four_at, uniform_at, two_at, three_at, radices_at}
 use Rattle.report_reader.proofs.Sound.{behind_sound, number_sound}
 
@@ -143,7 +144,8 @@ cas_spelled text =
     then_some _ (behind (codes "cas ") text)
     (λ rest. index_at 32 rest >>= λ a. number_read_at 32 a.1 >>= λ e. number_read_at 32 e.1 >>= λ n. Some (Cas e.0 n.0, a.0, n.1))
     (behind_spelled (codes "cas ") text)
-    (λ rest is. then_some _ (index_at 32 rest) (λ a. number_read_at 32 a.1 >>= λ e. number_read_at 32 e.1 >>= λ n. Some (Cas e.0 n.0, a.0, n.1)) (index_spelled 32 rest)
+    (λ rest is. then_some _ (index_at 32 rest) (λ a. number_read_at 32 a.1 >>= λ e. number_read_at 32 e.1 >>= λ n. Some (Cas e.0 n.0, a.0, n.1))
+    (index_spelled 32 rest)
     (λ a ha. then_some _ (number_read_at 32 a.1) (λ e. number_read_at 32 e.1 >>= λ n. Some (Cas e.0 n.0, a.0, n.1)) (number_spelled 32 a.1)
     (λ e he. then_some _ (number_read_at 32 e.1) (λ n. Some (Cas e.0 n.0, a.0, n.1)) (number_spelled 32 e.1)
     (λ n hn.

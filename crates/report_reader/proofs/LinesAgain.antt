@@ -10,7 +10,8 @@ use Rattle.report_lines.specs.declared.line.ReportLine.TheVariants.{Header, Shap
 use Rattle.report_lines.specs.Fits.{FitsLine, FitsRadices}
 use Rattle.report_reader.proofs.Spelled.{radices_then, line_then}
 use Rattle.report_reader.specs.Reading.{behind, valued_at}
-use Rattle.report_reader.specs.Reading.{four_at, entry_at, answer_at, order_at, uniform_at, two_at, three_at, radices_at, shape_at, header_at, end_at, word_at, report_line_at}
+use Rattle.report_reader.specs.Reading.{four_at, entry_at, answer_at, order_at, uniform_at, two_at, three_at, radices_at, shape_at, header_at, end_at, word_at}
+use Rattle.report_reader.specs.Reading.{report_line_at}
 use Rattle.report_reader.proofs.Again.{index_again, index_stops, pair_again, entry_again, answer_again, order_again}
 
 uniform_one : (k : ℕ) (rest : List ℕ) → k < 2 ^ 32 → uniform_at (decimal k ++ 32 ∷ (codes "1 " ++ rest)) ≡ Some (One k, rest)

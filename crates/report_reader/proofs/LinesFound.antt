@@ -11,7 +11,8 @@ use Rattle.report_reader.specs.Reading.{◌>>=◌, GivesRead, behind, index_at, 
 use Rattle.report_reader.specs.Reading.{four_at, entry_at, answer_at, order_at, radices_at, shape_at, header_at, end_at, word_at, report_line_at}
 use Rattle.report_reader.proofs.LinesAgain.{line_again}
 use Rattle.report_reader.proofs.Joined.{line_then-is}
-use Rattle.report_reader.proofs.Found.{then_some, instead_some, or_some, behind_spelled, index_spelled, valued_spelled, four_spelled, reply_spelled, event_spelled, op_spelled, radices_spelled}
+use Rattle.report_reader.proofs.Found.{then_some, instead_some, or_some, behind_spelled, index_spelled, valued_spelled, four_spelled, reply_spelled}
+use Rattle.report_reader.proofs.Found.{event_spelled, op_spelled, radices_spelled}
 
 abbrev SpellsLine : List ℕ → ReportLine × List ℕ → Type 0
 SpellsLine text x = FitsLine x.0 × (text ≡ line_then x.0 x.1)
@@ -120,7 +121,8 @@ pub read_of : (line : ReportLine) (more rest : List ℕ) → FitsLine line → r
 read_of line more rest fits is = ap report_line_at (is ∙ sym (line_then-is line more)) ∙ line_again line more fits
 
 -- what a function returned, by what it reads
-pub gives_found : {X Y : Type 0} (view : X → Y) (r : Option X) (read : Option Y) (P : Y → Type 0) → GivesRead view r read → IfSome read P → IfSome r (λ x. P (view x))
+pub gives_found : {X Y : Type 0} (view : X → Y) (r : Option X) (read : Option Y) (P : Y → Type 0) → GivesRead view r read → IfSome read P
+    → IfSome r (λ x. P (view x))
 gives_found view None read P gives all = tt
 gives_found {X} {Y} view (Some x) read P gives all =
     let All : Option Y → Type 0 = λ o. IfSome o P in subst All gives all

@@ -1,7 +1,8 @@
 //! The words and numbers at the beginning of a text.
 
 ghost use Rattle.std.specs.Prelude.{◌≡◌, ◌≤◌, ◌<◌, ◌+◌, ◌-◌, ◌*◌, ◌^◌, MatchOption};
-ghost use Rattle.report_reader.specs.Reading.{GivesRead, behind, digits_on, number_read_at, index_at, pair_at};
+ghost use Rattle.report_reader.specs.Reading.{GivesRead, behind, digits_on, number_read_at};
+ghost use Rattle.report_reader.specs.Reading.{index_at, pair_at};
 ghost use Rattle.report_reader.specs.Reading.{valued_at, four_at};
 
 /// What stands behind a word, where the text begins with it.

@@ -1,7 +1,8 @@
 //! The operations of entries, and the replies and events of lines.
 
 ghost use Rattle.std.specs.Prelude.{◌≡◌};
-ghost use Rattle.report_reader.specs.Reading.{GivesRead, reply_read_at, event_at, load_at, cas_at, newer_at, op_at};
+ghost use Rattle.report_reader.specs.Reading.{GivesRead, reply_read_at, event_at, load_at, cas_at};
+ghost use Rattle.report_reader.specs.Reading.{newer_at, op_at};
 
 use crate::numbers::{behind, read_index, read_number, read_valued};
 use packet::{Op, Reply};

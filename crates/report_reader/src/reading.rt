@@ -4,7 +4,8 @@ ghost use Rattle.std.specs.Prelude.{◌≡◌, ◌≢◌, ◌++◌, ℕ, List, I
 ghost use Rattle.report_lines.specs.Fits.{FitsLine};
 ghost use Rattle.report_lines.specs.Line.{line_text};
 ghost use Rattle.report_lines.specs.declared.line.ReportLine.{ReportLine};
-ghost use Rattle.report_reader.specs.Reading.{GivesRead, entry_at, answer_at, order_at, shape_at, header_at};
+ghost use Rattle.report_reader.specs.Reading.{GivesRead, entry_at, answer_at, order_at, shape_at};
+ghost use Rattle.report_reader.specs.Reading.{header_at};
 ghost use Rattle.report_reader.specs.Reading.{end_at, word_at, report_line_at};
 
 use crate::numbers::{behind, read_four, read_index, read_valued};

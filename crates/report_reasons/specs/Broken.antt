@@ -236,7 +236,8 @@ first_unanswered s true = first_from (unanswered_at s) 0 s.tiles
 -- an answer
 abbrev pub end_broken : Seen → Bool → Option Rule
 end_broken s complete =
-    behind_broken s 7 kind.End <|> left_out s s.words <|> orders_broken s <|> first_unanswered s complete
+    behind_broken s 7 kind.End <|> left_out s s.words <|> orders_broken s
+    <|> first_unanswered s complete
 
 -- the first rule that a line breaks behind what was seen
 abbrev pub line_broken : Seen → ReportLine → Option Rule

@@ -13,7 +13,8 @@ word_number word = option_and_then (λ n. if nat_lt n (2 ^ 64) then Some n else 
 -- the answer of these words; a reply `ok` counts as 0
 abbrev pub answered : List ℕ → List ℕ → List ℕ → Option Answer
 answered p i reply = option_and_then (λ p. option_map
-    (λ i. record { processor = p; index = i; reply = unwrap_or (word_number reply) 0 }) (index_of i)) (index_of p)
+    (λ i. record { processor = p; index = i; reply = unwrap_or (word_number reply) 0 })
+    (index_of i)) (index_of p)
 
 -- the answer that a line tells, given as its words: `answer P INDEX BANK PLACE REPLY`
 abbrev pub line_answer : List (List ℕ) → Option Answer

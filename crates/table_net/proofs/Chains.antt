@@ -5,7 +5,7 @@ use Rattle.std.specs.Prelude.{slice_index}
 use Rattle.std.proofs.lemmas.Bool.{cases_lt, cases_Bool, and_parts, and_from}
 use Rattle.table_net.specs.declared.search.Look.{Look}
 use Rattle.table_net.specs.Graph.{Graph}
-use Rattle.table_net.specs.Search.{look_at, LeadsTo, IsCircle, StayWithin}
+use Rattle.table_net.specs.Search.{look_at, LooksOn, IsCircle, StayWithin}
 use Rattle.table_net.proofs.Graphs.{IsEdge}
 use Rattle.table_net.proofs.Rounds.{collide}
 use Rattle.table_net.proofs.Firsts.{any, any_at, any_from, first, fails, none, is_first}
@@ -77,11 +77,11 @@ circle_of g stay x low e =
     let a : ℕ = r.first in
     let m : ℕ = r.second - r.first in
     let long : length (looks_of f h a m) ≡ m = looks_long f h a m in
-    let leads : (k : ℕ) → k < g.channels → LeadsTo g (record { channel = f k; column = h k }) (f (suc k)) =
+    let leads : (k : ℕ) → k < g.channels → LooksOn g (record { channel = f k; column = h k }) (f (suc k)) =
     λ k l. (let o = c.goes k l in record { end = o.low; marked = o.leads; next = o.after }) in
-    let look : (k n : ℕ) (y : ℕ) → k < m → n ≡ a + k → f (suc n) ≡ y → LeadsTo g (look_at (looks_of f h a m) k) y =
-    λ k n y l s z. subst (λ (v : Look). LeadsTo g v y) (sym (looks_at f h a m k n l s))
-    (subst (λ u. LeadsTo g (record { channel = f n; column = h n }) u) z (leads n (omega arith))) in (
+    let look : (k n : ℕ) (y : ℕ) → k < m → n ≡ a + k → f (suc n) ≡ y → LooksOn g (look_at (looks_of f h a m) k) y =
+    λ k n y l s z. subst (λ (v : Look). LooksOn g v y) (sym (looks_at f h a m k n l s))
+    (subst (λ u. LooksOn g (record { channel = f n; column = h n }) u) z (leads n (omega arith))) in (
       looks_of f h a m,
       record {
         some = omega arith;

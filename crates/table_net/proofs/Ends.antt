@@ -10,7 +10,7 @@ use Rattle.std.specs.Prelude.{slice_get, slice_index}
 use Rattle.table_net.specs.declared.table.Kind.{Kind}
 use Rattle.table_net.specs.declared.table.Kind.TheVariants.{Injection, Hop, Ejection}
 use Rattle.table_net.specs.Table.{ejects}
-use Rattle.table_net.specs.Columns.{IsEnd, AreEnds}
+use Rattle.table_net.specs.Columns.{IsColumnEnd, AreColumnEnds}
 
 -- the ejection channels before the first n channels grow in number
 grows : (kinds : List Kind) (m d n : ℕ) → n ≡ m + d → n ≤ length kinds → count_by ejects (take m kinds) ≤ count_by ejects (take n kinds)
@@ -36,7 +36,7 @@ at_end kinds j e =
     count_by_more_yes ejects kinds j Hop low (ap ejects kind)
 
 -- the number of columns, as it is read
-pub width_is : (kinds : List Kind) (ends : List ℕ) (n width : ℕ) → AreEnds kinds ends → n ≡ length ends → width ≡ n
+pub width_is : (kinds : List Kind) (ends : List ℕ) (n width : ℕ) → AreColumnEnds kinds ends → n ≡ length ends → width ≡ n
     → width ≡ count_by ejects kinds
 width_is kinds ends n width r e f = f ∙ (e ∙ r.size)
 
@@ -72,7 +72,7 @@ one_column kinds j k e f same =
 -- the ejection channels of the columns of the first x channels
 pub record AreEndsTo (kinds : List Kind) (x : ℕ) (ends : List ℕ) : Type 0 where
   pub size : length ends ≡ count_by ejects (take x kinds)
-  pub each : (c : ℕ) → c < length ends → IsEnd kinds c (slice_index ends c)
+  pub each : (c : ℕ) → c < length ends → IsColumnEnd kinds c (slice_index ends c)
 
 -- one channel more, which is an ejection channel
 pub ends_more : (kinds : List Kind) (ends : List ℕ) (x : ℕ) (d : Kind) → AreEndsTo kinds x ends → x < length kinds
@@ -85,10 +85,10 @@ ends_more kinds ends x d r low e =
     record {
       size = omega arith;
       each = λ c l. elim (cases_lt c (length ends)) [
-        | inl less ↦ subst (λ z. IsEnd kinds c z) (sym (get_or_append_left ends (x ∷ []) 0 c less)) (r.each c less)
+        | inl less ↦ subst (λ z. IsColumnEnd kinds c z) (sym (get_or_append_left ends (x ∷ []) 0 c less)) (r.each c less)
         | inr high ↦ (let same : length ends ≡ c = omega arith in
-            subst (λ z. IsEnd kinds z (slice_index (ends ++ x ∷ []) z)) same
-            (subst (λ z. IsEnd kinds (length ends) z) (sym (get_or_push ends x 0 (length ends) refl))
+            subst (λ z. IsColumnEnd kinds z (slice_index (ends ++ x ∷ []) z)) same
+            (subst (λ z. IsColumnEnd kinds (length ends) z) (sym (get_or_push ends x 0 (length ends) refl))
             (record { kind = kind; column = sym size })))
       ];
     }

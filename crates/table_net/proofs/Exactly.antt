@@ -10,12 +10,12 @@ use Rattle.table_net.specs.declared.table.Reply.{Reply}
 use Rattle.table_net.specs.declared.table.NoRoute as no_route
 use Rattle.table_net.specs.declared.table.Verdict.{Verdict}
 use Rattle.table_net.specs.declared.table.Verdict.TheVariants.{Rising, NoRoute, Cycle}
-use Rattle.table_net.specs.Table.{Table, channels_of, kind_of, next_of, is_injection, is_ejection}
-use Rattle.table_net.specs.Ways.{place, walk, route_of}
+use Rattle.table_net.specs.Table.{Table, channels_of, kind_of, table_next, is_injection, is_ejection}
+use Rattle.table_net.specs.Ways.{place, walk, table_route}
 use Rattle.table_net.specs.Replies.{RiseOver}
-use Rattle.table_net.specs.TableNet.{Flits, net_of}
+use Rattle.table_net.specs.TableNet.{Flits, table_network}
 use Rattle.table_net.specs.Verdicts.{AllArrive, IsFirstFault, IsVerdict}
-use Rattle.table_net.specs.Exactly.{IsRising, AreAlike}
+use Rattle.table_net.specs.Exactly.{HasRisingNumbers, AreAlike}
 use Rattle.table_net.proofs.Places.{places, walk_is, places_cut}
 use Rattle.table_net.proofs.Marking.{joined_at}
 use Rattle.table_net.proofs.Failing.{no_numbers, no_way}
@@ -32,20 +32,20 @@ walk_stop : (t : Table) (j x f : ℕ) (before : List ℕ) (y : ℕ) (after : Lis
 walk_stop t j x zero [] y after e = cc
 walk_stop t j x zero (b ∷ before) y after e = cc
 walk_stop t j x (suc f) [] y after e = record { step = 0; below = omega arith; here = cc; clear = λ k l. absurd (omega arith) }
-walk_stop t j x (suc f) (b ∷ before) y after e = by (eqb x j) refl (λ tail. walk_stop t j (next_of t x j) f before y after tail)
+walk_stop t j x (suc f) (b ∷ before) y after e = by (eqb x j) refl (λ tail. walk_stop t j (table_next t x j) f before y after tail)
   where
-    by : (c : Bool) → eqb x j ≡ c → (walk t j (next_of t x j) f ≡ before ++ y ∷ after → Stop t j (next_of t x j) f y) → Stop t j x (suc f) y
+    by : (c : Bool) → eqb x j ≡ c → (walk t j (table_next t x j) f ≡ before ++ y ∷ after → Stop t j (table_next t x j) f y) → Stop t j x (suc f) y
     by true g rest =
         let none : [] ≡ before ++ y ∷ after =
-        (let one : x ∷ [] ≡ (b ∷ before) ++ y ∷ after = ap (λ c. x ∷ cond c [] (walk t j (next_of t x j) f)) (sym g) ∙ e in cc) in
+        (let one : x ∷ [] ≡ (b ∷ before) ++ y ∷ after = ap (λ c. x ∷ cond c [] (walk t j (table_next t x j) f)) (sym g) ∙ e in cc) in
         empty before none
       where
         empty : (xs : List ℕ) → [] ≡ xs ++ y ∷ after → Stop t j x (suc f) y
         empty [] h = cc
         empty (z ∷ xs) h = cc
     by false g rest =
-        let one : x ∷ walk t j (next_of t x j) f ≡ (b ∷ before) ++ y ∷ after = ap (λ c. x ∷ cond c [] (walk t j (next_of t x j) f)) (sym g) ∙ e in
-        let tail : walk t j (next_of t x j) f ≡ before ++ y ∷ after = cc in
+        let one : x ∷ walk t j (table_next t x j) f ≡ (b ∷ before) ++ y ∷ after = ap (λ c. x ∷ cond c [] (walk t j (table_next t x j) f)) (sym g) ∙ e in
+        let tail : walk t j (table_next t x j) f ≡ before ++ y ∷ after = cc in
         let s = rest tail in
         let below = s.below in
         record {
@@ -55,7 +55,7 @@ walk_stop t j x (suc f) (b ∷ before) y after e = by (eqb x j) refl (λ tail. w
           clear = λ k l. clear (eqb-false x j g) s.step s.clear k l;
         }
       where
-        clear : x ≢ j → (n : ℕ) → ((k : ℕ) → k < n → place t j (next_of t x j) k ≢ j) → (k : ℕ) → k < suc n → place t j x k ≢ j
+        clear : x ≢ j → (n : ℕ) → ((k : ℕ) → k < n → place t j (table_next t x j) k ≢ j) → (k : ℕ) → k < suc n → place t j x k ≢ j
         clear ne n c zero l = ne
         clear ne n c (suc k) l = c k (omega arith)
 
@@ -78,21 +78,21 @@ hop_kind Hop a b = refl
 hop_kind Ejection a b = absurd (b refl)
 
 -- between all joined ends of a network there is a route
-pub network_arrives : (t : Table) (number : ℕ → ℕ) (top depth : ℕ) (flits : Flits) → IsNet (net_of t number top depth flits) → AllArrive t
+pub network_arrives : (t : Table) (number : ℕ → ℕ) (top depth : ℕ) (flits : Flits) → IsNet (table_network t number top depth flits) → AllArrive t
 network_arrives t number top depth flits net i j joined =
     let last = net.ends i j joined in
     let s = walk_stop t j i (suc (channels_of t)) last.0 j [] last.1 in
     let n : ℕ = s.step in
     let low = s.below in
-    let route : route_of t i j ≡ places t j i (suc n) = walk_is t j i n (channels_of t) s.clear s.here (omega arith) in
-    let on : (k : ℕ) → k ≤ n → IsOn (place t j i k) (route_of t i j) =
-    λ k l. (places t j i k, places t j (next_of t (place t j i k) j) (n - k), route ∙ places_cut t j i k (suc (n - k)) (suc n) (omega arith)) in
+    let route : table_route t i j ≡ places t j i (suc n) = walk_is t j i n (channels_of t) s.clear s.here (omega arith) in
+    let on : (k : ℕ) → k ≤ n → IsOn (place t j i k) (table_route t i j) =
+    λ k l. (places t j i k, places t j (table_next t (place t j i k) j) (n - k), route ∙ places_cut t j i k (suc (n - k)) (suc n) (omega arith)) in
     let up : (a b : ℕ) → a < b → b ≤ n → number (place t j i a) < number (place t j i b) =
     λ a b l m. (let d : ℕ = b - suc a in
     let first : places t j i b ≡ places t j i a ++ places t j (place t j i a) (suc d) = places_cut t j i a (suc d) b (omega arith) in
     let whole : places t j i (suc n) ≡ places t j i b ++ places t j (place t j i b) (suc (n - b)) = places_cut t j i b (suc (n - b)) (suc n) (omega arith) in
-    net.rises i j (place t j i a) (place t j i b) (places t j i a) (places t j (next_of t (place t j i a) j) d)
-    (places t j (next_of t (place t j i b) j) (n - b)) joined
+    net.rises i j (place t j i a) (place t j i b) (places t j i a) (places t j (table_next t (place t j i a) j) d)
+    (places t j (table_next t (place t j i b) j) (n - b)) joined
     (route ∙ (whole ∙ ap (λ xs. xs ++ places t j (place t j i b) (suc (n - b))) first))) in
     let same : (a b : ℕ) → a < b → b ≤ n → place t j i a ≡ place t j i b → ⊥ =
     λ a b l m e. (let u = up a b l m in let z : number (place t j i a) ≡ number (place t j i b) = ap number e in omega arith) in (
@@ -122,8 +122,8 @@ no_fault t r arrive f =
 
 -- a network has no verdict but rising numbers
 pub network_rises : {A : Type 0} → (t : Table) (replies : List Reply) (number : ℕ → ℕ) (top depth : ℕ) (flits : Flits)
-    → RiseOver replies number → IsNet (net_of t number top depth flits)
-    → (v : Verdict A) → IsVerdict t replies v → IsRising v
+    → RiseOver replies number → IsNet (table_network t number top depth flits)
+    → (v : Verdict A) → IsVerdict t replies v → HasRisingNumbers v
 network_rises t replies number top depth flits above net (Rising numbers) is = tt
 network_rises t replies number top depth flits above net (NoRoute r) is = no_fault t r (network_arrives t number top depth flits net) is
 network_rises t replies number top depth flits above net (Cycle links) is =

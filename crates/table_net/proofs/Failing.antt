@@ -9,28 +9,28 @@ use Rattle.table_net.specs.declared.table.By.{By}
 use Rattle.table_net.specs.declared.table.By.TheVariants.{To, Replied}
 use Rattle.table_net.specs.declared.table.Reply.{Reply}
 use Rattle.table_net.specs.Table.{Table, kind_of}
-use Rattle.table_net.specs.Ways.{place, IsUnderWay, IsWay, Fails}
+use Rattle.table_net.specs.Ways.{place, IsUnderWay, IsWay, FailsBy}
 use Rattle.table_net.specs.Replies.{RiseOver}
-use Rattle.table_net.specs.TableNet.{Flits, net_of}
+use Rattle.table_net.specs.TableNet.{Flits, table_network}
 use Rattle.table_net.specs.Cycles.{Depends, Leads, link_at, IsCycle}
 use Rattle.table_net.proofs.Places.{rises}
 use Rattle.table_net.proofs.Nets.{some_step}
 use Rattle.wormhole.specs.Net.{IsNet}
 
 -- numbers of a network rise over dependencies
-pub over_dependency : (t : Table) (number : ℕ → ℕ) (top depth : ℕ) (flits : Flits) → IsNet (net_of t number top depth flits)
+pub over_dependency : (t : Table) (number : ℕ → ℕ) (top depth : ℕ) (flits : Flits) → IsNet (table_network t number top depth flits)
     → (x j y : ℕ) → Depends t x j y → number x < number y
 over_dependency t number top depth flits net x j y d =
     net.rises d.from j x y d.before [] d.after d.joined (d.neighbours ∙ sym (append_assoc d.before (x ∷ []) (y ∷ d.after)))
 
 -- and over links
 over_link : (t : Table) (replies : List Reply) (number : ℕ → ℕ) (top depth : ℕ) (flits : Flits) → RiseOver replies number
-    → IsNet (net_of t number top depth flits) → (x : ℕ) (by : By) (y : ℕ) → Leads t replies x by y → number x < number y
+    → IsNet (table_network t number top depth flits) → (x : ℕ) (by : By) (y : ℕ) → Leads t replies x by y → number x < number y
 over_link t replies number top depth flits above net x (To j) y d = over_dependency t number top depth flits net x j y d
 over_link t replies number top depth flits above net x Replied y d = above x y d
 
 pub no_numbers : (t : Table) (replies : List Reply) (links : List Link) → IsCycle t replies links
-    → (number : ℕ → ℕ) (top depth : ℕ) (flits : Flits) → RiseOver replies number → IsNet (net_of t number top depth flits) → ⊥
+    → (number : ℕ → ℕ) (top depth : ℕ) (flits : Flits) → RiseOver replies number → IsNet (table_network t number top depth flits) → ⊥
 no_numbers t replies links cycle number top depth flits above net =
     let f : ℕ → ℕ = λ k. number (link_at links k).channel in
     let m : ℕ = length links - 1 in
@@ -66,7 +66,7 @@ stands t i j n k w u some other =
       ]
     ]
 
-pub no_way : (t : Table) (i j : ℕ) (why : Why) → Fails t i j why → (n : ℕ) → IsWay t i j n → ⊥
+pub no_way : (t : Table) (i j : ℕ) (why : Why) → FailsBy t i j why → (n : ℕ) → IsWay t i j n → ⊥
 no_way t i j NoSender f n w = f w.under_way.sender
 no_way t i j NoReceiver f n w = f w.under_way.receiver
 no_way t i j (Leaves k) f n w =

@@ -13,7 +13,7 @@ use Rattle.table_net.specs.Table.{Table, channels_of}
 use Rattle.table_net.specs.Replies.{reply_at, IsReply, AreReplies}
 use Rattle.table_net.specs.Cycles.{Depends, Leads, link_at, IsCycle}
 use Rattle.table_net.specs.Graph.{Graph, either, graph_with}
-use Rattle.table_net.specs.Search.{look_at, LeadsTo, IsCircle, StayWithin}
+use Rattle.table_net.specs.Search.{look_at, LooksOn, IsCircle, StayWithin}
 use Rattle.table_net.specs.Links.{by_of, link_of, AreLinks}
 
 -- the first columns, and those behind them
@@ -82,17 +82,17 @@ cycle_with t replies channels columns f h to looks links depends c l =
       some = omega arith;
       each = λ k low. (let there = l.each (k + 1) (omega arith) in
           joined (link_at links k) (link_at links (k + 1)).channel (look_at looks k) (l.each k (omega arith))
-          (subst (λ z. LeadsTo (graph_with channels columns f h replies) (look_at looks k) z) (sym (ap (λ (v : Link). v.channel) there))
+          (subst (λ z. LooksOn (graph_with channels columns f h replies) (look_at looks k) z) (sym (ap (λ (v : Link). v.channel) there))
           (c.each k (omega arith))));
       last = (let there = l.each 0 (omega arith) in
           let same : length looks - 1 ≡ length links - 1 = omega arith in
           joined (link_at links (length links - 1)) (link_at links 0).channel (look_at looks (length links - 1)) (l.each (length links - 1) (omega arith))
-          (subst (λ z. LeadsTo (graph_with channels columns f h replies) (look_at looks z) (link_at links 0).channel) same
-          (subst (λ z. LeadsTo (graph_with channels columns f h replies) (look_at looks (length looks - 1)) z) (sym (ap (λ (v : Link). v.channel) there))
+          (subst (λ z. LooksOn (graph_with channels columns f h replies) (look_at looks z) (link_at links 0).channel) same
+          (subst (λ z. LooksOn (graph_with channels columns f h replies) (look_at looks (length looks - 1)) z) (sym (ap (λ (v : Link). v.channel) there))
           c.last)));
     }
   where
-    leads : (look : Look) (y : ℕ) → LeadsTo (graph_with channels columns f h replies) look y → Leads t replies look.channel (by_of columns to look.column) y
+    leads : (look : Look) (y : ℕ) → LooksOn (graph_with channels columns f h replies) look y → Leads t replies look.channel (by_of columns to look.column) y
     leads look y l =
         let x : ℕ = look.channel in
         let c : ℕ = look.column in
@@ -105,6 +105,6 @@ cycle_with t replies channels columns f h to looks links depends c l =
               (reply_leads replies columns (f x) x c high l.end l.marked))
         ]
 
-    joined : (link : Link) (y : ℕ) (look : Look) → link ≡ link_of columns to look → LeadsTo (graph_with channels columns f h replies) look y
+    joined : (link : Link) (y : ℕ) (look : Look) → link ≡ link_of columns to look → LooksOn (graph_with channels columns f h replies) look y
         → Leads t replies link.channel link.by y
     joined link y look e l = subst (λ (v : Link). Leads t replies v.channel v.by y) (sym e) (leads look y l)

@@ -8,11 +8,11 @@ use Rattle.table_net.specs.declared.table.Why.TheVariants.{NoSender, NoReceiver,
 use Rattle.table_net.specs.declared.table.Link.{Link}
 use Rattle.table_net.specs.declared.table.Reply.{Reply}
 use Rattle.table_net.specs.Table.{Table, channels_of, kind_of}
-use Rattle.table_net.specs.Ways.{place, IsUnderWay, IsWay, Fails}
+use Rattle.table_net.specs.Ways.{place, IsUnderWay, IsWay, FailsBy}
 use Rattle.table_net.specs.Replies.{AreReplies}
 use Rattle.table_net.specs.Cycles.{IsCycle}
 use Rattle.table_net.specs.Verdicts.{AllArrive, IsNumbered, join_at}
-use Rattle.table_net.specs.Exactly.{HasFault}
+use Rattle.table_net.specs.Exactly.{HasFailure}
 use Rattle.table_net.proofs.Rounds.{round}
 use Rattle.table_net.proofs.Marking.{joined_at, place_of}
 use Rattle.table_net.proofs.Firsts.{fails, none, first, is_first}
@@ -33,7 +33,7 @@ hop_kind (Some Ejection) e = cc
 
 -- a walk is a route, or fails
 abbrev Judged : Table → ℕ → ℕ → Type 0
-Judged t i j = ((n : ℕ) × IsWay t i j n) ⊎ ((why : Why) × Fails t i j why)
+Judged t i j = ((n : ℕ) × IsWay t i j n) ⊎ ((why : Why) × FailsBy t i j why)
 
 walks : (t : Table) (i j : ℕ) → kind_of t i ≡ Some Injection → kind_of t j ≡ Some Ejection → Judged t i j
 walks t i j sender receiver =
@@ -72,7 +72,7 @@ judged t i j = by (kind_of t i) (kind_of t j) refl refl
     by (Some Injection) (Some Ejection) e f = walks t i j e f
 
 -- the first pairs have routes, or one of them has none
-pairs : (t : Table) (n : ℕ) → n ≤ length t.joins → ((p : ℕ) → p < n → (m : ℕ) × IsWay t (join_at t p).from (join_at t p).to m) ⊎ HasFault t
+pairs : (t : Table) (n : ℕ) → n ≤ length t.joins → ((p : ℕ) → p < n → (m : ℕ) × IsWay t (join_at t p).from (join_at t p).to m) ⊎ HasFailure t
 pairs t zero low = inl (λ p l. absurd (omega arith))
 pairs t (suc n) low =
     elim (pairs t n (omega arith)) [
@@ -92,7 +92,7 @@ pairs t (suc n) low =
       | inr fault ↦ inr fault
     ]
 
-arrive_or_fault : (t : Table) → AllArrive t ⊎ HasFault t
+arrive_or_fault : (t : Table) → AllArrive t ⊎ HasFailure t
 arrive_or_fault t =
     elim (pairs t (length t.joins) (omega arith)) [
       | inl ways ↦ inl (λ i j joined. (let p = place_of t i j joined in
@@ -103,7 +103,7 @@ arrive_or_fault t =
 
 -- each table is judged
 pub is_judged : (t : Table) (replies : List Reply) → AreReplies t replies
-    → ((numbers : List ℕ) × IsNumbered t replies numbers) ⊎ (((links : List Link) × IsCycle t replies links) ⊎ HasFault t)
+    → ((numbers : List ℕ) × IsNumbered t replies numbers) ⊎ (((links : List Link) × IsCycle t replies links) ⊎ HasFailure t)
 is_judged t replies are =
     elim (arrive_or_fault t) [
       | inl arrive ↦ elim (cycle_or_numbers t replies are arrive) [ inl cycle ↦ inr (inl cycle) | inr numbers ↦ inl numbers ]

@@ -7,11 +7,11 @@ use Rattle.std.proofs.lemmas.List.{get_or_default}
 use Rattle.std.proofs.lemmas.List.Folds.{list_any_at, Any-from_list_any}
 use Rattle.table_net.specs.declared.table.Join.{Join}
 use Rattle.table_net.specs.declared.table.Kind.TheVariants.{Ejection}
-use Rattle.table_net.specs.Table.{Table, channels_of, columns_of, column_of, kind_of, next_of, joins_of}
+use Rattle.table_net.specs.Table.{Table, channels_of, columns_of, column_of, kind_of, table_next, joins_of}
 use Rattle.table_net.specs.Ways.{place, IsWay}
 use Rattle.table_net.specs.Cycles.{Depends}
 use Rattle.table_net.specs.Verdicts.{AllArrive, join_at}
-use Rattle.table_net.specs.Marks.{cell, flag, IsTraced, Passes, IsMarked, AreMarked}
+use Rattle.table_net.specs.Marks.{cell, is_marked_at, IsTraced, Passes, IsMarked, MarksRoutes}
 use Rattle.table_net.proofs.Ends.{column_low}
 use Rattle.table_net.proofs.Places.{places, place_next, Split, split}
 use Rattle.table_net.proofs.Nets.{route_is, within_way, way_depends}
@@ -50,8 +50,8 @@ one_cell t x y c d low less e = (
 )
 
 -- the marks of one pair more
-pub marked_more : (t : Table) (p n : ℕ) (old new : List Bool) → AreMarked t p old → p < length t.joins
-    → IsWay t (join_at t p).from (join_at t p).to n → IsTraced t (join_at t p).from (join_at t p).to n old new → AreMarked t (p + 1) new
+pub marked_more : (t : Table) (p n : ℕ) (old new : List Bool) → MarksRoutes t p old → p < length t.joins
+    → IsWay t (join_at t p).from (join_at t p).to n → IsTraced t (join_at t p).from (join_at t p).to n old new → MarksRoutes t (p + 1) new
 marked_more t p n old new r low w traced =
     let i : ℕ = (join_at t p).from in
     let j : ℕ = (join_at t p).to in
@@ -81,7 +81,7 @@ marked_more t p n old new r low w traced =
     }
 
 -- between all joined ends there is a route
-pub all_arrive : (t : Table) (used : List Bool) → AreMarked t (length t.joins) used → AllArrive t
+pub all_arrive : (t : Table) (used : List Bool) → MarksRoutes t (length t.joins) used → AllArrive t
 all_arrive t used r i j joined =
     let p = place_of t i j joined in
     let m = r.each p.0 p.1.below in
@@ -92,15 +92,15 @@ pub passes_end : (t : Table) (x j : ℕ) → Passes t x j → kind_of t j ≡ So
 passes_end t x j h = h.way.under_way.receiver
 
 -- a marked channel has a next one, and packets go on to it
-pub next_within : (t : Table) (x j : ℕ) → Passes t x j → next_of t x j < channels_of t
+pub next_within : (t : Table) (x j : ℕ) → Passes t x j → table_next t x j < channels_of t
 next_within t x j h =
-    let next : place t j h.from (suc h.step) ≡ next_of t x j = place_next t j h.from h.step ∙ ap (λ z. next_of t z j) h.here in
+    let next : place t j h.from (suc h.step) ≡ table_next t x j = place_next t j h.from h.step ∙ ap (λ z. table_next t z j) h.here in
     let low = h.before in
     subst (λ z. z < channels_of t) next (within_way t h.from j h.steps (suc h.step) h.way (omega arith))
 
-pub goes_on : (t : Table) (x j y : ℕ) → Passes t x j → next_of t x j ≡ y → Depends t x j y
+pub goes_on : (t : Table) (x j y : ℕ) → Passes t x j → table_next t x j ≡ y → Depends t x j y
 goes_on t x j y h e =
-    let next : place t j h.from (suc h.step) ≡ y = place_next t j h.from h.step ∙ (ap (λ z. next_of t z j) h.here ∙ e) in
+    let next : place t j h.from (suc h.step) ≡ y = place_next t j h.from h.step ∙ (ap (λ z. table_next t z j) h.here ∙ e) in
     let d = way_depends t h.from j h.steps h.step h.joined h.way h.before in
     subst (λ z. Depends t x j z) next (subst (λ z. Depends t z j (place t j h.from (suc h.step))) h.here d)
 
@@ -109,10 +109,10 @@ pub record IsUsed (t : Table) (used : List Bool) (x j y : ℕ) : Type 0 where
   pub channel : x < channels_of t
   pub inside : y < channels_of t
   pub end : column_of t j < columns_of t
-  pub marked : flag used (cell t x (column_of t j)) ≡ true
-  pub next : next_of t x j ≡ y
+  pub marked : is_marked_at used (cell t x (column_of t j)) ≡ true
+  pub next : table_next t x j ≡ y
 
-pub is_used : (t : Table) (used : List Bool) → AreMarked t (length t.joins) used → (x j y : ℕ) → Depends t x j y → IsUsed t used x j y
+pub is_used : (t : Table) (used : List Bool) → MarksRoutes t (length t.joins) used → (x j y : ℕ) → Depends t x j y → IsUsed t used x j y
 is_used t used r x j y d =
     let p = place_of t d.from j d.joined in
     let m = r.each p.0 p.1.below in
@@ -122,8 +122,8 @@ is_used t used r x j y d =
     let s : Split t j d.from (suc n) x (y ∷ d.after) =
     split t j d.from (suc n) d.before x (y ∷ d.after) (sym (route_is t d.from j n marked.way) ∙ d.neighbours) in
     let all = s.all in
-    let more : (m : ℕ) → s.more ≡ m → (s.step < n) × (next_of t x j ≡ y) =
-    λ m e. further t x j y d.after s.step n m (omega (arith, e)) (s.rest ∙ ap (places t j (next_of t x j)) e) in
+    let more : (m : ℕ) → s.more ≡ m → (s.step < n) × (table_next t x j ≡ y) =
+    λ m e. further t x j y d.after s.step n m (omega (arith, e)) (s.rest ∙ ap (places t j (table_next t x j)) e) in
     let low = more s.more refl in
     let passes : Passes t x j = record {
       from = d.from;
@@ -138,11 +138,11 @@ is_used t used r x j y d =
       channel = subst (λ z. z < channels_of t) s.here (within_way t d.from j n s.step marked.way (let l = low.0 in omega arith));
       inside = subst (λ z. z < channels_of t) low.1 (next_within t x j passes);
       end = column_low t.kinds j marked.way.under_way.receiver;
-      marked = subst (λ z. flag used (cell t z (column_of t j)) ≡ true) s.here (marked.marked s.step low.0);
+      marked = subst (λ z. is_marked_at used (cell t z (column_of t j)) ≡ true) s.here (marked.marked s.step low.0);
       next = low.1;
     }
   where
-    further : (t : Table) (x j y : ℕ) (after : List ℕ) (k n m : ℕ) → suc n ≡ suc (k + m) → y ∷ after ≡ places t j (next_of t x j) m
-        → (k < n) × (next_of t x j ≡ y)
+    further : (t : Table) (x j y : ℕ) (after : List ℕ) (k n m : ℕ) → suc n ≡ suc (k + m) → y ∷ after ≡ places t j (table_next t x j) m
+        → (k < n) × (table_next t x j ≡ y)
     further t x j y after k n zero e f = cc
     further t x j y after k n (suc m) e f = (omega arith, cc)

@@ -2,7 +2,7 @@
 use Rattle.std.proofs.Common.{◌≡◌, inl, inr, ℕ, zero, suc, ◌+◌, ◌-◌, ◌<◌, ◌&&◌, Bool, true, false, not, eqb, ◌∷◌, length}
 use Rattle.std.proofs.Common.{refl, sym, ◌∙◌, ap, subst, arith}
 use Rattle.std.proofs.lemmas.Bool.{cases_order, eqb-true, eq-eqb, ne_eqb, and_parts, and_from}
-use Rattle.table_net.specs.Table.{Table, channels_of, next_of, joins_of}
+use Rattle.table_net.specs.Table.{Table, channels_of, table_next, joins_of}
 use Rattle.table_net.specs.Ways.{place, IsWay}
 use Rattle.table_net.specs.Cycles.{Depends}
 use Rattle.table_net.specs.Verdicts.{AllArrive, join_at}
@@ -76,7 +76,7 @@ to_passes t arrive x j s =
     (any_at (λ k. eqb (place t h i k) x) (steps_of t i h) s.step (omega arith) (eq-eqb (place t h i s.step) x here)))
 
 -- a dependency passes
-pub dependency_passes : (t : Table) → AllArrive t → (x j y : ℕ) → Depends t x j y → Passes t x j × (next_of t x j ≡ y)
+pub dependency_passes : (t : Table) → AllArrive t → (x j y : ℕ) → Depends t x j y → Passes t x j × (table_next t x j ≡ y)
 dependency_passes t arrive x j y d =
     let w = arrive d.from j d.joined in
     let n : ℕ = w.0 in
@@ -85,6 +85,6 @@ dependency_passes t arrive x j y d =
     let low = further s.step n s.more all s.rest in
     (record { from = d.from; joined = d.joined; steps = n; way = w.1; step = s.step; before = low.0; here = s.here }, low.1)
   where
-    further : (k n m : ℕ) → suc n ≡ suc (k + m) → y ∷ d.after ≡ places t j (next_of t x j) m → (k < n) × (next_of t x j ≡ y)
+    further : (k n m : ℕ) → suc n ≡ suc (k + m) → y ∷ d.after ≡ places t j (table_next t x j) m → (k < n) × (table_next t x j ≡ y)
     further k n zero e f = cc
     further k n (suc m) e f = (omega arith, cc)

@@ -12,14 +12,14 @@ use Rattle.table_net.specs.declared.search.Look.{Look}
 use Rattle.table_net.specs.declared.search.Mark.{Mark}
 use Rattle.table_net.specs.declared.search.Mark.TheVariants.{New, Open, Done}
 use Rattle.table_net.specs.Table.{Table, channels_of, columns_of, column_of, choice_of}
-use Rattle.table_net.specs.Columns.{AreEnds}
+use Rattle.table_net.specs.Columns.{AreColumnEnds}
 use Rattle.table_net.specs.Graph.{Graph, flag_at, choice_at, graph_of, marked_of}
 use Rattle.table_net.specs.Replies.{reply_at, AreReplies}
 use Rattle.table_net.specs.Links.{AreLinks}
 use Rattle.table_net.specs.Cycles.{Depends, IsCycle}
 use Rattle.table_net.specs.Verdicts.{AllArrive, IsNumbered}
-use Rattle.table_net.specs.Marks.{flag, AreMarked}
-use Rattle.table_net.specs.Search.{mark_at, is_new, height, IsBelow, IsSearch, StayDone, IsCircle, StayWithin, AreNew, AreRanked, AreNumbers}
+use Rattle.table_net.specs.Marks.{is_marked_at, MarksRoutes}
+use Rattle.table_net.specs.Search.{mark_at, is_new, height, IsDoneBelow, IsSearch, StayDone, IsCircle, StayWithin, AreNew, AreRanked, AreNumbers}
 use Rattle.table_net.proofs.Nets.{is_net}
 use Rattle.table_net.proofs.Ends.{one_column}
 use Rattle.table_net.proofs.Graphs.{either_low, IsEdge, reply_edge, reply_from, reply_to, stay_with, cycle_with}
@@ -27,7 +27,7 @@ use Rattle.table_net.proofs.Marking.{all_arrive, next_within, passes_end, goes_o
 use Rattle.table_net.proofs.Searching.{begun_below}
 
 -- marked channels and replies lead to channels
-pub stay_within : (t : Table) (used : List Bool) (replies : List Reply) (n : ℕ) → AreReplies t replies → AreMarked t n used
+pub stay_within : (t : Table) (used : List Bool) (replies : List Reply) (n : ℕ) → AreReplies t replies → MarksRoutes t n used
     → StayWithin (marked_of t used replies)
 stay_within t used replies n are r =
     stay_with t replies (columns_of t) (flag_at (columns_of t) used) (choice_at (columns_of t) t.choices) are
@@ -35,7 +35,7 @@ stay_within t used replies n are r =
 
 -- a circle is a cycle of dependencies and replies
 pub is_cycle : (t : Table) (used : List Bool) (replies : List Reply) (n : ℕ) (ends : List ℕ) (looks : List Look) (links : List Link)
-    → AreMarked t n used → AreEnds t.kinds ends → IsCircle (marked_of t used replies) looks
+    → MarksRoutes t n used → AreColumnEnds t.kinds ends → IsCircle (marked_of t used replies) looks
     → AreLinks (columns_of t) (slice_index ends) looks links → IsCycle t replies links
 is_cycle t used replies n ends looks links r ends_are =
     cycle_with t replies (channels_of t) (columns_of t) (flag_at (columns_of t) used) (choice_at (columns_of t) t.choices)
@@ -75,7 +75,7 @@ begin g marks size new = record {
 
 -- a channel that was begun and one more
 pub begun_more : (g : Graph) (old new : List Mark) (finished n high : ℕ) → IsSearch g old [] finished
-    → ((x : ℕ) → x < n → mark_at old x ≡ New → ⊥) → StayDone old new → IsBelow new n high
+    → ((x : ℕ) → x < n → mark_at old x ≡ New → ⊥) → StayDone old new → IsDoneBelow new n high
     → (x : ℕ) → x < n + 1 → mark_at new x ≡ New → ⊥
 begun_more g old new finished n high s begun stay b x low e =
     elim (cases_lt x n) [
@@ -126,7 +126,7 @@ number_rises g marks numbers r n x y channel inside e =
     let size = r.size in
     let k = r.each x channel in
     let low = k.low in
-    let b : IsBelow marks y k.rank = subst (λ z. IsBelow marks z k.rank) e.after (k.behind e.column e.low e.leads) in
+    let b : IsDoneBelow marks y k.rank = subst (λ z. IsDoneBelow marks z k.rank) e.after (k.behind e.column e.low e.leads) in
     let less = b.2 in
     let hx : height (mark_at marks x) ≡ k.rank = ap height k.mark in
     let hy : height (mark_at marks y) ≡ b.0 = ap height b.1 in
@@ -148,7 +148,7 @@ marked_edge t used replies x j y u =
 
 -- so it is a network with these numbers
 pub is_numbered : (t : Table) (used : List Bool) (replies : List Reply) (marks : List Mark) (numbers : List ℕ) → AreReplies t replies
-    → AreMarked t (length t.joins) used → AreRanked (marked_of t used replies) marks → AreNumbers marks numbers
+    → MarksRoutes t (length t.joins) used → AreRanked (marked_of t used replies) marks → AreNumbers marks numbers
     → IsNumbered t replies numbers
 is_numbered t used replies marks numbers are m r n =
     let g : Graph = marked_of t used replies in
@@ -186,9 +186,9 @@ fresh_new marks n e x =
       | inr g ↦ get_or_past (replicate n New) x New (omega (arith, length-replicate n New))
     ]
 
-pub fresh_clear : (used : List Bool) (n : ℕ) → used ≡ replicate n false → (m : ℕ) → flag used m ≡ false
+pub fresh_clear : (used : List Bool) (n : ℕ) → used ≡ replicate n false → (m : ℕ) → is_marked_at used m ≡ false
 fresh_clear used n e m =
-    ap (λ (z : List Bool). flag z m) e
+    ap (λ (z : List Bool). is_marked_at z m) e
     ∙ elim (cases_lt m n) [
       | inl l ↦ get_or-replicate n m false false l
       | inr g ↦ get_or_past (replicate n false) m false (omega (arith, length-replicate n false))
@@ -201,11 +201,11 @@ written n new old e = take_at new (drop (length new) old) n (sym e)
 -- the verdict on channels that lead around
 pub cycle_judged : (t : Table) (replies : List Reply) (width : ℕ) (used new : List Bool) (ends ends_read : List ℕ)
     (looks looks_read : List Look) (links : List Link)
-    → width ≡ columns_of t → used ≡ new → AreMarked t (length t.joins) new → AreEnds t.kinds ends → ends_read ≡ ends
+    → width ≡ columns_of t → used ≡ new → MarksRoutes t (length t.joins) new → AreColumnEnds t.kinds ends → ends_read ≡ ends
     → IsCircle (graph_of (channels_of t) width t.choices used replies) looks → looks_read ≡ looks
     → AreLinks (length ends_read) (slice_index ends_read) looks_read links → AllArrive t × IsCycle t replies links
 cycle_judged t replies width used new ends ends_read looks looks_read links wide same m e read c look l =
-    let marked : AreMarked t (length t.joins) used = subst (λ z. AreMarked t (length t.joins) z) (sym same) m in
+    let marked : MarksRoutes t (length t.joins) used = subst (λ z. MarksRoutes t (length t.joins) z) (sym same) m in
     let around : IsCircle (marked_of t used replies) looks =
     subst (λ z. IsCircle (graph_of (channels_of t) z t.choices used replies) looks) wide c in
     let seen : AreLinks (length ends) (slice_index ends) looks links =
@@ -223,11 +223,11 @@ ranks_judged t replies width used marks read same r =
 
 -- the verdict on numbers from the heights
 pub rising_judged : (t : Table) (replies : List Reply) (width : ℕ) (used new : List Bool) (marks read : List Mark) (numbers : List ℕ)
-    → AreReplies t replies → width ≡ columns_of t → used ≡ new → AreMarked t (length t.joins) new → read ≡ marks
+    → AreReplies t replies → width ≡ columns_of t → used ≡ new → MarksRoutes t (length t.joins) new → read ≡ marks
     → AreRanked (graph_of (channels_of t) width t.choices used replies) marks → AreNumbers read numbers
     → AllArrive t × IsNumbered t replies numbers
 rising_judged t replies width used new marks read numbers replies_are wide same m are r n =
-    let marked : AreMarked t (length t.joins) used = subst (λ z. AreMarked t (length t.joins) z) (sym same) m in
+    let marked : MarksRoutes t (length t.joins) used = subst (λ z. MarksRoutes t (length t.joins) z) (sym same) m in
     let ranked : AreRanked (marked_of t used replies) read =
     subst (λ z. AreRanked (graph_of (channels_of t) z t.choices used replies) read) wide
     (subst (λ z. AreRanked (graph_of (channels_of t) width t.choices used replies) z) (sym are) r) in

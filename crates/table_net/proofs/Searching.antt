@@ -8,13 +8,13 @@ use Rattle.table_net.specs.declared.search.Look.{Look}
 use Rattle.table_net.specs.declared.search.Mark.{Mark}
 use Rattle.table_net.specs.declared.search.Mark.TheVariants.{New, Open, Done}
 use Rattle.table_net.specs.Graph.{Graph}
-use Rattle.table_net.specs.Search.{mark_at, look_at, is_new, IsBelow, AreBelow, LeadsTo, IsSearch, IsCircle, StayWithin}
+use Rattle.table_net.specs.Search.{mark_at, look_at, is_new, IsDoneBelow, AreBelow, LooksOn, IsSearch, IsCircle, StayWithin}
 use Rattle.table_net.proofs.Written.{NotDone, stay_done, below_kept, here, there, marked_at, links_kept, channels_kept, new_less, new_same, open_inside}
 
 -- one ejection channel more is looked at
 pub advanced : (g : Graph) (marks : List Mark) (path : List Look) (finished last x to : ℕ) → IsSearch g marks path finished
     → last + 1 ≡ length path → look_at path last ≡ record { channel = x; column = to } → to < g.columns
-    → (g.leads x to ≡ true → IsBelow marks (g.after x to) finished)
+    → (g.leads x to ≡ true → IsDoneBelow marks (g.after x to) finished)
     → IsSearch g marks (set path last (record { channel = x; column = to + 1 })) finished
 advanced g marks path finished last x to s e at low below =
     let v : Look = record { channel = x; column = to + 1 } in
@@ -28,8 +28,8 @@ advanced g marks path finished last x to s e at low below =
       open_path = λ z k m. let o = s.open_path z k m in let l = o.0 in (omega arith, kept k ∙ o.1);
       leads = λ k l. (let apart : k ≢ last = omega arith in
           let old = s.leads k (omega arith) in
-          subst (λ z. LeadsTo g z (look_at next (k + 1)).channel) (sym (links_kept path last v k apart))
-          (subst (λ z. LeadsTo g (look_at path k) z) (sym (kept (k + 1))) old));
+          subst (λ z. LooksOn g z (look_at next (k + 1)).channel) (sym (links_kept path last v k apart))
+          (subst (λ z. LooksOn g (look_at path k) z) (sym (kept (k + 1))) old));
       ends = λ k l. elim (cases_eq k last) [
         | inl same ↦ (let one : (look_at next k).column ≡ to + 1 = ap (λ z. (look_at next z).column) same ∙ ap (λ (m : Look). m.column) here in omega arith)
         | inr apart ↦ subst (λ (z : Look). z.column ≤ g.columns) (sym (links_kept path last v k apart)) (s.ends k (omega arith))
@@ -40,7 +40,7 @@ advanced g marks path finished last x to s e at low below =
             let new : AreBelow g marks x (to + 1) finished =
             λ j m. elim (cases_lt j to) [
               | inl less ↦ old j less
-              | inr high ↦ let last_one : to ≡ j = omega arith in subst (λ z. g.leads x z ≡ true → IsBelow marks (g.after x z) finished) last_one below
+              | inr high ↦ let last_one : to ≡ j = omega arith in subst (λ z. g.leads x z ≡ true → IsDoneBelow marks (g.after x z) finished) last_one below
             ] in
             subst (λ (z : Look). AreBelow g marks z.channel z.column finished) (sym one) new)
         | inr apart ↦ subst (λ (z : Look). AreBelow g marks z.channel z.column finished) (sym (links_kept path last v k apart)) (s.behind k (omega arith))
@@ -51,7 +51,7 @@ advanced g marks path finished last x to s e at low below =
 
 -- one channel more on the path
 pub pushed : (g : Graph) (marks : List Mark) (path : List Look) (finished y : ℕ) → IsSearch g marks path finished
-    → y < g.channels → mark_at marks y ≡ New → ((last : ℕ) → last + 1 ≡ length path → LeadsTo g (look_at path last) y)
+    → y < g.channels → mark_at marks y ≡ New → ((last : ℕ) → last + 1 ≡ length path → LooksOn g (look_at path last) y)
     → IsSearch g (set marks y (Open (length path))) (path ++ record { channel = y; column = 0 } ∷ []) finished
 pushed g marks path finished y s low e leads =
     let n : ℕ = length path in
@@ -90,13 +90,13 @@ pushed g marks path finished y s low e leads =
             (omega arith, ap (λ (z : Look). z.channel) (front k l) ∙ o.1))
       ];
       leads = λ k l. elim (cases_lt (k + 1) n) [
-        | inl less ↦ subst (λ z. LeadsTo g z (look_at next (k + 1)).channel) (sym (front k (omega arith)))
-            (subst (λ (z : Look). LeadsTo g (look_at path k) z.channel) (sym (front (k + 1) less)) (s.leads k less))
+        | inl less ↦ subst (λ z. LooksOn g z (look_at next (k + 1)).channel) (sym (front k (omega arith)))
+            (subst (λ (z : Look). LooksOn g (look_at path k) z.channel) (sym (front (k + 1) less)) (s.leads k less))
         | inr high ↦ (let same : n ≡ k + 1 = omega arith in
             let one = leads k (sym same) in
             let at : look_at next (k + 1) ≡ v = ap (look_at next) (sym same) ∙ back in
-            subst (λ z. LeadsTo g z (look_at next (k + 1)).channel) (sym (front k (omega arith)))
-            (subst (λ (z : Look). LeadsTo g (look_at path k) z.channel) (sym at) one))
+            subst (λ z. LooksOn g z (look_at next (k + 1)).channel) (sym (front k (omega arith)))
+            (subst (λ (z : Look). LooksOn g (look_at path k) z.channel) (sym at) one))
       ];
       ends = λ k l. elim (cases_lt k n) [
         | inl less ↦ subst (λ (z : Look). z.column ≤ g.columns) (sym (front k less)) (s.ends k less)
@@ -154,8 +154,8 @@ popped g marks path finished last x to s e at all =
             (omega arith, ap (λ (z : Look). z.channel) (front k less) ∙ o.1))
       ];
       leads = λ k l. (let old = s.leads k (omega arith) in
-          subst (λ z. LeadsTo g z (look_at next (k + 1)).channel) (sym (front k (omega arith)))
-          (subst (λ (z : Look). LeadsTo g (look_at path k) z.channel) (sym (front (k + 1) (omega arith))) old));
+          subst (λ z. LooksOn g z (look_at next (k + 1)).channel) (sym (front k (omega arith)))
+          (subst (λ (z : Look). LooksOn g (look_at path k) z.channel) (sym (front (k + 1) (omega arith))) old));
       ends = λ k l. subst (λ (z : Look). z.column ≤ g.columns) (sym (front k (omega arith))) (s.ends k (omega arith));
       behind = λ k l. (let old : AreBelow g new (look_at path k).channel (look_at path k).column (finished + 1) =
           λ j m f. below_kept marks new (g.after (look_at path k).channel j) finished (finished + 1) stay (omega arith) (s.behind k (omega arith) j m f) in
@@ -176,7 +176,7 @@ popped g marks path finished last x to s e at all =
 
 -- the links from an open channel on lead around
 pub circle : (g : Graph) (marks : List Mark) (path : List Look) (finished place y : ℕ) → IsSearch g marks path finished
-    → mark_at marks y ≡ Open place → ((last : ℕ) → last + 1 ≡ length path → LeadsTo g (look_at path last) y)
+    → mark_at marks y ≡ Open place → ((last : ℕ) → last + 1 ≡ length path → LooksOn g (look_at path last) y)
     → IsCircle g (drop place path)
 circle g marks path finished place y s e leads =
     let o = s.open_path y place e in
@@ -187,23 +187,23 @@ circle g marks path finished place y s e leads =
       some = omega arith;
       each = λ k l. (let old = s.leads (place + k) (omega arith) in
           let more : place + k + 1 ≡ place + (k + 1) = omega arith in
-          subst (λ z. LeadsTo g z (look_at (drop place path) (k + 1)).channel) (sym (at k))
-          (subst (λ (z : Look). LeadsTo g (look_at path (place + k)) z.channel) (sym (at (k + 1)))
-          (subst (λ z. LeadsTo g (look_at path (place + k)) (look_at path z).channel) more old)));
+          subst (λ z. LooksOn g z (look_at (drop place path) (k + 1)).channel) (sym (at k))
+          (subst (λ (z : Look). LooksOn g (look_at path (place + k)) z.channel) (sym (at (k + 1)))
+          (subst (λ z. LooksOn g (look_at path (place + k)) (look_at path z).channel) more old)));
       last = (let k : ℕ = length (drop place path) - 1 in
           let old = leads (place + k) (omega arith) in
           let none : place + 0 ≡ place = omega arith in
           let first : (look_at (drop place path) 0).channel ≡ y = ap (λ (z : Look). z.channel) (at 0) ∙ (ap (λ z. (look_at path z).channel) none ∙ o.1) in
-          subst (λ z. LeadsTo g z (look_at (drop place path) 0).channel) (sym (at k))
-          (subst (λ z. LeadsTo g (look_at path (place + k)) z) (sym first) old));
+          subst (λ z. LooksOn g z (look_at (drop place path) 0).channel) (sym (at k))
+          (subst (λ z. LooksOn g (look_at path (place + k)) z) (sym first) old));
     }
 
 -- at the end of the path each channel that was come to is done with
 pub begun_below : (g : Graph) (marks : List Mark) (finished x : ℕ) → IsSearch g marks [] finished
-    → (mark_at marks x ≡ New → ⊥) → IsBelow marks x finished
+    → (mark_at marks x ≡ New → ⊥) → IsDoneBelow marks x finished
 begun_below g marks finished x s begun = by (mark_at marks x) refl
   where
-    by : (m : Mark) → mark_at marks x ≡ m → IsBelow marks x finished
+    by : (m : Mark) → mark_at marks x ≡ m → IsDoneBelow marks x finished
     by New e = absurd (begun e)
     by (Open k) e = let o = s.open_path x k e in let l = o.0 in absurd (omega arith)
     by (Done h) e = (h, e, (s.done x h e).0)
@@ -233,12 +233,12 @@ top g marks path finished n last v s e some f read =
 -- the last link of the path leads to the next channel
 pub top_leads : (g : Graph) (marks : List Mark) (path : List Look) (last x to y : ℕ) → IsTop g marks path last x to
     → to < g.columns → g.leads x to ≡ true → g.after x to ≡ y
-    → (k : ℕ) → k + 1 ≡ length path → LeadsTo g (look_at path k) y
+    → (k : ℕ) → k + 1 ≡ length path → LooksOn g (look_at path k) y
 top_leads g marks path last x to y top low marked next k e =
     let size = top.size in
     let same : last ≡ k = omega arith in
-    let one : LeadsTo g (record { channel = x; column = to }) y = record { end = low; marked = marked; next = next } in
-    subst (λ z. LeadsTo g (look_at path z) y) same (subst (λ z. LeadsTo g z y) (sym top.at) one)
+    let one : LooksOn g (record { channel = x; column = to }) y = record { end = low; marked = marked; next = next } in
+    subst (λ z. LooksOn g (look_at path z) y) same (subst (λ z. LooksOn g z y) (sym top.at) one)
 
 -- the search with a path of one channel
 pub started : (g : Graph) (marks : List Mark) (finished y : ℕ) → IsSearch g marks [] finished
@@ -264,7 +264,7 @@ not_read g x to b e f h = let bad : false ≡ true = sym f ∙ (e ∙ h) in cc
 
 -- the same steps, as the code has them
 pub pushed_at : (g : Graph) (marks : List Mark) (path : List Look) (finished y n : ℕ) (next : List Look) → IsSearch g marks path finished
-    → y < g.channels → mark_at marks y ≡ New → ((last : ℕ) → last + 1 ≡ length path → LeadsTo g (look_at path last) y)
+    → y < g.channels → mark_at marks y ≡ New → ((last : ℕ) → last + 1 ≡ length path → LooksOn g (look_at path last) y)
     → n ≡ length path → next ≡ path ++ record { channel = y; column = 0 } ∷ []
     → IsSearch g (set marks y (Open n)) next finished
 pushed_at g marks path finished y n next s low e leads size same =

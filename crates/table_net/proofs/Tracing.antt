@@ -8,13 +8,13 @@ use Rattle.table_net.specs.declared.table.Kind.TheVariants.{Hop, Ejection}
 use Rattle.table_net.specs.Table.{Table, channels_of, columns_of, column_of, kind_of}
 use Rattle.table_net.specs.Columns.{AreColumns}
 use Rattle.table_net.specs.Ways.{place, IsUnderWay, IsWay}
-use Rattle.table_net.specs.Marks.{cell_of, flag, IsTraced}
+use Rattle.table_net.specs.Marks.{walk_cell, is_marked_at, IsTraced}
 use Rattle.table_net.proofs.Ends.{column_low}
 use Rattle.table_net.proofs.Places.{place_next}
 
 -- the place of a step among the choices and the flags
 pub cell_read : (t : Table) (columns : List ℕ) (width i j n k at m : ℕ) → AreColumns t.kinds columns → width ≡ columns_of t
-    → IsUnderWay t i j n → at ≡ place t j i k → m ≡ at * width + slice_index columns j → m ≡ cell_of t i j k
+    → IsUnderWay t i j n → at ≡ place t j i k → m ≡ at * width + slice_index columns j → m ≡ walk_cell t i j k
 cell_read t columns width i j n k at m r wide u here e =
     let low : j < channels_of t = slice_get_within t.kinds j Ejection u.receiver in
     e
@@ -31,7 +31,7 @@ column_within t columns width i j n r wide u =
     omega arith
 
 -- the choice that is read at the place of a step is the next place
-pub next_read : (t : Table) (i j n m : ℕ) → m ≡ cell_of t i j n → slice_index t.choices m ≡ place t j i (n + 1)
+pub next_read : (t : Table) (i j n m : ℕ) → m ≡ walk_cell t i j n → slice_index t.choices m ≡ place t j i (n + 1)
 next_read t i j n m e =
     let one : suc n ≡ n + 1 = omega arith in
     ap (slice_index t.choices) e ∙ (sym (place_next t j i n) ∙ ap (place t j i) one)
@@ -49,16 +49,16 @@ one_hop_more t i j n x u here hop = record {
 }
 
 -- one mark more
-pub traced_more : (t : Table) (i j n : ℕ) (old new : List Bool) (m : ℕ) → IsTraced t i j n old new → m ≡ cell_of t i j n
+pub traced_more : (t : Table) (i j n : ℕ) (old new : List Bool) (m : ℕ) → IsTraced t i j n old new → m ≡ walk_cell t i j n
     → m < length new → IsTraced t i j (n + 1) old (set new m true)
 traced_more t i j n old new m r e low = record {
   size = length-set new m true ∙ r.size;
   kept = λ k yes_k. kept k (r.kept k yes_k);
   marked = λ k l. elim (cases_lt k n) [
-    | inl before ↦ kept (cell_of t i j k) (r.marked k before)
+    | inl before ↦ kept (walk_cell t i j k) (r.marked k before)
     | inr high ↦ let same : k ≡ n = omega arith in
-        let there : m ≡ cell_of t i j k = e ∙ ap (cell_of t i j) (sym same) in
-        subst (λ z. flag (set new m true) z ≡ true) there (get_or-set_same new m true false low)
+        let there : m ≡ walk_cell t i j k = e ∙ ap (walk_cell t i j) (sym same) in
+        subst (λ z. is_marked_at (set new m true) z ≡ true) there (get_or-set_same new m true false low)
   ];
   only = λ k is_k. elim (cases_eq k m) [
     | inl same ↦ inr (n, omega arith, same ∙ e)
@@ -69,10 +69,10 @@ traced_more t i j n old new m r e low = record {
   ];
 }
   where
-    kept : (k : ℕ) → flag new k ≡ true → flag (set new m true) k ≡ true
+    kept : (k : ℕ) → is_marked_at new k ≡ true → is_marked_at (set new m true) k ≡ true
     kept k is_k =
         elim (cases_eq k m) [
-          | inl same ↦ subst (λ z. flag (set new m true) z ≡ true) (sym same) (get_or-set_same new m true false low)
+          | inl same ↦ subst (λ z. is_marked_at (set new m true) z ≡ true) (sym same) (get_or-set_same new m true false low)
           | inr other ↦ get_or-set_other new m k true false other ∙ is_k
         ]
 

@@ -8,7 +8,7 @@ use Rattle.std.proofs.lemmas.List.Sums.{sum_by-set}
 use Rattle.table_net.specs.declared.search.Look.{Look}
 use Rattle.table_net.specs.declared.search.Mark.{Mark}
 use Rattle.table_net.specs.declared.search.Mark.TheVariants.{New, Open, Done}
-use Rattle.table_net.specs.Search.{mark_at, look_at, is_new, IsBelow, StayDone}
+use Rattle.table_net.specs.Search.{mark_at, look_at, is_new, IsDoneBelow, StayDone}
 
 -- a link's mark isn't that of something done with
 abbrev pub NotDone : List Mark → ℕ → Type 0
@@ -22,7 +22,7 @@ stay_done marks y v other x h e =
       | inr apart ↦ get_or-set_other marks y x v New apart ∙ e
     ]
 
-pub below_kept : (old new : List Mark) (x low high : ℕ) → StayDone old new → low ≤ high → IsBelow old x low → IsBelow new x high
+pub below_kept : (old new : List Mark) (x low high : ℕ) → StayDone old new → low ≤ high → IsDoneBelow old x low → IsDoneBelow new x high
 below_kept old new x low high stay more b = let l = b.2 in (b.0, stay x b.0 b.1, omega arith)
 
 -- the mark at a place, once one is written

@@ -11,11 +11,12 @@ pub record AreColumns (kinds : List Kind) (columns : List ℕ) : Type 0 where
   pub each : (x : ℕ) → x < length kinds → slice_index columns x ≡ count_by ejects (take x kinds)
 
 -- an ejection channel, and its column
-pub record IsEnd (kinds : List Kind) (c j : ℕ) : Type 0 where
+pub record IsColumnEnd (kinds : List Kind) (c j : ℕ) : Type 0 where
   pub kind : slice_get kinds j ≡ Some Ejection
   pub column : count_by ejects (take j kinds) ≡ c
 
 -- for each column its ejection channel
-pub record AreEnds (kinds : List Kind) (ends : List ℕ) : Type 0 where
+pub record AreColumnEnds (kinds : List Kind) (ends : List ℕ) : Type 0 where
   pub size : length ends ≡ count_by ejects kinds
-  pub each : (column : ℕ) → column < length ends → IsEnd kinds column (slice_index ends column)
+  pub each : (column : ℕ) → column < length ends
+      → IsColumnEnd kinds column (slice_index ends column)

@@ -6,7 +6,7 @@ use Rattle.table_net.specs.declared.table.By.{By}
 use Rattle.table_net.specs.declared.table.By.TheVariants.{To, Replied}
 use Rattle.table_net.specs.declared.table.Reply.{Reply}
 use Rattle.table_net.specs.Table.{Table, joins_of}
-use Rattle.table_net.specs.Ways.{route_of}
+use Rattle.table_net.specs.Ways.{table_route}
 use Rattle.table_net.specs.Replies.{IsReply}
 
 -- a dependency: some packets to ejection channel j go from channel x on to channel y (Dally and
@@ -17,7 +17,7 @@ pub record Depends (t : Table) (x j y : ℕ) : Type 0 where
   pub joined : joins_of t from j ≡ true
   pub before : List ℕ
   pub after : List ℕ
-  pub neighbours : route_of t from j ≡ before ++ x ∷ y ∷ after
+  pub neighbours : table_route t from j ≡ before ++ x ∷ y ∷ after
 
 -- how channel x leads on to channel y: some packets go on so, or packets from the one are answered
 -- on the other (Dally

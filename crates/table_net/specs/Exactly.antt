@@ -4,13 +4,13 @@ use Rattle.table_net.specs.declared.table.Verdict.{Verdict}
 use Rattle.table_net.specs.declared.table.Verdict.TheVariants.{Rising, NoRoute, Cycle}
 use Rattle.table_net.specs.declared.table.Why.{Why}
 use Rattle.table_net.specs.Table.{Table, joins_of}
-use Rattle.table_net.specs.Ways.{Fails}
+use Rattle.table_net.specs.Ways.{FailsBy}
 
 -- whether a verdict is rising numbers
-abbrev pub IsRising : {A : Type 0} → Verdict A → Type 0
-IsRising (Rising numbers) = Unit {0}
-IsRising (NoRoute r) = ⊥
-IsRising (Cycle links) = ⊥
+abbrev pub HasRisingNumbers : {A : Type 0} → Verdict A → Type 0
+HasRisingNumbers (Rising numbers) = Unit {0}
+HasRisingNumbers (NoRoute r) = ⊥
+HasRisingNumbers (Cycle links) = ⊥
 
 -- two verdicts of one kind
 abbrev pub AreAlike : {A B : Type 0} → Verdict A → Verdict B → Type 0
@@ -25,9 +25,9 @@ AreAlike (Cycle k) (NoRoute s) = ⊥
 AreAlike (Cycle k) (Cycle l) = Unit {0}
 
 -- some pair has no route
-pub record HasFault (t : Table) : Type 0 where
+pub record HasFailure (t : Table) : Type 0 where
   pub from : ℕ
   pub to : ℕ
   pub why : Why
   pub joined : joins_of t from to ≡ true
-  pub fails : Fails t from to why
+  pub fails : FailsBy t from to why

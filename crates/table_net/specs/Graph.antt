@@ -1,8 +1,9 @@
 -- A graph of channels: from each, in some columns, one leads on to another.
-use Rattle.std.specs.Prelude.{ℕ, ◌+◌, ◌-◌, ◌*◌, ◌==◌, nat_lt, if◌then◌else◌, Bool, List, length, slice_index}
+use Rattle.std.specs.Prelude.{ℕ, ◌+◌, ◌-◌, ◌*◌, ◌==◌, nat_lt, if◌then◌else◌, Bool, List, length}
+use Rattle.std.specs.Prelude.{slice_index}
 use Rattle.table_net.specs.declared.table.Reply.{Reply}
 use Rattle.table_net.specs.Replies.{reply_at}
-use Rattle.table_net.specs.Marks.{flag}
+use Rattle.table_net.specs.Marks.{is_marked_at}
 use Rattle.table_net.specs.Table.{Table, channels_of, columns_of}
 
 -- channels, each with as many columns; whether a channel leads on in a column, and to which (Dally
@@ -20,7 +21,7 @@ either columns f h c = if nat_lt c columns then f c else h (c - columns)
 
 -- the flags and the choices, which have a row for each channel
 abbrev pub flag_at : ℕ → List Bool → ℕ → ℕ → Bool
-flag_at columns used x c = flag used (x * columns + c)
+flag_at columns used x c = is_marked_at used (x * columns + c)
 
 abbrev pub choice_at : ℕ → List ℕ → ℕ → ℕ → ℕ
 choice_at columns choices x c = slice_index choices (x * columns + c)

@@ -1,5 +1,6 @@
 -- Marks in a list of flags: a row for each channel, a flag in it for each column.
-use Rattle.std.specs.Prelude.{◌≡◌, ◌⊎◌, ℕ, ◌+◌, ◌*◌, ◌<◌, Bool, true, false, List, length, slice_index_or}
+use Rattle.std.specs.Prelude.{◌≡◌, ◌⊎◌, ℕ, ◌+◌, ◌*◌, ◌<◌, Bool, true, false, List, length}
+use Rattle.std.specs.Prelude.{slice_index_or}
 use Rattle.table_net.specs.Table.{Table, channels_of, columns_of, column_of, joins_of}
 use Rattle.table_net.specs.Ways.{place, IsWay}
 use Rattle.table_net.specs.Verdicts.{join_at}
@@ -9,20 +10,20 @@ abbrev pub cell : Table → ℕ → ℕ → ℕ
 cell t x column = x * columns_of t + column
 
 -- the flag at a place
-abbrev pub flag : List Bool → ℕ → Bool
-flag used m = slice_index_or used m false
+abbrev pub is_marked_at : List Bool → ℕ → Bool
+is_marked_at used m = slice_index_or used m false
 
 -- the place of the k-th channel of a walk
-abbrev pub cell_of : Table → ℕ → ℕ → ℕ → ℕ
-cell_of t i j k = cell t (place t j i k) (column_of t j)
+abbrev pub walk_cell : Table → ℕ → ℕ → ℕ → ℕ
+walk_cell t i j k = cell t (place t j i k) (column_of t j)
 
 -- flags once the first n steps of a walk are marked
 pub record IsTraced (t : Table) (i j n : ℕ) (old new : List Bool) : Type 0 where
   pub size : length new ≡ length old
-  pub kept : (m : ℕ) → flag old m ≡ true → flag new m ≡ true
-  pub marked : (k : ℕ) → k < n → flag new (cell_of t i j k) ≡ true
-  pub only : (m : ℕ) → flag new m ≡ true
-      → (flag old m ≡ true) ⊎ ((k : ℕ) × (k < n) × (m ≡ cell_of t i j k))
+  pub kept : (m : ℕ) → is_marked_at old m ≡ true → is_marked_at new m ≡ true
+  pub marked : (k : ℕ) → k < n → is_marked_at new (walk_cell t i j k) ≡ true
+  pub only : (m : ℕ) → is_marked_at new m ≡ true
+      → (is_marked_at old m ≡ true) ⊎ ((k : ℕ) × (k < n) × (m ≡ walk_cell t i j k))
 
 -- the pair at this place of the list has a route, and the flags are marked along it
 pub record HasTraced (t : Table) (p : ℕ) (old new : List Bool) : Type 0 where
@@ -50,11 +51,11 @@ pub record PassesIn (t : Table) (x c : ℕ) : Type 0 where
 pub record IsMarked (t : Table) (i j : ℕ) (used : List Bool) : Type 0 where
   pub steps : ℕ
   pub way : IsWay t i j steps
-  pub marked : (k : ℕ) → k < steps → flag used (cell_of t i j k) ≡ true
+  pub marked : (k : ℕ) → k < steps → is_marked_at used (walk_cell t i j k) ≡ true
 
 -- the routes of the first pairs are marked, and nothing else
-pub record AreMarked (t : Table) (pairs : ℕ) (used : List Bool) : Type 0 where
+pub record MarksRoutes (t : Table) (pairs : ℕ) (used : List Bool) : Type 0 where
   pub size : length used ≡ channels_of t * columns_of t
   pub each : (p : ℕ) → p < pairs → IsMarked t (join_at t p).from (join_at t p).to used
-  pub only : (x column : ℕ) → column < columns_of t → flag used (cell t x column) ≡ true
+  pub only : (x column : ℕ) → column < columns_of t → is_marked_at used (cell t x column) ≡ true
       → PassesIn t x column

@@ -31,15 +31,16 @@ height (Open k) = 0
 height (Done h) = h
 
 -- a channel is done with, below this height
-abbrev pub IsBelow : List Mark → ℕ → ℕ → Type 0
-IsBelow marks x high = (h : ℕ) × (mark_at marks x ≡ Done h) × (h < high)
+abbrev pub IsDoneBelow : List Mark → ℕ → ℕ → Type 0
+IsDoneBelow marks x high = (h : ℕ) × (mark_at marks x ≡ Done h) × (h < high)
 
 -- all channels that channel x leads on to in the first n columns are done with, below this height
 abbrev pub AreBelow : Graph → List Mark → ℕ → ℕ → ℕ → Type 0
-AreBelow g marks x n high = (j : ℕ) → j < n → g.leads x j ≡ true → IsBelow marks (g.after x j) high
+AreBelow g marks x n high =
+    (j : ℕ) → j < n → g.leads x j ≡ true → IsDoneBelow marks (g.after x j) high
 
 -- a channel leads in a column on to this channel
-pub record LeadsTo (g : Graph) (look : Look) (y : ℕ) : Type 0 where
+pub record LooksOn (g : Graph) (look : Look) (y : ℕ) : Type 0 where
   pub end : look.column < g.columns
   pub marked : g.leads look.channel look.column ≡ true
   pub next : g.after look.channel look.column ≡ y
@@ -53,7 +54,7 @@ pub record IsSearch (g : Graph) (marks : List Mark) (path : List Look) (finished
       → (k < length path) × ((look_at path k).channel ≡ x)
   -- each leads to the next
   pub leads : (k : ℕ) → k + 1 < length path
-      → LeadsTo g (look_at path k) (look_at path (k + 1)).channel
+      → LooksOn g (look_at path k) (look_at path (k + 1)).channel
   -- the channels behind those of the path are done with, as far as the search has come
   pub ends : (k : ℕ) → k < length path → (look_at path k).column ≤ g.columns
   pub behind : (k : ℕ) → k < length path
@@ -71,13 +72,13 @@ StayDone old new = (x h : ℕ) → mark_at old x ≡ Done h → mark_at new x �
 pub record IsCircle (g : Graph) (looks : List Look) : Type 0 where
   pub some : 0 < length looks
   pub each : (k : ℕ) → k + 1 < length looks
-      → LeadsTo g (look_at looks k) (look_at looks (k + 1)).channel
-  pub last : LeadsTo g (look_at looks (length looks - 1)) (look_at looks 0).channel
+      → LooksOn g (look_at looks k) (look_at looks (k + 1)).channel
+  pub last : LooksOn g (look_at looks (length looks - 1)) (look_at looks 0).channel
 
 -- what a search from a channel finds: it is done with, or there is a circle
 abbrev pub IsVisited : {A : Type 0} → Graph → List Mark → List Mark → ℕ → Visited A → Type 0
 IsVisited g old new start (Finished finished) =
-    IsSearch g new [] finished × StayDone old new × IsBelow new start finished
+    IsSearch g new [] finished × StayDone old new × IsDoneBelow new start finished
 IsVisited g old new start (Circle looks) = IsCircle g looks.items
 
 -- no channel leads beyond the channels

@@ -1,6 +1,7 @@
 -- A network as its user writes it down: tables of its channels, of who sends to whom, and of the
 -- routers' choices.
-use Rattle.std.specs.Prelude.{◌≡◌, ℕ, ◌+◌, ◌*◌, ◌==◌, ◌&&◌, Bool, true, false, Option, Some, None, List, length, take}
+use Rattle.std.specs.Prelude.{◌≡◌, ℕ, ◌+◌, ◌*◌, ◌==◌, ◌&&◌, Bool, true, false, Option, Some, None}
+use Rattle.std.specs.Prelude.{List, length, take}
 use Rattle.std.specs.Prelude.{slice_index, slice_get}
 use Rattle.std.specs.List.{count_by, list_any}
 use Rattle.table_net.specs.declared.table.Kind.{Kind}
@@ -47,8 +48,8 @@ choice_of t x column = slice_index t.choices (x * columns_of t + column)
 
 -- the channel that the router behind a channel chooses for packets to an ejection channel (Dally
 -- and Towles, chapter 8)
-abbrev pub next_of : Table → ℕ → ℕ → ℕ
-next_of t x j = choice_of t x (column_of t j)
+abbrev pub table_next : Table → ℕ → ℕ → ℕ
+table_next t x j = choice_of t x (column_of t j)
 
 -- whether packets go from one channel to another
 abbrev pub joins_of : Table → ℕ → ℕ → Bool

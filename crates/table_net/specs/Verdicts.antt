@@ -7,7 +7,7 @@ use Rattle.table_net.specs.declared.table.NoRoute as no_route
 use Rattle.table_net.specs.declared.table.Verdict.{Verdict}
 use Rattle.table_net.specs.declared.table.Verdict.TheVariants.{Rising, NoRoute, Cycle}
 use Rattle.table_net.specs.Table.{Table, channels_of, joins_of}
-use Rattle.table_net.specs.Ways.{IsWay, Fails}
+use Rattle.table_net.specs.Ways.{IsWay, FailsBy}
 use Rattle.table_net.specs.Replies.{RiseOver}
 use Rattle.table_net.specs.TableNet.{Flits, numbered}
 use Rattle.table_net.specs.Cycles.{IsCycle}
@@ -30,14 +30,14 @@ join_at t p = slice_index_or t.joins p (record { from = 0; to = 0 })
 
 -- the pair at this place has no route, and why
 abbrev pub FailsAt : Table → ℕ → Why → Type 0
-FailsAt t p why = Fails t (join_at t p).from (join_at t p).to why
+FailsAt t p why = FailsBy t (join_at t p).from (join_at t p).to why
 
 -- a pair of the list without a route: the first one, and why
 pub record IsFirstFault (t : Table) (r : no_route.NoRoute) : Type 0 where
   pub place : ℕ
   pub here : place < length t.joins
   pub join : join_at t place ≡ r.join
-  pub fails : Fails t r.join.from r.join.to r.why
+  pub fails : FailsBy t r.join.from r.join.to r.why
   pub before : (p : ℕ) → p < place → (n : ℕ) × IsWay t (join_at t p).from (join_at t p).to n
 
 -- exactly what the verdict says

@@ -1,14 +1,16 @@
 -- Walks by the routers' choices: those that are routes, and why others are none.
-use Rattle.std.specs.Prelude.{◌≡◌, ◌≢◌, ℕ, zero, suc, ◌<◌, ◌≤◌, ◌==◌, cond, Some, None, List, [], ◌∷◌}
+use Rattle.std.specs.Prelude.{◌≡◌, ◌≢◌, ℕ, zero, suc, ◌<◌, ◌≤◌, ◌==◌, cond, Some, None, List, []}
+use Rattle.std.specs.Prelude.{◌∷◌}
 use Rattle.table_net.specs.declared.table.Kind.TheVariants.{Injection, Hop, Ejection}
 use Rattle.table_net.specs.declared.table.Why.{Why}
-use Rattle.table_net.specs.declared.table.Why.TheVariants.{NoSender, NoReceiver, Leaves, Ejects, Injects, Round}
-use Rattle.table_net.specs.Table.{Table, channels_of, kind_of, next_of}
+use Rattle.table_net.specs.declared.table.Why.TheVariants.{NoSender, NoReceiver, Leaves, Ejects}
+use Rattle.table_net.specs.declared.table.Why.TheVariants.{Injects, Round}
+use Rattle.table_net.specs.Table.{Table, channels_of, kind_of, table_next}
 
 -- where the walk from channel x to ejection channel j is after so many steps
 abbrev pub place : Table → ℕ → ℕ → ℕ → ℕ
 place t j x zero = x
-place t j x (suc n) = place t j (next_of t x j) n
+place t j x (suc n) = place t j (table_next t x j) n
 
 -- so far the walk goes from an injection channel over hops: at each step below n but the first it
 -- is at a hop
@@ -26,20 +28,20 @@ pub record IsWay (t : Table) (i j n : ℕ) : Type 0 where
 -- the first steps of the walk from channel x, up to ejection channel j or n channels
 abbrev pub walk : Table → ℕ → ℕ → ℕ → List ℕ
 walk t j x zero = []
-walk t j x (suc n) = x ∷ cond (x == j) [] (walk t j (next_of t x j) n)
+walk t j x (suc n) = x ∷ cond (x == j) [] (walk t j (table_next t x j) n)
 
 -- the route from channel i to ejection channel j: the walk, of one more channels at most than there
 -- are
-abbrev pub route_of : Table → ℕ → ℕ → List ℕ
-route_of t i j = walk t j i (suc (channels_of t))
+abbrev pub table_route : Table → ℕ → ℕ → List ℕ
+table_route t i j = walk t j i (suc (channels_of t))
 
 -- why the walk from i to j is no route, and where it fails first
-abbrev pub Fails : Table → ℕ → ℕ → Why → Type 0
-Fails t i j NoSender = kind_of t i ≢ Some Injection
-Fails t i j NoReceiver = kind_of t j ≢ Some Ejection
-Fails t i j (Leaves n) = IsUnderWay t i j n × (0 < n) × (kind_of t (place t j i n) ≡ None)
-Fails t i j (Ejects n) =
+abbrev pub FailsBy : Table → ℕ → ℕ → Why → Type 0
+FailsBy t i j NoSender = kind_of t i ≢ Some Injection
+FailsBy t i j NoReceiver = kind_of t j ≢ Some Ejection
+FailsBy t i j (Leaves n) = IsUnderWay t i j n × (0 < n) × (kind_of t (place t j i n) ≡ None)
+FailsBy t i j (Ejects n) =
     IsUnderWay t i j n × (0 < n) × (kind_of t (place t j i n) ≡ Some Ejection) × (place t j i n ≢ j)
-Fails t i j (Injects n) =
+FailsBy t i j (Injects n) =
     IsUnderWay t i j n × (0 < n) × (kind_of t (place t j i n) ≡ Some Injection)
-Fails t i j Round = (n : ℕ) → IsUnderWay t i j n
+FailsBy t i j Round = (n : ℕ) → IsUnderWay t i j n

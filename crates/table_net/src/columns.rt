@@ -2,7 +2,7 @@
 
 ghost use Rattle.std.specs.Prelude.{◌≡◌, IfOk};
 ghost use Rattle.table_net.specs.Table.{ejects};
-ghost use Rattle.table_net.specs.Columns.{AreColumns, AreEnds};
+ghost use Rattle.table_net.specs.Columns.{AreColumns, AreColumnEnds};
 
 use crate::table::Kind;
 use std::alloc::{AllocError, Allocator};
@@ -42,7 +42,7 @@ pub fn columns_of<A: Allocator + Copy>(
 ///
 /// Errors: memory.
 pub fn ends_of<A: Allocator + Copy>(alloc: A, kinds: &[Kind]) -> Result<Vec<usize, A>, AllocError>
-    ensures { IfOk result (λ ends. AreEnds kinds.now ends.items) }
+    ensures { IfOk result (λ ends. AreColumnEnds kinds.now ends.items) }
 {
     let mut ends = Vec::new(alloc);
     for x in 0..kinds.len() {

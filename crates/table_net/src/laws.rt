@@ -7,12 +7,12 @@ ghost use Rattle.table_net.specs.declared.table.Link.{Link};
 ghost use Rattle.table_net.specs.declared.table.Reply.{Reply};
 ghost use Rattle.table_net.specs.Table.{Table, channels_of, joins_of};
 ghost use Rattle.table_net.specs.Replies.{AreReplies, RiseOver};
-ghost use Rattle.table_net.specs.Ways.{IsWay, Fails, route_of};
-ghost use Rattle.table_net.specs.TableNet.{Flits, net_of};
+ghost use Rattle.table_net.specs.Ways.{IsWay, FailsBy, table_route};
+ghost use Rattle.table_net.specs.TableNet.{Flits, table_network};
 ghost use Rattle.table_net.specs.Cycles.{Depends, IsCycle};
 ghost use Rattle.table_net.specs.declared.table.Verdict.{Verdict};
 ghost use Rattle.table_net.specs.Verdicts.{AllArrive, IsNumbered, IsVerdict};
-ghost use Rattle.table_net.specs.Exactly.{IsRising, AreAlike, HasFault};
+ghost use Rattle.table_net.specs.Exactly.{HasRisingNumbers, AreAlike, HasFailure};
 
 use std::alloc::Allocator;
 
@@ -22,7 +22,7 @@ pub fn rising_tables_are_networks()
     ensures { (t : Table) (number : ℕ → ℕ) (top depth : ℕ) (flits : Flits) → AllArrive t
         → ((x : ℕ) → x < channels_of t → number x < top)
         → ((x j y : ℕ) → Depends t x j y → number x < number y)
-        → IsNet (net_of t number top depth flits) }
+        → IsNet (table_network t number top depth flits) }
 {}
 
 /// Around a cycle no numbers rise: with a cycle a table is no network, whatever the numbers, if these
@@ -30,19 +30,19 @@ pub fn rising_tables_are_networks()
 pub fn cycles_have_no_numbers()
     ensures { (t : Table) (replies : List Reply) (links : List Link) → IsCycle t replies links
         → (number : ℕ → ℕ) (top depth : ℕ) (flits : Flits)
-        → RiseOver replies number → IsNet (net_of t number top depth flits) → ⊥ }
+        → RiseOver replies number → IsNet (table_network t number top depth flits) → ⊥ }
 {}
 
 /// A walk that fails is no route, of however many steps.
 pub fn failing_walks_are_no_routes()
-    ensures { (t : Table) (i j : ℕ) (why : Why) → Fails t i j why
+    ensures { (t : Table) (i j : ℕ) (why : Why) → FailsBy t i j why
         → (n : ℕ) → IsWay t i j n → ⊥ }
 {}
 
 /// Where a table is a network with any numbers at all, between all joined ends there is a route.
 pub fn networks_have_routes()
     ensures { (t : Table) (number : ℕ → ℕ) (top depth : ℕ) (flits : Flits)
-        → IsNet (net_of t number top depth flits) → AllArrive t }
+        → IsNet (table_network t number top depth flits) → AllArrive t }
 {}
 
 /// A table has no verdicts of two kinds, and one that is a network with any numbers that rise over
@@ -52,8 +52,8 @@ pub fn verdicts_are_exact<A: Allocator, B: Allocator>()
         → IsVerdict t replies a → IsVerdict t replies b → AreAlike a b }
     ensures rising { (t : Table) (replies : List Reply)
         (number : ℕ → ℕ) (top depth : ℕ) (flits : Flits)
-        → RiseOver replies number → IsNet (net_of t number top depth flits)
-        → (v : Verdict A) → IsVerdict t replies v → IsRising v }
+        → RiseOver replies number → IsNet (table_network t number top depth flits)
+        → (v : Verdict A) → IsVerdict t replies v → HasRisingNumbers v }
 {}
 
 /// Where all walks arrive there is a cycle, or there are numbers with which the table is a network
@@ -70,5 +70,5 @@ pub fn tables_without_cycles_have_numbers()
 pub fn each_table_is_judged()
     ensures { (t : Table) (replies : List Reply) → AreReplies t replies
         → ((numbers : List ℕ) × IsNumbered t replies numbers)
-        ⊎ (((links : List Link) × IsCycle t replies links) ⊎ HasFault t) }
+        ⊎ (((links : List Link) × IsCycle t replies links) ⊎ HasFailure t) }
 {}

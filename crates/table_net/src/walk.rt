@@ -1,10 +1,11 @@
 //! Walks by the routers' choices.
 
-ghost use Rattle.std.specs.Prelude.{◌≡◌, ◌+◌, ◌*◌, ◌<◌, ◌^◌, ℕ, false, length, slice_get, OnOk, IfErr};
+ghost use Rattle.std.specs.Prelude.{◌≡◌, ◌+◌, ◌*◌, ◌<◌, ◌^◌, ℕ, false, length, slice_get, OnOk};
+ghost use Rattle.std.specs.Prelude.{IfErr};
 ghost use Rattle.table_net.specs.Table.{table_of, columns_of, IsFull};
 ghost use Rattle.table_net.specs.Columns.{AreColumns};
 ghost use Rattle.table_net.specs.Verdicts.{FailsAt, IsFirstFault};
-ghost use Rattle.table_net.specs.Marks.{flag, IsTraced, AreMarked, HasTraced};
+ghost use Rattle.table_net.specs.Marks.{is_marked_at, IsTraced, MarksRoutes, HasTraced};
 
 use crate::table::{Join, Kind, NoRoute, Why};
 
@@ -96,9 +97,9 @@ pub fn trace_all(
     requires columns { AreColumns kinds.now columns.now }
     requires width { width ≡ columns_of (table_of kinds.now joins.now choices.now) }
     requires square { length used.old ≡ length kinds.now * width }
-    requires clear { (m : ℕ) → flag used.old m ≡ false }
+    requires clear { (m : ℕ) → is_marked_at used.old m ≡ false }
     ensures marked { OnOk result
-        (AreMarked (table_of kinds.now joins.now choices.now) (length joins.now) used.new) }
+        (MarksRoutes (table_of kinds.now joins.now choices.now) (length joins.now) used.new) }
     ensures fails { IfErr result (IsFirstFault (table_of kinds.now joins.now choices.now)) }
 {
     for place in 0..joins.len() {

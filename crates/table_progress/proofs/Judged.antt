@@ -15,13 +15,13 @@ use Rattle.table_net.specs.Table.{Table, channels_of, joins_of, kind_of, is_ejec
 use Rattle.table_net.specs.Replies.{AreReplies}
 use Rattle.table_net.specs.TableNet.{Flits, numbered}
 use Rattle.table_net.specs.Verdicts.{IsNumbered}
-use Rattle.table_progress.specs.Receivers.{Goes, Move, Moves, Takes, AreEnds}
+use Rattle.table_progress.specs.Receivers.{GoesWhere, MoveThere, Moves, Takes, AreEndsOfTiles}
 use Rattle.table_progress.proofs.Going as going
 
 -- somebody goes, or all is quiet
 pub goes_or_quiet : (t : Table) (replies : List Reply) (numbers : List ℕ) → AreReplies t replies → IsNumbered t replies numbers
     → (depth : ℕ) (flits : Flits) → 0 < depth → (s : State) → IsReached (numbered t numbers depth flits) s
-    → (Go : Type 0) → Goes (numbered t numbers depth flits) s replies Go
+    → (Go : Type 0) → GoesWhere (numbered t numbers depth flits) s replies Go
     → Go ⊎ ((x : ℕ) → x < channels_of t → IsQuiet (numbered t numbers depth flits) s x)
 goes_or_quiet t replies numbers are is depth flits deep s reached Go go =
     let n : Net = numbered t numbers depth flits in
@@ -30,13 +30,13 @@ goes_or_quiet t replies numbers are is depth flits deep s reached Go go =
     (λ x y r. slice_get_within t.kinds y Injection (are x y r).1) go
 
 -- a move is something that goes
-pub move_goes : (n : Net) (s : State) (replies : List Reply) → Goes n s replies (Move n s replies)
+pub move_goes : (n : Net) (s : State) (replies : List Reply) → GoesWhere n s replies (MoveThere n s replies)
 move_goes n s replies = record { moves = Moves; takes = Takes }
 
 -- where nobody goes, all has come
 pub all_has_come : (t : Table) (replies : List Reply) (numbers : List ℕ) → AreReplies t replies → IsNumbered t replies numbers
     → (depth : ℕ) (flits : Flits) → 0 < depth → (s : State) → IsReached (numbered t numbers depth flits) s
-    → Goes (numbered t numbers depth flits) s replies ⊥
+    → GoesWhere (numbered t numbers depth flits) s replies ⊥
     → (i j : ℕ) → joins_of t i j ≡ true → between i j (whole s j) ≡ between i j (s.notes i).sent
 all_has_come t replies numbers are is depth flits deep s reached still i j joined =
     let n : Net = numbered t numbers depth flits in
@@ -60,7 +60,7 @@ ejection (Some Ejection) h = refl
 
 -- tiles at its ends
 pub tiles_there : (t : Table) (replies : List Reply) (numbers : List ℕ) → AreReplies t replies → IsNumbered t replies numbers
-    → (tiles : Tiles) → AreEnds t replies tiles → (depth : ℕ) (flits : Flits) → AreTiles (numbered t numbers depth flits) tiles
+    → (tiles : Tiles) → AreEndsOfTiles t replies tiles → (depth : ℕ) (flits : Flits) → AreTiles (numbered t numbers depth flits) tiles
 tiles_there t replies numbers are is tiles at depth flits = record {
   receivers = λ x within ejects. at.receivers x (ejection (kind_of t x) ejects);
   asks_within = λ p h. slice_get_within t.kinds (tiles.asks p) Injection (at.asks p h);

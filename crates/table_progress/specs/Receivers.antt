@@ -11,7 +11,7 @@ use Rattle.table_net.specs.Replies.{IsReply}
 
 -- a flit stands first in an ejection channel, and each channel on which its receiver answers holds
 -- a credit (Dally and Towles, chapters 13 and 14)
-pub record CanTake (n : Net) (s : State) (replies : List Reply) (x flit : ℕ) (more : List ℕ) : Type
+pub record CanBeTaken (n : Net) (s : State) (replies : List Reply) (x flit : ℕ) (more : List ℕ) : Type
     0 where
   pub here : x < n.channels
   pub ejects : n.ejects x ≡ true
@@ -21,18 +21,18 @@ pub record CanTake (n : Net) (s : State) (replies : List Reply) (x flit : ℕ) (
 -- Go follows from each of these: an owed event that may happen, and a receiver with a flit and its
 -- credits. So routers and senders go wherever they may, and receivers take a flit wherever they can
 -- answer.
-pub record Goes (n : Net) (s : State) (replies : List Reply) (Go : Type 0) : Type 0 where
+pub record GoesWhere (n : Net) (s : State) (replies : List Reply) (Go : Type 0) : Type 0 where
   pub moves : (e : Event) → IsOwed e → CanHappen n s.lines e → Go
-  pub takes : (x flit : ℕ) (more : List ℕ) → CanTake n s replies x flit more → Go
+  pub takes : (x flit : ℕ) (more : List ℕ) → CanBeTaken n s replies x flit more → Go
 
 -- something that can move: one of the two above
-pub data Move (n : Net) (s : State) (replies : List Reply) : Type 0 where
-  Moves : (e : Event) → IsOwed e → CanHappen n s.lines e → Move n s replies
-  Takes : (x flit : ℕ) (more : List ℕ) → CanTake n s replies x flit more → Move n s replies
+pub data MoveThere (n : Net) (s : State) (replies : List Reply) : Type 0 where
+  Moves : (e : Event) → IsOwed e → CanHappen n s.lines e → MoveThere n s replies
+  Takes : (x flit : ℕ) (more : List ℕ) → CanBeTaken n s replies x flit more → MoveThere n s replies
 
 -- Tiles at the ends of a table's channels: each ejection channel is a processor's or a bank's, and
 -- a bank answers as the replies say (Dally and Towles, chapter 20).
-pub record AreEnds (t : Table) (replies : List Reply) (tiles : Tiles) : Type 0 where
+pub record AreEndsOfTiles (t : Table) (replies : List Reply) (tiles : Tiles) : Type 0 where
   pub receivers : (x : ℕ) → kind_of t x ≡ Some Ejection
       → ((p : ℕ) × (p < tiles.count) × (x ≡ tiles.hears p))
       ⊎ ((b : ℕ) × (b < tiles.count) × (x ≡ tiles.serves b))

@@ -11,7 +11,7 @@ ghost use Rattle.table_net.specs.Table.{Table, channels_of, joins_of};
 ghost use Rattle.table_net.specs.Replies.{AreReplies};
 ghost use Rattle.table_net.specs.TableNet.{Flits, numbered};
 ghost use Rattle.table_net.specs.Verdicts.{IsNumbered};
-ghost use Rattle.table_progress.specs.Receivers.{Goes, Move, AreEnds};
+ghost use Rattle.table_progress.specs.Receivers.{GoesWhere, MoveThere, AreEndsOfTiles};
 
 /// A judged network never locks up: in every state that events lead to something can move, or all
 /// channels are quiet, if receivers take a flit wherever each channel on which they answer holds a
@@ -21,17 +21,17 @@ pub fn judged_networks_never_lock_up()
     ensures either { (t : Table) (replies : List Reply) (numbers : List ℕ) → AreReplies t replies
         → IsNumbered t replies numbers → (depth : ℕ) (flits : Flits) → 0 < depth
         → (s : State) → IsReached (numbered t numbers depth flits) s
-        → Move (numbered t numbers depth flits) s replies
+        → MoveThere (numbered t numbers depth flits) s replies
         ⊎ ((x : ℕ) → x < channels_of t → IsQuiet (numbered t numbers depth flits) s x) }
     ensures moving { (t : Table) (replies : List Reply) (numbers : List ℕ) → AreReplies t replies
         → IsNumbered t replies numbers → (depth : ℕ) (flits : Flits) → 0 < depth
         → (s : State) → IsReached (numbered t numbers depth flits) s
         → (x : ℕ) → x < channels_of t → (IsQuiet (numbered t numbers depth flits) s x → ⊥)
-        → Move (numbered t numbers depth flits) s replies }
+        → MoveThere (numbered t numbers depth flits) s replies }
     ensures delivered { (t : Table) (replies : List Reply) (numbers : List ℕ) → AreReplies t replies
         → IsNumbered t replies numbers → (depth : ℕ) (flits : Flits) → 0 < depth
         → (s : State) → IsReached (numbered t numbers depth flits) s
-        → Goes (numbered t numbers depth flits) s replies ⊥
+        → GoesWhere (numbered t numbers depth flits) s replies ⊥
         → (i j : ℕ) → joins_of t i j ≡ true
         → between i j (whole s j) ≡ between i j (s.notes i).sent }
 {}
@@ -53,6 +53,6 @@ pub fn judged_networks_deliver()
 /// the replies are numbered above the requests.
 pub fn judged_networks_have_tiles()
     ensures { (t : Table) (replies : List Reply) (numbers : List ℕ) → AreReplies t replies
-        → IsNumbered t replies numbers → (tiles : Tiles) → AreEnds t replies tiles
+        → IsNumbered t replies numbers → (tiles : Tiles) → AreEndsOfTiles t replies tiles
         → (depth : ℕ) (flits : Flits) → AreTiles (numbered t numbers depth flits) tiles }
 {}

@@ -9,7 +9,6 @@ pub mod reason;
 pub mod sentence;
 mod setting;
 mod wording;
-mod words;
 
 pub use line::trace_reason;
 pub use reason::{Keyword, TraceReason};

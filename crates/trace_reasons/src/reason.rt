@@ -1,5 +1,5 @@
 ghost use Rattle.std.specs.Prelude.{◌≡◌};
-ghost use Rattle.trace_reasons.specs.Reasons.{fault_of, keyword_of};
+ghost use Rattle.trace_reasons.specs.Reasons.{trace_fault_of, trace_keyword_of};
 
 use torus::Fault;
 
@@ -70,7 +70,7 @@ pub enum TraceReason {
 impl TraceReason {
     /// The fault that has this reason.
     pub fn fault(self) -> Fault
-        ensures { result ≡ fault_of self }
+        ensures { result ≡ trace_fault_of self }
     {
         match self {
             TraceReason::NoTitle => Fault::Line,
@@ -105,7 +105,7 @@ impl TraceReason {
 impl Keyword {
     /// The keyword that a word spells.
     pub fn of(word: &[u8]) -> Option<Keyword>
-        ensures { result ≡ keyword_of word.now }
+        ensures { result ≡ trace_keyword_of word.now }
     {
         if word == b"words".as_slice() {
             return Some(Keyword::Words);

@@ -3,7 +3,8 @@
 ghost use Rattle.std.specs.Prelude.{IfSome};
 ghost use Rattle.std.specs.Str.Lines.{lines};
 ghost use Rattle.trace_text.specs.Traced.{trace_of};
-ghost use Rattle.trace_reasons.specs.Told.{Tells, IsAbout, IsReasoned};
+ghost use Rattle.explained.specs.Told.{IsAbout};
+ghost use Rattle.trace_reasons.specs.Told.{TellsTraceFault, IsReasoned};
 
 use crate::line::trace_reason;
 use crate::reason::TraceReason;
@@ -32,8 +33,8 @@ pub fn trace_sentence<'a, A: Allocator + Copy>(
     alloc: A,
     trace: Named<'a>,
 ) -> Option<TraceSentence<'a>>
-    ensures tells { Tells (trace_of (lines trace.entry.text.now)) result }
-    ensures text { IfSome result (IsAbout trace.entry) }
+    ensures tells { TellsTraceFault (trace_of (lines trace.entry.text.now)) result }
+    ensures text { IfSome result (λ s. IsAbout trace.entry s.name.now s.text.now) }
     ensures reason { IfSome result (IsReasoned (lines trace.entry.text.now)) }
 {
     match read_trace(alloc, trace.text) {

@@ -1,7 +1,7 @@
 //! The wording of each reason.
 
 use crate::reason::{Keyword, TraceReason};
-use crate::words::Words;
+use explained::Words;
 use std::fmt;
 
 /// The sentence of a reason, in which `$` and a sign behind it stand for what `put_part` puts there.
@@ -105,12 +105,12 @@ fn put_part<W: fmt::Write>(
 ) -> fmt::Result {
     match sign {
         b'l' => write!(f, "{words}"),
-        b'p' => write!(f, "{}", words.at(place_of(reason))),
+        b'p' => write!(f, "{}", words.at(place_of(reason) as usize)),
         b'n' => write!(f, "{}", number_of(reason)),
         b's' => f.write_str(plural(number_of(reason))),
         b'o' => f.write_str(operands_text(words.at(2).word)),
         b'f' => write!(f, "{}", reason.fault()),
-        digit => write!(f, "{}", words.at(u32::from(digit.saturating_sub(b'0')))),
+        digit => write!(f, "{}", words.at(digit.saturating_sub(b'0') as usize)),
     }
 }
 
@@ -121,7 +121,7 @@ pub(crate) fn put_reason<W: fmt::Write>(
     line: u64,
     reason: TraceReason,
 ) -> fmt::Result {
-    let words = Words::of(text, line);
+    let words = Words::of_line(text, line);
     let mut is_sign = false;
     for byte in wording(reason).as_bytes() {
         if is_sign {

@@ -13,7 +13,7 @@ use Rattle.trace_order.specs.Traces.{IsAnsweredAt}
 use Rattle.trace_order.proofs.Lists.{get_append_left, get_within, within_length, set_get_same, get_set_other}
 use Rattle.trace_text.proofs.Growing.{longer, none_issued, none_answered, none_trace, issued_with, issued_before, answered_with, answered_before}
 use Rattle.trace_text.proofs.Growing.{issue_grows, answer_grows}
-use Rattle.trace_records.specs.Gathered.{Gathered, nothing_gathered, with_issue, with_answer, is_replied}
+use Rattle.trace_records.specs.Gathered.{Gathered, nothing_gathered, gathered_issue, gathered_answer, is_replied}
 use Rattle.trace_records.specs.Kept.{IsGathered}
 
 pub kept_none : (words : ℕ) → IsGathered words nothing_gathered
@@ -25,7 +25,7 @@ kept_none words = record {
 }
 
 -- a new issue
-pub issue_kept : (words : ℕ) (g : Gathered) → IsGathered words g → (p : ℕ) (o : Operation) → o.address < words → IsGathered words (with_issue g p o)
+pub issue_kept : (words : ℕ) (g : Gathered) → IsGathered words g → (p : ℕ) (o : Operation) → o.address < words → IsGathered words (gathered_issue g p o)
 issue_kept words g k p o low =
     let new : Call = record { id = length g.events; operation = o } in
     record {
@@ -54,7 +54,7 @@ not_marked (x ∷ xs) (suc n) h m = not_marked xs n h m
 
 -- a new answer
 pub answer_kept : (words : ℕ) (g : Gathered) → IsGathered words g → (n : ℕ) (reply : Reply) → is_replied (slice_get g.events n) reply ≡ true
-    → slice_index_or g.answered n false ≡ false → IsGathered words (with_answer g n reply)
+    → slice_index_or g.answered n false ≡ false → IsGathered words (gathered_answer g n reply)
 answer_kept words g k n reply goes open_ =
     let issue = issue_of (slice_get g.events n) reply goes in
     let low = get_within g.events n (Issue issue.0) issue.1 in

@@ -1,5 +1,6 @@
 -- What each record makes is a trace.
-use Rattle.std.proofs.Common.{◌≡◌, ◌⊎◌, ⊎_elim, inl, inr, refl, ℕ, zero, suc, ◌+◌, ◌==◌, [], drop, Some, None, false, List, ◌∷◌, sym, ◌∙◌, ap, subst, arith, slice_get}
+use Rattle.std.proofs.Common.{◌≡◌, ◌⊎◌, ⊎_elim, inl, inr, refl, ℕ, zero, suc, ◌+◌, ◌==◌, [], drop, Some, None, false, List, ◌∷◌, sym, ◌∙◌, ap, subst, arith}
+use Rattle.std.proofs.Common.{slice_get}
 use Rattle.std.specs.Prelude.{nat_lt, not, Result, Ok, Err, ok_or, if◌then◌else◌}
 use Rattle.std.specs.List.{slice_index_or}
 use Rattle.script.specs.declared.fault.LineFault.{LineFault}
@@ -11,28 +12,28 @@ use Rattle.trace_text.proofs.Outcomes.{one_ok, bind_ok, else_ok, then_ok, if_ok,
 use Rattle.trace_text.specs.IssueNumbers.{numbers_of}
 use Rattle.trace_records.specs.declared.record.EventRecord.{EventRecord}
 use Rattle.trace_records.specs.Numbered.{op_numbered, reply_numbered}
-use Rattle.trace_records.specs.Gathered.{Gathered, after_answer, after_issue, after_record, events_from, is_replied, with_answer, with_issue}
+use Rattle.trace_records.specs.Gathered.{Gathered, answer_gathered, issue_gathered, after_record, events_from, is_replied, gathered_answer, gathered_issue}
 use Rattle.trace_records.specs.Kept.{IsGathered}
 use Rattle.trace_records.proofs.Events.{answer_kept, issue_kept}
 
-issue_stands : (words : ℕ) (g next : Gathered) (e : EventRecord) → IsGathered words g → after_issue words g e ≡ Ok next → IsGathered words next
+issue_stands : (words : ℕ) (g next : Gathered) (e : EventRecord) → IsGathered words g → issue_gathered words g e ≡ Ok next → IsGathered words next
 issue_stands words g next e k h =
     let op = bind_ok (ok_or (op_numbered e.operation e.first e.second) fault.Line) _ next h in
     let processor = else_ok (not (nat_lt e.processor 4096)) fault.Processor _ next op.2 in
     let address = else_ok (not (nat_lt e.address words)) fault.Address _ next processor.1 in
-    let same : with_issue g e.processor (record { address = e.address; op = op.0 }) ≡ next = one_ok _ next address.1 in
+    let same : gathered_issue g e.processor (record { address = e.address; op = op.0 }) ≡ next = one_ok _ next address.1 in
     subst (IsGathered words) same
     (issue_kept words g k e.processor (record { address = e.address; op = op.0 })
     (lt_true e.address words (not_true (nat_lt e.address words) address.0)))
 
-answer_stands : (words : ℕ) (g next : Gathered) (e : EventRecord) → IsGathered words g → after_answer g e ≡ Ok next → IsGathered words next
+answer_stands : (words : ℕ) (g next : Gathered) (e : EventRecord) → IsGathered words g → answer_gathered g e ≡ Ok next → IsGathered words next
 answer_stands words g next e k h =
     let reply = bind_ok (ok_or (reply_numbered e.has_old e.old) fault.Line) _ next h in
     let processor = else_ok (not (nat_lt e.processor 4096)) fault.Processor _ next reply.2 in
     let n = bind_ok (ok_or (slice_get (numbers_of g.numbers e.processor) e.index) fault.Range) _ next processor.1 in
     let goes = else_ok (not (is_replied (slice_get g.events n.0) reply.0)) fault.Line _ next n.2 in
     let new = else_ok (slice_index_or g.answered n.0 false) fault.Setting _ next goes.1 in
-    let same : with_answer g n.0 reply.0 ≡ next = one_ok _ next new.1 in
+    let same : gathered_answer g n.0 reply.0 ≡ next = one_ok _ next new.1 in
     subst (IsGathered words) same
     (answer_kept words g k n.0 reply.0 (not_true (is_replied (slice_get g.events n.0) reply.0) goes.0) new.0)
 
@@ -40,8 +41,8 @@ answer_stands words g next e k h =
 pub record_stands : (words : ℕ) (g next : Gathered) (e : EventRecord) → IsGathered words g → after_record words g e ≡ Ok next → IsGathered words next
 record_stands words g next e k h = ⊎_elim
     (λ m. issue_stands words g next e k m.1)
-    (λ m. let a = then_ok (e.kind == 1) fault.Line (after_answer g e) next m.1 in answer_stands words g next e k a.1)
-    (if_ok (e.kind == 0) (after_issue words g e) (if e.kind == 1 then after_answer g e else Err fault.Line) next h)
+    (λ m. let a = then_ok (e.kind == 1) fault.Line (answer_gathered g e) next m.1 in answer_stands words g next e k a.1)
+    (if_ok (e.kind == 0) (issue_gathered words g e) (if e.kind == 1 then answer_gathered g e else Err fault.Line) next h)
 
 -- the record that is next, and those behind it
 drop_next : (records : List EventRecord) (k : ℕ) (e : EventRecord) → slice_get records k ≡ Some e

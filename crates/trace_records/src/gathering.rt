@@ -4,11 +4,12 @@ ghost use Rattle.std.specs.Prelude.{◌≡◌, ◌<◌, ◌++◌, ◌∷◌, [],
 ghost use Rattle.std.specs.Prelude.{slice_get, slice_set};
 ghost use Rattle.std.specs.List.{slice_index_or};
 ghost use Rattle.script.specs.Outcome.{Makes};
-ghost use Rattle.trace_records.specs.Gathered.{add_answer, after_answer, after_issue, after_record, is_replied};
-ghost use Rattle.trace_records.specs.Gathered.{nothing_gathered, with_issue};
+ghost use Rattle.trace_records.specs.Gathered.{answer_added, answer_gathered, issue_gathered};
+ghost use Rattle.trace_records.specs.Gathered.{after_record, is_replied};
+ghost use Rattle.trace_records.specs.Gathered.{nothing_gathered, gathered_issue};
 ghost use Rattle.trace_records.specs.Views.{gathered_of};
 
-use crate::record::{EventRecord, goes_with};
+use crate::record::{EventRecord, is_reply_to};
 use packet::{Operation, Reply};
 use std::alloc::{AllocError, Allocator};
 use torus::Fault;
@@ -30,7 +31,7 @@ fn is_replied(events: &[Event], at: u64, reply: Reply) -> bool
     ensures { result ≡ is_replied (slice_get events.now at) reply }
 {
     match events.get(at as usize).copied() {
-        Some(Event::Issue(call)) => goes_with(call.operation.op, reply),
+        Some(Event::Issue(call)) => is_reply_to(call.operation.op, reply),
         Some(Event::Answer(_, _)) => false,
         None => false,
     }
@@ -70,7 +71,7 @@ impl<A: Allocator + Copy> Gathering<A> {
     /// Takes an issue.
     fn take_issue(&mut self, words: usize, event: EventRecord) -> Result<(), Fault>
         ensures { Makes (gathered_of self.new) result
-            (after_issue words (gathered_of self.old) event) }
+            (issue_gathered words (gathered_of self.old) event) }
     {
         let Some(op) = event.op() else {
             return Err(Fault::Line);
@@ -89,7 +90,7 @@ impl<A: Allocator + Copy> Gathering<A> {
     fn add_issue(&mut self, p: u32, operation: Operation) -> Result<(), Fault>
         requires { p < 4096 }
         ensures value { OnOk result
-            (gathered_of self.new ≡ with_issue (gathered_of self.old) p operation) }
+            (gathered_of self.new ≡ gathered_issue (gathered_of self.old) p operation) }
         ensures memory { IfErr result (λ e. e ≡ Fault.Memory) }
     {
         let id = self.events.len() as u64;
@@ -117,7 +118,7 @@ impl<A: Allocator + Copy> Gathering<A> {
     /// Takes an answer.
     fn take_answer(&mut self, event: EventRecord) -> Result<(), Fault>
         ensures { Makes (gathered_of self.new) result
-            (after_answer (gathered_of self.old) event) }
+            (answer_gathered (gathered_of self.old) event) }
     {
         let Some(reply) = event.reply() else {
             return Err(Fault::Line);
@@ -131,13 +132,13 @@ impl<A: Allocator + Copy> Gathering<A> {
         else {
             return Err(Fault::Range);
         };
-        self.add_answer(number, reply)
+        self.answer_added(number, reply)
     }
 
     /// Adds the answer to the operation of this number.
-    fn add_answer(&mut self, number: u64, reply: Reply) -> Result<(), Fault>
+    fn answer_added(&mut self, number: u64, reply: Reply) -> Result<(), Fault>
         ensures { Makes (gathered_of self.new) result
-            (add_answer (gathered_of self.old) number reply) }
+            (answer_added (gathered_of self.old) number reply) }
     {
         if !is_replied(&self.events, number, reply) {
             return Err(Fault::Line);

@@ -2,7 +2,7 @@
 
 ghost use Rattle.std.specs.Prelude.{◌≡◌};
 ghost use Rattle.trace_records.specs.Numbered.{op_numbered, reply_numbered};
-ghost use Rattle.trace_records.specs.Gathered.{goes_with};
+ghost use Rattle.trace_records.specs.Gathered.{is_reply_to};
 
 use packet::{Code, Op, Reply};
 
@@ -70,8 +70,8 @@ impl EventRecord {
 }
 
 /// Whether a reply goes with an operation: `ok` with a store, and an old word with every other one.
-pub(crate) fn goes_with(op: Op, reply: Reply) -> bool
-    ensures { result ≡ goes_with op reply }
+pub(crate) fn is_reply_to(op: Op, reply: Reply) -> bool
+    ensures { result ≡ is_reply_to op reply }
 {
     match reply {
         Reply::Ok => matches!(op.code(), Code::Store),

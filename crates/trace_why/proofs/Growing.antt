@@ -6,7 +6,7 @@ use Rattle.std.proofs.lemmas.List.Elements.{Contains-push, Contains-push_cases, 
 use Rattle.packet.specs.Memory.{new_word}
 use Rattle.trace_order.proofs.Lists.{same_get, get_within}
 use Rattle.trace_why.specs.declared.calls.CallAt.{CallAt}
-use Rattle.trace_why.specs.Values.{IsReached}
+use Rattle.trace_why.specs.Values.{IsReachedIn}
 use Rattle.trace_why.proofs.Places.{contains_in, in_contains}
 
 -- what the first n operations leave of a value is there
@@ -64,13 +64,13 @@ grown_all calls from n old new l g v c h k =
     g.grown i.0 v c (omega arith) i.1 k
 
 -- one round more
-pub round_more : (base : List ℕ) (calls : List CallAt) (n : ℕ) (old new : List ℕ) → ((v : ℕ) → IsReached base calls n v → Contains old v)
+pub round_more : (base : List ℕ) (calls : List CallAt) (n : ℕ) (old new : List ℕ) → ((v : ℕ) → IsReachedIn base calls n v → Contains old v)
     → ((v : ℕ) → Contains old v → Contains new v)
     → ((v : ℕ) (c : CallAt) → Contains old v → Contains calls c → Contains new (new_word c.call.operation.op v))
-    → (v : ℕ) → IsReached base calls (suc n) v → Contains new v
+    → (v : ℕ) → IsReachedIn base calls (suc n) v → Contains new v
 round_more base calls n old new has keeps grows v h = ⊎_elim {C = Contains new v}
-    (λ (r : IsReached base calls n v). keeps v (has v r))
-    (λ (s : (u : ℕ) × (c : CallAt) × IsReached base calls n u × Contains calls c × (v ≡ new_word c.call.operation.op u)).
+    (λ (r : IsReachedIn base calls n v). keeps v (has v r))
+    (λ (s : (u : ℕ) × (c : CallAt) × IsReachedIn base calls n u × Contains calls c × (v ≡ new_word c.call.operation.op u)).
     subst (λ (x : ℕ). Contains new x) (sym s.4) (grows s.0 s.1 (has s.0 s.2) s.3))
     h
 

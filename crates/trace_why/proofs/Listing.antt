@@ -12,7 +12,7 @@ use Rattle.trace_order.proofs.Lists.{get_push_cases, get_within, same_get}
 use Rattle.trace_order.proofs.Issues.{one_issue, one_call}
 use Rattle.trace_why.specs.declared.calls.CallAt.{CallAt}
 use Rattle.trace_why.specs.Calls.{IsOpenOn, AreOpenOn, IsAnsweredOn, IsOver}
-use Rattle.trace_why.specs.Values.{left_by}
+use Rattle.trace_why.specs.Values.{left_word}
 use Rattle.trace_why.proofs.Places.{in_contains}
 
 -- an operation with its event
@@ -109,25 +109,25 @@ opening_all trace k w pending o = record {
 
 -- an event answers one operation, in one way
 pub one_answer : (words : ℕ) (trace : List Event) (i w : ℕ) (c d : CallAt) (r s : Reply) → IsTrace words trace → IsAnsweredOn trace i w c r
-    → IsAnsweredOn trace i w d s → left_by c.call.operation.op r ≡ left_by d.call.operation.op s
+    → IsAnsweredOn trace i w d s → left_word c.call.operation.op r ≡ left_word d.call.operation.op s
 one_answer words trace i w c d r s t a b =
     let e : Answer c.call.id r ≡ Answer d.call.id s = same_get trace i (Answer c.call.id r) (Answer d.call.id s) a.answer b.answer in
     let id : c.call.id ≡ d.call.id = cc in
     let reply : r ≡ s = cc in
     let call : c.call ≡ d.call = one_call words trace t c.event d.event c.call d.call a.issue b.issue id in
-    ap (λ (x : Call). left_by x.operation.op r) call ∙ ap (left_by d.call.operation.op) reply
+    ap (λ (x : Call). left_word x.operation.op r) call ∙ ap (left_word d.call.operation.op) reply
 
 -- the values that operations left which the events up to i answer
 pub record Adding (trace : List Event) (from w i : ℕ) (old new : List ℕ) : Type 0 where
   pub kept : (v : ℕ) → Contains old v → Contains new v
   pub left : (j : ℕ) (c : CallAt) (reply : Reply) → from ≤ j → j < i → IsAnsweredOn trace j w c reply
-      → Contains new (left_by c.call.operation.op reply)
+      → Contains new (left_word c.call.operation.op reply)
 
 pub adding_skip : (trace : List Event) (from w i : ℕ) (old new : List ℕ) → Adding trace from w i old new
     → ((c : CallAt) (reply : Reply) → IsAnsweredOn trace i w c reply → ⊥) → Adding trace from w (i + 1) old new
 adding_skip trace from w i old new a none = record {
   kept = a.kept;
-  left = λ j c reply l h is. ⊎_elim {C = Contains new (left_by c.call.operation.op reply)}
+  left = λ j c reply l h is. ⊎_elim {C = Contains new (left_word c.call.operation.op reply)}
       (λ (low : j < i). a.left j c reply l low is)
       (λ (high : i ≤ j).
       let same : j ≡ i = omega arith in
@@ -137,11 +137,11 @@ adding_skip trace from w i old new a none = record {
 
 pub adding_one : (words : ℕ) (trace : List Event) (from w i : ℕ) (old new more : List ℕ) (found : CallAt) (told : Reply) → IsTrace words trace
     → Adding trace from w i old new → IsAnsweredOn trace i w found told → ((v : ℕ) → Contains new v → Contains more v)
-    → Contains more (left_by found.call.operation.op told) → Adding trace from w (i + 1) old more
+    → Contains more (left_word found.call.operation.op told) → Adding trace from w (i + 1) old more
 adding_one words trace from w i old new more found told t a now keeps there = record {
   kept = λ v h. keeps v (a.kept v h);
-  left = λ j c reply l h is. ⊎_elim {C = Contains more (left_by c.call.operation.op reply)}
-      (λ (low : j < i). keeps (left_by c.call.operation.op reply) (a.left j c reply l low is))
+  left = λ j c reply l h is. ⊎_elim {C = Contains more (left_word c.call.operation.op reply)}
+      (λ (low : j < i). keeps (left_word c.call.operation.op reply) (a.left j c reply l low is))
       (λ (high : i ≤ j).
       let same : j ≡ i = omega arith in
       subst (λ (v : ℕ). Contains more v)

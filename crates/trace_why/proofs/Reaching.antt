@@ -1,5 +1,6 @@
 -- What an operation finds is among the values that are reached.
-use Rattle.std.proofs.Common.{◌≡◌, ◌≢◌, inl, inr, ⊎_elim, ℕ, zero, suc, ◌+◌, ◌<◌, ◌≤◌, List, length, Some, refl, sym, ◌∙◌, ap, subst, arith, slice_get, get_or, take}
+use Rattle.std.proofs.Common.{◌≡◌, ◌≢◌, inl, inr, ⊎_elim, ℕ, zero, suc, ◌+◌, ◌<◌, ◌≤◌, List, length, Some, refl, sym, ◌∙◌, ap, subst, arith, slice_get, get_or}
+use Rattle.std.proofs.Common.{take}
 use Rattle.std.specs.Prelude.{Contains}
 use Rattle.std.proofs.lemmas.Bool.{cases_eq, cases_lt}
 use Rattle.packet.specs.declared.kinds.Op.{Op}
@@ -18,21 +19,21 @@ use Rattle.trace_text.specs.Allowed.{answered_so, IsAllowed}
 use Rattle.trace_text.proofs.Allowing.{issue_before, issue_kept, answer_kept, answer_last}
 use Rattle.trace_why.specs.declared.calls.CallAt.{CallAt}
 use Rattle.trace_why.specs.Calls.{IsOpenOn, AreOpenOn, IsAnsweredOn, IsOver}
-use Rattle.trace_why.specs.Values.{left_by, AreLeft, IsStart, IsReached}
+use Rattle.trace_why.specs.Values.{left_word, AreLeftBetween, IsStart, IsReachedIn}
 use Rattle.trace_why.proofs.Places.{IsIn, in_contains, contains_in, without, length-without, in_without, without_in, answered_or_not}
 
 -- what a reply tells of the word that was found
-left_is : (op : Op) (reply : Reply) (u : ℕ) → reply ≡ reply_to op u → left_by op reply ≡ new_word op u
-left_is Load reply u e = ap (left_by Load) e
-left_is (Store v) reply u e = ap (left_by (Store v)) e
-left_is (Swap v) reply u e = ap (left_by (Swap v)) e
-left_is (Cas x y) reply u e = ap (left_by (Cas x y)) e
-left_is (Add v) reply u e = ap (left_by (Add v)) e
-left_is (And v) reply u e = ap (left_by (And v)) e
-left_is (Or v) reply u e = ap (left_by (Or v)) e
-left_is (Xor v) reply u e = ap (left_by (Xor v)) e
-left_is (Max v) reply u e = ap (left_by (Max v)) e
-left_is (Min v) reply u e = ap (left_by (Min v)) e
+left_is : (op : Op) (reply : Reply) (u : ℕ) → reply ≡ reply_to op u → left_word op reply ≡ new_word op u
+left_is Load reply u e = ap (left_word Load) e
+left_is (Store v) reply u e = ap (left_word (Store v)) e
+left_is (Swap v) reply u e = ap (left_word (Swap v)) e
+left_is (Cas x y) reply u e = ap (left_word (Cas x y)) e
+left_is (Add v) reply u e = ap (left_word (Add v)) e
+left_is (And v) reply u e = ap (left_word (And v)) e
+left_is (Or v) reply u e = ap (left_word (Or v)) e
+left_is (Xor v) reply u e = ap (left_word (Xor v)) e
+left_is (Max v) reply u e = ap (left_word (Max v)) e
+left_is (Min v) reply u e = ap (left_word (Min v)) e
 
 old_is : (op : Op) (v u : ℕ) → Old v ≡ reply_to op u → v ≡ u
 old_is Load v u e = cc
@@ -47,7 +48,7 @@ old_is (Max w) v u e = cc
 old_is (Min w) v u e = cc
 
 -- a value that is there is reached
-reached_base : (values : List ℕ) (calls : List CallAt) (n v : ℕ) → Contains values v → IsReached values calls n v
+reached_base : (values : List ℕ) (calls : List CallAt) (n v : ℕ) → Contains values v → IsReachedIn values calls n v
 reached_base values calls zero v h = h
 reached_base values calls (suc n) v h = inl (reached_base values calls n v h)
 
@@ -75,7 +76,7 @@ pub record Answering (opening : List ℕ) (trace : List Event) (k v : ℕ) (issu
   pub on : IsAnsweredOn trace k issue.call.operation.address issue told
   pub low : issue.call.operation.address < length opening
   pub starts : IsStart opening trace issue.call.operation.address issue.event base from
-  pub left : AreLeft trace from k issue.call.operation.address base
+  pub left : AreLeftBetween trace from k issue.call.operation.address base
   pub opens : AreOpenOn trace k issue.call.operation.address pending
   pub is : IsOrder opening (answered_so trace k issue.call.id (Old v)) order
 
@@ -163,7 +164,7 @@ reaches : (opening : List ℕ) (trace : List Event) (k v : ℕ) (issue : CallAt)
     → (b : Begun opening trace k v issue from base order x) → (m y : ℕ) → y ≡ b.at + m → y ≤ x → (some : List CallAt)
     → ((c : CallAt) → IsIn some c → Contains pending c)
     → ((p : ℕ) (c : CallAt) → p < y → b.at ≤ p → slice_get order p ≡ Some c.call → IsOpenOn trace k issue.call.operation.address c → IsIn some c)
-    → IsReached base pending (length some) (word_at opening order issue.call.operation.address y)
+    → IsReachedIn base pending (length some) (word_at opening order issue.call.operation.address y)
 reaches opening trace k v issue from base pending order f x h b zero y e below some sub has =
     let same : y ≡ b.at = omega arith in
     reached_base base pending (length some) _
@@ -177,11 +178,11 @@ reaches opening trace k v issue from base pending order f x h b (suc m) y e belo
     let d = there.0 in
     let was = f.is.issued p d there.1 in
     let issued = issue_before trace k issue.call.id (Old v) was.0 d was.1 in
-    let R : ℕ → Type 0 = λ u. IsReached base pending (length some) u in
-    ⊎_elim {C = IsReached base pending (length some) (word_at opening order w y)}
-    (λ (here : d.operation.address ≡ w). ⊎_elim {C = IsReached base pending (length some) (word_at opening order w y)}
+    let R : ℕ → Type 0 = λ u. IsReachedIn base pending (length some) u in
+    ⊎_elim {C = IsReachedIn base pending (length some) (word_at opening order w y)}
+    (λ (here : d.operation.address ≡ w). ⊎_elim {C = IsReachedIn base pending (length some) (word_at opening order w y)}
     (λ (a : (i : ℕ) × (reply : Reply) × (i < k) × IsAnsweredAt trace i d.id reply).
-    subst (λ (n : ℕ). IsReached base pending (length some) (word_at opening order w n)) (sym next)
+    subst (λ (n : ℕ). IsReachedIn base pending (length some) (word_at opening order w n)) (sym next)
     (reached_base base pending (length some) _
     (left_here opening trace k v issue from base pending order f p a.0 was.0 d a.1 there.1 here
     (b.late a.0 p d a.1 (omega arith) there.1 a.2 a.3) a.2 a.3 issued.1)))
@@ -190,7 +191,7 @@ reaches opening trace k v issue from base pending order f x h b (suc m) y e belo
     let still : IsOpenOn trace k w c = record { early = issued.0; issue = issued.1; here = here; unanswered = u } in
     let spot = has p c (omega arith) (omega arith) there.1 still in
     let shorter = length-without some spot.0 c spot.1 in
-    let before : IsReached base pending (length (without some spot.0)) (word_at opening order w p) =
+    let before : IsReachedIn base pending (length (without some spot.0)) (word_at opening order w p) =
     reaches opening trace k v issue from base pending order f x h b m p refl (omega arith) (without some spot.0)
     (λ o i. sub o (without_in some spot.0 o i))
     (λ q o l late g pend.
@@ -198,17 +199,17 @@ reaches opening trace k v issue from base pending order f x h b (suc m) y e belo
     (λ (same : c ≡ o).
     let twice : p ≡ q = f.is.once p q d o.call there.1 g (ap (λ (z : CallAt). z.call.id) same) in omega arith)
     (has q o (omega arith) late g pend)) in
-    let reached : IsReached base pending (suc (length (without some spot.0))) (new_word d.operation.op (word_at opening order w p)) =
+    let reached : IsReachedIn base pending (suc (length (without some spot.0))) (new_word d.operation.op (word_at opening order w p)) =
     inr (word_at opening order w p, c, before, sub c spot, refl) in
     let word : new_word d.operation.op (word_at opening order w p) ≡ word_at opening order w y =
     sym (step_here opening order w p d there.1 here f.low) ∙ ap (word_at opening order w) (sym next) in
-    subst (λ (n : ℕ). IsReached base pending n (word_at opening order w y)) shorter
-    (subst (λ (u : ℕ). IsReached base pending (suc (length (without some spot.0))) u) word reached))
+    subst (λ (n : ℕ). IsReachedIn base pending n (word_at opening order w y)) shorter
+    (subst (λ (u : ℕ). IsReachedIn base pending (suc (length (without some spot.0))) u) word reached))
     (answered_or_not trace k d.id))
     (λ (other : d.operation.address ≢ w).
     let word : word_at opening order w p ≡ word_at opening order w y =
     sym (step_other opening order w p d there.1 (λ same. other (sym same))) ∙ ap (word_at opening order w) (sym next) in
-    subst (λ (u : ℕ). IsReached base pending (length some) u) word
+    subst (λ (u : ℕ). IsReachedIn base pending (length some) u) word
     (reaches opening trace k v issue from base pending order f x h b m p refl (omega arith) some sub
     (λ q o l late g pend. has q o (omega arith) late g pend)))
     (cases_eq d.operation.address w)
@@ -217,8 +218,8 @@ reaches opening trace k v issue from base pending order f x h b (suc m) y e belo
 pub allowed_reached : (opening : List ℕ) (trace : List Event) (k v : ℕ) (issue : CallAt) (from : ℕ) (base : List ℕ) (pending : List CallAt)
     → IsTrace (length opening) trace → (told : Reply) → IsAnsweredOn trace k issue.call.operation.address issue told
     → IsStart opening trace issue.call.operation.address issue.event base from
-    → AreLeft trace from k issue.call.operation.address base → AreOpenOn trace k issue.call.operation.address pending
-    → IsAllowed opening trace k issue.call.id (Old v) → IsReached base pending (length pending) v
+    → AreLeftBetween trace from k issue.call.operation.address base → AreOpenOn trace k issue.call.operation.address pending
+    → IsAllowed opening trace k issue.call.id (Old v) → IsReachedIn base pending (length pending) v
 allowed_reached opening trace k v issue from base pending t told on starts left opens is =
     let w = issue.call.operation.address in
     let order = is.0 in
@@ -239,7 +240,7 @@ allowed_reached opening trace k v issue from base pending t told on starts left 
     let way = reach_gap b.at x.0 early in
     let found : v ≡ word_at opening order w x.0 = old_is issue.call.operation.op v (word_at opening order w x.0)
     (is.1.replies k x.0 issue.call (Old v) x.1 last) in
-    subst (λ (u : ℕ). IsReached base pending (length pending) u) (sym found)
+    subst (λ (u : ℕ). IsReachedIn base pending (length pending) u) (sym found)
     (reaches opening trace k v issue from base pending order f x.0 x.1 b way.0 x.0 way.1 (omega arith) pending
     (λ c i. in_contains pending c i)
     (λ p c l late g pend. contains_in pending c (opens.all c pend)))

@@ -32,5 +32,6 @@ abbrev pub IsOver : List Event → ℕ → ℕ → CallAt → Type 0
 IsOver trace n w c = (i : ℕ) × (reply : Reply) × (i < n) × IsAnsweredOn trace i w c reply
 
 -- event k answers an operation
-abbrev pub IsAnswered : List Event → ℕ → CallAt → Type 0
-IsAnswered trace k c = (reply : Reply) × IsAnsweredOn trace k c.call.operation.address c reply
+abbrev pub IsAnsweredAtEvent : List Event → ℕ → CallAt → Type 0
+IsAnsweredAtEvent trace k c =
+    (reply : Reply) × IsAnsweredOn trace k c.call.operation.address c reply

@@ -1,12 +1,13 @@
 //! The answers to the operations on a word.
 
-ghost use Rattle.std.specs.Prelude.{◌≡◌, ◌<◌, ◌≤◌, ◌⊎◌, ℕ, Some, MatchOption, OnOk, IfErr, IfSome, Contains, length};
+ghost use Rattle.std.specs.Prelude.{◌≡◌, ◌<◌, ◌≤◌, ◌⊎◌, ℕ, Some, MatchOption, OnOk, IfErr, IfSome};
+ghost use Rattle.std.specs.Prelude.{Contains, length};
 ghost use Rattle.packet.specs.declared.kinds.Reply.{Reply};
 ghost use Rattle.trace_order.specs.Traces.{IsTrace};
 ghost use Rattle.trace_text.specs.Traced.{TraceSpec};
 ghost use Rattle.trace_why.specs.declared.calls.CallAt.{CallAt};
 ghost use Rattle.trace_why.specs.Calls.{IsAnsweredOn, IsOver};
-ghost use Rattle.trace_why.specs.Values.{left_by, AreLeft};
+ghost use Rattle.trace_why.specs.Values.{left_word, AreLeftBetween};
 ghost use Rattle.trace_why.specs.Why.{IsUntold};
 
 use crate::calls::{CallAt, issue_before};
@@ -61,8 +62,8 @@ pub(crate) fn last_over(events: &[Event], n: usize, address: u32) -> Option<Call
 }
 
 /// The word that an operation left which was answered so.
-fn left_by(op: Op, reply: Reply) -> u64
-    ensures { result ≡ left_by op reply }
+fn left_word(op: Op, reply: Reply) -> u64
+    ensures { result ≡ left_word op reply }
 {
     match reply {
         Reply::Old(word) => apply(op, word).0,
@@ -83,12 +84,12 @@ pub(crate) fn add_answers<A: Allocator>(
     requires inside { k ≤ length events.now }
     ensures kept { OnOk result
         ((v : ℕ) → Contains values.old.items v → Contains values.new.items v) }
-    ensures all { OnOk result (AreLeft events.now from k address values.new.items) }
+    ensures all { OnOk result (AreLeftBetween events.now from k address values.new.items) }
     ensures untold { (t : TraceSpec) → IfErr result (IsUntold t) }
 {
     for i in from..k {
         if let Some((found, reply)) = answered_on(events, i, address) {
-            add(values, left_by(found.call.operation.op, reply), bound)?;
+            add(values, left_word(found.call.operation.op, reply), bound)?;
         }
     }
     Ok(())

@@ -4,7 +4,7 @@ ghost use Rattle.std.specs.Prelude.{◌≡◌, ◌<◌, ℕ, OnOk, IfErr, Contai
 ghost use Rattle.packet.specs.Memory.{new_word};
 ghost use Rattle.trace_text.specs.Traced.{TraceSpec};
 ghost use Rattle.trace_why.specs.declared.calls.CallAt.{CallAt};
-ghost use Rattle.trace_why.specs.Values.{IsReached};
+ghost use Rattle.trace_why.specs.Values.{IsReachedIn};
 ghost use Rattle.trace_why.specs.Why.{IsUntold};
 
 use crate::calls::CallAt;
@@ -81,7 +81,7 @@ pub(crate) fn reach<A: Allocator + Copy>(
     calls: &[CallAt],
     bound: usize,
 ) -> Result<(), Untold>
-    ensures all { OnOk result ((v : ℕ) → IsReached values.old.items calls.now (length calls.now) v
+    ensures all { OnOk result ((v : ℕ) → IsReachedIn values.old.items calls.now (length calls.now) v
         → Contains values.new.items v) }
     ensures untold { (t : TraceSpec) → IfErr result (IsUntold t) }
 {

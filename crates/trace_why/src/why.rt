@@ -1,6 +1,7 @@
 //! Why an answer is not one that a single memory gives.
 
-ghost use Rattle.std.specs.Prelude.{◌≡◌, true, false, ◌<◌, ◌↔◌, ℕ, IfOk, IfErr, MatchOption, Contains, length};
+ghost use Rattle.std.specs.Prelude.{◌≡◌, true, false, ◌<◌, ◌↔◌, ℕ, IfOk, IfErr, MatchOption};
+ghost use Rattle.std.specs.Prelude.{Contains, length};
 ghost use Rattle.std.specs.List.Sorted.{IsStrictlyIncreasing};
 ghost use Rattle.packet.specs.declared.kinds.Reply.{Reply};
 ghost use Rattle.packet.specs.declared.kinds.Reply.TheVariants.{Old};
@@ -9,7 +10,7 @@ ghost use Rattle.trace_judge.specs.Stops.{IsAnAnswer};
 ghost use Rattle.trace_text.specs.Allowed.{IsAllowed};
 ghost use Rattle.trace_text.specs.Traced.{opening_of};
 ghost use Rattle.trace_why.specs.declared.calls.CallAt.{CallAt};
-ghost use Rattle.trace_why.specs.Calls.{AreOpenOn, IsAnswered};
+ghost use Rattle.trace_why.specs.Calls.{AreOpenOn, IsAnsweredAtEvent};
 ghost use Rattle.trace_why.specs.Why.{TellsWhy, IsUntold};
 
 use crate::answers::add_answers;
@@ -47,7 +48,7 @@ fn candidates<A: Allocator + Copy>(
     pending: &[CallAt],
     tries: usize,
 ) -> Result<Vec<u64, A>, Untold>
-    requires answered { IsAnswered trace.now.events event issue }
+    requires answered { IsAnsweredAtEvent trace.now.events event issue }
     requires pending { AreOpenOn trace.now.events event issue.call.operation.address pending.now }
     ensures all { IfOk result (λ values. (v : ℕ)
         → IsAllowed (opening_of trace.now) trace.now.events event issue.call.id (Old v)
@@ -128,7 +129,7 @@ fn values_of<A: Allocator + Copy>(
     tries: usize,
     bound: usize,
 ) -> Result<Vec<u64, A>, Untold>
-    requires answered { IsAnswered trace.now.events event issue }
+    requires answered { IsAnsweredAtEvent trace.now.events event issue }
     requires pending { AreOpenOn trace.now.events event issue.call.operation.address pending.now }
     ensures exact { IfOk result (λ values. (v : ℕ) → Contains values.items v
         ↔ IsAllowed (opening_of trace.now) trace.now.events event issue.call.id (Old v)) }

@@ -11,19 +11,19 @@ loop-number-init g c = going_start c.args.report.now c.args.line _ c.requires c.
 pub unwrap-found-requires : goal.unwrap-found-requires
 unwrap-found-requires g c =
     going_reads _ c.read_line.result c.args.report.now c.loop-number.rest.now c.loop-number.number c.args.line
-      (shown_lines c.loop-number.kept)
+    (shown_lines c.loop-number.kept)
     c.loop-number.invariant c.loop-number-test.true c.read_line.ensures.reads
 
 pub keep-requires : goal.keep-requires
 keep-requires g c =
     (going_takes _ c.read_line.result c.unwrap-found.result c.args.report.now c.loop-number.rest.now c.loop-number.number c.args.line
-      (shown_lines c.loop-number.kept)
+    (shown_lines c.loop-number.kept)
     c.loop-number.invariant c.loop-number-test.true c.read_line.ensures.reads c.unwrap-found.ensures).allowed
 
 pub loop-number-preserved : goal.loop-number-preserved
 loop-number-preserved g c =
     (going_takes _ c.read_line.result c.unwrap-found.result c.args.report.now c.loop-number.rest.now c.loop-number.number c.args.line
-      (shown_lines c.loop-number.kept)
+    (shown_lines c.loop-number.kept)
     c.loop-number.invariant c.loop-number-test.true c.read_line.ensures.reads c.unwrap-found.ensures).next (shown_lines c.keep.new.self) c.in_ok-keep.ensures
 
 pub unwrap-rule-requires : goal.unwrap-rule-requires
@@ -32,5 +32,5 @@ unwrap-rule-requires g c =
     let S : Seen → Type 0 = λ z. Stopped c.args.report.now c.loop-number.rest.now c.args.line z in
     is_there c.args.report.now c.loop-number.rest.now c.args.line (seen c.before-2.result) c.broken.result
     (subst S (sym c.before-2.ensures) (going_stops c.args.report.now c.loop-number.rest.now c.loop-number.number c.args.line
-      (shown_lines c.loop-number.kept) c.loop-number.invariant high))
+    (shown_lines c.loop-number.kept) c.loop-number.invariant high))
     c.broken.ensures.none

@@ -3,7 +3,7 @@ use Rattle.std.proofs.lemmas.Option.{MatchOption-at_some, MatchOption-at_none}
 use Rattle.std.specs.Prelude.{Vec}
 use Rattle.table_net.specs.declared.search.Look.{Look}
 use Rattle.table_net.specs.Table.{Table, table_of}
-use Rattle.table_net.specs.Marks.{AreMarked}
+use Rattle.table_net.specs.Marks.{MarksRoutes}
 use Rattle.table_net.specs.Graph.{Graph, graph_of}
 use Rattle.table_net.specs.Search.{StayWithin, IsCircle, AreRanked}
 use Rattle.table_net.proofs.Ends.{width_is}
@@ -19,8 +19,8 @@ visit_all-requires-clause-within g c =
     c.deref-2.ensures.value
     ∙ written c.in_ok-used.used.len c.trace_all.new.used c.in_ok-used.used.items
     (omega (arith, c.in_ok-used.used.ok.0, c.trace_all.auto.used, ap length c.deref_mut.ensures.value)) in
-    let marked : AreMarked t (length c.args.joins.now) c.deref-2.result.now =
-    subst (λ z. AreMarked t (length c.args.joins.now) z) (sym same) c.in-Ok.ensures.marked in
+    let marked : MarksRoutes t (length c.args.joins.now) c.deref-2.result.now =
+    subst (λ z. MarksRoutes t (length c.args.joins.now) z) (sym same) c.in-Ok.ensures.marked in
     subst (λ z. StayWithin (graph_of (length c.args.kinds.now) z c.args.choices.now c.deref-2.result.now c.args.replies.now)) (sym wide)
     (stay_within t c.deref-2.result.now c.args.replies.now (length c.args.joins.now) c.requires.replies marked)
 

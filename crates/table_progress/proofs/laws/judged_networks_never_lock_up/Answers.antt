@@ -2,18 +2,18 @@ use Rattle.std.proofs.Common.{⊎_elim, ℕ, ◌<◌}
 use Rattle.wormhole_progress.specs.Ends.{IsQuiet}
 use Rattle.table_net.specs.Table.{channels_of}
 use Rattle.table_net.specs.TableNet.{numbered}
-use Rattle.table_progress.specs.Receivers.{Move}
+use Rattle.table_progress.specs.Receivers.{MoveThere}
 use Rattle.table_progress.proofs.Judged.{goes_or_quiet, move_goes, all_has_come}
 use Rattle.table_progress.proofs.laws.judged_networks_never_lock_up.Goals as goal
 
 pub returns : goal.returns
 returns c = record {
   either = λ t replies numbers are is depth flits deep s reached. goes_or_quiet t replies numbers are is depth flits deep s reached
-      (Move (numbered t numbers depth flits) s replies) (move_goes (numbered t numbers depth flits) s replies);
+      (MoveThere (numbered t numbers depth flits) s replies) (move_goes (numbered t numbers depth flits) s replies);
   moving = λ t replies numbers are is depth flits deep s reached x within busy. ⊎_elim
-      (λ (move : Move (numbered t numbers depth flits) s replies). move)
+      (λ (move : MoveThere (numbered t numbers depth flits) s replies). move)
       (λ (all : (y : ℕ) → y < channels_of t → IsQuiet (numbered t numbers depth flits) s y). absurd (busy (all x within)))
       (goes_or_quiet t replies numbers are is depth flits deep s reached
-      (Move (numbered t numbers depth flits) s replies) (move_goes (numbered t numbers depth flits) s replies));
+      (MoveThere (numbered t numbers depth flits) s replies) (move_goes (numbered t numbers depth flits) s replies));
   delivered = all_has_come;
 }

@@ -12,7 +12,7 @@ loop-i-preserved g c = elim c.match-answered_on.branch [
   | in-Some+in_ok-add w ↦ rw w.values-is
       (adding_one c.requires.trace.0 c.args.events.now c.args.from c.args.address c.loop-i.i c.args.values.now.items c.loop-i.values.items
       w.add.new.values.items w.in-Some.found w.in-Some.reply c.requires.trace.1 c.loop-i.invariant w.in-Some.ensures w.in_ok-add.ensures.kept
-      (subst (λ (v : ℕ). Contains w.add.new.values.items v) w.left_by.ensures w.in_ok-add.ensures.there))
+      (subst (λ (v : ℕ). Contains w.add.new.values.items v) w.left_word.ensures w.in_ok-add.ensures.there))
   | in_default w ↦ rw w.values-is
       (adding_skip c.args.events.now c.args.from c.args.address c.loop-i.i c.args.values.now.items c.loop-i.values.items c.loop-i.invariant
       w.in_default.ensures)

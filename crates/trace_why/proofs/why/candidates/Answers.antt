@@ -5,7 +5,7 @@ use Rattle.trace_order.specs.Traces.{IsTrace}
 use Rattle.trace_order.proofs.Lists.{get_within}
 use Rattle.trace_text.specs.Traced.{opening_of}
 use Rattle.trace_text.proofs.Opening.{length-opening}
-use Rattle.trace_why.specs.Values.{AreLeft}
+use Rattle.trace_why.specs.Values.{AreLeftBetween}
 use Rattle.trace_why.proofs.Reaching.{allowed_reached, start_kept}
 use Rattle.std.proofs.lemmas.Result.{err_from_is_err_and}
 use Rattle.trace_why.specs.declared.untold.Untold.{Untold}
@@ -23,8 +23,8 @@ returns-clause-all g c = λ v is.
     let t : IsTrace (length (opening_of c.args.trace.now)) c.args.trace.now.events =
     subst (λ (n : ℕ). IsTrace n c.args.trace.now.events) (sym (length-opening c.args.trace.now)) c.events-events.ensures.trace in
     let w : ℕ = c.args.issue.call.operation.address in
-    let left : AreLeft c.args.trace.now.events c.in_ok-from.from c.args.event w c.add_answers.new.values.items =
-    subst (λ (es : List Event). AreLeft es c.in_ok-from.from c.args.event w c.add_answers.new.values.items) c.events-events.ensures.value
+    let left : AreLeftBetween c.args.trace.now.events c.in_ok-from.from c.args.event w c.add_answers.new.values.items =
+    subst (λ (es : List Event). AreLeftBetween es c.in_ok-from.from c.args.event w c.add_answers.new.values.items) c.events-events.ensures.value
     c.in_ok-add_answers.ensures.all in
     c.in_ok-reach.ensures.all v
     (allowed_reached (opening_of c.args.trace.now) c.args.trace.now.events c.args.event v c.args.issue c.in_ok-from.from c.add_answers.new.values.items
