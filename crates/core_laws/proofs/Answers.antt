@@ -1,10 +1,9 @@
 -- A processor takes the flit that makes a reply whole: what holds of every reached state is kept.
-use Rattle.std.proofs.Common.{◌≡◌, ◌≢◌, ⊎_elim, ℕ, ◌+◌, ◌<◌, ◌==◌, Bool, true, false, cond, List, [], ◌∷◌, ◌++◌, map, length, Some, refl, sym, ◌∙◌, ap, ap₂}
-use Rattle.std.proofs.Common.{subst, arith, slice_get, slice_set, append_assoc, eq-eqb, length-set, get_or-set_same, get_or-set_other}
-use Rattle.std.specs.Prelude.{remove, ◌&&◌}
-use Rattle.std.proofs.lemmas.Bool.{cases_eq, ne_eqb}
+use Rattle.std.proofs.Common.{◌≡◌, ◌≢◌, ⊎_elim, ℕ, ◌+◌, ◌<◌, Bool, true, cond, List, [], ◌∷◌, ◌++◌, map, length, Some, refl, sym, ◌∙◌, ap, ap₂}
+use Rattle.std.proofs.Common.{subst, arith, slice_get, slice_set, length-set, get_or-set_same, get_or-set_other}
+use Rattle.std.specs.Prelude.{remove}
+use Rattle.std.proofs.lemmas.Bool.{cases_eq}
 use Rattle.std.proofs.lemmas.List.{map-append}
-use Rattle.std.proofs.lemmas.List.Elements.{filter-append}
 use Rattle.std.proofs.lemmas.Option.{same_Some, slice_get-get_or}
 use Rattle.torus.specs.Shape.{tiles_of}
 use Rattle.torus.specs.declared.shape.Class.{Class}
@@ -30,9 +29,8 @@ use Rattle.wormhole.specs.Events.{accepted, after}
 use Rattle.wormhole.specs.Delivery.{whole, whole_of}
 use Rattle.wormhole.proofs.Changes.{update_same, update_other}
 use Rattle.order_abstract.specs.script_follower.specs.ProcessorRecord.{ProcessorRecord, answered_by, answer_of}
-use Rattle.order_abstract.specs.Flight.{Flight, Takes, event, is_told_alike, told_place, IsFound}
+use Rattle.order_abstract.specs.Flight.{Flight, Takes, event, told_place, IsFound}
 use Rattle.order_abstract.proofs.Whole.{Whole, any_steps}
-use Rattle.order_abstract.proofs.FirstPlaces.{first_removed}
 use Rattle.packet.specs.Flits.{offered}
 use Rattle.core_laws.specs.Heads.{is_head}
 use Rattle.order_abstract.specs.home_bank.specs.BankTable.{BankState}
@@ -45,11 +43,11 @@ use Rattle.core_laws.proofs.ChannelFacts.{ejection_is, ejection_in, ejection_til
 use Rattle.core_laws.proofs.TileMoves.{IsHere, TileMoved}
 use Rattle.core_laws.proofs.FlightSteps.{moved_flight}
 use Rattle.core_laws.proofs.Completes.{accepts, sent_kept, accept_routes, accept_words}
-use Rattle.core_laws.proofs.TakesFound.{can_accept, done, tells, takes_found, taken_first, comes_from}
-use Rattle.core_laws.proofs.ResponseLists.{filter_removed}
+use Rattle.core_laws.proofs.TakesFound.{can_accept, done, tells, takes_found, comes_from}
+use Rattle.core_laws.proofs.AnswerNotes.{told_left}
 use Rattle.core_laws.proofs.SendFacts.{count_set}
 use Rattle.core_laws.specs.Delivery.{Notice, notice_of, notice_by}
-use Rattle.core_laws.proofs.Stands.{Ghost, Stands, Mirrors, Carries, Reported, IsLane, tile_at, no_tile, flight_of, told_between, responses_from}
+use Rattle.core_laws.proofs.Stands.{Ghost, Stands, Mirrors, Carries, Reported, IsLane, tile_at, no_tile, flight_of}
 use Rattle.core_laws.proofs.Accepting.{lines_accepts, notes_other}
 use Rattle.core_laws.proofs.Finished.{finished_stays}
 
@@ -201,46 +199,6 @@ module _ (d : Design) (net : IsNet (net_of d)) (tags : ℕ) (opening : List ℕ)
       ∙ (st.carries.replies_whole u u_in ∙ ap (map (response_parcel d.shape)) (sym (list_at_push_other g.taken p u r other))))
       (cases_eq u p)
 
-  and_fails : (x y : Bool) → y ≡ false → (x && y) ≡ false
-  and_fails true y h = h
-  and_fails false y h = refl
-
-  told_other : (b u : ℕ) → (r.source == b && r.destination == u) ≡ false → told_between b u taken_ghost.told ≡ told_between b u g.told
-  told_other b u fails = filter_removed _ g.told (told_place g.told r) r found.0 fails
-
-  told_new : (b u : ℕ) → b < tiles_of d.shape → u < tiles_of d.shape
-      → told_between b u (responses_from b 0 (tile_at s b).bank.entries) ≡ told_between b u (list_at taken_ghost.taken u) ++ told_between b u taken_ghost.told
-  told_new b u b_in u_in = ⊎_elim
-      (λ (h : u ≡ p).
-      let F : List Telling → List Telling = told_between b p in
-      let left : F g.told ≡ F (r ∷ []) ++ F taken_ghost.told = ⊎_elim
-      (λ (k : b ≡ r.source).
-      let t = taken_first d net tags opening s g order st p p_in flit more first r is_whole in
-      let both : F ≡ told_between r.source r.destination = ap₂ told_between k (sym here) in
-      let was : told_between r.source r.destination g.told ≡ r ∷ t.0 = ap (λ (v : ℕ). told_between r.source v g.told) here ∙ t.1 in
-      let own : told_between r.source r.destination (r ∷ []) ≡ r ∷ [] =
-      ap₂ (λ (x y : Bool). cond (x && y) (r ∷ []) []) (eq-eqb r.source r.source refl) (eq-eqb r.destination r.destination refl) in
-      let gone : told_between r.source r.destination taken_ghost.told ≡ t.0 = first_removed (is_told_alike r) g.told r t.0 was in
-      ap (λ (G : List Telling → List Telling). G g.told) both
-      ∙ (was ∙ (ap₂ (λ (xs ys : List Telling). xs ++ ys) (sym own) (sym gone)
-      ∙ ap (λ (G : List Telling → List Telling). G (r ∷ []) ++ G taken_ghost.told) (sym both))))
-      (λ (k : b ≢ r.source).
-      let fails : (r.source == b && r.destination == p) ≡ false = ap (λ (x : Bool). x && (r.destination == p)) (ne_eqb r.source b (λ f. k (sym f))) in
-      ap₂ (λ (xs ys : List Telling). xs ++ ys) (sym (ap (λ (x : Bool). cond x (r ∷ []) []) fails)) (sym (told_other b p fails)))
-      (cases_eq b r.source) in
-      ap (λ (v : ℕ). told_between b v (responses_from b 0 (tile_at s b).bank.entries)) h
-      ∙ (st.carries.told b p b_in p_in ∙ (ap (λ (xs : List Telling). F (list_at g.taken p) ++ xs) left
-      ∙ (sym (append_assoc (F (list_at g.taken p)) (F (r ∷ [])) (F taken_ghost.told))
-      ∙ (ap (λ (xs : List Telling). xs ++ F taken_ghost.told)
-      (sym (filter-append _ (list_at g.taken p) (r ∷ [])) ∙ ap F (sym (list_at_push_same g.taken p r takers_in)))
-      ∙ ap (λ (v : ℕ). told_between b v (list_at taken_ghost.taken v) ++ told_between b v taken_ghost.told) (sym h))))))
-      (λ (other : u ≢ p).
-      let fails : (r.source == b && r.destination == u) ≡ false =
-      and_fails (r.source == b) (r.destination == u) (ne_eqb r.destination u (λ f. other (sym f ∙ here))) in
-      st.carries.told b u b_in u_in
-      ∙ ap₂ (λ (xs ys : List Telling). told_between b u xs ++ ys) (sym (list_at_push_other g.taken p u r other)) (sym (told_other b u fails)))
-      (cases_eq u p)
-
   taken_carries : Carries d taken_state taken_ghost
   taken_carries = record {
     processors = st.carries.processors;
@@ -256,7 +214,8 @@ module _ (d : Design) (net : IsNet (net_of d)) (tags : ℕ) (opening : List ℕ)
         rw (k, sent_kept n g.net lane flit more (is_head flit) (injection_channel d.shape b Reply)) (st.carries.replies_sent b h);
     replies_proper = λ b h. let k = part_kept (λ (w : TileState). w.bank) refl b in rw k (st.carries.replies_proper b h);
     replies_whole = whole_new;
-    told = λ b u h l. let k = part_kept (λ (w : TileState). w.bank) refl b in rw k (told_new b u h l);
+    told = λ b u h l. let k = part_kept (λ (w : TileState). w.bank) refl b in
+        rw k (told_left d net tags opening s g order st p p_in flit more first r is_whole b u h l);
     issued = λ u. st.carries.issued u ∙ sym (part_kept (λ (w : TileState). w.processor.operations.issued) refl u);
     answered = λ u. ⊎_elim
         (λ (h : u ≡ p).

@@ -19,9 +19,11 @@ pub mod WiredUp
 pub mod Puts
 pub mod Histories
 pub mod ResponseLists
+pub mod ServiceNotes
 pub mod Services
 pub mod Begins
 pub mod Finished
+pub mod AnswerNotes
 pub mod Answers
 pub mod GivenSteps
 pub mod Keeps

@@ -1,8 +1,8 @@
 -- A processor sends a head flit: what holds of every reached state is kept.
-use Rattle.std.proofs.Common.{◌≡◌, ◌≢◌, ⊎_elim, ℕ, ◌-◌, ◌/◌, ◌%◌, ◌<◌, true, List, [], ◌∷◌, ◌++◌, map, length, Some, None, refl, sym, ◌∙◌, ap, ap₂, subst}
+use Rattle.std.proofs.Common.{◌≡◌, ◌≢◌, ⊎_elim, ℕ, ◌-◌, ◌<◌, true, List, [], ◌∷◌, ◌++◌, map, length, Some, None, refl, sym, ◌∙◌, ap, ap₂, subst}
 use Rattle.std.proofs.Common.{slice_get, slice_index_or, slice_set, append-nil, length-set, get_or-set_same, get_or-set_other}
 use Rattle.std.proofs.lemmas.Bool.{cases_eq}
-use Rattle.std.proofs.lemmas.List.{map-append, map-set, get_or-map, length-map}
+use Rattle.std.proofs.lemmas.List.{map-set, get_or-map, length-map}
 use Rattle.std.proofs.lemmas.Option.{slice_get-get_or}
 use Rattle.torus.specs.Shape.{tiles_of}
 use Rattle.torus.specs.declared.shape.Class.{Class}
@@ -12,10 +12,8 @@ use Rattle.packet.specs.declared.kinds.Packet.TheVariants as packet
 use Rattle.packet.specs.declared.kinds.Request.{Request as Asking}
 use Rattle.channel_number.specs.Order.{channel_count}
 use Rattle.order_abstract.specs.script_follower.specs.Following.{next_operation_of}
-use Rattle.order_abstract.specs.one_order.specs.Observed.{list_at}
 use Rattle.order_abstract.specs.one_order.specs.Order.{LinearizationPoint}
 use Rattle.order_abstract.specs.one_order.specs.Events.{push_at}
-use Rattle.order_abstract.specs.one_order.proofs.Lists.{list_at_push_same, list_at_push_other}
 use Rattle.flit_buffer.specs.Channel.{rest}
 use Rattle.flit_buffer.specs.Places.{Ring, IsRing, put_in_ring}
 use Rattle.flit_buffer.specs.Surroundings.{ring, changed, AreRings}
@@ -29,7 +27,7 @@ use Rattle.wormhole.proofs.Changes.{update_same, update_other}
 use Rattle.wormhole.proofs.Reached.{words_kept, routes_kept}
 use Rattle.order_abstract.specs.script_follower.specs.ProcessorRecord.{ProcessorRecord, no_processor, ready, issued_by, request_of}
 use Rattle.order_abstract.specs.Flight.{Flight, Sends, moved, IsFound}
-use Rattle.order_abstract.proofs.Whole.{Whole, sends_steps, address_is}
+use Rattle.order_abstract.proofs.Whole.{Whole, sends_steps}
 use Rattle.packet.specs.Flits.{flits_of}
 use Rattle.tile_laws.specs.router.specs.Table.{RouterState, output_owned}
 use Rattle.order_abstract.specs.home_bank.specs.BankTable.{BankState}
@@ -40,10 +38,10 @@ use Rattle.core_laws.proofs.Projection.{net_of, parcel_of, request_parcel, first
 use Rattle.core_laws.proofs.Parcels.{request_ends}
 use Rattle.core_laws.proofs.ChannelFacts.{injects_at}
 use Rattle.core_laws.proofs.FlightSteps.{record_in, entries_in, same_flight, part_stays}
-use Rattle.core_laws.specs.Delivery.{operation_asked, notice_by}
+use Rattle.core_laws.specs.Delivery.{notice_by}
 use Rattle.core_laws.proofs.Stands.{Ghost, Stands, Mirrors, Carries, Reported, IsLane, IsProperRequest, tile_at, no_tile, flight_of}
 use Rattle.core_laws.proofs.SendFacts.{injection_tile, injection_class, ready_parts, ended, count_set, head_some}
-use Rattle.core_laws.proofs.SendNotes.{proper_all, asked_here}
+use Rattle.core_laws.proofs.SendNotes.{proper_all, sent_all, asked_here, issued_all}
 
 module _ (d : Design) (net : IsNet (net_of d)) (tags : ℕ) (opening : List ℕ) (s : State) (g : Ghost) (order : List LinearizationPoint)
     (st : Stands d tags opening s g order)
@@ -206,29 +204,12 @@ module _ (d : Design) (net : IsNet (net_of d)) (tags : ℕ) (opening : List ℕ)
     whole_kept : (x : ℕ) → whole sent_ghost.net x ≡ whole g.net x
     whole_kept x = ap₂ whole_of (note_kept (λ (k : Note). k.awaited) refl x) (note_kept (λ (k : Note). k.begun) refl x)
 
-    requests_in : t < length g.requests
-    requests_in = subst (λ (n : ℕ). t < n) (sym st.carries.processors) t_in
-
-    sent_here : (p : ℕ) → p < tiles_of d.shape
-        → (sent_ghost.net.notes (injection_channel d.shape p Request)).sent ≡ map (request_parcel d.shape) (list_at sent_ghost.requests p)
-    sent_here p p_in = ⊎_elim
-        (λ (e : p ≡ t).
-        ap (λ (q : ℕ). (sent_ghost.net.notes (injection_channel d.shape q Request)).sent) e
-        ∙ (ap (λ (k : Note). k.sent) (update_same g.net.notes lane new_note)
-        ∙ (ap (λ (ks : List Parcel). ks ++ parcel ∷ []) (st.carries.requests_sent t t_in)
-        ∙ (sym (map-append (request_parcel d.shape) (list_at g.requests t) (asks ∷ []))
-        ∙ (ap (map (request_parcel d.shape)) (sym (list_at_push_same g.requests t asks requests_in))
-        ∙ ap (λ (q : ℕ). map (request_parcel d.shape) (list_at sent_ghost.requests q)) (sym e))))))
-        (λ (other : p ≢ t).
-        ap (λ (k : Note). k.sent) (note_other (injection_channel d.shape p Request) (λ e. other (injection_tile d.shape p t Request Request e)))
-        ∙ (st.carries.requests_sent p p_in ∙ ap (map (request_parcel d.shape)) (sym (list_at_push_other g.requests t p asks other))))
-        (cases_eq p t)
-
     pub sent_carries : Carries d sent_state sent_ghost
     sent_carries = record {
       processors = length-set g.requests t _ ∙ st.carries.processors;
       takers = st.carries.takers;
-      requests_sent = sent_here;
+      requests_sent = sent_all d s g st.carries t t_in tag o sent_ghost.net.notes
+          (ap (λ (k : Note). k.sent) (update_same g.net.notes lane new_note)) note_other;
       requests_proper = proper_all d s g st.carries t t_in tag o proper;
       requests_whole = λ b h. let k = part_kept (λ (x : TileState). x.bank) refl b in rw k (whole_kept _ ∙ st.carries.requests_whole b h);
       waiting_proper = λ b r waits. st.carries.waiting_proper b r
@@ -239,19 +220,9 @@ module _ (d : Design) (net : IsNet (net_of d)) (tags : ℕ) (opening : List ℕ)
       replies_proper = λ b h. let k = part_kept (λ (x : TileState). x.bank) refl b in rw k (st.carries.replies_proper b h);
       replies_whole = λ p h. whole_kept _ ∙ st.carries.replies_whole p h;
       told = λ b p h l. let k = part_kept (λ (x : TileState). x.bank) refl b in rw k (st.carries.told b p h l);
-      issued = λ p. ⊎_elim
-          (λ (e : p ≡ t).
-          let A : Asking → Operation = operation_asked (tiles_of d.shape) in
-          let asked_is : A asks ≡ o =
-          ap (λ (a : ℕ). record { address = a; op = o.op })
-          (address_is (tiles_of d.shape) o.address (o.address / tiles_of d.shape) (o.address % tiles_of d.shape) refl refl) in
-          subst (λ (v : ℕ). map A (list_at sent_ghost.requests v) ≡ (tile_at sent_state v).processor.operations.issued) (sym e)
-          (ap (map A) (list_at_push_same g.requests t asks requests_in) ∙ (map-append A (list_at g.requests t) (asks ∷ [])
-          ∙ (ap₂ (λ (xs : List Operation) (x : Operation). xs ++ x ∷ []) (st.carries.issued t) asked_is
-          ∙ sym (ap (λ (w : TileState). w.processor.operations.issued) tile_new)))))
-          (λ (other : p ≢ t). ap (map (operation_asked (tiles_of d.shape))) (list_at_push_other g.requests t p asks other)
-          ∙ (st.carries.issued p ∙ sym (ap (λ (w : TileState). w.processor.operations.issued) (tile_other p other))))
-          (cases_eq p t);
+      issued = issued_all d s g st.carries t t_in tag o (λ p. (tile_at sent_state p).processor.operations.issued)
+          (ap (λ (w : TileState). w.processor.operations.issued) tile_new)
+          (λ p other. ap (λ (w : TileState). w.processor.operations.issued) (tile_other p other));
       answered = λ p. ap (map (notice_by p)) (part_kept (λ (w : TileState). w.processor.operations.answers) refl p) ∙ st.carries.answered p;
     }
 

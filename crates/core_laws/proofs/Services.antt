@@ -1,13 +1,12 @@
 -- A bank serves the request that waits: what holds of every reached state is kept.
-use Rattle.std.proofs.Common.{◌≡◌, ◌≢◌, ⊎_elim, ℕ, ◌+◌, ◌*◌, ◌/◌, ◌<◌, ◌==◌, Bool, true, false, cond, List, [], ◌∷◌, ◌++◌, map, length, take, Option, Some}
-use Rattle.std.proofs.Common.{None, All, refl, sym, ◌∙◌, ap, ap₂, subst, arith, slice_get, slice_index, slice_set, append_assoc, append-nil, eq-eqb}
+use Rattle.std.proofs.Common.{◌≡◌, ◌≢◌, ⊎_elim, ℕ, ◌+◌, ◌<◌, ◌==◌, Bool, true, cond, List, [], ◌∷◌, ◌++◌, map, length, take, Option, Some}
+use Rattle.std.proofs.Common.{None, All, refl, sym, ◌∙◌, ap, ap₂, subst, arith, slice_get, slice_index, slice_set, append_assoc, append-nil}
 use Rattle.std.proofs.Common.{length-set, get_or-set_same, get_or-set_other}
 use Rattle.std.specs.Prelude.{remove, ◌&&◌, option_to_list}
 use Rattle.std.proofs.lemmas.Bool.{cases_eq, ne_eqb}
 use Rattle.std.proofs.lemmas.List.{map-append, get_or-take}
 use Rattle.std.proofs.Math.Seq.{take-set-lt}
 use Rattle.std.proofs.lemmas.List.Elements.{filter-append, All-push}
-use Rattle.std.proofs.lemmas.Nat.{div-mul-add}
 use Rattle.std.proofs.lemmas.Option.{same_Some, slice_get-get_or}
 use Rattle.torus.specs.Shape.{tiles_of}
 use Rattle.torus.specs.declared.shape.Class.TheVariants.{Request, Reply}
@@ -23,9 +22,8 @@ use Rattle.order_abstract.specs.one_order.specs.Order.{LinearizationPoint}
 use Rattle.order_abstract.specs.one_order.specs.Events.{points_of}
 use Rattle.wormhole.specs.Net.{IsNet, Parcel}
 use Rattle.wormhole.specs.Delivery.{whole}
-use Rattle.order_abstract.specs.Flight.{Flight, Serves, moved, event, is_asked_alike, asked_place, reply_given, IsFound}
+use Rattle.order_abstract.specs.Flight.{Flight, Serves, moved, event, asked_place, reply_given, IsFound}
 use Rattle.order_abstract.proofs.Whole.{Whole, any_steps}
-use Rattle.order_abstract.proofs.FirstPlaces.{first_removed}
 use Rattle.packet.specs.Flits.{flits_of}
 use Rattle.core_laws.specs.Heads.{is_head}
 use Rattle.order_abstract.specs.home_bank.specs.BankTable.{BankState}
@@ -37,13 +35,14 @@ use Rattle.core_laws.specs.Core.{State, records_of, show}
 use Rattle.core_laws.proofs.Projection.{net_of, request_parcel, response_parcel, first_flit}
 use Rattle.core_laws.proofs.TileMoves.{IsHere, TileMoved}
 use Rattle.core_laws.proofs.FlightSteps.{entries_in, moved_flight, part_at}
-use Rattle.core_laws.proofs.ServesFound.{serves_found, waiting_first}
+use Rattle.core_laws.proofs.ServesFound.{serves_found}
+use Rattle.core_laws.proofs.ServiceNotes.{served_push, asked_elsewhere, asked_here}
 use Rattle.core_laws.proofs.SendFacts.{count_set}
 use Rattle.core_laws.specs.Delivery.{notice_by}
 use Rattle.core_laws.proofs.Stands.{Ghost, Stands, Mirrors, Carries, Reported, IsInPhase, IsProperRequest, IsProperResponse, tile_at, no_tile, flight_of}
-use Rattle.core_laws.proofs.Stands.{in_course, asked_between, told_between, served_requests, request_of_entry, response_of_entry, responses_from, last_of}
+use Rattle.core_laws.proofs.Stands.{in_course, asked_between, told_between, served_requests, response_of_entry, responses_from, last_of}
 use Rattle.core_laws.proofs.Stands.{unsent}
-use Rattle.core_laws.proofs.ResponseLists.{responses_push, last_push, filter_removed, no_head, first_is_head}
+use Rattle.core_laws.proofs.ResponseLists.{responses_push, last_push, no_head, first_is_head}
 
 module _ (d : Design) (net : IsNet (net_of d)) (tags : ℕ) (opening : List ℕ) (s : State) (g : Ghost) (order : List LinearizationPoint)
     (st : Stands d tags opening s g order)
@@ -141,69 +140,9 @@ module _ (d : Design) (net : IsNet (net_of d)) (tags : ℕ) (opening : List ℕ)
       takes_requests = λ u h. st.mirrors.takes_requests u h ∙ sym (part_kept (λ (w : TileState). w.bank.so_far) refl u);
     }
 
-    -- the request of the new entry is the one that waited
-    entry_is : request_of_entry tiles t e ≡ r
-    entry_is =
-        let word : (t + r.word * tiles) / tiles ≡ r.word =
-        ap (λ (k : ℕ). k / tiles) (let z : t + r.word * tiles ≡ r.word * tiles + t = omega arith in z) ∙ div-mul-add r.word tiles t t_in in
-        ap₂ (λ (x y : ℕ). record { destination = x; source = r.source; tag = r.tag; word = y; op = r.op }) (sym here) word
-
-    response_is : response_of_entry t (length b.entries) e ≡ q
-    response_is = refl
-
-    served_push : served_requests tiles t (b.entries ++ e ∷ []) ≡ served_requests tiles t b.entries ++ r ∷ []
-    served_push = map-append (request_of_entry tiles t) b.entries (e ∷ []) ∙ ap (λ (x : Asking). served_requests tiles t b.entries ++ x ∷ []) entry_is
-
     responses_new : responses_from t 0 (b.entries ++ e ∷ []) ≡ responses_from t 0 b.entries ++ q ∷ []
     responses_new = responses_push t 0 b.entries e
         ∙ ap (λ (n : ℕ). responses_from t 0 b.entries ++ response_of_entry t n e ∷ []) (let z : 0 + length b.entries ≡ length b.entries = omega arith in z)
-
-    is_request : Asking → Asking → Bool
-    is_request x y = is_asked_alike x y
-
-    -- what is asked and not served of another pair
-    asked_other : (p c : ℕ) → (r.source == p && r.destination == c) ≡ false → asked_between p c served_ghost.asked ≡ asked_between p c g.asked
-    asked_other p c fails = filter_removed _ g.asked (asked_place g.asked r) r found.0 fails
-
-    and_no : (x y : Bool) → y ≡ false → (x && y) ≡ false
-    and_no true y h = h
-    and_no false y h = refl
-
-    served_asked : (p c : ℕ) → p < tiles_of d.shape → c < tiles_of d.shape → asked_between p c (list_at g.requests p)
-        ≡ asked_between p c (served_requests tiles c (tile_at served_state c).bank.entries) ++ asked_between p c served_ghost.asked
-    served_asked p c p_in c_in = ⊎_elim
-        (λ (h : c ≡ t).
-        let F : List Asking → List Asking = asked_between p t in
-        let first = waiting_first d net tags opening s g order st r (st.carries.waiting_proper t r waits).0
-        (ap (λ (k : ℕ). (tile_at s k).bank.waiting) here ∙ waits) in
-        let entries : served_requests tiles t (tile_at served_state t).bank.entries ≡ served_requests tiles t b.entries ++ r ∷ [] =
-        ap (λ (w : TileState). served_requests tiles t w.bank.entries) tile_new ∙ served_push in
-        let left : F (g.asked) ≡ F (r ∷ []) ++ F served_ghost.asked = ⊎_elim
-        (λ (k : p ≡ r.source).
-        let both : F ≡ asked_between r.source r.destination = ap₂ asked_between k (sym here) in
-        let own : asked_between r.source r.destination (r ∷ []) ≡ r ∷ [] =
-        ap₂ (λ (x y : Bool). cond (x && y) (r ∷ []) []) (eq-eqb r.source r.source refl) (eq-eqb r.destination r.destination refl) in
-        let gone : asked_between r.source r.destination served_ghost.asked ≡ first.0 = first_removed (is_asked_alike r) g.asked r first.0 first.1 in
-        ap (λ (G : List Asking → List Asking). G g.asked) both
-        ∙ (first.1 ∙ (ap₂ (λ (xs ys : List Asking). xs ++ ys) (sym own) (sym gone)
-        ∙ ap (λ (G : List Asking → List Asking). G (r ∷ []) ++ G served_ghost.asked) (sym both))))
-        (λ (k : p ≢ r.source).
-        let unlike : (r.source == p) ≡ false = ne_eqb r.source p (λ f. k (sym f)) in
-        let fails : (r.source == p && r.destination == t) ≡ false = ap (λ (x : Bool). x && (r.destination == t)) unlike in
-        ap₂ (λ (xs ys : List Asking). xs ++ ys) (sym (ap (λ (x : Bool). cond x (r ∷ []) []) fails)) (sym (asked_other p t fails)))
-        (cases_eq p r.source) in
-        ap (λ (k : ℕ). asked_between p k (list_at g.requests p)) h
-        ∙ (st.carries.asked p t p_in t_in ∙ (ap (λ (xs : List Asking). F (served_requests tiles t b.entries) ++ xs) left
-        ∙ (sym (append_assoc (F (served_requests tiles t b.entries)) (F (r ∷ [])) (F served_ghost.asked))
-        ∙ (ap (λ (xs : List Asking). xs ++ F served_ghost.asked) (sym (filter-append _ (served_requests tiles t b.entries) (r ∷ [])) ∙ ap F (sym entries))
-        ∙ ap (λ (k : ℕ). asked_between p k (served_requests tiles k (tile_at served_state k).bank.entries) ++ asked_between p k served_ghost.asked) (sym h))))))
-        (λ (other : c ≢ t).
-        let fails : (r.source == p && r.destination == c) ≡ false =
-        and_no (r.source == p) (r.destination == c) (ne_eqb r.destination c (λ f. other (sym f ∙ here))) in
-        st.carries.asked p c p_in c_in
-        ∙ ap₂ (λ (w : TileState) (xs : List Asking). asked_between p c (served_requests tiles c w.bank.entries) ++ xs) (sym (tile_other c other))
-        (sym (asked_other p c fails)))
-        (cases_eq c t)
 
     served_carries : Carries d served_state served_ghost
     served_carries = record {
@@ -217,11 +156,14 @@ module _ (d : Design) (net : IsNet (net_of d)) (tags : ℕ) (opening : List ℕ)
           (λ h. st.carries.requests_whole t h
           ∙ ap (map (request_parcel d.shape))
           (ap (λ (x : Option Asking). served_requests tiles t b.entries ++ option_to_list x) waits
-          ∙ (sym served_push ∙ sym (append-nil (served_requests tiles t (b.entries ++ e ∷ []))))))
+          ∙ (sym (served_push d net tags opening s g order st t t_in r waits reply) ∙ sym (append-nil (served_requests tiles t (b.entries ++ e ∷ []))))))
           (λ u other h. st.carries.requests_whole u h);
       waiting_proper = by_tile (λ u w. (x : Asking) → w.bank.waiting ≡ Some x → IsProperRequest d x × (x.destination ≡ u)) (λ x h. absurd (cc))
           (λ u other. st.carries.waiting_proper u);
-      asked = served_asked;
+      asked = λ p u h l. by_tile (λ c w. c < tiles → asked_between p c (list_at g.requests p)
+          ≡ asked_between p c (served_requests tiles c w.bank.entries) ++ asked_between p c served_ghost.asked)
+          (λ k. asked_here d net tags opening s g order st t t_in r waits reply p h)
+          (λ c other k. asked_elsewhere d net tags opening s g order st t t_in r waits p c h k other) u l;
       replies_sent = by_tile (λ u w. u < tiles_of d.shape → map (response_parcel d.shape) (responses_from u 0 w.bank.entries)
           ≡ (g.net.notes (injection_channel d.shape u Reply)).sent ++ map (response_parcel d.shape) (unsent w.bank.to_put (responses_from u 0 w.bank.entries)))
           (λ h.

@@ -19,12 +19,12 @@ pub record BankPlace : Type 0 where
   pub agent : Agent BankState
 
 -- the bank at the same place with another agent's state and ports
-abbrev pub with_agent : BankPlace → Agent BankState → BankPlace
-with_agent b a = record { tiles = b.tiles; tile = b.tile; room = b.room; agent = a }
+abbrev pub bank_with_agent : BankPlace → Agent BankState → BankPlace
+bank_with_agent b a = record { tiles = b.tiles; tile = b.tile; room = b.room; agent = a }
 
 -- the same bank with room for another number of entries
-abbrev pub with_room : BankPlace → ℕ → BankPlace
-with_room b room = record { tiles = b.tiles; tile = b.tile; room = room; agent = b.agent }
+abbrev pub place_with_room : BankPlace → ℕ → BankPlace
+place_with_room b room = record { tiles = b.tiles; tile = b.tile; room = room; agent = b.agent }
 
 -- a head flit of a request names a word below 65536, for no memory has more words (this project's
 -- own limits)
@@ -33,9 +33,9 @@ NamesWord flit = IfSome (head_of flit) (λ head. head.class ≡ Request → fiel
 
 -- what the word found may be: where a flit is taken, one that names a word that may be (this
 -- project's own format)
-abbrev pub IsAcceptable : Choice → ℕ → Type 0
-IsAcceptable choice.Take found = NamesWord found
-IsAcceptable _ found = Unit {0}
+abbrev pub IsAcceptableToBank : Choice → ℕ → Type 0
+IsAcceptableToBank choice.Take found = NamesWord found
+IsAcceptableToBank _ found = Unit {0}
 
 -- a service has room for its entry (this project's own limits)
 abbrev pub HasRoom : BankPlace → Choice → Type 0

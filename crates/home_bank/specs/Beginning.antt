@@ -23,8 +23,8 @@ empty_bank = record { entries = []; so_far = []; waiting = None; to_put = [] }
 
 -- a bank's ports in the beginning, where both channels are empty and all credits are held;
 -- the words stand behind the places of all channels (this project's own format)
-abbrev pub new_ports : Shape → ℕ → ℕ → PortEnds
-new_ports s t depth = record {
+abbrev pub bank_ports : Shape → ℕ → ℕ → PortEnds
+bank_ports s t depth = record {
   inputs = record { base = ejection_channel s t Request * depth; depth = depth; next = 0 } ∷ [];
   outputs = record {
     base = injection_channel s t Reply * depth;

@@ -49,8 +49,8 @@ abbrev pub recorded : Services → Request → Reply → Services
 recorded h r reply = record h { entries = h.entries ++ entry_of h.tile h.tiles r reply ∷ [] }
 
 -- the service list with room for another number of entries
-abbrev pub with_room : Services → ℕ → Services
-with_room h room = record h { room = room }
+abbrev pub services_with_room : Services → ℕ → Services
+services_with_room h room = record h { room = room }
 
 -- what is true of every service list: a tile among at most 64, and at most 65536 entries (this
 -- project's own limits)

@@ -12,12 +12,12 @@ ghost use Rattle.flit_buffer.specs.Wants.{HasPort};
 ghost use Rattle.flit_buffer.specs.declared.want.Want.{Want};
 ghost use Rattle.flit_buffer.specs.declared.want.Want.TheVariants as wants_to;
 ghost use Rattle.home_bank.specs.BankTable.{bank_wants, bank_after, served};
-ghost use Rattle.home_bank.specs.BankAgent.{NamesWord, IsAcceptable, HasRoom, with_agent};
-ghost use Rattle.home_bank.specs.Beginning.{empty_bank, new_ports};
+ghost use Rattle.home_bank.specs.BankAgent.{NamesWord, IsAcceptableToBank, HasRoom, bank_with_agent};
+ghost use Rattle.home_bank.specs.Beginning.{empty_bank, bank_ports};
 
 use crate::ServiceList;
 use crate::flits_left::FlitsLeft;
-use crate::start::new_ports;
+use crate::start::bank_ports;
 use flit_buffer::{Ports, Want, WordOp};
 use packet::{Assembler, Head, Offered, Packet, Request, apply, flits, head};
 use std::alloc::{AllocError, Allocator, Global};
@@ -87,11 +87,11 @@ impl<A: Allocator + Copy> BankAgent<A> {
               tiles = tiles_of torus.now;
               tile = tile;
               room = room;
-              agent = record { state = empty_bank; ports = new_ports torus.now tile depth };
+              agent = record { state = empty_bank; ports = bank_ports torus.now tile depth };
             }) }
     {
         let services = ServiceList::new(alloc, tile, torus.tiles(), room)?;
-        let ports = new_ports(alloc, torus, tile, depth)?;
+        let ports = bank_ports(alloc, torus, tile, depth)?;
         Ok(BankAgent {
             services,
             assembler: Assembler::new(),
@@ -146,13 +146,13 @@ impl<A: Allocator> BankAgent<A> {
     pub fn absorb(&mut self, choice: Choice, got: u64) -> Stepped
         requires tried { IsSome
             (next_op (bank_wants self.old.tiles self.old.tile) self.old.agent choice) }
-        requires flit { IsAcceptable choice got }
+        requires flit { IsAcceptableToBank choice got }
         requires entries { HasRoom self.old choice }
         ensures { MatchOption
             (absorbed (bank_wants self.old.tiles self.old.tile)
             (bank_after self.old.tiles self.old.tile) self.old.agent choice got)
             ((result ≡ stepped.Idle) × (self.new ≡ self.old))
-            (λ a. (result ≡ stepped.Moved) × (self.new ≡ with_agent self.old a)) }
+            (λ a. (result ≡ stepped.Moved) × (self.new ≡ bank_with_agent self.old a)) }
     {
         let Some(want) = self.wants(choice) else {
             return Stepped::Idle;
@@ -173,7 +173,7 @@ impl<A: Allocator> BankAgent<A> {
             (λ o. word_of o < vec_len row.old) }
         requires flit { IfSome
             (next_op (bank_wants self.old.tiles self.old.tile) self.old.agent choice)
-            (λ o. IsAcceptable choice (slice_index row.old.items (word_of o))) }
+            (λ o. IsAcceptableToBank choice (slice_index row.old.items (word_of o))) }
         requires entries { HasRoom self.old choice }
         ensures row { row.new.items
             ≡ performed_by row.old.items
@@ -182,7 +182,7 @@ impl<A: Allocator> BankAgent<A> {
             (attempted (bank_wants self.old.tiles self.old.tile)
             (bank_after self.old.tiles self.old.tile) self.old.agent choice row.old.items)
             ((result ≡ stepped.Idle) × (self.new ≡ self.old))
-            (λ a. (result ≡ stepped.Moved) × (self.new ≡ with_agent self.old a)) }
+            (λ a. (result ≡ stepped.Moved) × (self.new ≡ bank_with_agent self.old a)) }
     {
         let Some(want) = self.wants(choice) else {
             return Stepped::Idle;
@@ -212,10 +212,10 @@ impl<A: Allocator> BankAgent<A> {
 
     /// What follows in the bank once a want of a choice is granted.
     fn note(&mut self, choice: Choice, learned: u64)
-        requires flit { IsAcceptable choice learned }
+        requires flit { IsAcceptableToBank choice learned }
         requires entries { HasRoom self.old choice }
         ensures { (want : Want)
-            → self.new ≡ with_agent self.old
+            → self.new ≡ bank_with_agent self.old
             (record {
               state = bank_after self.old.tiles self.old.tile self.old.agent.state choice
                   want learned;
@@ -235,7 +235,7 @@ impl<A: Allocator> BankAgent<A> {
     fn take_in(&mut self, flit: u64)
         requires { NamesWord flit }
         ensures { self.new
-            ≡ with_agent self.old (record {
+            ≡ bank_with_agent self.old (record {
               state =
                   bank_after self.old.tiles self.old.tile self.old.agent.state choice.Take
                   (wants_to.Take 0) flit;
@@ -253,7 +253,7 @@ impl<A: Allocator> BankAgent<A> {
     fn serve(&mut self, found: u64)
         requires { length self.old.agent.state.entries < self.old.room }
         ensures { self.new
-            ≡ with_agent self.old (record {
+            ≡ bank_with_agent self.old (record {
               state =
                   served self.old.tiles self.old.tile self.old.agent.state
                   self.old.agent.state.waiting found;

@@ -18,7 +18,7 @@ ghost use Rattle.home_bank.specs.declared.entry.Entry.{Entry};
 ghost use Rattle.home_bank.specs.ServiceList.{address_of};
 ghost use Rattle.home_bank.specs.BankTable.{BankState as State, bank_wants, bank_after as state_after};
 ghost use Rattle.home_bank.specs.BankAgent.{NamesWord};
-ghost use Rattle.home_bank.specs.Beginning.{bank_wiring, empty_bank, new_ports};
+ghost use Rattle.home_bank.specs.Beginning.{bank_wiring, empty_bank, bank_ports};
 ghost use Rattle.home_bank.specs.Reach.{IsBankState};
 ghost use Rattle.home_bank.specs.MemoryReplay.{ReplayInMemory};
 
@@ -50,7 +50,7 @@ pub fn wanted_ports_are_there()
 /// its channels are there.
 pub fn new_banks_see_empty_channels()
     ensures ports { (s : Shape) (t depth : ℕ) (words : List ℕ) → t < tiles_of s → 0 < depth
-        → new_ports s t depth ≡ ports_of depth
+        → bank_ports s t depth ≡ ports_of depth
         (record { rings = replicate (channel_count s) (empty_ring depth); words = words })
         (bank_wiring s t) }
     ensures wired { (s : Shape) (t : ℕ) → t < tiles_of s

@@ -1,6 +1,6 @@
 ghost use Rattle.std.specs.Prelude.{◌≡◌, ◌<◌, ◌≤◌, ◌+◌, ◌-◌, [], ◌∷◌, ◌++◌, ◌↔◌, length, vec_len, vec_capacity, IfOk};
 ghost use Rattle.std.specs.Prelude.{IsTrue, OnOk, OnErr};
-ghost use Rattle.home_bank.specs.ServiceList.{address_of, response_of, recorded, with_room, IsServiceList};
+ghost use Rattle.home_bank.specs.ServiceList.{address_of, response_of, recorded, services_with_room, IsServiceList};
 
 use crate::Entry;
 use packet::{Reply, Request, Response};
@@ -79,7 +79,7 @@ impl<A: Allocator> ServiceList<A> {
     /// Errors: `AllocError` where there is no memory; then nothing has changed.
     pub fn reserve(&mut self, more: usize) -> Result<(), AllocError>
         requires { self.old.room + more ≤ 65536 }
-        ensures room { OnOk result (self.new ≡ with_room self.old (self.old.room + more)) }
+        ensures room { OnOk result (self.new ≡ services_with_room self.old (self.old.room + more)) }
         ensures same { OnErr result (self.new ≡ self.old) }
     {
         let room = self.room + more;
@@ -91,7 +91,7 @@ impl<A: Allocator> ServiceList<A> {
     /// Gives up the room for so many entries, which no entry has taken.
     pub fn release(&mut self, fewer: usize)
         requires { length self.old.entries + fewer ≤ self.old.room }
-        ensures { self.new ≡ with_room self.old (self.old.room - fewer) }
+        ensures { self.new ≡ services_with_room self.old (self.old.room - fewer) }
     {
         self.room -= fewer;
     }

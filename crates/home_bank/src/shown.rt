@@ -1,7 +1,7 @@
 //! What the bank of a tile shows, and its room for entries.
 
 ghost use Rattle.std.specs.Prelude.{◌≡◌, ◌<◌, ◌≤◌, ◌↔◌, length, IsTrue, ◌+◌, ◌-◌, OnOk, OnErr};
-ghost use Rattle.home_bank.specs.BankAgent.{with_room};
+ghost use Rattle.home_bank.specs.BankAgent.{place_with_room};
 
 use crate::Entry;
 use crate::bank_agent::BankAgent;
@@ -42,7 +42,7 @@ impl<A: Allocator> BankAgent<A> {
     /// Errors: `AllocError` where there is no memory; then nothing has changed.
     pub fn reserve(&mut self, more: usize) -> Result<(), AllocError>
         requires { self.old.room + more ≤ 65536 }
-        ensures room { OnOk result (self.new ≡ with_room self.old (self.old.room + more)) }
+        ensures room { OnOk result (self.new ≡ place_with_room self.old (self.old.room + more)) }
         ensures same { OnErr result (self.new ≡ self.old) }
     {
         self.services.reserve(more)
@@ -51,7 +51,7 @@ impl<A: Allocator> BankAgent<A> {
     /// Gives up the room for so many entries, which no entry has taken.
     pub fn release(&mut self, fewer: usize)
         requires { length self.old.agent.state.entries + fewer ≤ self.old.room }
-        ensures { self.new ≡ with_room self.old (self.old.room - fewer) }
+        ensures { self.new ≡ place_with_room self.old (self.old.room - fewer) }
     {
         self.services.release(fewer);
     }

@@ -4,7 +4,7 @@ ghost use Rattle.std.specs.Prelude.{◌≡◌, ◌<◌, ◌≤◌, ◌*◌, IfOk
 ghost use Rattle.torus.specs.Shape.{tiles_of};
 ghost use Rattle.channel_number.specs.dateline_route.specs.Walk.{IsChannel};
 ghost use Rattle.channel_number.specs.Order.{channel_index};
-ghost use Rattle.home_bank.specs.Beginning.{new_ports};
+ghost use Rattle.home_bank.specs.Beginning.{bank_ports};
 
 use channel_number::{Channel, Kind, channel_count, channel_index};
 use flit_buffer::{Ports, Receiver, Sender};
@@ -24,7 +24,7 @@ pub(crate) fn base_of(torus: &Torus, depth: u32, channel: Channel) -> usize
 
 /// The ports of a tile's bank, whose channels are empty: the places of each channel stand in the row
 /// by its place among the channels, and the words behind those of all channels.
-pub(crate) fn new_ports<A: Allocator + Copy>(
+pub(crate) fn bank_ports<A: Allocator + Copy>(
     alloc: A,
     torus: &Torus,
     tile: u32,
@@ -33,7 +33,7 @@ pub(crate) fn new_ports<A: Allocator + Copy>(
     requires tile { tile < tiles_of torus.now }
     requires some { 0 < depth }
     requires few { depth ≤ 8 }
-    ensures { IfOk result (λ p. p ≡ new_ports torus.now tile depth) }
+    ensures { IfOk result (λ p. p ≡ bank_ports torus.now tile depth) }
 {
     let requests = Channel {
         tile,

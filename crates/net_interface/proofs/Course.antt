@@ -7,7 +7,7 @@ use Rattle.packet.specs.declared.kinds.Operation.{Operation}
 use Rattle.flit_buffer.specs.Channel.{first_of, rest}
 use Rattle.script_follower.specs.ProcessorRecord.{ProcessorRecord, ready}
 use Rattle.script_follower.specs.ProcessorTable.{request_flits, flits_due, issued_of, record_sent}
-use Rattle.net_interface.specs.Place.{Place, with_state}
+use Rattle.net_interface.specs.Place.{ProcessorPlace, with_state}
 use Rattle.net_interface.specs.Inside.{flits_in_course}
 
 -- a list without so many items and the next
@@ -51,9 +51,9 @@ sent_of tiles words tile b [] h = absurd (omega arith)
 sent_of tiles words tile b (x ∷ xs) h = refl
 
 -- a processor that is the same has a flit to send
-pub some_due : (p q : Place) → p ≡ q → IsSome (first_of (flits_due q.tiles q.words q.tile q.agent.state.to_put (ready q.agent.state.operations)))
+pub some_due : (p q : ProcessorPlace) → p ≡ q → IsSome (first_of (flits_due q.tiles q.words q.tile q.agent.state.to_put (ready q.agent.state.operations)))
     → IsSome (first_of (flits_due p.tiles p.words p.tile p.agent.state.to_put (ready p.agent.state.operations)))
-some_due p q e some = subst (λ (r : Place). IsSome (first_of (flits_due r.tiles r.words r.tile r.agent.state.to_put (ready r.agent.state.operations)))) (sym e)
+some_due p q e some = subst (λ (r : ProcessorPlace). IsSome (first_of (flits_due r.tiles r.words r.tile r.agent.state.to_put (ready r.agent.state.operations)))) (sym e)
     some
 
 module _ (tiles words tile put : ℕ) (flits : List ℕ) (b : ProcessorRecord)
@@ -88,7 +88,7 @@ sent_record_at tiles words tile (suc n) flits b left =
     rw (some_put n) (sent_of tiles words tile b (drop (suc n) flits) (omega (arith, length-drop (suc n) flits)))
 
 -- the processor after a flit is sent
-pub sent_place : (p : Place) (ops : ProcessorRecord) (xs : List ℕ) (put : ℕ) (flits : List ℕ) → p.agent.state.to_put ≡ flits_in_course put flits
+pub sent_place : (p : ProcessorPlace) (ops : ProcessorRecord) (xs : List ℕ) (put : ℕ) (flits : List ℕ) → p.agent.state.to_put ≡ flits_in_course put flits
     → (put ≢ 0 → put < length flits)
     → ops ≡ (if put == 0 then issued_of p.tiles p.words p.tile (ready p.agent.state.operations) p.agent.state.operations else p.agent.state.operations)
     → xs ≡ rest (flits_due p.tiles p.words p.tile (flits_in_course put flits) (ready p.agent.state.operations))

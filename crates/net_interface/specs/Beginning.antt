@@ -33,8 +33,8 @@ processor_wiring s t = record {
 -- a processor's ports in the beginning, where all channels are empty: the tile's ejection of
 -- replies is its input, the tile's injection of requests its output, and the words stand behind the
 -- places of all channels (Dally and Towles, chapters 13 and 20)
-abbrev pub new_ports : Shape → ℕ → ℕ → PortEnds
-new_ports s t depth = record {
+abbrev pub processor_ports : Shape → ℕ → ℕ → PortEnds
+processor_ports s t depth = record {
   inputs = (record { base = ejection_channel s t Reply * depth; depth = depth; next = 0 }) ∷ [];
   outputs = (record {
     base = injection_channel s t Request * depth;

@@ -11,7 +11,7 @@ use Rattle.script_follower.specs.Scripts.{Invocation, IsFollowable, AreAnswersBe
 use Rattle.script_follower.specs.Following.{ShowsPast, left_of}
 use Rattle.script_follower.specs.ProcessorRecord.{ProcessorRecord, ready}
 use Rattle.script_follower.specs.ProcessorTable.{request_flits}
-use Rattle.net_interface.specs.Place.{Place}
+use Rattle.net_interface.specs.Place.{ProcessorPlace}
 use Rattle.net_interface.specs.declared.record.Record.TheInside as in_record
 use Rattle.net_interface.specs.declared.processor.Processor.TheInside as in_processor
 
@@ -61,7 +61,7 @@ abbrev pub with_tag : Option (ℕ × Operation) → Option (Tag × Operation)
 with_tag next = option_map (λ f. (record { 0 = f.0 }, f.1)) next
 
 -- the processor that the fields stand for
-abbrev pub processor_place_of : {A : Type 0} → in_processor.Inside A → Place
+abbrev pub processor_place_of : {A : Type 0} → in_processor.Inside A → ProcessorPlace
 processor_place_of p = record {
   tiles = p.tiles;
   words = p.words;

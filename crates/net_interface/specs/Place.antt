@@ -15,19 +15,19 @@ use Rattle.script_follower.specs.ProcessorTable.{ProcessorState}
 
 -- where a processor stands (how many tiles and words there are, and which tile is its own), and the
 -- agent that it is (this project's own format)
-pub record Place : Type 0 where
+pub record ProcessorPlace : Type 0 where
   pub tiles : ℕ
   pub words : ℕ
   pub tile : ℕ
   pub agent : Agent ProcessorState
 
 -- the processor at the same place with another agent's state and ports
-abbrev pub with_agent : Place → Agent ProcessorState → Place
-with_agent p a = record { tiles = p.tiles; words = p.words; tile = p.tile; agent = a }
+abbrev pub processor_with_agent : ProcessorPlace → Agent ProcessorState → ProcessorPlace
+processor_with_agent p a = record { tiles = p.tiles; words = p.words; tile = p.tile; agent = a }
 
 -- the processor with another state and the same ports
-abbrev pub with_state : Place → ProcessorState → Place
-with_state p s = with_agent p (record { state = s; ports = p.agent.ports })
+abbrev pub with_state : ProcessorPlace → ProcessorState → ProcessorPlace
+with_state p s = processor_with_agent p (record { state = s; ports = p.agent.ports })
 
 -- what the assembler makes of a flit is for the processor: a reply that is whole is one to an
 -- operation that holds its tag (this project's own format)
@@ -37,9 +37,9 @@ IsForProcessor b _ = Unit {0}
 
 -- what the word found may be: where a flit is taken, one by which no reply is whole but to an
 -- operation that holds its tag (this project's own format)
-abbrev pub IsAcceptable : ProcessorState → Choice → ℕ → Type 0
-IsAcceptable p choice.Take found = found ≢ 0 → IsForProcessor p.operations (offered p.so_far found)
-IsAcceptable p _ found = Unit {0}
+abbrev pub IsAcceptableToProcessor : ProcessorState → Choice → ℕ → Type 0
+IsAcceptableToProcessor p choice.Take found = found ≢ 0 → IsForProcessor p.operations (offered p.so_far found)
+IsAcceptableToProcessor p _ found = Unit {0}
 
 -- whether the tag is out that is told by the head flit of the packet that a flit begins or goes on
 -- with (this project's own format)

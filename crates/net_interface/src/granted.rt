@@ -10,7 +10,7 @@ ghost use Rattle.script_follower.specs.ProcessorRecord.{ready};
 ghost use Rattle.script_follower.specs.ProcessorTable.{request_flits, flits_due, issued_of, record_sent};
 ghost use Rattle.script_follower.specs.ProcessorTable.{record_offered, processor_wants, processor_after};
 ghost use Rattle.net_interface.specs.Inside.{with_tag};
-ghost use Rattle.net_interface.specs.Place.{with_state, IsForProcessor, IsAcceptable};
+ghost use Rattle.net_interface.specs.Place.{with_state, IsForProcessor, IsAcceptableToProcessor};
 
 use crate::processor::Processor;
 use crate::record::Record;
@@ -41,7 +41,7 @@ impl<A: Allocator> Processor<A> {
     pub(crate) fn note(&mut self, choice: Choice, want: Want, learned: u64)
         requires wanted { processor_wants self.old.tiles self.old.words self.old.tile
             self.old.agent.state choice ≡ Some want }
-        requires flit { IsAcceptable self.old.agent.state choice learned }
+        requires flit { IsAcceptableToProcessor self.old.agent.state choice learned }
         requires some { choice ≡ chosen.Take → learned ≢ 0 }
         ensures { self.new
             ≡ with_state self.old (processor_after self.old.tiles self.old.words self.old.tile

@@ -9,7 +9,7 @@ ghost use Rattle.flit_buffer.specs.Places.{empty_ring};
 ghost use Rattle.flit_buffer.specs.Surroundings.{Surroundings, Wiring, IsPossible, IsWired, ports_of};
 ghost use Rattle.flit_buffer.specs.declared.want.Want.{Want};
 ghost use Rattle.script_follower.specs.ProcessorTable.{ProcessorState, processor_wants, processor_after};
-ghost use Rattle.net_interface.specs.Beginning.{first_processor, processor_wiring, new_ports};
+ghost use Rattle.net_interface.specs.Beginning.{first_processor, processor_wiring, processor_ports};
 ghost use Rattle.net_interface.specs.Reach.{IsProcessorState};
 
 /// A processor wants no port that isn't there, no word but the one behind those of the memory, and to
@@ -30,7 +30,7 @@ pub fn wanted_ports_are_there()
 /// its channels are there.
 pub fn new_processors_see_empty_channels()
     ensures ports { (s : Shape) (t depth : ℕ) (words : List ℕ) → t < tiles_of s → 0 < depth
-        → new_ports s t depth ≡ ports_of depth
+        → processor_ports s t depth ≡ ports_of depth
         (record { rings = replicate (channel_count s) (empty_ring depth); words = words })
         (processor_wiring s t) }
     ensures wired { (s : Shape) (t : ℕ) → t < tiles_of s

@@ -15,12 +15,12 @@ ghost use Rattle.script_follower.specs.Scripts.{IsFollowable};
 ghost use Rattle.script_follower.specs.Following.{is_finished};
 ghost use Rattle.script_follower.specs.ProcessorRecord.{ready};
 ghost use Rattle.script_follower.specs.ProcessorTable.{request_flits, flits_due, processor_wants, processor_after};
-ghost use Rattle.net_interface.specs.Beginning.{first_processor, new_ports};
-ghost use Rattle.net_interface.specs.Place.{with_agent, is_tagged, accepts, IsAcceptable};
+ghost use Rattle.net_interface.specs.Beginning.{first_processor, processor_ports};
+ghost use Rattle.net_interface.specs.Place.{processor_with_agent, is_tagged, accepts, IsAcceptableToProcessor};
 
 use crate::record::Record;
 use crate::requests::request_flits;
-use crate::start::new_ports;
+use crate::start::processor_ports;
 use arrayvec::ArrayVec;
 use flit_buffer::{Ports, Want, WordOp};
 use packet::{Assembler, Op, Operation};
@@ -53,9 +53,9 @@ pub struct Processor<A: Allocator = Global> {
 }
 
 impl<A: Allocator> Model for Processor<A> {
-    ghost use Rattle.net_interface.specs.Place.{Place};
+    ghost use Rattle.net_interface.specs.Place.{ProcessorPlace};
 
-    ghost Value = { Place };
+    ghost Value = { ProcessorPlace };
 
     ghost use Rattle.net_interface.specs.Inside.{processor_place_of, IsProcessor};
 
@@ -101,12 +101,12 @@ impl<A: Allocator + Copy> Processor<A> {
               tile = tile;
               agent = record {
                 state = first_processor tags lines.items;
-                ports = new_ports torus.now tile depth;
+                ports = processor_ports torus.now tile depth;
               };
             }) }
     {
         let tiles = torus.tiles();
-        let ports = new_ports(alloc, torus, tile, depth)?;
+        let ports = processor_ports(alloc, torus, tile, depth)?;
         let operations = Record::new(alloc, tags, lines)?;
         let next = operations.ready();
         let flits = request_flits(tiles, tile, next);
@@ -191,7 +191,7 @@ impl<A: Allocator> Processor<A> {
     /// come in, else this flit.
     fn is_tagged(&self, flit: u64) -> bool
         ensures value { result ≡ is_tagged self.now.agent.state flit }
-        ensures acceptable { IsTrue result → IsAcceptable self.now.agent.state chosen.Take flit }
+        ensures acceptable { IsTrue result → IsAcceptableToProcessor self.now.agent.state chosen.Take flit }
     {
         let head = self.begun.unwrap_or(flit);
         self.holder(tag_told(head)).is_some()
@@ -201,7 +201,7 @@ impl<A: Allocator> Processor<A> {
     /// the tag is out that is told by the head flit of the packet that it begins or goes on with.
     pub fn is_acceptable(&self, choice: Choice, got: u64) -> bool
         ensures value { result ≡ accepts self.now.agent.state choice got }
-        ensures acceptable { IsTrue result → IsAcceptable self.now.agent.state choice got }
+        ensures acceptable { IsTrue result → IsAcceptableToProcessor self.now.agent.state choice got }
     {
         match choice {
             Choice::Take => got == 0 || self.is_tagged(got),
@@ -215,12 +215,12 @@ impl<A: Allocator> Processor<A> {
         requires tried { IsSome
             (next_op (processor_wants self.old.tiles self.old.words self.old.tile) self.old.agent
             choice) }
-        requires flit { IsAcceptable self.old.agent.state choice got }
+        requires flit { IsAcceptableToProcessor self.old.agent.state choice got }
         ensures { MatchOption
             (absorbed (processor_wants self.old.tiles self.old.words self.old.tile)
             (processor_after self.old.tiles self.old.words self.old.tile) self.old.agent choice
             got) ((result ≡ stepped.Idle) × (self.new ≡ self.old))
-            (λ a. (result ≡ stepped.Moved) × (self.new ≡ with_agent self.old a)) }
+            (λ a. (result ≡ stepped.Moved) × (self.new ≡ processor_with_agent self.old a)) }
     {
         let Some(want) = self.wants(choice) else {
             return Stepped::Idle;
@@ -241,7 +241,7 @@ impl<A: Allocator> Processor<A> {
             choice) (λ o. word_of o < vec_len row.old) }
         requires flit { IfSome
             (next_op (processor_wants self.old.tiles self.old.words self.old.tile) self.old.agent
-            choice) (λ o. IsAcceptable self.old.agent.state choice
+            choice) (λ o. IsAcceptableToProcessor self.old.agent.state choice
             (slice_index row.old.items (word_of o))) }
         ensures row { row.new.items
             ≡ performed_by row.old.items
@@ -251,7 +251,7 @@ impl<A: Allocator> Processor<A> {
             (attempted (processor_wants self.old.tiles self.old.words self.old.tile)
             (processor_after self.old.tiles self.old.words self.old.tile) self.old.agent choice
             row.old.items) ((result ≡ stepped.Idle) × (self.new ≡ self.old))
-            (λ a. (result ≡ stepped.Moved) × (self.new ≡ with_agent self.old a)) }
+            (λ a. (result ≡ stepped.Moved) × (self.new ≡ processor_with_agent self.old a)) }
     {
         let Some(want) = self.wants(choice) else {
             return Stepped::Idle;

@@ -2,7 +2,7 @@
 
 ghost use Rattle.std.specs.Prelude.{◌≡◌, ◌<◌, ◌≤◌, ℕ, length, IfOk};
 ghost use Rattle.torus.specs.Shape.{tiles_of};
-ghost use Rattle.net_interface.specs.Beginning.{new_ports};
+ghost use Rattle.net_interface.specs.Beginning.{processor_ports};
 
 use channel_number::{channel_count, channel_index};
 use dateline_route::{Channel, Kind};
@@ -12,7 +12,7 @@ use torus::{Class, Torus};
 
 /// The ports of a tile's processor, whose channels are empty: the places of each channel stand in the
 /// row by its place among the channels, and the words behind those of all channels.
-pub(crate) fn new_ports<A: Allocator + Copy>(
+pub(crate) fn processor_ports<A: Allocator + Copy>(
     alloc: A,
     torus: &Torus,
     tile: u32,
@@ -21,7 +21,7 @@ pub(crate) fn new_ports<A: Allocator + Copy>(
     requires tile { tile < tiles_of torus.now }
     requires some { 0 < depth }
     requires few { depth ≤ 8 }
-    ensures { IfOk result (λ p. p ≡ new_ports torus.now tile depth) }
+    ensures { IfOk result (λ p. p ≡ processor_ports torus.now tile depth) }
 {
     let words = channel_count(torus) * depth;
     let ejection = Channel {

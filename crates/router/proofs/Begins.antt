@@ -11,7 +11,7 @@ use Rattle.channel_number.specs.Order.{dir_at}
 use Rattle.channel_number.specs.Ports.{port_count, hop_source}
 use Rattle.flit_buffer.specs.Ends.{SendingEnd, ReceivingEnd}
 use Rattle.flit_buffer.specs.Wants.{PortEnds, no_input, no_output}
-use Rattle.router.specs.Beginning.{new_input, new_output, new_ports}
+use Rattle.router.specs.Beginning.{new_input, new_output, router_ports}
 
 module _ (s : Shape) (is : IsAccepted s) (t d u : ℕ) (low : t < tiles_of s) (inside : d < dims_of s) where
   neighbour_is : (dir : Dir) → IsNeighbour s t d dir u → u ≡ with_digit s t d (one_hop dir (radix_of s d) (digit_of s t d))
@@ -31,10 +31,10 @@ pub ports_are_new : (s : Shape) (t depth words : ℕ) (inputs : List ReceivingEn
     → ((i : ℕ) → i < port_count (dims_of s) → get_or inputs i no_input ≡ new_input s t depth i)
     → ((o : ℕ) → o < port_count (dims_of s) → get_or outputs o no_output ≡ new_output s t depth o)
     → p ≡ record { inputs = inputs; outputs = outputs; words = words }
-    → words ≡ (new_ports s t depth).words → p ≡ new_ports s t depth
+    → words ≡ (router_ports s t depth).words → p ≡ router_ports s t depth
 ports_are_new s t depth words inputs outputs p ins outs each_in each_out e same =
     let mk : List ReceivingEnd → List SendingEnd → ℕ → PortEnds = λ x y z. record { inputs = x; outputs = y; words = z } in
     e
     ∙ ap (λ x. mk x outputs words) (fill_by_all (new_input s t depth) inputs (port_count (dims_of s)) no_input ins each_in)
-    ∙ ap (λ y. mk (new_ports s t depth).inputs y words) (fill_by_all (new_output s t depth) outputs (port_count (dims_of s)) no_output outs each_out)
-    ∙ ap (λ z. mk (new_ports s t depth).inputs (new_ports s t depth).outputs z) same
+    ∙ ap (λ y. mk (router_ports s t depth).inputs y words) (fill_by_all (new_output s t depth) outputs (port_count (dims_of s)) no_output outs each_out)
+    ∙ ap (λ z. mk (router_ports s t depth).inputs (router_ports s t depth).outputs z) same

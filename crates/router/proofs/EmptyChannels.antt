@@ -11,7 +11,7 @@ use Rattle.flit_buffer.specs.Ends.{SendingEnd, ReceivingEnd}
 use Rattle.flit_buffer.specs.Places.{empty_ring, sending, receiving}
 use Rattle.flit_buffer.specs.Surroundings.{Surroundings, ring, no_ring, IsWired, ports_of}
 use Rattle.flit_buffer.specs.Wants.{PortEnds, no_input, no_output}
-use Rattle.router.specs.Beginning.{router_wiring, empty_surroundings, new_input, new_output, new_ports}
+use Rattle.router.specs.Beginning.{router_wiring, empty_surroundings, new_input, new_output, router_ports}
 
 -- the ends of channels at ports, where each end is as it is new
 module _ {X : Type 0} (f g : ℕ → X) (channel : ℕ → ℕ) (n : ℕ) (none : X) where
@@ -68,27 +68,27 @@ module _ (s : Shape) (is : IsAccepted s) (t : ℕ) (low : t < tiles_of s) where
     new_sending : ℕ → ℕ → SendingEnd
     new_sending base next = record { base = base; depth = depth; next = next; credits = depth }
 
-    shown : new_ports s t depth ≡ ports_of depth around (router_wiring s t)
+    shown : router_ports s t depth ≡ ports_of depth around (router_wiring s t)
     unfolding around new_sending
     shown =
         let mk : List ReceivingEnd → List SendingEnd → ℕ → PortEnds = λ x y z. record { inputs = x; outputs = y; words = z } in
         let n : ℕ = port_count (dims_of s) in
         let into : ℕ → ReceivingEnd = λ x. receiving (x * depth) depth (ring around.rings x) in
         let out : ℕ → SendingEnd = λ x. sending (x * depth) depth (ring around.rings x) in
-        let ins : (new_ports s t depth).inputs ≡ (ports_of depth around (router_wiring s t)).inputs =
+        let ins : (router_ports s t depth).inputs ≡ (ports_of depth around (router_wiring s t)).inputs =
         ends_new into (new_input s t depth) (input_channel s t) n no_input
         (λ i h. ap (receiving (input_channel s t i * depth) depth) (empty_at (input_channel s t i) (input_below i h))) in
-        let outs : (new_ports s t depth).outputs ≡ (ports_of depth around (router_wiring s t)).outputs =
+        let outs : (router_ports s t depth).outputs ≡ (ports_of depth around (router_wiring s t)).outputs =
         ends_new out (new_output s t depth) (output_channel s t) n no_output
         (λ o h. ap (sending (output_channel s t o * depth) depth) (empty_at (output_channel s t o) (output_below o h))
         ∙ ap (new_sending (output_channel s t o * depth)) first_place) in
-        ap (λ x. mk x (new_ports s t depth).outputs (new_ports s t depth).words) ins
-        ∙ ap (λ y. mk (ports_of depth around (router_wiring s t)).inputs y (new_ports s t depth).words) outs
+        ap (λ x. mk x (router_ports s t depth).outputs (router_ports s t depth).words) ins
+        ∙ ap (λ y. mk (ports_of depth around (router_wiring s t)).inputs y (router_ports s t depth).words) outs
         ∙ ap (λ z. mk (ports_of depth around (router_wiring s t)).inputs (ports_of depth around (router_wiring s t)).outputs (z * depth))
         (sym (length-replicate (channel_count s) (empty_ring depth)))
 
 pub ports_shown : (s : Shape) → IsAccepted s → (t depth : ℕ) (words : List ℕ) → t < tiles_of s → 0 < depth
-    → new_ports s t depth ≡ ports_of depth (empty_surroundings s depth words) (router_wiring s t)
+    → router_ports s t depth ≡ ports_of depth (empty_surroundings s depth words) (router_wiring s t)
 unfolding around
 ports_shown s is t depth words low some = shown s is t low depth words some
 

@@ -37,8 +37,8 @@ new_output s t depth o = record {
 
 -- a router's ports in the beginning, where all channels are empty; the words stand behind the
 -- places of all channels (this project's own format)
-abbrev pub new_ports : Shape → ℕ → ℕ → PortEnds
-new_ports s t depth = record {
+abbrev pub router_ports : Shape → ℕ → ℕ → PortEnds
+router_ports s t depth = record {
   inputs = map (new_input s t depth) (range_with_len 0 (port_count (dims_of s)));
   outputs = map (new_output s t depth) (range_with_len 0 (port_count (dims_of s)));
   words = channel_count s * depth;

@@ -104,11 +104,11 @@ IsRoutable s (choice.TakeFrom i) found = NamesTile s found
 IsRoutable s _ found = Unit {0}
 
 -- a router's place, and the agent that it is (this project's own format)
-pub record Place : Type 0 where
+pub record RouterPlace : Type 0 where
   pub torus : Shape
   pub tile : ℕ
   pub agent : Agent RouterState
 
 -- the router at the same place with another agent's state and ports
-abbrev pub with_agent : Place → Agent RouterState → Place
-with_agent r a = record { torus = r.torus; tile = r.tile; agent = a }
+abbrev pub router_with_agent : RouterPlace → Agent RouterState → RouterPlace
+router_with_agent r a = record { torus = r.torus; tile = r.tile; agent = a }

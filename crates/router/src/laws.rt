@@ -9,7 +9,7 @@ ghost use Rattle.flit_buffer.specs.Surroundings.{Surroundings, Wiring, IsPossibl
 ghost use Rattle.flit_buffer.specs.declared.want.Want.{Want};
 ghost use Rattle.flit_buffer.specs.declared.want.Want.TheVariants.{Take};
 ghost use Rattle.router.specs.Table.{RouterState, empty_router, router_wants, router_after};
-ghost use Rattle.router.specs.Beginning.{router_wiring, empty_surroundings, new_ports};
+ghost use Rattle.router.specs.Beginning.{router_wiring, empty_surroundings, router_ports};
 ghost use Rattle.router.specs.Reach.{IsRouterState};
 
 /// A router wants no port that isn't there, no word, and to put no 0: in the state in which it begins,
@@ -33,7 +33,7 @@ pub fn wanted_ports_are_there()
 pub fn new_routers_see_empty_channels()
     ensures ports { (s : Shape) → IsAccepted s → (t depth : ℕ) (words : List ℕ) → t < tiles_of s
         → 0 < depth
-        → new_ports s t depth ≡ ports_of depth (empty_surroundings s depth words)
+        → router_ports s t depth ≡ ports_of depth (empty_surroundings s depth words)
         (router_wiring s t) }
     ensures wired { (s : Shape) → IsAccepted s → (t : ℕ) → t < tiles_of s
         → IsWired (channel_count s) (router_wiring s t) }

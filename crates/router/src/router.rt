@@ -11,14 +11,14 @@ ghost use Rattle.dateline_route.specs.declared.channel.Output.TheVariants.{Eject
 ghost use Rattle.dateline_route.specs.Next.{next_of};
 ghost use Rattle.packet.specs.Flits.{head_of};
 ghost use Rattle.channel_number.specs.Ports.{port_count, output_number};
-ghost use Rattle.router.specs.Beginning.{new_ports};
+ghost use Rattle.router.specs.Beginning.{router_ports};
 ghost use Rattle.router.specs.Table.{empty_router, output_for, router_wants, router_after, IsRoutable, NamesTile};
-ghost use Rattle.router.specs.Table.{with_agent};
+ghost use Rattle.router.specs.Table.{router_with_agent};
 ghost use Rattle.router.specs.Ways.{onward};
 
 use crate::outputs::{onward, output_number};
 use crate::owners::Owners;
-use crate::start::new_ports;
+use crate::start::router_ports;
 use dateline_route::{Input, Output, next};
 use flit_buffer::{Ports, Want, WordOp};
 use packet::{head, is_tail};
@@ -39,10 +39,10 @@ pub struct Router<A: Allocator = Global> {
 }
 
 impl<A: Allocator> Model for Router<A> {
-    ghost use Rattle.router.specs.Beginning.{new_ports};
-    ghost use Rattle.router.specs.Table.{Place};
+    ghost use Rattle.router.specs.Beginning.{router_ports};
+    ghost use Rattle.router.specs.Table.{RouterPlace};
 
-    ghost Value = { Place };
+    ghost Value = { RouterPlace };
 
     ghost use Rattle.router.specs.Inside.{router_place_of, IsRouter};
 
@@ -86,7 +86,7 @@ impl<A: Allocator + Copy> Router<A> {
               tile = tile;
               agent = record {
                 state = empty_router (port_count (dims_of torus));
-                ports = new_ports torus tile depth;
+                ports = router_ports torus tile depth;
               };
             }) }
     {
@@ -94,7 +94,7 @@ impl<A: Allocator + Copy> Router<A> {
         let latches = vec![in alloc; None; count]?;
         let owners = Owners::new(alloc, count)?;
         let ways = ways_from(alloc, &torus, tile)?;
-        let ports = new_ports(alloc, &torus, tile, depth)?;
+        let ports = router_ports(alloc, &torus, tile, depth)?;
         Ok(Router {
             torus,
             tile,
@@ -192,7 +192,7 @@ impl<A: Allocator> Router<A> {
         ensures { MatchOption
             (absorbed (router_wants self.old.torus self.old.tile) router_after self.old.agent choice
             got) ((result ≡ stepped.Idle) × (self.new ≡ self.old))
-            (λ a. (result ≡ stepped.Moved) × (self.new ≡ with_agent self.old a)) }
+            (λ a. (result ≡ stepped.Moved) × (self.new ≡ router_with_agent self.old a)) }
     {
         let Some(want) = self.wants(choice) else {
             return Stepped::Idle;
@@ -220,7 +220,7 @@ impl<A: Allocator> Router<A> {
         ensures step { MatchOption
             (attempted (router_wants self.old.torus self.old.tile) router_after self.old.agent
             choice row.old.items) ((result ≡ stepped.Idle) × (self.new ≡ self.old))
-            (λ a. (result ≡ stepped.Moved) × (self.new ≡ with_agent self.old a)) }
+            (λ a. (result ≡ stepped.Moved) × (self.new ≡ router_with_agent self.old a)) }
     {
         let Some(want) = self.wants(choice) else {
             return Stepped::Idle;
@@ -255,7 +255,7 @@ impl<A: Allocator> Router<A> {
         requires port { HasPort self.old.agent.ports want }
         requires flit { IsRoutable self.old.torus choice learned }
         ensures { self.new
-            ≡ with_agent self.old (record {
+            ≡ router_with_agent self.old (record {
               state =
                   router_after self.old.agent.state choice want learned;
               ports = self.old.agent.ports;

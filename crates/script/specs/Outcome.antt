@@ -16,7 +16,7 @@ abbrev pub then_lines : {A B : Type 0} → ℕ → Result A Fault → (A → Res
 then_lines number (Err e) rest = Err (record { fault = e; line = number })
 then_lines number (Ok x) rest = rest x
 
--- the line that a fault is told at: want of memory is at none
+-- the line that a fault is told at: a refusal of memory is at none
 abbrev pub line_of_fault : Fault → ℕ → ℕ
 line_of_fault fault.Memory line = 0
 line_of_fault _ line = line
@@ -32,7 +32,7 @@ abbrev pub Makes : {X Y : Type 0} → X → Result Y Fault → Result X Fault �
 Makes new (Ok y) made = made ≡ Ok new
 Makes new (Err e) made = (e ≡ fault.Memory) ⊎ (made ≡ Err e)
 
--- what a reader answers: the grammar's value, or the grammar's fault at its line, or want of memory
+-- what a reader answers: the grammar's value, or the grammar's fault at its line, or out of memory
 -- at line 0
 abbrev pub Gives : {A B : Type 0} → (A → B) → Result A LineFault → Result B LineFault → Type 0
 Gives view (Ok x) read = read ≡ Ok (view x)

@@ -82,15 +82,20 @@ add_line lists p line =
     then Ok (slice_set lists p (script_of lists p ++ line ∷ []))
     else Err fault.Length)
 
+-- the processor and the line of a script that these words stand for, on a machine of so many tiles
+-- and words: after the shape come the processor, the address and the numbers
+abbrev pub line_for : ℕ → ℕ → List ℕ → List (List ℕ) → Result (ℕ × Line) Fault
+line_for tiles words processor rest =
+    an_index processor >>= λ p. form_of rest >>= λ form.
+    if nat_lt p tiles then (line_of_form words form >>= λ line. Ok (p, line))
+    else Err fault.Processor
+
 -- what the words of a line make of the scripts; a line without words and a comment are skipped.
--- After the shape
--- come the processor, the address, the numbers, `last` and the count
+-- After its own faults come those of `last` and of the count
 abbrev pub take_line : ℕ → List (List Line) → List ℕ → List (List ℕ)
     → Result (List (List Line)) Fault
 take_line words lists processor rest =
-    an_index processor >>= λ p. form_of rest >>= λ form.
-    if nat_lt p (length lists) then (line_of_form words form >>= λ line. add_line lists p line)
-    else Err fault.Processor
+    line_for (length lists) words processor rest >>= λ found. add_line lists (found.0) (found.1)
 
 abbrev pub after_words : ℕ → List (List Line) → List (List ℕ) → Result (List (List Line)) Fault
 after_words words lists [] = Ok lists

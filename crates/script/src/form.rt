@@ -1,8 +1,8 @@
-ghost use Rattle.std.specs.Prelude.{◌≡◌, map, IfOk};
+ghost use Rattle.std.specs.Prelude.{◌≡◌, ◌<◌, map, IfOk};
 ghost use Rattle.script.specs.Form.{form_of, one_word, two_words, three_words, four_words, update_form, cas_form};
 ghost use Rattle.script.specs.Form.{spin_form, one_value, operand_of, checked_word, checked_value, update_line};
 ghost use Rattle.script.specs.Form.{line_of_form, below};
-ghost use Rattle.script.specs.Scripts.{IsAcceptedLine};
+ghost use Rattle.script.specs.Scripts.{IsAcceptedLine, line_for};
 
 use crate::number::{a_value, an_index};
 use crate::{Line, Value};
@@ -156,7 +156,7 @@ fn four_words(keyword: &[u8], a: &[u8], x: &[u8], y: &[u8]) -> Result<Form, Faul
 }
 
 /// What stands after the processor.
-pub(crate) fn form_of(words: &[&[u8]]) -> Result<Form, Fault>
+fn form_of(words: &[&[u8]]) -> Result<Form, Fault>
     ensures { result ≡ form_of (map (λ word. word.now) words.now) }
 {
     match words {
@@ -167,6 +167,29 @@ pub(crate) fn form_of(words: &[&[u8]]) -> Result<Form, Fault>
         [keyword, a, x, y] => four_words(keyword, a, x, y),
         [_, _, _, _, _, ..] => Err(Fault::Line),
     }
+}
+
+/// The processor and the line that the words of a line of a script stand for, on a machine of so many
+/// tiles and words of memory.
+///
+/// Errors: `Fault::Line` for another shape, `Fault::Processor` for a processor that isn't there,
+/// `Fault::Address` for an address that isn't, then `Fault::Range`.
+pub fn read_line(
+    processor: &[u8],
+    rest: &[&[u8]],
+    tiles: u32,
+    words: u32,
+) -> Result<(u32, Line), Fault>
+    ensures value { result
+        ≡ line_for tiles words processor.now (map (λ word. word.now) rest.now) }
+    ensures accepted { IfOk result (λ found. (found.0 < tiles) × IsAcceptedLine words (found.1)) }
+{
+    let p = an_index(processor)?;
+    let form = form_of(rest)?;
+    if p >= tiles {
+        return Err(Fault::Processor);
+    }
+    Ok((p, form.line(words)?))
 }
 
 /// A number that is a word, below 2^64.
@@ -212,7 +235,7 @@ impl Form {
     ///
     /// Errors: `Fault::Address` for an address that is not below the number of words, then
     /// `Fault::Range`.
-    pub(crate) fn line(self, words: u32) -> Result<Line, Fault>
+    fn line(self, words: u32) -> Result<Line, Fault>
         ensures value { result ≡ line_of_form words self }
         ensures accepted { IfOk result (IsAcceptedLine words) }
     {

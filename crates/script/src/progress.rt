@@ -4,9 +4,8 @@ ghost use Rattle.script.specs.ScriptViews.{lists_of, IsCounted};
 ghost use Rattle.script.specs.Outcome.{Makes};
 
 use crate::Line;
-use crate::form::form_of;
+use crate::form::read_line;
 use crate::lists::{LineList, empty_lists, push_line};
-use crate::number::an_index;
 use std::alloc::{AllocError, Allocator};
 use torus::Fault;
 
@@ -68,14 +67,8 @@ impl<A: Allocator + Copy> Progress<A> {
         ensures tiles { vec_len self.new.lists ≡ vec_len self.old.lists }
         ensures counted { OnOk result (IsCounted self.new) }
     {
-        let p = an_index(processor)?;
-        let form = form_of(rest)?;
-        let p = p as usize;
-        if p >= self.lists.len() {
-            return Err(Fault::Processor);
-        }
-        let line = form.line(self.words)?;
-        self.add(p, line)
+        let (p, line) = read_line(processor, rest, self.lists.len() as u32, self.words)?;
+        self.add(p as usize, line)
     }
 
     /// Adds a line to the script of a processor.

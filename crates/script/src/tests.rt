@@ -486,7 +486,7 @@ fn read_within(
     Ok(read)
 }
 
-/// Each budget gives want of memory, and from the first that suffices on the right answer: lines
+/// Each budget gives out of memory, and from the first that suffices on the right answer: lines
 /// and steps, or a fault.
 #[test]
 fn each_budget(rt: HostRuntime) -> Result<(), Fail> {

@@ -50,6 +50,13 @@ told_fits o r told fits = λ word e.
     subst (λ (p : Option Reply). IfSome p (λ reply. reply_to o.call.operation.op word ≡ reply)) (sym told)
     (subst (λ (v : ℕ). reply_to o.call.operation.op v ≡ Old r) e fits)
 
+-- one that is told another word than this doesn't take effect at it
+pub other_told : (o : Open) (word told : ℕ) → o.promise ≡ Some (Old told) → told ≢ word → Agrees o word → ⊥
+other_told o word told e ne agrees =
+    let h : reply_to o.call.operation.op word ≡ Old told =
+    subst (λ (p : Option Reply). IfSome p (λ reply. reply_to o.call.operation.op word ≡ reply)) e agrees in
+    ne (sym (told_word o.call.operation.op word told h))
+
 -- so is a load that is never answered
 pub load_idle : (o : Open) → o.call.operation.op ≡ Load → IsIdle o
 load_idle o e = λ word agrees. ap (λ (op : Op). new_word op word) e

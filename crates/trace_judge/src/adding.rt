@@ -2,7 +2,7 @@
 
 ghost use Rattle.std.specs.Prelude.{◌≡◌, true, Some, None, ◌∷◌, ◌++◌, [], ◌<◌, ◌≤◌, MatchOption, OnOk, length, max};
 ghost use Rattle.trace_search.specs.declared.opened.Open.{Open};
-ghost use Rattle.trace_search.specs.Configs.{HasAsGood, effect, release};
+ghost use Rattle.trace_search.specs.Configs.{Agrees, HasAsGood, effect, release};
 ghost use Rattle.trace_search.specs.Searches.{configs_of};
 ghost use Rattle.trace_judge.specs.Idles.{AreListed, AreLow};
 ghost use Rattle.trace_judge.specs.Sets.{GoesOn, TakesEffect, WaitsFor, Joins, Takes};
@@ -11,9 +11,20 @@ use crate::bits::{has, with, without};
 use crate::idles::{Idle, follow, settle};
 use crate::index::Index;
 use crate::undecided::Full;
-use packet::apply;
+use packet::{Reply, apply};
 use std::alloc::{AllocError, Allocator};
 use trace_search::{Branch, Config, Node, Open};
+
+/// Whether the trace tells as the reply of an operation another word than this.
+#[tactic(auto, using(crate::proofs::Calm::other_told))]
+fn tells_other(opened: Open, word: u64) -> bool
+    ensures { result ≡ true → Agrees opened word → ⊥ }
+{
+    match opened.promise {
+        Some(Reply::Old(told)) => told != word,
+        _ => false,
+    }
+}
 
 /// The configuration after the operation at this place took effect, if it may.
 pub fn after(
@@ -29,6 +40,9 @@ pub fn after(
 {
     let open = place?;
     if open.call.operation.address != address || has(config.taken, slot) {
+        return None;
+    }
+    if tells_other(open, config.word) {
         return None;
     }
     let (word, reply) = apply(open.call.operation.op, config.word);
@@ -116,7 +130,7 @@ fn put<A: Allocator + Copy>(
 ) -> Result<(), AllocError>
     ensures { OnOk result (found.new.items ≡ found.old.items ++ branch ∷ []) }
 {
-    index.note(place)?;
+    index.note(place, found.len());
     found.push(branch)?;
     Ok(())
 }

@@ -36,7 +36,7 @@ fn settle_all<A: Allocator + Copy>(
     ensures sound { IfOk result (λ v. StaysSound table.now address branches.now nodes.old.items
         v.items nodes.new.items) }
 {
-    index.homes.clear();
+    index.forget();
     let mut found = Vec::new(alloc);
     for i in 0..branches.len() {
         index.widen(alloc, &found)?;

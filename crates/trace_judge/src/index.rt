@@ -7,25 +7,40 @@ ghost use Rattle.trace_search.specs.Searches.{configs_of};
 use std::alloc::{AllocError, Allocator};
 use trace_search::{Branch, Config};
 
-/// How many places there are at first.
+/// How many places there are at first: a power of two, as later on.
 const PLACES: usize = 64;
 
 /// Where there are more places than these, they stay as many.
 const MOST_PLACES: usize = 1 << 40;
 
-/// Places of which some tell the number of a branch. What a place tells counts where the home of this
-/// branch is that place, so to forget all is to forget the homes.
+/// Branches of greater numbers are not noted.
+const MOST_NOTED: usize = 0xffff_ffff;
+
+/// A place that was taken in a round, by the branch of this number.
+#[derive(Clone, Copy)]
+pub struct Place {
+    pub round: u32,
+    pub at: u32,
+}
+
+/// Places of which some tell the number of a branch. What a place tells counts where it was taken in this
+/// round, so to forget all is to begin another.
 #[derive(Drop)]
 pub struct Index<A: Allocator> {
-    pub places: Vec<usize, A>,
-    pub homes: Vec<usize, A>,
+    pub places: Vec<Place, A>,
+    pub round: u32,
+}
+
+/// So many places, none of them taken in round 1.
+fn free_places<A: Allocator + Copy>(alloc: A, count: usize) -> Result<Vec<Place, A>, AllocError> {
+    vec![in alloc; Place { round: 0, at: 0 }; count]
 }
 
 /// An index that knows of no branch.
 pub fn empty_index<A: Allocator + Copy>(alloc: A) -> Result<Index<A>, AllocError> {
     Ok(Index {
-        places: vec![in alloc; 0usize; PLACES]?,
-        homes: Vec::new(alloc),
+        places: free_places(alloc, PLACES)?,
+        round: 1,
     })
 }
 
@@ -39,14 +54,19 @@ fn hash(config: Config) -> u64 {
 }
 
 impl<A: Allocator + Copy> Index<A> {
+    /// Forgets all branches.
+    pub fn forget(&mut self) {
+        self.round = self.round.wrapping_add(1);
+    }
+
     /// The number of a branch that a place tells.
     fn told(&self, place: usize) -> Option<usize> {
         if place >= self.places.len() {
             return None;
         }
-        let at = self.places[place];
-        if at < self.homes.len() && self.homes[at] == place {
-            Some(at)
+        let taken = self.places[place];
+        if taken.round == self.round {
+            Some(taken.at as usize)
         } else {
             None
         }
@@ -60,7 +80,8 @@ impl<A: Allocator + Copy> Index<A> {
         if count == 0 {
             return Some(0);
         }
-        let mut place = hash(config) as usize % count;
+        let last = count - 1;
+        let mut place = hash(config) as usize & last;
         for _ in 0..count {
             let Some(at) = self.told(place) else {
                 return Some(place);
@@ -68,19 +89,19 @@ impl<A: Allocator + Copy> Index<A> {
             if at < found.len() && found[at].config == config {
                 return None;
             }
-            place = if place + 1 < count { place + 1 } else { 0 };
+            place = place.wrapping_add(1) & last;
         }
         Some(count)
     }
 
-    /// Notes the next branch.
-    pub fn note(&mut self, place: usize) -> Result<(), AllocError> {
-        if place < self.places.len() {
-            let at = self.homes.len();
-            self.places[place] = at;
+    /// Notes the branch of this number.
+    pub fn note(&mut self, place: usize, at: usize) {
+        if place < self.places.len() && at <= MOST_NOTED {
+            self.places[place] = Place {
+                round: self.round,
+                at: at as u32,
+            };
         }
-        self.homes.push(place)?;
-        Ok(())
     }
 
     /// Makes four times as many places, where a quarter is taken.
@@ -89,11 +110,11 @@ impl<A: Allocator + Copy> Index<A> {
         if found.len() <= count / 4 || count > MOST_PLACES {
             return Ok(());
         }
-        self.places = vec![in alloc; 0usize; count * 4]?;
-        self.homes.clear();
+        self.places = free_places(alloc, count * 4)?;
+        self.round = 1;
         for at in 0..found.len() {
             let place = self.place_for(&found[..at], found[at].config);
-            self.note(place.unwrap_or(count * 4))?;
+            self.note(place.unwrap_or(count * 4), at);
         }
         Ok(())
     }

@@ -1,6 +1,6 @@
 use Rattle.std.proofs.Common.{◌*◌, ap}
 use Rattle.router.proofs.Begins.{ports_are_new}
-use Rattle.router.proofs.start.new_ports.Goals as goal
+use Rattle.router.proofs.start.router_ports.Goals as goal
 
 pub returns-clause-ports : goal.returns-clause-ports
 returns-clause-ports g c =
