@@ -1,28 +1,20 @@
 -- What a line of a dialogue asks for (this project's own format).
-use Rattle.std.specs.Prelude.{ℕ, ◌&&◌, nat_le, nat_lt, List, [], ◌∷◌, Result, Ok, Err, if◌then◌else◌, codes}
+use Rattle.std.specs.Prelude.{ℕ, ◌&&◌, nat_le, List, [], ◌∷◌, Result, Ok, Err, if◌then◌else◌, codes}
 use Rattle.std.specs.Str.{bytes_eq}
 use Rattle.torus.specs.declared.fault.Fault.{Fault}
 use Rattle.torus.specs.declared.fault.Fault.TheVariants as fault
 use Rattle.lexer.specs.Words.{begins_comment}
-use Rattle.script.specs.declared.line.Line.{Line}
 use Rattle.script.specs.Outcome.{◌>>=◌}
+use Rattle.script.specs.Scripts.{line_for}
 use Rattle.script.specs.Settings.{an_index}
 use Rattle.live_lines.specs.declared.command.Command.{Command}
 use Rattle.live_lines.specs.declared.command.Command.TheVariants as command
-use Rattle.live_lines.specs.Operation.{operation_line}
 
--- a line for processor p, of so many: its shape is looked at first, then the processor, then its
--- address and numbers, as in scripts
-abbrev pub asked : ℕ → ℕ → Result Line Fault → Result Command Fault
-asked tiles p (Err fault.Line) = Err fault.Line
-asked tiles p (Err e) = if nat_lt p tiles then Err e else Err fault.Processor
-asked tiles p (Ok line) = if nat_lt p tiles then Ok (command.Ask p line) else Err fault.Processor
-
--- what stands behind `ask`: a processor, and what it is handed as in a script
+-- what stands behind `ask`: a line of a script, which is read as there
 abbrev pub ask_of : ℕ → ℕ → List (List ℕ) → Result Command Fault
 ask_of tiles memory [] = Err fault.Line
 ask_of tiles memory (processor ∷ rest) =
-    an_index processor >>= λ p. asked tiles p (operation_line memory rest)
+    line_for tiles memory processor rest >>= λ found. Ok (command.Ask (found.0) (found.1))
 
 -- a number of rounds is 1 to 1000000
 abbrev pub rounds_asked : ℕ → Result Command Fault

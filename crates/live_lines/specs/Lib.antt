@@ -1,3 +1,2 @@
-pub mod Operation
 pub mod Command
 pub mod Text

@@ -2,13 +2,11 @@
 #![tactic(auto)]
 
 pub mod command;
-pub mod operation;
 pub mod reading;
 pub mod text;
 pub mod told;
 
 pub use command::Command;
-pub use operation::operation_line;
 pub use reading::read_command;
 pub use text::{ToldText, told_text};
 pub use told::Told;

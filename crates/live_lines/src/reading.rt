@@ -2,40 +2,16 @@
 
 ghost use Rattle.std.specs.Prelude.{◌≡◌, map};
 ghost use Rattle.lexer.specs.Words.{first_words};
-ghost use Rattle.live_lines.specs.Command.{alone, ask_of, asked, command_from, command_of, named, round_of};
+ghost use Rattle.live_lines.specs.Command.{alone, ask_of, command_from, command_of, named, round_of};
 ghost use Rattle.live_lines.specs.Command.{rounds_asked, wait_of};
 
 use crate::command::Command;
-use crate::operation::{an_index, operation_line};
 use lexer::first_words;
-use script::Line;
+use script::{an_index, read_line};
 use torus::Fault;
 
 /// The most rounds that a line asks for.
 const MOST_ROUNDS: u32 = 1000000;
-
-/// A line for a processor, of so many.
-fn asked(tiles: u32, p: u32, line: Result<Line, Fault>) -> Result<Command, Fault>
-    ensures { result ≡ asked tiles p line }
-{
-    match line {
-        Err(Fault::Line) => Err(Fault::Line),
-        Err(fault) => {
-            if p < tiles {
-                Err(fault)
-            } else {
-                Err(Fault::Processor)
-            }
-        }
-        Ok(line) => {
-            if p < tiles {
-                Ok(Command::Ask(p, line))
-            } else {
-                Err(Fault::Processor)
-            }
-        }
-    }
-}
 
 /// What stands behind `ask`.
 fn ask_of(words: &[&[u8]], tiles: u32, memory: u32) -> Result<Command, Fault>
@@ -44,8 +20,8 @@ fn ask_of(words: &[&[u8]], tiles: u32, memory: u32) -> Result<Command, Fault>
     match words {
         [] => Err(Fault::Line),
         [processor, rest @ ..] => {
-            let p = an_index(processor)?;
-            asked(tiles, p, operation_line(rest, memory))
+            let (p, line) = read_line(processor, rest, tiles, memory)?;
+            Ok(Command::Ask(p, line))
         }
     }
 }

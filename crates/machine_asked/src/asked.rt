@@ -50,7 +50,7 @@ impl<A: Allocator> Model for AskedMachine<A> {
 impl<A: Allocator + Copy> AskedMachine<A> {
     /// Loads the machine of a text, whose processors follow the scripts of a text: it has made no step.
     ///
-    /// Errors: the first fault of the texts with its line, taken in the order machine, scripts; or want of
+    /// Errors: the first fault of the texts with its line, taken in the order machine, scripts; or out of
     /// memory, at line 0.
     pub fn load(alloc: A, machine: &[u8], scripts: &[u8]) -> Result<AskedMachine<A>, LineFault>
         ensures loaded { IfOk result
@@ -93,7 +93,7 @@ fn answer_of(answers: &[Answer], index: u32) -> Option<Answer>
     None
 }
 
-/// Want of memory, which is at no line.
+/// Out of memory, which is at no line.
 fn out_of_memory() -> LineFault
     ensures { result ≡ record { fault = Fault.Memory; line = 0 } }
 {
