@@ -74,6 +74,23 @@ pub slot_low : {A : Type 0} (tables : List (Vec (Option Open) A)) (w slot : ℕ)
 slot_low {A} tables w slot o v l e at = get_within v.items slot (Some o)
     (subst (λ (ts : List (Option Open)). IsAt ts slot o) (sym (read_set tables w v l e)) at)
 
+-- the same branches, read otherwise
+pub sound_as : (opening : List ℕ) (trace : List Event) (k : ℕ) (tables : ℕ → List (Option Open))
+    (sets others : ℕ → List Branch) (nodes : List Node)
+    → ((v : ℕ) → others v ≡ sets v)
+    → IsSound opening trace k tables sets nodes → IsSound opening trace k tables others nodes
+sound_as opening trace k tables sets others nodes same sound = record {
+  back = sound.back;
+  inside = λ v i b l h e. sound.inside v i b l (subst (λ (bs : List Branch). IsIn bs b) (same v) h) e;
+  explained = λ pick trails marks picks. sound.explained pick trails marks (record {
+    sized = picks.sized;
+    picked = λ v l. subst (λ (bs : List Branch). IsIn bs (pick v)) (same v) (picks.picked v l);
+    trailed = picks.trailed;
+    marked = picks.marked;
+    only = picks.only;
+  });
+}
+
 -- the branches after an answer, which leaves the word with some
 pub holds_answer : {A : Type 0} (opening : List ℕ) (trace whole : List Event) (k : ℕ) (s : Search A)
     (tables : Vec (Vec (Option Open) A) A) (words : Vec (Vec Branch A) A) (nodes : Vec Node A)
@@ -139,22 +156,6 @@ holds_answer {A} opening trace whole k s tables words nodes slot a id reply old 
     (in_map (λ (b : Branch). b.config) later.items (record { config = release b.config slot; trail = b.trail }) q)))
     (λ v ne. with_other sets w middle v ne) there holds.searched
     (sound opening trace k open' sets t holds.searched.tabled refl far begun)
-  where
-    sound_as : (opening : List ℕ) (trace : List Event) (k : ℕ) (tables : ℕ → List (Option Open))
-        (sets others : ℕ → List Branch) (nodes : List Node)
-        → ((v : ℕ) → others v ≡ sets v)
-        → IsSound opening trace k tables sets nodes → IsSound opening trace k tables others nodes
-    sound_as opening trace k tables sets others nodes same sound = record {
-      back = sound.back;
-      inside = λ v i b l h e. sound.inside v i b l (subst (λ (bs : List Branch). IsIn bs b) (same v) h) e;
-      explained = λ pick trails marks picks. sound.explained pick trails marks (record {
-        sized = picks.sized;
-        picked = λ v l. subst (λ (bs : List Branch). IsIn bs (pick v)) (same v) (picks.picked v l);
-        trailed = picks.trailed;
-        marked = picks.marked;
-        only = picks.only;
-      });
-    }
 
 -- the same, as the code sees it
 pub seen_answer : {A : Type 0} (opening : List ℕ) (trace whole : List Event) (k : ℕ) (s : Search A)

@@ -1,5 +1,5 @@
 -- The loops that go through all branches.
-use Rattle.std.proofs.Common.{◌≡◌, ◌≢◌, ⊎_elim, ℕ, zero, suc, ◌+◌, ◌<◌, ◌≤◌, max, List, [], ◌∷◌, ◌++◌, length, Option, Some, None, sym, ◌∙◌, ap, subst}
+use Rattle.std.proofs.Common.{◌≡◌, ◌≢◌, ⊎_elim, ℕ, zero, suc, ◌+◌, ◌<◌, ◌≤◌, List, [], ◌∷◌, ◌++◌, length, Option, Some, None, sym, ◌∙◌, ap, subst}
 use Rattle.std.proofs.Common.{arith, slice_get}
 use Rattle.std.proofs.lemmas.Bool.{cases_eq}
 use Rattle.trace_search.specs.declared.opened.Open.{Open}
@@ -16,31 +16,29 @@ use Rattle.trace_judge.proofs.Growth.{has_go_on}
 
 -- all branches, up to the next one
 pub record Closing (table : List (Option Open)) (w slot : ℕ) (begun : List Branch) (nodes : List Node)
-    (bound next : ℕ) (found : List Branch) (more : List Node) : Type 0 where
+    (next : ℕ) (found : List Branch) (more : List Node) : Type 0 where
   pub grows : GoesOn begun found
   pub closed : (j : ℕ) (b : Branch) → j < next → slice_get found j ≡ Some b → IsLeft b.config slot
       → IsExpanded table w (configs_of found) b.config
-  pub bounded : length found ≤ bound
   pub within : next ≤ length found
   pub sound : StaysSound table w begun nodes found more
 
-pub closing_none : (table : List (Option Open)) (w slot : ℕ) (begun : List Branch) (nodes : List Node) (bound : ℕ)
-    → length begun ≤ bound → Closing table w slot begun nodes bound 0 begun nodes
-closing_none table w slot begun nodes bound few = record {
+pub closing_none : (table : List (Option Open)) (w slot : ℕ) (begun : List Branch) (nodes : List Node)
+    → Closing table w slot begun nodes 0 begun nodes
+closing_none table w slot begun nodes = record {
   grows = goes_on_same begun;
   closed = λ j b l h left. absurd (omega arith);
-  bounded = few;
   within = omega arith;
   sound = stays_same table w begun nodes;
 }
 
 -- a branch in which the operation has taken effect is left as it is
 pub closing_skip : (table : List (Option Open)) (w slot : ℕ) (begun : List Branch) (nodes : List Node)
-    (bound next : ℕ) (found : List Branch) (more : List Node) (b : Branch)
+    (next : ℕ) (found : List Branch) (more : List Node) (b : Branch)
     → slice_get found next ≡ Some b → (IsLeft b.config slot → ⊥)
-    → Closing table w slot begun nodes bound next found more
-    → Closing table w slot begun nodes bound (next + 1) found more
-closing_skip table w slot begun nodes bound next found more b at taken was = record {
+    → Closing table w slot begun nodes next found more
+    → Closing table w slot begun nodes (next + 1) found more
+closing_skip table w slot begun nodes next found more b at taken was = record {
   grows = was.grows;
   closed = λ j c l h left. ⊎_elim
       (λ (e : j ≡ next).
@@ -49,19 +47,17 @@ closing_skip table w slot begun nodes bound next found more b at taken was = rec
       absurd (taken (subst (λ (d : Branch). IsLeft d.config slot) same left)))
       (λ (ne : j ≢ next). was.closed j c (omega arith) h left)
       (cases_eq j next);
-  bounded = was.bounded;
   within = let m = get_within found next b at in omega arith;
   sound = was.sound;
 }
 
 -- another is expanded
 pub closing_expand : (table : List (Option Open)) (w slot : ℕ) (begun : List Branch) (nodes : List Node)
-    (bound next : ℕ) (found later : List Branch) (more most : List Node) (b : Branch)
+    (next : ℕ) (found later : List Branch) (more most : List Node) (b : Branch)
     → slice_get found next ≡ Some b → IsExpanded table w (configs_of later) b.config → GoesOn found later
-    → length later ≤ max bound (length found)
-    → StaysSound table w found more later most → Closing table w slot begun nodes bound next found more
-    → Closing table w slot begun nodes bound (next + 1) later most
-closing_expand table w slot begun nodes bound next found later more most b at expanded on short sound was =
+    → StaysSound table w found more later most → Closing table w slot begun nodes next found more
+    → Closing table w slot begun nodes (next + 1) later most
+closing_expand table w slot begun nodes next found later more most b at expanded on sound was =
     let inside = get_within found next b at in
     record {
       grows = goes_on_more begun found later was.grows on;
@@ -79,7 +75,6 @@ closing_expand table w slot begun nodes bound next found later more most b at ex
           λ s o may. has_go_on table w found later (effect c.config s o) on
           (was.closed j c (omega arith) old left s o may))
           (cases_eq j next);
-      bounded = let b = was.bounded in omega arith;
       within = let e = ap (λ (bs : List Branch). length bs) on.1 in let m = longer found on.0 in omega arith;
       sound = stays_more table w begun found later nodes more most was.sound sound;
     }
@@ -95,11 +90,11 @@ closing_expand table w slot begun nodes bound next found later more most b at ex
     longer (x ∷ xs) ys = let r = longer xs ys in omega arith
 
 pub closing_all : (table : List (Option Open)) (w slot : ℕ) (begun : List Branch) (nodes : List Node)
-    (bound next : ℕ) (found : List Branch) (more : List Node)
+    (next : ℕ) (found : List Branch) (more : List Node)
     → length found ≤ next
-    → Closing table w slot begun nodes bound next found more → (c : Config) → IsIn (configs_of found) c
+    → Closing table w slot begun nodes next found more → (c : Config) → IsIn (configs_of found) c
     → IsLeft c slot → IsExpanded table w (configs_of found) c
-closing_all table w slot begun nodes bound next found more all was c h left =
+closing_all table w slot begun nodes next found more all was c h left =
     let r = map_in (λ (b : Branch). b.config) found c h in
     let b : Branch = r.0 in
     let l = get_within found r.1.0 b r.1.1 in
@@ -108,11 +103,11 @@ closing_all table w slot begun nodes bound next found more all was c h left =
 
 -- what the branches were, has one as good at the end
 pub closing_kept : (table : List (Option Open)) (w slot : ℕ) (branches begun : List Branch) (nodes : List Node)
-    (bound next : ℕ) (found : List Branch) (more : List Node)
+    (next : ℕ) (found : List Branch) (more : List Node)
     → ((c : Config) → IsIn (configs_of branches) c → HasAsGood table w (configs_of begun) c)
-    → Closing table w slot begun nodes bound next found more
+    → Closing table w slot begun nodes next found more
     → (c : Config) → IsIn (configs_of branches) c → HasAsGood table w (configs_of found) c
-closing_kept table w slot branches begun nodes bound next found more kept was c h =
+closing_kept table w slot branches begun nodes next found more kept was c h =
     has_go_on table w begun found c was.grows (kept c h)
 
 -- those that are kept, up to branch i

@@ -79,7 +79,7 @@ mark_trail (i ∷ trail) old inside =
     (set rest.0 i true, mark_more old rest.0 trail i l rest.1, length-set rest.0 i true ∙ rest.2)
 
 -- the first branches of the words so far can be picked
-pick_firsts : (sets : ℕ → List Branch) (nodes : List Node) (words : ℕ) → AreNodes nodes
+pub pick_firsts : (sets : ℕ → List Branch) (nodes : List Node) (words : ℕ) → AreNodes nodes
     → ((w i : ℕ) (b : Branch) → w < words → IsIn (sets w) b → b.trail ≡ Some i → i < length nodes)
     → ((w : ℕ) → w < words → (b : Branch) × IsIn (sets w) b)
     → (w : ℕ) → w ≤ words → (marks : List Bool) × PicksSoFar (λ v. first_of (sets v)) w sets nodes marks

@@ -1,5 +1,5 @@
 -- The loops that let operations take effect.
-use Rattle.std.proofs.Common.{◌≡◌, ◌≢◌, ⊎_elim, ℕ, suc, ◌+◌, ◌<◌, ◌≤◌, max, List, [], ◌∷◌, ◌++◌, length, Option, Some, sym, ◌∙◌, ap, subst}
+use Rattle.std.proofs.Common.{◌≡◌, ◌≢◌, ⊎_elim, ℕ, suc, ◌+◌, ◌<◌, ◌≤◌, List, [], ◌∷◌, ◌++◌, length, Option, Some, sym, ◌∙◌, ap, subst}
 use Rattle.std.proofs.Common.{arith, slice_get, append-nil}
 use Rattle.std.proofs.lemmas.Bool.{cases_eq}
 use Rattle.trace_search.specs.declared.opened.Open.{Open}
@@ -20,29 +20,26 @@ has_go_on table w old new c on has = (has.0, configs_go_on old new has.0 on has.
 
 -- one branch, up to slot s
 pub record Expanding (table : List (Option Open)) (w : ℕ) (old : List Branch) (nodes : List Node) (from : Branch)
-    (bound s : ℕ) (new : List Branch) (more : List Node) : Type 0 where
+    (s : ℕ) (new : List Branch) (more : List Node) : Type 0 where
   pub expanded : (u : ℕ) (o : Open) → u < s → MayTake table w from.config u o
       → HasAsGood table w (configs_of new) (effect from.config u o)
   pub grows : GoesOn old new
-  pub bounded : length new ≤ max bound (length old)
   pub sound : StaysSound table w old nodes new more
 
 pub expanding_none : (table : List (Option Open)) (w : ℕ) (old : List Branch) (nodes : List Node) (from : Branch)
-    (bound : ℕ)
-    → Expanding table w old nodes from bound 0 old nodes
-expanding_none table w old nodes from bound = record {
+    → Expanding table w old nodes from 0 old nodes
+expanding_none table w old nodes from = record {
   expanded = λ u o l may. absurd (omega arith);
   grows = goes_on_same old;
-  bounded = omega arith;
   sound = stays_same table w old nodes;
 }
 
 pub expanding_skip : (table : List (Option Open)) (w : ℕ) (old : List Branch) (nodes : List Node) (from : Branch)
-    (bound s : ℕ) (new : List Branch) (more : List Node) (place : Option Open)
+    (s : ℕ) (new : List Branch) (more : List Node) (place : Option Open)
     → slice_get table s ≡ Some place → ((o : Open) → TakesEffect place w from.config s o → ⊥)
-    → Expanding table w old nodes from bound s new more
-    → Expanding table w old nodes from bound (s + 1) new more
-expanding_skip table w old nodes from bound s new more place at none was = record {
+    → Expanding table w old nodes from s new more
+    → Expanding table w old nodes from (s + 1) new more
+expanding_skip table w old nodes from s new more place at none was = record {
   expanded = λ u o l may. ⊎_elim
       (λ (e : u ≡ s).
       let here : slice_get table s ≡ Some (Some o) = ap (λ (i : ℕ). slice_get table i) (sym e) ∙ may.pending.there in
@@ -57,19 +54,18 @@ expanding_skip table w old nodes from bound s new more place at none was = recor
       (λ (ne : u ≢ s). was.expanded u o (omega arith) may)
       (cases_eq u s);
   grows = was.grows;
-  bounded = was.bounded;
   sound = was.sound;
 }
 
 pub expanding_add : (table : List (Option Open)) (w : ℕ) (old : List Branch) (nodes : List Node) (from : Branch)
-    (bound s : ℕ) (new later : List Branch) (more most : List Node) (place : Option Open)
+    (s : ℕ) (new later : List Branch) (more most : List Node) (place : Option Open)
     (o : Open) (config : Config) → IsIn old from → slice_get table s ≡ Some place
     → TakesEffect place w from.config s o → config ≡ effect from.config s o
-    → HasAsGood table w (configs_of later) config → GoesOn new later → length later ≤ max bound (length new)
+    → HasAsGood table w (configs_of later) config → GoesOn new later
     → Takes table w from o config new more later most
-    → Expanding table w old nodes from bound s new more
-    → Expanding table w old nodes from bound (s + 1) later most
-expanding_add table w old nodes from bound s new later more most place o config in' at takes is there on short ways was =
+    → Expanding table w old nodes from s new more
+    → Expanding table w old nodes from (s + 1) later most
+expanding_add table w old nodes from s new later more most place o config in' at takes is there on ways was =
     let may : MayTake table w from.config s o = record {
       pending = record {
         there = at ∙ ap
@@ -92,35 +88,32 @@ expanding_add table w old nodes from bound s new later more most place o config 
           (λ (ne : u ≢ s). has_go_on table w new later (effect from.config u p) on (was.expanded u p (omega arith) m))
           (cases_eq u s);
       grows = goes_on_more old new later was.grows on;
-      bounded = let b = was.bounded in omega arith;
       sound = stays_more table w old new later nodes more most was.sound
           (ways s (goes_on_in old new from was.grows in') may is);
     }
 
 -- the branches of a word settle, up to branch i
 pub record Settling (table : List (Option Open)) (w : ℕ) (branches : List Branch) (nodes : List Node)
-    (bound i : ℕ) (found : List Branch) (more : List Node) : Type 0 where
+    (i : ℕ) (found : List Branch) (more : List Node) : Type 0 where
   pub kept : (j : ℕ) (b : Branch) → j < i → slice_get branches j ≡ Some b
       → HasAsGood table w (configs_of found) b.config
-  pub bounded : length found ≤ bound
   pub sound : StaysSound table w branches nodes (branches ++ found) more
 
-pub settling_none : (table : List (Option Open)) (w : ℕ) (branches : List Branch) (nodes : List Node) (bound : ℕ)
-    → Settling table w branches nodes bound 0 [] nodes
-settling_none table w branches nodes bound = record {
+pub settling_none : (table : List (Option Open)) (w : ℕ) (branches : List Branch) (nodes : List Node)
+    → Settling table w branches nodes 0 [] nodes
+settling_none table w branches nodes = record {
   kept = λ j b l h. absurd (omega arith);
-  bounded = omega arith;
   sound = subst (λ (bs : List Branch). StaysSound table w branches nodes bs nodes) (sym (append-nil branches))
       (stays_same table w branches nodes);
 }
 
-pub settling_more : (table : List (Option Open)) (w : ℕ) (branches : List Branch) (nodes : List Node) (bound i : ℕ)
+pub settling_more : (table : List (Option Open)) (w : ℕ) (branches : List Branch) (nodes : List Node) (i : ℕ)
     (found later : List Branch) (more most : List Node) (b : Branch)
     → slice_get branches i ≡ Some b → HasAsGood table w (configs_of later) b.config
-    → GoesOn found later → length later ≤ max bound (length found) → Joins table w b found more later most
-    → Settling table w branches nodes bound i found more
-    → Settling table w branches nodes bound (i + 1) later most
-settling_more table w branches nodes bound i found later more most b at there on short ways was = record {
+    → GoesOn found later → Joins table w b found more later most
+    → Settling table w branches nodes i found more
+    → Settling table w branches nodes (i + 1) later most
+settling_more table w branches nodes i found later more most b at there on ways was = record {
   kept = λ j c l h. ⊎_elim {C = HasAsGood table w (configs_of later) c.config}
       (λ (e : j ≡ i).
       let here : slice_get branches i ≡ Some c = ap (λ (n : ℕ). slice_get branches n) (sym e) ∙ h in
@@ -128,16 +121,15 @@ settling_more table w branches nodes bound i found later more most b at there on
       subst (λ (d : Branch). HasAsGood table w (configs_of later) d.config) same there)
       (λ (ne : j ≢ i). has_go_on table w found later c.config on (was.kept j c (omega arith) h))
       (cases_eq j i);
-  bounded = let m = was.bounded in omega arith;
   sound = stays_more table w branches (branches ++ found) (branches ++ later) nodes more most was.sound
       (ways branches (i, get_append_left branches found i b at));
 }
 
-pub settling_kept : (table : List (Option Open)) (w : ℕ) (branches : List Branch) (nodes : List Node) (bound i : ℕ)
+pub settling_kept : (table : List (Option Open)) (w : ℕ) (branches : List Branch) (nodes : List Node) (i : ℕ)
     (found : List Branch) (more : List Node) → length branches ≤ i
-    → Settling table w branches nodes bound i found more
+    → Settling table w branches nodes i found more
     → (c : Config) → IsIn (configs_of branches) c → HasAsGood table w (configs_of found) c
-settling_kept table w branches nodes bound i found more all was c h =
+settling_kept table w branches nodes i found more all was c h =
     let r = map_in (λ (b : Branch). b.config) branches c h in
     let b : Branch = r.0 in
     let l = get_within branches r.1.0 b r.1.1 in
@@ -147,9 +139,9 @@ right_in : (xs ys : List Branch) (b : Branch) → IsIn ys b → IsIn (xs ++ ys) 
 right_in [] ys b h = h
 right_in (x ∷ xs) ys b h = let r = right_in xs ys b h in (suc r.0, r.1)
 
-pub settling_sound : (table : List (Option Open)) (w : ℕ) (branches : List Branch) (nodes : List Node) (bound i : ℕ)
-    (found : List Branch) (more : List Node) → Settling table w branches nodes bound i found more
+pub settling_sound : (table : List (Option Open)) (w : ℕ) (branches : List Branch) (nodes : List Node) (i : ℕ)
+    (found : List Branch) (more : List Node) → Settling table w branches nodes i found more
     → StaysSound table w branches nodes found more
-settling_sound table w branches nodes bound i found more was =
+settling_sound table w branches nodes i found more was =
     stays_more table w branches (branches ++ found) found nodes more more was.sound
     (stays_fewer table w (branches ++ found) found more (λ b h. right_in branches found b h))

@@ -1,6 +1,6 @@
 //! Adds branches to those that were found, unless one as good is there.
 
-ghost use Rattle.std.specs.Prelude.{◌≡◌, true, Some, None, ◌∷◌, ◌++◌, [], ◌<◌, ◌≤◌, MatchOption, OnOk, length, max};
+ghost use Rattle.std.specs.Prelude.{◌≡◌, true, Some, None, ◌∷◌, ◌++◌, [], ◌<◌, ◌≤◌, MatchOption, OnOk, length};
 ghost use Rattle.trace_search.specs.declared.opened.Open.{Open};
 ghost use Rattle.trace_search.specs.Configs.{Agrees, HasAsGood, effect, release};
 ghost use Rattle.trace_search.specs.Searches.{configs_of};
@@ -10,7 +10,6 @@ ghost use Rattle.trace_judge.specs.Sets.{GoesOn, TakesEffect, WaitsFor, Joins, T
 use crate::bits::{has, with, without};
 use crate::idles::{Idle, follow, settle};
 use crate::index::Index;
-use crate::undecided::Full;
 use packet::{Reply, apply};
 use std::alloc::{AllocError, Allocator};
 use trace_search::{Branch, Config, Node, Open};
@@ -160,15 +159,13 @@ pub fn add<A: Allocator + Copy>(
     address: u32,
     idles: &[Idle],
     from: Branch,
-    bound: usize,
-) -> Result<(), Full>
+) -> Result<(), AllocError>
     requires small { length table.now ≤ 128 }
     requires low { AreLow idles.now }
     requires listed { AreListed table.now address idles.now }
     ensures there { OnOk result
         (HasAsGood table.now address (configs_of found.new.items) from.config) }
     ensures grows { OnOk result (GoesOn found.old.items found.new.items) }
-    ensures bounded { OnOk result (length found.new.items ≤ max bound (length found.old.items)) }
     ensures ways { OnOk result (Joins table.now address from found.old.items nodes.old.items
         found.new.items nodes.new.items) }
 {
@@ -176,9 +173,6 @@ pub fn add<A: Allocator + Copy>(
     let Some(place) = new_place(found, index, table, address, config) else {
         return Ok(());
     };
-    if found.len() >= bound {
-        return Err(Full::Configurations);
-    }
     let branch = follow(nodes, idles, from)?;
     put(found, index, place, branch)?;
     Ok(())
@@ -196,14 +190,12 @@ pub fn take<A: Allocator + Copy>(
     from: Branch,
     opened: Open,
     config: Config,
-    bound: usize,
-) -> Result<(), Full>
+) -> Result<(), AllocError>
     requires small { length table.now ≤ 128 }
     requires low { AreLow idles.now }
     requires listed { AreListed table.now address idles.now }
     ensures there { OnOk result (HasAsGood table.now address (configs_of found.new.items) config) }
     ensures grows { OnOk result (GoesOn found.old.items found.new.items) }
-    ensures bounded { OnOk result (length found.new.items ≤ max bound (length found.old.items)) }
     ensures ways { OnOk result (Takes table.now address from opened config found.old.items
         nodes.old.items found.new.items nodes.new.items) }
 {
@@ -211,9 +203,6 @@ pub fn take<A: Allocator + Copy>(
     let Some(place) = new_place(found, index, table, address, settled) else {
         return Ok(());
     };
-    if found.len() >= bound {
-        return Err(Full::Configurations);
-    }
     let begun = Branch {
         config,
         trail: Some(nodes.len()),

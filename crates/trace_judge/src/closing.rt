@@ -1,15 +1,18 @@
 //! Lets open operations take effect, until the answered one has.
 
-ghost use Rattle.std.specs.Prelude.{◌≡◌, ◌<◌, ◌≤◌, IfOk, OnOk, length, max};
+ghost use Rattle.std.specs.Prelude.{◌≡◌, ◌<◌, ◌≤◌, IfErr, IfOk, OnOk, length};
 ghost use Rattle.trace_search.specs.declared.opened.Config.{Config};
 ghost use Rattle.trace_search.specs.declared.opened.Branch.{Branch};
 ghost use Rattle.trace_search.specs.Configs.{IsIn, IsLeft, IsTaken, HasAsGood, IsExpanded, release};
 ghost use Rattle.trace_search.specs.Searches.{configs_of, AreReleased};
+ghost use Rattle.trace_judge.specs.declared.undecided.Full.TheVariants.{Configurations};
+ghost use Rattle.trace_judge.specs.Crowds.{IsOverfull};
 ghost use Rattle.trace_judge.specs.Idles.{AreListed, AreLow};
 ghost use Rattle.trace_judge.specs.Sets.{GoesOn, StaysSound};
 
 use crate::adding::{add, after, take};
 use crate::bits::{has, without};
+use crate::counting::is_crowd;
 use crate::idles::{Idle, idles_of};
 use crate::index::Index;
 use crate::undecided::Full;
@@ -25,14 +28,12 @@ fn settle_all<A: Allocator + Copy>(
     table: &[Option<Open>],
     address: u32,
     idles: &[Idle],
-    bound: usize,
-) -> Result<Vec<Branch, A>, Full>
+) -> Result<Vec<Branch, A>, AllocError>
     requires small { length table.now ≤ 128 }
     requires low { AreLow idles.now }
     requires listed { AreListed table.now address idles.now }
     ensures kept { IfOk result (λ v. (c : Config) → IsIn (configs_of branches.now) c
         → HasAsGood table.now address (configs_of v.items) c) }
-    ensures bounded { IfOk result (λ v. length v.items ≤ bound) }
     ensures sound { IfOk result (λ v. StaysSound table.now address branches.now nodes.old.items
         v.items nodes.new.items) }
 {
@@ -40,16 +41,7 @@ fn settle_all<A: Allocator + Copy>(
     let mut found = Vec::new(alloc);
     for i in 0..branches.len() {
         index.widen(alloc, &found)?;
-        add(
-            &mut found,
-            nodes,
-            index,
-            table,
-            address,
-            idles,
-            branches[i],
-            bound,
-        )?;
+        add(&mut found, nodes, index, table, address, idles, branches[i])?;
     }
     Ok(found)
 }
@@ -63,8 +55,7 @@ fn expand<A: Allocator + Copy>(
     address: u32,
     idles: &[Idle],
     from: Branch,
-    bound: usize,
-) -> Result<(), Full>
+) -> Result<(), AllocError>
     requires small { length table.now ≤ 128 }
     requires low { AreLow idles.now }
     requires listed { AreListed table.now address idles.now }
@@ -72,14 +63,13 @@ fn expand<A: Allocator + Copy>(
     ensures expanded { OnOk result
         (IsExpanded table.now address (configs_of found.new.items) from.config) }
     ensures grows { OnOk result (GoesOn found.old.items found.new.items) }
-    ensures bounded { OnOk result (length found.new.items ≤ max bound (length found.old.items)) }
     ensures sound { OnOk result (StaysSound table.now address found.old.items nodes.old.items
         found.new.items nodes.new.items) }
 {
     for slot in 0..table.len() {
         if let Some((opened, config)) = after(from.config, table[slot], address, slot) {
             take(
-                found, nodes, index, table, address, idles, from, opened, config, bound,
+                found, nodes, index, table, address, idles, from, opened, config,
             )?;
         }
     }
@@ -108,18 +98,25 @@ fn go_on<A: Allocator + Copy>(
         → IsExpanded table.now address (configs_of v.items) c) }
     ensures sound { IfOk result (λ v. StaysSound table.now address branches.now nodes.old.items
         v.items nodes.new.items) }
+    ensures full { IfErr result (λ full. full ≡ Configurations
+        → IsOverfull table.now address bound branches.now nodes.old.items) }
 {
-    let mut found = settle_all(alloc, branches, nodes, index, table, address, idles, bound)?;
-    let mut next = 0;
-    while next < found.len() {
+    let mut found = settle_all(alloc, branches, nodes, index, table, address, idles)?;
+    for next in 0..usize::MAX {
+        if is_crowd(alloc, &found, bound)? {
+            return Err(Full::Configurations);
+        }
+        if next >= found.len() {
+            return Ok(found);
+        }
         let from = found[next];
         if !has(from.config.taken, slot) {
             index.widen(alloc, &found)?;
-            expand(&mut found, nodes, index, table, address, idles, from, bound)?;
+            expand(&mut found, nodes, index, table, address, idles, from)?;
         }
-        next += 1;
     }
-    Ok(found)
+    // No memory has room for so many.
+    Err(Full::Memory)
 }
 
 /// The branches that open operations on a word lead to: idle ones take effect at once, and each
@@ -142,6 +139,8 @@ pub fn close<A: Allocator + Copy>(
         → IsExpanded table.now address (configs_of v.items) c) }
     ensures sound { IfOk result (λ v. StaysSound table.now address branches.now nodes.old.items
         v.items nodes.new.items) }
+    ensures full { IfErr result (λ full. full ≡ Configurations
+        → IsOverfull table.now address bound branches.now nodes.old.items) }
 {
     let idles = idles_of(alloc, table, address)?;
     go_on(

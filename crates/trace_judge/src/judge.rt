@@ -6,7 +6,7 @@ ghost use Rattle.trace_order.specs.Traces.{IsTrace};
 ghost use Rattle.trace_order.specs.Orders.{IsOrder, IsLinearizable};
 ghost use Rattle.trace_search.specs.Searches.{IsTrail, order_of};
 ghost use Rattle.trace_judge.specs.Searched.{Holds};
-ghost use Rattle.trace_judge.specs.Stops.{IsBeginning, IsUndecided};
+ghost use Rattle.trace_judge.specs.Stops.{IsBeginning, IsUndecided, TellsMany};
 ghost use Rattle.trace_judge.specs.Verdicts.{IsGoodUntil, Tells};
 ghost use Rattle.trace_judge.specs.Marks.{AreNodes, IsBelow, AreMarked, ArePicked};
 ghost use Rattle.trace_judge.specs.Sets.{lists_of};
@@ -49,6 +49,7 @@ fn run<A: Allocator + Copy>(
     requires trace { IsTrace (length opening.now) events.now }
     requires beginning { IsBeginning events.now whole.now }
     ensures undecided { IfErr result (IsUndecided whole.now) }
+    ensures full { IfErr result (TellsMany opening.now whole.now bound) }
     ensures ended { IfOk result (λ found. found ≡ None
         → IsGoodUntil opening.now events.now ended.new.event) }
     ensures decided { IfOk result (λ found. MatchOption found
@@ -133,6 +134,7 @@ fn find_order<A: Allocator + Copy>(
     requires trace { IsTrace (length opening.now) events.now }
     requires beginning { IsBeginning events.now whole.now }
     ensures undecided { IfErr result (IsUndecided whole.now) }
+    ensures full { IfErr result (TellsMany opening.now whole.now bound) }
     ensures ended { IfOk result (λ found. found ≡ None
         → IsGoodUntil opening.now events.now ended.new.event) }
     ensures decided { IfOk result (λ found. MatchOption found
@@ -159,6 +161,7 @@ pub fn decide<A: Allocator + Copy>(
 ) -> Result<Option<Vec<Call, A>>, Undecided>
     requires { IsTrace (length opening.now) events.now }
     ensures undecided { IfErr result (IsUndecided events.now) }
+    ensures full { IfErr result (TellsMany opening.now events.now bound) }
     ensures decided { IfOk result (λ found. MatchOption found
         (IsLinearizable opening.now events.now → ⊥)
         (λ order. IsOrder opening.now events.now order.items)) }
@@ -191,6 +194,7 @@ pub fn judge<A: Allocator + Copy>(
 ) -> Result<Verdict<A>, Undecided>
     requires { IsTrace (length opening.now) events.now }
     ensures unjudged { IfErr result (IsUndecided events.now) }
+    ensures full { IfErr result (TellsMany opening.now events.now bound) }
     ensures judged { IfOk result (λ verdict. Tells opening.now events.now verdict) }
 {
     let mut ended = Ended::default();

@@ -8,7 +8,7 @@ ghost use Rattle.trace_order.specs.Orders.{IsLinearizable};
 ghost use Rattle.trace_search.specs.Searches.{IsAt, first_branch};
 ghost use Rattle.trace_judge.specs.Sets.{lists_of};
 ghost use Rattle.trace_judge.specs.Searched.{Holds};
-ghost use Rattle.trace_judge.specs.Stops.{IsBeginning, IsUndecided};
+ghost use Rattle.trace_judge.specs.Stops.{IsBeginning, IsUndecided, TellsMany};
 
 use crate::closing::{close, keep};
 use crate::index::{Index, empty_index};
@@ -16,7 +16,7 @@ use crate::nodes::kept;
 use crate::reading::{first_slot, issue_of, promise_of};
 use crate::slots::{free, put, slot_of};
 use crate::stuck::stuck_in;
-use crate::undecided::{Full, Undecided};
+use crate::undecided::{Undecided, at_event};
 use packet::Reply;
 use std::alloc::{AllocError, Allocator};
 use trace_order::{Call, Event};
@@ -114,6 +114,7 @@ impl<A: Allocator + Copy> Search<A> {
         requires holds { Holds opening.now events.now whole.now k self.old }
         ensures holds { OnOk result (Holds opening.now events.now whole.now (k + 1) self.new) }
         ensures undecided { IfErr result (IsUndecided whole.now) }
+        ensures full { IfErr result (λ why. (bound : ℕ) → TellsMany opening.now whole.now bound why) }
     {
         let promise = promise_of(events, k + 1, call.id);
         let word = call.operation.address as usize;
@@ -172,6 +173,7 @@ impl<A: Allocator + Copy> Search<A> {
         ensures yes { IfOk result (λ b. b ≡ true → Holds opening.now events.now whole.now (k + 1) self.new) }
         ensures no { IfOk result (λ b. b ≡ false → IsLinearizable opening.now events.now → ⊥) }
         ensures undecided { IfErr result (IsUndecided whole.now) }
+        ensures full { IfErr result (TellsMany opening.now whole.now bound) }
     {
         let (slot, opened) = self.place_of(opening, events, whole, k, id);
         let address = opened.call.operation.address;
@@ -188,8 +190,7 @@ impl<A: Allocator + Copy> Search<A> {
         );
         let middle = match closed {
             Ok(middle) => middle,
-            Err(Full::Memory) => return Err(Undecided::Memory),
-            Err(Full::Configurations) => return Err(Undecided::Configurations { event: k }),
+            Err(full) => return Err(at_event(full, k)),
         };
         let later = keep(alloc, &middle, slot)?;
         let stands = !later.is_empty();
@@ -238,6 +239,7 @@ impl<A: Allocator + Copy> Search<A> {
         ensures yes { IfOk result (λ b. b ≡ true → Holds opening.now events.now whole.now (k + 1) self.new) }
         ensures no { IfOk result (λ b. b ≡ false → IsLinearizable opening.now events.now → ⊥) }
         ensures undecided { IfErr result (IsUndecided whole.now) }
+        ensures full { IfErr result (TellsMany opening.now whole.now bound) }
     {
         match events[k] {
             Event::Issue(call) => {

@@ -21,8 +21,8 @@ returns-clause-there g c =
 pub returns-clause-ways : goal.returns-clause-ways
 returns-clause-ways g c =
     let sized = c.args.nodes.now.ok.0 in
-    let told = c.len-2.ensures in
-    let long : c.len-2.result ≡ length c.args.nodes.now.items = omega arith in
+    let told = c.len.ensures in
+    let long : c.len.result ≡ length c.args.nodes.now.items = omega arith in
     takes_push c.args.table.now c.args.address c.args.from c.in_ok-branch.branch c.args.opened c.args.config
     c.args.found.now.items c.put.new.found.items c.args.nodes.now.items c.push_node.new.nodes.items c.follow.new.nodes.items
     c.in_ok-push_node.ensures

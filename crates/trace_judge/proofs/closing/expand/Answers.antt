@@ -10,13 +10,13 @@ loop-slot-preserved g c =
     let l : c.loop-slot.slot < length c.args.table.now = omega arith in
     elim c.match-after.branch [
       | in-Some+in_ok-take w ↦ rw (w.found-is, w.nodes-is)
-          (expanding_add c.args.table.now c.args.address c.args.found.now.items c.args.nodes.now.items c.args.from c.args.bound c.loop-slot.slot
+          (expanding_add c.args.table.now c.args.address c.args.found.now.items c.args.nodes.now.items c.args.from c.loop-slot.slot
           c.loop-slot.found.items
           w.take.new.found.items c.loop-slot.nodes.items w.take.new.nodes.items _ w.in-Some.opened w.in-Some.config c.requires.there
           (slice_get-get_or c.args.table.now c.loop-slot.slot _ l) w.in-Some.ensures.0 w.in-Some.ensures.1
-          w.in_ok-take.ensures.there w.in_ok-take.ensures.grows w.in_ok-take.ensures.bounded w.in_ok-take.ensures.ways c.loop-slot.invariant)
+          w.in_ok-take.ensures.there w.in_ok-take.ensures.grows w.in_ok-take.ensures.ways c.loop-slot.invariant)
       | in_default w ↦ rw (w.found-is, w.nodes-is)
-          (expanding_skip c.args.table.now c.args.address c.args.found.now.items c.args.nodes.now.items c.args.from c.args.bound c.loop-slot.slot
+          (expanding_skip c.args.table.now c.args.address c.args.found.now.items c.args.nodes.now.items c.args.from c.loop-slot.slot
           c.loop-slot.found.items
           c.loop-slot.nodes.items _
           (slice_get-get_or c.args.table.now c.loop-slot.slot _ l) w.in_default.ensures c.loop-slot.invariant)

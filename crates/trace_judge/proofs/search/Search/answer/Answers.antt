@@ -1,7 +1,9 @@
-use Rattle.std.proofs.Common.{◌<◌, length, refl, arith}
+use Rattle.std.proofs.Common.{◌<◌, ◌∙◌, length, refl, arith}
 use Rattle.std.specs.Vec.{with_item}
 use Rattle.trace_search.proofs.Table.{at_within}
 use Rattle.trace_judge.specs.Sets.{lists_of}
+use Rattle.trace_judge.proofs.Many.{answer_in, full_told, has_many}
+use Rattle.trace_judge.proofs.Searching.{read_set}
 use Rattle.trace_judge.proofs.Answering.{seen_answer, answer_yes, answer_no, stays_some, goes_none, slot_low}
 use Rattle.trace_judge.proofs.search.Search.answer.Goals as goal
 
@@ -68,3 +70,22 @@ returns-clause-no g c = λ e.
     answer_no c.args.opening.now c.args.events.now c.args.whole.now c.args.k s (lists_of ts.items) ws.items c.close-closed.new.nodes.items w later
     c.place_of-slot.ensures.inside (goes_none later c.is_empty-stands.result c.is_empty-stands.ensures e) refl
     c.requires.holds.sized done
+
+pub returns-in-Err-clause-undecided : goal.returns-in-Err-clause-undecided
+returns-in-Err-clause-undecided g c =
+    c.at_event.ensures.undecided c.args.whole.now
+    (answer_in c.args.events.now c.args.whole.now c.args.k c.args.id c.args.reply c.requires.beginning c.requires.answered)
+
+pub returns-in-Err-clause-full : goal.returns-in-Err-clause-full
+returns-in-Err-clause-full g c =
+    let s = c.args.self.now in
+    let w = c.place_of-slot.result.1.call.operation.address in
+    let far = c.place_of-slot.ensures.inside in
+    let inside : w < length s.words.items = let e = c.requires.holds.sized in omega arith in
+    let within : w < length s.tables.items = let e = c.requires.holds.tabled in omega arith in
+    c.at_event.ensures.full c.args.opening.now c.args.whole.now c.args.bound (λ told.
+    has_many c.args.opening.now c.args.events.now c.args.whole.now c.args.k c.args.bound s w c.deref.result.now s.nodes.items
+    c.deref-2.result.now c.requires.trace c.requires.beginning c.requires.inside c.requires.holds far
+    (c.deref.ensures.value ∙ read_set s.words.items w c.index.result.now inside c.index.ensures) refl
+    (c.deref-2.ensures.value ∙ read_set s.tables.items w c.index-2.result.now within c.index-2.ensures)
+    (full_told c.close-closed.result c.in-Err.full _ c.in-Err.is told c.close-closed.ensures.full))
