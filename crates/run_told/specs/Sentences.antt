@@ -1,30 +1,29 @@
 -- The sentences on how a run ended (this project's own format).
-use Rattle.std.specs.Prelude.{ℕ, ◌==◌, ◌++◌, Bool, true, false, List, [], codes, decimal}
-use Rattle.std.specs.Prelude.{if◌then◌else◌}
+use Rattle.std.specs.Prelude.{ℕ, ◌==◌, ◌++◌, Bool, true, false, List, [], codes, decimal, if◌then◌else◌}
 use Rattle.run_told.specs.declared.sentence.SpinSentence.{SpinSentence}
 use Rattle.run_told.specs.declared.sentence.EndSentence.{EndSentence}
 use Rattle.run_told.specs.declared.sentence.Course.{Course}
 use Rattle.run_told.specs.declared.sentence.Course.TheVariants.{Steps, Rounds, Turns}
 
 -- a number of things of this name, which takes an s but for one, and what stands behind
-abbrev pub so_many : ℕ → List ℕ → List ℕ → List ℕ
-so_many count name behind =
+abbrev pub counted : ℕ → List ℕ → List ℕ → List ℕ
+counted count name behind =
     decimal count ++ codes " " ++ name ++ (if count == 1 then [] else codes "s") ++ behind
 
 -- the sentence on a spin that ran out of loads
 abbrev pub spin_text : SpinSentence → List ℕ
 spin_text s = codes "processor " ++ decimal s.spin.processor ++ codes ": the spin of "
     ++ s.name.now ++ codes ":" ++ decimal s.spin.line ++ codes " made its "
-    ++ so_many s.spin.loads (codes "load") (codes " and didn't find ") ++ decimal s.spin.wanted
+    ++ counted s.spin.loads (codes "load") (codes " and didn't find ") ++ decimal s.spin.wanted
 
 -- what a run was made of; of workers that finished every script nothing is told
 abbrev pub course_text : Bool → Course → List ℕ
-course_text finished (Steps moves) = so_many moves (codes "move") (codes ", ")
+course_text finished (Steps moves) = counted moves (codes "move") (codes ", ")
 course_text finished (Rounds rounds moves) =
-    so_many rounds (codes "round") (codes ", ") ++ so_many moves (codes "move") (codes ", ")
+    counted rounds (codes "round") (codes ", ") ++ counted moves (codes "move") (codes ", ")
 course_text true (Turns turns) = []
 course_text false (Turns turns) =
-    codes "the workers made their " ++ so_many turns (codes "turn") (codes ", ")
+    codes "the workers made their " ++ counted turns (codes "turn") (codes ", ")
 
 -- how many scripts aren't finished
 abbrev pub unfinished_text : ℕ → List ℕ
@@ -40,5 +39,5 @@ answered_text count = if count == 1 then codes " is answered" else codes " are a
 abbrev pub end_text : EndSentence → List ℕ
 end_text s = (if s.finished then codes "finished: " else codes "stopped: ")
     ++ course_text s.finished s.course
-    ++ so_many s.answered (codes "operation") (answered_text s.answered)
+    ++ counted s.answered (codes "operation") (answered_text s.answered)
     ++ (if s.finished then [] else unfinished_text s.unfinished)

@@ -1,7 +1,7 @@
 //! What became of a run, in words.
 
 ghost use Rattle.std.specs.Fmt.{WritesOnOk};
-ghost use Rattle.run_told.specs.Sentences.{so_many, course_text, unfinished_text};
+ghost use Rattle.run_told.specs.Sentences.{counted, course_text, unfinished_text};
 
 use crate::scripts::EndedSpin;
 use std::fmt;
@@ -126,7 +126,7 @@ fn put_count<W: fmt::Write>(
     behind: &str,
 ) -> fmt::Result
     ensures { WritesOnOk W.write_str_gives f.old result
-        (so_many count name.now behind.now) f.new }
+        (counted count name.now behind.now) f.new }
 {
     let plural = if count == 1 { "" } else { "s" };
     write!(f, "{count} {name}{plural}{behind}")
