@@ -14,30 +14,30 @@ use Rattle.trace_text.specs.Traced.{TraceSpec, trace_of, opening_of}
 use Rattle.trace_report.specs.declared.unfit.Unfit.{Unfit}
 use Rattle.trace_report.specs.declared.unfit.Unfit.TheVariants.{Memory, Words, Processors, Indexes, Operations, Events}
 use Rattle.trace_report.specs.Fitting.{IsUnfit}
-use Rattle.trace_report.specs.Report.{IsReportOf}
+use Rattle.trace_report.specs.Report.{IsReportOfOrder}
 use Rattle.program_fault.specs.declared.fault.ProgramFault.{ProgramFault}
 use Rattle.program_fault.specs.declared.fault.ProgramFault.TheVariants as program
 use Rattle.program_fault.specs.Done.{Output, TookAll}
 use Rattle.linearize_command.specs.declared.command.Judged.{Judged}
 use Rattle.linearize_command.specs.declared.command.Judged.TheVariants.{Linearizable, NotLinearizable, TooMany, TooOpen}
-use Rattle.linearize_command.specs.Reporting.{IsReportText, PassesLimit, PrintsReport, PutsReport, unreported}
+use Rattle.linearize_command.specs.Reporting.{IsReportText, PassesLimit, PrintsReport, PutsTraceReport, unreported}
 
-report_is : (t : TraceSpec) (order : List Call) (lines : List ReportLine) → IsOrder (opening_of t) t.events order → IsReportOf t order lines
+report_is : (t : TraceSpec) (order : List Call) (lines : List ReportLine) → IsOrder (opening_of t) t.events order → IsReportOfOrder t order lines
     → GoodReport (text_of lines) → IsReportText t (text_of lines)
 report_is t order lines explains reports good =
     record { order = order; explains = explains; lines = lines; reports = reports; is = refl; good = good }
 
 -- all of it was taken
 pub printed : (t : TraceSpec) (order : List Call) (lines : List ReportLine) (old new : Output) → IsOrder (opening_of t) t.events order
-    → IsReportOf t order lines → GoodReport (text_of lines) → Appends old.taken new.taken (text_of lines) → new.failures ≡ old.failures
-    → PutsReport t old new (Ok Linearizable)
+    → IsReportOfOrder t order lines → GoodReport (text_of lines) → Appends old.taken new.taken (text_of lines) → new.failures ≡ old.failures
+    → PutsTraceReport t old new (Ok Linearizable)
 printed t order lines old new explains reports good bytes quiet =
     (text_of lines, report_is t order lines explains reports good, record { bytes = bytes; quiet = quiet })
 
 -- or a beginning
 pub cut : (t : TraceSpec) (order : List Call) (lines : List ReportLine) (old new : Output) → IsOrder (opening_of t) t.events order
-    → IsReportOf t order lines → GoodReport (text_of lines) → AppendsFront old.taken new.taken (text_of lines) → Rose old.failures new.failures
-    → PutsReport t old new (Err program.Output)
+    → IsReportOfOrder t order lines → GoodReport (text_of lines) → AppendsFront old.taken new.taken (text_of lines) → Rose old.failures new.failures
+    → PutsTraceReport t old new (Err program.Output)
 cut t order lines old new explains reports good bytes failed =
     (Linearizable, (text_of lines, report_is t order lines explains reports good, record { bytes = bytes; failed = failed }))
 
@@ -49,7 +49,7 @@ passes t order why explains unfit = record { order = order; explains = explains;
 
 -- or there is none
 pub none : (t : TraceSpec) (order : List Call) (why : Unfit) (o : Output) → IsOrder (opening_of t) t.events order → IsUnfit t order why
-    → PutsReport t o o (unreported why)
+    → PutsTraceReport t o o (unreported why)
 none t order Memory o explains unfit = (refl, refl)
 none t order Words o explains unfit = ([], passes t order Words explains unfit, took_nothing o)
 none t order Processors o explains unfit = ([], passes t order Processors explains unfit, took_nothing o)
@@ -58,7 +58,7 @@ none t order Operations o explains unfit = ([], passes t order Operations explai
 none t order Events o explains unfit = ([], passes t order Events explains unfit, took_nothing o)
 
 -- so it is of the trace of a text
-pub of_text : (lines : List (List ℕ)) (t : TraceSpec) (old new : Output) (r : Result Judged ProgramFault) → trace_of lines ≡ Ok t → PutsReport t old new r
+pub of_text : (lines : List (List ℕ)) (t : TraceSpec) (old new : Output) (r : Result Judged ProgramFault) → trace_of lines ≡ Ok t → PutsTraceReport t old new r
     → PrintsReport lines old new r
 of_text lines t old new (Ok judged) read h = (h.0, record { trace = t; read = read; reported = h.1 }, h.2)
 of_text lines t old new (Err program.Output) read h = (h.0, (h.1.0, record { trace = t; read = read; reported = h.1.1 }, h.1.2))

@@ -9,7 +9,9 @@ use Rattle.program_fault.specs.declared.fault.ProgramFault.{ProgramFault}
 use Rattle.program_fault.specs.declared.fault.ProgramFault.TheVariants as program
 use Rattle.program_fault.specs.Done.{Output, Does}
 use Rattle.linearize_command.specs.declared.command.Judged.{Judged}
-use Rattle.linearize_command.specs.declared.command.Judged.TheVariants.{Linearizable, NotLinearizable, TooMany, TooOpen}
+use Rattle.linearize_command.specs.declared.command.Judged.TheVariants.{Linearizable}
+use Rattle.linearize_command.specs.declared.command.Judged.TheVariants.{NotLinearizable, TooMany}
+use Rattle.linearize_command.specs.declared.command.Judged.TheVariants.{TooOpen}
 use Rattle.linearize_command.specs.declared.command.Judged.TheVariants.{NoReport}
 
 -- the text of an order that explains a trace (Herlihy and Wing, TOPLAS 12(3), 1990: a
@@ -20,7 +22,7 @@ pub record IsOrderText (t : TraceSpec) (text : List ℕ) : Type 0 where
   pub is : text ≡ order_text t.issued order
 
 -- event k of a trace stands at this line, and nothing is printed of it
-pub record StandsAt (t : TraceSpec) (line k : ℕ) (text : List ℕ) : Type 0 where
+pub record StandsAtLine (t : TraceSpec) (line k : ℕ) (text : List ℕ) : Type 0 where
   pub there : slice_get t.lines k ≡ Some line
   pub silent : text ≡ []
 
@@ -32,13 +34,13 @@ pub record IsFirstBad (t : TraceSpec) (k : ℕ) : Type 0 where
 -- a verdict on a trace is right, and this is printed then
 abbrev pub IsJudged : TraceSpec → Judged → List ℕ → Type 0
 IsJudged t Linearizable text = IsOrderText t text
-IsJudged t (NotLinearizable line) text = (k : ℕ) × StandsAt t line k text × IsFirstBad t k
-IsJudged t (TooMany line) text = (k : ℕ) × StandsAt t line k text × IsAnAnswer t.events k
-IsJudged t (TooOpen line) text = (k : ℕ) × StandsAt t line k text × IsCrowded t.events k
+IsJudged t (NotLinearizable line) text = (k : ℕ) × StandsAtLine t line k text × IsFirstBad t k
+IsJudged t (TooMany line) text = (k : ℕ) × StandsAtLine t line k text × IsAnAnswer t.events k
+IsJudged t (TooOpen line) text = (k : ℕ) × StandsAtLine t line k text × IsCrowded t.events k
 IsJudged t (NoReport why) text = ⊥
 
 -- the trace that the lines of a text give is judged
-pub record IsVerdict (lines : List (List ℕ)) (verdict : Judged) (text : List ℕ) : Type 0 where
+pub record IsJudgement (lines : List (List ℕ)) (verdict : Judged) (text : List ℕ) : Type 0 where
   pub trace : TraceSpec
   pub read : trace_of lines ≡ Ok trace
   pub judged : IsJudged trace verdict text
@@ -50,4 +52,4 @@ IsTraceFault lines _ = ⊥
 
 -- the trace was judged, and its order printed, if it has one
 abbrev pub PrintsOrder : List (List ℕ) → Output → Output → Result Judged ProgramFault → Type 0
-PrintsOrder lines = Does (IsVerdict lines) (IsTraceFault lines)
+PrintsOrder lines = Does (IsJudgement lines) (IsTraceFault lines)

@@ -10,7 +10,7 @@ use Rattle.trace_text.specs.Traced.{TraceSpec, trace_of, opening_of}
 use Rattle.trace_report.specs.declared.unfit.Unfit.{Unfit}
 use Rattle.trace_report.specs.declared.unfit.Unfit.TheVariants.{Memory}
 use Rattle.trace_report.specs.Fitting.{IsUnfit}
-use Rattle.trace_report.specs.Report.{IsReportOf}
+use Rattle.trace_report.specs.Report.{IsReportOfOrder}
 use Rattle.program_fault.specs.declared.fault.ProgramFault.{ProgramFault}
 use Rattle.program_fault.specs.declared.fault.ProgramFault.TheVariants as program
 use Rattle.program_fault.specs.Done.{Output, Does}
@@ -24,7 +24,7 @@ pub record IsReportText (t : TraceSpec) (text : List ℕ) : Type 0 where
   pub order : List Call
   pub explains : IsOrder (opening_of t) t.events order
   pub lines : List ReportLine
-  pub reports : IsReportOf t order lines
+  pub reports : IsReportOfOrder t order lines
   pub is : text ≡ text_of lines
   pub good : GoodReport text
 
@@ -59,8 +59,8 @@ abbrev pub NeverFails : ProgramFault → Type 0
 NeverFails e = ⊥
 
 -- the report of an order of a trace was printed, if it has one
-abbrev pub PutsReport : TraceSpec → Output → Output → Result Judged ProgramFault → Type 0
-PutsReport t = Does (IsReported t) NeverFails
+abbrev pub PutsTraceReport : TraceSpec → Output → Output → Result Judged ProgramFault → Type 0
+PutsTraceReport t = Does (IsReported t) NeverFails
 
 -- the trace of a text was judged, and the report of its order printed, if it has one
 abbrev pub PrintsReport : List (List ℕ) → Output → Output → Result Judged ProgramFault → Type 0

@@ -1,9 +1,12 @@
 -- What is said of a trace that is judged (this project's own format).
-use Rattle.std.specs.Prelude.{ℕ, List, ◌∷◌, ◌++◌, Option, Some, None, Result, Ok, Err, codes, decimal}
+use Rattle.std.specs.Prelude.{ℕ, List, ◌∷◌, ◌++◌, Option, Some, None, Result, Ok, Err, codes}
+use Rattle.std.specs.Prelude.{decimal}
 use Rattle.program_fault.specs.declared.fault.ProgramFault.{ProgramFault}
 use Rattle.program_fault.specs.Outcome.{fault_status}
 use Rattle.linearize_command.specs.declared.command.Judged.{Judged}
-use Rattle.linearize_command.specs.declared.command.Judged.TheVariants.{Linearizable, NotLinearizable, TooMany, TooOpen}
+use Rattle.linearize_command.specs.declared.command.Judged.TheVariants.{Linearizable}
+use Rattle.linearize_command.specs.declared.command.Judged.TheVariants.{NotLinearizable, TooMany}
+use Rattle.linearize_command.specs.declared.command.Judged.TheVariants.{TooOpen}
 use Rattle.linearize_command.specs.declared.command.Judged.TheVariants.{NoReport}
 use Rattle.trace_report.specs.declared.unfit.Unfit.{Unfit}
 use Rattle.trace_report.specs.declared.unfit.Unfit.TheVariants.{Memory, Words, Processors, Indexes}
@@ -32,10 +35,10 @@ verdict_text_of (TooOpen line) bound =
 verdict_text_of (NoReport why) bound = unfit_text why
 
 -- the status that the program ends with
-abbrev pub status_of : Result Judged ProgramFault → ℕ
-status_of (Ok Linearizable) = 0
-status_of (Ok (NotLinearizable line)) = 1
-status_of (Ok (TooMany line)) = 5
-status_of (Ok (TooOpen line)) = 5
-status_of (Ok (NoReport why)) = 1
-status_of (Err f) = fault_status f
+abbrev pub judged_status : Result Judged ProgramFault → ℕ
+judged_status (Ok Linearizable) = 0
+judged_status (Ok (NotLinearizable line)) = 1
+judged_status (Ok (TooMany line)) = 5
+judged_status (Ok (TooOpen line)) = 5
+judged_status (Ok (NoReport why)) = 1
+judged_status (Err f) = fault_status f

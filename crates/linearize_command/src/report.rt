@@ -5,8 +5,8 @@ ghost use Rattle.std.specs.Str.Lines.{lines};
 ghost use Rattle.program_fault.specs.Done.{output};
 ghost use Rattle.trace_order.specs.Orders.{IsOrder};
 ghost use Rattle.trace_text.specs.Traced.{opening_of};
-ghost use Rattle.trace_report.specs.Whole.{IsWhole};
-ghost use Rattle.linearize_command.specs.Reporting.{PrintsReport, PutsReport, unreported};
+ghost use Rattle.trace_report.specs.Whole.{IsWholeTrace};
+ghost use Rattle.linearize_command.specs.Reporting.{PrintsReport, PutsTraceReport, unreported};
 
 use crate::command::Judged;
 use program_fault::ProgramFault;
@@ -35,9 +35,9 @@ fn put_report<A: Allocator + Copy, W: Out>(
     order: &[Call],
     out: &mut W,
 ) -> Result<Judged, ProgramFault>
-    requires whole { IsWhole trace.now }
+    requires whole { IsWholeTrace trace.now }
     requires explains { IsOrder (opening_of trace.now) trace.now.events order.now }
-    ensures { PutsReport trace.now (output (W.taken out.old) (W.failures out.old))
+    ensures { PutsTraceReport trace.now (output (W.taken out.old) (W.failures out.old))
         (output (W.taken out.new) (W.failures out.new)) result }
 {
     match report_of_order(alloc, trace, order) {

@@ -1,7 +1,7 @@
 //! What is said of a trace that is judged: a line of text, and the status that the program ends with.
 
 ghost use Rattle.std.specs.Prelude.{◌≡◌, option_map};
-ghost use Rattle.linearize_command.specs.Told.{status_of, unfit_text, verdict_text_of};
+ghost use Rattle.linearize_command.specs.Told.{judged_status, unfit_text, verdict_text_of};
 
 use crate::Judged;
 use program_fault::{ProgramFault, status_of};
@@ -45,7 +45,7 @@ pub fn verdict_text(judged: Judged, configurations: u64) -> Option<LineText>
 /// The status that the program ends with: 0 where an order was printed, 1 where there is none or the
 /// text has a fault or memory was refused, 4 where the output failed, 5 where the trace isn't decided.
 pub fn status(answer: &Result<Judged, ProgramFault>) -> u8
-    ensures { result ≡ status_of answer.now }
+    ensures { result ≡ judged_status answer.now }
 {
     match answer {
         Ok(Judged::Linearizable) => 0,

@@ -1,5 +1,6 @@
 -- What is printed of a trace that is judged (this project's own format).
-use Rattle.std.specs.Prelude.{ℕ, List, [], ◌∷◌, ◌++◌, Option, Some, None, codes, decimal, slice_get, unwrap_or}
+use Rattle.std.specs.Prelude.{ℕ, List, [], ◌∷◌, ◌++◌, Option, Some, None, codes, decimal, slice_get}
+use Rattle.std.specs.Prelude.{unwrap_or}
 use Rattle.std.specs.Prelude.{option_map}
 use Rattle.std.specs.List.{join_with_byte, flat_map}
 use Rattle.packet.specs.declared.kinds.Reply.{Reply}
@@ -7,7 +8,8 @@ use Rattle.report_lines.specs.Line.{op_words, reply_word}
 use Rattle.trace_order.specs.declared.event.Call.{Call}
 use Rattle.trace_text.specs.declared.issued.Issued.{Issued}
 use Rattle.trace_text.specs.declared.linearize.Unfound.{Unfound}
-use Rattle.trace_text.specs.declared.linearize.Unfound.TheVariants.{Memory, Configurations, Operations}
+use Rattle.trace_text.specs.declared.linearize.Unfound.TheVariants.{Memory, Configurations}
+use Rattle.trace_text.specs.declared.linearize.Unfound.TheVariants.{Operations}
 
 -- the reply to an operation; `-` where it was not answered
 abbrev pub told_word : Option Reply → List ℕ
@@ -20,12 +22,12 @@ order_words i = codes "order" ∷ decimal i.processor ∷ decimal i.index
     ∷ op_words i.operation.op i.operation.address (told_word i.reply ∷ [])
 
 -- the line of an operation of the order
-abbrev pub order_line : Issued → List ℕ
-order_line i = join_with_byte 32 (order_words i) ++ 10 ∷ []
+abbrev pub order_line_text : Issued → List ℕ
+order_line_text i = join_with_byte 32 (order_words i) ++ 10 ∷ []
 
 -- the line of the operation of a call's number; nothing where there is none
 abbrev pub call_line : List Issued → Call → List ℕ
-call_line issued call = unwrap_or (option_map order_line (slice_get issued call.id)) []
+call_line issued call = unwrap_or (option_map order_line_text (slice_get issued call.id)) []
 
 -- the lines of an order
 abbrev pub lines_text : List Issued → List Call → List ℕ

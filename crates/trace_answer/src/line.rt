@@ -3,7 +3,7 @@
 ghost use Rattle.std.specs.Prelude.{◌≡◌, ◌≤◌, ◌++◌, ◌∷◌, codes, decimal, option_map, slice_get};
 ghost use Rattle.std.specs.List.{join_with_byte};
 ghost use Rattle.arrayvec.specs.ArrayString.{array_string_len};
-ghost use Rattle.trace_answer.specs.Texts.{order_words, order_line, call_line, undecided_text};
+ghost use Rattle.trace_answer.specs.Texts.{order_words, order_line_text, call_line, undecided_text};
 
 use crate::words::{put_index, put_op, put_reply, put_value, put_word};
 use arrayvec::ArrayString;
@@ -26,8 +26,8 @@ fn put_issued(line: &mut LineText, issued: &Issued)
 }
 
 /// The line of an operation of the order, its line feed with it.
-fn order_line(issued: &Issued) -> LineText
-    ensures { result.bytes ≡ order_line issued.now }
+fn order_line_text(issued: &Issued) -> LineText
+    ensures { result.bytes ≡ order_line_text issued.now }
 {
     let mut line = LineText::new();
     line.push_str("order");
@@ -41,7 +41,7 @@ pub(crate) fn call_line(issued: &[Issued], call: Call) -> LineText
     ensures { result.bytes ≡ call_line issued.now call }
 {
     match find(issued, call.id) {
-        Some(found) => order_line(&found),
+        Some(found) => order_line_text(&found),
         None => LineText::new(),
     }
 }

@@ -11,15 +11,15 @@ use Rattle.trace_text.specs.Traced.{TraceSpec, opening_of}
 use Rattle.trace_text.proofs.Opening.{length-opening}
 use Rattle.trace_report.specs.declared.times.Times.{Times}
 use Rattle.trace_report.specs.Fitting.{IsFit}
-use Rattle.trace_report.specs.Services.{call_at, issued_of, service_of, services_of}
+use Rattle.trace_report.specs.Services.{call_at, issued_call, service_of, services_told}
 use Rattle.trace_report.specs.declared.service.Service.{Service}
-use Rattle.trace_report.specs.Times.{AreLow, AreTimes, time_of}
-use Rattle.trace_report.specs.Whole.{IsWhole}
+use Rattle.trace_report.specs.Times.{AreLowTimes, AreTimes, time_of}
+use Rattle.trace_report.specs.Whole.{IsWholeTrace}
 use Rattle.trace_report.proofs.Lists.{image_at}
 
 pub record Given (t : TraceSpec) (tiles : ℕ) (times : List Times) (order : List Call) : Type 0 where
   pub some : 0 < tiles
-  pub whole : IsWhole t
+  pub whole : IsWholeTrace t
   pub explains : IsOrder (opening_of t) t.events order
   pub told : AreTimes t.events (length t.issued) times
   pub fit : IsFit t order
@@ -30,8 +30,8 @@ pub call_there : (order : List Call) (x : ℕ) → x < length order → slice_ge
 call_there order x l = slice_get-get_or order x (record { id = 0; operation = record { address = 0; op = Load } }) l
 
 -- the operation of its number is known
-known_of : (t : TraceSpec) (order : List Call) → IsWhole t → IsOrder (opening_of t) t.events order → (x : ℕ) → x < length order
-    → slice_get t.issued (call_at order x).id ≡ Some (issued_of t.issued (call_at order x).id)
+known_of : (t : TraceSpec) (order : List Call) → IsWholeTrace t → IsOrder (opening_of t) t.events order → (x : ℕ) → x < length order
+    → slice_get t.issued (call_at order x).id ≡ Some (issued_call t.issued (call_at order x).id)
 known_of t order whole explains x l =
     let c : Call = call_at order x in
     let i = explains.issued x c (call_there order x l) in
@@ -40,14 +40,14 @@ known_of t order whole explains x l =
     (slice_get_within t.issued c.id k.0 k.1)
 
 -- what is needed of times, operations and indexes before there is a number of tiles
-pub inside : (t : TraceSpec) (order : List Call) → IsWhole t → IsOrder (opening_of t) t.events order → (x : ℕ) (c : Call) → slice_get order x ≡ Some c
+pub inside : (t : TraceSpec) (order : List Call) → IsWholeTrace t → IsOrder (opening_of t) t.events order → (x : ℕ) (c : Call) → slice_get order x ≡ Some c
     → c.operation.address < length (opening_of t)
 inside t order whole explains x c h =
     let i = explains.issued x c h in
     let low : c.operation.address < t.words = whole.trace.inside i.0 c i.1 in
     omega (arith, low, length-opening t)
 
-pub are_low : (t : TraceSpec) (times : List Times) (order : List Call) → IsFit t order → AreTimes t.events (length t.issued) times → AreLow times
+pub are_low : (t : TraceSpec) (times : List Times) (order : List Call) → IsFit t order → AreTimes t.events (length t.issued) times → AreLowTimes times
 are_low t times order fit told =
     let few : length t.events + length order ≤ 196608 = fit.events in
     record {
@@ -55,12 +55,12 @@ are_low t times order fit told =
       answered = λ id i h. let a = told.only i id h in let l : i < length t.events = a.0 in omega arith;
     }
 
-pub index_of : (t : TraceSpec) (tiles : ℕ) (times : List Times) (order : List Call) → IsWhole t → IsOrder (opening_of t) t.events order → IsFit t order
-    → (k : ℕ) (s : Service) → slice_get (services_of t tiles times order) k ≡ Some s → s.index < 4096
+pub index_of : (t : TraceSpec) (tiles : ℕ) (times : List Times) (order : List Call) → IsWholeTrace t → IsOrder (opening_of t) t.events order → IsFit t order
+    → (k : ℕ) (s : Service) → slice_get (services_told t tiles times order) k ≡ Some s → s.index < 4096
 index_of t tiles times order whole explains fit k s h =
     let a = image_at (service_of t tiles times order) (length order) k s h in
     let id : ℕ = (call_at order k).id in
-    subst (λ (u : Service). u.index < 4096) a.1 (fit.issued id (issued_of t.issued id) (known_of t order whole explains k a.0)).1
+    subst (λ (u : Service). u.index < 4096) a.1 (fit.issued id (issued_call t.issued id) (known_of t order whole explains k a.0)).1
 
 -- it was issued
 pub issue_there : (t : TraceSpec) (tiles : ℕ) (times : List Times) (order : List Call) → Given t tiles times order → (x : ℕ) → x < length order
@@ -73,7 +73,7 @@ issue_there t tiles times order g x l =
 
 -- as the operation of its number
 pub known_there : (t : TraceSpec) (tiles : ℕ) (times : List Times) (order : List Call) → Given t tiles times order → (x : ℕ) → x < length order
-    → slice_get t.issued (call_at order x).id ≡ Some (issued_of t.issued (call_at order x).id)
+    → slice_get t.issued (call_at order x).id ≡ Some (issued_call t.issued (call_at order x).id)
 known_there t tiles times order g x l =
     known_of t order g.whole g.explains x l
 
@@ -88,14 +88,14 @@ address_there t tiles times order g x l =
 
 -- by a processor of the report, as one of so many
 pub processor_low : (t : TraceSpec) (tiles : ℕ) (times : List Times) (order : List Call) → Given t tiles times order → (x : ℕ) → x < length order
-    → (issued_of t.issued (call_at order x).id).processor < tiles
+    → (issued_call t.issued (call_at order x).id).processor < tiles
 processor_low t tiles times order g x l =
-    g.below (call_at order x).id (issued_of t.issued (call_at order x).id) (known_there t tiles times order g x l)
+    g.below (call_at order x).id (issued_call t.issued (call_at order x).id) (known_there t tiles times order g x l)
 
 pub index_low : (t : TraceSpec) (tiles : ℕ) (times : List Times) (order : List Call) → Given t tiles times order → (x : ℕ) → x < length order
-    → (issued_of t.issued (call_at order x).id).index < 4096
+    → (issued_call t.issued (call_at order x).id).index < 4096
 index_low t tiles times order g x l =
-    (g.fit.issued (call_at order x).id (issued_of t.issued (call_at order x).id) (known_there t tiles times order g x l)).1
+    (g.fit.issued (call_at order x).id (issued_call t.issued (call_at order x).id) (known_there t tiles times order g x l)).1
 
 -- one operation stands at one place
 pub once : (t : TraceSpec) (tiles : ℕ) (times : List Times) (order : List Call) → Given t tiles times order → (x y : ℕ) → x < length order

@@ -20,12 +20,12 @@ use Rattle.trace_text.specs.Traced.{TraceSpec, opening_of}
 use Rattle.trace_report.specs.declared.times.Times.{Times}
 use Rattle.trace_report.specs.declared.service.Service.{Service}
 use Rattle.trace_report.specs.Numbers.{waits_of, service_number}
-use Rattle.trace_report.specs.Services.{service_of, services_of}
-use Rattle.trace_report.specs.Contents.{order_line, entry_row, entries_of, answers_of, all_answered}
+use Rattle.trace_report.specs.Services.{service_of, services_told}
+use Rattle.trace_report.specs.Contents.{service_line, entry_of_service, entries_of, answers_of_services, all_answered}
 use Rattle.trace_report.specs.Fitting.{IsFit}
-use Rattle.trace_report.specs.Report.{IsReportOf, report_with, shape_of, banks_of}
+use Rattle.trace_report.specs.Report.{IsReportOfOrder, trace_report_with, shape_told, banks_of}
 use Rattle.trace_report.specs.Times.{AreTimes}
-use Rattle.trace_report.specs.Whole.{IsWhole}
+use Rattle.trace_report.specs.Whole.{IsWholeTrace}
 use Rattle.trace_report.proofs.Lists.{count_map, image_of, mapped_of}
 use Rattle.trace_text.proofs.Opening.{length-opening}
 use Rattle.trace_report.proofs.Given.{Given}
@@ -37,21 +37,21 @@ use Rattle.trace_report.proofs.Shapes.{processor_below}
 
 -- the order lines name the entries in their turn
 are_ordered : (t : TraceSpec) (tiles : ℕ) (times : List Times) (order : List Call) → Given t tiles times order
-    → AreOrdered (entries_of tiles (services_of t tiles times order)) (map order_line (services_of t tiles times order))
+    → AreOrdered (entries_of tiles (services_told t tiles times order)) (map service_line (services_told t tiles times order))
 are_ordered t tiles times order g =
     let f : ℕ → Service = service_of t tiles times order in
-    let all : List Service = services_of t tiles times order in
+    let all : List Service = services_told t tiles times order in
     record {
       named = λ k o h.
           let a = line_at t tiles times order k o h in
           subst (λ (p : OrderLine). p.place < length (rows_at (entries_of tiles all) p.bank)) a.1
-          (slice_get_within (rows_at (entries_of tiles all) (f k).bank) (f k).place (entry_row (f k)) (entry_there t tiles times order g.some k a.0));
+          (slice_get_within (rows_at (entries_of tiles all) (f k).bank) (f k).place (entry_of_service (f k)) (entry_there t tiles times order g.some k a.0));
       turn = λ k o h.
           let a = line_at t tiles times order k o h in
           let low : k < length order = a.0 in
-          subst (λ (p : OrderLine). p.place ≡ count_by (λ x. x.bank == p.bank) (take k (map order_line all))) a.1
-          (sym (ap (count_by (λ (x : OrderLine). x.bank == (f k).bank)) (take-map order_line k all)
-          ∙ (count_map order_line (λ (x : OrderLine). x.bank == (f k).bank) (take k all)
+          subst (λ (p : OrderLine). p.place ≡ count_by (λ x. x.bank == p.bank) (take k (map service_line all))) a.1
+          (sym (ap (count_by (λ (x : OrderLine). x.bank == (f k).bank)) (take-map service_line k all)
+          ∙ (count_map service_line (λ (x : OrderLine). x.bank == (f k).bank) (take k all)
           ∙ bank_count t tiles times order (f k).bank k (omega arith))));
       rising = λ j k x y less hx hy.
           let a = line_at t tiles times order j x hx in
@@ -62,14 +62,14 @@ are_ordered t tiles times order g =
       every = inr (λ bank place l.
           let at = within_length (rows_at (entries_of tiles all) bank) place l in
           let e = entry_of t tiles times order bank place at.0 at.1 in
-          (e.x, order_line (f e.x), mapped_of order_line all e.x (f e.x) (image_of f (length order) e.x e.low), e.bank, e.at));
+          (e.x, service_line (f e.x), mapped_of service_line all e.x (f e.x) (image_of f (length order) e.x e.low), e.bank, e.at));
     }
 
 -- the contents of the report are those of a good one
-contents : (t : TraceSpec) (times : List Times) (order : List Call) → IsAccepted (shape_of t) → Given t (banks_of t) times order
-    → AreContents (shape_of t) (opening_of t) (entries_of (banks_of t) (services_of t (banks_of t) times order))
-    (answers_of (banks_of t) (services_of t (banks_of t) times order)) (memory_of (opening_of t) order)
-    (map order_line (services_of t (banks_of t) times order)) (all_answered times)
+contents : (t : TraceSpec) (times : List Times) (order : List Call) → IsAccepted (shape_told t) → Given t (banks_of t) times order
+    → AreContents (shape_told t) (opening_of t) (entries_of (banks_of t) (services_told t (banks_of t) times order))
+    (answers_of_services (banks_of t) (services_told t (banks_of t) times order)) (memory_of (opening_of t) order)
+    (map service_line (services_told t (banks_of t) times order)) (all_answered times)
 contents t times order accepted g = record {
   accepted = accepted;
   words_low = omega (arith, g.whole.words, length-opening t);
@@ -82,7 +82,7 @@ contents t times order accepted g = record {
   complete = complete t (banks_of t) times order g;
 }
 
-pub given : (t : TraceSpec) (times : List Times) (order : List Call) → 0 < banks_of t → IsWhole t → IsOrder (opening_of t) t.events order
+pub given : (t : TraceSpec) (times : List Times) (order : List Call) → 0 < banks_of t → IsWholeTrace t → IsOrder (opening_of t) t.events order
     → AreTimes t.events (length t.issued) times → IsFit t order → Given t (banks_of t) times order
 given t times order some whole explains told fit = record {
   some = some;
@@ -102,14 +102,14 @@ ContentsAreGood =
     → All FitsLine (report_lines_of shape opening entries answers last order finished)
     → AreGood (report_lines_of shape opening entries answers last order finished)
 
-pub good_report : (t : TraceSpec) (order : List Call) (lines : List ReportLine) → ContentsAreGood → IsAccepted (shape_of t) → 0 < banks_of t
-    → IsWhole t → IsOrder (opening_of t) t.events order
-    → IsFit t order → IsReportOf t order lines → All FitsLine lines → GoodReport (text_of lines)
+pub good_report : (t : TraceSpec) (order : List Call) (lines : List ReportLine) → ContentsAreGood → IsAccepted (shape_told t) → 0 < banks_of t
+    → IsWholeTrace t → IsOrder (opening_of t) t.events order
+    → IsFit t order → IsReportOfOrder t order lines → All FitsLine lines → GoodReport (text_of lines)
 good_report t order lines law accepted some whole explains fit r fits =
     let g = given t r.times order some whole explains r.told fit in
-    let good : AreGood (report_with t r.times order) =
-    law (shape_of t) (opening_of t) (entries_of (banks_of t) (services_of t (banks_of t) r.times order))
-    (answers_of (banks_of t) (services_of t (banks_of t) r.times order)) (memory_of (opening_of t) order)
-    (map order_line (services_of t (banks_of t) r.times order)) (all_answered r.times)
+    let good : AreGood (trace_report_with t r.times order) =
+    law (shape_told t) (opening_of t) (entries_of (banks_of t) (services_told t (banks_of t) r.times order))
+    (answers_of_services (banks_of t) (services_told t (banks_of t) r.times order)) (memory_of (opening_of t) order)
+    (map service_line (services_told t (banks_of t) r.times order)) (all_answered r.times)
     (contents t r.times order accepted g) (subst (All FitsLine) r.is fits) in
     record { lines = lines; printed = refl; good = subst AreGood (sym r.is) good }

@@ -19,7 +19,7 @@ use Rattle.trace_text.specs.Traced.{TraceSpec, opening_of}
 use Rattle.trace_report.specs.declared.times.Times.{Times}
 use Rattle.trace_report.specs.declared.service.Service.{Service}
 use Rattle.trace_report.specs.Numbers.{waits_of}
-use Rattle.trace_report.specs.Services.{call_at, is_home, service_place, service_of, service_with}
+use Rattle.trace_report.specs.Services.{call_at, is_on_bank, service_place, service_of, service_with}
 use Rattle.trace_report.proofs.Replayed.{told_reply}
 use Rattle.trace_order.proofs.Lists.{take_get, get_take}
 use Rattle.report_lines.specs.Contents.{items_of}
@@ -132,7 +132,7 @@ abbrev home_at : ℕ → List Call → ℕ → ℕ
 home_at tiles order k = (call_at order k).operation.address % tiles
 
 pub place_read : (tiles : ℕ) (order : List Call) (counts : List ℕ) (k p : ℕ) → 0 < tiles → length counts ≡ tiles → p ≡ get_or counts (home_at tiles order k) p
-    → ((b : ℕ) → b < tiles → slice_index_or counts b 0 ≡ count_by (is_home tiles b) (take k order)) → p ≡ service_place tiles order k
+    → ((b : ℕ) → b < tiles → slice_index_or counts b 0 ≡ count_by (is_on_bank tiles b) (take k order)) → p ≡ service_place tiles order k
 place_read tiles order counts k p some size is counted =
     let b : ℕ = home_at tiles order k in
     let low : b < tiles = omega arith in
@@ -140,25 +140,25 @@ place_read tiles order counts k p some size is counted =
 
 pub place_low : (tiles : ℕ) (order : List Call) (k : ℕ) → service_place tiles order k ≤ length order
 place_low tiles order k =
-    let p = is_home tiles (home_at tiles order k) in
+    let p = is_on_bank tiles (home_at tiles order k) in
     omega (arith, count_by-le-length p order, sum_by-take-le (λ c. cond (p c) 1 0) order k)
 
 pub count_step : (tiles : ℕ) (order : List Call) (counts : List ℕ) (k p : ℕ) → 0 < tiles → k < length order → length counts ≡ tiles
     → p ≡ service_place tiles order k
-    → ((b : ℕ) → b < tiles → slice_index_or counts b 0 ≡ count_by (is_home tiles b) (take k order)) → (b : ℕ) → b < tiles
-    → slice_index_or (slice_set counts (home_at tiles order k) (p + 1)) b 0 ≡ count_by (is_home tiles b) (take (k + 1) order)
+    → ((b : ℕ) → b < tiles → slice_index_or counts b 0 ≡ count_by (is_on_bank tiles b) (take k order)) → (b : ℕ) → b < tiles
+    → slice_index_or (slice_set counts (home_at tiles order k) (p + 1)) b 0 ≡ count_by (is_on_bank tiles b) (take (k + 1) order)
 count_step tiles order counts k p some l size is counted b low =
     let h : ℕ = home_at tiles order k in
     ⊎_elim
     (λ (same : b ≡ h).
     let here : get_or (slice_set counts h (p + 1)) h 0 ≡ p + 1 = get_or-set_same counts h (p + 1) 0 (omega arith) in
-    let more : count_by (is_home tiles h) (take (k + 1) order) ≡ count_by (is_home tiles h) (take k order) + 1 =
-    count_by_more_yes (is_home tiles h) order k no_call l (eq-eqb h h refl) in
+    let more : count_by (is_on_bank tiles h) (take (k + 1) order) ≡ count_by (is_on_bank tiles h) (take k order) + 1 =
+    count_by_more_yes (is_on_bank tiles h) order k no_call l (eq-eqb h h refl) in
     ap (λ c. get_or (slice_set counts h (p + 1)) c 0) same
-    ∙ (here ∙ (ap (λ n. n + 1) is ∙ (sym more ∙ ap (λ c. count_by (is_home tiles c) (take (k + 1) order)) (sym same)))))
+    ∙ (here ∙ (ap (λ n. n + 1) is ∙ (sym more ∙ ap (λ c. count_by (is_on_bank tiles c) (take (k + 1) order)) (sym same)))))
     (λ (other : b ≢ h).
     get_or-set_other counts h b (p + 1) 0 other
-    ∙ (counted b low ∙ sym (count_by_more_no (is_home tiles b) order k no_call l (ne_eqb h b (λ e. other (sym e))))))
+    ∙ (counted b low ∙ sym (count_by_more_no (is_on_bank tiles b) order k no_call l (ne_eqb h b (λ e. other (sym e))))))
     (cases_eq b h)
 
 -- a service of its parts

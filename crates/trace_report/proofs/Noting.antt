@@ -10,7 +10,7 @@ use Rattle.trace_order.specs.declared.event.Event.{Event}
 use Rattle.trace_order.specs.declared.event.Event.TheVariants.{Issue, Answer}
 use Rattle.trace_order.specs.Traces.{IsTrace, IsIssuedAt, IsAnsweredAt}
 use Rattle.trace_report.specs.declared.times.Times.{Times}
-use Rattle.trace_report.specs.Times.{AreTimesBelow, time_of, with_time, noted}
+use Rattle.trace_report.specs.Times.{AreTimesBelow, time_of, with_time, times_noted}
 
 abbrev no_time : Times
 no_time = record { issued = 0; answered = None }
@@ -55,7 +55,7 @@ here_or_other P times id other u l h k = ⊎_elim
     (cases_eq other id)
 
 issue_noted : (words : ℕ) (events : List Event) (i n : ℕ) (times : List Times) (c : Call) → IsTrace words events → IsIssuedAt events i c → c.id < n
-    → AreTimesBelow events i n times → AreTimesBelow events (i + 1) n (noted times i (Issue c))
+    → AreTimesBelow events i n times → AreTimesBelow events (i + 1) n (times_noted times i (Issue c))
 issue_noted words events i n times c trace is counted old =
     let u : Times = record (time_of times c.id) { issued = i } in
     let inside : c.id < length times = (let e = old.sized in omega arith) in
@@ -90,7 +90,7 @@ issue_noted words events i n times c trace is counted old =
 
 answer_noted : (words : ℕ) (events : List Event) (i n id : ℕ) (reply : Reply) (times : List Times) → IsTrace words events
     → IsAnsweredAt events i id reply → id < n
-    → AreTimesBelow events i n times → AreTimesBelow events (i + 1) n (noted times i (Answer id reply))
+    → AreTimesBelow events i n times → AreTimesBelow events (i + 1) n (times_noted times i (Answer id reply))
 answer_noted words events i n id reply times trace is counted old =
     let u : Times = record (time_of times id) { answered = Some i } in
     let inside : id < length times = (let e = old.sized in omega arith) in
@@ -129,7 +129,7 @@ answer_noted words events i n id reply times trace is counted old =
 -- one event more
 pub event_noted : (words : ℕ) (events : List Event) (i n : ℕ) (times : List Times) (e : Event) → IsTrace words events
     → ((j : ℕ) (c : Call) → IsIssuedAt events j c → c.id < n) → slice_get events i ≡ Some e
-    → AreTimesBelow events i n times → AreTimesBelow events (i + 1) n (noted times i e)
+    → AreTimesBelow events i n times → AreTimesBelow events (i + 1) n (times_noted times i e)
 event_noted words events i n times (Issue c) trace counted is old = issue_noted words events i n times c trace is (counted i c is) old
 event_noted words events i n times (Answer id reply) trace counted is old =
     let w = trace.issued i id reply is in

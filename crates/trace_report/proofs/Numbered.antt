@@ -15,9 +15,9 @@ use Rattle.trace_order.specs.Traces.{IsIssuedAt, IsAnsweredAt}
 use Rattle.trace_text.specs.Traced.{TraceSpec}
 use Rattle.trace_report.specs.declared.times.Times.{Times}
 use Rattle.trace_report.specs.Times.{time_of}
-use Rattle.trace_report.specs.Numbers.{issues_of, waits_of, event_number, service_number}
-use Rattle.trace_report.specs.Services.{call_at, service_of, services_of}
-use Rattle.trace_report.specs.Contents.{order_line}
+use Rattle.trace_report.specs.Numbers.{issues_of, waits_of, number_behind, service_number}
+use Rattle.trace_report.specs.Services.{call_at, service_of, services_told}
+use Rattle.trace_report.specs.Contents.{service_line}
 use Rattle.trace_report.proofs.Lists.{image_at, mapped_at, mapped_of}
 use Rattle.trace_report.proofs.Given.{Given, call_there, issue_there, once}
 use Rattle.trace_report.proofs.Waiting.{length-waits, waits_rise, waits_behind, waits_for, within, count_front, count_back, count_more}
@@ -70,14 +70,14 @@ wait_low t tiles times order g x l =
 
 -- an event is behind the services that wait for no more, and before the others
 event_behind : (times : List Times) (order : List Call) (x i : ℕ) → x < length order → wait_of times order x ≤ i
-    → service_number (waits_of times order) x < event_number (waits_of times order) i
+    → service_number (waits_of times order) x < number_behind (waits_of times order) i
 event_behind times order x i l low =
     let more : x < count_by (within i) (waits_of times order) =
     count_front (waits_of times order) i x (wait_of times order x) (waits_rise 0 (issues_of times order)) (wait_there times order x l) low in
     omega arith
 
 event_before : (times : List Times) (order : List Call) (x i : ℕ) → x < length order → i < wait_of times order x
-    → event_number (waits_of times order) i < service_number (waits_of times order) x
+    → number_behind (waits_of times order) i < service_number (waits_of times order) x
 event_before times order x i l less =
     let few : count_by (within i) (waits_of times order) ≤ x =
     count_back (waits_of times order) i x (wait_of times order x) (waits_rise 0 (issues_of times order)) (wait_there times order x l) less in
@@ -85,7 +85,7 @@ event_before times order x i l less =
 
 -- an operation is issued, then served
 pub issued_first : (times : List Times) (order : List Call) (x : ℕ) → x < length order
-    → event_number (waits_of times order) (issue_of times order x) < service_number (waits_of times order) x
+    → number_behind (waits_of times order) (issue_of times order x) < service_number (waits_of times order) x
 issued_first times order x l = event_before times order x (issue_of times order x) l (wait_behind times order x l)
 
 not_both : (t : TraceSpec) (c : Call) (i id : ℕ) (reply : Reply) → IsIssuedAt t.events i c → IsAnsweredAt t.events i id reply → ⊥
@@ -112,7 +112,7 @@ answer_later t tiles times order g x y j reply l m a =
     (cases_lt (issue_of times order y) j)
 
 pub answered_last : (t : TraceSpec) (tiles : ℕ) (times : List Times) (order : List Call) → Given t tiles times order → (x j : ℕ) → x < length order
-    → (time_of times (call_at order x).id).answered ≡ Some j → service_number (waits_of times order) x < event_number (waits_of times order) j
+    → (time_of times (call_at order x).id).answered ≡ Some j → service_number (waits_of times order) x < number_behind (waits_of times order) j
 answered_last t tiles times order g x j l h =
     let a = g.told.only j (call_at order x).id h in
     let last = latest times order x l in
@@ -130,7 +130,7 @@ services_rise times order x y l less =
     (wait_there times order y l) in
     omega arith
 
-same_event : (waits : List ℕ) (i j : ℕ) → event_number waits i ≡ event_number waits j → i ≡ j
+same_event : (waits : List ℕ) (i j : ℕ) → number_behind waits i ≡ number_behind waits j → i ≡ j
 same_event waits i j h = ⊎_elim
     (λ (less : i < j).
     let more : count_by (within i) waits ≤ count_by (within j) waits = count_more waits i j (omega arith) in absurd (omega arith))
@@ -152,7 +152,7 @@ same_service times order x y l m h = ⊎_elim
     (cases_lt x y)
 
 never_same : (times : List Times) (order : List Call) (x i : ℕ) → x < length order
-    → event_number (waits_of times order) i ≡ service_number (waits_of times order) x → ⊥
+    → number_behind (waits_of times order) i ≡ service_number (waits_of times order) x → ⊥
 never_same times order x i l h = ⊎_elim
     (λ (less : i < wait_of times order x). let r = event_before times order x i l less in omega arith)
     (λ (more : wait_of times order x ≤ i). let r = event_behind times order x i l more in omega arith)
@@ -166,7 +166,7 @@ id_of (Answer id reply) = id
 -- a number is one of an event of the operation in the trace, or of its service
 abbrev Tells : TraceSpec → List Times → List Call → ℕ → ℕ → Type 0
 Tells t times order x n =
-    ((i : ℕ) × (e : Event) × (slice_get t.events i ≡ Some e) × (id_of e ≡ (call_at order x).id) × (event_number (waits_of times order) i ≡ n))
+    ((i : ℕ) × (e : Event) × (slice_get t.events i ≡ Some e) × (id_of e ≡ (call_at order x).id) × (number_behind (waits_of times order) i ≡ n))
     ⊎ (service_number (waits_of times order) x ≡ n)
 
 option_mapped : (f : ℕ → ℕ) (o : Option ℕ) (y : ℕ) → option_map f o ≡ Some y → (x : ℕ) × (o ≡ Some x) × (f x ≡ y)
@@ -174,13 +174,13 @@ option_mapped f None y h = absurd (cc)
 option_mapped f (Some x) y h = (x, refl, same_Some (f x) y h)
 
 tells : (t : TraceSpec) (tiles : ℕ) (times : List Times) (order : List Call) → Given t tiles times order → (x n : ℕ) → x < length order
-    → HasNumber (order_line (service_of t tiles times order x)) n → Tells t times order x n
+    → HasNumber (service_line (service_of t tiles times order x)) n → Tells t times order x n
 tells t tiles times order g x n l h = ⊎_elim
     (λ issued. inl (issue_of times order x, Issue (call_at order x), issue_there t tiles times order g x l, refl, issued))
     (λ others. ⊎_elim
     (λ served. inr served)
     (λ answered.
-    let m = option_mapped (event_number (waits_of times order)) (time_of times (call_at order x).id).answered n answered in
+    let m = option_mapped (number_behind (waits_of times order)) (time_of times (call_at order x).id).answered n answered in
     let a = g.told.only m.0 (call_at order x).id m.1 in
     inl (m.0, Answer (call_at order x).id a.1, a.2, refl, m.2))
     others)
@@ -211,7 +211,7 @@ high t tiles times order g x n l h =
     let few : length t.events + length order ≤ 196608 = g.fit.events in
     ⊎_elim
     (λ a.
-    let e : event_number (waits_of times order) a.0 ≡ n = a.4 in
+    let e : number_behind (waits_of times order) a.0 ≡ n = a.4 in
     let inside = slice_get_within t.events a.0 a.1 a.2 in
     let count : count_by (within a.0) (waits_of times order) ≤ length (waits_of times order) = count_by-le-length (within a.0) (waits_of times order) in
     omega (arith, waits_count times order))
@@ -220,17 +220,18 @@ high t tiles times order g x n l h =
 
 -- an order line is one of a service
 pub line_at : (t : TraceSpec) (tiles : ℕ) (times : List Times) (order : List Call) (k : ℕ) (o : OrderLine)
-    → slice_get (map order_line (services_of t tiles times order)) k ≡ Some o
-    → (k < length order) × (order_line (service_of t tiles times order k) ≡ o)
+    → slice_get (map service_line (services_told t tiles times order)) k ≡ Some o
+    → (k < length order) × (service_line (service_of t tiles times order k) ≡ o)
 line_at t tiles times order k o h =
-    let m = mapped_at order_line (services_of t tiles times order) k o h in
+    let m = mapped_at service_line (services_told t tiles times order) k o h in
     let a = image_at (service_of t tiles times order) (length order) k m.0 m.1 in
-    (a.0, ap order_line a.1 ∙ m.2)
+    (a.0, ap service_line a.1 ∙ m.2)
 
 pub numbered : (t : TraceSpec) (tiles : ℕ) (times : List Times) (order : List Call) → Given t tiles times order
-    → AreNumbered (map order_line (services_of t tiles times order))
+    → AreNumbered (map service_line (services_told t tiles times order))
 numbered t tiles times order g =
-    let has : (k n : ℕ) (o : OrderLine) → slice_get (map order_line (services_of t tiles times order)) k ≡ Some o → HasNumber o n → Tells t times order k n =
+    let has : (k n : ℕ) (o : OrderLine) → slice_get (map service_line (services_told t tiles times order)) k ≡ Some o → HasNumber o n
+    → Tells t times order k n =
     λ k n o h is.
     let a = line_at t tiles times order k o h in
     tells t tiles times order g k n a.0 (subst (λ (p : OrderLine). HasNumber p n) (sym a.1) is) in
@@ -240,9 +241,9 @@ numbered t tiles times order g =
           subst (λ (p : OrderLine). p.issued < p.served) a.1 (issued_first times order k a.0);
       answered_last = λ k n o h is.
           let a = line_at t tiles times order k o h in
-          let told : option_map (event_number (waits_of times order)) (time_of times (call_at order k).id).answered ≡ Some n =
+          let told : option_map (number_behind (waits_of times order)) (time_of times (call_at order k).id).answered ≡ Some n =
           ap (λ (p : OrderLine). p.answered) a.1 ∙ is in
-          let m = option_mapped (event_number (waits_of times order)) (time_of times (call_at order k).id).answered n told in
+          let m = option_mapped (number_behind (waits_of times order)) (time_of times (call_at order k).id).answered n told in
           let late = answered_last t tiles times order g k m.0 a.0 m.1 in
           subst (λ (p : OrderLine). p.served < n) a.1
           (subst (λ (e : ℕ). service_number (waits_of times order) k < e) m.2 late);

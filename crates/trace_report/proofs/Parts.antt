@@ -18,23 +18,23 @@ use Rattle.trace_order.specs.Orders.{operations_of}
 use Rattle.trace_text.specs.Traced.{TraceSpec, opening_of}
 use Rattle.trace_report.specs.declared.service.Service.{Service}
 use Rattle.trace_report.specs.declared.times.Times.{Times}
-use Rattle.trace_report.specs.Contents.{entry_row, entries_at, answers_at, is_of_bank}
+use Rattle.trace_report.specs.Contents.{entry_of_service, entries_of_bank, answers_at, is_at_bank}
 use Rattle.trace_report.specs.Fitting.{IsFit}
-use Rattle.trace_report.specs.Report.{IsMadeOf, IsReportOf, banks_of, shape_of}
+use Rattle.trace_report.specs.Report.{AreParts, IsReportOfOrder, banks_of, shape_told}
 use Rattle.trace_report.specs.Times.{AreTimes}
-use Rattle.trace_report.specs.Services.{service_of, services_of}
+use Rattle.trace_report.specs.Services.{service_of, services_told}
 use Rattle.trace_text.proofs.Opening.{length-opening}
 use Rattle.trace_report.proofs.Lists.{rows_of}
 
 abbrev all_of : TraceSpec → List Times → List Call → List Service
-all_of t times order = services_of t (banks_of t) times order
+all_of t times order = services_told t (banks_of t) times order
 
-pub opening_fits : {A : Type 0} (t : TraceSpec) (times : List Times) (order : List Call) (p : Parts A) → IsFit t order → IsMadeOf t times order p
+pub opening_fits : {A : Type 0} (t : TraceSpec) (times : List Times) (order : List Call) (p : Parts A) → IsFit t order → AreParts t times order p
     → vec_len p.opening ≤ 65536
 opening_fits t times order p fit made =
     let len = p.opening.ok.0 in let same = ap length made.opening in let few = fit.words in omega (arith, len, same, few, length-opening t)
 
-pub last_fits : {A : Type 0} (t : TraceSpec) (times : List Times) (order : List Call) (p : Parts A) → IsFit t order → IsMadeOf t times order p
+pub last_fits : {A : Type 0} (t : TraceSpec) (times : List Times) (order : List Call) (p : Parts A) → IsFit t order → AreParts t times order p
     → vec_len p.last ≤ 65536
 last_fits t times order p fit made =
     let len = p.last.ok.0 in
@@ -42,18 +42,18 @@ last_fits t times order p fit made =
     let few = fit.words in
     omega (arith, len, same, few, length-opening t, length-memory_after (operations_of order) (opening_of t))
 
-banks_are : {A : Type 0} (t : TraceSpec) (times : List Times) (order : List Call) (p : Parts A) → IsMadeOf t times order p
+banks_are : {A : Type 0} (t : TraceSpec) (times : List Times) (order : List Call) (p : Parts A) → AreParts t times order p
     → length p.entries.items ≡ banks_of t
 banks_are {A} t times order p made =
     sym (length-map p.entries.items (λ (v : Vec EntryRow A). v.items))
-    ∙ (ap length made.entries ∙ length-map-range_with_len (entries_at (all_of t times order)) 0 (banks_of t))
+    ∙ (ap length made.entries ∙ length-map-range_with_len (entries_of_bank (all_of t times order)) 0 (banks_of t))
 
-pub banks_fit : {A : Type 0} (t : TraceSpec) (times : List Times) (order : List Call) (p : Parts A) → IsAccepted (shape_of t) → IsMadeOf t times order p
+pub banks_fit : {A : Type 0} (t : TraceSpec) (times : List Times) (order : List Call) (p : Parts A) → IsAccepted (shape_told t) → AreParts t times order p
     → vec_len p.entries ≤ 64
 banks_fit t times order p accepted made =
     let len = p.entries.ok.0 in let few = accepted.tiles in omega (arith, len, few, banks_are t times order p made)
 
-pub processors_fit : {A : Type 0} (t : TraceSpec) (times : List Times) (order : List Call) (p : Parts A) → IsAccepted (shape_of t) → IsMadeOf t times order p
+pub processors_fit : {A : Type 0} (t : TraceSpec) (times : List Times) (order : List Call) (p : Parts A) → IsAccepted (shape_told t) → AreParts t times order p
     → vec_len p.answers ≤ 64
 processors_fit t times order p accepted made =
     let len = p.answers.ok.0 in
@@ -80,30 +80,30 @@ lines_same s u o p e f a b l m r q d h same1 same2 same3 same4 same5 same6 same7
 
 -- the report of such parts
 pub reported : {A : Type 0} (t : TraceSpec) (times : List Times) (order : List Call) (p : Parts A) → AreTimes t.events (length t.issued) times
-    → IsMadeOf t times order p → (lines : List ReportLine) → lines ≡ lines_of_parts p → IsReportOf t order lines
+    → AreParts t times order p → (lines : List ReportLine) → lines ≡ lines_of_parts p → IsReportOfOrder t order lines
 reported t times order p told made lines is = record {
   times = times;
   told = told;
   is = is ∙ lines_same _ _ _ _ _ _ _ _ _ _ _ _ _ _ made.torus made.opening made.entries made.answers made.last made.ordered made.finished;
 }
 
-pub places_fit : {A : Type 0} (t : TraceSpec) (times : List Times) (order : List Call) (p : Parts A) → IsFit t order → IsMadeOf t times order p
+pub places_fit : {A : Type 0} (t : TraceSpec) (times : List Times) (order : List Call) (p : Parts A) → IsFit t order → AreParts t times order p
     → (k : ℕ) (d : Vec EntryRow A) → k < length p.entries.items → vec_len (slice_index_or p.entries.items k d) ≤ 65536
 places_fit {A} t times order p fit made k d below =
     let all : List Service = all_of t times order in
     let inside : k < banks_of t = omega (arith, banks_are t times order p made) in
     let len : vec_len (slice_index_or p.entries.items k d) ≡ length (slice_index_or p.entries.items k d).items = (slice_index_or p.entries.items k d).ok.0 in
-    let rows : (slice_index_or p.entries.items k d).items ≡ entries_at all k =
+    let rows : (slice_index_or p.entries.items k d).items ≡ entries_of_bank all k =
     sym (get_or-map (λ (v : Vec EntryRow A). v.items) p.entries.items k d [] below)
-    ∙ (ap (λ (yss : List (List EntryRow)). slice_index_or yss k []) made.entries ∙ rows_of (entries_at all) (banks_of t) k inside) in
+    ∙ (ap (λ (yss : List (List EntryRow)). slice_index_or yss k []) made.entries ∙ rows_of (entries_of_bank all) (banks_of t) k inside) in
     let few = fit.operations in
     omega (
       arith,
       len,
       ap length rows,
-      length-map (filter (is_of_bank k) all) entry_row,
-      length-filter (is_of_bank k) all,
-      count_by-le-length (is_of_bank k) all,
+      length-map (filter (is_at_bank k) all) entry_of_service,
+      length-filter (is_at_bank k) all,
+      count_by-le-length (is_at_bank k) all,
       length-map-range_with_len (service_of t (banks_of t) times order) 0 (length order),
       few,
     )

@@ -18,8 +18,8 @@ use Rattle.trace_order.specs.Orders.{operations_of, memory_of}
 use Rattle.trace_text.specs.Traced.{TraceSpec, opening_of}
 use Rattle.trace_report.specs.declared.times.Times.{Times}
 use Rattle.trace_report.specs.declared.service.Service.{Service}
-use Rattle.trace_report.specs.Services.{call_at, service_of, services_of}
-use Rattle.trace_report.specs.Contents.{entry_row, is_of_bank, entries_at, entries_of}
+use Rattle.trace_report.specs.Services.{call_at, service_of, services_told}
+use Rattle.trace_report.specs.Contents.{entry_of_service, is_at_bank, entries_of_bank, entries_of}
 use Rattle.trace_report.proofs.Lists.{image_at, mapped_of, rows_of, filter_map, map_thrice}
 use Rattle.trace_report.proofs.Given.{Given, call_there, address_there, processor_low}
 use Rattle.trace_report.proofs.Rows.{entry_of}
@@ -70,27 +70,27 @@ replied_by (e ∷ es) = ap (λ (rs : List Reply). e.reply ∷ rs) (replied_by es
 
 -- a bank's entries are the operations at home there
 bank_told : (t : TraceSpec) (tiles : ℕ) (times : List Times) (order : List Call) (b : ℕ)
-    → map told_by (entries_at (services_of t tiles times order) b) ≡ filter (of_bank tiles b) (told (operations_of order) (opening_of t))
+    → map told_by (entries_of_bank (services_told t tiles times order) b) ≡ filter (of_bank tiles b) (told (operations_of order) (opening_of t))
 bank_told t tiles times order b =
     let f : ℕ → Service = service_of t tiles times order in
     let g : ℕ → Told = told_in (opening_of t) order in
     let xs : List ℕ = range_with_len 0 (length order) in
-    ap (λ (ss : List Service). map told_by (map entry_row ss)) (filter_map f (is_of_bank b) xs)
-    ∙ (map_thrice f entry_row told_by g (λ x. refl) (filter (λ x. is_of_bank b (f x)) xs)
+    ap (λ (ss : List Service). map told_by (map entry_of_service ss)) (filter_map f (is_at_bank b) xs)
+    ∙ (map_thrice f entry_of_service told_by g (λ x. refl) (filter (λ x. is_at_bank b (f x)) xs)
     ∙ (sym (filter_map g (of_bank tiles b) xs)
     ∙ ap (filter (of_bank tiles b)) (sym (told_is (opening_of t) order))))
 
 -- all entries, bank by bank
 entries_told : (t : TraceSpec) (tiles : ℕ) (times : List Times) (order : List Call)
-    → map told_by (flat_map (λ es. es) (entries_of tiles (services_of t tiles times order)))
+    → map told_by (flat_map (λ es. es) (entries_of tiles (services_told t tiles times order)))
     ≡ by_bank tiles 0 tiles (told (operations_of order) (opening_of t))
 entries_told t tiles times order =
-    let all : List Service = services_of t tiles times order in
+    let all : List Service = services_told t tiles times order in
     let qs : List Told = told (operations_of order) (opening_of t) in
-    let count : length (entries_of tiles all) ≡ tiles = length-map-range_with_len (entries_at all) 0 tiles in
+    let count : length (entries_of tiles all) ≡ tiles = length-map-range_with_len (entries_of_bank all) 0 tiles in
     joined told_by tiles 0 (entries_of tiles all) qs (λ b l.
     let e : b ≡ 0 + b = omega arith in
-    ap (map told_by) (rows_of (entries_at all) tiles b (omega arith))
+    ap (map told_by) (rows_of (entries_of_bank all) tiles b (omega arith))
     ∙ (bank_told t tiles times order b ∙ ap (λ c. filter (of_bank tiles c) qs) e))
     ∙ ap (λ k. by_bank tiles 0 k qs) count
 
@@ -100,9 +100,9 @@ at_home t tiles order some k q h =
     subst (λ (r : Told). r.0.address % tiles < tiles) a.1 (omega arith)
 
 pub are_entries : (t : TraceSpec) (tiles : ℕ) (times : List Times) (order : List Call) → Given t tiles times order
-    → AreEntries tiles (opening_of t) (entries_of tiles (services_of t tiles times order)) (memory_of (opening_of t) order)
+    → AreEntries tiles (opening_of t) (entries_of tiles (services_told t tiles times order)) (memory_of (opening_of t) order)
 are_entries t tiles times order g =
-    let es : List EntryRow = flat_map (λ es. es) (entries_of tiles (services_of t tiles times order)) in
+    let es : List EntryRow = flat_map (λ es. es) (entries_of tiles (services_told t tiles times order)) in
     let os : List Operation = operations_of order in
     let opening : List ℕ = opening_of t in
     let qs : List Told = told os opening in

@@ -14,8 +14,8 @@ use Rattle.trace_order.specs.declared.event.Call.{Call}
 use Rattle.trace_text.specs.Traced.{TraceSpec}
 use Rattle.trace_report.specs.declared.times.Times.{Times}
 use Rattle.trace_report.specs.declared.service.Service.{Service}
-use Rattle.trace_report.specs.Services.{call_at, is_home, service_of, services_of}
-use Rattle.trace_report.specs.Contents.{entry_row, is_of_bank, entries_at, entries_of}
+use Rattle.trace_report.specs.Services.{call_at, is_on_bank, service_of, services_told}
+use Rattle.trace_report.specs.Contents.{entry_of_service, is_at_bank, entries_of_bank, entries_of}
 use Rattle.trace_report.proofs.Lists.{image_at, image_of, row_in, row_put, mapped_at, mapped_of, stood, count_map}
 
 -- the first operations of an order
@@ -30,48 +30,49 @@ take_calls order (suc x) l =
 
 -- so many services of a bank stand before a place
 pub bank_count : (t : TraceSpec) (tiles : ℕ) (times : List Times) (order : List Call) (b x : ℕ) → x ≤ length order
-    → count_by (is_of_bank b) (take x (services_of t tiles times order)) ≡ count_by (is_home tiles b) (take x order)
+    → count_by (is_at_bank b) (take x (services_told t tiles times order)) ≡ count_by (is_on_bank tiles b) (take x order)
 bank_count t tiles times order b x l =
-    ap (count_by (is_of_bank b)) (take-map-range_with_len (service_of t tiles times order) 0 (length order) x l)
-    ∙ (count_map (service_of t tiles times order) (is_of_bank b) (range_with_len 0 x)
-    ∙ (sym (count_map (call_at order) (is_home tiles b) (range_with_len 0 x))
-    ∙ ap (count_by (is_home tiles b)) (sym (take_calls order x l))))
+    ap (count_by (is_at_bank b)) (take-map-range_with_len (service_of t tiles times order) 0 (length order) x l)
+    ∙ (count_map (service_of t tiles times order) (is_at_bank b) (range_with_len 0 x)
+    ∙ (sym (count_map (call_at order) (is_on_bank tiles b) (range_with_len 0 x))
+    ∙ ap (count_by (is_on_bank tiles b)) (sym (take_calls order x l))))
 
 pub same_number : (n : ℕ) → (n == n) ≡ true
 same_number n = eq-eqb n n refl
 
 -- the entry of a service stands in its place
 pub entry_there : (t : TraceSpec) (tiles : ℕ) (times : List Times) (order : List Call) → 0 < tiles → (x : ℕ) → x < length order
-    → slice_get (rows_at (entries_of tiles (services_of t tiles times order)) (service_of t tiles times order x).bank) (service_of t tiles times order x).place
-    ≡ Some (entry_row (service_of t tiles times order x))
+    → slice_get (rows_at (entries_of tiles (services_told t tiles times order)) (service_of t tiles times order x).bank)
+    (service_of t tiles times order x).place
+    ≡ Some (entry_of_service (service_of t tiles times order x))
 entry_there t tiles times order some x l =
     let f : ℕ → Service = service_of t tiles times order in
-    let all : List Service = services_of t tiles times order in
+    let all : List Service = services_told t tiles times order in
     let s : Service = f x in
     let b : ℕ = (call_at order x).operation.address % tiles in
-    let kept : slice_get (filter (is_of_bank b) all) (count_by (is_of_bank b) (take x all)) ≡ Some s =
-    filter_at (is_of_bank b) all x s (image_of f (length order) x l) (same_number b) in
-    let placed : slice_get (filter (is_of_bank b) all) s.place ≡ Some s =
-    ap (slice_get (filter (is_of_bank b) all)) (sym (bank_count t tiles times order b x (omega arith))) ∙ kept in
-    row_put (entries_at all) tiles b s.place (entry_row s) (omega arith) (mapped_of entry_row (filter (is_of_bank b) all) s.place s placed)
+    let kept : slice_get (filter (is_at_bank b) all) (count_by (is_at_bank b) (take x all)) ≡ Some s =
+    filter_at (is_at_bank b) all x s (image_of f (length order) x l) (same_number b) in
+    let placed : slice_get (filter (is_at_bank b) all) s.place ≡ Some s =
+    ap (slice_get (filter (is_at_bank b) all)) (sym (bank_count t tiles times order b x (omega arith))) ∙ kept in
+    row_put (entries_of_bank all) tiles b s.place (entry_of_service s) (omega arith) (mapped_of entry_of_service (filter (is_at_bank b) all) s.place s placed)
 
 -- and each entry is one of a service
 pub record EntryOf (t : TraceSpec) (tiles : ℕ) (times : List Times) (order : List Call) (b place : ℕ) (e : EntryRow) : Type 0 where
   pub x : ℕ
   pub low : x < length order
   pub inside : b < tiles
-  pub row : entry_row (service_of t tiles times order x) ≡ e
+  pub row : entry_of_service (service_of t tiles times order x) ≡ e
   pub bank : (service_of t tiles times order x).bank ≡ b
   pub at : (service_of t tiles times order x).place ≡ place
 
 pub entry_of : (t : TraceSpec) (tiles : ℕ) (times : List Times) (order : List Call) (b place : ℕ) (e : EntryRow)
-    → slice_get (rows_at (entries_of tiles (services_of t tiles times order)) b) place ≡ Some e → EntryOf t tiles times order b place e
+    → slice_get (rows_at (entries_of tiles (services_told t tiles times order)) b) place ≡ Some e → EntryOf t tiles times order b place e
 entry_of t tiles times order b place e h =
     let f : ℕ → Service = service_of t tiles times order in
-    let all : List Service = services_of t tiles times order in
-    let r = row_in (entries_at all) tiles b place e h in
-    let m = mapped_at entry_row (filter (is_of_bank b) all) place e r.1 in
-    let d = stood (is_of_bank b) all place m.0 m.1 in
+    let all : List Service = services_told t tiles times order in
+    let r = row_in (entries_of_bank all) tiles b place e h in
+    let m = mapped_at entry_of_service (filter (is_at_bank b) all) place e r.1 in
+    let d = stood (is_at_bank b) all place m.0 m.1 in
     let a = image_at f (length order) d.at m.0 d.there in
     let bank : (f d.at).bank ≡ b = ap (λ (s : Service). s.bank) a.1 ∙ eqb-true m.0.bank b d.passes in
     let low : d.at < length order = a.0 in
@@ -79,7 +80,7 @@ entry_of t tiles times order b place e h =
       x = d.at;
       low = low;
       inside = r.0;
-      row = ap entry_row a.1 ∙ m.2;
+      row = ap entry_of_service a.1 ∙ m.2;
       bank = bank;
-      at = ap (λ c. count_by (is_home tiles c) (take d.at order)) bank ∙ (sym (bank_count t tiles times order b d.at (omega arith)) ∙ d.counts);
+      at = ap (λ c. count_by (is_on_bank tiles c) (take d.at order)) bank ∙ (sym (bank_count t tiles times order b d.at (omega arith)) ∙ d.counts);
     }

@@ -5,7 +5,7 @@ use Rattle.std.specs.Prelude.{count_by, max, nat_le}
 use Rattle.std.proofs.lemmas.Bool.{cases_lt, le-leb, lt-leb}
 use Rattle.std.proofs.lemmas.Option.{same_Some}
 use Rattle.one_order.proofs.Counting.{count_yes, count_no}
-use Rattle.trace_report.specs.Numbers.{waits_from, IsRising}
+use Rattle.trace_report.specs.Numbers.{waits_from, NeverFalls}
 
 pub length-waits : (least : ℕ) (issues : List ℕ) → length (waits_from least issues) ≡ length issues
 length-waits least [] = refl
@@ -17,7 +17,7 @@ waits_low least [] x w h = absurd (cc)
 waits_low least (i ∷ is) zero w h = let e : max least (i + 1) ≡ w = same_Some (max least (i + 1)) w h in omega arith
 waits_low least (i ∷ is) (suc x) w h = let l : max least (i + 1) ≤ w = waits_low (max least (i + 1)) is x w h in omega arith
 
-pub waits_rise : (least : ℕ) (issues : List ℕ) → IsRising (waits_from least issues)
+pub waits_rise : (least : ℕ) (issues : List ℕ) → NeverFalls (waits_from least issues)
 waits_rise least [] x y v w l h g = absurd (cc)
 waits_rise least (i ∷ is) zero zero v w l h g = let e : v ≡ w = cc in omega arith
 waits_rise least (i ∷ is) zero (suc y) v w l h g =
@@ -60,7 +60,7 @@ waits_for least (i ∷ is) (suc x) w h = ⊎_elim
 abbrev pub within : ℕ → ℕ → Bool
 within i w = nat_le w i
 
-tail_rises : (v : ℕ) (vs : List ℕ) → IsRising (v ∷ vs) → IsRising vs
+tail_rises : (v : ℕ) (vs : List ℕ) → NeverFalls (v ∷ vs) → NeverFalls vs
 tail_rises v vs rise x y a b l h g = rise (suc x) (suc y) a b (omega arith) h g
 
 pub count_none : (i : ℕ) (ws : List ℕ) → ((x w : ℕ) → slice_get ws x ≡ Some w → i < w) → count_by (within i) ws ≡ 0
@@ -69,7 +69,7 @@ count_none i (w ∷ ws) h =
     omega (arith, count_no (within i) w ws (lt-leb w i (h 0 w refl)), count_none i ws (λ x. h (suc x)))
 
 -- of numbers that never fall the first are within
-pub count_front : (ws : List ℕ) (i x w : ℕ) → IsRising ws → slice_get ws x ≡ Some w → w ≤ i → x < count_by (within i) ws
+pub count_front : (ws : List ℕ) (i x w : ℕ) → NeverFalls ws → slice_get ws x ≡ Some w → w ≤ i → x < count_by (within i) ws
 count_front [] i x w rise h l = absurd (cc)
 count_front (v ∷ vs) i zero w rise h l =
     let e : v ≡ w = same_Some v w h in
@@ -78,7 +78,7 @@ count_front (v ∷ vs) i (suc x) w rise h l =
     let e : v ≤ w = rise 0 (suc x) v w (omega arith) refl h in
     omega (arith, count_yes (within i) v vs (le-leb v i (omega arith)), count_front vs i x w (tail_rises v vs rise) h l)
 
-pub count_back : (ws : List ℕ) (i x w : ℕ) → IsRising ws → slice_get ws x ≡ Some w → i < w → count_by (within i) ws ≤ x
+pub count_back : (ws : List ℕ) (i x w : ℕ) → NeverFalls ws → slice_get ws x ≡ Some w → i < w → count_by (within i) ws ≤ x
 count_back [] i x w rise h l = absurd (cc)
 count_back (v ∷ vs) i zero w rise h l =
     let e : v ≡ w = same_Some v w h in

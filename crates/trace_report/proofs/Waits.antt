@@ -5,10 +5,10 @@ use Rattle.trace_order.specs.declared.event.Call.{Call}
 use Rattle.trace_report.specs.declared.times.Times.{Times}
 use Rattle.trace_report.specs.Numbers.{waits_of}
 use Rattle.trace_report.specs.Services.{call_at}
-use Rattle.trace_report.specs.Times.{AreLow}
+use Rattle.trace_report.specs.Times.{AreLowTimes}
 use Rattle.trace_report.proofs.Numbered.{latest}
 
-pub wait_most : (times : List Times) (order : List Call) (waits : List ℕ) (x : ℕ) → x < length order → AreLow times → waits ≡ waits_of times order
+pub wait_most : (times : List Times) (order : List Call) (waits : List ℕ) (x : ℕ) → x < length order → AreLowTimes times → waits ≡ waits_of times order
     → slice_index_or waits x 0 ≤ 196609
 wait_most times order waits x l low are =
     let last = latest times order x l in

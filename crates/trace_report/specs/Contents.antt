@@ -8,8 +8,8 @@ use Rattle.trace_report.specs.declared.times.Times.{Times}
 use Rattle.trace_report.specs.declared.service.Service.{Service}
 
 -- the entry of a service, with tag 0
-abbrev pub entry_row : Service → EntryRow
-entry_row s = record {
+abbrev pub entry_of_service : Service → EntryRow
+entry_of_service s = record {
   source = s.processor;
   tag = 0;
   address = s.operation.address;
@@ -18,12 +18,12 @@ entry_row s = record {
 }
 
 -- the answer to a service
-abbrev pub answer_row : Service → AnswerRow
-answer_row s = record { index = s.index; bank = s.bank; place = s.place; reply = s.reply }
+abbrev pub answer_of_service : Service → AnswerRow
+answer_of_service s = record { index = s.index; bank = s.bank; place = s.place; reply = s.reply }
 
 -- the events of a service
-abbrev pub order_line : Service → OrderLine
-order_line s = record {
+abbrev pub service_line : Service → OrderLine
+service_line s = record {
   bank = s.bank;
   place = s.place;
   issued = s.issued;
@@ -32,28 +32,28 @@ order_line s = record {
 }
 
 -- whether a service is one of a bank
-abbrev pub is_of_bank : ℕ → Service → Bool
-is_of_bank bank s = s.bank == bank
+abbrev pub is_at_bank : ℕ → Service → Bool
+is_at_bank bank s = s.bank == bank
 
 -- whether a service is one of a processor, and answered
 abbrev pub is_answered_to : ℕ → Service → Bool
 is_answered_to p s = (s.processor == p) && is_some s.answered
 
 -- the entries of a bank, in the order
-abbrev pub entries_at : List Service → ℕ → List EntryRow
-entries_at services bank = map entry_row (filter (is_of_bank bank) services)
+abbrev pub entries_of_bank : List Service → ℕ → List EntryRow
+entries_of_bank services bank = map entry_of_service (filter (is_at_bank bank) services)
 
 -- the answers of a processor, in the order
 abbrev pub answers_at : List Service → ℕ → List AnswerRow
-answers_at services p = map answer_row (filter (is_answered_to p) services)
+answers_at services p = map answer_of_service (filter (is_answered_to p) services)
 
 -- the entries of each of some banks
 abbrev pub entries_of : ℕ → List Service → List (List EntryRow)
-entries_of tiles services = map (entries_at services) (range_with_len 0 tiles)
+entries_of tiles services = map (entries_of_bank services) (range_with_len 0 tiles)
 
 -- the answers of each of some processors
-abbrev pub answers_of : ℕ → List Service → List (List AnswerRow)
-answers_of tiles services = map (answers_at services) (range_with_len 0 tiles)
+abbrev pub answers_of_services : ℕ → List Service → List (List AnswerRow)
+answers_of_services tiles services = map (answers_at services) (range_with_len 0 tiles)
 
 -- whether each operation of a trace has an answer
 abbrev pub all_answered : List Times → Bool

@@ -24,14 +24,14 @@ waits_of times order = waits_from 0 (issues_of times order)
 
 -- the number of the event of a trace that so many come before: behind those, and the services that
 -- wait for no more
-abbrev pub event_number : List ℕ → ℕ → ℕ
-event_number waits i = i + count_by (λ w. nat_le w i) waits + 1
+abbrev pub number_behind : List ℕ → ℕ → ℕ
+number_behind waits i = i + count_by (λ w. nat_le w i) waits + 1
 
 -- the number of a service that so many come before: behind those, and the events that it waits for
 abbrev pub service_number : List ℕ → ℕ → ℕ
 service_number waits x = slice_index_or waits x 0 + x + 1
 
 -- numbers that never fall
-abbrev pub IsRising : List ℕ → Type 0
-IsRising waits = (x y v w : ℕ) → x ≤ y → slice_get waits x ≡ Some v → slice_get waits y ≡ Some w
+abbrev pub NeverFalls : List ℕ → Type 0
+NeverFalls waits = (x y v w : ℕ) → x ≤ y → slice_get waits x ≡ Some v → slice_get waits y ≡ Some w
     → v ≤ w

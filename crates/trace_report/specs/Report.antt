@@ -10,42 +10,42 @@ use Rattle.trace_text.specs.Traced.{TraceSpec, opening_of}
 use Rattle.trace_report.specs.declared.times.Times.{Times}
 use Rattle.trace_report.specs.Times.{AreTimes}
 use Rattle.trace_report.specs.Fitting.{processors_of, shape_for}
-use Rattle.trace_report.specs.Services.{services_of}
-use Rattle.trace_report.specs.Contents.{order_line, entries_of, answers_of, all_answered}
+use Rattle.trace_report.specs.Services.{services_told}
+use Rattle.trace_report.specs.Contents.{service_line, entries_of, answers_of_services, all_answered}
 
 -- the shape of the report of a trace
-abbrev pub shape_of : TraceSpec → Shape
-shape_of t = shape_for (processors_of t.issued)
+abbrev pub shape_told : TraceSpec → Shape
+shape_told t = shape_for (processors_of t.issued)
 
 -- the number of tiles, and of banks, of the report of a trace
 abbrev pub banks_of : TraceSpec → ℕ
-banks_of t = tiles_of (shape_of t)
+banks_of t = tiles_of (shape_told t)
 
 -- the report of an order of a trace, whose operations were issued and answered at these times: each
 -- is served in the order, by the home bank of its address, and answered as the trace says
-abbrev pub report_with : TraceSpec → List Times → List Call → List ReportLine
-report_with t times order = report_lines_of (shape_of t) (opening_of t)
-    (entries_of (banks_of t) (services_of t (banks_of t) times order))
-    (answers_of (banks_of t) (services_of t (banks_of t) times order))
+abbrev pub trace_report_with : TraceSpec → List Times → List Call → List ReportLine
+trace_report_with t times order = report_lines_of (shape_told t) (opening_of t)
+    (entries_of (banks_of t) (services_told t (banks_of t) times order))
+    (answers_of_services (banks_of t) (services_told t (banks_of t) times order))
     (memory_of (opening_of t) order)
-    (map order_line (services_of t (banks_of t) times order))
+    (map service_line (services_told t (banks_of t) times order))
     (all_answered times)
 
 -- the lines are those of the report of an order of a trace
-pub record IsReportOf (t : TraceSpec) (order : List Call) (lines : List ReportLine) : Type 0 where
+pub record IsReportOfOrder (t : TraceSpec) (order : List Call) (lines : List ReportLine) : Type 0 where
   pub times : List Times
   pub told : AreTimes t.events (length t.issued) times
-  pub is : lines ≡ report_with t times order
+  pub is : lines ≡ trace_report_with t times order
 
 -- these are the parts of the report of an order of a trace
-pub record IsMadeOf {A : Type 0} (t : TraceSpec) (times : List Times) (order : List Call)
+pub record AreParts {A : Type 0} (t : TraceSpec) (times : List Times) (order : List Call)
     (parts : Parts A) : Type 0 where
-  pub torus : parts.torus ≡ shape_of t
+  pub torus : parts.torus ≡ shape_told t
   pub opening : parts.opening.items ≡ opening_of t
   pub entries : items_of parts.entries.items
-      ≡ entries_of (banks_of t) (services_of t (banks_of t) times order)
+      ≡ entries_of (banks_of t) (services_told t (banks_of t) times order)
   pub answers : items_of parts.answers.items
-      ≡ answers_of (banks_of t) (services_of t (banks_of t) times order)
+      ≡ answers_of_services (banks_of t) (services_told t (banks_of t) times order)
   pub last : parts.last.items ≡ memory_of (opening_of t) order
-  pub ordered : parts.order.items ≡ map order_line (services_of t (banks_of t) times order)
+  pub ordered : parts.order.items ≡ map service_line (services_told t (banks_of t) times order)
   pub finished : parts.finished ≡ all_answered times

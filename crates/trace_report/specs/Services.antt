@@ -1,5 +1,6 @@
 -- The services of the operations of an order, as a report says them.
-use Rattle.std.specs.Prelude.{◌%◌, ◌==◌, ℕ, Bool, List, None, length, map, take, count_by, option_map}
+use Rattle.std.specs.Prelude.{◌%◌, ◌==◌, ℕ, Bool, List, None, length, map, take, count_by}
+use Rattle.std.specs.Prelude.{option_map}
 use Rattle.std.specs.List.{slice_index_or, range_with_len}
 use Rattle.packet.specs.declared.kinds.Op.TheVariants.{Load}
 use Rattle.packet.specs.declared.kinds.Reply.{Reply}
@@ -11,7 +12,7 @@ use Rattle.trace_text.specs.Traced.{TraceSpec, opening_of}
 use Rattle.trace_report.specs.declared.times.Times.{Times}
 use Rattle.trace_report.specs.declared.service.Service.{Service}
 use Rattle.trace_report.specs.Times.{time_of}
-use Rattle.trace_report.specs.Numbers.{waits_of, event_number, service_number}
+use Rattle.trace_report.specs.Numbers.{waits_of, number_behind, service_number}
 
 -- an operation of an order; a load of word 0 past the last
 abbrev pub call_at : List Call → ℕ → Call
@@ -19,8 +20,8 @@ call_at order x =
     slice_index_or order x (record { id = 0; operation = record { address = 0; op = Load } })
 
 -- the operation of a number, as its trace issues it; one of processor 0 where there is none
-abbrev pub issued_of : List Issued → ℕ → Issued
-issued_of issued id = slice_index_or issued id (record {
+abbrev pub issued_call : List Issued → ℕ → Issued
+issued_call issued id = slice_index_or issued id (record {
   processor = 0;
   index = 0;
   operation = record { address = 0; op = Load };
@@ -28,26 +29,26 @@ issued_of issued id = slice_index_or issued id (record {
 })
 
 -- whether an operation is on a word of a bank: the address modulo the number of banks
-abbrev pub is_home : ℕ → ℕ → Call → Bool
-is_home tiles bank c = c.operation.address % tiles == bank
+abbrev pub is_on_bank : ℕ → ℕ → Call → Bool
+is_on_bank tiles bank c = c.operation.address % tiles == bank
 
 -- how many operations on words of the same bank stand before one of an order
 abbrev pub service_place : ℕ → List Call → ℕ → ℕ
 service_place tiles order x =
-    count_by (is_home tiles ((call_at order x).operation.address % tiles)) (take x order)
+    count_by (is_on_bank tiles ((call_at order x).operation.address % tiles)) (take x order)
 
 -- the service of an operation, in its place of a bank, with its reply and the number of its service
 abbrev pub service_with : List Issued → List Times → List ℕ → Call → ℕ → Reply → ℕ → ℕ → Service
 service_with issued times waits c bank reply place served = record {
-  processor = (issued_of issued c.id).processor;
-  index = (issued_of issued c.id).index;
+  processor = (issued_call issued c.id).processor;
+  index = (issued_call issued c.id).index;
   operation = c.operation;
   reply = reply;
   bank = bank;
   place = place;
-  issued = event_number waits (time_of times c.id).issued;
+  issued = number_behind waits (time_of times c.id).issued;
   served = served;
-  answered = option_map (event_number waits) (time_of times c.id).answered;
+  answered = option_map (number_behind waits) (time_of times c.id).answered;
 }
 
 -- the service of an operation of an order: by the home bank of its address, in the order's turn,
@@ -60,6 +61,6 @@ service_of t tiles times order x =
     (service_place tiles order x) (service_number (waits_of times order) x)
 
 -- the services of an order
-abbrev pub services_of : TraceSpec → ℕ → List Times → List Call → List Service
-services_of t tiles times order =
+abbrev pub services_told : TraceSpec → ℕ → List Times → List Call → List Service
+services_told t tiles times order =
     map (service_of t tiles times order) (range_with_len 0 (length order))

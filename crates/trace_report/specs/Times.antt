@@ -30,7 +30,7 @@ abbrev pub AreTimes : List Event → ℕ → List Times → Type 0
 AreTimes events count times = AreTimesBelow events (length events) count times
 
 -- no more events than a report numbers come before an issue or an answer
-pub record AreLow (times : List Times) : Type 0 where
+pub record AreLowTimes (times : List Times) : Type 0 where
   pub issued : (id : ℕ) → (time_of times id).issued ≤ 196608
   pub answered : (id i : ℕ) → (time_of times id).answered ≡ Some i → i ≤ 196608
 
@@ -39,7 +39,7 @@ abbrev pub with_time : List Times → ℕ → Times → List Times
 with_time times id time = if nat_lt id (length times) then slice_set times id time else times
 
 -- the times once an event is noted that so many come before
-abbrev pub noted : List Times → ℕ → Event → List Times
-noted times at (Issue c) = with_time times c.id (record (time_of times c.id) { issued = at })
-noted times at (Answer id reply) =
+abbrev pub times_noted : List Times → ℕ → Event → List Times
+times_noted times at (Issue c) = with_time times c.id (record (time_of times c.id) { issued = at })
+times_noted times at (Answer id reply) =
     with_time times id (record (time_of times id) { answered = Some at })

@@ -8,7 +8,7 @@ use Rattle.trace_text.specs.Traced.{TraceSpec}
 
 -- the events are a trace on a memory of some words, each operation is known as it was issued, and
 -- no two have one processor and one index (this project's own format)
-pub record IsWhole (t : TraceSpec) : Type 0 where
+pub record IsWholeTrace (t : TraceSpec) : Type 0 where
   pub words : 1 ≤ t.words
   pub trace : IsTrace t.words t.events
   pub known : (i : ℕ) (call : Call) → IsIssuedAt t.events i call → IsKnownAs t.issued call

@@ -2,9 +2,11 @@
 
 ghost use Rattle.std.specs.Prelude.{◌≡◌, ◌<◌, ◌≤◌, ℕ, IfOk, Some, map, slice_get};
 ghost use Rattle.report_lines.specs.Contents.{items_of};
-ghost use Rattle.trace_report.specs.Contents.{answer_row, answers_at, answers_of, is_answered_to};
-ghost use Rattle.trace_report.specs.Contents.{entries_at, entries_of, entry_row, is_of_bank};
-ghost use Rattle.trace_report.specs.Contents.{all_answered, order_line};
+ghost use Rattle.trace_report.specs.Contents.{answer_of_service, answers_at, answers_of_services};
+ghost use Rattle.trace_report.specs.Contents.{is_answered_to};
+ghost use Rattle.trace_report.specs.Contents.{entries_of_bank, entries_of, entry_of_service};
+ghost use Rattle.trace_report.specs.Contents.{is_at_bank};
+ghost use Rattle.trace_report.specs.Contents.{all_answered, service_line};
 ghost use Rattle.trace_report.specs.declared.service.Service.{Service};
 ghost use Rattle.trace_text.specs.Traced.{opening_of};
 
@@ -30,8 +32,8 @@ pub(crate) fn opening_words<A: Allocator + Copy>(
 }
 
 /// The entry of a service.
-fn entry_row(service: &Service) -> EntryRow
-    ensures { result ≡ entry_row service.now }
+fn entry_of_service(service: &Service) -> EntryRow
+    ensures { result ≡ entry_of_service service.now }
 {
     EntryRow {
         source: service.processor,
@@ -43,25 +45,25 @@ fn entry_row(service: &Service) -> EntryRow
 }
 
 /// Whether a service is one of a bank.
-fn is_of_bank(bank: u32, service: &Service) -> bool
-    ensures { result ≡ is_of_bank bank service.now }
+fn is_at_bank(bank: u32, service: &Service) -> bool
+    ensures { result ≡ is_at_bank bank service.now }
 {
     service.bank == bank
 }
 
 /// The entries of a bank.
-fn entries_at<A: Allocator + Copy>(
+fn entries_of_bank<A: Allocator + Copy>(
     alloc: A,
     services: &[Service],
     bank: u32,
 ) -> Result<Vec<EntryRow, A>, AllocError>
-    ensures { IfOk result (λ rows. rows.items ≡ entries_at services.now bank) }
+    ensures { IfOk result (λ rows. rows.items ≡ entries_of_bank services.now bank) }
 {
     let mut rows = Vec::new(alloc);
     for i in 0..services.len() {
         let service = services[i];
-        if is_of_bank(bank, &service) {
-            rows.push(entry_row(&service))?;
+        if is_at_bank(bank, &service) {
+            rows.push(entry_of_service(&service))?;
         }
     }
     Ok(rows)
@@ -77,15 +79,15 @@ pub(crate) fn entries_of<A: Allocator + Copy>(
 {
     let mut banks = Vec::new(alloc);
     for bank in 0..tiles {
-        banks.push(entries_at(alloc, services, bank)?)?;
+        banks.push(entries_of_bank(alloc, services, bank)?)?;
     }
     Ok(banks)
 }
 
 /// The answer to a service.
-fn answer_row(service: &Service) -> AnswerRow
+fn answer_of_service(service: &Service) -> AnswerRow
     requires { service.now.index < 4096 }
-    ensures { result ≡ answer_row service.now }
+    ensures { result ≡ answer_of_service service.now }
 {
     AnswerRow {
         index: service.index as u32,
@@ -115,20 +117,20 @@ fn answers_at<A: Allocator + Copy>(
     for i in 0..services.len() {
         let service = services[i];
         if is_answered_to(processor, &service) {
-            rows.push(answer_row(&service))?;
+            rows.push(answer_of_service(&service))?;
         }
     }
     Ok(rows)
 }
 
 /// The answers of each of so many processors.
-pub(crate) fn answers_of<A: Allocator + Copy>(
+pub(crate) fn answers_of_services<A: Allocator + Copy>(
     alloc: A,
     services: &[Service],
     tiles: u32,
 ) -> Result<Vec<Vec<AnswerRow, A>, A>, AllocError>
     requires { (k : ℕ) (s : Service) → slice_get services.now k ≡ Some s → s.index < 4096 }
-    ensures { IfOk result (λ all. items_of all.items ≡ answers_of tiles services.now) }
+    ensures { IfOk result (λ all. items_of all.items ≡ answers_of_services tiles services.now) }
 {
     let mut all = Vec::new(alloc);
     for processor in 0..tiles {
@@ -138,8 +140,8 @@ pub(crate) fn answers_of<A: Allocator + Copy>(
 }
 
 /// The events of a service.
-fn order_line(service: &Service) -> OrderLine
-    ensures { result ≡ order_line service.now }
+fn service_line(service: &Service) -> OrderLine
+    ensures { result ≡ service_line service.now }
 {
     OrderLine {
         bank: service.bank,
@@ -155,11 +157,11 @@ pub(crate) fn order_lines<A: Allocator + Copy>(
     alloc: A,
     services: &[Service],
 ) -> Result<Vec<OrderLine, A>, AllocError>
-    ensures { IfOk result (λ lines. lines.items ≡ map order_line services.now) }
+    ensures { IfOk result (λ lines. lines.items ≡ map service_line services.now) }
 {
     let mut lines = Vec::new(alloc);
     for service in services {
-        lines.push(order_line(service))?;
+        lines.push(service_line(service))?;
     }
     Ok(lines)
 }

@@ -1,7 +1,7 @@
 //! The numbers of the events of a report.
 
 ghost use Rattle.std.specs.Prelude.{◌≡◌, ◌≤◌, ℕ, IfOk, Some, length, nat_le, count_by, option_map};
-ghost use Rattle.trace_report.specs.Numbers.{waits_of, event_number, IsRising};
+ghost use Rattle.trace_report.specs.Numbers.{waits_of, number_behind, NeverFalls};
 ghost use Rattle.trace_report.specs.Times.{time_of};
 
 use crate::times::{Times, time_of};
@@ -29,7 +29,7 @@ pub(crate) fn waits_of<A: Allocator + Copy>(
 
 /// How many services wait for no more events than these.
 fn ready(waits: &[u32], at: u32) -> usize
-    requires { IsRising waits.now }
+    requires { NeverFalls waits.now }
     ensures value { result ≡ count_by (λ w. nat_le w at) waits.now }
     ensures bound { result ≤ length waits.now }
 {
@@ -47,24 +47,24 @@ fn ready(waits: &[u32], at: u32) -> usize
 }
 
 /// The number of the event of a trace that so many come before.
-pub(crate) fn event_number(waits: &[u32], at: u32) -> u32
-    requires rising { IsRising waits.now }
+pub(crate) fn number_behind(waits: &[u32], at: u32) -> u32
+    requires rising { NeverFalls waits.now }
     requires few { length waits.now ≤ 65536 }
     requires low { at ≤ 196608 }
-    ensures { result ≡ event_number waits.now at }
+    ensures { result ≡ number_behind waits.now at }
 {
     at + ready(waits, at) as u32 + 1
 }
 
 /// The number of an answer, if there is one.
 pub(crate) fn answer_number(waits: &[u32], at: Option<u32>) -> Option<u32>
-    requires rising { IsRising waits.now }
+    requires rising { NeverFalls waits.now }
     requires few { length waits.now ≤ 65536 }
     requires low { (n : ℕ) → at ≡ Some n → n ≤ 196608 }
-    ensures { result ≡ option_map (event_number waits.now) at }
+    ensures { result ≡ option_map (number_behind waits.now) at }
 {
     match at {
-        Some(n) => Some(event_number(waits, n)),
+        Some(n) => Some(number_behind(waits, n)),
         None => None,
     }
 }

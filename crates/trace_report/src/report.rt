@@ -6,12 +6,12 @@ ghost use Rattle.report_check.specs.Good.{GoodReport};
 ghost use Rattle.trace_order.specs.Orders.{IsOrder, memory_of};
 ghost use Rattle.trace_text.specs.Traced.{opening_of};
 ghost use Rattle.trace_report.specs.Fitting.{IsFit, IsUnfit};
-ghost use Rattle.trace_report.specs.Report.{IsMadeOf, IsReportOf, shape_of};
-ghost use Rattle.trace_report.specs.Services.{services_of};
+ghost use Rattle.trace_report.specs.Report.{AreParts, IsReportOfOrder, shape_told};
+ghost use Rattle.trace_report.specs.Services.{services_told};
 ghost use Rattle.trace_report.specs.Times.{AreTimes};
-ghost use Rattle.trace_report.specs.Whole.{IsWhole};
+ghost use Rattle.trace_report.specs.Whole.{IsWholeTrace};
 
-use crate::contents::{all_answered, answers_of, entries_of, opening_words, order_lines};
+use crate::contents::{all_answered, answers_of_services, entries_of, opening_words, order_lines};
 use crate::fit::fitting;
 use crate::numbers::waits_of;
 use crate::service::Service;
@@ -28,7 +28,7 @@ use trace_order::Call;
 use trace_text::TraceText;
 
 /// The services of an order of a trace, and the words that they leave.
-fn services_of<A: Allocator + Copy>(
+fn services_told<A: Allocator + Copy>(
     alloc: A,
     trace: &TraceText<A>,
     tiles: u32,
@@ -37,11 +37,11 @@ fn services_of<A: Allocator + Copy>(
 ) -> Result<(Vec<Service, A>, Vec<u64, A>), AllocError>
     requires some { 0 < tiles }
     requires fit { IsFit trace.now order.now }
-    requires whole { IsWhole trace.now }
+    requires whole { IsWholeTrace trace.now }
     requires explains { IsOrder (opening_of trace.now) trace.now.events order.now }
     requires told { AreTimes trace.now.events (length trace.now.issued) times.now }
     ensures services { IfOk result
-        (λ both. both.0.items ≡ services_of trace.now tiles times.now order.now) }
+        (λ both. both.0.items ≡ services_told trace.now tiles times.now order.now) }
     ensures words { IfOk result
         (λ both. both.1.items ≡ memory_of (opening_of trace.now) order.now) }
 {
@@ -61,18 +61,18 @@ fn parts_of<A: Allocator + Copy>(
     times: &[Times],
     order: &[Call],
 ) -> Result<Parts<A>, AllocError>
-    requires torus { torus ≡ shape_of trace.now }
+    requires torus { torus ≡ shape_told trace.now }
     requires fit { IsFit trace.now order.now }
-    requires whole { IsWhole trace.now }
+    requires whole { IsWholeTrace trace.now }
     requires explains { IsOrder (opening_of trace.now) trace.now.events order.now }
     requires told { AreTimes trace.now.events (length trace.now.issued) times.now }
-    ensures { IfOk result (λ parts. IsMadeOf trace.now times.now order.now parts) }
+    ensures { IfOk result (λ parts. AreParts trace.now times.now order.now parts) }
 {
     let tiles = torus.tiles();
-    let (services, last) = services_of(alloc, trace, tiles, times, order)?;
+    let (services, last) = services_told(alloc, trace, tiles, times, order)?;
     let opening = opening_words(alloc, trace)?;
     let entries = entries_of(alloc, &services, tiles)?;
-    let answers = answers_of(alloc, &services, tiles)?;
+    let answers = answers_of_services(alloc, &services, tiles)?;
     let order = order_lines(alloc, &services)?;
     let finished = all_answered(times);
     Ok(Parts {
@@ -93,11 +93,11 @@ fn report_within<A: Allocator + Copy>(
     torus: Torus,
     order: &[Call],
 ) -> Result<Report<A>, AllocError>
-    requires torus { torus ≡ shape_of trace.now }
+    requires torus { torus ≡ shape_told trace.now }
     requires fit { IsFit trace.now order.now }
-    requires whole { IsWhole trace.now }
+    requires whole { IsWholeTrace trace.now }
     requires explains { IsOrder (opening_of trace.now) trace.now.events order.now }
-    ensures report { IfOk result (λ report. IsReportOf trace.now order.now report) }
+    ensures report { IfOk result (λ report. IsReportOfOrder trace.now order.now report) }
 {
     let _tiles = torus.tiles();
     let times = times_of(alloc, trace.events(), trace.issued().len())?;
@@ -112,11 +112,11 @@ fn goodness<A: Allocator + Copy>(
     order: &[Call],
     report: &Report<A>,
 )
-    requires torus { torus.now ≡ shape_of trace.now }
+    requires torus { torus.now ≡ shape_told trace.now }
     requires fit { IsFit trace.now order.now }
-    requires whole { IsWhole trace.now }
+    requires whole { IsWholeTrace trace.now }
     requires explains { IsOrder (opening_of trace.now) trace.now.events order.now }
-    requires report { IsReportOf trace.now order.now report.now }
+    requires report { IsReportOfOrder trace.now order.now report.now }
     ensures { GoodReport (text_of report.now) }
 {
     let _tiles = torus.tiles();
@@ -135,10 +135,10 @@ pub fn report_of_order<A: Allocator + Copy>(
     trace: &TraceText<A>,
     order: &[Call],
 ) -> Result<Report<A>, Unfit>
-    requires whole { IsWhole trace.now }
+    requires whole { IsWholeTrace trace.now }
     requires explains { IsOrder (opening_of trace.now) trace.now.events order.now }
     // The report says what the trace and the order do.
-    ensures report { IfOk result (λ report. IsReportOf trace.now order.now report) }
+    ensures report { IfOk result (λ report. IsReportOfOrder trace.now order.now report) }
     // It is a good one: the checker accepts its text.
     ensures good { IfOk result (λ report. GoodReport (text_of report)) }
     ensures unfit { IfErr result (IsUnfit trace.now order.now) }

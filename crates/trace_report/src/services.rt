@@ -6,11 +6,12 @@ ghost use Rattle.packet.specs.Memory.{replies};
 ghost use Rattle.trace_order.specs.declared.event.Call.{Call};
 ghost use Rattle.trace_order.specs.Orders.{memory_of, operations_of};
 ghost use Rattle.trace_text.specs.Traced.{opening_of};
-ghost use Rattle.trace_report.specs.Times.{AreLow};
-ghost use Rattle.trace_report.specs.Numbers.{waits_of, IsRising};
-ghost use Rattle.trace_report.specs.Services.{issued_of, service_place, service_with, services_of};
+ghost use Rattle.trace_report.specs.Times.{AreLowTimes};
+ghost use Rattle.trace_report.specs.Numbers.{waits_of, NeverFalls};
+ghost use Rattle.trace_report.specs.Services.{issued_call, service_place, service_with};
+ghost use Rattle.trace_report.specs.Services.{services_told};
 
-use crate::numbers::{answer_number, event_number};
+use crate::numbers::{answer_number, number_behind};
 use crate::service::Service;
 use crate::times::{Times, time_of};
 use packet::{Op, Operation, Reply, apply};
@@ -19,8 +20,8 @@ use trace_order::Call;
 use trace_text::{Issued, TraceText};
 
 /// The operation of a number, as its trace issues it.
-fn issued_of(issued: &[Issued], id: u64) -> Issued
-    ensures { result ≡ issued_of issued.now id }
+fn issued_call(issued: &[Issued], id: u64) -> Issued
+    ensures { result ≡ issued_call issued.now id }
 {
     if id >= issued.len() as u64 {
         return Issued {
@@ -93,13 +94,13 @@ fn service<A: Allocator>(
     place: u32,
     served: u32,
 ) -> Service
-    requires rising { IsRising waits.now }
+    requires rising { NeverFalls waits.now }
     requires few { length waits.now ≤ 65536 }
-    requires low { AreLow times.now }
+    requires low { AreLowTimes times.now }
     ensures { result
         ≡ service_with trace.now.issued times.now waits.now call bank reply place served }
 {
-    let issued = issued_of(trace.issued(), call.id);
+    let issued = issued_call(trace.issued(), call.id);
     let time = time_of(times, call.id);
     Service {
         processor: issued.processor,
@@ -108,7 +109,7 @@ fn service<A: Allocator>(
         reply,
         bank,
         place,
-        issued: event_number(waits, time.issued),
+        issued: number_behind(waits, time.issued),
         served,
         answered: answer_number(waits, time.answered),
     }
@@ -127,13 +128,13 @@ pub(crate) fn services_with<A: Allocator + Copy>(
 ) -> Result<Vec<Service, A>, AllocError>
     requires some { 0 < tiles }
     requires few { length order.now ≤ 65536 }
-    requires low { AreLow times.now }
+    requires low { AreLowTimes times.now }
     requires replies { told.now ≡ replies (operations_of order.now) (opening_of trace.now) }
     requires places { places.now
         ≡ map (service_place tiles order.now) (range_with_len 0 (length order.now)) }
     requires waits { waits.now ≡ waits_of times.now order.now }
     ensures { IfOk result
-        (λ services. services.items ≡ services_of trace.now tiles times.now order.now) }
+        (λ services. services.items ≡ services_told trace.now tiles times.now order.now) }
 {
     let mut services = Vec::new(alloc);
     for i in 0..order.len() {

@@ -3,7 +3,7 @@
 ghost use Rattle.std.specs.Prelude.{◌≡◌, ◌≤◌, ◌<◌, ℕ, IfOk, length};
 ghost use Rattle.trace_order.specs.declared.event.Call.{Call};
 ghost use Rattle.trace_order.specs.Traces.{IsTrace, IsIssuedAt};
-ghost use Rattle.trace_report.specs.Times.{AreTimes, noted, time_of};
+ghost use Rattle.trace_report.specs.Times.{AreTimes, times_noted, time_of};
 
 use std::alloc::{AllocError, Allocator};
 use trace_order::Event;
@@ -18,7 +18,7 @@ pub struct Times {
 
 /// Notes an event.
 fn note<A: Allocator>(times: &mut Vec<Times, A>, at: u32, event: Event)
-    ensures { times.new.items ≡ noted times.old.items at event }
+    ensures { times.new.items ≡ times_noted times.old.items at event }
 {
     match event {
         Event::Issue(call) => {

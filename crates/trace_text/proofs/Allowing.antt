@@ -15,10 +15,10 @@ use Rattle.trace_judge.specs.declared.undecided.Undecided.{Undecided}
 use Rattle.trace_judge.specs.declared.undecided.Undecided.TheVariants as undecided
 use Rattle.trace_text.specs.declared.linearize.Unfound.{Unfound}
 use Rattle.trace_text.specs.Allowed.{answered_so, trace_answered_so, IsAllowed}
-use Rattle.trace_text.specs.Findings.{place_of_address, address_of, trace_read, unfound_at, IsUnfound}
+use Rattle.trace_text.specs.Findings.{place_of_address, placed_address, trace_read, unfound_at, IsUnfound}
 use Rattle.trace_text.specs.Kept.{IsKept}
 use Rattle.trace_text.specs.Renumbered.{moved_call, moved_event, IsRenumbering}
-use Rattle.trace_text.specs.Traced.{Reading, opening_of}
+use Rattle.trace_text.specs.Traced.{TraceReading, opening_of}
 use Rattle.trace_text.proofs.Found.{others, renumbering, line_is, crowd_in}
 use Rattle.trace_text.proofs.Renumbered.{map_get, issue_back, answer_back, order_there, order_back}
 
@@ -130,26 +130,26 @@ trace_placed place back opening words trace count t r = record {
 
 -- the events that the judge is given
 
-pub given_is : (r : Reading) (n id : ℕ) (reply : Reply) (begun es : List Event)
+pub given_is : (r : TraceReading) (n id : ℕ) (reply : Reply) (begun es : List Event)
     → begun ≡ map (moved_event (place_of_address r.places)) (take n r.events) → es ≡ begun ++ Answer id reply ∷ []
     → es ≡ map (moved_event (place_of_address r.places)) (answered_so r.events n id reply)
 given_is r n id reply begun es b e =
     e ∙ (ap (λ (xs : List Event). xs ++ Answer id reply ∷ []) b
     ∙ sym (map_push (moved_event (place_of_address r.places)) (take n r.events) (Answer id reply)))
 
-pub answered_given : (r : Reading) → IsKept r → (n id : ℕ) (reply told : Reply) → IsAnsweredAt r.events n id told → (ws : List ℕ) (es : List Event)
+pub answered_given : (r : TraceReading) → IsKept r → (n id : ℕ) (reply told : Reply) → IsAnsweredAt r.events n id told → (ws : List ℕ) (es : List Event)
     → ws ≡ others r → es ≡ map (moved_event (place_of_address r.places)) (answered_so r.events n id reply) → IsTrace (length ws) es
 answered_given r k n id reply told at ws es w e = rw (w, e)
-    (trace_placed (place_of_address r.places) (address_of r.addresses) (opening_of (trace_read r)) (others r) (answered_so r.events n id reply) r.words
+    (trace_placed (place_of_address r.places) (placed_address r.addresses) (opening_of (trace_read r)) (others r) (answered_so r.events n id reply) r.words
     (trace_answered r.words r.events n id reply told k.trace at)
-    (renumbering_answered (place_of_address r.places) (address_of r.addresses) (opening_of (trace_read r)) (others r) r.events n id reply (renumbering r k)))
+    (renumbering_answered (place_of_address r.places) (placed_address r.addresses) (opening_of (trace_read r)) (others r) r.events n id reply (renumbering r k)))
 
 -- it is linearizable where it is with places
-pub allowed_given : (r : Reading) → IsKept r → (n id : ℕ) (reply : Reply) (ws : List ℕ) (es : List Event)
+pub allowed_given : (r : TraceReading) → IsKept r → (n id : ℕ) (reply : Reply) (ws : List ℕ) (es : List Event)
     → ws ≡ others r → es ≡ map (moved_event (place_of_address r.places)) (answered_so r.events n id reply) → IsLinearizable ws es
     → IsAllowed (opening_of (trace_read r)) r.events n id reply
 allowed_given r k n id reply ws es w e is =
-    let back = address_of r.addresses in
+    let back = placed_address r.addresses in
     let there = subst (λ (v : List ℕ). IsLinearizable v (map (moved_event (place_of_address r.places)) (answered_so r.events n id reply))) w
     (subst (λ (f : List Event). IsLinearizable ws f) e is) in (
       map (moved_call back) there.0,
@@ -158,18 +158,18 @@ allowed_given r k n id reply ws es w e is =
           there.0 there.1,
     )
 
-pub given_allowed : (r : Reading) → IsKept r → (n id : ℕ) (reply : Reply) (ws : List ℕ) (es : List Event)
+pub given_allowed : (r : TraceReading) → IsKept r → (n id : ℕ) (reply : Reply) (ws : List ℕ) (es : List Event)
     → ws ≡ others r → es ≡ map (moved_event (place_of_address r.places)) (answered_so r.events n id reply)
     → IsAllowed (opening_of (trace_read r)) r.events n id reply → IsLinearizable ws es
 given_allowed r k n id reply ws es w e is = rw (w, e) (
   map (moved_call (place_of_address r.places)) is.0,
-  order_there (place_of_address r.places) (address_of r.addresses) (opening_of (trace_read r)) (others r) (answered_so r.events n id reply)
-      (renumbering_answered (place_of_address r.places) (address_of r.addresses) (opening_of (trace_read r)) (others r) r.events n id reply (renumbering r k))
+  order_there (place_of_address r.places) (placed_address r.addresses) (opening_of (trace_read r)) (others r) (answered_so r.events n id reply)
+      (renumbering_answered (place_of_address r.places) (placed_address r.addresses) (opening_of (trace_read r)) (others r) r.events n id reply (renumbering r k))
       is.0 is.1,
 )
 
 -- why it isn't decided, of the trace as it is written
-not_decided : (r : Reading) → IsKept r → (n id : ℕ) (reply told : Reply) → IsAnsweredAt r.events n id told → (why : Undecided)
+not_decided : (r : TraceReading) → IsKept r → (n id : ℕ) (reply told : Reply) → IsAnsweredAt r.events n id told → (why : Undecided)
     → IsUndecided (map (moved_event (place_of_address r.places)) (answered_so r.events n id reply)) why
     → IsUnfound (trace_answered_so (trace_read r) n id reply) (unfound_at r.lines why)
 not_decided r k n id reply told at undecided.Memory u = tt
@@ -179,14 +179,14 @@ not_decided r k n id reply told at (undecided.Configurations event) u =
     let low = get_within r.events n (Answer id told) at in
     (event, line_is r k event (omega arith), (u.0, u.1, a))
 not_decided r k n id reply told at (undecided.Operations event) u =
-    let w = crowd_in (place_of_address r.places) (address_of r.addresses) (opening_of (trace_read r)) (others r) (answered_so r.events n id reply)
-    (renumbering_answered (place_of_address r.places) (address_of r.addresses) (opening_of (trace_read r)) (others r) r.events n id reply (renumbering r k))
+    let w = crowd_in (place_of_address r.places) (placed_address r.addresses) (opening_of (trace_read r)) (others r) (answered_so r.events n id reply)
+    (renumbering_answered (place_of_address r.places) (placed_address r.addresses) (opening_of (trace_read r)) (others r) r.events n id reply (renumbering r k))
     event u in
     let early = (issue_before r.events n id reply event w.another w.issue).0 in
     let low = get_within r.events n (Answer id told) at in
     (event, line_is r k event (omega arith), w)
 
-pub undecided_given : (r : Reading) → IsKept r → (n id : ℕ) (reply told : Reply) → IsAnsweredAt r.events n id told → (es : List Event)
+pub undecided_given : (r : TraceReading) → IsKept r → (n id : ℕ) (reply told : Reply) → IsAnsweredAt r.events n id told → (es : List Event)
     → es ≡ map (moved_event (place_of_address r.places)) (answered_so r.events n id reply) → (why : Undecided) (tells : Unfound) → IsUndecided es why
     → tells ≡ unfound_at r.lines why → IsUnfound (trace_answered_so (trace_read r) n id reply) tells
 undecided_given r k n id reply told at es e why tells u is =

@@ -4,7 +4,7 @@ use Rattle.std.proofs.lemmas.Bool.{cases_lt, cases_eq}
 use Rattle.std.proofs.lemmas.Bool.Decides.{nat_tests}
 use Rattle.std.specs.Ordering.{nat_cmp}
 use Rattle.std.specs.declared.cmp.Ordering.TheVariants.{Less, Equal, Greater}
-use Rattle.trace_text.specs.Traced.{value_at, with_value}
+use Rattle.trace_text.specs.Traced.{value_in, with_value}
 
 cmp_less : (a b : ℕ) → a < b → nat_cmp a b ≡ Less
 cmp_less a b l = grind (arith, nat_tests)
@@ -30,7 +30,7 @@ compared a b = ⊎_elim
     (cases_eq a b))
     (cases_lt a b)
 
-pub value_new : {X : Type 0} (es : List (ℕ × X)) (k : ℕ) (v : X) → value_at (with_value es k v) k ≡ Some v
+pub value_new : {X : Type 0} (es : List (ℕ × X)) (k : ℕ) (v : X) → value_in (with_value es k v) k ≡ Some v
 value_new [] k v = rw (cmp_same k) refl
 value_new (e ∷ es) k v = elim (compared k e.0) [
   | IsLess l ↦ rw (l, cmp_same k) refl
@@ -39,7 +39,7 @@ value_new (e ∷ es) k v = elim (compared k e.0) [
 ]
 
 pub value_old : {X : Type 0} (es : List (ℕ × X)) (k : ℕ) (v : X) (a : ℕ) → a ≢ k
-    → value_at (with_value es k v) a ≡ value_at es a
+    → value_in (with_value es k v) a ≡ value_in es a
 value_old [] k v a ne = elim (compared a k) [
   | IsLess l ↦ rw l refl
   | IsSame s q ↦ absurd (ne s)

@@ -19,10 +19,10 @@ use Rattle.trace_judge.specs.declared.judge.Verdict.{Verdict}
 use Rattle.trace_judge.specs.declared.judge.Verdict.TheVariants.{Linearizable, No}
 use Rattle.trace_judge.specs.Verdicts.{Tells}
 use Rattle.trace_text.specs.declared.linearize.Unfound.{Unfound}
-use Rattle.trace_text.specs.Findings.{place_of_address, address_of, words_of, trace_read, unfound_at, IsUnfound}
+use Rattle.trace_text.specs.Findings.{place_of_address, placed_address, opening_words_at, trace_read, unfound_at, IsUnfound}
 use Rattle.trace_text.specs.Kept.{IsKept}
 use Rattle.trace_text.specs.Renumbered.{moved_call, moved_event, IsRenumbering}
-use Rattle.trace_text.specs.Traced.{Reading, opening_of, value_at}
+use Rattle.trace_text.specs.Traced.{TraceReading, opening_of, value_in}
 use Rattle.trace_text.proofs.Renumbered.{map_get, get_map, take_map, issue_back, answer_back, order_there, order_back}
 
 -- what stands at a place, as the code reads it
@@ -32,22 +32,22 @@ read_is (y ∷ ys) zero x d h = cc
 read_is (y ∷ ys) (suc k) x d h = read_is ys k x d h
 
 -- the events with places
-abbrev pub moved : Reading → List Event
+abbrev pub moved : TraceReading → List Event
 moved r = map (moved_event (place_of_address r.places)) r.events
 
 -- the words with places
-abbrev pub others : Reading → List ℕ
-others r = words_of r.inits r.addresses
+abbrev pub others : TraceReading → List ℕ
+others r = opening_words_at r.inits r.addresses
 
-abbrev word_at : Reading → ℕ → ℕ
-word_at r a = unwrap_or (value_at r.inits a) 0
+abbrev word_at : TraceReading → ℕ → ℕ
+word_at r a = unwrap_or (value_in r.inits a) 0
 
-place_is : (r : Reading) (a p : ℕ) → value_at r.places a ≡ Some p → place_of_address r.places a ≡ p
+place_is : (r : TraceReading) (a p : ℕ) → value_in r.places a ≡ Some p → place_of_address r.places a ≡ p
 place_is r a p h = ap (λ o. unwrap_or o 0) h
 
 -- places are numbers of their own
-pub renumbering : (r : Reading) → IsKept r
-    → IsRenumbering (place_of_address r.places) (address_of r.addresses) (opening_of (trace_read r)) (others r) r.events
+pub renumbering : (r : TraceReading) → IsKept r
+    → IsRenumbering (place_of_address r.places) (placed_address r.addresses) (opening_of (trace_read r)) (others r) r.events
 renumbering r k = record {
   inside = λ i c h.
       let low = k.trace.inside i c h in
@@ -67,7 +67,7 @@ renumbering r k = record {
       ∙ sym (get_or-map-range_with_len (word_at r) 0 r.words c.operation.address c.operation.address 0 low (omega arith)));
   inverse = λ i c h.
       let q = k.placed i c h in
-      ap (address_of r.addresses) (place_is r c.operation.address q.0 q.1)
+      ap (placed_address r.addresses) (place_is r c.operation.address q.0 q.1)
       ∙ read_is r.addresses q.0 c.operation.address 0 (k.addressed c.operation.address q.0 q.1);
 }
 
@@ -82,7 +82,7 @@ renumbering_take place back opening words trace n r = record {
 }
 
 -- the events with places are a trace
-pub trace_moved : (r : Reading) → IsKept r → IsTrace (length (others r)) (moved r)
+pub trace_moved : (r : TraceReading) → IsKept r → IsTrace (length (others r)) (moved r)
 trace_moved r k = record {
   rising = λ i j a b l h m.
       let c = issue_back (place_of_address r.places) r.events i a h in
@@ -103,17 +103,17 @@ trace_moved r k = record {
 }
 
 -- a yes
-pub found_yes : (r : Reading) → IsKept r → (order : List Call) → IsOrder (others r) (moved r) order
-    → IsOrder (opening_of (trace_read r)) r.events (map (moved_call (address_of r.addresses)) order)
+pub found_yes : (r : TraceReading) → IsKept r → (order : List Call) → IsOrder (others r) (moved r) order
+    → IsOrder (opening_of (trace_read r)) r.events (map (moved_call (placed_address r.addresses)) order)
 found_yes r k order o =
-    order_back (place_of_address r.places) (address_of r.addresses) (opening_of (trace_read r)) (others r) r.events (renumbering r k) order o
+    order_back (place_of_address r.places) (placed_address r.addresses) (opening_of (trace_read r)) (others r) r.events (renumbering r k) order o
 
 -- beginnings are linearizable together
-beginning_back : (r : Reading) → IsKept r → (n : ℕ) → IsLinearizable (others r) (take n (moved r))
+beginning_back : (r : TraceReading) → IsKept r → (n : ℕ) → IsLinearizable (others r) (take n (moved r))
     → IsLinearizable (opening_of (trace_read r)) (take n r.events)
 beginning_back r k n is =
     let place = place_of_address r.places in
-    let back = address_of r.addresses in
+    let back = placed_address r.addresses in
     let o : IsOrder (others r) (map (moved_event place) (take n r.events)) is.0 =
     subst (λ (t : List Event). IsOrder (others r) t is.0) (take_map (moved_event place) n r.events) is.1 in (
       map (moved_call back) is.0,
@@ -121,11 +121,11 @@ beginning_back r k n is =
           (renumbering_take place back (opening_of (trace_read r)) (others r) r.events n (renumbering r k)) is.0 o,
     )
 
-beginning_there : (r : Reading) → IsKept r → (n : ℕ) → IsLinearizable (opening_of (trace_read r)) (take n r.events)
+beginning_there : (r : TraceReading) → IsKept r → (n : ℕ) → IsLinearizable (opening_of (trace_read r)) (take n r.events)
     → IsLinearizable (others r) (take n (moved r))
 beginning_there r k n is =
     let place = place_of_address r.places in
-    let back = address_of r.addresses in (
+    let back = placed_address r.addresses in (
       map (moved_call place) is.0,
       subst (λ (t : List Event). IsOrder (others r) t (map (moved_call place) is.0))
           (sym (take_map (moved_event place) n r.events))
@@ -134,14 +134,14 @@ beginning_there r k n is =
     )
 
 -- the line of an event
-pub line_is : (r : Reading) → IsKept r → (event : ℕ) → event < length r.events → slice_get r.lines event ≡ Some (get_or r.lines event 0)
+pub line_is : (r : TraceReading) → IsKept r → (event : ℕ) → event < length r.events → slice_get r.lines event ≡ Some (get_or r.lines event 0)
 line_is r k event low =
     let sized = k.lines in
     let at = within_length r.lines event (omega arith) in
     at.1 ∙ ap (λ (n : ℕ). Some n) (sym (read_is r.lines event at.0 0 at.1))
 
 -- a no
-pub found_no : (r : Reading) → IsKept r → (event : ℕ) → event < length (moved r) → IsLinearizable (others r) (take event (moved r))
+pub found_no : (r : TraceReading) → IsKept r → (event : ℕ) → event < length (moved r) → IsLinearizable (others r) (take event (moved r))
     → (IsLinearizable (others r) (take (event + 1) (moved r)) → ⊥)
     → (e : ℕ) × (slice_get r.lines e ≡ Some (get_or r.lines event 0))
     × IsLinearizable (opening_of (trace_read r)) (take e r.events)
@@ -151,7 +151,7 @@ found_no r k event low good bad =
     (event, line_is r k event (omega arith), beginning_back r k event good, λ is. bad (beginning_there r k (event + 1) is))
 
 -- an answer of the events with places
-answer_in : (r : Reading) (event : ℕ) → IsAnAnswer (moved r) event → IsAnAnswer r.events event
+answer_in : (r : TraceReading) (event : ℕ) → IsAnAnswer (moved r) event → IsAnAnswer r.events event
 answer_in r event a =
     (a.0, a.1, answer_back (place_of_address r.places) r.events event a.0 a.1 a.2)
 
@@ -202,27 +202,27 @@ crowd_in place back opening words trace n event w =
     }
 
 -- why it is not judged
-pub unfound : (r : Reading) → IsKept r → (why : Undecided) → IsUndecided (moved r) why → IsUnfound (trace_read r) (unfound_at r.lines why)
+pub unfound : (r : TraceReading) → IsKept r → (why : Undecided) → IsUndecided (moved r) why → IsUnfound (trace_read r) (unfound_at r.lines why)
 unfound r k undecided.Memory u = tt
 unfound r k (undecided.Configurations event) u =
     let a = answer_in r event u in
     (event, line_is r k event (get_within r.events event (Answer a.0 a.1) a.2), a)
 unfound r k (undecided.Operations event) u =
-    let w = crowd_in (place_of_address r.places) (address_of r.addresses) (opening_of (trace_read r)) (others r) r.events (renumbering r k) event u in
+    let w = crowd_in (place_of_address r.places) (placed_address r.addresses) (opening_of (trace_read r)) (others r) r.events (renumbering r k) event u in
     (event, line_is r k event (get_within r.events event (Issue w.another) w.issue), w)
 
 -- the same, of the words and the events that the judge was given
-pub trace_given : (r : Reading) → IsKept r → (ws : List ℕ) (es : List Event) → ws ≡ others r → es ≡ moved r → IsTrace (length ws) es
+pub trace_given : (r : TraceReading) → IsKept r → (ws : List ℕ) (es : List Event) → ws ≡ others r → es ≡ moved r → IsTrace (length ws) es
 trace_given r k ws es w e = rw (w, e) (trace_moved r k)
 
-pub yes_given : (r : Reading) → IsKept r → (ws : List ℕ) (es : List Event) → ws ≡ others r → es ≡ moved r → (order named : List Call)
-    → IsOrder ws es order → named ≡ map (moved_call (address_of r.addresses)) order → IsOrder (opening_of (trace_read r)) r.events named
+pub yes_given : (r : TraceReading) → IsKept r → (ws : List ℕ) (es : List Event) → ws ≡ others r → es ≡ moved r → (order named : List Call)
+    → IsOrder ws es order → named ≡ map (moved_call (placed_address r.addresses)) order → IsOrder (opening_of (trace_read r)) r.events named
 yes_given r k ws es w e order named o n =
     subst (λ (cs : List Call). IsOrder (opening_of (trace_read r)) r.events cs) (sym n)
     (found_yes r k order
     (subst (λ (v : List ℕ). IsOrder v (moved r) order) w (subst (λ (f : List Event). IsOrder ws f order) e o)))
 
-pub no_given : (r : Reading) → IsKept r → (ws : List ℕ) (es : List Event) → ws ≡ others r → es ≡ moved r → (event line : ℕ)
+pub no_given : (r : TraceReading) → IsKept r → (ws : List ℕ) (es : List Event) → ws ≡ others r → es ≡ moved r → (event line : ℕ)
     → (event < length es) × IsLinearizable ws (take event es) × (IsLinearizable ws (take (event + 1) es) → ⊥) → line ≡ get_or r.lines event 0
     → (n : ℕ) × (slice_get r.lines n ≡ Some line)
     × IsLinearizable (opening_of (trace_read r)) (take n r.events)
@@ -235,7 +235,7 @@ no_given r k ws es w e event line tells l =
     let found = found_no r k event moved_tells.0 moved_tells.1 moved_tells.2 in
     (found.0, found.1 ∙ ap (λ (n : ℕ). Some n) (sym l), found.2, found.3)
 
-pub unfound_given : (r : Reading) → IsKept r → (es : List Event) → es ≡ moved r → (why : Undecided) (told : Unfound) → IsUndecided es why
+pub unfound_given : (r : TraceReading) → IsKept r → (es : List Event) → es ≡ moved r → (why : Undecided) (told : Unfound) → IsUndecided es why
     → told ≡ unfound_at r.lines why → IsUnfound (trace_read r) told
 unfound_given r k es e why told u is =
     subst (λ (x : Unfound). IsUnfound (trace_read r) x) (sym is)

@@ -5,13 +5,13 @@ use Rattle.std.specs.Str.{bytes_eq}
 use Rattle.torus.specs.declared.fault.Fault.TheVariants as fault
 use Rattle.lexer.specs.Words.{begins_comment}
 use Rattle.trace_text.specs.Kept.{IsKept}
-use Rattle.trace_text.specs.Traced.{Reading, after_words_line, after_keyword, after_words}
+use Rattle.trace_text.specs.Traced.{TraceReading, after_words_line, after_keyword, after_line_words}
 use Rattle.trace_text.proofs.KeptAnswers.{answer_line_kept}
 use Rattle.trace_text.proofs.KeptIssues.{issue_line_kept}
 use Rattle.trace_text.proofs.KeptSettings.{init_line_kept, words_line_kept, title_kept}
 use Rattle.trace_text.proofs.Outcomes.{one_ok, then_ok, if_ok}
 
-keyword_kept : (r next : Reading) → IsKept r → (line : ℕ) (keyword : List ℕ) (values : List (List ℕ))
+keyword_kept : (r next : TraceReading) → IsKept r → (line : ℕ) (keyword : List ℕ) (values : List (List ℕ))
     → after_keyword r line keyword values ≡ Ok next → IsKept next
 keyword_kept r next k line keyword values h = ⊎_elim
     (λ m. title_kept r next k keyword values m.1)
@@ -29,7 +29,7 @@ keyword_kept r next k line keyword values h = ⊎_elim
     (if_ok (not r.begun) _ _ next h)
 
 -- each line keeps it
-pub words_kept : (r next : Reading) → IsKept r → (line : ℕ) (words : List (List ℕ)) → after_words r line words ≡ Ok next → IsKept next
+pub words_kept : (r next : TraceReading) → IsKept r → (line : ℕ) (words : List (List ℕ)) → after_line_words r line words ≡ Ok next → IsKept next
 words_kept r next k line [] h = subst IsKept (one_ok r next h) k
 words_kept r next k line (keyword ∷ values) h = ⊎_elim
     (λ m. subst IsKept (one_ok r next m.1) k)

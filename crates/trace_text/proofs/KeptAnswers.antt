@@ -11,10 +11,10 @@ use Rattle.trace_order.specs.declared.event.Event.TheVariants.{Answer}
 use Rattle.trace_order.specs.Traces.{IsAnsweredAt}
 use Rattle.trace_order.proofs.Lists.{get_within, get_set_same, set_get_same, get_set_other}
 use Rattle.trace_text.specs.declared.issued.Issued.{Issued}
-use Rattle.trace_text.specs.Form.{a_number, told_of, reply_of}
+use Rattle.trace_text.specs.Form.{a_number, told_of, reply_read}
 use Rattle.trace_text.specs.IssueNumbers.{numbers_of}
 use Rattle.trace_text.specs.Kept.{IsKept, IsKnownAs, AreIndexed}
-use Rattle.trace_text.specs.Traced.{Reading, noted, after_answer_line, goes_with}
+use Rattle.trace_text.specs.Traced.{TraceReading, with_event, after_answer_line, goes_with}
 use Rattle.trace_text.proofs.Growing.{longer, issued_before, answered_with, was_issued, issued_later, answer_grows}
 use Rattle.trace_text.proofs.Outcomes.{one_ok, bind_ok, else_ok, or_ok}
 
@@ -31,8 +31,8 @@ answer_indexed numbers issued found n i at reply m j h =
     (cases_eq m n)
 
 -- a new answer
-answer_kept : (r : Reading) → IsKept r → (line n : ℕ) (i : Issued) → slice_get r.issued n ≡ Some i → i.reply ≡ None → (reply : Reply)
-    → IsKept (noted (record r { issued = slice_set r.issued n (record i { reply = Some reply }) }) line (Answer n reply))
+answer_kept : (r : TraceReading) → IsKept r → (line n : ℕ) (i : Issued) → slice_get r.issued n ≡ Some i → i.reply ≡ None → (reply : Reply)
+    → IsKept (with_event (record r { issued = slice_set r.issued n (record i { reply = Some reply }) }) line (Answer n reply))
 answer_kept r k line n i at none reply =
     let told : Issued = record i { reply = Some reply } in
     let other : (m : ℕ) → m ≢ n → slice_get (slice_set r.issued n told) m ≡ slice_get r.issued m =
@@ -78,7 +78,7 @@ none_is : (o : Option Reply) → is_some o ≡ false → o ≡ None
 none_is (Some q) h = absurd (cc)
 none_is None h = refl
 
-pub answer_line_kept : (r next : Reading) → IsKept r → (line : ℕ) (values : List (List ℕ)) → after_answer_line r line values ≡ Ok next → IsKept next
+pub answer_line_kept : (r next : TraceReading) → IsKept r → (line : ℕ) (values : List (List ℕ)) → after_answer_line r line values ≡ Ok next → IsKept next
 answer_line_kept r next k line [] h = absurd (cc)
 answer_line_kept r next k line (a ∷ []) h = absurd (cc)
 answer_line_kept r next k line (a ∷ b ∷ []) h = absurd (cc)
@@ -93,7 +93,7 @@ answer_line_kept r next k line (processor ∷ index ∷ reply ∷ []) h =
     let i = bind_ok (ok_or (slice_get r.issued n.0) fault.Range) _ next n.2 in
     let fits = else_ok (not (goes_with (code_of i.0.operation.op) told.0)) fault.Line _ next i.2 in
     let new = else_ok (is_some i.0.reply) fault.Setting _ next fits.1 in
-    let s = bind_ok (reply_of told.0) _ next new.1 in
-    let same : noted (record r { issued = slice_set r.issued n.0 (record i.0 { reply = Some s.0 }) }) line (Answer n.0 s.0) ≡ next = one_ok _ next s.2 in
+    let s = bind_ok (reply_read told.0) _ next new.1 in
+    let same : with_event (record r { issued = slice_set r.issued n.0 (record i.0 { reply = Some s.0 }) }) line (Answer n.0 s.0) ≡ next = one_ok _ next s.2 in
     subst IsKept same
     (answer_kept r k line n.0 i.0 (or_ok (slice_get r.issued n.0) fault.Range i.0 i.1) (none_is i.0.reply new.0) s.0)

@@ -13,10 +13,10 @@ use Rattle.trace_order.proofs.Lists.{get_push_cases, get_append_left, get_push, 
 use Rattle.script.specs.Form.{below, checked_word}
 use Rattle.trace_text.specs.declared.issued.Issued.{Issued}
 use Rattle.trace_text.specs.declared.form.Form.{Form}
-use Rattle.trace_text.specs.Form.{a_number, form_of, form_operation}
+use Rattle.trace_text.specs.Form.{a_number, spelled_form, form_operation}
 use Rattle.trace_text.specs.IssueNumbers.{numbers_of, with_number}
 use Rattle.trace_text.specs.Kept.{IsKept, IsKnownAs, AreIndexed}
-use Rattle.trace_text.specs.Traced.{Reading, value_at, with_value, with_issue, placed, after_issue_line}
+use Rattle.trace_text.specs.Traced.{TraceReading, value_in, with_value, with_issue, placed, after_issue_line}
 use Rattle.trace_text.proofs.Entries.{value_new, value_old}
 use Rattle.trace_text.proofs.Growing.{longer, issued_with, answered_before, was_issued, issued_later, issue_grows}
 use Rattle.trace_text.proofs.Outcomes.{one_ok, bind_ok, else_ok, then_ok, if_ok, not_true, lt_true}
@@ -47,8 +47,8 @@ issue_indexed numbers issued count found p low one processor index n i h =
     (get_push_cases issued one n i h)
 
 -- a new issue
-issue_kept : (r : Reading) → IsKept r → (line p : ℕ) (o : Operation) → p < 4096 → o.address < r.words
-    → (q : ℕ) → value_at r.places o.address ≡ Some q → IsKept (with_issue r line p o)
+issue_kept : (r : TraceReading) → IsKept r → (line p : ℕ) (o : Operation) → p < 4096 → o.address < r.words
+    → (q : ℕ) → value_in r.places o.address ≡ Some q → IsKept (with_issue r line p o)
 issue_kept r k line p o small low q place =
     let new : Call = record { id = length r.issued; operation = o } in
     let one : Issued = record { processor = p; index = length (numbers_of r.numbers p); operation = o; reply = None } in
@@ -78,14 +78,14 @@ issue_kept r k line p o small low q place =
       indexed = issue_indexed r.numbers r.issued k.processors k.indexed p small one refl refl;
       placed = λ i c h. ⊎_elim
           (λ old. k.placed i c old)
-          (λ last. subst (λ (d : Call). (n : ℕ) × (value_at r.places d.operation.address ≡ Some n)) last.1 (q, place))
+          (λ last. subst (λ (d : Call). (n : ℕ) × (value_in r.places d.operation.address ≡ Some n)) last.1 (q, place))
           (issued_with r.events new i c h);
       addressed = k.addressed;
       below = k.below;
     }
 
 -- a new place
-new_place : (r : Reading) → IsKept r → (a : ℕ) → a < r.words
+new_place : (r : TraceReading) → IsKept r → (a : ℕ) → a < r.words
     → IsKept (record r { places = with_value r.places a (length r.addresses); addresses = r.addresses ++ a ∷ [] })
 new_place r k a low = record {
   words = k.words;
@@ -99,13 +99,13 @@ new_place r k a low = record {
   indexed = k.indexed;
   placed = λ i c h. let q = k.placed i c h in ⊎_elim
       (λ (e : c.operation.address ≡ a).
-      (length r.addresses, ap (value_at (with_value r.places a (length r.addresses))) e ∙ value_new r.places a (length r.addresses)))
+      (length r.addresses, ap (value_in (with_value r.places a (length r.addresses))) e ∙ value_new r.places a (length r.addresses)))
       (λ (ne : c.operation.address ≢ a). (q.0, value_old r.places a (length r.addresses) c.operation.address ne ∙ q.1))
       (cases_eq c.operation.address a);
   addressed = λ b p h. ⊎_elim {C = slice_get (r.addresses ++ a ∷ []) p ≡ Some b}
       (λ (e : b ≡ a).
-      let there : value_at (with_value r.places a (length r.addresses)) b ≡ Some (length r.addresses) =
-      ap (value_at (with_value r.places a (length r.addresses))) e ∙ value_new r.places a (length r.addresses) in
+      let there : value_in (with_value r.places a (length r.addresses)) b ≡ Some (length r.addresses) =
+      ap (value_in (with_value r.places a (length r.addresses))) e ∙ value_new r.places a (length r.addresses) in
       let last : p ≡ length r.addresses = cc in
       ap (λ (n : ℕ). slice_get (r.addresses ++ a ∷ []) n) last ∙ (get_push r.addresses a ∙ ap (λ (n : ℕ). Some n) (sym e)))
       (λ (ne : b ≢ a).
@@ -122,25 +122,25 @@ some_is (Some q) h = (q, refl)
 some_is None h = absurd (cc)
 
 -- what placing leaves: the same, and a place
-record IsPlaced (r next : Reading) (a : ℕ) : Type 0 where
+record IsPlaced (r next : TraceReading) (a : ℕ) : Type 0 where
   pub kept : IsKept next
   pub words : next.words ≡ r.words
   pub place : ℕ
-  pub there : value_at next.places a ≡ Some place
+  pub there : value_in next.places a ≡ Some place
 
-placed_kept : (r next : Reading) → IsKept r → (a : ℕ) → a < r.words → placed r a ≡ Ok next → IsPlaced r next a
+placed_kept : (r next : TraceReading) → IsKept r → (a : ℕ) → a < r.words → placed r a ≡ Ok next → IsPlaced r next a
 placed_kept r next k a low h = ⊎_elim
     (λ old.
     let same : r ≡ next = one_ok r next old.1 in
-    let q = some_is (value_at r.places a) old.0 in
-    subst (λ (n : Reading). IsPlaced r n a) same (record { kept = k; words = refl; place = q.0; there = q.1 }))
+    let q = some_is (value_in r.places a) old.0 in
+    subst (λ (n : TraceReading). IsPlaced r n a) same (record { kept = k; words = refl; place = q.0; there = q.1 }))
     (λ new.
     let room = else_ok (not (nat_lt (length r.addresses) (2 ^ 20))) fault.Length
     (Ok (record r { places = with_value r.places a (length r.addresses); addresses = r.addresses ++ a ∷ [] })) next new.1 in
     let same : record r { places = with_value r.places a (length r.addresses); addresses = r.addresses ++ a ∷ [] } ≡ next = one_ok _ next room.1 in
-    subst (λ (n : Reading). IsPlaced r n a) same
+    subst (λ (n : TraceReading). IsPlaced r n a) same
     (record { kept = new_place r k a low; words = refl; place = length r.addresses; there = value_new r.places a (length r.addresses) }))
-    (if_ok (is_some (value_at r.places a)) (Ok r)
+    (if_ok (is_some (value_in r.places a)) (Ok r)
     (if not (nat_lt (length r.addresses) (2 ^ 20)) then Err fault.Length
     else Ok (record r { places = with_value r.places a (length r.addresses); addresses = r.addresses ++ a ∷ [] })) next h)
 
@@ -154,11 +154,11 @@ inside_of words form o h =
     let below = then_ok (nat_lt form.address words) fault.Address (Ok tt) low.0 low.1 in
     subst (λ (p : Operation). p.address < words) same (lt_true form.address words below.0)
 
-pub issue_line_kept : (r next : Reading) → IsKept r → (line : ℕ) (values : List (List ℕ)) → after_issue_line r line values ≡ Ok next → IsKept next
+pub issue_line_kept : (r next : TraceReading) → IsKept r → (line : ℕ) (values : List (List ℕ)) → after_issue_line r line values ≡ Ok next → IsKept next
 issue_line_kept r next k line [] h = absurd (cc)
 issue_line_kept r next k line (processor ∷ rest) h =
     let p = bind_ok (a_number processor) _ next h in
-    let form = bind_ok (form_of rest) _ next p.2 in
+    let form = bind_ok (spelled_form rest) _ next p.2 in
     let given = else_ok (r.words == 0) fault.Setting _ next form.2 in
     let low = else_ok (not (nat_lt p.0 4096)) fault.Processor _ next given.1 in
     let o = bind_ok (form_operation r.words form.0) _ next low.1 in

@@ -9,12 +9,12 @@ use Rattle.std.proofs.lemmas.List.{length-replicate}
 use Rattle.torus.specs.declared.fault.Fault.TheVariants as fault
 use Rattle.trace_text.specs.Form.{a_number}
 use Rattle.trace_text.specs.Kept.{IsKept}
-use Rattle.trace_text.specs.Traced.{Reading, nothing_read, value_at, with_value, after_init_line, after_words_line, after_title}
+use Rattle.trace_text.specs.Traced.{TraceReading, no_trace_read, value_in, with_value, after_init_line, after_words_line, after_title}
 use Rattle.trace_text.proofs.Entries.{value_old}
 use Rattle.trace_text.proofs.Growing.{none_issued, none_answered, none_trace}
 use Rattle.trace_text.proofs.Outcomes.{one_ok, bind_ok, else_ok, then_ok, not_true, lt_true}
 
-pub kept_none : IsKept nothing_read
+pub kept_none : IsKept no_trace_read
 kept_none = record {
   words = omega arith;
   processors = length-replicate {A = List ℕ} 4096 [];
@@ -31,14 +31,14 @@ kept_none = record {
 }
 
 -- an opening word
-opened_more : (entries : List (ℕ × ℕ)) (words a v : ℕ) → a < words → ((b w : ℕ) → value_at entries b ≡ Some w → b < words)
-    → (b w : ℕ) → value_at (with_value entries a v) b ≡ Some w → b < words
+opened_more : (entries : List (ℕ × ℕ)) (words a v : ℕ) → a < words → ((b w : ℕ) → value_in entries b ≡ Some w → b < words)
+    → (b w : ℕ) → value_in (with_value entries a v) b ≡ Some w → b < words
 opened_more entries words a v low before b w h = ⊎_elim
     (λ (e : b ≡ a). subst (λ (n : ℕ). n < words) (sym e) low)
     (λ (ne : b ≢ a). before b w (sym (value_old entries a v b ne) ∙ h))
     (cases_eq b a)
 
-pub init_line_kept : (r next : Reading) → IsKept r → (values : List (List ℕ)) → after_init_line r values ≡ Ok next → IsKept next
+pub init_line_kept : (r next : TraceReading) → IsKept r → (values : List (List ℕ)) → after_init_line r values ≡ Ok next → IsKept next
 init_line_kept r next k [] h = absurd (cc)
 init_line_kept r next k (a ∷ []) h = absurd (cc)
 init_line_kept r next k (a ∷ b ∷ c ∷ more) h = absurd (cc)
@@ -48,7 +48,7 @@ init_line_kept r next k (address ∷ value ∷ []) h =
     let given = else_ok (not (not (r.words == 0) && (length r.issued == 0))) fault.Setting _ next v.2 in
     let low = else_ok (not (nat_lt a.0 r.words)) fault.Address _ next given.1 in
     let word = else_ok (not (nat_lt v.0 (2 ^ 64))) fault.Range _ next low.1 in
-    let new = else_ok (is_some (value_at r.inits a.0)) fault.Setting _ next word.1 in
+    let new = else_ok (is_some (value_in r.inits a.0)) fault.Setting _ next word.1 in
     let same : record r { inits = with_value r.inits a.0 v.0 } ≡ next = one_ok _ next new.1 in
     subst IsKept same (record {
       words = k.words;
@@ -75,7 +75,7 @@ both : (a b : Bool) → (a && b) ≡ true → b ≡ true
 both true b h = h
 both false b h = absurd (cc)
 
-pub words_line_kept : (r next : Reading) → IsKept r → (values : List (List ℕ)) → after_words_line r values ≡ Ok next → IsKept next
+pub words_line_kept : (r next : TraceReading) → IsKept r → (values : List (List ℕ)) → after_words_line r values ≡ Ok next → IsKept next
 words_line_kept r next k [] h = absurd (cc)
 words_line_kept r next k (a ∷ b ∷ more) h = absurd (cc)
 words_line_kept r next k (count ∷ []) h =
@@ -104,7 +104,7 @@ words_line_kept r next k (count ∷ []) h =
       below = λ p a at. absurd (let l = k.below p a at in omega arith);
     })
 
-pub title_kept : (r next : Reading) → IsKept r → (keyword : List ℕ) (values : List (List ℕ)) → after_title r keyword values ≡ Ok next → IsKept next
+pub title_kept : (r next : TraceReading) → IsKept r → (keyword : List ℕ) (values : List (List ℕ)) → after_title r keyword values ≡ Ok next → IsKept next
 title_kept r next k keyword [] h = absurd (cc)
 title_kept r next k keyword (a ∷ b ∷ more) h = absurd (cc)
 title_kept r next k keyword (version ∷ []) h =

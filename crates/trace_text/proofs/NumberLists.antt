@@ -2,23 +2,23 @@
 use Rattle.std.proofs.Common.{◌≡◌, ℕ, ◌+◌, ◌<◌, List, [], ◌∷◌, ◌++◌, length, get_or, sym, ◌∙◌, ap, replicate}
 use Rattle.std.specs.Prelude.{slice_set, Vec}
 use Rattle.std.proofs.lemmas.List.{map-set, get_or-map, map_push, replicate_more}
-use Rattle.trace_text.specs.InsideNumbers.{lists_of}
+use Rattle.trace_text.specs.InsideNumbers.{number_lists}
 
 -- one number more in one list
 pub pushed : {A : Type 0} (items : List (Vec ℕ A)) (p : ℕ) (old new : Vec ℕ A) (number : ℕ) → p < length items → old ≡ get_or items p old →
-    new.items ≡ old.items ++ number ∷ [] → lists_of (slice_set items p new) ≡ slice_set (lists_of items) p (get_or (lists_of items) p [] ++ number ∷ [])
+    new.items ≡ old.items ++ number ∷ [] → number_lists (slice_set items p new) ≡ slice_set (number_lists items) p (get_or (number_lists items) p [] ++ number ∷ [])
 pushed items p old new number low is grown =
     map-set (λ v. v.items) items p new
-    ∙ ap (slice_set (lists_of items) p) (grown ∙ ap (λ ls. ls ++ number ∷ []) (sym (get_or-map (λ v. v.items) items p old [] low ∙ ap (λ v. v.items) (sym is))))
+    ∙ ap (slice_set (number_lists items) p) (grown ∙ ap (λ ls. ls ++ number ∷ []) (sym (get_or-map (λ v. v.items) items p old [] low ∙ ap (λ v. v.items) (sym is))))
 
 -- one more empty list
 pub one_more_empty : {A : Type 0} (items new : List (Vec ℕ A)) (n : ℕ) (v : Vec ℕ A) → new ≡ items ++ v ∷ [] → v.items ≡ [] →
-    lists_of items ≡ replicate n [] → lists_of new ≡ replicate (n + 1) []
+    number_lists items ≡ replicate n [] → number_lists new ≡ replicate (n + 1) []
 one_more_empty items new n v grown empty so_far =
-    ap lists_of grown ∙ map_push (λ v. v.items) items v ∙ ap (λ ls. ls ++ v.items ∷ []) so_far
+    ap number_lists grown ∙ map_push (λ v. v.items) items v ∙ ap (λ ls. ls ++ v.items ∷ []) so_far
     ∙ ap (λ l. replicate n [] ++ l ∷ []) empty ∙ replicate_more n []
 
 -- the list at a place
 pub numbers_there : {A : Type 0} (items : List (Vec ℕ A)) (p : ℕ) (v : Vec ℕ A) → p < length items → v ≡ get_or items p v →
-    get_or (lists_of items) p [] ≡ v.items
+    get_or (number_lists items) p [] ≡ v.items
 numbers_there items p v low is = get_or-map (λ v. v.items) items p v [] low ∙ ap (λ v. v.items) (sym is)

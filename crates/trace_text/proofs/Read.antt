@@ -8,7 +8,7 @@ use Rattle.script.specs.declared.fault.LineFault.{LineFault}
 use Rattle.script.specs.Outcome.{then_lines}
 use Rattle.trace_text.specs.Findings.{trace_read}
 use Rattle.trace_text.specs.Kept.{IsKept}
-use Rattle.trace_text.specs.Traced.{Reading, TraceSpec, nothing_read, after_words, trace_with, trace_from, trace_of}
+use Rattle.trace_text.specs.Traced.{TraceReading, TraceSpec, no_trace_read, after_line_words, trace_with, trace_from, trace_of}
 use Rattle.trace_text.proofs.Kept.{words_kept}
 use Rattle.trace_text.proofs.KeptSettings.{kept_none}
 use Rattle.trace_text.proofs.Outcomes.{one_ok, else_ok}
@@ -20,12 +20,12 @@ fine number (Err e) f y h = absurd (cc)
 
 -- a trace is what its lines gave, and they keep it
 pub record IsRead (t : TraceSpec) : Type 0 where
-  pub reading : Reading
+  pub reading : TraceReading
   pub kept : IsKept reading
   pub some : (reading.words == 0) ≡ false
   pub is : trace_read reading ≡ t
 
-lines_read : (r : Reading) → IsKept r → (number : ℕ) (lines : List (List ℕ)) (t : TraceSpec) → trace_from r number lines ≡ Ok t → IsRead t
+lines_read : (r : TraceReading) → IsKept r → (number : ℕ) (lines : List (List ℕ)) (t : TraceSpec) → trace_from r number lines ≡ Ok t → IsRead t
 lines_read r k number [] t h =
     let w = fine number (trace_with r) Ok t h in
     let begun = else_ok (not r.begun) fault.Line _ w.0 w.1 in
@@ -33,8 +33,8 @@ lines_read r k number [] t h =
     let same : w.0 ≡ t = let e : Ok w.0 ≡ Ok t = w.2 in cc in
     record { reading = r; kept = k; some = given.0; is = one_ok (trace_read r) w.0 given.1 ∙ same }
 lines_read r k number (line ∷ lines) t h =
-    let w = fine number (after_words r number (words_of line)) _ t h in
+    let w = fine number (after_line_words r number (words_of line)) _ t h in
     lines_read w.0 (words_kept r w.0 k number (words_of line) w.1) (number + 1) lines t w.2
 
 pub text_read : (lines : List (List ℕ)) (t : TraceSpec) → trace_of lines ≡ Ok t → IsRead t
-text_read lines t h = lines_read nothing_read kept_none 1 lines t h
+text_read lines t h = lines_read no_trace_read kept_none 1 lines t h

@@ -4,9 +4,9 @@ use Rattle.std.specs.Prelude.{Result, Ok}
 use Rattle.lexer.specs.Words.{words_of}
 use Rattle.script.specs.declared.fault.LineFault.{LineFault}
 use Rattle.script.specs.Outcome.{then_lines}
-use Rattle.trace_text.specs.Traced.{Reading, TraceSpec, after_words, trace_from}
+use Rattle.trace_text.specs.Traced.{TraceReading, TraceSpec, after_line_words, trace_from}
 
-seven : (r : Reading) (line : ℕ) (ws : List (List ℕ)) → after_words r line (take 7 ws) ≡ after_words r line ws
+seven : (r : TraceReading) (line : ℕ) (ws : List (List ℕ)) → after_line_words r line (take 7 ws) ≡ after_line_words r line ws
 seven r line [] = refl
 seven r line (a ∷ []) = refl
 seven r line (a ∷ b ∷ []) = refl
@@ -17,11 +17,11 @@ seven r line (a ∷ b ∷ c ∷ d ∷ e ∷ f ∷ []) = refl
 seven r line (a ∷ b ∷ c ∷ d ∷ e ∷ f ∷ g ∷ more) = refl
 
 -- one more line of a trace text
-pub trace_step : (n : ℕ) (r new : Reading) (line : List ℕ) (rest after ws : List (List ℕ)) (all : Result TraceSpec LineFault) →
-    rest ≡ line ∷ after → ws ≡ take 7 (words_of line) → after_words r n ws ≡ Ok new → trace_from r n rest ≡ all →
+pub trace_step : (n : ℕ) (r new : TraceReading) (line : List ℕ) (rest after ws : List (List ℕ)) (all : Result TraceSpec LineFault) →
+    rest ≡ line ∷ after → ws ≡ take 7 (words_of line) → after_line_words r n ws ≡ Ok new → trace_from r n rest ≡ all →
     trace_from new (n + 1) after ≡ all
 trace_step n r new line rest after ws all is first made so_far =
-    let here : after_words r n (words_of line) ≡ Ok new = sym (seven r n (words_of line)) ∙ ap (after_words r n) (sym first) ∙ made in
+    let here : after_line_words r n (words_of line) ≡ Ok new = sym (seven r n (words_of line)) ∙ ap (after_line_words r n) (sym first) ∙ made in
     sym (ap (λ m. then_lines n m (λ next. trace_from next (n + 1) after)) here)
     ∙ sym (ap (trace_from r n) is)
     ∙ so_far

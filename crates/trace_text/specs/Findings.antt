@@ -8,23 +8,24 @@ use Rattle.trace_judge.specs.Stops.{IsCrowded, IsAnAnswer}
 use Rattle.trace_text.specs.declared.linearize.Finding.{Finding}
 use Rattle.trace_text.specs.declared.linearize.Finding.TheVariants.{Linearizable, No}
 use Rattle.trace_text.specs.declared.linearize.Unfound.{Unfound}
-use Rattle.trace_text.specs.declared.linearize.Unfound.TheVariants.{Memory, Configurations, Operations}
-use Rattle.trace_text.specs.Traced.{Reading, TraceSpec, opening_of, value_at}
+use Rattle.trace_text.specs.declared.linearize.Unfound.TheVariants.{Memory, Configurations}
+use Rattle.trace_text.specs.declared.linearize.Unfound.TheVariants.{Operations}
+use Rattle.trace_text.specs.Traced.{TraceReading, TraceSpec, opening_of, value_in}
 
 -- the place of an address; 0 where it has none
 abbrev pub place_of_address : List (ℕ × ℕ) → ℕ → ℕ
-place_of_address places a = unwrap_or (value_at places a) 0
+place_of_address places a = unwrap_or (value_in places a) 0
 
 -- the address at a place; 0 where there is none
-abbrev pub address_of : List ℕ → ℕ → ℕ
-address_of addresses p = slice_index_or addresses p 0
+abbrev pub placed_address : List ℕ → ℕ → ℕ
+placed_address addresses p = slice_index_or addresses p 0
 
 -- the opening words at some addresses
-abbrev pub words_of : List (ℕ × ℕ) → List ℕ → List ℕ
-words_of inits addresses = map (λ a. unwrap_or (value_at inits a) 0) addresses
+abbrev pub opening_words_at : List (ℕ × ℕ) → List ℕ → List ℕ
+opening_words_at inits addresses = map (λ a. unwrap_or (value_in inits a) 0) addresses
 
 -- the trace that was read
-abbrev pub trace_read : Reading → TraceSpec
+abbrev pub trace_read : TraceReading → TraceSpec
 trace_read r = record {
   words = r.words;
   inits = r.inits;
@@ -41,9 +42,9 @@ unfound_at lines (undecided.Operations event) = Operations (slice_index_or lines
 
 -- an order that explains the trace as it is written; or the line of the first event up to which
 -- none does
-abbrev pub Tells : {A : Type 0} → TraceSpec → Finding A → Type 0
-Tells t (Linearizable order) = IsOrder (opening_of t) t.events order.items
-Tells t (No line) = (event : ℕ) × (slice_get t.lines event ≡ Some line)
+abbrev pub TellsFinding : {A : Type 0} → TraceSpec → Finding A → Type 0
+TellsFinding t (Linearizable order) = IsOrder (opening_of t) t.events order.items
+TellsFinding t (No line) = (event : ℕ) × (slice_get t.lines event ≡ Some line)
     × IsLinearizable (opening_of t) (take event t.events)
     × (IsLinearizable (opening_of t) (take (event + 1) t.events) → ⊥)
 

@@ -1,11 +1,13 @@
 -- What stands after the processor of an issue and after the index of an answer (this project's own
 -- format).
-use Rattle.std.specs.Prelude.{ℕ, List, [], ◌∷◌, Option, Some, None, ok_or, Result, Ok, Err, if◌then◌else◌, codes}
+use Rattle.std.specs.Prelude.{ℕ, List, [], ◌∷◌, Option, Some, None, ok_or, Result, Ok, Err}
+use Rattle.std.specs.Prelude.{if◌then◌else◌, codes}
 use Rattle.std.specs.Str.{bytes_eq}
 use Rattle.torus.specs.declared.fault.Fault.{Fault}
 use Rattle.torus.specs.declared.fault.Fault.TheVariants as fault
 use Rattle.packet.specs.declared.kinds.Code.{Code}
-use Rattle.packet.specs.declared.kinds.Code.TheVariants.{Load, Store, Swap, Cas, Add, And, Or, Xor, Max, Min}
+use Rattle.packet.specs.declared.kinds.Code.TheVariants.{Load, Store, Swap, Cas, Add, And, Or, Xor}
+use Rattle.packet.specs.declared.kinds.Code.TheVariants.{Max, Min}
 use Rattle.packet.specs.declared.kinds.Operation.{Operation}
 use Rattle.packet.specs.declared.kinds.Reply.{Reply}
 use Rattle.packet.specs.declared.kinds.Reply.TheVariants.{Old, Ok as Stored}
@@ -33,19 +35,19 @@ changed_by keyword =
     else None)))))))
 
 -- the forms of a keyword and of one to three numbers after it
-abbrev pub two_words : List ℕ → List ℕ → Result Form Fault
-two_words keyword a =
+abbrev pub one_operand : List ℕ → List ℕ → Result Form Fault
+one_operand keyword a =
     if bytes_eq keyword (codes "load")
     then (a_number a >>= λ a. Ok (record { code = Load; address = a; first = 0; second = 0 }))
     else Err fault.Line
 
-abbrev pub three_words : List ℕ → List ℕ → List ℕ → Result Form Fault
-three_words keyword a v =
+abbrev pub two_operands : List ℕ → List ℕ → List ℕ → Result Form Fault
+two_operands keyword a v =
     ok_or (changed_by keyword) fault.Line >>= λ code. a_number a >>= λ a. a_number v >>= λ v.
     Ok (record { code = code; address = a; first = v; second = 0 })
 
-abbrev pub four_words : List ℕ → List ℕ → List ℕ → List ℕ → Result Form Fault
-four_words keyword a x y =
+abbrev pub three_operands : List ℕ → List ℕ → List ℕ → List ℕ → Result Form Fault
+three_operands keyword a x y =
     if bytes_eq keyword (codes "cas")
     then (a_number a >>= λ a. a_number x >>= λ x. a_number y >>= λ y.
     Ok (record { code = Cas; address = a; first = x; second = y }))
@@ -53,13 +55,13 @@ four_words keyword a x y =
 
 -- the form of an operation: a known keyword, the right count of words, and numbers where they
 -- belong
-abbrev pub form_of : List (List ℕ) → Result Form Fault
-form_of [] = Err fault.Line
-form_of (keyword ∷ []) = Err fault.Line
-form_of (keyword ∷ a ∷ []) = two_words keyword a
-form_of (keyword ∷ a ∷ v ∷ []) = three_words keyword a v
-form_of (keyword ∷ a ∷ x ∷ y ∷ []) = four_words keyword a x y
-form_of (keyword ∷ a ∷ x ∷ y ∷ z ∷ more) = Err fault.Line
+abbrev pub spelled_form : List (List ℕ) → Result Form Fault
+spelled_form [] = Err fault.Line
+spelled_form (keyword ∷ []) = Err fault.Line
+spelled_form (keyword ∷ a ∷ []) = one_operand keyword a
+spelled_form (keyword ∷ a ∷ v ∷ []) = two_operands keyword a v
+spelled_form (keyword ∷ a ∷ x ∷ y ∷ []) = three_operands keyword a x y
+spelled_form (keyword ∷ a ∷ x ∷ y ∷ z ∷ more) = Err fault.Line
 
 -- the operation of a form: the address is below the number of words, and each value is a word, from
 -- left to right
@@ -73,6 +75,6 @@ abbrev pub told_of : List ℕ → Result (Option ℕ) Fault
 told_of word = if bytes_eq word (codes "ok") then Ok None else (a_number word >>= λ n. Ok (Some n))
 
 -- the reply that an answer tells: its number is a word
-abbrev pub reply_of : Option ℕ → Result Reply Fault
-reply_of None = Ok Stored
-reply_of (Some n) = checked_word n >>= λ w. Ok (Old w)
+abbrev pub reply_read : Option ℕ → Result Reply Fault
+reply_read None = Ok Stored
+reply_read (Some n) = checked_word n >>= λ w. Ok (Old w)

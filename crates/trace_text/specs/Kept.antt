@@ -5,7 +5,7 @@ use Rattle.trace_order.specs.declared.event.Call.{Call}
 use Rattle.trace_order.specs.Traces.{IsTrace, IsIssuedAt, IsAnsweredAt, WasIssued}
 use Rattle.trace_text.specs.declared.issued.Issued.{Issued}
 use Rattle.trace_text.specs.IssueNumbers.{numbers_of}
-use Rattle.trace_text.specs.Traced.{Reading, value_at}
+use Rattle.trace_text.specs.Traced.{TraceReading, value_in}
 
 -- the operation of this number is known as it was issued
 abbrev pub IsKnownAs : List Issued → Call → Type 0
@@ -23,10 +23,10 @@ AreIndexed numbers issued = (n : ℕ) (k : Issued) → slice_get issued n ≡ So
 
 -- opening words are words of the memory, events make a trace, each has its line, what is issued is
 -- known with its reply, and has an index and a place of its own
-pub record IsKept (r : Reading) : Type 0 where
+pub record IsKept (r : TraceReading) : Type 0 where
   pub words : r.words ≤ 2 ^ 32
   pub processors : length r.numbers ≡ 4096
-  pub opened : (a w : ℕ) → value_at r.inits a ≡ Some w → a < r.words
+  pub opened : (a w : ℕ) → value_in r.inits a ≡ Some w → a < r.words
   pub trace : IsTrace r.words r.events
   pub lines : length r.lines ≡ length r.events
   pub known : (i : ℕ) (call : Call) → IsIssuedAt r.events i call → IsKnownAs r.issued call
@@ -35,6 +35,6 @@ pub record IsKept (r : Reading) : Type 0 where
       → IsRepliedTo r.issued id reply
   pub indexed : AreIndexed r.numbers r.issued
   pub placed : (i : ℕ) (call : Call) → IsIssuedAt r.events i call
-      → (p : ℕ) × (value_at r.places call.operation.address ≡ Some p)
-  pub addressed : (a p : ℕ) → value_at r.places a ≡ Some p → slice_get r.addresses p ≡ Some a
+      → (p : ℕ) × (value_in r.places call.operation.address ≡ Some p)
+  pub addressed : (a p : ℕ) → value_in r.places a ≡ Some p → slice_get r.addresses p ≡ Some a
   pub below : (p a : ℕ) → slice_get r.addresses p ≡ Some a → a < r.words

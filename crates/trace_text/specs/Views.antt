@@ -1,9 +1,9 @@
 -- What the program's own types stand for.
 use Rattle.trace_text.specs.declared.reading.Reading as reading
-use Rattle.trace_text.specs.Traced.{Reading}
+use Rattle.trace_text.specs.Traced.{TraceReading}
 
-abbrev pub reading_of : {A : Type 0} → reading.Reading A → Reading
-reading_of r = record {
+abbrev pub trace_so_far : {A : Type 0} → reading.Reading A → TraceReading
+trace_so_far r = record {
   begun = r.begun;
   words = r.words;
   inits = r.inits.entries;

@@ -1,12 +1,14 @@
 //! Issues and answers as a trace text gives them.
 
-ghost use Rattle.std.specs.Prelude.{◌≡◌, ◌≤◌, ◌<◌, ◌^◌, ◌++◌, ◌∷◌, [], Some, map, length, OnOk, IfErr, slice_get, slice_set};
+ghost use Rattle.std.specs.Prelude.{◌≡◌, ◌≤◌, ◌<◌, ◌^◌, ◌++◌, ◌∷◌, [], Some, map, length, OnOk};
+ghost use Rattle.std.specs.Prelude.{IfErr, slice_get, slice_set};
 ghost use Rattle.script.specs.Outcome.{Makes};
-ghost use Rattle.trace_text.specs.Traced.{after_issue_line, after_issue, add_issue, after_answer_line, after_answer};
-ghost use Rattle.trace_text.specs.Traced.{add_answer, goes_with, placed, noted, with_value};
-ghost use Rattle.trace_text.specs.Views.{reading_of};
+ghost use Rattle.trace_text.specs.Traced.{after_issue_line, issue_read, add_issue};
+ghost use Rattle.trace_text.specs.Traced.{after_answer_line, answer_read};
+ghost use Rattle.trace_text.specs.Traced.{add_answer, goes_with, placed, with_event, with_value};
+ghost use Rattle.trace_text.specs.Views.{trace_so_far};
 
-use crate::form::{Form, form_of, reply_of, told_of};
+use crate::form::{Form, reply_read, spelled_form, told_of};
 use crate::issued::Issued;
 use crate::number::a_number;
 use crate::reading::Reading;
@@ -73,14 +75,15 @@ impl<A: Allocator + Copy> Reading<A> {
     /// Takes the processor and the operation of an issue.
     pub(crate) fn take_issue(&mut self, line: u64, values: &[&[u8]]) -> Result<(), Fault>
         requires { self.old.words ≤ 2 ^ 32 }
-        ensures { Makes (reading_of self.new) result (after_issue_line (reading_of self.old) line
+        ensures { Makes (trace_so_far self.new) result
+            (after_issue_line (trace_so_far self.old) line
             (map (λ value. value.now) values.now)) }
     {
         match values {
             [] => Err(Fault::Line),
             [processor, rest @ ..] => {
                 let p = a_number(processor)?;
-                let form = form_of(rest)?;
+                let form = spelled_form(rest)?;
                 self.issue(line, p, form)
             }
         }
@@ -89,8 +92,8 @@ impl<A: Allocator + Copy> Reading<A> {
     /// An operation is issued.
     fn issue(&mut self, line: u64, p: u128, form: Form) -> Result<(), Fault>
         requires { self.old.words ≤ 2 ^ 32 }
-        ensures { Makes (reading_of self.new) result
-            (after_issue (reading_of self.old) line p form) }
+        ensures { Makes (trace_so_far self.new) result
+            (issue_read (trace_so_far self.old) line p form) }
     {
         if self.words == 0 {
             return Err(Fault::Setting);
@@ -105,8 +108,8 @@ impl<A: Allocator + Copy> Reading<A> {
     /// Adds an operation.
     fn add_issue(&mut self, line: u64, p: u32, operation: Operation) -> Result<(), Fault>
         requires { p < 4096 }
-        ensures { Makes (reading_of self.new) result
-            (add_issue (reading_of self.old) line p operation) }
+        ensures { Makes (trace_so_far self.new) result
+            (add_issue (trace_so_far self.old) line p operation) }
     {
         let number = self.issued.len();
         if number >= 1 << 22 {
@@ -130,7 +133,7 @@ impl<A: Allocator + Copy> Reading<A> {
 
     /// Gives an address a place, where it has none.
     fn place(&mut self, address: u32) -> Result<(), Fault>
-        ensures { Makes (reading_of self.new) result (placed (reading_of self.old) address) }
+        ensures { Makes (trace_so_far self.new) result (placed (trace_so_far self.old) address) }
     {
         if self.places.contains_key(&address) {
             return Ok(());
@@ -144,7 +147,8 @@ impl<A: Allocator + Copy> Reading<A> {
 
     /// Adds an event.
     fn note(&mut self, line: u64, event: Event) -> Result<(), Fault>
-        ensures value { OnOk result (reading_of self.new ≡ noted (reading_of self.old) line event) }
+        ensures value { OnOk result
+            (trace_so_far self.new ≡ with_event (trace_so_far self.old) line event) }
         ensures memory { IfErr result (λ e. e ≡ Fault.Memory) }
     {
         if self.events.push(event).is_err() {
@@ -158,7 +162,8 @@ impl<A: Allocator + Copy> Reading<A> {
 
     /// Takes the processor, the index and the reply of an answer.
     pub(crate) fn take_answer(&mut self, line: u64, values: &[&[u8]]) -> Result<(), Fault>
-        ensures { Makes (reading_of self.new) result (after_answer_line (reading_of self.old) line
+        ensures { Makes (trace_so_far self.new) result
+            (after_answer_line (trace_so_far self.old) line
             (map (λ value. value.now) values.now)) }
     {
         match values {
@@ -174,8 +179,8 @@ impl<A: Allocator + Copy> Reading<A> {
 
     /// An operation is answered.
     fn answer(&mut self, line: u64, p: u128, index: u128, told: Option<u128>) -> Result<(), Fault>
-        ensures { Makes (reading_of self.new) result
-            (after_answer (reading_of self.old) line p index told) }
+        ensures { Makes (trace_so_far self.new) result
+            (answer_read (trace_so_far self.old) line p index told) }
     {
         if self.words == 0 {
             return Err(Fault::Setting);
@@ -201,8 +206,8 @@ impl<A: Allocator + Copy> Reading<A> {
         told: Option<u128>,
     ) -> Result<(), Fault>
         requires { slice_get self.old.issued.items number ≡ Some issued }
-        ensures { Makes (reading_of self.new) result
-            (add_answer (reading_of self.old) line number issued told) }
+        ensures { Makes (trace_so_far self.new) result
+            (add_answer (trace_so_far self.old) line number issued told) }
     {
         if !goes_with(issued.operation.op.code(), told) {
             return Err(Fault::Line);
@@ -210,7 +215,7 @@ impl<A: Allocator + Copy> Reading<A> {
         if issued.reply.is_some() {
             return Err(Fault::Setting);
         }
-        let reply = reply_of(told)?;
+        let reply = reply_read(told)?;
         set_reply(&mut self.issued, number, issued, reply);
         self.note(line, Event::Answer(number, reply))
     }

@@ -3,8 +3,9 @@
 ghost use Rattle.std.specs.Prelude.{◌≡◌, ◌≤◌, ◌^◌, map};
 ghost use Rattle.packet.specs.Reading.{op_with};
 ghost use Rattle.script.specs.Form.{checked_word};
-ghost use Rattle.trace_text.specs.Form.{changed_by, form_of, two_words, three_words, four_words, told_of};
-ghost use Rattle.trace_text.specs.Form.{form_operation, reply_of};
+ghost use Rattle.trace_text.specs.Form.{changed_by, spelled_form, one_operand, two_operands};
+ghost use Rattle.trace_text.specs.Form.{three_operands, told_of};
+ghost use Rattle.trace_text.specs.Form.{form_operation, reply_read};
 
 use crate::number::a_number;
 use packet::{Code, Op, Operation, Reply};
@@ -51,8 +52,8 @@ fn changed_by(keyword: &[u8]) -> Option<Code>
 }
 
 /// What a keyword and an address stand for.
-fn two_words(keyword: &[u8], a: &[u8]) -> Result<Form, Fault>
-    ensures { result ≡ two_words keyword.now a.now }
+fn one_operand(keyword: &[u8], a: &[u8]) -> Result<Form, Fault>
+    ensures { result ≡ one_operand keyword.now a.now }
 {
     if keyword != b"load".as_slice() {
         return Err(Fault::Line);
@@ -66,8 +67,8 @@ fn two_words(keyword: &[u8], a: &[u8]) -> Result<Form, Fault>
 }
 
 /// What a keyword, an address and a value stand for.
-fn three_words(keyword: &[u8], a: &[u8], v: &[u8]) -> Result<Form, Fault>
-    ensures { result ≡ three_words keyword.now a.now v.now }
+fn two_operands(keyword: &[u8], a: &[u8], v: &[u8]) -> Result<Form, Fault>
+    ensures { result ≡ two_operands keyword.now a.now v.now }
 {
     let Some(code) = changed_by(keyword) else {
         return Err(Fault::Line);
@@ -83,8 +84,8 @@ fn three_words(keyword: &[u8], a: &[u8], v: &[u8]) -> Result<Form, Fault>
 }
 
 /// What a keyword, an address and two values stand for.
-fn four_words(keyword: &[u8], a: &[u8], x: &[u8], y: &[u8]) -> Result<Form, Fault>
-    ensures { result ≡ four_words keyword.now a.now x.now y.now }
+fn three_operands(keyword: &[u8], a: &[u8], x: &[u8], y: &[u8]) -> Result<Form, Fault>
+    ensures { result ≡ three_operands keyword.now a.now x.now y.now }
 {
     if keyword != b"cas".as_slice() {
         return Err(Fault::Line);
@@ -101,13 +102,13 @@ fn four_words(keyword: &[u8], a: &[u8], x: &[u8], y: &[u8]) -> Result<Form, Faul
 }
 
 /// What stands after the processor of an issue.
-pub(crate) fn form_of(words: &[&[u8]]) -> Result<Form, Fault>
-    ensures { result ≡ form_of (map (λ word. word.now) words.now) }
+pub(crate) fn spelled_form(words: &[&[u8]]) -> Result<Form, Fault>
+    ensures { result ≡ spelled_form (map (λ word. word.now) words.now) }
 {
     match words {
-        [keyword, a] => two_words(keyword, a),
-        [keyword, a, v] => three_words(keyword, a, v),
-        [keyword, a, x, y] => four_words(keyword, a, x, y),
+        [keyword, a] => one_operand(keyword, a),
+        [keyword, a, v] => two_operands(keyword, a, v),
+        [keyword, a, x, y] => three_operands(keyword, a, x, y),
         [] => Err(Fault::Line),
         [_] => Err(Fault::Line),
         [_, _, _, _, _, ..] => Err(Fault::Line),
@@ -173,8 +174,8 @@ pub(crate) fn told_of(word: &[u8]) -> Result<Option<u128>, Fault>
 }
 
 /// The reply that an answer tells.
-pub(crate) fn reply_of(told: Option<u128>) -> Result<Reply, Fault>
-    ensures { result ≡ reply_of told }
+pub(crate) fn reply_read(told: Option<u128>) -> Result<Reply, Fault>
+    ensures { result ≡ reply_read told }
 {
     match told {
         None => Ok(Reply::Ok),

@@ -1,7 +1,7 @@
 //! Of each processor the numbers of its operations.
 
 ghost use Rattle.std.specs.Prelude.{◌≡◌, ◌<◌, length, vec_len, IfOk, IfErr, OnOk, slice_get};
-ghost use Rattle.trace_text.specs.InsideNumbers.{lists_of};
+ghost use Rattle.trace_text.specs.InsideNumbers.{number_lists};
 ghost use Rattle.trace_text.specs.IssueNumbers.{no_numbers, numbers_of, with_number};
 
 use std::alloc::{AllocError, Allocator, Global};
@@ -19,11 +19,11 @@ impl<A: Allocator> Model for IssueNumbers<A> {
 
     ghost Value = { List (List ℕ) };
 
-    ghost use Rattle.trace_text.specs.InsideNumbers.{numbers_of_fields, AreIssueNumbers};
+    ghost use Rattle.trace_text.specs.InsideNumbers.{numbers_of_fields, AreNumberLists};
 
     ghost view = { numbers_of_fields };
 
-    ghost invariant = { AreIssueNumbers };
+    ghost invariant = { AreNumberLists };
 }
 
 impl<A: Allocator + Copy> IssueNumbers<A> {
@@ -76,7 +76,7 @@ fn push_number<A: Allocator>(
 ) -> Result<(), Fault>
     requires { p < vec_len lists.old }
     ensures value { OnOk result
-        (lists_of lists.new.items ≡ with_number (lists_of lists.old.items) p number) }
+        (number_lists lists.new.items ≡ with_number (number_lists lists.old.items) p number) }
     ensures sized { length lists.new.items ≡ length lists.old.items }
     ensures memory { IfErr result (λ e. e ≡ Fault.Memory) }
 {

@@ -5,11 +5,12 @@ ghost use Rattle.std.specs.List.{slice_index_or};
 ghost use Rattle.packet.specs.declared.kinds.Reply.{Reply};
 ghost use Rattle.trace_order.specs.Traces.{IsAnsweredAt};
 ghost use Rattle.trace_text.specs.Allowed.{IsAllowed, trace_answered_so};
-ghost use Rattle.trace_text.specs.Findings.{Tells, IsUnfound, trace_read, place_of_address, address_of, words_of, unfound_at};
+ghost use Rattle.trace_text.specs.Findings.{TellsFinding, IsUnfound, trace_read, place_of_address};
+ghost use Rattle.trace_text.specs.Findings.{placed_address, opening_words_at, unfound_at};
 ghost use Rattle.trace_text.specs.Kept.{IsKept};
 ghost use Rattle.trace_text.specs.Renumbered.{moved_call, moved_event};
-ghost use Rattle.trace_text.specs.Traced.{value_at, opening_of};
-ghost use Rattle.trace_text.specs.Views.{reading_of};
+ghost use Rattle.trace_text.specs.Traced.{value_in, opening_of};
+ghost use Rattle.trace_text.specs.Views.{trace_so_far};
 
 use crate::reading::Reading;
 use packet::{Operation, Reply};
@@ -48,14 +49,14 @@ fn place_of<A: Allocator>(places: &BTreeMap<u32, u32, A>, address: u32) -> u32
 
 /// The opening word at an address, 0 where no line gave it.
 pub(crate) fn word_at<A: Allocator>(inits: &BTreeMap<u32, u64, A>, address: u32) -> u64
-    ensures { result ≡ unwrap_or (value_at inits.now.entries address) 0 }
+    ensures { result ≡ unwrap_or (value_in inits.now.entries address) 0 }
 {
     inits.get(&address).copied().unwrap_or(0)
 }
 
 /// The address at a place, 0 where there is none.
 fn address_at(addresses: &[u32], place: u32) -> u32
-    ensures { result ≡ address_of addresses.now place }
+    ensures { result ≡ placed_address addresses.now place }
 {
     addresses.get(place as usize).copied().unwrap_or(0)
 }
@@ -93,12 +94,12 @@ fn moved_events<A: Allocator + Copy>(
 }
 
 /// The opening words at some addresses.
-fn words_of<A: Allocator + Copy>(
+fn opening_words_at<A: Allocator + Copy>(
     alloc: A,
     inits: &BTreeMap<u32, u64, A>,
     addresses: &[u32],
 ) -> Result<Vec<u64, A>, AllocError>
-    ensures { IfOk result (λ v. v.items ≡ words_of inits.now.entries addresses.now) }
+    ensures { IfOk result (λ v. v.items ≡ opening_words_at inits.now.entries addresses.now) }
 {
     let mut words = Vec::new(alloc);
     for i in 0..addresses.len() {
@@ -109,7 +110,7 @@ fn words_of<A: Allocator + Copy>(
 
 /// A call with the address of its place.
 fn named(addresses: &[u32], call: Call) -> Call
-    ensures { result ≡ moved_call (address_of addresses.now) call }
+    ensures { result ≡ moved_call (placed_address addresses.now) call }
 {
     Call {
         id: call.id,
@@ -126,7 +127,8 @@ fn named_calls<A: Allocator + Copy>(
     addresses: &[u32],
     calls: &[Call],
 ) -> Result<Vec<Call, A>, AllocError>
-    ensures { IfOk result (λ v. v.items ≡ map (moved_call (address_of addresses.now)) calls.now) }
+    ensures { IfOk result
+        (λ v. v.items ≡ map (moved_call (placed_address addresses.now)) calls.now) }
 {
     let mut all = Vec::new(alloc);
     for i in 0..calls.len() {
@@ -170,11 +172,12 @@ fn at_line(lines: &[u64], why: Undecided) -> Unfound
 impl<A: Allocator + Copy> Reading<A> {
     /// Judges the trace, with at most so many configurations of a word at once.
     pub(crate) fn linearize(&self, alloc: A, bound: usize) -> Result<Finding<A>, Unfound>
-        requires { IsKept (reading_of self.now) }
-        ensures unfound { IfErr result (IsUnfound (trace_read (reading_of self.now))) }
-        ensures found { IfOk result (λ finding. Tells (trace_read (reading_of self.now)) finding) }
+        requires { IsKept (trace_so_far self.now) }
+        ensures unfound { IfErr result (IsUnfound (trace_read (trace_so_far self.now))) }
+        ensures found { IfOk result
+            (λ finding. TellsFinding (trace_read (trace_so_far self.now)) finding) }
     {
-        let opening = words_of(alloc, &self.inits, &self.addresses)?;
+        let opening = opening_words_at(alloc, &self.inits, &self.addresses)?;
         let events = moved_events(alloc, &self.places, &self.events)?;
         match judge(alloc, &opening, &events, bound) {
             Ok(Verdict::Linearizable(order)) => {
@@ -198,17 +201,17 @@ impl<A: Allocator + Copy> Reading<A> {
         reply: Reply,
         bound: usize,
     ) -> Result<bool, Unfound>
-        requires kept { IsKept (reading_of self.now) }
+        requires kept { IsKept (trace_so_far self.now) }
         requires answered { (told : Reply) × IsAnsweredAt self.now.events.items event id told }
         ensures yes { IfOk result (λ b. b ≡ true → IsAllowed
-            (opening_of (trace_read (reading_of self.now))) self.now.events.items event id reply) }
+            (opening_of (trace_read (trace_so_far self.now))) self.now.events.items event id reply) }
         ensures no { IfOk result (λ b. b ≡ false → IsAllowed
-            (opening_of (trace_read (reading_of self.now))) self.now.events.items event id reply
+            (opening_of (trace_read (trace_so_far self.now))) self.now.events.items event id reply
             → ⊥) }
         ensures unfound { IfErr result (IsUnfound (trace_answered_so
-            (trace_read (reading_of self.now)) event id reply)) }
+            (trace_read (trace_so_far self.now)) event id reply)) }
     {
-        let opening = words_of(alloc, &self.inits, &self.addresses)?;
+        let opening = opening_words_at(alloc, &self.inits, &self.addresses)?;
         let mut events = moved_events(alloc, &self.places, &self.events[..event])?;
         if events.push(Event::Answer(id, reply)).is_err() {
             return Err(Unfound::Memory);

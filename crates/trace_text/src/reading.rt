@@ -3,9 +3,10 @@
 ghost use Rattle.std.specs.Prelude.{◌≡◌, ◌≤◌, ◌^◌, ◌&&◌, codes, map, IfOk};
 ghost use Rattle.std.specs.Str.{bytes_eq};
 ghost use Rattle.script.specs.Outcome.{Makes};
-ghost use Rattle.trace_text.specs.Traced.{after_words, after_keyword, after_title, after_count, after_words_line};
-ghost use Rattle.trace_text.specs.Traced.{after_init, after_init_line, nothing_read};
-ghost use Rattle.trace_text.specs.Views.{reading_of};
+ghost use Rattle.trace_text.specs.Traced.{after_line_words, after_keyword, after_title, words_read};
+ghost use Rattle.trace_text.specs.Traced.{after_words_line};
+ghost use Rattle.trace_text.specs.Traced.{init_read, after_init_line, no_trace_read};
+ghost use Rattle.trace_text.specs.Views.{trace_so_far};
 
 use crate::issue_numbers::IssueNumbers;
 use crate::issued::Issued;
@@ -47,7 +48,7 @@ fn is_title(keyword: &[u8], version: &[u8]) -> bool
 impl<A: Allocator + Copy> Reading<A> {
     /// Nothing is given.
     pub(crate) fn none(alloc: A) -> Result<Reading<A>, AllocError>
-        ensures { IfOk result (λ r. reading_of r ≡ nothing_read) }
+        ensures { IfOk result (λ r. trace_so_far r ≡ no_trace_read) }
     {
         let numbers = IssueNumbers::none(alloc)?;
         Ok(Reading {
@@ -66,8 +67,8 @@ impl<A: Allocator + Copy> Reading<A> {
     /// Takes what the words of a line give.
     pub(crate) fn take(&mut self, line: u64, words: &[&[u8]]) -> Result<(), Fault>
         requires { self.old.words ≤ 2 ^ 32 }
-        ensures { Makes (reading_of self.new) result
-            (after_words (reading_of self.old) line (map (λ word. word.now) words.now)) }
+        ensures { Makes (trace_so_far self.new) result
+            (after_line_words (trace_so_far self.old) line (map (λ word. word.now) words.now)) }
     {
         match words {
             [] => Ok(()),
@@ -79,8 +80,8 @@ impl<A: Allocator + Copy> Reading<A> {
     /// Takes a line by its keyword.
     fn take_keyword(&mut self, line: u64, keyword: &[u8], values: &[&[u8]]) -> Result<(), Fault>
         requires { self.old.words ≤ 2 ^ 32 }
-        ensures { Makes (reading_of self.new) result
-            (after_keyword (reading_of self.old) line keyword.now
+        ensures { Makes (trace_so_far self.new) result
+            (after_keyword (trace_so_far self.old) line keyword.now
             (map (λ value. value.now) values.now)) }
     {
         if !self.begun {
@@ -103,8 +104,8 @@ impl<A: Allocator + Copy> Reading<A> {
 
     /// Takes the first line.
     fn take_title(&mut self, keyword: &[u8], values: &[&[u8]]) -> Result<(), Fault>
-        ensures { Makes (reading_of self.new) result
-            (after_title (reading_of self.old) keyword.now (map (λ value. value.now) values.now)) }
+        ensures { Makes (trace_so_far self.new) result
+            (after_title (trace_so_far self.old) keyword.now (map (λ value. value.now) values.now)) }
     {
         match values {
             [version] => {
@@ -120,8 +121,8 @@ impl<A: Allocator + Copy> Reading<A> {
 
     /// Takes the number of words.
     fn take_words(&mut self, values: &[&[u8]]) -> Result<(), Fault>
-        ensures { Makes (reading_of self.new) result
-            (after_words_line (reading_of self.old) (map (λ value. value.now) values.now)) }
+        ensures { Makes (trace_so_far self.new) result
+            (after_words_line (trace_so_far self.old) (map (λ value. value.now) values.now)) }
     {
         match values {
             [count] => {
@@ -142,8 +143,8 @@ impl<A: Allocator + Copy> Reading<A> {
     /// Takes the address and the value of an opening word.
     fn take_init(&mut self, values: &[&[u8]]) -> Result<(), Fault>
         requires { self.old.words ≤ 2 ^ 32 }
-        ensures { Makes (reading_of self.new) result
-            (after_init_line (reading_of self.old) (map (λ value. value.now) values.now)) }
+        ensures { Makes (trace_so_far self.new) result
+            (after_init_line (trace_so_far self.old) (map (λ value. value.now) values.now)) }
     {
         match values {
             [a, v] => {
@@ -158,8 +159,8 @@ impl<A: Allocator + Copy> Reading<A> {
     /// Sets an opening word.
     fn set_word(&mut self, address: u128, value: u128) -> Result<(), Fault>
         requires { self.old.words ≤ 2 ^ 32 }
-        ensures { Makes (reading_of self.new) result
-            (after_init (reading_of self.old) address value) }
+        ensures { Makes (trace_so_far self.new) result
+            (init_read (trace_so_far self.old) address value) }
     {
         if !(self.words != 0 && self.issued.is_empty()) {
             return Err(Fault::Setting);

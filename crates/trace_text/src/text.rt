@@ -7,7 +7,7 @@ ghost use Rattle.script.specs.Outcome.{Gives};
 ghost use Rattle.trace_order.specs.declared.event.Call.{Call};
 ghost use Rattle.trace_order.specs.Traces.{IsTrace, IsIssuedAt, IsAnsweredAt};
 ghost use Rattle.trace_text.specs.Allowed.{IsAllowed, trace_answered_so};
-ghost use Rattle.trace_text.specs.Findings.{Tells, IsUnfound};
+ghost use Rattle.trace_text.specs.Findings.{TellsFinding, IsUnfound};
 ghost use Rattle.trace_text.specs.Kept.{IsKnownAs};
 ghost use Rattle.trace_text.specs.Traced.{trace_of, opening_of};
 
@@ -89,7 +89,7 @@ impl<A: Allocator + Copy> TraceText<A> {
     /// Errors: the line at which there are too many configurations or open operations, or no memory.
     pub fn linearize(&self, alloc: A, bound: usize) -> Result<Finding<A>, Unfound>
         ensures unfound { IfErr result (IsUnfound self.now) }
-        ensures found { IfOk result (λ finding. Tells self.now finding) }
+        ensures found { IfOk result (λ finding. TellsFinding self.now finding) }
     {
         self.reading.linearize(alloc, bound)
     }

@@ -1,7 +1,7 @@
 use Rattle.std.proofs.Common.{subst, sym}
 use Rattle.std.proofs.lemmas.Result.{err_from_is_err_and}
 use Rattle.program_fault.specs.Done.{output}
-use Rattle.linearize_command.specs.Reporting.{PutsReport}
+use Rattle.linearize_command.specs.Reporting.{PutsTraceReport}
 use Rattle.linearize_command.proofs.Reports.{printed, cut, none}
 use Rattle.linearize_command.proofs.report.put_report.Goals as goal
 
@@ -19,6 +19,6 @@ returns-in_ok-write_report-in-Ok g c =
 pub returns-in-Err : goal.returns-in-Err
 returns-in-Err g c =
     subst
-    (PutsReport c.args.trace.now (output (g.W.Out.taken c.args.out.now) (g.W.Out.failures c.args.out.now))
+    (PutsTraceReport c.args.trace.now (output (g.W.Out.taken c.args.out.now) (g.W.Out.failures c.args.out.now))
     (output (g.W.Out.taken c.args.out.now) (g.W.Out.failures c.args.out.now)))
     (sym c.unreported.ensures) (none c.args.trace.now c.args.order.now c.in-Err.why _ c.requires.explains c.in-Err.ensures.unfit)

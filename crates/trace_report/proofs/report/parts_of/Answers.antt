@@ -1,15 +1,15 @@
 use Rattle.std.proofs.Common.{◌≡◌, ◌∙◌, List, map, ap, sym, slice_get}
 use Rattle.torus.specs.Shape.{tiles_of}
 use Rattle.trace_report.specs.declared.service.Service.{Service}
-use Rattle.trace_report.specs.Contents.{entries_of, answers_of, order_line}
+use Rattle.trace_report.specs.Contents.{entries_of, answers_of_services, service_line}
 use Rattle.trace_report.specs.Report.{banks_of}
-use Rattle.trace_report.specs.Services.{services_of}
+use Rattle.trace_report.specs.Services.{services_told}
 use Rattle.trace_report.proofs.Given.{index_of}
 use Rattle.trace_report.proofs.report.parts_of.Goals as goal
 
-pub answers_of-requires : goal.answers_of-requires
-answers_of-requires g c =
-    let e : c.deref-2.result.now ≡ services_of c.args.trace.now c.tiles-tiles.result c.args.times.now c.args.order.now =
+pub answers_of_services-requires : goal.answers_of_services-requires
+answers_of_services-requires g c =
+    let e : c.deref-2.result.now ≡ services_told c.args.trace.now c.tiles-tiles.result c.args.times.now c.args.order.now =
     c.deref-2.ensures.value ∙ c.in_ok-services.ensures.services in
     λ k s h. index_of c.args.trace.now c.tiles-tiles.result c.args.times.now c.args.order.now c.requires.whole c.requires.explains c.requires.fit k s
     (ap (λ (xs : List Service). slice_get xs k) (sym e) ∙ h)
@@ -17,18 +17,18 @@ answers_of-requires g c =
 pub returns : goal.returns
 returns g c =
     let n : c.tiles-tiles.result ≡ banks_of c.args.trace.now = c.tiles-tiles.ensures.value ∙ ap tiles_of c.requires.torus in
-    let are : c.in_ok-services.services.items ≡ services_of c.args.trace.now (banks_of c.args.trace.now) c.args.times.now c.args.order.now =
-    c.in_ok-services.ensures.services ∙ ap (λ m. services_of c.args.trace.now m c.args.times.now c.args.order.now) n in
+    let are : c.in_ok-services.services.items ≡ services_told c.args.trace.now (banks_of c.args.trace.now) c.args.times.now c.args.order.now =
+    c.in_ok-services.ensures.services ∙ ap (λ m. services_told c.args.trace.now m c.args.times.now c.args.order.now) n in
     record {
       torus = c.requires.torus;
       opening = c.in_ok-opening.ensures;
       entries = c.in_ok-entries.ensures
           ∙ (ap (entries_of c.tiles-tiles.result) (c.deref.ensures.value ∙ are)
-          ∙ ap (λ m. entries_of m (services_of c.args.trace.now (banks_of c.args.trace.now) c.args.times.now c.args.order.now)) n);
+          ∙ ap (λ m. entries_of m (services_told c.args.trace.now (banks_of c.args.trace.now) c.args.times.now c.args.order.now)) n);
       answers = c.in_ok-answers.ensures
-          ∙ (ap (answers_of c.tiles-tiles.result) (c.deref-2.ensures.value ∙ are)
-          ∙ ap (λ m. answers_of m (services_of c.args.trace.now (banks_of c.args.trace.now) c.args.times.now c.args.order.now)) n);
+          ∙ (ap (answers_of_services c.tiles-tiles.result) (c.deref-2.ensures.value ∙ are)
+          ∙ ap (λ m. answers_of_services m (services_told c.args.trace.now (banks_of c.args.trace.now) c.args.times.now c.args.order.now)) n);
       last = c.in_ok-services.ensures.words;
-      ordered = c.in_ok-order.ensures ∙ ap (map order_line) (c.deref-3.ensures.value ∙ are);
+      ordered = c.in_ok-order.ensures ∙ ap (map service_line) (c.deref-3.ensures.value ∙ are);
       finished = c.all_answered-finished.ensures;
     }

@@ -4,7 +4,7 @@ use Rattle.report_lines.specs.Parts.{lines_of_parts}
 use Rattle.trace_order.specs.declared.event.Event.{Event}
 use Rattle.trace_text.specs.declared.issued.Issued.{Issued}
 use Rattle.trace_report.specs.declared.times.Times.{Times}
-use Rattle.trace_report.specs.Report.{IsReportOf}
+use Rattle.trace_report.specs.Report.{IsReportOfOrder}
 use Rattle.trace_report.specs.Times.{AreTimes}
 use Rattle.trace_report.proofs.Parts.{opening_fits, last_fits, banks_fit, processors_fit, places_fit, if_ok, reported}
 use Rattle.trace_report.proofs.report.report_within.Goals as goal
@@ -37,7 +37,7 @@ returns g c =
     (subst (λ (es : List Event). AreTimes es (length c.args.trace.now.issued) times) c.events.ensures.value
     (subst (λ (is : List Issued). AreTimes c.events.result.now (length is) times) c.issued.ensures c.in_ok-times.ensures)) in
     record {
-      report = if_ok (λ lines. lines ≡ lines_of_parts c.in_ok-parts.parts) (IsReportOf c.args.trace.now c.args.order.now) c.of_parts.result
+      report = if_ok (λ lines. lines ≡ lines_of_parts c.in_ok-parts.parts) (IsReportOfOrder c.args.trace.now c.args.order.now) c.of_parts.result
           (λ lines is. reported c.args.trace.now c.deref.result.now c.args.order.now c.in_ok-parts.parts told c.in_ok-parts.ensures lines is)
           c.of_parts.ensures;
     }

@@ -6,7 +6,7 @@ use Rattle.packet.specs.declared.kinds.Reply.TheVariants.{Ok as Stored}
 use Rattle.trace_order.specs.declared.event.Call.{Call}
 use Rattle.trace_order.specs.Orders.{operations_of}
 use Rattle.trace_text.specs.Traced.{opening_of}
-use Rattle.trace_report.specs.Numbers.{issues_of, IsRising}
+use Rattle.trace_report.specs.Numbers.{issues_of, NeverFalls}
 use Rattle.trace_report.specs.Services.{service_place, service_of}
 use Rattle.trace_report.proofs.Growing.{image_more, service_is}
 use Rattle.trace_report.proofs.Numbered.{waits_count}
@@ -44,7 +44,7 @@ bounds-places-i g c =
 
 pub service-made-requires-clause-rising : goal.service-made-requires-clause-rising
 service-made-requires-clause-rising g c =
-    subst IsRising (sym c.requires.waits) (waits_rise 0 (issues_of c.args.times.now c.args.order.now))
+    subst NeverFalls (sym c.requires.waits) (waits_rise 0 (issues_of c.args.times.now c.args.order.now))
 
 pub service-made-requires-clause-few : goal.service-made-requires-clause-few
 service-made-requires-clause-few g c =

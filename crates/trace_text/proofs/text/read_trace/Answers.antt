@@ -1,6 +1,6 @@
 use Rattle.std.proofs.Common.{arith, map, take}
 use Rattle.std.specs.Str.Lines.{lines}
-use Rattle.trace_text.specs.Views.{reading_of}
+use Rattle.trace_text.specs.Views.{trace_so_far}
 use Rattle.trace_text.proofs.Kept.{words_kept}
 use Rattle.trace_text.proofs.SevenWords.{trace_step}
 use Rattle.trace_text.proofs.text.read_trace.Goals as goal
@@ -9,9 +9,9 @@ pub loop-line-preserved : goal.loop-line-preserved
 loop-line-preserved g c = record {
   count = omega (arith, c.in-Some.ensures.less);
   positive = omega arith;
-  kept = words_kept (reading_of c.loop-line.reading) (reading_of c.take.new.self) c.loop-line.invariant.kept c.loop-line.number
+  kept = words_kept (trace_so_far c.loop-line.reading) (trace_so_far c.take.new.self) c.loop-line.invariant.kept c.loop-line.number
       (map (λ word. word.now) (take c.first_words-count.result.1 c.first_words-count.result.0)) c.in_default-take.ensures;
-  reads = trace_step c.loop-line.number (reading_of c.loop-line.reading) (reading_of c.take.new.self)
+  reads = trace_step c.loop-line.number (trace_so_far c.loop-line.reading) (trace_so_far c.take.new.self)
       c.in-Some.line.now (lines c.loop-line.rest.now) (lines c.in-Some.after.now)
       (map (λ word. word.now) (take c.first_words-count.result.1 c.first_words-count.result.0)) _
       c.in-Some.ensures.some c.first_words-count.ensures.words c.in_default-take.ensures c.loop-line.invariant.reads;

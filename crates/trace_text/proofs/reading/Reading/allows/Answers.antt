@@ -2,18 +2,18 @@ use Rattle.std.proofs.Common.{◌≡◌, ◌∙◌, ap, map, ℕ, List, [], ◌�
 use Rattle.trace_order.specs.declared.event.Event.{Event}
 use Rattle.trace_order.specs.declared.event.Event.TheVariants.{Answer}
 use Rattle.trace_text.specs.Allowed.{answered_so}
-use Rattle.trace_text.specs.Findings.{place_of_address, words_of, unfound_at}
+use Rattle.trace_text.specs.Findings.{place_of_address, opening_words_at, unfound_at}
 use Rattle.trace_text.specs.Renumbered.{moved_event}
-use Rattle.trace_text.specs.Views.{reading_of}
+use Rattle.trace_text.specs.Views.{trace_so_far}
 use Rattle.trace_text.proofs.Found.{others}
 use Rattle.trace_text.proofs.Allowing.{given_is, answered_given, allowed_given, given_allowed, undecided_given, pushed, decided_yes, decided_no}
 use Rattle.trace_text.proofs.reading.Reading.allows.Goals as goal
 
 pub decide-requires : goal.decide-requires
 decide-requires g c =
-    let r = reading_of c.args.self.now in
+    let r = trace_so_far c.args.self.now in
     let words : c.deref-3.result.now ≡ others r =
-    c.deref-3.ensures.value ∙ (c.in_ok-opening.ensures ∙ ap (words_of r.inits) c.deref.ensures.value) in
+    c.deref-3.ensures.value ∙ (c.in_ok-opening.ensures ∙ ap (opening_words_at r.inits) c.deref.ensures.value) in
     let begun : c.in_ok-events.events.items ≡ map (moved_event (place_of_address r.places)) (take c.args.event r.events) =
     c.in_ok-events.ensures ∙ ap (λ (xs : List Event). map (moved_event (place_of_address r.places)) (take c.args.event xs)) c.deref-2.ensures.value in
     let grown : c.push.new.self.items ≡ c.in_ok-events.events.items ++ Answer c.args.id c.args.reply ∷ [] =
@@ -24,9 +24,9 @@ decide-requires g c =
 
 pub returns-in-Ok-clause-yes : goal.returns-in-Ok-clause-yes
 returns-in-Ok-clause-yes g c = λ b.
-    let r = reading_of c.args.self.now in
+    let r = trace_so_far c.args.self.now in
     let words : c.deref-3.result.now ≡ others r =
-    c.deref-3.ensures.value ∙ (c.in_ok-opening.ensures ∙ ap (words_of r.inits) c.deref.ensures.value) in
+    c.deref-3.ensures.value ∙ (c.in_ok-opening.ensures ∙ ap (opening_words_at r.inits) c.deref.ensures.value) in
     let begun : c.in_ok-events.events.items ≡ map (moved_event (place_of_address r.places)) (take c.args.event r.events) =
     c.in_ok-events.ensures ∙ ap (λ (xs : List Event). map (moved_event (place_of_address r.places)) (take c.args.event xs)) c.deref-2.ensures.value in
     let grown : c.push.new.self.items ≡ c.in_ok-events.events.items ++ Answer c.args.id c.args.reply ∷ [] =
@@ -38,9 +38,9 @@ returns-in-Ok-clause-yes g c = λ b.
 
 pub returns-in-Ok-clause-no : goal.returns-in-Ok-clause-no
 returns-in-Ok-clause-no g c = λ b is.
-    let r = reading_of c.args.self.now in
+    let r = trace_so_far c.args.self.now in
     let words : c.deref-3.result.now ≡ others r =
-    c.deref-3.ensures.value ∙ (c.in_ok-opening.ensures ∙ ap (words_of r.inits) c.deref.ensures.value) in
+    c.deref-3.ensures.value ∙ (c.in_ok-opening.ensures ∙ ap (opening_words_at r.inits) c.deref.ensures.value) in
     let begun : c.in_ok-events.events.items ≡ map (moved_event (place_of_address r.places)) (take c.args.event r.events) =
     c.in_ok-events.ensures ∙ ap (λ (xs : List Event). map (moved_event (place_of_address r.places)) (take c.args.event xs)) c.deref-2.ensures.value in
     let grown : c.push.new.self.items ≡ c.in_ok-events.events.items ++ Answer c.args.id c.args.reply ∷ [] =
@@ -52,9 +52,9 @@ returns-in-Ok-clause-no g c = λ b is.
 
 pub returns-clause-unfound : goal.returns-clause-unfound
 returns-clause-unfound g c =
-    let r = reading_of c.args.self.now in
+    let r = trace_so_far c.args.self.now in
     let words : c.deref-3.result.now ≡ others r =
-    c.deref-3.ensures.value ∙ (c.in_ok-opening.ensures ∙ ap (words_of r.inits) c.deref.ensures.value) in
+    c.deref-3.ensures.value ∙ (c.in_ok-opening.ensures ∙ ap (opening_words_at r.inits) c.deref.ensures.value) in
     let begun : c.in_ok-events.events.items ≡ map (moved_event (place_of_address r.places)) (take c.args.event r.events) =
     c.in_ok-events.ensures ∙ ap (λ (xs : List Event). map (moved_event (place_of_address r.places)) (take c.args.event xs)) c.deref-2.ensures.value in
     let grown : c.push.new.self.items ≡ c.in_ok-events.events.items ++ Answer c.args.id c.args.reply ∷ [] =

@@ -1,6 +1,6 @@
 use Rattle.std.proofs.Common.{◌<◌, List, ℕ, length, subst, sym}
 use Rattle.trace_report.proofs.Given.{are_low, inside}
-use Rattle.trace_report.proofs.report.services_of.Goals as goal
+use Rattle.trace_report.proofs.report.services_told.Goals as goal
 
 pub served-requires : goal.served-requires
 served-requires g c =

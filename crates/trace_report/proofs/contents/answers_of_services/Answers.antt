@@ -1,6 +1,6 @@
 use Rattle.trace_report.specs.Contents.{answers_at}
 use Rattle.trace_report.proofs.Growing.{rows_more}
-use Rattle.trace_report.proofs.contents.answers_of.Goals as goal
+use Rattle.trace_report.proofs.contents.answers_of_services.Goals as goal
 
 pub loop-processor-preserved : goal.loop-processor-preserved
 loop-processor-preserved g c =
