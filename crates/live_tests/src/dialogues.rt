@@ -1,0 +1,190 @@
+use linked_list_allocator::LocalHeap;
+use live_command::{AskedMachine, converse};
+use program_fault::ProgramFault;
+use std::alloc::{AllocError, Allocator, Global};
+use std::test::Fail;
+use torus::Fault;
+
+/// Two tiles.
+const PAIR: &[u8] = b"radix 2\ndims 1\ndepth 4\ntags 4\nwords 8\n";
+
+/// What an input is answered, of two tiles.
+fn answered<A: Allocator + Copy>(
+    alloc: A,
+    input: &[u8],
+    out: &mut Vec<u8, A>,
+) -> Result<(), ProgramFault> {
+    let mut machine = AskedMachine::load(alloc, PAIR, b"")?;
+    let mut rest = input;
+    converse(alloc, &mut machine, &mut rest, out)
+}
+
+/// Whether an input is answered so.
+fn answers(alloc: Global, input: &[u8], text: &str) -> bool {
+    let mut out = Vec::new(alloc);
+    answered(alloc, input, &mut out).is_ok() && out.as_slice() == text.as_bytes()
+}
+
+/// Inputs, and what they are answered.
+const DIALOGUES: [(&[u8], &str); 14] = [
+    // The first run of README.md, asked line by line.
+    (
+        b"ask 0 store 5 17\nask 0 fence\nask 0 load 5\nfinish\nreport\nquit\n",
+        "asked 0 0\nasked 0\nasked 0 1\nrounds 12\ntorusmem 1\nshape 2 1 8\nentry 1 0 0 0 store 5 17 ok\nentry 1 1 0 0 load 5 17\nanswer 0 0 1 0 ok\nanswer 0 1 1 1 17\nword 5 17\norder 1 0 1 2 3\norder 1 1 4 5 6\nend complete\n",
+    ),
+    // Answers are waited for, also a second time, and what is asked next follows from them.
+    (
+        b"ask 1 store 5 7\nwait 1 0\nask 1 add 5 last\nwait 1 1\nask 0 cas 5 7 9\nwait 0 0\nask 1 swap 5 last\nwait 1 2\nwait 1 0\nwait 0 0\n",
+        "asked 1 0\nanswer 1 0 ok\nasked 1 1\nanswer 1 1 7\nasked 0 0\nanswer 0 0 7\nasked 1 2\nanswer 1 2 9\nanswer 1 0 ok\nanswer 0 0 7\n",
+    ),
+    // Faults, in the order of the checks; the dialogue goes on.
+    (
+        b"ask 2 load 8\nask 0 load 8\nask 0 store 5 18446744073709551616\nask 0 spin 5 0 0\nask 0 spin 5 0 4097\nask 0 store 5 last\nwait 2 0\nwait 0 0\nwait 0 99999999999999999999\nround 0\nround 1000001\nask 0 load 5\nwait 0 0\nwait 0 1\n",
+        "fault F8\nfault F7\nfault F6\nfault F6\nfault F6\nfault F10\nfault F8\nfault F6\nfault F6\nfault F6\nfault F6\nasked 0 0\nanswer 0 0 0\nfault F6\n",
+    ),
+    // A script is full.
+    (
+        b"ask 0 spin 5 1 4096\nask 0 load 5\nask 0 fence\nask 1 load 5\n",
+        "asked 0\nfault F9\nasked 0\nasked 1 0\n",
+    ),
+    // Lines of no shape, also for a processor that isn't there.
+    (
+        b"ask\nask 0\nask x load 5\nask 0 load\nask 0 load 5 6\nask 0 store 5\nask 9 jump\nask -1 load 5\nround x\nround 1 2\nwait 0\n",
+        "bad line\nbad line\nbad line\nbad line\nbad line\nbad line\nbad line\nbad line\nbad line\nbad line\nbad line\n",
+    ),
+    (
+        b"wait 0 0 0\nwait x 0\nfinish 1\nreport now\nquit now\nhello\nQuit\nask 0 cas 5 1 2 3 4 5 6 7\n",
+        "bad line\nbad line\nbad line\nbad line\nbad line\nbad line\nbad line\nbad line\n",
+    ),
+    // Bytes that are no text.
+    (
+        b"ask 0 load 5\xff\n\xff\xfe\x00\n\xef\xbb\xbfround\nround\n",
+        "bad line\nbad line\nbad line\nrounds 1\n",
+    ),
+    // Blank lines, comments, blanks between words, and ends of lines.
+    (
+        b"\n  \t \n# ask 0 load 5\n\r\nask 0 load 5\r\n  wait \t 0   0  \nround\r\r\nquit\r\nround\n",
+        "asked 0 0\nanswer 0 0 0\nbad line\n",
+    ),
+    // The input ends without an end of its last line.
+    (
+        b"round\nround 3\nround 007",
+        "rounds 1\nrounds 3\nrounds 7\n",
+    ),
+    (b"round\nquit\r", "rounds 1\nbad line\n"),
+    (b"", ""),
+    (b"quit\nround\n", ""),
+    // Finished, asked again, and finished again.
+    (
+        b"finish\nask 0 load 5\nfinish\nfinish\nround 2\nask 0 store 5 1\nfinish\n",
+        "rounds 0\nasked 0 0\nrounds 6\nrounds 0\nrounds 2\nasked 0 1\nrounds 6\n",
+    ),
+    // A spin makes one load of three, and nobody knows before; what comes behind it is its next.
+    (
+        b"ask 0 spin 5 0 3\nwait 0 2\nwait 0 0\nask 0 load 5\nwait 0 1\nwait 0 3\nwait 0 4\nask 1 load 5\n",
+        "asked 0\nidle\nanswer 0 0 0\nasked 0\nanswer 0 1 0\nidle\nfault F6\nasked 1 0\n",
+    ),
+];
+
+#[test]
+fn dialogues_are_answered(rt: HostRuntime) {
+    for (input, text) in &DIALOGUES {
+        assert!(rt; answers(rt.alloc(), input, text), "{text}");
+    }
+}
+
+/// A line of a comment of so many bytes, and a round.
+fn long(alloc: Global, count: usize) -> Result<Vec<u8>, AllocError> {
+    let mut input = vec![in alloc; b'#'; count]?;
+    input.extend_from_slice(b"\nround\n")?;
+    Ok(input)
+}
+
+/// A line has at most 4096 bytes; a longer one is passed whole.
+#[test]
+fn lines_that_are_too_long(rt: HostRuntime) -> Result<(), Fail> {
+    for &(count, text) in &[
+        (4095, "rounds 1\n"),
+        (4096, "rounds 1\n"),
+        (4097, "bad line\nrounds 1\n"),
+        (4098, "bad line\nrounds 1\n"),
+        (20000, "bad line\nrounds 1\n"),
+    ] {
+        let input = long(rt.alloc(), count)?;
+        assert!(rt; answers(rt.alloc(), &input, text), "{text}");
+    }
+    Ok(())
+}
+
+/// What comes of a line that is asked, in some memory.
+#[derive(Clone, Copy, PartialEq)]
+enum Came {
+    /// It was refused before the line, or the output had no room for the answer.
+    Refused,
+    /// The answer is that memory was refused.
+    Told,
+    /// The line was taken.
+    Taken,
+    /// Another answer, or something is kept.
+    Wrong,
+}
+
+/// What comes of it within a budget of bytes.
+fn within(alloc: Global, budget: usize) -> Result<Came, AllocError> {
+    let heap = LocalHeap::new(alloc, budget)?;
+    let came = asked_in(&heap);
+    if heap.used() != 0 {
+        return Ok(Came::Wrong);
+    }
+    Ok(came)
+}
+
+fn asked_in<A: Allocator + Copy>(alloc: A) -> Came {
+    let mut out = Vec::new(alloc);
+    match answered(alloc, b"ask 1 load 5\n", &mut out) {
+        Ok(()) if out.as_slice() == b"asked 1 0\n".as_slice() => Came::Taken,
+        Ok(()) if out.as_slice() == b"fault F12\n".as_slice() => Came::Told,
+        Err(ProgramFault::Fault(Fault::Memory)) => Came::Refused,
+        Err(ProgramFault::Output) => Came::Refused,
+        _ => Came::Wrong,
+    }
+}
+
+/// Budgets of memory from none up to one that suffices, and below that each sixteenth byte: it is refused
+/// before the line, or the answer says so, or the line is taken; and nothing is kept.
+#[test]
+fn budgets(rt: HostRuntime) -> Result<(), Fail> {
+    let mut least = 0usize;
+    for step in 0..1024 {
+        let came = within(rt.alloc(), 128 * step)?;
+        assert!(rt; came != Came::Wrong, "at {step}");
+        if came == Came::Taken {
+            least = 128 * step;
+            break;
+        }
+    }
+    assert!(rt; least > 0);
+    let mut is_told = false;
+    for step in 0..128 {
+        let came = within(rt.alloc(), least.saturating_sub(16 * step))?;
+        assert!(rt; came != Came::Wrong, "below by {step}");
+        is_told |= came == Came::Told;
+    }
+    assert!(rt; is_told);
+    Ok(())
+}
+
+/// An output that is full fails, and the dialogue ends.
+#[test]
+fn outputs(rt: HostRuntime) -> Result<(), Fail> {
+    let Ok(mut machine) = AskedMachine::load(rt.alloc(), PAIR, b"") else {
+        return Err(Fail::new("no machine"));
+    };
+    let mut input = b"round\nround\nround\n".as_slice();
+    let mut room = [0u8; 20];
+    let mut out = room.as_mut_slice();
+    let ended = converse(rt.alloc(), &mut machine, &mut input, &mut out);
+    assert!(rt; ended == Err(ProgramFault::Output));
+    assert!(rt; input == b"".as_slice() || input == b"round\n".as_slice());
+    Ok(())
+}
