@@ -13,10 +13,14 @@ plural_text count = if count == 1 then [] else codes "s"
 abbrev pub counted : ℕ → List ℕ → List ℕ → List ℕ
 counted count name behind = decimal count ++ codes " " ++ name ++ plural_text count ++ behind
 
+-- where a spin stands: its processor, the name of the script text, and the line
+abbrev pub place_text : ℕ → List ℕ → ℕ → List ℕ
+place_text processor name line = codes "processor " ++ decimal processor ++ codes ": the spin of "
+    ++ name ++ codes ":" ++ decimal line ++ codes " made its "
+
 -- the sentence on a spin that ran out of loads
 abbrev pub spin_text : SpinSentence → List ℕ
-spin_text s = codes "processor " ++ decimal s.spin.processor ++ codes ": the spin of "
-    ++ s.name.now ++ codes ":" ++ decimal s.spin.line ++ codes " made its "
+spin_text s = place_text s.spin.processor s.name.now s.spin.line
     ++ counted s.spin.loads (codes "load") (codes " and didn't find ") ++ decimal s.spin.wanted
 
 -- what a run was made of; of workers that finished every script nothing is told

@@ -3,7 +3,7 @@
 ghost use Rattle.std.specs.Prelude.{◌≡◌, IfOk, map};
 ghost use Rattle.std.specs.Str.Lines.{lines};
 ghost use Rattle.lexer.specs.Words.{words_of};
-ghost use Rattle.run_told.specs.Answers.{answer_of, answers_of, number_of};
+ghost use Rattle.run_told.specs.Answers.{answer_of, answered, answers_of, number_of};
 
 use lexer::{first_words, next_line, value};
 use std::alloc::{AllocError, Allocator};
@@ -47,13 +47,20 @@ fn answer_in(words: &[&[u8]]) -> Option<Answer>
     ensures { result ≡ answer_of (map (λ word. word.now) words.now) }
 {
     match words {
-        [b"answer", processor, index, _bank, _place, reply] => Some(Answer {
-            processor: lexer::index(processor)?,
-            index: lexer::index(index)?,
-            reply: number(reply).unwrap_or(0),
-        }),
+        [b"answer", processor, index, _bank, _place, reply] => answered(processor, index, reply),
         _ => None,
     }
+}
+
+/// The answer of the words for its processor, its index and its reply.
+fn answered(processor: &[u8], index: &[u8], reply: &[u8]) -> Option<Answer>
+    ensures { result ≡ answered processor.now index.now reply.now }
+{
+    Some(Answer {
+        processor: lexer::index(processor)?,
+        index: lexer::index(index)?,
+        reply: number(reply).unwrap_or(0),
+    })
 }
 
 /// The number of 64 bits that a word spells.

@@ -2,8 +2,8 @@
 
 ghost use Rattle.std.specs.Fmt.{WritesOnOk};
 ghost use Rattle.std.specs.Prelude.{◌≡◌, ◌++◌, codes};
-ghost use Rattle.run_told.specs.Sentences.{answered_text, begin_text, counted, course_text, plural_text, rest_text};
-ghost use Rattle.run_told.specs.Sentences.{unfinished_text};
+ghost use Rattle.run_told.specs.Sentences.{answered_text, begin_text, counted, course_text};
+ghost use Rattle.run_told.specs.Sentences.{place_text, plural_text, rest_text, unfinished_text};
 
 use crate::scripts::EndedSpin;
 use std::fmt;
@@ -24,14 +24,25 @@ impl<'a> fmt::Display for SpinSentence<'a> {
 
     fn fmt<W: fmt::Write>(&self, f: &mut fmt::Formatter<W>) -> fmt::Result {
         let spin = self.spin;
-        write!(
-            f,
-            "processor {}: the spin of {}:{} made its ",
-            spin.processor, self.name, spin.line
-        )?;
+        put_place(f, spin.processor, self.name, spin.line)?;
         put_count(f, u64::from(spin.loads), "load", " and didn't find ")?;
         write!(f, "{}", spin.wanted)
     }
+}
+
+/// Writes where a spin stands.
+fn put_place<W: fmt::Write>(
+    f: &mut fmt::Formatter<W>,
+    processor: u32,
+    name: &str,
+    line: u64,
+) -> fmt::Result
+    ensures { WritesOnOk W.write_str_gives f.old result (place_text processor name.now line) f.new }
+{
+    write!(
+        f,
+        "processor {processor}: the spin of {name}:{line} made its "
+    )
 }
 
 /// What a run was made of, up to its end or to where it had to stop.
