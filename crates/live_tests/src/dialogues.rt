@@ -30,16 +30,20 @@ const DIALOGUES: [(&[u8], &str); 14] = [
     // The first run of README.md, asked line by line.
     (
         b"ask 0 store 5 17\nask 0 fence\nask 0 load 5\nfinish\nreport\nquit\n",
-        "asked 0 0\nasked 0\nasked 0 1\nrounds 12\ntorusmem 1\nshape 2 1 8\nentry 1 0 0 0 store 5 17 ok\nentry 1 1 0 0 load 5 17\nanswer 0 0 1 0 ok\nanswer 0 1 1 1 17\nword 5 17\norder 1 0 1 2 3\norder 1 1 4 5 6\nend complete\n",
+        "asked 0 0\nasked 0\nasked 0 1\nrounds 12\ntorusmem 1\nshape 2 1 8\n\
+            entry 1 0 0 0 store 5 17 ok\nentry 1 1 0 0 load 5 17\nanswer 0 0 1 0 ok\nanswer 0 1 1 1 17\n\
+            word 5 17\norder 1 0 1 2 3\norder 1 1 4 5 6\nend complete\n",
     ),
     // Answers are waited for, also a second time, and what is asked next follows from them.
     (
-        b"ask 1 store 5 7\nwait 1 0\nask 1 add 5 last\nwait 1 1\nask 0 cas 5 7 9\nwait 0 0\nask 1 swap 5 last\nwait 1 2\nwait 1 0\nwait 0 0\n",
+        b"ask 1 store 5 7\nwait 1 0\nask 1 add 5 last\nwait 1 1\n\
+            ask 0 cas 5 7 9\nwait 0 0\nask 1 swap 5 last\nwait 1 2\nwait 1 0\nwait 0 0\n",
         "asked 1 0\nanswer 1 0 ok\nasked 1 1\nanswer 1 1 7\nasked 0 0\nanswer 0 0 7\nasked 1 2\nanswer 1 2 9\nanswer 1 0 ok\nanswer 0 0 7\n",
     ),
     // Faults, in the order of the checks; the dialogue goes on.
     (
-        b"ask 2 load 8\nask 0 load 8\nask 0 store 5 18446744073709551616\nask 0 spin 5 0 0\nask 0 spin 5 0 4097\nask 0 store 5 last\nwait 2 0\nwait 0 0\nwait 0 99999999999999999999\nround 0\nround 1000001\nask 0 load 5\nwait 0 0\nwait 0 1\n",
+        b"ask 2 load 8\nask 0 load 8\nask 0 store 5 18446744073709551616\nask 0 spin 5 0 0\nask 0 spin 5 0 4097\nask 0 store 5 last\n\
+            wait 2 0\nwait 0 0\nwait 0 99999999999999999999\nround 0\nround 1000001\nask 0 load 5\nwait 0 0\nwait 0 1\n",
         "fault F8\nfault F7\nfault F6\nfault F6\nfault F6\nfault F10\nfault F8\nfault F6\nfault F6\nfault F6\nfault F6\nasked 0 0\nanswer 0 0 0\nfault F6\n",
     ),
     // A script is full.
