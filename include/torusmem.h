@@ -55,7 +55,7 @@ typedef struct torusmem_outcome {
 /* Codes. */
 enum {
   TORUSMEM_OK = 0,
-  /* 1 to 14: the fault F1 to F14 of a text (docs/FORMATS.md); value: the line, from 1. F12 is want of memory, and then
+  /* 1 to 14: the fault F1 to F14 of a text (docs/FORMATS.md); value: the line, from 1. F12 is out of memory, and then
      value is 0. */
   TORUSMEM_FAULT_MEMORY = 12,
   TORUSMEM_BAD_REPORT = 15, /* value: the first bad line, from 1 */
@@ -107,7 +107,7 @@ enum { TORUSMEM_INJECTION = 0, TORUSMEM_HOP = 1, TORUSMEM_EJECTION = 2 };
 enum { TORUSMEM_REQUEST = 0, TORUSMEM_REPLY = 1 };
 
 /* Loads the machine of a machine text, whose processors follow the scripts of a scripts text, before any step.
-   OK; FULL; or a fault: the first one of the machine text, else the first one of the scripts, or want of memory.
+   OK; FULL; or a fault: the first one of the machine text, else the first one of the scripts, or out of memory.
    On anything but OK, *m is as it was and no memory is kept. The texts may go after the call. */
 torusmem_outcome torusmem_load(torusmem_machine *m, const uint8_t *machine, size_t machine_length,
                                const uint8_t *scripts, size_t scripts_length);
@@ -336,7 +336,7 @@ typedef struct torusmem_event {
    SHORT: value is how many are in the order, and out is as it was; so is it on all other codes.
    A fault: event `value` can't stand. F4: it is of no kind, an operation or reply that there isn't, or a reply that
    doesn't go with its operation; F5: the operation is answered already; F6: its processor has no such operation yet;
-   F7: its address is not below opening_length; F8: its processor is not below 4096. F12 is want of memory, with 0. */
+   F7: its address is not below opening_length; F8: its processor is not below 4096. F12 is out of memory, with 0. */
 torusmem_outcome torusmem_linearize(const uint64_t *opening, size_t opening_length, const torusmem_event *events,
                                     size_t events_length, uint64_t configurations, uint64_t *out, size_t out_length);
 

@@ -403,7 +403,7 @@ impl Machine {
         Ok(room.iter().map(spin_of).collect())
     }
 
-    /// The report of the run so far. The only fault is want of memory.
+    /// The report of the run so far. The only fault is that memory is refused.
     pub fn report(&mut self) -> Result<Vec<u8>, Fault> {
         let asked = self.raw.report(&mut []);
         if asked.code != sys::TORUSMEM_SHORT {

@@ -47,7 +47,7 @@ pub enum By {
 }
 
 /// Judges the network of a network text (docs/FORMATS.md, "Network text"): whether each pair that it joins has a route,
-/// and whether it can lock up. The faults are those of the text, and want of memory.
+/// and whether it can lock up. The faults are those of the text, and memory that is refused.
 ///
 /// ```
 /// use torusmem::{network, Verdict};

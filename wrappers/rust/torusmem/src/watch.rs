@@ -67,7 +67,7 @@ impl fmt::Debug for Watch {
 }
 
 impl Watch {
-    /// A watch before its first event, over a memory that opens with these words. The only reason is want of memory.
+    /// A watch before its first event, over a memory that opens with these words. The only reason is that memory is refused.
     pub fn begin(opening: &[u64]) -> Result<Watch, NotTaken> {
         let mut raw = RawWatch::empty();
         taken(raw.begin(opening))?;
