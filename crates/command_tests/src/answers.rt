@@ -70,19 +70,30 @@ const OBLONG: &str = "radix 2 4\ndims 2\ndepth 4\ntags 4\nwords 8\n";
 const DATED: &str = "radix 8\ndims 1\ndateline 2\ndepth 4\ntags 4\nwords 8\n";
 
 const REPORT: &str =
-    "torusmem 1\nshape 2 1 8\nentry 1 0 0 0 store 5 17 ok\nentry 1 1 0 0 load 5 17\nanswer 0 0 1 0 ok\nanswer 0 1 1 1 17\nword 5 17\norder 1 0 1 2 3\norder 1 1 4 5 6\nend complete\n";
+    "torusmem 1\nshape 2 1 8\nentry 1 0 0 0 store 5 17 ok\nentry 1 1 0 0 load 5 17\nanswer 0 0 1 0 ok\n\
+        answer 0 1 1 1 17\nword 5 17\norder 1 0 1 2 3\norder 1 1 4 5 6\nend complete\n";
 
 const CHANNELS: &str =
-    "channel 0 0 1\nchannel 0 1 4\nchannel 0 2 7\nchannel 0 3 10\nchannel 0 4 2\nchannel 0 5 3\nchannel 0 6 8\nchannel 0 7 9\nchannel 0 8 0\nchannel 0 9 6\nchannel 0 10 5\nchannel 0 11 11\nchannel 1 0 2\nchannel 1 1 3\nchannel 1 2 8\nchannel 1 3 9\nchannel 1 4 1\nchannel 1 5 4\nchannel 1 6 7\nchannel 1 7 10\nchannel 1 8 0\nchannel 1 9 6\nchannel 1 10 5\nchannel 1 11 11\nrising\n";
+    "channel 0 0 1\nchannel 0 1 4\nchannel 0 2 7\nchannel 0 3 10\nchannel 0 4 2\nchannel 0 5 3\nchannel 0 6 8\n\
+        channel 0 7 9\nchannel 0 8 0\nchannel 0 9 6\nchannel 0 10 5\nchannel 0 11 11\nchannel 1 0 2\n\
+        channel 1 1 3\nchannel 1 2 8\nchannel 1 3 9\nchannel 1 4 1\nchannel 1 5 4\nchannel 1 6 7\n\
+        channel 1 7 10\nchannel 1 8 0\nchannel 1 9 6\nchannel 1 10 5\nchannel 1 11 11\nrising\n";
 
 /// A good run of two operations.
 pub(crate) const SCRIPT: &str = "0 store 5 17\n0 fence\n0 load 5\n";
 
 const STEPS: &str =
-    "0 send\n1 take 8\n1 put 8\n4 take 0\n4 put 0\n5 take\n0 send\n1 take 8\n1 put 8\n4 take 0\n4 put 0\n5 take\n0 send\n1 take 8\n1 put 8\n4 take 0\n4 put 0\n5 take\n5 serve\n5 send\n4 take 9\n4 put 9\n1 take 3\n1 put 3\n0 take\n0 send\n1 take 8\n1 put 8\n4 take 0\n4 put 0\n5 take\n5 serve\n5 send\n4 take 9\n4 put 9\n1 take 3\n1 put 3\n0 take\n5 send\n4 take 9\n4 put 9\n1 take 3\n1 put 3\n0 take\n5 send\n4 take 9\n4 put 9\n1 take 3\n1 put 3\n0 take\n";
+    "0 send\n1 take 8\n1 put 8\n4 take 0\n4 put 0\n5 take\n0 send\n1 take 8\n1 put 8\n4 take 0\n4 put 0\n\
+        5 take\n0 send\n1 take 8\n1 put 8\n4 take 0\n4 put 0\n5 take\n5 serve\n5 send\n4 take 9\n4 put 9\n\
+        1 take 3\n1 put 3\n0 take\n0 send\n1 take 8\n1 put 8\n4 take 0\n4 put 0\n5 take\n5 serve\n5 send\n\
+        4 take 9\n4 put 9\n1 take 3\n1 put 3\n0 take\n5 send\n4 take 9\n4 put 9\n1 take 3\n1 put 3\n0 take\n\
+        5 send\n4 take 9\n4 put 9\n1 take 3\n1 put 3\n0 take\n";
 
 const NEWER: &str =
-    "torusmem 2\nshape 2 1 8\ninit 0 12\nentry 0 0 0 0 and 0 10 12\nentry 0 1 0 0 or 0 3 8\nentry 0 2 0 0 xor 0 6 11\nentry 0 3 0 0 max 0 20 13\nentry 0 4 0 0 min 0 5 20\nanswer 0 0 0 0 12\nanswer 0 1 0 1 8\nanswer 0 2 0 2 11\nanswer 0 3 0 3 13\nanswer 0 4 0 4 20\nword 0 5\norder 0 0 1 2 3\norder 0 1 4 5 6\norder 0 2 7 8 9\norder 0 3 10 11 12\norder 0 4 13 14 15\nend complete\n";
+    "torusmem 2\nshape 2 1 8\ninit 0 12\nentry 0 0 0 0 and 0 10 12\nentry 0 1 0 0 or 0 3 8\n\
+        entry 0 2 0 0 xor 0 6 11\nentry 0 3 0 0 max 0 20 13\nentry 0 4 0 0 min 0 5 20\nanswer 0 0 0 0 12\n\
+        answer 0 1 0 1 8\nanswer 0 2 0 2 11\nanswer 0 3 0 3 13\nanswer 0 4 0 4 20\nword 0 5\norder 0 0 1 2 3\n\
+        order 0 1 4 5 6\norder 0 2 7 8 9\norder 0 3 10 11 12\norder 0 4 13 14 15\nend complete\n";
 
 /// What is asked for.
 #[derive(Drop)]
@@ -306,41 +317,90 @@ const RUNS: [[&str; 4]; 17] = [
     [
         "radix 2\ndims 1\ndepth 4\ntags 4\nwords 8\ninit 0 18446744073709551615\n",
         "0 add 0 1\n",
-        "0 send\n0 send\n1 take 8\n1 put 8\n2 take\n0 send\n1 take 8\n1 put 8\n2 take\n1 take 8\n1 put 8\n2 take\n2 serve\n2 send\n1 take 9\n1 put 9\n2 send\n1 take 9\n1 put 9\n2 send\n1 take 9\n1 put 9\n0 take\n0 take\n0 take\n",
-        "torusmem 1\nshape 2 1 8\ninit 0 18446744073709551615\nentry 0 0 0 0 add 0 1 18446744073709551615\nanswer 0 0 0 0 18446744073709551615\norder 0 0 1 2 3\nend complete\n",
+        "0 send\n0 send\n1 take 8\n1 put 8\n2 take\n0 send\n1 take 8\n1 put 8\n2 take\n1 take 8\n1 put 8\n\
+            2 take\n2 serve\n2 send\n1 take 9\n1 put 9\n2 send\n1 take 9\n1 put 9\n2 send\n1 take 9\n1 put 9\n\
+            0 take\n0 take\n0 take\n",
+        "torusmem 1\nshape 2 1 8\ninit 0 18446744073709551615\nentry 0 0 0 0 add 0 1 18446744073709551615\n\
+            answer 0 0 0 0 18446744073709551615\norder 0 0 1 2 3\nend complete\n",
     ],
     // A word is exchanged where it is the one that is expected.
     [
         "radix 2\ndims 1\ndepth 4\ntags 4\nwords 8\ninit 2 7\n",
         "0 cas 2 7 9\n0 fence\n0 cas 2 7 8\n",
-        "0 send\n0 send\n1 take 8\n1 put 8\n2 take\n0 send\n1 take 8\n1 put 8\n2 take\n0 send\n1 take 8\n1 put 8\n2 take\n0 credit\n0 send\n1 take 8\n1 put 8\n2 take\n1 take 8\n1 credit 8\n1 put 8\n2 take\n2 serve\n0 send\n2 send\n1 take 9\n1 put 9\n2 send\n1 take 9\n1 put 9\n2 send\n1 take 9\n1 put 9\n0 take\n0 take\n0 take\n0 credit\n0 send\n0 credit\n0 send\n1 take 8\n1 credit 8\n1 put 8\n2 take\n0 credit\n0 send\n1 take 8\n1 credit 8\n1 put 8\n2 take\n0 credit\n0 send\n1 take 8\n1 credit 8\n1 put 8\n2 take\n0 credit\n0 send\n1 take 8\n1 credit 8\n1 put 8\n2 take\n1 take 8\n1 credit 8\n1 put 8\n2 take\n2 serve\n2 send\n1 take 9\n1 put 9\n2 credit\n2 send\n1 take 9\n1 credit 9\n1 put 9\n2 credit\n2 send\n1 take 9\n1 credit 9\n1 put 9\n0 take\n0 take\n0 take\n",
-        "torusmem 1\nshape 2 1 8\ninit 2 7\nentry 0 0 0 0 cas 2 7 9 7\nentry 0 1 0 0 cas 2 7 8 9\nanswer 0 0 0 0 7\nanswer 0 1 0 1 9\nword 2 9\norder 0 0 1 2 3\norder 0 1 4 5 6\nend complete\n",
+        "0 send\n0 send\n1 take 8\n1 put 8\n2 take\n0 send\n1 take 8\n1 put 8\n2 take\n0 send\n1 take 8\n\
+            1 put 8\n2 take\n0 credit\n0 send\n1 take 8\n1 put 8\n2 take\n1 take 8\n1 credit 8\n1 put 8\n\
+            2 take\n2 serve\n0 send\n2 send\n1 take 9\n1 put 9\n2 send\n1 take 9\n1 put 9\n2 send\n1 take 9\n\
+            1 put 9\n0 take\n0 take\n0 take\n0 credit\n0 send\n0 credit\n0 send\n1 take 8\n1 credit 8\n\
+            1 put 8\n2 take\n0 credit\n0 send\n1 take 8\n1 credit 8\n1 put 8\n2 take\n0 credit\n0 send\n\
+            1 take 8\n1 credit 8\n1 put 8\n2 take\n0 credit\n0 send\n1 take 8\n1 credit 8\n1 put 8\n2 take\n\
+            1 take 8\n1 credit 8\n1 put 8\n2 take\n2 serve\n2 send\n1 take 9\n1 put 9\n2 credit\n2 send\n\
+            1 take 9\n1 credit 9\n1 put 9\n2 credit\n2 send\n1 take 9\n1 credit 9\n1 put 9\n0 take\n0 take\n\
+            0 take\n",
+        "torusmem 1\nshape 2 1 8\ninit 2 7\nentry 0 0 0 0 cas 2 7 9 7\nentry 0 1 0 0 cas 2 7 8 9\n\
+            answer 0 0 0 0 7\nanswer 0 1 0 1 9\nword 2 9\norder 0 0 1 2 3\norder 0 1 4 5 6\nend complete\n",
     ],
     [
         PAIR,
         "0 swap 7 3\n0 fence\n0 swap 7 3\n",
-        "0 send\n0 send\n1 take 8\n1 put 8\n4 take 0\n4 put 0\n5 take\n0 send\n1 take 8\n1 put 8\n4 take 0\n4 put 0\n5 take\n1 take 8\n1 put 8\n4 take 0\n4 put 0\n5 take\n5 serve\n5 send\n4 take 9\n4 put 9\n5 send\n1 take 3\n1 put 3\n4 take 9\n4 put 9\n5 send\n1 take 3\n1 put 3\n4 take 9\n4 put 9\n1 take 3\n1 put 3\n0 take\n0 take\n0 take\n0 send\n0 credit\n0 send\n1 take 8\n1 put 8\n4 take 0\n4 put 0\n5 take\n0 credit\n0 send\n1 take 8\n1 credit 0\n1 put 8\n4 take 0\n4 credit 8\n4 put 0\n5 take\n1 take 8\n1 credit 0\n1 put 8\n4 take 0\n4 credit 8\n4 put 0\n5 take\n5 serve\n5 send\n4 take 9\n4 put 9\n5 credit\n5 send\n1 take 3\n1 put 3\n4 take 9\n4 credit 3\n4 put 9\n5 credit\n5 send\n1 take 3\n1 credit 9\n1 put 3\n4 take 9\n4 credit 3\n4 put 9\n1 take 3\n1 credit 9\n1 put 3\n0 take\n0 take\n0 take\n",
-        "torusmem 1\nshape 2 1 8\nentry 1 0 0 0 swap 7 3 0\nentry 1 1 0 0 swap 7 3 3\nanswer 0 0 1 0 0\nanswer 0 1 1 1 3\nword 7 3\norder 1 0 1 2 3\norder 1 1 4 5 6\nend complete\n",
+        "0 send\n0 send\n1 take 8\n1 put 8\n4 take 0\n4 put 0\n5 take\n0 send\n1 take 8\n1 put 8\n4 take 0\n\
+            4 put 0\n5 take\n1 take 8\n1 put 8\n4 take 0\n4 put 0\n5 take\n5 serve\n5 send\n4 take 9\n4 put 9\n\
+            5 send\n1 take 3\n1 put 3\n4 take 9\n4 put 9\n5 send\n1 take 3\n1 put 3\n4 take 9\n4 put 9\n\
+            1 take 3\n1 put 3\n0 take\n0 take\n0 take\n0 send\n0 credit\n0 send\n1 take 8\n1 put 8\n4 take 0\n\
+            4 put 0\n5 take\n0 credit\n0 send\n1 take 8\n1 credit 0\n1 put 8\n4 take 0\n4 credit 8\n4 put 0\n\
+            5 take\n1 take 8\n1 credit 0\n1 put 8\n4 take 0\n4 credit 8\n4 put 0\n5 take\n5 serve\n5 send\n\
+            4 take 9\n4 put 9\n5 credit\n5 send\n1 take 3\n1 put 3\n4 take 9\n4 credit 3\n4 put 9\n5 credit\n\
+            5 send\n1 take 3\n1 credit 9\n1 put 3\n4 take 9\n4 credit 3\n4 put 9\n1 take 3\n1 credit 9\n\
+            1 put 3\n0 take\n0 take\n0 take\n",
+        "torusmem 1\nshape 2 1 8\nentry 1 0 0 0 swap 7 3 0\nentry 1 1 0 0 swap 7 3 3\nanswer 0 0 1 0 0\n\
+            answer 0 1 1 1 3\nword 7 3\norder 1 0 1 2 3\norder 1 1 4 5 6\nend complete\n",
     ],
     // The last reply is stored.
     [
         "radix 2\ndims 1\ndepth 4\ntags 4\nwords 8\ninit 4 9\n",
         "0 load 4\n0 store 5 last\n",
-        "0 send\n0 send\n1 take 8\n1 put 8\n2 take\n2 serve\n2 send\n1 take 9\n1 put 9\n2 send\n1 take 9\n1 put 9\n2 send\n1 take 9\n1 put 9\n0 take\n0 take\n0 take\n0 send\n0 send\n1 take 8\n1 put 8\n4 take 0\n4 put 0\n5 take\n0 send\n1 take 8\n1 put 8\n4 take 0\n4 put 0\n5 take\n1 take 8\n1 put 8\n4 take 0\n4 put 0\n5 take\n5 serve\n5 send\n4 take 9\n4 put 9\n1 take 3\n1 put 3\n0 take\n",
-        "torusmem 1\nshape 2 1 8\ninit 4 9\nentry 0 0 0 0 load 4 9\nentry 1 0 0 0 store 5 9 ok\nanswer 0 0 0 0 9\nanswer 0 1 1 0 ok\nword 4 9\nword 5 9\norder 0 0 1 2 3\norder 1 0 4 5 6\nend complete\n",
+        "0 send\n0 send\n1 take 8\n1 put 8\n2 take\n2 serve\n2 send\n1 take 9\n1 put 9\n2 send\n1 take 9\n\
+            1 put 9\n2 send\n1 take 9\n1 put 9\n0 take\n0 take\n0 take\n0 send\n0 send\n1 take 8\n1 put 8\n\
+            4 take 0\n4 put 0\n5 take\n0 send\n1 take 8\n1 put 8\n4 take 0\n4 put 0\n5 take\n1 take 8\n\
+            1 put 8\n4 take 0\n4 put 0\n5 take\n5 serve\n5 send\n4 take 9\n4 put 9\n1 take 3\n1 put 3\n0 take\n",
+        "torusmem 1\nshape 2 1 8\ninit 4 9\nentry 0 0 0 0 load 4 9\nentry 1 0 0 0 store 5 9 ok\n\
+            answer 0 0 0 0 9\nanswer 0 1 1 0 ok\nword 4 9\nword 5 9\norder 0 0 1 2 3\norder 1 0 4 5 6\n\
+            end complete\n",
     ],
     // A spin gives up after three loads.
     [
         PAIR,
         "0 spin 0 1 3\n",
-        "0 send\n1 take 8\n1 put 8\n2 take\n2 serve\n2 send\n1 take 9\n1 put 9\n2 send\n1 take 9\n1 put 9\n2 send\n1 take 9\n1 put 9\n0 take\n0 take\n0 take\n0 send\n1 take 8\n1 put 8\n2 take\n2 serve\n2 send\n1 take 9\n1 put 9\n2 credit\n2 send\n1 take 9\n1 credit 9\n1 put 9\n2 credit\n2 send\n1 take 9\n1 credit 9\n1 put 9\n0 take\n0 take\n0 take\n0 send\n1 take 8\n1 put 8\n2 take\n2 serve\n2 credit\n2 send\n1 take 9\n1 credit 9\n1 put 9\n2 credit\n2 send\n1 take 9\n1 credit 9\n1 put 9\n2 credit\n2 send\n1 take 9\n1 credit 9\n1 put 9\n0 take\n0 take\n0 take\n0 send\n",
-        "torusmem 1\nshape 2 1 8\nentry 0 0 0 0 load 0 0\nentry 0 1 0 0 load 0 0\nentry 0 2 0 0 load 0 0\nanswer 0 0 0 0 0\nanswer 0 1 0 1 0\nanswer 0 2 0 2 0\norder 0 0 1 2 3\norder 0 1 4 5 6\norder 0 2 7 8 9\nend complete\n",
+        "0 send\n1 take 8\n1 put 8\n2 take\n2 serve\n2 send\n1 take 9\n1 put 9\n2 send\n1 take 9\n1 put 9\n\
+            2 send\n1 take 9\n1 put 9\n0 take\n0 take\n0 take\n0 send\n1 take 8\n1 put 8\n2 take\n2 serve\n\
+            2 send\n1 take 9\n1 put 9\n2 credit\n2 send\n1 take 9\n1 credit 9\n1 put 9\n2 credit\n2 send\n\
+            1 take 9\n1 credit 9\n1 put 9\n0 take\n0 take\n0 take\n0 send\n1 take 8\n1 put 8\n2 take\n2 serve\n\
+            2 credit\n2 send\n1 take 9\n1 credit 9\n1 put 9\n2 credit\n2 send\n1 take 9\n1 credit 9\n1 put 9\n\
+            2 credit\n2 send\n1 take 9\n1 credit 9\n1 put 9\n0 take\n0 take\n0 take\n0 send\n",
+        "torusmem 1\nshape 2 1 8\nentry 0 0 0 0 load 0 0\nentry 0 1 0 0 load 0 0\nentry 0 2 0 0 load 0 0\n\
+            answer 0 0 0 0 0\nanswer 0 1 0 1 0\nanswer 0 2 0 2 0\norder 0 0 1 2 3\norder 0 1 4 5 6\n\
+            order 0 2 7 8 9\nend complete\n",
     ],
     // The newer operations.
     [
         "radix 2\ndims 1\ndepth 4\ntags 4\nwords 8\ninit 0 12\n",
         "0 and 0 10\n0 fence\n0 or 0 3\n0 fence\n0 xor 0 6\n0 fence\n0 max 0 20\n0 fence\n0 min 0 5\n",
-        "0 send\n0 send\n1 take 8\n1 put 8\n2 take\n0 send\n1 take 8\n1 put 8\n2 take\n1 take 8\n1 put 8\n2 take\n2 serve\n2 send\n1 take 9\n1 put 9\n2 send\n1 take 9\n1 put 9\n2 send\n1 take 9\n1 put 9\n0 take\n0 take\n0 take\n0 send\n0 credit\n0 send\n1 take 8\n1 put 8\n2 take\n0 credit\n0 send\n1 take 8\n1 credit 8\n1 put 8\n2 take\n1 take 8\n1 credit 8\n1 put 8\n2 take\n2 serve\n2 send\n1 take 9\n1 put 9\n2 credit\n2 send\n1 take 9\n1 credit 9\n1 put 9\n2 credit\n2 send\n1 take 9\n1 credit 9\n1 put 9\n0 take\n0 take\n0 take\n0 credit\n0 send\n0 credit\n0 send\n1 take 8\n1 credit 8\n1 put 8\n2 take\n0 credit\n0 send\n1 take 8\n1 credit 8\n1 put 8\n2 take\n1 take 8\n1 credit 8\n1 put 8\n2 take\n2 serve\n2 credit\n2 send\n1 take 9\n1 credit 9\n1 put 9\n2 credit\n2 send\n1 take 9\n1 credit 9\n1 put 9\n2 credit\n2 send\n1 take 9\n1 credit 9\n1 put 9\n0 take\n0 take\n0 take\n0 credit\n0 send\n0 credit\n0 send\n1 take 8\n1 credit 8\n1 put 8\n2 take\n0 credit\n0 send\n1 take 8\n1 credit 8\n1 put 8\n2 take\n1 take 8\n1 credit 8\n1 put 8\n2 take\n2 serve\n2 credit\n2 send\n1 take 9\n1 credit 9\n1 put 9\n2 credit\n2 send\n1 take 9\n1 credit 9\n1 put 9\n2 credit\n2 send\n1 take 9\n1 credit 9\n1 put 9\n0 take\n0 take\n0 take\n0 credit\n0 send\n0 credit\n0 send\n1 take 8\n1 credit 8\n1 put 8\n2 take\n0 credit\n0 send\n1 take 8\n1 credit 8\n1 put 8\n2 take\n1 take 8\n1 credit 8\n1 put 8\n2 take\n2 serve\n2 credit\n2 send\n1 take 9\n1 credit 9\n1 put 9\n2 credit\n2 send\n1 take 9\n1 credit 9\n1 put 9\n2 credit\n2 send\n1 take 9\n1 credit 9\n1 put 9\n0 take\n0 take\n0 take\n",
+        "0 send\n0 send\n1 take 8\n1 put 8\n2 take\n0 send\n1 take 8\n1 put 8\n2 take\n1 take 8\n1 put 8\n\
+            2 take\n2 serve\n2 send\n1 take 9\n1 put 9\n2 send\n1 take 9\n1 put 9\n2 send\n1 take 9\n1 put 9\n\
+            0 take\n0 take\n0 take\n0 send\n0 credit\n0 send\n1 take 8\n1 put 8\n2 take\n0 credit\n0 send\n\
+            1 take 8\n1 credit 8\n1 put 8\n2 take\n1 take 8\n1 credit 8\n1 put 8\n2 take\n2 serve\n2 send\n\
+            1 take 9\n1 put 9\n2 credit\n2 send\n1 take 9\n1 credit 9\n1 put 9\n2 credit\n2 send\n1 take 9\n\
+            1 credit 9\n1 put 9\n0 take\n0 take\n0 take\n0 credit\n0 send\n0 credit\n0 send\n1 take 8\n\
+            1 credit 8\n1 put 8\n2 take\n0 credit\n0 send\n1 take 8\n1 credit 8\n1 put 8\n2 take\n1 take 8\n\
+            1 credit 8\n1 put 8\n2 take\n2 serve\n2 credit\n2 send\n1 take 9\n1 credit 9\n1 put 9\n2 credit\n\
+            2 send\n1 take 9\n1 credit 9\n1 put 9\n2 credit\n2 send\n1 take 9\n1 credit 9\n1 put 9\n0 take\n\
+            0 take\n0 take\n0 credit\n0 send\n0 credit\n0 send\n1 take 8\n1 credit 8\n1 put 8\n2 take\n\
+            0 credit\n0 send\n1 take 8\n1 credit 8\n1 put 8\n2 take\n1 take 8\n1 credit 8\n1 put 8\n2 take\n\
+            2 serve\n2 credit\n2 send\n1 take 9\n1 credit 9\n1 put 9\n2 credit\n2 send\n1 take 9\n1 credit 9\n\
+            1 put 9\n2 credit\n2 send\n1 take 9\n1 credit 9\n1 put 9\n0 take\n0 take\n0 take\n0 credit\n\
+            0 send\n0 credit\n0 send\n1 take 8\n1 credit 8\n1 put 8\n2 take\n0 credit\n0 send\n1 take 8\n\
+            1 credit 8\n1 put 8\n2 take\n1 take 8\n1 credit 8\n1 put 8\n2 take\n2 serve\n2 credit\n2 send\n\
+            1 take 9\n1 credit 9\n1 put 9\n2 credit\n2 send\n1 take 9\n1 credit 9\n1 put 9\n2 credit\n2 send\n\
+            1 take 9\n1 credit 9\n1 put 9\n0 take\n0 take\n0 take\n",
         NEWER,
     ],
     // Radices that differ.
@@ -354,29 +414,58 @@ const RUNS: [[&str; 4]; 17] = [
     [
         "radix 2\ndims 1\ndepth 4\ntags 1\nwords 8\n",
         SCRIPT,
-        "0 send\n0 send\n0 send\n1 take 8\n1 put 8\n4 take 0\n4 put 0\n5 take\n0 send\n1 take 8\n1 put 8\n4 take 0\n4 put 0\n5 take\n1 take 8\n1 put 8\n4 take 0\n4 put 0\n5 take\n5 serve\n",
+        "0 send\n0 send\n0 send\n1 take 8\n1 put 8\n4 take 0\n4 put 0\n5 take\n0 send\n1 take 8\n1 put 8\n\
+            4 take 0\n4 put 0\n5 take\n1 take 8\n1 put 8\n4 take 0\n4 put 0\n5 take\n5 serve\n",
         "torusmem 1\nshape 2 1 8\nentry 1 0 0 0 store 5 17 ok\nword 5 17\norder 1 0 1 2 -\nend incomplete\n",
     ],
     // Two processors and both banks; the second answer of processor 0 comes before the first.
     [
         PAIR,
         "0 add 4 1\n0 load 1\n1 store 1 7\n",
-        "3 send\n3 send\n4 take 8\n4 put 8\n5 take\n3 send\n4 take 8\n4 put 8\n5 take\n4 take 8\n4 put 8\n5 take\n5 serve\n5 send\n4 take 9\n4 put 9\n0 send\n0 send\n1 take 8\n1 put 8\n2 take\n0 send\n1 take 8\n1 put 8\n2 take\n1 take 8\n1 put 8\n2 take\n0 send\n1 take 8\n1 put 8\n4 take 0\n4 put 0\n5 take\n5 serve\n5 send\n4 take 9\n4 put 9\n5 send\n1 take 3\n1 put 3\n4 take 9\n4 put 9\n5 send\n1 take 3\n1 put 3\n4 take 9\n4 put 9\n1 take 3\n1 put 3\n0 take\n0 take\n0 take\n2 serve\n2 send\n1 take 9\n1 put 9\n2 send\n1 take 9\n1 credit 9\n1 put 9\n2 send\n1 take 9\n1 credit 9\n1 put 9\n0 take\n0 take\n0 take\n3 take\n",
-        "torusmem 1\nshape 2 1 8\nentry 0 0 0 0 add 4 1 0\nentry 1 0 1 0 store 1 7 ok\nentry 1 1 0 1 load 1 7\nanswer 0 0 0 0 0\nanswer 0 1 1 1 7\nanswer 1 0 1 0 ok\nword 1 7\nword 4 1\norder 1 0 1 2 9\norder 1 1 4 5 6\norder 0 0 3 7 8\nend complete\n",
+        "3 send\n3 send\n4 take 8\n4 put 8\n5 take\n3 send\n4 take 8\n4 put 8\n5 take\n4 take 8\n4 put 8\n\
+            5 take\n5 serve\n5 send\n4 take 9\n4 put 9\n0 send\n0 send\n1 take 8\n1 put 8\n2 take\n0 send\n\
+            1 take 8\n1 put 8\n2 take\n1 take 8\n1 put 8\n2 take\n0 send\n1 take 8\n1 put 8\n4 take 0\n\
+            4 put 0\n5 take\n5 serve\n5 send\n4 take 9\n4 put 9\n5 send\n1 take 3\n1 put 3\n4 take 9\n4 put 9\n\
+            5 send\n1 take 3\n1 put 3\n4 take 9\n4 put 9\n1 take 3\n1 put 3\n0 take\n0 take\n0 take\n2 serve\n\
+            2 send\n1 take 9\n1 put 9\n2 send\n1 take 9\n1 credit 9\n1 put 9\n2 send\n1 take 9\n1 credit 9\n\
+            1 put 9\n0 take\n0 take\n0 take\n3 take\n",
+        "torusmem 1\nshape 2 1 8\nentry 0 0 0 0 add 4 1 0\nentry 1 0 1 0 store 1 7 ok\nentry 1 1 0 1 load 1 7\n\
+            answer 0 0 0 0 0\nanswer 0 1 1 1 7\nanswer 1 0 1 0 ok\nword 1 7\nword 4 1\norder 1 0 1 2 9\n\
+            order 1 1 4 5 6\norder 0 0 3 7 8\nend complete\n",
     ],
     // The newer operations with no fences between them.
     [
         "radix 2\ndims 1\ndepth 4\ntags 4\nwords 8\ninit 0 12\n",
         "0 and 0 10\n0 or 0 3\n0 xor 0 6\n0 max 0 20\n0 min 0 5\n",
-        "0 send\n0 send\n1 take 8\n1 put 8\n2 take\n0 send\n1 take 8\n1 put 8\n2 take\n1 take 8\n1 put 8\n2 take\n2 serve\n2 send\n1 take 9\n1 put 9\n2 send\n1 take 9\n1 put 9\n2 send\n1 take 9\n1 put 9\n0 take\n0 take\n0 take\n0 send\n0 credit\n0 send\n1 take 8\n1 put 8\n2 take\n0 credit\n0 send\n1 take 8\n1 credit 8\n1 put 8\n2 take\n1 take 8\n1 credit 8\n1 put 8\n2 take\n2 serve\n2 send\n1 take 9\n1 put 9\n2 credit\n2 send\n1 take 9\n1 credit 9\n1 put 9\n2 credit\n2 send\n1 take 9\n1 credit 9\n1 put 9\n0 take\n0 take\n0 take\n0 credit\n0 send\n0 credit\n0 send\n1 take 8\n1 credit 8\n1 put 8\n2 take\n0 credit\n0 send\n1 take 8\n1 credit 8\n1 put 8\n2 take\n1 take 8\n1 credit 8\n1 put 8\n2 take\n2 serve\n2 credit\n2 send\n1 take 9\n1 credit 9\n1 put 9\n2 credit\n2 send\n1 take 9\n1 credit 9\n1 put 9\n2 credit\n2 send\n1 take 9\n1 credit 9\n1 put 9\n0 take\n0 take\n0 take\n0 credit\n0 send\n0 credit\n0 send\n1 take 8\n1 credit 8\n1 put 8\n2 take\n0 credit\n0 send\n1 take 8\n1 credit 8\n1 put 8\n2 take\n1 take 8\n1 credit 8\n1 put 8\n2 take\n2 serve\n2 credit\n2 send\n1 take 9\n1 credit 9\n1 put 9\n2 credit\n2 send\n1 take 9\n1 credit 9\n1 put 9\n2 credit\n2 send\n1 take 9\n1 credit 9\n1 put 9\n0 take\n0 take\n0 take\n0 credit\n0 send\n0 credit\n0 send\n1 take 8\n1 credit 8\n1 put 8\n2 take\n0 credit\n0 send\n1 take 8\n1 credit 8\n1 put 8\n2 take\n1 take 8\n1 credit 8\n1 put 8\n2 take\n2 serve\n2 credit\n2 send\n1 take 9\n1 credit 9\n1 put 9\n2 credit\n2 send\n1 take 9\n1 credit 9\n1 put 9\n2 credit\n2 send\n1 take 9\n1 credit 9\n1 put 9\n0 take\n0 take\n0 take\n",
+        "0 send\n0 send\n1 take 8\n1 put 8\n2 take\n0 send\n1 take 8\n1 put 8\n2 take\n1 take 8\n1 put 8\n\
+            2 take\n2 serve\n2 send\n1 take 9\n1 put 9\n2 send\n1 take 9\n1 put 9\n2 send\n1 take 9\n1 put 9\n\
+            0 take\n0 take\n0 take\n0 send\n0 credit\n0 send\n1 take 8\n1 put 8\n2 take\n0 credit\n0 send\n\
+            1 take 8\n1 credit 8\n1 put 8\n2 take\n1 take 8\n1 credit 8\n1 put 8\n2 take\n2 serve\n2 send\n\
+            1 take 9\n1 put 9\n2 credit\n2 send\n1 take 9\n1 credit 9\n1 put 9\n2 credit\n2 send\n1 take 9\n\
+            1 credit 9\n1 put 9\n0 take\n0 take\n0 take\n0 credit\n0 send\n0 credit\n0 send\n1 take 8\n\
+            1 credit 8\n1 put 8\n2 take\n0 credit\n0 send\n1 take 8\n1 credit 8\n1 put 8\n2 take\n1 take 8\n\
+            1 credit 8\n1 put 8\n2 take\n2 serve\n2 credit\n2 send\n1 take 9\n1 credit 9\n1 put 9\n2 credit\n\
+            2 send\n1 take 9\n1 credit 9\n1 put 9\n2 credit\n2 send\n1 take 9\n1 credit 9\n1 put 9\n0 take\n\
+            0 take\n0 take\n0 credit\n0 send\n0 credit\n0 send\n1 take 8\n1 credit 8\n1 put 8\n2 take\n\
+            0 credit\n0 send\n1 take 8\n1 credit 8\n1 put 8\n2 take\n1 take 8\n1 credit 8\n1 put 8\n2 take\n\
+            2 serve\n2 credit\n2 send\n1 take 9\n1 credit 9\n1 put 9\n2 credit\n2 send\n1 take 9\n1 credit 9\n\
+            1 put 9\n2 credit\n2 send\n1 take 9\n1 credit 9\n1 put 9\n0 take\n0 take\n0 take\n0 credit\n\
+            0 send\n0 credit\n0 send\n1 take 8\n1 credit 8\n1 put 8\n2 take\n0 credit\n0 send\n1 take 8\n\
+            1 credit 8\n1 put 8\n2 take\n1 take 8\n1 credit 8\n1 put 8\n2 take\n2 serve\n2 credit\n2 send\n\
+            1 take 9\n1 credit 9\n1 put 9\n2 credit\n2 send\n1 take 9\n1 credit 9\n1 put 9\n2 credit\n2 send\n\
+            1 take 9\n1 credit 9\n1 put 9\n0 take\n0 take\n0 take\n",
         NEWER,
     ],
     // Two operations are served in the other order than they were issued.
     [
         PAIR,
         "0 load 0\n1 load 1\n",
-        "0 send\n1 take 8\n1 put 8\n2 take\n3 send\n4 take 8\n4 put 8\n5 take\n5 serve\n5 send\n4 take 9\n4 put 9\n5 send\n4 take 9\n4 put 9\n5 send\n4 take 9\n4 put 9\n2 serve\n2 send\n1 take 9\n1 put 9\n2 send\n1 take 9\n1 put 9\n2 send\n1 take 9\n1 put 9\n3 take\n3 take\n3 take\n0 take\n0 take\n0 take\n",
-        "torusmem 1\nshape 2 1 8\nentry 0 0 0 0 load 0 0\nentry 1 0 1 0 load 1 0\nanswer 0 0 0 0 0\nanswer 1 0 1 0 0\norder 1 0 2 3 5\norder 0 0 1 4 6\nend complete\n",
+        "0 send\n1 take 8\n1 put 8\n2 take\n3 send\n4 take 8\n4 put 8\n5 take\n5 serve\n5 send\n4 take 9\n\
+            4 put 9\n5 send\n4 take 9\n4 put 9\n5 send\n4 take 9\n4 put 9\n2 serve\n2 send\n1 take 9\n1 put 9\n\
+            2 send\n1 take 9\n1 put 9\n2 send\n1 take 9\n1 put 9\n3 take\n3 take\n3 take\n0 take\n0 take\n\
+            0 take\n",
+        "torusmem 1\nshape 2 1 8\nentry 0 0 0 0 load 0 0\nentry 1 0 1 0 load 1 0\nanswer 0 0 0 0 0\n\
+            answer 1 0 1 0 0\norder 1 0 2 3 5\norder 0 0 1 4 6\nend complete\n",
     ],
 ];
 
@@ -389,7 +478,8 @@ const ROUNDS: [(&str, &str, u64, &str); 5] = [
         PAIR,
         SCRIPT,
         11,
-        "torusmem 1\nshape 2 1 8\nentry 1 0 0 0 store 5 17 ok\nentry 1 1 0 0 load 5 17\nanswer 0 0 1 0 ok\nword 5 17\norder 1 0 1 2 3\norder 1 1 4 5 -\nend incomplete\n",
+        "torusmem 1\nshape 2 1 8\nentry 1 0 0 0 store 5 17 ok\nentry 1 1 0 0 load 5 17\nanswer 0 0 1 0 ok\n\
+            word 5 17\norder 1 0 1 2 3\norder 1 1 4 5 -\nend incomplete\n",
     ),
     (PAIR, "", 1, "torusmem 1\nshape 2 1 8\nend complete\n"),
     // Two processors and both banks, in rounds.
@@ -397,7 +487,9 @@ const ROUNDS: [(&str, &str, u64, &str); 5] = [
         PAIR,
         "0 add 4 1\n0 load 1\n1 store 1 7\n",
         10,
-        "torusmem 1\nshape 2 1 8\nentry 0 0 0 0 add 4 1 0\nentry 1 0 1 0 store 1 7 ok\nentry 1 1 0 1 load 1 7\nanswer 0 0 0 0 0\nanswer 0 1 1 1 7\nanswer 1 0 1 0 ok\nword 1 7\nword 4 1\norder 0 0 1 3 8\norder 1 0 2 4 7\norder 1 1 5 6 9\nend complete\n",
+        "torusmem 1\nshape 2 1 8\nentry 0 0 0 0 add 4 1 0\nentry 1 0 1 0 store 1 7 ok\nentry 1 1 0 1 load 1 7\n\
+            answer 0 0 0 0 0\nanswer 0 1 1 1 7\nanswer 1 0 1 0 ok\nword 1 7\nword 4 1\norder 0 0 1 3 8\n\
+            order 1 0 2 4 7\norder 1 1 5 6 9\nend complete\n",
     ),
 ];
 

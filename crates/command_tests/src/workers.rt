@@ -18,7 +18,8 @@ const NOTHING: &str = "torusmem 1\nshape 2 1 8\nend complete\n";
 
 /// The report of the good run, without order lines.
 const UNORDERED: &str =
-    "torusmem 1\nshape 2 1 8\nentry 1 0 0 0 store 5 17 ok\nentry 1 1 0 0 load 5 17\nanswer 0 0 1 0 ok\nanswer 0 1 1 1 17\nword 5 17\nend complete\n";
+    "torusmem 1\nshape 2 1 8\nentry 1 0 0 0 store 5 17 ok\nentry 1 1 0 0 load 5 17\nanswer 0 0 1 0 ok\n\
+        answer 0 1 1 1 17\nword 5 17\nend complete\n";
 
 /// As many turns as can be asked for.
 const MOST: u64 = 1000000000;
@@ -66,7 +67,8 @@ const RUNS: [(&str, &str, usize, u64, bool, &str); 9] = [
         2,
         MOST,
         true,
-        "torusmem 1\nshape 2 1 8\nentry 0 0 0 0 load 0 0\nentry 0 1 0 0 load 0 0\nentry 0 2 0 0 load 0 0\nanswer 0 0 0 0 0\nanswer 0 1 0 1 0\nanswer 0 2 0 2 0\nend complete\n",
+        "torusmem 1\nshape 2 1 8\nentry 0 0 0 0 load 0 0\nentry 0 1 0 0 load 0 0\nentry 0 2 0 0 load 0 0\n\
+            answer 0 0 0 0 0\nanswer 0 1 0 1 0\nanswer 0 2 0 2 0\nend complete\n",
     ),
     (
         BOX,
@@ -74,7 +76,8 @@ const RUNS: [(&str, &str, usize, u64, bool, &str); 9] = [
         4,
         MOST,
         true,
-        "torusmem 1\nshape 2 2 8\nentry 1 0 3 0 store 1 7 ok\nentry 1 1 3 0 add 1 1 7\nanswer 3 0 1 0 ok\nanswer 3 1 1 1 7\nword 1 8\nend complete\n",
+        "torusmem 1\nshape 2 2 8\nentry 1 0 3 0 store 1 7 ok\nentry 1 1 3 0 add 1 1 7\nanswer 3 0 1 0 ok\n\
+            answer 3 1 1 1 7\nword 1 8\nend complete\n",
     ),
 ];
 

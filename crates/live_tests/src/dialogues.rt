@@ -38,13 +38,15 @@ const DIALOGUES: [(&[u8], &str); 14] = [
     (
         b"ask 1 store 5 7\nwait 1 0\nask 1 add 5 last\nwait 1 1\n\
             ask 0 cas 5 7 9\nwait 0 0\nask 1 swap 5 last\nwait 1 2\nwait 1 0\nwait 0 0\n",
-        "asked 1 0\nanswer 1 0 ok\nasked 1 1\nanswer 1 1 7\nasked 0 0\nanswer 0 0 7\nasked 1 2\nanswer 1 2 9\nanswer 1 0 ok\nanswer 0 0 7\n",
+        "asked 1 0\nanswer 1 0 ok\nasked 1 1\nanswer 1 1 7\nasked 0 0\nanswer 0 0 7\nasked 1 2\nanswer 1 2 9\n\
+            answer 1 0 ok\nanswer 0 0 7\n",
     ),
     // Faults, in the order of the checks; the dialogue goes on.
     (
         b"ask 2 load 8\nask 0 load 8\nask 0 store 5 18446744073709551616\nask 0 spin 5 0 0\nask 0 spin 5 0 4097\nask 0 store 5 last\n\
             wait 2 0\nwait 0 0\nwait 0 99999999999999999999\nround 0\nround 1000001\nask 0 load 5\nwait 0 0\nwait 0 1\n",
-        "fault F8\nfault F7\nfault F6\nfault F6\nfault F6\nfault F10\nfault F8\nfault F6\nfault F6\nfault F6\nfault F6\nasked 0 0\nanswer 0 0 0\nfault F6\n",
+        "fault F8\nfault F7\nfault F6\nfault F6\nfault F6\nfault F10\nfault F8\nfault F6\nfault F6\nfault F6\n\
+            fault F6\nasked 0 0\nanswer 0 0 0\nfault F6\n",
     ),
     // A script is full.
     (
@@ -53,8 +55,10 @@ const DIALOGUES: [(&[u8], &str); 14] = [
     ),
     // Lines of no shape, also for a processor that isn't there.
     (
-        b"ask\nask 0\nask x load 5\nask 0 load\nask 0 load 5 6\nask 0 store 5\nask 9 jump\nask -1 load 5\nround x\nround 1 2\nwait 0\n",
-        "bad line\nbad line\nbad line\nbad line\nbad line\nbad line\nbad line\nbad line\nbad line\nbad line\nbad line\n",
+        b"ask\nask 0\nask x load 5\nask 0 load\nask 0 load 5 6\nask 0 store 5\nask 9 jump\nask -1 load 5\n\
+            round x\nround 1 2\nwait 0\n",
+        "bad line\nbad line\nbad line\nbad line\nbad line\nbad line\nbad line\nbad line\nbad line\nbad line\n\
+            bad line\n",
     ),
     (
         b"wait 0 0 0\nwait x 0\nfinish 1\nreport now\nquit now\nhello\nQuit\nask 0 cas 5 1 2 3 4 5 6 7\n",

@@ -5,7 +5,8 @@ use std::process::Abort;
 use std::test::Fail;
 
 const ROW: &str =
-    "torusmem 1\nshape 2 1 8\nentry 1 0 0 0 store 5 17 ok\nentry 1 1 0 0 load 5 17\nanswer 0 0 1 0 ok\nanswer 0 1 1 1 17\nword 5 17\norder 1 0 1 2 3\norder 1 1 4 5 6\nend complete\n";
+    "torusmem 1\nshape 2 1 8\nentry 1 0 0 0 store 5 17 ok\nentry 1 1 0 0 load 5 17\nanswer 0 0 1 0 ok\n\
+        answer 0 1 1 1 17\nword 5 17\norder 1 0 1 2 3\norder 1 1 4 5 6\nend complete\n";
 
 /// Stands for out of memory.
 const REFUSED: u64 = 1_000_000;
@@ -29,12 +30,14 @@ const TEXTS: [(&str, u64); 52] = [
     ),
     // The `word` line is left out.
     (
-        "torusmem 1\nshape 2 1 8\nentry 1 0 0 0 store 5 17 ok\nentry 1 1 0 0 load 5 17\nanswer 0 0 1 0 ok\nanswer 0 1 1 1 17\norder 1 0 1 2 3\norder 1 1 4 5 6\nend complete\n",
+        "torusmem 1\nshape 2 1 8\nentry 1 0 0 0 store 5 17 ok\nentry 1 1 0 0 load 5 17\nanswer 0 0 1 0 ok\n\
+            answer 0 1 1 1 17\norder 1 0 1 2 3\norder 1 1 4 5 6\nend complete\n",
         7,
     ),
     // Cut after the ninth line.
     (
-        "torusmem 1\nshape 2 1 8\nentry 1 0 0 0 store 5 17 ok\nentry 1 1 0 0 load 5 17\nanswer 0 0 1 0 ok\nanswer 0 1 1 1 17\nword 5 17\norder 1 0 1 2 3\norder 1 1 4 5 6\n",
+        "torusmem 1\nshape 2 1 8\nentry 1 0 0 0 store 5 17 ok\nentry 1 1 0 0 load 5 17\nanswer 0 0 1 0 ok\n\
+            answer 0 1 1 1 17\nword 5 17\norder 1 0 1 2 3\norder 1 1 4 5 6\n",
         10,
     ),
     ("", 1),
@@ -103,7 +106,8 @@ const TEXTS: [(&str, u64); 52] = [
     ),
     // The numbers of service rise, whatever the banks are.
     (
-        "torusmem 1\nshape 2 1 8\nentry 0 0 0 0 load 0 0\nentry 1 0 1 0 load 1 0\norder 1 0 1 2 -\norder 0 0 3 4 -\nend incomplete\n",
+        "torusmem 1\nshape 2 1 8\nentry 0 0 0 0 load 0 0\nentry 1 0 1 0 load 1 0\norder 1 0 1 2 -\n\
+            order 0 0 3 4 -\nend incomplete\n",
         0,
     ),
     (
@@ -115,7 +119,8 @@ const TEXTS: [(&str, u64); 52] = [
     ("torusmem 1\nshape 2 1 8\ninit 5 0\n", 3),
     ("torusmem 1\nshape 2 1 8\ninit 8 1\n", 3),
     (
-        "torusmem 1\nshape 2 1 8\ninit 5 18446744073709551615\nentry 1 0 1 15 add 5 1 18446744073709551615\nend incomplete\n",
+        "torusmem 1\nshape 2 1 8\ninit 5 18446744073709551615\nentry 1 0 1 15 add 5 1 18446744073709551615\n\
+            end incomplete\n",
         0,
     ),
     ("torusmem 1\nshape 2 1 8\ninit 5 18446744073709551616\n", 3),
@@ -129,7 +134,11 @@ const TEXTS: [(&str, u64); 52] = [
     ("torusmem 1\nshape 4x8x4 3 8\n", 2),
     // The newer operations want version 2, and version 2 wants one of them.
     (
-        "torusmem 2\nshape 2 1 8\ninit 0 12\nentry 0 0 0 0 and 0 10 12\nentry 0 1 0 0 or 0 3 8\nentry 0 2 0 0 xor 0 6 11\nentry 0 3 0 0 max 0 20 13\nentry 0 4 0 0 min 0 5 20\nanswer 0 0 0 0 12\nanswer 0 1 0 1 8\nanswer 0 2 0 2 11\nanswer 0 3 0 3 13\nanswer 0 4 0 4 20\nword 0 5\norder 0 0 1 2 3\norder 0 1 4 5 6\norder 0 2 7 8 9\norder 0 3 10 11 12\norder 0 4 13 14 15\nend complete\n",
+        "torusmem 2\nshape 2 1 8\ninit 0 12\nentry 0 0 0 0 and 0 10 12\nentry 0 1 0 0 or 0 3 8\n\
+            entry 0 2 0 0 xor 0 6 11\nentry 0 3 0 0 max 0 20 13\nentry 0 4 0 0 min 0 5 20\nanswer 0 0 0 0 12\n\
+            answer 0 1 0 1 8\nanswer 0 2 0 2 11\nanswer 0 3 0 3 13\nanswer 0 4 0 4 20\nword 0 5\n\
+            order 0 0 1 2 3\norder 0 1 4 5 6\norder 0 2 7 8 9\norder 0 3 10 11 12\norder 0 4 13 14 15\n\
+            end complete\n",
         0,
     ),
     (
@@ -142,7 +151,8 @@ const TEXTS: [(&str, u64); 52] = [
     ),
     // Issued against the order of the indexes, answered against the order of service.
     (
-        "torusmem 1\nshape 2 1 8\nentry 0 0 0 0 load 0 0\nentry 0 1 0 1 load 0 0\nanswer 0 7 0 1 0\nanswer 0 9 0 0 0\norder 0 0 1 3 6\norder 0 1 2 4 5\nend complete\n",
+        "torusmem 1\nshape 2 1 8\nentry 0 0 0 0 load 0 0\nentry 0 1 0 1 load 0 0\nanswer 0 7 0 1 0\n\
+            answer 0 9 0 0 0\norder 0 0 1 3 6\norder 0 1 2 4 5\nend complete\n",
         0,
     ),
 ];

@@ -64,11 +64,27 @@ const SCRIPT: &str = "0 store 5 17\n0 fence\n0 load 5\n";
 /// Its rounds: 78 moves, of them 24 takes, 24 credits, 16 puts, 8 sends, and 2 each of serve, done and
 /// look.
 const ROUNDS: &str =
-    "# round 1\n0 send\n1 take 8\n1 put 8\n3 done\n4 take 0\n4 put 0\n5 take\n# round 2\n0 send\n0 credit\n1 take 8\n1 put 8\n1 credit 0\n4 take 0\n4 put 0\n4 credit 8\n5 take\n# round 3\n0 send\n0 credit\n1 take 8\n1 put 8\n1 credit 0\n4 take 0\n4 put 0\n4 credit 8\n5 take\n5 serve\n5 send\n# round 4\n0 credit\n1 credit 0\n4 take 9\n4 put 9\n4 credit 8\n5 credit\n# round 5\n1 take 3\n1 put 3\n4 credit 3\n# round 6\n0 take\n1 credit 9\n# round 7\n0 send\n1 take 8\n1 put 8\n4 take 0\n4 put 0\n5 take\n5 serve\n5 send\n# round 8\n0 credit\n1 credit 0\n4 take 9\n4 put 9\n4 credit 8\n5 send\n5 credit\n# round 9\n1 take 3\n1 put 3\n4 take 9\n4 put 9\n4 credit 3\n5 send\n5 credit\n# round 10\n0 take\n1 take 3\n1 put 3\n1 credit 9\n4 take 9\n4 put 9\n4 credit 3\n5 credit\n# round 11\n0 take\n1 take 3\n1 put 3\n1 credit 9\n4 credit 3\n# round 12\n0 take\n0 done\n0 look\n1 credit 9\n3 look\n# finished\n";
+    "# round 1\n0 send\n1 take 8\n1 put 8\n3 done\n4 take 0\n4 put 0\n5 take\n# round 2\n0 send\n0 credit\n\
+        1 take 8\n1 put 8\n1 credit 0\n4 take 0\n4 put 0\n4 credit 8\n5 take\n# round 3\n0 send\n0 credit\n\
+        1 take 8\n1 put 8\n1 credit 0\n4 take 0\n4 put 0\n4 credit 8\n5 take\n5 serve\n5 send\n# round 4\n\
+        0 credit\n1 credit 0\n4 take 9\n4 put 9\n4 credit 8\n5 credit\n# round 5\n1 take 3\n1 put 3\n\
+        4 credit 3\n# round 6\n0 take\n1 credit 9\n# round 7\n0 send\n1 take 8\n1 put 8\n4 take 0\n4 put 0\n\
+        5 take\n5 serve\n5 send\n# round 8\n0 credit\n1 credit 0\n4 take 9\n4 put 9\n4 credit 8\n5 send\n\
+        5 credit\n# round 9\n1 take 3\n1 put 3\n4 take 9\n4 put 9\n4 credit 3\n5 send\n5 credit\n# round 10\n\
+        0 take\n1 take 3\n1 put 3\n1 credit 9\n4 take 9\n4 put 9\n4 credit 3\n5 credit\n# round 11\n0 take\n\
+        1 take 3\n1 put 3\n1 credit 9\n4 credit 3\n# round 12\n0 take\n0 done\n0 look\n1 credit 9\n3 look\n\
+        # finished\n";
 
 /// The same moves, in no rounds.
 const MOVES: &str =
-    "0 send\n1 take 8\n1 put 8\n3 done\n4 take 0\n4 put 0\n5 take\n0 send\n0 credit\n1 take 8\n1 put 8\n1 credit 0\n4 take 0\n4 put 0\n4 credit 8\n5 take\n0 send\n0 credit\n1 take 8\n1 put 8\n1 credit 0\n4 take 0\n4 put 0\n4 credit 8\n5 take\n5 serve\n5 send\n0 credit\n1 credit 0\n4 take 9\n4 put 9\n4 credit 8\n5 credit\n1 take 3\n1 put 3\n4 credit 3\n0 take\n1 credit 9\n0 send\n1 take 8\n1 put 8\n4 take 0\n4 put 0\n5 take\n5 serve\n5 send\n0 credit\n1 credit 0\n4 take 9\n4 put 9\n4 credit 8\n5 send\n5 credit\n1 take 3\n1 put 3\n4 take 9\n4 put 9\n4 credit 3\n5 send\n5 credit\n0 take\n1 take 3\n1 put 3\n1 credit 9\n4 take 9\n4 put 9\n4 credit 3\n5 credit\n0 take\n1 take 3\n1 put 3\n1 credit 9\n4 credit 3\n0 take\n0 done\n0 look\n1 credit 9\n3 look\n# finished\n";
+    "0 send\n1 take 8\n1 put 8\n3 done\n4 take 0\n4 put 0\n5 take\n0 send\n0 credit\n1 take 8\n1 put 8\n\
+        1 credit 0\n4 take 0\n4 put 0\n4 credit 8\n5 take\n0 send\n0 credit\n1 take 8\n1 put 8\n1 credit 0\n\
+        4 take 0\n4 put 0\n4 credit 8\n5 take\n5 serve\n5 send\n0 credit\n1 credit 0\n4 take 9\n4 put 9\n\
+        4 credit 8\n5 credit\n1 take 3\n1 put 3\n4 credit 3\n0 take\n1 credit 9\n0 send\n1 take 8\n1 put 8\n\
+        4 take 0\n4 put 0\n5 take\n5 serve\n5 send\n0 credit\n1 credit 0\n4 take 9\n4 put 9\n4 credit 8\n\
+        5 send\n5 credit\n1 take 3\n1 put 3\n4 take 9\n4 put 9\n4 credit 3\n5 send\n5 credit\n0 take\n\
+        1 take 3\n1 put 3\n1 credit 9\n4 take 9\n4 put 9\n4 credit 3\n5 credit\n0 take\n1 take 3\n1 put 3\n\
+        1 credit 9\n4 credit 3\n0 take\n0 done\n0 look\n1 credit 9\n3 look\n# finished\n";
 
 /// What is asked for, of the two tiles and their script.
 #[derive(Drop)]

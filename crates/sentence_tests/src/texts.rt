@@ -358,7 +358,11 @@ fn other_step_faults(rt: HostRuntime) -> Result<(), Fail> {
 #[test]
 fn all_scripts_are_too_long(rt: HostRuntime) -> Result<(), Fail> {
     let text =
-        b"0 spin 0 1 4096\n1 spin 0 1 4096\n2 spin 0 1 4096\n3 spin 0 1 4096\n4 spin 0 1 4096\n5 spin 0 1 4096\n6 spin 0 1 4096\n7 spin 0 1 4096\n8 spin 0 1 4096\n9 spin 0 1 4096\n10 spin 0 1 4096\n11 spin 0 1 4096\n12 spin 0 1 4096\n13 spin 0 1 4096\n14 spin 0 1 4096\n15 spin 0 1 4096\n16 fence\n16 load 0\n".as_slice();
+        b"0 spin 0 1 4096\n1 spin 0 1 4096\n2 spin 0 1 4096\n3 spin 0 1 4096\n4 spin 0 1 4096\n\
+            5 spin 0 1 4096\n6 spin 0 1 4096\n7 spin 0 1 4096\n8 spin 0 1 4096\n9 spin 0 1 4096\n\
+            10 spin 0 1 4096\n11 spin 0 1 4096\n12 spin 0 1 4096\n13 spin 0 1 4096\n14 spin 0 1 4096\n\
+            15 spin 0 1 4096\n16 fence\n16 load 0\n"
+            .as_slice();
     let machine = Named {
         name: "m",
         text: b"radix 8\ndims 2\ndepth 4\ntags 4\nwords 8\n",

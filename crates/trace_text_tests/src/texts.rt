@@ -132,7 +132,8 @@ const TEXTS: [[&str; 2]; 59] = [
     ],
     // Each operation is told by its processor and its index.
     [
-        "trace 1\nwords 8\nissue 0 add 5 1\nissue 0 add 5 1\nissue 1 add 5 1\nanswer 0 1 1\nanswer 1 0 2\nanswer 0 0 0\n",
+        "trace 1\nwords 8\nissue 0 add 5 1\nissue 0 add 5 1\nissue 1 add 5 1\nanswer 0 1 1\nanswer 1 0 2\n\
+            answer 0 0 0\n",
         "yes 3",
     ],
     // A lost update.
@@ -142,11 +143,14 @@ const TEXTS: [[&str; 2]; 59] = [
     ],
     // Other words hold nothing back.
     [
-        "trace 1\nwords 8\nissue 0 store 5 1\nissue 1 store 3 2\nanswer 1 0 ok\nanswer 0 0 ok\nissue 2 load 3\nanswer 2 0 2\n",
+        "trace 1\nwords 8\nissue 0 store 5 1\nissue 1 store 3 2\nanswer 1 0 ok\nanswer 0 0 ok\nissue 2 load 3\n\
+            answer 2 0 2\n",
         "yes 3",
     ],
     [
-        "trace 1\nwords 8\nissue 0 max 5 7\nanswer 0 0 0\nissue 0 min 5 3\nanswer 0 1 7\nissue 0 and 5 1\nanswer 0 2 3\nissue 0 or 5 4\nanswer 0 3 1\nissue 0 xor 5 1\nanswer 0 4 5\nissue 0 load 5\nanswer 0 5 4\n",
+        "trace 1\nwords 8\nissue 0 max 5 7\nanswer 0 0 0\nissue 0 min 5 3\nanswer 0 1 7\nissue 0 and 5 1\n\
+            answer 0 2 3\nissue 0 or 5 4\nanswer 0 3 1\nissue 0 xor 5 1\nanswer 0 4 5\nissue 0 load 5\n\
+            answer 0 5 4\n",
         "yes 6",
     ],
     // An unanswered store that is seen.
