@@ -1,9 +1,11 @@
 //! Machines that are loaded, and fabrics with their seats.
-ghost use Rattle.std.specs.Prelude.{◌≤◌, All};
+ghost use Rattle.std.specs.Prelude.{◌≤◌, [], All};
+ghost use Rattle.machine_texts.specs.core_laws.specs.Core.{Load};
+ghost use Rattle.machine_texts.specs.machine_core.specs.core_machine.specs.Core.{IsAfter};
 ghost use Rattle.fabric.specs.Seats.{IsOf};
 
 use fabric::{Fabric, Final, ProbeSeat, TileSeat};
-use machine_texts::load;
+use machine_texts::{Machine, load};
 use std::alloc::{Allocator, Global};
 use std::process::Abort;
 use std::test::Fail;
@@ -43,10 +45,21 @@ pub fn deal<A: Allocator + Copy>(
     cuts: &[usize],
     probes: usize,
 ) -> Result<Dealt<A>, (Call, Fault)> {
-    let machine = match load(alloc, machine, scripts) {
-        Ok(machine) => machine,
-        Err(found) => return Err((Call::Load, found.fault)),
-    };
+    match load(alloc, machine, scripts) {
+        Ok(machine) => opened(alloc, machine, cuts, probes),
+        Err(found) => Err((Call::Load, found.fault)),
+    }
+}
+
+/// Opens a machine that has made no step.
+pub fn opened<A: Allocator + Copy>(
+    alloc: A,
+    machine: Machine<A>,
+    cuts: &[usize],
+    probes: usize,
+) -> Result<Dealt<A>, (Call, Fault)>
+    requires { (l : Load) × IsAfter l machine [] }
+{
     match Fabric::open(alloc, machine, cuts, probes) {
         Ok((fabric, seats, probes)) => Ok(Dealt {
             fabric,
@@ -82,11 +95,16 @@ pub fn deal_whole<A: Allocator + Copy>(
     machine: &[u8],
     scripts: &[u8],
 ) -> Result<Whole<A>, (Call, Fault)> {
+    only_seat(deal(alloc, machine, scripts, &[], 0)?)
+}
+
+/// The one seat of a fabric that has no other.
+pub fn only_seat<A: Allocator>(dealt: Dealt<A>) -> Result<Whole<A>, (Call, Fault)> {
     let Dealt {
         fabric,
         mut seats,
         probes: _,
-    } = deal(alloc, machine, scripts, &[], 0)?;
+    } = dealt;
     match seats.pop() {
         Some(seat) => Ok(Whole { fabric, seat }),
         None => Err((Call::Open, Fault::Memory)),

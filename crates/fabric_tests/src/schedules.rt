@@ -1,10 +1,13 @@
 //! Schedules that are made to hurt, on a machine and on a fabric whose one seat has all tiles.
-ghost use Rattle.std.specs.Prelude.{◌≤◌};
+ghost use Rattle.std.specs.Prelude.{◌≡◌, ◌≤◌, [], true, IfSome};
+ghost use Rattle.machine_texts.specs.core_laws.specs.Core.{Load};
+ghost use Rattle.machine_texts.specs.machine_core.specs.core_machine.specs.Core.{IsAfter};
 ghost use Rattle.fabric.specs.Seats.{IsOf};
 
-use crate::fixtures::{PAIR, Whole, deal_whole, step_at};
+use crate::fixtures::{PAIR, Whole, deal_whole, only_seat, opened, step_at};
 use fabric::{Fabric, Final, Machine, TileSeat, Turned};
 use machine_texts::load;
+use script::{Line, Value};
 use std::alloc::Global;
 use std::test::Fail;
 use torus::{Choice, Step, Stepped};
@@ -193,5 +196,68 @@ fn schedules_lead_both_to_the_same(rt: HostRuntime) {
             None => false,
         };
         assert!(rt; is_so, "course {number}");
+    }
+}
+
+/// The beginnings of these scripts, and the lines that come later.
+const BEGINNINGS: &[u8] = b"0 store 5 17\n0 add 3 2\n1 add 3 1\n";
+
+const LATER: [(u32, Line); 5] = [
+    (0, Line::Fence),
+    (1, Line::Cas(3, Value::Number(1), Value::Number(9))),
+    (0, Line::Load(5)),
+    (0, Line::Swap(5, Value::Last)),
+    (1, Line::Max(5, Value::Number(20))),
+];
+
+/// Gives a line to a processor of a machine that has made no step; answers whether it was taken.
+fn take_line(machine: &mut Machine, processor: u32, line: Line) -> bool
+    requires { (l : Load) × IsAfter l machine.old [] }
+    ensures { result ≡ true → (l : Load) × IsAfter l machine.new [] }
+{
+    match machine.append(processor, line) {
+        Ok(()) => true,
+        Err(_) => false,
+    }
+}
+
+/// Gives lines to the processors of a machine that has made no step; `None` where one isn't taken.
+fn appended(mut machine: Machine, lines: &[(u32, Line)]) -> Option<Machine>
+    requires { (l : Load) × IsAfter l machine [] }
+    ensures { IfSome result (λ m. (l : Load) × IsAfter l m []) }
+{
+    for later in lines {
+        let is_taken = take_line(&mut machine, later.0, later.1);
+        if !is_taken {
+            return None;
+        }
+    }
+    Some(machine)
+}
+
+/// Follows schedules on the machine of a text, and on a fabric of the machine whose scripts have come line by line.
+fn followed_later(alloc: Global, text: &[u8], schedules: &[Schedule]) -> Option<(u32, usize)> {
+    let mut machine = load(alloc, text, SCRIPTS).ok()?;
+    let Ok(beginning) = load(alloc, text, BEGINNINGS) else {
+        return None;
+    };
+    let Some(later) = appended(beginning, &LATER) else {
+        return None;
+    };
+    let Whole { fabric, mut seat } = only_seat(opened(alloc, later, &[], 0).ok()?).ok()?;
+    let moved = follow(&mut machine, &fabric, &mut seat, schedules);
+    let last = Whole { fabric, seat }.close()?;
+    compared(&machine, &last, moved)
+}
+
+/// A machine that was appended to before it is opened goes as one that was loaded with the longer scripts.
+#[test]
+fn appended_machines_are_opened(rt: HostRuntime) {
+    for &machine in &[PAIR, OBLONG, CUBE] {
+        let is_so = match followed_later(rt.alloc(), machine, ALL) {
+            Some((moved, answers)) => moved > 0 && answers == 7,
+            None => false,
+        };
+        assert!(rt; is_so);
     }
 }

@@ -7,7 +7,7 @@ use Rattle.trace_judge.specs.declared.judge.Verdict.{Verdict}
 use Rattle.trace_judge.specs.declared.judge.Verdict.TheVariants.{Linearizable, No}
 use Rattle.trace_judge.specs.declared.undecided.Undecided.{Undecided}
 use Rattle.trace_judge.specs.declared.undecided.Undecided.TheVariants as undecided
-use Rattle.trace_judge.specs.Stops.{IsUndecided}
+use Rattle.trace_judge.specs.Stops.{IsUndecided, TellsMany}
 use Rattle.trace_judge.specs.Verdicts.{Tells}
 use Rattle.torusmem_c.specs.declared.outcome.Outcome.{Outcome}
 use Rattle.torusmem_c.specs.declared.outcome.Code.TheVariants as code
@@ -38,15 +38,17 @@ abbrev pub TellsVerdict : Type 0 → List ℕ → List Event → List ℕ → Li
 TellsVerdict A opening trace before after r =
     (v : Verdict A) × Tells opening trace v × PutsVerdict v before after r
 
--- what is told of one that isn't: a reason that holds of it
-abbrev pub TellsUnjudged : List Event → List ℕ → List ℕ → Outcome → Type 0
-TellsUnjudged trace before after r = (why : Undecided) × IsUndecided trace why × (after ≡ before)
-    × (r ≡ undecided_outcome why)
+-- what is told of one that isn't: a reason that holds of it; of too many configurations, that a
+-- word has more than so many
+abbrev pub TellsUnjudged : List ℕ → List Event → ℕ → List ℕ → List ℕ → Outcome → Type 0
+TellsUnjudged opening trace bound before after r = (why : Undecided) × IsUndecided trace why
+    × TellsMany opening trace bound why × (after ≡ before) × (r ≡ undecided_outcome why)
 
--- what is told of the trace that records are: its verdict, or why there is none; or the first
--- record that can't stand
-abbrev pub TellsTrace : Type 0 → List ℕ → Result (List Event) LineFault → List ℕ → List ℕ → Outcome
-    → Type 0
-TellsTrace A opening (Ok trace) before after r =
-    TellsVerdict A opening trace before after r ⊎ TellsUnjudged trace before after r
-TellsTrace A opening (Err found) before after r = (after ≡ before) × (r ≡ fault_outcome found)
+-- what is told of the trace that records are, with so many configurations of a word: its verdict,
+-- or why there is none; or the first record that can't stand
+abbrev pub TellsTrace : Type 0 → List ℕ → Result (List Event) LineFault → ℕ → List ℕ → List ℕ
+    → Outcome → Type 0
+TellsTrace A opening (Ok trace) bound before after r =
+    TellsVerdict A opening trace before after r ⊎ TellsUnjudged opening trace bound before after r
+TellsTrace A opening (Err found) bound before after r =
+    (after ≡ before) × (r ≡ fault_outcome found)

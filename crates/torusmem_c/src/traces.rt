@@ -56,7 +56,8 @@ fn put_judged(
 ) -> Outcome
     requires { IsTrace (length opening.now) trace.now }
     ensures { (TellsVerdict Global opening.now trace.now out.old out.new result
-        ⊎ TellsUnjudged trace.now out.old out.new result) ⊎ LacksMemory out.old out.new result }
+        ⊎ TellsUnjudged opening.now trace.now configurations out.old out.new result)
+        ⊎ LacksMemory out.old out.new result }
 {
     match judge(alloc, opening, trace, configurations as usize) {
         Ok(verdict) => put_verdict(alloc, &verdict, out),
@@ -77,8 +78,8 @@ pub extern "C" fn torusmem_linearize(
     configurations: u64,
     out: &mut [u64],
 ) -> Outcome
-    ensures { TellsTrace Global opening.now (trace_of (length opening.now) events.now) out.old
-        out.new result ⊎ LacksMemory out.old out.new result }
+    ensures { TellsTrace Global opening.now (trace_of (length opening.now) events.now)
+        configurations out.old out.new result ⊎ LacksMemory out.old out.new result }
 {
     let trace = match trace_of(alloc, opening.len(), events) {
         Ok(trace) => trace,
