@@ -10,7 +10,8 @@ const SCRIPT: &[u8] =
 
 /// The report of a run in which processor 1's spin ran out, and the last load isn't answered.
 const REPORT: &[u8] =
-    b"torusmem 1\nshape 2 2 8\nentry 1 0 0 0 store 5 17 ok\nanswer 0 0 1 0 ok\nanswer 1 0 1 1 0\nanswer 1 1 1 2 17\nanswer 1 2 2 0 0\nanswer 2 0 1 3 0\nanswer 2 1 1 4 17\nend incomplete\n";
+    b"torusmem 1\nshape 2 2 8\nentry 1 0 0 0 store 5 17 ok\nanswer 0 0 1 0 ok\nanswer 1 0 1 1 0\n\
+        answer 1 1 1 2 17\nanswer 1 2 2 0 0\nanswer 2 0 1 3 0\nanswer 2 1 1 4 17\nend incomplete\n";
 
 #[test]
 fn a_spin_that_ran_out(rt: HostRuntime) -> Result<(), Fail> {

@@ -104,7 +104,8 @@ fn schedules_are_written_and_read(rt: HostRuntime) -> Result<(), Fail> {
         ScheduleLine::End(true),
     ];
     let text: &[u8] =
-        b"# round 1\n0 send\n1 take 8\n1 put 8\n4 take 0\n4 put 0\n5 take\n# round 2\n5 credit\n4 credit 9\n5 serve\n0 done\n3 look\n# finished\n";
+        b"# round 1\n0 send\n1 take 8\n1 put 8\n4 take 0\n4 put 0\n5 take\n# round 2\n5 credit\n4 credit 9\n\
+            5 serve\n0 done\n3 look\n# finished\n";
     let written = text_of(rt.alloc(), &lines)?;
     holds(&rt, "written", written.as_slice() == text);
     holds(&rt, "read", reads(rt.alloc(), PAIR, text, &lines)?);

@@ -5,7 +5,7 @@ use std::fmt;
 use thiserror::Error;
 use torus::Fault;
 
-/// The first fault of a text and the number of its line, from 1. Want of memory is at line 0. Prints
+/// The first fault of a text and the number of its line, from 1. Out of memory is at line 0. Prints
 /// as `fault F7 at line 3`.
 #[derive(Clone, Copy, Debug, PartialEq, Eq, Error)]
 pub struct LineFault {

@@ -223,7 +223,8 @@ fn has_lines(scripts: &Scripts, p: u32, lines: &[Line]) -> bool {
 fn scripts_are_read(rt: HostRuntime) -> Result<(), Fail> {
     let machine = read_machine(rt.alloc(), SMALL)?;
     let text =
-        b"1 load 7\n# the rest\n0 store 5 17\n0 fence\r\n0 cas 2 last 9\n0 spin 0 18446744073709551615 4000\n0\tswap 1 last";
+        b"1 load 7\n# the rest\n0 store 5 17\n0 fence\r\n0 cas 2 last 9\n0 spin 0 18446744073709551615 4000\n\
+            0\tswap 1 last";
     let scripts = read_scripts(rt.alloc(), text, &machine)?;
     let first = [
         Line::Store(5, Value::Number(17)),
@@ -344,7 +345,8 @@ fn script_faults(rt: HostRuntime) -> Result<(), Fail> {
         (
             Some((Fault::Length, 6)),
             &[
-                b"1 load 7\n# the rest\n0 store 5 17\n0 fence\r\n0 cas 2 last 9\n0 spin 0 18446744073709551615 4096\n0\tmax 1 last",
+                b"1 load 7\n# the rest\n0 store 5 17\n0 fence\r\n0 cas 2 last 9\n\
+                    0 spin 0 18446744073709551615 4096\n0\tmax 1 last",
             ],
         ),
         (Some((Fault::Line, 2)), &[b"\n\r"]),
@@ -364,7 +366,11 @@ fn script_faults(rt: HostRuntime) -> Result<(), Fail> {
 fn script_limits(rt: HostRuntime) -> Result<(), Fail> {
     let load = b"0 load 0\n".as_slice();
     let full =
-        b"0 spin 0 1 4096\n1 spin 0 1 4096\n2 spin 0 1 4096\n3 spin 0 1 4096\n4 spin 0 1 4096\n5 spin 0 1 4096\n6 spin 0 1 4096\n7 spin 0 1 4096\n8 spin 0 1 4096\n9 spin 0 1 4096\n10 spin 0 1 4096\n11 spin 0 1 4096\n12 spin 0 1 4096\n13 spin 0 1 4096\n14 spin 0 1 4096\n15 spin 0 1 4096\n".as_slice();
+        b"0 spin 0 1 4096\n1 spin 0 1 4096\n2 spin 0 1 4096\n3 spin 0 1 4096\n4 spin 0 1 4096\n\
+            5 spin 0 1 4096\n6 spin 0 1 4096\n7 spin 0 1 4096\n8 spin 0 1 4096\n9 spin 0 1 4096\n\
+            10 spin 0 1 4096\n11 spin 0 1 4096\n12 spin 0 1 4096\n13 spin 0 1 4096\n14 spin 0 1 4096\n\
+            15 spin 0 1 4096\n"
+            .as_slice();
     let rows: [(&[u8], &[u8], u32, &[u8], Found); 7] = [
         (SMALL, load, 4096, b"", None),
         (SMALL, load, 4097, b"", Some((Fault::Length, 4097))),
