@@ -16,6 +16,7 @@ pub mod Completes
 pub mod TakesFound
 pub mod StepEvents
 pub mod WiredUp
+pub mod Forwards
 pub mod Puts
 pub mod Histories
 pub mod ResponseLists

@@ -1,8 +1,7 @@
 -- A router puts a head flit: what holds of every reached state is kept.
-use Rattle.std.proofs.Common.{◌≡◌, ◌≢◌, ◌↔◌, ⊎_elim, ℕ, ◌-◌, ◌<◌, Bool, true, false, List, [], ◌∷◌, ◌++◌, Option, Some, None, refl, sym, ◌∙◌, ap, ap₂, subst}
-use Rattle.std.proofs.Common.{slice_set, length-set, get_or-set_same, get_or-set_other, if◌then◌else◌, drop}
+use Rattle.std.proofs.Common.{◌≡◌, ◌≢◌, ℕ, ◌-◌, ◌<◌, false, List, [], ◌∷◌, ◌++◌, Option, Some, None, refl, sym, ◌∙◌, ap, ap₂, subst}
+use Rattle.std.proofs.Common.{slice_set, length-set, if◌then◌else◌, drop}
 use Rattle.std.specs.Prelude.{take, drop}
-use Rattle.std.proofs.lemmas.Bool.{cases_eq}
 use Rattle.torus.specs.Shape.{tiles_of, dims_of}
 use Rattle.packet.specs.declared.heading.Head.{Head}
 use Rattle.packet.specs.Flit.{field, class_numbered}
@@ -12,10 +11,8 @@ use Rattle.flit_buffer.specs.Places.{put_in_ring}
 use Rattle.flit_buffer.specs.Surroundings.{ring}
 use Rattle.flit_buffer.proofs.RingLaws.{put_ring}
 use Rattle.wormhole.specs.Net.{Net, IsNet}
-use Rattle.wormhole.specs.State.{Line as Lane, Note, update}
-use Rattle.wormhole.specs.Events.{ForwardHead, CanForwardHead, forwarded, first_tail}
-use Rattle.wormhole.specs.Delivery.{whole, whole_of}
-use Rattle.wormhole.proofs.Changes.{update_same, update_other}
+use Rattle.wormhole.specs.State.{Line as Lane, Note}
+use Rattle.wormhole.specs.Events.{ForwardHead, CanForwardHead, first_tail}
 use Rattle.wormhole.proofs.RouteSteps.{has_way}
 use Rattle.wormhole.proofs.Receivers.{moved}
 use Rattle.wormhole.proofs.Routers.{latched}
@@ -25,11 +22,12 @@ use Rattle.channel_number.specs.Ports.{port_count, ejection_channel, input_chann
 use Rattle.tile_laws.specs.Tile.{Design}
 use Rattle.core_laws.specs.Core.{State}
 use Rattle.core_laws.proofs.Projection.{net_of}
-use Rattle.core_laws.proofs.ChannelFacts.{channels_of, is_head_of, is_tail_of}
+use Rattle.core_laws.proofs.ChannelFacts.{channels_of, is_head_of}
 use Rattle.core_laws.proofs.Stands.{Ghost, Stands, tile_at}
-use Rattle.core_laws.proofs.WiredUp.{IsWiredUp, not_owned, IsHeadOf, head_told, owner_after, owner_same, owner_only, owner_none}
+use Rattle.core_laws.proofs.WiredUp.{IsWiredUp, not_owned, IsHeadOf, head_told, owner_after}
 use Rattle.core_laws.proofs.Quiet.{IsQuietStep}
-use Rattle.core_laws.proofs.RouterFrame.{router_tile, router_state, router_ghost, router_new, IsRouterStep, router_stands}
+use Rattle.core_laws.proofs.Forwards.{Put, at_x, at_y, line_but, line_other, line_kept, sent_kept, wholes_kept, owners_new, unowned_new, outputs_new}
+use Rattle.core_laws.proofs.RouterFrame.{router_tile, router_state, router_ghost, IsRouterStep, router_stands}
 
 told_of : (d : Design) (flit : ℕ) → (net_of d).told flit ≡ ejection_channel d.shape (field flit 51 6) (class_numbered (field flit 57 1))
 unfolding net_of
@@ -96,72 +94,25 @@ module _ (d : Design) (net : IsNet (net_of d)) (wired : IsWiredUp d) (tags : ℕ
       (latched n g.net x flit st.lines can_forward.full) in
       (st.lines.held x z h).more m.none
 
-  abbrev line_x : Lane
-  line_x = record (g.net.lines x) { latch = None }
-
-  abbrev line_y : Lane
-  line_y = forwarded n x flit (g.net.lines y)
-
-  abbrev lines : ℕ → Lane
-  lines = update (update g.net.lines x line_x) y line_y
-
-  at_y : lines y ≡ line_y
-  at_y = update_same (update g.net.lines x line_x) y line_y
-
-  at_x : lines x ≡ line_x
-  at_x = update_other (update g.net.lines x line_x) y line_y x apart ∙ update_same g.net.lines x line_x
-
-  -- a part of the lines that stays at the input stays at all but the output
-  line_but : {A : Type 0} (f : Lane → A) → f line_x ≡ f (g.net.lines x) → (z : ℕ) → z ≢ y → f (lines z) ≡ f (g.net.lines z)
-  line_but f same z b = ⊎_elim
-      (λ (e : z ≡ x). ap (λ (w : ℕ). f (lines w)) e ∙ (ap f at_x ∙ (same ∙ ap (λ (w : ℕ). f (g.net.lines w)) (sym e))))
-      (λ (a : z ≢ x). ap f (update_other (update g.net.lines x line_x) y line_y z b ∙ update_other g.net.lines x line_x z a))
-      (cases_eq z x)
-
-  -- one that stays at the output stays at all but the input
-  line_other : {A : Type 0} (f : Lane → A) → f line_y ≡ f (g.net.lines y) → (z : ℕ) → z ≢ x → f (lines z) ≡ f (g.net.lines z)
-  line_other f same z a = ⊎_elim
-      (λ (e : z ≡ y). ap (λ (w : ℕ). f (lines w)) e ∙ (ap f at_y ∙ (same ∙ ap (λ (w : ℕ). f (g.net.lines w)) (sym e))))
-      (λ (b : z ≢ y). ap f (update_other (update g.net.lines x line_x) y line_y z b ∙ update_other g.net.lines x line_x z a))
-      (cases_eq z y)
-
-  -- one that stays at both stays at all
-  line_kept : {A : Type 0} (f : Lane → A) → f line_x ≡ f (g.net.lines x) → f line_y ≡ f (g.net.lines y) → (z : ℕ) → f (lines z) ≡ f (g.net.lines z)
-  line_kept f same too z = ⊎_elim
-      (λ (e : z ≡ y). ap (λ (w : ℕ). f (lines w)) e ∙ (ap f at_y ∙ (too ∙ ap (λ (w : ℕ). f (g.net.lines w)) (sym e))))
-      (λ (b : z ≢ y). line_but f same z b)
-      (cases_eq z y)
+  abbrev forward : Put d tags opening s g order
+  forward = record {
+    wired = wired;
+    st = st;
+    t = t;
+    t_in = t_in;
+    i = i;
+    i_in = i_in;
+    flit = flit;
+    o = o;
+    o_in = way.0;
+    apart = apart;
+  }
 
   abbrev note_x : Note
   note_x = record (g.net.notes x) { parcels = drop 1 (g.net.notes x).parcels; awaited = first_tail (g.net.notes x).parcels }
 
   abbrev note_y : Note
   note_y = record (g.net.notes y) { parcels = (g.net.notes y).parcels ++ take 1 (g.net.notes x).parcels; owed = first_tail (g.net.notes x).parcels }
-
-  abbrev notes : ℕ → Note
-  notes = update (update g.net.notes x note_x) y note_y
-
-  -- a part of the notes that stays at the output stays at all but the input
-  note_other : {A : Type 0} (f : Note → A) → f note_y ≡ f (g.net.notes y) → (z : ℕ) → z ≢ x → f (notes z) ≡ f (g.net.notes z)
-  note_other f same z a = ⊎_elim
-      (λ (e : z ≡ y). ap (λ (w : ℕ). f (notes w)) e
-      ∙ (ap f (update_same (update g.net.notes x note_x) y note_y) ∙ (same ∙ ap (λ (w : ℕ). f (g.net.notes w)) (sym e))))
-      (λ (b : z ≢ y). ap f (update_other (update g.net.notes x note_x) y note_y z b ∙ update_other g.net.notes x note_x z a))
-      (cases_eq z y)
-
-  sent_kept : (z : ℕ) → (notes z).sent ≡ (g.net.notes z).sent
-  sent_kept z = ⊎_elim
-      (λ (e : z ≡ x).
-      ap (λ (w : ℕ). (notes w).sent) e
-      ∙ (ap (λ (k : Note). k.sent) (update_other (update g.net.notes x note_x) y note_y x apart ∙ update_same g.net.notes x note_x)
-      ∙ ap (λ (w : ℕ). (g.net.notes w).sent) (sym e)))
-      (λ (a : z ≢ x). note_other (λ (k : Note). k.sent) refl z a)
-      (cases_eq z x)
-
-  wholes_kept : (z : ℕ) → n.ejects z ≡ true → whole put_ghost.net z ≡ whole g.net z
-  wholes_kept z ejects =
-      let other : z ≢ x = λ e. let no : ◌≡◌ {A = Bool} true false = sym ejects ∙ (ap n.ejects e ∙ can_forward.input) in cc in
-      ap₂ whole_of (note_other (λ (k : Note). k.awaited) refl z other) (note_other (λ (k : Note). k.begun) refl z other)
 
   put_quiet : flit ≢ 0 → IsQuietStep d net tags opening s g order st t t_in
       (router_tile d net wired tags opening s g order st t t_in i i_in None left y y_in (put_in_ring flit) (ForwardHead x y flit)) y y_in (put_in_ring flit)
@@ -172,14 +123,14 @@ module _ (d : Design) (net : IsNet (net_of d)) (wired : IsWiredUp d) (tags : ℕ
         can = can_forward;
         ring_is = put_ring d.depth (ring s.around.rings y) (st.rings y (subst (λ (k : ℕ). y < k) (sym st.mirrors.count) y_in)) flit some credit;
         lane = record {
-          flits = ap (λ (l : Lane). l.flits) at_y ∙ ap (λ (fs : List ℕ). fs ++ flit ∷ []) old.flits;
-          held = ap (λ (l : Lane). l.held) at_y ∙ ap (λ (m : ℕ). m - 1) old.held;
-          returning = ap (λ (l : Lane). l.returning) at_y ∙ old.returning;
+          flits = ap (λ (l : Lane). l.flits) (at_y forward) ∙ ap (λ (fs : List ℕ). fs ++ flit ∷ []) old.flits;
+          held = ap (λ (l : Lane). l.held) (at_y forward) ∙ ap (λ (m : ℕ). m - 1) old.held;
+          returning = ap (λ (l : Lane). l.returning) (at_y forward) ∙ old.returning;
         };
-        others = line_but (λ (l : Lane). l.flits) refl;
-        others_held = λ z b. (line_but (λ (l : Lane). l.held) refl z b, line_but (λ (l : Lane). l.returning) refl z b);
-        sent = sent_kept;
-        wholes = wholes_kept;
+        others = line_but forward (λ (l : Lane). l.flits) refl;
+        others_held = λ z b. (line_but forward (λ (l : Lane). l.held) refl z b, line_but forward (λ (l : Lane). l.returning) refl z b);
+        sent = sent_kept forward note_x note_y refl refl;
+        wholes = wholes_kept forward note_x note_y can_forward.input refl refl;
         operations = refl;
         reported = (refl, refl);
         entries = refl;
@@ -188,88 +139,23 @@ module _ (d : Design) (net : IsNet (net_of d)) (wired : IsWiredUp d) (tags : ℕ
         phase = st.phases t;
       }
 
-  -- who owns the output after the put, and what the inputs own
-  owner : (lines y).owner ≡ owner_after (is_tail flit) x
-  owner = ap (λ (l : Lane). l.owner) at_y ∙ ap (λ (b : Bool). owner_after b x) (is_tail_of d flit)
+  alone : (j : ℕ) → j < port_count (dims_of d.shape) → j ≢ i → output_owned r j ≡ Some o → ⊥
+  alone j j_in other h = not_owned r o free j h
 
-  owner_else : (p : ℕ) → p < port_count (dims_of d.shape) → p ≢ o
-      → (lines (output_channel d.shape t p)).owner ≡ (g.net.lines (output_channel d.shape t p)).owner
-  owner_else p p_in b = line_but (λ (l : Lane). l.owner) refl (output_channel d.shape t p) (λ h. b (wired.outputs_apart t p t o t_in p_in t_in way.0 h).1)
-
-  abbrev new : RouterState
-  new = router_new d net wired tags opening s g order st t t_in i i_in None left y y_in (put_in_ring flit) (ForwardHead x y flit)
-
-  owned_here : output_owned new i ≡ owner_after (is_tail flit) o
-  owned_here = get_or-set_same r.owned i (owner_after (is_tail flit) o) None (subst (λ (m : ℕ). i < m) (sym (st.mirrors.ports t t_in).1) i_in)
-
-  owned_else : (j : ℕ) → j ≢ i → output_owned new j ≡ output_owned r j
-  owned_else j other = get_or-set_other r.owned i j (owner_after (is_tail flit) o) None other
-
-  owners_here : (j : ℕ) → j < port_count (dims_of d.shape) → ((lines y).owner ≡ Some (input_channel d.shape t j)) ↔ (output_owned new j ≡ Some o)
-  owners_here j j_in = ⊎_elim
-      (λ (e : j ≡ i).
-      let iff = owner_same (is_tail flit) x o in (
-        λ h. ap (output_owned new) e ∙ (owned_here ∙ iff.0 (sym owner ∙ (h ∙ ap (λ (k : ℕ). Some (input_channel d.shape t k)) e))),
-        λ h. owner ∙ (iff.1 (sym owned_here ∙ (ap (output_owned new) (sym e) ∙ h)) ∙ ap (λ (k : ℕ). Some (input_channel d.shape t k)) (sym e)),
-      ))
-      (λ (other : j ≢ i). (
-        λ h. absurd (other (sym (wired.inputs_apart t i t j t_in i_in t_in j_in (owner_only (is_tail flit) x (input_channel d.shape t j) (sym owner ∙ h))).1)),
-        λ h. absurd (not_owned r o free j (sym (owned_else j other) ∙ h)),
-      ))
-      (cases_eq j i)
-
-  owners_else : (j p : ℕ) → j < port_count (dims_of d.shape) → p < port_count (dims_of d.shape) → p ≢ o
-      → ((g.net.lines (output_channel d.shape t p)).owner ≡ Some (input_channel d.shape t j)) ↔ (output_owned new j ≡ Some p)
-  owners_else j p j_in p_in other = ⊎_elim
-      (λ (e : j ≡ i). (
-        λ h. absurd (owned_none (output_channel d.shape t p) (h ∙ ap (λ (k : ℕ). Some (input_channel d.shape t k)) e)),
-        λ h. absurd (other (sym (owner_only (is_tail flit) o p (sym owned_here ∙ (ap (output_owned new) (sym e) ∙ h))))),
-      ))
-      (λ (a : j ≢ i).
-      let old = st.mirrors.owners t j p t_in j_in p_in in
-      (λ h. owned_else j a ∙ old.0 h, λ h. old.1 (sym (owned_else j a) ∙ h)))
-      (cases_eq j i)
-
-  owners_new : (j p : ℕ) → j < port_count (dims_of d.shape) → p < port_count (dims_of d.shape)
-      → ((lines (output_channel d.shape t p)).owner ≡ Some (input_channel d.shape t j)) ↔ (output_owned new j ≡ Some p)
-  owners_new j p j_in p_in = ⊎_elim
-      (λ (e : p ≡ o). subst (λ (q : ℕ). ((lines (output_channel d.shape t q)).owner ≡ Some (input_channel d.shape t j)) ↔ (output_owned new j ≡ Some q)) (sym e)
-      (owners_here j j_in))
-      (λ (b : p ≢ o).
-      let line = owner_else p p_in b in
-      let iff = owners_else j p j_in p_in b in
-      (λ h. iff.0 (sym line ∙ h), λ h. line ∙ iff.1 h))
-      (cases_eq p o)
-
-  unowned_new : (p : ℕ) → p < port_count (dims_of d.shape) → ((j : ℕ) → output_owned new j ≡ Some p → ⊥) → (lines (output_channel d.shape t p)).owner ≡ None
-  unowned_new p p_in none = ⊎_elim
-      (λ (e : p ≡ o). ap (λ (q : ℕ). (lines (output_channel d.shape t q)).owner) e
-      ∙ (owner ∙ owner_none (is_tail flit) x o (λ h. none i (owned_here ∙ (h ∙ ap Some (sym e))))))
-      (λ (b : p ≢ o).
-      owner_else p p_in b ∙ st.mirrors.unowned t p t_in p_in (λ j h. ⊎_elim
-      (λ (k : j ≡ i). owned_none (output_channel d.shape t p) ((st.mirrors.owners t i p t_in i_in p_in).1 (ap (output_owned r) (sym k) ∙ h)))
-      (λ (a : j ≢ i). none j (owned_else j a ∙ h))
-      (cases_eq j i)))
-      (cases_eq p o)
-
-  outputs_new : (j p : ℕ) → output_owned new j ≡ Some p → p < port_count (dims_of d.shape)
-  outputs_new j p h = ⊎_elim
-      (λ (e : j ≡ i). subst (λ (q : ℕ). q < port_count (dims_of d.shape)) (owner_only (is_tail flit) o p (sym owned_here ∙ (ap (output_owned new) (sym e) ∙ h)))
-      way.0)
-      (λ (a : j ≢ i). st.mirrors.outputs t j p t_in (sym (owned_else j a) ∙ h))
-      (cases_eq j i)
+  only : (p : ℕ) → p < port_count (dims_of d.shape) → p ≢ o → (g.net.lines (output_channel d.shape t p)).owner ≡ Some x → ⊥
+  only p p_in other h = owned_none (output_channel d.shape t p) h
 
   put_router : IsRouterStep d net wired tags opening s g order st t t_in i i_in None left y y_in (put_in_ring flit) (ForwardHead x y flit)
   put_router = record {
-    latched = ap (λ (l : Lane). l.latch) at_x;
-    latches = line_other (λ (l : Lane). l.latch) refl;
-    rests = line_kept (λ (l : Lane). l.rest) refl refl;
-    so_fars = line_kept (λ (l : Lane). l.so_far) refl refl;
+    latched = ap (λ (l : Lane). l.latch) (at_x forward);
+    latches = line_other forward (λ (l : Lane). l.latch) refl;
+    rests = line_kept forward (λ (l : Lane). l.rest) refl refl;
+    so_fars = line_kept forward (λ (l : Lane). l.so_far) refl refl;
     count = length-set r.owned i (owner_after (is_tail flit) o);
-    owners = owners_new;
-    unowned = unowned_new;
-    outputs = outputs_new;
-    elsewhere = λ u p a u_in p_in. line_but (λ (l : Lane). l.owner) refl (output_channel d.shape u p)
+    owners = owners_new forward alone only;
+    unowned = unowned_new forward alone only;
+    outputs = outputs_new forward alone only;
+    elsewhere = λ u p a u_in p_in. line_but forward (λ (l : Lane). l.owner) refl (output_channel d.shape u p)
         (λ h. a (wired.outputs_apart u p t o u_in p_in t_in way.0 h).0);
   }
 

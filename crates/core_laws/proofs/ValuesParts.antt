@@ -40,7 +40,7 @@ use Rattle.order_abstract.specs.home_bank.specs.BankTable.{BankState, is_nil, ba
 use Rattle.core_laws.proofs.AgentSteps.{option_map_some}
 use Rattle.core_laws.proofs.SendFacts.{ready_parts}
 use Rattle.core_laws.proofs.ChannelWants.{if_what}
-use Rattle.core_laws.proofs.ValueBounds.{Below, word_stays}
+use Rattle.packet.proofs.Words.{Below, word_stays}
 use Rattle.core_laws.proofs.Followed.{IsFollowed, followed_issued, followed_answered}
 use Rattle.core_laws.proofs.Values.{AreSome}
 

@@ -24,7 +24,8 @@ use Rattle.core_laws.specs.Core.{State}
 use Rattle.core_laws.proofs.FlightSteps.{record_in, entries_in}
 use Rattle.core_laws.proofs.Parcels.{spells}
 use Rattle.core_laws.proofs.SendFacts.{ready_parts}
-use Rattle.core_laws.proofs.ValueBounds.{Below, reply_stays, reply_fits}
+use Rattle.packet.proofs.Words.{Below, reply_stays}
+use Rattle.core_laws.proofs.ValueBounds.{reply_fits}
 use Rattle.core_laws.proofs.Followed.{next_inside}
 use Rattle.core_laws.proofs.Values.{IsLimited, HasValues}
 use Rattle.core_laws.proofs.Stands.{Ghost, Stands, IsProperRequest, IsProperResponse, tile_at, no_tile, flight_of}

@@ -11,7 +11,7 @@ use Rattle.packet.specs.declared.kinds.Operation.{Operation}
 use Rattle.packet.specs.declared.kinds.Response.{Response}
 use Rattle.script.specs.declared.line.Line.{Line}
 use Rattle.script.specs.declared.line.Line.TheVariants.{Spin}
-use Rattle.script.specs.Scripts.{operation_count, operations_of, mentions_last}
+use Rattle.script.specs.Scripts.{mentions_last}
 use Rattle.tag_table.specs.Tags.{holder_of, free_tag, HoldsNone}
 use Rattle.tag_table.proofs.Moves.{taken, given, distinct-taken, distinct-given}
 use Rattle.script_follower.specs.one_order.proofs.Lists.{get_append_left, get_push, get_push_cases, get_set_same, get_set_other}

@@ -7,7 +7,7 @@ use Rattle.script.specs.declared.line.Line.{Line}
 use Rattle.script.specs.declared.line.Line.TheVariants.{Spin}
 use Rattle.script.specs.Scripts.{operation_count, operations_of, mentions_last}
 use Rattle.script_follower.specs.one_order.specs.declared.answer.Answer.{Answer}
-use Rattle.script_follower.specs.Following.{Following, first_of, past_fences, left_of, follower_with}
+use Rattle.script_follower.specs.Following.{Following, first_of, left_of, follower_with}
 use Rattle.script_follower.specs.ProcessorRecord.{ProcessorRecord, record_with}
 use Rattle.script_follower.proofs.Grown.{left_with}
 use Rattle.script_follower.proofs.Places.{count_past_fences}

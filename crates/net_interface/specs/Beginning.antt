@@ -1,5 +1,5 @@
 -- A processor before any step.
-use Rattle.std.specs.Prelude.{ℕ, ◌*◌, false, List, [], ◌∷◌, replicate, None}
+use Rattle.std.specs.Prelude.{ℕ, ◌*◌, false, List, [], ◌∷◌}
 use Rattle.torus.specs.Shape.{Shape}
 use Rattle.torus.specs.declared.shape.Class.TheVariants.{Request, Reply}
 use Rattle.script.specs.declared.line.Line.{Line}
@@ -7,8 +7,7 @@ use Rattle.channel_number.specs.Order.{channel_count}
 use Rattle.channel_number.specs.Ports.{injection_channel, ejection_channel}
 use Rattle.flit_buffer.specs.Surroundings.{Wiring}
 use Rattle.flit_buffer.specs.Wants.{PortEnds}
-use Rattle.script_follower.specs.Following.{first_of}
-use Rattle.script_follower.specs.ProcessorRecord.{ProcessorRecord, first_record}
+use Rattle.script_follower.specs.ProcessorRecord.{first_record}
 use Rattle.script_follower.specs.ProcessorTable.{ProcessorState}
 
 -- a processor with so many tags and this script, before any step (this project's own format)

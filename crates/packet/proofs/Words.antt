@@ -8,14 +8,14 @@ use Rattle.packet.specs.declared.kinds.Op.TheVariants.{Load, Store, Swap, Cas, A
 use Rattle.packet.specs.Memory.{new_word, reply_to}
 use Rattle.packet.specs.Spelling.{values_of_op, values_of_reply}
 
--- all of them are words
-abbrev Below : List ℕ → Type 0
+-- values of 64 bits
+abbrev pub Below : List ℕ → Type 0
 Below vs = All (λ v. v < 2 ^ 64) vs
 
-none_below : Below []
+pub none_below : Below []
 none_below = All-nil (λ v. v < 2 ^ 64)
 
-one_below : (v : ℕ) → v < 2 ^ 64 → Below (v ∷ [])
+pub one_below : (v : ℕ) → v < 2 ^ 64 → Below (v ∷ [])
 one_below v h = All-cons (λ v. v < 2 ^ 64) v [] h none_below
 
 first_below : (v : ℕ) (vs : List ℕ) → Below (v ∷ vs) → v < 2 ^ 64
@@ -28,7 +28,8 @@ either : (b : Bool) (n w k : ℕ) → n < k → w < k → (if b then n else w) <
 either true n w k a c = a
 either false n w k a c = c
 
-pub word_stays : (op : Op) (w : ℕ) → w < 2 ^ 64 → All (λ v. v < 2 ^ 64) (values_of_op op) → new_word op w < 2 ^ 64
+-- an operation of 64-bit values leaves a 64-bit word
+pub word_stays : (op : Op) (w : ℕ) → w < 2 ^ 64 → Below (values_of_op op) → new_word op w < 2 ^ 64
 word_stays Load w h b = h
 word_stays (Store v) w h b = first_below v [] b
 word_stays (Swap v) w h b = first_below v [] b
@@ -40,7 +41,8 @@ word_stays (Xor v) w h b = xor_lt 64 w v h (first_below v [] b)
 word_stays (Max v) w h b = let l = first_below v [] b in omega (arith, l, h)
 word_stays (Min v) w h b = let l = first_below v [] b in omega (arith, l, h)
 
-pub reply_stays : (op : Op) (w : ℕ) → w < 2 ^ 64 → All (λ v. v < 2 ^ 64) (values_of_reply (reply_to op w))
+-- and replies one
+pub reply_stays : (op : Op) (w : ℕ) → w < 2 ^ 64 → Below (values_of_reply (reply_to op w))
 reply_stays Load w h = one_below w h
 reply_stays (Store v) w h = none_below
 reply_stays (Swap v) w h = one_below w h
