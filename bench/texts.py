@@ -52,9 +52,9 @@ def machine(numbers):
         yield f"init {61 * at % USED} {numbers.next()}"
 
 
-def operation(numbers):
-    """An operation's address and its words as a script spells them."""
-    kind, address = KINDS[numbers.below(len(KINDS))], numbers.below(USED)
+def operation(numbers, used=USED):
+    """An operation's address, one of so many, and its words as a script spells them."""
+    kind, address = KINDS[numbers.below(len(KINDS))], numbers.below(used)
     if kind == "load":
         return address, f"load {address}"
     if kind == "cas":

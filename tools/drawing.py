@@ -3,7 +3,7 @@ from __future__ import annotations
 
 import colorsys
 from html import escape
-from typing import Iterable, Tuple
+from typing import Iterable, Optional, Tuple
 
 MONO = "DejaVu Sans Mono, Menlo, Consolas, Liberation Mono, monospace"
 SANS = "DejaVu Sans, Verdana, Helvetica, Arial, sans-serif"
@@ -50,12 +50,15 @@ def path(points: Iterable[Point]) -> str:
     return "M" + " L".join(f"{short(x)},{short(y)}" for x, y in points)
 
 
-def svg(width: float, height: float, parts: Iterable[str]) -> str:
-    """A picture on a white ground."""
-    inside = [element("rect", width=width, height=height, fill="#ffffff"), *parts]
+def svg(width: float, height: float, parts: Iterable[str], named: Optional[Tuple[str, str]] = None) -> str:
+    """A picture on a white ground; with a title and a description where it's named, which screen readers say."""
+    inside, more = [element("rect", width=width, height=height, fill="#ffffff"), *parts], ""
+    if named:
+        heads = [element(name, escape(it), id=name) for name, it in zip(("title", "desc"), named)]
+        inside, more = [*heads, *inside], ' role="img" aria-labelledby="title desc"'
     return (
         f'<svg xmlns="http://www.w3.org/2000/svg" width="{short(width)}" height="{short(height)}" '
-        f'viewBox="0 0 {short(width)} {short(height)}" font-family="{SANS}">\n' + "\n".join(inside) + "\n</svg>\n"
+        f'viewBox="0 0 {short(width)} {short(height)}" font-family="{SANS}"{more}>\n' + "\n".join(inside) + "\n</svg>\n"
     )
 
 
