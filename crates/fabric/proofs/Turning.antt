@@ -1,7 +1,8 @@
 -- From what an operation told to what a turn says.
 use Rattle.std.proofs.Common.{◌≡◌, ◌≢◌, ℕ, append_assoc, ◌<◌, Bool, true, false, List, [], ◌∷◌, ◌++◌, Option, Some, None, refl, sym, ap, ◌∙◌, subst}
 use Rattle.std.proofs.lemmas.List.{append-nil}
-use Rattle.std.specs.Prelude.{IsSome, MatchBool, MatchOption, is_some, option_and_then, unwrap_or}
+use Rattle.std.proofs.lemmas.Option.{same_Some}
+use Rattle.std.specs.Prelude.{IsSome, MatchBool, MatchOption, is_some, option_and_then, option_map, slice_get, unwrap_or}
 use Rattle.torus.specs.Shape.{tiles_of}
 use Rattle.torus.specs.declared.step.Step.{Step}
 use Rattle.torus.specs.declared.step.Stepped.{Stepped}
@@ -9,9 +10,10 @@ use Rattle.torus.specs.declared.step.Stepped.TheVariants.{Moved, Idle}
 use Rattle.fabric_rule.specs.order_abstract.specs.Room.{home_room}
 use Rattle.flit_buffer.specs.declared.word_op.WordOp.{WordOp}
 use Rattle.flit_buffer.specs.Words.{word_of}
-use Rattle.fabric_rule.specs.tile_laws.specs.Agents.{TilePlace, tile_next_op, tile_absorbed, agent_kind}
+use Rattle.fabric_rule.specs.tile_laws.specs.Agents.{TilePlace, tile_next_op, tile_absorbed, tile_placed, agent_kind}
 use Rattle.fabric_rule.specs.tile.specs.Placed.{PlacedTile, with_place, IsAcceptableTo, HasRoomForEntry}
-use Rattle.fabric_rule.specs.core_laws.specs.Core.{Load}
+use Rattle.fabric_rule.specs.tile_laws.specs.Tile.{TileState}
+use Rattle.fabric_rule.specs.core_laws.specs.Core.{Load, after, design_of}
 use Rattle.fabric_rule.specs.core_laws.specs.Runs.{IsAccepted}
 use Rattle.fabric_rule.specs.Known.{tile_of, known, op_of, moves, left_by, Suits, row_length}
 use Rattle.fabric_rule.specs.Told.{Away, grown}
@@ -43,6 +45,15 @@ idles_before c x v here op = subst (λ (q : Bool). MatchBool q (SeesIdle v c v) 
 
 pub makes : (c : Step) (x : TilePlace) (v w : View) (n : ℕ) → Attempted c x v n w → moves x c n ≡ true → StepMoves v c w
 makes c x v w n t e = (t.between, t.others, t.enabled_there ∙ e, t.view ∙ ap (λ (q : Bool). knowing v (grown q (v.run ++ t.between) c)) e)
+
+-- a tile in its place is at its number
+pub tile_known : (load : Load) (run : List Step) (t : ℕ) (x : PlacedTile) → StandsAt load run t x → x.place.tile ≡ t
+unfolding known
+tile_known load run t x k = by_slot (slice_get (after load run).tiles t) k.place
+  where
+    by_slot : (o : Option TileState) → option_map (λ tile. tile_placed (design_of load) t tile (after load run).around) o ≡ Some x.place → x.place.tile ≡ t
+    by_slot None e = absurd (cc)
+    by_slot (Some tile) e = sym (ap (λ (p : TilePlace). p.tile) (same_Some _ _ e))
 
 -- the same by the tile in code
 pub op_is : (p : TilePlace) (c : Step) (q : Option WordOp) → q ≡ tile_next_op p c → op_of p c ≡ q

@@ -91,6 +91,7 @@ impl Model for ProbeSeat {
 impl<A: Allocator> Fabric<A> {
     /// Attempts a step: performs its operation on the row, if its agent has one, and takes the word
     /// found. `NotMine` exactly where the step is of no tile of the seat, or its agent hasn't the choice.
+    #[inline(always)]
     pub fn turn(&self, seat: &mut TileSeat<A>, step: Step) -> Turned
         requires { IsOf self.now seat.old }
         ensures moved { result ≡ Moved → Moves seat.old step seat.new }

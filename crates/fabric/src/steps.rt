@@ -12,9 +12,10 @@ ghost use Rattle.fabric.specs.declared.steps.Turned.TheVariants.{Moved, Idle, No
 use crate::view::{Dealing, Knowledge};
 use atomic_table::{Join, Play, Seat, Shared, Split, TableRule};
 use flit_buffer::WordOp;
-use machine_core::TileAgents;
+use machine_core::{TileAgents, agent_kind};
 use std::alloc::Allocator;
 use std::marker::{Brand, PhantomData};
+use tile_laws::Agent;
 use torus::{Step, Stepped};
 
 /// The rule of the shared row.
@@ -68,7 +69,21 @@ impl<B: Turning> Play<(), Knowledge> for Attempt<B> {
     ghost then = { attempted B.view B.step B.place };
 }
 
+// The operation of a step of the tile, as its agent has it.
+#[inline(always)]
+fn tile_op<A: Allocator>(tile: &TileAgents<A>, step: Step) -> Option<WordOp>
+    requires { tile.now.place.tile ≡ tile_of step }
+    ensures { result ≡ tile_next_op tile.now.place step }
+{
+    match agent_kind(step.agent) {
+        Agent::Processor => tile.processor_op(step.choice),
+        Agent::Router => tile.router_op(step.choice),
+        Agent::Bank => tile.bank_op(step.choice),
+    }
+}
+
 // Makes the operation, the turn's only one. At a store the answer is what was stored.
+#[inline(always)]
 fn perform<A: Allocator, B: Turning>(
     row: &Row,
     seat: &mut Seat<(), Knowledge>,
@@ -121,6 +136,7 @@ pub enum Turned {
 }
 
 // Attempts the step of the tile, of which the seat knows what it knew as the turn began.
+#[inline(always)]
 pub(crate) fn turn_tile<A: Allocator, B: Turning>(
     row: &Row,
     seat: &mut Seat<(), Knowledge>,
@@ -142,7 +158,7 @@ pub(crate) fn turn_tile<A: Allocator, B: Turning>(
     ensures mine { result ≢ NotMine }
     ensures rest { OnlyTile seat.old.me.0 (tile_of step) seat.new.me.0 }
 {
-    let Some(op) = tile.next_op(step) else {
+    let Some(op) = tile_op(tile, step) else {
         return Turned::Idle;
     };
     let found = perform::<A, B>(row, seat, step, tile, op);

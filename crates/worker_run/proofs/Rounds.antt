@@ -1,5 +1,5 @@
 -- The step at each place of a round.
-use Rattle.std.proofs.Common.{◌≡◌, ℕ, zero, suc, ◌+◌, ◌-◌, ◌*◌, ◌<◌, ◌≤◌, List, [], ◌∷◌, ◌++◌, length, map, Some, refl, ap, ◌∙◌, arith}
+use Rattle.std.proofs.Common.{◌≡◌, ℕ, zero, suc, ◌+◌, ◌-◌, ◌*◌, ◌<◌, ◌≤◌, List, [], ◌∷◌, ◌++◌, length, map, Some, refl, ap, ◌∙◌, subst, arith}
 use Rattle.std.specs.Prelude.{slice_get, option_map}
 use Rattle.std.specs.List.{range_with_len}
 use Rattle.std.proofs.lemmas.List.{length-append}
@@ -105,3 +105,32 @@ module _ (ports t i : ℕ) (c : Choice) where
       ∙ (behind (attempts_of (3 * t + 1) (router_choices ports)) _ (3 * ports) (i - 5) (attempt_count (3 * t + 1) (router_choices ports) ∙ router_count ports)
       (omega (arith, le))
       ∙ chosen (3 * t + 2) bank_choices (i - 5 - 3 * ports) c e)
+
+-- the steps at the places of a tile, agent by agent
+pub take_step : (ports t k i : ℕ) → i ≡ 5 + k → k < ports → slice_get (round_at ports t) i ≡ Some (record { agent = 3 * t + 1; choice = TakeFrom k })
+take_step ports t k i e lt =
+    let back : k ≡ i - 5 = omega (arith, e) in
+    router_step ports t i (TakeFrom k) (omega (arith, e))
+    (subst (λ (n : ℕ). slice_get (router_choices ports) n ≡ Some (TakeFrom k)) back (take_choice ports k lt))
+
+pub put_step : (ports t k i : ℕ) → i ≡ 5 + ports + k → k < ports → slice_get (round_at ports t) i ≡ Some (record { agent = 3 * t + 1; choice = Put k })
+put_step ports t k i e lt =
+    let back : ports + k ≡ i - 5 = omega (arith, e) in
+    let same : ports + k - ports ≡ k = omega arith in
+    router_step ports t i (Put k) (omega (arith, e))
+    (subst (λ (n : ℕ). slice_get (router_choices ports) n ≡ Some (Put k)) back
+    (put_choice ports (ports + k) (omega arith) (omega (arith, lt)) ∙ ap (λ (n : ℕ). Some (Put n)) same))
+
+pub credit_step : (ports t k i : ℕ) → i ≡ 5 + 2 * ports + k → k < ports → slice_get (round_at ports t) i ≡ Some (record { agent = 3 * t + 1; choice = CreditOf k })
+credit_step ports t k i e lt =
+    let back : 2 * ports + k ≡ i - 5 = omega (arith, e) in
+    let same : 2 * ports + k - 2 * ports ≡ k = omega arith in
+    router_step ports t i (CreditOf k) (omega (arith, e))
+    (subst (λ (n : ℕ). slice_get (router_choices ports) n ≡ Some (CreditOf k)) back
+    (credit_choice ports (2 * ports + k) (omega arith) (omega (arith, lt)) ∙ ap (λ (n : ℕ). Some (CreditOf n)) same))
+
+pub bank_place : (ports t j i : ℕ) (c : Choice) → i ≡ 5 + 3 * ports + j → slice_get bank_choices j ≡ Some c
+    → slice_get (round_at ports t) i ≡ Some (record { agent = 3 * t + 2; choice = c })
+bank_place ports t j i c e is =
+    let back : j ≡ i - 5 - 3 * ports = omega (arith, e) in
+    bank_step ports t i c (omega (arith, e)) (subst (λ (n : ℕ). slice_get bank_choices n ≡ Some c) back is)

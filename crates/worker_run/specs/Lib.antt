@@ -3,3 +3,4 @@ pub mod Working
 pub mod Places
 pub mod Calls
 pub mod Watching
+pub mod Going

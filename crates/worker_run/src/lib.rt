@@ -3,6 +3,7 @@
 
 pub mod gate;
 pub mod place;
+mod turns;
 pub mod watch;
 pub mod worker;
 pub mod working;

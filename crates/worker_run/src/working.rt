@@ -6,10 +6,10 @@ ghost use Rattle.worker_run.specs.Working.{Working, HasWorked};
 
 use crate::gate::Gate;
 use crate::place::Place;
+use crate::turns::{Run, attempt, tile_turns};
 use crate::watch::Watch;
 use crate::worker::{End, Worker};
 use fabric::seats::{Fabric, TileSeat};
-use fabric::steps::Turned;
 use std::alloc::Allocator;
 use std::sync::Wait;
 use std::thread;
@@ -96,7 +96,7 @@ fn work<A: Allocator, G: Gate, V: Watch>(
     watch.ended(number, kept, made);
 }
 
-// Attempts the steps of the seat's rounds, one a turn. Answers how many turns were made.
+// Attempts the steps of the seat's rounds, one a turn, tile by tile. Answers how many turns were made.
 fn make_turns<A: Allocator, G: Gate, V: Watch>(
     fabric: &Fabric<A>,
     seat: &mut TileSeat<A>,
@@ -116,22 +116,29 @@ fn make_turns<A: Allocator, G: Gate, V: Watch>(
         return 0;
     }
     let ports = fabric.ports();
-    let mut quiet = true;
-    for made in 0..turns {
-        let step = place.step(ports);
-        if !gate.before(worker, step) {
-            return made;
+    let mut run = Run {
+        made: 0,
+        most: turns,
+        quiet: true,
+    };
+    for _ in 0..turns {
+        tile_turns(fabric, seat, gate, worker, &mut run, place.tile, ports);
+        let last = Place {
+            tile: place.tile,
+            at: 8 + 3 * ports,
+        };
+        let next = last.after(ports, seat);
+        let made = run.made;
+        let agent = 3 * place.tile + 2;
+        attempt(fabric, seat, gate, worker, &mut run, agent, Choice::Credit);
+        if run.made <= made {
+            return run.made;
         }
-        let next = place.after(ports, seat);
-        let moved = matches!(fabric.turn(seat, step), Turned::Moved);
-        let is_over = tell_turn(watch, kept, worker, place, next, made + 1);
-        if moved && is_look(step.choice) && seat.has_seen() {
-            return made + 1;
-        }
-        quiet = rested(quiet && !moved, is_over);
+        let is_over = tell_turn(watch, kept, worker, last, next, run.made);
+        run.quiet = rested(run.quiet, is_over);
         place = next;
     }
-    turns
+    run.made
 }
 
 // Tells `watch` of a turn, the how-manyth it is, where a pass is over by it. Answers whether one is.
@@ -151,10 +158,6 @@ fn tell_turn<V: Watch>(
         watch.passed(worker, kept, turns);
     }
     is_over
-}
-
-fn is_look(choice: Choice) -> bool {
-    matches!(choice, Choice::Look)
 }
 
 // Lets others run where a whole pass was quiet. Answers whether the pass so far is.

@@ -1,8 +1,11 @@
 use Rattle.std.proofs.Common.{subst}
 use Rattle.torus.specs.declared.step.Stepped.{Stepped}
 use Rattle.fabric.proofs.Turning.{makes, idles, idles_before, Absorbs, op_is, accepts, has_room, moved_is, idle_is, stands_then, only_tile, before}
-use Rattle.fabric.proofs.Turning.{accepted_before, told_of}
+use Rattle.fabric.proofs.Turning.{accepted_before, tile_known, told_of}
 use Rattle.fabric.proofs.steps.turn_tile.Goals as goal
+
+pub tile_op-requires : goal.tile_op-requires
+tile_op-requires g c = tile_known _ _ _ _ c.requires.tile
 
 pub returns-in_default-clause-idle : goal.returns-in_default-clause-idle
 returns-in_default-clause-idle g c = λ _. idles_before _ _ _ (before _ _ _ _ c.requires.turning c.requires.tile).place (op_is _ _ _ c.in_default.ensures)

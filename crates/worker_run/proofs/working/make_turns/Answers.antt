@@ -1,7 +1,7 @@
 -- The turns follow the rounds until they end, and who watches is told of each pass.
-use Rattle.std.proofs.Common.{◌≡◌, ℕ, ◌+◌, [], ap, subst, arith, inl, inr}
-use Rattle.worker_run.specs.Watching.{HearsTurns}
-use Rattle.worker_run.proofs.Moving.{turned, told_none, told_until, hears_none, none_heard, turn_heard, begun, goes_on, ports_are, within_ports, own_on}
+use Rattle.std.proofs.Common.{◌≤◌, [], refl, inl, arith}
+use Rattle.worker_run.proofs.Moving.{told_none, hears_none, ports_are, within_ports}
+use Rattle.worker_run.proofs.Going.{all_over, begun, next_starts, tile_on, tile_over, told_over}
 use Rattle.worker_run.proofs.working.make_turns.Goals as goal
 
 pub returns-then-has_seen : goal.returns-then-has_seen
@@ -11,86 +11,76 @@ returns-then-has_seen g c = (
   hears_none (g.V.Watch.heard c.args.watch.now c.args.worker c.args.kept.now),
 )
 
-pub loop-made-init : goal.loop-made-init
-loop-made-init g c = record {
+pub loop-init : goal.loop-init
+loop-init g c = record {
   own = c.requires;
   within = within_ports _ _ c.first-place.result (ports_are c.ports-ports.result c.args.fabric.now c.args.seat.now c.ports-ports.ensures c.requires)
       c.first-place.ensures.within;
-  so_far = begun c.ports-ports.result c.args.seat.now c.first-place.result;
-  told = none_heard c.ports-ports.result c.args.seat.now.tiles c.first-place.result (g.V.Watch.heard c.args.watch.now c.args.worker c.args.kept.now);
+  start = c.first-place.ensures.first.0;
+  counted = omega arith;
+  so_far = (
+    [],
+    inl (omega arith, refl, begun c.ports-ports.result c.args.seat.now c.first-place.result),
+    hears_none (g.V.Watch.heard c.args.watch.now c.args.worker c.args.kept.now),
+  );
 }
 
-pub returns-then-not-before : goal.returns-then-not-before
-returns-then-not-before g c =
-    let k = c.loop-made.invariant in (
-      k.told.0,
-      told_until _ c.args.turns c.ports-ports.result c.loop-made.made c.args.seat.now c.loop-made.seat c.first-place.result c.loop-made.place k.told.0
-          c.first-place.ensures.first
-          (ports_are c.ports-ports.result c.args.fabric.now c.args.seat.now c.ports-ports.ensures c.requires)
-          k.so_far k.told.1 (omega arith)
-          (λ h. (let t = c.has_seen.ensures.seen.1 h in let f = c.if-has_seen.false in cc))
-          (inr (inr (c.step-step.result, c.step-step.ensures, c.before-in-loop-made.ensures c.if-not-before.true))),
-      k.told.2,
-    )
-
 pub after-next-requires-clause-ports : goal.after-next-requires-clause-ports
-after-next-requires-clause-ports g c = ports_are c.ports-ports.result c.args.fabric.now c.loop-made.seat c.ports-ports.ensures c.loop-made.invariant.own
+after-next-requires-clause-ports g c = ports_are c.ports-ports.result c.args.fabric.now c.tile_turns.new.seat c.ports-ports.ensures c.tile_turns.ensures.own
 
-pub returns-then-has_seen-2 : goal.returns-then-has_seen-2
-returns-then-has_seen-2 g c =
-    let k = c.loop-made.invariant in
-    let t = c.turn.ensures in
-    let told = turn_heard c.ports-ports.result c.args.seat.now c.loop-made.seat c.loop-made.made c.first-place.result c.loop-made.place c.after-next.result
-    (g.V.Watch.heard c.args.watch.now c.args.worker c.args.kept.now) (g.V.Watch.heard c.args.watch.now c.args.worker c.loop-made.kept)
-    (g.V.Watch.heard c.args.watch.now c.args.worker c.tell_turn-is_over.new.kept)
-    (ap (λ k. k.tiles) k.so_far.grew.0) k.told c.after-next.ensures.follows c.tell_turn-is_over.ensures in (
-      told.0,
-      told_until _ c.args.turns c.ports-ports.result (c.loop-made.made + 1) c.args.seat.now c.turn.new.seat c.first-place.result c.after-next.result told.0
+pub after-next-requires-clause-within : goal.after-next-requires-clause-within
+after-next-requires-clause-within g c = record { tile = c.loop.invariant.within.tile; at = omega arith }
+
+pub returns-then-run-made : goal.returns-then-run-made
+returns-then-run-made g c =
+    let k = c.loop.invariant in
+    let over = tile_over (g.G.Gate.stops c.args.gate.now c.args.worker) c.args.turns c.ports-ports.result c.args.seat.now c.first-place.result c.loop.place
+    c.loop.run c.tile_turns.new.run c.attempt.new.run c.loop.seat c.tile_turns.new.seat c.attempt.new.seat
+    (g.V.Watch.heard c.args.watch.now c.args.worker c.args.kept.now) (g.V.Watch.heard c.args.watch.now c.args.worker c.loop.kept)
+    k.start c.tile_turns.ensures.leads c.attempt.ensures.tried k.so_far c.if-run-made.true in (
+      k.so_far.0,
+      told_over _ c.args.turns c.ports-ports.result c.attempt.new.run.made c.args.seat.now c.attempt.new.seat c.first-place.result k.so_far.0
           c.first-place.ensures.first
           (ports_are c.ports-ports.result c.args.fabric.now c.args.seat.now c.ports-ports.ensures c.requires)
-          (goes_on c.ports-ports.result c.loop-made.made c.args.seat.now c.loop-made.seat c.turn.new.seat c.first-place.result c.loop-made.place
-          c.after-next.result
-          c.step-step.result k.so_far c.step-step.ensures
-          (turned c.turn.result c.loop-made.seat c.turn.new.seat c.step-step.result t.moved t.idle t.not_mine t.unchanged) (t.same, t.later)
-          c.after-next.ensures.follows)
-          told.1
-          (omega arith)
+          over.0
           (λ h. (let t = c.has_seen.ensures.seen.1 h in let f = c.if-has_seen.false in cc))
-          (inl (c.has_seen-then-is_look.ensures.seen.0 c.if-has_seen-2.true)),
-      told.2,
+          over.1,
+      k.so_far.2,
     )
 
-pub loop-made-preserved : goal.loop-made-preserved
-loop-made-preserved g c =
-    let k = c.loop-made.invariant in
-    let t = c.turn.ensures in
+pub loop-preserved : goal.loop-preserved
+loop-preserved g c =
+    let k = c.loop.invariant in
+    let more = c.if-run-made.false in
+    let counted = k.counted in
+    let later = c.tile_turns.ensures.leads.later in
     record {
-      own = own_on c.args.fabric.now c.loop-made.seat c.turn.new.seat k.own t.same;
-      within = within_ports _ _ c.after-next.result (ports_are c.ports-ports.result c.args.fabric.now c.loop-made.seat c.ports-ports.ensures k.own)
+      own = c.attempt.ensures.own;
+      within = within_ports _ _ c.after-next.result
+          (ports_are c.ports-ports.result c.args.fabric.now c.tile_turns.new.seat c.ports-ports.ensures c.tile_turns.ensures.own)
           c.after-next.ensures.within;
-      so_far = goes_on c.ports-ports.result c.loop-made.made c.args.seat.now c.loop-made.seat c.turn.new.seat c.first-place.result c.loop-made.place
-          c.after-next.result c.step-step.result k.so_far c.step-step.ensures
-          (turned c.turn.result c.loop-made.seat c.turn.new.seat c.step-step.result t.moved t.idle t.not_mine t.unchanged) (t.same, t.later)
-          c.after-next.ensures.follows;
-      told = turn_heard c.ports-ports.result c.args.seat.now c.loop-made.seat c.loop-made.made c.first-place.result c.loop-made.place c.after-next.result
-          (g.V.Watch.heard c.args.watch.now c.args.worker c.args.kept.now) (g.V.Watch.heard c.args.watch.now c.args.worker c.loop-made.kept)
-          (g.V.Watch.heard c.args.watch.now c.args.worker c.tell_turn-is_over.new.kept)
-          (ap (λ k. k.tiles) k.so_far.grew.0) k.told c.after-next.ensures.follows c.tell_turn-is_over.ensures;
+      start = next_starts c.ports-ports.result c.loop.place.tile c.tile_turns.new.seat.tiles c.after-next.result c.after-next.ensures.follows;
+      counted = omega (arith, more, counted, later);
+      so_far = tile_on (g.G.Gate.stops c.args.gate.now c.args.worker) c.args.turns c.ports-ports.result c.args.seat.now c.first-place.result c.loop.place
+          c.loop.run c.tile_turns.new.run c.attempt.new.run c.loop.seat c.tile_turns.new.seat c.attempt.new.seat
+          (g.V.Watch.heard c.args.watch.now c.args.worker c.args.kept.now) (g.V.Watch.heard c.args.watch.now c.args.worker c.loop.kept)
+          k.start c.tile_turns.ensures.leads c.attempt.ensures.tried k.so_far
+          c.after-next.result c.rested.result (g.V.Watch.heard c.args.watch.now c.args.worker c.tell_turn-is_over.new.kept)
+          c.after-next.ensures.follows more c.tell_turn-is_over.ensures;
     }
 
 pub returns : goal.returns
 returns g c =
-    let k = c.loop-made.invariant in
-    let all : c.loop-made.made ≡ c.args.turns = omega arith in
-    subst (λ (n : ℕ). HearsTurns (g.G.Gate.stops c.args.gate.now c.args.worker) c.args.turns c.args.seat.now c.loop-made.seat n
-    (g.V.Watch.heard c.args.watch.now c.args.worker c.args.kept.now) (g.V.Watch.heard c.args.watch.now c.args.worker c.loop-made.kept))
-    all (
-      k.told.0,
-      told_until _ c.args.turns c.ports-ports.result c.loop-made.made c.args.seat.now c.loop-made.seat c.first-place.result c.loop-made.place k.told.0
-          c.first-place.ensures.first
+    let k = c.loop.invariant in
+    let counted = k.counted in
+    let many : c.args.turns ≤ c.loop.run.made = omega (arith, counted) in
+    let over = all_over (g.G.Gate.stops c.args.gate.now c.args.worker) c.args.turns c.ports-ports.result c.args.seat.now c.first-place.result c.loop.place
+    k.so_far.0 c.loop.run c.loop.seat many k.so_far.1 in (
+      k.so_far.0,
+      told_over _ c.args.turns c.ports-ports.result c.loop.run.made c.args.seat.now c.loop.seat c.first-place.result k.so_far.0 c.first-place.ensures.first
           (ports_are c.ports-ports.result c.args.fabric.now c.args.seat.now c.ports-ports.ensures c.requires)
-          k.so_far k.told.1 (omega arith)
+          over.0
           (λ h. (let t = c.has_seen.ensures.seen.1 h in let f = c.if-has_seen.false in cc))
-          (inr (inl all)),
-      k.told.2,
+          over.1,
+      k.so_far.2,
     )

@@ -4,7 +4,7 @@ use Rattle.std.proofs.lemmas.Grind.{common_steps}
 use Rattle.std.proofs.lemmas.List.{append-nil}
 use Rattle.std.proofs.lemmas.Option.{gets}
 use Rattle.fabric_rule.specs.View.{View}
-use Rattle.fabric.specs.Seats.{Knowing, seat_knows, with_run, Seated}
+use Rattle.fabric.specs.Seats.{Knowing, with_run, Seated}
 use Rattle.fabric.proofs.Meetings.{every_run, knows_lawful, lawful_view}
 use Rattle.fabric.proofs.Refusing.{none_behind, none_there}
 use Rattle.fabric.proofs.Seating.{seated_turn}
