@@ -1,14 +1,14 @@
 //! The whole command line.
-ghost use Rattle.command_line.specs.CommandLine.{torusmem_app};
+ghost use Rattle.command_line.specs.CommandLine.{routing_app, running_app, torusmem_app};
 ghost use Rattle.command_line.specs.Making.{IsCommand};
 
 use crate::making::{Making, program, with_subcommand};
 use crate::subcommands::{draw, in_rounds, linearize, of_one_file, route, run, steps};
 use std::alloc::Global;
 
-/// The program with all its subcommands.
-pub(crate) fn command<'a>(alloc: Global) -> Making<'a>
-    ensures { IsCommand torusmem_app result }
+/// The program with the subcommands that run scripts and print reports.
+fn running<'a>(alloc: Global) -> Making<'a>
+    ensures { IsCommand running_app result }
 {
     let command = program(alloc);
     let command = with_subcommand(command, steps(alloc));
@@ -17,20 +17,29 @@ pub(crate) fn command<'a>(alloc: Global) -> Making<'a>
     let command = with_subcommand(command, run(alloc));
     let about = "Does what lines on standard input ask for, and answers line by line";
     let live = of_one_file(alloc, "live", about, "MACHINE", "The file of the machine");
-    let command = with_subcommand(command, live);
+    with_subcommand(command, live)
+}
+
+/// The same, and those on schedules and routes.
+fn routing<'a>(alloc: Global) -> Making<'a>
+    ensures { IsCommand routing_app result }
+{
+    let command = running(alloc);
     let about = "Runs in rounds until every script is finished, and prints the moves as steps";
     let command = with_subcommand(command, in_rounds(alloc, "schedule", about));
     let command = with_subcommand(command, draw(alloc));
     let command = with_subcommand(command, route(alloc));
     let about = "Prints the number of each channel, and checks that they rise along every route";
-    let channels = of_one_file(
-        alloc,
-        "channels",
-        about,
-        "MACHINE",
-        "The file of the machine",
-    );
-    let command = with_subcommand(command, channels);
+    let machine = "The file of the machine";
+    let channels = of_one_file(alloc, "channels", about, "MACHINE", machine);
+    with_subcommand(command, channels)
+}
+
+/// The program with all its subcommands.
+pub(crate) fn command<'a>(alloc: Global) -> Making<'a>
+    ensures { IsCommand torusmem_app result }
+{
+    let command = routing(alloc);
     let about = "Checks a report";
     let check = of_one_file(alloc, "check", about, "REPORT", "The file of the report");
     let command = with_subcommand(command, check);

@@ -1,7 +1,7 @@
 ghost use Rattle.std.specs.Prelude.{◌≡◌, IfOk, IfSome, Some, map, codes};
-ghost use Rattle.clap.specs.Words.{subcommand_name_of, subcommand_rows_of};
+ghost use Rattle.clap.specs.Words.{found_of, rows_of, subcommand_name_of, subcommand_rows_of};
 ghost use Rattle.command_line.specs.CommandLine.{name_by, rows_by};
-ghost use Rattle.command_line.specs.Job.{AreOf, IsFlag, IsWithinLimits, name_of, rows_in};
+ghost use Rattle.command_line.specs.Job.{AreOf, IsFlag, IsOf, IsWithinLimits, name_of, rows_in};
 
 use crate::building::command;
 use crate::jobs::{
@@ -10,7 +10,7 @@ use crate::jobs::{
 };
 use crate::values::flag_of;
 use clap::error::ErrorKind;
-use clap::{ArgMatches, Error};
+use clap::{ArgMatches, Command, Error};
 use std::alloc::Global;
 use std::convert::AsStr;
 use torus::Class;
@@ -126,29 +126,40 @@ pub fn read_request<'a, S: AsStr>(alloc: Global, words: &'a [S]) -> Result<Reque
 {
     let mut command = command(alloc)?;
     let matches = command.try_get_matches_from_mut(words)?;
-    let (Some(job), Some(explain)) = (job_of(&matches), explain_of(&matches)) else {
-        return Err(command.error(ErrorKind::InvalidValue, "a value is missing")?);
-    };
-    Ok(Request { job, explain })
+    match request_of(&matches) {
+        Some(request) => Ok(request),
+        None => Err(missing(&mut command)),
+    }
 }
 
-/// Whether the matches have `--explain`.
-fn explain_of(matches: &ArgMatches<'_>) -> Option<bool>
-    ensures { IfSome result
-        (λ is. IfSome (rows_in (subcommand_rows_of matches.now)) (IsFlag (codes "explain") is)) }
-{
-    let (_, given) = matches.subcommand()?;
-    flag_of(given, "explain")
+/// The error of a value that is missing; or that memory ran out.
+fn missing(command: &mut Command<'_>) -> Error {
+    match command.error(ErrorKind::InvalidValue, "a value is missing") {
+        Ok(error) => error,
+        Err(refused) => Error::from(refused),
+    }
 }
 
-/// The job that the matches name.
-fn job_of<'a>(matches: &ArgMatches<'a>) -> Option<Job<'a>>
-    ensures named { IfSome result (λ job. subcommand_name_of matches.now ≡ Some (name_of job)) }
+/// The job that the matches name, and whether they have `--explain`.
+fn request_of<'a>(matches: &ArgMatches<'a>) -> Option<Request<'a>>
+    ensures named { IfSome result (λ r. subcommand_name_of matches.now ≡ Some (name_of r.job)) }
     ensures given { IfSome result
-        (λ job. IfSome (rows_in (subcommand_rows_of matches.now)) (AreOf job)) }
-    ensures limits { IfSome result IsWithinLimits }
+        (λ r. IfSome (rows_in (subcommand_rows_of matches.now)) (AreOf r.job)) }
+    ensures explain { IfSome result
+        (λ r. IfSome (rows_in (subcommand_rows_of matches.now))
+        (IsFlag (codes "explain") r.explain)) }
+    ensures limits { IfSome result (λ r. IsWithinLimits r.job) }
 {
     let (name, given) = matches.subcommand()?;
+    let job = job_by(name, given)?;
+    let explain = flag_of(given, "explain")?;
+    Some(Request { job, explain })
+}
+
+/// The job of the subcommand of this name, from what was given for its arguments.
+fn job_by<'a>(name: &str, given: &ArgMatches<'a>) -> Option<Job<'a>>
+    ensures { IfSome result (IsOf name.now (rows_of (found_of given.now))) }
+{
     match name {
         "steps" => steps_job(given),
         "round" => round_job(given),

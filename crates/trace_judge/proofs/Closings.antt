@@ -6,7 +6,7 @@ use Rattle.trace_search.specs.declared.opened.Open.{Open}
 use Rattle.trace_search.specs.declared.opened.Config.{Config}
 use Rattle.trace_search.specs.declared.opened.Branch.{Branch}
 use Rattle.trace_search.specs.declared.opened.Node.{Node}
-use Rattle.trace_search.specs.Configs.{IsIn, IsLeft, IsTaken, HasAsGood, IsExpanded, effect, release}
+use Rattle.trace_search.specs.Configs.{IsIn, IsLeft, IsTaken, HasAsGood, IsExpanded, effect, release, without_bit}
 use Rattle.trace_search.specs.Searches.{configs_of, AreReleased}
 use Rattle.trace_order.proofs.Lists.{get_push_cases, get_append_left, get_push, get_within}
 use Rattle.trace_search.proofs.Start.{map_in}
@@ -159,6 +159,15 @@ keeping_push slot branches i kept later b at taken e was =
           (r.0, get_append_left kept (new ∷ []) r.0 (record { config = release c.config slot; trail = c.trail }) r.1))
           (cases_eq j i);
     })
+
+-- the same, where the slots without this one have a name
+pub keeping_pushed : (slot : ℕ) (branches : List Branch) (i : ℕ) (kept later : List Branch) (b : Branch) (taken : ℕ)
+    → slice_get branches i ≡ Some b → IsTaken b.config slot → taken ≡ without_bit b.config.taken slot
+    → later ≡ kept ++ record { config = record { word = b.config.word; taken = taken }; trail = b.trail } ∷ []
+    → Keeping slot branches i kept → Keeping slot branches (i + 1) later
+keeping_pushed slot branches i kept later b taken at has without is was =
+    keeping_push slot branches i kept later b at has
+    (is ∙ ap (λ (t : ℕ). kept ++ record { config = record { word = b.config.word; taken = t }; trail = b.trail } ∷ []) without) was
 
 pub keeping_all : (slot : ℕ) (branches : List Branch) (i : ℕ) (kept : List Branch) → length branches ≤ i
     → Keeping slot branches i kept
