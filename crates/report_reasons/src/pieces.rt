@@ -1,42 +1,96 @@
-//! Sentences with gaps, and what fills them.
+//! The pieces of a sentence: words and numbers.
 
 use std::fmt;
 
 /// The greatest number below this one.
-pub(crate) fn last_below(count: u64) -> u64 {
+fn last_below(count: u64) -> u64 {
     count.saturating_sub(1)
 }
 
-/// A sentence with gaps, and what fills them. Each capital letter is a gap: `version N: there are the
-/// versions 1 and 2`.
+/// Words and the number behind them, if there is one.
 #[derive(Clone, Copy)]
-pub(crate) struct Sentence {
-    pub(crate) text: &'static str,
-    /// The word `K`.
-    pub(crate) word: &'static str,
-    /// The number `N`.
-    pub(crate) number: u64,
-    /// The number `M`.
-    pub(crate) other: u64,
+pub(crate) struct Piece {
+    words: &'static str,
+    number: Option<u64>,
 }
 
-impl Sentence {
-    /// Writes a letter of the text, or what belongs into its gap.
-    fn put<W: fmt::Write>(&self, letter: u8, f: &mut fmt::Formatter<W>) -> fmt::Result {
-        match letter {
-            b'K' => f.write_str(self.word),
-            b'M' => write!(f, "{}", self.other),
-            b'N' => write!(f, "{}", self.number),
-            _ => f.write_char(char::from(letter)),
+impl fmt::Display for Piece {
+    fn fmt<W: fmt::Write>(&self, f: &mut fmt::Formatter<W>) -> fmt::Result {
+        f.write_str(self.words)?;
+        match self.number {
+            None => Ok(()),
+            Some(number) => write!(f, "{number}"),
         }
     }
 }
+
+/// Words without a number.
+pub(crate) fn words(words: &'static str) -> Piece {
+    Piece {
+        words,
+        number: None,
+    }
+}
+
+/// Words and a number behind them.
+pub(crate) fn number(words: &'static str, number: u64) -> Piece {
+    Piece {
+        words,
+        number: Some(number),
+    }
+}
+
+/// A sentence of three pieces.
+#[derive(Clone, Copy)]
+pub(crate) struct Sentence(pub(crate) Piece, pub(crate) Piece, pub(crate) Piece);
 
 impl fmt::Display for Sentence {
     fn fmt<W: fmt::Write>(&self, f: &mut fmt::Formatter<W>) -> fmt::Result {
-        for letter in self.text.as_bytes() {
-            self.put(*letter, f)?;
-        }
-        Ok(())
+        write!(f, "{}{}{}", self.0, self.1, self.2)
     }
+}
+
+/// A sentence without numbers.
+pub(crate) fn plain(text: &'static str) -> Sentence {
+    Sentence(words(text), words(""), words(""))
+}
+
+/// A sentence with one number.
+pub(crate) fn one(before: &'static str, found: u32, behind: &'static str) -> Sentence {
+    Sentence(number(before, u64::from(found)), words(behind), words(""))
+}
+
+/// A sentence with two numbers and words behind them.
+pub(crate) fn two(
+    before: &'static str,
+    first: u64,
+    between: &'static str,
+    second: u64,
+    behind: &'static str,
+) -> Sentence {
+    Sentence(
+        number(before, first),
+        number(between, second),
+        words(behind),
+    )
+}
+
+/// A sentence that ends with a number that was wanted.
+pub(crate) fn but(
+    before: &'static str,
+    found: u32,
+    between: &'static str,
+    wanted: u64,
+) -> Sentence {
+    two(before, u64::from(found), between, wanted, "")
+}
+
+/// A sentence that ends with the greatest number below a count.
+pub(crate) fn up_to(
+    before: &'static str,
+    found: u32,
+    between: &'static str,
+    count: u64,
+) -> Sentence {
+    but(before, found, between, last_below(count))
 }
