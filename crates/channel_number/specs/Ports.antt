@@ -12,7 +12,8 @@ use Rattle.dateline_route.specs.declared.channel.Input.TheVariants.{Inject, Hop 
 use Rattle.dateline_route.specs.declared.channel.Output.{Output}
 use Rattle.dateline_route.specs.declared.channel.Output.TheVariants.{Eject, Hop as To}
 use Rattle.dateline_route.specs.Route.{with_digit}
-use Rattle.channel_number.specs.Order.{dir_at, class_place, place_in_tile, channels_at_tile, channel_count, channel_index}
+use Rattle.channel_number.specs.Order.{dir_at, class_place, place_in_tile, channels_at_tile}
+use Rattle.channel_number.specs.Order.{channel_count, channel_index}
 use Rattle.channel_number.specs.Order.{channel_at}
 
 -- how many inputs a router has in n dimensions, and as many outputs (this project's own format)

@@ -32,7 +32,7 @@ use Rattle.wormhole.proofs.Lists.{all_on, on_left}
 use Rattle.wormhole.proofs.Takes.{is_taken}
 use Rattle.wormhole.proofs.Wholes.{none_arrives}
 use Rattle.packet.specs.Flits.{is_tail, offered, offered_by, flits_of}
-use Rattle.core_laws.specs.Heads.{is_head}
+use Rattle.core_laws.specs.Heads.{carries_route}
 use Rattle.channel_number.specs.Ports.{injection_channel, ejection_channel}
 use Rattle.tile_laws.specs.Tile.{Design}
 use Rattle.core_laws.specs.Core.{State}
@@ -100,12 +100,12 @@ module _ (d : Design) (net : IsNet (net_of d)) (tags : ℕ) (opening : List ℕ)
   lane = ejection_channel d.shape t class
 
   abbrev pub taken_net : NetState
-  taken_net = after n g.net (accepts lane flit more (is_head flit))
+  taken_net = after n g.net (accepts lane flit more (carries_route flit))
 
   pub lane_in : lane < channel_count d.shape
   lane_in = ejection_in d.shape t class t_in
 
-  pub may_accept : CanAccept n (g.net.lines lane) lane flit more (is_head flit)
+  pub may_accept : CanAccept n (g.net.lines lane) lane flit more (carries_route flit)
   may_accept = record {
     here = subst (λ (k : ℕ). lane < k) (sym (channels_of d)) lane_in;
     ejects = ejects_at d t class;
@@ -113,17 +113,17 @@ module _ (d : Design) (net : IsNet (net_of d)) (tags : ℕ) (opening : List ℕ)
     head = is_head_of d flit;
   }
 
-  pub may_happen : CanHappen n g.net.lines (accepts lane flit more (is_head flit))
-  may_happen = can_happen n g.net lane flit more (is_head flit) may_accept
+  pub may_happen : CanHappen n g.net.lines (accepts lane flit more (carries_route flit))
+  may_happen = can_happen n g.net lane flit more (carries_route flit) may_accept
 
   abbrev pub new_line : Lane
   new_line = accepted n flit more (g.net.lines lane)
 
   pub line_here : taken_net.lines lane ≡ new_line
-  line_here = ap (λ (f : ℕ → Lane). f lane) (lines_accepts n g.net lane flit more (is_head flit)) ∙ update_same g.net.lines lane new_line
+  line_here = ap (λ (f : ℕ → Lane). f lane) (lines_accepts n g.net lane flit more (carries_route flit)) ∙ update_same g.net.lines lane new_line
 
   pub line_other : (z : ℕ) → z ≢ lane → taken_net.lines z ≡ g.net.lines z
-  line_other z other = ap (λ (f : ℕ → Lane). f z) (lines_accepts n g.net lane flit more (is_head flit)) ∙ update_other g.net.lines lane new_line z other
+  line_other z other = ap (λ (f : ℕ → Lane). f z) (lines_accepts n g.net lane flit more (carries_route flit)) ∙ update_other g.net.lines lane new_line z other
 
   pub line_kept : {A : Type 0} (f : Lane → A) → f new_line ≡ f (g.net.lines lane) → (z : ℕ) → f (taken_net.lines z) ≡ f (g.net.lines z)
   line_kept f same z = ⊎_elim
@@ -152,8 +152,8 @@ module _ (d : Design) (net : IsNet (net_of d)) (tags : ℕ) (opening : List ℕ)
   -- a flit that is no tail makes no packet whole
   pub none_whole : is_tail flit ≡ false → StayWhole n g.net taken_net
   none_whole body = λ z ejects.
-      ap (λ e. whole (after n g.net e) z) (sym (same_accept lane flit more (is_head flit)))
-      ∙ none_arrives n g.net lane flit more (is_head flit) net st.lines st.routes may_accept (is_tail_of d flit ∙ body) z ejects
+      ap (λ e. whole (after n g.net e) z) (sym (same_accept lane flit more (carries_route flit)))
+      ∙ none_arrives n g.net lane flit more (carries_route flit) net st.lines st.routes may_accept (is_tail_of d flit ∙ body) z ejects
 
 -- a flit that a processor takes goes on with a response
 pub reply_goes_on : (d : Design) (net : IsNet (net_of d)) (tags : ℕ) (opening : List ℕ) (s : State) (g : Ghost) (order : List LinearizationPoint)
@@ -163,7 +163,7 @@ pub reply_goes_on : (d : Design) (net : IsNet (net_of d)) (tags : ℕ) (opening 
     → (r : Telling) × GoesOn (packet.Response r) (tile_at s p).processor.so_far flit
 reply_goes_on d net tags opening s g order st p p_in flit more first =
     let x : ℕ = ejection_channel d.shape p Reply in
-    let t = is_taken (net_of d) g.net x flit more (is_head flit) net st.lines st.routes
+    let t = is_taken (net_of d) g.net x flit more (carries_route flit) net st.lines st.routes
     (may_accept d net tags opening s g order st p p_in Reply flit more first) in
     let from = joined_from d t.packet.source p Reply (ap ((net_of d).joins t.packet.source) (sym t.destination) ∙ t.parcel.joined) in
     let b : ℕ = from.0 in
@@ -188,7 +188,7 @@ pub request_goes_on : (d : Design) (net : IsNet (net_of d)) (tags : ℕ) (openin
     → (r : Asking) × GoesOn (packet.Request r) (tile_at s b).bank.so_far flit
 request_goes_on d net tags opening s g order st b b_in flit more first =
     let x : ℕ = ejection_channel d.shape b Request in
-    let t = is_taken (net_of d) g.net x flit more (is_head flit) net st.lines st.routes
+    let t = is_taken (net_of d) g.net x flit more (carries_route flit) net st.lines st.routes
     (may_accept d net tags opening s g order st b b_in Request flit more first) in
     let from = joined_from d t.packet.source b Request (ap ((net_of d).joins t.packet.source) (sym t.destination) ∙ t.parcel.joined) in
     let p : ℕ = from.0 in

@@ -32,7 +32,7 @@ use Rattle.order_abstract.specs.script_follower.specs.ProcessorRecord.{Processor
 use Rattle.order_abstract.specs.Flight.{Flight, Takes, event, told_place, IsFound}
 use Rattle.order_abstract.proofs.Whole.{Whole, any_steps}
 use Rattle.packet.specs.Flits.{offered}
-use Rattle.core_laws.specs.Heads.{is_head}
+use Rattle.core_laws.specs.Heads.{carries_route}
 use Rattle.order_abstract.specs.home_bank.specs.BankTable.{BankState}
 use Rattle.tile_laws.specs.router.specs.Table.{RouterState, output_owned}
 use Rattle.channel_number.specs.Ports.{injection_channel, ejection_channel}
@@ -72,7 +72,7 @@ module _ (d : Design) (net : IsNet (net_of d)) (tags : ℕ) (opening : List ℕ)
 
   abbrev pub taken_ghost : Ghost
   taken_ghost = record {
-    net = after n g.net (accepts lane flit more (is_head flit));
+    net = after n g.net (accepts lane flit more (carries_route flit));
     asked = g.asked;
     told = remove g.told (told_place g.told r);
     requests = g.requests;
@@ -104,10 +104,10 @@ module _ (d : Design) (net : IsNet (net_of d)) (tags : ℕ) (opening : List ℕ)
   new_line = accepted n flit more (g.net.lines lane)
 
   line_here : taken_ghost.net.lines lane ≡ new_line
-  line_here = ap (λ (f : ℕ → Lane). f lane) (lines_accepts n g.net lane flit more (is_head flit)) ∙ update_same g.net.lines lane new_line
+  line_here = ap (λ (f : ℕ → Lane). f lane) (lines_accepts n g.net lane flit more (carries_route flit)) ∙ update_same g.net.lines lane new_line
 
   line_other : (z : ℕ) → z ≢ lane → taken_ghost.net.lines z ≡ g.net.lines z
-  line_other z other = ap (λ (f : ℕ → Lane). f z) (lines_accepts n g.net lane flit more (is_head flit)) ∙ update_other g.net.lines lane new_line z other
+  line_other z other = ap (λ (f : ℕ → Lane). f z) (lines_accepts n g.net lane flit more (carries_route flit)) ∙ update_other g.net.lines lane new_line z other
 
   line_kept : {A : Type 0} (f : Lane → A) → f new_line ≡ f (g.net.lines lane) → (z : ℕ) → f (taken_ghost.net.lines z) ≡ f (g.net.lines z)
   line_kept f same z = ⊎_elim
@@ -178,7 +178,7 @@ module _ (d : Design) (net : IsNet (net_of d)) (tags : ℕ) (opening : List ℕ)
   }
 
   whole_other : (z : ℕ) → z ≢ lane → whole taken_ghost.net z ≡ whole g.net z
-  whole_other z other = ap (λ (k : Note). whole_of k.awaited k.begun) (notes_other n g.net lane flit more (is_head flit) z other)
+  whole_other z other = ap (λ (k : Note). whole_of k.awaited k.begun) (notes_other n g.net lane flit more (carries_route flit) z other)
 
   takers_in : p < length g.taken
   takers_in = subst (λ (k : ℕ). p < k) (sym st.carries.takers) p_in
@@ -203,7 +203,7 @@ module _ (d : Design) (net : IsNet (net_of d)) (tags : ℕ) (opening : List ℕ)
   taken_carries = record {
     processors = st.carries.processors;
     takers = length-set g.taken p _ ∙ st.carries.takers;
-    requests_sent = λ u h. sent_kept n g.net lane flit more (is_head flit) (injection_channel d.shape u Request) ∙ st.carries.requests_sent u h;
+    requests_sent = λ u h. sent_kept n g.net lane flit more (carries_route flit) (injection_channel d.shape u Request) ∙ st.carries.requests_sent u h;
     requests_proper = st.carries.requests_proper;
     requests_whole = λ b h. let k = part_kept (λ (w : TileState). w.bank) refl b in
         rw k (whole_other (ejection_channel d.shape b Request) (request_apart b) ∙ st.carries.requests_whole b h);
@@ -211,7 +211,7 @@ module _ (d : Design) (net : IsNet (net_of d)) (tags : ℕ) (opening : List ℕ)
         (ap (λ (w : BankState). w.waiting) (sym (part_kept (λ (w : TileState). w.bank) refl b)) ∙ waits);
     asked = λ u b h l. let k = part_kept (λ (w : TileState). w.bank) refl b in rw k (st.carries.asked u b h l);
     replies_sent = λ b h. let k = part_kept (λ (w : TileState). w.bank) refl b in
-        rw (k, sent_kept n g.net lane flit more (is_head flit) (injection_channel d.shape b Reply)) (st.carries.replies_sent b h);
+        rw (k, sent_kept n g.net lane flit more (carries_route flit) (injection_channel d.shape b Reply)) (st.carries.replies_sent b h);
     replies_proper = λ b h. let k = part_kept (λ (w : TileState). w.bank) refl b in rw k (st.carries.replies_proper b h);
     replies_whole = whole_new;
     told = λ b u h l. let k = part_kept (λ (w : TileState). w.bank) refl b in
@@ -280,8 +280,8 @@ module _ (d : Design) (net : IsNet (net_of d)) (tags : ℕ) (opening : List ℕ)
     size = st.size;
     words = st.words;
     rings = taken_rings;
-    lines = accept_words n g.net lane flit more (is_head flit) net st.lines st.routes (can_accept d net tags opening s g order st p p_in flit more first);
-    routes = accept_routes n g.net lane flit more (is_head flit) net st.lines st.routes (can_accept d net tags opening s g order st p p_in flit more first);
+    lines = accept_words n g.net lane flit more (carries_route flit) net st.lines st.routes (can_accept d net tags opening s g order st p p_in flit more first);
+    routes = accept_routes n g.net lane flit more (carries_route flit) net st.lines st.routes (can_accept d net tags opening s g order st p p_in flit more first);
     mirrors = taken_mirrors;
     flight = taken_records k;
     carries = taken_carries;

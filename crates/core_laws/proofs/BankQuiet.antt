@@ -22,7 +22,7 @@ use Rattle.flit_buffer.specs.Surroundings.{Surroundings, ring, granted, surround
 use Rattle.wormhole.specs.Net.{IsNet}
 use Rattle.order_abstract.specs.Flight.{Serves}
 use Rattle.packet.specs.Flits.{is_tail, offered}
-use Rattle.core_laws.specs.Heads.{is_head}
+use Rattle.core_laws.specs.Heads.{carries_route}
 use Rattle.order_abstract.specs.home_bank.specs.BankTable.{BankState, bank_wants, bank_after, is_nil, waiting_offered}
 use Rattle.channel_number.specs.Ports.{injection_channel, ejection_channel}
 use Rattle.tile_laws.specs.Wiring.{bank_wiring}
@@ -84,7 +84,7 @@ module _ (d : Design) (accepted : IsAccepted d.shape) (tags : ℕ) (opening : Li
 
     take_flit : (flit : ℕ) (more : List ℕ) → (ring s.around.rings (ejection_channel d.shape t Request)).channel.flits ≡ flit ∷ more → b.waiting ≡ None
         → b.to_put ≡ [] → (last : Bool) → is_tail flit ≡ last
-        → Kept (bank_then t (taking (offered b.so_far flit) flit) (want.Take 0)) (Some (accepts (ejection_channel d.shape t Request) flit more (is_head flit)))
+        → Kept (bank_then t (taking (offered b.so_far flit) flit) (want.Take 0)) (Some (accepts (ejection_channel d.shape t Request) flit more (carries_route flit)))
     take_flit flit more first none idle true is =
         let c = comes_from d net tags opening s g order st t t_in flit more first is none idle in
         let same : whole_state d net tags opening s g order st t t_in flit more first is none idle
@@ -110,11 +110,11 @@ module _ (d : Design) (accepted : IsAccepted d.shape) (tags : ℕ) (opening : Li
 
     -- a flit of a reply sent
     send_flit : (flit : ℕ) → b.to_put ≡ flit ∷ rest b.to_put → 0 < (ring s.around.rings (injection_channel d.shape t Reply)).channel.held → (head : Bool)
-        → is_head flit ≡ head
+        → carries_route flit ≡ head
         → Kept (bank_then t (record b { to_put = rest b.to_put }) (want.Put 0 flit)) (reply_event d t b b.to_put)
     send_flit flit course credit true is =
         let first : first_flit b.to_put ≡ flit = ap first_flit course in
-        let starts : is_head (first_flit b.to_put) ≡ true = ap is_head first ∙ is in
+        let starts : carries_route (first_flit b.to_put) ≡ true = ap carries_route first ∙ is in
         let q = fresh d net tags opening s g order st t t_in starts credit in
         let event : Some (InjectHead (injection_channel d.shape t Reply) (response_parcel d.shape q.0)) ≡ reply_event d t b b.to_put =
         ap (option_map (λ (r : Telling). InjectHead (injection_channel d.shape t Reply) (response_parcel d.shape r)))
@@ -159,7 +159,7 @@ module _ (d : Design) (accepted : IsAccepted d.shape) (tags : ℕ) (opening : Li
         ltb-true 0 _ (if_true (nat_lt 0 (ring s.around.rings (injection_channel d.shape t Reply)).channel.held) 0 learned
         (ap (granted s.around (bank_wiring d.shape t)) k.2 ∙ grants)) in
         subst (λ (v : Want). Kept (bank_then t (record b { to_put = rest b.to_put }) v) (bank_event d t b s.around Send learned)) k.2
-        (send_flit k.0 (first_there b.to_put k.0 k.1) held (is_head k.0) refl)
+        (send_flit k.0 (first_there b.to_put k.0 k.1) held (carries_route k.0) refl)
     then_bank Credit w learned is grants e =
         let w_is : want.Credit 0 ≡ w = same_Some _ _ is in
         let x : ℕ = injection_channel d.shape t Reply in

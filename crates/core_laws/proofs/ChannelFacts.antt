@@ -12,7 +12,7 @@ use Rattle.dateline_route.specs.declared.channel.Kind.{Kind}
 use Rattle.dateline_route.specs.declared.channel.Kind.TheVariants.{Injection, Hop, Ejection}
 use Rattle.channel_number.specs.Order.{channel_count, channels_at_tile, class_place, channel_at, class_of_place, kind_of_place, class_at, dir_at}
 use Rattle.packet.specs.Flits.{is_tail}
-use Rattle.core_laws.specs.Heads.{is_head}
+use Rattle.core_laws.specs.Heads.{carries_route}
 use Rattle.channel_number.specs.Ports.{injection_channel, ejection_channel, is_injection, is_ejection}
 use Rattle.tile_laws.specs.Tile.{Design}
 use Rattle.core_laws.proofs.Projection.{net_of}
@@ -186,7 +186,7 @@ pub is_tail_of : (d : Design) (flit : ℕ) → (net_of d).is_tail flit ≡ is_ta
 unfolding net_of
 is_tail_of d flit = refl
 
-pub is_head_of : (d : Design) (flit : ℕ) → (net_of d).is_head flit ≡ is_head flit
+pub is_head_of : (d : Design) (flit : ℕ) → (net_of d).is_head flit ≡ carries_route flit
 unfolding net_of
 is_head_of d flit = refl
 

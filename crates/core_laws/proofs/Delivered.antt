@@ -14,10 +14,10 @@ use Rattle.order_abstract.specs.one_order.specs.Observed.{list_at}
 use Rattle.order_abstract.specs.one_order.specs.Order.{LinearizationPoint}
 use Rattle.wormhole.specs.Net.{IsNet, Parcel}
 use Rattle.wormhole.specs.Routes.{between}
-use Rattle.wormhole.specs.Delivery.{Begins, without_last}
+use Rattle.wormhole.specs.Delivery.{IsPrefix, without_last}
 use Rattle.wormhole.proofs.Arrivals.{delivered}
 use Rattle.order_abstract.specs.script_follower.specs.ProcessorRecord.{ProcessorRecord, no_processor}
-use Rattle.core_laws.specs.Heads.{is_head}
+use Rattle.core_laws.specs.Heads.{carries_route}
 use Rattle.order_abstract.specs.home_bank.specs.BankTable.{BankState}
 use Rattle.channel_number.specs.Ports.{injection_channel, ejection_channel}
 use Rattle.tile_laws.specs.Tile.{Design, TileState}
@@ -32,7 +32,7 @@ use Rattle.core_laws.proofs.ServesFound.{waiting_first}
 use Rattle.core_laws.proofs.Stands.{Ghost, Stands, IsProperRequest, tile_at, no_tile, asked_between, told_between, served_requests, responses_from, last_of}
 
 -- of two ways to cut a list, the one with the shorter first part
-begins_short : {A : Type 0} (xs ys zs ws : List A) → xs ++ ys ≡ zs ++ ws → length zs ≤ length xs → Begins zs xs
+begins_short : {A : Type 0} (xs ys zs ws : List A) → xs ++ ys ≡ zs ++ ws → length zs ≤ length xs → IsPrefix zs xs
 begins_short xs ys [] ws h short = (xs, refl)
 begins_short [] ys (z ∷ zs) ws h short = absurd (omega arith)
 begins_short {A} (x ∷ xs) ys (z ∷ zs) ws h short =
@@ -93,7 +93,7 @@ module _ (d : Design) (tags : ℕ) (opening : List ℕ) (s : State) (g : Ghost) 
         (cases_eq r.source p)
 
     requests_begin : (p b : ℕ) → p < tiles_of d.shape → b < tiles_of d.shape
-        → Begins (requests_between p b (requests_whole (tiles_of d.shape) b (tile_at s b).bank)) (requests_between p b (list_at g.requests p))
+        → IsPrefix (requests_between p b (requests_whole (tiles_of d.shape) b (tile_at s b).bank)) (requests_between p b (list_at g.requests p))
     requests_begin p b p_in b_in =
         let F : List Asking → List Asking = asked_between p b in
         let served : List Asking = served_requests (tiles_of d.shape) b (tile_at s b).bank.entries in
@@ -104,8 +104,8 @@ module _ (d : Design) (tags : ℕ) (opening : List ℕ) (s : State) (g : Ghost) 
               ∙ (sym (append_assoc (F served) (F waits) w.0) ∙ ap (λ (xs : List Asking). xs ++ w.0) (sym (filter-append _ served waits)))),
         )
 
-    sent_begins : (b p : ℕ) → b < tiles_of d.shape → p < tiles_of d.shape → (x : Bool) → is_head (first_flit (tile_at s b).bank.to_put) ≡ x
-        → Begins (told_between b p (list_at g.taken p))
+    sent_begins : (b p : ℕ) → b < tiles_of d.shape → p < tiles_of d.shape → (x : Bool) → carries_route (first_flit (tile_at s b).bank.to_put) ≡ x
+        → IsPrefix (told_between b p (list_at g.taken p))
         (told_between b p (cond x (without_last (responses_from b 0 (tile_at s b).bank.entries)) (responses_from b 0 (tile_at s b).bank.entries)))
     sent_begins b p b_in p_in false is = (told_between b p g.told, st.carries.told b p b_in p_in)
     sent_begins b p b_in p_in true is =
@@ -134,14 +134,14 @@ module _ (d : Design) (tags : ℕ) (opening : List ℕ) (s : State) (g : Ghost) 
         (sym (filter-append _ init last) ∙ (ap F (made_last made) ∙ st.carries.told b p b_in p_in)) (omega (arith, lengths))
 
     responses_begin : (b p : ℕ) → b < tiles_of d.shape → p < tiles_of d.shape
-        → Begins (responses_between b p (list_at g.taken p)) (responses_between b p (responses_sent b (tile_at s b).bank))
+        → IsPrefix (responses_between b p (list_at g.taken p)) (responses_between b p (responses_sent b (tile_at s b).bank))
     responses_begin b p b_in p_in =
         let bank : BankState = (tile_at s b).bank in
         let same : responses_sent b bank
-        ≡ cond (is_head (first_flit bank.to_put)) (without_last (responses_from b 0 bank.entries)) (responses_from b 0 bank.entries) =
-        ap (λ (rs : List Telling). cond (is_head (next_flit bank.to_put)) (without_last rs) rs) (made_from b 0 bank.entries) in
-        subst (λ (rs : List Telling). Begins (told_between b p (list_at g.taken p)) (told_between b p rs)) (sym same)
-        (sent_begins b p b_in p_in (is_head (first_flit bank.to_put)) refl)
+        ≡ cond (carries_route (first_flit bank.to_put)) (without_last (responses_from b 0 bank.entries)) (responses_from b 0 bank.entries) =
+        ap (λ (rs : List Telling). cond (carries_route (next_flit bank.to_put)) (without_last rs) rs) (made_from b 0 bank.entries) in
+        subst (λ (rs : List Telling). IsPrefix (told_between b p (list_at g.taken p)) (told_between b p rs)) (sym same)
+        (sent_begins b p b_in p_in (carries_route (first_flit bank.to_put)) refl)
 
     -- Packets are delivered in order.
     pub delivers : DeliversPackets d d.words s g.requests g.taken
@@ -153,11 +153,11 @@ module _ (d : Design) (tags : ℕ) (opening : List ℕ) (s : State) (g : Ghost) 
       at_banks = λ p b tile p_in there.
           let is : tile_at s b ≡ tile = get_or_from_slice_get s.tiles b tile no_tile there in
           let within : b < tiles_of d.shape = subst (λ (k : ℕ). b < k) st.tiles (slice_get_within s.tiles b tile there) in
-          subst (λ (w : TileState). Begins (requests_between p b (requests_whole (tiles_of d.shape) b w.bank)) (requests_between p b (list_at g.requests p))) is
+          subst (λ (w : TileState). IsPrefix (requests_between p b (requests_whole (tiles_of d.shape) b w.bank)) (requests_between p b (list_at g.requests p))) is
           (requests_begin p b p_in within);
       at_processors = λ b p tile p_in there.
           let is : tile_at s b ≡ tile = get_or_from_slice_get s.tiles b tile no_tile there in
           let within : b < tiles_of d.shape = subst (λ (k : ℕ). b < k) st.tiles (slice_get_within s.tiles b tile there) in
-          subst (λ (w : TileState). Begins (responses_between b p (list_at g.taken p)) (responses_between b p (responses_sent b w.bank))) is
+          subst (λ (w : TileState). IsPrefix (responses_between b p (list_at g.taken p)) (responses_between b p (responses_sent b w.bank))) is
           (responses_begin b p within p_in);
     }

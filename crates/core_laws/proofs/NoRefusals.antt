@@ -13,7 +13,7 @@ use Rattle.wormhole.specs.Net.{IsNet, Parcel, IsOn, flits_of as flits_in}
 use Rattle.wormhole.proofs.Lists.{all_on, on_left}
 use Rattle.wormhole.proofs.Takes.{is_taken}
 use Rattle.packet.specs.Flits.{flits_of}
-use Rattle.core_laws.specs.Heads.{is_head}
+use Rattle.core_laws.specs.Heads.{carries_route}
 use Rattle.channel_number.specs.Ports.{injection_channel, ejection_channel}
 use Rattle.tile_laws.specs.Tile.{Design}
 use Rattle.core_laws.specs.Core.{State}
@@ -30,7 +30,7 @@ module _ (d : Design) (net : IsNet (net_of d)) (tags : ℕ) (opening : List ℕ)
   pub not_refused : refusal (tile_at s p).processor.so_far flit ≡ None
   not_refused =
       let x : ℕ = ejection_channel d.shape p Reply in
-      let t = is_taken (net_of d) g.net x flit more (is_head flit) net st.lines st.routes (can_accept d net tags opening s g order st p p_in flit more first) in
+      let t = is_taken (net_of d) g.net x flit more (carries_route flit) net st.lines st.routes (can_accept d net tags opening s g order st p p_in flit more first) in
       let from = joined_from d t.packet.source p Reply (ap ((net_of d).joins t.packet.source) (sym t.destination) ∙ t.parcel.joined) in
       let b : ℕ = from.0 in
       let responses : List Telling = responses_from b 0 (tile_at s b).bank.entries in

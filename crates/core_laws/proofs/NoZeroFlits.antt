@@ -27,7 +27,7 @@ use Rattle.wormhole_torus.specs.TorusNet.{same_class, joins_in}
 use Rattle.channel_number.proofs.Decoding.{kind_by}
 use Rattle.wormhole_torus.proofs.Numbers.{number_below}
 use Rattle.packet.specs.Flits.{flits_of}
-use Rattle.core_laws.specs.Heads.{is_head}
+use Rattle.core_laws.specs.Heads.{carries_route}
 use Rattle.tile_laws.specs.router.specs.Table.{latch_of}
 use Rattle.tile_laws.specs.Tile.{Design}
 use Rattle.core_laws.specs.Core.{State}
@@ -141,10 +141,10 @@ module _ (d : Design) (accepted : IsAccepted d.shape) (tags : ℕ) (opening : Li
       owed_some (injection_channel d.shape t Request) flit more (injects_at d t Request) (st.mirrors.sends_requests t t_in ∙ course)
 
   -- a flit with the head bit isn't 0
-  head_some : (flit : ℕ) → is_head flit ≡ true → flit ≢ 0
-  head_some flit head e = let no' : ◌≡◌ {A = Bool} true false = sym head ∙ (ap is_head e ∙ no_head) in cc
+  head_some : (flit : ℕ) → carries_route flit ≡ true → flit ≢ 0
+  head_some flit head e = let no' : ◌≡◌ {A = Bool} true false = sym head ∙ (ap carries_route e ∙ no_head) in cc
 
-  bank_by : (t flit : ℕ) (more : List ℕ) → t < tiles_of d.shape → (tile_at s t).bank.to_put ≡ flit ∷ more → (head : Bool) → is_head flit ≡ head → flit ≢ 0
+  bank_by : (t flit : ℕ) (more : List ℕ) → t < tiles_of d.shape → (tile_at s t).bank.to_put ≡ flit ∷ more → (head : Bool) → carries_route flit ≡ head → flit ≢ 0
   bank_by t flit more t_in course true is = head_some flit is
   bank_by t flit more t_in course false is =
       let left : in_course (tile_at s t).bank.to_put ≡ flit ∷ more = ap in_course course ∙ ap (λ (b : Bool). cond b [] (flit ∷ more)) is in
@@ -152,4 +152,4 @@ module _ (d : Design) (accepted : IsAccepted d.shape) (tags : ℕ) (opening : Li
 
   -- A flit that a bank has yet to put isn't 0.
   pub bank_some : (t flit : ℕ) (more : List ℕ) → t < tiles_of d.shape → (tile_at s t).bank.to_put ≡ flit ∷ more → flit ≢ 0
-  bank_some t flit more t_in course = bank_by t flit more t_in course (is_head flit) refl
+  bank_some t flit more t_in course = bank_by t flit more t_in course (carries_route flit) refl

@@ -42,7 +42,7 @@ use Rattle.core_laws.proofs.TakesMore.{more_state, more_ghost, processor_more, p
 use Rattle.core_laws.proofs.FlitsSent.{rest_above}
 use Rattle.core_laws.proofs.SendsRest.{rest_quiet, rest_stands}
 use Rattle.core_laws.proofs.Completes.{accepts}
-use Rattle.core_laws.specs.Heads.{is_head}
+use Rattle.core_laws.specs.Heads.{carries_route}
 use Rattle.core_laws.specs.Network.{request_event, processor_event, tile_event, network_event}
 use Rattle.wormhole.specs.Events.{Event, Return}
 use Rattle.core_laws.proofs.Reports.{done_stands, seen_stands}
@@ -78,7 +78,7 @@ module _ (d : Design) (accepted : IsAccepted d.shape) (tags : ℕ) (opening : Li
     take_flit : (flit : ℕ) (more : List ℕ) → (ring s.around.rings (ejection_channel d.shape t Reply)).channel.flits ≡ flit ∷ more
         → answer_by (offered p.so_far flit) ≡ None → (last : Bool) → is_tail flit ≡ last
         → Kept (processor_then t (taking (offered p.so_far flit) flit) (want.Take 0))
-        (Some (accepts (ejection_channel d.shape t Reply) flit more (is_head flit)))
+        (Some (accepts (ejection_channel d.shape t Reply) flit more (carries_route flit)))
     take_flit flit more first unanswered true is =
         let c = reply_goes_on d net tags opening s g order st t t_in flit more first in
         let no : ◌≡◌ {A = Option Move} (Some (Takes c.0)) None = ap answer_by (sym (is_complete (packet.Response c.0) p.so_far flit c.1 is)) ∙ unanswered in

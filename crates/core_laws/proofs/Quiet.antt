@@ -21,7 +21,7 @@ use Rattle.wormhole.proofs.Reached.{words_kept, routes_kept}
 use Rattle.order_abstract.specs.script_follower.specs.ProcessorRecord.{ProcessorRecord, no_processor}
 use Rattle.order_abstract.specs.Flight.{Flight}
 use Rattle.order_abstract.proofs.Whole.{Whole}
-use Rattle.core_laws.specs.Heads.{is_head}
+use Rattle.core_laws.specs.Heads.{carries_route}
 use Rattle.tile_laws.specs.router.specs.Table.{RouterState, output_owned}
 use Rattle.channel_number.specs.Ports.{injection_channel, ejection_channel}
 use Rattle.tile_laws.specs.Tile.{Design, TileState}
@@ -79,7 +79,7 @@ module _ (d : Design) (net : IsNet (net_of d)) (tags : ℕ) (opening : List ℕ)
     pub reported : (new_tile.processor.reported ≡ (tile_at s t).processor.reported) × (new_tile.processor.seen ≡ (tile_at s t).processor.seen)
     pub entries : new_tile.bank.entries ≡ (tile_at s t).bank.entries
     pub waiting : new_tile.bank.waiting ≡ (tile_at s t).bank.waiting
-    pub heads : is_head (first_flit new_tile.bank.to_put) ≡ is_head (first_flit (tile_at s t).bank.to_put)
+    pub heads : carries_route (first_flit new_tile.bank.to_put) ≡ carries_route (first_flit (tile_at s t).bank.to_put)
     pub phase : IsInPhase t new_tile.bank
 
   module _ (q : IsQuietStep) where
@@ -147,7 +147,7 @@ module _ (d : Design) (net : IsNet (net_of d)) (tags : ℕ) (opening : List ℕ)
       asked = λ p b h l. let k = quiet_part (λ (w : TileState). w.bank.entries) q.entries b in rw k (st.carries.asked p b h l);
       replies_sent = λ b h.
           let k = quiet_part (λ (w : TileState). w.bank.entries) q.entries b in
-          let l = quiet_part (λ (w : TileState). is_head (first_flit w.bank.to_put)) q.heads b in
+          let l = quiet_part (λ (w : TileState). carries_route (first_flit w.bank.to_put)) q.heads b in
           rw k (st.carries.replies_sent b h
           ∙ ap₂ (λ (ks : List Parcel) (i : Bool). ks
           ++ map (response_parcel d.shape) (cond i (last_of (responses_from b 0 (tile_at s b).bank.entries)) []))

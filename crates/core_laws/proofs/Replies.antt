@@ -26,7 +26,7 @@ use Rattle.order_abstract.specs.script_follower.specs.ProcessorRecord.{no_proces
 use Rattle.order_abstract.specs.Flight.{Flight}
 use Rattle.order_abstract.proofs.Whole.{Whole}
 use Rattle.packet.specs.Flits.{flits_of}
-use Rattle.core_laws.specs.Heads.{is_head}
+use Rattle.core_laws.specs.Heads.{carries_route}
 use Rattle.order_abstract.specs.script_follower.specs.ProcessorTable.{ProcessorState}
 use Rattle.tile_laws.specs.router.specs.Table.{RouterState, output_owned}
 use Rattle.channel_number.specs.Ports.{injection_channel}
@@ -45,7 +45,7 @@ use Rattle.core_laws.proofs.Stands.{responses_from, last_of, unsent}
 
 module _ (d : Design) (net : IsNet (net_of d)) (tags : ℕ) (opening : List ℕ) (s : State) (g : Ghost) (order : List LinearizationPoint)
     (st : Stands d tags opening s g order)
-    (t : ℕ) (t_in : t < tiles_of d.shape) (starts : is_head (first_flit (tile_at s t).bank.to_put) ≡ true)
+    (t : ℕ) (t_in : t < tiles_of d.shape) (starts : carries_route (first_flit (tile_at s t).bank.to_put) ≡ true)
     (credit : 0 < (ring s.around.rings (injection_channel d.shape t Reply)).channel.held) where
   abbrev n : Net
   n = net_of d
@@ -154,8 +154,8 @@ module _ (d : Design) (net : IsNet (net_of d)) (tags : ℕ) (opening : List ℕ)
     source = ap (λ (k : Parcel). k.source) parcel_same ∙ ((response_ends d.shape fresh.0).0 ∙ ap (λ (v : ℕ). injection_channel d.shape v Reply) proper.1);
   }
 
-  no_more : is_head (first_flit more) ≡ false
-  no_more = ap (λ (fs : List ℕ). is_head (first_flit fs)) (sym tail_is) ∙ no_head_after d parcel.tail of_net.tail
+  no_more : carries_route (first_flit more) ≡ false
+  no_more = ap (λ (fs : List ℕ). carries_route (first_flit fs)) (sym tail_is) ∙ no_head_after d parcel.tail of_net.tail
 
   new_lanes : (x : ℕ) → x < channel_count d.shape → IsLane (ring reply_state.around.rings x).channel (reply_ghost.net.lines x)
   new_lanes x within = ⊎_elim
@@ -241,7 +241,7 @@ module _ (d : Design) (net : IsNet (net_of d)) (tags : ℕ) (opening : List ℕ)
   }
 
   some_left : (tile_at s t).bank.to_put ≢ []
-  some_left e = let k : ◌≡◌ {A = Bool} true false = sym starts ∙ (ap (λ (fs : List ℕ). is_head (first_flit fs)) e ∙ no_head) in cc
+  some_left e = let k : ◌≡◌ {A = Bool} true false = sym starts ∙ (ap (λ (fs : List ℕ). carries_route (first_flit fs)) e ∙ no_head) in cc
 
   reply_phases : (u : ℕ) → IsInPhase u (tile_at reply_state u).bank
   reply_phases = by_tile (λ u w. IsInPhase u w.bank)

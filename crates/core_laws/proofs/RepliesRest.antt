@@ -14,7 +14,7 @@ use Rattle.wormhole.specs.State.{Line as Lane, Note, update}
 use Rattle.wormhole.specs.Events.{InjectRest, put}
 use Rattle.wormhole.specs.Delivery.{whole_of}
 use Rattle.wormhole.proofs.Changes.{update_same, update_other}
-use Rattle.core_laws.specs.Heads.{is_head}
+use Rattle.core_laws.specs.Heads.{carries_route}
 use Rattle.channel_number.specs.Ports.{injection_channel}
 use Rattle.tile_laws.specs.Tile.{Design, TileState}
 use Rattle.core_laws.specs.Core.{State}
@@ -27,7 +27,7 @@ use Rattle.core_laws.proofs.ResponseLists.{no_head_after}
 
 module _ (d : Design) (net : IsNet (net_of d)) (tags : ℕ) (opening : List ℕ) (s : State) (g : Ghost) (order : List LinearizationPoint)
     (st : Stands d tags opening s g order)
-    (t : ℕ) (t_in : t < tiles_of d.shape) (flit : ℕ) (more : List ℕ) (course : (tile_at s t).bank.to_put ≡ flit ∷ more) (body : is_head flit ≡ false)
+    (t : ℕ) (t_in : t < tiles_of d.shape) (flit : ℕ) (more : List ℕ) (course : (tile_at s t).bank.to_put ≡ flit ∷ more) (body : carries_route flit ≡ false)
     (some : flit ≢ 0)
     (credit : 0 < (ring s.around.rings (injection_channel d.shape t Reply)).channel.held) where
   abbrev pub lane : ℕ
@@ -63,7 +63,7 @@ module _ (d : Design) (net : IsNet (net_of d)) (tags : ℕ) (opening : List ℕ)
   in_rest : (g.net.lines lane).rest ≡ flit ∷ more
   in_rest = st.mirrors.sends_replies t t_in ∙ (ap in_course course ∙ ap (λ (b : Bool). cond b [] (flit ∷ more)) body)
 
-  no_more : is_head (first_flit more) ≡ false
+  no_more : carries_route (first_flit more) ≡ false
   no_more =
       let shaped : IsTailShaped (net_of d) (flit ∷ more) =
       subst (IsTailShaped (net_of d)) (st.lines.senders lane (injects_at d t Reply) ∙ in_rest) (st.lines.owed lane) in
@@ -98,7 +98,7 @@ module _ (d : Design) (net : IsNet (net_of d)) (tags : ℕ) (opening : List ℕ)
         reported = (refl, refl);
         entries = refl;
         waiting = refl;
-        heads = no_more ∙ sym (ap (λ (fs : List ℕ). is_head (first_flit fs)) course ∙ body);
+        heads = no_more ∙ sym (ap (λ (fs : List ℕ). carries_route (first_flit fs)) course ∙ body);
         phase = record {
           waits = λ r e. absurd (some_left ((st.phases t).waits r e).1);
           replies = λ e. (st.phases t).replies some_left;

@@ -12,7 +12,7 @@ use Rattle.order_abstract.specs.home_bank.specs.declared.entry.Entry.{Entry}
 use Rattle.packet.specs.Flits.{flits_of}
 use Rattle.wormhole.specs.Net.{IsOn, IsTailShaped}
 use Rattle.tile_laws.specs.Tile.{Design}
-use Rattle.core_laws.specs.Heads.{is_head}
+use Rattle.core_laws.specs.Heads.{carries_route}
 use Rattle.core_laws.proofs.Projection.{net_of, first_flit}
 use Rattle.core_laws.proofs.ChannelFacts.{is_head_of}
 use Rattle.core_laws.specs.Delivery.{response_made, responses_made}
@@ -40,14 +40,14 @@ filter_removed test (y ∷ xs) zero x h fails = ap (λ (b : Bool). cond b (y ∷
 filter_removed test (y ∷ xs) (suc k) x h fails = ap (λ zs. cond (test y) (y ∷ zs) zs) (filter_removed test xs k x h fails)
 
 -- no packet is begun by an empty place
-pub no_head : is_head 0 ≡ false
+pub no_head : carries_route 0 ≡ false
 unfolding field
 no_head = refl
 
-pub first_is_head : (p : Packet) → Spells p (flits_of p) → is_head (first_flit (flits_of p)) ≡ true
+pub first_is_head : (p : Packet) → Spells p (flits_of p) → carries_route (first_flit (flits_of p)) ≡ true
 first_is_head p h = at (flits_of p) h
   where
-    at : (xs : List ℕ) → Spells p xs → is_head (first_flit xs) ≡ true
+    at : (xs : List ℕ) → Spells p xs → carries_route (first_flit xs) ≡ true
     at [] h = absurd (none p h)
       where
         none : (p : Packet) → Spells p [] → ⊥
@@ -79,6 +79,6 @@ one_of_map f (x ∷ []) y h = (x, refl, cc)
 one_of_map f (x ∷ z ∷ xs) y h = absurd (cc)
 
 -- what follows a head doesn't begin with one
-pub no_head_after : (d : Design) (flits : List ℕ) → IsTailShaped (net_of d) flits → is_head (first_flit flits) ≡ false
+pub no_head_after : (d : Design) (flits : List ℕ) → IsTailShaped (net_of d) flits → carries_route (first_flit flits) ≡ false
 no_head_after d [] h = no_head
 no_head_after d (flit ∷ flits) h = sym (is_head_of d flit) ∙ h.0

@@ -13,7 +13,7 @@ use Rattle.wormhole.specs.State.{Line as Lane, Note}
 use Rattle.wormhole.specs.Events.{ForwardRest, CanForwardRest}
 use Rattle.wormhole.proofs.Ways.{apart_by_number}
 use Rattle.packet.specs.Flits.{is_tail}
-use Rattle.core_laws.specs.Heads.{is_head}
+use Rattle.core_laws.specs.Heads.{carries_route}
 use Rattle.tile_laws.specs.router.specs.Table.{RouterState, latch_of, output_owned}
 use Rattle.channel_number.specs.Ports.{port_count, input_channel, output_channel}
 use Rattle.tile_laws.specs.Tile.{Design}
@@ -29,7 +29,7 @@ use Rattle.core_laws.proofs.Stands.{Ghost, Stands, tile_at}
 module _ (d : Design) (net : IsNet (net_of d)) (wired : IsWiredUp d) (tags : ℕ) (opening : List ℕ) (s : State) (g : Ghost) (order : List LinearizationPoint)
     (st : Stands d tags opening s g order)
     (t : ℕ) (t_in : t < tiles_of d.shape) (i : ℕ) (i_in : i < port_count (dims_of d.shape)) (flit o : ℕ)
-    (full : latch_of (tile_at s t).router i ≡ Some flit) (rest : is_head flit ≡ false) (owns : output_owned (tile_at s t).router i ≡ Some o)
+    (full : latch_of (tile_at s t).router i ≡ Some flit) (rest : carries_route flit ≡ false) (owns : output_owned (tile_at s t).router i ≡ Some o)
     (credit : 0 < (ring s.around.rings (output_channel d.shape t o)).channel.held) (some : flit ≢ 0) where
   abbrev n : Net
   n = net_of d

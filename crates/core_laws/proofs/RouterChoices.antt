@@ -20,7 +20,7 @@ use Rattle.wormhole.proofs.Receivers.{moved}
 use Rattle.wormhole.proofs.Routers.{latched}
 use Rattle.wormhole.specs.Events.{Event, ForwardRest, Return}
 use Rattle.packet.specs.Flits.{head_of, is_tail}
-use Rattle.core_laws.specs.Heads.{is_head}
+use Rattle.core_laws.specs.Heads.{carries_route}
 use Rattle.tile_laws.specs.router.specs.Table.{RouterState, latch_of, output_owned, output_for, wants_to_take, wants_to_put, router_wants, router_after}
 use Rattle.channel_number.specs.Ports.{port_count, input_channel, output_channel}
 use Rattle.tile_laws.specs.router.specs.Beginning.{router_wiring}
@@ -135,7 +135,7 @@ module _ (d : Design) (accepted : IsAccepted d.shape) (tags : ℕ) (opening : Li
       }
 
   -- an input that owns an output has no head flit in its latch
-  no_head_owns : (i o flit : ℕ) → i < ports → latch_of r i ≡ Some flit → output_owned r i ≡ Some o → is_head flit ≡ true → ⊥
+  no_head_owns : (i o flit : ℕ) → i < ports → latch_of r i ≡ Some flit → output_owned r i ≡ Some o → carries_route flit ≡ true → ⊥
   no_head_owns i o flit i_in full owns head =
       let n : Net = net_of d in
       let x : ℕ = input_channel d.shape t i in
@@ -156,7 +156,7 @@ module _ (d : Design) (accepted : IsAccepted d.shape) (tags : ℕ) (opening : Li
       (ap (λ (z : Option Head). option_map (λ (p : ℕ). want.Put p flit) (output_for d.shape t r i z)) (sym tells) ∙ wants) in
       let o : ℕ = k.0 in
       let o_in = st.mirrors.outputs t i o t_in k.1 in
-      let body : is_head flit ≡ false = is_not (is_head flit) (no_head_owns i o flit i_in full k.1) in
+      let body : carries_route flit ≡ false = is_not (carries_route flit) (no_head_owns i o flit i_in full k.1) in
       let at : slice_index (router_wiring d.shape t).outputs o ≡ output_channel d.shape t o = output_at d.shape t o o_in in
       let held : 0 < (ring s.around.rings (output_channel d.shape t o)).channel.held =
       subst (λ (z : ℕ). 0 < (ring s.around.rings z).channel.held) at

@@ -25,7 +25,7 @@ use Rattle.wormhole.specs.Delivery.{whole}
 use Rattle.order_abstract.specs.Flight.{Flight, Serves, moved, event, asked_place, reply_given, IsFound}
 use Rattle.order_abstract.proofs.Whole.{Whole, any_steps}
 use Rattle.packet.specs.Flits.{flits_of}
-use Rattle.core_laws.specs.Heads.{is_head}
+use Rattle.core_laws.specs.Heads.{carries_route}
 use Rattle.order_abstract.specs.home_bank.specs.BankTable.{BankState}
 use Rattle.order_abstract.specs.script_follower.specs.ProcessorTable.{ProcessorState}
 use Rattle.tile_laws.specs.router.specs.Table.{RouterState, output_owned}
@@ -117,7 +117,7 @@ module _ (d : Design) (net : IsNet (net_of d)) (tags : ℕ) (opening : List ℕ)
       (cases_eq u t)
 
   module _ (proper : IsProperResponse d q) where
-    starts : is_head (first_flit (flits_of (packet.Response q))) ≡ true
+    starts : carries_route (first_flit (flits_of (packet.Response q))) ≡ true
     starts = first_is_head (packet.Response q) proper.spelled
 
     served_mirrors : Mirrors d served_state served_ghost.net.lines

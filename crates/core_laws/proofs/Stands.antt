@@ -18,7 +18,7 @@ use Rattle.wormhole.specs.Routes.{Routes}
 use Rattle.wormhole.specs.Delivery.{whole}
 use Rattle.order_abstract.proofs.Whole.{Whole}
 use Rattle.packet.specs.Flits.{flits_of}
-use Rattle.core_laws.specs.Heads.{is_head}
+use Rattle.core_laws.specs.Heads.{carries_route}
 use Rattle.channel_number.specs.Ports.{injection_channel, ejection_channel}
 use Rattle.order_abstract.specs.home_bank.specs.BankTable.{BankState}
 use Rattle.tile_laws.specs.Tile.{Design}
@@ -50,7 +50,7 @@ last_of (r ∷ []) = r ∷ []
 last_of (r ∷ q ∷ rs) = last_of (q ∷ rs)
 
 abbrev pub unsent : List ℕ → List Telling → List Telling
-unsent to_put responses = if is_head (first_flit to_put) then last_of responses else []
+unsent to_put responses = if carries_route (first_flit to_put) then last_of responses else []
 
 abbrev pub asked_between : ℕ → ℕ → List Asking → List Asking
 asked_between p b rs = filter (λ r. r.source == p && r.destination == b) rs
@@ -104,7 +104,7 @@ pub record Carries (d : Design) (s : State) (g : Ghost) : Type 0 where
 pub record IsInPhase (tile : ℕ) (b : BankState) : Type 0 where
   pub waits : (r : Asking) → b.waiting ≡ Some r → (b.so_far ≡ []) × (b.to_put ≡ [])
   pub replies : b.to_put ≢ [] → b.so_far ≡ []
-  pub fresh : is_head (first_flit b.to_put) ≡ true → map (λ r. flits_of (packet.Response r)) (last_of (responses_from tile 0 b.entries)) ≡ b.to_put ∷ []
+  pub fresh : carries_route (first_flit b.to_put) ≡ true → map (λ r. flits_of (packet.Response r)) (last_of (responses_from tile 0 b.entries)) ≡ b.to_put ∷ []
 
 -- the done word counts the processors that have reported; only the finished have, and who has seen the end saw all
 pub record Reported (d : Design) (s : State) : Type 0 where

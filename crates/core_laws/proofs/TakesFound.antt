@@ -28,7 +28,7 @@ use Rattle.wormhole.proofs.Arrivals.{delivered}
 use Rattle.order_abstract.specs.Flight.{Takes, is_told_alike, IsFound}
 use Rattle.order_abstract.proofs.FirstPlaces.{first_there}
 use Rattle.packet.specs.Flits.{is_tail, offered, offered_by, flits_of}
-use Rattle.core_laws.specs.Heads.{is_head}
+use Rattle.core_laws.specs.Heads.{carries_route}
 use Rattle.channel_number.specs.Ports.{injection_channel, ejection_channel}
 use Rattle.tile_laws.specs.Tile.{Design}
 use Rattle.core_laws.specs.Core.{State}
@@ -84,7 +84,7 @@ module _ (d : Design) (net : IsNet (net_of d)) (tags : ℕ) (opening : List ℕ)
   lane_in = ejection_channel d.shape p Reply
 
   -- the network's event may happen
-  pub can_accept : CanAccept (net_of d) (g.net.lines lane_in) lane_in flit more (is_head flit)
+  pub can_accept : CanAccept (net_of d) (g.net.lines lane_in) lane_in flit more (carries_route flit)
   can_accept = record {
     here = subst (λ (n : ℕ). lane_in < n) (sym (channels_of d)) (ejection_in d.shape p Reply p_in);
     ejects = ejects_at d p Reply;
@@ -93,14 +93,14 @@ module _ (d : Design) (net : IsNet (net_of d)) (tags : ℕ) (opening : List ℕ)
   }
 
   abbrev pub taken_net : NetState
-  taken_net = after (net_of d) g.net (accepts lane_in flit more (is_head flit))
+  taken_net = after (net_of d) g.net (accepts lane_in flit more (carries_route flit))
 
   module _ (r : Telling) (is_whole : offered (tile_at s p).processor.so_far flit ≡ Complete (packet.Response r)) where
     pub tells : TellsWhole (tile_at s p).processor.so_far flit (packet.Response r)
     tells = tells_whole (tile_at s p).processor.so_far flit (packet.Response r) is_whole
 
     pub done : Completes (net_of d) g.net taken_net lane_in flit
-    done = completes (net_of d) g.net lane_in flit more (is_head flit) net st.lines st.routes can_accept (is_tail_of d flit ∙ tells.tail)
+    done = completes (net_of d) g.net lane_in flit more (carries_route flit) net st.lines st.routes can_accept (is_tail_of d flit ∙ tells.tail)
 
     -- the packet is a response that a bank made: the one that the processor has whole
     pub record ComesFrom : Type 0 where
@@ -150,7 +150,7 @@ module _ (d : Design) (net : IsNet (net_of d)) (tags : ℕ) (opening : List ℕ)
         let told : List Telling = told_between b p g.told in
         let responses : List Telling = responses_from b 0 (tile_at s b).bank.entries in
         let rest : List Parcel = map R (unsent (tile_at s b).bank.to_put responses) in
-        let arrives = delivered n taken_net i lane_in (accept_routes n g.net lane_in flit more (is_head flit) net st.lines st.routes can_accept)
+        let arrives = delivered n taken_net i lane_in (accept_routes n g.net lane_in flit more (carries_route flit) net st.lines st.routes can_accept)
         (joined d b p Reply from.bank_in p_in) in
         let own : told_between b p (r ∷ []) ≡ r ∷ [] = ap (λ (t : ℕ). told_between b t (r ∷ [])) (sym from.here) ∙ own_told r in
         let took : between i lane_in (whole taken_net lane_in) ≡ map R (taken ++ r ∷ []) =
@@ -162,7 +162,7 @@ module _ (d : Design) (net : IsNet (net_of d)) (tags : ℕ) (opening : List ℕ)
         let made : map R (taken ++ told) ≡ between i lane_in ((taken_net.notes i).sent ++ rest) =
         ap (map R) (sym (st.carries.told b p from.bank_in p_in)) ∙ (sym (between_responses d.shape b p responses)
         ∙ ap (between i lane_in) (st.carries.replies_sent b from.bank_in
-        ∙ ap (λ (ks : List Parcel). ks ++ rest) (sym (sent_kept n g.net lane_in flit more (is_head flit) i)))) in
+        ∙ ap (λ (ks : List Parcel). ks ++ rest) (sym (sent_kept n g.net lane_in flit more (carries_route flit) i)))) in
         let all : map R (taken ++ told) ≡ map R (taken ++ r ∷ []) ++ (arrives.0 ++ between i lane_in rest) =
         made ∙ (filter-append _ (taken_net.notes i).sent rest
         ∙ (ap (λ (ks : List Parcel). ks ++ between i lane_in rest) (arrives.1 ∙ ap (λ (ks : List Parcel). ks ++ arrives.0) took)

@@ -13,7 +13,7 @@ use Rattle.wormhole.specs.Net.{IsNet}
 use Rattle.wormhole.specs.State.{Line as Lane}
 use Rattle.wormhole.specs.Events.{Event}
 use Rattle.packet.specs.Flits.{is_tail}
-use Rattle.core_laws.specs.Heads.{is_head}
+use Rattle.core_laws.specs.Heads.{carries_route}
 use Rattle.order_abstract.specs.home_bank.specs.BankTable.{BankState}
 use Rattle.channel_number.specs.Ports.{ejection_channel}
 use Rattle.tile_laws.specs.Tile.{Design, TileState}
@@ -60,7 +60,7 @@ module _ (d : Design) (net : IsNet (net_of d)) (tags : ℕ) (opening : List ℕ)
   lane = ejection_channel d.shape t class
 
   abbrev event : Event
-  event = accepts lane flit more (is_head flit)
+  event = accepts lane flit more (carries_route flit)
 
   pub lane_in : lane < channel_count d.shape
   lane_in = accept_in d net tags opening s g order st t t_in class flit more first
@@ -91,13 +91,13 @@ module _ (d : Design) (net : IsNet (net_of d)) (tags : ℕ) (opening : List ℕ)
       others = λ z other. ap (λ (l : Lane). l.flits) (line_other d net tags opening s g order st t t_in class flit more first z other);
       others_held = λ z other. let same = line_other d net tags opening s g order st t t_in class flit more first z other in
           (ap (λ (l : Lane). l.held) same, ap (λ (l : Lane). l.returning) same);
-      sent = sent_kept (net_of d) g.net lane flit more (is_head flit);
+      sent = sent_kept (net_of d) g.net lane flit more (carries_route flit);
       wholes = none_whole d net tags opening s g order st t t_in class flit more first body;
       operations = i.operations;
       reported = i.reported;
       entries = i.entries;
       waiting = i.waiting;
-      heads = ap (λ (xs : List ℕ). is_head (first_flit xs)) i.replies;
+      heads = ap (λ (xs : List ℕ). carries_route (first_flit xs)) i.replies;
       phase = i.phase;
     }
 
@@ -143,7 +143,7 @@ pub taking_phase : (t : ℕ) (b : BankState) → b.waiting ≡ None → b.to_put
 taking_phase t b none idle = record {
   waits = λ r h. let no : ◌≡◌ {A = Option Asking} None (Some r) = sym none ∙ h in cc;
   replies = λ h. absurd (h idle);
-  fresh = λ h. let no : ◌≡◌ {A = Bool} true false = sym h ∙ (ap (λ (xs : List ℕ). is_head (first_flit xs)) idle ∙ no_head) in cc;
+  fresh = λ h. let no : ◌≡◌ {A = Bool} true false = sym h ∙ (ap (λ (xs : List ℕ). carries_route (first_flit xs)) idle ∙ no_head) in cc;
 }
 
 module _ (d : Design) (net : IsNet (net_of d)) (tags : ℕ) (opening : List ℕ) (s : State) (g : Ghost) (order : List LinearizationPoint)

@@ -26,7 +26,7 @@ use Rattle.order_abstract.specs.script_follower.specs.ProcessorRecord.{no_proces
 use Rattle.order_abstract.specs.Flight.{Flight}
 use Rattle.order_abstract.proofs.Whole.{Whole}
 use Rattle.packet.specs.Flits.{is_tail, offered, flits_of}
-use Rattle.core_laws.specs.Heads.{is_head}
+use Rattle.core_laws.specs.Heads.{carries_route}
 use Rattle.order_abstract.specs.script_follower.specs.ProcessorTable.{ProcessorState}
 use Rattle.tile_laws.specs.router.specs.Table.{RouterState, output_owned}
 use Rattle.channel_number.specs.Ports.{injection_channel, ejection_channel}
@@ -61,7 +61,7 @@ module _ (d : Design) (net : IsNet (net_of d)) (tags : ℕ) (opening : List ℕ)
   taken_net = accept_net d net tags opening s g order st t t_in Request flit more first
 
   pub done : Completes (net_of d) g.net taken_net lane flit
-  done = completes (net_of d) g.net lane flit more (is_head flit) net st.lines st.routes
+  done = completes (net_of d) g.net lane flit more (carries_route flit) net st.lines st.routes
       (may_accept d net tags opening s g order st t t_in Request flit more first) (is_tail_of d flit ∙ tail)
 
   -- the packet is a request that a processor issued: the one that the bank has whole
@@ -179,13 +179,13 @@ module _ (d : Design) (net : IsNet (net_of d)) (tags : ℕ) (opening : List ℕ)
   }
 
   whole_other : (z : ℕ) → z ≢ lane → whole whole_ghost.net z ≡ whole g.net z
-  whole_other z other = ap (λ (k : Note). whole_of k.awaited k.begun) (notes_other (net_of d) g.net lane flit more (is_head flit) z other)
+  whole_other z other = ap (λ (k : Note). whole_of k.awaited k.begun) (notes_other (net_of d) g.net lane flit more (carries_route flit) z other)
 
   whole_carries : Carries d whole_state whole_ghost
   whole_carries = record {
     processors = st.carries.processors;
     takers = st.carries.takers;
-    requests_sent = λ u h. sent_kept (net_of d) g.net lane flit more (is_head flit) (injection_channel d.shape u Request) ∙ st.carries.requests_sent u h;
+    requests_sent = λ u h. sent_kept (net_of d) g.net lane flit more (carries_route flit) (injection_channel d.shape u Request) ∙ st.carries.requests_sent u h;
     requests_proper = st.carries.requests_proper;
     requests_whole = by_tile (λ u w. u < tiles_of d.shape
         → whole whole_ghost.net (ejection_channel d.shape u Request)
@@ -204,7 +204,7 @@ module _ (d : Design) (net : IsNet (net_of d)) (tags : ℕ) (opening : List ℕ)
     replies_sent = λ b h.
         let k = part_kept (λ (w : TileState). w.bank.entries) refl b in
         let l = part_kept (λ (w : TileState). w.bank.to_put) refl b in
-        rw (k, l, sent_kept (net_of d) g.net lane flit more (is_head flit) (injection_channel d.shape b Reply)) (st.carries.replies_sent b h);
+        rw (k, l, sent_kept (net_of d) g.net lane flit more (carries_route flit) (injection_channel d.shape b Reply)) (st.carries.replies_sent b h);
     replies_proper = λ b h. let k = part_kept (λ (w : TileState). w.bank.entries) refl b in rw k (st.carries.replies_proper b h);
     replies_whole = λ p h. whole_other (ejection_channel d.shape p Reply) (reply_apart p) ∙ st.carries.replies_whole p h;
     told = λ b p h l. let k = part_kept (λ (w : TileState). w.bank.entries) refl b in rw k (st.carries.told b p h l);
@@ -217,7 +217,7 @@ module _ (d : Design) (net : IsNet (net_of d)) (tags : ℕ) (opening : List ℕ)
       (record {
         waits = λ q h. (refl, idle);
         replies = λ h. refl;
-        fresh = λ h. let no : ◌≡◌ {A = Bool} true false = sym h ∙ (ap (λ (xs : List ℕ). is_head (first_flit xs)) idle ∙ no_head) in absurd (cc);
+        fresh = λ h. let no : ◌≡◌ {A = Bool} true false = sym h ∙ (ap (λ (xs : List ℕ). carries_route (first_flit xs)) idle ∙ no_head) in absurd (cc);
       })
       (λ u other. st.phases u)
 
@@ -246,9 +246,9 @@ module _ (d : Design) (net : IsNet (net_of d)) (tags : ℕ) (opening : List ℕ)
     size = st.size;
     words = st.words;
     rings = whole_rings;
-    lines = accept_words (net_of d) g.net lane flit more (is_head flit) net st.lines st.routes
+    lines = accept_words (net_of d) g.net lane flit more (carries_route flit) net st.lines st.routes
         (may_accept d net tags opening s g order st t t_in Request flit more first);
-    routes = accept_routes (net_of d) g.net lane flit more (is_head flit) net st.lines st.routes
+    routes = accept_routes (net_of d) g.net lane flit more (carries_route flit) net st.lines st.routes
         (may_accept d net tags opening s g order st t t_in Request flit more first);
     mirrors = whole_mirrors;
     flight = subst (λ (f : Flight). Whole (tiles_of d.shape) tags opening f order) (sym whole_flight) st.flight;

@@ -9,7 +9,7 @@ use Rattle.packet.specs.declared.heading.Head.{Head}
 use Rattle.packet.specs.Flit.{field, class_numbered}
 use Rattle.channel_number.specs.Order.{channel_count, channel_at}
 use Rattle.packet.specs.Flits.{head_of}
-use Rattle.core_laws.specs.Heads.{is_head}
+use Rattle.core_laws.specs.Heads.{carries_route}
 use Rattle.tile_laws.specs.router.specs.Table.{RouterState, output_owned, is_owned, is_output, way_of}
 use Rattle.channel_number.specs.Ports.{port_count, ejection_channel, input_channel, output_channel}
 use Rattle.tile_laws.specs.Tile.{Design}
@@ -49,7 +49,7 @@ not_owned r o h i e = any_false r.owned i o h e
 
 -- a head flit has the head bit, and tells what its fields say
 pub record IsHeadOf (flit : ℕ) (head : Head) : Type 0 where
-  pub bit : is_head flit ≡ true
+  pub bit : carries_route flit ≡ true
   pub destination : head.destination ≡ field flit 51 6
   pub class : head.class ≡ class_numbered (field flit 57 1)
 

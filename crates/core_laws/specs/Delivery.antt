@@ -11,8 +11,8 @@ use Rattle.order_abstract.specs.home_bank.specs.declared.entry.Entry.{Entry}
 use Rattle.order_abstract.specs.home_bank.specs.ServiceList.{address_of}
 use Rattle.order_abstract.specs.one_order.specs.declared.answer.Answer.{Answer}
 use Rattle.order_abstract.specs.one_order.specs.Observed.{list_at}
-use Rattle.wormhole.specs.Delivery.{Begins, without_last}
-use Rattle.core_laws.specs.Heads.{is_head}
+use Rattle.wormhole.specs.Delivery.{IsPrefix, without_last}
+use Rattle.core_laws.specs.Heads.{carries_route}
 use Rattle.order_abstract.specs.home_bank.specs.BankTable.{BankState}
 use Rattle.tile_laws.specs.Tile.{Design, TileState}
 use Rattle.core_laws.specs.Core.{State, show}
@@ -90,7 +90,7 @@ next_flit (flit ∷ flits) = flit
 -- put
 abbrev pub responses_sent : ℕ → BankState → List Response
 responses_sent b bank =
-    if is_head (next_flit bank.to_put) then without_last (responses_made b 0 bank.entries)
+    if carries_route (next_flit bank.to_put) then without_last (responses_made b 0 bank.entries)
     else responses_made b 0 bank.entries
 
 -- The packets of each class between two tiles that the receiver has whole are a beginning of those
@@ -109,9 +109,9 @@ pub record DeliversPackets (d : Design) (words : ℕ) (s : State) (requests : Li
       ≡ map notice_of (list_at taken p)
   pub at_banks : (p b : ℕ) (tile : TileState) → p < tiles_of d.shape
       → slice_get s.tiles b ≡ Some tile
-      → Begins (requests_between p b (requests_whole (tiles_of d.shape) b tile.bank))
+      → IsPrefix (requests_between p b (requests_whole (tiles_of d.shape) b tile.bank))
       (requests_between p b (list_at requests p))
   pub at_processors : (b p : ℕ) (tile : TileState) → p < tiles_of d.shape
       → slice_get s.tiles b ≡ Some tile
-      → Begins (responses_between b p (list_at taken p))
+      → IsPrefix (responses_between b p (list_at taken p))
       (responses_between b p (responses_sent b tile.bank))

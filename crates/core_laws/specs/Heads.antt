@@ -4,5 +4,5 @@ use Rattle.packet.specs.Flit.{field}
 
 -- whether a flit is a head flit, as routers tell it: the head bit, and the bit that every flit has
 -- (Dally and Towles, chapter 12)
-abbrev pub is_head : ℕ → Bool
-is_head flit = field flit 63 1 == 1 && field flit 61 1 == 1
+abbrev pub carries_route : ℕ → Bool
+carries_route flit = field flit 63 1 == 1 && field flit 61 1 == 1

@@ -31,7 +31,7 @@ use Rattle.tile_laws.specs.declared.agent.Agent.{Agent}
 use Rattle.tile_laws.specs.declared.agent.Agent.TheVariants.{Processor, Router, Bank}
 use Rattle.tile_laws.specs.Tile.{Design, TileState}
 use Rattle.tile_laws.specs.Agents.{agent_kind, agent_tile}
-use Rattle.core_laws.specs.Heads.{is_head}
+use Rattle.core_laws.specs.Heads.{carries_route}
 use Rattle.core_laws.specs.Core.{State}
 use Rattle.core_laws.specs.Moves.{learned_by}
 use Rattle.core_laws.specs.Delivery.{next_flit, responses_made}
@@ -58,7 +58,7 @@ last_response (r ∷ q ∷ rs) = last_response (q ∷ rs)
 
 -- a flit comes to the receiving end of channel x, the first that is there
 abbrev pub taken_there : Surroundings → ℕ → ℕ → Event
-taken_there around x flit = accept (is_head flit) x flit (rest (ring around.rings x).channel.flits)
+taken_there around x flit = accept (carries_route flit) x flit (rest (ring around.rings x).channel.flits)
 
 -- a flit goes from the latch behind x into y: a head, or one that follows (Dally and Towles,
 -- chapter 16)
@@ -79,7 +79,7 @@ module _ (d : Design) (t : ℕ) where
   abbrev pub reply_event : BankState → List ℕ → Option Event
   reply_event b [] = None
   reply_event b (flit ∷ more) =
-      if is_head flit
+      if carries_route flit
       then option_map (λ r. InjectHead (injection_channel d.shape t class.Reply)
       (response_parcel d.shape r))
       (last_response (responses_made t 0 b.entries))

@@ -17,7 +17,7 @@ use Rattle.core_progress.specs.one_order.specs.Observed.{Observed, list_at}
 use Rattle.core_progress.specs.one_order.specs.Events.{push_at, order_after}
 use Rattle.core_progress.specs.one_order.proofs.Lists.{list_at_push_same, list_at_push_other, list_at_none, list_within}
 use Rattle.core_progress.specs.one_order.proofs.Naming.{answers_name}
-use Rattle.wormhole.specs.Delivery.{Begins}
+use Rattle.wormhole.specs.Delivery.{IsPrefix}
 use Rattle.core_progress.specs.script_follower.specs.ProcessorRecord.{request_of}
 use Rattle.core_progress.specs.order_abstract.specs.Flight.{Move, Sends, Serves, Takes}
 use Rattle.core_progress.specs.tile_laws.specs.Tile.{Design, TileState}
@@ -197,7 +197,7 @@ module _ (l : Load) (ok : IsAccepted l) (steps : List Step) where
       (waiting_from tiles b (tile_at s b).bank.waiting (λ r waits. let proper = st.carries.waiting_proper b r waits in (proper.0.source, proper.1)))
 
   abbrev IsRequestsBeginning : ℕ → ℕ → TileState → Type 0
-  IsRequestsBeginning p b tile = Begins (requests_from p (requests_whole tiles b tile.bank)) (requests_between p b (sent_requests l steps))
+  IsRequestsBeginning p b tile = IsPrefix (requests_from p (requests_whole tiles b tile.bank)) (requests_between p b (sent_requests l steps))
 
   requests_begin : (p b : ℕ) → b < tiles → IsRequestsBeginning p b (tile_at s b)
   requests_begin p b b_in =
@@ -205,19 +205,19 @@ module _ (l : Load) (ok : IsAccepted l) (steps : List Step) where
       let sent : List Request = sent_requests l steps in
       ⊎_elim
       (λ (p_in : p < tiles).
-      let law : Begins (requests_between p b has) (requests_between p b (list_at (noted l steps n).requests p)) =
+      let law : IsPrefix (requests_between p b has) (requests_between p b (list_at (noted l steps n).requests p)) =
       by_law.at_banks p b (tile_at s b) p_in (tile_there b b_in) in
       let left : requests_between p b has ≡ requests_from p has = second_passed (λ r. r.source == p) (λ r. r.destination == b) has
       (all_so (λ r. (r.source < tiles) × (r.destination ≡ b)) (λ r. (r.destination == b) ≡ true) (λ r h. eq-eqb r.destination b h.1) has (whole_from b b_in)) in
       let right : requests_between p b (list_at (noted l steps n).requests p) ≡ requests_between p b sent =
       ap (requests_between p b) (sent_are p p_in)
       ∙ among (λ r. r.source == p && r.destination == b) (λ r. r.source == p) (λ r h. (and_parts (r.source == p) (r.destination == b) h).0) sent in
-      subst (λ (xs : List Request). Begins xs (requests_between p b sent)) left (subst (Begins (requests_between p b has)) right law))
+      subst (λ (xs : List Request). IsPrefix xs (requests_between p b sent)) left (subst (IsPrefix (requests_between p b has)) right law))
       (λ (past : tiles ≤ p).
       let none : requests_from p has ≡ [] = none_passes (λ r. r.source == p) has
       (all_so (λ r. (r.source < tiles) × (r.destination ≡ b)) (λ r. (r.source == p) ≡ false) (λ r h. ne_eqb r.source p (λ e. omega (arith, e, h.0))) has
       (whole_from b b_in)) in
-      subst (λ (xs : List Request). Begins xs (requests_between p b sent)) (sym none) (requests_between p b sent, refl))
+      subst (λ (xs : List Request). IsPrefix xs (requests_between p b sent)) (sym none) (requests_between p b sent, refl))
       (cases_lt p tiles)
 
   -- where there is no tile, no bank has a request
@@ -237,7 +237,7 @@ module _ (l : Load) (ok : IsAccepted l) (steps : List Step) where
       subst (λ (m : ℕ). a.bank < m) order.shown.banks (list_within (run_of l steps n).entries a.bank a.place named.entry named.there))
 
   abbrev IsResponsesBeginning : ℕ → ℕ → TileState → Type 0
-  IsResponsesBeginning b p tile = Begins (responses_between b p (whole_responses l steps)) (responses_between b p (responses_sent b tile.bank))
+  IsResponsesBeginning b p tile = IsPrefix (responses_between b p (whole_responses l steps)) (responses_between b p (responses_sent b tile.bank))
 
   responses_begin : (b p : ℕ) → p < tiles → IsResponsesBeginning b p (tile_at s b)
   responses_begin b p p_in =
@@ -248,13 +248,13 @@ module _ (l : Load) (ok : IsAccepted l) (steps : List Step) where
       ap (responses_between b p) (whole_are p p_in)
       ∙ among (λ r. r.source == b && r.destination == p) (λ r. r.destination == p) (λ r h. (and_parts (r.source == b) (r.destination == p) h).1) all in
       ⊎_elim
-      (λ (b_in : b < tiles). subst (λ (xs : List Response). Begins xs (responses_between b p sent)) same
+      (λ (b_in : b < tiles). subst (λ (xs : List Response). IsPrefix xs (responses_between b p sent)) same
       (by_law.at_processors b p (tile_at s b) p_in (tile_there b b_in)))
       (λ (past : tiles ≤ b).
       let none : responses_between b p has ≡ [] = none_passes (λ r. r.source == b && r.destination == p) has
       (all_so (λ r. r.source < tiles) (λ r. (r.source == b && r.destination == p) ≡ false)
       (λ r h. ap (λ (x : Bool). x && (r.destination == p)) (ne_eqb r.source b (λ e. omega (arith, e, h)))) has (whole_of_banks p p_in)) in
-      subst (λ (xs : List Response). Begins xs (responses_between b p sent)) (sym none ∙ same) (responses_between b p sent, refl))
+      subst (λ (xs : List Response). IsPrefix xs (responses_between b p sent)) (sym none ∙ same) (responses_between b p sent, refl))
       (cases_lt b tiles)
 
   -- Packets are delivered in order after all steps.

@@ -9,7 +9,7 @@ use Rattle.rounds.specs.Rounds.{or_same, one_if_moved, moves_in, IsEnabled}
 use Rattle.core_progress.specs.tile_laws.specs.Tile.{Design, TileState}
 use Rattle.core_progress.specs.core_laws.specs.Core.{Load, State, design_of, first_state, step, round, after}
 use Rattle.core_progress.specs.core_laws.specs.Runs.{state_after}
-use Rattle.core_progress.specs.Moves.{IsLive, all_finished as tiles_finished, moves_made, most_moves}
+use Rattle.core_progress.specs.Moves.{IsLive, tiles_finished, moves_made, most_moves}
 use Rattle.core_progress.proofs.Made.{take_all}
 use Rattle.core_progress.proofs.Budget.{few_moves}
 use Rattle.core_progress.proofs.Live.{is_live, round_makes_move}

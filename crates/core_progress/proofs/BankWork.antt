@@ -27,7 +27,7 @@ use Rattle.wormhole_progress.specs.Work.{End}
 use Rattle.rounds.proofs.Members.{on_head, on_tail}
 use Rattle.wormhole.proofs.Lists.{all_on}
 use Rattle.packet.specs.Flits.{flits_of}
-use Rattle.core_laws.specs.Heads.{is_head}
+use Rattle.core_laws.specs.Heads.{carries_route}
 use Rattle.core_laws.specs.home_bank.specs.BankTable.{bank_wants, bank_after, is_nil}
 use Rattle.channel_number.specs.Ports.{injection_channel, ejection_channel}
 use Rattle.core_laws.specs.tile_laws.specs.Wiring.{bank_wiring}
@@ -78,7 +78,7 @@ made_same b k [] = refl
 made_same b k (e ∷ es) = ap (λ rs. response_made b k e ∷ rs) (made_same b (k + 1) es)
 
 -- flits that follow a head have no head first
-tail_first : (d : Design) (fs : List ℕ) → IsTailShaped (net_of d) fs → is_head (first_flit fs) ≡ false
+tail_first : (d : Design) (fs : List ℕ) → IsTailShaped (net_of d) fs → carries_route (first_flit fs) ≡ false
 tail_first d [] shaped = no_head
 tail_first d (f ∷ fs) shaped = sym (is_head_of d f) ∙ shaped.0
 
@@ -96,14 +96,14 @@ module _ (d : Design) (s : State) (g : Ghost) (mirrors : Mirrors d s g.net.lines
   short_ways i j joined = few_channels d.shape d.depth i j accepted joined
 
   -- the first flit of a reply
-  send_first : (w : Want) (learned f : ℕ) (fs : List ℕ) → (tile_at s t).bank.to_put ≡ f ∷ fs → is_head f ≡ true
+  send_first : (w : Want) (learned f : ℕ) (fs : List ℕ) → (tile_at s t).bank.to_put ≡ f ∷ fs → carries_route f ≡ true
       → granted s.around (bank_wiring d.shape t) (want.Put 0 f) ≡ Some learned
       → IsTileEvent d g.net (network.reply_event d t (tile_at s t).bank (f ∷ fs)) now (after_choice choice.Send w learned)
   send_first w learned f fs due head grants =
       let x : ℕ = injection_channel d.shape t Reply in
       let end = injection_low d s g.net mirrors t Reply here in
       let made : List Telling = responses_from t 0 (tile_at s t).bank.entries in
-      let bit : is_head (first_flit (tile_at s t).bank.to_put) ≡ true = ap (λ l. is_head (first_flit l)) due ∙ head in
+      let bit : carries_route (first_flit (tile_at s t).bank.to_put) ≡ true = ap (λ l. carries_route (first_flit l)) due ∙ head in
       let one = one_item (λ (r : Telling). flits_of (packet.Response r)) (last_of made) (tile_at s t).bank.to_put (phase.fresh bit) in
       let r : Telling = one.0 in
       let is : IsProperResponse d r × (r.source ≡ t) =
@@ -112,7 +112,7 @@ module _ (d : Design) (s : State) (g : Ghost) (mirrors : Mirrors d s g.net.lines
       let parcel : IsParcel (net_of d) k = is_parcel d (packet.Response r) is.0.spelled is.0.source is.0.destination in
       let flits : flits_in k ≡ f ∷ fs = sym (parcel_flits d.shape (packet.Response r) is.0.spelled) ∙ one.2 ∙ due in
       let tail : k.tail ≡ fs = cc in
-      let later : is_head (first_flit fs) ≡ false = ap (λ l. is_head (first_flit l)) (sym tail) ∙ tail_first d k.tail parcel.tail in
+      let later : carries_route (first_flit fs) ≡ false = ap (λ l. carries_route (first_flit l)) (sym tail) ∙ tail_first d k.tail parcel.tail in
       let last : network.last_response (responses_made t 0 (tile_at s t).bank.entries) ≡ Some r =
       ap network.last_response (sym (made_same t 0 (tile_at s t).bank.entries)) ∙ last_is made r one.1 in
       subst (λ (b : Bool). IsTileEvent d g.net
@@ -133,13 +133,13 @@ module _ (d : Design) (s : State) (g : Ghost) (mirrors : Mirrors d s g.net.lines
       }))
 
   -- a further flit of a reply
-  send_on : (w : Want) (learned f : ℕ) (fs : List ℕ) → (tile_at s t).bank.to_put ≡ f ∷ fs → is_head f ≡ false
+  send_on : (w : Want) (learned f : ℕ) (fs : List ℕ) → (tile_at s t).bank.to_put ≡ f ∷ fs → carries_route f ≡ false
       → granted s.around (bank_wiring d.shape t) (want.Put 0 f) ≡ Some learned
       → IsTileEvent d g.net (network.reply_event d t (tile_at s t).bank (f ∷ fs)) now (after_choice choice.Send w learned)
   send_on w learned f fs due rest grants =
       let x : ℕ = injection_channel d.shape t Reply in
       let end = injection_low d s g.net mirrors t Reply here in
-      let bit : is_head (first_flit (tile_at s t).bank.to_put) ≡ false = ap (λ l. is_head (first_flit l)) due ∙ rest in
+      let bit : carries_route (first_flit (tile_at s t).bank.to_put) ≡ false = ap (λ l. carries_route (first_flit l)) due ∙ rest in
       let course : (g.net.lines x).rest ≡ f ∷ fs = mirrors.sends_replies t here ∙ ap (λ b. cond b [] (tile_at s t).bank.to_put) bit ∙ due in
       let shaped : IsTailShaped (net_of d) (f ∷ fs) = subst (IsTailShaped (net_of d)) (words.senders x end.1 ∙ course) (words.owed x) in
       subst (λ (b : Bool). IsTileEvent d g.net
@@ -155,7 +155,7 @@ module _ (d : Design) (s : State) (g : Ghost) (mirrors : Mirrors d s g.net.lines
         change = reply_goes_on (tiles_of d.shape) d.words t cap (tile_at s t).processor (tile_at s t).bank w learned f fs due rest (tail_first d fs shaped.2);
       })
 
-  send_bit : (w : Want) (learned f : ℕ) (fs : List ℕ) → (tile_at s t).bank.to_put ≡ f ∷ fs → (b : Bool) → is_head f ≡ b
+  send_bit : (w : Want) (learned f : ℕ) (fs : List ℕ) → (tile_at s t).bank.to_put ≡ f ∷ fs → (b : Bool) → carries_route f ≡ b
       → granted s.around (bank_wiring d.shape t) (want.Put 0 f) ≡ Some learned
       → IsTileEvent d g.net (network.reply_event d t (tile_at s t).bank (f ∷ fs)) now (after_choice choice.Send w learned)
   send_bit w learned f fs due true bit grants = send_first w learned f fs due bit grants
@@ -166,7 +166,7 @@ module _ (d : Design) (s : State) (g : Ghost) (mirrors : Mirrors d s g.net.lines
       → IsTileEvent d g.net (network.reply_event d t (tile_at s t).bank l) now (after_choice choice.Send w learned)
   send_by w learned [] due wanted grants = absurd (cc)
   send_by w learned (f ∷ fs) due wanted grants =
-      send_bit w learned f fs due (is_head f) refl (ap (granted s.around (bank_wiring d.shape t)) (same_Some (want.Put 0 f) w wanted) ∙ grants)
+      send_bit w learned f fs due (carries_route f) refl (ap (granted s.around (bank_wiring d.shape t)) (same_Some (want.Put 0 f) w wanted) ∙ grants)
 
   -- each choice of a bank that is enabled
   pub bank_event : (c : Choice) (w : Want) (learned : ℕ) → bank_wants (tiles_of d.shape) t (tile_at s t).bank c ≡ Some w
@@ -181,7 +181,7 @@ module _ (d : Design) (s : State) (g : Ghost) (mirrors : Mirrors d s g.net.lines
       (ap (granted s.around (bank_wiring d.shape t)) (same_Some (want.Take 0) w is.1) ∙ grants) in
       accepts d s g.net mirrors x learned (channel.rest (ring s.around.rings x).channel.flits) now (after_choice choice.Take w learned) end.0 end.1 f
       (bank_takes (tiles_of d.shape) d.words t cap (tile_at s t).processor (tile_at s t).bank w learned)
-      (is_head learned) (is_head_of d learned)
+      (carries_route learned) (is_head_of d learned)
   bank_event choice.Serve w learned wanted grants =
       let r = option_map_some _ (tile_at s t).bank.waiting w wanted in
       record {

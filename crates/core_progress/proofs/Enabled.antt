@@ -27,7 +27,7 @@ use Rattle.wormhole_progress.specs.Ends.{IsOwed, Goes}
 use Rattle.wormhole_progress.proofs.Heads.{Heads, heads, leads, in_line_is}
 use Rattle.core_laws.specs.script_follower.specs.ProcessorRecord.{ready}
 use Rattle.packet.specs.Flits.{head_of}
-use Rattle.core_laws.specs.Heads.{is_head}
+use Rattle.core_laws.specs.Heads.{carries_route}
 use Rattle.core_laws.specs.router.specs.Table.{RouterState, latch_of, output_owned, is_owned, is_output, output_for, wants_to_take, wants_to_put, way_of}
 use Rattle.channel_number.specs.Ports.{port_count}
 use Rattle.core_laws.specs.script_follower.specs.ProcessorTable.{flits_due}
@@ -120,7 +120,7 @@ module _ (d : Design) (s : State) (lines : ℕ → Line) (Go : Type 0) (filled :
       (puts_granted (processor_wiring d.shape t) 0 x f (sym is) within credit)
   rest_at_end x t f more Reply within here is course credit =
       let due : (tile_at s t).bank.to_put ≡ f ∷ more =
-      course_is (is_head (first_flit (tile_at s t).bank.to_put)) (tile_at s t).bank.to_put f more
+      course_is (carries_route (first_flit (tile_at s t).bank.to_put)) (tile_at s t).bank.to_put f more
       (sym (mirrors.sends_replies t here) ∙ ap (λ z. (lines z).rest) (sym is) ∙ course) in
       bank_goes d s Go filled go t choice.Send (want.Put 0 f) 0 here (choice.Take ∷ choice.Serve ∷ [], choice.Credit ∷ [], refl)
       (ap (λ l. option_map (λ flit. want.Put 0 flit) (channel.first_of l)) due)

@@ -12,7 +12,7 @@ use Rattle.script.specs.declared.line.Value.TheVariants.{Number}
 use Rattle.core_laws.specs.script_follower.specs.Following.{first_of, next_operation_of, after_issue, after_answer, is_finished}
 use Rattle.core_laws.specs.Core.{Load, design_of, first_state, after, step, round}
 use Rattle.rounds.specs.Rounds.{after_rounds}
-use Rattle.core_progress.specs.Moves.{enabled_step, all_finished, moves_left}
+use Rattle.core_progress.specs.Moves.{enabled_step, tiles_finished, moves_left}
 
 abbrev with_scripts : List (List Line) → Load
 with_scripts scripts = record {
@@ -74,7 +74,7 @@ report_first = refl
 four_moves : moves_left nothing [] 0 ≡ 4
 four_moves = refl
 
-finished_at_once : all_finished (first_state nothing) ≡ true
+finished_at_once : tiles_finished (first_state nothing) ≡ true
 unfolding first_of is_finished
 finished_at_once = refl
 
@@ -82,10 +82,10 @@ finished_at_once = refl
 abbrev two_loads : Load
 two_loads = with_scripts ((line.Load 0 ∷ []) ∷ (line.Load 1 ∷ []) ∷ [])
 
-not_in_four : all_finished (after_rounds (step (design_of two_loads)) (round two_loads.shape) 4 (first_state two_loads)) ≡ false
+not_in_four : tiles_finished (after_rounds (step (design_of two_loads)) (round two_loads.shape) 4 (first_state two_loads)) ≡ false
 unfolding first_of next_operation_of after_issue after_answer is_finished field offered flits_of
 not_in_four = refl
 
-in_five : all_finished (after_rounds (step (design_of two_loads)) (round two_loads.shape) 5 (first_state two_loads)) ≡ true
+in_five : tiles_finished (after_rounds (step (design_of two_loads)) (round two_loads.shape) 5 (first_state two_loads)) ≡ true
 unfolding first_of next_operation_of after_issue after_answer is_finished field offered flits_of
 in_five = refl

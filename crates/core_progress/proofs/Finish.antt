@@ -8,7 +8,7 @@ use Rattle.core_laws.specs.tile_laws.specs.Tile.{Design}
 use Rattle.core_laws.specs.Core.{Load, State, design_of, first_state, step, or_same, after, round}
 use Rattle.core_laws.specs.Runs.{IsAccepted, state_after}
 use Rattle.core_laws.proofs.AgentSteps.{option_map_some}
-use Rattle.core_progress.specs.Moves.{IsLive, all_finished, moves_made, most_moves, moves_left}
+use Rattle.core_progress.specs.Moves.{IsLive, tiles_finished, moves_made, most_moves, moves_left}
 use Rattle.core_progress.proofs.Live.{is_live}
 use Rattle.core_progress.proofs.Made.{take_all, after_push, made_push}
 use Rattle.core_progress.proofs.Budget.{few_moves}
@@ -42,17 +42,17 @@ module _ (l : Load) (ok : IsAccepted l) where
       let few = few_moves l ok ys in
       omega arith
 
-  lives : (xs : List Step) → all_finished (after l xs) ≡ false → (a : Step) × (first_enabled longer xs (round l.shape) ≡ Some a)
+  lives : (xs : List Step) → tiles_finished (after l xs) ≡ false → (a : Step) × (first_enabled longer xs (round l.shape) ≡ Some a)
   lives xs busy =
       let now : state_after l xs (length xs) ≡ after l xs = ap (after l) (take_all xs) in
-      let live : IsLive d (after l xs) = subst (IsLive d) now (is_live l ok xs (length xs) (ap all_finished now ∙ busy)) in
+      let live : IsLive d (after l xs) = subst (IsLive d) now (is_live l ok xs (length xs) (ap tiles_finished now ∙ busy)) in
       (live.0, first_shown longer (step d) (after l) shown xs (round l.shape) ∙ live.1)
 
   -- From every list of attempts on rounds finish every script, and the least number of them that does is at most the moves left.
-  list_finishes : (xs : List Step) → Finishes longer (round l.shape) (λ ys. all_finished (after l ys)) left_of xs
+  list_finishes : (xs : List Step) → Finishes longer (round l.shape) (λ ys. tiles_finished (after l ys)) left_of xs
   list_finishes xs =
-      rounds_finish longer (round l.shape) (λ ys. all_finished (after l ys)) (λ ys. Unit {0}) left_of (λ ys zs a inv is. tt)
+      rounds_finish longer (round l.shape) (λ ys. tiles_finished (after l ys)) (λ ys. Unit {0}) left_of (λ ys zs a inv is. tt)
       (λ ys zs a inv is. falls ys zs a is) (λ ys inv busy. lives ys busy) xs tt
 
-  pub run_finishes : (steps : List Step) (n : ℕ) → Finishes (step d) (round l.shape) all_finished (λ s. moves_left l steps n) (state_after l steps n)
-  run_finishes steps n = finishes_shown longer (step d) (after l) shown (round l.shape) all_finished left_of (take n steps) (list_finishes (take n steps))
+  pub run_finishes : (steps : List Step) (n : ℕ) → Finishes (step d) (round l.shape) tiles_finished (λ s. moves_left l steps n) (state_after l steps n)
+  run_finishes steps n = finishes_shown longer (step d) (after l) shown (round l.shape) tiles_finished left_of (take n steps) (list_finishes (take n steps))

@@ -28,7 +28,7 @@ use Rattle.core_laws.specs.Noted.{noted}
 use Rattle.core_laws.proofs.Histories.{event_at}
 use Rattle.core_laws.proofs.EveryRun.{holds_in, has_one_order}
 use Rattle.core_laws.proofs.Stands.{tile_at, no_tile}
-use Rattle.core_progress.specs.Moves.{IsLive, all_finished}
+use Rattle.core_progress.specs.Moves.{IsLive, tiles_finished}
 use Rattle.core_progress.proofs.Balanced.{run_balanced}
 use Rattle.core_laws.specs.order_abstract.proofs.Finished.{AnswersOnce, same_invocations, all_at, all_from}
 use Rattle.core_progress.proofs.Machine.{StandsLive, machine_is_live}
@@ -74,36 +74,36 @@ module _ (l : Load) (ok : IsAccepted l) (steps : List Step) (n : ℕ) where
   }
 
   -- a follower at each tile has finished where all have
-  pub finished_at : all_finished s ≡ true → (p : ℕ) → p < tiles_of l.shape → is_finished (tile_at s p).processor.operations.following ≡ true
+  pub finished_at : tiles_finished s ≡ true → (p : ℕ) → p < tiles_of l.shape → is_finished (tile_at s p).processor.operations.following ≡ true
   finished_at all p here = all_at (λ (t : TileState). is_finished t.processor.operations.following) s.tiles p no_tile all
       (subst (λ (k : ℕ). p < k) (sym tiles_there) here)
 
-  all_where : ((p : ℕ) → p < tiles_of l.shape → is_finished (tile_at s p).processor.operations.following ≡ true) → all_finished s ≡ true
+  all_where : ((p : ℕ) → p < tiles_of l.shape → is_finished (tile_at s p).processor.operations.following ≡ true) → tiles_finished s ≡ true
   all_where each = all_from (λ (t : TileState). is_finished t.processor.operations.following) s.tiles no_tile
       (λ p low. each p (subst (λ (k : ℕ). p < k) tiles_there low))
 
   -- No dead state: a step is enabled, or all scripts are finished.
-  pub live_or_finished : IsLive d s ⊎ (all_finished s ≡ true)
+  pub live_or_finished : IsLive d s ⊎ (tiles_finished s ≡ true)
   live_or_finished = ⊎_elim
       (λ (live : IsLive d s). inl live)
       (λ (all : (p : ℕ) → p < tiles_of l.shape → is_finished (tile_at s p).processor.operations.following ≡ true). inr (all_where all))
       (machine_is_live d l.tags l.opening s (noted l steps n) (order_after (event_at l steps) n) ok.shape ok.depth.0 ok.tags.0 stands_live)
 
-  pub is_live : all_finished s ≡ false → IsLive d s
+  pub is_live : tiles_finished s ≡ false → IsLive d s
   is_live busy = ⊎_elim
       (λ (live : IsLive d s). live)
-      (λ (all : all_finished s ≡ true). let never : ◌≡◌ {A = Bool} true false = sym all ∙ busy in absurd (cc))
+      (λ (all : tiles_finished s ≡ true). let never : ◌≡◌ {A = Bool} true false = sym all ∙ busy in absurd (cc))
       live_or_finished
 
   -- and so a round makes a move
-  pub round_makes_move : all_finished s ≡ false → 0 < moves_in (step d) s (round l.shape)
+  pub round_makes_move : tiles_finished s ≡ false → 0 < moves_in (step d) s (round l.shape)
   round_makes_move busy = let live = is_live busy in round_moves (step d) s live.0 (round l.shape) live.1
 
   once : (p : ℕ) → AnswersOnce (run_of l steps) n p
   once p i j a b hi hj same = (has_one_order l ok steps n).1.services.once p i j a b hi hj same
 
   -- all scripts are finished just if, in the run, each processor has issued all that its script allows and all is answered
-  to_finished : all_finished s ≡ true → AreFinished (run_of l steps) n l.scripts
+  to_finished : tiles_finished s ≡ true → AreFinished (run_of l steps) n l.scripts
   to_finished all = record {
     each = λ p below.
         let at : HasScript p = has_script p below in
@@ -116,7 +116,7 @@ module _ (l : Load) (ok : IsAccepted l) (steps : List Step) (n : ℕ) where
         });
   }
 
-  from_finished : AreFinished (run_of l steps) n l.scripts → all_finished s ≡ true
+  from_finished : AreFinished (run_of l steps) n l.scripts → tiles_finished s ≡ true
   from_finished are = all_where (λ p here.
       let below : p < length l.scripts = subst (λ (k : ℕ). p < k) (sym ok.processors) here in
       let at : HasScript p = has_script p below in
@@ -125,7 +125,7 @@ module _ (l : Load) (ok : IsAccepted l) (steps : List Step) (n : ℕ) where
       finished_from at.lines at.follows.ops (tile_at s p).processor.operations.following at.followable at.follows.shows
       (subst (HasFinished at.lines) same done.finished))
 
-  pub finished_is_finished : (all_finished s ≡ true) ↔ AreFinished (run_of l steps) n l.scripts
+  pub finished_is_finished : (tiles_finished s ≡ true) ↔ AreFinished (run_of l steps) n l.scripts
   finished_is_finished = (to_finished, from_finished)
 
   -- an operation that is issued and not answered makes its script unfinished
@@ -150,8 +150,8 @@ module _ (l : Load) (ok : IsAccepted l) (steps : List Step) (n : ℕ) where
 
   -- and so not all are
   pub unanswered_leaves : (p i : ℕ) (o : Operation) → slice_get (list_at (run_of l steps n).issued p) i ≡ Some o → (HasAnswered (run_of l steps n) p i → ⊥)
-      → all_finished s ≡ false
-  unanswered_leaves p i o issued unanswered = false_from_ne_true (all_finished s) (λ all.
+      → tiles_finished s ≡ false
+  unanswered_leaves p i o issued unanswered = false_from_ne_true (tiles_finished s) (λ all.
       let low : p < length (map (λ (b : ProcessorRecord). b.issued) (records_of s)) =
       list_within (map (λ (b : ProcessorRecord). b.issued) (records_of s)) p i o issued in
       let tiles : length (map (λ (b : ProcessorRecord). b.issued) (records_of s)) ≡ length s.tiles =

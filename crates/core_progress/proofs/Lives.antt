@@ -28,7 +28,7 @@ use Rattle.packet.specs.Spelling.{heading_of, values_of}
 use Rattle.packet.specs.Written.{head_flit, flits_for}
 use Rattle.packet.specs.declared.kinds.Packet.{Packet}
 use Rattle.packet.specs.declared.kinds.Packet.TheVariants as packet
-use Rattle.core_laws.specs.Heads.{is_head}
+use Rattle.core_laws.specs.Heads.{carries_route}
 use Rattle.packet.specs.Flits.{flits_of}
 use Rattle.core_laws.specs.script_follower.specs.ProcessorTable.{flits_due, request_flits}
 use Rattle.channel_number.specs.Ports.{injection_channel, ejection_channel}
@@ -49,7 +49,7 @@ IsInFlight d g =
     ⊎ ((j : ℕ) × (r : Telling) × (slice_get g.told j ≡ Some r) × (r.source < tiles_of d.shape) × (r.destination < tiles_of d.shape))
 
 -- an empty list has no first flit
-pub no_head : is_head 0 ≡ false
+pub no_head : carries_route 0 ≡ false
 unfolding field
 no_head = refl
 

@@ -38,7 +38,7 @@ use Rattle.core_laws.proofs.SendFacts.{ready_parts}
 use Rattle.core_laws.proofs.Stands.{tile_at, IsLane, Mirrors, IsProperRequest}
 use Rattle.core_progress.proofs.Machine.{IsFollowing}
 use Rattle.wormhole.specs.Delivery.{accept}
-use Rattle.core_laws.specs.Heads.{is_head}
+use Rattle.core_laws.specs.Heads.{carries_route}
 use Rattle.core_laws.proofs.ChannelFacts.{is_head_of}
 use Rattle.core_laws.specs.Network as network
 use Rattle.core_progress.proofs.RouterWork.{if_so, first_there}
@@ -184,7 +184,7 @@ module _ (d : Design) (s : State) (net : NetState) (mirrors : Mirrors d s net.li
         (ap (granted s.around (processor_wiring d.shape t)) (same_Some (want.Take 0) w wanted) ∙ grants) in
         accepts x learned (channel.rest (ring s.around.rings x).channel.flits) now (after_choice choice.Take w learned) end.0 end.1 f
         (processor_takes (tiles_of d.shape) d.words t cap (tile_at s t).processor (tile_at s t).bank w learned)
-        (is_head learned) (is_head_of d learned)
+        (carries_route learned) (is_head_of d learned)
     processor_event choice.Credit w learned wanted grants =
         let x : ℕ = injection_channel d.shape t Request in
         let end = injection_low t Request here in

@@ -18,7 +18,7 @@ use Rattle.core_laws.specs.script_follower.specs.ProcessorRecord.{ProcessorRecor
 use Rattle.wormhole.specs.Net.{Net, Parcel, flits_of as parcel_flits}
 use Rattle.wormhole_progress.specs.Work.{End, Issues, Replies, Serves, Reports, Stays}
 use Rattle.packet.specs.Flits.{offered, flits_of}
-use Rattle.core_laws.specs.Heads.{is_head}
+use Rattle.core_laws.specs.Heads.{carries_route}
 use Rattle.core_laws.specs.script_follower.specs.ProcessorTable.{ProcessorState, processor_wants, processor_after, record_sent, record_offered, issued_of}
 use Rattle.core_laws.specs.home_bank.specs.BankTable.{BankState, bank_after, served}
 use Rattle.core_laws.proofs.Projection.{first_flit}
@@ -30,7 +30,7 @@ unless false = 1
 
 -- the flits of a reply of which none is put
 abbrev pub unsent_flits : List ℕ → ℕ
-unsent_flits to_put = if is_head (first_flit to_put) then length to_put else 0
+unsent_flits to_put = if carries_route (first_flit to_put) then length to_put else 0
 
 -- what the ends of a tile have still to do, where its bank may make so many entries
 abbrev pub end_of : ℕ → ProcessorState → BankState → End
@@ -99,7 +99,7 @@ module _ (tiles words t cap : ℕ) (p : ProcessorState) (b : BankState) where
       let after : BankState = served tiles t b (Some r) found in
       let is : served tiles t b b.waiting found ≡ after = ap (λ o. served tiles t b o found) waits in
       let longer = length_push b.entries (entry_of t tiles r (reply_to r.op found)) in
-      let few : unsent_flits after.to_put ≤ length after.to_put = at_most (is_head (first_flit after.to_put)) (length after.to_put) in
+      let few : unsent_flits after.to_put ≤ length after.to_put = at_most (carries_route (first_flit after.to_put)) (length after.to_put) in
       subst (λ (c : BankState). Serves (end_of cap p b) (end_of cap p c)) (sym is)
       (record { left = refl; reports = refl; room = omega arith; unsent = omega arith })
     where
@@ -108,7 +108,7 @@ module _ (tiles words t cap : ℕ) (p : ProcessorState) (b : BankState) where
       at_most false m = omega arith
 
   -- the first flit of a reply
-  pub reply_begins : (n : Net) (k : Parcel) (w : Want) (learned f : ℕ) (fs : List ℕ) → b.to_put ≡ f ∷ fs → is_head f ≡ true → is_head (first_flit fs) ≡ false
+  pub reply_begins : (n : Net) (k : Parcel) (w : Want) (learned f : ℕ) (fs : List ℕ) → b.to_put ≡ f ∷ fs → carries_route f ≡ true → carries_route (first_flit fs) ≡ false
       → length (parcel_flits k) ≡ length (f ∷ fs)
       → length (n.route k.source k.destination) ≤ 10 → Replies n k (end_of cap p b) (end_of cap p (bank_after tiles t b choice.Send w learned))
   reply_begins n k w learned f fs due first later size near = record {
@@ -121,7 +121,7 @@ module _ (tiles words t cap : ℕ) (p : ProcessorState) (b : BankState) where
   }
 
   -- a further flit of a reply
-  pub reply_goes_on : (w : Want) (learned f : ℕ) (fs : List ℕ) → b.to_put ≡ f ∷ fs → is_head f ≡ false → is_head (first_flit fs) ≡ false
+  pub reply_goes_on : (w : Want) (learned f : ℕ) (fs : List ℕ) → b.to_put ≡ f ∷ fs → carries_route f ≡ false → carries_route (first_flit fs) ≡ false
       → Stays (end_of cap p b) (end_of cap p (bank_after tiles t b choice.Send w learned))
   reply_goes_on w learned f fs due first later = record {
     left = omega arith;

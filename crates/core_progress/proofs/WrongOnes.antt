@@ -14,7 +14,7 @@ use Rattle.core_laws.specs.script_follower.specs.Following.{first_of, next_opera
 use Rattle.core_laws.specs.tile_laws.specs.Tile.{Design}
 use Rattle.core_laws.specs.Core.{Load, State, design_of, first_state, after, step, round, attempts_of}
 use Rattle.rounds.specs.Rounds.{first_enabled}
-use Rattle.core_progress.specs.Moves.{enabled_step, IsLive, all_finished}
+use Rattle.core_progress.specs.Moves.{enabled_step, IsLive, tiles_finished}
 
 -- two tiles with channels of one flit and eight words
 abbrev with_scripts : List (List Line) → Load
@@ -58,7 +58,7 @@ no_processor_moves h = cc (h.1)
 
 -- wrong: live is what isn't finished
 abbrev IsUnfinished : State → Type 0
-IsUnfinished s = all_finished s ≡ false
+IsUnfinished s = tiles_finished s ≡ false
 
 -- empty scripts are finished at once, and there is a report to make
 abbrev nothing : Load

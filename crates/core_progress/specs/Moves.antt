@@ -20,8 +20,8 @@ IsLive d s = (attempt : Step) × (enabled_step d s ≡ Some attempt)
 
 -- whether every script is finished: no line is left, no spin is open, and all is answered (this
 -- project's own format)
-abbrev pub all_finished : State → Bool
-all_finished s = list_all (λ t. is_finished t.processor.operations.following) s.tiles
+abbrev pub tiles_finished : State → Bool
+tiles_finished s = list_all (λ t. is_finished t.processor.operations.following) s.tiles
 
 -- the moves that a list of attempts makes: how many of them are enabled where they come
 abbrev pub moves_made : Load → List Step → ℕ

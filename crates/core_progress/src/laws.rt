@@ -10,16 +10,16 @@ ghost use Rattle.rounds.specs.Rounds.{IsOn, IsEnabled, moves_in, Finishes};
 ghost use Rattle.core_laws.specs.tile_laws.specs.Tile.{TileState};
 ghost use Rattle.core_laws.specs.Core.{Load, design_of, step, round, run_of};
 ghost use Rattle.core_laws.specs.Runs.{IsAccepted, state_after};
-ghost use Rattle.core_progress.specs.Moves.{enabled_step, IsLive, all_finished, moves_made, most_moves, moves_left};
+ghost use Rattle.core_progress.specs.Moves.{enabled_step, IsLive, tiles_finished, moves_made, most_moves, moves_left};
 
 /// No dead state: in every state that a run reaches, while some script isn't finished, some step of
 /// a round is enabled; and a round from there makes a move.
 pub fn some_step_is_enabled()
     ensures live { (l : Load) → IsAccepted l → (steps : List Step) (n : ℕ)
-        → all_finished (state_after l steps n) ≡ false
+        → tiles_finished (state_after l steps n) ≡ false
         → IsLive (design_of l) (state_after l steps n) }
     ensures moves { (l : Load) → IsAccepted l → (steps : List Step) (n : ℕ)
-        → all_finished (state_after l steps n) ≡ false
+        → tiles_finished (state_after l steps n) ≡ false
         → 0 < moves_in (step (design_of l)) (state_after l steps n) (round l.shape) }
 {}
 
@@ -41,7 +41,7 @@ pub fn first_enabled_step_is_found()
 /// allows and all of it is answered.
 pub fn finished_scripts_are_followed_to_their_ends()
     ensures { (l : Load) → IsAccepted l → (steps : List Step) (n : ℕ)
-        → (all_finished (state_after l steps n) ≡ true) ↔ AreFinished (run_of l steps) n l.scripts }
+        → (tiles_finished (state_after l steps n) ≡ true) ↔ AreFinished (run_of l steps) n l.scripts }
 {}
 
 /// An operation that is issued and has no answer makes its processor's script unfinished.
@@ -55,7 +55,7 @@ pub fn unanswered_operations_leave_scripts_unfinished()
     ensures all { (l : Load) → IsAccepted l → (steps : List Step) (n p i : ℕ) (o : Operation)
         → slice_get (list_at (run_of l steps n).issued p) i ≡ Some o
         → (HasAnswered (run_of l steps n) p i → ⊥)
-        → all_finished (state_after l steps n) ≡ false }
+        → tiles_finished (state_after l steps n) ≡ false }
 {}
 
 /// Bounded work: no list of attempts, of any agents in any order, makes more moves than 241 for each
@@ -71,6 +71,6 @@ pub fn no_run_has_more_moves()
 /// finished, and it is at most the moves that were left.
 pub fn rounds_finish_every_script()
     ensures { (l : Load) → IsAccepted l → (steps : List Step) (n : ℕ)
-        → Finishes (step (design_of l)) (round l.shape) all_finished (λ s. moves_left l steps n)
+        → Finishes (step (design_of l)) (round l.shape) tiles_finished (λ s. moves_left l steps n)
         (state_after l steps n) }
 {}

@@ -9,7 +9,7 @@ use Rattle.fabric_rule.specs.core_laws.specs.Core.{Load}
 use Rattle.fabric_rule.specs.core_laws.specs.Runs.{IsAccepted}
 use Rattle.fabric_rule.specs.Known.{tile_of, known, row_length}
 use Rattle.fabric_rule.specs.View.{View}
-use Rattle.fabric_rule.specs.Groups.{Owns, In, Others, GoesOn, Begins, flat, first_group, other_groups, with_groups, first_half, second_half, both, knowing}
+use Rattle.fabric_rule.specs.Groups.{Owns, In, Others, GoesOn, Extends, flat, first_group, other_groups, with_groups, first_half, second_half, both, knowing}
 use Rattle.fabric_rule.specs.Rule.{Learned}
 use Rattle.fabric_rule.proofs.Groups.{away, owns_append, owns_left, owns_right}
 use Rattle.fabric_rule.proofs.Runs.{known_away}
@@ -89,7 +89,7 @@ pub bare_goes : (gs : List (List ℕ)) (r a : List Step) → gs ≡ [] → GoesO
 bare_goes gs r a none go = (go.0, go.1, subst (λ (h : List (List ℕ)). Others (first_group h ∷ []) go.0) (sym none) (bare_others go.0))
 
 pub learns_said : (s o z : S) (v u : Knowing) → seat_knows s ≡ v → seat_knows o ≡ u → seat_knows z ≡ with_run (seat_knows s) z.me.0.run
-    → GoesOn (first_group s.me.0.groups ∷ []) z.me.0.run s.me.0.run → Begins z.me.0.run o.me.0.run → Learns v u (seat_knows z)
+    → GoesOn (first_group s.me.0.groups ∷ []) z.me.0.run s.me.0.run → Extends z.me.0.run o.me.0.run → Learns v u (seat_knows z)
 learns_said s o z v u e f known go begins =
     subst (λ (k : Knowing). Learns k u (seat_knows z)) e (subst (λ (k : Knowing). Learns (seat_knows s) k (seat_knows z)) f (known, go, begins))
 
@@ -102,14 +102,14 @@ learns_on s o z v u run gs on e f one own other =
     learns_said s o z v u e f (knows_on s z run on ∙ ap (with_run (seat_knows s)) (sym same))
     (subst (λ (l : List Step). GoesOn (first_group s.me.0.groups ∷ []) l s.me.0.run) (sym same)
     (subst (λ (hs : List (List ℕ)). GoesOn hs run s.me.0.run) one own))
-    (subst (λ (l : List Step). Begins l o.me.0.run) (sym same) (other.0, other.1))
+    (subst (λ (l : List Step). Extends l o.me.0.run) (sym same) (other.0, other.1))
 
 -- of two beginnings of one list, one begins with the other
-pub two_begins : (a x b y : List Step) → a ++ x ≡ b ++ y → Begins a b ⊎ Begins b a
+pub two_begins : (a x b y : List Step) → a ++ x ≡ b ++ y → Extends a b ⊎ Extends b a
 two_begins [] x b y e = inr (b, refl)
 two_begins (c ∷ a) x [] y e = inl (c ∷ a, refl)
 two_begins (c ∷ a) x (d ∷ b) y e = let h : c ≡ d = cc in let t : a ++ x ≡ b ++ y = cc in
-    ⊎_elim (λ (p : Begins a b). inl (p.0, λ i. h i ∷ p.1 i)) (λ (p : Begins b a). inr (p.0, λ i. sym h i ∷ p.1 i)) (two_begins a x b y t)
+    ⊎_elim (λ (p : Extends a b). inl (p.0, λ i. h i ∷ p.1 i)) (λ (p : Extends b a). inr (p.0, λ i. sym h i ∷ p.1 i)) (two_begins a x b y t)
 
 -- the tiles of two seats in the slots of one
 mix_own : (p q : Option (Option PlacedTile)) (x : PlacedTile) → mix_at p q ≡ Some (Some x) → (p ≡ Some (Some x)) ⊎ (q ≡ Some (Some x))

@@ -13,7 +13,7 @@ use Rattle.one_order.proofs.EventNumbers.{real_time}
 use Rattle.fabric_rule.specs.core_laws.specs.Core.{Load, after, show, run_of}
 use Rattle.fabric_rule.specs.core_laws.specs.Runs.{IsAccepted}
 use Rattle.fabric_rule.specs.core_machine.proofs.Lawful.{lawful}
-use Rattle.fabric_rule.specs.Groups.{Begins}
+use Rattle.fabric_rule.specs.Groups.{Extends}
 use Rattle.fabric_rule.specs.View.{View}
 use Rattle.fabric.specs.Seats.{Knowing, seat_knows, Learns, JoinsTo}
 use Rattle.fabric.specs.Ending.{shown_after}
@@ -66,7 +66,7 @@ known_first load run ok later order begins legal k p i y there new old =
     (subst (λ (s : Observed). HasAnswered s p i) (sym shown) old)
 
 -- what is answered in a run is answered in each that goes on from it
-answered_on : (load : Load) (run later : List Step) (p i : ℕ) → IsAccepted load → Begins later run → IsAnsweredIn load run p i → IsAnsweredIn load later p i
+answered_on : (load : Load) (run later : List Step) (p i : ℕ) → IsAccepted load → Extends later run → IsAnsweredIn load run p i → IsAnsweredIn load later p i
 answered_on load run later p i ok begins old =
     let rest : List Step = begins.0 in
     let whole : later ≡ run ++ rest = begins.1 in
@@ -80,7 +80,7 @@ answered_on load run later p i ok begins old =
     subst (λ (s : Observed). HasAnswered s p i) last (here.0, here.1, there, here.3)
 
 -- and so for a seat that knows what either knew
-told_both : (v u w : Knowing) (p i : ℕ) → IsAccepted v.load → u.load ≡ v.load → w.load ≡ v.load → Begins w.run v.run → Begins w.run u.run
+told_both : (v u w : Knowing) (p i : ℕ) → IsAccepted v.load → u.load ≡ v.load → w.load ≡ v.load → Extends w.run v.run → Extends w.run u.run
     → IsAnsweredIn v.load v.run p i ⊎ IsAnsweredIn u.load u.run p i → IsAnsweredIn w.load w.run p i
 told_both v u w p i ok same kept one other either =
     subst (λ (l : Load). IsAnsweredIn l w.run p i) (sym kept)

@@ -18,7 +18,7 @@ use Rattle.fabric_rule.specs.core_laws.specs.Runs.{IsAccepted}
 use Rattle.fabric_rule.specs.Known.{tile_of, known, op_of, moves, left_by, Suits, row_length}
 use Rattle.fabric_rule.specs.Told.{Away, grown}
 use Rattle.fabric_rule.specs.View.{View}
-use Rattle.fabric_rule.specs.Groups.{knowing, Begins, Others}
+use Rattle.fabric_rule.specs.Groups.{knowing, Extends, Others}
 use Rattle.fabric_rule.specs.Rule.{Attempted}
 use Rattle.fabric_rule.proofs.Groups.{away}
 use Rattle.fabric_rule.proofs.Runs.{known_away, tells, row_size, shown_row, row_shows}
@@ -166,5 +166,5 @@ only_tile c x v w n accepted t = only_by (moves x c n) c v w t.between accepted 
 pub only_same : (v : View) (t : ℕ) → OnlyTile v t v
 only_same v t = record { same = refl; later = ([], sym (append-nil v.run)); rest = λ u ne i. refl }
 
-pub begins_trans : (a b c : List Step) → Begins a b → Begins b c → Begins a c
+pub begins_trans : (a b c : List Step) → Extends a b → Extends b c → Extends a c
 begins_trans a b c x y = (y.0 ++ x.0, x.1 ∙ ap (λ (l : List Step). l ++ x.0) y.1 ∙ append_assoc c y.0 x.0)

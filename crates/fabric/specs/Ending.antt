@@ -12,7 +12,7 @@ use Rattle.fabric_rule.specs.core_laws.specs.Core.{Load, after, show}
 use Rattle.fabric_rule.specs.core_laws.specs.Runs.{IsAccepted}
 use Rattle.fabric_rule.specs.Known.{Shows}
 use Rattle.fabric_rule.specs.View.{View}
-use Rattle.fabric_rule.specs.Groups.{Begins}
+use Rattle.fabric_rule.specs.Groups.{Extends}
 use Rattle.fabric_rule.specs.Rule.{Kept}
 use Rattle.fabric.specs.Seats.{Knowing, StandsAt}
 
@@ -33,7 +33,7 @@ IsLongest k = (words : List ℕ) (views : List View) (r : List Step) (id other :
     → Kept k.load words views r
     → get_elem? views id ≡ some v → v.run ≡ k.run → v.groups ≡ k.tiles ∷ []
     → get_elem? views other ≡ some u
-    → Begins k.run u.run
+    → Extends k.run u.run
 
 -- a view as a seat that knows k has it
 abbrev pub IsViewOf : Knowing → View → Type 0
@@ -46,7 +46,7 @@ pub record WasLongest (k : Knowing) : Type 0 where
   pub views : List View
   pub kept : Kept k.load words views k.run
   pub own : (id : ℕ) × (v : View) × (get_elem? views id ≡ some v) × IsViewOf k v
-  pub longest : (id : ℕ) (u : View) → get_elem? views id ≡ some u → Begins k.run u.run
+  pub longest : (id : ℕ) (u : View) → get_elem? views id ≡ some u → Extends k.run u.run
 
 -- what is shown after a run: operations issued, answers, entries of the banks, and the words by
 -- address

@@ -6,7 +6,7 @@ use Rattle.one_order.specs.Order.{LinearizationPoint, IsLegalOrder, StandsBefore
 use Rattle.fabric_rule.specs.core_laws.specs.Core.{Load, run_of}
 use Rattle.fabric_rule.specs.core_laws.specs.Runs.{IsAccepted}
 use Rattle.fabric_rule.specs.core_machine.specs.Core.{IsLawful, book_after}
-use Rattle.fabric_rule.specs.Groups.{Begins}
+use Rattle.fabric_rule.specs.Groups.{Extends}
 use Rattle.fabric.specs.Seats.{Knowing}
 use Rattle.fabric.specs.Ending.{shown_after}
 
@@ -30,7 +30,7 @@ IsAnsweredIn load run p i = HasAnswered (shown_after load run) p i
 -- operations).
 abbrev pub KeepsAnswersFirst : Load → List Step → Type 0
 KeepsAnswersFirst load run =
-    (later : List Step) (order : List LinearizationPoint) → Begins later run
+    (later : List Step) (order : List LinearizationPoint) → Extends later run
     → IsLegalOrder load.opening (run_of load later) (length later) order
     → (k p i : ℕ) (y : LinearizationPoint) → slice_get order k ≡ Some y
     → (IsIssuedIn load run y.source y.index → ⊥) → IsAnsweredIn load run p i
@@ -40,7 +40,7 @@ KeepsAnswersFirst load run =
 -- one stands behind all that v or u knew as answered (Herlihy and Wing: the order of a history's
 -- non-overlapping operations).
 abbrev pub KeepsBothFirst : Knowing → Knowing → Knowing → Type 0
-KeepsBothFirst v u w = (later : List Step) (order : List LinearizationPoint) → Begins later w.run
+KeepsBothFirst v u w = (later : List Step) (order : List LinearizationPoint) → Extends later w.run
     → IsLegalOrder w.load.opening (run_of w.load later) (length later) order
     → (k p i : ℕ) (y : LinearizationPoint) → slice_get order k ≡ Some y
     → (IsIssuedIn w.load w.run y.source y.index → ⊥)

@@ -11,7 +11,7 @@ use Rattle.fabric_rule.specs.core_laws.specs.Core.{Load}
 use Rattle.fabric_rule.specs.core_laws.specs.Runs.{IsAccepted}
 use Rattle.fabric_rule.specs.Known.{tile_of, known, enabled, row_length}
 use Rattle.fabric_rule.specs.View.{View}
-use Rattle.fabric_rule.specs.Groups.{Owns, Others, GoesOn, Begins, first_group}
+use Rattle.fabric_rule.specs.Groups.{Owns, Others, GoesOn, Extends, first_group}
 use Rattle.fabric.specs.Turns.{is_ready, has_choice}
 
 -- what a seat knows: which fabric it is of, what was loaded, a run of it, and which tiles are its
@@ -98,7 +98,7 @@ IsOf f k = (k.table ≡ f.table) × (k.load ≡ f.load)
 
 -- v came to know all that u knew, and w is what it knows then
 abbrev pub Learns : Knowing → Knowing → Knowing → Type 0
-Learns v u w = (w ≡ with_run v w.run) × GoesOn (v.tiles ∷ []) w.run v.run × Begins w.run u.run
+Learns v u w = (w ≡ with_run v w.run) × GoesOn (v.tiles ∷ []) w.run v.run × Extends w.run u.run
 
 -- both in one: the tiles of both, and a run that goes on from both
 abbrev pub JoinsTo : Knowing → Knowing → Knowing → Type 0

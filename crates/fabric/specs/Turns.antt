@@ -10,7 +10,7 @@ use Rattle.fabric_rule.specs.tile_laws.specs.Agents.{agent_kind}
 use Rattle.fabric_rule.specs.core_laws.specs.Core.{Load}
 use Rattle.fabric_rule.specs.Known.{tile_of, known, enabled, op_of}
 use Rattle.fabric_rule.specs.View.{View}
-use Rattle.fabric_rule.specs.Groups.{In, Others, Begins, both, knowing}
+use Rattle.fabric_rule.specs.Groups.{In, Others, Extends, both, knowing}
 use Rattle.fabric_rule.specs.Rule.{Learned}
 
 -- whether the step's agent has its choice, by the number of the router's ports (this project's own
@@ -41,7 +41,7 @@ StepIdles v c w = MatchBool (is_ready v.load v.run c) (SeesIdle v c w) (w ≡ v)
 -- but for the tile t, the seat's tiles stand as they did
 pub record OnlyTile (v : View) (t : ℕ) (w : View) : Type 0 where
   pub same : w ≡ knowing v w.run
-  pub later : Begins w.run v.run
+  pub later : Extends w.run v.run
   pub rest : (u : ℕ) → t ≢ u → In v.groups u → known w.load w.run u ≡ known v.load v.run u
 
 -- the seat saw steps of others, and no more of it changed

@@ -1,7 +1,7 @@
 //! Seats, and the calls that step by them.
 ghost use Rattle.std.specs.Prelude.{◌≡◌, ◌≤◌, ◌↔◌, ◌⊎◌, ℕ, IsNone, IfSome, length, slice_get};
 ghost use Rattle.fabric_rule.specs.Known.{word_after};
-ghost use Rattle.fabric_rule.specs.Groups.{Begins};
+ghost use Rattle.fabric_rule.specs.Groups.{Extends};
 ghost use Rattle.fabric.specs.Turns.{Sees};
 ghost use Rattle.fabric.specs.Seats.{Moves, Idles, Grows, IsNotMine, IsOf, Learns, JoinsTo, Placed, mix_at};
 ghost use Rattle.fabric.specs.Seats.{seat_knows, with_run};
@@ -99,7 +99,7 @@ impl<A: Allocator> Fabric<A> {
         ensures not_mine { (result ≡ NotMine) ↔ IsNotMine seat.old step }
         ensures unchanged { result ≡ NotMine → seat.new ≡ seat.old }
         ensures same { seat.new ≡ with_run seat.old seat.new.run }
-        ensures later { Begins seat.new.run seat.old.run }
+        ensures later { Extends seat.new.run seat.old.run }
         ensures one_order { HasLawfulRun seat.new.load seat.new.run }
     {
         let number = agent_tile(step.agent) as usize;
@@ -206,7 +206,7 @@ impl<A: Allocator> Fabric<A> {
     pub fn join(&self, one: TileSeat<A>, other: TileSeat<A>) -> TileSeat<A>
         requires { IsOf self.now one × IsOf self.now other }
         ensures both { JoinsTo one other result }
-        ensures ordered { Begins one.run other.run ⊎ Begins other.run one.run }
+        ensures ordered { Extends one.run other.run ⊎ Extends other.run one.run }
         ensures one_order { HasLawfulRun result.load result.run }
         ensures answers_first { KeepsBothFirst one other result }
     {

@@ -9,7 +9,7 @@ use Rattle.core_seen.specs.script_follower.specs.Following.{first_of, is_finishe
 use Rattle.core_seen.specs.core_laws.specs.Core.{Load}
 use Rattle.fabric_rule.specs.Known.{Shows}
 use Rattle.fabric_rule.specs.View.{View}
-use Rattle.fabric_rule.specs.Groups.{In, Apart, Others, Begins, Named, Told}
+use Rattle.fabric_rule.specs.Groups.{In, Apart, Others, Extends, Named, Told}
 use Rattle.fabric_rule.specs.Rule.{Fits, Kept}
 
 -- two tiles with eight words, and empty scripts
@@ -103,7 +103,7 @@ one_knows_less h = cc (h 1 (seat 1 []) refl)
 
 -- wrong: the longest run begins with each seat's, and may go on by steps of the seat's own
 abbrev BeginsWithEach : List View → List Step → Type 0
-BeginsWithEach views r = (id : ℕ) (v : View) → get_elem? views id ≡ some v → Begins r v.run
+BeginsWithEach views r = (id : ℕ) (v : View) → get_elem? views id ≡ some v → Extends r v.run
 
 -- the seat of tile 0 has lost its own step
 abbrev forgetful : List View
@@ -117,7 +117,7 @@ own_step_is_known k = lost (k.fits 0 (seat 0 []) refl).begins
 
 own_step_is_lost : BeginsWithEach forgetful run
 own_step_is_lost =
-    each_of_two (seat 0 []) (seat 1 run) (λ v. Begins run v.run) (run, refl) ([], refl)
+    each_of_two (seat 0 []) (seat 1 run) (λ v. Extends run v.run) (run, refl) ([], refl)
 
 -- wrong: of two seats the tiles may be the same, where each seat's own are apart
 abbrev ApartInEach : List View → Type 0

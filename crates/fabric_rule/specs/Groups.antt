@@ -29,8 +29,8 @@ Mine gs [] = Unit {0}
 Mine gs (c ∷ more) = In gs (tile_of c) × Mine gs more
 
 -- the run begins with the other one
-abbrev pub Begins : List Step → List Step → Type 0
-Begins run first = (rest : List Step) × (run ≡ first ++ rest)
+abbrev pub Extends : List Step → List Step → Type 0
+Extends run first = (rest : List Step) × (run ≡ first ++ rest)
 
 -- each step is of one of n tiles
 abbrev pub Named : ℕ → List Step → Type 0
@@ -80,4 +80,10 @@ note v = with_groups v []
 
 -- two views in one, which is told of both runs
 abbrev pub both : View → View → View
-both v w = record { live = v.live; load = v.load; run = longer v.run w.run; groups = v.groups ++ w.groups; told = (v.run, v.groups) ∷ (w.run, w.groups) ∷ [] }
+both v w = record {
+  live = v.live;
+  load = v.load;
+  run = longer v.run w.run;
+  groups = v.groups ++ w.groups;
+  told = (v.run, v.groups) ∷ (w.run, w.groups) ∷ [];
+}

@@ -43,8 +43,9 @@ const DIALOGUES: [(&[u8], &str); 14] = [
     ),
     // Faults, in the order of the checks; the dialogue goes on.
     (
-        b"ask 2 load 8\nask 0 load 8\nask 0 store 5 18446744073709551616\nask 0 spin 5 0 0\nask 0 spin 5 0 4097\nask 0 store 5 last\n\
-            wait 2 0\nwait 0 0\nwait 0 99999999999999999999\nround 0\nround 1000001\nask 0 load 5\nwait 0 0\nwait 0 1\n",
+        b"ask 2 load 8\nask 0 load 8\nask 0 store 5 18446744073709551616\nask 0 spin 5 0 0\n\
+            ask 0 spin 5 0 4097\nask 0 store 5 last\nwait 2 0\nwait 0 0\nwait 0 99999999999999999999\n\
+            round 0\nround 1000001\nask 0 load 5\nwait 0 0\nwait 0 1\n",
         "fault F8\nfault F7\nfault F6\nfault F6\nfault F6\nfault F10\nfault F8\nfault F6\nfault F6\nfault F6\n\
             fault F6\nasked 0 0\nanswer 0 0 0\nfault F6\n",
     ),

@@ -1,4 +1,5 @@
-ghost use Rattle.std.specs.Prelude.{◌≡◌, ◌⊎◌, ◌+◌, ◌≤◌, ◌==◌, ◌∷◌, ◌++◌, [], false, List, None, Some, Ok, IfErr, IfOk, IfSome};
+ghost use Rattle.std.specs.Prelude.{◌≡◌, ◌⊎◌, ◌+◌, ◌≤◌, ◌==◌, ◌∷◌, ◌++◌, [], false, List, None};
+ghost use Rattle.std.specs.Prelude.{Some, Ok, IfErr, IfOk, IfSome};
 ghost use Rattle.std.specs.Prelude.{OnErr, OnOk, length, map, slice_get};
 ghost use Rattle.std.specs.List.{find};
 ghost use Rattle.std.specs.Str.Lines.{lines};
@@ -8,7 +9,9 @@ ghost use Rattle.rounds.specs.Rounds.{moves_in};
 ghost use Rattle.machine_texts.specs.order_abstract.specs.Scripts.{AreFinished};
 ghost use Rattle.machine_texts.specs.core_laws.specs.Core.{Load, run_of, step, round};
 ghost use Rattle.machine_texts.specs.machine_core.specs.core_growth.specs.Appended.{load_with};
-ghost use Rattle.machine_texts.specs.machine_core.specs.core_machine.specs.Core.{IsAfter, RunsOn, MakesMove, Steps, core_after};
+ghost use Rattle.machine_texts.specs.machine_core.specs.core_machine.specs.Core.{IsAfter, RunsOn};
+ghost use Rattle.machine_texts.specs.machine_core.specs.core_machine.specs.Core.{MakesMove, Steps};
+ghost use Rattle.machine_texts.specs.machine_core.specs.core_machine.specs.Core.{core_after};
 ghost use Rattle.machine_texts.specs.machine_core.specs.core_machine.specs.Core.{built_to, all_finished};
 ghost use Rattle.machine_texts.specs.machine_core.specs.core_machine.specs.core_progress.specs.Moves.{moves_left};
 ghost use Rattle.machine_texts.specs.machine_core.specs.core_reopening.specs.Handed.{handed, moves_kept, refused};

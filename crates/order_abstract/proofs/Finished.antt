@@ -16,7 +16,7 @@ use Rattle.one_order.specs.declared.answer.Answer.{Answer}
 use Rattle.one_order.specs.Observed.{Run, IsFirst, list_at, HasAnswered, IsAnsweredAt}
 use Rattle.one_order.specs.Order.{LinearizationPoint}
 use Rattle.one_order.proofs.Lists.{same_get, within_length}
-use Rattle.order_abstract.specs.Flight.{Flight, processor_at, all_finished}
+use Rattle.order_abstract.specs.Flight.{Flight, processor_at, processors_finished}
 use Rattle.order_abstract.specs.Scripts.{AreInvocationsOf, HasFinishedIn, AreFinished}
 use Rattle.order_abstract.proofs.Bounds.{Moment, can_follow}
 
@@ -102,7 +102,7 @@ module _ (tiles tags : ℕ) (opening : List ℕ) (scripts : List (List Line)) (r
   count = sym (length-map f.processors (λ (q : ProcessorRecord). q.issued)) ∙ (h.whole.account.shown.processors ∙ sym h.processors)
 
   -- where every follower is at its end, every script is finished
-  finished_to : all_finished f ≡ true → AreFinished run n scripts
+  finished_to : processors_finished f ≡ true → AreFinished run n scripts
   finished_to all = record {
     each = λ p below.
         let script = within_length scripts p below in
@@ -118,7 +118,7 @@ module _ (tiles tags : ℕ) (opening : List ℕ) (scripts : List (List Line)) (r
   }
 
   -- and where every script is finished, every follower is at its end
-  finished_back : ((p : ℕ) → AnswersOnce run n p) → AreFinished run n scripts → all_finished f ≡ true
+  finished_back : ((p : ℕ) → AnswersOnce run n p) → AreFinished run n scripts → processors_finished f ≡ true
   finished_back once are = all_from (λ (q : ProcessorRecord). is_finished q.following) f.processors no_processor (λ p below.
       let in_scripts : p < length scripts = omega (arith, below, count) in
       let script = within_length scripts p in_scripts in
@@ -129,5 +129,5 @@ module _ (tiles tags : ℕ) (opening : List ℕ) (scripts : List (List Line)) (r
       finished_from script.0 g.ops _ (can_follow tiles tags opening scripts run n f order h p script.0 script.1) g.shows
       (subst (HasFinished script.0) same done.finished))
 
-  pub finished_law : ((p : ℕ) → AnswersOnce run n p) → (all_finished f ≡ true) ↔ AreFinished run n scripts
+  pub finished_law : ((p : ℕ) → AnswersOnce run n p) → (processors_finished f ≡ true) ↔ AreFinished run n scripts
   finished_law once = (finished_to, finished_back once)

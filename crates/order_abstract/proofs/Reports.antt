@@ -20,7 +20,7 @@ use Rattle.one_order.proofs.EventNumbers.{numbers}
 use Rattle.one_order.proofs.InTurn.{serves_in_turn}
 use Rattle.one_order.proofs.AnswersInTurn.{answers_in_turn}
 use Rattle.one_order.proofs.Naming.{answers_numbered, answers_name, entry_stands}
-use Rattle.order_abstract.specs.Flight.{Flight, Move, IsFound, show, all_finished}
+use Rattle.order_abstract.specs.Flight.{Flight, Move, IsFound, show, processors_finished}
 use Rattle.order_abstract.specs.Courses.{IsCourse, run_of, events_of}
 use Rattle.order_abstract.specs.Scripts.{AreFinished}
 use Rattle.order_abstract.specs.EventBook.{book_of}
@@ -58,7 +58,7 @@ module _ (tiles tags : ℕ) (opening : List ℕ) (scripts : List (List Line)) (r
       omega (arith, is, most, g.are.count, read.count)
 
   -- where every script is finished, what is issued is answered
-  all_answered : all_finished f ≡ true → (p i : ℕ) → HasIssued (run n) p i → HasAnswered (run n) p i
+  all_answered : processors_finished f ≡ true → (p i : ℕ) → HasIssued (run n) p i → HasAnswered (run n) p i
   all_answered done p i is =
       let finished : AreFinished run n scripts =
       (finished_law tiles tags opening scripts run n f order h (λ q j k a b hj hk same. one.services.once q j k a b hj hk same)).0 done in
@@ -68,7 +68,7 @@ module _ (tiles tags : ℕ) (opening : List ℕ) (scripts : List (List Line)) (r
       let t = (g.are.answered i o.0 a.0 a.1 o.1 a.2).1 in
       (t.0, t.1, t.2, t.3)
 
-  row_answered : all_finished f ≡ true → (k : ℕ) (row : Ordered) → slice_get rows k ≡ Some row → row.answered ≡ None → ⊥
+  row_answered : processors_finished f ≡ true → (k : ℕ) (row : Ordered) → slice_get rows k ≡ Some row → row.answered ≡ None → ⊥
   row_answered done k row there none =
       let x = within_length one.order k (let short = slice_get_within rows k row there in let same = one.numbered.count in omega (arith, short, same)) in
       let is = one.numbered.each k x.0 row x.1 there in
@@ -78,7 +78,7 @@ module _ (tiles tags : ℕ) (opening : List ℕ) (scripts : List (List Line)) (r
       let not : HasAnswered (run n) x.0.source x.0.index → ⊥ = subst (IsAnswerNumber run n x.0.source x.0.index) none is.answered in
       not (subst (λ (p : ℕ). HasAnswered (run n) p x.0.index) is.source (subst (λ (i : ℕ). HasAnswered (run n) row.source i) is.index answered))
 
-  pub shows_well : ShowsWell tiles tags opening (run n) (all_finished f) rows
+  pub shows_well : ShowsWell tiles tags opening (run n) (processors_finished f) rows
   shows_well =
       let bounds = within tiles tags opening scripts run n f order h in
       let count = (name_entries tiles tags opening run n rows one).count ∙ ap (λ (x : Observed). total x.entries) h.shown in
@@ -142,11 +142,11 @@ module _ (tiles tags : ℕ) (opening : List ℕ) (scripts : List (List Line)) (f
   course_room n c good m found = room_for tiles tags opening scripts (run_of flight) n (flight n) _ (moment n c good) m found
 
   pub course_finished : (n : ℕ) → IsCourse tiles tags opening scripts flight move n → ((p : ℕ) → p < length scripts → IsFollowable (list_at scripts p))
-      → (all_finished (flight n) ≡ true) ↔ AreFinished (run_of flight) n scripts
+      → (processors_finished (flight n) ≡ true) ↔ AreFinished (run_of flight) n scripts
   course_finished n c good = finished_law tiles tags opening scripts (run_of flight) n (flight n) _ (moment n c good)
       (λ q j k a b hj hk same. (one_order n c).services.once q j k a b hj hk same)
 
   pub course_shows : (n : ℕ) → IsCourse tiles tags opening scripts flight move n → AreAcceptedScripts (record { words = length opening; lists = scripts })
-      → ShowsWell tiles tags opening (show (flight n)) (all_finished (flight n)) (book_of tiles (events_of flight move) n).rows
+      → ShowsWell tiles tags opening (show (flight n)) (processors_finished (flight n)) (book_of tiles (events_of flight move) n).rows
   course_shows n c accepted =
       shows_well tiles tags opening scripts (run_of flight) n (flight n) _ (moment n c (all_followable accepted)) _ (one_order n c) accepted

@@ -136,5 +136,5 @@ event_by f None = Nothing
 event_by f (Some m) = event f m
 
 -- whether each processor's follower has come to the end of its script
-abbrev pub all_finished : Flight → Bool
-all_finished f = list_all (λ b. is_finished b.following) f.processors
+abbrev pub processors_finished : Flight → Bool
+processors_finished f = list_all (λ b. is_finished b.following) f.processors

@@ -9,7 +9,7 @@ ghost use Rattle.one_order.specs.Observed.{Run, list_at};
 ghost use Rattle.one_order.specs.Events.{Event, IsHistory, order_after};
 ghost use Rattle.one_order.specs.Rows.{AreRowsOf};
 ghost use Rattle.one_order.specs.OneOrder.{HasOneOrder};
-ghost use Rattle.order_abstract.specs.Flight.{Flight, Move, IsFound, show, all_finished};
+ghost use Rattle.order_abstract.specs.Flight.{Flight, Move, IsFound, show, processors_finished};
 ghost use Rattle.order_abstract.specs.Courses.{IsCourse, run_of, events_of};
 ghost use Rattle.order_abstract.specs.Scripts.{FollowScripts, AreFinished};
 ghost use Rattle.order_abstract.specs.EventBook.{book_of};
@@ -97,7 +97,7 @@ pub fn ended_followers_finish_scripts()
         (move : ℕ → Option Move)
         → (n : ℕ) → IsCourse tiles tags opening scripts flight move n
         → ((p : ℕ) → p < length scripts → IsFollowable (list_at scripts p))
-        → (all_finished (flight n) ≡ true) ↔ AreFinished (run_of flight) n scripts }
+        → (processors_finished (flight n) ≡ true) ↔ AreFinished (run_of flight) n scripts }
 {}
 
 /// What a course shows goes with the rows of its book, if its scripts are accepted: its report is a
@@ -107,6 +107,6 @@ pub fn courses_show_well()
         (move : ℕ → Option Move)
         → (n : ℕ) → IsCourse tiles tags opening scripts flight move n
         → AreAcceptedScripts (record { words = length opening; lists = scripts })
-        → ShowsWell tiles tags opening (show (flight n)) (all_finished (flight n))
+        → ShowsWell tiles tags opening (show (flight n)) (processors_finished (flight n))
         (book_of tiles (events_of flight move) n).rows }
 {}

@@ -4,7 +4,8 @@ ghost use Rattle.std.specs.Prelude.{◌≡◌, ℕ, ◌^◌, ◌<◌, ◌≤◌,
 ghost use Rattle.std.specs.Prelude.{Some, None, ◌+◌, option_map, OnOk, OnErr};
 ghost use Rattle.script.specs.Scripts.{operation_count, operations_of};
 ghost use Rattle.script_follower.specs.Scripts.{IsFollowable};
-ghost use Rattle.script_follower.specs.Following.{operand_of, operation_asked, ready_operation, first_operation, opened};
+ghost use Rattle.script_follower.specs.Following.{operand_of, operation_asked, ready_operation};
+ghost use Rattle.script_follower.specs.Following.{first_operation, opened};
 ghost use Rattle.script_follower.specs.Following.{spin_issued, ahead_issued, unfenced, is_empty, past_fences, first_of};
 ghost use Rattle.script_follower.specs.Following.{next_operation_of, after_issue, after_answer, is_finished};
 ghost use Rattle.script_follower.specs.Following.{follower_with, left_of};

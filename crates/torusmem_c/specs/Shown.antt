@@ -1,5 +1,6 @@
 -- What C is told of a machine (this project's own format).
-use Rattle.std.specs.Prelude.{◌≡◌, ℕ, List, length, Option, Some, None, nat_lt, option_and_then, slice_get, if◌then◌else◌}
+use Rattle.std.specs.Prelude.{◌≡◌, ℕ, List, length, Option, Some, None, nat_lt, option_and_then}
+use Rattle.std.specs.Prelude.{slice_get, if◌then◌else◌}
 use Rattle.torus.specs.Shape.{tiles_of}
 use Rattle.machine_handle.specs.core_machine.specs.Core.{Core, built_to, shown}
 use Rattle.core_row.specs.Row.{row_of}

@@ -21,9 +21,9 @@ BeginsEmpty opening None r = r ≡ no_memory
 BeginsEmpty opening (Some w) r = Follows opening [] w × (r ≡ outcome code.Done 0)
 
 -- a watch is begun; where one is held already, it stays, and the answer says so
-abbrev pub Begins : List ℕ → Option (Watch Global) → Option (Watch Global) → Outcome → Type 0
-Begins opening None new r = BeginsEmpty opening new r
-Begins opening (Some w) new r = (new ≡ Some w) × (r ≡ outcome code.Full 0)
+abbrev pub BeginsWatch : List ℕ → Option (Watch Global) → Option (Watch Global) → Outcome → Type 0
+BeginsWatch opening None new r = BeginsEmpty opening new r
+BeginsWatch opening (Some w) new r = (new ≡ Some w) × (r ≡ outcome code.Full 0)
 
 -- the issue of an operation by its number
 abbrev pub issue_named : ℕ → ℕ → ℕ → ℕ → ℕ → Option Event

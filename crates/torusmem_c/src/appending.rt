@@ -3,7 +3,8 @@
 ghost use Rattle.std.specs.Prelude.{◌≡◌, ◌⊎◌, IfSome, false, true, unwrap_or};
 ghost use Rattle.machine_handle.specs.Held.{held};
 ghost use Rattle.machine_asked.specs.Asked.{is_behind_spin, is_operation};
-ghost use Rattle.torusmem_c.specs.Appending.{Appends, Asks, Numbers, RefusesLine, is_first_last, is_second_last, line_named, line_of};
+ghost use Rattle.torusmem_c.specs.Appending.{Appends, Asks, Numbers, RefusesLine, is_first_last};
+ghost use Rattle.torusmem_c.specs.Appending.{is_second_last, line_named, line_of};
 ghost use Rattle.torusmem_c.specs.Appending.{operation_named, value_of};
 ghost use Rattle.torusmem_c.specs.Held.{OfAsked};
 ghost use Rattle.torusmem_c.specs.Outcome.{outcome};

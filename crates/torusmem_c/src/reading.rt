@@ -7,7 +7,8 @@ ghost use Rattle.machine_handle.specs.core_machine.specs.Core.{built_to};
 ghost use Rattle.torusmem_c.specs.Room.{put_over, put_outcome};
 ghost use Rattle.torusmem_c.specs.Held.{OfHeld, OnHeld, Tells};
 ghost use Rattle.torusmem_c.specs.Records.{no_answer, no_entry};
-ghost use Rattle.torusmem_c.specs.Shown.{PutsRow, answer_of_told, answer_told, answers_told, entries_told, entry_told, next_told};
+ghost use Rattle.torusmem_c.specs.Shown.{PutsRow, answer_of_told, answer_told, answers_told};
+ghost use Rattle.torusmem_c.specs.Shown.{entries_told, entry_told, next_told};
 ghost use Rattle.torusmem_c.specs.Shown.{number_outcome, row_told, tiles_told, word_told, words_told};
 ghost use Rattle.torusmem_c.specs.declared.outcome.Code.TheVariants as code;
 

@@ -2,7 +2,7 @@
 
 ghost use Rattle.std.specs.Prelude.{◌≡◌, None};
 ghost use Rattle.watch_handle.specs.Held.{held};
-ghost use Rattle.torusmem_c.specs.Watching.{Begins, OnWatch, TakesEvent, answer_named, issue_named};
+ghost use Rattle.torusmem_c.specs.Watching.{BeginsWatch, OnWatch, TakesEvent, answer_named, issue_named};
 ghost use Rattle.torusmem_c.specs.Watching.{told_outcome};
 
 use crate::outcome::{Code, Outcome, no_memory};
@@ -23,7 +23,7 @@ pub extern "C" fn torusmem_watch_begin(
     handle: &mut Handle,
     opening: &[u64],
 ) -> Outcome
-    ensures { Begins opening.now (held handle.old) (held handle.new) result }
+    ensures { BeginsWatch opening.now (held handle.old) (held handle.new) result }
 {
     if let Some(_held) = handle.watch() {
         return Outcome::of(Code::Full, 0);

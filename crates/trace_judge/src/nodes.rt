@@ -1,7 +1,10 @@
 //! Lets go the nodes that no branch leads back to.
 
-ghost use Rattle.std.specs.Prelude.{◌≡◌, ◌⊎◌, ◌<◌, ◌≤◌, ◌+◌, ◌^◌, ℕ, Bool, List, Some, true, false, cond, replicate, IfOk, length, slice_get};
-ghost use Rattle.trace_judge.specs.Kept.{renumbered, marked_nodes, renumbered_all, AreEnds, AreWithin, AreRanks, IsClosed, ClosesAt, Keeps, AreKept, Lets};
+ghost use Rattle.std.specs.Prelude.{◌≡◌, ◌⊎◌, ◌<◌, ◌≤◌, ◌+◌, ◌^◌, ℕ, Bool, List, Some, true, false};
+ghost use Rattle.std.specs.Prelude.{cond, replicate, IfOk, length, slice_get};
+ghost use Rattle.trace_judge.specs.Kept.{renumbered, marked_nodes, renumbered_all, AreEnds};
+ghost use Rattle.trace_judge.specs.Kept.{AreWithin, AreRanks, IsClosed, ClosesAt, Keeps, AreKept};
+ghost use Rattle.trace_judge.specs.Kept.{Lets};
 ghost use Rattle.trace_judge.specs.Marks.{AreNodes};
 ghost use Rattle.trace_judge.specs.Sets.{lists_of};
 

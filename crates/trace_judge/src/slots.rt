@@ -1,6 +1,7 @@
 //! The slots of the operations that are open on a word.
 
-ghost use Rattle.std.specs.Prelude.{◌≡◌, ◌<◌, ◌≤◌, ◌+◌, ◌-◌, ◌++◌, ℕ, Some, None, true, false, IfOk, OnOk, MatchOption, length};
+ghost use Rattle.std.specs.Prelude.{◌≡◌, ◌<◌, ◌≤◌, ◌+◌, ◌-◌, ◌++◌, ℕ, Some, None, true, false};
+ghost use Rattle.std.specs.Prelude.{IfOk, OnOk, MatchOption, length};
 ghost use Rattle.std.specs.Prelude.{slice_get, set, replicate};
 ghost use Rattle.trace_search.specs.declared.opened.Open.{Open};
 ghost use Rattle.trace_search.specs.Searches.{IsAt};

@@ -1,6 +1,7 @@
 -- Configurations of one word: which of the open operations on it have taken effect, and what they
 -- left.
-use Rattle.std.specs.Prelude.{◌≡◌, ◌*◌, ◌%◌, ◌^◌, ◌-◌, ◌<◌, ◌⊎◌, ℕ, List, Option, Some, None, bit_and, bit_or, slice_get, IfSome}
+use Rattle.std.specs.Prelude.{◌≡◌, ◌*◌, ◌%◌, ◌^◌, ◌-◌, ◌<◌, ◌⊎◌, ℕ, List, Option, Some, None}
+use Rattle.std.specs.Prelude.{bit_and, bit_or, slice_get, IfSome}
 use Rattle.std.specs.Int.{bit_at}
 use Rattle.packet.specs.Memory.{new_word, reply_to}
 use Rattle.trace_search.specs.declared.opened.Open.{Open}

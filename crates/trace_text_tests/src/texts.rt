@@ -45,7 +45,8 @@ fn found_in<A: Allocator + Copy>(alloc: A, text: &str) -> Seen {
     }
 }
 
-/// Texts and what is seen of them, a fault with its line, or a verdict: the first line and the settings, then issues, then answers.
+/// Texts and what is seen of them, a fault with its line, or a verdict: the first line and the settings,
+/// then issues, then answers.
 const TEXTS: [[&str; 2]; 59] = [
     ["", "F4 1"],
     ["\n# nothing\n", "F4 3"],

@@ -1,6 +1,7 @@
 //! Lets open operations take effect, until the answered one has.
 
-ghost use Rattle.std.specs.Prelude.{◌≡◌, ◌<◌, ◌≤◌, ℕ, List, [], ◌∷◌, ◌++◌, Some, IfErr, IfOk, OnOk, length, max, slice_get};
+ghost use Rattle.std.specs.Prelude.{◌≡◌, ◌<◌, ◌≤◌, ℕ, List, [], ◌∷◌, ◌++◌, Some, IfErr, IfOk, OnOk};
+ghost use Rattle.std.specs.Prelude.{length, max, slice_get};
 ghost use Rattle.trace_order.specs.declared.event.Call.{Call};
 ghost use Rattle.trace_search.specs.Configs.{IsIn};
 ghost use Rattle.trace_watch.specs.States.{Config, AreReleased, IsAmong, IsExpanded, config_of, configs_of};

@@ -4,7 +4,7 @@ use Rattle.torus.specs.Shape.{dims_of}
 use Rattle.torus.specs.declared.step.Step.{Step}
 use Rattle.channel_number.specs.Ports.{port_count}
 use Rattle.fabric.specs.core_laws.specs.Core.{round_at}
-use Rattle.fabric.specs.fabric_rule.specs.Groups.{Begins}
+use Rattle.fabric.specs.fabric_rule.specs.Groups.{Extends}
 use Rattle.fabric.specs.fabric_rule.specs.Ended.{AreAllFinished}
 use Rattle.fabric.specs.Seats.{Knowing, Moves, Idles, IsNotMine, with_run}
 use Rattle.fabric.specs.Asking.{HasSeen}
@@ -21,7 +21,7 @@ pub record Working : Type 0 where
 
 -- the seat's knowledge only grew
 abbrev pub Grew : Knowing → Knowing → Type 0
-Grew v w = (w ≡ with_run v w.run) × Begins w.run v.run
+Grew v w = (w ≡ with_run v w.run) × Extends w.run v.run
 
 -- what one turn makes of a seat: its step moved, or was idle, or was of no tile of the seat, which
 -- is then as it was

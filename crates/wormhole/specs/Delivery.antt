@@ -23,13 +23,13 @@ abbrev pub whole : State → ℕ → List Parcel
 whole s x = whole_of (s.notes x).awaited (s.notes x).begun
 
 -- a list is a beginning of another
-abbrev pub Begins : {A : Type 0} → List A → List A → Type 0
-Begins {A} xs ys = (rest : List A) × (ys ≡ xs ++ rest)
+abbrev pub IsPrefix : {A : Type 0} → List A → List A → Type 0
+IsPrefix {A} xs ys = (rest : List A) × (ys ≡ xs ++ rest)
 
 -- between two ends the whole packets are a beginning of the sent ones: none is doubled, mixed or
 -- overtaken
 abbrev pub IsDelivered : State → ℕ → ℕ → Type 0
-IsDelivered s i j = Begins (between i j (whole s j)) (between i j (s.notes i).sent)
+IsDelivered s i j = IsPrefix (between i j (whole s j)) (between i j (s.notes i).sent)
 
 -- a packet to an ejection channel that the sender of its injection channel has sent
 pub record WasSentTo (n : Net) (s : State) (x : ℕ) (k : Parcel) : Type 0 where
@@ -78,7 +78,7 @@ pub record Arrives (n : Net) (s t : State) (x flit : ℕ) : Type 0 where
   pub flits : flits_of packet ≡ (s.lines x).so_far ++ flit ∷ []
   pub more : whole t x ≡ whole s x ++ packet ∷ []
   pub others : (z : ℕ) → z ≢ x → whole t z ≡ whole s z
-  pub turn : Begins (between packet.source x (whole s x) ++ packet ∷ [])
+  pub turn : IsPrefix (between packet.source x (whole s x) ++ packet ∷ [])
       (between packet.source x (s.notes packet.source).sent)
 
 -- an event by which a receiver takes a flit

@@ -1,6 +1,6 @@
 use Rattle.std.proofs.Common.{arith, ◌⊎◌, [], ◌∷◌, ◌++◌, sym, ap, ◌∙◌, subst}
 use Rattle.fabric_rule.specs.View.{View}
-use Rattle.fabric_rule.specs.Groups.{both, flat, Begins}
+use Rattle.fabric_rule.specs.Groups.{both, flat, Extends}
 use Rattle.fabric_rule.specs.Rule.{Learned}
 use Rattle.fabric_rule.specs.core_laws.specs.Runs.{IsAccepted}
 use Rattle.fabric.specs.Seats.{Knowing, Origin, JoinsTo, seat_knows}
@@ -48,8 +48,8 @@ pub returns-clause-ordered : goal.returns-clause-ordered
 returns-clause-ordered g c =
     let a = from_one c.one.inside.seat.me.0 c.other.inside.seat.me.0 c.load.new.seat.me.0 _ (learned_here g c) in
     let b = from_other c.one.inside.seat.me.0 c.other.inside.seat.me.0 c.load.new.seat.me.0 _ (learned_here g c) in
-    subst (λ (k : Knowing). Begins k.run c.args.other.run ⊎ Begins c.args.other.run k.run) c.one.view_is
-    (subst (λ (k : Knowing). Begins c.one.inside.seat.me.0.run k.run ⊎ Begins k.run c.one.inside.seat.me.0.run) c.other.view_is
+    subst (λ (k : Knowing). Extends k.run c.args.other.run ⊎ Extends c.args.other.run k.run) c.one.view_is
+    (subst (λ (k : Knowing). Extends c.one.inside.seat.me.0.run k.run ⊎ Extends k.run c.one.inside.seat.me.0.run) c.other.view_is
     (two_begins _ a.0 _ b.0 (sym a.1 ∙ b.1)))
 
 pub returns-clause-one_order : goal.returns-clause-one_order
