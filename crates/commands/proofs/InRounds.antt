@@ -7,7 +7,7 @@ use Rattle.torus.specs.declared.step.Step.{Step}
 use Rattle.script.specs.declared.fault.LineFault.{LineFault}
 use Rattle.machine_texts.specs.order_abstract.specs.Load.{Load}
 use Rattle.machine_texts.specs.core_laws.specs.Core.{round}
-use Rattle.core_machine.specs.Core.{Core, IsAfter, all_finished, core_after_load}
+use Rattle.core_machine.specs.Machine.{Core, IsAfter, all_finished, core_after_load}
 use Rattle.machine_texts.specs.machine_core.specs.Rounds.{rounds_of}
 use Rattle.machine_texts.specs.Loading.{HasLoaded}
 use Rattle.commands.specs.Run.{IsOfMachine}

@@ -4,7 +4,7 @@ use Rattle.torus.specs.declared.step.Step.{Step}
 use Rattle.script.specs.declared.fault.LineFault.{LineFault}
 use Rattle.machine_texts.specs.order_abstract.specs.Load.{Load}
 use Rattle.core_machine.specs.core_progress.specs.Moves.{most_moves, moves_made}
-use Rattle.core_machine.specs.Core.{Core, IsAfter, core_after_load}
+use Rattle.core_machine.specs.Machine.{Core, IsAfter, core_after_load}
 use Rattle.machine_texts.specs.machine_core.specs.Rounds.{rounds_of}
 use Rattle.machine_texts.specs.Loading.{HasLoaded}
 use Rattle.program_fault.specs.declared.fault.ProgramFault.{ProgramFault}

@@ -3,7 +3,7 @@
 use Rattle.std.specs.Prelude.{◌≡◌, ℕ, ◌<◌, ◌≤◌, List, Bool, true, false, Result, Ok}
 use Rattle.script.specs.declared.fault.LineFault.{LineFault}
 use Rattle.machine_texts.specs.order_abstract.specs.Load.{Load}
-use Rattle.core_machine.specs.Core.{Core, IsAfter, all_finished}
+use Rattle.core_machine.specs.Machine.{Core, IsAfter, all_finished}
 use Rattle.machine_texts.specs.machine_core.specs.Rounds.{rounds_of}
 use Rattle.program_fault.specs.declared.fault.ProgramFault.{ProgramFault}
 use Rattle.program_fault.specs.Done.{Does, Output}

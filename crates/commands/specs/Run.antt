@@ -9,7 +9,7 @@ use Rattle.script.specs.Steps.{steps_of}
 use Rattle.machine_texts.specs.order_abstract.specs.Load.{Load, load_of}
 use Rattle.machine_texts.specs.core_laws.specs.Core.{run_of}
 use Rattle.core_machine.specs.core_progress.specs.Moves.{moves_made}
-use Rattle.core_machine.specs.Core.{Core, IsAfter, IsLawful, core_after_load, all_finished}
+use Rattle.core_machine.specs.Machine.{Core, IsAfter, IsLawful, core_after_load, all_finished}
 use Rattle.machine_texts.specs.order_abstract.specs.Scripts.{AreFinished}
 use Rattle.machine_texts.specs.Loading.{◌then◌}
 use Rattle.report_lines.specs.Line.{text_of}

@@ -6,7 +6,7 @@ use Rattle.std.specs.List.{sum_by}
 use Rattle.script.specs.declared.fault.LineFault.{LineFault}
 use Rattle.machine_texts.specs.order_abstract.specs.Load.{Load}
 use Rattle.core_machine.specs.core_progress.specs.Moves.{moves_made}
-use Rattle.core_machine.specs.Core.{Core, shown}
+use Rattle.core_machine.specs.Machine.{Core, shown}
 use Rattle.machine_texts.specs.machine_core.specs.Rounds.{rounds_of}
 use Rattle.program_fault.specs.declared.fault.ProgramFault.{ProgramFault}
 use Rattle.program_fault.specs.declared.fault.ProgramFault.TheVariants as program

@@ -1,7 +1,7 @@
 ghost use Rattle.std.specs.Prelude.{◌≡◌, Bool, IfErr, IfOk, []};
 ghost use Rattle.std.specs.Str.Lines.{lines};
 ghost use Rattle.machine_texts.specs.order_abstract.specs.Load.{Load};
-ghost use Rattle.core_machine.specs.Core.{IsAfter};
+ghost use Rattle.core_machine.specs.Machine.{IsAfter};
 ghost use Rattle.machine_texts.specs.Loading.{HasLoaded, load_by};
 ghost use Rattle.program_fault.specs.Done.{output};
 ghost use Rattle.commands.specs.Run.{IsReadFault};

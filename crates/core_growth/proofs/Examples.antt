@@ -14,7 +14,7 @@ use Rattle.core_moves.specs.script_follower.specs.Following.{Following, first_of
 use Rattle.core_moves.specs.script_follower.specs.Following.{after_issue, after_answer, is_finished, follower_with}
 use Rattle.core_moves.specs.core_laws.specs.Core.{Load}
 use Rattle.core_moves.specs.core_progress.specs.Moves.{moves_made, moves_left}
-use Rattle.core_moves.specs.core_machine.specs.Core.{core_after_load}
+use Rattle.core_moves.specs.core_machine.specs.Machine.{core_after_load}
 use Rattle.core_moves.specs.Moves.{moves_of}
 use Rattle.core_growth.specs.Appended.{load_with, MayFollow}
 use Rattle.core_growth.specs.Doings.{Doing, Tries, Appends, core_done, load_grown, moves_done}

@@ -13,7 +13,7 @@ use Rattle.core_moves.specs.core_laws.specs.Core.{Load, State, design_of, first_
 use Rattle.core_moves.specs.core_laws.specs.Runs.{IsAccepted}
 use Rattle.core_moves.specs.core_progress.specs.Moves.{moves_made, moves_left}
 use Rattle.core_moves.specs.core_progress.proofs.Budget.{few_moves}
-use Rattle.core_moves.specs.core_machine.specs.Core.{Core, IsAfter, built_to, event_in, book_from, book_after, core_after_load, core_with, core_next}
+use Rattle.core_moves.specs.core_machine.specs.Machine.{Core, IsAfter, built_to, event_in, book_from, book_after, core_after_load, core_with, core_next}
 use Rattle.core_moves.specs.core_machine.proofs.Counted.{left_is}
 use Rattle.core_moves.specs.core_machine.proofs.Machines.{named_machine, stands_after, after_step}
 use Rattle.core_moves.specs.Enabled.{ahead_if_moved, enabled_of}

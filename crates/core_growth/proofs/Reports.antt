@@ -26,7 +26,7 @@ use Rattle.core_moves.specs.core_laws.specs.Core.{Load, State, first_state, firs
 use Rattle.core_moves.specs.core_laws.specs.Reports.{CountsReports}
 use Rattle.core_moves.specs.core_laws.proofs.AgentSteps.{did, option_map_some}
 use Rattle.core_moves.specs.core_laws.proofs.Reached.{reports_counted}
-use Rattle.core_moves.specs.core_machine.specs.Core.{Core, IsAfter}
+use Rattle.core_moves.specs.core_machine.specs.Machine.{Core, IsAfter}
 use Rattle.core_growth.specs.Appended.{changed_at, tile_with, state_with, IsUnreported, IsNoReport}
 use Rattle.core_growth.proofs.Places.{get_other, get_map, set_other, set_same, written_other, written_same}
 use Rattle.core_growth.proofs.Tiles.{other_agent, pair_with}

@@ -8,7 +8,7 @@ use Rattle.one_order.specs.declared.answer.Answer.{Answer}
 use Rattle.one_order.specs.Observed.{Observed}
 use Rattle.core_moves.specs.script_follower.specs.ProcessorRecord.{ProcessorRecord}
 use Rattle.core_moves.specs.tile_laws.specs.Tile.{TileState}
-use Rattle.core_moves.specs.core_machine.specs.Core.{Core, shown}
+use Rattle.core_moves.specs.core_machine.specs.Machine.{Core, shown}
 use Rattle.core_growth.specs.Appended.{changed_at, tile_with, appended}
 use Rattle.core_growth.proofs.Places.{map_alike}
 

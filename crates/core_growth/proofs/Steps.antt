@@ -17,7 +17,7 @@ use Rattle.core_moves.specs.core_laws.specs.Core.{State, step, records_of}
 use Rattle.core_moves.specs.core_laws.specs.Moves.{tile_move, move_of}
 use Rattle.core_moves.specs.core_laws.specs.Runs.{without_packets}
 use Rattle.core_moves.specs.core_laws.proofs.AgentSteps.{option_map_some}
-use Rattle.core_moves.specs.core_machine.specs.Core.{event_in}
+use Rattle.core_moves.specs.core_machine.specs.Machine.{event_in}
 use Rattle.core_growth.specs.Appended.{changed_at, tile_with, state_with, IsUnreported}
 use Rattle.core_growth.proofs.Places.{get_other, get_same, set_other, set_same, part_same, map_changed, written_other, written_same}
 use Rattle.core_growth.proofs.Tiles.{same_step}

@@ -10,7 +10,7 @@ use Rattle.core_moves.specs.tile_laws.specs.declared.agent.Agent.TheVariants.{Pr
 use Rattle.core_moves.specs.tile_laws.specs.Tile.{TileState}
 use Rattle.core_moves.specs.tile_laws.specs.Agents.{agent_number}
 use Rattle.core_moves.specs.core_laws.specs.Core.{Load, State}
-use Rattle.core_moves.specs.core_machine.specs.Core.{Core}
+use Rattle.core_moves.specs.core_machine.specs.Machine.{Core}
 
 -- the list with the item at a place changed by f; past the end nothing changes
 abbrev pub changed_at : {A : Type 0} → (A → A) → List A → ℕ → List A

@@ -16,7 +16,7 @@ ghost use Rattle.core_moves.specs.tile_laws.specs.Agents.{agent_number};
 ghost use Rattle.core_moves.specs.core_laws.specs.Core.{Load, State, first_state, step, after};
 ghost use Rattle.core_moves.specs.core_laws.specs.Runs.{IsAccepted};
 ghost use Rattle.core_moves.specs.core_progress.specs.Moves.{most_moves};
-ghost use Rattle.core_moves.specs.core_machine.specs.Core.{Core, IsAfter, event_in, core_after_load, shown};
+ghost use Rattle.core_moves.specs.core_machine.specs.Machine.{Core, IsAfter, event_in, core_after_load, shown};
 ghost use Rattle.core_moves.specs.Moves.{moves_of};
 ghost use Rattle.core_growth.specs.Appended.{tile_with, state_with, appended, load_with};
 ghost use Rattle.core_growth.specs.Appended.{IsUnreported, IsNoReport, MayFollow};

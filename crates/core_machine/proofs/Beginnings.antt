@@ -9,7 +9,7 @@ use Rattle.core_progress.specs.core_laws.specs.Core.{Load, show, after, run_of}
 use Rattle.core_progress.specs.core_laws.specs.Runs.{IsAccepted}
 use Rattle.core_progress.specs.core_laws.proofs.Histories.{event_at}
 use Rattle.core_progress.specs.core_laws.proofs.EveryRun.{run_is_history}
-use Rattle.core_machine.specs.Core.{book_after}
+use Rattle.core_machine.specs.Machine.{book_after}
 use Rattle.core_machine.proofs.Lawful.{one_order}
 
 -- the first steps of a longer list

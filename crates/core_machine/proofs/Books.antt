@@ -10,7 +10,7 @@ use Rattle.core_progress.specs.tile_laws.specs.Tile.{Design}
 use Rattle.core_progress.specs.core_laws.specs.Core.{Load, State, design_of, first_state, next, after_from}
 use Rattle.core_progress.specs.core_laws.proofs.FlightSteps.{flight_with}
 use Rattle.core_progress.specs.core_laws.proofs.Histories.{move_at, event_at}
-use Rattle.core_machine.specs.Core.{event_in, book_from, book_after}
+use Rattle.core_machine.specs.Machine.{event_in, book_from, book_after}
 
 pub after_append : (d : Design) (s : State) (a b : List Step) → after_from d s (a ++ b) ≡ after_from d (after_from d s a) b
 after_append d s [] b = refl

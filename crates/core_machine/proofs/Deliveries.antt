@@ -31,7 +31,7 @@ use Rattle.core_progress.specs.core_laws.specs.Delivery.{request_served, respons
 use Rattle.core_progress.specs.core_laws.proofs.Histories.{move_at, state_at, event_at}
 use Rattle.core_progress.specs.core_laws.proofs.EveryRun.{holds_in, packets_delivered}
 use Rattle.core_progress.specs.core_laws.proofs.Stands.{Stands, IsProperRequest, IsProperResponse, responses_from}
-use Rattle.core_machine.specs.Core.{Core, IsAfter, core_after_load}
+use Rattle.core_machine.specs.Machine.{Core, IsAfter, core_after_load}
 use Rattle.core_machine.specs.Delivered.{request_sent, response_taken, brought_from, sent_requests, whole_responses, requests_from, responses_to}
 use Rattle.core_machine.specs.Delivered.{DeliversInOrder}
 use Rattle.core_machine.proofs.Lawful.{one_order}

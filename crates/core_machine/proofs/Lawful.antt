@@ -15,7 +15,7 @@ use Rattle.core_progress.specs.core_laws.specs.Runs.{IsAccepted}
 use Rattle.core_progress.specs.core_laws.specs.Noted.{flight_after}
 use Rattle.core_progress.specs.core_laws.proofs.Histories.{state_at, event_at}
 use Rattle.core_progress.specs.core_laws.proofs.EveryRun.{run_is_history, scripts_are_followed}
-use Rattle.core_machine.specs.Core.{IsLawful, book_after, all_finished}
+use Rattle.core_machine.specs.Machine.{IsLawful, book_after, all_finished}
 use Rattle.core_machine.proofs.Books.{book_is}
 use Rattle.core_machine.proofs.Moments.{points, moment}
 

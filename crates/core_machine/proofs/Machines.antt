@@ -26,7 +26,7 @@ use Rattle.core_progress.specs.core_laws.proofs.AgentSteps.{option_map_none}
 use Rattle.core_progress.specs.core_laws.proofs.FlightSteps.{refused_tile}
 use Rattle.rounds.specs.Rounds.{one_if_moved}
 use Rattle.core_progress.specs.Moves.{moves_left}
-use Rattle.core_machine.specs.Core.{Core, IsAfter, event_in, book_after, core_after_load, core_with, core_next, core_after, all_finished}
+use Rattle.core_machine.specs.Machine.{Core, IsAfter, event_in, book_after, core_after_load, core_with, core_next, core_after, all_finished}
 use Rattle.core_machine.specs.Reported.{ReportsWell}
 use Rattle.core_machine.proofs.Books.{after_append, book_append}
 use Rattle.core_machine.proofs.Counted.{left_push}

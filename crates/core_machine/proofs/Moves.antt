@@ -13,7 +13,7 @@ use Rattle.core_progress.specs.Moves.{IsLive, tiles_finished, moves_made, most_m
 use Rattle.core_progress.proofs.Made.{take_all}
 use Rattle.core_progress.proofs.Budget.{few_moves}
 use Rattle.core_progress.proofs.Live.{is_live, round_makes_move}
-use Rattle.core_machine.specs.Core.{Core, IsAfter, MakesMove, built_to, event_in, core_with, core_next, core_after, all_finished}
+use Rattle.core_machine.specs.Machine.{Core, IsAfter, MakesMove, built_to, event_in, core_with, core_next, core_after, all_finished}
 use Rattle.core_machine.proofs.Counted.{left_is, made_append}
 use Rattle.core_machine.proofs.Machines.{named_machine, after_steps}
 

@@ -15,7 +15,7 @@ use Rattle.core_progress.specs.core_laws.specs.Moves.{move_of}
 use Rattle.core_progress.specs.core_laws.specs.Mirrors.{tile_at}
 use Rattle.core_progress.specs.core_laws.specs.Delivery.{operation_asked, notice_of, notice_by, requests_between}
 use Rattle.core_progress.specs.core_laws.specs.Delivery.{responses_between, requests_whole, responses_sent}
-use Rattle.core_machine.specs.Core.{Core, shown}
+use Rattle.core_machine.specs.Machine.{Core, shown}
 
 -- the request that a processor sends by a move: where it issues an operation, it puts the head of
 -- that one's request, under the tag that the operation takes (Dally and Towles, chapter 20)

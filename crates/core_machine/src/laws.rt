@@ -16,8 +16,8 @@ ghost use Rattle.rounds.specs.Rounds.{moves_in};
 ghost use Rattle.core_progress.specs.core_laws.specs.Core.{Load, run_of, step, round};
 ghost use Rattle.core_progress.specs.core_laws.specs.Runs.{IsAccepted};
 ghost use Rattle.core_progress.specs.Moves.{IsLive, moves_made, most_moves};
-ghost use Rattle.core_machine.specs.Core.{Core, IsAfter, IsLawful, MakesMove, built_to, book_after, core_after_load};
-ghost use Rattle.core_machine.specs.Core.{core_next, core_after, all_finished};
+ghost use Rattle.core_machine.specs.Machine.{Core, IsAfter, IsLawful, MakesMove, built_to, book_after, core_after_load};
+ghost use Rattle.core_machine.specs.Machine.{core_next, core_after, all_finished};
 ghost use Rattle.core_machine.specs.Delivered.{DeliversInOrder};
 ghost use Rattle.core_machine.specs.Reported.{ReportsWell};
 

@@ -11,7 +11,7 @@ use Rattle.script.specs.declared.line.Value.TheVariants.{Number}
 use Rattle.rounds.specs.Rounds.{or_same, after_attempts, moves_in}
 use Rattle.core_machine.specs.script_follower.specs.Following.{first_of, next_operation_of, after_issue, after_answer, is_finished}
 use Rattle.core_machine.specs.core_laws.specs.Core.{Load, round}
-use Rattle.core_machine.specs.Core.{core_after_load}
+use Rattle.core_machine.specs.Machine.{core_after_load}
 use Rattle.core_moves.specs.Enabled.{ahead_if_moved, enabled_of}
 use Rattle.core_moves.specs.Moves.{moves_of, moves_from}
 

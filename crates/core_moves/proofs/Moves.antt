@@ -18,7 +18,7 @@ use Rattle.core_machine.specs.core_laws.proofs.FlightSteps.{refused_tile}
 use Rattle.core_machine.specs.core_laws.specs.Runs.{without_packets}
 use Rattle.core_machine.specs.core_progress.specs.Moves.{moves_made, most_moves, moves_left}
 use Rattle.core_machine.specs.core_progress.proofs.Made.{or_is}
-use Rattle.core_machine.specs.Core.{Core, IsAfter, built_to, event_in, book_from, book_after, core_after_load, core_with, core_next, core_after}
+use Rattle.core_machine.specs.Machine.{Core, IsAfter, built_to, event_in, book_from, book_after, core_after_load, core_with, core_next, core_after}
 use Rattle.core_machine.proofs.Counted.{left_is}
 use Rattle.core_machine.proofs.Machines.{named_machine, stands_after, after_steps}
 use Rattle.core_machine.proofs.Moves.{built, all_moves, most_left}

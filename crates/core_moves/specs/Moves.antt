@@ -3,7 +3,7 @@ use Rattle.std.specs.Prelude.{◌≡◌, List, ◌∷◌, ◌++◌}
 use Rattle.torus.specs.declared.step.Step.{Step}
 use Rattle.rounds.specs.Rounds.{IsEnabled}
 use Rattle.core_machine.specs.core_laws.specs.Core.{Load, design_of, first_state, step, after}
-use Rattle.core_machine.specs.Core.{Core, built_to, core_after}
+use Rattle.core_machine.specs.Machine.{Core, built_to, core_after}
 use Rattle.core_moves.specs.Enabled.{enabled_of}
 
 -- of a list of steps from a load, those that are moves: each is enabled where it comes

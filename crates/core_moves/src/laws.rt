@@ -4,7 +4,7 @@ ghost use Rattle.std.specs.Prelude.{◌≡◌, ◌+◌, ◌≤◌, ◌++◌, ℕ
 ghost use Rattle.torus.specs.declared.step.Step.{Step};
 ghost use Rattle.rounds.specs.Rounds.{after_attempts, moves_in};
 ghost use Rattle.core_machine.specs.core_laws.specs.Core.{Load, step, after};
-ghost use Rattle.core_machine.specs.Core.{Core, IsAfter, built_to, book_after, core_after, core_after_load};
+ghost use Rattle.core_machine.specs.Machine.{Core, IsAfter, built_to, book_after, core_after, core_after_load};
 ghost use Rattle.core_machine.specs.core_progress.specs.Moves.{moves_made, most_moves};
 ghost use Rattle.core_moves.specs.Enabled.{IsSublist, enabled_of, AreEnabled};
 ghost use Rattle.core_moves.specs.Moves.{moves_of, moves_from, AreMoves, AreMovesFrom};

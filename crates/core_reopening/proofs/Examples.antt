@@ -8,7 +8,7 @@ use Rattle.script.specs.declared.line.Line.TheVariants as line
 use Rattle.script.specs.declared.line.Value.TheVariants.{Number}
 use Rattle.core_growth.specs.script_follower.specs.Following.{first_of, is_finished}
 use Rattle.core_growth.specs.core_laws.specs.Core.{Load, State, design_of, step, after, after_from}
-use Rattle.core_growth.specs.core_machine.specs.Core.{core_after_load}
+use Rattle.core_growth.specs.core_machine.specs.Machine.{core_after_load}
 use Rattle.core_growth.specs.Appended.{appended, load_with}
 use Rattle.core_reopening.specs.Reopened.{tile_open, state_open, reports_in, reopened, without_reports}
 

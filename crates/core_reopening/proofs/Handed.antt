@@ -15,7 +15,7 @@ use Rattle.core_growth.specs.script_follower.specs.Scripts.{address_of}
 use Rattle.core_growth.specs.tile_laws.specs.Tile.{TileState}
 use Rattle.core_growth.specs.core_laws.specs.Core.{Load, after}
 use Rattle.core_growth.specs.core_laws.proofs.EveryRun.{holds_in}
-use Rattle.core_growth.specs.core_machine.specs.Core.{Core, IsAfter, shown}
+use Rattle.core_growth.specs.core_machine.specs.Machine.{Core, IsAfter, shown}
 use Rattle.core_growth.specs.core_moves.specs.Moves.{moves_of}
 use Rattle.core_growth.specs.Appended.{appended, load_with, IsUnreported, MayFollow}
 use Rattle.core_growth.proofs.Loads.{accepted_with}

@@ -15,7 +15,7 @@ use Rattle.core_growth.specs.core_laws.proofs.EveryRun.{holds_in}
 use Rattle.core_growth.specs.core_progress.specs.Moves.{moves_made, moves_left}
 use Rattle.core_growth.specs.core_progress.proofs.Budget.{few_moves}
 use Rattle.core_growth.specs.core_progress.proofs.Made.{after_push}
-use Rattle.core_growth.specs.core_machine.specs.Core.{Core, IsAfter, book_from, book_after, core_after_load}
+use Rattle.core_growth.specs.core_machine.specs.Machine.{Core, IsAfter, book_from, book_after, core_after_load}
 use Rattle.core_growth.specs.core_machine.proofs.Counted.{left_is}
 use Rattle.core_growth.specs.core_machine.proofs.Machines.{named_machine, stands_after}
 use Rattle.core_growth.specs.core_moves.specs.Enabled.{enabled_of}

@@ -21,7 +21,7 @@ use Rattle.core_growth.specs.core_laws.specs.Runs.{without_packets}
 use Rattle.core_growth.specs.core_laws.proofs.AgentSteps.{option_map_some}
 use Rattle.core_growth.specs.core_laws.proofs.FlightSteps.{part_stays}
 use Rattle.core_growth.specs.core_laws.proofs.Stands.{no_tile}
-use Rattle.core_growth.specs.core_machine.specs.Core.{event_in, book_from}
+use Rattle.core_growth.specs.core_machine.specs.Machine.{event_in, book_from}
 use Rattle.core_growth.specs.core_moves.specs.Enabled.{ahead_if_moved, enabled_of}
 use Rattle.core_growth.specs.core_moves.proofs.Moves.{idle_event, enabled_rest}
 use Rattle.core_reopening.specs.Reopened.{tile_open, around_open, state_open, marks, reports_in, is_report, without_reports}

@@ -7,7 +7,7 @@ use Rattle.one_order.specs.Observed.{Observed}
 use Rattle.core_growth.specs.script_follower.specs.ProcessorRecord.{ProcessorRecord}
 use Rattle.core_growth.specs.tile_laws.specs.Tile.{TileState}
 use Rattle.core_growth.specs.core_laws.specs.Core.{records_of}
-use Rattle.core_growth.specs.core_machine.specs.Core.{Core, built_to, shown}
+use Rattle.core_growth.specs.core_machine.specs.Machine.{Core, built_to, shown}
 use Rattle.core_reopening.specs.Reopened.{tile_open, reopened}
 use Rattle.core_reopening.proofs.Runs.{records_open}
 

@@ -10,7 +10,7 @@ use Rattle.script.specs.Scripts.{operations_of, mentions_last, IsWord}
 use Rattle.core_growth.specs.script_follower.specs.Scripts.{address_of}
 use Rattle.core_growth.specs.tile_laws.specs.Tile.{TileState}
 use Rattle.core_growth.specs.core_laws.specs.Core.{Load, State}
-use Rattle.core_growth.specs.core_machine.specs.Core.{Core}
+use Rattle.core_growth.specs.core_machine.specs.Machine.{Core}
 use Rattle.core_growth.specs.core_moves.specs.Moves.{moves_of}
 use Rattle.core_growth.specs.Appended.{appended}
 use Rattle.core_reopening.specs.Reopened.{reopened, without_reports}

@@ -6,7 +6,7 @@ use Rattle.torus.specs.declared.step.Choice.TheVariants.{Done, Look}
 use Rattle.flit_buffer.specs.Surroundings.{Surroundings}
 use Rattle.core_growth.specs.tile_laws.specs.Tile.{Design, TileState}
 use Rattle.core_growth.specs.core_laws.specs.Core.{State}
-use Rattle.core_growth.specs.core_machine.specs.Core.{Core, built_to}
+use Rattle.core_growth.specs.core_machine.specs.Machine.{Core, built_to}
 
 -- the tile as if its processor had neither reported nor seen that all have
 abbrev pub tile_open : TileState → TileState

@@ -4,7 +4,7 @@ ghost use Rattle.std.specs.Prelude.{◌≡◌, ◌↔◌, ℕ, List, None, map, 
 ghost use Rattle.torus.specs.declared.step.Step.{Step};
 ghost use Rattle.script.specs.declared.line.Line.{Line};
 ghost use Rattle.core_growth.specs.core_laws.specs.Core.{Load};
-ghost use Rattle.core_growth.specs.core_machine.specs.Core.{Core, IsAfter, shown};
+ghost use Rattle.core_growth.specs.core_machine.specs.Machine.{Core, IsAfter, shown};
 ghost use Rattle.core_growth.specs.Appended.{load_with, MayFollow};
 ghost use Rattle.core_reopening.specs.Handed.{handed, moves_kept, refused, BringsWords};
 

@@ -33,7 +33,7 @@ use Rattle.core_machine.specs.core_laws.proofs.Followed.{next_inside}
 use Rattle.core_machine.specs.core_laws.proofs.Histories.{event_at}
 use Rattle.core_machine.specs.core_laws.proofs.EveryRun.{holds_in}
 use Rattle.core_machine.specs.core_laws.proofs.Stands.{tile_at}
-use Rattle.core_machine.specs.Core.{event_in}
+use Rattle.core_machine.specs.Machine.{event_in}
 use Rattle.core_machine.proofs.Moments.{moment, points}
 use Rattle.core_seen.specs.Seen.{IsToldByCounts}
 

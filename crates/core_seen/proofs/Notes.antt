@@ -10,7 +10,7 @@ use Rattle.core_machine.specs.tile_laws.specs.Tile.{TileState}
 use Rattle.core_machine.specs.tile_laws.specs.Agents.{agent_tile}
 use Rattle.core_machine.specs.core_laws.specs.Core.{Load, State, design_of, step, after, records_of}
 use Rattle.core_machine.specs.core_laws.specs.Runs.{IsAccepted}
-use Rattle.core_machine.specs.Core.{book_after, event_in}
+use Rattle.core_machine.specs.Machine.{book_after, event_in}
 use Rattle.core_seen.specs.Notes.{FitsLoad, RoomToNoteIssue, RoomToNoteService, RoomToNoteAnswer, IsLevel, RisesByOne, index_served, book_noted}
 use Rattle.core_seen.proofs.NotesReached as reached
 

@@ -27,7 +27,7 @@ use Rattle.core_machine.specs.core_laws.proofs.EveryRun.{holds_in, run_is_histor
 use Rattle.core_machine.specs.core_laws.proofs.Networks.{network}
 use Rattle.core_machine.specs.core_laws.proofs.StepEvents.{found}
 use Rattle.core_machine.specs.core_laws.proofs.TileMoves.{IsHere, TileMoved}
-use Rattle.core_machine.specs.Core.{book_after, event_in}
+use Rattle.core_machine.specs.Machine.{book_after, event_in}
 use Rattle.core_machine.proofs.Books.{book_at}
 use Rattle.core_machine.proofs.Moments.{moment, points}
 use Rattle.core_seen.specs.Seen.{IsToldByCounts}

@@ -9,7 +9,7 @@ ghost use Rattle.core_machine.specs.tile_laws.specs.Agents.{TilePlace, agent_til
 ghost use Rattle.core_machine.specs.core_laws.specs.Core.{Load, State, design_of, step};
 ghost use Rattle.core_machine.specs.core_laws.specs.Runs.{IsAccepted, state_after};
 ghost use Rattle.core_seen.specs.Seen.{IsShown, LeadsOn, IsToldByCounts, state_seen};
-ghost use Rattle.core_machine.specs.Core.{event_in};
+ghost use Rattle.core_machine.specs.Machine.{event_in};
 
 /// Of every state that a run reaches, its tiles in their places and its row tell the whole state: the
 /// channels' flits are read off the row, their fronts and credits off the ends of the tiles' agents.

@@ -10,7 +10,7 @@ ghost use Rattle.core_machine.specs.tile_laws.specs.Tile.{TileState};
 ghost use Rattle.core_machine.specs.tile_laws.specs.Agents.{agent_tile};
 ghost use Rattle.core_machine.specs.core_laws.specs.Core.{Load, State, design_of, step, after, records_of};
 ghost use Rattle.core_machine.specs.core_laws.specs.Runs.{IsAccepted};
-ghost use Rattle.core_machine.specs.Core.{book_after, event_in};
+ghost use Rattle.core_machine.specs.Machine.{book_after, event_in};
 ghost use Rattle.core_seen.specs.Notes.{FitsLoad, RoomToNoteIssue, RoomToNoteService, RoomToNoteAnswer, book_noted};
 ghost use Rattle.core_seen.specs.Notes.{index_served, IsLevel, RisesByOne};
 

@@ -15,7 +15,7 @@ use Rattle.core_seen.specs.tile_laws.specs.Agents.{agent_kind}
 use Rattle.core_seen.specs.core_laws.specs.Core.{State, step, or_same, after_from, attempts_of}
 use Rattle.core_seen.specs.tile_laws.specs.Choices.{has_choice}
 use Rattle.core_seen.specs.core_laws.proofs.AgentChoices.{other_choice}
-use Rattle.core_seen.specs.core_machine.specs.Core.{Core, built_to, event_in, core_with, core_after}
+use Rattle.core_seen.specs.core_machine.specs.Machine.{Core, built_to, event_in, core_with, core_after}
 use Rattle.core_wake.specs.Sleep.{IsAsleep, choices_of, attempts_at, has_moved}
 
 -- what holds of each choice of a list

@@ -15,7 +15,7 @@ ghost use Rattle.core_seen.specs.core_laws.specs.Core.{Load, State, design_of, s
 ghost use Rattle.core_seen.specs.core_laws.specs.Core.{after, attempts_of, round};
 ghost use Rattle.core_seen.specs.core_laws.specs.Runs.{IsAccepted};
 ghost use Rattle.core_seen.specs.core_row.specs.Attempts.{step_op};
-ghost use Rattle.core_seen.specs.core_machine.specs.Core.{Core, built_to, core_after};
+ghost use Rattle.core_seen.specs.core_machine.specs.Machine.{Core, built_to, core_after};
 ghost use Rattle.core_wake.specs.Waking.{receiver_of, sender_of, Disturbs, woken, is_woken};
 ghost use Rattle.core_wake.specs.Sleep.{IsAsleep, OthersSleep, attempts_at, has_moved};
 ghost use Rattle.core_wake.specs.Operations.{woken_by_operation};

@@ -16,7 +16,7 @@ use Rattle.fabric_rule.specs.tile.specs.Placed.{PlacedTile}
 use Rattle.fabric_rule.specs.core_laws.specs.Core.{Load, design_of, after, records_of}
 use Rattle.fabric_rule.specs.core_laws.specs.Runs.{IsAccepted}
 use Rattle.fabric_rule.specs.core_row.proofs.Reached.{tiles_there, all_steps}
-use Rattle.fabric_rule.specs.core_machine.specs.Core.{all_finished}
+use Rattle.fabric_rule.specs.core_machine.specs.Machine.{all_finished}
 use Rattle.fabric_rule.specs.Known.{known}
 use Rattle.fabric_rule.specs.View.{View}
 use Rattle.fabric_rule.specs.Groups.{Owns}

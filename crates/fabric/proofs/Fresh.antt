@@ -14,7 +14,7 @@ use Rattle.fabric_rule.specs.tile.specs.Placed.{PlacedTile}
 use Rattle.fabric_rule.specs.core_laws.specs.Core.{Load, design_of, after}
 use Rattle.fabric_rule.specs.core_laws.specs.Runs.{IsAccepted}
 use Rattle.fabric_rule.specs.core_row.proofs.Reached.{at_most}
-use Rattle.fabric_rule.specs.core_machine.specs.Core.{Core, IsAfter}
+use Rattle.fabric_rule.specs.core_machine.specs.Machine.{Core, IsAfter}
 use Rattle.fabric_rule.specs.core_seen.specs.Seen.{IsShown}
 use Rattle.machine_core.specs.Inside.{HaveRoom}
 use Rattle.fabric_rule.specs.Known.{Shows, known, row_length}

@@ -8,7 +8,7 @@ use Rattle.fabric_rule.specs.tile.specs.Placed.{PlacedTile}
 use Rattle.channel_number.specs.Order.{channel_count}
 use Rattle.channel_number.specs.Ports.{port_count}
 use Rattle.fabric_rule.specs.core_laws.specs.Core.{Load}
-use Rattle.fabric_rule.specs.core_machine.specs.Core.{Core, IsAfter}
+use Rattle.fabric_rule.specs.core_machine.specs.Machine.{Core, IsAfter}
 use Rattle.fabric_rule.specs.Known.{Shows, row_length}
 use Rattle.fabric_rule.proofs.Runs.{row_size}
 use Rattle.fabric.specs.Key.{Opening, count_up, ranges}

@@ -5,7 +5,7 @@ use Rattle.one_order.specs.Observed.{HasIssued, HasAnswered}
 use Rattle.one_order.specs.Order.{LinearizationPoint, IsLegalOrder, StandsBefore}
 use Rattle.fabric_rule.specs.core_laws.specs.Core.{Load, run_of}
 use Rattle.fabric_rule.specs.core_laws.specs.Runs.{IsAccepted}
-use Rattle.fabric_rule.specs.core_machine.specs.Core.{IsLawful, book_after}
+use Rattle.fabric_rule.specs.core_machine.specs.Machine.{IsLawful, book_after}
 use Rattle.fabric_rule.specs.Groups.{Extends}
 use Rattle.fabric.specs.Seats.{Knowing}
 use Rattle.fabric.specs.Ending.{shown_after}

@@ -5,7 +5,7 @@ ghost use Rattle.torus.specs.Shape.{tiles_of};
 ghost use Rattle.fabric_rule.specs.order_abstract.specs.Scripts.{AreFinished};
 ghost use Rattle.fabric_rule.specs.core_laws.specs.Core.{after, run_of};
 ghost use Rattle.fabric_rule.specs.core_laws.specs.Runs.{IsAccepted};
-ghost use Rattle.fabric_rule.specs.core_machine.specs.Core.{all_finished};
+ghost use Rattle.fabric_rule.specs.core_machine.specs.Machine.{all_finished};
 ghost use Rattle.fabric_rule.specs.Groups.{Owns};
 ghost use Rattle.fabric.specs.Seats.{IsOf, IsWhole, StandsAt};
 ghost use Rattle.fabric.specs.Ending.{IsLongest, WasLongest, shown_after, slot_finished};

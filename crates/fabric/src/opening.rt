@@ -5,7 +5,7 @@ ghost use Rattle.torus.specs.declared.fault.Fault.TheVariants as fault;
 ghost use Rattle.channel_number.specs.Order.{channel_count};
 ghost use Rattle.channel_number.specs.Ports.{port_count};
 ghost use Rattle.fabric_rule.specs.core_laws.specs.Core.{Load};
-ghost use Rattle.fabric_rule.specs.core_machine.specs.Core.{IsAfter};
+ghost use Rattle.fabric_rule.specs.core_machine.specs.Machine.{IsAfter};
 ghost use Rattle.fabric_rule.specs.Groups.{first_group, other_groups};
 ghost use Rattle.fabric.specs.Key.{ranges, Rises, count_up};
 ghost use Rattle.fabric.specs.Opening.{fresh, rises, can_deal, CanDeal, Rest, HasRest};

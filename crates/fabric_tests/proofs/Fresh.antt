@@ -3,7 +3,7 @@ use Rattle.std.proofs.Common.{◌≡◌, ℕ, Bool, true, false, List, [], refl}
 use Rattle.std.specs.Prelude.{if◌then◌else◌}
 use Rattle.torus.specs.declared.step.Step.{Step}
 use Rattle.machine_texts.specs.core_laws.specs.Core.{Load}
-use Rattle.machine_texts.specs.machine_core.specs.core_machine.specs.Core.{Core}
+use Rattle.machine_texts.specs.machine_core.specs.core_machine.specs.Machine.{Core}
 use Rattle.machine_texts.specs.machine_core.specs.core_reopening.specs.Handed.{has_reported, moves_kept}
 
 none_by : (b : Bool) → ◌≡◌ {A = List Step} (if b then [] else []) []

@@ -1,7 +1,7 @@
 //! Machines that are loaded, and fabrics with their seats.
 ghost use Rattle.std.specs.Prelude.{◌≤◌, [], All};
 ghost use Rattle.machine_texts.specs.core_laws.specs.Core.{Load};
-ghost use Rattle.machine_texts.specs.machine_core.specs.core_machine.specs.Core.{IsAfter};
+ghost use Rattle.machine_texts.specs.machine_core.specs.core_machine.specs.Machine.{IsAfter};
 ghost use Rattle.fabric.specs.Seats.{IsOf};
 
 use fabric::{Fabric, Final, ProbeSeat, TileSeat};

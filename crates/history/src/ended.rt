@@ -1,6 +1,6 @@
 //! The end of a run of threads, as what is reached.
 
-ghost use Rattle.core_machine.specs.Core.{core_after_load};
+ghost use Rattle.core_machine.specs.Machine.{core_after_load};
 
 use core_machine::laws::steps_lead_to_a_machine;
 use machine_report::{Answer, Entry, Reached};

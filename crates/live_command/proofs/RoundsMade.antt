@@ -3,7 +3,7 @@ use Rattle.std.proofs.Common.{◌≡◌, ℕ, ◌+◌, ◌++◌, List, refl, sym
 use Rattle.torus.specs.Shape.{Shape}
 use Rattle.torus.specs.declared.step.Step.{Step}
 use Rattle.machine_asked.specs.core_laws.specs.Core.{Load, round}
-use Rattle.machine_asked.specs.machine_core.specs.core_machine.specs.Core.{Core, IsAfter, RunsOn, core_after}
+use Rattle.machine_asked.specs.machine_core.specs.core_machine.specs.Machine.{Core, IsAfter, RunsOn, core_after}
 use Rattle.machine_asked.specs.machine_core.specs.core_machine.proofs.Machines.{after_steps}
 use Rattle.machine_asked.specs.machine_core.specs.Rounds.{rounds_of}
 use Rattle.machine_asked.specs.machine_core.proofs.Finishing.{rounds_push}

@@ -12,7 +12,7 @@ use Rattle.machine_report.specs.Report.{machine_report}
 use Rattle.machine_asked.specs.core_laws.specs.Core.{Load}
 use Rattle.machine_asked.specs.machine_core.specs.core_growth.specs.Appended.{load_with}
 use Rattle.machine_asked.specs.machine_core.specs.core_reopening.specs.Handed.{handed, moves_kept, refused}
-use Rattle.machine_asked.specs.machine_core.specs.core_machine.specs.Core.{IsAfter, RunsOn, core_after}
+use Rattle.machine_asked.specs.machine_core.specs.core_machine.specs.Machine.{IsAfter, RunsOn, core_after}
 use Rattle.machine_asked.specs.machine_core.specs.Rounds.{rounds_of, NeedsRounds}
 use Rattle.machine_asked.specs.Asked.{Asked, IsNumbered, NeedsToWait, answer_to, has_spin, index_asked, spins_with}
 use Rattle.live_lines.specs.declared.command.Command.{Command}

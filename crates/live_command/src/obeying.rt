@@ -1,7 +1,7 @@
 //! What a machine does for a line of a dialogue.
 
 ghost use Rattle.std.specs.Prelude.{◌≡◌};
-ghost use Rattle.machine_asked.specs.machine_core.specs.core_machine.specs.Core.{RunsOn, core_after};
+ghost use Rattle.machine_asked.specs.machine_core.specs.core_machine.specs.Machine.{RunsOn, core_after};
 ghost use Rattle.machine_asked.specs.machine_core.specs.Rounds.{rounds_of};
 ghost use Rattle.live_command.specs.Obeying.{Asks, MakesRounds, Obeys, Reports, WaitsFor};
 

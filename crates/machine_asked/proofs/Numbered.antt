@@ -9,7 +9,7 @@ use Rattle.script.specs.declared.line.Line.TheVariants as kind
 use Rattle.script.specs.Scripts.{operations_of, operation_count, script_of}
 use Rattle.machine_texts.specs.machine_core.specs.core_growth.specs.script_follower.specs.Scripts.{Invocation, IsOf, Allows}
 use Rattle.machine_texts.specs.machine_core.specs.core_growth.specs.Appended.{load_with}
-use Rattle.machine_texts.specs.machine_core.specs.core_machine.specs.Core.{Core, IsAfter}
+use Rattle.machine_texts.specs.machine_core.specs.core_machine.specs.Machine.{Core, IsAfter}
 use Rattle.machine_texts.specs.core_laws.specs.Core.{Load, run_of}
 use Rattle.machine_asked.specs.Asked.{is_operation, has_spin, IsIssuedAs, IsNumbered}
 

@@ -13,9 +13,9 @@ use Rattle.one_order.specs.Observed.{Run}
 use Rattle.machine_texts.specs.machine_core.specs.core_growth.specs.script_follower.specs.Scripts.{Invocation, IsOf}
 use Rattle.machine_texts.specs.order_abstract.specs.Scripts.{AreInvocationsOf}
 use Rattle.machine_texts.specs.core_laws.specs.Core.{Load, run_of}
-use Rattle.machine_texts.specs.machine_core.specs.core_machine.specs.Core.{Core, IsAfter}
-use Rattle.machine_texts.specs.machine_core.specs.core_machine.specs.Core.{all_finished, core_after}
-use Rattle.machine_texts.specs.machine_core.specs.core_machine.specs.Core.{shown}
+use Rattle.machine_texts.specs.machine_core.specs.core_machine.specs.Machine.{Core, IsAfter}
+use Rattle.machine_texts.specs.machine_core.specs.core_machine.specs.Machine.{all_finished, core_after}
+use Rattle.machine_texts.specs.machine_core.specs.core_machine.specs.Machine.{shown}
 use Rattle.machine_texts.specs.machine_core.specs.Rounds.{rounds_of}
 
 -- a line is a spin: nobody can tell beforehand how many loads it makes

@@ -30,7 +30,7 @@ use Rattle.machine_growth.specs.tile.specs.Placed.{PlacedTile, IsAcceptableTo, w
 use Rattle.machine_growth.specs.tile.proofs.OwnAttempts.{own_attempt}
 use Rattle.machine_growth.specs.core_laws.specs.Core.{design_of, after}
 use Rattle.machine_growth.specs.core_seen.specs.Notes.{book_noted}
-use Rattle.machine_growth.specs.core_machine.specs.Core.{Core, Steps}
+use Rattle.machine_growth.specs.core_machine.specs.Machine.{Core, Steps}
 use Rattle.machine_growth.specs.machine_wake.specs.Awake.{Awake, woken}
 use Rattle.machine_growth.specs.machine_wake.specs.Ports.{AwakePorts}
 use Rattle.machine_core.proofs.RouterFlags.{FollowMove}

@@ -15,7 +15,7 @@ use Rattle.machine_growth.specs.core_progress.specs.Moves.{enabled_step, IsLive}
 use Rattle.machine_growth.specs.core_progress.proofs.Live.{is_live}
 use Rattle.machine_growth.specs.core_progress.proofs.OfRound.{found_is, none_is}
 use Rattle.machine_growth.specs.core_seen.specs.Seen.{IsShown}
-use Rattle.machine_growth.specs.core_machine.specs.Core.{Core, IsAfter, built_to, all_finished}
+use Rattle.machine_growth.specs.core_machine.specs.Machine.{Core, IsAfter, built_to, all_finished}
 use Rattle.machine_core.specs.declared.machine.Machine.TheInside.{Inside}
 use Rattle.machine_core.specs.Inside.{core_of, places_in, IsMachine}
 use Rattle.machine_core.proofs.Standing.{none_past}

@@ -17,7 +17,7 @@ use Rattle.machine_growth.specs.tile.specs.Placed.{PlacedTile, IsAcceptableTo, t
 use Rattle.machine_growth.specs.core_laws.specs.Core.{Load, State, design_of, step, after}
 use Rattle.machine_growth.specs.core_seen.specs.Seen.{IsShown, LeadsOn, state_seen}
 use Rattle.machine_growth.specs.core_seen.proofs.Attempts.{leads_on}
-use Rattle.machine_growth.specs.core_machine.specs.Core.{Core, IsAfter, Steps, built_to, event_in}
+use Rattle.machine_growth.specs.core_machine.specs.Machine.{Core, IsAfter, Steps, built_to, event_in}
 use Rattle.machine_growth.specs.core_seen.proofs.Tries.{word_there, word_asked}
 use Rattle.machine_growth.specs.core_seen.proofs.Room.{full_shown}
 use Rattle.machine_core.specs.declared.machine.Machine.TheInside.{Inside}

@@ -23,7 +23,7 @@ use Rattle.machine_growth.specs.core_laws.specs.Runs.{IsAccepted}
 use Rattle.machine_growth.specs.core_row.specs.Attempts.{tile_in}
 use Rattle.machine_growth.specs.core_row.proofs.First.{first_row, first_tiles as first_places}
 use Rattle.machine_growth.specs.core_progress.specs.Moves.{most_moves}
-use Rattle.machine_growth.specs.core_machine.specs.Core.{IsAfter, IsLawful}
+use Rattle.machine_growth.specs.core_machine.specs.Machine.{IsAfter, IsLawful}
 use Rattle.machine_growth.specs.core_machine.proofs.Lawful.{lawful}
 use Rattle.machine_growth.specs.core_seen.specs.Seen.{IsShown}
 use Rattle.machine_growth.specs.core_seen.proofs.Reached.{seen_state}

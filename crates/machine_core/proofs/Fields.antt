@@ -16,7 +16,7 @@ use Rattle.machine_growth.specs.tile_laws.specs.Agents.{TilePlace, state_of, til
 use Rattle.machine_growth.specs.tile.specs.Placed.{PlacedTile, with_place}
 use Rattle.machine_growth.specs.core_laws.specs.Core.{Load, State, step}
 use Rattle.machine_growth.specs.core_seen.specs.Seen.{IsShown}
-use Rattle.machine_growth.specs.core_machine.specs.Core.{Core, IsAfter, Steps, built_to, told, event_in, core_with}
+use Rattle.machine_growth.specs.core_machine.specs.Machine.{Core, IsAfter, Steps, built_to, told, event_in, core_with}
 use Rattle.machine_growth.specs.core_machine.proofs.Machines.{after_step}
 use Rattle.machine_growth.specs.core_seen.specs.Notes.{book_noted}
 use Rattle.machine_core.proofs.NotedBooks.{seen_at}

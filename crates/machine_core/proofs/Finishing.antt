@@ -14,7 +14,7 @@ use Rattle.machine_growth.specs.core_laws.specs.Runs.{state_after}
 use Rattle.machine_growth.specs.core_row.proofs.Reached.{all_steps}
 use Rattle.machine_growth.specs.core_progress.specs.Moves.{tiles_finished, moves_left}
 use Rattle.machine_growth.specs.core_progress.proofs.Finish.{run_finishes}
-use Rattle.machine_growth.specs.core_machine.specs.Core.{Core, IsAfter, built_to, event_in, core_with, core_next, core_after, all_finished}
+use Rattle.machine_growth.specs.core_machine.specs.Machine.{Core, IsAfter, built_to, event_in, core_with, core_next, core_after, all_finished}
 use Rattle.machine_growth.specs.core_machine.proofs.Machines.{after_steps, finished_of_machine}
 use Rattle.machine_growth.specs.core_machine.proofs.Moves.{built, same_finished}
 use Rattle.machine_core.specs.Rounds.{rounds_of}

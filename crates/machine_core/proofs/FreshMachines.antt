@@ -17,7 +17,7 @@ use Rattle.machine_growth.specs.core_laws.specs.Core.{Load, State, design_of, fi
 use Rattle.machine_growth.specs.core_laws.specs.Runs.{state_after}
 use Rattle.machine_growth.specs.core_laws.proofs.OnTheWay.{shows_operations}
 use Rattle.machine_growth.specs.core_row.proofs.Reached.{all_steps}
-use Rattle.machine_growth.specs.core_machine.specs.Core.{Core, IsAfter, IsLawful}
+use Rattle.machine_growth.specs.core_machine.specs.Machine.{Core, IsAfter, IsLawful}
 use Rattle.machine_growth.specs.core_machine.proofs.Lawful.{lawful}
 use Rattle.machine_growth.specs.core_seen.specs.Seen.{IsShown}
 use Rattle.machine_core.specs.declared.machine.Machine.TheInside.{Inside}

@@ -18,7 +18,7 @@ use Rattle.machine_growth.specs.tile_laws.specs.Tile.{Design}
 use Rattle.machine_growth.specs.tile.specs.Placed.{PlacedTile}
 use Rattle.machine_growth.specs.core_laws.specs.Core.{Load, State, design_of, after}
 use Rattle.machine_growth.specs.core_laws.proofs.EveryRun.{holds_in}
-use Rattle.machine_growth.specs.core_machine.specs.Core.{Core, IsAfter}
+use Rattle.machine_growth.specs.core_machine.specs.Machine.{Core, IsAfter}
 use Rattle.machine_growth.specs.core_seen.specs.Seen.{IsShown, state_seen}
 use Rattle.machine_growth.specs.core_seen.proofs.Reached.{seen_state}
 use Rattle.machine_growth.specs.core_wake.specs.Sleep.{OthersSleep}

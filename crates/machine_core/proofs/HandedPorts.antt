@@ -3,7 +3,7 @@ use Rattle.std.proofs.Common.{◌≡◌, ℕ, zero, suc, Bool, true, false, List
 use Rattle.script.specs.declared.line.Line.{Line}
 use Rattle.router.specs.Table.{RouterState}
 use Rattle.machine_growth.specs.tile_laws.specs.Tile.{Design, TileState}
-use Rattle.machine_growth.specs.core_machine.specs.Core.{Core}
+use Rattle.machine_growth.specs.core_machine.specs.Machine.{Core}
 use Rattle.machine_growth.specs.core_growth.specs.Appended.{changed_at, tile_with, appended}
 use Rattle.machine_growth.specs.core_reopening.specs.Reopened.{tile_open, reopened}
 use Rattle.machine_growth.specs.core_reopening.specs.Handed.{handed, has_reported}

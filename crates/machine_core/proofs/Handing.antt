@@ -24,7 +24,7 @@ use Rattle.machine_growth.specs.tile.specs.Placed.{PlacedTile}
 use Rattle.machine_growth.specs.core_laws.specs.Core.{Load, design_of, after, records_of}
 use Rattle.machine_growth.specs.core_laws.specs.Runs.{state_after}
 use Rattle.machine_growth.specs.core_laws.proofs.OnTheWay.{shows_operations}
-use Rattle.machine_growth.specs.core_machine.specs.Core.{Core, IsAfter}
+use Rattle.machine_growth.specs.core_machine.specs.Machine.{Core, IsAfter}
 use Rattle.machine_growth.specs.core_seen.specs.Seen.{IsShown, state_seen}
 use Rattle.machine_growth.specs.core_seen.specs.Notes.{FitsLoad}
 use Rattle.machine_growth.specs.core_seen.proofs.Notes.{book_fits}

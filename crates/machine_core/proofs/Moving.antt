@@ -28,7 +28,7 @@ use Rattle.machine_growth.specs.tile.specs.Placed.{PlacedTile, with_place, tile_
 use Rattle.machine_growth.specs.core_laws.specs.Core.{Load, State, design_of, step, or_same, first_state, after, records_of}
 use Rattle.machine_growth.specs.core_seen.specs.Seen.{IsShown, state_seen}
 use Rattle.machine_growth.specs.core_seen.proofs.Reached.{seen_state}
-use Rattle.machine_growth.specs.core_machine.specs.Core.{Core, IsAfter, built_to, told, event_in, core_with, core_next}
+use Rattle.machine_growth.specs.core_machine.specs.Machine.{Core, IsAfter, built_to, told, event_in, core_with, core_next}
 use Rattle.machine_growth.specs.core_machine.proofs.Books.{after_append}
 use Rattle.machine_growth.specs.core_machine.proofs.Machines.{after_step}
 use Rattle.machine_growth.specs.core_machine.proofs.Moves.{most_left}

@@ -9,7 +9,7 @@ use Rattle.machine_growth.specs.core_laws.proofs.Reached.{reports_counted}
 use Rattle.machine_growth.specs.core_row.specs.Taken.{taken}
 use Rattle.machine_growth.specs.core_row.proofs.Reached as reached
 use Rattle.machine_growth.specs.core_row.proofs.Fronts.{front_counts_taken, flit_behind_taken}
-use Rattle.machine_growth.specs.core_machine.specs.Core.{Core, IsAfter, core_after_load}
+use Rattle.machine_growth.specs.core_machine.specs.Machine.{Core, IsAfter, core_after_load}
 use Rattle.machine_growth.specs.core_machine.proofs.Machines.{named_machine}
 use Rattle.machine_core.specs.Shown.{ShowsRow}
 

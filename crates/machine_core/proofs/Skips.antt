@@ -11,7 +11,7 @@ use Rattle.torus.specs.declared.step.Stepped.{Stepped}
 use Rattle.torus.specs.declared.step.Stepped.TheVariants.{Idle}
 use Rattle.machine_growth.specs.tile_laws.specs.Tile.{Design}
 use Rattle.machine_growth.specs.core_laws.specs.Core.{State, design_of, step, after, attempts_of}
-use Rattle.machine_growth.specs.core_machine.specs.Core.{Core, Steps, built_to, told, event_in, core_with, core_next, core_after}
+use Rattle.machine_growth.specs.core_machine.specs.Machine.{Core, Steps, built_to, told, event_in, core_with, core_next, core_after}
 use Rattle.machine_growth.specs.core_wake.specs.Routers.{PortFlags, OtherPortsSleep, of_router}
 use Rattle.machine_growth.specs.machine_wake.specs.Ports.{AwakePorts, flags_of, take_rested, put_rested, credit_rested}
 use Rattle.machine_core.specs.declared.machine.Machine.TheInside.{Inside}

@@ -11,7 +11,7 @@ use Rattle.machine_growth.specs.tile_laws.specs.declared.agent.Agent.TheVariants
 use Rattle.machine_growth.specs.tile_laws.specs.Tile.{Design}
 use Rattle.machine_growth.specs.tile_laws.proofs.AgentNumbers.{kind_of_number}
 use Rattle.machine_growth.specs.core_laws.specs.Core.{State, design_of, step, or_same as state_or, after, attempts_of}
-use Rattle.machine_growth.specs.core_machine.specs.Core.{Core, IsAfter, built_to, core_after}
+use Rattle.machine_growth.specs.core_machine.specs.Machine.{Core, IsAfter, built_to, core_after}
 use Rattle.machine_growth.specs.core_machine.proofs.Moves.{left_after}
 use Rattle.machine_growth.specs.machine_wake.specs.Awake.{Awake, is_awake, rested}
 use Rattle.machine_growth.specs.core_wake.specs.Sleep.{IsAsleep, OthersSleep, choices_of, attempts_at, has_moved}

@@ -12,7 +12,7 @@ use Rattle.machine_growth.specs.core_laws.specs.Core.{Load, State, design_of, st
 use Rattle.machine_growth.specs.core_laws.specs.Runs.{state_after}
 use Rattle.machine_growth.specs.core_laws.proofs.EveryRun.{holds_in}
 use Rattle.machine_growth.specs.core_seen.specs.Seen.{IsShown}
-use Rattle.machine_growth.specs.core_machine.specs.Core.{Core, built_to, book_after}
+use Rattle.machine_growth.specs.core_machine.specs.Machine.{Core, built_to, book_after}
 use Rattle.machine_core.specs.declared.machine.Machine.TheInside.{Inside}
 use Rattle.machine_core.specs.Inside.{design_in, places_in, core_of, IsMachine}
 

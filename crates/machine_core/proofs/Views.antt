@@ -15,7 +15,7 @@ use Rattle.machine_growth.specs.tile.specs.Placed.{PlacedTile}
 use Rattle.machine_growth.specs.core_laws.specs.Core.{Load, State, design_of, records_of}
 use Rattle.machine_growth.specs.core_row.specs.Row.{row_of}
 use Rattle.machine_growth.specs.core_row.proofs.Reached.{all_steps, size}
-use Rattle.machine_growth.specs.core_machine.specs.Core.{shown, all_finished}
+use Rattle.machine_growth.specs.core_machine.specs.Machine.{shown, all_finished}
 use Rattle.machine_core.specs.declared.machine.Machine.TheInside.{Inside}
 use Rattle.machine_core.specs.Inside.{core_of, places_in, IsMachine}
 

@@ -11,7 +11,7 @@ use Rattle.machine_growth.specs.tile_laws.specs.Agents.{TilePlace}
 use Rattle.machine_growth.specs.tile.specs.Placed.{PlacedTile}
 use Rattle.machine_growth.specs.core_laws.specs.Core.{Load, design_of, after as state_after_steps}
 use Rattle.machine_growth.specs.core_seen.specs.Seen.{IsShown, state_seen}
-use Rattle.machine_growth.specs.core_machine.specs.Core.{Core, IsAfter}
+use Rattle.machine_growth.specs.core_machine.specs.Machine.{Core, IsAfter}
 use Rattle.machine_growth.specs.core_wake.specs.Sleep.{OthersSleep}
 use Rattle.machine_growth.specs.core_wake.specs.Routers.{OtherPortsSleep}
 use Rattle.machine_growth.specs.machine_wake.specs.Awake.{is_awake}

@@ -8,7 +8,7 @@ use Rattle.torus.specs.declared.step.Choice.{Choice}
 use Rattle.torus.specs.declared.step.Choice.TheVariants.{Send, Take, TakeFrom, Put, Credit, CreditOf, Serve, Done, Look}
 use Rattle.rounds.specs.Rounds.{first_enabled}
 use Rattle.machine_growth.specs.core_laws.specs.Core.{step, attempts_of, round}
-use Rattle.machine_growth.specs.core_machine.specs.Core.{Core, built_to, core_after, all_finished}
+use Rattle.machine_growth.specs.core_machine.specs.Machine.{Core, built_to, core_after, all_finished}
 
 -- the first of some attempts that is enabled in a machine now (this project's own format)
 abbrev pub first_in : Core → List Step → Option Step

@@ -6,7 +6,7 @@ use Rattle.flit_buffer.specs.Surroundings.{ring}
 use Rattle.machine_growth.specs.core_laws.specs.Core.{Load}
 use Rattle.machine_growth.specs.core_row.specs.Row.{row_of}
 use Rattle.machine_growth.specs.core_row.specs.Taken.{taken}
-use Rattle.machine_growth.specs.core_machine.specs.Core.{Core, built_to, shown}
+use Rattle.machine_growth.specs.core_machine.specs.Machine.{Core, built_to, shown}
 
 -- the row of a machine's words (this project's own format)
 abbrev pub row_in : Core → List ℕ

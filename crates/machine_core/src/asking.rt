@@ -4,7 +4,7 @@ ghost use Rattle.std.specs.Prelude.{◌≡◌, ◌+◌, ◌*◌, ◌<◌, ◌↔
 ghost use Rattle.torus.specs.declared.step.Step.{Step};
 ghost use Rattle.machine_growth.specs.core_laws.specs.Core.{step, attempts_of, round_at};
 ghost use Rattle.machine_growth.specs.core_progress.specs.Moves.{enabled_step};
-ghost use Rattle.machine_growth.specs.core_machine.specs.Core.{built_to, all_finished};
+ghost use Rattle.machine_growth.specs.core_machine.specs.Machine.{built_to, all_finished};
 ghost use Rattle.torus.specs.Choices.{takes_of_all, puts_of_all, credits_of_all};
 ghost use Rattle.machine_core.specs.Rounds.{first_in};
 

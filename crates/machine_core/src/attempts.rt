@@ -7,8 +7,8 @@ ghost use Rattle.torus.specs.declared.step.Step.{Step};
 ghost use Rattle.channel_number.specs.Ports.{port_count};
 ghost use Rattle.rounds.specs.Rounds.{moves_in};
 ghost use Rattle.machine_growth.specs.core_laws.specs.Core.{step, attempts_of, round_at, round};
-ghost use Rattle.machine_growth.specs.core_machine.specs.Core.{RunsOn, MakesMove, Steps, core_after, built_to};
-ghost use Rattle.machine_growth.specs.core_machine.specs.Core.{all_finished};
+ghost use Rattle.machine_growth.specs.core_machine.specs.Machine.{RunsOn, MakesMove, Steps, core_after, built_to};
+ghost use Rattle.machine_growth.specs.core_machine.specs.Machine.{all_finished};
 ghost use Rattle.torus.specs.Choices.{processor_choices, bank_choices, router_choices};
 
 use crate::machine::Machine;

@@ -5,7 +5,7 @@ ghost use Rattle.torus.specs.declared.fault.Fault.{Fault};
 ghost use Rattle.torus.specs.declared.step.Step.{Step};
 ghost use Rattle.script.specs.Scripts.{operation_count};
 ghost use Rattle.machine_growth.specs.core_laws.specs.Core.{Load};
-ghost use Rattle.machine_growth.specs.core_machine.specs.Core.{IsAfter};
+ghost use Rattle.machine_growth.specs.core_machine.specs.Machine.{IsAfter};
 ghost use Rattle.machine_growth.specs.core_growth.specs.Appended.{load_with};
 ghost use Rattle.machine_growth.specs.core_reopening.specs.Handed.{handed, moves_kept, refused};
 ghost use Rattle.machine_core.specs.Growing.{room_left};

@@ -3,7 +3,7 @@ ghost use Rattle.std.specs.Prelude.{◌≡◌, List, [], length, map};
 ghost use Rattle.torus.specs.Shape.{tiles_of};
 ghost use Rattle.torus.specs.declared.step.Step.{Step};
 ghost use Rattle.machine_growth.specs.core_laws.specs.Core.{Load, design_of, after};
-ghost use Rattle.machine_growth.specs.core_machine.specs.Core.{IsAfter};
+ghost use Rattle.machine_growth.specs.core_machine.specs.Machine.{IsAfter};
 ghost use Rattle.machine_growth.specs.core_seen.specs.Seen.{IsShown};
 ghost use Rattle.machine_core.specs.Inside.{HaveRoom};
 

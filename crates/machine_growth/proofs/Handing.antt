@@ -19,7 +19,7 @@ use Rattle.machine_wake.specs.core_laws.specs.Core.{State}
 use Rattle.machine_wake.specs.core_row.specs.Row.{places_of}
 use Rattle.machine_wake.specs.core_row.specs.Attempts.{tile_in}
 use Rattle.machine_wake.specs.order_abstract.specs.EventBook.{EventBook}
-use Rattle.machine_wake.specs.core_machine.specs.Core.{Core, built_to}
+use Rattle.machine_wake.specs.core_machine.specs.Machine.{Core, built_to}
 use Rattle.machine_wake.specs.core_seen.specs.Seen.{IsShown}
 use Rattle.machine_wake.specs.core_wake.specs.Sleep.{OthersSleep}
 use Rattle.machine_wake.specs.Awake.{Awake, is_awake, roused}

@@ -7,7 +7,7 @@ use Rattle.torus.specs.declared.fault.Fault.TheVariants as fault
 use Rattle.script.specs.declared.line.Line.{Line}
 use Rattle.script.specs.Scripts.{mentions_last}
 use Rattle.machine_wake.specs.script_follower.specs.Scripts.{address_of}
-use Rattle.machine_wake.specs.core_machine.specs.Core.{Core}
+use Rattle.machine_wake.specs.core_machine.specs.Machine.{Core}
 use Rattle.core_reopening.specs.Handed.{is_word, has_loads, is_too_long, refused}
 
 abbrev tests : Bool → Bool → Bool → Bool → Bool → Option Fault

@@ -3,7 +3,7 @@
 ghost use Rattle.std.specs.Prelude.{◌≡◌, ℕ, ◌<◌, ◌≤◌, ◌==◌, ◌&&◌, length, sum, slice_index};
 ghost use Rattle.script.specs.Scripts.{mentions_last};
 ghost use Rattle.machine_wake.specs.script_follower.specs.Scripts.{address_of};
-ghost use Rattle.machine_wake.specs.core_machine.specs.Core.{Core};
+ghost use Rattle.machine_wake.specs.core_machine.specs.Machine.{Core};
 ghost use Rattle.core_reopening.specs.Handed.{is_word, has_loads, is_too_long, refused};
 
 use order_rooms::address;

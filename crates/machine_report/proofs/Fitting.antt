@@ -5,7 +5,7 @@ use Rattle.report_lines.specs.declared.line.OrderLine.{OrderLine}
 use Rattle.report_lines.specs.declared.parts.Parts.{Parts}
 use Rattle.report_lines.specs.declared.parts.EntryRow.{EntryRow}
 use Rattle.report_lines.specs.Contents.{items_of}
-use Rattle.core_machine.specs.Core.{Core, shown}
+use Rattle.core_machine.specs.Machine.{Core, shown}
 use Rattle.machine_report.specs.Report.{IsMadeOf, IsWithinLimits, entry_row, answer_row}
 
 -- vectors with the lists of a list of lists, each mapped, are as many

@@ -11,7 +11,7 @@ use Rattle.report_lines.specs.declared.parts.AnswerRow.{AnswerRow}
 use Rattle.report_lines.specs.declared.parts.Parts.{Parts}
 use Rattle.report_lines.specs.Contents.{items_of, report_lines_of}
 use Rattle.one_order.specs.Observed.{Observed, event_count}
-use Rattle.core_machine.specs.Core.{Core, shown, all_finished}
+use Rattle.core_machine.specs.Machine.{Core, shown, all_finished}
 
 -- what is reported of a service
 abbrev pub entry_row : Entry → EntryRow

@@ -2,7 +2,7 @@
 
 ghost use Rattle.std.specs.Prelude.{◌≡◌, length, slice_get};
 ghost use Rattle.std.specs.Option.{option_copied};
-ghost use Rattle.core_machine.specs.Core.{Core, all_finished, shown};
+ghost use Rattle.core_machine.specs.Machine.{Core, all_finished, shown};
 ghost use Rattle.core_machine.specs.Reported.{ReportsWell};
 
 use core_machine::laws::reached_machines_report_well;

@@ -2,7 +2,7 @@
 
 ghost use Rattle.std.specs.Prelude.{◌≡◌, IfOk, length, map};
 ghost use Rattle.report_lines.specs.Contents.{items_of};
-ghost use Rattle.core_machine.specs.Core.{shown};
+ghost use Rattle.core_machine.specs.Machine.{shown};
 ghost use Rattle.machine_report.specs.Report.{answer_row, entry_row, order_line};
 
 use crate::reached::Reached;

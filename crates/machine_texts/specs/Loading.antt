@@ -5,7 +5,7 @@ use Rattle.script.specs.declared.fault.LineFault.{LineFault}
 use Rattle.script.specs.Machine.{machine_of}
 use Rattle.script.specs.Scripts.{scripts_of}
 use Rattle.machine_core.specs.order_abstract.specs.Load.{Load, load_of}
-use Rattle.machine_core.specs.core_machine.specs.Core.{Core, IsAfter}
+use Rattle.machine_core.specs.core_machine.specs.Machine.{Core, IsAfter}
 
 -- what is read next, unless the texts before have a fault
 infixl 10 ◌then◌

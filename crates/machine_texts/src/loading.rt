@@ -1,7 +1,7 @@
 ghost use Rattle.std.specs.Prelude.{IfErr, IfOk, []};
 ghost use Rattle.std.specs.Str.Lines.{lines};
 ghost use Rattle.machine_core.specs.order_abstract.specs.Load.{Load};
-ghost use Rattle.machine_core.specs.core_machine.specs.Core.{IsAfter};
+ghost use Rattle.machine_core.specs.core_machine.specs.Machine.{IsAfter};
 ghost use Rattle.machine_texts.specs.Loading.{HasLoaded, IsLoadFault, load_by};
 
 use machine_core::Machine;

@@ -13,7 +13,7 @@ use Rattle.machine_texts.specs.order_abstract.specs.Load.{Load}
 use Rattle.machine_texts.specs.order_abstract.specs.Scripts.{AreFinished}
 use Rattle.machine_texts.specs.core_laws.specs.Core.{after, records_of, run_of}
 use Rattle.machine_texts.specs.core_laws.specs.Runs.{IsAccepted}
-use Rattle.core_machine.specs.Core.{Core, IsAfter, all_finished, core_after, core_after_load, shown}
+use Rattle.core_machine.specs.Machine.{Core, IsAfter, all_finished, core_after, core_after_load, shown}
 use Rattle.core_machine.specs.Reported.{ReportsWell}
 use Rattle.history.specs.worker_run.specs.fabric.specs.fabric_rule.specs.Ended.{AreAllFinished}
 use Rattle.history.specs.worker_run.specs.fabric.specs.fabric_rule.specs.Groups.{GoesOn, Owns}

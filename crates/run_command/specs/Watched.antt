@@ -4,7 +4,7 @@ use Rattle.torus.specs.Shape.{tiles_of}
 use Rattle.torus.specs.declared.step.Step.{Step}
 use Rattle.script.specs.declared.fault.LineFault.{LineFault}
 use Rattle.machine_texts.specs.order_abstract.specs.Load.{Load}
-use Rattle.core_machine.specs.Core.{core_after_load}
+use Rattle.core_machine.specs.Machine.{core_after_load}
 use Rattle.history.specs.worker_run.specs.fabric.specs.Seats.{Knowing}
 use Rattle.history.specs.worker_run.specs.Calls.{Call}
 use Rattle.history.specs.worker_run.specs.Watching.{AreCallsOfRun}

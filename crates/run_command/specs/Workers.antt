@@ -8,7 +8,7 @@ use Rattle.script.specs.declared.fault.LineFault.{LineFault}
 use Rattle.machine_texts.specs.order_abstract.specs.Load.{Load}
 use Rattle.machine_texts.specs.order_abstract.specs.Scripts.{AreFinished}
 use Rattle.machine_texts.specs.core_laws.specs.Core.{after, run_of}
-use Rattle.core_machine.specs.Core.{IsLawful, all_finished, book_after, core_after_load}
+use Rattle.core_machine.specs.Machine.{IsLawful, all_finished, book_after, core_after_load}
 use Rattle.history.specs.worker_run.specs.fabric.specs.fabric_rule.specs.Ended.{AreAllFinished}
 use Rattle.history.specs.worker_run.specs.fabric.specs.fabric_rule.specs.Groups.{GoesOn, Owns}
 use Rattle.history.specs.worker_run.specs.fabric.specs.Ending.{Ended}

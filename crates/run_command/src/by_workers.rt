@@ -4,7 +4,7 @@ ghost use Rattle.std.specs.Str.Lines.{lines};
 ghost use Rattle.torus.specs.Shape.{tiles_of};
 ghost use Rattle.torus.specs.declared.fault.Fault.TheVariants as fault;
 ghost use Rattle.machine_texts.specs.order_abstract.specs.Load.{Load};
-ghost use Rattle.core_machine.specs.Core.{IsAfter};
+ghost use Rattle.core_machine.specs.Machine.{IsAfter};
 ghost use Rattle.machine_texts.specs.Loading.{load_by};
 ghost use Rattle.history.specs.worker_run.specs.fabric.specs.Opening.{fresh};
 ghost use Rattle.history.specs.worker_run.specs.fabric.specs.Seats.{IsOf};

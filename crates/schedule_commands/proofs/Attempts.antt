@@ -4,7 +4,7 @@ use Rattle.torus.specs.declared.step.Step.{Step}
 use Rattle.torus.specs.declared.step.Stepped.{Stepped}
 use Rattle.torus.specs.declared.step.Stepped.TheVariants.{Moved, Idle}
 use Rattle.core_machine.specs.core_laws.specs.Core.{State, step}
-use Rattle.core_machine.specs.Core.{Core, built_to, told, core_next, core_after}
+use Rattle.core_machine.specs.Machine.{Core, built_to, told, core_next, core_after}
 use Rattle.core_moves.specs.Enabled.{ahead_if_moved}
 use Rattle.core_moves.specs.Moves.{moves_from}
 use Rattle.core_moves.proofs.Moves.{machine_joined}

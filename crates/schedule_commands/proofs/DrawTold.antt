@@ -8,7 +8,7 @@ use Rattle.script.specs.Steps.{steps_of}
 use Rattle.core_machine.specs.order_abstract.specs.Load.{Load}
 use Rattle.core_machine.specs.core_progress.specs.Moves.{most_moves}
 use Rattle.machine_texts.specs.Loading.{HasLoaded}
-use Rattle.core_machine.specs.Core.{Core, IsAfter, all_finished, core_after, core_after_load}
+use Rattle.core_machine.specs.Machine.{Core, IsAfter, all_finished, core_after, core_after_load}
 use Rattle.core_machine.proofs.Machines.{named_machine, after_steps}
 use Rattle.core_machine.proofs.Moves.{all_moves}
 use Rattle.core_moves.specs.Moves.{AreMoves, moves_of}

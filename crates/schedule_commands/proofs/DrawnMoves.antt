@@ -9,7 +9,7 @@ use Rattle.rounds.specs.Rounds.{if_enabled, first_enabled, moves_in, one_if_move
 use Rattle.core_machine.specs.order_abstract.specs.Load.{Load}
 use Rattle.core_machine.specs.core_laws.specs.Core.{State, step, round}
 use Rattle.core_machine.specs.core_progress.specs.Moves.{most_moves}
-use Rattle.core_machine.specs.Core.{Core, IsAfter, built_to, core_next, core_after, all_finished}
+use Rattle.core_machine.specs.Machine.{Core, IsAfter, built_to, core_next, core_after, all_finished}
 use Rattle.core_machine.proofs.Machines.{after_steps}
 use Rattle.core_machine.proofs.Moves.{lives, most_left}
 use Rattle.core_moves.specs.Enabled.{ahead_if_moved}

@@ -10,7 +10,7 @@ use Rattle.torus.specs.declared.step.Step.{Step}
 use Rattle.core_machine.specs.order_abstract.specs.Load.{Load}
 use Rattle.core_machine.specs.core_laws.specs.Core.{round}
 use Rattle.machine_core.specs.Rounds.{rounds_of}
-use Rattle.core_machine.specs.Core.{Core, IsAfter, all_finished, core_after, core_after_load}
+use Rattle.core_machine.specs.Machine.{Core, IsAfter, all_finished, core_after, core_after_load}
 use Rattle.core_machine.proofs.Machines.{named_machine, after_steps}
 use Rattle.core_moves.specs.Moves.{moves_from}
 use Rattle.schedule_lines.specs.declared.line.ScheduleLine.{ScheduleLine}

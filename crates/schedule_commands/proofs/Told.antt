@@ -15,7 +15,7 @@ use Rattle.core_machine.specs.core_laws.specs.Core.{round, run_of}
 use Rattle.core_machine.specs.core_laws.specs.Runs.{IsAccepted}
 use Rattle.machine_core.specs.Rounds.{rounds_of}
 use Rattle.machine_texts.specs.Loading.{HasLoaded}
-use Rattle.core_machine.specs.Core.{Core, IsAfter, all_finished, core_after, core_after_load}
+use Rattle.core_machine.specs.Machine.{Core, IsAfter, all_finished, core_after, core_after_load}
 use Rattle.core_machine.proofs.Machines.{named_machine, stands_after, after_steps, finished_of_machine}
 use Rattle.core_moves.specs.Moves.{moves_of, moves_from}
 use Rattle.core_moves.proofs.Moves.{load_machine, machine_further}

@@ -7,7 +7,7 @@ use Rattle.script.specs.Machine.{machine_of}
 use Rattle.script.specs.Scripts.{scripts_of}
 use Rattle.script.specs.Steps.{steps_of}
 use Rattle.core_machine.specs.order_abstract.specs.Load.{Load, load_of}
-use Rattle.core_machine.specs.Core.{Core, IsAfter}
+use Rattle.core_machine.specs.Machine.{Core, IsAfter}
 use Rattle.machine_texts.specs.Loading.{◌then◌}
 use Rattle.program_fault.specs.declared.fault.ProgramFault.{ProgramFault}
 use Rattle.program_fault.specs.declared.fault.ProgramFault.TheVariants as program

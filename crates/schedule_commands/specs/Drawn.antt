@@ -6,7 +6,7 @@ use Rattle.script.specs.declared.fault.LineFault.{LineFault}
 use Rattle.core_machine.specs.order_abstract.specs.Load.{Load}
 use Rattle.core_machine.specs.core_laws.specs.Core.{step, round}
 use Rattle.core_machine.specs.core_progress.specs.Moves.{most_moves}
-use Rattle.core_machine.specs.Core.{Core, built_to, core_next, core_after_load, all_finished}
+use Rattle.core_machine.specs.Machine.{Core, built_to, core_next, core_after_load, all_finished}
 use Rattle.core_moves.specs.Moves.{AreMoves}
 use Rattle.rand_xoshiro.specs.SplitMix64.{mix_u64}
 use Rattle.schedule_lines.specs.Line.{text_of}

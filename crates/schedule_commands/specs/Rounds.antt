@@ -5,7 +5,7 @@ use Rattle.torus.specs.declared.step.Step.{Step}
 use Rattle.core_machine.specs.order_abstract.specs.Load.{Load}
 use Rattle.core_machine.specs.core_laws.specs.Core.{round}
 use Rattle.machine_core.specs.Rounds.{rounds_of}
-use Rattle.core_machine.specs.Core.{Core, IsAfter, core_after_load, all_finished}
+use Rattle.core_machine.specs.Machine.{Core, IsAfter, core_after_load, all_finished}
 use Rattle.core_moves.specs.Moves.{moves_from}
 use Rattle.schedule_lines.specs.Line.{text_of}
 use Rattle.schedule_lines.specs.Schedule.{lines_of_rounds}

@@ -9,7 +9,7 @@ use Rattle.core_machine.specs.order_abstract.specs.Load.{Load}
 use Rattle.core_machine.specs.order_abstract.specs.Scripts.{AreFinished}
 use Rattle.core_machine.specs.core_laws.specs.Core.{run_of}
 use Rattle.machine_core.specs.Rounds.{rounds_of}
-use Rattle.core_machine.specs.Core.{core_after_load, all_finished}
+use Rattle.core_machine.specs.Machine.{core_after_load, all_finished}
 use Rattle.core_moves.specs.Moves.{moves_of}
 use Rattle.schedule_lines.specs.Line.{text_of}
 use Rattle.schedule_lines.specs.Schedule.{schedule_of, moves_schedule}

@@ -3,7 +3,7 @@ ghost use Rattle.std.specs.Str.Lines.{lines};
 ghost use Rattle.core_machine.specs.order_abstract.specs.Load.{Load};
 ghost use Rattle.core_machine.specs.core_laws.specs.Core.{round};
 ghost use Rattle.machine_texts.specs.Loading.{HasLoaded, load_by};
-ghost use Rattle.core_machine.specs.Core.{IsAfter};
+ghost use Rattle.core_machine.specs.Machine.{IsAfter};
 ghost use Rattle.program_fault.specs.Done.{output};
 ghost use Rattle.schedule_commands.specs.Asked.{IsReadFault};
 ghost use Rattle.schedule_commands.specs.Rounds.{PutsRounds};

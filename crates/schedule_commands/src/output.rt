@@ -1,7 +1,7 @@
 //! What is put of a schedule: a line, the moves among attempts, and the last line.
 
 ghost use Rattle.std.specs.Prelude.{◌≡◌, ◌∷◌, [], IfOk, OnOk};
-ghost use Rattle.core_machine.specs.Core.{core_next, core_after, all_finished};
+ghost use Rattle.core_machine.specs.Machine.{core_next, core_after, all_finished};
 ghost use Rattle.core_moves.specs.Moves.{moves_from};
 ghost use Rattle.schedule_lines.specs.declared.line.ScheduleLine.TheVariants.{End};
 ghost use Rattle.schedule_lines.specs.Line.{line_text, text_of};

@@ -13,7 +13,7 @@ use Rattle.schedule_lines.specs.Schedule.{IsStepOf, schedule_of, moves_schedule}
 use Rattle.schedule_lines.proofs.Again.{rounds_read_back, moves_read_back}
 use Rattle.core_machine.specs.core_laws.specs.Core.{Load, design_of, first_tile, first_state}
 use Rattle.core_machine.specs.core_laws.specs.Runs.{IsAccepted}
-use Rattle.core_machine.specs.Core.{Core, IsAfter}
+use Rattle.core_machine.specs.Machine.{Core, IsAfter}
 use Rattle.core_moves.specs.Moves.{moves_of, moves_from}
 use Rattle.core_moves.proofs.Moves.{machine_further}
 use Rattle.schedule_runs.proofs.OfTorus.{enabled_are}

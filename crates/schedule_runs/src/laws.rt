@@ -9,7 +9,7 @@ ghost use Rattle.schedule_lines.specs.Line.{text_of};
 ghost use Rattle.schedule_lines.specs.Schedule.{IsStepOf, schedule_of, moves_schedule};
 ghost use Rattle.core_machine.specs.core_laws.specs.Core.{Load};
 ghost use Rattle.core_machine.specs.core_laws.specs.Runs.{IsAccepted};
-ghost use Rattle.core_machine.specs.Core.{Core, IsAfter};
+ghost use Rattle.core_machine.specs.Machine.{Core, IsAfter};
 ghost use Rattle.core_moves.specs.Moves.{moves_of, moves_from};
 
 /// The moves of a list of steps, from an accepted load and from a machine that steps led to, are of

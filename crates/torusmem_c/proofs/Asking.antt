@@ -11,7 +11,7 @@ use Rattle.torus.specs.declared.step.Step.{Step}
 use Rattle.machine_handle.specs.machine_core.specs.core_laws.specs.Core.{Load}
 use Rattle.machine_handle.specs.machine_core.specs.core_growth.specs.Appended.{load_with}
 use Rattle.machine_handle.specs.machine_core.specs.core_reopening.specs.Handed.{refused}
-use Rattle.machine_handle.specs.core_machine.specs.Core.{IsAfter}
+use Rattle.machine_handle.specs.core_machine.specs.Machine.{IsAfter}
 use Rattle.machine_handle.specs.machine_asked.specs.Asked.{Asked, IsNumbered, has_spin, index_asked, is_behind_spin, is_operation}
 use Rattle.torusmem_c.specs.declared.outcome.Outcome.{Outcome}
 use Rattle.torusmem_c.specs.declared.outcome.Code.TheVariants as code

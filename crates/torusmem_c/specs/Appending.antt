@@ -10,7 +10,7 @@ use Rattle.script.specs.declared.line.Line.{Line}
 use Rattle.script.specs.declared.line.Line.TheVariants as line
 use Rattle.script.specs.declared.line.Value.{Value}
 use Rattle.script.specs.declared.line.Value.TheVariants.{Number, Last}
-use Rattle.machine_handle.specs.core_machine.specs.Core.{IsAfter}
+use Rattle.machine_handle.specs.core_machine.specs.Machine.{IsAfter}
 use Rattle.machine_handle.specs.machine_asked.specs.Asked.{Asked, IsNumbered, has_spin, is_behind_spin, spins_with}
 use Rattle.machine_handle.specs.machine_core.specs.core_laws.specs.Core.{Load}
 use Rattle.machine_handle.specs.machine_core.specs.core_growth.specs.Appended.{load_with}

@@ -2,7 +2,7 @@
 use Rattle.std.specs.Prelude.{◌≡◌, ◌⊎◌, ℕ, List, map, Result, Ok, Option, Some, None}
 use Rattle.script.specs.declared.fault.LineFault.{LineFault}
 use Rattle.machine_handle.specs.machine_core.specs.order_abstract.specs.Load.{Load}
-use Rattle.machine_handle.specs.core_machine.specs.Core.{Core}
+use Rattle.machine_handle.specs.core_machine.specs.Machine.{Core}
 use Rattle.machine_handle.specs.machine_asked.specs.Asked.{Asked, has_spin}
 use Rattle.report_lines.specs.Line.{text_of}
 use Rattle.report_check.specs.Good.{GoodReport, HasFault}

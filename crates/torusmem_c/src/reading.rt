@@ -3,7 +3,7 @@
 ghost use Rattle.std.specs.Prelude.{◌≡◌, None, length};
 ghost use Rattle.core_row.specs.Row.{row_of};
 ghost use Rattle.machine_handle.specs.Held.{held};
-ghost use Rattle.machine_handle.specs.core_machine.specs.Core.{built_to};
+ghost use Rattle.machine_handle.specs.core_machine.specs.Machine.{built_to};
 ghost use Rattle.torusmem_c.specs.Room.{put_over, put_outcome};
 ghost use Rattle.torusmem_c.specs.Held.{OfHeld, OnHeld, Tells};
 ghost use Rattle.torusmem_c.specs.Records.{no_answer, no_entry};

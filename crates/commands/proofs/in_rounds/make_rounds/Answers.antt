@@ -1,7 +1,7 @@
 -- The rounds stop where every script is finished, or where no more are allowed; who watches is told of each, and changes nothing of it.
 use Rattle.std.proofs.Common.{◌≡◌, ℕ, ◌+◌, [], refl, sym, subst, ◌∙◌, arith}
 use Rattle.machine_texts.specs.order_abstract.specs.Load.{Load}
-use Rattle.core_machine.specs.Core.{IsAfter}
+use Rattle.core_machine.specs.Machine.{IsAfter}
 use Rattle.commands.specs.Rounds.{AreFewest}
 use Rattle.commands.specs.Telling.{AreCallsOf}
 use Rattle.commands.proofs.InRounds.{HasMade, as_allowed, enough, none_made, one_more}

@@ -1,6 +1,6 @@
 use Rattle.std.proofs.Common.{[]}
 use Rattle.machine_texts.specs.order_abstract.specs.Load.{Load}
-use Rattle.core_machine.specs.Core.{IsAfter}
+use Rattle.core_machine.specs.Machine.{IsAfter}
 use Rattle.commands.specs.Telling.{AreCallsOf, HearsSome}
 use Rattle.commands.proofs.InRounds.{HasMade}
 use Rattle.commands.proofs.in_rounds.make_rounds.Given as goal

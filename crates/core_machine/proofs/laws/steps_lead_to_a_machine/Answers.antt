@@ -1,5 +1,5 @@
 use Rattle.core_machine.proofs.Machines.{stands_after, reports_well}
-use Rattle.core_machine.specs.Core.{core_after_load}
+use Rattle.core_machine.specs.Machine.{core_after_load}
 use Rattle.core_machine.proofs.laws.steps_lead_to_a_machine.Goals as goal
 
 pub returns : goal.returns

@@ -1,5 +1,5 @@
 use Rattle.core_machine.specs.core_laws.specs.Core.{step}
-use Rattle.core_machine.specs.Core.{built_to}
+use Rattle.core_machine.specs.Machine.{built_to}
 use Rattle.core_moves.proofs.Enabled as generic
 use Rattle.core_moves.proofs.Moves.{machine_alike, machine_again, machine_all, machine_enabled, machine_count, machine_joined, machine_stands}
 use Rattle.core_moves.proofs.Moves.{machine_further, machine_few}

@@ -1,6 +1,6 @@
 use Rattle.std.proofs.Common.{sym, ◌∙◌, ap, arith}
 use Rattle.std.specs.Option.{option_copied}
-use Rattle.core_machine.specs.Core.{shown}
+use Rattle.core_machine.specs.Machine.{shown}
 use Rattle.machine_report.specs.Report.{entry_row}
 use Rattle.machine_report.proofs.RowMore.{row_more, none_past}
 use Rattle.machine_report.proofs.rows.bank_rows.Goals.{in-Some+in_ok-entry_rows+in_ok-push, in_default}

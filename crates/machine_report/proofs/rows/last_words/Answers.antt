@@ -1,5 +1,5 @@
 use Rattle.std.proofs.Common.{sym, ◌∙◌, ap, arith}
-use Rattle.core_machine.specs.Core.{shown}
+use Rattle.core_machine.specs.Machine.{shown}
 use Rattle.machine_report.proofs.RowMore.{word_more, none_past}
 use Rattle.machine_report.proofs.rows.last_words.Goals.{in-Some+in_ok-push, in_default}
 use Rattle.machine_report.proofs.rows.last_words.Goals as goal

@@ -1,5 +1,5 @@
 use Rattle.std.proofs.Common.{◌≡◌, take}
-use Rattle.core_machine.specs.Core.{shown}
+use Rattle.core_machine.specs.Machine.{shown}
 use Rattle.machine_report.proofs.rows.last_words.Given as goal
 
 -- the words of the addresses so far are there

@@ -1,6 +1,6 @@
 use Rattle.std.proofs.Common.{◌≡◌, map, take}
 use Rattle.report_lines.specs.Contents.{items_of}
-use Rattle.core_machine.specs.Core.{shown}
+use Rattle.core_machine.specs.Machine.{shown}
 use Rattle.machine_report.specs.Report.{answer_row}
 use Rattle.machine_report.proofs.rows.processor_rows.Given as goal
 

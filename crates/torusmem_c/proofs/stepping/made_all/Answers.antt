@@ -3,7 +3,7 @@ use Rattle.std.proofs.lemmas.List.{at_drop_all}
 use Rattle.torus.specs.declared.step.Step.{Step}
 use Rattle.rounds.specs.Rounds.{moves_in}
 use Rattle.machine_handle.specs.machine_core.specs.core_laws.specs.Core.{step}
-use Rattle.machine_handle.specs.core_machine.specs.Core.{Core, IsAfter, built_to, core_after}
+use Rattle.machine_handle.specs.core_machine.specs.Machine.{Core, IsAfter, built_to, core_after}
 use Rattle.machine_handle.specs.core_machine.proofs.Machines.{after_steps}
 use Rattle.torusmem_c.specs.declared.outcome.Code.TheVariants as code
 use Rattle.torusmem_c.specs.declared.stepping.AttemptRecord.{AttemptRecord}

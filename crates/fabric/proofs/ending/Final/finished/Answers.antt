@@ -4,7 +4,7 @@ use Rattle.std.proofs.lemmas.Iterator.Search.{all_from_yields_List}
 use Rattle.fabric_rule.specs.order_abstract.specs.Scripts.{AreFinished}
 use Rattle.fabric_rule.specs.core_laws.specs.Core.{run_of, after}
 use Rattle.fabric_rule.specs.core_laws.specs.Runs.{IsAccepted}
-use Rattle.fabric_rule.specs.core_machine.specs.Core.{all_finished}
+use Rattle.fabric_rule.specs.core_machine.specs.Machine.{all_finished}
 use Rattle.fabric_rule.specs.core_machine.proofs.Lawful.{finishes}
 use Rattle.fabric.specs.Ending.{Ended, slot_finished}
 use Rattle.fabric.proofs.EndsShown.{finished_slots}

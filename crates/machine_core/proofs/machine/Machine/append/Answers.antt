@@ -1,5 +1,5 @@
 use Rattle.std.proofs.Common.{◌≡◌, None, sym, ◌∙◌, subst}
-use Rattle.machine_growth.specs.core_machine.specs.Core.{Core, IsAfter}
+use Rattle.machine_growth.specs.core_machine.specs.Machine.{Core, IsAfter}
 use Rattle.machine_growth.specs.core_growth.specs.Appended.{load_with}
 use Rattle.machine_growth.specs.core_reopening.specs.Handed.{refused, moves_kept}
 use Rattle.machine_growth.specs.core_reopening.proofs.Handed.{stands, taken}

@@ -3,7 +3,7 @@ use Rattle.torus.specs.declared.step.Step.{Step}
 use Rattle.torus.specs.declared.step.Choice.{Choice}
 use Rattle.torus.specs.declared.step.Choice.TheVariants.{Send, Take, Credit, Done, Look}
 use Rattle.machine_growth.specs.core_laws.specs.Core.{attempts_of}
-use Rattle.machine_growth.specs.core_machine.specs.Core.{Core}
+use Rattle.machine_growth.specs.core_machine.specs.Machine.{Core}
 use Rattle.machine_core.proofs.Rounds.{attempt_more, tile_stays_once}
 use Rattle.machine_core.proofs.machine.Machine.attempt_processor.Goals as goal
 

@@ -2,7 +2,7 @@ use Rattle.std.proofs.Common.{◌≡◌, ◌+◌, ◌*◌, ◌<◌, ◌≤◌, N
 use Rattle.std.specs.Prelude.{is_some}
 use Rattle.torus.specs.Shape.{Shape, dims_of, tiles_of}
 use Rattle.machine_growth.specs.core_progress.specs.Moves.{enabled_step}
-use Rattle.machine_growth.specs.core_machine.specs.Core.{Core, IsAfter, built_to}
+use Rattle.machine_growth.specs.core_machine.specs.Machine.{Core, IsAfter, built_to}
 use Rattle.machine_core.specs.Rounds.{first_in}
 use Rattle.machine_core.proofs.Rounds.{all_parts}
 use Rattle.machine_core.proofs.FirstEnabled.{picks, passes, tile_next, tile_past, tile_start}

@@ -6,7 +6,7 @@ use Rattle.machine_growth.specs.order_abstract.specs.Scripts.{AreFinished}
 use Rattle.machine_growth.specs.tile.specs.Placed.{PlacedTile}
 use Rattle.machine_growth.specs.core_laws.specs.Core.{run_of}
 use Rattle.machine_growth.specs.core_progress.specs.Moves.{IsLive}
-use Rattle.machine_growth.specs.core_machine.specs.Core.{Core, built_to, all_finished}
+use Rattle.machine_growth.specs.core_machine.specs.Machine.{Core, built_to, all_finished}
 use Rattle.machine_growth.specs.core_machine.proofs.Machines.{finished_of_machine}
 use Rattle.machine_growth.specs.core_machine.proofs.Moves.{lives}
 use Rattle.machine_core.specs.Inside.{core_of}
