@@ -3,6 +3,7 @@
 ghost use Rattle.std.specs.Prelude.{◌<◌, IfOk};
 ghost use Rattle.torus.specs.Shape.{tiles_of};
 
+use flit_buffer::WordOp;
 use std::alloc::AllocError;
 use torus::{Choice, Stepped, Torus};
 
@@ -21,6 +22,14 @@ pub(crate) fn ring_of(tiles: u32, tile: u32) -> Result<Torus, AllocError>
         Ok(torus)
     } else {
         Err(AllocError)
+    }
+}
+
+/// What an attempt comes to that answers the operation by which it moved.
+pub(crate) fn stepped(moved: Option<WordOp>) -> Stepped {
+    match moved {
+        Some(_) => Stepped::Moved,
+        None => Stepped::Idle,
     }
 }
 

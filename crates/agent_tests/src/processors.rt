@@ -2,7 +2,7 @@ ghost use Rattle.std.specs.Prelude.{◌<◌, ◌≤◌};
 ghost use Rattle.script.specs.Scripts.{operation_count};
 ghost use Rattle.script_follower.specs.Scripts.{IsFollowable};
 
-use crate::bench::{Agent, Bench, Event, IDLE, MOVED, ring_of};
+use crate::bench::{Agent, Bench, Event, IDLE, MOVED, ring_of, stepped};
 use flit_buffer::perform;
 use net_interface::{Answer, Processor};
 use packet::{Op, Reply};
@@ -18,7 +18,7 @@ impl Agent for Processor {
             return None;
         }
         if at_once {
-            return Some(self.attempt(choice, row));
+            return Some(stepped(self.attempt(choice, row)));
         }
         let got = perform(op, row);
         Some(self.absorb(choice, got))

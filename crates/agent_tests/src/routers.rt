@@ -1,4 +1,4 @@
-use crate::bench::{Agent, Bench, Event, IDLE, MOVED, ring_of};
+use crate::bench::{Agent, Bench, Event, IDLE, MOVED, ring_of, stepped};
 use flit_buffer::perform;
 use router::Router;
 use std::alloc::{AllocError, Global};
@@ -12,7 +12,7 @@ impl Agent for Router {
             return None;
         }
         if at_once {
-            return Some(self.attempt(choice, row));
+            return Some(stepped(self.attempt(choice, row)));
         }
         let got = perform(op, row);
         Some(self.absorb(choice, got))

@@ -50,7 +50,10 @@ impl Bench {
             return None;
         }
         if self.at_once {
-            return Some(self.bank.attempt(choice, &mut self.row));
+            return Some(match self.bank.attempt(choice, &mut self.row) {
+                Some(_) => Stepped::Moved,
+                None => Stepped::Idle,
+            });
         }
         let got = perform(op, &mut self.row);
         Some(self.bank.absorb(choice, got))

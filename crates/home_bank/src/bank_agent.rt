@@ -1,7 +1,7 @@
 //! The bank of a tile, as an agent.
 
 ghost use Rattle.std.specs.Prelude.{◌≡◌, ◌<◌, ◌≤◌, ◌↔◌, ◌*◌, length, IsTrue, IfOk, IfSome, IsSome, MatchOption};
-ghost use Rattle.std.specs.Prelude.{vec_len, slice_index, Some, is_some, ◌+◌, ◌-◌};
+ghost use Rattle.std.specs.Prelude.{vec_len, slice_index, Some, None, is_some, ◌+◌, ◌-◌};
 ghost use Rattle.torus.specs.Shape.{tiles_of};
 ghost use Rattle.torus.specs.declared.step.Choice.TheVariants as choice;
 ghost use Rattle.torus.specs.declared.step.Stepped.TheVariants as stepped;
@@ -143,6 +143,7 @@ impl<A: Allocator> BankAgent<A> {
 
     /// Takes the word that the operation of a choice found. A head flit of a request that is taken
     /// names a word below 65536 (`is_acceptable`), and a service has room for its entry (`is_full`).
+    #[inline(always)]
     pub fn absorb(&mut self, choice: Choice, got: u64) -> Stepped
         requires tried { IsSome
             (next_op (bank_wants self.old.tiles self.old.tile) self.old.agent choice) }
@@ -165,9 +166,9 @@ impl<A: Allocator> BankAgent<A> {
     }
 
     /// Tries a choice over a row, at once: performs its operation, if it has one, and takes the word
-    /// found.
+    /// found. Answers the operation by which the choice moved; None exactly where it is idle.
     #[inline(always)]
-    pub fn attempt<B: Allocator>(&mut self, choice: Choice, row: &mut Vec<u64, B>) -> Stepped
+    pub fn attempt<B: Allocator>(&mut self, choice: Choice, row: &mut Vec<u64, B>) -> Option<WordOp>
         requires room { IfSome
             (next_op (bank_wants self.old.tiles self.old.tile) self.old.agent choice)
             (λ o. word_of o < vec_len row.old) }
@@ -181,17 +182,16 @@ impl<A: Allocator> BankAgent<A> {
         ensures step { MatchOption
             (attempted (bank_wants self.old.tiles self.old.tile)
             (bank_after self.old.tiles self.old.tile) self.old.agent choice row.old.items)
-            ((result ≡ stepped.Idle) × (self.new ≡ self.old))
-            (λ a. (result ≡ stepped.Moved) × (self.new ≡ bank_with_agent self.old a)) }
+            ((result ≡ None) × (self.new ≡ self.old))
+            (λ a. (result
+            ≡ next_op (bank_wants self.old.tiles self.old.tile) self.old.agent choice)
+            × (self.new ≡ bank_with_agent self.old a)) }
     {
-        let Some(want) = self.wants(choice) else {
-            return Stepped::Idle;
-        };
-        let Some(learned) = self.ports.attempt(want, row) else {
-            return Stepped::Idle;
-        };
+        let want = self.wants(choice)?;
+        let op = self.ports.op(want)?;
+        let learned = self.ports.attempt(want, row)?;
         self.note(choice, learned);
-        Stepped::Moved
+        Some(op)
     }
 
     /// Whether an attempt of a choice over a row would move. Nothing changes.

@@ -1,4 +1,4 @@
-ghost use Rattle.std.specs.Prelude.{◌≡◌, ◌<◌, ◌≤◌, ◌+◌, ◌==◌, Option, is_some, unwrap_or, true};
+ghost use Rattle.std.specs.Prelude.{◌≡◌, ◌<◌, ◌≤◌, ◌+◌, ◌==◌, Option, None, is_some, unwrap_or, true};
 ghost use Rattle.std.specs.Prelude.{vec_len, slice_index, IsTrue, IfOk, IfSome, IsSome, MatchOption};
 ghost use Rattle.torus.specs.Shape.{tiles_of};
 ghost use Rattle.torus.specs.declared.step.Choice.TheVariants as chosen;
@@ -211,6 +211,7 @@ impl<A: Allocator> Processor<A> {
 
     /// Takes the word that the operation of a choice found. A reply that is whole with a flit that is
     /// taken is one to an operation that holds its tag.
+    #[inline(always)]
     pub fn absorb(&mut self, choice: Choice, got: u64) -> Stepped
         requires tried { IsSome
             (next_op (processor_wants self.old.tiles self.old.words self.old.tile) self.old.agent
@@ -233,9 +234,9 @@ impl<A: Allocator> Processor<A> {
     }
 
     /// Tries a choice over a row, at once: performs its operation, if it has one, and takes the word
-    /// found.
+    /// found. Answers the operation by which the choice moved; None exactly where it is idle.
     #[inline(always)]
-    pub fn attempt<B: Allocator>(&mut self, choice: Choice, row: &mut Vec<u64, B>) -> Stepped
+    pub fn attempt<B: Allocator>(&mut self, choice: Choice, row: &mut Vec<u64, B>) -> Option<WordOp>
         requires room { IfSome
             (next_op (processor_wants self.old.tiles self.old.words self.old.tile) self.old.agent
             choice) (λ o. word_of o < vec_len row.old) }
@@ -250,17 +251,16 @@ impl<A: Allocator> Processor<A> {
         ensures step { MatchOption
             (attempted (processor_wants self.old.tiles self.old.words self.old.tile)
             (processor_after self.old.tiles self.old.words self.old.tile) self.old.agent choice
-            row.old.items) ((result ≡ stepped.Idle) × (self.new ≡ self.old))
-            (λ a. (result ≡ stepped.Moved) × (self.new ≡ processor_with_agent self.old a)) }
+            row.old.items) ((result ≡ None) × (self.new ≡ self.old))
+            (λ a. (result
+            ≡ next_op (processor_wants self.old.tiles self.old.words self.old.tile) self.old.agent
+            choice) × (self.new ≡ processor_with_agent self.old a)) }
     {
-        let Some(want) = self.wants(choice) else {
-            return Stepped::Idle;
-        };
-        let Some(learned) = self.ports.attempt(want, row) else {
-            return Stepped::Idle;
-        };
+        let want = self.wants(choice)?;
+        let op = self.ports.op(want)?;
+        let learned = self.ports.attempt(want, row)?;
         self.note(choice, want, learned);
-        Stepped::Moved
+        Some(op)
     }
 
     /// Whether an attempt of a choice over a row would move. Nothing changes.

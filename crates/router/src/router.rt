@@ -1,5 +1,5 @@
 ghost use Rattle.std.specs.Prelude.{◌≡◌, ℕ, ◌<◌, ◌≤◌, length, IsTrue, ◌↔◌, vec_len, slice_index, slice_index_or};
-ghost use Rattle.std.specs.Prelude.{Some, IfOk, IfSome, IsSome, MatchOption, is_some};
+ghost use Rattle.std.specs.Prelude.{Some, None, IfOk, IfSome, IsSome, MatchOption, is_some};
 ghost use Rattle.torus.specs.Shape.{tiles_of, dims_of};
 ghost use Rattle.torus.specs.declared.step.Stepped.TheVariants as stepped;
 ghost use Rattle.flit_buffer.specs.Agent.{next_op, absorbed, attempted};
@@ -185,6 +185,7 @@ impl<A: Allocator> Router<A> {
     }
 
     /// Takes the word that the operation of a choice found. A head flit that is taken names a tile.
+    #[inline(always)]
     pub fn absorb(&mut self, choice: Choice, got: u64) -> Stepped
         requires tried { IsSome
             (next_op (router_wants self.old.torus self.old.tile) self.old.agent choice) }
@@ -205,9 +206,9 @@ impl<A: Allocator> Router<A> {
     }
 
     /// Tries a choice over a row, at once: performs its operation, if it has one, and takes the word
-    /// found.
+    /// found. Answers the operation by which the choice moved; None exactly where it is idle.
     #[inline(always)]
-    pub fn attempt<B: Allocator>(&mut self, choice: Choice, row: &mut Vec<u64, B>) -> Stepped
+    pub fn attempt<B: Allocator>(&mut self, choice: Choice, row: &mut Vec<u64, B>) -> Option<WordOp>
         requires room { IfSome
             (next_op (router_wants self.old.torus self.old.tile) self.old.agent choice)
             (λ o. word_of o < vec_len row.old) }
@@ -219,17 +220,16 @@ impl<A: Allocator> Router<A> {
             (next_op (router_wants self.old.torus self.old.tile) self.old.agent choice) }
         ensures step { MatchOption
             (attempted (router_wants self.old.torus self.old.tile) router_after self.old.agent
-            choice row.old.items) ((result ≡ stepped.Idle) × (self.new ≡ self.old))
-            (λ a. (result ≡ stepped.Moved) × (self.new ≡ router_with_agent self.old a)) }
+            choice row.old.items) ((result ≡ None) × (self.new ≡ self.old))
+            (λ a. (result
+            ≡ next_op (router_wants self.old.torus self.old.tile) self.old.agent choice)
+            × (self.new ≡ router_with_agent self.old a)) }
     {
-        let Some(want) = self.wants(choice) else {
-            return Stepped::Idle;
-        };
-        let Some(learned) = self.ports.attempt(want, row) else {
-            return Stepped::Idle;
-        };
+        let want = self.wants(choice)?;
+        let op = self.ports.op(want)?;
+        let learned = self.ports.attempt(want, row)?;
         self.note(choice, want, learned);
-        Stepped::Moved
+        Some(op)
     }
 
     /// Whether an attempt of a choice over a row would move. Nothing changes.

@@ -1,17 +1,14 @@
-ghost use Rattle.std.specs.Prelude.{◌≡◌, ◌<◌, ◌≤◌, length, IfOk, IfSome, IsSome, MatchOption};
-ghost use Rattle.std.specs.Prelude.{vec_len, slice_index, is_some, true, ℕ, ◌+◌, ◌-◌, OnOk, OnErr};
+ghost use Rattle.std.specs.Prelude.{◌≡◌, ◌<◌, ◌≤◌, None, length, IfOk, IfSome, IsSome, MatchOption};
+ghost use Rattle.std.specs.Prelude.{vec_len, slice_index, is_some};
 ghost use Rattle.torus.specs.Shape.{tiles_of};
 ghost use Rattle.torus.specs.declared.step.Stepped.TheVariants as stepped;
-ghost use Rattle.script.specs.Scripts.{operation_count, operations_of, mentions_last};
+ghost use Rattle.script.specs.Scripts.{operation_count};
 ghost use Rattle.flit_buffer.specs.Tries.{performed_by};
 ghost use Rattle.flit_buffer.specs.Words.{word_of};
 ghost use Rattle.tile_laws.specs.script_follower.specs.Scripts.{IsFollowable};
-ghost use Rattle.tile_laws.specs.script_follower.specs.Following.{left_of};
-ghost use Rattle.tile_laws.specs.script_follower.specs.ProcessorTable.{processor_with, processor_open};
 ghost use Rattle.tile_laws.specs.declared.agent.Agent.TheVariants.{Processor as ProcessorAgent, Router as RouterAgent, Bank as BankOfTile};
 ghost use Rattle.tile_laws.specs.Agents.{agent_op, tile_next_op, tile_absorbed, agent_kind};
-ghost use Rattle.tile.specs.Placed.{with_place, with_room, with_processor, first_tile, IsAcceptableTo, HasRoomForEntry, agent_attempted};
-ghost use Rattle.tile.specs.Placed.{tile_attempted};
+ghost use Rattle.tile.specs.Placed.{with_place, first_tile, IsAcceptableTo, HasRoomForEntry, agent_attempted, tile_attempted};
 
 use flit_buffer::WordOp;
 use home_bank::BankAgent;
@@ -90,6 +87,7 @@ impl<A: Allocator + Copy> TileAgents<A> {
 impl<A: Allocator> TileAgents<A> {
     /// The word operation of a step; None exactly when the step is of another tile, or its agent
     /// hasn't that choice, or the choice's condition fails.
+    #[inline(always)]
     pub fn next_op(&self, step: Step) -> Option<WordOp>
         ensures { result ≡ tile_next_op self.now.place step }
     {
@@ -130,6 +128,7 @@ impl<A: Allocator> TileAgents<A> {
 
     /// Takes the word that the operation of a step found. What is taken is as the step's agent asks,
     /// and a service has room for its entry.
+    #[inline(always)]
     pub fn absorb(&mut self, step: Step, got: u64) -> Stepped
         requires tried { IsSome (tile_next_op self.old.place step) }
         requires flit { IsAcceptableTo self.old.place (agent_kind step.agent) step.choice
@@ -149,14 +148,15 @@ impl<A: Allocator> TileAgents<A> {
         }
     }
 
-    /// Tries a choice of the processor over a row, at once: performs its operation, if it has one,
-    /// and takes the word found.
+    /// Tries a choice of the processor over a row, at once: performs its operation, if it has one, and
+    /// takes the word found. Answers the operation by which the choice moved; None exactly where it is
+    /// idle.
     #[inline(always)]
     pub fn attempt_processor<B: Allocator>(
         &mut self,
         choice: Choice,
         row: &mut Vec<u64, B>,
-    ) -> Stepped
+    ) -> Option<WordOp>
         requires room { IfSome (agent_op self.old.place ProcessorAgent choice)
             (λ o. word_of o < vec_len row.old) }
         requires flit { IfSome (agent_op self.old.place ProcessorAgent choice)
@@ -166,15 +166,20 @@ impl<A: Allocator> TileAgents<A> {
             ≡ performed_by row.old.items (agent_op self.old.place ProcessorAgent choice) }
         ensures step { MatchOption
             (agent_attempted self.old.place ProcessorAgent choice row.old.items)
-            ((result ≡ stepped.Idle) × (self.new ≡ self.old))
-            (λ p. (result ≡ stepped.Moved) × (self.new ≡ with_place self.old p)) }
+            ((result ≡ None) × (self.new ≡ self.old))
+            (λ p. (result ≡ agent_op self.old.place ProcessorAgent choice)
+            × (self.new ≡ with_place self.old p)) }
     {
         self.processor.attempt(choice, row)
     }
 
     /// Tries a choice of the router over a row, at once.
     #[inline(always)]
-    pub fn attempt_router<B: Allocator>(&mut self, choice: Choice, row: &mut Vec<u64, B>) -> Stepped
+    pub fn attempt_router<B: Allocator>(
+        &mut self,
+        choice: Choice,
+        row: &mut Vec<u64, B>,
+    ) -> Option<WordOp>
         requires room { IfSome (agent_op self.old.place RouterAgent choice)
             (λ o. word_of o < vec_len row.old) }
         requires flit { IfSome (agent_op self.old.place RouterAgent choice)
@@ -183,15 +188,20 @@ impl<A: Allocator> TileAgents<A> {
         ensures row { row.new.items
             ≡ performed_by row.old.items (agent_op self.old.place RouterAgent choice) }
         ensures step { MatchOption (agent_attempted self.old.place RouterAgent choice row.old.items)
-            ((result ≡ stepped.Idle) × (self.new ≡ self.old))
-            (λ p. (result ≡ stepped.Moved) × (self.new ≡ with_place self.old p)) }
+            ((result ≡ None) × (self.new ≡ self.old))
+            (λ p. (result ≡ agent_op self.old.place RouterAgent choice)
+            × (self.new ≡ with_place self.old p)) }
     {
         self.router.attempt(choice, row)
     }
 
     /// Tries a choice of the bank over a row, at once. A service has room for its entry.
     #[inline(always)]
-    pub fn attempt_bank<B: Allocator>(&mut self, choice: Choice, row: &mut Vec<u64, B>) -> Stepped
+    pub fn attempt_bank<B: Allocator>(
+        &mut self,
+        choice: Choice,
+        row: &mut Vec<u64, B>,
+    ) -> Option<WordOp>
         requires room { IfSome (agent_op self.old.place BankOfTile choice)
             (λ o. word_of o < vec_len row.old) }
         requires flit { IfSome (agent_op self.old.place BankOfTile choice)
@@ -201,15 +211,17 @@ impl<A: Allocator> TileAgents<A> {
         ensures row { row.new.items
             ≡ performed_by row.old.items (agent_op self.old.place BankOfTile choice) }
         ensures step { MatchOption (agent_attempted self.old.place BankOfTile choice row.old.items)
-            ((result ≡ stepped.Idle) × (self.new ≡ self.old))
-            (λ p. (result ≡ stepped.Moved) × (self.new ≡ with_place self.old p)) }
+            ((result ≡ None) × (self.new ≡ self.old))
+            (λ p. (result ≡ agent_op self.old.place BankOfTile choice)
+            × (self.new ≡ with_place self.old p)) }
     {
         self.bank.attempt(choice, row)
     }
 
     /// Tries a step over a row, at once: performs its operation, if it has one, and takes the word
-    /// found. A step of another tile is idle.
-    pub fn attempt<B: Allocator>(&mut self, step: Step, row: &mut Vec<u64, B>) -> Stepped
+    /// found. Answers the operation by which the step moved; None exactly where it is idle, as it is
+    /// at another tile.
+    pub fn attempt<B: Allocator>(&mut self, step: Step, row: &mut Vec<u64, B>) -> Option<WordOp>
         requires room { IfSome (tile_next_op self.old.place step)
             (λ o. word_of o < vec_len row.old) }
         requires flit { IfSome (tile_next_op self.old.place step)
@@ -219,11 +231,12 @@ impl<A: Allocator> TileAgents<A> {
         ensures row { row.new.items
             ≡ performed_by row.old.items (tile_next_op self.old.place step) }
         ensures step { MatchOption (tile_attempted self.old.place step row.old.items)
-            ((result ≡ stepped.Idle) × (self.new ≡ self.old))
-            (λ p. (result ≡ stepped.Moved) × (self.new ≡ with_place self.old p)) }
+            ((result ≡ None) × (self.new ≡ self.old))
+            (λ p. (result ≡ tile_next_op self.old.place step)
+            × (self.new ≡ with_place self.old p)) }
     {
         if agent_tile(step.agent) != self.tile {
-            return Stepped::Idle;
+            return None;
         }
         match agent_kind(step.agent) {
             Agent::Processor => self.attempt_processor(step.choice, row),
@@ -247,53 +260,5 @@ impl<A: Allocator> TileAgents<A> {
             Agent::Router => self.router.would_move(step.choice, row),
             Agent::Bank => self.bank.would_move(step.choice, row),
         }
-    }
-
-    /// Makes room for so many entries of the bank more, at most 65536 in all.
-    ///
-    /// Errors: `AllocError` where there is no memory; then nothing has changed.
-    pub fn reserve(&mut self, more: usize) -> Result<(), AllocError>
-        requires { self.old.room + more ≤ 65536 }
-        ensures room { OnOk result (self.new ≡ with_room self.old (self.old.room + more)) }
-        ensures same { OnErr result (self.new ≡ self.old) }
-    {
-        self.bank.reserve(more)
-    }
-
-    /// Gives up the room for so many entries of the bank, which no entry has taken.
-    pub fn release(&mut self, fewer: usize)
-        requires { length self.old.place.bank.state.entries + fewer ≤ self.old.room }
-        ensures { self.new ≡ with_room self.old (self.old.room - fewer) }
-    {
-        self.bank.release(fewer);
-    }
-
-    /// Puts a line at the end of the processor's script, with room for so many operations in all, at
-    /// most 65536: those issued, those that the script still allows, and the line's. A spin has loads,
-    /// and a `last` an operation before it.
-    ///
-    /// Errors: `AllocError` where there is no memory; then nothing has changed.
-    pub fn append(&mut self, line: Line, room: usize) -> Result<(), AllocError>
-        requires loads { (a v m : ℕ) → line ≡ Line.Spin a v m → 0 < m }
-        requires last { mentions_last line ≡ true
-            → 0 < length self.old.place.processor.state.operations.issued
-            + left_of self.old.place.processor.state.operations.following }
-        requires room { length self.old.place.processor.state.operations.issued
-            + left_of self.old.place.processor.state.operations.following + operations_of line
-            ≤ room }
-        requires few { room ≤ 65536 }
-        ensures appended { OnOk result (self.new
-            ≡ with_processor self.old (processor_with line self.old.place.processor.state)) }
-        ensures same { OnErr result (self.new ≡ self.old) }
-    {
-        self.processor.append(line, room)
-    }
-
-    /// Takes back that the processor has reported, and seen that all have.
-    pub fn reopen(&mut self)
-        ensures { self.new
-            ≡ with_processor self.old (processor_open self.old.place.processor.state) }
-    {
-        self.processor.reopen();
     }
 }

@@ -2,6 +2,7 @@
 #![tactic(auto)]
 
 pub mod agents;
+mod growing;
 pub mod shown;
 
 pub use agents::TileAgents;
