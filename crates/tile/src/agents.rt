@@ -6,9 +6,12 @@ ghost use Rattle.script.specs.Scripts.{operation_count};
 ghost use Rattle.flit_buffer.specs.Tries.{performed_by};
 ghost use Rattle.flit_buffer.specs.Words.{word_of};
 ghost use Rattle.tile_laws.specs.script_follower.specs.Scripts.{IsFollowable};
-ghost use Rattle.tile_laws.specs.declared.agent.Agent.TheVariants.{Processor as ProcessorAgent, Router as RouterAgent, Bank as BankOfTile};
+ghost use Rattle.tile_laws.specs.declared.agent.Agent.TheVariants.{Processor as ProcessorAgent};
+ghost use Rattle.tile_laws.specs.declared.agent.Agent.TheVariants.{Router as RouterAgent};
+ghost use Rattle.tile_laws.specs.declared.agent.Agent.TheVariants.{Bank as BankOfTile};
 ghost use Rattle.tile_laws.specs.Agents.{agent_op, tile_next_op, tile_absorbed, agent_kind};
-ghost use Rattle.tile.specs.Placed.{with_place, first_tile, IsAcceptableTo, HasRoomForEntry, agent_attempted, tile_attempted};
+ghost use Rattle.tile.specs.Placed.{with_place, first_tile, IsAcceptableTo, HasRoomForEntry};
+ghost use Rattle.tile.specs.Placed.{agent_attempted, tile_attempted};
 
 use flit_buffer::WordOp;
 use home_bank::BankAgent;

@@ -8,7 +8,8 @@ use Rattle.torus.specs.declared.step.Stepped.TheVariants.{Moved, Idle}
 use Rattle.rounds.specs.Rounds.{moves_in}
 use Rattle.machine_handle.specs.machine_core.specs.order_abstract.specs.Scripts.{AreFinished}
 use Rattle.machine_handle.specs.machine_core.specs.core_laws.specs.Core.{Load, run_of, step, round}
-use Rattle.machine_handle.specs.core_machine.specs.Machine.{Core, IsAfter, RunsOn, MakesMove, Steps, core_after, built_to}
+use Rattle.machine_handle.specs.core_machine.specs.Machine.{Core, IsAfter, RunsOn, MakesMove, Steps}
+use Rattle.machine_handle.specs.core_machine.specs.Machine.{core_after, built_to}
 use Rattle.machine_handle.specs.core_machine.specs.Machine.{all_finished}
 use Rattle.machine_handle.specs.machine_core.specs.Rounds.{rounds_of, NeedsRounds}
 use Rattle.machine_handle.specs.core_machine.specs.core_progress.specs.Moves.{IsLive, moves_left}
