@@ -25,6 +25,3 @@ pub use machine::{MachineText, read_machine};
 pub use number::an_index;
 pub use scripts::{Scripts, read_scripts};
 pub use steps::read_steps;
-
-#[cfg(test)]
-mod tests;
