@@ -95,72 +95,77 @@ impl Op {
 
 // Writing.
 
-/// One line, in place.
+/// The end of a line, in place: each word goes in front of those that stand.
 struct Text {
     bytes: [u8; 128],
-    len: usize,
+    start: usize,
 }
 
 impl Text {
-    fn started(word: &str) -> Text {
-        let mut text = Text { bytes: [0; 128], len: 0 };
-        text.put(word.as_bytes());
+    fn of_line_feed() -> Text {
+        let mut text = Text { bytes: [0; 128], start: 128 };
+        text.byte(b'\n');
         text
     }
 
-    fn put(&mut self, bytes: &[u8]) {
-        self.bytes[self.len..self.len + bytes.len()].copy_from_slice(bytes);
-        self.len += bytes.len();
+    fn byte(&mut self, byte: u8) {
+        self.start -= 1;
+        self.bytes[self.start] = byte;
+    }
+
+    fn put(&mut self, word: &str) {
+        let start = self.start - word.len();
+        self.bytes[start..self.start].copy_from_slice(word.as_bytes());
+        self.start = start;
     }
 
     fn word(&mut self, word: &str) {
-        self.put(b" ");
-        self.put(word.as_bytes());
+        self.put(word);
+        self.byte(b' ');
     }
 
     fn number(&mut self, number: u64) {
-        let mut digits = [0; 20];
-        let mut at = 20;
+        let mut at = self.start;
         let mut left = number;
         while left >= 100 {
             let pair = (left % 100) as usize * 2;
             left /= 100;
             at -= 2;
-            digits[at..at + 2].copy_from_slice(&PAIRS[pair..pair + 2]);
+            self.bytes[at..at + 2].copy_from_slice(&PAIRS[pair..pair + 2]);
         }
         if left >= 10 {
             let pair = left as usize * 2;
             at -= 2;
-            digits[at..at + 2].copy_from_slice(&PAIRS[pair..pair + 2]);
+            self.bytes[at..at + 2].copy_from_slice(&PAIRS[pair..pair + 2]);
         } else {
             at -= 1;
-            digits[at] = b'0' + left as u8;
+            self.bytes[at] = b'0' + left as u8;
         }
-        self.put(b" ");
-        self.put(&digits[at..]);
+        self.start = at;
+        self.byte(b' ');
     }
 
     fn numbers<const N: usize>(&mut self, numbers: [u32; N]) {
-        for number in numbers {
+        for number in numbers.into_iter().rev() {
             self.number(u64::from(number));
         }
     }
 
     fn change(&mut self, name: &str, address: u32, value: u64) {
-        self.word(name);
-        self.number(u64::from(address));
         self.number(value);
+        self.number(u64::from(address));
+        self.word(name);
     }
 
     fn op(&mut self, op: Op, address: u32) {
         match op {
             Op::Load => {
-                self.word("load");
                 self.number(u64::from(address));
+                self.word("load");
             }
             Op::Cas(expected, new) => {
-                self.change("cas", address, expected);
                 self.number(new);
+                self.change("cas", address, expected);
             }
             Op::Store(value) => self.change("store", address, value),
             Op::Swap(value) => self.change("swap", address, value),
@@ -179,64 +184,57 @@ impl Text {
             Reply::Old(word) => self.number(word),
         }
     }
+
+    fn pair(&mut self, word: &str, address: u32, value: u64) {
+        self.number(value);
+        self.numbers([address]);
+        self.put(word);
+    }
+
+    fn line(&mut self, line: &ReportLine) {
+        match *line {
+            ReportLine::Header(version) => {
+                self.numbers([version]);
+                self.put("torusmem");
+            }
+            ReportLine::Shape(radix, dims, words) => {
+                self.numbers([radix, dims, words]);
+                self.put("shape");
+            }
+            ReportLine::Init(address, value) => self.pair("init", address, value),
+            ReportLine::Word(address, value) => self.pair("word", address, value),
+            ReportLine::Entry(entry) => {
+                self.reply(entry.reply);
+                self.op(entry.op, entry.address);
+                self.numbers([entry.bank, entry.place, entry.source, entry.tag]);
+                self.put("entry");
+            }
+            ReportLine::Answer(answer) => {
+                self.reply(answer.reply);
+                self.numbers([answer.processor, answer.index, answer.bank, answer.place]);
+                self.put("answer");
+            }
+            ReportLine::Order(order) => {
+                match order.answered {
+                    Some(answered) => self.numbers([answered]),
+                    None => self.word("-"),
+                }
+                self.numbers([order.bank, order.place, order.issued, order.served]);
+                self.put("order");
+            }
+            ReportLine::End(true) => self.put("end complete"),
+            ReportLine::End(false) => self.put("end incomplete"),
+        }
+    }
 }
 
 const PAIRS: &[u8; 200] = b"00010203040506070809101112131415161718192021222324252627282930313233343536373839404142434445464748495051525354555657585960616263646566676869707172737475767778798081828384858687888990919293949596979899";
 
-fn text_of(line: &ReportLine) -> Text {
-    let mut text = match *line {
-        ReportLine::Header(version) => {
-            let mut text = Text::started("torusmem");
-            text.numbers([version]);
-            text
-        }
-        ReportLine::Shape(radix, dims, words) => {
-            let mut text = Text::started("shape");
-            text.numbers([radix, dims, words]);
-            text
-        }
-        ReportLine::Init(address, value) => pair("init", address, value),
-        ReportLine::Word(address, value) => pair("word", address, value),
-        ReportLine::Entry(entry) => {
-            let mut text = Text::started("entry");
-            text.numbers([entry.bank, entry.place, entry.source, entry.tag]);
-            text.op(entry.op, entry.address);
-            text.reply(entry.reply);
-            text
-        }
-        ReportLine::Answer(answer) => {
-            let mut text = Text::started("answer");
-            text.numbers([answer.processor, answer.index, answer.bank, answer.place]);
-            text.reply(answer.reply);
-            text
-        }
-        ReportLine::Order(order) => {
-            let mut text = Text::started("order");
-            text.numbers([order.bank, order.place, order.issued, order.served]);
-            match order.answered {
-                Some(answered) => text.numbers([answered]),
-                None => text.word("-"),
-            }
-            text
-        }
-        ReportLine::End(true) => Text::started("end complete"),
-        ReportLine::End(false) => Text::started("end incomplete"),
-    };
-    text.put(b"\n");
-    text
-}
-
-fn pair(word: &str, address: u32, value: u64) -> Text {
-    let mut text = Text::started(word);
-    text.numbers([address]);
-    text.number(value);
-    text
-}
-
 fn write_report(out: &mut Vec<u8>, lines: &[ReportLine]) {
     for line in lines {
-        let text = text_of(line);
-        out.extend_from_slice(&text.bytes[..text.len]);
+        let mut text = Text::of_line_feed();
+        text.line(line);
+        out.extend_from_slice(&text.bytes[text.start..]);
     }
 }
 

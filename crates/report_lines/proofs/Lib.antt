@@ -1,3 +1,4 @@
 pub mod Fronts
 pub mod Pieces
 pub mod Indexes
+pub mod Put

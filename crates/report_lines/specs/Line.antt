@@ -72,6 +72,11 @@ words_of (End false) = codes "end" ∷ codes "incomplete" ∷ []
 abbrev pub joined_on : List (List ℕ) → List ℕ
 joined_on words = flat_map (λ word. 32 ∷ word) words
 
+-- the words behind the first one of a line, each after a space, and the line feed
+abbrev pub words_behind : List (List ℕ) → List ℕ
+words_behind [] = 10 ∷ []
+words_behind (word ∷ words) = 32 ∷ word ++ words_behind words
+
 -- the bytes of a line: its words with one space between each two, and a line feed
 abbrev pub line_text : ReportLine → List ℕ
 line_text line = join_with_byte 32 (words_of line) ++ 10 ∷ []

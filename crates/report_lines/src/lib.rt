@@ -7,6 +7,7 @@ pub mod output;
 pub mod parts;
 pub mod report;
 mod sections;
+mod tail;
 pub mod text;
 
 pub use line::{AnswerLine, EntryLine, OrderLine, Radices, ReportLine};

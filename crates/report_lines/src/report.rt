@@ -9,7 +9,8 @@ use crate::line::{Radices, ReportLine};
 use crate::output::{Out, OutputFailed, put_all};
 use crate::parts::Parts;
 use crate::sections::{push_entries, push_inits, push_order, push_words, version_of};
-use crate::text::line_of;
+use crate::tail::Tail;
+use crate::text::put_line;
 use std::alloc::{AllocError, Allocator, Global};
 use std::marker::Model;
 
@@ -79,8 +80,9 @@ pub fn write_report<W: Out, A: Allocator>(
     ensures failed { OnErr result (Rose (W.failures out.old) (W.failures out.new)) }
 {
     for line in &report.lines {
-        let text = line_of(line);
-        put_all(out, text.as_str().as_bytes())?;
+        let mut text = Tail::of_line_feed();
+        put_line(&mut text, line);
+        put_all(out, text.bytes())?;
     }
     Ok(())
 }

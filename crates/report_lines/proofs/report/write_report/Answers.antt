@@ -13,10 +13,10 @@ returns-in_err-put_all-clause-err g c =
     let xs : List ReportLine = c.deref-line-items.result.now in
     let i : ℕ = c.loop-line.line-index in
     let inside : i < length xs = omega arith in
-    let here : c.as_bytes.result.now ≡ line_text (get_or xs i (Header 0)) =
-    c.as_bytes.ensures.value ∙ c.as_str.ensures.value ∙ c.line_of-text.ensures in
+    let here : c.bytes.result.now ≡ line_text (get_or xs i (Header 0)) =
+    c.bytes.ensures ∙ c.put_line.ensures in
     let F : List ℕ → Type 0 = λ t. AppendsFront (g.W.Out.taken c.args.out.now) (g.W.Out.taken c.put_all.new.out) t in
-    let whole : text_of (take i xs) ++ (c.as_bytes.result.now ++ text_of (drop (i + 1) xs)) ≡ text_of c.args.report.now =
+    let whole : text_of (take i xs) ++ (c.bytes.result.now ++ text_of (drop (i + 1) xs)) ≡ text_of c.args.report.now =
     ap (λ (t : List ℕ). text_of (take i xs) ++ (t ++ text_of (drop (i + 1) xs))) here
     ∙ sym (pieces_at line_text xs i (Header 0) inside) ∙ ap text_of (c.deref-line-items.ensures.value ∙ c.report.view_is) in
     rw p.1 (subst F whole
