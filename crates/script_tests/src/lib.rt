@@ -1,5 +1,5 @@
-//! Tests of the readers of the three input texts, as tables of texts and by budgets of memory. They stand in
-//! a crate of their own, since a crate with tests is proved twice.
+//! Tests of the readers of the three input texts, as tables of texts and by budgets of memory. They
+//! stand in a crate of their own, since a crate with tests is proved twice.
 #![tactic(auto)]
 
 #[cfg(test)]

@@ -6,3 +6,5 @@
 mod networks;
 #[cfg(test)]
 mod texts;
+#[cfg(test)]
+mod traces;

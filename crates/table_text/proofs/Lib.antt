@@ -6,3 +6,4 @@ pub mod Begun
 pub mod Cells
 pub mod Told
 pub mod Pieces
+pub mod Behind

@@ -149,18 +149,22 @@ after_three f (a ∷ []) = Err fault.Line
 after_three f (a ∷ b ∷ []) = Err fault.Line
 after_three f (a ∷ b ∷ c ∷ d ∷ more) = Err fault.Line
 
--- what the words of a line make of it; a line without words and a comment are skipped
-abbrev pub after_words : Reading → List (List ℕ) → Result Reading Fault
-after_words r [] = Ok r
-after_words r (keyword ∷ values) =
-    if begins_comment keyword then Ok r
-    else (if bytes_eq keyword (codes "channels") then after_one (after_channels r) values
+-- what a line of a keyword and these words makes of it
+abbrev pub after_keyword : Reading → List ℕ → List (List ℕ) → Result Reading Fault
+after_keyword r keyword values =
+    if bytes_eq keyword (codes "channels") then after_one (after_channels r) values
     else (if bytes_eq keyword (codes "inject") then after_one (after_inject r) values
     else (if bytes_eq keyword (codes "eject") then after_one (after_eject r) values
     else (if bytes_eq keyword (codes "join") then after_two (after_join r) values
     else (if bytes_eq keyword (codes "next") then after_three (after_next r) values
     else (if bytes_eq keyword (codes "reply") then after_two (after_reply r) values
-    else Err fault.Line))))))
+    else Err fault.Line)))))
+
+-- what the words of a line make of it; a line without words and a comment are skipped
+abbrev pub after_words : Reading → List (List ℕ) → Result Reading Fault
+after_words r [] = Ok r
+after_words r (keyword ∷ values) =
+    if begins_comment keyword then Ok r else after_keyword r keyword values
 
 -- a network: its tables, and which packets are answered where
 pub record NetworkSpec : Type 0 where

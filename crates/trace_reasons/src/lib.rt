@@ -13,6 +13,3 @@ mod wording;
 pub use line::trace_reason;
 pub use reason::{Keyword, TraceReason};
 pub use sentence::{TraceSentence, trace_sentence};
-
-#[cfg(test)]
-mod tests;

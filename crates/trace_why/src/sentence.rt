@@ -1,8 +1,10 @@
 //! The sentences that tell a reader why a trace has no order.
 
-ghost use Rattle.std.specs.Prelude.{◌≡◌, ℕ, true, false, Some, IfOk, IfSome, MatchOption, Contains, slice_get};
+ghost use Rattle.std.specs.Prelude.{◌≡◌, ℕ, List, true, false, Some, IfOk, IfSome, MatchOption, Contains};
+ghost use Rattle.std.specs.Prelude.{slice_get};
 ghost use Rattle.std.specs.Str.Lines.{lines};
 ghost use Rattle.trace_order.specs.Traces.{IsIssuedAt};
+ghost use Rattle.trace_text.specs.Traced.{trace_of};
 ghost use Rattle.trace_why.specs.declared.calls.CallAt.{CallAt};
 ghost use Rattle.trace_why.specs.Told.{IsLineOf, AreLinesOf, TellsNoOrder};
 
@@ -128,15 +130,30 @@ pub fn no_order_sentence<'a, A: Allocator + Copy>(
     let Ok(text) = read_trace(alloc, trace.text) else {
         return None;
     };
-    let event = event_at(text.lines(), line)?;
-    let Ok(Some(why)) = why_not(alloc, &text, event, tries(event), bound as usize) else {
+    sentence_on(alloc, trace.name, &text, line, bound)
+}
+
+/// The same of a trace that is read.
+fn sentence_on<'a, A: Allocator + Copy>(
+    alloc: A,
+    name: &'a str,
+    trace: &TraceText<A>,
+    line: u64,
+    bound: u64,
+) -> Option<NoOrderSentence<'a, A>>
+    ensures name { IfSome result (λ s. s.name.now ≡ name.entry.now) }
+    ensures told { (lines : List (List ℕ)) → trace_of lines ≡ Ok trace.now
+        → IfSome result (TellsNoOrder lines line) }
+{
+    let event = event_at(trace.lines(), line)?;
+    let Ok(Some(why)) = why_not(alloc, trace, event, tries(event), bound as usize) else {
         return None;
     };
-    let Ok(pending) = lines_of(alloc, &text, &why.pending) else {
+    let Ok(pending) = lines_of(alloc, trace, &why.pending) else {
         return None;
     };
     Some(NoOrderSentence {
-        name: trace.name,
+        name,
         line,
         why,
         pending,
@@ -174,6 +191,14 @@ fn parts_of(op: Op) -> (&'static str, Option<u64>, Option<u64>) {
     }
 }
 
+/// Puts a value behind a space, if there is one.
+fn put_value<W: fmt::Write>(f: &mut fmt::Formatter<W>, value: Option<u64>) -> fmt::Result {
+    match value {
+        Some(value) => write!(f, " {value}"),
+        None => Ok(()),
+    }
+}
+
 impl fmt::Display for IssueLine {
     fn fmt<W: fmt::Write>(&self, f: &mut fmt::Formatter<W>) -> fmt::Result {
         let (name, first, second) = parts_of(self.operation.op);
@@ -182,13 +207,8 @@ impl fmt::Display for IssueLine {
             "issue {} {} {}",
             self.processor, name, self.operation.address
         )?;
-        if let Some(value) = first {
-            write!(f, " {value}")?;
-        }
-        if let Some(value) = second {
-            write!(f, " {value}")?;
-        }
-        Ok(())
+        put_value(f, first)?;
+        put_value(f, second)
     }
 }
 
@@ -254,15 +274,26 @@ fn put_open<W: fmt::Write>(
     Ok(())
 }
 
+/// Puts the answer to an operation, if it is known how that is issued.
+fn put_answer<W: fmt::Write>(
+    f: &mut fmt::Formatter<W>,
+    issue: Option<IssueLine>,
+    reply: ReplyWord,
+) -> fmt::Result {
+    match issue {
+        Some(issue) => write!(f, "answer {} {} {}: ", issue.processor, issue.index, reply),
+        None => Ok(()),
+    }
+}
+
 impl<'a, A: Allocator> fmt::Display for NoOrderSentence<'a, A> {
     fn fmt<W: fmt::Write>(&self, f: &mut fmt::Formatter<W>) -> fmt::Result {
         let reply = ReplyWord {
             reply: self.why.reply,
         };
         write!(f, "{}:{}: ", self.name, self.line)?;
-        if let Some(issue) = issue_of(&self.why.pending, &self.pending, self.why.id) {
-            write!(f, "answer {} {} {}: ", issue.processor, issue.index, reply)?;
-        }
+        let issue = issue_of(&self.why.pending, &self.pending, self.why.id);
+        put_answer(f, issue, reply)?;
         let values = Values {
             values: &self.why.values,
         };

@@ -1,8 +1,8 @@
-use crate::{TraceReason, TraceSentence, trace_sentence};
 use explained::Named;
 use std::process::Abort;
 use std::test::Fail;
 use torus::Fault;
+use trace_reasons::{TraceReason, TraceSentence, trace_sentence};
 
 /// The fault of a sentence and what it reads must be this.
 fn reads<R: Abort + AllocGlobal>(

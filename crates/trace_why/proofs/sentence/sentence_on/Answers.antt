@@ -1,7 +1,7 @@
 use Rattle.std.proofs.Common.{List, subst}
 use Rattle.std.specs.Prelude.{Contains}
 use Rattle.trace_why.specs.declared.calls.CallAt.{CallAt}
-use Rattle.trace_why.proofs.sentence.no_order_sentence.Goals as goal
+use Rattle.trace_why.proofs.sentence.sentence_on.Goals as goal
 
 pub lines_of-requires : goal.lines_of-requires
 lines_of-requires g c = λ call h.
