@@ -23,20 +23,15 @@ impl<A: Allocator> Machine<A> {
         requires { tile < tiles_of self.old.shape }
         ensures { Steps self.old self.new result (record { agent = 3 * tile; choice = choice }) }
     {
-        let Some(op) = self.tiles[tile].processor_op(choice) else {
+        let before = Counts::of(&self.tiles[tile]);
+        let Some(op) = self.tiles[tile].attempt_processor(choice, &mut self.row) else {
             return Stepped::Idle;
         };
-        let before = Counts::of(&self.tiles[tile]);
-        match self.tiles[tile].attempt_processor(choice, &mut self.row) {
-            Stepped::Moved => {
-                self.awake.wake(op);
-                self.ports.wake(op);
-                note(self.tiles.as_slice(), &mut self.book, tile, before);
-                self.left -= 1;
-                Stepped::Moved
-            }
-            Stepped::Idle => Stepped::Idle,
-        }
+        self.awake.wake(op);
+        self.ports.wake(op);
+        note(self.tiles.as_slice(), &mut self.book, tile, before);
+        self.left -= 1;
+        Stepped::Moved
     }
 
     /// Attempts a choice of a tile's router: no event is noted of it.
@@ -46,18 +41,13 @@ impl<A: Allocator> Machine<A> {
         ensures { Steps self.old self.new result
             (record { agent = 3 * tile + 1; choice = choice }) }
     {
-        let Some(op) = self.tiles[tile].router_op(choice) else {
+        let Some(op) = self.tiles[tile].attempt_router(choice, &mut self.row) else {
             return Stepped::Idle;
         };
-        match self.tiles[tile].attempt_router(choice, &mut self.row) {
-            Stepped::Moved => {
-                self.awake.wake(op);
-                self.ports.router_moved(tile, choice, op);
-                self.left -= 1;
-                Stepped::Moved
-            }
-            Stepped::Idle => Stepped::Idle,
-        }
+        self.awake.wake(op);
+        self.ports.router_moved(tile, choice, op);
+        self.left -= 1;
+        Stepped::Moved
     }
 
     /// Attempts a choice of a tile's bank.
@@ -70,20 +60,15 @@ impl<A: Allocator> Machine<A> {
         if lacks_room(&self.tiles[tile], choice) {
             return Stepped::Idle;
         }
-        let Some(op) = self.tiles[tile].bank_op(choice) else {
+        let before = Counts::of(&self.tiles[tile]);
+        let Some(op) = self.tiles[tile].attempt_bank(choice, &mut self.row) else {
             return Stepped::Idle;
         };
-        let before = Counts::of(&self.tiles[tile]);
-        match self.tiles[tile].attempt_bank(choice, &mut self.row) {
-            Stepped::Moved => {
-                self.awake.wake(op);
-                self.ports.wake(op);
-                note(self.tiles.as_slice(), &mut self.book, tile, before);
-                self.left -= 1;
-                Stepped::Moved
-            }
-            Stepped::Idle => Stepped::Idle,
-        }
+        self.awake.wake(op);
+        self.ports.wake(op);
+        note(self.tiles.as_slice(), &mut self.book, tile, before);
+        self.left -= 1;
+        Stepped::Moved
     }
 
     /// Makes one round: attempts each choice of each agent once, the agents in their order. Where some
