@@ -6,7 +6,7 @@ use Rattle.std.specs.Option.{option_map}
 use Rattle.std.proofs.lemmas.Option.{same_Some}
 use Rattle.torus.specs.declared.step.Step.{Step}
 use Rattle.torus.specs.declared.step.Stepped.{Stepped}
-use Rattle.torus.specs.declared.step.Stepped.TheVariants.{Moved, Idle}
+use Rattle.torus.specs.declared.step.Stepped.TheVariants.{Idle}
 use Rattle.machine_growth.specs.script_follower.specs.ProcessorRecord.{ProcessorRecord}
 use Rattle.machine_growth.specs.order_abstract.specs.EventBook.{EventBook}
 use Rattle.flit_buffer.specs.Surroundings.{Surroundings}

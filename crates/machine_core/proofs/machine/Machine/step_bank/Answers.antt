@@ -66,7 +66,7 @@ note-requires-clause-room g c =
 
 led : (g : Over) (c : goal.After-self-2-1 g)
     → Led c.self.inside (with_parts c.self.inside (with_item c.self.inside.tiles c.args.tile c.attempt_bank.new.self) c.attempt_bank.new.row c.note.new.book
-    c.wake.new.self c.wake-2.new.self (c.self.inside.left - 1)) Moved (record { agent = 3 * c.args.tile + 2; choice = c.args.choice })
+    c.moved.new.self c.wake.new.self (c.self.inside.left - 1)) Moved (record { agent = 3 * c.args.tile + 2; choice = c.args.choice })
 led g c =
     let v : PlacedTile = c.index_mut.result.now in
     let at : slice_get c.self.inside.tiles.items c.args.tile ≡ Some v =
@@ -84,8 +84,8 @@ led g c =
     k.0 k.1 c.attempt_bank.new.self k.2 tiles refl c.attempt_bank.new.row c.attempt_bank.ensures.row c.note.new.book c.note.ensures.room
     (noted_same c.as_slice.result.now tiles.items c.of-before.result (counts_of v) c.args.tile c.note.new.book.book c.self.inside.book.book
     c.as_slice.ensures.value before c.note.ensures.book)
-    c.in-Some.op k.3 c.wake.new.self c.wake.ensures c.wake-2.new.self
-    (record { design = c.wake-2.ensures.design; flags = c.wake-2.ensures.flags })
+    c.in-Some.op k.3 c.moved.new.self c.moved.ensures c.wake.new.self
+    (record { design = c.wake.ensures.design; flags = c.wake.ensures.flags })
 
 pub overflow_sub-self : goal.overflow_sub-self
 overflow_sub-self g c =
@@ -141,3 +141,11 @@ returns-then-lacks_room g c =
     (vec_at c.self.inside.tiles c.args.tile c.index.result.now
     (tile_within c.self.inside c.self.invariant c.args.self.now c.self.view_is c.args.tile c.requires) c.index.ensures)
     (c.lacks_room.ensures.full c.if-lacks_room.true))
+
+-- there are bits for its agents
+pub moved-requires : goal.moved-requires
+moved-requires g c =
+    let few = few_tiles c.self.inside c.self.invariant in
+    let long = c.self.inside.tiles.ok.0 in
+    let low = tile_within c.self.inside c.self.invariant c.args.self.now c.self.view_is c.args.tile c.requires in
+    omega (arith, few, long, low)

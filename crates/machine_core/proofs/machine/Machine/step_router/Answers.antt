@@ -1,6 +1,5 @@
-use Rattle.std.proofs.Common.{◌≡◌, ◌+◌, ◌-◌, ◌*◌, Some, refl, sym, ◌∙◌, ap, arith, slice_get, slice_set, slice_index}
+use Rattle.std.proofs.Common.{◌≡◌, ◌+◌, ◌-◌, ◌*◌, Some, refl, arith, slice_get, slice_set, slice_index}
 use Rattle.std.specs.Vec.{with_item}
-use Rattle.std.proofs.lemmas.Option.{same_Some}
 use Rattle.torus.specs.declared.step.Stepped.TheVariants.{Moved}
 use Rattle.flit_buffer.specs.Words.{word_of}
 use Rattle.flit_buffer.specs.declared.word_op.WordOp.{WordOp}
@@ -44,7 +43,7 @@ overflow_sub-self g c =
 
 led : (g : Over) (c : goal.After-self-2-1 g)
     → Led c.self.inside (with_parts c.self.inside (with_item c.self.inside.tiles c.args.tile c.attempt_router.new.self) c.attempt_router.new.row
-    c.self.inside.book c.wake.new.self c.router_moved.new.self (c.self.inside.left - 1)) Moved (record { agent = 3 * c.args.tile + 1; choice = c.args.choice })
+    c.self.inside.book c.moved.new.self c.router_moved.new.self (c.self.inside.left - 1)) Moved (record { agent = 3 * c.args.tile + 1; choice = c.args.choice })
 led g c =
     let v : PlacedTile = c.index_mut.result.now in
     let at : slice_get c.self.inside.tiles.items c.args.tile ≡ Some v =
@@ -56,7 +55,7 @@ led g c =
     (tile_of_number c.args.tile Router) (kind_of_number c.args.tile Router) v at
     k.0 k.1 c.attempt_router.new.self k.2
     (with_item c.self.inside.tiles c.args.tile c.attempt_router.new.self) refl c.attempt_router.new.row c.attempt_router.ensures.row
-    c.in-Some.op k.3 c.wake.new.self c.wake.ensures c.router_moved.new.self
+    c.in-Some.op k.3 c.moved.new.self c.moved.ensures c.router_moved.new.self
     (record { design = c.router_moved.ensures.design; flags = c.router_moved.ensures.flags })
 
 pub invariant_of-self-2 : goal.invariant_of-self-2
@@ -95,6 +94,14 @@ returns-in_default g c =
 
 pub router_moved-requires : goal.router_moved-requires
 router_moved-requires g c =
+    let few = few_tiles c.self.inside c.self.invariant in
+    let long = c.self.inside.tiles.ok.0 in
+    let low = tile_within c.self.inside c.self.invariant c.args.self.now c.self.view_is c.args.tile c.requires in
+    omega (arith, few, long, low)
+
+-- there are bits for its agents
+pub moved-requires : goal.moved-requires
+moved-requires g c =
     let few = few_tiles c.self.inside c.self.invariant in
     let long = c.self.inside.tiles.ok.0 in
     let low = tile_within c.self.inside c.self.invariant c.args.self.now c.self.view_is c.args.tile c.requires in
