@@ -10,3 +10,4 @@ pub mod RouterMoves
 pub mod PortsMet
 pub mod PortsKept
 pub mod PortsAlike
+pub mod Choices

@@ -125,7 +125,7 @@ module _ (d : Design) (t : ℕ) (tile : TileState) (in_memory : (r : Asking) →
   bank_accesses (choice.Put i) e = absurd (cc)
   bank_accesses (choice.CreditOf i) e = absurd (cc)
 
-  accesses : (a : Agent) (c : Choice) → tile_wants d t tile a c ≡ Some (Access n o) → Accesses
+  pub accesses : (a : Agent) (c : Choice) → tile_wants d t tile a c ≡ Some (Access n o) → Accesses
   accesses Processor c e = processor_accesses c e
   accesses Router c e = absurd (router_of_channel d.shape t tile.router c (Access n o) e)
   accesses Bank c e = bank_accesses c e

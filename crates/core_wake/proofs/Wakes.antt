@@ -91,7 +91,7 @@ module _ (tiles words t n value : ℕ) where
   bank_awaits b (choice.Put i) e = cc
   bank_awaits b (choice.CreditOf o) e = cc
 
-tile_awaits : (d : Design) (t n value : ℕ) (tile : TileState) (a : Agent) (c : Choice) → tile_wants d t tile a c ≡ Some (Await n value)
+pub tile_awaits : (d : Design) (t n value : ℕ) (tile : TileState) (a : Agent) (c : Choice) → tile_wants d t tile a c ≡ Some (Await n value)
     → (n ≡ d.words) × (a ≡ Processor)
 tile_awaits d t n value tile Processor c e = (processor_awaits (tiles_of d.shape) d.words t n value tile.processor c e, refl)
 tile_awaits d t n value tile Router c e = absurd (router_of_channel d.shape t tile.router c (Await n value) e)

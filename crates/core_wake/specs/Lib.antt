@@ -12,3 +12,4 @@ pub mod Sleep
 pub mod Watch
 pub mod Routers
 pub mod Operations
+pub mod Choices

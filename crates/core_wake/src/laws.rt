@@ -20,6 +20,7 @@ ghost use Rattle.core_wake.specs.Waking.{receiver_of, sender_of, Disturbs, woken
 ghost use Rattle.core_wake.specs.Sleep.{IsAsleep, OthersSleep, attempts_at, has_moved};
 ghost use Rattle.core_wake.specs.Operations.{woken_by_operation};
 ghost use Rattle.core_wake.specs.Watch.{Watch, round_awake};
+ghost use Rattle.core_wake.specs.Choices.{OtherChoicesSleep, choices_woken, can_enable};
 ghost use Rattle.core_wake.specs.Routers.{PortFlags, OtherPortsSleep, of_router, ports_woken};
 ghost use Rattle.core_wake.specs.Routers.{router_moved, latch_at};
 
@@ -136,4 +137,23 @@ pub fn moves_keep_sleeping_ports()
         → other.around.rings ≡ s.around.rings
         → map (λ tile. tile.router) other.tiles ≡ map (λ tile. tile.router) s.tiles
         → OtherPortsSleep d s f → OtherPortsSleep d other f }
+{}
+
+/// That no choice is enabled but those counted as awake holds where all are; a move keeps it, where all of
+/// its own agent are counted too, and of the agents that its operation wakes those that it can enable; and
+/// an agent of which none is counted is asleep.
+pub fn moves_keep_sleeping_choices()
+    ensures all { (d : Design) (s : State) → OtherChoicesSleep d s (λ agent choice. true) }
+    ensures kept { (l : Load) → IsAccepted l → (steps : List Step) (attempt : Step) (op : WordOp)
+        (next : State) (awake : ℕ → Choice → Bool)
+        → step_op (design_of l) (after l steps) attempt ≡ Some op
+        → step (design_of l) (after l steps) attempt ≡ Some next
+        → OtherChoicesSleep (design_of l) (after l steps) awake
+        → OtherChoicesSleep (design_of l) next (choices_woken (design_of l) attempt.agent op awake) }
+    ensures enabled { (l : Load) → IsAccepted l → (steps : List Step) (attempt other : Step) (op : WordOp)
+        → step_op (design_of l) (after l steps) attempt ≡ Some op
+        → Disturbs (design_of l) (after l steps) attempt other → can_enable op other.choice ≡ true }
+    ensures agents { (d : Design) (s : State) (awake : ℕ → Choice → Bool) (agent : ℕ)
+        → OtherChoicesSleep d s awake → ((choice : Choice) → awake agent choice ≡ false)
+        → IsAsleep d s agent }
 {}

@@ -31,7 +31,7 @@ use Rattle.machine_growth.specs.tile.proofs.OwnAttempts.{own_attempt}
 use Rattle.machine_growth.specs.core_laws.specs.Core.{design_of, after}
 use Rattle.machine_growth.specs.core_seen.specs.Notes.{book_noted}
 use Rattle.machine_growth.specs.core_machine.specs.Machine.{Core, Steps}
-use Rattle.machine_growth.specs.machine_wake.specs.Awake.{Awake, woken}
+use Rattle.machine_growth.specs.machine_wake.specs.Awake.{Awake, moved as after_move}
 use Rattle.machine_growth.specs.machine_wake.specs.Ports.{AwakePorts}
 use Rattle.machine_core.proofs.RouterFlags.{FollowMove}
 use Rattle.machine_core.specs.declared.machine.Machine.TheInside.{Inside}
@@ -157,7 +157,7 @@ module _ {A : Type 0} (a : Inside A) (is : IsMachine a) (attempt : Step) (tile :
             → ((x : PlacedTile) → slice_get tiles.items tile ≡ Some x
             → g.book ≡ book_noted tile (records_in tiles.items) (length v.place.processor.state.operations.issued)
             (length v.place.processor.state.operations.answers) (length v.place.bank.state.entries) (state_of x.place) a.book.book)
-            → (op : WordOp) → agent_op v.place agent attempt.choice ≡ Some op → (awake : Awake) → awake ≡ woken a.awake op
+            → (op : WordOp) → agent_op v.place agent attempt.choice ≡ Some op → (awake : Awake) → awake ≡ after_move a.awake attempt.agent op
             → (ports : AwakePorts) → FollowMove agent a.ports ports tile attempt.choice op
             → Led a (with_parts a tiles row g awake ports (a.left - 1)) Moved attempt
         agent_moved tiles tiles_are row row_is g keeps noted op asked awake awake_is ports ports_are =
@@ -177,7 +177,7 @@ module _ {A : Type 0} (a : Inside A) (is : IsMachine a) (attempt : Step) (tile :
       → (q : TilePlace) → agent_attempted v.place Router attempt.choice a.row.items ≡ Some q → (w : PlacedTile) → w ≡ with_place v q
       → (tiles : Vec PlacedTile A) → tiles.items ≡ slice_set a.tiles.items tile w
       → (row : Vec ℕ A) → row.items ≡ performed_by a.row.items (agent_op v.place Router attempt.choice)
-      → (op : WordOp) → agent_op v.place Router attempt.choice ≡ Some op → (awake : Awake) → awake ≡ woken a.awake op
+      → (op : WordOp) → agent_op v.place Router attempt.choice ≡ Some op → (awake : Awake) → awake ≡ after_move a.awake attempt.agent op
       → (ports : AwakePorts) → FollowMove Router a.ports ports tile attempt.choice op
       → Led a (with_parts a tiles row a.book awake ports (a.left - 1)) Moved attempt
   router_moved v there q attempted w new_tile tiles tiles_are row row_is op asked awake awake_is ports ports_are =

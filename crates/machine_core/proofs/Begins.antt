@@ -1,5 +1,5 @@
 -- The fields that `load` makes are those of a machine that has made no step.
-use Rattle.std.proofs.Common.{◌≡◌, ℕ, zero, suc, ◌-◌, ◌*◌, ◌<◌, ◌≤◌, List, [], ◌∷◌, ◌++◌, length, map, replicate, true, Option, Some, None, refl, sym, ◌∙◌, ap, subst}
+use Rattle.std.proofs.Common.{◌≡◌, ℕ, zero, suc, ◌-◌, ◌*◌, ◌<◌, ◌≤◌, List, [], ◌∷◌, ◌++◌, length, map, replicate, Option, Some, None, refl, sym, ◌∙◌, ap, subst}
 use Rattle.std.proofs.Common.{arith, slice_get, take, get_or, get_or-take}
 use Rattle.std.specs.Prelude.{option_map}
 use Rattle.std.proofs.lemmas.Option.{slice_get-map, slice_get_within, slice_get-get_or, get_or_from_slice_get}
@@ -27,10 +27,10 @@ use Rattle.machine_growth.specs.core_machine.specs.Machine.{IsAfter, IsLawful}
 use Rattle.machine_growth.specs.core_machine.proofs.Lawful.{lawful}
 use Rattle.machine_growth.specs.core_seen.specs.Seen.{IsShown}
 use Rattle.machine_growth.specs.core_seen.proofs.Reached.{seen_state}
-use Rattle.machine_growth.specs.machine_wake.specs.Awake.{Awake, is_awake}
+use Rattle.machine_growth.specs.machine_wake.specs.Awake.{Awake, is_choice_awake}
 use Rattle.machine_growth.specs.machine_wake.specs.Ports.{flags_of, all_ports_awake}
 use Rattle.machine_growth.specs.core_wake.specs.Routers.{PortFlags, OtherPortsSleep}
-use Rattle.machine_growth.specs.core_wake.specs.Sleep.{OthersSleep}
+use Rattle.machine_growth.specs.core_wake.specs.Choices.{OtherChoicesSleep}
 use Rattle.machine_growth.specs.machine_wake.proofs.KeptSleepers.{fresh}
 use Rattle.machine_core.specs.declared.machine.Machine.TheInside.{Inside}
 use Rattle.machine_core.specs.Inside.{design_in, places_in, core_of, HaveRoom, HasRoomForScripts, IsMachine}
@@ -54,7 +54,7 @@ pub record Begun {A : Type 0} (a : Inside A) (scripts : List (List Line)) : Type
   pub room : HasRoomForScripts (load_in a scripts) a.book
   pub allowed : a.allowed.items ≡ map operation_count scripts
   pub left : a.left ≡ most_moves (load_in a scripts)
-  pub awake : a.awake ≡ record { design = design_in a; flags = replicate 192 true }
+  pub awake : a.awake ≡ record { design = design_in a; flags = replicate 192 255 }
   pub routed : a.ports.design ≡ design_in a
   pub ports : flags_of a.ports ≡ all_ports_awake
 
@@ -122,7 +122,7 @@ module _ {A : Type 0} (a : Inside A) (scripts : List (List Line)) (ok : IsAccept
     banks = have_room;
     room = b.room;
     built = ap (λ (w : Awake). w.design) b.awake;
-    sleepers = subst (λ (w : Awake). OthersSleep (design_in a) (first_state (load_in a scripts)) (is_awake w)) (sym b.awake)
+    sleepers = subst (λ (w : Awake). OtherChoicesSleep (design_in a) (first_state (load_in a scripts)) (is_choice_awake w)) (sym b.awake)
         (fresh (design_in a) (first_state (load_in a scripts)));
     routed = b.routed;
     ports = subst (λ (f : PortFlags). OtherPortsSleep (design_in a) (first_state (load_in a scripts)) f) (sym b.ports)

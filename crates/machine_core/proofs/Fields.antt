@@ -1,15 +1,16 @@
 -- A machine's fields, and the machine that they make.
 use Rattle.std.proofs.Common.{◌≡◌, ℕ, zero, suc, ◌<◌, List, [], ◌∷◌, ◌++◌, map, Option, Some, None, refl, sym, ◌∙◌, ap, subst, arith}
 use Rattle.std.proofs.Common.{slice_get, slice_set, slice_index_or, vec_len}
-use Rattle.std.specs.Prelude.{Vec, MatchOption}
+use Rattle.std.specs.Prelude.{Vec, MatchOption, option_and_then}
 use Rattle.std.specs.Option.{option_map}
 use Rattle.std.proofs.lemmas.Option.{same_Some}
 use Rattle.torus.specs.declared.step.Step.{Step}
 use Rattle.torus.specs.declared.step.Stepped.{Stepped}
-use Rattle.torus.specs.declared.step.Stepped.TheVariants.{Moved, Idle}
+use Rattle.torus.specs.declared.step.Stepped.TheVariants.{Idle}
 use Rattle.machine_growth.specs.script_follower.specs.ProcessorRecord.{ProcessorRecord}
 use Rattle.machine_growth.specs.order_abstract.specs.EventBook.{EventBook}
 use Rattle.flit_buffer.specs.Surroundings.{Surroundings}
+use Rattle.flit_buffer.specs.declared.word_op.WordOp.{WordOp}
 use Rattle.order_book.specs.RoomyBook.{RoomyBook}
 use Rattle.machine_growth.specs.tile_laws.specs.Tile.{Design, TileState}
 use Rattle.machine_growth.specs.tile_laws.specs.Agents.{TilePlace, state_of, tile_placed}
@@ -62,17 +63,23 @@ records_shown [] = refl
 records_shown (v ∷ tiles) = ap (λ (bs : List ProcessorRecord). v.place.processor.state.operations ∷ bs) (records_shown tiles)
 
 -- a tile that has moved, and one that has not
-pub moved_tile : (o : Option TilePlace) (stepped : Stepped) (old new : PlacedTile)
-    → MatchOption o ((stepped ≡ Idle) × (new ≡ old)) (λ p. (stepped ≡ Moved) × (new ≡ with_place old p)) → stepped ≡ Moved
-    → (q : TilePlace) × (o ≡ Some q) × (new ≡ with_place old q)
-moved_tile None stepped old new h is = absurd (cc)
-moved_tile (Some q) stepped old new h is = (q, refl, h.1)
+pub moved_tile : (o : Option TilePlace) (by : WordOp) (asks : Option WordOp) (old new : PlacedTile)
+    → MatchOption o ((Some by ≡ None) × (new ≡ old)) (λ p. (Some by ≡ asks) × (new ≡ with_place old p))
+    → (q : TilePlace) × (o ≡ Some q) × (new ≡ with_place old q) × (asks ≡ Some by)
+moved_tile None by asks old new h = let clash : ◌≡◌ {A = Option WordOp} (Some by) None = h.0 in absurd (cc)
+moved_tile (Some q) by asks old new h = (q, refl, h.1, sym h.0)
 
-pub idle_tile : (o : Option TilePlace) (stepped : Stepped) (old new : PlacedTile)
-    → MatchOption o ((stepped ≡ Idle) × (new ≡ old)) (λ p. (stepped ≡ Moved) × (new ≡ with_place old p)) → stepped ≡ Idle
+idle_place : (o : Option TilePlace) (by : WordOp) (old new : PlacedTile)
+    → MatchOption o (◌≡◌ {A = Option WordOp} None None × (new ≡ old)) (λ p. ◌≡◌ {A = Option WordOp} None (Some by) × (new ≡ with_place old p))
     → (o ≡ None) × (new ≡ old)
-idle_tile None stepped old new h is = (refl, h.1)
-idle_tile (Some q) stepped old new h is = absurd (cc)
+idle_place None by old new h = (refl, h.1)
+idle_place (Some q) by old new h = let clash : ◌≡◌ {A = Option WordOp} None (Some by) = h.0 in absurd (cc)
+
+pub idle_tile : (f : WordOp → Option TilePlace) (asks : Option WordOp) (old new : PlacedTile)
+    → MatchOption (option_and_then f asks) (◌≡◌ {A = Option WordOp} None None × (new ≡ old)) (λ p. (None ≡ asks) × (new ≡ with_place old p))
+    → (option_and_then f asks ≡ None) × (new ≡ old)
+idle_tile f None old new h = (refl, h.1)
+idle_tile f (Some by) old new h = idle_place (f by) by old new h
 
 -- an element of a vector
 pub vec_at : {A B : Type 0} (v : Vec A B) (k : ℕ) (x : A) → k < vec_len v → x ≡ slice_index_or v.items k x → slice_get v.items k ≡ Some x

@@ -21,18 +21,19 @@ use Rattle.machine_growth.specs.core_laws.proofs.EveryRun.{holds_in}
 use Rattle.machine_growth.specs.core_machine.specs.Machine.{Core, IsAfter}
 use Rattle.machine_growth.specs.core_seen.specs.Seen.{IsShown, state_seen}
 use Rattle.machine_growth.specs.core_seen.proofs.Reached.{seen_state}
-use Rattle.machine_growth.specs.core_wake.specs.Sleep.{OthersSleep}
-use Rattle.machine_growth.specs.machine_wake.specs.Awake.{Awake, is_awake, roused}
+use Rattle.machine_growth.specs.core_wake.specs.Choices.{OtherChoicesSleep}
+use Rattle.machine_growth.specs.machine_wake.specs.Awake.{Awake, is_choice_awake, roused}
 use Rattle.machine_growth.specs.machine_wake.specs.Ports.{flags_of}
 use Rattle.machine_growth.specs.core_wake.specs.Routers.{OtherPortsSleep}
 use Rattle.machine_core.proofs.HandedPorts.{ports_handed}
+use Rattle.machine_core.proofs.HandedChoices.{choices_handed}
 use Rattle.machine_growth.specs.core_growth.specs.Appended.{load_with, MayFollow}
 use Rattle.machine_growth.specs.core_growth.proofs.Places.{changed_set}
 use Rattle.machine_growth.specs.core_growth.proofs.Loads.{total_with}
 use Rattle.machine_growth.specs.core_reopening.specs.Handed.{has_reported, handed, moves_kept, refused, BringsWords}
 use Rattle.machine_growth.specs.core_reopening.proofs.Handed.{stands}
 use Rattle.machine_growth.specs.Grown.{tiles_given, AreAsReported}
-use Rattle.machine_growth.proofs.Handing.{reported_there, core_is, shown_then, asleep_then, design_then, left_then}
+use Rattle.machine_growth.proofs.Handing.{reported_there, core_is, shown_then, design_then, left_then}
 use Rattle.machine_growth.proofs.Rooms.{homes_with, rooms_then}
 use Rattle.machine_core.specs.declared.machine.Machine.TheInside.{Inside}
 use Rattle.machine_core.specs.Inside.{design_in, places_in, core_of, HasRoomForScripts, IsMachine}
@@ -163,10 +164,10 @@ module _ {A : Type 0} (a : Inside A) (is : IsMachine a) (seen : Core) (view : co
           subst (λ (s : State). IsShown (design_in a) s (places_in a) a.row.items) (sym is.after.state)
           (subst (λ (d : Design). IsShown d (after l is.steps) (places_in a) a.row.items) (sym (design_is a is)) is.seen)
 
-      asleep_before : OthersSleep (design_in a) c.state (is_awake a.awake)
+      asleep_before : OtherChoicesSleep (design_in a) c.state (is_choice_awake a.awake)
       asleep_before =
-          subst (λ (s : State). OthersSleep (design_in a) s (is_awake a.awake)) (sym is.after.state)
-          (subst (λ (d : Design). OthersSleep d (after l is.steps) (is_awake a.awake)) (sym (design_is a is)) is.sleepers)
+          subst (λ (s : State). OtherChoicesSleep (design_in a) s (is_choice_awake a.awake)) (sym is.after.state)
+          (subst (λ (d : Design). OtherChoicesSleep d (after l is.steps) (is_choice_awake a.awake)) (sym (design_is a is)) is.sleepers)
 
       shown_now : IsShown (design_of l) (after l_with steps) (places_in grown) row.items
       shown_now =
@@ -174,11 +175,11 @@ module _ {A : Type 0} (a : Inside A) (is : IsMachine a) (seen : Core) (view : co
           (subst (λ (d : Design). IsShown d (handed c p first).state (places_in grown) row.items) (design_is a is)
           (shown_then c p first home a.tiles.items tiles.items a.row.items row.items a.awake awake marks as_reported shown_before long))
 
-      asleep_now : OthersSleep (design_of l) (after l_with steps) (is_awake (roused awake (3 * p)))
+      asleep_now : OtherChoicesSleep (design_of l) (after l_with steps) (is_choice_awake (roused awake (3 * p)))
       asleep_now =
-          subst (λ (s : State). OthersSleep (design_of l) s (is_awake (roused awake (3 * p)))) after_then.state
-          (subst (λ (d : Design). OthersSleep d (handed c p first).state (is_awake (roused awake (3 * p)))) (design_is a is)
-          (asleep_then c p first home a.tiles.items tiles.items a.row.items row.items a.awake awake marks as_reported asleep_before))
+          subst (λ (s : State). OtherChoicesSleep (design_of l) s (is_choice_awake (roused awake (3 * p)))) after_then.state
+          (subst (λ (d : Design). OtherChoicesSleep d (handed c p first).state (is_choice_awake (roused awake (3 * p)))) (design_is a is)
+          (choices_handed c p first home a.tiles.items tiles.items a.row.items row.items a.awake awake marks as_reported asleep_before))
 
       state_now : state_seen (design_in a) (places_in grown) row.items ≡ (handed c p first).state
       state_now =
@@ -210,7 +211,7 @@ module _ {A : Type 0} (a : Inside A) (is : IsMachine a) (seen : Core) (view : co
         room = room_then;
         built = ap (λ (w : Awake). w.design) woken_is ∙
             (design_then c p first home a.tiles.items tiles.items a.row.items row.items a.awake awake marks as_reported ∙ is.built);
-        sleepers = subst (λ (w : Awake). OthersSleep (design_of l) (after l_with steps) (is_awake w)) (sym woken_is) asleep_now;
+        sleepers = subst (λ (w : Awake). OtherChoicesSleep (design_of l) (after l_with steps) (is_choice_awake w)) (sym woken_is) asleep_now;
         routed = is.routed;
         ports = subst (λ (s : State). OtherPortsSleep (design_of l) s (flags_of a.ports)) after_then.state
             (ports_handed c p first (design_of l) (flags_of a.ports)

@@ -19,5 +19,6 @@ pub mod AskedSteps
 pub mod Allowed
 pub mod Handing
 pub mod HandedPorts
+pub mod HandedChoices
 pub mod HandedMachines
 pub mod Skips

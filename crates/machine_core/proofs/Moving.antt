@@ -37,11 +37,11 @@ use Rattle.machine_growth.specs.core_seen.proofs.Notes.{book_fits, noted_is, roo
 use Rattle.machine_core.specs.declared.machine.Machine.TheInside.{Inside}
 use Rattle.machine_core.specs.Noted.{HasRoomForIssue, HasRoomForService, HasRoomToNote, counts_of, records_in}
 use Rattle.machine_core.specs.Inside.{design_in, places_in, core_of, HaveRoom, HasRoomForScripts as HasRoomForScripts, IsMachine}
-use Rattle.machine_growth.specs.machine_wake.specs.Awake.{Awake, is_awake, woken}
+use Rattle.machine_growth.specs.machine_wake.specs.Awake.{Awake, is_choice_awake, moved as after_move}
 use Rattle.machine_growth.specs.machine_wake.specs.Ports.{AwakePorts, flags_of}
 use Rattle.machine_growth.specs.core_wake.specs.Routers.{PortFlags, OtherPortsSleep}
 use Rattle.machine_core.proofs.RouterFlags.{FollowMove, ports_kept}
-use Rattle.machine_growth.specs.core_wake.specs.Sleep.{OthersSleep}
+use Rattle.machine_growth.specs.core_wake.specs.Choices.{OtherChoicesSleep}
 use Rattle.machine_core.proofs.Fields.{Led, state_at, records_shown, with_parts, core_by}
 use Rattle.machine_core.proofs.Standing.{design_is, book_is, tiles_counted}
 use Rattle.machine_growth.specs.machine_wake.proofs.KeptSleepers as kept
@@ -244,12 +244,12 @@ module _ {A : Type 0} (a : Inside A) (is : IsMachine a) where
             (ports_kept l is.after.accepted is.steps attempt op next a.ports is.routed is.ports (asked_by op asked) led.1 (agent_kind attempt.agent) refl))
 
         -- who doesn't count as awake is asleep
-        sleepers_led : (op : WordOp) → tile_next_op v.place attempt ≡ Some op → (awake : Awake) → awake ≡ woken a.awake op
-            → OthersSleep (design_of l) (after l (is.steps ++ attempt ∷ [])) (is_awake awake)
+        sleepers_led : (op : WordOp) → tile_next_op v.place attempt ≡ Some op → (awake : Awake) → awake ≡ after_move a.awake attempt.agent op
+            → OtherChoicesSleep (design_of l) (after l (is.steps ++ attempt ∷ [])) (is_choice_awake awake)
         sleepers_led op asked awake awake_is =
             let by = asked_by op asked in
-            subst (λ (x : State). OthersSleep (design_of l) x (is_awake awake)) (sym next_after)
-            (subst (λ (w : Awake). OthersSleep (design_of l) next (is_awake w)) (sym awake_is)
+            subst (λ (x : State). OtherChoicesSleep (design_of l) x (is_choice_awake awake)) (sym next_after)
+            (subst (λ (w : Awake). OtherChoicesSleep (design_of l) next (is_choice_awake w)) (sym awake_is)
             (kept.moved l is.after.accepted is.steps attempt op next a.awake is.built is.sleepers by led.1))
 
       -- the fields after an attempt that is enabled
@@ -260,7 +260,7 @@ module _ {A : Type 0} (a : Inside A) (is : IsMachine a) where
           → ((x : PlacedTile) → slice_get tiles.items t ≡ Some x
           → g.book ≡ book_noted t (records_in tiles.items) (length v.place.processor.state.operations.issued)
           (length v.place.processor.state.operations.answers) (length v.place.bank.state.entries) (state_of x.place) a.book.book)
-          → (op : WordOp) → tile_next_op v.place attempt ≡ Some op → (awake : Awake) → awake ≡ woken a.awake op
+          → (op : WordOp) → tile_next_op v.place attempt ≡ Some op → (awake : Awake) → awake ≡ after_move a.awake attempt.agent op
           → (ports : AwakePorts) → FollowMove (agent_kind attempt.agent) a.ports ports t attempt.choice op
           → Led a (with_parts a tiles row g awake ports (a.left - 1)) Moved attempt
       moved q attempted w new_tile tiles tiles_are row row_is g keeps noted op asked awake awake_is ports ports_are =

@@ -124,12 +124,12 @@ module _ {A : Type 0} (a : Inside A) (is : IsMachine a) where
   abbrev s : State
   s = after is.load is.steps
 
-  idle_here : (attempt : Step) → step d s attempt ≡ None → IsIdle (core_of a) attempt
+  pub idle_here : (attempt : Step) → step d s attempt ≡ None → IsIdle (core_of a) attempt
   idle_here attempt none =
       subst (λ (x : Design). step x (core_of a).state attempt ≡ None) (sym (design_is a is))
       (subst (λ (z : State). step d z attempt ≡ None) (sym (state_is a is)) none)
 
-  idle_there : (attempt : Step) → IsIdle (core_of a) attempt → step d s attempt ≡ None
+  pub idle_there : (attempt : Step) → IsIdle (core_of a) attempt → step d s attempt ≡ None
   idle_there attempt none =
       subst (λ (z : State). step d z attempt ≡ None) (state_is a is)
       (subst (λ (x : Design). step x (core_of a).state attempt ≡ None) (design_is a is) none)

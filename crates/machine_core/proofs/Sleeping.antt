@@ -1,5 +1,5 @@
 -- Turns of agents in a round: one that is asleep changes nothing, and who falls asleep.
-use Rattle.std.proofs.Common.{◌≡◌, ℕ, ◌+◌, ◌*◌, false, List, [], ◌∷◌, Option, Some, None, refl, sym, ◌∙◌, ap, subst, arith}
+use Rattle.std.proofs.Common.{◌≡◌, ℕ, ◌+◌, ◌*◌, true, false, List, [], ◌∷◌, Option, Some, None, refl, sym, ◌∙◌, ap, subst, arith}
 use Rattle.std.specs.Prelude.{◌||◌, is_some}
 use Rattle.torus.specs.Shape.{Shape, dims_of}
 use Rattle.torus.specs.declared.step.Step.{Step}
@@ -7,35 +7,31 @@ use Rattle.torus.specs.declared.step.Choice.{Choice}
 use Rattle.channel_number.specs.Ports.{port_count}
 use Rattle.rounds.specs.Rounds.{one_if_moved, moves_in, or_same}
 use Rattle.machine_growth.specs.tile_laws.specs.declared.agent.Agent.{Agent}
-use Rattle.machine_growth.specs.tile_laws.specs.declared.agent.Agent.TheVariants.{Processor, Router, Bank}
+use Rattle.machine_growth.specs.tile_laws.specs.declared.agent.Agent.TheVariants.{Router}
 use Rattle.machine_growth.specs.tile_laws.specs.Tile.{Design}
+use Rattle.machine_growth.specs.tile_laws.specs.Agents.{agent_kind}
+use Rattle.machine_growth.specs.tile_laws.specs.Choices.{has_choice}
 use Rattle.machine_growth.specs.tile_laws.proofs.AgentNumbers.{kind_of_number}
 use Rattle.machine_growth.specs.core_laws.specs.Core.{State, design_of, step, or_same as state_or, after, attempts_of}
-use Rattle.machine_growth.specs.core_machine.specs.Machine.{Core, IsAfter, built_to, core_after}
+use Rattle.machine_growth.specs.core_machine.specs.Machine.{Core, IsAfter, built_to, event_in, core_with, core_next, core_after}
 use Rattle.machine_growth.specs.core_machine.proofs.Moves.{left_after}
-use Rattle.machine_growth.specs.machine_wake.specs.Awake.{Awake, is_awake, rested}
-use Rattle.machine_growth.specs.core_wake.specs.Sleep.{IsAsleep, OthersSleep, choices_of, attempts_at, has_moved}
+use Rattle.machine_growth.specs.machine_wake.specs.Awake.{Awake, is_awake, is_choice_awake, rested, choice_rested}
+use Rattle.machine_growth.specs.core_wake.specs.Sleep.{IsAsleep, choices_of, attempts_at, has_moved}
+use Rattle.machine_growth.specs.core_wake.specs.Choices.{OtherChoicesSleep}
 use Rattle.machine_growth.specs.core_wake.proofs.Sleepers.{falls, same_machine}
-use Rattle.machine_growth.specs.machine_wake.proofs.KeptSleepers.{rests}
+use Rattle.machine_growth.specs.machine_wake.proofs.KeptSleepers.{rests, agents_sleep, choice_rests}
 use Rattle.machine_core.specs.declared.machine.Machine.TheInside.{Inside}
 use Rattle.machine_core.specs.Inside.{core_of, IsMachine}
-use Rattle.torus.specs.Choices.{processor_choices, bank_choices, router_choices}
+use Rattle.torus.specs.Choices.{router_choices}
 use Rattle.machine_core.proofs.Fields.{with_parts}
 use Rattle.machine_core.proofs.Standing.{design_is, state_is}
+use Rattle.machine_core.proofs.Skips.{IsIdle, idle_here, idle_there}
 
--- each agent's choices are those of a round
-pub of_processor : (s : Shape) (t : ℕ) → attempts_of (3 * t) processor_choices ≡ attempts_at s (3 * t)
-of_processor s t =
-    ap (λ (a : Agent). attempts_of (3 * t) (choices_of (port_count (dims_of s)) a)) (sym (kind_of_number t Processor))
-
+-- a router's choices are those of a round
 pub of_router : (s : Shape) (t ports : ℕ) → ports ≡ port_count (dims_of s) → attempts_of (3 * t + 1) (router_choices ports) ≡ attempts_at s (3 * t + 1)
 of_router s t ports all =
     ap (λ (n : ℕ). attempts_of (3 * t + 1) (router_choices n)) all
     ∙ ap (λ (a : Agent). attempts_of (3 * t + 1) (choices_of (port_count (dims_of s)) a)) (sym (kind_of_number t Router))
-
-pub of_bank : (s : Shape) (t : ℕ) → attempts_of (3 * t + 2) bank_choices ≡ attempts_at s (3 * t + 2)
-of_bank s t =
-    ap (λ (a : Agent). attempts_of (3 * t + 2) (choices_of (port_count (dims_of s)) a)) (sym (kind_of_number t Bank))
 
 -- attempts of which none is enabled have not moved
 none_moved : (d : Design) (s : State) (xs : List Step) → moves_in (step d) s xs ≡ 0 → has_moved d s xs ≡ false
@@ -52,7 +48,8 @@ module _ {A : Type 0} (a : Inside A) (is : IsMachine a) where
   asleep_in : (agent : ℕ) → is_awake a.awake agent ≡ false → IsAsleep (built_to (core_of a)) (core_of a).state agent
   asleep_in agent out =
       subst (λ (d : Design). IsAsleep d (core_of a).state agent) (sym (design_is a is))
-      (subst (λ (s : State). IsAsleep (design_of is.load) s agent) (sym (state_is a is)) (is.sleepers agent out))
+      (subst (λ (s : State). IsAsleep (design_of is.load) s agent) (sym (state_is a is))
+      (agents_sleep (design_of is.load) (after is.load is.steps) a.awake is.sleepers agent out))
 
   -- so its turn changes nothing
   pub slept : (agent : ℕ) (choices : List Choice) → is_awake a.awake agent ≡ false → core_of a ≡ core_after (core_of a) (attempts_of agent choices)
@@ -94,8 +91,44 @@ module _ {A : Type 0} (start : Inside A) (is : IsMachine start) (c : Core) (view
         banks = mb.banks;
         room = mb.room;
         built = ap (λ (w : Awake). w.design) awake_is ∙ mb.built;
-        sleepers = subst (λ (w : Awake). OthersSleep (design_of mb.load) (after mb.load mb.steps) (is_awake w)) (sym awake_is)
+        sleepers = subst (λ (w : Awake). OtherChoicesSleep (design_of mb.load) (after mb.load mb.steps) (is_choice_awake w)) (sym awake_is)
             (rests (design_of mb.load) (after mb.load mb.steps) agent b.awake mb.sleepers there);
         routed = mb.routed;
         ports = mb.ports;
+      }
+
+-- one choice
+module _ {A : Type 0} (a : Inside A) (is : IsMachine a) (c : Core) (view : core_of a ≡ c) (agent : ℕ) (choice : Choice) where
+  abbrev attempt : Step
+  attempt = record { agent = agent; choice = choice }
+
+  -- one that doesn't count as awake isn't enabled, and is left out
+  pub choice_slept : is_choice_awake a.awake agent choice ≡ false → c ≡ core_next c attempt
+  choice_slept out =
+      let none : IsIdle c attempt = subst (λ (x : Core). IsIdle x attempt) view (idle_here a is attempt (is.sleepers agent choice out)) in
+      sym (ap (core_with c (event_in (built_to c) c.state attempt)) none)
+
+  -- one that isn't enabled may count as asleep
+  pub choice_falls_asleep : (kind : Agent) → agent_kind agent ≡ kind → (kind ≡ Router → ⊥) → ((ports : ℕ) → has_choice ports kind choice ≡ true)
+      → IsIdle c attempt → (awake : Awake) → awake.design ≡ a.awake.design
+      → ((k : ℕ) (z : Choice) → is_choice_awake awake k z ≡ choice_rested agent choice (is_choice_awake a.awake) k z)
+      → IsMachine (with_parts a a.tiles a.row a.book awake a.ports a.left)
+  choice_falls_asleep kind which other has none awake design rest =
+      let d : Design = design_of is.load in
+      let s : State = after is.load is.steps in
+      let ports : ℕ = port_count (dims_of d.shape) in
+      let idle : step d s attempt ≡ None = idle_there a is attempt (subst (λ (x : Core). IsIdle x attempt) (sym view) none) in
+      let sleep = choice_rests d s agent choice (is_choice_awake a.awake) is.sleepers (λ e. other (sym which ∙ e))
+      (ap (λ (k : Agent). has_choice ports k choice) which ∙ has ports) idle in
+      record {
+        load = is.load;
+        steps = is.steps;
+        after = is.after;
+        seen = is.seen;
+        banks = is.banks;
+        room = is.room;
+        built = design ∙ is.built;
+        sleepers = λ k z out. sleep k z (sym (rest k z) ∙ out);
+        routed = is.routed;
+        ports = is.ports;
       }

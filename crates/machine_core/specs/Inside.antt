@@ -12,9 +12,9 @@ use Rattle.machine_growth.specs.tile.specs.Placed.{PlacedTile}
 use Rattle.machine_growth.specs.core_laws.specs.Core.{Load, design_of, after as state_after_steps}
 use Rattle.machine_growth.specs.core_seen.specs.Seen.{IsShown, state_seen}
 use Rattle.machine_growth.specs.core_machine.specs.Machine.{Core, IsAfter}
-use Rattle.machine_growth.specs.core_wake.specs.Sleep.{OthersSleep}
+use Rattle.machine_growth.specs.core_wake.specs.Choices.{OtherChoicesSleep}
 use Rattle.machine_growth.specs.core_wake.specs.Routers.{OtherPortsSleep}
-use Rattle.machine_growth.specs.machine_wake.specs.Awake.{is_awake}
+use Rattle.machine_growth.specs.machine_wake.specs.Awake.{is_choice_awake}
 use Rattle.machine_growth.specs.machine_wake.specs.Ports.{flags_of}
 use Rattle.machine_core.specs.declared.machine.Machine.TheInside.{Inside}
 
@@ -52,8 +52,8 @@ pub record HasRoomForScripts (l : Load) (g : RoomyBook) : Type 0 where
   pub rows : total_count l.scripts ≤ g.rows
 
 -- every machine stands where some list of steps leads from an accepted load; its tiles and its row
--- show the state there; and no choice is enabled there of an agent that doesn't count as awake, and
--- none of a router that doesn't itself
+-- show the state there; and no choice is enabled there that doesn't count as awake, for its agent or
+-- for its router
 pub record IsMachine {A : Type 0} (a : Inside A) : Type 0 where
   pub load : Load
   pub steps : List Step
@@ -62,6 +62,7 @@ pub record IsMachine {A : Type 0} (a : Inside A) : Type 0 where
   pub banks : HaveRoom load a.tiles.items
   pub room : HasRoomForScripts load a.book
   pub built : a.awake.design ≡ design_of load
-  pub sleepers : OthersSleep (design_of load) (state_after_steps load steps) (is_awake a.awake)
+  pub sleepers : OtherChoicesSleep (design_of load) (state_after_steps load steps)
+      (is_choice_awake a.awake)
   pub routed : a.ports.design ≡ design_of load
   pub ports : OtherPortsSleep (design_of load) (state_after_steps load steps) (flags_of a.ports)

@@ -1,15 +1,14 @@
 //! Attempts of the agents of a tile, each of its kind, and the rounds that they make, in which agents that
 //! are asleep are left out.
 
-ghost use Rattle.std.specs.Prelude.{◌≡◌, ◌<◌, ◌+◌, ◌*◌, ◌++◌, false, List};
+ghost use Rattle.std.specs.Prelude.{◌≡◌, ◌<◌, ◌+◌, ◌*◌, true, false, None};
 ghost use Rattle.torus.specs.Shape.{tiles_of, dims_of};
-ghost use Rattle.torus.specs.declared.step.Step.{Step};
 ghost use Rattle.channel_number.specs.Ports.{port_count};
 ghost use Rattle.rounds.specs.Rounds.{moves_in};
 ghost use Rattle.machine_growth.specs.core_laws.specs.Core.{step, attempts_of, round_at, round};
 ghost use Rattle.machine_growth.specs.core_machine.specs.Machine.{RunsOn, MakesMove, Steps, core_after, built_to};
-ghost use Rattle.machine_growth.specs.core_machine.specs.Machine.{all_finished};
-ghost use Rattle.torus.specs.Choices.{processor_choices, bank_choices, router_choices};
+ghost use Rattle.machine_growth.specs.core_machine.specs.Machine.{all_finished, core_next};
+ghost use Rattle.torus.specs.Choices.{processor_choices, bank_choices, router_choices, is_of_processor, is_of_bank};
 
 use crate::machine::Machine;
 use crate::noting::{Counts, lacks_room, note};
@@ -23,20 +22,15 @@ impl<A: Allocator> Machine<A> {
         requires { tile < tiles_of self.old.shape }
         ensures { Steps self.old self.new result (record { agent = 3 * tile; choice = choice }) }
     {
-        let Some(op) = self.tiles[tile].processor_op(choice) else {
+        let before = Counts::of(&self.tiles[tile]);
+        let Some(op) = self.tiles[tile].attempt_processor(choice, &mut self.row) else {
             return Stepped::Idle;
         };
-        let before = Counts::of(&self.tiles[tile]);
-        match self.tiles[tile].attempt_processor(choice, &mut self.row) {
-            Stepped::Moved => {
-                self.awake.wake(op);
-                self.ports.wake(op);
-                note(self.tiles.as_slice(), &mut self.book, tile, before);
-                self.left -= 1;
-                Stepped::Moved
-            }
-            Stepped::Idle => Stepped::Idle,
-        }
+        self.awake.moved(3 * tile, op);
+        self.ports.wake(op);
+        note(self.tiles.as_slice(), &mut self.book, tile, before);
+        self.left -= 1;
+        Stepped::Moved
     }
 
     /// Attempts a choice of a tile's router: no event is noted of it.
@@ -46,18 +40,13 @@ impl<A: Allocator> Machine<A> {
         ensures { Steps self.old self.new result
             (record { agent = 3 * tile + 1; choice = choice }) }
     {
-        let Some(op) = self.tiles[tile].router_op(choice) else {
+        let Some(op) = self.tiles[tile].attempt_router(choice, &mut self.row) else {
             return Stepped::Idle;
         };
-        match self.tiles[tile].attempt_router(choice, &mut self.row) {
-            Stepped::Moved => {
-                self.awake.wake(op);
-                self.ports.router_moved(tile, choice, op);
-                self.left -= 1;
-                Stepped::Moved
-            }
-            Stepped::Idle => Stepped::Idle,
-        }
+        self.awake.moved(3 * tile + 1, op);
+        self.ports.router_moved(tile, choice, op);
+        self.left -= 1;
+        Stepped::Moved
     }
 
     /// Attempts a choice of a tile's bank.
@@ -70,20 +59,15 @@ impl<A: Allocator> Machine<A> {
         if lacks_room(&self.tiles[tile], choice) {
             return Stepped::Idle;
         }
-        let Some(op) = self.tiles[tile].bank_op(choice) else {
+        let before = Counts::of(&self.tiles[tile]);
+        let Some(op) = self.tiles[tile].attempt_bank(choice, &mut self.row) else {
             return Stepped::Idle;
         };
-        let before = Counts::of(&self.tiles[tile]);
-        match self.tiles[tile].attempt_bank(choice, &mut self.row) {
-            Stepped::Moved => {
-                self.awake.wake(op);
-                self.ports.wake(op);
-                note(self.tiles.as_slice(), &mut self.book, tile, before);
-                self.left -= 1;
-                Stepped::Moved
-            }
-            Stepped::Idle => Stepped::Idle,
-        }
+        self.awake.moved(3 * tile + 2, op);
+        self.ports.wake(op);
+        note(self.tiles.as_slice(), &mut self.book, tile, before);
+        self.left -= 1;
+        Stepped::Moved
     }
 
     /// Makes one round: attempts each choice of each agent once, the agents in their order. Where some
@@ -115,8 +99,8 @@ impl<A: Allocator> Machine<A> {
         self.turn_bank(tile);
     }
 
-    /// The turn of a tile's processor. It is left out where it doesn't count as awake; it falls asleep
-    /// where none of its choices moved.
+    /// The turn of a tile's processor: each of its choices, in order. It is left out where none counts as
+    /// awake.
     fn turn_processor(&mut self, tile: usize)
         requires { tile < tiles_of self.old.shape }
         ensures { self.new ≡ core_after self.old (attempts_of (3 * tile) processor_choices) }
@@ -124,11 +108,11 @@ impl<A: Allocator> Machine<A> {
         if !self.awake.is_awake(3 * tile) {
             return;
         }
-        let left = self.left;
-        self.attempt_processor(tile);
-        if self.left == left {
-            self.awake.rest(3 * tile);
-        }
+        self.try_processor(tile, Choice::Send);
+        self.try_processor(tile, Choice::Take);
+        self.try_processor(tile, Choice::Credit);
+        self.try_processor(tile, Choice::Done);
+        self.try_processor(tile, Choice::Look);
     }
 
     /// The turn of a tile's router, of so many ports.
@@ -150,7 +134,8 @@ impl<A: Allocator> Machine<A> {
         }
     }
 
-    /// The turn of a tile's bank.
+    /// The turn of a tile's bank: each of its choices, in order. It is left out where none counts as
+    /// awake.
     fn turn_bank(&mut self, tile: usize)
         requires { tile < tiles_of self.old.shape }
         ensures { self.new ≡ core_after self.old (attempts_of (3 * tile + 2) bank_choices) }
@@ -158,33 +143,64 @@ impl<A: Allocator> Machine<A> {
         if !self.awake.is_awake(3 * tile + 2) {
             return;
         }
-        let left = self.left;
-        self.attempt_bank(tile);
-        if self.left == left {
-            self.awake.rest(3 * tile + 2);
+        self.try_bank(tile, Choice::Take);
+        self.try_bank(tile, Choice::Serve);
+        self.try_bank(tile, Choice::Send);
+        self.try_bank(tile, Choice::Credit);
+    }
+
+    /// Attempts a choice of a tile's processor, unless it counts as asleep; one that doesn't move falls
+    /// asleep.
+    #[inline(always)]
+    fn try_processor(&mut self, tile: usize, choice: Choice)
+        requires tile { tile < tiles_of self.old.shape }
+        requires choice { is_of_processor choice ≡ true }
+        ensures { self.new ≡ core_next self.old (record { agent = 3 * tile; choice = choice }) }
+    {
+        if !self.awake.is_choice_awake(3 * tile, choice) {
+            return;
+        }
+        match self.step_processor(tile, choice) {
+            Stepped::Moved => {}
+            Stepped::Idle => self.choice_of_processor_sleeps(tile, choice),
         }
     }
 
-    /// Attempts each choice of a tile's processor.
-    fn attempt_processor(&mut self, tile: usize)
-        requires { tile < tiles_of self.old.shape }
-        ensures { self.new ≡ core_after self.old (attempts_of (3 * tile) processor_choices) }
+    /// Attempts a choice of a tile's bank, unless it counts as asleep; one that doesn't move falls asleep.
+    #[inline(always)]
+    fn try_bank(&mut self, tile: usize, choice: Choice)
+        requires tile { tile < tiles_of self.old.shape }
+        requires choice { is_of_bank choice ≡ true }
+        ensures { self.new ≡ core_next self.old (record { agent = 3 * tile + 2; choice = choice }) }
     {
-        let _ = self.step_processor(tile, Choice::Send);
-        let _ = self.step_processor(tile, Choice::Take);
-        let _ = self.step_processor(tile, Choice::Credit);
-        let _ = self.step_processor(tile, Choice::Done);
-        let _ = self.step_processor(tile, Choice::Look);
+        if !self.awake.is_choice_awake(3 * tile + 2, choice) {
+            return;
+        }
+        match self.step_bank(tile, choice) {
+            Stepped::Moved => {}
+            Stepped::Idle => self.choice_of_bank_sleeps(tile, choice),
+        }
     }
 
-    /// Attempts each choice of a tile's bank.
-    fn attempt_bank(&mut self, tile: usize)
-        requires { tile < tiles_of self.old.shape }
-        ensures { self.new ≡ core_after self.old (attempts_of (3 * tile + 2) bank_choices) }
+    /// Counts a choice of a tile's processor as asleep that isn't enabled.
+    fn choice_of_processor_sleeps(&mut self, tile: usize, choice: Choice)
+        requires tile { tile < tiles_of self.old.shape }
+        requires choice { is_of_processor choice ≡ true }
+        requires idle { step (built_to self.old) self.old.state
+            (record { agent = 3 * tile; choice = choice }) ≡ None }
+        ensures { self.new ≡ self.old }
     {
-        let _ = self.step_bank(tile, Choice::Take);
-        let _ = self.step_bank(tile, Choice::Serve);
-        let _ = self.step_bank(tile, Choice::Send);
-        let _ = self.step_bank(tile, Choice::Credit);
+        self.awake.rest_choice(3 * tile, choice);
+    }
+
+    /// Counts a choice of a tile's bank as asleep that isn't enabled.
+    fn choice_of_bank_sleeps(&mut self, tile: usize, choice: Choice)
+        requires tile { tile < tiles_of self.old.shape }
+        requires choice { is_of_bank choice ≡ true }
+        requires idle { step (built_to self.old) self.old.state
+            (record { agent = 3 * tile + 2; choice = choice }) ≡ None }
+        ensures { self.new ≡ self.old }
+    {
+        self.awake.rest_choice(3 * tile + 2, choice);
     }
 }

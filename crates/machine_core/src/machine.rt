@@ -7,7 +7,9 @@ ghost use Rattle.machine_growth.specs.order_abstract.specs.Scripts.{AreFinished}
 ghost use Rattle.rounds.specs.Rounds.{moves_in};
 ghost use Rattle.machine_growth.specs.core_laws.specs.Core.{Load, run_of, step};
 ghost use Rattle.machine_growth.specs.core_row.specs.Row.{row_of};
-ghost use Rattle.machine_growth.specs.core_machine.specs.Machine.{IsAfter, RunsOn, HasOneOrderSoFar, Steps, core_after, shown};
+ghost use Rattle.machine_growth.specs.core_machine.specs.Machine.{IsAfter, RunsOn};
+ghost use Rattle.machine_growth.specs.core_machine.specs.Machine.{HasOneOrderSoFar, Steps};
+ghost use Rattle.machine_growth.specs.core_machine.specs.Machine.{core_after, shown};
 ghost use Rattle.machine_growth.specs.core_machine.specs.Machine.{built_to, all_finished};
 ghost use Rattle.machine_growth.specs.core_progress.specs.Moves.{IsLive, moves_left};
 ghost use Rattle.machine_core.specs.Rounds.{rounds_of, NeedsRounds};

@@ -36,6 +36,12 @@ pub and_true : (a : Bool) → (a && true) ≡ a
 and_true true = refl
 and_true false = refl
 
+pub max_zero : (p q : ℕ) → not (max p q == 0) ≡ (not (p == 0) || not (q == 0))
+max_zero zero q = ap (λ (n : ℕ). not (n == 0)) (zero-max q)
+max_zero (suc p) q =
+    ap (λ (b : Bool). not b) (ne_eqb (max (suc p) q) 0 (λ e. omega (arith, e)))
+    ∙ ap (λ (b : Bool). not b || not (q == 0)) (sym (ne_eqb (suc p) 0 (λ e. omega (arith, e))))
+
 -- a flag that is there, and one that isn't
 module _ (ws : List ℕ) (u k : ℕ) where
   shown_in : u < 64 → k < 32 → is_raised ws u k ≡ not (bit_at (slice_index ws u) k == 0)
@@ -196,12 +202,6 @@ module _ (ws : List ℕ) (long : length ws ≡ 64) (t : ℕ) (low : t < 64) wher
         three false b c = refl
 
   -- joined
-  max_zero : (p q : ℕ) → not (max p q == 0) ≡ (not (p == 0) || not (q == 0))
-  max_zero zero q = ap (λ (n : ℕ). not (n == 0)) (zero-max q)
-  max_zero (suc p) q =
-      ap (λ (b : Bool). not b) (ne_eqb (max (suc p) q) 0 (λ e. omega (arith, e)))
-      ∙ ap (λ (b : Bool). not b || not (q == 0)) (sym (ne_eqb (suc p) 0 (λ e. omega (arith, e))))
-
   both_flags : (a b : Bool) (p q : ℕ) → not (a && (b && (max p q == 0))) ≡ (not (a && (b && (p == 0))) || not (a && (b && (q == 0))))
   both_flags true true p q = max_zero p q
   both_flags true false p q = refl

@@ -11,7 +11,7 @@ awake_of a = record {
   flags = a.awake;
 }
 
--- there are a flag for each of 192 agents, and the ends of each place
+-- there are bits for each of 192 agents, and the ends of each place
 pub record TellEnds {A : Type 0} (a : Inside A) : Type 0 where
   pub accepted : IsAccepted a.torus
   pub flags : length a.awake ≡ 192

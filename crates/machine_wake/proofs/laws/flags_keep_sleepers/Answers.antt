@@ -2,4 +2,10 @@ use Rattle.machine_wake.proofs.KeptSleepers as sleepers
 use Rattle.machine_wake.proofs.laws.flags_keep_sleepers.Goals as goal
 
 pub returns : goal.returns
-returns c = record { fresh = sleepers.fresh; moved = sleepers.moved; rested = sleepers.rests }
+returns c = record {
+  fresh = sleepers.fresh;
+  moved = sleepers.moved;
+  rested = sleepers.rests;
+  choice = sleepers.choice_rests;
+  agents = sleepers.agents_sleep;
+}

@@ -69,7 +69,7 @@ begun g c =
           let all : c.all_room-rows.result ≡ total_count (lists_of c.args.lists.items) = c.all_room-rows.ensures ∙ ap total_count lists_3 in
           omega (arith, c.most_moves-left.ensures, all, c.tiles-2.ensures.value);
       awake = c.in_ok-awake.ensures
-          ∙ ap (λ (n : ℕ). record { design = record { shape = c.args.torus; depth = c.args.depth; words = n }; flags = replicate 192 true }) words;
+          ∙ ap (λ (n : ℕ). record { design = record { shape = c.args.torus; depth = c.args.depth; words = n }; flags = replicate 192 255 }) words;
       routed = c.in_ok-ports.ensures.0 ∙ ap (λ (n : ℕ). record { shape = c.args.torus; depth = c.args.depth; words = n }) words;
       ports = c.in_ok-ports.ensures.1;
     }

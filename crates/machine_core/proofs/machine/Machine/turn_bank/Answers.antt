@@ -1,10 +1,14 @@
-use Rattle.std.proofs.Common.{◌≡◌, ◌+◌, ◌*◌, sym, ◌∙◌, subst, arith}
+use Rattle.std.proofs.Common.{◌≡◌, ◌+◌, ◌*◌, List, [], ◌∷◌, refl, sym, ◌∙◌, subst, arith}
+use Rattle.torus.specs.Choices.{bank_choices}
+use Rattle.torus.specs.declared.step.Step.{Step}
+use Rattle.torus.specs.declared.step.Choice.{Choice}
+use Rattle.torus.specs.declared.step.Choice.TheVariants.{Take, Serve, Send, Credit}
 use Rattle.machine_growth.specs.core_laws.specs.Core.{attempts_of}
 use Rattle.machine_growth.specs.core_machine.specs.Machine.{Core, core_after}
-use Rattle.torus.specs.Choices.{bank_choices}
 use Rattle.machine_core.proofs.Standing.{few_tiles}
 use Rattle.machine_core.proofs.Agents.{tile_within}
-use Rattle.machine_core.proofs.Sleeping.{of_bank, slept, falls_asleep}
+use Rattle.machine_core.proofs.Rounds.{attempt_more, tile_stays_once}
+use Rattle.machine_core.proofs.Sleeping.{slept}
 use Rattle.machine_core.proofs.machine.Machine.turn_bank.Goals as goal
 
 pub is_awake-requires : goal.is_awake-requires
@@ -20,15 +24,31 @@ returns-then-not-is_awake g c =
     subst (λ (x : Core). x ≡ core_after x (attempts_of (3 * c.args.tile + 2) bank_choices)) c.self.view_is
     (slept c.self.inside c.self.invariant (3 * c.args.tile + 2) bank_choices (sym c.is_awake.ensures ∙ c.if-not-is_awake.true))
 
-pub rest-requires : goal.rest-requires
-rest-requires g c =
-    let few = few_tiles c.self.inside c.self.invariant in
-    let long = c.self.inside.tiles.ok.0 in
-    let low = tile_within c.self.inside c.self.invariant c.args.self.now c.self.view_is c.args.tile c.requires in
-    omega (arith, few, long, low)
+pub returns : goal.returns
+returns g c =
+    let start : Core = c.args.self.now in
+    let of : List Choice → List Step = attempts_of (3 * c.args.tile + 2) in
+    let with : Choice → Step = λ choice. record { agent = 3 * c.args.tile + 2; choice = choice } in
+    let after_1 = attempt_more start start c.try_bank.new.self [] (with Take) refl c.try_bank.ensures in
+    let after_2 = attempt_more start c.try_bank.new.self c.try_bank-2.new.self (of (Take ∷ [])) (with Serve) after_1 c.try_bank-2.ensures in
+    let after_3 = attempt_more start c.try_bank-2.new.self c.try_bank-3.new.self (of (Take ∷ Serve ∷ [])) (with Send) after_2 c.try_bank-3.ensures in
+    attempt_more start c.try_bank-3.new.self c.try_bank-4.new.self (of (Take ∷ Serve ∷ Send ∷ [])) (with Credit) after_3 c.try_bank-4.ensures
 
--- one of which no choice moved falls asleep
-pub invariant_of-self : goal.invariant_of-self
-invariant_of-self g c =
-    falls_asleep c.self.inside c.self.invariant c.args.self.now c.self.view_is (3 * c.args.tile + 2) bank_choices (of_bank c.args.self.now.shape c.args.tile)
-    c.self-2.inside c.self-2.invariant c.attempt_bank.new.self c.self-2.view_is c.attempt_bank.ensures c.if-self-left.true c.rest.new.self c.rest.ensures
+-- the tile is there at each of them
+pub try_bank-requires-2-clause-tile : goal.try_bank-requires-2-clause-tile
+try_bank-requires-2-clause-tile g c =
+    tile_stays_once c.args.tile c.args.self.now c.try_bank.new.self (record { agent = 3 * c.args.tile + 2; choice = Take }) c.try_bank.ensures c.requires
+
+pub try_bank-requires-3-clause-tile : goal.try_bank-requires-3-clause-tile
+try_bank-requires-3-clause-tile g c =
+    let low_1 = tile_stays_once c.args.tile c.args.self.now c.try_bank.new.self (record { agent = 3 * c.args.tile + 2; choice = Take })
+    c.try_bank.ensures c.requires in
+    tile_stays_once c.args.tile c.try_bank.new.self c.try_bank-2.new.self (record { agent = 3 * c.args.tile + 2; choice = Serve }) c.try_bank-2.ensures low_1
+
+pub try_bank-requires-4-clause-tile : goal.try_bank-requires-4-clause-tile
+try_bank-requires-4-clause-tile g c =
+    let low_1 = tile_stays_once c.args.tile c.args.self.now c.try_bank.new.self (record { agent = 3 * c.args.tile + 2; choice = Take })
+    c.try_bank.ensures c.requires in
+    let low_2 = tile_stays_once c.args.tile c.try_bank.new.self c.try_bank-2.new.self (record { agent = 3 * c.args.tile + 2; choice = Serve })
+    c.try_bank-2.ensures low_1 in
+    tile_stays_once c.args.tile c.try_bank-2.new.self c.try_bank-3.new.self (record { agent = 3 * c.args.tile + 2; choice = Send }) c.try_bank-3.ensures low_2

@@ -1,7 +1,7 @@
 use Rattle.std.proofs.Common.{◌≡◌, ◌≢◌, ◌+◌, sym, ◌∙◌, ap, arith, vec_len}
 use Rattle.torus.specs.Shape.{tiles_of}
 use Rattle.core_wake.specs.Waking.{processors}
-use Rattle.machine_wake.specs.Awake.{Awake, with_awake}
+use Rattle.machine_wake.specs.Awake.{Awake, with_bits}
 use Rattle.machine_wake.proofs.SetFlags.{added_done, added_elsewhere}
 use Rattle.machine_wake.proofs.flags.WakeFlags.wake.Goals as goal
 
@@ -11,7 +11,7 @@ returns-then-word-len g c =
     rw (← c.self.view_is)
     (added_done c.self.inside c.self.invariant c.args.op c.in-Add.word c.in-Add.field-1 c.in-Add.is at c.wake_processors.new.self
     (c.wake_processors.ensures.design ∙ sym (ap (λ (w : Awake). w.design) c.self.view_is))
-    (c.wake_processors.ensures.flags ∙ sym (ap (λ (w : Awake). with_awake w.flags (processors (tiles_of w.design.shape))) c.self.view_is)))
+    (c.wake_processors.ensures.flags ∙ sym (ap (λ (w : Awake). with_bits w.flags 16 (processors (tiles_of w.design.shape))) c.self.view_is)))
 
 pub returns-else-word-len : goal.returns-else-word-len
 returns-else-word-len g c =

@@ -1,6 +1,6 @@
 use Rattle.std.proofs.Common.{◌≡◌}
 use Rattle.core_wake.specs.Waking.{processors}
-use Rattle.machine_wake.specs.Awake.{with_awake}
+use Rattle.machine_wake.specs.Awake.{with_bits}
 use Rattle.machine_wake.proofs.flags.WakeFlags.wake_processors.Given as goal
 
 -- the processors so far are awake
@@ -10,5 +10,5 @@ invariant-loop-tile g l = record {
   depth : l.self-inside.depth ≡ l.initial.self-inside.depth;
   words : l.self-inside.words ≡ l.initial.self-inside.words;
   ends : l.self-inside.ends ≡ l.initial.self-inside.ends;
-  awake : l.self-inside.awake ≡ with_awake l.initial.self-inside.awake (processors l.tile);
+  awake : l.self-inside.awake ≡ with_bits l.initial.self-inside.awake 16 (processors l.tile);
 }
