@@ -49,7 +49,8 @@ def program() -> str:
     named = os.environ.get("TORUSMEM")
     found = named or f"{ROOT}/crates/torusmem/out/torusmem"
     if not os.path.isfile(found) or not os.access(found, os.X_OK):
-        why = "TORUSMEM names it" if named else "./torusmem check examples/report.txt proves and builds it"
+        builds = "./torusmem run examples/machine.txt examples/script.txt proves and builds it"
+        why = "TORUSMEM names it" if named else builds
         raise command.Refusal(f"there is no program {found}: {why}")
     return os.path.abspath(found)
 

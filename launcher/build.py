@@ -1,4 +1,4 @@
-"""Proves the crates that the program stands on side by side, and builds the program.
+"""Proves the crates that a program stands on side by side, and builds the program.
 
 `rt` locks a crate and all below it, so two runs over a common crate wait for each other. Here each crate is proved in a
 view of its own: a folder with the sources of the crate and of those below it, and what was proved of these (hard links,
@@ -25,7 +25,9 @@ from typing import Iterator
 from crates import ROOT, Plan, below, rows
 
 PARTS = ("src", "specs", "proofs")
-PROGRAM = "torusmem"
+# The program with all commands, and that of fewer crates, which has these alone.
+PROGRAM, SMALL_PROGRAM = "torusmem", "torusmem_rounds"
+OF_SMALL = "round, steps, check, route and channels"
 # Free memory for each process of a check, in KiB.
 ROOM = 2_500_000
 # The file beside a crate's library, or beside the program, that says what it was proved from.
@@ -120,6 +122,10 @@ def end_with_parent() -> None:
     ctypes.CDLL(None).prctl(1, signal.SIGKILL)
 
 
+def is_program(name: str) -> bool:
+    return name in (PROGRAM, SMALL_PROGRAM)
+
+
 def processor_time() -> float:
     """The processor seconds of all child processes that have ended."""
     used = resource.getrusage(resource.RUSAGE_CHILDREN)
@@ -133,7 +139,7 @@ class Run:
         self.name, self.view, self.jobs, self.held = name, view, jobs, held
         self.folder = f"{view}/crates/{name}"
         self.began, self.spent = time.monotonic(), 0.0
-        words = ["run", "--jobs", str(jobs), "--", "check", "stdout"] if name == PROGRAM else ["lib", "--jobs", str(jobs)]
+        words = ["run", "--jobs", str(jobs), "--", "check", "stdout"] if is_program(name) else ["lib", "--jobs", str(jobs)]
         with open(f"{view}/said", "wb") as said:
             self.child = subprocess.Popen(
                 ["rt", *words],
@@ -161,8 +167,10 @@ class Run:
 class Build:
     def __init__(self, top: str = PROGRAM) -> None:
         listed = rows(ROOT)
-        self.names = below(listed, top)
+        self.top, self.names = top, below(listed, top)
         self.rows = {it: listed[it] for it in self.names}
+        # How many crates the other commands stand on beside these.
+        self.others = len({*below(listed, PROGRAM)} - {*self.names})
         self.began, self.since = time.monotonic(), time.time()
         self.log_name = f"{ROOT}/out/build.log"
         self.running: dict[str, Run] = {}
@@ -222,9 +230,9 @@ class Build:
 
     def mark_of(self, name: str, folder: str) -> tuple[str, str]:
         """The file of a crate's mark, and what it says of what stands there now."""
-        if name != PROGRAM:
+        if not is_program(name):
             return f"{folder}/out/rlib/{MARK}", self.marks[name]
-        with open(f"{folder}/out/{PROGRAM}", "rb") as file:
+        with open(f"{folder}/out/{name}", "rb") as file:
             return f"{folder}/out/{MARK}", self.marks[name] + hashlib.sha256(file.read()).hexdigest()
 
     def is_proved(self, name: str) -> bool:
@@ -313,9 +321,13 @@ class Build:
 
     def announce(self, todo: list[str]) -> None:
         left = self.plan.left(set(), {})
-        what = f"{len(todo)} of the {len(self.names)} crates that the program stands on"
-        say(f"proves {what}, up to {self.plan.cores} at a time, and builds it. That takes about {minutes(left)}; then the")
-        say("next start is immediate. Ctrl-C keeps what is proved. `./torusmem --unproved ..` looks without proofs.")
+        is_small = self.top == SMALL_PROGRAM
+        above, made = (f"{OF_SMALL} stand", "a program of these") if is_small else ("the program stands", "it")
+        say(f"proves {len(todo)} of the {len(self.names)} crates that {above} on, up to {self.plan.cores} at a time,")
+        say(f"and builds {made}. That takes about {minutes(left)}; then the next start is immediate. Ctrl-C keeps what is proved.")
+        if is_small:
+            say(f"The other commands stand on {self.others} crates more, which the first of them proves.")
+        say("`./torusmem --unproved ..` looks without proofs.")
         say(f"What the prover says goes to {os.path.relpath(self.log_name, os.getcwd())}")
 
     def start_more(self) -> None:
@@ -400,8 +412,8 @@ def build(top: str = PROGRAM) -> int:
             work.look()
             work.prove()
             # A source that was changed meanwhile is newer.
-            if top == PROGRAM:
-                os.utime(f"{ROOT}/crates/{PROGRAM}/out/{PROGRAM}", (work.since, work.since))
+            if is_program(top):
+                os.utime(f"{ROOT}/crates/{top}/out/{top}", (work.since, work.since))
     except Interrupted:
         say("interrupted. What was proved is kept, and the next start goes on from there")
         return 130

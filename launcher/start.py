@@ -1,4 +1,5 @@
-"""Starts the program where it isn't built yet, or looks at a command without proofs (--unproved)."""
+"""Starts a program that isn't built yet, or looks at a command without proofs (--unproved). The first word names the
+program that answers the others, by the fewest crates."""
 
 from __future__ import annotations
 
@@ -10,10 +11,8 @@ sys.dont_write_bytecode = True
 
 import unproved  # noqa: E402
 import words  # noqa: E402
-from build import build, say  # noqa: E402
+from build import PROGRAM, build, say  # noqa: E402
 from crates import ROOT  # noqa: E402
-
-PROGRAM = f"{ROOT}/crates/torusmem/out/torusmem"
 
 
 def told(answer: words.Answer) -> int:
@@ -28,9 +27,9 @@ def told(answer: words.Answer) -> int:
     return answer.status
 
 
-def main(given: list[str]) -> int:
+def main(name: str, given: list[str]) -> int:
     if given[:1] == ["--unproved"]:
-        return unproved.run(given[1:], told)
+        return unproved.run(name, given[1:], told)
     asked = words.asked(given)
     answer = words.unread(asked) if isinstance(asked, words.Job) else asked
     if answer is not None:
@@ -38,13 +37,14 @@ def main(given: list[str]) -> int:
         if answer.is_asked_for:
             say("the program isn't built yet: its first command proves and builds it, and says how far it is")
         return status
-    status = build()
+    status = build(name)
     if status:
         return status
     for it in (signal.SIGPIPE, signal.SIGXFSZ):
         signal.signal(it, signal.SIG_DFL)
-    os.execv(PROGRAM, [PROGRAM, *given])
+    # By its first word a program names itself.
+    os.execv(f"{ROOT}/crates/{name}/out/{name}", [f"{ROOT}/{PROGRAM}", *given])
 
 
 if __name__ == "__main__":
-    sys.exit(main(sys.argv[1:]))
+    sys.exit(main(sys.argv[1], sys.argv[2:]))

@@ -29,8 +29,8 @@ def standard_input(folder: str) -> str:
     return path
 
 
-def run(given: list[str], told: Callable[[words.Answer], int]) -> int:
-    """Does what the words ask for, and answers the program's status."""
+def run(name: str, given: list[str], told: Callable[[words.Answer], int]) -> int:
+    """Does what the words ask for, by the program of this name, and answers its status."""
     asked = words.asked(given)
     if asked is None:
         say("--unproved can't read these words; the program itself tells what is wrong with them")
@@ -56,7 +56,7 @@ def run(given: list[str], told: Callable[[words.Answer], int]) -> int:
             files += ["--data", f"file{place}={path}"]
             line[place] = f"file{place}"
         command = ["rt", "try", "--seconds", str(SECONDS), *files, "--", *line]
-        ran = subprocess.run(command, cwd=f"{ROOT}/crates/torusmem", stdin=subprocess.DEVNULL, capture_output=True)
+        ran = subprocess.run(command, cwd=f"{ROOT}/crates/{name}", stdin=subprocess.DEVNULL, capture_output=True)
     ended = ENDED.search(ran.stderr)
     its_own = ITS_OWN.search(ran.stderr)
     errors = ran.stderr[: its_own.start()] if ended and its_own else ran.stderr

@@ -2,6 +2,7 @@
 #![tactic(auto)]
 
 mod arguments;
+pub mod asking;
 mod building;
 pub mod command;
 mod jobs;
@@ -9,4 +10,5 @@ mod making;
 mod subcommands;
 mod values;
 
+pub use asking::{request_told, words_told};
 pub use command::{Job, Request, read_command, read_request};

@@ -2,5 +2,7 @@
 #![tactic(auto)]
 
 pub mod explaining;
+pub mod telling;
 
-pub use explaining::{Kind, explain, explain_no_order, explain_unread};
+pub use explaining::{Kind, explain, explain_unread};
+pub use telling::{explain_by, is_of_texts, named, told};

@@ -1,13 +1,13 @@
-//! What each job answers.
+//! What each job answers whose work doesn't stand in `commands`.
 ghost use Rattle.command_line.specs.Job.{IsWithinLimits};
 
-use crate::running::ran;
+use crate::running::by_workers;
+use command_jobs::Ended;
 use command_line::Job;
-use commands::{ProgramFault, channels_text, check_text, route_text};
 use linearize_command::{Judged, linearize_text, report_text};
 use network_command::network_text;
+use program_fault::ProgramFault;
 use report_lines::Out;
-use run_told::Course;
 use schedule_commands::{draw_text, moves_text, schedule_text};
 use std::alloc::Global;
 use std::rt::Clock;
@@ -16,12 +16,12 @@ use std::thread::Threads;
 use text_files::Texts;
 
 /// What a job answers.
-#[derive(Drop)]
+#[derive(Clone, Copy)]
 pub(crate) enum Outcome {
-    /// That a job without scripts is done.
-    Done,
-    /// Whether every script is finished, and of a run with a report what it was made of.
-    Ran(bool, Option<Course>),
+    /// That a dialogue is at its end.
+    Talked,
+    /// What became of a job with scripts.
+    Ran(Ended),
     /// Whether the numbers of a network's channels rise.
     Rising(bool),
     /// What a trace is judged to be, with so many configurations at most.
@@ -50,25 +50,12 @@ pub(crate) fn answer<R: Eprint + Clock + AllocGlobal + Threads + Wait + Sync, W:
             let judged = report_text(alloc, first, u64::from(configurations), out);
             judged_with(judged, configurations)
         }
-        Job::Route {
-            src,
-            dst,
-            class,
-            ..
-        } => plain(route_text(alloc, first, src, dst, class, out)),
-        Job::Channels { .. } => plain(channels_text(alloc, first, out)),
-        Job::Check { .. } => plain(check_text(alloc, first, out)),
-        Job::Schedule { .. } | Job::Draw { .. } | Job::Moves { .. } => {
-            moved(scheduled(alloc, job, texts, out))
+        Job::Run { workers, turns, .. } => {
+            let (workers, turns) = (workers as usize, u64::from(turns));
+            by_workers(rt, texts, workers, turns, is_seen, out)
         }
-        _ => ran(rt, job, texts, is_seen, out),
+        _ => moved(scheduled(alloc, job, texts, out)),
     }
-}
-
-/// The answer of a job without scripts.
-fn plain(done: Result<(), ProgramFault>) -> Result<Outcome, ProgramFault> {
-    done?;
-    Ok(Outcome::Done)
 }
 
 /// The answer of a job that judges a network.
@@ -86,7 +73,11 @@ fn judged_with(
 
 /// The answer of a job that prints moves.
 fn moved(finished: Result<bool, ProgramFault>) -> Result<Outcome, ProgramFault> {
-    Ok(Outcome::Ran(finished?, None))
+    let finished = finished?;
+    Ok(Outcome::Ran(Ended {
+        finished,
+        course: None,
+    }))
 }
 
 /// Prints the moves of a run of the job's scripts, and answers whether every script is finished.

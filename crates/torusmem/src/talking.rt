@@ -1,15 +1,10 @@
 //! The dialogue with a machine, over standard input and standard output.
 
-use command_line::Job;
-use commands::ProgramFault;
+use command_jobs::writer;
 use live_command::{AskedMachine, converse};
-use std::io::{self, BufReader, BufWriter, Input};
+use program_fault::ProgramFault;
+use std::io::{BufReader, Input};
 use torus::Fault;
-
-/// Whether standard input is the dialogue of a job, and so none of its texts.
-pub(crate) fn is_input_taken(job: &Job) -> bool {
-    matches!(*job, Job::Live { machine: "-" })
-}
 
 /// Holds a dialogue with the machine of a text, whose scripts are empty at first.
 ///
@@ -22,8 +17,6 @@ pub(crate) fn talk<R: Input + Print + AllocGlobal>(
     let Ok(mut input) = BufReader::new(rt.alloc(), rt.reader()) else {
         return Err(ProgramFault::Fault(Fault::Memory));
     };
-    let Ok(mut out) = BufWriter::new(rt.alloc(), io::writer(rt)) else {
-        return Err(ProgramFault::Fault(Fault::Memory));
-    };
+    let mut out = writer(rt)?;
     converse(rt.alloc(), &mut machine, &mut input, &mut out)
 }

@@ -5,7 +5,7 @@ use fault_lines::Kind;
 use text_files::Names;
 
 /// The names of the texts of a job.
-pub(crate) fn names<'a>(job: &Job<'a>) -> Names<'a> {
+pub fn names<'a>(job: &Job<'a>) -> Names<'a> {
     let (first, second, third) = match *job {
         Job::Steps {
             machine,
@@ -52,11 +52,9 @@ pub(crate) fn names<'a>(job: &Job<'a>) -> Names<'a> {
     }
 }
 
-/// What the texts of a job are.
-pub(crate) fn kind(job: &Job) -> Kind {
+/// What the texts of a job are that names a machine or a report.
+pub fn kind(job: &Job) -> Kind {
     match *job {
-        Job::Network { .. } => Kind::Network,
-        Job::Linearize { .. } | Job::Report { .. } => Kind::Trace,
         Job::Check { .. } => Kind::Report,
         Job::Route { src, dst, .. } => Kind::Route { src, dst },
         _ => Kind::Machine,

@@ -1,0 +1,7 @@
+-- A fault of the command is the job's.
+use Rattle.std.proofs.Common.{sym}
+use Rattle.command_jobs.proofs.answering.by_steps.Goals as goal
+
+pub returns-in-Err : goal.returns-in-Err
+returns-in-Err g c = rw (sym c.as_slice-machine.ensures.value)
+    rw (sym c.as_slice-script.ensures.value) rw (sym c.deref.ensures.value) c.in-Err.ensures.prints

@@ -1,0 +1,64 @@
+-- The jobs whose work stands in `commands`, and what each answers (this project's own format).
+use Rattle.std.specs.Prelude.{◌≡◌, Bool, true, false, Result, Ok, Err, IfOk}
+use Rattle.std.specs.Str.Lines.{lines}
+use Rattle.text_files.specs.declared.texts.Texts.{Texts}
+use Rattle.machine_texts.specs.Loading.{load_by}
+use Rattle.program_fault.specs.declared.fault.ProgramFault.{ProgramFault}
+use Rattle.program_fault.specs.Done.{Output}
+use Rattle.commands.specs.Run.{PrintsRun, asked_of}
+use Rattle.commands.specs.Rounds.{PrintsRounds}
+use Rattle.commands.specs.Done.{PrintsRoute, PrintsChannels, PrintsVerdict}
+use Rattle.command_line.specs.declared.command.Job.{Job}
+use Rattle.command_line.specs.declared.command.Job.TheVariants.{Steps, Round, Run, Live, Route}
+use Rattle.command_line.specs.declared.command.Job.TheVariants.{Channels, Check}
+use Rattle.command_line.specs.declared.command.Job.TheVariants.{Network, Linearize, Report}
+use Rattle.command_line.specs.declared.command.Job.TheVariants.{Schedule, Draw, Moves}
+use Rattle.command_jobs.specs.declared.answering.Ended.{Ended}
+
+-- whether the work of a job stands in `commands`
+abbrev pub is_of_commands : Job → Bool
+is_of_commands (Steps machine script steps) = true
+is_of_commands (Round machine script rounds) = true
+is_of_commands (Route machine src dst class) = true
+is_of_commands (Channels machine) = true
+is_of_commands (Check report) = true
+is_of_commands (Run machine script workers turns) = false
+is_of_commands (Live machine) = false
+is_of_commands (Network network) = false
+is_of_commands (Linearize trace configurations) = false
+is_of_commands (Report trace configurations) = false
+is_of_commands (Schedule machine script rounds) = false
+is_of_commands (Draw machine script seed steps) = false
+is_of_commands (Moves machine script steps) = false
+
+-- whether every script is finished, where there is no fault
+abbrev pub finished_in : Result Ended ProgramFault → Result Bool ProgramFault
+finished_in (Ok ended) = Ok ended.finished
+finished_in (Err fault) = Err fault
+
+-- that a job without scripts is done, where there is no fault
+abbrev pub done_in : Result Ended ProgramFault → Result (Unit {0}) ProgramFault
+done_in (Ok ended) = Ok tt
+done_in (Err fault) = Err fault
+
+-- a job without scripts has none that isn't finished
+abbrev pub IsFinished : Result Ended ProgramFault → Type 0
+IsFinished result = IfOk result (λ ended. ended.finished ≡ true)
+
+-- The output takes, and the job answers, what the command does that it names: over its texts in the
+-- order of its words, and with its numbers.
+abbrev pub Answers : Job → Texts → Output → Output → Result Ended ProgramFault → Type 0
+Answers (Steps machine script steps) texts old new result = PrintsRun
+    (asked_of (lines texts.first.items) (lines texts.second.items) (lines texts.third.items))
+    old new (finished_in result)
+Answers (Round machine script rounds) texts old new result = PrintsRounds
+    (load_by (lines texts.first.items) (lines texts.second.items)) rounds old new
+    (finished_in result)
+Answers (Route machine src dst class) texts old new result =
+    PrintsRoute (lines texts.first.items) src dst class old new (done_in result)
+    × IsFinished result
+Answers (Channels machine) texts old new result =
+    PrintsChannels (lines texts.first.items) old new (done_in result) × IsFinished result
+Answers (Check report) texts old new result =
+    PrintsVerdict texts.first.items old new (done_in result) × IsFinished result
+Answers _ texts old new result = Unit {0}

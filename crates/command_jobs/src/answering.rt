@@ -1,0 +1,144 @@
+//! What the jobs answer whose work stands in `commands`.
+ghost use Rattle.std.specs.Prelude.{◌≡◌, true};
+ghost use Rattle.std.specs.Str.Lines.{lines};
+ghost use Rattle.machine_texts.specs.Loading.{load_by};
+ghost use Rattle.program_fault.specs.Done.{output};
+ghost use Rattle.commands.specs.Run.{PrintsRun, asked_of};
+ghost use Rattle.commands.specs.Rounds.{PrintsRounds};
+ghost use Rattle.command_jobs.specs.Jobs.{Answers, IsFinished, done_in, finished_in};
+ghost use Rattle.command_jobs.specs.Jobs.{is_of_commands};
+
+use crate::progress_line::ProgressLine;
+use command_line::Job;
+use commands::{channels_text, check_text, round_text_with, route_text, steps_text_with};
+use program_fault::ProgramFault;
+use report_lines::Out;
+use run_told::Course;
+use std::rt::Clock;
+use text_files::Texts;
+
+/// What became of a job.
+#[derive(Clone, Copy)]
+pub struct Ended {
+    /// Whether every script is finished; true of a job without scripts.
+    pub finished: bool,
+    /// What a run with a report was made of.
+    pub course: Option<Course>,
+}
+
+/// Whether the work of a job stands in `commands`.
+pub fn is_of_commands(job: &Job) -> bool
+    ensures { result ≡ is_of_commands job.now }
+{
+    matches!(
+        *job,
+        Job::Steps { .. }
+            | Job::Round { .. }
+            | Job::Route { .. }
+            | Job::Channels { .. }
+            | Job::Check { .. }
+    )
+}
+
+/// Does a job whose work stands in `commands`, over its texts: what it prints goes to `out`. Where
+/// standard error `is_seen`, a long run says there how far it is.
+///
+/// Errors: as the function of `commands` that does it.
+pub fn answer<R: Eprint + Clock + AllocGlobal, W: Out>(
+    rt: &R,
+    job: &Job,
+    texts: &Texts,
+    is_seen: bool,
+    out: &mut W,
+) -> Result<Ended, ProgramFault>
+    requires { is_of_commands job.now ≡ true }
+    ensures { Answers job.now texts.now (output (W.taken out.old) (W.failures out.old))
+        (output (W.taken out.new) (W.failures out.new)) result }
+{
+    let alloc = rt.alloc();
+    let first = texts.first.as_slice();
+    match *job {
+        Job::Steps { .. } => by_steps(rt, texts, is_seen, out),
+        Job::Round { rounds, .. } => in_rounds(rt, texts, u64::from(rounds), is_seen, out),
+        Job::Route {
+            src,
+            dst,
+            class,
+            ..
+        } => plain(route_text(alloc, first, src, dst, class, out)),
+        Job::Channels { .. } => plain(channels_text(alloc, first, out)),
+        Job::Check { .. } => plain(check_text(alloc, first, out)),
+        _ => unreachable!(),
+    }
+}
+
+/// What became of a job without scripts.
+fn plain(done: Result<(), ProgramFault>) -> Result<Ended, ProgramFault>
+    ensures done { done_in result ≡ done }
+    ensures finished { IsFinished result }
+{
+    match done {
+        Ok(()) => Ok(Ended {
+            finished: true,
+            course: None,
+        }),
+        Err(fault) => Err(fault),
+    }
+}
+
+/// Runs the listed steps.
+fn by_steps<R: Eprint + Clock + AllocGlobal, W: Out>(
+    rt: &R,
+    texts: &Texts,
+    is_seen: bool,
+    out: &mut W,
+) -> Result<Ended, ProgramFault>
+    ensures { PrintsRun
+        (asked_of (lines texts.now.first.items) (lines texts.now.second.items)
+        (lines texts.now.third.items))
+        (output (W.taken out.old) (W.failures out.old))
+        (output (W.taken out.new) (W.failures out.new)) (finished_in result) }
+{
+    let (machine, script) = (texts.first.as_slice(), texts.second.as_slice());
+    let mut line = ProgressLine::new(rt, is_seen);
+    match steps_text_with(rt.alloc(), machine, script, &texts.third, out, &mut line) {
+        Ok(finished) => {
+            let moves = line.moves_made();
+            Ok(Ended {
+                finished,
+                course: Some(Course::Steps { moves }),
+            })
+        }
+        Err(fault) => Err(fault),
+    }
+}
+
+/// Runs in rounds, at most so many.
+fn in_rounds<R: Eprint + Clock + AllocGlobal, W: Out>(
+    rt: &R,
+    texts: &Texts,
+    rounds: u64,
+    is_seen: bool,
+    out: &mut W,
+) -> Result<Ended, ProgramFault>
+    ensures { PrintsRounds
+        (load_by (lines texts.now.first.items) (lines texts.now.second.items)) rounds
+        (output (W.taken out.old) (W.failures out.old))
+        (output (W.taken out.new) (W.failures out.new)) (finished_in result) }
+{
+    let (machine, script) = (texts.first.as_slice(), texts.second.as_slice());
+    let mut line = ProgressLine::new(rt, is_seen);
+    match round_text_with(rt.alloc(), machine, script, rounds, out, &mut line) {
+        Ok(finished) => {
+            let course = Course::Rounds {
+                rounds: line.rounds_made(),
+                moves: line.moves_made(),
+            };
+            Ok(Ended {
+                finished,
+                course: Some(course),
+            })
+        }
+        Err(fault) => Err(fault),
+    }
+}

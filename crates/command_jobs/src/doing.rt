@@ -1,0 +1,64 @@
+//! The jobs whose work stands in `commands`, from their texts to the exit status.
+ghost use Rattle.std.specs.Prelude.{◌≡◌, true};
+ghost use Rattle.command_jobs.specs.Jobs.{is_of_commands};
+
+use crate::answering::{answer, is_of_commands};
+use crate::naming::{kind, names};
+use crate::printing::{fault_told, flushed, tell_end_of, writer};
+use crate::reading::texts_of;
+use command_line::Request;
+use fault_lines::explain;
+use program_fault::{ProgramFault, status_of};
+use report_lines::Piped;
+use run_lines::Kept;
+use std::io::Input;
+use std::rt::{Clock, Files};
+use text_files::Texts;
+
+/// Does the job that is asked for, if its work stands in `commands`, and answers the exit status;
+/// `None` where it is another, of which nothing is done. Results go to standard output, and a fault
+/// goes to standard error, with a line that explains it where that is asked for or standard error
+/// `is_seen`.
+pub fn done<R: Files + Input + Print + Eprint + Clock + AllocGlobal>(
+    rt: &R,
+    request: &Request,
+    is_seen: bool,
+) -> Option<u8> {
+    if !is_of_commands(&request.job) {
+        return None;
+    }
+    let texts = match texts_of(rt, request, is_seen) {
+        Ok(texts) => texts,
+        Err(status) => return Some(status),
+    };
+    match printed(rt, request, &texts, is_seen) {
+        Ok(finished) => Some(status_of(&Ok(finished))),
+        Err(fault) => {
+            let status = fault_told(rt, &fault);
+            if request.explain || is_seen {
+                explain(rt, kind(&request.job), &names(&request.job), &texts, &fault);
+            }
+            Some(status)
+        }
+    }
+}
+
+/// Whether every script is finished, once the output is written to its last byte. How a run ended
+/// is told behind its report, where that is asked for or standard error `is_seen`.
+fn printed<R: Print + Eprint + Clock + AllocGlobal>(
+    rt: &R,
+    request: &Request,
+    texts: &Texts,
+    is_seen: bool,
+) -> Result<bool, ProgramFault>
+    requires { is_of_commands request.now.job ≡ true }
+{
+    let is_told = request.explain || is_seen;
+    let mut writer = writer(rt)?;
+    let mut out = Kept::new(Piped::new(&mut writer), Vec::new(rt.alloc()), is_told);
+    let ended = answer(rt, &request.job, texts, is_seen, &mut out)?;
+    let report = out.into_kept();
+    flushed(&mut writer)?;
+    tell_end_of(rt, &request.job, texts, report, ended);
+    Ok(ended.finished)
+}

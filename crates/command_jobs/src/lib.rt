@@ -1,0 +1,17 @@
+//! What the programs do with a job: how its texts are read, what it prints, and what is told of its
+//! end; and the jobs whose work stands in `commands`, from their texts to the exit status.
+#![tactic(auto)]
+
+pub mod answering;
+pub mod doing;
+pub mod naming;
+pub mod printing;
+pub mod progress_line;
+pub mod reading;
+
+pub use answering::{Ended, answer, is_of_commands};
+pub use doing::done;
+pub use naming::{kind, names};
+pub use printing::{fault_told, flushed, tell_end_of, writer};
+pub use progress_line::ProgressLine;
+pub use reading::texts_of;

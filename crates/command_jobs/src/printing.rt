@@ -1,0 +1,50 @@
+//! What a job prints on standard output, and what standard error is told behind it.
+
+use crate::answering::Ended;
+use crate::naming::names;
+use command_line::Job;
+use program_fault::{ProgramFault, fault_text, status_of};
+use run_lines::tell_end;
+use std::io::{self, BufWriter, Printer, Write};
+use text_files::Texts;
+use torus::Fault;
+
+/// Standard output, over a buffer.
+///
+/// Errors: out of memory.
+pub fn writer<R: Print + AllocGlobal>(rt: &R) -> Result<BufWriter<Printer<'_, R>>, ProgramFault> {
+    match BufWriter::new(rt.alloc(), io::writer(rt)) {
+        Ok(writer) => Ok(writer),
+        Err(_) => Err(ProgramFault::Fault(Fault::Memory)),
+    }
+}
+
+/// Writes what a buffer still has.
+///
+/// Errors: the output failed.
+pub fn flushed<W: Write>(writer: &mut W) -> Result<(), ProgramFault> {
+    if writer.flush().is_err() {
+        return Err(ProgramFault::Output);
+    }
+    Ok(())
+}
+
+/// Tells how the run of a job ended, behind its report, where that was kept.
+pub fn tell_end_of<R: Eprint + AllocGlobal>(
+    rt: &R,
+    job: &Job,
+    texts: &Texts,
+    report: Option<Vec<u8>>,
+    ended: Ended,
+) {
+    if let (Some(course), Some(report), Some(name)) = (ended.course, report, names(job).second) {
+        tell_end(rt, name, &texts.second, &report, ended.finished, course);
+    }
+}
+
+/// The exit status of a fault, which standard error tells.
+pub fn fault_told<R: Eprint>(rt: &R, fault: &ProgramFault) -> u8 {
+    let text = fault_text(fault);
+    let _ = eprintln!(rt; "{text}");
+    status_of(&Err(*fault))
+}

@@ -1,0 +1,50 @@
+//! What the words of the program's own command line ask for, or what is told of them.
+
+ghost use Rattle.std.specs.Prelude.{◌≡◌, IfSome, Some, map, codes};
+ghost use Rattle.command_line.specs.CommandLine.{name_by, rows_by};
+ghost use Rattle.command_line.specs.Job.{AreOf, IsFlag, IsWithinLimits, name_of};
+
+use crate::command::{Request, read_request};
+use std::convert::AsStr;
+use std::rt::Env;
+use std::{env, io};
+
+/// The words of the command line, the program's own name among them; `None` where they can't be
+/// read, which standard error is told.
+pub fn words_told<R: Env + Eprint + AllocGlobal>(rt: &R) -> Option<Vec<String>> {
+    match words(rt) {
+        Ok(words) => Some(words),
+        Err(_) => {
+            let _ = eprintln!(rt; "the command line can't be read");
+            None
+        }
+    }
+}
+
+fn words<R: Env + AllocGlobal>(rt: &R) -> io::Result<Vec<String>> {
+    Ok(env::args(rt)?.collect(rt.alloc())?)
+}
+
+/// What the words of a command line ask for; `None` where `read_request` answers an error, which is
+/// told: help and the version, which were asked for, to standard output, and what is wrong with the
+/// words to standard error.
+pub fn request_told<'a, R: Print + Eprint + AllocGlobal, S: AsStr>(
+    rt: &R,
+    words: &'a [S],
+) -> Option<Request<'a>>
+    ensures named { IfSome result
+        (λ r. name_by (map S.text words.entry.now) ≡ Some (name_of r.job)) }
+    ensures given { IfSome result
+        (λ r. IfSome (rows_by (map S.text words.entry.now)) (AreOf r.job)) }
+    ensures explain { IfSome result
+        (λ r. IfSome (rows_by (map S.text words.entry.now)) (IsFlag (codes "explain") r.explain)) }
+    ensures limits { IfSome result (λ r. IsWithinLimits r.job) }
+{
+    match read_request(rt.alloc(), words) {
+        Ok(request) => Some(request),
+        Err(error) => {
+            let _ = error.print(rt);
+            None
+        }
+    }
+}

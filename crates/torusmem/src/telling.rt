@@ -1,0 +1,57 @@
+//! What standard error is told of an answer or a fault, and the exit status of an answer.
+
+use crate::answering::Outcome;
+use command_jobs::{kind, names};
+use command_line::Job;
+use fault_lines::explain;
+use linearize_command::{Judged, status, verdict_text};
+use program_fault::{ProgramFault, status_of};
+use text_files::Texts;
+use verdict_lines::{explain_network, explain_no_order, explain_trace};
+
+/// The exit status of an answer. Where a trace has no order, standard error says so.
+pub(crate) fn status_told<R: Eprint>(rt: &R, outcome: &Outcome) -> u8 {
+    match *outcome {
+        Outcome::Talked => 0,
+        Outcome::Ran(ended) => status_of(&Ok(ended.finished)),
+        Outcome::Rising(rising) => u8::from(!rising),
+        Outcome::Judged(judged, configurations) => {
+            if let Some(text) = verdict_text(judged, u64::from(configurations)) {
+                let _ = eprintln!(rt; "{text}");
+            }
+            status(&Ok(judged))
+        }
+    }
+}
+
+/// Says why a trace has no order from a line on, where that is the answer.
+pub(crate) fn explain_outcome<R: Eprint + AllocGlobal>(
+    rt: &R,
+    job: &Job,
+    texts: &Texts,
+    outcome: &Outcome,
+) {
+    if let (Job::Linearize { trace, .. }, Outcome::Judged(judged, configurations)) = (
+        *job, *outcome,
+    )
+        && let Judged::NotLinearizable { line } = judged
+    {
+        explain_no_order(rt, trace, &texts.first, line, configurations);
+    }
+}
+
+/// Says why the texts of a job have the fault that it answers, where that can be told from them.
+pub(crate) fn explain_fault<R: Eprint + AllocGlobal>(
+    rt: &R,
+    job: &Job,
+    texts: &Texts,
+    fault: &ProgramFault,
+) {
+    match *job {
+        Job::Network { network } => explain_network(rt, network, &texts.first, fault),
+        Job::Linearize { trace, .. } | Job::Report { trace, .. } => {
+            explain_trace(rt, trace, &texts.first, fault);
+        }
+        _ => explain(rt, kind(job), &names(job), texts, fault),
+    }
+}
