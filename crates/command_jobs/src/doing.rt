@@ -1,5 +1,5 @@
 //! The jobs whose work stands in `commands`, from their texts to the exit status.
-ghost use Rattle.std.specs.Prelude.{◌≡◌, true};
+ghost use Rattle.std.specs.Prelude.{◌≡◌, ◌↔◌, None, true, false};
 ghost use Rattle.command_jobs.specs.Jobs.{is_of_commands};
 
 use crate::answering::{answer, is_of_commands};
@@ -23,7 +23,9 @@ pub fn done<R: Files + Input + Print + Eprint + Clock + AllocGlobal>(
     rt: &R,
     request: &Request,
     is_seen: bool,
-) -> Option<u8> {
+) -> Option<u8>
+    ensures others { (result ≡ None) ↔ (is_of_commands request.now.job ≡ false) }
+{
     if !is_of_commands(&request.job) {
         return None;
     }

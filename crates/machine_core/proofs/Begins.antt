@@ -28,7 +28,7 @@ use Rattle.machine_growth.specs.core_machine.proofs.Lawful.{lawful}
 use Rattle.machine_growth.specs.core_seen.specs.Seen.{IsShown}
 use Rattle.machine_growth.specs.core_seen.proofs.Reached.{seen_state}
 use Rattle.machine_growth.specs.machine_wake.specs.Awake.{Awake, is_choice_awake}
-use Rattle.machine_growth.specs.machine_wake.specs.Ports.{flags_of, all_ports_awake}
+use Rattle.machine_growth.specs.machine_wake.specs.Ports.{flags_of, fresh_ports}
 use Rattle.machine_growth.specs.core_wake.specs.Routers.{PortFlags, OtherPortsSleep}
 use Rattle.machine_growth.specs.core_wake.specs.Choices.{OtherChoicesSleep}
 use Rattle.machine_growth.specs.machine_wake.proofs.KeptSleepers.{fresh}
@@ -36,15 +36,15 @@ use Rattle.machine_core.specs.declared.machine.Machine.TheInside.{Inside}
 use Rattle.machine_core.specs.Inside.{design_in, places_in, core_of, HaveRoom, HasRoomForScripts, IsMachine}
 use Rattle.machine_core.specs.Loaded.{first_tiles}
 use Rattle.machine_core.proofs.BeginsTiles.{at}
-use Rattle.machine_core.proofs.RouterFlags.{all_awake}
+use Rattle.machine_core.proofs.RouterFlags.{fresh_sleep}
 
 -- the load of which these are the fields
 abbrev pub load_in : {A : Type 0} → Inside A → List (List Line) → Load
 load_in a scripts = record { shape = a.torus; depth = a.depth; tags = a.tags; opening = a.opening.items; scripts = scripts }
 
 -- the fields are made from a load of these scripts: the tiles, the row and the book are those before any step, each bank has
--- the room that the scripts can ask of it, and the book the room for all that they can ask; all moves are left, and all
--- agents are awake
+-- the room that the scripts can ask of it, and the book the room for all that they can ask; all moves are left, all
+-- choices count as awake, and no latch as full
 pub record Begun {A : Type 0} (a : Inside A) (scripts : List (List Line)) : Type 0 where
   pub rooms : ℕ → ℕ
   pub tiles : a.tiles.items ≡ first_tiles (design_in a) a.tags rooms scripts
@@ -56,7 +56,7 @@ pub record Begun {A : Type 0} (a : Inside A) (scripts : List (List Line)) : Type
   pub left : a.left ≡ most_moves (load_in a scripts)
   pub awake : a.awake ≡ record { design = design_in a; flags = replicate 192 255 }
   pub routed : a.ports.design ≡ design_in a
-  pub ports : flags_of a.ports ≡ all_ports_awake
+  pub ports : flags_of a.ports ≡ fresh_ports
 
 module _ (l : Load) (ok : IsAccepted l) (rooms : ℕ → ℕ) where
   abbrev first_at : ℕ → List Line → PlacedTile
@@ -126,7 +126,7 @@ module _ {A : Type 0} (a : Inside A) (scripts : List (List Line)) (ok : IsAccept
         (fresh (design_in a) (first_state (load_in a scripts)));
     routed = b.routed;
     ports = subst (λ (f : PortFlags). OtherPortsSleep (design_in a) (first_state (load_in a scripts)) f) (sym b.ports)
-        (all_awake (design_in a) (first_state (load_in a scripts)));
+        (fresh_sleep (load_in a scripts));
   }
 
 -- a part of a list is its first elements

@@ -1,21 +1,28 @@
 -- Which choices of routers count as awake: after a move, once one has fallen asleep, and after attempts that leave out those asleep.
-use Rattle.std.proofs.Common.{◌≡◌, ◌≢◌, ℕ, ◌-◌, Bool, true, false, List, Some, refl, sym, ◌∙◌, ap, subst}
-use Rattle.std.specs.Prelude.{◌==◌, ◌&&◌, not, nat_lt}
-use Rattle.std.proofs.lemmas.Bool.{eqb-true}
+use Rattle.std.proofs.Common.{◌≡◌, ◌≢◌, inl, inr, ℕ, Bool, true, false, List, Option, Some, None, refl, sym, ◌∙◌, ap, subst, arith}
+use Rattle.std.proofs.Common.{slice_get, replicate}
+use Rattle.std.specs.Prelude.{◌==◌, ◌&&◌, not, nat_lt, option_map, option_and_then, slice_index_or}
+use Rattle.std.proofs.lemmas.Bool.{eqb-true, cases_lt}
+use Rattle.std.proofs.lemmas.List.{get_or-replicate, get_or_past, length-replicate}
+use Rattle.std.proofs.lemmas.Option.{slice_get-map}
+use Rattle.torus.specs.Shape.{dims_of}
 use Rattle.torus.specs.declared.step.Step.{Step}
 use Rattle.torus.specs.declared.step.Choice.{Choice}
+use Rattle.script.specs.declared.line.Line.{Line}
+use Rattle.channel_number.specs.Ports.{port_count}
 use Rattle.flit_buffer.specs.declared.word_op.WordOp.{WordOp}
 use Rattle.machine_growth.specs.tile_laws.specs.declared.agent.Agent.{Agent}
 use Rattle.machine_growth.specs.tile_laws.specs.declared.agent.Agent.TheVariants.{Processor, Router, Bank}
-use Rattle.machine_growth.specs.tile_laws.specs.Tile.{Design}
+use Rattle.machine_growth.specs.tile_laws.specs.Tile.{Design, TileState}
+use Rattle.machine_growth.specs.tile_laws.specs.router.specs.Table.{latch_of}
 use Rattle.machine_growth.specs.tile_laws.specs.Agents.{agent_number, agent_kind, agent_tile}
 use Rattle.machine_growth.specs.tile_laws.proofs.AgentNumbers.{kind_of_number, number_is}
-use Rattle.machine_growth.specs.core_laws.specs.Core.{Load, State, design_of, step, after}
+use Rattle.machine_growth.specs.core_laws.specs.Core.{Load, State, design_of, step, after, first_state, first_tile}
 use Rattle.machine_growth.specs.core_laws.specs.Runs.{IsAccepted}
 use Rattle.machine_growth.specs.core_row.specs.Attempts.{step_op}
-use Rattle.machine_growth.specs.core_wake.specs.Routers.{PortFlags, OtherPortsSleep, ports_woken, router_moved}
+use Rattle.machine_growth.specs.core_wake.specs.Routers.{PortFlags, OtherPortsSleep, latch_at, ports_woken, router_moved}
 use Rattle.machine_growth.specs.core_wake.proofs.PortsKept.{woken_after, moved_after}
-use Rattle.machine_growth.specs.machine_wake.specs.Ports.{AwakePorts, flags_of, all_ports_awake, lowered}
+use Rattle.machine_growth.specs.machine_wake.specs.Ports.{AwakePorts, flags_of, fresh_ports, lowered}
 
 -- after a move of an agent: a router's frees choices of its own too
 abbrev pub ports_by : Agent → Design → ℕ → Choice → WordOp → PortFlags → PortFlags
@@ -28,12 +35,29 @@ pub record FollowMove (a : Agent) (old new : AwakePorts) (t : ℕ) (choice : Cho
   pub design : new.design ≡ old.design
   pub flags : flags_of new ≡ ports_by a old.design t choice op (flags_of old)
 
-pub all_awake : (d : Design) (s : State) → OtherPortsSleep d s all_ports_awake
-all_awake d s = record {
+-- before any step no latch holds a flit
+none_in : {A : Type 0} (n i : ℕ) → slice_index_or {A = Option A} (replicate n None) i None ≡ None
+none_in {A} n i = elim (cases_lt i n) [
+  | inl l ↦ get_or-replicate n i None None l
+  | inr h ↦ let long = length-replicate {A = Option A} n None in get_or_past (replicate n None) i None (omega (arith, h, long))
+]
+
+first_latches : (l : Load) (t i : ℕ) → latch_at (first_state l) t i ≡ None
+first_latches l t i =
+    ap (option_and_then (λ tile. latch_of tile.router i)) (slice_get-map (first_tile (dims_of l.shape) l.tags) l.scripts t)
+    ∙ by_script (slice_get l.scripts t)
+  where
+    by_script : (o : Option (List Line))
+        → option_and_then (λ (tile : TileState). latch_of tile.router i) (option_map (first_tile (dims_of l.shape) l.tags) o) ≡ None
+    by_script None = refl
+    by_script (Some lines) = none_in (port_count (dims_of l.shape)) i
+
+pub fresh_sleep : (l : Load) → OtherPortsSleep (design_of l) (first_state l) fresh_ports
+fresh_sleep l = record {
   takes = λ t i out. absurd (cc);
   puts = λ t i out. absurd (cc);
   credits = λ t o out. absurd (cc);
-  full = λ t i out. absurd (cc);
+  full = λ t i out. first_latches l t i;
 }
 
 module _ (l : Load) (ok : IsAccepted l) (steps : List Step) (attempt : Step) (op : WordOp) (next : State) (w : AwakePorts) (built : w.design ≡ design_of l)

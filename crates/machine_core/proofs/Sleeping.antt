@@ -1,6 +1,7 @@
 -- Turns of agents in a round: one that is asleep changes nothing, and who falls asleep.
-use Rattle.std.proofs.Common.{◌≡◌, ℕ, ◌+◌, ◌*◌, true, false, List, [], ◌∷◌, Option, Some, None, refl, sym, ◌∙◌, ap, subst, arith}
+use Rattle.std.proofs.Common.{◌≡◌, ℕ, ◌+◌, ◌*◌, Bool, true, false, List, [], ◌∷◌, Option, Some, None, refl, sym, ◌∙◌, ap, subst, arith}
 use Rattle.std.specs.Prelude.{◌||◌, is_some}
+use Rattle.std.specs.List.{list_any}
 use Rattle.torus.specs.Shape.{Shape, dims_of}
 use Rattle.torus.specs.declared.step.Step.{Step}
 use Rattle.torus.specs.declared.step.Choice.{Choice}
@@ -132,3 +133,19 @@ module _ {A : Type 0} (a : Inside A) (is : IsMachine a) (c : Core) (view : core_
         routed = is.routed;
         ports = is.ports;
       }
+
+-- choices none of which counts as awake change nothing
+module _ {A : Type 0} (a : Inside A) (is : IsMachine a) (agent : ℕ) where
+  pub choices_slept : (choices : List Choice) → list_any (is_choice_awake a.awake agent) choices ≡ false
+      → core_of a ≡ core_after (core_of a) (attempts_of agent choices)
+  choices_slept [] out = refl
+  choices_slept (x ∷ xs) out = by_test (is_choice_awake a.awake agent x) refl (choices_slept xs) out
+    where
+      by_test : (b : Bool) → is_choice_awake a.awake agent x ≡ b
+          → (list_any (is_choice_awake a.awake agent) xs ≡ false → core_of a ≡ core_after (core_of a) (attempts_of agent xs))
+          → (b || list_any (is_choice_awake a.awake agent) xs) ≡ false
+          → core_of a ≡ core_after (core_of a) (attempts_of agent (x ∷ xs))
+      by_test true e more rest = absurd (cc)
+      by_test false e more rest =
+          more rest
+          ∙ ap (λ (c : Core). core_after c (attempts_of agent xs)) (choice_slept a is (core_of a) refl agent x e)

@@ -1,11 +1,10 @@
 -- The parts of a round, that is the choices that an agent is asked for, in order; and rounds, one
 -- after the other.
-use Rattle.std.specs.Prelude.{◌≡◌, ℕ, zero, suc, ◌-◌, ◌<◌, true, false, List, [], ◌∷◌, ◌++◌, map, Option}
+use Rattle.std.specs.Prelude.{◌≡◌, ℕ, zero, suc, ◌-◌, ◌<◌, true, false, List, [], ◌++◌, map, Option}
 use Rattle.std.specs.List.{range_with_len}
 use Rattle.torus.specs.Shape.{Shape}
 use Rattle.torus.specs.declared.step.Step.{Step}
 use Rattle.torus.specs.declared.step.Choice.{Choice}
-use Rattle.torus.specs.declared.step.Choice.TheVariants.{Send, Take, TakeFrom, Put, Credit, CreditOf, Serve, Done, Look}
 use Rattle.rounds.specs.Rounds.{first_enabled}
 use Rattle.machine_growth.specs.core_laws.specs.Core.{step, attempts_of, round}
 use Rattle.machine_growth.specs.core_machine.specs.Machine.{Core, built_to, core_after, all_finished}

@@ -70,6 +70,50 @@ impl<A: Allocator> Machine<A> {
         Stepped::Moved
     }
 
+    /// Attempts a choice of a tile's processor, each in code of its own, where the choice is known.
+    pub(crate) fn step_processor_by(&mut self, tile: usize, choice: Choice) -> Stepped
+        requires { tile < tiles_of self.old.shape }
+        ensures { Steps self.old self.new result (record { agent = 3 * tile; choice = choice }) }
+    {
+        match choice {
+            Choice::Send => self.step_processor(tile, Choice::Send),
+            Choice::Take => self.step_processor(tile, Choice::Take),
+            Choice::Credit => self.step_processor(tile, Choice::Credit),
+            Choice::Done => self.step_processor(tile, Choice::Done),
+            Choice::Look => self.step_processor(tile, Choice::Look),
+            _ => self.step_processor(tile, choice),
+        }
+    }
+
+    /// Attempts a choice of a tile's router, each kind in code of its own.
+    pub(crate) fn step_router_by(&mut self, tile: usize, choice: Choice) -> Stepped
+        requires { tile < tiles_of self.old.shape }
+        ensures { Steps self.old self.new result
+            (record { agent = 3 * tile + 1; choice = choice }) }
+    {
+        match choice {
+            Choice::TakeFrom(input) => self.step_router(tile, Choice::TakeFrom(input)),
+            Choice::Put(input) => self.step_router(tile, Choice::Put(input)),
+            Choice::CreditOf(output) => self.step_router(tile, Choice::CreditOf(output)),
+            _ => self.step_router(tile, choice),
+        }
+    }
+
+    /// Attempts a choice of a tile's bank, each in code of its own.
+    pub(crate) fn step_bank_by(&mut self, tile: usize, choice: Choice) -> Stepped
+        requires { tile < tiles_of self.old.shape }
+        ensures { Steps self.old self.new result
+            (record { agent = 3 * tile + 2; choice = choice }) }
+    {
+        match choice {
+            Choice::Take => self.step_bank(tile, Choice::Take),
+            Choice::Serve => self.step_bank(tile, Choice::Serve),
+            Choice::Send => self.step_bank(tile, Choice::Send),
+            Choice::Credit => self.step_bank(tile, Choice::Credit),
+            _ => self.step_bank(tile, choice),
+        }
+    }
+
     /// Makes one round: attempts each choice of each agent once, the agents in their order. Where some
     /// script isn't finished, the round makes a move.
     pub fn round(&mut self)
@@ -105,7 +149,7 @@ impl<A: Allocator> Machine<A> {
         requires { tile < tiles_of self.old.shape }
         ensures { self.new ≡ core_after self.old (attempts_of (3 * tile) processor_choices) }
     {
-        if !self.awake.is_awake(3 * tile) {
+        if !self.awake.is_processor_awake(3 * tile) {
             return;
         }
         self.try_processor(tile, Choice::Send);
@@ -140,7 +184,7 @@ impl<A: Allocator> Machine<A> {
         requires { tile < tiles_of self.old.shape }
         ensures { self.new ≡ core_after self.old (attempts_of (3 * tile + 2) bank_choices) }
     {
-        if !self.awake.is_awake(3 * tile + 2) {
+        if !self.awake.is_bank_awake(3 * tile + 2) {
             return;
         }
         self.try_bank(tile, Choice::Take);

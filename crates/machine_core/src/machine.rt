@@ -66,9 +66,9 @@ impl<A: Allocator> Machine<A> {
             return Stepped::Idle;
         }
         match agent_kind(step.agent) {
-            Agent::Processor => self.step_processor(tile, step.choice),
-            Agent::Router => self.step_router(tile, step.choice),
-            Agent::Bank => self.step_bank(tile, step.choice),
+            Agent::Processor => self.step_processor_by(tile, step.choice),
+            Agent::Router => self.step_router_by(tile, step.choice),
+            Agent::Bank => self.step_bank_by(tile, step.choice),
         }
     }
 

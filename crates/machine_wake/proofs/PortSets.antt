@@ -71,6 +71,16 @@ all_shown t k = elim (cases_lt t 64) [
   | inr h ↦ past_tiles (replicate 64 (bit_not w32 0)) t k h
 ]
 
+-- none raised, of those that are there
+pub none_shown : (t k : ℕ) → is_raised (replicate 64 0) t k ≡ not (nat_lt t 64 && nat_lt k 32)
+none_shown t k = elim (cases_lt t 64) [
+  | inl l ↦
+      ap (λ (n : ℕ). not (nat_lt t 64 && (nat_lt k 32 && (bit_at n k == 0)))) (get_or-replicate 64 t 0 0 l)
+      ∙ (ap (λ (n : ℕ). not (nat_lt t 64 && (nat_lt k 32 && (n == 0)))) (bit_at-zero k)
+      ∙ ap (λ (b : Bool). not (nat_lt t 64 && b)) (and_true (nat_lt k 32)))
+  | inr h ↦ past_tiles (replicate 64 0) t k h ∙ sym (ap (λ (a : Bool). not (a && nat_lt k 32)) (not_less t 64 h))
+]
+
 -- with another word for a tile
 module _ (ws : List ℕ) (long : length ws ≡ 64) (t : ℕ) (low : t < 64) (x : ℕ) where
   abbrev vs : List ℕ

@@ -52,13 +52,14 @@ flags_of w = record {
   full = is_raised w.full;
 }
 
--- all of them
-abbrev pub all_ports_awake : PortFlags
-all_ports_awake = record {
+-- those of a machine that has made no step: all choices count as awake, and no latch that has a flag
+-- counts as full (this project's own format)
+abbrev pub fresh_ports : PortFlags
+fresh_ports = record {
   takes = λ t i. true;
   puts = λ t i. true;
   credits = λ t o. true;
-  full = λ t i. true;
+  full = λ t i. not (nat_lt t 64 && nat_lt i 32);
 }
 
 -- once a take, a put or a credit of tile t's router has fallen asleep

@@ -1,5 +1,7 @@
 ghost use Rattle.std.specs.Prelude.{◌≡◌, ℕ, ◌<◌, ◌≤◌, ◌*◌, ◌/◌, [], ◌∷◌, replicate, nat_lt, if◌then◌else◌, IfOk};
 ghost use Rattle.torus.specs.Shape.{tiles_of};
+ghost use Rattle.std.specs.List.{list_any};
+ghost use Rattle.torus.specs.Choices.{processor_choices, bank_choices};
 ghost use Rattle.torus.specs.declared.step.Choice.{Choice};
 ghost use Rattle.core_wake.specs.Waking.{receiver_of, sender_of, processors};
 ghost use Rattle.core_wake.specs.Operations.{places_in};
@@ -108,6 +110,32 @@ impl<A: Allocator> WakeFlags<A> {
         ensures { result ≡ is_choice_awake self.now agent choice }
     {
         (self.awake[agent] >> bit_of(choice)) & 1 != 0
+    }
+
+    /// Whether any choice of a processor counts as awake. (A flag of a choice that it doesn't have is
+    /// never lowered.)
+    #[inline(always)]
+    pub fn is_processor_awake(&self, agent: usize) -> bool
+        requires { agent < 192 }
+        ensures { result ≡ list_any (is_choice_awake self.now agent) processor_choices }
+    {
+        self.is_choice_awake(agent, Choice::Send)
+            || self.is_choice_awake(agent, Choice::Take)
+            || self.is_choice_awake(agent, Choice::Credit)
+            || self.is_choice_awake(agent, Choice::Done)
+            || self.is_choice_awake(agent, Choice::Look)
+    }
+
+    /// Whether any choice of a bank counts as awake.
+    #[inline(always)]
+    pub fn is_bank_awake(&self, agent: usize) -> bool
+        requires { agent < 192 }
+        ensures { result ≡ list_any (is_choice_awake self.now agent) bank_choices }
+    {
+        self.is_choice_awake(agent, Choice::Take)
+            || self.is_choice_awake(agent, Choice::Serve)
+            || self.is_choice_awake(agent, Choice::Send)
+            || self.is_choice_awake(agent, Choice::Credit)
     }
 
     /// Counts all choices of an agent as asleep.

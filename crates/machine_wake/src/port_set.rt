@@ -1,6 +1,7 @@
 //! Flags of the ports of all routers, in words.
 
-ghost use Rattle.std.specs.Prelude.{◌≡◌, ◌<◌, ◌≤◌, ◌/◌, ◌^◌, ℕ, true, slice_index, MatchOption};
+ghost use Rattle.std.specs.Prelude.{◌≡◌, ◌<◌, ◌≤◌, ◌/◌, ◌^◌, ◌&&◌, ℕ, true, not, nat_lt, slice_index};
+ghost use Rattle.std.specs.Prelude.{MatchOption};
 ghost use Rattle.std.specs.Slice.Scan.{HoldsNowhere, IsFirstPlace};
 ghost use Rattle.machine_wake.specs.Ports.{is_raised, raised, lowered, joined};
 
@@ -30,6 +31,13 @@ impl PortSet {
         ensures { (t port : ℕ) → is_raised result t port ≡ true }
     {
         PortSet { words: [!0; 64] }
+    }
+
+    /// No flag raised, of those that are there.
+    pub fn none() -> PortSet
+        ensures { (t port : ℕ) → is_raised result t port ≡ not (nat_lt t 64 && nat_lt port 32) }
+    {
+        PortSet { words: [0; 64] }
     }
 
     /// Raises the flag of a port; one from 32 on has none, and counts as raised.

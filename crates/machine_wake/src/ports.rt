@@ -4,7 +4,7 @@ ghost use Rattle.std.specs.Prelude.{◌≡◌, ◌<◌, ◌≤◌, MatchOption, 
 ghost use Rattle.std.specs.Slice.Scan.{HoldsNowhere, IsFirstPlace};
 ghost use Rattle.flit_buffer.specs.declared.word_op.WordOp.TheVariants.{Store, Swap};
 ghost use Rattle.core_wake.specs.Routers.{ports_woken, router_moved};
-ghost use Rattle.machine_wake.specs.Ports.{AwakePorts, flags_of, all_ports_awake};
+ghost use Rattle.machine_wake.specs.Ports.{AwakePorts, flags_of, fresh_ports};
 ghost use Rattle.machine_wake.specs.Ports.{take_rested, put_rested, credit_rested};
 
 use crate::port_ends::{PortEnds, all_ports};
@@ -40,8 +40,8 @@ impl<A: Allocator> Model for RouterFlags<A> {
 }
 
 impl<A: Allocator + Copy> RouterFlags<A> {
-    /// The flags of a machine with channels of this depth, 1 to 8, and so many words, at most 65536:
-    /// all are raised.
+    /// The flags of a machine that has made no step, with channels of this depth, 1 to 8, and so many
+    /// words, at most 65536: all choices count as awake, and no latch as full.
     ///
     /// Errors: `AllocError` where there is no memory; no other call takes any.
     pub fn new(alloc: A, torus: Torus, depth: u32, words: u32) -> Result<RouterFlags<A>, AllocError>
@@ -50,7 +50,7 @@ impl<A: Allocator + Copy> RouterFlags<A> {
         requires words { words ≤ 65536 }
         ensures { IfOk result
             (λ w. (w.design ≡ record { shape = torus; depth = depth; words = words })
-            × (flags_of w ≡ all_ports_awake)) }
+            × (flags_of w ≡ fresh_ports)) }
     {
         let _tiles = torus.tiles();
         let ends = all_ports(alloc, &torus, depth)?;
@@ -62,23 +62,12 @@ impl<A: Allocator + Copy> RouterFlags<A> {
             takes: PortSet::all(),
             puts: PortSet::all(),
             credits: PortSet::all(),
-            full: PortSet::all(),
+            full: PortSet::none(),
         })
     }
 }
 
 impl<A: Allocator> RouterFlags<A> {
-    /// Raises all flags.
-    pub fn rouse_all(&mut self)
-        ensures design { self.new.design ≡ self.old.design }
-        ensures flags { flags_of self.new ≡ all_ports_awake }
-    {
-        self.takes = PortSet::all();
-        self.puts = PortSet::all();
-        self.credits = PortSet::all();
-        self.full = PortSet::all();
-    }
-
     /// The first take of a tile's router, from an input on and below so many, that counts as awake.
     #[inline(always)]
     pub fn next_take(&self, tile: usize, from: u32, ports: u32) -> Option<u32>

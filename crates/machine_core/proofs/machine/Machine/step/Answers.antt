@@ -20,7 +20,7 @@ returns-then-tile-len-clause-runs_on g c = follows _ _ _ _ (returns-then-tile-le
 pub returns-in-Processor-clause-step : goal.returns-in-Processor-clause-step
 returns-in-Processor-clause-step g c = as_attempt _ _ _ c.args.step (agent_number c.agent_tile-tile.result Processor)
     (number_is c.args.step.agent c.agent_tile-tile.result Processor (sym c.agent_tile-tile.ensures) (sym c.agent_kind.ensures ∙ c.in-Processor.is))
-    c.step_processor.ensures
+    c.step_processor_by.ensures
 
 pub returns-in-Processor-clause-runs_on : goal.returns-in-Processor-clause-runs_on
 returns-in-Processor-clause-runs_on g c = follows _ _ _ _ (returns-in-Processor-clause-step g c)
@@ -28,7 +28,7 @@ returns-in-Processor-clause-runs_on g c = follows _ _ _ _ (returns-in-Processor-
 pub returns-in-Router-clause-step : goal.returns-in-Router-clause-step
 returns-in-Router-clause-step g c = as_attempt _ _ _ c.args.step (agent_number c.agent_tile-tile.result Router)
     (number_is c.args.step.agent c.agent_tile-tile.result Router (sym c.agent_tile-tile.ensures) (sym c.agent_kind.ensures ∙ c.in-Router.is))
-    c.step_router.ensures
+    c.step_router_by.ensures
 
 pub returns-in-Router-clause-runs_on : goal.returns-in-Router-clause-runs_on
 returns-in-Router-clause-runs_on g c = follows _ _ _ _ (returns-in-Router-clause-step g c)
@@ -36,7 +36,7 @@ returns-in-Router-clause-runs_on g c = follows _ _ _ _ (returns-in-Router-clause
 pub returns-in-Bank-clause-step : goal.returns-in-Bank-clause-step
 returns-in-Bank-clause-step g c = as_attempt _ _ _ c.args.step (agent_number c.agent_tile-tile.result Bank)
     (number_is c.args.step.agent c.agent_tile-tile.result Bank (sym c.agent_tile-tile.ensures) (sym c.agent_kind.ensures ∙ c.in-Bank.is))
-    c.step_bank.ensures
+    c.step_bank_by.ensures
 
 pub returns-in-Bank-clause-runs_on : goal.returns-in-Bank-clause-runs_on
 returns-in-Bank-clause-runs_on g c = follows _ _ _ _ (returns-in-Bank-clause-step g c)

@@ -8,21 +8,21 @@ use Rattle.machine_growth.specs.core_machine.specs.Machine.{Core, core_after}
 use Rattle.machine_core.proofs.Standing.{few_tiles}
 use Rattle.machine_core.proofs.Agents.{tile_within}
 use Rattle.machine_core.proofs.Rounds.{attempt_more, tile_stays_once}
-use Rattle.machine_core.proofs.Sleeping.{slept}
+use Rattle.machine_core.proofs.Sleeping.{choices_slept}
 use Rattle.machine_core.proofs.machine.Machine.turn_bank.Goals as goal
 
-pub is_awake-requires : goal.is_awake-requires
-is_awake-requires g c =
+pub is_bank_awake-requires : goal.is_bank_awake-requires
+is_bank_awake-requires g c =
     let few = few_tiles c.self.inside c.self.invariant in
     let long = c.self.inside.tiles.ok.0 in
     let low = tile_within c.self.inside c.self.invariant c.args.self.now c.self.view_is c.args.tile c.requires in
     omega (arith, few, long, low)
 
--- an agent that is asleep changes nothing
-pub returns-then-not-is_awake : goal.returns-then-not-is_awake
-returns-then-not-is_awake g c =
+-- one of which no choice counts as awake changes nothing
+pub returns-then-not-is_bank_awake : goal.returns-then-not-is_bank_awake
+returns-then-not-is_bank_awake g c =
     subst (λ (x : Core). x ≡ core_after x (attempts_of (3 * c.args.tile + 2) bank_choices)) c.self.view_is
-    (slept c.self.inside c.self.invariant (3 * c.args.tile + 2) bank_choices (sym c.is_awake.ensures ∙ c.if-not-is_awake.true))
+    (choices_slept c.self.inside c.self.invariant (3 * c.args.tile + 2) bank_choices (sym c.is_bank_awake.ensures ∙ c.if-not-is_bank_awake.true))
 
 pub returns : goal.returns
 returns g c =

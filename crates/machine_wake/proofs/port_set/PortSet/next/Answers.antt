@@ -1,4 +1,3 @@
-use Rattle.std.proofs.Common.{arith}
 use Rattle.machine_wake.proofs.PortSets.{none_raised, first_raised, none_within}
 use Rattle.machine_wake.proofs.port_set.PortSet.next.Goals as goal
 
