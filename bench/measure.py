@@ -211,7 +211,7 @@ def figures(path: str) -> dict[str, Any]:
     except (ValueError, RecursionError) as fault:
         raise command.Refusal(f"{path} is no JSON, line {getattr(fault, 'lineno', 1)}") from None
     if not isinstance(found, dict):
-        raise command.Refusal(f"{path} has no figures: an object with the parts growth, loads and threads")
+        raise command.Refusal(f"{path} has no figures: an object with the parts growth, loads, threads and whole")
     return found
 
 

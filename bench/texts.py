@@ -87,6 +87,14 @@ def cas_lines(numbers):
         yield f"{at % TILES} cas {numbers.below(WORDS)} {numbers.next()} {numbers.next()}"
 
 
+def dense_line(processor, at, each, words):
+    """A line of the dense load, as baseline/dense.rs has it: operation `at` of so many of a processor, on so many words."""
+    mixed = (processor * each + at) * 2654435761 % 2**32
+    kind = ("load", "store", "add", "swap", "cas")[mixed // 1048576 % 5]
+    values = {"load": [], "cas": [0, mixed]}.get(kind, [mixed])
+    return " ".join(map(str, [processor, kind, mixed // 256 % words, *values])) + "\n"
+
+
 def write(folder, name, lines):
     with open(f"{folder}/{name}", "w", encoding="ascii", newline="\n") as file:
         file.writelines(f"{line}\n" for line in lines)
