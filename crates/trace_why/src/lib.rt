@@ -6,6 +6,7 @@ mod answers;
 pub mod calls;
 pub mod laws;
 mod open;
+mod printed;
 pub mod sentence;
 mod start;
 pub mod untold;

@@ -9,9 +9,10 @@ ghost use Rattle.trace_why.specs.declared.calls.CallAt.{CallAt};
 ghost use Rattle.trace_why.specs.Told.{IsLineOf, AreLinesOf, TellsNoOrder};
 
 use crate::calls::CallAt;
+use crate::printed::{ReplyWord, Values};
 use crate::why::{WhyNot, why_not};
 use explained::Named;
-use packet::{Op, Operation, Reply};
+use packet::{Op, Operation};
 use std::alloc::{AllocError, Allocator, Global};
 use std::fmt;
 use trace_text::{TraceText, read_trace};
@@ -160,21 +161,6 @@ fn sentence_on<'a, A: Allocator + Copy>(
     })
 }
 
-/// A reply, as a trace text has it.
-#[derive(Clone, Copy)]
-struct ReplyWord {
-    reply: Reply,
-}
-
-impl fmt::Display for ReplyWord {
-    fn fmt<W: fmt::Write>(&self, f: &mut fmt::Formatter<W>) -> fmt::Result {
-        match self.reply {
-            Reply::Ok => f.write_str("ok"),
-            Reply::Old(word) => write!(f, "{word}"),
-        }
-    }
-}
-
 /// The name of an operation, and its values.
 fn parts_of(op: Op) -> (&'static str, Option<u64>, Option<u64>) {
     match op {
@@ -209,39 +195,6 @@ impl fmt::Display for IssueLine {
         )?;
         put_value(f, first)?;
         put_value(f, second)
-    }
-}
-
-/// How many values are told at most.
-const MOST_VALUES: usize = 16;
-
-/// Values, as `3`, `3 or 4`, or `3, 4 or 5`; of many the first ones, and how many others there are.
-#[derive(Clone, Copy)]
-struct Values<'a> {
-    values: &'a [u64],
-}
-
-/// What stands before the value at a place of so many.
-fn before_value(place: usize, count: usize) -> &'static str {
-    if place == 0 {
-        return "";
-    }
-    if place < count.saturating_sub(1) || count > MOST_VALUES {
-        return ", ";
-    }
-    " or "
-}
-
-impl<'a> fmt::Display for Values<'a> {
-    fn fmt<W: fmt::Write>(&self, f: &mut fmt::Formatter<W>) -> fmt::Result {
-        let count = self.values.len();
-        for i in 0..count {
-            if i >= MOST_VALUES {
-                return write!(f, " or one of {} others", count - i);
-            }
-            write!(f, "{}{}", before_value(i, count), self.values[i])?;
-        }
-        Ok(())
     }
 }
 
