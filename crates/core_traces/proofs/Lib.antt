@@ -3,3 +3,4 @@ pub mod ToldIssues
 pub mod ToldServices
 pub mod ToldAnswers
 pub mod Histories
+mod Examples

@@ -24,6 +24,8 @@ pub fn histories_are_linearizable_traces()
 
 /// Of every run from an accepted load the trace of its issues and answers is linearizable.
 pub fn runs_are_linearizable_traces()
-    ensures { (l : Load) (steps : List Step) → IsAccepted l
+    ensures trace { (l : Load) (steps : List Step) → IsAccepted l
+        → IsTrace (length l.opening) (trace_of_run l steps) }
+    ensures linearizable { (l : Load) (steps : List Step) → IsAccepted l
         → IsLinearizable l.opening (trace_of_run l steps) }
 {}

@@ -1,15 +1,21 @@
 -- What a sentence tells of the texts of a command.
-use Rattle.std.specs.Prelude.{◌≡◌, ◌⊎◌, ℕ, ◌≤◌, ◌<◌, true, List, Option, Some, None, Result}
-use Rattle.std.specs.Prelude.{Ok, Err, is_ok}
+use Rattle.std.specs.Prelude.{◌≡◌, ◌≢◌, ◌⊎◌, ℕ, ◌≤◌, ◌<◌, true, List, length, Option, Some, None}
+use Rattle.std.specs.Prelude.{Result, Ok, Err, is_ok}
 use Rattle.std.specs.Str.Lines.{lines}
 use Rattle.torus.specs.declared.fault.Fault.TheVariants as fault
 use Rattle.torus.specs.declared.step.Step.{Step}
-use Rattle.torus.specs.Shape.{tiles_of}
+use Rattle.torus.specs.Shape.{dims_of, tiles_of}
 use Rattle.script.specs.declared.fault.LineFault.{LineFault}
 use Rattle.script.specs.Machine.{MachineSpec, machine_of}
 use Rattle.script.specs.Scripts.{ScriptsSpec, scripts_of}
 use Rattle.script.specs.Steps.{steps_of}
+use Rattle.fault_reasons.specs.declared.reason.Reason.{Reason}
+use Rattle.fault_reasons.specs.declared.reason.Reason.TheVariants as reason
+use Rattle.line_reasons.specs.Reasons.{TellsReason}
 use Rattle.fault_reasons.specs.Reasons.{fault_of}
+use Rattle.fault_reasons.specs.Machine.{machine_wrong}
+use Rattle.fault_reasons.specs.Scripts.{scripts_wrong}
+use Rattle.fault_reasons.specs.Steps.{steps_wrong}
 use Rattle.explained.specs.declared.sentence.Sentence.{Sentence}
 use Rattle.explained.specs.declared.texts.Named.{Named}
 use Rattle.explained.specs.declared.sentence.TileSentence.{TileSentence}
@@ -49,28 +55,48 @@ pub record IsAbout (t : Named) (name text : List ℕ) : Type 0 where
 abbrev pub IsAboutText : Named → Sentence → Type 0
 IsAboutText t s = IsAbout t s.name.now s.text.now
 
--- a sentence is about this fault of this text
-pub record IsOfFault (found : LineFault) (t : Named) (s : Sentence) : Type 0 where
-  pub fault : fault_in s ≡ found
+-- the reason that is told: of a refusal of memory that one, and of any other fault what is told
+-- where this is wrong with its line
+pub record IsReason (wrong : Option Reason) (told : Reason) : Type 0 where
+  pub memory : fault_of told ≡ fault.Memory → told ≡ reason.Memory
+  pub other : fault_of told ≢ fault.Memory
+      → TellsReason fault_of reason.Other (fault_of told) wrong told
+
+-- a sentence is on a text: it has its name and bytes, and the reason of its line; `wrong` is what is
+-- wrong with the line of a number
+pub record IsOn (wrong : ℕ → List (List ℕ) → Option Reason) (t : Named) (s : Sentence) : Type 0 where
   pub about : IsAboutText t s
+  pub reason : IsReason (wrong s.line (lines t.text.now)) s.reason
 
--- a sentence is about a text where that has a fault, and else about what is said of the texts
--- behind it
-abbrev pub IsFrom : {A : Type 0} → Result A LineFault → Named → (A → Type 0) → Sentence → Type 0
-IsFrom (Err e) t behind s = IsAboutText t s
-IsFrom (Ok x) t behind s = behind x
+-- it is on a machine text
+abbrev pub IsOnMachine : Named → Sentence → Type 0
+IsOnMachine t s = IsOn machine_wrong t s
 
--- it is about the first text with a fault, of a machine text and a script text; or memory was
--- refused
+-- it is on a script text, read for this machine
+abbrev pub IsOnScripts : MachineSpec → Named → Sentence → Type 0
+IsOnScripts m t s = IsOn (scripts_wrong (tiles_of m.shape) (length m.opening)) t s
+
+-- it is on a steps text, read for this machine
+abbrev pub IsOnSteps : MachineSpec → Named → Sentence → Type 0
+IsOnSteps m t s = IsOn (steps_wrong (tiles_of m.shape) (dims_of m.shape)) t s
+
+-- what is said of a text that has a fault, and else of the texts behind it
+abbrev pub IsFrom : {A : Type 0} → Result A LineFault → Type 0 → (A → Type 0) → Type 0
+IsFrom (Err e) here behind = here
+IsFrom (Ok x) here behind = behind x
+
+-- it is on the first text with a fault, of a machine text and a script text; or memory was refused
 abbrev pub IsFromScripts : Named → Named → Sentence → Type 0
-IsFromScripts machine scripts s = (fault_of s.reason ≡ fault.Memory)
-    ⊎ IsFrom (machine_of (lines machine.text.now)) machine (λ _. IsAboutText scripts s) s
+IsFromScripts machine scripts s = (s.reason ≡ reason.Memory)
+    ⊎ IsFrom (machine_of (lines machine.text.now)) (IsOnMachine machine s)
+    (λ m. IsOnScripts m scripts s)
 
 -- the same of a machine text, a script text and a steps text
 abbrev pub IsFromSteps : Named → Named → Named → Sentence → Type 0
-IsFromSteps machine scripts steps s = (fault_of s.reason ≡ fault.Memory)
-    ⊎ IsFrom (machine_of (lines machine.text.now)) machine
-    (λ m. IsFrom (scripts_of m (lines scripts.text.now)) scripts (λ _. IsAboutText steps s) s) s
+IsFromSteps machine scripts steps s = (s.reason ≡ reason.Memory)
+    ⊎ IsFrom (machine_of (lines machine.text.now)) (IsOnMachine machine s)
+    (λ m. IsFrom (scripts_of m (lines scripts.text.now)) (IsOnScripts m scripts s)
+    (λ _. IsOnSteps m steps s))
 
 -- a tile that a machine hasn't, and how many it has: the first of two
 pub record IsOutside (tiles src dst : ℕ) (t : TileSentence) : Type 0 where

@@ -3,9 +3,9 @@
 ghost use Rattle.std.specs.Prelude.{◌≡◌, ◌⊎◌, Err, IfOk, IfErr, IfSome};
 ghost use Rattle.std.specs.Str.Lines.{lines};
 ghost use Rattle.script.specs.Machine.{machine_of};
-ghost use Rattle.explained.specs.Told.{IsAboutText, IsFromScripts, IsFromSteps};
-ghost use Rattle.explained.specs.Told.{TellsReading, IsOfFault, TellsTile, scripts_read};
-ghost use Rattle.explained.specs.Told.{steps_read};
+ghost use Rattle.explained.specs.Told.{IsFromScripts, IsFromSteps};
+ghost use Rattle.explained.specs.Told.{IsOnMachine, IsOnScripts, IsOnSteps, TellsReading, TellsTile};
+ghost use Rattle.explained.specs.Told.{fault_in, scripts_read, steps_read};
 
 use crate::sentence::{Sentence, TileSentence};
 use fault_reasons::{machine_reason, scripts_reason, steps_reason};
@@ -26,7 +26,7 @@ pub fn machine_sentence<'a, A: Allocator + Copy>(
     machine: Named<'a>,
 ) -> Option<Sentence<'a>>
     ensures tells { TellsReading (machine_of (lines machine.entry.text.now)) result }
-    ensures text { IfSome result (IsAboutText machine.entry) }
+    ensures text { IfSome result (IsOnMachine machine.entry) }
 {
     match read_machine(alloc, machine.text) {
         Ok(_) => None,
@@ -83,7 +83,8 @@ pub fn steps_sentence<'a, A: Allocator + Copy>(
 
 /// The sentence of a machine text's fault.
 fn of_machine<'a>(text: Named<'a>, fault: LineFault) -> Sentence<'a>
-    ensures { IsOfFault fault text.entry result }
+    ensures fault { fault_in result ≡ fault }
+    ensures text { IsOnMachine text.entry result }
 {
     Sentence {
         name: text.name,
@@ -99,7 +100,8 @@ fn of_scripts<'a, A: Allocator>(
     text: Named<'a>,
     fault: LineFault,
 ) -> Sentence<'a>
-    ensures { IsOfFault fault text.entry result }
+    ensures fault { fault_in result ≡ fault }
+    ensures text { IsOnScripts machine.now text.entry result }
 {
     let tiles = machine.torus().tiles();
     Sentence {
@@ -116,7 +118,8 @@ fn of_steps<'a, A: Allocator>(
     text: Named<'a>,
     fault: LineFault,
 ) -> Sentence<'a>
-    ensures { IsOfFault fault text.entry result }
+    ensures fault { fault_in result ≡ fault }
+    ensures text { IsOnSteps machine.now text.entry result }
 {
     let torus = machine.torus();
     Sentence {

@@ -3,7 +3,8 @@ use Rattle.std.proofs.Common.{◌≡◌, ◌+◌, ℕ, List, [], Some, slice_get
 use Rattle.std.specs.Prelude.{Ok}
 use Rattle.std.proofs.KnownBytes.{Appends-nil}
 use Rattle.trace_order.specs.Orders.{IsLinearizable}
-use Rattle.trace_judge.specs.Stops.{IsCrowded, IsAnAnswer}
+use Rattle.trace_judge.specs.Stops.{IsCrowded}
+use Rattle.trace_text.specs.Findings.{AnswersMany}
 use Rattle.trace_text.specs.Traced.{TraceSpec, trace_of, opening_of}
 use Rattle.program_fault.specs.Done.{Output, TookAll}
 use Rattle.linearize_command.specs.declared.command.Judged.TheVariants.{NotLinearizable, TooMany, TooOpen}
@@ -13,11 +14,11 @@ took_nothing : (o : Output) → TookAll o o []
 took_nothing o = record { bytes = Appends-nil o.taken; quiet = refl }
 
 -- there is none
-pub refused : (lines : List (List ℕ)) (t : TraceSpec) (o : Output) (line : ℕ) → trace_of lines ≡ Ok t
+pub refused : (lines : List (List ℕ)) (bound : ℕ) (t : TraceSpec) (o : Output) (line : ℕ) → trace_of lines ≡ Ok t
     → ((k : ℕ) × (slice_get t.lines k ≡ Some line) × IsLinearizable (opening_of t) (take k t.events)
     × (IsLinearizable (opening_of t) (take (k + 1) t.events) → ⊥))
-    → PrintsOrder lines o o (Ok (NotLinearizable line))
-refused lines t o line read h = (
+    → PrintsOrder lines bound o o (Ok (NotLinearizable line))
+refused lines bound t o line read h = (
   [],
   record {
     trace = t;
@@ -28,14 +29,14 @@ refused lines t o line read h = (
 )
 
 -- the trace isn't decided
-pub too_many : (lines : List (List ℕ)) (t : TraceSpec) (o : Output) (line : ℕ) → trace_of lines ≡ Ok t
-    → ((k : ℕ) × (slice_get t.lines k ≡ Some line) × IsAnAnswer t.events k)
-    → PrintsOrder lines o o (Ok (TooMany line))
-too_many lines t o line read h =
+pub too_many : (lines : List (List ℕ)) (bound : ℕ) (t : TraceSpec) (o : Output) (line : ℕ) → trace_of lines ≡ Ok t
+    → ((k : ℕ) × (slice_get t.lines k ≡ Some line) × AnswersMany t bound k)
+    → PrintsOrder lines bound o o (Ok (TooMany line))
+too_many lines bound t o line read h =
     ([], record { trace = t; read = read; judged = (h.0, record { there = h.1; silent = refl }, h.2) }, took_nothing o)
 
-pub too_open : (lines : List (List ℕ)) (t : TraceSpec) (o : Output) (line : ℕ) → trace_of lines ≡ Ok t
+pub too_open : (lines : List (List ℕ)) (bound : ℕ) (t : TraceSpec) (o : Output) (line : ℕ) → trace_of lines ≡ Ok t
     → ((k : ℕ) × (slice_get t.lines k ≡ Some line) × IsCrowded t.events k)
-    → PrintsOrder lines o o (Ok (TooOpen line))
-too_open lines t o line read h =
+    → PrintsOrder lines bound o o (Ok (TooOpen line))
+too_open lines bound t o line read h =
     ([], record { trace = t; read = read; judged = (h.0, record { there = h.1; silent = refl }, h.2) }, took_nothing o)

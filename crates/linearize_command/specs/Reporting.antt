@@ -35,19 +35,20 @@ pub record PassesLimit (t : TraceSpec) (why : Unfit) (text : List ℕ) : Type 0 
   pub unfit : IsUnfit t order why
   pub silent : text ≡ []
 
--- a verdict on a trace is right, and this is printed then; where memory was refused, there is none
-abbrev pub IsReported : TraceSpec → Judged → List ℕ → Type 0
-IsReported t Linearizable text = IsReportText t text
-IsReported t (NoReport Memory) text = ⊥
-IsReported t (NoReport why) text = PassesLimit t why text
-IsReported t verdict text = IsJudged t verdict text
+-- a verdict on a trace is right, with so many configurations of a word allowed, and this is printed
+-- then; where memory was refused, there is none
+abbrev pub IsReported : TraceSpec → ℕ → Judged → List ℕ → Type 0
+IsReported t bound Linearizable text = IsReportText t text
+IsReported t bound (NoReport Memory) text = ⊥
+IsReported t bound (NoReport why) text = PassesLimit t why text
+IsReported t bound verdict text = IsJudged t bound verdict text
 
 -- the trace that the lines of a text give is judged
-pub record IsReportVerdict (lines : List (List ℕ)) (verdict : Judged) (text : List ℕ) : Type 0
-  where
-    pub trace : TraceSpec
-    pub read : trace_of lines ≡ Ok trace
-    pub reported : IsReported trace verdict text
+pub record IsReportVerdict (lines : List (List ℕ)) (bound : ℕ) (verdict : Judged) (text : List ℕ) :
+    Type 0 where
+  pub trace : TraceSpec
+  pub read : trace_of lines ≡ Ok trace
+  pub reported : IsReported trace bound verdict text
 
 -- what is answered where an order has no report: that memory was refused, or the limit
 abbrev pub unreported : Unfit → Result Judged ProgramFault
@@ -59,9 +60,10 @@ abbrev pub NeverFails : ProgramFault → Type 0
 NeverFails e = ⊥
 
 -- the report of an order of a trace was printed, if it has one
-abbrev pub PutsTraceReport : TraceSpec → Output → Output → Result Judged ProgramFault → Type 0
-PutsTraceReport t = Does (IsReported t) NeverFails
+abbrev pub PutsTraceReport : TraceSpec → ℕ → Output → Output → Result Judged ProgramFault → Type 0
+PutsTraceReport t bound = Does (IsReported t bound) NeverFails
 
--- the trace of a text was judged, and the report of its order printed, if it has one
-abbrev pub PrintsReport : List (List ℕ) → Output → Output → Result Judged ProgramFault → Type 0
-PrintsReport lines = Does (IsReportVerdict lines) (IsTraceFault lines)
+-- the trace of a text was judged, with so many configurations of a word allowed, and the report of
+-- its order printed, if it has one
+abbrev pub PrintsReport : List (List ℕ) → ℕ → Output → Output → Result Judged ProgramFault → Type 0
+PrintsReport lines bound = Does (IsReportVerdict lines bound) (IsTraceFault lines)

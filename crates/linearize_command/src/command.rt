@@ -39,7 +39,8 @@ pub fn linearize_text<A: Allocator + Copy, W: Out>(
     configurations: u64,
     out: &mut W,
 ) -> Result<Judged, ProgramFault>
-    ensures { PrintsOrder (lines trace.now) (output (W.taken out.old) (W.failures out.old))
+    ensures { PrintsOrder (lines trace.now) configurations
+        (output (W.taken out.old) (W.failures out.old))
         (output (W.taken out.new) (W.failures out.new)) result }
 {
     let trace = read_trace(alloc, trace)?;

@@ -1,6 +1,6 @@
 //! Judges a trace text, and prints the report of the order that explains it.
 
-ghost use Rattle.std.specs.Prelude.{◌≡◌};
+ghost use Rattle.std.specs.Prelude.{◌≡◌, ℕ};
 ghost use Rattle.std.specs.Str.Lines.{lines};
 ghost use Rattle.program_fault.specs.Done.{output};
 ghost use Rattle.trace_order.specs.Orders.{IsOrder};
@@ -37,7 +37,8 @@ fn put_report<A: Allocator + Copy, W: Out>(
 ) -> Result<Judged, ProgramFault>
     requires whole { IsWholeTrace trace.now }
     requires explains { IsOrder (opening_of trace.now) trace.now.events order.now }
-    ensures { PutsTraceReport trace.now (output (W.taken out.old) (W.failures out.old))
+    ensures { (bound : ℕ) → PutsTraceReport trace.now bound
+        (output (W.taken out.old) (W.failures out.old))
         (output (W.taken out.new) (W.failures out.new)) result }
 {
     match report_of_order(alloc, trace, order) {
@@ -61,7 +62,8 @@ pub fn report_text<A: Allocator + Copy, W: Out>(
     configurations: u64,
     out: &mut W,
 ) -> Result<Judged, ProgramFault>
-    ensures { PrintsReport (lines trace.now) (output (W.taken out.old) (W.failures out.old))
+    ensures { PrintsReport (lines trace.now) configurations
+        (output (W.taken out.old) (W.failures out.old))
         (output (W.taken out.new) (W.failures out.new)) result }
 {
     let trace = read_trace(alloc, trace)?;

@@ -9,7 +9,7 @@ use Rattle.trace_watch.specs.declared.watch.Seen.{Seen}
 use Rattle.trace_watch.specs.declared.watch.Seen.TheVariants.{Linearizable, NotLinearizable, NoTrace}
 use Rattle.trace_watch.specs.declared.watch.Full.{Full}
 use Rattle.trace_watch.specs.declared.watch.Full.TheVariants.{Memory, Configurations}
-use Rattle.trace_watch.specs.Follows.{Follows, TellsFull, TellsSeen}
+use Rattle.trace_watch.specs.Follows.{AnswersFew, Follows, TellsFull, TellsSeen}
 use Rattle.torusmem_c.specs.declared.outcome.Outcome.{Outcome}
 use Rattle.torusmem_c.specs.declared.outcome.Code.TheVariants as code
 use Rattle.torusmem_c.specs.Outcome.{no_memory, outcome}
@@ -43,11 +43,13 @@ told_outcome (Ok NoTrace) = outcome code.NoSuch 0
 told_outcome (Err Memory) = no_memory
 told_outcome (Err Configurations) = outcome code.TooMany 0
 
--- what holds of a watch that followed a trace: what is seen of the event is so, or it follows what
--- it followed, and the reason why the event isn't judged holds of it
+-- what holds of a watch that followed a trace: what is seen of the event is so, and an answer has no
+-- more than so many configurations before it; or it follows what it followed, and the reason why the
+-- event isn't judged holds of it
 abbrev pub Watches : Event → ℕ → Watch Global → Watch Global → Result Seen Full → Type 0
 Watches event bound old new (Ok seen) = (opening : List ℕ) (trace : List Event)
-    → Follows opening trace old → TellsSeen opening trace event new seen
+    → Follows opening trace old
+    → TellsSeen opening trace event new seen × AnswersFew trace event bound old
 Watches event bound old new (Err full) = (opening : List ℕ) (trace : List Event)
     → Follows opening trace old
     → Follows opening trace new × TellsFull opening trace event bound full

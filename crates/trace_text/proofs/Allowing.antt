@@ -10,7 +10,7 @@ use Rattle.trace_order.specs.declared.event.Event.TheVariants.{Issue, Answer}
 use Rattle.trace_order.specs.Traces.{IsTrace, IsIssuedAt, IsAnsweredAt}
 use Rattle.trace_order.specs.Orders.{IsOrder, IsLinearizable}
 use Rattle.trace_order.proofs.Lists.{get_push_cases, get_append_left, get_push, get_within, take_get, get_take}
-use Rattle.trace_judge.specs.Stops.{IsUndecided}
+use Rattle.trace_judge.specs.Stops.{IsUndecided, TellsMany}
 use Rattle.trace_judge.specs.declared.undecided.Undecided.{Undecided}
 use Rattle.trace_judge.specs.declared.undecided.Undecided.TheVariants as undecided
 use Rattle.trace_text.specs.declared.linearize.Unfound.{Unfound}
@@ -20,6 +20,7 @@ use Rattle.trace_text.specs.Kept.{IsKept}
 use Rattle.trace_text.specs.Renumbered.{moved_call, moved_event, IsRenumbering}
 use Rattle.trace_text.specs.Traced.{TraceReading, opening_of}
 use Rattle.trace_text.proofs.Found.{others, renumbering, line_is, crowd_in}
+use Rattle.trace_text.proofs.Many.{many_back}
 use Rattle.trace_text.proofs.Renumbered.{map_get, issue_back, answer_back, order_there, order_back}
 
 -- what the trace with another answer issues is issued before it
@@ -169,16 +170,26 @@ given_allowed r k n id reply ws es w e is = rw (w, e) (
 )
 
 -- why it isn't decided, of the trace as it is written
-not_decided : (r : TraceReading) → IsKept r → (n id : ℕ) (reply told : Reply) → IsAnsweredAt r.events n id told → (why : Undecided)
+not_decided : (r : TraceReading) → IsKept r → (n id : ℕ) (reply told : Reply) → IsAnsweredAt r.events n id told → (bound : ℕ) (why : Undecided)
     → IsUndecided (map (moved_event (place_of_address r.places)) (answered_so r.events n id reply)) why
-    → IsUnfound (trace_answered_so (trace_read r) n id reply) (unfound_at r.lines why)
-not_decided r k n id reply told at undecided.Memory u = tt
-not_decided r k n id reply told at (undecided.Configurations event) u =
+    → TellsMany (others r) (map (moved_event (place_of_address r.places)) (answered_so r.events n id reply)) bound why
+    → IsUnfound (trace_answered_so (trace_read r) n id reply) bound (unfound_at r.lines why)
+not_decided r k n id reply told at bound undecided.Memory u many = tt
+not_decided r k n id reply told at bound (undecided.Configurations event) u many =
     let a = answer_back (place_of_address r.places) (answered_so r.events n id reply) event u.0 u.1 u.2 in
     let early = (there r.events n id told at event u.0 u.1 reply (answer_before r.events n id reply told at event u.0 u.1 a)).0 in
-    let low = get_within r.events n (Answer id told) at in
-    (event, line_is r k event (omega arith), (u.0, u.1, a))
-not_decided r k n id reply told at (undecided.Operations event) u =
+    let low = get_within r.events n (Answer id told) at in (
+      event,
+      line_is r k event (omega arith),
+      record {
+        answer = (u.0, u.1, a);
+        many = many_back (place_of_address r.places) (placed_address r.addresses) (opening_of (trace_read r)) (others r)
+            (answered_so r.events n id reply) event bound
+            (renumbering_answered (place_of_address r.places) (placed_address r.addresses) (opening_of (trace_read r)) (others r) r.events n id reply
+            (renumbering r k)) many;
+      },
+    )
+not_decided r k n id reply told at bound (undecided.Operations event) u many =
     let w = crowd_in (place_of_address r.places) (placed_address r.addresses) (opening_of (trace_read r)) (others r) (answered_so r.events n id reply)
     (renumbering_answered (place_of_address r.places) (placed_address r.addresses) (opening_of (trace_read r)) (others r) r.events n id reply (renumbering r k))
     event u in
@@ -186,12 +197,15 @@ not_decided r k n id reply told at (undecided.Operations event) u =
     let low = get_within r.events n (Answer id told) at in
     (event, line_is r k event (omega arith), w)
 
-pub undecided_given : (r : TraceReading) → IsKept r → (n id : ℕ) (reply told : Reply) → IsAnsweredAt r.events n id told → (es : List Event)
-    → es ≡ map (moved_event (place_of_address r.places)) (answered_so r.events n id reply) → (why : Undecided) (tells : Unfound) → IsUndecided es why
-    → tells ≡ unfound_at r.lines why → IsUnfound (trace_answered_so (trace_read r) n id reply) tells
-undecided_given r k n id reply told at es e why tells u is =
-    subst (λ (x : Unfound). IsUnfound (trace_answered_so (trace_read r) n id reply) x) (sym is)
-    (not_decided r k n id reply told at why (subst (λ (f : List Event). IsUndecided f why) e u))
+pub undecided_given : (r : TraceReading) → IsKept r → (n id : ℕ) (reply told : Reply) → IsAnsweredAt r.events n id told → (ws : List ℕ) (es : List Event)
+    → ws ≡ others r → es ≡ map (moved_event (place_of_address r.places)) (answered_so r.events n id reply) → (bound : ℕ) (why : Undecided)
+    (tells : Unfound) → IsUndecided es why → TellsMany ws es bound why → tells ≡ unfound_at r.lines why
+    → IsUnfound (trace_answered_so (trace_read r) n id reply) bound tells
+undecided_given r k n id reply told at ws es w e bound why tells u many is =
+    let placed : List Event = map (moved_event (place_of_address r.places)) (answered_so r.events n id reply) in
+    subst (λ (x : Unfound). IsUnfound (trace_answered_so (trace_read r) n id reply) bound x) (sym is)
+    (not_decided r k n id reply told at bound why (subst (λ (f : List Event). IsUndecided f why) e u)
+    (subst (λ (v : List ℕ). TellsMany v placed bound why) w (subst (λ (f : List Event). TellsMany ws f bound why) e many)))
 
 -- a push that went well
 pub pushed : {T E A : Type 0} (r : Result T E) (b : Bool) (new more old : List A) → b ≡ is_err r → b ≡ false

@@ -10,8 +10,8 @@ use Rattle.trace_order.specs.declared.event.Event.{Event}
 use Rattle.trace_order.specs.declared.event.Event.TheVariants.{Issue, Answer}
 use Rattle.trace_order.specs.Traces.{IsTrace, IsIssuedAt, IsAnsweredAt}
 use Rattle.trace_order.specs.Orders.{IsOrder, IsLinearizable}
-use Rattle.trace_order.proofs.Lists.{get_within, within_length, take_get}
-use Rattle.trace_judge.specs.Stops.{IsAnswered, IsCrowded, IsAnAnswer, IsUndecided}
+use Rattle.trace_order.proofs.Lists.{get_within, within_length}
+use Rattle.trace_judge.specs.Stops.{IsAnswered, IsCrowded, IsAnAnswer, IsUndecided, TellsMany}
 use Rattle.trace_judge.specs.declared.undecided.Undecided.{Undecided}
 use Rattle.trace_judge.specs.declared.undecided.Undecided.TheVariants as undecided
 use Rattle.std.specs.Prelude.{Vec}
@@ -23,7 +23,8 @@ use Rattle.trace_text.specs.Findings.{place_of_address, placed_address, opening_
 use Rattle.trace_text.specs.Kept.{IsKept}
 use Rattle.trace_text.specs.Renumbered.{moved_call, moved_event, IsRenumbering}
 use Rattle.trace_text.specs.Traced.{TraceReading, opening_of, value_in}
-use Rattle.trace_text.proofs.Renumbered.{map_get, get_map, take_map, issue_back, answer_back, order_there, order_back}
+use Rattle.trace_text.proofs.Renumbered.{map_get, get_map, take_map, issue_back, answer_back, order_there, order_back, renumbering_take}
+use Rattle.trace_text.proofs.Many.{many_back}
 
 -- what stands at a place, as the code reads it
 read_is : {A : Type 0} (xs : List A) (k : ℕ) (x d : A) → slice_get xs k ≡ Some x → get_or xs k d ≡ x
@@ -69,16 +70,6 @@ renumbering r k = record {
       let q = k.placed i c h in
       ap (placed_address r.addresses) (place_is r c.operation.address q.0 q.1)
       ∙ read_is r.addresses q.0 c.operation.address 0 (k.addressed c.operation.address q.0 q.1);
-}
-
--- also of a beginning
-renumbering_take : (place back : ℕ → ℕ) (opening words : List ℕ) (trace : List Event) (n : ℕ)
-    → IsRenumbering place back opening words trace → IsRenumbering place back opening words (take n trace)
-renumbering_take place back opening words trace n r = record {
-  inside = λ i c h. r.inside i c (take_get n trace i (Issue c) h).1;
-  placed = λ i c h. r.placed i c (take_get n trace i (Issue c) h).1;
-  word = λ i c h. r.word i c (take_get n trace i (Issue c) h).1;
-  inverse = λ i c h. r.inverse i c (take_get n trace i (Issue c) h).1;
 }
 
 -- the events with places are a trace
@@ -202,12 +193,20 @@ crowd_in place back opening words trace n event w =
     }
 
 -- why it is not judged
-pub unfound : (r : TraceReading) → IsKept r → (why : Undecided) → IsUndecided (moved r) why → IsUnfound (trace_read r) (unfound_at r.lines why)
-unfound r k undecided.Memory u = tt
-unfound r k (undecided.Configurations event) u =
-    let a = answer_in r event u in
-    (event, line_is r k event (get_within r.events event (Answer a.0 a.1) a.2), a)
-unfound r k (undecided.Operations event) u =
+pub unfound : (r : TraceReading) → IsKept r → (bound : ℕ) (why : Undecided) → IsUndecided (moved r) why → TellsMany (others r) (moved r) bound why
+    → IsUnfound (trace_read r) bound (unfound_at r.lines why)
+unfound r k bound undecided.Memory u many = tt
+unfound r k bound (undecided.Configurations event) u many =
+    let a = answer_in r event u in (
+      event,
+      line_is r k event (get_within r.events event (Answer a.0 a.1) a.2),
+      record {
+        answer = a;
+        many = many_back (place_of_address r.places) (placed_address r.addresses) (opening_of (trace_read r)) (others r) r.events event bound
+            (renumbering r k) many;
+      },
+    )
+unfound r k bound (undecided.Operations event) u many =
     let w = crowd_in (place_of_address r.places) (placed_address r.addresses) (opening_of (trace_read r)) (others r) r.events (renumbering r k) event u in
     (event, line_is r k event (get_within r.events event (Issue w.another) w.issue), w)
 
@@ -235,11 +234,12 @@ no_given r k ws es w e event line tells l =
     let found = found_no r k event moved_tells.0 moved_tells.1 moved_tells.2 in
     (found.0, found.1 ∙ ap (λ (n : ℕ). Some n) (sym l), found.2, found.3)
 
-pub unfound_given : (r : TraceReading) → IsKept r → (es : List Event) → es ≡ moved r → (why : Undecided) (told : Unfound) → IsUndecided es why
-    → told ≡ unfound_at r.lines why → IsUnfound (trace_read r) told
-unfound_given r k es e why told u is =
-    subst (λ (x : Unfound). IsUnfound (trace_read r) x) (sym is)
-    (unfound r k why (subst (λ (f : List Event). IsUndecided f why) e u))
+pub unfound_given : (r : TraceReading) → IsKept r → (ws : List ℕ) (es : List Event) → ws ≡ others r → es ≡ moved r → (bound : ℕ) (why : Undecided)
+    (told : Unfound) → IsUndecided es why → TellsMany ws es bound why → told ≡ unfound_at r.lines why → IsUnfound (trace_read r) bound told
+unfound_given r k ws es w e bound why told u many is =
+    subst (λ (x : Unfound). IsUnfound (trace_read r) bound x) (sym is)
+    (unfound r k bound why (subst (λ (f : List Event). IsUndecided f why) e u)
+    (subst (λ (v : List ℕ). TellsMany v (moved r) bound why) w (subst (λ (f : List Event). TellsMany ws f bound why) e many)))
 
 -- what a verdict tells, by its kind
 pub yes_told : {A : Type 0} (ws : List ℕ) (es : List Event) (verdict : Verdict A) (order : Vec Call A) → verdict ≡ Linearizable order

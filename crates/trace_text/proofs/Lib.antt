@@ -7,6 +7,7 @@ pub mod Kept
 pub mod KeptAnswers
 pub mod KeptIssues
 pub mod KeptSettings
+pub mod Many
 pub mod Mapped
 pub mod NumberLists
 pub mod Opening

@@ -33,7 +33,7 @@ take_map f zero xs = refl
 take_map f (suc n) [] = refl
 take_map f (suc n) (x ∷ xs) = ap (λ ys. f x ∷ ys) (take_map f n xs)
 
-map_back : {A : Type 0} (f g : A → A) (xs : List A) → ((k : ℕ) (x : A) → slice_get xs k ≡ Some x → f (g x) ≡ x)
+pub map_back : {A : Type 0} (f g : A → A) (xs : List A) → ((k : ℕ) (x : A) → slice_get xs k ≡ Some x → f (g x) ≡ x)
     → map f (map g xs) ≡ xs
 map_back f g [] h = refl
 map_back f g (x ∷ xs) h =
@@ -108,22 +108,29 @@ alike_all place back trace inverse (c ∷ order) issued m n alike =
     (memory_after_one c.operation m) (memory_after_one (moved_call place c).operation n)
     (alike_one place back trace inverse m n c (issued zero c refl) alike)
 
--- the word that an operation of the order finds is the same
-same_found : (place back : ℕ → ℕ) (opening others : List ℕ) (trace : List Event) → IsRenumbering place back opening others trace
-    → (order : List Call) → ((x : ℕ) (c : Call) → slice_get order x ≡ Some c → IsSomewhere trace c) → (x : ℕ) (c : Call) → IsSomewhere trace c
-    → get_or (memory_of others (take x (map (moved_call place) order))) (place c.operation.address) 0
-    ≡ get_or (memory_of opening (take x order)) c.operation.address 0
-same_found place back opening others trace r order issued x c at =
+-- the word that an order leaves at the address of an operation of the trace is the same
+pub same_left : (place back : ℕ → ℕ) (opening others : List ℕ) (trace : List Event) → IsRenumbering place back opening others trace
+    → (order : List Call) → ((x : ℕ) (c : Call) → slice_get order x ≡ Some c → IsSomewhere trace c) → (c : Call) → IsSomewhere trace c
+    → get_or (memory_of others (map (moved_call place) order)) (place c.operation.address) 0
+    ≡ get_or (memory_of opening order) c.operation.address 0
+same_left place back opening others trace r order issued c at =
     let alike : AreAlike place trace opening others = record {
       inside = λ d there. r.inside there.0 d there.1;
       placed = λ d there. r.placed there.0 d there.1;
       word = λ d there. r.word there.0 d there.1;
     } in
-    let later : AreAlike place trace (memory_of opening (take x order)) (memory_of others (map (moved_call place) (take x order))) =
-    alike_all place back trace (λ d there. r.inverse there.0 d there.1) (take x order)
-    (λ y d h. let g = take_get x order y d h in issued y d g.1) opening others alike in
+    let later : AreAlike place trace (memory_of opening order) (memory_of others (map (moved_call place) order)) =
+    alike_all place back trace (λ d there. r.inverse there.0 d there.1) order issued opening others alike in
+    later.word c at
+
+-- the word that an operation of the order finds is the same
+pub same_found : (place back : ℕ → ℕ) (opening others : List ℕ) (trace : List Event) → IsRenumbering place back opening others trace
+    → (order : List Call) → ((x : ℕ) (c : Call) → slice_get order x ≡ Some c → IsSomewhere trace c) → (x : ℕ) (c : Call) → IsSomewhere trace c
+    → get_or (memory_of others (take x (map (moved_call place) order))) (place c.operation.address) 0
+    ≡ get_or (memory_of opening (take x order)) c.operation.address 0
+same_found place back opening others trace r order issued x c at =
     ap (λ (cs : List Call). get_or (memory_of others cs) (place c.operation.address) 0) (take_map (moved_call place) x order)
-    ∙ later.word c at
+    ∙ same_left place back opening others trace r (take x order) (λ y d h. let g = take_get x order y d h in issued y d g.1) c at
 
 -- a call is its number, its address and what it does
 abbrev call_with : ℕ → ℕ → Op → Call
@@ -176,19 +183,27 @@ order_there place back opening others trace r order o = record {
       ∙ ap (λ (a : Call). reply_to a.operation.op (get_or (memory_of others (take x (map (moved_call place) order))) a.operation.address 0)) g.2);
 }
 
--- what stands in an order with other numbers is the image of an operation of the trace
+-- what is issued with other numbers is the image of an operation of the trace
+pub issue_image : (place back : ℕ → ℕ) (opening others : List ℕ) (trace : List Event) → IsRenumbering place back opening others trace
+    → (i : ℕ) (d : Call) → IsIssuedAt (map (moved_event place) trace) i d
+    → IsIssuedAt trace i (moved_call back d) × (moved_call place (moved_call back d) ≡ d)
+issue_image place back opening others trace r i d at =
+    let b = issue_back place trace i d at in
+    let a : back d.operation.address ≡ b.0.operation.address =
+    ap (λ (k : Call). back k.operation.address) (sym b.2) ∙ r.inverse i b.0 b.1 in
+    let q : d.operation.op ≡ b.0.operation.op = ap (λ (k : Call). k.operation.op) (sym b.2) in
+    let n : d.id ≡ b.0.id = ap (λ (k : Call). k.id) (sym b.2) in
+    let same : b.0 ≡ moved_call back d = same_call b.0 (moved_call back d) (sym n) (sym a) (sym q) in
+    (subst (λ (k : Call). IsIssuedAt trace i k) same b.1, ap (moved_call place) (sym same) ∙ b.2)
+
+-- so it is of what stands in an order with other numbers
 image_of : (place back : ℕ → ℕ) (opening others : List ℕ) (trace : List Event) → IsRenumbering place back opening others trace
     → (order : List Call) → IsOrder others (map (moved_event place) trace) order → (x : ℕ) (d : Call) → slice_get order x ≡ Some d
     → IsSomewhere trace (moved_call back d) × (moved_call place (moved_call back d) ≡ d)
 image_of place back opening others trace r order o x d h =
     let at = o.issued x d h in
-    let b = issue_back place trace at.0 d at.1 in
-    let a : back d.operation.address ≡ b.0.operation.address =
-    ap (λ (k : Call). back k.operation.address) (sym b.2) ∙ r.inverse at.0 b.0 b.1 in
-    let q : d.operation.op ≡ b.0.operation.op = ap (λ (k : Call). k.operation.op) (sym b.2) in
-    let n : d.id ≡ b.0.id = ap (λ (k : Call). k.id) (sym b.2) in
-    let same : b.0 ≡ moved_call back d = same_call b.0 (moved_call back d) (sym n) (sym a) (sym q) in
-    ((at.0, subst (λ (k : Call). IsIssuedAt trace at.0 k) same b.1), ap (moved_call place) (sym same) ∙ b.2)
+    let i = issue_image place back opening others trace r at.0 d at.1 in
+    ((at.0, i.0), i.1)
 
 -- and the other way
 pub order_back : (place back : ℕ → ℕ) (opening others : List ℕ) (trace : List Event) → IsRenumbering place back opening others trace
@@ -217,3 +232,13 @@ order_back place back opening others trace r order o =
           ∙ (ap (λ (cs : List Call). reply_to c.operation.op (get_or (memory_of others (take x cs)) (place c.operation.address) 0)) (sym again)
           ∙ ap (reply_to c.operation.op) (same_found place back opening others trace r own issued x c (issued x c h)));
     }
+
+-- a beginning of a trace has the same places
+pub renumbering_take : (place back : ℕ → ℕ) (opening others : List ℕ) (trace : List Event) (n : ℕ)
+    → IsRenumbering place back opening others trace → IsRenumbering place back opening others (take n trace)
+renumbering_take place back opening others trace n r = record {
+  inside = λ i c h. r.inside i c (take_get n trace i (Issue c) h).1;
+  placed = λ i c h. r.placed i c (take_get n trace i (Issue c) h).1;
+  word = λ i c h. r.word i c (take_get n trace i (Issue c) h).1;
+  inverse = λ i c h. r.inverse i c (take_get n trace i (Issue c) h).1;
+}

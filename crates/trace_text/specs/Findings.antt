@@ -4,7 +4,7 @@ use Rattle.std.specs.List.{slice_index_or}
 use Rattle.trace_order.specs.Orders.{IsOrder, IsLinearizable}
 use Rattle.trace_judge.specs.declared.undecided.Undecided.{Undecided}
 use Rattle.trace_judge.specs.declared.undecided.Undecided.TheVariants as undecided
-use Rattle.trace_judge.specs.Stops.{IsCrowded, IsAnAnswer}
+use Rattle.trace_judge.specs.Stops.{HasMany, IsCrowded, IsAnAnswer}
 use Rattle.trace_text.specs.declared.linearize.Finding.{Finding}
 use Rattle.trace_text.specs.declared.linearize.Finding.TheVariants.{Linearizable, No}
 use Rattle.trace_text.specs.declared.linearize.Unfound.{Unfound}
@@ -48,11 +48,16 @@ TellsFinding t (No line) = (event : ℕ) × (slice_get t.lines event ≡ Some li
     × IsLinearizable (opening_of t) (take event t.events)
     × (IsLinearizable (opening_of t) (take (event + 1) t.events) → ⊥)
 
--- the line of an answer at which a word has too many configurations, or of an issue beside 64
--- operations that are open on its word
-abbrev pub IsUnfound : TraceSpec → Unfound → Type 0
-IsUnfound t Memory = Unit {0}
-IsUnfound t (Configurations line) =
-    (event : ℕ) × (slice_get t.lines event ≡ Some line) × IsAnAnswer t.events event
-IsUnfound t (Operations line) =
+-- event k answers an operation, and a word has more than so many configurations before it
+pub record AnswersMany (t : TraceSpec) (bound k : ℕ) : Type 0 where
+  pub answer : IsAnAnswer t.events k
+  pub many : HasMany (opening_of t) t.events k bound
+
+-- the line of an answer before which a word has more than so many configurations, or of an issue
+-- beside 64 operations that are open on its word
+abbrev pub IsUnfound : TraceSpec → ℕ → Unfound → Type 0
+IsUnfound t bound Memory = Unit {0}
+IsUnfound t bound (Configurations line) =
+    (event : ℕ) × (slice_get t.lines event ≡ Some line) × AnswersMany t bound event
+IsUnfound t bound (Operations line) =
     (event : ℕ) × (slice_get t.lines event ≡ Some line) × IsCrowded t.events event

@@ -173,7 +173,7 @@ impl<A: Allocator + Copy> Reading<A> {
     /// Judges the trace, with at most so many configurations of a word at once.
     pub(crate) fn linearize(&self, alloc: A, bound: usize) -> Result<Finding<A>, Unfound>
         requires { IsKept (trace_so_far self.now) }
-        ensures unfound { IfErr result (IsUnfound (trace_read (trace_so_far self.now))) }
+        ensures unfound { IfErr result (IsUnfound (trace_read (trace_so_far self.now)) bound) }
         ensures found { IfOk result
             (λ finding. TellsFinding (trace_read (trace_so_far self.now)) finding) }
     {
@@ -209,7 +209,7 @@ impl<A: Allocator + Copy> Reading<A> {
             (opening_of (trace_read (trace_so_far self.now))) self.now.events.items event id reply
             → ⊥) }
         ensures unfound { IfErr result (IsUnfound (trace_answered_so
-            (trace_read (trace_so_far self.now)) event id reply)) }
+            (trace_read (trace_so_far self.now)) event id reply) bound) }
     {
         let opening = opening_words_at(alloc, &self.inits, &self.addresses)?;
         let mut events = moved_events(alloc, &self.places, &self.events[..event])?;

@@ -86,9 +86,10 @@ impl<A: Allocator + Copy> TraceText<A> {
     /// Judges the trace, with at most so many configurations of a word at once: an order that explains
     /// it as it is written, or the line of the first event up to which none does.
     ///
-    /// Errors: the line at which there are too many configurations or open operations, or no memory.
+    /// Errors: the line of the answer before which a word has more configurations, the line of the issue
+    /// beside 64 operations that are open on its word, or no memory.
     pub fn linearize(&self, alloc: A, bound: usize) -> Result<Finding<A>, Unfound>
-        ensures unfound { IfErr result (IsUnfound self.now) }
+        ensures unfound { IfErr result (IsUnfound self.now bound) }
         ensures found { IfOk result (λ finding. TellsFinding self.now finding) }
     {
         self.reading.linearize(alloc, bound)
@@ -98,8 +99,7 @@ impl<A: Allocator + Copy> TraceText<A> {
     /// events before it and this answer are linearizable. It is decided with at most so many
     /// configurations of a word at once.
     ///
-    /// Errors: the line at which there are too many configurations or open operations of the trace of these
-    /// events, or no memory.
+    /// Errors: those of `linearize`, of the trace of these events.
     pub fn allows(
         &self,
         alloc: A,
@@ -113,7 +113,8 @@ impl<A: Allocator + Copy> TraceText<A> {
             → IsAllowed (opening_of self.now) self.now.events event id reply) }
         ensures no { IfOk result (λ b. b ≡ false
             → IsAllowed (opening_of self.now) self.now.events event id reply → ⊥) }
-        ensures unfound { IfErr result (IsUnfound (trace_answered_so self.now event id reply)) }
+        ensures unfound { IfErr result
+            (IsUnfound (trace_answered_so self.now event id reply) bound) }
     {
         self.reading.allows(alloc, event, id, reply, bound)
     }

@@ -14,6 +14,9 @@ pub record GrowingOne (calls : List CallAt) (value n : ℕ) (old new : List ℕ)
   pub kept : (v : ℕ) → Contains old v → Contains new v
   pub grown : (m : ℕ) (c : CallAt) → m < n → slice_get calls m ≡ Some c → Contains new (new_word c.call.operation.op value)
 
+pub growing_one_none : (calls : List CallAt) (value : ℕ) (old : List ℕ) → GrowingOne calls value 0 old old
+growing_one_none calls value old = record { kept = λ v h. h; grown = λ m c l h. absurd (omega arith) }
+
 pub growing_one : (calls : List CallAt) (value n : ℕ) (old new more : List ℕ) (found : CallAt) → GrowingOne calls value n old new
     → slice_get calls n ≡ Some found → ((v : ℕ) → Contains new v → Contains more v) → Contains more (new_word found.call.operation.op value)
     → GrowingOne calls value (n + 1) old more
@@ -40,6 +43,9 @@ pub record Growing (calls : List CallAt) (from : List ℕ) (n : ℕ) (old new : 
   pub same : from ≡ old
   pub kept : (v : ℕ) → Contains old v → Contains new v
   pub grown : (m v : ℕ) (c : CallAt) → m < n → slice_get from m ≡ Some v → Contains calls c → Contains new (new_word c.call.operation.op v)
+
+pub growing_none : (calls : List CallAt) (from old : List ℕ) → from ≡ old → Growing calls from 0 old old
+growing_none calls from old same = record { same = same; kept = λ v h. h; grown = λ m v c l h k. absurd (omega arith) }
 
 pub growing : (calls : List CallAt) (from : List ℕ) (n : ℕ) (old new more : List ℕ) (found : ℕ) → Growing calls from n old new
     → slice_get from n ≡ Some found → ((v : ℕ) → Contains new v → Contains more v)

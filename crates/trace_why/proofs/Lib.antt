@@ -4,3 +4,4 @@ pub mod Listing
 pub mod Growing
 pub mod Bad
 pub mod Telling
+pub mod Trying

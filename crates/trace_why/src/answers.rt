@@ -4,11 +4,10 @@ ghost use Rattle.std.specs.Prelude.{◌≡◌, ◌<◌, ◌≤◌, ◌⊎◌, �
 ghost use Rattle.std.specs.Prelude.{Contains, length};
 ghost use Rattle.packet.specs.declared.kinds.Reply.{Reply};
 ghost use Rattle.trace_order.specs.Traces.{IsTrace};
-ghost use Rattle.trace_text.specs.Traced.{TraceSpec};
 ghost use Rattle.trace_why.specs.declared.calls.CallAt.{CallAt};
 ghost use Rattle.trace_why.specs.Calls.{IsAnsweredOn, IsOver};
-ghost use Rattle.trace_why.specs.Values.{left_word, AreLeftBetween};
-ghost use Rattle.trace_why.specs.Why.{IsUntold};
+ghost use Rattle.trace_why.specs.Values.{left_word, AreApart, AreApartAnd, AreLeftBetween};
+ghost use Rattle.trace_why.specs.Values.{IsLeftBefore, IsOverfull};
 
 use crate::calls::{CallAt, issue_before};
 use crate::untold::Untold;
@@ -82,10 +81,15 @@ pub(crate) fn add_answers<A: Allocator>(
 ) -> Result<(), Untold>
     requires trace { (words : ℕ) × IsTrace words events.now }
     requires inside { k ≤ length events.now }
+    requires apart { AreApart values.old.items }
     ensures kept { OnOk result
         ((v : ℕ) → Contains values.old.items v → Contains values.new.items v) }
     ensures all { OnOk result (AreLeftBetween events.now from k address values.new.items) }
-    ensures untold { (t : TraceSpec) → IfErr result (IsUntold t) }
+    ensures only { OnOk result (AreApartAnd
+        (λ v. Contains values.old.items v ⊎ IsLeftBefore events.now k address v)
+        values.new.items) }
+    ensures untold { IfErr result (IsOverfull
+        (λ v. Contains values.old.items v ⊎ IsLeftBefore events.now k address v) bound) }
 {
     for i in from..k {
         if let Some((found, reply)) = answered_on(events, i, address) {

@@ -1,11 +1,10 @@
 //! Values that a word may have: a set that grows.
 
-ghost use Rattle.std.specs.Prelude.{◌≡◌, ◌<◌, ℕ, OnOk, IfErr, Contains, length};
+ghost use Rattle.std.specs.Prelude.{◌≡◌, ◌<◌, ◌⊎◌, ℕ, OnOk, IfErr, Contains, length};
 ghost use Rattle.packet.specs.Memory.{new_word};
-ghost use Rattle.trace_text.specs.Traced.{TraceSpec};
 ghost use Rattle.trace_why.specs.declared.calls.CallAt.{CallAt};
+ghost use Rattle.trace_why.specs.Values.{AreApart, AreApartAnd, IsLeftOf, IsOverfull};
 ghost use Rattle.trace_why.specs.Values.{IsReachedIn};
-ghost use Rattle.trace_why.specs.Why.{IsUntold};
 
 use crate::calls::CallAt;
 use crate::untold::Untold;
@@ -18,10 +17,14 @@ pub(crate) fn add<A: Allocator>(
     value: u64,
     bound: usize,
 ) -> Result<(), Untold>
+    requires { AreApart values.old.items }
     ensures there { OnOk result (Contains values.new.items value) }
     ensures kept { OnOk result
         ((v : ℕ) → Contains values.old.items v → Contains values.new.items v) }
-    ensures untold { (t : TraceSpec) → IfErr result (IsUntold t) }
+    ensures only { OnOk result (AreApartAnd
+        (λ v. Contains values.old.items v ⊎ (v ≡ value)) values.new.items) }
+    ensures untold { IfErr result (IsOverfull
+        (λ v. Contains values.old.items v ⊎ (v ≡ value)) bound) }
 {
     if values.contains(&value) {
         return Ok(());
@@ -42,11 +45,14 @@ fn grow_one<A: Allocator>(
     value: u64,
     bound: usize,
 ) -> Result<(), Untold>
+    requires { AreApart values.old.items }
     ensures kept { OnOk result
         ((v : ℕ) → Contains values.old.items v → Contains values.new.items v) }
     ensures grown { OnOk result ((c : CallAt) → Contains calls.now c
         → Contains values.new.items (new_word c.call.operation.op value)) }
-    ensures untold { (t : TraceSpec) → IfErr result (IsUntold t) }
+    ensures only { OnOk result (AreApartAnd (IsLeftOf values.old.items calls.now value)
+        values.new.items) }
+    ensures untold { IfErr result (IsOverfull (IsLeftOf values.old.items calls.now value) bound) }
 {
     for found in calls {
         add(values, apply(found.call.operation.op, value).0, bound)?;
@@ -61,11 +67,14 @@ fn grow<A: Allocator + Copy>(
     calls: &[CallAt],
     bound: usize,
 ) -> Result<(), Untold>
+    requires { AreApart values.old.items }
     ensures kept { OnOk result
         ((v : ℕ) → Contains values.old.items v → Contains values.new.items v) }
     ensures grown { OnOk result ((v : ℕ) (c : CallAt) → Contains values.old.items v
         → Contains calls.now c → Contains values.new.items (new_word c.call.operation.op v)) }
-    ensures untold { (t : TraceSpec) → IfErr result (IsUntold t) }
+    ensures only { OnOk result (AreApartAnd (IsReachedIn values.old.items calls.now 1)
+        values.new.items) }
+    ensures untold { IfErr result (IsOverfull (IsReachedIn values.old.items calls.now 1) bound) }
 {
     let old = Vec::from_slice(alloc, values)?;
     for value in &old {
@@ -81,9 +90,13 @@ pub(crate) fn reach<A: Allocator + Copy>(
     calls: &[CallAt],
     bound: usize,
 ) -> Result<(), Untold>
+    requires { AreApart values.old.items }
     ensures all { OnOk result ((v : ℕ) → IsReachedIn values.old.items calls.now (length calls.now) v
         → Contains values.new.items v) }
-    ensures untold { (t : TraceSpec) → IfErr result (IsUntold t) }
+    ensures only { OnOk result (AreApartAnd
+        (IsReachedIn values.old.items calls.now (length calls.now)) values.new.items) }
+    ensures untold { IfErr result (IsOverfull
+        (IsReachedIn values.old.items calls.now (length calls.now)) bound) }
 {
     for _ in 0..calls.len() {
         grow(alloc, values, calls, bound)?;

@@ -1,7 +1,7 @@
 //! Why an answer is not one that a single memory gives.
 
 ghost use Rattle.std.specs.Prelude.{◌≡◌, true, false, ◌<◌, ◌↔◌, ℕ, IfOk, IfErr, MatchOption};
-ghost use Rattle.std.specs.Prelude.{Contains, length};
+ghost use Rattle.std.specs.Prelude.{Contains};
 ghost use Rattle.std.specs.List.Sorted.{IsStrictlyIncreasing};
 ghost use Rattle.packet.specs.declared.kinds.Reply.{Reply};
 ghost use Rattle.packet.specs.declared.kinds.Reply.TheVariants.{Old};
@@ -53,7 +53,7 @@ fn candidates<A: Allocator + Copy>(
     ensures all { IfOk result (λ values. (v : ℕ)
         → IsAllowed (opening_of trace.now) trace.now.events event issue.call.id (Old v)
         → Contains values.items v) }
-    ensures untold { IfErr result (IsUntold trace.now) }
+    ensures untold { (most : ℕ) → IfErr result (IsUntold trace.now event tries most) }
 {
     let events = trace.events();
     let address = issue.call.operation.address;
@@ -77,7 +77,7 @@ fn may_tell<A: Allocator + Copy>(
         → IsAllowed (opening_of trace.now) trace.now.events event id (Old value)) }
     ensures no { IfOk result (λ b. b ≡ false
         → IsAllowed (opening_of trace.now) trace.now.events event id (Old value) → ⊥) }
-    ensures untold { IfErr result (IsUntold trace.now) }
+    ensures untold { (tries : ℕ) → IfErr result (IsUntold trace.now event tries bound) }
 {
     match trace.allows(alloc, event, id, Reply::Old(value), bound) {
         Ok(may) => Ok(may),
@@ -97,7 +97,7 @@ fn allowed<A: Allocator + Copy>(
     requires { (told : Reply) × IsAnsweredAt trace.now.events event id told }
     ensures exact { IfOk result (λ kept. (v : ℕ) → Contains kept.items v ↔ (Contains values.now v
         × IsAllowed (opening_of trace.now) trace.now.events event id (Old v))) }
-    ensures untold { IfErr result (IsUntold trace.now) }
+    ensures untold { (tries : ℕ) → IfErr result (IsUntold trace.now event tries bound) }
 {
     let mut kept = Vec::new(alloc);
     for value in values {
@@ -134,7 +134,7 @@ fn values_of<A: Allocator + Copy>(
     ensures exact { IfOk result (λ values. (v : ℕ) → Contains values.items v
         ↔ IsAllowed (opening_of trace.now) trace.now.events event issue.call.id (Old v)) }
     ensures rising { IfOk result (λ values. IsStrictlyIncreasing values.items) }
-    ensures untold { IfErr result (IsUntold trace.now) }
+    ensures untold { IfErr result (IsUntold trace.now event tries bound) }
 {
     let tried = candidates(alloc, trace, event, issue, pending, tries)?;
     let mut values = allowed(alloc, trace, event, issue.call.id, &tried, bound)?;
@@ -146,7 +146,7 @@ fn values_of<A: Allocator + Copy>(
 /// `None` where the event is no answer. At most `tries` values are tried, each with at most `bound`
 /// configurations of a word at once.
 ///
-/// Errors: too many values, or one of which it isn't decided, or no memory.
+/// Errors: too many values, or one with which the trace up to the event isn't decided, or no memory.
 pub fn why_not<A: Allocator + Copy>(
     alloc: A,
     trace: &TraceText<A>,
@@ -156,7 +156,7 @@ pub fn why_not<A: Allocator + Copy>(
 ) -> Result<Option<WhyNot<A>>, Untold>
     ensures told { IfOk result (λ found. MatchOption found
         (IsAnAnswer trace.now.events event → ⊥) (TellsWhy trace.now event)) }
-    ensures untold { IfErr result (IsUntold trace.now) }
+    ensures untold { IfErr result (IsUntold trace.now event tries bound) }
 {
     let events = trace.events();
     if event >= events.len() {

@@ -1,6 +1,6 @@
 ghost use Rattle.std.specs.Prelude.{◌≡◌, ℕ, List, IfOk, IfErr};
 ghost use Rattle.trace_order.specs.declared.event.Event.{Event};
-ghost use Rattle.trace_watch.specs.Follows.{Follows, TellsFull, TellsSeen};
+ghost use Rattle.trace_watch.specs.Follows.{AnswersFew, Follows, TellsFull, TellsSeen};
 
 use std::alloc::{Allocator, Global};
 use std::marker::Model;
@@ -37,6 +37,8 @@ impl<A: Allocator + Copy> Kept<A> {
             → Follows opening trace self.old → Follows opening trace self.new) }
         ensures full { IfErr result (λ full. (opening : List ℕ) (trace : List Event)
             → Follows opening trace self.old → TellsFull opening trace event bound full) }
+        ensures few { IfOk result (λ seen. (opening : List ℕ) (trace : List Event)
+            → Follows opening trace self.old → AnswersFew trace event bound self.old) }
     {
         self.watch.event(alloc, event, bound)
     }

@@ -36,15 +36,15 @@ returns-in_err-write_order-in-Ok-Linearizable g c =
 
 pub returns-in-Ok-No : goal.returns-in-Ok-No
 returns-in-Ok-No g c =
-    refused (lines c.args.trace.now) c.in_ok-trace.trace (output (g.W.Out.taken c.args.out.now) (g.W.Out.failures c.args.out.now))
+    refused (lines c.args.trace.now) c.args.configurations c.in_ok-trace.trace (output (g.W.Out.taken c.args.out.now) (g.W.Out.failures c.args.out.now))
     c.in-Ok-No.line c.in_ok-trace.ensures (rw c.in-Ok-No.field-0-is at c.in-Ok-No.ensures.found)
 
 pub returns-in-Err-Configurations : goal.returns-in-Err-Configurations
 returns-in-Err-Configurations g c =
-    too_many (lines c.args.trace.now) c.in_ok-trace.trace (output (g.W.Out.taken c.args.out.now) (g.W.Out.failures c.args.out.now))
+    too_many (lines c.args.trace.now) c.args.configurations c.in_ok-trace.trace (output (g.W.Out.taken c.args.out.now) (g.W.Out.failures c.args.out.now))
     c.in-Err-Configurations.line c.in_ok-trace.ensures (rw c.in-Err-Configurations.field-0-is at c.in-Err-Configurations.ensures.unfound)
 
 pub returns : goal.returns
 returns g c =
-    too_open (lines c.args.trace.now) c.in_ok-trace.trace (output (g.W.Out.taken c.args.out.now) (g.W.Out.failures c.args.out.now))
+    too_open (lines c.args.trace.now) c.args.configurations c.in_ok-trace.trace (output (g.W.Out.taken c.args.out.now) (g.W.Out.failures c.args.out.now))
     c.in-Err-Operations.line c.in_ok-trace.ensures (rw c.in-Err-Operations.field-0-is at c.in-Err-Operations.ensures.unfound)

@@ -7,4 +7,10 @@ pub returns-in-Ok-clause-no : goal.returns-in-Ok-clause-no
 returns-in-Ok-clause-no g c = c.in-Ok.ensures.no
 
 pub returns-in-Err-clause-untold : goal.returns-in-Err-clause-untold
-returns-in-Err-clause-untold g c = (c.args.event, c.args.id, _, c.in-Err.ensures.unfound)
+returns-in-Err-clause-untold g c = λ tries. record {
+  id = c.args.id;
+  reply = c.requires.0;
+  answer = c.requires.1;
+  value = c.args.value;
+  unfound = c.in-Err.ensures.unfound;
+}

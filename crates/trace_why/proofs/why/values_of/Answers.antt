@@ -1,5 +1,8 @@
 use Rattle.std.proofs.Common.{ℕ, List, sym, subst}
 use Rattle.std.specs.Prelude.{Contains}
+use Rattle.std.proofs.lemmas.Result.{err_from_is_err_and}
+use Rattle.trace_why.specs.declared.untold.Untold.{Untold}
+use Rattle.trace_why.specs.Why.{IsUntold}
 use Rattle.trace_why.proofs.why.values_of.Goals as goal
 
 pub allowed-requires : goal.allowed-requires
@@ -13,3 +16,15 @@ returns-clause-exact g c = λ v. (
     is,
   )),
 )
+
+pub returns-in_err-tried-clause-untold : goal.returns-in_err-tried-clause-untold
+returns-in_err-tried-clause-untold g c =
+    let p = err_from_is_err_and c.from_residual.result c.from_residual.ensures.1 in
+    rw p.1 (subst (λ (e : Untold). IsUntold c.args.trace.now c.args.event c.args.tries c.args.bound e) (sym p.2)
+    (c.in_err-tried.ensures.untold c.args.bound))
+
+pub returns-in_err-values-clause-untold : goal.returns-in_err-values-clause-untold
+returns-in_err-values-clause-untold g c =
+    let p = err_from_is_err_and c.from_residual-in_err-values.result c.from_residual-in_err-values.ensures.1 in
+    rw p.1 (subst (λ (e : Untold). IsUntold c.args.trace.now c.args.event c.args.tries c.args.bound e) (sym p.2)
+    (c.in_err-values.ensures.untold c.args.tries))

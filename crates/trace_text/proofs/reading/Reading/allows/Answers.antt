@@ -61,5 +61,5 @@ returns-clause-unfound g c =
     pushed c.push.result c.is_err.result c.push.new.self.items _ c.in_ok-events.events.items c.is_err.ensures.value c.if-is_err.false c.push.ensures.items in
     let events : c.deref-4.result.now ≡ map (moved_event (place_of_address r.places)) (answered_so r.events c.args.event c.args.id c.args.reply) =
     given_is r c.args.event c.args.id c.args.reply c.in_ok-events.events.items c.deref-4.result.now begun (c.deref-4.ensures.value ∙ grown) in
-    undecided_given r c.requires.kept c.args.event c.args.id c.args.reply c.requires.answered.0 c.requires.answered.1 _ events c.in-Err.why c.at_line.result
-    c.in-Err.ensures.undecided (c.at_line.ensures ∙ ap (λ (ls : List ℕ). unfound_at ls c.in-Err.why) c.deref-in-Err.ensures.value)
+    undecided_given r c.requires.kept c.args.event c.args.id c.args.reply c.requires.answered.0 c.requires.answered.1 _ _ words events c.args.bound
+    c.in-Err.why c.at_line.result c.in-Err.ensures.undecided c.in-Err.ensures.full (c.at_line.ensures ∙ ap (λ (ls : List ℕ). unfound_at ls c.in-Err.why) c.deref-in-Err.ensures.value)

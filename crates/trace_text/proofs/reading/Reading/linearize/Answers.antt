@@ -38,7 +38,9 @@ returns-in-Ok-No-clause-found g c =
 
 pub returns-clause-unfound : goal.returns-clause-unfound
 returns-clause-unfound g c =
+    let words : c.deref-3.result.now ≡ others (trace_so_far c.args.self.now) =
+    c.deref-3.ensures.value ∙ (c.in_ok-opening.ensures ∙ ap (opening_words_at c.args.self.now.inits.entries) c.deref.ensures.value) in
     let events : c.deref-4.result.now ≡ moved (trace_so_far c.args.self.now) =
     c.deref-4.ensures.value ∙ (c.in_ok-events.ensures ∙ ap (map (moved_event (place_of_address c.args.self.now.places.entries))) c.deref-2.ensures.value) in
-    unfound_given (trace_so_far c.args.self.now) c.requires _ events c.in-Err.why c.at_line.result c.in-Err.ensures.unjudged
-    (c.at_line.ensures ∙ ap (λ (ls : List ℕ). unfound_at ls c.in-Err.why) c.deref-in-Err.ensures.value)
+    unfound_given (trace_so_far c.args.self.now) c.requires _ _ words events c.args.bound c.in-Err.why c.at_line.result c.in-Err.ensures.unjudged
+    c.in-Err.ensures.full (c.at_line.ensures ∙ ap (λ (ls : List ℕ). unfound_at ls c.in-Err.why) c.deref-in-Err.ensures.value)

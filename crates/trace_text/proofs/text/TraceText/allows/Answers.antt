@@ -19,5 +19,6 @@ returns-clause-no g c =
 
 pub returns-clause-unfound : goal.returns-clause-unfound
 returns-clause-unfound g c =
-    subst (λ (t : TraceSpec). IfErr c.allows.result (IsUnfound (trace_answered_so t c.args.event c.args.id c.args.reply))) c.self.view_is
+    subst (λ (t : TraceSpec). IfErr c.allows.result (IsUnfound (trace_answered_so t c.args.event c.args.id c.args.reply) c.args.bound))
+    c.self.view_is
     c.allows.ensures.unfound
