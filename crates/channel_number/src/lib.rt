@@ -12,6 +12,3 @@ pub use dateline_route::{Channel, Kind};
 pub use number::{number_of, numbers};
 pub use order::{channel_at, channel_count, channel_index};
 pub use rising::{NotRising, Rising};
-
-#[cfg(test)]
-mod tests;

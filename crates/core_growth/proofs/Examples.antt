@@ -1,5 +1,6 @@
 -- Worked machines that are handed lines, and what wrong definitions make of them.
-use Rattle.std.proofs.Common.{◌≡◌, ℕ, true, false, List, [], ◌∷◌, ◌++◌, refl, arith}
+use Rattle.std.proofs.Common.{◌≡◌, ℕ, Bool, true, false, List, [], ◌∷◌, ◌++◌, Some, refl, sym, subst, arith}
+use Rattle.std.specs.Prelude.{slice_get}
 use Rattle.torus.specs.declared.step.Step.{Step}
 use Rattle.torus.specs.declared.step.Choice.{Choice}
 use Rattle.torus.specs.declared.step.Choice.TheVariants.{Send, TakeFrom, Done}
@@ -12,11 +13,12 @@ use Rattle.script.specs.declared.line.Value.TheVariants.{Number, Last}
 use Rattle.script.specs.Scripts.{total_count}
 use Rattle.core_moves.specs.script_follower.specs.Following.{Following, first_of, next_operation_of}
 use Rattle.core_moves.specs.script_follower.specs.Following.{after_issue, after_answer, is_finished, follower_with}
-use Rattle.core_moves.specs.core_laws.specs.Core.{Load}
+use Rattle.core_moves.specs.tile_laws.specs.Tile.{TileState}
+use Rattle.core_moves.specs.core_laws.specs.Core.{Load, first_tile, after}
 use Rattle.core_moves.specs.core_progress.specs.Moves.{moves_made, moves_left}
 use Rattle.core_moves.specs.core_machine.specs.Machine.{core_after_load}
 use Rattle.core_moves.specs.Moves.{moves_of}
-use Rattle.core_growth.specs.Appended.{load_with, MayFollow}
+use Rattle.core_growth.specs.Appended.{load_with, MayFollow, IsUnreported}
 use Rattle.core_growth.specs.Doings.{Doing, Tries, Appends, core_done, load_grown, moves_done}
 
 abbrev store : Line
@@ -131,3 +133,25 @@ no_last may = let before = may.last refl in omega (arith, before)
 
 one_of_the_other : total_count other_stores.scripts ≡ 1
 one_of_the_other = refl
+
+-- a line is appended to the script of its own processor
+line_of_processor_1 : load_grown nothing (Appends 1 store ∷ []) ≡ load_with nothing 1 store
+line_of_processor_1 = refl
+
+-- a processor that has reported is handed no line
+abbrev reported_tile : TileState
+reported_tile = record (first_tile 1 4 []) { processor = record (first_tile 1 4 []).processor { reported = true } }
+
+reported_is_told : slice_get (after nothing (attempt 0 Done ∷ [])).tiles 0 ≡ Some reported_tile
+unfolding first_of is_finished
+reported_is_told = refl
+
+no_line_after_the_report : IsUnreported (after nothing (attempt 0 Done ∷ [])) 0 → ⊥
+unfolding first_of is_finished
+no_line_after_the_report is = reported is.tile is.there is.unreported
+  where
+    reported : (tile : TileState) → Some reported_tile ≡ Some tile → tile.processor.reported ≡ false → ⊥
+    reported tile there not =
+        let same : reported_tile ≡ tile = cc in
+        let e : ◌≡◌ {A = Bool} true false = subst (λ (t : TileState). t.processor.reported ≡ false) (sym same) not in
+        cc (e)

@@ -1,10 +1,12 @@
 -- Worked runs, against the definitions.
-use Rattle.std.proofs.Common.{◌≡◌, ℕ, zero, suc, [], ◌∷◌, ◌++◌, List, true, refl, map}
+use Rattle.std.proofs.Common.{◌≡◌, ℕ, zero, suc, [], ◌∷◌, ◌++◌, List, true, Some, None, refl, map}
 use Rattle.std.specs.Prelude.{length}
 use Rattle.torus.specs.declared.step.Step.{Step}
 use Rattle.torus.specs.declared.step.Choice.TheVariants.{Send, Take, TakeFrom, Put, Serve}
+use Rattle.torus.specs.declared.shape.Class.TheVariants.{Request}
 use Rattle.packet.specs.Flit.{field}
 use Rattle.packet.specs.declared.kinds.Op.TheVariants as op
+use Rattle.packet.specs.declared.kinds.Operation.{Operation}
 use Rattle.packet.specs.declared.kinds.Reply.TheVariants.{Old, Ok as Stored}
 use Rattle.script.specs.declared.line.Line.TheVariants as line
 use Rattle.script.specs.declared.line.Line.{Line}
@@ -12,7 +14,13 @@ use Rattle.script.specs.declared.line.Value.TheVariants.{Number}
 use Rattle.order_abstract.specs.script_follower.specs.Following.{first_of, next_operation_of, after_issue, after_answer, is_finished}
 use Rattle.flit_buffer.specs.Surroundings.{ring}
 use Rattle.packet.specs.Flits.{offered, flits_of}
-use Rattle.core_laws.specs.Core.{Load, after, show, round}
+use Rattle.wormhole.specs.Events.{ForwardHead, ForwardRest}
+use Rattle.order_abstract.specs.Flight.{Sends}
+use Rattle.core_laws.specs.Asks.{flit_found}
+use Rattle.core_laws.specs.Core.{Load, first_state, first_tile, after, show, round}
+use Rattle.core_laws.specs.Moves.{issue_of, processor_move}
+use Rattle.core_laws.specs.Network.{forwarded}
+use Rattle.core_laws.specs.Noted.{requests_noted}
 
 -- two tiles, depth 4, 4 tags, 8 words
 abbrev two_tiles : Load
@@ -85,3 +93,38 @@ all_done = refl
 all_seen : map (λ t. t.processor.seen) (after (with_scripts ([] ∷ [] ∷ [])) (rounds 2)).tiles ≡ true ∷ true ∷ []
 unfolding first_of next_operation_of after_issue after_answer is_finished field offered flits_of
 all_seen = refl
+
+-- a load of address 1, and the head flit of the reply to it, behind which two flits come
+abbrev load : Operation
+load = record { address = 1; op = op.Load }
+
+abbrev reply_head : ℕ
+reply_head = 11673365418516414464
+
+-- an issue is the head of a request, under its tag; a further flit of a request in course is none
+head_is_an_issue : issue_of 0 [] (Some (3, load)) ≡ Some (Sends 0 3 load)
+head_is_an_issue = refl
+
+further_flit_is_none : issue_of 0 (2305843009213693952 ∷ []) (Some (3, load)) ≡ None
+further_flit_is_none = refl
+
+-- the head of a reply is no answer yet
+head_is_no_answer : processor_move 0 (first_tile 1 4 []).processor Take reply_head ≡ None
+unfolding field offered
+head_is_no_answer = refl
+
+-- the request of an issue is noted under the tag of the issue
+request_under_its_tag : requests_noted 2 (Some (Sends 0 3 load)) ([] ∷ [] ∷ [])
+    ≡ (record { destination = 1; source = 0; tag = record { 0 = 3 }; word = 0; op = op.Load } ∷ []) ∷ [] ∷ []
+request_under_its_tag = refl
+
+-- an empty channel shows 0
+empty_channel_shows_zero : flit_found (first_state two_tiles).around 3 ≡ 0
+empty_channel_shows_zero = refl
+
+-- a flit that tells where it goes is forwarded as a head, and any other as one that follows
+head_goes_as_a_head : forwarded (Some (record { destination = 1; class = Request })) 8 0 5 ≡ ForwardHead 8 0 5
+head_goes_as_a_head = refl
+
+others_follow : forwarded None 8 0 5 ≡ ForwardRest 8 0 5
+others_follow = refl

@@ -6,3 +6,4 @@ pub mod Machines
 pub mod Moves
 pub mod Beginnings
 pub mod Deliveries
+mod Examples

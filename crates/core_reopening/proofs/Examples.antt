@@ -11,6 +11,7 @@ use Rattle.core_growth.specs.core_laws.specs.Core.{Load, State, design_of, step,
 use Rattle.core_growth.specs.core_machine.specs.Machine.{core_after_load}
 use Rattle.core_growth.specs.Appended.{appended, load_with}
 use Rattle.core_reopening.specs.Reopened.{tile_open, state_open, reports_in, reopened, without_reports}
+use Rattle.core_reopening.specs.Handed.{handed, is_too_long}
 
 -- two tiles, whose scripts are empty
 abbrev nothing : Load
@@ -72,3 +73,16 @@ line_at_the_end : appended (reopened (core_after_load nothing reports)) 0 (line.
     ≡ core_after_load (load_with nothing 0 (line.Store 1 (Number 7))) []
 unfolding first_of is_finished
 line_at_the_end = refl
+
+-- handed to a processor that has reported, the line takes all reports back first
+handed_after_the_report : handed (core_after_load nothing reports) 0 (line.Store 1 (Number 7))
+    ≡ core_after_load (load_with nothing 0 (line.Store 1 (Number 7))) []
+unfolding first_of is_finished
+handed_after_the_report = refl
+
+-- a script of 4095 operations has room for one more, and one of 4096 has none
+one_more : is_too_long (4095 ∷ 0 ∷ []) 0 (line.Load 0) ≡ false
+one_more = refl
+
+none_more : is_too_long (4096 ∷ 0 ∷ []) 0 (line.Load 0) ≡ true
+none_more = refl

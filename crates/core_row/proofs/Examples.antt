@@ -11,6 +11,7 @@ use Rattle.flit_buffer.specs.declared.word_op.WordOp.TheVariants as word_op
 use Rattle.core_laws.specs.Core.{Load, after, design_of, first_state}
 use Rattle.core_row.specs.Row.{row_of}
 use Rattle.core_row.specs.Attempts.{step_op}
+use Rattle.core_row.specs.Taken.{step_takes}
 
 -- two tiles, depth 4, 4 tags, 8 words: 96 places, 8 words and the done word; processor 0 stores 7 at address 1
 abbrev two_tiles : Load
@@ -93,3 +94,15 @@ first_op = refl
 service_op : step_op (design_of two_tiles) (after two_tiles (take 18 store)) (record { agent = 5; choice = Serve }) ≡ Some (word_op.Store 97 7)
 unfolding first_of next_operation_of after_issue after_answer field offered flits_of
 service_op = refl
+
+-- the router takes no flit from the empty channel 8, and one once it was sent
+abbrev router_take : Step
+router_take = record { agent = 1; choice = TakeFrom 8 }
+
+nothing_to_take : step_takes (design_of two_tiles) (first_state two_tiles) router_take 8 ≡ 0
+unfolding first_of next_operation_of after_issue after_answer field offered flits_of
+nothing_to_take = refl
+
+one_to_take : step_takes (design_of two_tiles) (after two_tiles (take 1 store)) router_take 8 ≡ 1
+unfolding first_of next_operation_of after_issue after_answer field offered flits_of
+one_to_take = refl

@@ -10,3 +10,4 @@ pub mod Counts
 pub mod Rooms
 pub mod NotesReached
 pub mod Notes
+mod Examples

@@ -11,3 +11,4 @@ pub mod PortsMet
 pub mod PortsKept
 pub mod PortsAlike
 pub mod Choices
+mod Examples

@@ -11,6 +11,3 @@ mod ring;
 pub use channel::{Channel, Input, Kind, Output};
 pub use hop::next;
 pub use path::route;
-
-#[cfg(test)]
-mod tests;

@@ -8,3 +8,4 @@ pub mod Cutting
 pub mod Ending
 pub mod Ends
 mod WrongOnes
+mod Examples

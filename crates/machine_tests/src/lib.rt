@@ -1,8 +1,35 @@
-//! The tests of `machine_core`, by its public calls. They stand in a crate of their own, so that the
-//! machine isn't proved a second time for them.
+//! Tests of the machine and of its parts, by their public calls: shapes, packets, channels, routes, tags,
+//! followers, banks, routers, processors and whole machines. They stand in a crate of their own, since a crate
+//! with tests is proved twice.
 #![tactic(auto)]
 
 #[cfg(test)]
 mod appended;
 #[cfg(test)]
+mod bank_agents;
+#[cfg(test)]
+mod bench;
+#[cfg(test)]
+mod channels;
+#[cfg(test)]
+mod flits;
+#[cfg(test)]
+mod followers;
+#[cfg(test)]
 mod machines;
+#[cfg(test)]
+mod numbers;
+#[cfg(test)]
+mod operations;
+#[cfg(test)]
+mod processors;
+#[cfg(test)]
+mod routers;
+#[cfg(test)]
+mod routes;
+#[cfg(test)]
+mod service_lists;
+#[cfg(test)]
+mod shapes;
+#[cfg(test)]
+mod tags;

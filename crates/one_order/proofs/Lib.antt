@@ -23,3 +23,4 @@ pub mod AnswersInTurn
 pub mod Beginnings
 mod WrongOnes
 mod WrongOrders
+mod Examples

@@ -17,3 +17,4 @@ pub mod Bounds
 pub mod Finished
 pub mod Reports
 pub mod LoadingAccepted
+mod Examples

@@ -5,15 +5,11 @@
 pub mod assembler;
 pub mod flit;
 pub mod flit_laws;
-#[cfg(test)]
-mod flit_tests;
 pub mod heading;
 pub mod kinds;
 pub mod laws;
 pub mod memory;
 pub mod spelling;
-#[cfg(test)]
-mod tests;
 
 pub use assembler::{Assembler, Kind, Offered};
 pub use flit::{head, is_tail};

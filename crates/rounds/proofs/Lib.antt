@@ -1,3 +1,4 @@
 pub mod Members
 pub mod Rounds
 pub mod Simulates
+mod Examples

@@ -8,6 +8,3 @@ pub mod sentence;
 
 pub use scripts::{EndedScripts, EndedSpin, told};
 pub use sentence::{Course, EndSentence, SpinSentence};
-
-#[cfg(test)]
-mod tests;

@@ -3,3 +3,4 @@ pub mod Numerals
 pub mod Attempts
 pub mod Again
 pub mod Growing
+mod Examples

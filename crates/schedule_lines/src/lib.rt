@@ -8,6 +8,3 @@ pub mod text;
 
 pub use line::ScheduleLine;
 pub use text::{LineText, line_of};
-
-#[cfg(test)]
-mod tests;

@@ -1,5 +1,5 @@
 -- Scripts, and operations that follow them.
-use Rattle.std.proofs.Common.{ℕ, [], ◌∷◌, Some, None, refl, arith, lit<}
+use Rattle.std.proofs.Common.{◌≡◌, ℕ, [], ◌∷◌, Some, None, refl, arith, lit<}
 use Rattle.std.proofs.lemmas.Option.{some_pair_parts}
 use Rattle.packet.specs.declared.kinds.Op.{Op}
 use Rattle.packet.specs.declared.kinds.Op.TheVariants as op
@@ -8,6 +8,7 @@ use Rattle.packet.specs.declared.kinds.Reply.TheVariants.{Old, Ok as Stored}
 use Rattle.script.specs.declared.line.Line.TheVariants as line
 use Rattle.script.specs.declared.line.Value.TheVariants.{Number, Last}
 use Rattle.script_follower.specs.Scripts.{Invocation, FollowsScript}
+use Rattle.script_follower.specs.Following.{first_of, follower_with}
 
 -- an operation issued at step t and answered at step u
 abbrev done : ℕ → Op → ℕ → ℕ → Reply → Invocation
@@ -78,3 +79,12 @@ load_passes_a_fence h =
     let told = h.1.0 0 (done 0 (op.Store 7) 1 3 Stored) refl in
     let e = (some_pair_parts 3 told.1.0 Stored told.0 told.1.1).0 in
     let before = told.1.2 in omega arith
+
+-- a fence that comes where nothing is held back is gone at once, and any other line stays ahead
+fence_is_gone : (follower_with line.Fence (first_of [])).ahead ≡ []
+unfolding first_of
+fence_is_gone = refl
+
+load_is_ahead : (follower_with (line.Load 1) (first_of [])).ahead ≡ line.Load 1 ∷ []
+unfolding first_of
+load_is_ahead = refl

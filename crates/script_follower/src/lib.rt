@@ -4,8 +4,6 @@
 pub mod follower;
 pub mod laws;
 mod spin;
-#[cfg(test)]
-mod tests;
 
 pub use follower::Follower;
 pub use one_order::Answer;

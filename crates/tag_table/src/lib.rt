@@ -3,8 +3,6 @@
 
 pub mod laws;
 pub mod table;
-#[cfg(test)]
-mod tests;
 
 pub use table::TagTable;
 pub use torus::{OpId, Tag};

@@ -4,3 +4,4 @@ pub mod OneAgent
 pub mod Tiles
 pub mod NewTiles
 pub mod OwnSteps
+mod Examples

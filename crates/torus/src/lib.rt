@@ -6,8 +6,6 @@ pub mod fault;
 pub mod laws;
 pub mod shape;
 pub mod step;
-#[cfg(test)]
-mod tests;
 
 pub use fault::Fault;
 pub use shape::{Class, Dir, Torus};

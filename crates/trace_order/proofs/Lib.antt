@@ -8,3 +8,4 @@ pub mod WordOrders
 pub mod Fronts
 pub mod Merging
 mod WrongOnes
+mod Examples

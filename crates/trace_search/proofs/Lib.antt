@@ -9,3 +9,4 @@ pub mod Walking
 pub mod Complete
 pub mod Start
 pub mod Fewer
+mod Examples

@@ -1,9 +1,10 @@
 -- A network of three channels in a row, and a packet of three flits that goes through it.
-use Rattle.std.proofs.Common.{◌≡◌, ◌+◌, ◌==◌, ◌&&◌, List, [], ◌∷◌, refl, arith}
+use Rattle.std.proofs.Common.{◌≡◌, ◌+◌, ◌==◌, ◌&&◌, List, [], ◌∷◌, Some, None, refl, arith}
 use Rattle.wormhole.specs.Net.{Net, Parcel}
-use Rattle.wormhole.specs.State.{State, empty}
+use Rattle.wormhole.specs.State.{Line, State, empty, empty_line}
 use Rattle.wormhole.specs.Events.{Event, InjectHead, InjectRest, Latch, ForwardHead, ForwardRest, AcceptHead}
-use Rattle.wormhole.specs.Events.{AcceptRest, Return, after_all, CanAllHappen}
+use Rattle.wormhole.specs.Events.{AcceptRest, Return, after_all, CanAllHappen, forwarded}
+use Rattle.wormhole.specs.Events.{CanInjectHead, CanLatch, CanForwardHead, CanReturn}
 use Rattle.wormhole.specs.Delivery.{whole, IsReached}
 
 -- from channel 0 to channel 2; flit 9 is a head flit, and 7 a tail flit
@@ -127,3 +128,45 @@ may = (
 -- so such a state is reached
 reached : IsReached row end
 reached = record { events = events; may = may; stands = refl }
+
+-- an empty channel with a flit in the latch behind it, and one that input 0 owns
+abbrev with_head : Line
+with_head = record (empty_line row) { latch = Some 9 }
+
+abbrev owned : Line
+owned = record (empty_line row) { owner = Some 0 }
+
+-- a tail flit frees the output that it is put into, and a body flit leaves it owned
+tail_frees : (forwarded row 0 7 owned).owner ≡ None
+tail_frees = refl
+
+body_keeps : (forwarded row 0 4 owned).owner ≡ Some 0
+body_keeps = refl
+
+-- a head flit is not put into an output that an input owns
+no_head_into_an_owned_output : CanForwardHead row with_head owned 0 1 9 → ⊥
+no_head_into_an_owned_output h = cc (h.free)
+
+-- a head flit goes where the router sends packets to the channel that the flit tells, here channel 2
+head_goes_where_it_tells : CanForwardHead (record row { next = λ x j. j }) with_head (empty_line row) 0 2 9
+head_goes_where_it_tells = record {
+  here = omega arith;
+  input = refl;
+  full = refl;
+  head = refl;
+  output = refl;
+  free = refl;
+  credit = omega arith;
+}
+
+-- no flit is taken while there is one in the latch
+no_take_over_a_latch : CanLatch row (record with_head { flits = 4 ∷ [] }) 0 4 [] → ⊥
+no_take_over_a_latch h = cc (h.free)
+
+-- no packet is begun while a flit of the last one is left
+no_packet_inside_another : CanInjectHead row (record (empty_line row) { rest = 7 ∷ [] }) 0 packet → ⊥
+no_packet_inside_another h = cc (h.idle)
+
+-- no credit comes back before a flit was taken, though the sender has spent one
+no_credit_of_its_own : CanReturn row (record (empty_line row) { held = 2 }) 0 → ⊥
+no_credit_of_its_own h = absurd (omega (arith, h.returns))

@@ -10,3 +10,4 @@ pub mod Falls
 pub mod Working
 pub mod Bounded
 pub mod Reached
+mod Examples

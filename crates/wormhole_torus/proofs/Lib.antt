@@ -4,3 +4,4 @@ pub mod Facts
 pub mod Parcels
 pub mod Ends
 pub mod Heads
+mod Examples

@@ -1,6 +1,0 @@
-//! Tests of the commands that print schedules, as tables. They stand in a crate of their own, since a
-//! crate with tests is proved twice.
-#![tactic(auto)]
-
-#[cfg(test)]
-mod tests;
