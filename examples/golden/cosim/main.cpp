@@ -1,13 +1,16 @@
-// cosim MACHINE SCRIPT SEED MISTAKE TILE..: steps routers in Verilog beside the library's. MISTAKE is 0 or 1, and a TILE
-// may be the word `all`.
+// cosim MACHINE SCRIPT SEED MISTAKE TILE..: steps routers in Verilog beside the library's. MISTAKE is what the router's
+// input of this name is given, 0 or 1 for router.v, and a TILE may be the word `all`. COSIM_VCD in the environment names a
+// folder for a waveform of each TILE, COSIM_COVERAGE a file for the coverage; each needs a program that was compiled for
+// it (`verilated --vcd`, `verilated --coverage`).
 //
 // All agents of the machine make drawn steps in the library. A step of the router of a TILE is also made by its
-// Verilog router, by its operation on one word of a row of the driver's own, which is the library's before the step.
-// Then both must have moved or not, and the two rows must be the same. The first step after which they are not is
-// printed with each word and its channel, and the status is 1. Drawn steps finish every script, as no machine is dead
-// before.
+// Verilog router, by its operation on one word of a row of its own, which is a copy of the library's before the step.
+// Then both must have moved or not, and the two rows must be the same, also where neither has moved. The first step
+// after which they are not is printed with each word and its channel, and the status is 1. Drawn steps finish every
+// script, as no machine is dead before.
 #include <cinttypes>
 #include <cstdio>
+#include <cstdlib>
 #include <cstring>
 #include <fstream>
 #include <iterator>
@@ -96,19 +99,22 @@ bool run(torusmem_machine *m, const Shape &shape, std::vector<Tested> &tested, N
   std::vector<uint64_t> row(torusmem_rows(m, nullptr, 0).value), after;
   torusmem_rows(m, row.data(), row.size());
   after = row;
+  std::vector<uint64_t> verilog;
   for (uint64_t draws = 0; torusmem_finished(m).value == 0; draws++) {
     Step step = drawn(numbers, shape);
     bool moved = made(m, step).value == 1;
     if (moved) torusmem_rows(m, after.data(), after.size());
     Tested &it = tested[step.agent / 3];
     if (step.agent % 3 == 1 && it.router) {
-      bool moved_too = it.router->attempt(step.choice, step.number, row.data(), shape.places);
+      verilog = row;
+      bool moved_too = it.router->attempt(step.choice, step.number, verilog.data(), shape.places);
+      const std::vector<uint64_t> &library = moved ? after : row;
       it.steps++;
       it.moves += moved_too;
-      if (moved != moved_too || (moved && row != after)) {
+      if (moved != moved_too || library != verilog) {
         std::printf("step %" PRIu64 ", %s %" PRIu32 " of the router of tile %" PRIu32 ": library %s, Verilog %s\n", draws,
                     NAMES[step.choice], step.number, step.agent / 3, moved ? "moves" : "idle", moved_too ? "moves" : "idle");
-        print_differences(shape, after, row);
+        print_differences(shape, library, verilog);
         return false;
       }
     }
@@ -139,9 +145,13 @@ bool read_file(const char *name, std::string &text) {
 }
 
 // The routers of the tiles that the words name; none at all where a word names no tile.
-std::vector<Tested> named(char **words, int count, uint32_t tiles, bool mistake) {
+std::vector<Tested> named(char **words, int count, uint32_t tiles, uint8_t mistake) {
   std::vector<Tested> tested(tiles);
-  auto add = [&](uint64_t tile) { tested[tile].router.reset(new Router(static_cast<uint32_t>(tile), mistake)); };
+  const char *folder = std::getenv("COSIM_VCD");
+  auto add = [&](uint64_t tile) {
+    tested[tile].router.reset(new Router(static_cast<uint32_t>(tile), mistake));
+    if (folder) tested[tile].router->trace(std::string(folder) + "/tile" + std::to_string(tile) + ".vcd");
+  };
   for (int at = 0; at < count; at++) {
     uint64_t tile;
     if (std::strcmp(words[at], "all") == 0) {
@@ -159,8 +169,8 @@ std::vector<Tested> named(char **words, int count, uint32_t tiles, bool mistake)
 
 int cosim(torusmem_machine *m, char **words, int count) {
   uint64_t seed, mistake;
-  if (!read_number(words[3], seed) || !read_number(words[4], mistake) || mistake > 1) {
-    std::fprintf(stderr, "cosim: SEED is a number below 2^64, and MISTAKE is 0 or 1\n");
+  if (!read_number(words[3], seed) || !read_number(words[4], mistake) || mistake > 31) {
+    std::fprintf(stderr, "cosim: SEED is a number below 2^64, and MISTAKE is 0 to 31\n");
     return 2;
   }
   std::string machine, script;
@@ -172,9 +182,10 @@ int cosim(torusmem_machine *m, char **words, int count) {
     return 2;
   }
   Shape shape(m);
-  std::vector<Tested> tested = named(words + 5, count - 5, shape.tiles, mistake == 1);
+  std::vector<Tested> tested = named(words + 5, count - 5, shape.tiles, static_cast<uint8_t>(mistake));
   if (tested.empty()) return 2;
   bool is_same = run(m, shape, tested, Numbers{seed});
+  if (const char *file = std::getenv("COSIM_COVERAGE")) Router::write_coverage(file);
   bool is_printed = std::fflush(stdout) == 0 && !std::ferror(stdout);
   if (!is_printed) std::fprintf(stderr, "cosim: output failed\n");
   return is_same && is_printed ? 0 : 1;
