@@ -1,4 +1,4 @@
-"""Proves the crates that a program stands on side by side, and builds the program.
+"""Proves the crates that a program, or the library for C, stands on side by side, and builds it.
 
 `rt` locks a crate and all below it, so two runs over a common crate wait for each other. Here each crate is proved in a
 view of its own: a folder with the sources of the crate and of those below it, and what was proved of these (hard links,
@@ -28,9 +28,11 @@ PARTS = ("src", "specs", "proofs")
 # The program with all commands, and that of fewer crates, which has these alone.
 PROGRAM, SMALL_PROGRAM = "torusmem", "torusmem_rounds"
 OF_SMALL = "round, steps, check, route and channels"
+# The library for C.
+LIBRARY = "torusmem_c"
 # Free memory for each process of a check, in KiB.
 ROOM = 2_500_000
-# The file beside a crate's library, or beside the program, that says what it was proved from.
+# The file beside what a crate's build has made that says what it was proved from.
 MARK = "launcher"
 SIGNALS = (signal.SIGINT, signal.SIGTERM, signal.SIGHUP)
 
@@ -124,6 +126,16 @@ def end_with_parent() -> None:
 
 def is_program(name: str) -> bool:
     return name in (PROGRAM, SMALL_PROGRAM)
+
+
+def made_file(name: str) -> str | None:
+    """The file in its out/ that a program's build makes, or that of the library for C; None of a crate that others use."""
+    return name if is_program(name) else f"lib{name}.a" if name == LIBRARY else None
+
+
+def what_of(name: str) -> str:
+    """What a build of this crate makes, in words."""
+    return "library" if name == LIBRARY else "program"
 
 
 def processor_time() -> float:
@@ -230,9 +242,10 @@ class Build:
 
     def mark_of(self, name: str, folder: str) -> tuple[str, str]:
         """The file of a crate's mark, and what it says of what stands there now."""
-        if not is_program(name):
+        made = made_file(name)
+        if made is None:
             return f"{folder}/out/rlib/{MARK}", self.marks[name]
-        with open(f"{folder}/out/{name}", "rb") as file:
+        with open(f"{folder}/out/{made}", "rb") as file:
             return f"{folder}/out/{MARK}", self.marks[name] + hashlib.sha256(file.read()).hexdigest()
 
     def is_proved(self, name: str) -> bool:
@@ -322,12 +335,13 @@ class Build:
     def announce(self, todo: list[str]) -> None:
         left = self.plan.left(set(), {})
         is_small = self.top == SMALL_PROGRAM
-        above, made = (f"{OF_SMALL} stand", "a program of these") if is_small else ("the program stands", "it")
+        above, made = (f"{OF_SMALL} stand", "a program of these") if is_small else (f"the {what_of(self.top)} stands", "it")
         say(f"proves {len(todo)} of the {len(self.names)} crates that {above} on, up to {self.plan.cores} at a time,")
         say(f"and builds {made}. That takes about {minutes(left)}; then the next start is immediate. Ctrl-C keeps what is proved.")
         if is_small:
             say(f"The other commands stand on {self.others} crates more, which the first of them proves.")
-        say("`./torusmem --unproved ..` looks without proofs.")
+        if is_program(self.top):
+            say("`./torusmem --unproved ..` looks without proofs.")
         say(f"What the prover says goes to {os.path.relpath(self.log_name, os.getcwd())}")
 
     def start_more(self) -> None:
@@ -399,9 +413,10 @@ def interrupt(*_: object) -> None:
 
 
 def build(top: str = PROGRAM) -> int:
-    """Proves and builds the program, and answers 0, or else the status with which the launcher ends."""
+    """Proves and builds the program or the library, and answers 0, or else the status with which the launcher ends."""
+    what, made = what_of(top), made_file(top)
     if shutil.which("rt") is None:
-        say("there is no command 'rt' on the path: the Rattle toolchain is needed to build the program")
+        say(f"there is no command 'rt' on the path: the Rattle toolchain is needed to build the {what}")
         return 127
     for it in SIGNALS:
         if it != signal.SIGHUP or signal.getsignal(it) != signal.SIG_IGN:
@@ -412,8 +427,8 @@ def build(top: str = PROGRAM) -> int:
             work.look()
             work.prove()
             # A source that was changed meanwhile is newer.
-            if is_program(top):
-                os.utime(f"{ROOT}/crates/{top}/out/{top}", (work.since, work.since))
+            if made is not None:
+                os.utime(f"{ROOT}/crates/{top}/out/{made}", (work.since, work.since))
     except Interrupted:
         say("interrupted. What was proved is kept, and the next start goes on from there")
         return 130
@@ -421,10 +436,10 @@ def build(top: str = PROGRAM) -> int:
         name, lines = failed.args
         for line in lines:
             print(line, file=sys.stderr)
-        say(f"the program was not built: {name} is not proved, as the lines above say, and all lines in {work.log_name}")
+        say(f"the {what} was not built: {name} is not proved, as the lines above say, and all lines in {work.log_name}")
         return 127
     except OSError as fault:
-        say(f"the program was not built: {fault}")
+        say(f"the {what} was not built: {fault}")
         return 127
     if work.total:
         say(f"proved and built in {minutes(time.monotonic() - work.began)}")

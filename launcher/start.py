@@ -1,5 +1,5 @@
-"""Starts a program that isn't built yet, or looks at a command without proofs (--unproved). The first word names the
-program that answers the others, by the fewest crates."""
+"""Starts a program that isn't built yet, or looks at a command without proofs (--unproved), or builds the library for C
+(--library). The first word names the program that answers the others, by the fewest crates."""
 
 from __future__ import annotations
 
@@ -8,10 +8,13 @@ import signal
 import sys
 
 sys.dont_write_bytecode = True
+# Until there is something to put in order, an interrupt ends this at once.
+if signal.getsignal(signal.SIGINT) != signal.SIG_IGN:
+    signal.signal(signal.SIGINT, signal.SIG_DFL)
 
 import unproved  # noqa: E402
 import words  # noqa: E402
-from build import PROGRAM, build, say  # noqa: E402
+from build import LIBRARY, PROGRAM, build, made_file, say  # noqa: E402
 from crates import ROOT  # noqa: E402
 
 
@@ -27,14 +30,25 @@ def told(answer: words.Answer) -> int:
     return answer.status
 
 
+def library(rest: list[str]) -> int:
+    """Proves and builds the library for C, where that is still to be done, and prints its path."""
+    if rest:
+        say("--library takes no other words")
+        return 2
+    status = build(LIBRARY)
+    return status or told(words.Answer(f"{ROOT}/crates/{LIBRARY}/out/{made_file(LIBRARY)}\n", 0, True))
+
+
 def main(name: str, given: list[str]) -> int:
+    if given[:1] == ["--library"]:
+        return library(given[1:])
     if given[:1] == ["--unproved"]:
         return unproved.run(name, given[1:], told)
     asked = words.asked(given)
     answer = words.unread(asked) if isinstance(asked, words.Job) else asked
     if answer is not None:
         status = told(answer)
-        if answer.is_asked_for:
+        if answer.is_asked_for and status:
             say("the program isn't built yet: its first command proves and builds it, and says how far it is")
         return status
     status = build(name)

@@ -1,24 +1,28 @@
-"""Runs a command of the program without proofs, by `rt try`."""
+"""Runs a command of the program without proofs: by the kept look of launcher/look.py, or by `rt try` alone where none can be
+kept."""
 
 from __future__ import annotations
 
 import os
 import re
 import shutil
+import signal
 import subprocess
 import sys
 import tempfile
 from typing import Callable
 
+import look
 import words
-from build import say
+from build import PROGRAM, Interrupted, say
 from crates import ROOT
+from look import ENDED, NOTE
 
 # The seconds that a command may take, once it is compiled.
 SECONDS = 600
 # The lines of rt try that stand behind what the program wrote to standard error.
 ITS_OWN = re.compile(rb"^(?:interpreter|checked|races|rt|note|error|warning|run)[:=]", re.M)
-ENDED = re.compile(rb"^run=ended status=(\d+) .*proved=no\n\Z", re.M)
+PROVED = "./torusmem, which proves and builds the program first"
 
 
 def standard_input(folder: str) -> str:
@@ -32,22 +36,37 @@ def standard_input(folder: str) -> str:
 def run(name: str, given: list[str], told: Callable[[words.Answer], int]) -> int:
     """Does what the words ask for, by the program of this name, and answers its status."""
     asked = words.asked(given)
-    if asked is None:
-        say("--unproved can't read these words; the program itself tells what is wrong with them")
-        return 2
     if isinstance(asked, words.Answer):
         return told(asked)
-    proved = "./torusmem, which proves and builds the program first"
-    if asked.words[0] == "run":
-        say(f"run makes threads, which --unproved can't: use {proved}")
+    if given[:1] == ["run"]:
+        say(f"run makes threads, which --unproved can't: use {PROVED}")
         return 2
-    fault = words.unread(asked)
+    fault = words.unread(asked) if asked else None
     if fault is not None:
         return told(fault)
-    if shutil.which("rt") is None:
-        say("there is no command 'rt' on the path: the Rattle toolchain is needed")
-        return 127
-    say("NOTHING OF THIS IS PROVED. The program is compiled for this one run, which takes about a minute")
+    say(NOTE)
+    try:
+        try:
+            path = look.kept_look()
+        except look.NotMade as why:
+            return look.told(why)
+        except look.NotKept as why:
+            say(f"the look can't be kept ({why}), so the program is compiled for this one run")
+            return tried(name, asked)
+    except Interrupted:
+        say("interrupted. Nothing is kept of this look")
+        return 130
+    for it in (signal.SIGPIPE, signal.SIGXFSZ):
+        signal.signal(it, signal.SIG_DFL)
+    # By its first word a program names itself.
+    os.execv(path, [f"{ROOT}/{PROGRAM}", *given])
+
+
+def tried(name: str, asked: words.Job | None) -> int:
+    """Has `rt try` compile the program of this name and run it once."""
+    if asked is None:
+        say("rt try can't take these words; the program itself tells what is wrong with them")
+        return 2
     line, files = [*asked.words], []
     with tempfile.TemporaryDirectory(prefix="torusmem-") as folder:
         for place in asked.files:
@@ -64,7 +83,7 @@ def run(name: str, given: list[str], told: Callable[[words.Answer], int]) -> int
     sys.stderr.flush()
     if ended is None:
         say("there is no answer, as the lines above say. A look without proofs takes at most")
-        say(f"{SECONDS} seconds and prints at most 1 MiB: use {proved}")
+        say(f"{SECONDS} seconds and prints at most 1 MiB: use {PROVED}")
         return ran.returncode or 2
     try:
         sys.stdout.buffer.write(ran.stdout)

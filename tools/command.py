@@ -2,14 +2,18 @@
 
 Every tool prints to standard output only when all of its work is done. On a fault it prints one line on
 standard error. Its status is 0, or 1 (a text can't be read or is refused), 2 (the words of the command line
-are wrong), 4 (standard output failed), or 130 (interrupted).
+are wrong), 4 (standard output failed), or 130 (interrupted). Where the reader of its output goes away, as `head`
+does, it ends without a word by SIGPIPE.
 """
 from __future__ import annotations
 
 import argparse
 import mmap
+import functools
 import os
+import signal
 import subprocess
+import sys
 import tempfile
 from contextlib import contextmanager
 from typing import IO, Callable, Iterable, Iterator, NoReturn, Optional
@@ -92,6 +96,9 @@ def put(tool: str, text: str) -> None:
         rest = memoryview(text.encode("utf-8"))
         while rest:
             rest = rest[os.write(1, rest) :]
+    except BrokenPipeError:
+        signal.signal(signal.SIGPIPE, signal.SIG_DFL)
+        os.kill(os.getpid(), signal.SIGPIPE)
     except OSError:
         leave(tool, 4, "output failed")
     except KeyboardInterrupt:
@@ -147,9 +154,32 @@ def mapped(path: str) -> bytes | mmap.mmap:
     return contents(path)
 
 
+def program_path() -> str:
+    """The program: the one that TORUSMEM names, the kept look where TORUSMEM_UNPROVED is 1, or the one of this folder."""
+    if named := os.environ.get("TORUSMEM"):
+        return named
+    return kept_look() if is_unproved() else os.path.join(ROOT, "torusmem")
+
+
+def is_unproved() -> bool:
+    """Whether the kept look is asked for, which proves nothing."""
+    return os.environ.get("TORUSMEM_UNPROVED") == "1" and not os.environ.get("TORUSMEM")
+
+
+@functools.lru_cache(maxsize=None)
+def kept_look() -> str:
+    """The path of the program that is compiled without proofs. What is said of it goes to standard error."""
+    asked = subprocess.run([sys.executable, os.path.join(ROOT, "launcher", "look.py")], stdout=subprocess.PIPE, check=False)
+    if asked.returncode == 130:
+        raise KeyboardInterrupt
+    if asked.returncode:
+        raise Refusal("there is no program without proofs, as the lines above say")
+    return os.fsdecode(asked.stdout).rstrip("\n")
+
+
 def torusmem(*words: str, program: str | None = None, fine: tuple[int, ...] = (0,)) -> str:
     """What the program prints on the words. Where its status is not fine, its line is the reason of an exception."""
-    program = program or os.environ.get("TORUSMEM") or os.path.join(ROOT, "torusmem")
+    program = program or program_path()
     with tempfile.TemporaryFile() as printed:
         try:
             null, pipe = subprocess.DEVNULL, subprocess.PIPE
@@ -165,12 +195,25 @@ def torusmem(*words: str, program: str | None = None, fine: tuple[int, ...] = (0
         return printed.read().decode("utf-8", "replace")
 
 
+def torusmem_on(texts: dict[str, str], *words: str, fine: tuple[int, ...] = (0,)) -> str:
+    """What the program prints on words of which some are copies of texts, each with the name of its text. Where a text
+    is refused, its name stands before the program's line."""
+    try:
+        return torusmem(*words, fine=fine)
+    except Refusal as why:
+        for path, name in texts.items():
+            if explained(path, *words):
+                raise Refusal(f"{name}: {why}") from None
+        raise
+
+
 def explained(path: str, *words: str) -> list[str]:
-    """What the program says of a text with `--explain`, behind its first line: each line without the text's name."""
-    program = os.environ.get("TORUSMEM") or os.path.join(ROOT, "torusmem")
+    """What the program says of a text with `--explain`, behind its first line: each line without the text's name. The
+    text is one of the words, or else the last one."""
+    program = program_path()
     null, pipe = subprocess.DEVNULL, subprocess.PIPE
     try:
-        asked = subprocess.run([program, *words, path, "--explain"], stdin=null, stdout=null, stderr=pipe, check=False)
+        asked = subprocess.run([program, *words, *([] if path in words else [path]), "--explain"], stdin=null, stdout=null, stderr=pipe, check=False)
     except OSError as fault:
         raise Refusal(f"cannot run {program}: {fault.strerror or fault}") from None
     lines = asked.stderr.decode("utf-8", "replace").split("\n")

@@ -124,7 +124,7 @@ def parsed(tokens: List[str]) -> object:
     if token == "nil":
         return None
     if re.fullmatch("[0-9]+", token):
-        return int(token)
+        return int(token) if len(token) <= 20 else MASK + 1
     if token[:1] == ":":
         return token[1:]
     raise BadLine("a string is no word of a memory" if token[:1] == '"' else f"`{token}` is not understood")
@@ -135,11 +135,14 @@ def record_of(text: str) -> Dict[str, object]:
     if re.match(r'\{\s*"', text):
         try:
             found = json.loads(text)
-        except ValueError:
+        except (ValueError, RecursionError):
             raise BadLine("it is no JSON") from None
     else:
         tokens = TOKEN.findall(text)
-        found = parsed(tokens)
+        try:
+            found = parsed(tokens)
+        except RecursionError:
+            raise BadLine("its brackets lie too deep in each other") from None
         if tokens:
             raise BadLine("something stands behind the map")
     if not isinstance(found, dict) or any(it not in found for it in ("process", "type", "f", "value")):

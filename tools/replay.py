@@ -1,4 +1,4 @@
-"""Replays a schedule on a machine in plain Python, flit by flit, after the tables of docs/FORMATS.md.
+"""Replays a schedule on a machine in plain Python, flit by flit, after the tables of docs/NETWORK-FORMATS.md.
 
 It reads texts that `torusmem steps` has accepted, and its events are compared with those of the report that
 `torusmem steps` prints of the same texts. So what a tool tells of channels is told of the proved run.
@@ -571,9 +571,12 @@ def add_words(parser: command.Parser) -> None:
 
 def read(given: argparse.Namespace) -> Texts:
     """The run of the texts that the command line names, which `torusmem steps` accepts."""
+    if [given.machine, given.script, given.schedule].count("-") > 1:
+        raise command.WrongWords("- is given twice, and there is one standard input")
     machine, script = (command.contents(it) for it in (given.machine, given.script))
     steps = command.contents(given.schedule, MOST_BYTES)
     with command.kept(machine) as first, command.kept(script) as second, command.kept(steps) as third:
-        printed = command.torusmem("steps", first, second, third, fine=(0, 3))
+        texts = {first: given.machine, second: given.script, third: given.schedule}
+        printed = command.torusmem_on(texts, "steps", *texts, fine=(0, 3))
     found = report.parsed(printed.encode("utf-8"), "the report of `torusmem steps`")
     return Texts(case_of(machine, script), schedule_of(steps), found)

@@ -80,7 +80,7 @@ def reply_of(kind: str, word: str) -> int | None:
     """The reply of an operation."""
     if (kind == "store") != (word == "ok"):
         raise BadLine("the reply is `ok` for a store, and a number for every other operation")
-    return report.reply(word)
+    return report.number(word, 0, MASK, "the reply") if word != "ok" else None
 
 
 def entry_of(fields: list[str], limits: Limits) -> Entry | None:

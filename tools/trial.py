@@ -51,7 +51,10 @@ class Outcome:
 
 
 def built_torusmem() -> str:
-    """The program: that of the variable TORUSMEM, or of this folder, which is built first where that is to be done."""
+    """The program: that of the variable TORUSMEM, the kept look where TORUSMEM_UNPROVED is 1, or that of this folder, which is
+    built first where that is to be done."""
+    if command.is_unproved():
+        return command.kept_look()
     named = os.environ.get("TORUSMEM")
     here = os.path.join(command.ROOT, "torusmem")
     if named or not os.path.isdir(os.path.join(command.ROOT, "crates")):

@@ -1,23 +1,37 @@
 """Makes what pip installs of this folder (PEP 517 and 660), by the standard library alone: so `pip install` needs no
-other package, and no network. What it says of the package comes from pyproject.toml."""
+other package, and no network. What it says of the package comes from pyproject.toml. With `-C library=FILE` the wheel has
+that shared library in it, and is for Linux on x86-64. The same sources make the same bytes: the time of each file is
+SOURCE_DATE_EPOCH, or 1980."""
 
 from __future__ import annotations
 
 import base64
+import gzip
 import hashlib
+import io
 import os
 import re
 import tarfile
+import time
 import zipfile
-from typing import Any, Dict, Optional
+from typing import Any, Dict, Optional, Union
 
 HERE = os.path.dirname(os.path.realpath(__file__))
 FILES = ["torusmem/__init__.py", "torusmem/_library.py", "torusmem/py.typed"]
+LICENSES = ["LICENSE-APACHE", "LICENSE-MIT"]
+# A zip has no earlier time.
+EPOCH = max(int(os.environ.get("SOURCE_DATE_EPOCH") or 0), 315532800)
 
 
 def read(name: str) -> str:
     with open(os.path.join(HERE, name), encoding="utf-8") as file:
         return file.read()
+
+
+def license_text(name: str) -> str:
+    """A licence, of this folder, or of the repository that it lies in."""
+    is_here = os.path.exists(os.path.join(HERE, name))
+    return read(name if is_here else os.path.join("..", "..", name))
 
 
 PROJECT = dict(re.findall(r'(?m)^([a-z-]+) = "(.*)"$', read("pyproject.toml")))
@@ -27,31 +41,50 @@ METADATA = f"""Metadata-Version: 2.1
 Name: {NAME}
 Version: {VERSION}
 Summary: {PROJECT["description"]}
+Author: the torusmem authors
 Requires-Python: {PROJECT["requires-python"]}
 License: MIT OR Apache-2.0
+License-File: LICENSE-APACHE
+License-File: LICENSE-MIT
+Classifier: Operating System :: POSIX :: Linux
+Classifier: Programming Language :: Python :: 3
+Classifier: Typing :: Typed
 Description-Content-Type: text/markdown
 
 {read("README.md")}"""
-WHEEL = "Wheel-Version: 1.0\nGenerator: torusmem\nRoot-Is-Purelib: true\nTag: py3-none-any\n"
 
 
-def wheel(folder: str, texts: Dict[str, str]) -> str:
+def wheel(folder: str, texts: Dict[str, Union[str, bytes]], platform: str = "any") -> str:
     """Writes the wheel of these files, and answers its name."""
-    texts = {**texts, f"{INFO}/METADATA": METADATA, f"{INFO}/WHEEL": WHEEL}
+    is_pure, tag = str(platform == "any").lower(), f"py3-none-{platform}"
+    said = f"Wheel-Version: 1.0\nGenerator: torusmem\nRoot-Is-Purelib: {is_pure}\nTag: {tag}\n"
+    licenses = {f"{INFO}/{it}": license_text(it) for it in LICENSES}
+    texts = {**texts, **licenses, f"{INFO}/METADATA": METADATA, f"{INFO}/WHEEL": said}
+    made = {path: it.encode() if isinstance(it, str) else it for path, it in texts.items()}
     record = ""
-    for path, text in texts.items():
-        digest = base64.urlsafe_b64encode(hashlib.sha256(text.encode()).digest()).rstrip(b"=").decode()
-        record += f"{path},sha256={digest},{len(text.encode())}\n"
-    texts[f"{INFO}/RECORD"] = record + f"{INFO}/RECORD,,\n"
-    name = f"{NAME}-{VERSION}-py3-none-any.whl"
-    with zipfile.ZipFile(os.path.join(folder, name), "w", zipfile.ZIP_DEFLATED) as file:
-        for path, text in texts.items():
-            file.writestr(path, text)
+    for path, text in made.items():
+        digest = base64.urlsafe_b64encode(hashlib.sha256(text).digest()).rstrip(b"=").decode()
+        record += f"{path},sha256={digest},{len(text)}\n"
+    made[f"{INFO}/RECORD"] = (record + f"{INFO}/RECORD,,\n").encode()
+    name = f"{NAME}-{VERSION}-{tag}.whl"
+    with zipfile.ZipFile(os.path.join(folder, name), "w") as file:
+        for path, text in made.items():
+            entry = zipfile.ZipInfo(path, time.gmtime(EPOCH)[:6])
+            entry.external_attr = (0o100755 if ".so." in path else 0o100644) << 16
+            entry.compress_type = zipfile.ZIP_DEFLATED
+            file.writestr(entry, text)
     return name
 
 
 def build_wheel(folder: str, config_settings: Any = None, metadata_directory: Optional[str] = None) -> str:
-    return wheel(folder, {path: read(path) for path in FILES})
+    files: Dict[str, Union[str, bytes]] = {path: read(path) for path in FILES}
+    library = (config_settings or {}).get("library")
+    if library is None:
+        return wheel(folder, files)
+    soname = re.findall(r'(?m)^SONAME = "(.*)"$', read("torusmem/_library.py"))[0]
+    with open(library, "rb") as file:
+        files[f"torusmem/{soname}"] = file.read()
+    return wheel(folder, files, "linux_x86_64")
 
 
 def build_editable(folder: str, config_settings: Any = None, metadata_directory: Optional[str] = None) -> str:
@@ -60,7 +93,12 @@ def build_editable(folder: str, config_settings: Any = None, metadata_directory:
 
 def build_sdist(folder: str, config_settings: Any = None) -> str:
     base = f"{NAME}-{VERSION}"
-    with tarfile.open(os.path.join(folder, f"{base}.tar.gz"), "w:gz") as file:
-        for path in [*FILES, "pyproject.toml", "backend.py", "README.md"]:
-            file.add(os.path.join(HERE, path), f"{base}/{path}")
+    texts = {it: read(it) for it in [*FILES, "pyproject.toml", "backend.py", "README.md"]}
+    texts.update({it: license_text(it) for it in LICENSES}, **{"PKG-INFO": METADATA})
+    with open(os.path.join(folder, f"{base}.tar.gz"), "wb") as out, gzip.GzipFile("", "wb", 9, out, EPOCH) as packed:
+        with tarfile.open(fileobj=packed, mode="w", format=tarfile.GNU_FORMAT) as file:
+            for path, text in texts.items():
+                entry = tarfile.TarInfo(f"{base}/{path}")
+                entry.size, entry.mtime, entry.mode = len(text.encode()), EPOCH, 0o644
+                file.addfile(entry, io.BytesIO(text.encode()))
     return f"{base}.tar.gz"

@@ -157,8 +157,9 @@ def find() -> Library:
         except (OSError, AttributeError) as why:
             tried.append(str(why))
     raise LibraryNotFound(
-        "no shared library of torusmem was found: `make install` in its repository makes one, "
-        "and the variable TORUSMEM_SO names one that stands elsewhere. Tried:\n  " + "\n  ".join(tried)
+        "no shared library of torusmem was found. In its repository `./torusmem --library` proves and builds the library, "
+        "and `make install-lib PREFIX=$HOME/.local` installs it where this package looks; "
+        "the variable TORUSMEM_SO names one that stands elsewhere. Tried:\n  " + "\n  ".join(tried)
     )
 
 

@@ -1,0 +1,22 @@
+# Completions of fish for torusmem and torusmem-tools.
+
+set -l commands steps round run live schedule draw route channels check network linearize help
+
+complete -c torusmem -n "not __fish_seen_subcommand_from $commands" -f -a "$commands"
+complete -c torusmem -n "not __fish_seen_subcommand_from $commands" -f -l version -d "the version"
+complete -c torusmem -n "__fish_seen_subcommand_from help" -f -a "$commands"
+complete -c torusmem -n "not __fish_seen_subcommand_from help" -l help -d "the help"
+complete -c torusmem -n "__fish_seen_subcommand_from $commands; and not __fish_seen_subcommand_from help" -l explain -d "why a text is refused"
+complete -c torusmem -n "__fish_seen_subcommand_from steps" -l moves -d "the steps that move"
+complete -c torusmem -n "__fish_seen_subcommand_from round schedule" -x -l rounds -d "the most rounds"
+complete -c torusmem -n "__fish_seen_subcommand_from draw" -x -l seed -d "what draws the moves"
+complete -c torusmem -n "__fish_seen_subcommand_from draw" -x -l steps -d "the most moves"
+complete -c torusmem -n "__fish_seen_subcommand_from run" -x -l workers -d "how many threads"
+complete -c torusmem -n "__fish_seen_subcommand_from run" -x -l turns -d "the most turns of a thread"
+complete -c torusmem -n "__fish_seen_subcommand_from route" -l reply -d "the route of a reply"
+complete -c torusmem -n "__fish_seen_subcommand_from linearize" -x -l configurations -d "the most configurations of a word"
+complete -c torusmem -n "__fish_seen_subcommand_from linearize" -l report -d "print a report"
+
+complete -c torusmem-tools -n "__fish_is_first_arg" -f -a "(torusmem-tools --help 2>/dev/null | string replace -rf '^  ([a-z_]+) .*' '\$1')"
+complete -c torusmem-tools -n "__fish_is_first_arg" -f -l help -d "the tools"
+complete -c torusmem-tools -n "__fish_is_first_arg" -f -l version -d "the version"

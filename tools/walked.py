@@ -1,0 +1,191 @@
+"""The networks of tools/network: their text, read and written, and the verdict by a plain walk over it."""
+from __future__ import annotations
+
+from collections import deque
+from dataclasses import dataclass, field
+from typing import Dict, List, Optional, Set, Tuple
+
+from command import Refusal
+
+Place = Tuple[float, float]
+# What `torusmem network` takes at most.
+MOST_CHANNELS, MOST_EJECTIONS, MOST_PAIRS = 16384, 1024, 1048576
+
+
+@dataclass
+class Network:
+    """Channels with their kinds, pairs, choices and replies, and where each channel is drawn."""
+
+    kinds: List[str] = field(default_factory=list)
+    joins: List[Tuple[int, int]] = field(default_factory=list)
+    choices: Dict[Tuple[int, int], int] = field(default_factory=dict)
+    replies: List[Tuple[int, int]] = field(default_factory=list)
+    places: Dict[int, Tuple[Place, Place]] = field(default_factory=dict)
+    ejections: int = 0
+
+    def channel(self, kind: str, tail: Optional[Place] = None, head: Optional[Place] = None) -> int:
+        """A new channel."""
+        self.kinds.append(kind)
+        number = len(self.kinds) - 1
+        self.ejections += kind == "eject"
+        if number == MOST_CHANNELS or self.ejections > MOST_EJECTIONS:
+            raise Refusal(f"the network has more than {MOST_CHANNELS} channels, or {MOST_EJECTIONS} ejection channels")
+        if tail is not None and head is not None:
+            self.places[number] = (tail, head)
+        return number
+
+    def route(self, channels: List[int]) -> None:
+        """A pair and the choices along its route."""
+        self.joins.append((channels[0], channels[-1]))
+        for x, y in zip(channels, channels[1:]):
+            if self.choices.setdefault((x, channels[-1]), y) != y:
+                raise Refusal(f"two choices behind channel {x} for packets to channel {channels[-1]}")
+
+    def text(self) -> str:
+        """The text of the network."""
+        lines = [f"channels {len(self.kinds)}"]
+        lines += [f"{kind} {x}" for x, kind in enumerate(self.kinds) if kind != "hop"]
+        lines += [f"join {i} {j}" for i, j in self.joins]
+        lines += [f"next {x} {j} {y}" for (x, j), y in sorted(self.choices.items())]
+        lines += [f"reply {x} {y}" for x, y in self.replies]
+        return "\n".join(lines) + "\n"
+
+
+def number_of(word: str) -> int:
+    """The number that a word spells, or -1. None is greater than 64 bits have room for."""
+    return int(word) if word.isascii() and word.isdigit() and len(word) <= 20 else -1
+
+
+SHAPES = {"channels": 1, "inject": 1, "eject": 1, "join": 2, "next": 3, "reply": 2}
+
+
+class Reader:
+    """Takes the lines of a text, as `torusmem network` does. A line that it refuses raises a ValueError that says why."""
+
+    def __init__(self) -> None:
+        self.net = Network()
+        self.given: Set[Tuple[str, ...]] = set()
+
+    def take(self, kind: str, numbers: List[int]) -> None:
+        """Takes a line."""
+        if SHAPES.get(kind) != len(numbers) or min(numbers) < 0:
+            raise ValueError("no line of a network begins so, or it hasn't so many numbers")
+        if (kind == "channels") == bool(self.net.kinds):
+            raise ValueError("`channels` is the first line, and stands once")
+        if kind == "channels":
+            self.net.kinds = ["hop"] * self.below(numbers[0] - 1, MOST_CHANNELS, "the number of channels")
+            self.net.kinds.append("hop")
+            return
+        for it in numbers:
+            self.below(it, len(self.net.kinds), "the channel")
+        getattr(self, kind)(*numbers)
+
+    def below(self, number: int, most: int, what: str) -> int:
+        if not 0 <= number < most:
+            raise ValueError(f"{what} is out of range")
+        return number
+
+    def once(self, *what: object) -> None:
+        """Refuses what was said before."""
+        key = tuple(map(str, what))
+        if key in self.given:
+            raise ValueError(f"it is given already: {' '.join(key)}")
+        self.given.add(key)
+
+    def inject(self, x: int) -> None:
+        self.once("the kind of channel", x)
+        self.net.kinds[x] = "inject"
+
+    def eject(self, x: int) -> None:
+        if self.net.choices:
+            raise ValueError("`eject` stands ahead of each `next`")
+        self.once("the kind of channel", x)
+        self.net.kinds[x] = "eject"
+        self.net.ejections += 1
+        self.below(self.net.ejections - 1, MOST_EJECTIONS, "the number of ejection channels")
+
+    def join(self, i: int, j: int) -> None:
+        self.net.joins.append((i, j))
+        self.below(len(self.net.joins) - 1, MOST_PAIRS, "the number of `join` lines")
+
+    def next(self, x: int, j: int, y: int) -> None:
+        if self.net.kinds[j] != "eject":
+            raise ValueError(f"channel {j} is no ejection channel")
+        if (x, j) in self.net.choices:
+            raise ValueError(f"the choice behind channel {x} for packets to channel {j} is given already")
+        self.net.choices[x, j] = y
+
+    def reply(self, x: int, y: int) -> None:
+        if (self.net.kinds[x], self.net.kinds[y]) != ("eject", "inject"):
+            raise ValueError("a reply goes from an ejection channel to an injection channel")
+        self.once("reply", x, y)
+        self.net.replies.append((x, y))
+
+
+def parsed(text: str, path: str) -> Network:
+    """The network of a text. Refused with the first line that `torusmem network` refuses."""
+    reader, number = Reader(), 0
+    for number, line in enumerate(text.split("\n"), 1):
+        words = line.split()
+        if words and not words[0].startswith("#"):
+            try:
+                reader.take(words[0], [number_of(word) for word in words[1:]])
+            except ValueError as why:
+                raise Refusal(f"{path}, line {number}: {why}") from None
+    if not reader.net.kinds:
+        raise Refusal(f"{path}: there is no line `channels`")
+    return reader.net
+
+
+def judged(net: Network) -> Tuple[str, Dict[Tuple[int, int], str]]:
+    """The verdict's kind by a plain walk, and the dependencies with how each leads on."""
+    edges = {(x, y): "" for x, y in net.replies}
+    for i, j in net.joins:
+        x, steps = i, 0
+        if net.kinds[i] != "inject" or net.kinds[j] != "eject":
+            return f"no route {i} {j}", edges
+        while x != j:
+            y = net.choices.get((x, j))
+            steps += 1
+            if y is None or y >= len(net.kinds) or (y != j and net.kinds[y] != "hop") or steps > len(net.kinds):
+                return f"no route {i} {j}", edges
+            edges.setdefault((x, y), str(j))
+            x = y
+    return ("rising" if numbers(net, edges) is not None else "cycle"), edges
+
+
+def numbers(net: Network, edges: Dict[Tuple[int, int], str]) -> Optional[List[int]]:
+    """Numbers that rise along all dependencies, or none where there is a cycle."""
+    after: Dict[int, List[int]] = {}
+    before = [0] * len(net.kinds)
+    for x, y in edges:
+        after.setdefault(x, []).append(y)
+        before[y] += 1
+    ready = deque(x for x in range(len(net.kinds)) if before[x] == 0)
+    found, count = [0] * len(net.kinds), 0
+    while ready:
+        x = ready.popleft()
+        found[x], count = count, count + 1
+        for y in after.get(x, []):
+            before[y] -= 1
+            if before[y] == 0:
+                ready.append(y)
+    return found if count == len(net.kinds) else None
+
+
+def cycle(edges: Dict[Tuple[int, int], str]) -> List[int]:
+    """The channels of a cycle; there is one."""
+    after: Dict[int, List[int]] = {}
+    for x, y in edges:
+        after.setdefault(x, []).append(y)
+    alive = {x for edge in edges for x in edge}
+    while True:
+        dead = {x for x in alive if not any(y in alive for y in after.get(x, []))}
+        if not dead:
+            break
+        alive -= dead
+    x, path = min(alive), []
+    while x not in path:
+        path.append(x)
+        x = next(y for y in sorted(after[x]) if y in alive)
+    return path[path.index(x):]
