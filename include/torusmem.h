@@ -2,32 +2,32 @@
 
    A machine is made from the texts that the program `torusmem` reads (docs/FORMATS.md), then stepped, looked at and
    freed. Each call is a function with a contract, and proved (docs/PROVED.md, "torusmem_c: the library for C").
-   Nothing here prints, ends the process or starts a thread, and each call ends.
+   No call prints, ends the process or starts a thread, and each call returns.
 
-   MEMORY. torusmem_load takes what the machine needs, torusmem_append and torusmem_ask what a further line needs, and
-   torusmem_free gives all of it back; torusmem_report, torusmem_check, torusmem_explain, torusmem_spins_out,
-   torusmem_network and torusmem_linearize take some, and give all of it back before they return. torusmem_watch_begin
-   takes what a watch needs at first, torusmem_watch_issue and torusmem_watch_answer take and give back what follows the
-   open operations, and torusmem_watch_end gives all of it back. No other call takes any.
+   MEMORY. torusmem_load allocates what the machine needs, torusmem_append and torusmem_ask what a further line needs,
+   and torusmem_free frees all of it. torusmem_report, torusmem_check, torusmem_explain, torusmem_spins_out,
+   torusmem_network and torusmem_linearize free what they allocate before they return. torusmem_watch_begin allocates
+   what a watch needs at first, torusmem_watch_issue and torusmem_watch_answer allocate and free as operations open and
+   end, and torusmem_watch_end frees all of it. No other call allocates.
 
-   Link libtorusmem_c.a and torusmem_heap.c; or what `make install` makes of them, libtorusmem.so or libtorusmem.a, as
-   `pkg-config --cflags --libs torusmem` says. In both of these are the three functions of torusmem_heap.c; those that a
-   program defines itself come before those of libtorusmem.a.
+   LINKING. Link libtorusmem_c.a and torusmem_heap.c; or what `make install` makes of them, libtorusmem.so or
+   libtorusmem.a, as `pkg-config --cflags --libs torusmem` says. Both of these contain the three functions of
+   torusmem_heap.c. A program that defines these three itself uses its own with libtorusmem.a.
 
-   WHAT THE CALLER OWES. Nothing checks it, and without it nothing that is said here holds.
-   - Each `m` points to a torusmem_machine that was begun by TORUSMEM_MACHINE_INIT and since then changed by calls of
-     this library alone. Its bytes may move, if they are not used in the old place again; they are never doubled. So it
-     is with each `w`, a torusmem_watch that was begun by TORUSMEM_WATCH_INIT.
-   - Each pointer that comes with a length points to that many readable bytes or items. Where the length is 0 it may be
-     any, also null. Texts, attempts, events and opening words are only read, and may overlap or be one and the same;
-     what `out` points to is writable. None of them has a byte of the machine or watch.
-   - One call at a time for each machine and watch, and all calls for it from one thread. They share nothing.
-   - malloc, realloc and free, which torusmem_heap.c calls, are of one allocator and align each block to every power of
-     two up to 16 that divides its size. No call comes from a signal handler, nor in the child that a process with
+   WHAT THE CALLER MUST ENSURE. Nothing checks it, and without it nothing that is said here holds.
+   - Each `m` points to a torusmem_machine that was initialized by TORUSMEM_MACHINE_INIT and then changed by calls of
+     this library alone. Its bytes may be moved, if the old place is not used again; they are never copied. The same
+     holds for each `w`, a torusmem_watch that was initialized by TORUSMEM_WATCH_INIT.
+   - Each pointer that comes with a length points to that many readable bytes or items. Where the length is 0 the
+     pointer may be anything, also null. Texts, attempts, events and opening words are only read, and may overlap;
+     what `out` points to is writable. None of them contains a byte of the machine or watch.
+   - One call at a time for each machine and watch, and all calls for it from one thread. Machines share nothing.
+   - malloc, realloc and free, which torusmem_heap.c calls, belong to one allocator and align each block to every power
+     of two up to 16 that divides its size. No call comes from a signal handler, or in the child that a process with
      threads forked.
    - Some kilobytes of stack are free at each call.
 
-   All calls take the machine by a pointer to one that isn't const, also those that change nothing of it. */
+   All calls take the machine by a pointer that is not const, also those that change nothing. */
 #ifndef TORUSMEM_H
 #define TORUSMEM_H
 #define TORUSMEM_VERSION "0.1.0"
@@ -38,8 +38,8 @@
 extern "C" {
 #endif
 
-/* Room for a machine. It is the caller's, on the stack, in a struct or wherever: begun by TORUSMEM_MACHINE_INIT (all
-   zeros), then changed by calls alone. What it holds is let go by torusmem_free, and only so. */
+/* Room for a machine. It belongs to the caller, on the stack, in a struct or elsewhere: initialized by
+   TORUSMEM_MACHINE_INIT (all zeros), then changed by calls alone. Only torusmem_free frees what it holds. */
 typedef struct torusmem_machine {
   bool full;
   void *at;
@@ -59,18 +59,18 @@ enum {
      value is 0. */
   TORUSMEM_FAULT_MEMORY = 12,
   TORUSMEM_BAD_REPORT = 15, /* value: the first bad line, from 1 */
-  TORUSMEM_EMPTY = 16,      /* no machine is held: none was loaded, or it was freed; or no watch is */
-  TORUSMEM_FULL = 17,       /* a machine is held already: free it first; or a watch is: end it first */
+  TORUSMEM_EMPTY = 16,      /* there is no machine: none was loaded, or it was freed; or there is no watch */
+  TORUSMEM_FULL = 17,       /* there is a machine already: free it first; or a watch: end it first */
   TORUSMEM_NONE = 18,       /* there is no such tile, address, place or index */
-  TORUSMEM_SHORT = 19,      /* the buffer is too short; value: how long it has to be */
+  TORUSMEM_SHORT = 19,      /* the buffer is too short; value: the length that is needed */
   TORUSMEM_NO_ROUTE = 20,   /* a pair of a network has no route; value: the length of the verdict's text */
-  TORUSMEM_CYCLE = 21,      /* a network can lock up: there is a cycle; value: the length of the verdict's text */
+  TORUSMEM_CYCLE = 21,      /* the channels of a network have a cycle; value: the length of the verdict's text */
   /* Of a trace; value: the event, from 0; of a watch, which is given one event at a time: 0. */
   TORUSMEM_NOT_LINEARIZABLE = 22, /* no order explains it up to this event */
-  TORUSMEM_TOO_MANY = 23, /* it isn't decided: at this answer a word has more configurations than were allowed */
-  TORUSMEM_TOO_OPEN = 24, /* it isn't decided: at this issue 64 other operations are open on its word */
-  TORUSMEM_BEHIND_SPIN = 25, /* the script has a spin, so that the index of what is asked behind it isn't known */
-  TORUSMEM_NOT_YET = 26      /* the operation isn't answered yet */
+  TORUSMEM_TOO_MANY = 23, /* undecided: at this answer a word has more configurations than were allowed */
+  TORUSMEM_TOO_OPEN = 24, /* undecided: at this issue 64 other operations are open on its word */
+  TORUSMEM_BEHIND_SPIN = 25, /* the script has a spin, so the index of an operation behind it is not known */
+  TORUSMEM_NOT_YET = 26      /* the operation is not answered yet */
 };
 
 /* Choices of agents. Tile t has the agents 3t, its processor; 3t + 1, its router; and 3t + 2, its bank. */
@@ -139,7 +139,7 @@ void torusmem_free(torusmem_machine *m);
 /* Attempts one choice of one agent: at most one operation on one word of the machine's row.
    OK, value 1: it was enabled and is made. OK, value 0: it was not enabled, and nothing has changed; so it is for an
    agent or a choice that there isn't, and for a choice that the agent doesn't have. EMPTY.
-   number: that of the router's input for TAKE_FROM and PUT, of its output for CREDIT_OF (docs/FORMATS.md, "Channels
+   number: that of the router's input for TAKE_FROM and PUT, of its output for CREDIT_OF (docs/NETWORK-FORMATS.md, "Channels
    and ports"); not looked at for other choices. */
 torusmem_outcome torusmem_step(torusmem_machine *m, uint32_t agent, uint32_t choice, uint32_t number);
 
@@ -192,7 +192,7 @@ torusmem_outcome torusmem_ask(torusmem_machine *m, uint32_t processor, uint32_t 
 /* Whether every script is finished. OK, value 1 or 0; EMPTY. */
 torusmem_outcome torusmem_finished(torusmem_machine *m);
 
-/* How many moves the scripts still allow; no steps make more. OK, value: the number; EMPTY. */
+/* At most how many moves are left: no steps make more than this. OK, value: the number; EMPTY. */
 torusmem_outcome torusmem_moves_left(torusmem_machine *m);
 
 /* The number of tiles, 2 to 64, and of words, 1 to 65536. OK, value: the number; EMPTY. */
@@ -294,7 +294,7 @@ typedef struct torusmem_channel {
 torusmem_outcome torusmem_route(torusmem_machine *m, uint32_t src, uint32_t dst, uint32_t reply,
                                 torusmem_channel *out, size_t out_length);
 
-/* The way on of a packet for tile dst that came to tile at by this input of its router (docs/FORMATS.md, "Channels and
+/* The way on of a packet for tile dst that came to tile at by this input of its router (docs/NETWORK-FORMATS.md, "Channels and
    ports"). OK, value: the number of the router's output; NONE: no such tile or input; EMPTY. */
 torusmem_outcome torusmem_next(torusmem_machine *m, uint32_t at, uint32_t input, uint32_t dst);
 

@@ -75,5 +75,5 @@ pub(crate) fn seed<'a>(alloc: Global) -> Arg<'a>
         .long("seed")
         .required(true)
         .value_parser(ValueParser::Unsigned(0, 18446744073709551615))
-        .help("The seed of the draws, 0 to 18446744073709551615")
+        .help("The random seed, 0 to 18446744073709551615")
 }

@@ -15,8 +15,8 @@ fn running<'a>(alloc: Global) -> Making<'a>
     let about = "Runs in rounds until every script is finished, and prints the report";
     let command = with_subcommand(command, in_rounds(alloc, "round", about));
     let command = with_subcommand(command, run(alloc));
-    let about = "Does what lines on standard input ask for, and answers line by line";
-    let live = of_one_file(alloc, "live", about, "MACHINE", "The file of the machine");
+    let about = "Reads requests from standard input, and answers them line by line";
+    let live = of_one_file(alloc, "live", about, "MACHINE", "The file with the machine");
     with_subcommand(command, live)
 }
 
@@ -30,7 +30,7 @@ fn routing<'a>(alloc: Global) -> Making<'a>
     let command = with_subcommand(command, draw(alloc));
     let command = with_subcommand(command, route(alloc));
     let about = "Prints the number of each channel, and checks that they rise along every route";
-    let machine = "The file of the machine";
+    let machine = "The file with the machine";
     let channels = of_one_file(alloc, "channels", about, "MACHINE", machine);
     with_subcommand(command, channels)
 }
@@ -41,15 +41,15 @@ pub(crate) fn command<'a>(alloc: Global) -> Making<'a>
 {
     let command = routing(alloc);
     let about = "Checks a report";
-    let check = of_one_file(alloc, "check", about, "REPORT", "The file of the report");
+    let check = of_one_file(alloc, "check", about, "REPORT", "The file with the report");
     let command = with_subcommand(command, check);
-    let about = "Judges a network: whether it can lock up, and where";
+    let about = "Judges a network: rising channel numbers, a pair without a route, or a cycle";
     let network = of_one_file(
         alloc,
         "network",
         about,
         "NETWORK",
-        "The file of the network",
+        "The file with the network",
     );
     let command = with_subcommand(command, network);
     with_subcommand(command, linearize(alloc))

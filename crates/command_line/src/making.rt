@@ -69,7 +69,7 @@ pub(crate) fn with_explain<'a>(alloc: Global, command: Making<'a>) -> Making<'a>
     ensures { (app : App) → IsCommand app command.entry
         → IsCommand (with_rule app explain) result }
 {
-    let help = "Says more of what is wrong, on further lines";
+    let help = "Explains what is wrong, or how a run ended, on further lines";
     with_argument(command, flag(alloc, "explain", help))
 }
 
@@ -78,6 +78,6 @@ pub(crate) fn loading<'a>(alloc: Global, name: &'a str, about: &'a str) -> Makin
     ensures { IsCommand (loading_app name.entry.now) result }
 {
     let command = named(alloc, name, about);
-    let command = with_argument(command, file(alloc, "MACHINE", "The file of the machine"));
-    with_argument(command, file(alloc, "SCRIPT", "The file of the scripts"))
+    let command = with_argument(command, file(alloc, "MACHINE", "The file with the machine"));
+    with_argument(command, file(alloc, "SCRIPT", "The file with the scripts"))
 }

@@ -16,8 +16,8 @@ pub(crate) fn steps<'a>(alloc: Global) -> Making<'a>
 {
     let about = "Runs the listed steps and prints the report";
     let command = loading(alloc, "steps", about);
-    let command = with_argument(command, file(alloc, "STEPS", "The file of the steps"));
-    let help = "Prints the steps that move, and not the report";
+    let command = with_argument(command, file(alloc, "STEPS", "The file with the steps"));
+    let help = "Prints the steps that moved, not the report";
     let command = with_argument(command, flag(alloc, "moves", help));
     with_explain(alloc, command)
 }
@@ -28,7 +28,7 @@ pub(crate) fn in_rounds<'a>(alloc: Global, name: &'a str, about: &'a str) -> Mak
         (with_rule (with_rule (loading_app name.entry.now) rounds) explain) result }
 {
     let command = loading(alloc, name, about);
-    let help = "The most rounds, 1 to 1000000";
+    let help = "At most this many rounds, 1 to 1000000";
     let numbers = ValueParser::Signed(1, 1000000);
     let command = with_argument(command, count(alloc, "rounds", numbers, "1000000", help));
     with_explain(alloc, command)
@@ -37,12 +37,12 @@ pub(crate) fn in_rounds<'a>(alloc: Global, name: &'a str, about: &'a str) -> Mak
 pub(crate) fn run<'a>(alloc: Global) -> Making<'a>
     ensures { IsCommand run_app result }
 {
-    let about = "Runs by workers in threads until every script is finished, and prints the report";
+    let about = "Runs in threads until every script is finished, and prints the report";
     let command = loading(alloc, "run", about);
-    let help = "How many workers share the tiles, 1 to 16";
+    let help = "The number of worker threads, 1 to 16";
     let numbers = ValueParser::Signed(1, 16);
     let command = with_argument(command, count(alloc, "workers", numbers, "1", help));
-    let help = "The most turns of a worker, 1 to 1000000000";
+    let help = "At most this many turns each, 1 to 1000000000";
     let numbers = ValueParser::Signed(1, 1000000000);
     let command = with_argument(command, count(alloc, "turns", numbers, "1000000000", help));
     with_explain(alloc, command)
@@ -51,10 +51,10 @@ pub(crate) fn run<'a>(alloc: Global) -> Making<'a>
 pub(crate) fn draw<'a>(alloc: Global) -> Making<'a>
     ensures { IsCommand draw_app result }
 {
-    let about = "Draws the moves of a run until every script is finished, and prints them as steps";
+    let about = "Makes random moves until every script is finished, and prints them as steps";
     let command = loading(alloc, "draw", about);
     let command = with_argument(command, seed(alloc));
-    let help = "The most moves, 0 to 18446744073709551615; no limit if not given";
+    let help = "At most this many moves, 0 to 18446744073709551615; no limit by default";
     let command = with_argument(command, long_number(alloc, "steps", help));
     with_explain(alloc, command)
 }
@@ -64,10 +64,10 @@ pub(crate) fn route<'a>(alloc: Global) -> Making<'a>
 {
     let about = "Prints the channels of a route and their numbers";
     let command = named(alloc, "route", about);
-    let command = with_argument(command, file(alloc, "MACHINE", "The file of the machine"));
+    let command = with_argument(command, file(alloc, "MACHINE", "The file with the machine"));
     let command = with_argument(command, tile(alloc, "SRC", "The tile that sends"));
     let command = with_argument(command, tile(alloc, "DST", "The tile that receives"));
-    let help = "The route of a reply, and not of a request";
+    let help = "The route of a reply, not of a request";
     let command = with_argument(command, flag(alloc, "reply", help));
     with_explain(alloc, command)
 }
@@ -91,16 +91,16 @@ pub(crate) fn of_one_file<'a>(
 pub(crate) fn linearize<'a>(alloc: Global) -> Making<'a>
     ensures { IsCommand linearize_app result }
 {
-    let about = "Finds the one order of a trace, or says that there is none";
+    let about = "Judges a trace: an order that explains it, no such order, or undecided";
     let command = named(alloc, "linearize", about);
-    let command = with_argument(command, file(alloc, "TRACE", "The file of the trace"));
-    let help = "The most configurations of a word at once, 1 to 4294967295";
+    let command = with_argument(command, file(alloc, "TRACE", "The file with the trace"));
+    let help = "At most this many configurations of a word, 1 to 4294967295";
     let numbers = ValueParser::Signed(1, 4294967295);
     let command = with_argument(
         command,
         count(alloc, "configurations", numbers, "1000000", help),
     );
-    let help = "Prints the order as a report, and not its lines";
+    let help = "Prints the order as a report";
     let command = with_argument(command, flag(alloc, "report", help));
     with_explain(alloc, command)
 }

@@ -12,13 +12,15 @@ A Machine is made of a machine text and a scripts text, then stepped, looked at 
     ...     torusmem.check(machine.report())
     True 12 17 17
 
-Texts, agents, choices, channels and reports are those of docs/FORMATS.md. Tile t has the agents 3t (its processor),
+docs/FORMATS.md has the texts and reports, docs/NETWORK-FORMATS.md the channels and choices.
+
+Tile t has the agents 3t (its processor),
 3t + 1 (its router) and 3t + 2 (its bank). What refuses a text or a report is an exception with the file, the line and
 the reason: TextFault, BadReport.
 
-network() judges any network that is written down: whether its packets arrive, and whether it can lock up. linearize()
-finds the one order that explains a trace of calls and answers, or the event from which on there is none. A Watch judges
-a trace event by event, while it goes on.
+network() judges any network that is written down, and answers numbers that rise along every route, a pair without a
+route, or a cycle. linearize() finds an order that explains a trace of calls and answers, or the event from which on there
+is none, or that the trace is undecided. A Watch judges a trace event by event, while it goes on.
 
 The library beneath is proved; this package, which only passes numbers and texts on, is tested.
 """
@@ -277,7 +279,7 @@ class Channel(NamedTuple):
 
 
 class Line(NamedTuple):
-    """A channel of the machine: its tile, its place among the channels there (docs/FORMATS.md, "Channels and ports"),
+    """A channel of the machine: its tile, its place among the channels there (docs/NETWORK-FORMATS.md, "Channels and ports"),
     and the words at its places now: flits, and 0 where none is."""
 
     tile: int
@@ -719,7 +721,7 @@ class Link(NamedTuple):
 
 
 class Cycle(NamedTuple):
-    """A network that can lock up: the channels that can wait for one another in a circle, in their order."""
+    """A network whose channels have a cycle: channels that can wait for one another in a circle, in their order."""
 
     links: Tuple[Link, ...]
 

@@ -46,8 +46,8 @@ pub enum By {
     Replies(u32),
 }
 
-/// Judges the network of a network text (docs/FORMATS.md, "Network text"): whether each pair that it joins has a route,
-/// and whether it can lock up. The faults are those of the text, and memory that is refused.
+/// Judges the network of a network text (docs/FORMATS.md, "Network text"): numbers that rise along every route, a
+/// pair without a route, or a cycle. The faults are those of the text, and memory that is refused.
 ///
 /// ```
 /// use torusmem::{network, Verdict};

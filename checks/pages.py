@@ -1,0 +1,29 @@
+"""The pages that tools/reading prints, whole or a part of them, for checks/documents."""
+import re
+import subprocess
+import sys
+
+from tree import ROOT, read
+
+PRINTED = {"docs/CONTRACTS.md": "--contracts", "docs/WORDS.md": "--words"}  # whole pages, and by which flag of tools/reading
+THEOREM, ARCHITECTURE = "docs/THEOREM.md", "docs/ARCHITECTURE.md"  # the end of the first is printed, behind a line that names the call
+TABLE = ("<!-- crates: printed by tools/reading --crates -->", "<!-- end -->")  # around the table of crates in the second
+
+
+def printed(*words):
+    """What tools/reading prints."""
+    made = subprocess.run([sys.executable, f"{ROOT}/tools/reading", *words], stdout=subprocess.PIPE, check=True)
+    return made.stdout.decode("utf-8")
+
+
+def printed_pages():
+    """Each page that a script prints, or of which it prints a part: what it must say, or why that can't be made."""
+    for path, flag in PRINTED.items():
+        yield path, printed(flag), ""
+    head, line, _ = next((it for it in re.findall(r"(?s)\A(.*?)(<!-- tools/reading (.*?) -->\n)", read(THEOREM))), ("", "", ""))
+    words = line[len("<!-- tools/reading "):-len(" -->\n")].split()
+    yield THEOREM, head + line + "\n" + (printed(*words) if words else ""), "" if words else "has no line `<!-- tools/reading .. -->`"
+    text, (first, last) = read(ARCHITECTURE), TABLE
+    good = text.count(first) == 1 and text.count(last) == 1 and text.index(first) < text.index(last)
+    before, after = (text.split(first)[0], text.split(last)[1]) if good else ("", "")
+    yield ARCHITECTURE, f"{before}{first}\n\n{printed('--crates')}\n{last}{after}", "" if good else f"has not once each of the lines `{first}` and `{last}`"
