@@ -164,7 +164,8 @@ torusmem_outcome torusmem_finish(torusmem_machine *m);
    address, one at a time, until one is answered with the first value, at most as many as the second says. */
 enum { TORUSMEM_FENCE = 10, TORUSMEM_SPIN = 11 };
 
-/* Which values of a line are `last`, the number replied to the operation just before it: add them for both. */
+/* Which values of a line are `last`, the number replied to the operation just before it: add them for both. 0 and
+   numbers above 3 say: neither. */
 enum { TORUSMEM_FIRST_IS_LAST = 1, TORUSMEM_SECOND_IS_LAST = 2 };
 
 /* Gives a processor a further line at the end of its script, at any time, before steps or after them: an operation
