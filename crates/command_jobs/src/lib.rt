@@ -1,5 +1,5 @@
-//! What the programs do with a job: how its texts are read, what it prints, and what is told of its
-//! end; and the jobs whose work stands in `commands`, from their texts to the exit status.
+//! The jobs that both programs do: reading the texts, running the command, printing its output and
+//! the end of the run, and the exit status.
 #![tactic(auto)]
 
 pub mod answering;

@@ -1,7 +1,8 @@
 use linked_list_allocator::LocalHeap;
 use live_command::{AskedMachine, converse};
-use program_fault::ProgramFault;
+use program_fault::{ProgramFault, finished, status_of};
 use std::alloc::{AllocError, Allocator, Global};
+use std::io::{self, BufReader, ErrorKind, Read};
 use std::test::Fail;
 use torus::Fault;
 
@@ -195,5 +196,75 @@ fn outputs(rt: HostRuntime) -> Result<(), Fail> {
     let ended = converse(rt.alloc(), &mut machine, &mut input, &mut out);
     assert!(rt; ended == Err(ProgramFault::Output));
     assert!(rt; input == b"".as_slice() || input == b"round\n".as_slice());
+    Ok(())
+}
+
+/// An input that gives its bytes one by one, and fails behind them.
+#[derive(Drop)]
+struct Failing {
+    rest: &'static [u8],
+}
+
+impl Read for Failing {
+    fn read(&mut self, bytes: &mut [u8]) -> io::Result<usize> {
+        match (self.rest.first(), bytes.first_mut()) {
+            (Some(next), Some(place)) => {
+                *place = *next;
+                self.rest = &self.rest[1..];
+                Ok(1)
+            }
+            (None, _) => Err(io::Error::from(ErrorKind::BrokenPipe)),
+            (_, None) => Ok(0),
+        }
+    }
+}
+
+/// Inputs that fail behind their last byte, and what they are answered before that. A line that the
+/// failure cuts is not obeyed.
+const FAILING: [(&[u8], &str); 6] = [
+    (b"", ""),
+    (b"roun", ""),
+    (b"round", ""),
+    (b"round\nround 3\n", "rounds 1\nrounds 3\n"),
+    (
+        b"ask 0 store 5 17\nwait 0 0\nask 0 load 5",
+        "asked 0 0\nanswer 0 0 ok\n",
+    ),
+    (b"round\nquit\nround\n", "rounds 1\n"),
+];
+
+/// An input that fails ends the dialogue like its end: what is answered stands, and the status is 0.
+#[test]
+fn inputs_that_fail(rt: HostRuntime) -> Result<(), Fail> {
+    for &(rest, text) in &FAILING {
+        let Ok(mut machine) = AskedMachine::load(rt.alloc(), PAIR, b"") else {
+            return Err(Fail::new("no machine"));
+        };
+        let mut input = BufReader::new(rt.alloc(), Failing { rest })?;
+        let mut out = Vec::new(rt.alloc());
+        let ended = converse(rt.alloc(), &mut machine, &mut input, &mut out);
+        assert!(rt; ended == Ok(()), "{text}");
+        assert_eq!(rt; status_of(&finished(ended)), 0);
+        assert!(rt; out.as_slice() == text.as_bytes(), "{text}");
+    }
+    Ok(())
+}
+
+/// An input that fails within a line that is too long: the line is not answered.
+#[test]
+fn an_input_that_fails_in_a_long_line(rt: HostRuntime) -> Result<(), Fail> {
+    let Ok(mut machine) = AskedMachine::load(rt.alloc(), PAIR, b"") else {
+        return Err(Fail::new("no machine"));
+    };
+    let mut input = BufReader::new(
+        rt.alloc(),
+        Failing {
+            rest: &[b'#'; 5000],
+        },
+    )?;
+    let mut out = Vec::new(rt.alloc());
+    let ended = converse(rt.alloc(), &mut machine, &mut input, &mut out);
+    assert!(rt; ended == Ok(()));
+    assert!(rt; out.is_empty());
     Ok(())
 }

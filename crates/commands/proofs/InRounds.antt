@@ -11,8 +11,13 @@ use Rattle.core_machine.specs.Machine.{Core, IsAfter, all_finished, core_after_l
 use Rattle.machine_texts.specs.machine_core.specs.Rounds.{rounds_of}
 use Rattle.machine_texts.specs.Loading.{HasLoaded}
 use Rattle.commands.specs.Run.{IsOfMachine}
-use Rattle.commands.specs.Rounds.{AreFewest, HasMadeRounds, IsRoundText, asked_rounds, is_finished_after}
+use Rattle.machine_texts.specs.Rounds.{AreFewest, after_rounds}
+use Rattle.commands.specs.Rounds.{HasMadeRounds, IsRoundText, asked_rounds}
 use Rattle.commands.proofs.Asked.{run_printed}
+
+-- whether every script is finished after so many rounds
+abbrev is_finished_after : Load → ℕ → Bool
+is_finished_after l k = all_finished (after_rounds l k).state
 
 -- so many rounds are made, and before each of them not every script was finished
 pub record HasMade (l : Load) (k : ℕ) (c : Core) : Type 0 where

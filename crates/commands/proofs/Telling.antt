@@ -10,7 +10,8 @@ use Rattle.machine_texts.specs.Loading.{HasLoaded}
 use Rattle.program_fault.specs.declared.fault.ProgramFault.{ProgramFault}
 use Rattle.program_fault.specs.declared.fault.ProgramFault.TheVariants as program
 use Rattle.program_fault.specs.Done.{Does, Output}
-use Rattle.commands.specs.Run.{Asked, HasMoved, IsNoFault, IsReadFault}
+use Rattle.program_fault.specs.Outcome.{IsReadFault}
+use Rattle.commands.specs.Run.{Asked, HasMoved, IsNoFault}
 use Rattle.commands.specs.Calls.{Call, Ended, Hears}
 use Rattle.commands.specs.Telling.{AreCallsOf, AreRoundsCalls, AreRunCalls, AreStepsCalls, HearsSome, Tells, TellsRounds, TellsSteps, answered_after, answered_by, round_calls}
 

@@ -1,34 +1,19 @@
 -- What the three texts of a run ask for, and what is printed of it (this project's own format).
-use Rattle.std.specs.Prelude.{◌≡◌, ℕ, List, Bool, Result, Ok, Err, IsTrue, ◌↔◌, length}
-use Rattle.torus.specs.declared.fault.Fault.TheVariants as fault
+use Rattle.std.specs.Prelude.{◌≡◌, ℕ, List, Bool, Result, Ok, IsTrue, ◌↔◌, length}
 use Rattle.torus.specs.declared.step.Step.{Step}
 use Rattle.script.specs.declared.fault.LineFault.{LineFault}
-use Rattle.script.specs.Machine.{machine_of}
-use Rattle.script.specs.Scripts.{scripts_of}
-use Rattle.script.specs.Steps.{steps_of}
-use Rattle.machine_texts.specs.order_abstract.specs.Load.{Load, load_of}
+use Rattle.machine_texts.specs.order_abstract.specs.Load.{Load}
 use Rattle.machine_texts.specs.core_laws.specs.Core.{run_of}
 use Rattle.core_machine.specs.core_progress.specs.Moves.{moves_made}
 use Rattle.core_machine.specs.Machine.{Core, IsAfter, IsLawful, core_after_load, all_finished}
 use Rattle.machine_texts.specs.order_abstract.specs.Scripts.{AreFinished}
-use Rattle.machine_texts.specs.Loading.{◌then◌}
+pub use Rattle.machine_texts.specs.Run.{Asked, asked_of}
 use Rattle.report_lines.specs.Line.{text_of}
 use Rattle.report_check.specs.Good.{GoodReport}
 use Rattle.machine_report.specs.Report.{machine_report}
 use Rattle.program_fault.specs.declared.fault.ProgramFault.{ProgramFault}
-use Rattle.program_fault.specs.declared.fault.ProgramFault.TheVariants as program
 use Rattle.program_fault.specs.Done.{Does, Output}
-
--- a machine with its scripts, and the steps that it is to make
-pub record Asked : Type 0 where
-  pub load : Load
-  pub steps : List Step
-
--- what three texts ask for, or the first fault; they are taken in this order
-abbrev pub asked_of : List (List ℕ) → List (List ℕ) → List (List ℕ) → Result Asked LineFault
-asked_of machine scripts steps =
-    machine_of machine then λ m. scripts_of m scripts then λ s. steps_of m steps then λ list.
-    Ok (record { load = load_of m s; steps = list })
+use Rattle.program_fault.specs.Outcome.{IsTextsFault}
 
 -- the machine after the steps
 abbrev pub core_of : Asked → Core
@@ -46,12 +31,6 @@ pub record HasMoved (asked : Result Asked LineFault) (moves : ℕ) : Type 0 wher
   pub run : Asked
   pub read : asked ≡ Ok run
   pub made : moves ≡ moves_made run.load run.steps
-
--- a fault of a text, or out of memory
-abbrev pub IsReadFault : {A : Type 0} → Result A LineFault → ProgramFault → Type 0
-IsReadFault asked (program.Line found) = asked ≡ Err found
-IsReadFault asked (program.Fault which) = which ≡ fault.Memory
-IsReadFault asked _ = ⊥
 
 -- no fault, out of memory aside
 abbrev pub IsNoFault : ProgramFault → Type 0
@@ -80,11 +59,6 @@ pub record IsRunText (asked : Result Asked LineFault) (finished : Bool) (text : 
     pub value : finished ≡ all_finished (core_of run).state
     pub ended : IsTrue finished
         ↔ AreFinished (run_of run.load run.steps) (length run.steps) run.load.scripts
-
--- this is the first fault of the texts
-abbrev pub IsTextsFault : {A : Type 0} → Result A LineFault → ProgramFault → Type 0
-IsTextsFault asked (program.Line found) = asked ≡ Err found
-IsTextsFault asked _ = ⊥
 
 -- the report of the run was printed
 abbrev pub PrintsRun : Result Asked LineFault → Output → Output → Result Bool ProgramFault → Type 0

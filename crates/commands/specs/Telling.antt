@@ -12,7 +12,8 @@ use Rattle.program_fault.specs.declared.fault.ProgramFault.{ProgramFault}
 use Rattle.program_fault.specs.declared.fault.ProgramFault.TheVariants as program
 use Rattle.commands.specs.Calls.{Call, Wants, Made, Ended, Hears}
 use Rattle.commands.specs.Run.{Asked, HasMoved, core_of}
-use Rattle.commands.specs.Rounds.{AreFewest, asked_rounds}
+use Rattle.machine_texts.specs.Rounds.{AreFewest}
+use Rattle.commands.specs.Rounds.{asked_rounds}
 
 -- how many operations a machine has answered; at most u64::MAX
 abbrev pub answered_by : Core → ℕ

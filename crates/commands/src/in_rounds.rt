@@ -4,7 +4,7 @@ ghost use Rattle.machine_texts.specs.order_abstract.specs.Load.{Load};
 ghost use Rattle.core_machine.specs.Machine.{IsAfter};
 ghost use Rattle.machine_texts.specs.Loading.{HasLoaded, load_by};
 ghost use Rattle.program_fault.specs.Done.{output};
-ghost use Rattle.commands.specs.Run.{IsReadFault};
+ghost use Rattle.program_fault.specs.Outcome.{IsReadFault};
 ghost use Rattle.commands.specs.Rounds.{HasMadeRounds, PrintsRounds};
 ghost use Rattle.commands.specs.Calls.{Hears};
 ghost use Rattle.commands.specs.Telling.{AreRoundsCalls, HearsSome, TellsRounds, answered_by, round_calls};

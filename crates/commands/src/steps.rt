@@ -1,7 +1,8 @@
 ghost use Rattle.std.specs.Prelude.{◌≡◌, ◌-◌, IfErr, IfOk};
 ghost use Rattle.std.specs.Str.Lines.{lines};
 ghost use Rattle.program_fault.specs.Done.{Does, output};
-ghost use Rattle.commands.specs.Run.{HasMoved, HasRun, IsOfMachine, IsReadFault, IsNoFault, PrintsRun, asked_of};
+ghost use Rattle.program_fault.specs.Outcome.{IsReadFault};
+ghost use Rattle.commands.specs.Run.{HasMoved, HasRun, IsOfMachine, IsNoFault, PrintsRun, asked_of};
 ghost use Rattle.commands.specs.Telling.{TellsSteps};
 
 use crate::ProgramFault;

@@ -6,10 +6,11 @@ use Rattle.std.proofs.lemmas.List.{length-set}
 use Rattle.std.proofs.lemmas.List.Sums.{sum_by-set, sum_by_push}
 use Rattle.std.proofs.lemmas.Bool.{eqb-false, leb-true}
 use Rattle.torus.specs.Shape.{dims_of}
-use Rattle.torus.specs.declared.fault.Fault.{Fault}
-use Rattle.torus.specs.declared.fault.Fault.TheVariants as fault
 use Rattle.script.specs.declared.line.Line.{Line}
-use Rattle.script.specs.Scripts.{operations_of, operation_count, total_count, script_of, mentions_last, IsAcceptedLine, add_line}
+use Rattle.script.specs.Scripts.{operations_of, operation_count, total_count, script_of, mentions_last, IsAcceptedLine, add_line, script_with, scripts_with}
+use Rattle.script.specs.declared.reason.TextReason.{TextReason}
+use Rattle.script.specs.declared.reason.TextReason.TheVariants as reason
+use Rattle.script.specs.Outcome.{unless}
 use Rattle.script.specs.ScriptViews.{AreCounted}
 use Rattle.script.proofs.Counted.{counted_push}
 use Rattle.core_moves.specs.script_follower.specs.Following.{Following}
@@ -107,9 +108,11 @@ read_by : (l : Load) (p : ℕ) (line : Line) (lists : List (List Line)) → p < 
     → (a b c : Bool) → (mentions_last line && (operation_count (script_of l.scripts p) == 0)) ≡ a
     → nat_le (operation_count (script_of l.scripts p) + operations_of line) 4096 ≡ b
     → nat_le (total_count l.scripts + operations_of line) 65536 ≡ c
-    → ◌≡◌ {A = Result (List (List Line)) Fault}
-    (if a then Err fault.Last else
-    (if b && c then Ok (slice_set l.scripts p (script_of l.scripts p ++ line ∷ [])) else Err fault.Length)) (Ok lists)
+    → ◌≡◌ {A = Result (List (List Line)) TextReason}
+    (unless (if a then Some reason.LastFirst else
+    (if not b then Some (reason.ScriptLength (script_with l.scripts p line)) else
+    (if not c then Some (reason.ScriptsLength (scripts_with l.scripts line)) else None)))
+    (Ok (slice_set l.scripts p (script_of l.scripts p ++ line ∷ [])))) (Ok lists)
     → MayFollow l p line × (lists ≡ (load_with l p line).scripts)
 read_by l p line lists low good true b c ia ib ic h = absurd (cc)
 read_by l p line lists low good false false c ia ib ic h = absurd (cc)

@@ -15,8 +15,8 @@ use Rattle.tile_laws.specs.Tile.{Design, TileState, tile_step}
 use Rattle.tile_laws.specs.Agents.{agent_kind, agent_tile}
 use Rattle.core_laws.specs.Core.{State, next, or_same}
 use Rattle.core_laws.specs.Moves.{learned_by, tile_move, move_of}
-use Rattle.wormhole.specs.Events.{Event, CanHappen}
-use Rattle.core_laws.specs.Network.{net_of, tile_event, network_event, network_after}
+use Rattle.wormhole.specs.Events.{Event, CanHappen, network_after}
+use Rattle.core_laws.specs.Network.{net_of, tile_event, network_event}
 use Rattle.core_laws.proofs.Stands.{Ghost, Stands, tile_at, no_tile}
 
 -- what is so where something is wanted

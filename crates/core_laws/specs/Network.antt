@@ -17,8 +17,7 @@ use Rattle.flit_buffer.specs.Channel.{rest}
 use Rattle.flit_buffer.specs.Surroundings.{Surroundings, ring}
 use Rattle.channel_number.specs.Ports.{injection_channel, ejection_channel, input_channel, output_channel}
 use Rattle.wormhole.specs.Net.{Net, Parcel}
-use Rattle.wormhole.specs.State.{State as NetState}
-use Rattle.wormhole.specs.Events.{Event, InjectHead, InjectRest, Latch, ForwardHead, ForwardRest, Return, after}
+use Rattle.wormhole.specs.Events.{Event, InjectHead, InjectRest, Latch, ForwardHead, ForwardRest, Return}
 use Rattle.wormhole.specs.Delivery.{accept}
 use Rattle.wormhole_torus.specs.TorusNet as wormhole_torus
 use Rattle.tile_laws.specs.router.specs.Table.{RouterState, router_wants, latch_of, output_for}
@@ -138,8 +137,3 @@ network_event d s attempt = option_and_then (λ tile.
     tile_event d (agent_tile attempt.agent) tile s.around (agent_kind attempt.agent)
     attempt.choice)
     (slice_get s.tiles (agent_tile attempt.agent))
-
--- the network after an event, or none
-abbrev pub network_after : Net → NetState → Option Event → NetState
-network_after n s None = s
-network_after n s (Some e) = after n s e

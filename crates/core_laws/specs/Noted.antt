@@ -8,10 +8,10 @@ use Rattle.order_abstract.specs.one_order.specs.Events.{push_at}
 use Rattle.order_abstract.specs.script_follower.specs.ProcessorRecord.{request_of}
 use Rattle.order_abstract.specs.Flight.{Flight, Move, Sends, Takes, moved_by}
 use Rattle.wormhole.specs.State.{State as NetState, empty}
-use Rattle.wormhole.specs.Events.{Event}
+use Rattle.wormhole.specs.Events.{Event, network_after}
 use Rattle.tile_laws.specs.Tile.{Design}
 use Rattle.core_laws.specs.Core.{Load, State, design_of, records_of, show}
-use Rattle.core_laws.specs.Network.{net_of, network_event, network_after}
+use Rattle.core_laws.specs.Network.{net_of, network_event}
 use Rattle.core_laws.specs.Runs.{state_after, move_by}
 
 -- what is noted: the network with its packets; the requests issued and not served, and the

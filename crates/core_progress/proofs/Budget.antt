@@ -10,7 +10,7 @@ use Rattle.core_laws.specs.script_follower.specs.Following.{first_of, left_of}
 use Rattle.core_laws.specs.script_follower.proofs.Followable.{accepted_followable}
 use Rattle.core_laws.specs.one_order.specs.Events.{order_after}
 use Rattle.wormhole.specs.State.{State as NetState}
-use Rattle.wormhole.specs.Events.{Event}
+use Rattle.wormhole.specs.Events.{Event, network_after}
 use Rattle.wormhole_progress.specs.Weight.{sum_below}
 use Rattle.wormhole_progress.specs.Work.{End, end_weight, work, first_end}
 use Rattle.wormhole_progress.specs.Work as progress
@@ -21,7 +21,7 @@ use Rattle.core_laws.specs.tile_laws.specs.Tile.{Design, TileState}
 use Rattle.core_laws.specs.Core.{Load, State, design_of, first_state, first_tile, or_same, step}
 use Rattle.core_laws.specs.Runs.{IsAccepted, state_after}
 use Rattle.core_laws.specs.order_abstract.specs.Room.{home_room}
-use Rattle.core_laws.specs.Network.{net_of, network_event, network_after}
+use Rattle.core_laws.specs.Network.{net_of, network_event}
 use Rattle.core_laws.specs.Noted.{noted, event_by}
 use Rattle.core_laws.proofs.Histories.{event_at, next_at, after_more}
 use Rattle.core_laws.proofs.EveryRun.{holds_in}

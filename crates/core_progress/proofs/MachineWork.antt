@@ -11,7 +11,7 @@ use Rattle.packet.specs.declared.kinds.Request.{Request as Asking}
 use Rattle.flit_buffer.specs.Surroundings.{Surroundings, agent_step}
 use Rattle.core_laws.specs.script_follower.specs.ProcessorRecord.{ready, request_of}
 use Rattle.core_laws.specs.one_order.specs.Order.{LinearizationPoint}
-use Rattle.wormhole_progress.specs.Work.{End, IsChange, IsStep, network_after, work}
+use Rattle.wormhole_progress.specs.Work.{End, IsChange, IsStep, work}
 use Rattle.wormhole_progress.proofs.Working.{work_falls}
 use Rattle.core_laws.specs.router.specs.Table.{router_wants, router_after}
 use Rattle.core_laws.specs.script_follower.specs.ProcessorTable.{processor_wants, processor_after}
@@ -30,7 +30,7 @@ use Rattle.core_progress.proofs.Wired.{net_is}
 use Rattle.core_progress.proofs.Told.{flits_tell}
 use Rattle.core_progress.proofs.Machine.{StandsLive}
 use Rattle.core_progress.proofs.RouterWork.{router_event}
-use Rattle.wormhole.specs.Events.{Event}
+use Rattle.wormhole.specs.Events.{Event, network_after}
 use Rattle.flit_buffer.specs.declared.want.Want.{Want}
 use Rattle.flit_buffer.specs.Surroundings.{Wiring, granted}
 use Rattle.core_laws.specs.router.specs.Table.{RouterState}

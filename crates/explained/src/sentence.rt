@@ -1,6 +1,7 @@
-use crate::filled::Filled;
-use crate::words::Words;
-use fault_reasons::{Agent, Keyword, Reason};
+use crate::before::earlier_line;
+use lexer::{Filled, QuotedWords};
+use packet::Code;
+use script::{Agent, Keyword, TextReason};
 use std::fmt;
 
 /// Why a text has a fault at a line, as a reader is told: `script.txt:12: address 300: the machine has
@@ -12,20 +13,7 @@ pub struct Sentence<'a> {
     pub text: &'a [u8],
     /// The line of the fault, from 1; 0 where a request for memory was refused.
     pub line: u64,
-    pub reason: Reason,
-}
-
-/// A keyword as a text has it.
-fn keyword_text(keyword: Keyword) -> &'static str {
-    match keyword {
-        Keyword::Radix => "radix",
-        Keyword::Dims => "dims",
-        Keyword::Dateline => "dateline",
-        Keyword::Depth => "depth",
-        Keyword::Tags => "tags",
-        Keyword::Words => "words",
-        Keyword::Init => "init",
-    }
+    pub reason: TextReason,
 }
 
 /// What stands behind a keyword.
@@ -46,16 +34,14 @@ fn operands_text(operation: &[u8]) -> &'static str {
     if operation == b"fence".as_slice() {
         return "nothing";
     }
-    if operation == b"load".as_slice() {
-        return "an address";
+    match Code::named(operation) {
+        Some(code) => match code.arity() {
+            0 => "an address",
+            1 => "an address and a value",
+            _ => "an address and two values",
+        },
+        None => "an address, a value and a number of loads",
     }
-    if operation == b"cas".as_slice() {
-        return "an address and two values";
-    }
-    if operation == b"spin".as_slice() {
-        return "an address, a value and a number of loads";
-    }
-    "an address and a value"
 }
 
 /// The name of a kind of agents, and its choices.
@@ -77,116 +63,113 @@ fn kind_text(agent: Agent) -> &'static str {
 }
 
 /// What is told of a reason.
-fn text_of(reason: Reason) -> &'static str {
+fn text_of(reason: TextReason) -> &'static str {
     match reason {
-        Reason::UnknownKeyword => {
+        TextReason::UnknownKeyword => {
             "A: a line begins with radix, dims, dateline, depth, tags, words or init"
         }
-        Reason::NumberCount(_) => "A: behind it stand K",
-        Reason::NotNumber(_) => "W: a number belongs there",
-        Reason::GivenTwice(_) => "A: it is given at line N already",
-        Reason::DatelineBefore(_) => {
+        TextReason::NumberCount(_) => "A: behind it stand K",
+        TextReason::NotNumber(_) => "W: a number belongs there",
+        TextReason::GivenTwice(_) => "A: it is given at line N already",
+        TextReason::DatelineBefore(_) => {
             "dateline: it comes behind radix and dims, and K is not given yet"
         }
-        Reason::InitBefore(_) => {
+        TextReason::InitBefore(_) => {
             "init: it comes behind radix, dims, depth, tags and words, and K is not given yet"
         }
-        Reason::InitTwice(_) => { "address B: its opening word is given at line N already" }
-        Reason::Missing(_) => "the text ends without K",
-        Reason::RadixLimits(_) => "radix W: a radix is 2 to 8",
-        Reason::DimsLimits => "dims B: there are 1 to 3 dimensions",
-        Reason::TooManyTiles(_) => "N tiles: there are at most 64",
-        Reason::RadixCount(_, _) => {
+        TextReason::InitTwice(_) => { "address B: its opening word is given at line N already" }
+        TextReason::Missing(_) => "the text ends without K",
+        TextReason::RadixLimits(_) => "radix W: a radix is 2 to 8",
+        TextReason::DimsLimits => "dims B: there are 1 to 3 dimensions",
+        TextReason::TooManyTiles(_) => "N tiles: there are at most 64",
+        TextReason::RadixCount(_, _) => {
             "N radices for M dimensions: one stands for all, or each has its own"
         }
-        Reason::DatelineCount(_, _) => { "N datelines for M dimensions: each has its own" }
-        Reason::DatelineLimits(_, _) => "dateline W: it is below its radix, which is N",
-        Reason::DepthLimits => "depth B: a depth is 1 to 8",
-        Reason::TagsLimits => "tags B: a processor has 1 to 16 tags",
-        Reason::WordsLimits => "words B: a memory has 1 to 65536 words",
-        Reason::AddressLimits(_, _) => "address W: the machine has the words 0 to N",
-        Reason::ValueLimits(_) => "value W: a value is below 2^64",
-        Reason::ProcessorAlone => "A: an operation belongs behind the processor",
-        Reason::UnknownOperation => "B: there is no such operation",
-        Reason::OperandCount => "B: behind it stands K",
-        Reason::NotValue(_) => "W: a number or last belongs there",
-        Reason::ProcessorLimits(_) => "processor A: the machine has the processors 0 to N",
-        Reason::SpinLimits => "W loads: a spin makes 1 to 4096",
-        Reason::LastFirst => "last: processor A has no operation before it",
-        Reason::ScriptLength(_) => { "N operations of processor A: a script has at most 4096" }
-        Reason::ScriptsLength(_) => { "N operations: all scripts together have at most 65536" }
-        Reason::StepCount => "a step is an agent, a choice, and for a router a number",
-        Reason::UnknownChoice => { "B: a choice is send, take, put, credit, serve, done or look" }
-        Reason::AgentLimits(_) => "agent A: the machine has the agents 0 to N",
-        Reason::NoChoice(_) => "B: agent A is K",
-        Reason::PortWanted => {
+        TextReason::DatelineCount(_, _) => { "N datelines for M dimensions: each has its own" }
+        TextReason::DatelineLimits(_, _) => "dateline W: it is below its radix, which is N",
+        TextReason::DepthLimits => "depth B: a depth is 1 to 8",
+        TextReason::TagsLimits => "tags B: a processor has 1 to 16 tags",
+        TextReason::WordsLimits => "words B: a memory has 1 to 65536 words",
+        TextReason::AddressLimits(_, _) => "address W: the machine has the words 0 to N",
+        TextReason::ValueLimits(_) => "value W: a value is below 2^64",
+        TextReason::ProcessorAlone => "A: an operation belongs behind the processor",
+        TextReason::UnknownOperation => "B: there is no such operation",
+        TextReason::OperandCount => "B: behind it stands K",
+        TextReason::NotValue(_) => "W: a number or last belongs there",
+        TextReason::ProcessorLimits(_) => "processor A: the machine has the processors 0 to N",
+        TextReason::SpinLimits => "W loads: a spin makes 1 to 4096",
+        TextReason::LastFirst => "last: processor A has no operation before it",
+        TextReason::ScriptLength(_) => { "N operations of processor A: a script has at most 4096" }
+        TextReason::ScriptsLength(_) => { "N operations: all scripts together have at most 65536" }
+        TextReason::StepCount => "a step is an agent, a choice, and for a router a number",
+        TextReason::UnknownChoice => { "B: a choice is send, take, put, credit, serve, done or look" }
+        TextReason::AgentLimits(_) => "agent A: the machine has the agents 0 to N",
+        TextReason::NoChoice(_) => "B: agent A is K",
+        TextReason::PortWanted => {
             "B: the number of an input or output belongs behind a router's choice"
         }
-        Reason::PortUnwanted(_) => { "B C: agent A is a K, whose choices have no number" }
-        Reason::PortLimits(_) => "B C: a router has the inputs and outputs 0 to N",
-        Reason::Memory => "a request for memory was refused while it was read",
-        Reason::Other(_) => "fault K",
+        TextReason::PortUnwanted(_) => { "B C: agent A is a K, whose choices have no number" }
+        TextReason::PortLimits(_) => "B C: a router has the inputs and outputs 0 to N",
+        TextReason::Memory => "a request for memory was refused while it was read",
     }
 }
 
 /// The place of the word that a reason is about.
-fn place_of(reason: Reason) -> u32 {
+fn place_of(reason: TextReason) -> u32 {
     match reason {
-        Reason::NotNumber(place) => place,
-        Reason::RadixLimits(place) => place,
-        Reason::DatelineLimits(place, _) => place,
-        Reason::AddressLimits(place, _) => place,
-        Reason::ValueLimits(place) => place,
-        Reason::NotValue(place) => place,
-        Reason::SpinLimits => 4,
+        TextReason::NotNumber(place) => place,
+        TextReason::RadixLimits(place) => place,
+        TextReason::DatelineLimits(place, _) => place,
+        TextReason::AddressLimits(place, _) => place,
+        TextReason::ValueLimits(place) => place,
+        TextReason::NotValue(place) => place,
+        TextReason::SpinLimits => 4,
         _ => 0,
     }
 }
 
-/// The number that is told of a reason: a line, a count, a limit, or the last of so many.
-fn number_of(reason: Reason) -> u128 {
+/// The number that is told of a refusal: a count, a limit, the last of so many, or the line before
+/// that gave the same.
+fn number_of(text: &[u8], line: u64, reason: TextReason) -> u64 {
     match reason {
-        Reason::GivenTwice(line) => u128::from(line),
-        Reason::InitTwice(line) => u128::from(line),
-        Reason::TooManyTiles(tiles) => tiles,
-        Reason::RadixCount(radices, _) => u128::from(radices),
-        Reason::DatelineCount(datelines, _) => u128::from(datelines),
-        Reason::DatelineLimits(_, radix) => u128::from(radix),
-        Reason::AddressLimits(_, words) => last_of(words),
-        Reason::ProcessorLimits(tiles) => last_of(tiles),
-        Reason::ScriptLength(operations) => operations,
-        Reason::ScriptsLength(operations) => operations,
-        Reason::AgentLimits(agents) => last_of(agents),
-        Reason::PortLimits(ports) => last_of(ports),
-        _ => 0,
+        TextReason::TooManyTiles(tiles) => u64::from(tiles),
+        TextReason::RadixCount(radices, _) => u64::from(radices),
+        TextReason::DatelineCount(datelines, _) => u64::from(datelines),
+        TextReason::DatelineLimits(_, radix) => u64::from(radix),
+        TextReason::AddressLimits(_, words) => last_of(words),
+        TextReason::ProcessorLimits(tiles) => last_of(tiles),
+        TextReason::ScriptLength(operations) => u64::from(operations),
+        TextReason::ScriptsLength(operations) => u64::from(operations),
+        TextReason::AgentLimits(agents) => last_of(agents),
+        TextReason::PortLimits(ports) => last_of(ports),
+        _ => earlier_line(text, line, reason),
     }
 }
 
 /// The last of so many numbers from 0.
-fn last_of(count: u32) -> u128 {
-    u128::from(count.saturating_sub(1))
+fn last_of(count: u32) -> u64 {
+    u64::from(count.saturating_sub(1))
 }
 
 /// The number of dimensions that is told of a reason.
-fn dims_of(reason: Reason) -> u128 {
+fn dims_of(reason: TextReason) -> u32 {
     match reason {
-        Reason::RadixCount(_, dims) => u128::from(dims),
-        Reason::DatelineCount(_, dims) => u128::from(dims),
+        TextReason::RadixCount(_, dims) => dims,
+        TextReason::DatelineCount(_, dims) => dims,
         _ => 0,
     }
 }
 
 /// The name that is told of a reason; `operation` is the second word of the line.
-fn name_of(reason: Reason, operation: &[u8]) -> &'static str {
+fn name_of(reason: TextReason, operation: &[u8]) -> &'static str {
     match reason {
-        Reason::NumberCount(keyword) => numbers_text(keyword),
-        Reason::DatelineBefore(keyword) => keyword_text(keyword),
-        Reason::InitBefore(keyword) => keyword_text(keyword),
-        Reason::Missing(keyword) => keyword_text(keyword),
-        Reason::OperandCount => operands_text(operation),
-        Reason::NoChoice(agent) => agent_text(agent),
-        Reason::PortUnwanted(agent) => kind_text(agent),
-        Reason::Other(fault) => fault.code(),
+        TextReason::NumberCount(keyword) => numbers_text(keyword),
+        TextReason::DatelineBefore(keyword) => keyword.word(),
+        TextReason::InitBefore(keyword) => keyword.word(),
+        TextReason::Missing(keyword) => keyword.word(),
+        TextReason::OperandCount => operands_text(operation),
+        TextReason::NoChoice(agent) => agent_text(agent),
+        TextReason::PortUnwanted(agent) => kind_text(agent),
         _ => "",
     }
 }
@@ -198,13 +181,13 @@ impl<'a> fmt::Display for Sentence<'a> {
             write!(f, ":{}", self.line)?;
         }
         f.write_str(": ")?;
-        let words = Words::of_line(self.text, self.line);
+        let words = QuotedWords::of_line(self.text, self.line);
         let filled = Filled {
             text: text_of(self.reason),
             words,
             place: place_of(self.reason),
-            number: number_of(self.reason),
-            other: dims_of(self.reason),
+            number: u128::from(number_of(self.text, self.line, self.reason)),
+            other: u128::from(dims_of(self.reason)),
             name: name_of(self.reason, words.at(1).word),
         };
         write!(f, "{filled}")

@@ -2,23 +2,17 @@
 
 ghost use Rattle.std.specs.Prelude.{◌≡◌, ◌⊎◌, Err, IfOk, IfErr, IfSome};
 ghost use Rattle.std.specs.Str.Lines.{lines};
-ghost use Rattle.script.specs.Machine.{machine_of};
-ghost use Rattle.explained.specs.Told.{IsFromScripts, IsFromSteps};
-ghost use Rattle.explained.specs.Told.{IsOnMachine, IsOnScripts, IsOnSteps, TellsReading, TellsTile};
-ghost use Rattle.explained.specs.Told.{fault_in, scripts_read, steps_read};
+ghost use Rattle.script.specs.Machine.{machine_of, machine_or_why};
+ghost use Rattle.explained.specs.Told.{IsAboutText, IsFromScripts, IsFromSteps};
+ghost use Rattle.explained.specs.Told.{TellsReading, TellsWhy, TellsTile, refusal_in};
+ghost use Rattle.explained.specs.Told.{scripts_read, steps_read, scripts_or_why_of, steps_or_why_of};
 
 use crate::sentence::{Sentence, TileSentence};
-use fault_reasons::{machine_reason, scripts_reason, steps_reason};
-use script::{LineFault, MachineText, read_machine, read_scripts, read_steps};
+use lexer::{Named, Refusal};
+use script::{LineFault, TextReason, read_machine, read_machine_or_why};
+use script::{read_scripts_or_why, read_steps_or_why};
 use std::alloc::Allocator;
 use torus::Fault;
-
-/// A text and its name.
-#[derive(Clone, Copy)]
-pub struct Named<'a> {
-    pub name: &'a str,
-    pub text: &'a [u8],
-}
 
 /// Why a machine text is refused; `None` where it has no fault.
 pub fn machine_sentence<'a, A: Allocator + Copy>(
@@ -26,11 +20,12 @@ pub fn machine_sentence<'a, A: Allocator + Copy>(
     machine: Named<'a>,
 ) -> Option<Sentence<'a>>
     ensures tells { TellsReading (machine_of (lines machine.entry.text.now)) result }
-    ensures text { IfSome result (IsOnMachine machine.entry) }
+    ensures why { TellsWhy (machine_or_why (lines machine.entry.text.now)) result }
+    ensures text { IfSome result (IsAboutText machine.entry) }
 {
-    match read_machine(alloc, machine.text) {
+    match read_machine_or_why(alloc, machine.text) {
         Ok(_) => None,
-        Err(fault) => Some(of_machine(machine, fault)),
+        Err(refusal) => Some(sentence(machine, refusal)),
     }
 }
 
@@ -43,15 +38,17 @@ pub fn scripts_sentence<'a, A: Allocator + Copy>(
 ) -> Option<Sentence<'a>>
     ensures tells { TellsReading
         (scripts_read (lines machine.entry.text.now) (lines scripts.entry.text.now)) result }
+    ensures why { TellsWhy
+        (scripts_or_why_of (lines machine.entry.text.now) (lines scripts.entry.text.now)) result }
     ensures text { IfSome result (IsFromScripts machine.entry scripts.entry) }
 {
-    let read = match read_machine(alloc, machine.text) {
+    let read = match read_machine_or_why(alloc, machine.text) {
         Ok(read) => read,
-        Err(fault) => return Some(of_machine(machine, fault)),
+        Err(refusal) => return Some(sentence(machine, refusal)),
     };
-    match read_scripts(alloc, scripts.text, &read) {
+    match read_scripts_or_why(alloc, scripts.text, &read) {
         Ok(_) => None,
-        Err(fault) => Some(of_scripts(&read, scripts, fault)),
+        Err(refusal) => Some(sentence(scripts, refusal)),
     }
 }
 
@@ -66,73 +63,34 @@ pub fn steps_sentence<'a, A: Allocator + Copy>(
     ensures tells { TellsReading
         (steps_read (lines machine.entry.text.now) (lines scripts.entry.text.now)
         (lines steps.entry.text.now)) result }
+    ensures why { TellsWhy
+        (steps_or_why_of (lines machine.entry.text.now) (lines scripts.entry.text.now)
+        (lines steps.entry.text.now)) result }
     ensures text { IfSome result (IsFromSteps machine.entry scripts.entry steps.entry) }
 {
-    let read = match read_machine(alloc, machine.text) {
+    let read = match read_machine_or_why(alloc, machine.text) {
         Ok(read) => read,
-        Err(fault) => return Some(of_machine(machine, fault)),
+        Err(refusal) => return Some(sentence(machine, refusal)),
     };
-    if let Err(fault) = read_scripts(alloc, scripts.text, &read) {
-        return Some(of_scripts(&read, scripts, fault));
+    if let Err(refusal) = read_scripts_or_why(alloc, scripts.text, &read) {
+        return Some(sentence(scripts, refusal));
     }
-    match read_steps(alloc, steps.text, &read) {
+    match read_steps_or_why(alloc, steps.text, &read) {
         Ok(_) => None,
-        Err(fault) => Some(of_steps(&read, steps, fault)),
+        Err(refusal) => Some(sentence(steps, refusal)),
     }
 }
 
-/// The sentence of a machine text's fault.
-fn of_machine<'a>(text: Named<'a>, fault: LineFault) -> Sentence<'a>
-    ensures fault { fault_in result ≡ fault }
-    ensures text { IsOnMachine text.entry result }
+/// The sentence on a text that is refused.
+fn sentence<'a>(text: Named<'a>, refusal: Refusal<TextReason>) -> Sentence<'a>
+    ensures refusal { refusal_in result ≡ refusal }
+    ensures text { IsAboutText text.entry result }
 {
     Sentence {
         name: text.name,
         text: text.text,
-        line: fault.line,
-        reason: machine_reason(text.text, fault.fault, fault.line),
-    }
-}
-
-/// The sentence of a script text's fault.
-fn of_scripts<'a, A: Allocator>(
-    machine: &MachineText<A>,
-    text: Named<'a>,
-    fault: LineFault,
-) -> Sentence<'a>
-    ensures fault { fault_in result ≡ fault }
-    ensures text { IsOnScripts machine.now text.entry result }
-{
-    let tiles = machine.torus().tiles();
-    Sentence {
-        name: text.name,
-        text: text.text,
-        line: fault.line,
-        reason: scripts_reason(tiles, machine.words(), text.text, fault.fault, fault.line),
-    }
-}
-
-/// The sentence of a steps text's fault.
-fn of_steps<'a, A: Allocator>(
-    machine: &MachineText<A>,
-    text: Named<'a>,
-    fault: LineFault,
-) -> Sentence<'a>
-    ensures fault { fault_in result ≡ fault }
-    ensures text { IsOnSteps machine.now text.entry result }
-{
-    let torus = machine.torus();
-    Sentence {
-        name: text.name,
-        text: text.text,
-        line: fault.line,
-        reason: steps_reason(
-            torus.tiles(),
-            torus.dims(),
-            text.text,
-            fault.fault,
-            fault.line,
-        ),
+        line: refusal.line,
+        reason: refusal.reason,
     }
 }
 

@@ -1,9 +1,8 @@
 //! The lines that say why the texts of a machine or a report are refused.
 
 use crate::telling::{explain_by, is_of_texts, named, told};
-use explained::{
-    Named, Sentence, machine_sentence, scripts_sentence, steps_sentence, tile_sentence,
-};
+use explained::{Sentence, machine_sentence, scripts_sentence, steps_sentence, tile_sentence};
+use lexer::Named;
 use program_fault::ProgramFault;
 use report_reasons::why_bad;
 use std::alloc::Global;

@@ -1,6 +1,6 @@
 //! How a sentence on a text is told.
 
-use explained::Named;
+use lexer::Named;
 use program_fault::ProgramFault;
 use std::fmt::Display;
 use torus::Fault;

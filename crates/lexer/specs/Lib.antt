@@ -1,2 +1,7 @@
-pub mod Words
+pub mod Before
+pub mod Joined
+pub mod Named
 pub mod Numbers
+pub mod Outcome
+pub mod Spelled
+pub mod Words

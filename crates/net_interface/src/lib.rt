@@ -1,4 +1,5 @@
-//! The processor of a tile, as an agent.
+//! The processor of a tile: it issues the operations of its script as packets, and collects their
+//! answers by tags.
 #![tactic(auto)]
 
 mod granted;

@@ -3,6 +3,7 @@ pub mod Answered
 pub mod Fields
 pub mod FlitBits
 pub mod Folds
+pub mod Named
 pub mod Offering
 pub mod OneAnswer
 pub mod Refusals

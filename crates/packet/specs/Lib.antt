@@ -6,4 +6,5 @@ pub mod Memory
 pub mod Reading
 pub mod Refusal
 pub mod Spelling
+pub mod Names
 pub mod Written

@@ -9,7 +9,7 @@ ghost use Rattle.packet.specs.Flits.{offered};
 ghost use Rattle.packet.specs.declared.kinds.Packet.{Packet};
 ghost use Rattle.packet.specs.declared.assembler.Kind.{Kind};
 ghost use Rattle.packet.specs.declared.assembler.Offered.TheVariants.{More, Whole, Refused};
-ghost use Rattle.packet.specs.Reading.{code_numbered, op_with, reply_with, half_at, value_at, packet_told};
+ghost use Rattle.packet.specs.Reading.{code_numbered, reply_with, half_at, value_at, packet_told};
 
 use crate::flit::{field, is_tail, operation_told};
 use crate::{Code, Op, Packet, Reply, Request, Response};
@@ -183,7 +183,7 @@ fn packet_told(flits: &[u64]) -> Packet
             source,
             tag,
             word: place,
-            op: op_with(code, value, value_at(flits, 3)),
+            op: Op::with(code, value, value_at(flits, 3)),
         })
     } else {
         Packet::Response(Response {
@@ -212,24 +212,6 @@ fn code_numbered(number: u64) -> Code
         7 => Code::Xor,
         8 => Code::Max,
         _ => Code::Min,
-    }
-}
-
-/// The operation of this name that brings these values, as many of them as it takes.
-fn op_with(code: Code, first: u64, second: u64) -> Op
-    ensures { result ≡ op_with code first second }
-{
-    match code {
-        Code::Load => Op::Load,
-        Code::Store => Op::Store(first),
-        Code::Swap => Op::Swap(first),
-        Code::Cas => Op::Cas(first, second),
-        Code::Add => Op::Add(first),
-        Code::And => Op::And(first),
-        Code::Or => Op::Or(first),
-        Code::Xor => Op::Xor(first),
-        Code::Max => Op::Max(first),
-        Code::Min => Op::Min(first),
     }
 }
 

@@ -1,5 +1,8 @@
 ghost use Rattle.std.specs.Prelude.{◌≡◌};
 ghost use Rattle.packet.specs.Kinds.{code_of};
+ghost use Rattle.packet.specs.Reading.{op_with};
+ghost use Rattle.packet.specs.Spelling.{values_of_op};
+ghost use Rattle.packet.specs.Names.{values_listed};
 
 use torus::Tag;
 
@@ -59,6 +62,52 @@ impl Op {
             Op::Xor(_) => Code::Xor,
             Op::Max(_) => Code::Max,
             Op::Min(_) => Code::Min,
+        }
+    }
+}
+
+/// The values that an operation brings, in the order in which texts and packets have them.
+#[derive(Clone, Copy, Debug, PartialEq, Eq)]
+pub enum Values {
+    None,
+    One(u64),
+    Two(u64, u64),
+}
+
+impl Op {
+    /// The operation of this name that brings these values, as many of them as it takes.
+    pub fn with(code: Code, first: u64, second: u64) -> Op
+        ensures { result ≡ op_with code first second }
+    {
+        match code {
+            Code::Load => Op::Load,
+            Code::Store => Op::Store(first),
+            Code::Swap => Op::Swap(first),
+            Code::Cas => Op::Cas(first, second),
+            Code::Add => Op::Add(first),
+            Code::And => Op::And(first),
+            Code::Or => Op::Or(first),
+            Code::Xor => Op::Xor(first),
+            Code::Max => Op::Max(first),
+            Code::Min => Op::Min(first),
+        }
+    }
+
+    /// The values that the operation brings.
+    pub fn values(self) -> Values
+        ensures { values_listed result ≡ values_of_op self }
+    {
+        match self {
+            Op::Load => Values::None,
+            Op::Store(value) => Values::One(value),
+            Op::Swap(value) => Values::One(value),
+            Op::Cas(expected, new) => Values::Two(expected, new),
+            Op::Add(value) => Values::One(value),
+            Op::And(value) => Values::One(value),
+            Op::Or(value) => Values::One(value),
+            Op::Xor(value) => Values::One(value),
+            Op::Max(value) => Values::One(value),
+            Op::Min(value) => Values::One(value),
         }
     }
 }

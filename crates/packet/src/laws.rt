@@ -1,8 +1,12 @@
-//! Laws of the one sequential memory, each the contract of a function that does nothing.
+//! Laws of the one sequential memory and of the operations' words, each the contract of a function
+//! that does nothing.
 
 ghost use Rattle.std.specs.Prelude.{◌≡◌, ◌≢◌, ◌<◌, ◌^◌, ℕ, List, ◌++◌, length, slice_index, All};
+ghost use Rattle.std.specs.Prelude.{Some};
+ghost use Rattle.packet.specs.Names.{code_word, code_named};
 ghost use Rattle.packet.specs.Memory.{new_word, reply_to, memory_after_one, memory_after, replies};
 ghost use Rattle.packet.specs.Spelling.{values_of_op, values_of_reply};
+ghost use Rattle.packet.specs.declared.kinds.Code.{Code};
 ghost use Rattle.packet.specs.declared.kinds.Op.{Op};
 ghost use Rattle.packet.specs.declared.kinds.Op.TheVariants.{Load};
 ghost use Rattle.packet.specs.declared.kinds.Operation.{Operation};
@@ -39,4 +43,9 @@ pub fn operations_leave_words()
         → new_word op w < 2 ^ 64 }
     ensures reply { (op : Op) (w : ℕ) → w < 2 ^ 64
         → All (λ v. v < 2 ^ 64) (values_of_reply (reply_to op w)) }
+{}
+
+/// The word of an operation names it, and so no two operations have the same word.
+pub fn words_name_operations()
+    ensures { (code : Code) → code_named (code_word code) ≡ Some code }
 {}

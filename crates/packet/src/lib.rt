@@ -10,10 +10,11 @@ pub mod kinds;
 pub mod laws;
 pub mod memory;
 pub mod spelling;
+pub mod names;
 
 pub use assembler::{Assembler, Kind, Offered};
 pub use flit::{head, is_tail};
 pub use heading::Head;
-pub use kinds::{Code, Op, Operation, Packet, Reply, Request, Response};
+pub use kinds::{Code, Op, Operation, Packet, Reply, Request, Response, Values};
 pub use memory::apply;
 pub use spelling::flits;

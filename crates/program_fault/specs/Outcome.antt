@@ -1,5 +1,5 @@
 -- What a command's answer comes to (this project's own format).
-use Rattle.std.specs.Prelude.{ℕ, Bool, true, false, Result, Ok, Err}
+use Rattle.std.specs.Prelude.{◌≡◌, ℕ, Bool, true, false, Result, Ok, Err}
 use Rattle.torus.specs.declared.fault.Fault.{Fault}
 use Rattle.torus.specs.declared.fault.Fault.TheVariants as fault
 use Rattle.script.specs.declared.fault.LineFault.{LineFault}
@@ -21,6 +21,17 @@ of_line found = of_found found.fault found
 abbrev pub of_check : CheckFault → ProgramFault
 of_check (BadReport line) = program.Bad line
 of_check Memory = program.Fault fault.Memory
+
+-- this is the first fault of the texts
+abbrev pub IsTextsFault : {A : Type 0} → Result A LineFault → ProgramFault → Type 0
+IsTextsFault asked (program.Line found) = asked ≡ Err found
+IsTextsFault asked _ = ⊥
+
+-- a fault of a text, or memory refused
+abbrev pub IsReadFault : {A : Type 0} → Result A LineFault → ProgramFault → Type 0
+IsReadFault asked (program.Line found) = asked ≡ Err found
+IsReadFault asked (program.Fault which) = which ≡ fault.Memory
+IsReadFault asked _ = ⊥
 
 -- the status of a fault
 abbrev pub fault_status : ProgramFault → ℕ

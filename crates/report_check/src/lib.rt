@@ -1,4 +1,5 @@
-//! The checker of reports.
+//! The checker of reports: it accepts exactly the good reports, and finds the first bad line of
+//! every other text.
 #![tactic(auto)]
 
 pub mod check;

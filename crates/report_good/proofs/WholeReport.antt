@@ -6,6 +6,7 @@ use Rattle.packet.specs.declared.kinds.Op.{Op}
 use Rattle.packet.specs.declared.kinds.Op.TheVariants.{Load, Store}
 use Rattle.packet.specs.declared.kinds.Reply.{Reply}
 use Rattle.packet.specs.declared.kinds.Reply.TheVariants.{Old, Ok as Stored}
+use Rattle.packet.proofs.Words.{one_below, none_below as no_values}
 use Rattle.report_lines.specs.declared.line.Radices.TheVariants.{One}
 use Rattle.report_lines.specs.declared.line.ReportLine.{ReportLine}
 use Rattle.report_lines.specs.declared.line.ReportLine.TheVariants.{Header, Shape, Entry, Answer, Word, Order, End}
@@ -69,7 +70,7 @@ shape = record {
 
 first_entry : MayStand (seen_of shaped) (Entry store)
 first_entry = record {
-  fits = entry_fits 0 (Store 17) Stored (omega arith) (omega arith) tt;
+  fits = entry_fits 0 (Store 17) Stored (omega arith) (one_below 17 (omega arith)) tt;
   allowed = record {
     section = record { shaped = omega arith; early = omega arith };
     next = record {
@@ -88,7 +89,7 @@ first_entry = record {
 
 second_entry : MayStand behind_the_store (Entry (load 17))
 second_entry = record {
-  fits = entry_fits 1 Load (Old 17) (omega arith) tt (omega arith);
+  fits = entry_fits 1 Load (Old 17) (omega arith) no_values (omega arith);
   allowed = load_replies_what_was_stored;
 }
 

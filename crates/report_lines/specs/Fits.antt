@@ -1,9 +1,9 @@
 -- The numbers of a line fit the types that they are kept in.
-use Rattle.std.specs.Prelude.{◌<◌, ◌^◌, IfSome}
+use Rattle.std.specs.Prelude.{◌<◌, ◌^◌, All, IfSome}
 use Rattle.packet.specs.declared.kinds.Op.{Op}
-use Rattle.packet.specs.declared.kinds.Op.TheVariants.{Load, Store, Swap, Cas, Add, And, Or, Xor, Max, Min}
 use Rattle.packet.specs.declared.kinds.Reply.{Reply}
 use Rattle.packet.specs.declared.kinds.Reply.TheVariants.{Old, Ok as Stored}
+use Rattle.packet.specs.Spelling.{values_of_op}
 use Rattle.report_lines.specs.declared.line.Radices.{Radices}
 use Rattle.report_lines.specs.declared.line.Radices.TheVariants.{One, Two, Three}
 use Rattle.report_lines.specs.declared.line.EntryLine.{EntryLine}
@@ -15,16 +15,7 @@ use Rattle.report_lines.specs.declared.line.ReportLine.TheVariants.{End}
 
 -- the values of an operation have 64 bits
 abbrev pub FitsOp : Op → Type 0
-FitsOp Load = Unit {0}
-FitsOp (Store value) = value < 2 ^ 64
-FitsOp (Swap value) = value < 2 ^ 64
-FitsOp (Cas expected new) = (expected < 2 ^ 64) × (new < 2 ^ 64)
-FitsOp (Add value) = value < 2 ^ 64
-FitsOp (And value) = value < 2 ^ 64
-FitsOp (Or value) = value < 2 ^ 64
-FitsOp (Xor value) = value < 2 ^ 64
-FitsOp (Max value) = value < 2 ^ 64
-FitsOp (Min value) = value < 2 ^ 64
+FitsOp op = All (λ value. value < 2 ^ 64) (values_of_op op)
 
 -- the value of a reply has 64 bits
 abbrev pub FitsReply : Reply → Type 0

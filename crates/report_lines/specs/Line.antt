@@ -1,11 +1,15 @@
 -- What each line of a report spells (this project's own format).
 use Rattle.std.specs.Prelude.{ℕ, List, [], ◌∷◌, ◌++◌, ◌==◌, ◌&&◌, true, false, if◌then◌else◌, Option, Some, None}
-use Rattle.std.specs.Prelude.{codes, decimal, length}
-use Rattle.std.specs.List.{join_with_byte, flat_map}
+use Rattle.std.specs.Prelude.{codes, decimal, length, map}
+use Rattle.std.specs.List.{flat_map}
+use Rattle.lexer.specs.Joined.{line_of_words}
+pub use Rattle.lexer.specs.Joined.{joined_on}
 use Rattle.packet.specs.declared.kinds.Op.{Op}
-use Rattle.packet.specs.declared.kinds.Op.TheVariants.{Load, Store, Swap, Cas, Add, And, Or, Xor, Max, Min}
 use Rattle.packet.specs.declared.kinds.Reply.{Reply}
 use Rattle.packet.specs.declared.kinds.Reply.TheVariants.{Old, Ok as Stored}
+use Rattle.packet.specs.Kinds.{code_of}
+use Rattle.packet.specs.Names.{code_word}
+use Rattle.packet.specs.Spelling.{values_of_op}
 use Rattle.report_lines.specs.declared.line.Radices.{Radices}
 use Rattle.report_lines.specs.declared.line.Radices.TheVariants.{One, Two, Three}
 use Rattle.report_lines.specs.declared.line.ReportLine.{ReportLine}
@@ -35,17 +39,8 @@ reply_word (Old word) = decimal word
 
 -- the operation with its address and the values that were sent, and the words after it
 abbrev pub op_words : Op → ℕ → List (List ℕ) → List (List ℕ)
-op_words Load address more = codes "load" ∷ decimal address ∷ more
-op_words (Store value) address more = codes "store" ∷ decimal address ∷ decimal value ∷ more
-op_words (Swap value) address more = codes "swap" ∷ decimal address ∷ decimal value ∷ more
-op_words (Cas expected new) address more =
-    codes "cas" ∷ decimal address ∷ decimal expected ∷ decimal new ∷ more
-op_words (Add value) address more = codes "add" ∷ decimal address ∷ decimal value ∷ more
-op_words (And value) address more = codes "and" ∷ decimal address ∷ decimal value ∷ more
-op_words (Or value) address more = codes "or" ∷ decimal address ∷ decimal value ∷ more
-op_words (Xor value) address more = codes "xor" ∷ decimal address ∷ decimal value ∷ more
-op_words (Max value) address more = codes "max" ∷ decimal address ∷ decimal value ∷ more
-op_words (Min value) address more = codes "min" ∷ decimal address ∷ decimal value ∷ more
+op_words op address more =
+    code_word (code_of op) ∷ decimal address ∷ (map decimal (values_of_op op) ++ more)
 
 -- an event number, or `-` for an entry that is not answered
 abbrev pub event_word : Option ℕ → List ℕ
@@ -68,10 +63,6 @@ words_of (Order o) = codes "order" ∷ decimal o.bank ∷ decimal o.place ∷ de
 words_of (End true) = codes "end" ∷ codes "complete" ∷ []
 words_of (End false) = codes "end" ∷ codes "incomplete" ∷ []
 
--- words that go on with a line, each after a space
-abbrev pub joined_on : List (List ℕ) → List ℕ
-joined_on words = flat_map (λ word. 32 ∷ word) words
-
 -- the words behind the first one of a line, each after a space, and the line feed
 abbrev pub words_behind : List (List ℕ) → List ℕ
 words_behind [] = 10 ∷ []
@@ -79,7 +70,7 @@ words_behind (word ∷ words) = 32 ∷ word ++ words_behind words
 
 -- the bytes of a line: its words with one space between each two, and a line feed
 abbrev pub line_text : ReportLine → List ℕ
-line_text line = join_with_byte 32 (words_of line) ++ 10 ∷ []
+line_text line = line_of_words (words_of line)
 
 -- the bytes of a report: those of its lines, one after another
 abbrev pub text_of : List ReportLine → List ℕ

@@ -7,7 +7,7 @@ ghost use Rattle.report_lines.specs.Line.{event_word, line_text, op_words, radix
 use crate::line::{AnswerLine, EntryLine, OrderLine, Radices, ReportLine};
 use crate::tail::Tail;
 use arrayvec::ArrayString;
-use packet::{Op, Reply};
+use packet::{Op, Reply, Values};
 
 /// The text of one line: the longest has 128 bytes, its line feed with it.
 pub type LineText = ArrayString<128>;
@@ -60,19 +60,6 @@ fn put_event(line: &mut Tail, number: Option<u32>)
     }
 }
 
-/// Puts the name of an operation, its address and its value in front.
-fn put_change(line: &mut Tail, name: &str, address: u32, value: u64)
-    requires room { length line.old + 38 ≤ 128 }
-    requires short { length name.now ≤ 5 }
-    ensures text { line.new
-        ≡ 32 ∷ name.now ++ (32 ∷ decimal address ++ (32 ∷ decimal value ++ line.old)) }
-    ensures len { length line.new ≤ length line.old + 38 }
-{
-    line.put_value(value);
-    line.put_index(address);
-    line.put_word(name);
-}
-
 /// Puts the operation with its address and its values in front.
 fn put_op(line: &mut Tail, op: Op, address: u32)
     requires { length line.old + 57 ≤ 128 }
@@ -81,26 +68,16 @@ fn put_op(line: &mut Tail, op: Op, address: u32)
         → line.new ≡ words_behind (op_words op address more) }
     ensures len { length line.new ≤ length line.old + 57 }
 {
-    match op {
-        Op::Load => {
-            line.put_index(address);
-            line.put_word("load");
+    match op.values() {
+        Values::None => (),
+        Values::One(value) => line.put_value(value),
+        Values::Two(first, second) => {
+            line.put_value(second);
+            line.put_value(first);
         }
-        Op::Store(value) => put_change(line, "store", address, value),
-        Op::Swap(value) => put_change(line, "swap", address, value),
-        Op::Cas(expected, new) => {
-            line.put_value(new);
-            line.put_value(expected);
-            line.put_index(address);
-            line.put_word("cas");
-        }
-        Op::Add(value) => put_change(line, "add", address, value),
-        Op::And(value) => put_change(line, "and", address, value),
-        Op::Or(value) => put_change(line, "or", address, value),
-        Op::Xor(value) => put_change(line, "xor", address, value),
-        Op::Max(value) => put_change(line, "max", address, value),
-        Op::Min(value) => put_change(line, "min", address, value),
     }
+    line.put_index(address);
+    line.put_word(op.code().word());
 }
 
 fn put_entry(line: &mut Tail, entry: &EntryLine)

@@ -5,19 +5,36 @@ use Rattle.std.specs.Char.{is_ascii_digit}
 use Rattle.std.proofs.lemmas.Bool.{eq-eqb, ne_eqb, lt-ltb}
 use Rattle.std.proofs.lemmas.Bool.Decides.{nat_tests}
 use Rattle.std.proofs.lemmas.Fmt.{decimal_digit, decimal_by_steps}
+use Rattle.std.specs.Prelude.{All}
+use Rattle.std.proofs.lemmas.List.Elements.{All-head}
 use Rattle.packet.specs.declared.kinds.Op.{Op}
 use Rattle.packet.specs.declared.kinds.Op.TheVariants.{Load, Store, Swap, Cas, Add, And, Or, Xor, Max, Min}
+use Rattle.packet.specs.declared.kinds.Code.{Code}
+use Rattle.packet.specs.declared.kinds.Code.TheVariants as code
 use Rattle.packet.specs.declared.kinds.Reply.{Reply}
 use Rattle.packet.specs.declared.kinds.Reply.TheVariants.{Old, Ok as Stored}
+use Rattle.packet.specs.Names.{arity, code_word}
+use Rattle.packet.specs.Reading.{op_with}
+use Rattle.packet.proofs.Named.{named_by_its_word}
 use Rattle.report_lines.specs.declared.line.EntryLine.{EntryLine}
 use Rattle.report_lines.specs.declared.line.AnswerLine.{AnswerLine}
 use Rattle.report_lines.specs.declared.line.OrderLine.{OrderLine}
 use Rattle.report_lines.specs.declared.line.ReportLine.TheVariants.{Entry, Answer, Order}
 use Rattle.report_lines.specs.Fits.{FitsEntry, FitsAnswer, FitsOrder, FitsOp, FitsReply}
-use Rattle.report_reader.proofs.Spelled.{reply_then, event_then, pair_then, four_then, op_then, line_then}
-use Rattle.report_reader.specs.Reading.{behind, digits_on, number_read_at, index_at, reply_read_at, event_at, pair_at, valued_at, load_at, cas_at, newer_at}
-use Rattle.report_reader.specs.Reading.{op_at}
+use Rattle.report_reader.proofs.Operations.{word_ends}
+use Rattle.report_reader.proofs.Spelled.{reply_then, event_then, pair_then, four_then, values_then, op_then, line_then}
+use Rattle.report_reader.specs.Reading.{◌>>=◌, behind, digits_on, number_read_at, index_at, reply_read_at, event_at, pair_at, values_at, op_at}
 use Rattle.report_reader.specs.Reading.{four_at, entry_at, answer_at, order_at}
+
+-- values of 64 bits
+abbrev FitsValues : List ℕ → Type 0
+FitsValues values = All (λ value. value < 2 ^ 64) values
+
+first_fits : (v : ℕ) (values : List ℕ) → FitsValues (v ∷ values) → v < 2 ^ 64
+first_fits v values fits = All-head (λ value. value < 2 ^ 64) v values fits
+
+second_fits : (v w : ℕ) (values : List ℕ) → FitsValues (v ∷ w ∷ values) → w < 2 ^ 64
+second_fits v w values fits = fits 1 w (omega arith)
 
 digit_true : (d : ℕ) → d < 10 → is_ascii_digit (48 + d) ≡ true
 digit_true d small = grind (arith, nat_tests)
@@ -116,24 +133,42 @@ pub pair_again : (end a v : ℕ) (rest : List ℕ) → is_ascii_digit end ≡ fa
 unfolding pair_at
 pair_again end a v rest other small fits = rw (index_again 32 a (decimal v ++ end ∷ rest) refl small, number_again end v rest other fits)
 
+-- values, each up to a space
+one_again : (v : ℕ) (rest : List ℕ) → v < 2 ^ 64 → values_at 1 (values_then (v ∷ []) rest) ≡ Some (v, 0, rest)
+unfolding values_at
+one_again v rest fits = rw (number_again 32 v rest refl fits)
+
+two_again : (v w : ℕ) (rest : List ℕ) → v < 2 ^ 64 → w < 2 ^ 64 → values_at 2 (values_then (v ∷ w ∷ []) rest) ≡ Some (v, w, rest)
+unfolding values_at
+two_again v w rest small fits = rw (number_again 32 v (decimal w ++ 32 ∷ rest) refl small, number_again 32 w rest refl fits)
+
+-- an operation's word and its address, and then its values
+begun_again : (c : Code) (a : ℕ) (text : List ℕ) → a < 2 ^ 32
+    → op_at (code_word c ++ 32 ∷ (decimal a ++ 32 ∷ text)) ≡ (values_at (arity c) text >>= λ v. Some (op_with c v.0 v.1, a, v.2))
+unfolding op_at
+begun_again c a text small =
+    let ends = word_ends c (decimal a ++ 32 ∷ text) in
+    rw (ends.before, ends.after, named_by_its_word c, index_again 32 a text refl small)
+
+valued_again : (c : Code) (a v : ℕ) (rest : List ℕ) → arity c ≡ 1 → a < 2 ^ 32 → FitsValues (v ∷ [])
+    → op_at (code_word c ++ 32 ∷ (decimal a ++ 32 ∷ values_then (v ∷ []) rest)) ≡ Some (op_with c v 0, a, rest)
+valued_again c a v rest one small fits =
+    begun_again c a (values_then (v ∷ []) rest) small ∙ rw (one, one_again v rest (first_fits v [] fits))
+
 op_again : (o : Op) (a : ℕ) (rest : List ℕ) → FitsOp o → a < 2 ^ 32 → op_at (op_then o a rest) ≡ Some (o, a, rest)
-unfolding op_at newer_at load_at cas_at valued_at behind
-op_again Load a rest fits small = rw (index_again 32 a rest refl small)
-op_again (Store v) a rest fits small = rw (pair_again 32 a v rest refl small fits)
-op_again (Swap v) a rest fits small = rw (pair_again 32 a v rest refl small fits)
+unfolding values_at
+op_again Load a rest fits small = begun_again code.Load a rest small
+op_again (Store v) a rest fits small = valued_again code.Store a v rest refl small fits
+op_again (Swap v) a rest fits small = valued_again code.Swap a v rest refl small fits
 op_again (Cas e n) a rest fits small =
-    rw (
-      index_again 32 a (decimal e ++ 32 ∷ (decimal n ++ 32 ∷ rest)) refl small,
-      number_again 32 e (decimal n ++ 32 ∷ rest) refl fits.0,
-      number_again 32 n rest
-          refl fits.1,
-    )
-op_again (Add v) a rest fits small = rw (pair_again 32 a v rest refl small fits)
-op_again (And v) a rest fits small = rw (pair_again 32 a v rest refl small fits)
-op_again (Or v) a rest fits small = rw (pair_again 32 a v rest refl small fits)
-op_again (Xor v) a rest fits small = rw (pair_again 32 a v rest refl small fits)
-op_again (Max v) a rest fits small = rw (pair_again 32 a v rest refl small fits)
-op_again (Min v) a rest fits small = rw (pair_again 32 a v rest refl small fits)
+    begun_again code.Cas a (values_then (e ∷ n ∷ []) rest) small
+    ∙ rw (two_again e n rest (first_fits e (n ∷ []) fits) (second_fits e n [] fits))
+op_again (Add v) a rest fits small = valued_again code.Add a v rest refl small fits
+op_again (And v) a rest fits small = valued_again code.And a v rest refl small fits
+op_again (Or v) a rest fits small = valued_again code.Or a v rest refl small fits
+op_again (Xor v) a rest fits small = valued_again code.Xor a v rest refl small fits
+op_again (Max v) a rest fits small = valued_again code.Max a v rest refl small fits
+op_again (Min v) a rest fits small = valued_again code.Min a v rest refl small fits
 
 -- four indexes behind a word that the text begins with
 four_again : (word text : List ℕ) (a b c d : ℕ) (rest : List ℕ) → behind word text ≡ Some (four_then a b c d rest) → a < 2 ^ 32 → b < 2 ^ 32 → c < 2 ^ 32

@@ -1,19 +1,27 @@
 -- What is read is spelled so, line by line.
 use Rattle.std.proofs.Common.{◌≡◌, ◌<◌, ℕ, ◌^◌, ◌==◌, ◌&&◌, nat_lt, if◌then◌else◌, Bool, true, false, List, ◌∷◌, ◌++◌, Option, Some, None, IfSome}
-use Rattle.std.proofs.Common.{decimal, codes, refl, ap, ◌∙◌}
+use Rattle.std.proofs.Common.{[], length, take, zero, suc, decimal, codes, refl, sym, ap, subst, ◌∙◌, arith, length-append}
+use Rattle.std.specs.Prelude.{All}
+use Rattle.std.specs.List.{after_first, before_first}
+use Rattle.std.proofs.lemmas.List.{take_all}
+use Rattle.std.proofs.lemmas.List.Elements.{All-cons}
 use Rattle.std.specs.Option.{option_or}
 use Rattle.std.proofs.lemmas.Bool.{eq-eqb, ltb-true}
 use Rattle.std.proofs.lemmas.Option.{IfSome_then}
 use Rattle.packet.specs.declared.kinds.Op.{Op}
-use Rattle.packet.specs.declared.kinds.Op.TheVariants.{Load, Store, Swap, Cas, Add, And, Or, Xor, Max, Min}
+use Rattle.packet.specs.declared.kinds.Code.{Code}
 use Rattle.packet.specs.declared.kinds.Reply.{Reply}
 use Rattle.packet.specs.declared.kinds.Reply.TheVariants.{Old, Ok as Stored}
+use Rattle.packet.specs.Names.{arity, code_named, code_word}
+use Rattle.packet.specs.Reading.{op_with}
+use Rattle.packet.proofs.Words.{none_below, one_below}
 use Rattle.report_lines.specs.Fits.{FitsOp, FitsReply, FitsRadices}
 use Rattle.report_lines.specs.declared.line.Radices.{Radices}
 use Rattle.report_lines.specs.declared.line.Radices.TheVariants.{One, Two, Three}
-use Rattle.report_reader.proofs.Spelled.{reply_then, event_then, pair_then, op_then, radices_then}
-use Rattle.report_reader.specs.Reading.{◌>>=◌, instead, behind, number_read_at, index_at, reply_read_at, event_at, pair_at, valued_at, load_at, cas_at}
-use Rattle.report_reader.specs.Reading.{newer_at, op_at}
+use Rattle.report_reader.proofs.Operations.{made_of, named_word, space_splits}
+use Rattle.report_reader.proofs.Spelled.{reply_then, event_then, pair_then, values_then, op_then, radices_then}
+use Rattle.report_reader.specs.Reading.{◌>>=◌, instead, behind, number_read_at, index_at, reply_read_at, event_at, pair_at, valued_at}
+use Rattle.report_reader.specs.Reading.{is_space, values_at, op_at}
 use Rattle.report_reader.specs.Reading.{four_at, uniform_at, two_at, three_at, radices_at}
 use Rattle.report_reader.proofs.Sound.{behind_sound, number_sound}
 
@@ -131,53 +139,50 @@ event_spelled text =
 abbrev SpellsOp : List ℕ → Op × ℕ × List ℕ → Type 0
 SpellsOp text x = FitsOp x.0 × (x.1 < 2 ^ 32) × (text ≡ op_then x.0 x.1 x.2)
 
-load_spelled : (text : List ℕ) → IfSome (load_at text) (SpellsOp text)
-unfolding load_at
-load_spelled text =
-    then_some _ (behind (codes "load ") text) (λ rest. index_at 32 rest >>= λ a. Some (Load, a.0, a.1)) (behind_spelled (codes "load ") text)
-    (λ rest is. then_some _ (index_at 32 rest) (λ a. Some (Load, a.0, a.1)) (index_spelled 32 rest)
-    (λ a ha. (tt, ha.0, is ∙ ap (λ (t : List ℕ). codes "load " ++ t) ha.1)))
+-- values, each up to a space
+pub record SpellsValues (n : ℕ) (text : List ℕ) (v : ℕ × ℕ × List ℕ) : Type 0 where
+  pub fit : All (λ value. value < 2 ^ 64) (take n (v.0 ∷ v.1 ∷ []))
+  pub spelled : text ≡ values_then (take n (v.0 ∷ v.1 ∷ [])) v.2
 
-cas_spelled : (text : List ℕ) → IfSome (cas_at text) (SpellsOp text)
-unfolding cas_at
-cas_spelled text =
-    then_some _ (behind (codes "cas ") text)
-    (λ rest. index_at 32 rest >>= λ a. number_read_at 32 a.1 >>= λ e. number_read_at 32 e.1 >>= λ n. Some (Cas e.0 n.0, a.0, n.1))
-    (behind_spelled (codes "cas ") text)
-    (λ rest is. then_some _ (index_at 32 rest) (λ a. number_read_at 32 a.1 >>= λ e. number_read_at 32 e.1 >>= λ n. Some (Cas e.0 n.0, a.0, n.1))
-    (index_spelled 32 rest)
-    (λ a ha. then_some _ (number_read_at 32 a.1) (λ e. number_read_at 32 e.1 >>= λ n. Some (Cas e.0 n.0, a.0, n.1)) (number_spelled 32 a.1)
-    (λ e he. then_some _ (number_read_at 32 e.1) (λ n. Some (Cas e.0 n.0, a.0, n.1)) (number_spelled 32 e.1)
-    (λ n hn.
-    let values : a.1 ≡ decimal e.0 ++ 32 ∷ (decimal n.0 ++ 32 ∷ n.1) = he.1 ∙ ap (λ (t : List ℕ). decimal e.0 ++ 32 ∷ t) hn.1 in
-    ((he.0, hn.0), ha.0, is ∙ ap (λ (t : List ℕ). codes "cas " ++ t) (ha.1 ∙ ap (λ (t : List ℕ). decimal a.0 ++ 32 ∷ t) values))))))
+values_spelled : (n : ℕ) (text : List ℕ) → IfSome (values_at n text) (SpellsValues n text)
+unfolding values_at
+values_spelled zero text = record { fit = none_below; spelled = refl }
+values_spelled (suc zero) text =
+    then_some _ (number_read_at 32 text) (λ v. Some (v.0, 0, v.1)) (number_spelled 32 text)
+    (λ v hv. record { fit = one_below v.0 hv.0; spelled = hv.1 })
+values_spelled (suc (suc n)) text =
+    then_some _ (number_read_at 32 text) (λ v. number_read_at 32 v.1 >>= λ w. Some (v.0, w.0, w.1)) (number_spelled 32 text)
+    (λ v hv. then_some _ (number_read_at 32 v.1) (λ w. Some (v.0, w.0, w.1)) (number_spelled 32 v.1)
+    (λ w hw.
+    let both : take (suc (suc n)) (v.0 ∷ w.0 ∷ []) ≡ v.0 ∷ w.0 ∷ [] = take_all (suc (suc n)) (v.0 ∷ w.0 ∷ []) (omega arith) in
+    record {
+      fit =
+          subst (λ values. All (λ value. value < 2 ^ 64) values) (sym both) (All-cons (λ value. value < 2 ^ 64) v.0 (w.0 ∷ []) hv.0 (one_below w.0 hw.0));
+      spelled = hv.1 ∙ ap (λ (t : List ℕ). decimal v.0 ++ 32 ∷ t) hw.1 ∙ ap (λ values. values_then values w.1) (sym both);
+    }))
 
--- an operation of one value
-valued_op : (make : ℕ → Op) (word text : List ℕ) (other : Option (Op × ℕ × List ℕ)) → ((v : ℕ) → v < 2 ^ 64 → FitsOp (make v))
-    → ((a v : ℕ) (rest : List ℕ) → word ++ pair_then 32 a v rest ≡ op_then (make v) a rest) → IfSome other (SpellsOp text)
-    → IfSome (instead (valued_at 32 word text) (λ p. Some (make p.1, p.0, p.2)) other) (SpellsOp text)
-valued_op make word text other fits spelled last =
-    instead_some _ (valued_at 32 word text) (λ p. Some (make p.1, p.0, p.2)) other (valued_spelled 32 word text)
-    (λ p is. (fits p.1 is.1, is.0, is.2 ∙ spelled p.0 p.1 p.2))
-    last
-
-newer_spelled : (text : List ℕ) → IfSome (newer_at text) (SpellsOp text)
-unfolding newer_at
-newer_spelled text =
-    valued_op And (codes "and ") text _ (λ v small. small) (λ a v rest. refl)
-    (valued_op Or (codes "or ") text _ (λ v small. small) (λ a v rest. refl)
-    (valued_op Xor (codes "xor ") text _ (λ v small. small) (λ a v rest. refl)
-    (valued_op Max (codes "max ") text _ (λ v small. small) (λ a v rest. refl)
-    (valued_op Min (codes "min ") text None (λ v small. small) (λ a v rest. refl) tt))))
+-- the word of an operation, its address and its values
+op_made : (text : List ℕ) (c : Code) (a v w : ℕ) (rest : List ℕ) → before_first is_space text ≡ code_word c → a < 2 ^ 32
+    → after_first is_space text ≡ decimal a ++ 32 ∷ values_then (take (arity c) (v ∷ w ∷ [])) rest
+    → All (λ value. value < 2 ^ 64) (take (arity c) (v ∷ w ∷ []))
+    → SpellsOp text (op_with c v w, a, rest)
+op_made text c a v w rest word small behind fits =
+    let made = made_of c v w in
+    let some : 0 < length (after_first is_space text) = omega (arith, ap (λ (t : List ℕ). length t) behind, length-append {A = ℕ}) in
+    let is : text ≡ code_word c ++ 32 ∷ (decimal a ++ 32 ∷ values_then (take (arity c) (v ∷ w ∷ [])) rest) =
+    space_splits text some ∙ ap (λ (t : List ℕ). t ++ 32 ∷ after_first is_space text) word ∙ ap (λ (t : List ℕ). code_word c ++ 32 ∷ t) behind in
+    (rw made.values fits, small, rw (made.name, made.values) is)
 
 pub op_spelled : (text : List ℕ) → IfSome (op_at text) (SpellsOp text)
 unfolding op_at
 op_spelled text =
-    or_some _ (load_at text) _ (load_spelled text)
-    (valued_op Store (codes "store ") text _ (λ v small. small) (λ a v rest. refl)
-    (valued_op Swap (codes "swap ") text _ (λ v small. small) (λ a v rest. refl)
-    (or_some _ (cas_at text) _ (cas_spelled text)
-    (valued_op Add (codes "add ") text (newer_at text) (λ v small. small) (λ a v rest. refl) (newer_spelled text)))))
+    let word : List ℕ = before_first is_space text in
+    let rest : List ℕ = after_first is_space text in
+    then_some _ (code_named word)
+    (λ c. index_at 32 rest >>= λ a. values_at (arity c) a.1 >>= λ v. Some (op_with c v.0 v.1, a.0, v.2)) (named_word word)
+    (λ c hc. then_some _ (index_at 32 rest) (λ a. values_at (arity c) a.1 >>= λ v. Some (op_with c v.0 v.1, a.0, v.2)) (index_spelled 32 rest)
+    (λ a ha. then_some _ (values_at (arity c) a.1) (λ v. Some (op_with c v.0 v.1, a.0, v.2)) (values_spelled (arity c) a.1)
+    (λ v hv. op_made text c a.0 v.0 v.1 v.2 hc ha.0 (ha.1 ∙ ap (λ (t : List ℕ). decimal a.0 ++ 32 ∷ t) hv.spelled) hv.fit)))
 
 -- radices
 abbrev SpellsRadices : List ℕ → Radices × List ℕ → Type 0

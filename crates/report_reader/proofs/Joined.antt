@@ -1,21 +1,23 @@
 -- A line from left to right is the printing of its words.
-use Rattle.std.proofs.Common.{◌≡◌, ◌<◌, ℕ, ◌+◌, ◌==◌, ◌&&◌, true, false, List, [], ◌∷◌, ◌++◌, Option, Some, None, length, decimal, codes, refl, sym, ap, ◌∙◌}
-use Rattle.std.proofs.Common.{arith, ⊎_elim, append_assoc, length-append, lit<}
+use Rattle.std.proofs.Common.{◌≡◌, ◌<◌, ℕ, ◌==◌, ◌&&◌, true, false, List, [], ◌∷◌, ◌++◌, Option, Some, None, length, decimal, codes, refl, sym, ap, ◌∙◌}
+use Rattle.std.proofs.Common.{arith, ⊎_elim, append_assoc, length-append, lit<, map}
 use Rattle.std.specs.List.{join_with_byte}
 use Rattle.std.proofs.lemmas.Bool.{cases_Bool}
 use Rattle.std.proofs.lemmas.List.{append-nil}
 use Rattle.std.proofs.lemmas.Fmt.{decimal_digit}
 use Rattle.packet.specs.declared.kinds.Op.{Op}
-use Rattle.packet.specs.declared.kinds.Op.TheVariants.{Load, Store, Swap, Cas, Add, And, Or, Xor, Max, Min}
 use Rattle.packet.specs.declared.kinds.Reply.{Reply}
 use Rattle.packet.specs.declared.kinds.Reply.TheVariants.{Old, Ok as Stored}
-use Rattle.report_lines.specs.Line.{words_of, op_words, reply_word, event_word, radix_word, radix_list, line_text}
+use Rattle.packet.specs.Kinds.{code_of}
+use Rattle.packet.specs.Names.{code_word}
+use Rattle.packet.specs.Spelling.{values_of_op}
+use Rattle.report_lines.specs.Line.{op_words, reply_word, event_word, radix_word, radix_list, line_text}
 use Rattle.report_lines.specs.declared.line.Radices.{Radices}
 use Rattle.report_lines.specs.declared.line.Radices.TheVariants.{One, Two, Three}
 use Rattle.report_lines.specs.declared.line.EntryLine.{EntryLine}
 use Rattle.report_lines.specs.declared.line.ReportLine.{ReportLine}
 use Rattle.report_lines.specs.declared.line.ReportLine.TheVariants.{Header, Shape, Init, Entry, Answer, Word, Order, End}
-use Rattle.report_reader.proofs.Spelled.{reply_then, event_then, op_then, radices_then, line_then}
+use Rattle.report_reader.proofs.Spelled.{reply_then, event_then, values_then, op_then, radices_then, line_then}
 
 -- a word and others, each behind a space, and the line feed
 ended : List ℕ → List (List ℕ) → List ℕ → List ℕ
@@ -38,19 +40,19 @@ event_is : (e : Option ℕ) (rest : List ℕ) → event_word e ++ 10 ∷ rest �
 event_is None rest = refl
 event_is (Some n) rest = refl
 
+-- values between a word and a last one
+values_are : (w last : List ℕ) (vs rest : List ℕ) → ended w (map decimal vs ++ last ∷ []) rest ≡ w ++ 32 ∷ values_then vs (last ++ 10 ∷ rest)
+unfolding ended
+values_are w last [] rest = refl
+values_are w last (v ∷ vs) rest = ap (λ (t : List ℕ). w ++ 32 ∷ t) (values_are (decimal v) last vs rest)
+
 op_is : (tag : List ℕ) (o : Op) (a : ℕ) (r : Reply) (rest : List ℕ)
     → ended tag (op_words o a (reply_word r ∷ [])) rest ≡ tag ++ 32 ∷ op_then o a (reply_then r rest)
 unfolding ended
-op_is tag Load a r rest = ap (λ (t : List ℕ). tag ++ 32 ∷ op_then Load a t) (reply_is r rest)
-op_is tag (Store v) a r rest = ap (λ (t : List ℕ). tag ++ 32 ∷ op_then (Store v) a t) (reply_is r rest)
-op_is tag (Swap v) a r rest = ap (λ (t : List ℕ). tag ++ 32 ∷ op_then (Swap v) a t) (reply_is r rest)
-op_is tag (Cas e n) a r rest = ap (λ (t : List ℕ). tag ++ 32 ∷ op_then (Cas e n) a t) (reply_is r rest)
-op_is tag (Add v) a r rest = ap (λ (t : List ℕ). tag ++ 32 ∷ op_then (Add v) a t) (reply_is r rest)
-op_is tag (And v) a r rest = ap (λ (t : List ℕ). tag ++ 32 ∷ op_then (And v) a t) (reply_is r rest)
-op_is tag (Or v) a r rest = ap (λ (t : List ℕ). tag ++ 32 ∷ op_then (Or v) a t) (reply_is r rest)
-op_is tag (Xor v) a r rest = ap (λ (t : List ℕ). tag ++ 32 ∷ op_then (Xor v) a t) (reply_is r rest)
-op_is tag (Max v) a r rest = ap (λ (t : List ℕ). tag ++ 32 ∷ op_then (Max v) a t) (reply_is r rest)
-op_is tag (Min v) a r rest = ap (λ (t : List ℕ). tag ++ 32 ∷ op_then (Min v) a t) (reply_is r rest)
+op_is tag o a r rest =
+    let front : List ℕ → List ℕ = λ t. tag ++ 32 ∷ (code_word (code_of o) ++ 32 ∷ t) in
+    ap front (values_are (decimal a) (reply_word r) (values_of_op o) rest)
+    ∙ ap (λ (t : List ℕ). front (decimal a ++ 32 ∷ values_then (values_of_op o) t)) (reply_is r rest)
 
 entry_is : (e : EntryLine) (rest : List ℕ)
     → ended (codes "entry") (decimal e.bank ∷ decimal e.place ∷ decimal e.source ∷ decimal e.tag ∷ op_words e.op e.address (reply_word e.reply ∷ [])) rest

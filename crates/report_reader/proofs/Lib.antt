@@ -1,6 +1,7 @@
 pub mod Spelled
 pub mod Words
 pub mod Sound
+pub mod Operations
 pub mod Again
 pub mod LinesAgain
 pub mod Joined

@@ -1,5 +1,5 @@
 -- A line's text is read again as the line.
-use Rattle.std.proofs.Common.{◌≡◌, ◌<◌, ℕ, ◌+◌, ◌-◌, ◌^◌, ◌==◌, ◌&&◌, true, false, Bool, List, ◌∷◌, ◌++◌}
+use Rattle.std.proofs.Common.{◌≡◌, ◌<◌, ℕ, ◌^◌, ◌==◌, ◌&&◌, true, false, Bool, List, ◌∷◌, ◌++◌}
 use Rattle.std.specs.Option.{option_or}
 use Rattle.std.proofs.Common.{Some, None, decimal, codes, refl, ap, ◌∙◌, ⊎_elim}
 use Rattle.std.proofs.lemmas.Bool.{and_parts, cases_Bool, eqb-true}

@@ -1,8 +1,10 @@
 -- The bytes of a line and what stands behind it, from left to right.
-use Rattle.std.specs.Prelude.{ℕ, ◌==◌, ◌&&◌, if◌then◌else◌, List, ◌∷◌, ◌++◌, true, false, Option, Some, None, codes}
+use Rattle.std.specs.Prelude.{ℕ, ◌==◌, ◌&&◌, if◌then◌else◌, List, [], ◌∷◌, ◌++◌, true, false, Option, Some, None, codes}
 use Rattle.std.specs.Prelude.{decimal}
 use Rattle.packet.specs.declared.kinds.Op.{Op}
-use Rattle.packet.specs.declared.kinds.Op.TheVariants.{Load, Store, Swap, Cas, Add, And, Or, Xor, Max, Min}
+use Rattle.packet.specs.Kinds.{code_of}
+use Rattle.packet.specs.Names.{code_word}
+use Rattle.packet.specs.Spelling.{values_of_op}
 use Rattle.packet.specs.declared.kinds.Reply.{Reply}
 use Rattle.packet.specs.declared.kinds.Reply.TheVariants.{Old, Ok as Stored}
 use Rattle.report_lines.specs.declared.line.Radices.{Radices}
@@ -30,19 +32,15 @@ abbrev pub four_then : ℕ → ℕ → ℕ → ℕ → List ℕ → List ℕ
 four_then a b c d rest =
     decimal a ++ 32 ∷ (decimal b ++ 32 ∷ (decimal c ++ 32 ∷ (decimal d ++ 32 ∷ rest)))
 
+-- values, each up to a space
+abbrev pub values_then : List ℕ → List ℕ → List ℕ
+values_then [] rest = rest
+values_then (value ∷ values) rest = decimal value ++ 32 ∷ values_then values rest
+
 -- an operation with its address and its values, each behind its word up to a space
 abbrev pub op_then : Op → ℕ → List ℕ → List ℕ
-op_then Load address rest = codes "load " ++ (decimal address ++ 32 ∷ rest)
-op_then (Store value) address rest = codes "store " ++ pair_then 32 address value rest
-op_then (Swap value) address rest = codes "swap " ++ pair_then 32 address value rest
-op_then (Cas expected new) address rest =
-    codes "cas " ++ (decimal address ++ 32 ∷ (decimal expected ++ 32 ∷ (decimal new ++ 32 ∷ rest)))
-op_then (Add value) address rest = codes "add " ++ pair_then 32 address value rest
-op_then (And value) address rest = codes "and " ++ pair_then 32 address value rest
-op_then (Or value) address rest = codes "or " ++ pair_then 32 address value rest
-op_then (Xor value) address rest = codes "xor " ++ pair_then 32 address value rest
-op_then (Max value) address rest = codes "max " ++ pair_then 32 address value rest
-op_then (Min value) address rest = codes "min " ++ pair_then 32 address value rest
+op_then op address rest =
+    code_word (code_of op) ++ 32 ∷ (decimal address ++ 32 ∷ values_then (values_of_op op) rest)
 
 -- the radices and their number
 abbrev pub radices_then : Radices → List ℕ → List ℕ

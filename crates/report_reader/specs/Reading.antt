@@ -1,12 +1,13 @@
 -- Reading a line at the beginning of a text.
 use Rattle.std.specs.Prelude.{◌≡◌, ℕ, ◌+◌, ◌-◌, ◌*◌, ◌^◌, ◌==◌, ◌&&◌, if◌then◌else◌, List, [], ◌∷◌}
-use Rattle.std.specs.Prelude.{Option, Some}
+use Rattle.std.specs.Prelude.{Bool, zero, suc, Option, Some}
 use Rattle.std.specs.Prelude.{None, true, false, nat_lt, codes}
 use Rattle.std.specs.Char.{is_ascii_digit}
+use Rattle.std.specs.List.{after_first, before_first}
 use Rattle.std.specs.Option.{option_or}
+use Rattle.packet.specs.Names.{arity, code_named}
+use Rattle.packet.specs.Reading.{op_with}
 use Rattle.packet.specs.declared.kinds.Op.{Op}
-use Rattle.packet.specs.declared.kinds.Op.TheVariants.{Load, Store, Swap, Cas, Add, And, Or, Xor}
-use Rattle.packet.specs.declared.kinds.Op.TheVariants.{Max, Min}
 use Rattle.packet.specs.declared.kinds.Reply.{Reply}
 use Rattle.packet.specs.declared.kinds.Reply.TheVariants.{Old, Ok as Stored}
 use Rattle.report_lines.specs.declared.line.Radices.{Radices}
@@ -82,41 +83,28 @@ valued_at end word text = do
   rest ← behind word text
   pair_at end rest
 
--- a load and its address
-unfoldable pub load_at : List ℕ → Option (Op × ℕ × List ℕ)
-load_at text = do
-  rest ← behind (codes "load ") text
-  a ← index_at 32 rest
-  Some (Load, a.0, a.1)
+-- a space: words stand between spaces
+abbrev pub is_space : ℕ → Bool
+is_space b = b == 32
 
--- a compare-and-swap, its address and its values
-unfoldable pub cas_at : List ℕ → Option (Op × ℕ × List ℕ)
-cas_at text = do
-  rest ← behind (codes "cas ") text
-  a ← index_at 32 rest
-  e ← number_read_at 32 a.1
-  n ← number_read_at 32 e.1
-  Some (Cas e.0 n.0, a.0, n.1)
+-- the values of an operation that brings as many, each up to a space; 0 for one that it doesn't bring
+unfoldable pub values_at : ℕ → List ℕ → Option (ℕ × ℕ × List ℕ)
+values_at zero text = Some (0, 0, text)
+values_at (suc zero) text = do
+  v ← number_read_at 32 text
+  Some (v.0, 0, v.1)
+values_at (suc (suc n)) text = do
+  v ← number_read_at 32 text
+  w ← number_read_at 32 v.1
+  Some (v.0, w.0, w.1)
 
--- an operation that is one of and, or, xor, max and min
-unfoldable pub newer_at : List ℕ → Option (Op × ℕ × List ℕ)
-newer_at text =
-    instead (valued_at 32 (codes "and ") text) (λ p. Some (And p.1, p.0, p.2))
-    (instead (valued_at 32 (codes "or ") text) (λ p. Some (Or p.1, p.0, p.2))
-    (instead (valued_at 32 (codes "xor ") text) (λ p. Some (Xor p.1, p.0, p.2))
-    (instead (valued_at 32 (codes "max ") text) (λ p. Some (Max p.1, p.0, p.2))
-    (instead (valued_at 32 (codes "min ") text) (λ p. Some (Min p.1, p.0, p.2))
-    None))))
-
--- an operation with its address, up to the space behind them
+-- an operation: its word, its address and its values, up to the space behind them
 unfoldable pub op_at : List ℕ → Option (Op × ℕ × List ℕ)
-op_at text =
-    option_or (load_at text)
-    (instead (valued_at 32 (codes "store ") text) (λ p. Some (Store p.1, p.0, p.2))
-    (instead (valued_at 32 (codes "swap ") text) (λ p. Some (Swap p.1, p.0, p.2))
-    (option_or (cas_at text)
-    (instead (valued_at 32 (codes "add ") text) (λ p. Some (Add p.1, p.0, p.2))
-    (newer_at text)))))
+op_at text = do
+  code ← code_named (before_first is_space text)
+  a ← index_at 32 (after_first is_space text)
+  values ← values_at (arity code) a.1
+  Some (op_with code values.0 values.1, a.0, values.2)
 
 -- four indexes behind a word
 unfoldable pub four_at : List ℕ → List ℕ → Option (ℕ × ℕ × ℕ × ℕ × List ℕ)

@@ -1,11 +1,13 @@
 //! The operations of entries, and the replies and events of lines.
 
 ghost use Rattle.std.specs.Prelude.{◌≡◌};
-ghost use Rattle.report_reader.specs.Reading.{GivesRead, reply_read_at, event_at, load_at, cas_at};
-ghost use Rattle.report_reader.specs.Reading.{newer_at, op_at};
+ghost use Rattle.std.specs.List.{after_first, before_first};
+ghost use Rattle.packet.specs.Names.{arity};
+ghost use Rattle.report_reader.specs.Reading.{GivesRead, reply_read_at, event_at, is_space};
+ghost use Rattle.report_reader.specs.Reading.{values_at, op_at};
 
-use crate::numbers::{behind, read_index, read_number, read_valued};
-use packet::{Op, Reply};
+use crate::numbers::{behind, read_index, read_number};
+use packet::{Code, Op, Reply};
 
 /// A reply at the end of a line.
 #[tactic(auto, unfolding(crate::specs::Reading::reply_read_at))]
@@ -31,49 +33,36 @@ pub(crate) fn read_event(text: &[u8]) -> Option<(Option<u32>, &[u8])>
     Some((Some(event), rest))
 }
 
-/// A load and its address.
-#[tactic(auto, unfolding(crate::specs::Reading::load_at))]
-fn read_load(text: &[u8]) -> Option<(Op, u32, &[u8])>
-    ensures { GivesRead (λ x. (x.0, x.1, x.2.now)) result (load_at text.now) }
+/// The word up to the first space, and what stands behind that space.
+fn next_word(text: &[u8]) -> (&[u8], &[u8])
+    ensures word { result.0.now ≡ before_first is_space text.now }
+    ensures rest { result.1.now ≡ after_first is_space text.now }
 {
-    let rest = behind(text, "load ")?;
-    let (address, rest) = read_index(rest, b' ')?;
-    Some((Op::Load, address, rest))
+    for (at, &byte) in text.iter().enumerate() {
+        if byte == b' ' {
+            return (&text[..at], &text[at + 1..]);
+        }
+    }
+    (text, &[])
 }
 
-/// A compare-and-swap, its address and its values.
-#[tactic(auto, unfolding(crate::specs::Reading::cas_at))]
-fn read_cas(text: &[u8]) -> Option<(Op, u32, &[u8])>
-    ensures { GivesRead (λ x. (x.0, x.1, x.2.now)) result (cas_at text.now) }
+/// The values of an operation, each up to a space; 0 for one that it doesn't bring.
+#[tactic(auto, unfolding(crate::specs::Reading::values_at))]
+fn read_values(text: &[u8], code: Code) -> Option<(u64, u64, &[u8])>
+    ensures { GivesRead (λ x. (x.0, x.1, x.2.now)) result (values_at (arity code) text.now) }
 {
-    let rest = behind(text, "cas ")?;
-    let (address, rest) = read_index(rest, b' ')?;
-    let (expected, rest) = read_number(rest, b' ')?;
-    let (new, rest) = read_number(rest, b' ')?;
-    Some((Op::Cas(expected, new), address, rest))
-}
-
-/// One of and, or, xor, max and min, with its address, up to the space behind them.
-#[tactic(auto, unfolding(crate::specs::Reading::newer_at))]
-fn read_newer(text: &[u8]) -> Option<(Op, u32, &[u8])>
-    ensures { GivesRead (λ x. (x.0, x.1, x.2.now)) result (newer_at text.now) }
-{
-    if let Some((address, value, rest)) = read_valued(text, "and ", b' ') {
-        return Some((Op::And(value), address, rest));
+    match code.arity() {
+        0 => Some((0, 0, text)),
+        1 => {
+            let (value, rest) = read_number(text, b' ')?;
+            Some((value, 0, rest))
+        }
+        _ => {
+            let (first, rest) = read_number(text, b' ')?;
+            let (second, rest) = read_number(rest, b' ')?;
+            Some((first, second, rest))
+        }
     }
-    if let Some((address, value, rest)) = read_valued(text, "or ", b' ') {
-        return Some((Op::Or(value), address, rest));
-    }
-    if let Some((address, value, rest)) = read_valued(text, "xor ", b' ') {
-        return Some((Op::Xor(value), address, rest));
-    }
-    if let Some((address, value, rest)) = read_valued(text, "max ", b' ') {
-        return Some((Op::Max(value), address, rest));
-    }
-    if let Some((address, value, rest)) = read_valued(text, "min ", b' ') {
-        return Some((Op::Min(value), address, rest));
-    }
-    None
 }
 
 /// An operation with its address, up to the space behind them.
@@ -81,20 +70,9 @@ fn read_newer(text: &[u8]) -> Option<(Op, u32, &[u8])>
 pub(crate) fn read_op(text: &[u8]) -> Option<(Op, u32, &[u8])>
     ensures { GivesRead (λ x. (x.0, x.1, x.2.now)) result (op_at text.now) }
 {
-    if let Some(read) = read_load(text) {
-        return Some(read);
-    }
-    if let Some((address, value, rest)) = read_valued(text, "store ", b' ') {
-        return Some((Op::Store(value), address, rest));
-    }
-    if let Some((address, value, rest)) = read_valued(text, "swap ", b' ') {
-        return Some((Op::Swap(value), address, rest));
-    }
-    if let Some(read) = read_cas(text) {
-        return Some(read);
-    }
-    if let Some((address, value, rest)) = read_valued(text, "add ", b' ') {
-        return Some((Op::Add(value), address, rest));
-    }
-    read_newer(text)
+    let (word, rest) = next_word(text);
+    let code = Code::named(word)?;
+    let (address, rest) = read_index(rest, b' ')?;
+    let (first, second, rest) = read_values(rest, code)?;
+    Some((Op::with(code, first, second), address, rest))
 }

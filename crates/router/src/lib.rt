@@ -1,4 +1,5 @@
-//! The router of a tile, as an agent.
+//! The router of a tile: it holds a latch for each input, and sends each packet on by the output
+//! that its head flit chooses.
 #![tactic(auto)]
 
 pub mod laws;

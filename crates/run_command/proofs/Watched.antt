@@ -16,7 +16,7 @@ use Rattle.history.specs.worker_run.specs.declared.worker.End.{End}
 use Rattle.history.specs.worker_run.specs.declared.worker.End.TheVariants.{Held, Finished, Stopped}
 use Rattle.program_fault.specs.declared.fault.ProgramFault.{ProgramFault}
 use Rattle.program_fault.specs.declared.fault.ProgramFault.TheVariants as program
-use Rattle.commands.specs.Run.{IsReadFault}
+use Rattle.program_fault.specs.Outcome.{IsReadFault}
 use Rattle.run_command.specs.Workers.{LetsAll, crew, held, new_worker}
 use Rattle.run_command.specs.Watched.{HearsPart, HearsWorkers, TellsWorkers}
 use Rattle.run_command.proofs.ByWorkers.{seat_of, worker_starts}

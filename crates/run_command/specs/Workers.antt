@@ -20,7 +20,7 @@ use Rattle.report_check.specs.Good.{GoodReport}
 use Rattle.history.specs.RunReport.{run_report}
 use Rattle.program_fault.specs.declared.fault.ProgramFault.{ProgramFault}
 use Rattle.program_fault.specs.Done.{Does, Output}
-use Rattle.commands.specs.Run.{IsTextsFault}
+use Rattle.program_fault.specs.Outcome.{IsTextsFault}
 
 -- the first tile of worker j, where so many workers share n tiles (this project's own format)
 abbrev pub first_held : ℕ → ℕ → ℕ → ℕ

@@ -19,7 +19,8 @@ use Rattle.schedule_lines.specs.Schedule.{round_lines, lines_of_rounds}
 use Rattle.schedule_lines.proofs.Growing.{one_more_round}
 use Rattle.program_fault.specs.Done.{Output, TookAll, TookFront}
 use Rattle.schedule_commands.specs.Output.{headed}
-use Rattle.schedule_commands.specs.Rounds.{AreFewest, HasPutRounds, HasPutSome, after_rounds, moves_of_rounds, round_moves, rounds_text}
+use Rattle.machine_texts.specs.Rounds.{AreFewest, after_rounds}
+use Rattle.schedule_commands.specs.Rounds.{HasPutRounds, HasPutSome, moves_of_rounds, round_moves, rounds_text}
 use Rattle.schedule_commands.proofs.Outputs.{took_none, took_then, front_then, front_of_more}
 
 -- so many rounds are made, before each of them not every script was finished, and their lines are put

@@ -25,9 +25,11 @@ use Rattle.schedule_lines.specs.Line.{line_text, text_of}
 use Rattle.schedule_lines.specs.Schedule.{schedule_of, moves_schedule}
 use Rattle.schedule_runs.proofs.Again.{rounds_again, moves_again}
 use Rattle.program_fault.specs.Done.{Output, TookAll, TookFront, Wrote}
-use Rattle.schedule_commands.specs.Asked.{Asked, HasOpened}
+use Rattle.machine_texts.specs.Run.{Asked}
+use Rattle.schedule_commands.specs.Asked.{HasOpened}
 use Rattle.schedule_commands.specs.Output.{headed}
-use Rattle.schedule_commands.specs.Rounds.{AreFewest, HasPutRounds, HasPutSome, after_rounds, moves_of_rounds, round_moves, rounds_text}
+use Rattle.machine_texts.specs.Rounds.{AreFewest, after_rounds}
+use Rattle.schedule_commands.specs.Rounds.{HasPutRounds, HasPutSome, moves_of_rounds, round_moves, rounds_text}
 use Rattle.schedule_commands.specs.Schedules.{TellsRun, IsRoundsText, IsMovesText}
 use Rattle.schedule_commands.proofs.Outputs.{took_then, front_then, front_of_more}
 use Rattle.schedule_commands.proofs.InRounds.{round_more}

@@ -13,7 +13,7 @@ use Rattle.schedule_lines.specs.Line.{text_of}
 use Rattle.schedule_lines.specs.Schedule.{moves_schedule}
 use Rattle.program_fault.specs.declared.fault.ProgramFault.{ProgramFault}
 use Rattle.program_fault.specs.Done.{Does, Output}
-use Rattle.schedule_commands.specs.Asked.{IsTextsFault}
+use Rattle.program_fault.specs.Outcome.{IsTextsFault}
 use Rattle.schedule_commands.specs.Schedules.{TellsRun}
 
 -- the attempts of a list that are enabled in a machine now

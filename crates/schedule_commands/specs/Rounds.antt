@@ -1,26 +1,16 @@
 -- The moves of the rounds of a run (this project's own format).
-use Rattle.std.specs.Prelude.{◌≡◌, ℕ, ◌<◌, ◌≤◌, true, false, List, map, Result, Ok, Err}
+use Rattle.std.specs.Prelude.{ℕ, List, map, Result, Ok, Err}
 use Rattle.std.specs.List.{range_with_len}
 use Rattle.torus.specs.declared.step.Step.{Step}
 use Rattle.core_machine.specs.order_abstract.specs.Load.{Load}
 use Rattle.core_machine.specs.core_laws.specs.Core.{round}
 use Rattle.machine_core.specs.Rounds.{rounds_of}
-use Rattle.core_machine.specs.Machine.{Core, IsAfter, core_after_load, all_finished}
+use Rattle.core_machine.specs.Machine.{Core, IsAfter}
+use Rattle.machine_texts.specs.Rounds.{AreFewest, after_rounds}
 use Rattle.core_moves.specs.Moves.{moves_from}
 use Rattle.schedule_lines.specs.Line.{text_of}
 use Rattle.schedule_lines.specs.Schedule.{lines_of_rounds}
 use Rattle.program_fault.specs.Done.{Output, TookAll, TookFront}
-
--- the machine after so many rounds from a load
-abbrev pub after_rounds : Load → ℕ → Core
-after_rounds l k = core_after_load l (rounds_of l.shape k)
-
--- so many rounds are the fewest that finish every script; where these are more than the most that
--- are allowed, they are that many
-pub record AreFewest (l : Load) (most k : ℕ) : Type 0 where
-  pub allowed : k ≤ most
-  pub unfinished : (j : ℕ) → j < k → all_finished (after_rounds l j).state ≡ false
-  pub finished : k < most → all_finished (after_rounds l k).state ≡ true
 
 -- the attempts of the round behind so many that are enabled where they come
 abbrev pub round_moves : Load → ℕ → List Step

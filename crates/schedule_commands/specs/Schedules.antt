@@ -15,8 +15,10 @@ use Rattle.schedule_lines.specs.Line.{text_of}
 use Rattle.schedule_lines.specs.Schedule.{schedule_of, moves_schedule}
 use Rattle.program_fault.specs.declared.fault.ProgramFault.{ProgramFault}
 use Rattle.program_fault.specs.Done.{Does, Output}
-use Rattle.schedule_commands.specs.Asked.{Asked, IsTextsFault}
-use Rattle.schedule_commands.specs.Rounds.{AreFewest, moves_of_rounds}
+use Rattle.program_fault.specs.Outcome.{IsTextsFault}
+use Rattle.machine_texts.specs.Run.{Asked}
+use Rattle.machine_texts.specs.Rounds.{AreFewest}
+use Rattle.schedule_commands.specs.Rounds.{moves_of_rounds}
 
 -- A text tells of a run of these steps from a load: the answer says whether every script is
 -- finished after them; the text is read, for the machine of the load, as the moves among them,

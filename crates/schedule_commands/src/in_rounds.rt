@@ -5,7 +5,7 @@ ghost use Rattle.core_machine.specs.core_laws.specs.Core.{round};
 ghost use Rattle.machine_texts.specs.Loading.{HasLoaded, load_by};
 ghost use Rattle.core_machine.specs.Machine.{IsAfter};
 ghost use Rattle.program_fault.specs.Done.{output};
-ghost use Rattle.schedule_commands.specs.Asked.{IsReadFault};
+ghost use Rattle.program_fault.specs.Outcome.{IsReadFault};
 ghost use Rattle.schedule_commands.specs.Rounds.{PutsRounds};
 ghost use Rattle.schedule_commands.specs.Schedules.{PrintsSchedule};
 

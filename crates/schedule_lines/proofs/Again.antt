@@ -8,6 +8,8 @@ use Rattle.torus.specs.declared.step.Step.{Step}
 use Rattle.torus.specs.Shape.{Shape, IsAccepted, tiles_of, dims_of}
 use Rattle.lexer.specs.Words.{words_of as cut}
 use Rattle.script.specs.Machine.{MachineSpec}
+use Rattle.script.specs.Outcome.{by_fault}
+use Rattle.script.specs.Reasons.{fault_of}
 use Rattle.script.specs.Steps.{after_words, steps_from, steps_of}
 use Rattle.schedule_lines.specs.declared.line.ScheduleLine.{ScheduleLine}
 use Rattle.schedule_lines.specs.declared.line.ScheduleLine.TheVariants.{Round, Move, End}
@@ -77,7 +79,7 @@ text-again s (line ∷ rest) steps number is all =
 -- the text of lines is read as their moves
 pub lines_read_back : (machine : MachineSpec) (ls : List ScheduleLine) → IsAccepted machine.shape → All (IsOfTorus machine.shape) ls
     → steps_of machine (lines (text_of ls)) ≡ Ok (moves_among ls)
-lines_read_back machine ls is all = text-again machine.shape ls [] 1 is all
+lines_read_back machine ls is all = ap (by_fault fault_of) (text-again machine.shape ls [] 1 is all)
 
 -- the moves among lines one after the other
 pub moves_among-append : (ls more : List ScheduleLine) → moves_among (ls ++ more) ≡ moves_among ls ++ moves_among more

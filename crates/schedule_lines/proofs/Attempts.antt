@@ -11,7 +11,7 @@ use Rattle.torus.specs.Choices.{has_choice, is_of_processor, is_of_router, is_of
 use Rattle.script.specs.Steps.{take_step}
 use Rattle.schedule_lines.specs.Line.{choice_words}
 use Rattle.schedule_lines.proofs.Cuts.{IsWord, word-from}
-use Rattle.schedule_lines.proofs.Numerals.{decimal_is_word, an_index-decimal}
+use Rattle.schedule_lines.proofs.Numerals.{decimal_is_word, index_of-decimal}
 
 -- the number of a choice, if it has one, is one that a field takes
 abbrev pub IsSmall : Choice → Type 0
@@ -69,38 +69,38 @@ choice_is_small ports kind Look few h = tt
 -- the line of a step of a processor, of a router and of a bank adds the step
 of_processor : (tiles dims agent : ℕ) (steps : List Step) (c : Choice) → agent < 2 ^ 31 → nat_lt agent (3 * tiles) ≡ true → agent % 3 ≡ 0
     → is_of_processor c ≡ true → take_step tiles dims steps (decimal agent ∷ choice_words c) ≡ Ok (steps ++ record { agent = agent; choice = c } ∷ [])
-of_processor tiles dims agent steps Send low there kind h = rw (an_index-decimal agent low, there, kind)
-of_processor tiles dims agent steps Take low there kind h = rw (an_index-decimal agent low, there, kind)
+of_processor tiles dims agent steps Send low there kind h = rw (index_of-decimal agent low, there, kind)
+of_processor tiles dims agent steps Take low there kind h = rw (index_of-decimal agent low, there, kind)
 of_processor tiles dims agent steps (TakeFrom n) low there kind h = absurd (cc)
 of_processor tiles dims agent steps (Put n) low there kind h = absurd (cc)
-of_processor tiles dims agent steps Credit low there kind h = rw (an_index-decimal agent low, there, kind)
+of_processor tiles dims agent steps Credit low there kind h = rw (index_of-decimal agent low, there, kind)
 of_processor tiles dims agent steps (CreditOf n) low there kind h = absurd (cc)
 of_processor tiles dims agent steps Serve low there kind h = absurd (cc)
-of_processor tiles dims agent steps Done low there kind h = rw (an_index-decimal agent low, there, kind)
-of_processor tiles dims agent steps Look low there kind h = rw (an_index-decimal agent low, there, kind)
+of_processor tiles dims agent steps Done low there kind h = rw (index_of-decimal agent low, there, kind)
+of_processor tiles dims agent steps Look low there kind h = rw (index_of-decimal agent low, there, kind)
 
 of_router : (tiles dims agent : ℕ) (steps : List Step) (c : Choice) → agent < 2 ^ 31 → nat_lt agent (3 * tiles) ≡ true → agent % 3 ≡ 1 → IsSmall c
     → is_of_router (8 * dims + 2) c ≡ true
     → take_step tiles dims steps (decimal agent ∷ choice_words c) ≡ Ok (steps ++ record { agent = agent; choice = c } ∷ [])
 of_router tiles dims agent steps Send low there kind few h = absurd (cc)
 of_router tiles dims agent steps Take low there kind few h = absurd (cc)
-of_router tiles dims agent steps (TakeFrom n) low there kind few h = rw (an_index-decimal agent low, an_index-decimal n few, there, kind, h)
-of_router tiles dims agent steps (Put n) low there kind few h = rw (an_index-decimal agent low, an_index-decimal n few, there, kind, h)
+of_router tiles dims agent steps (TakeFrom n) low there kind few h = rw (index_of-decimal agent low, index_of-decimal n few, there, kind, h)
+of_router tiles dims agent steps (Put n) low there kind few h = rw (index_of-decimal agent low, index_of-decimal n few, there, kind, h)
 of_router tiles dims agent steps Credit low there kind few h = absurd (cc)
-of_router tiles dims agent steps (CreditOf n) low there kind few h = rw (an_index-decimal agent low, an_index-decimal n few, there, kind, h)
+of_router tiles dims agent steps (CreditOf n) low there kind few h = rw (index_of-decimal agent low, index_of-decimal n few, there, kind, h)
 of_router tiles dims agent steps Serve low there kind few h = absurd (cc)
 of_router tiles dims agent steps Done low there kind few h = absurd (cc)
 of_router tiles dims agent steps Look low there kind few h = absurd (cc)
 
 of_bank : (tiles dims agent : ℕ) (steps : List Step) (c : Choice) → agent < 2 ^ 31 → nat_lt agent (3 * tiles) ≡ true → agent % 3 ≡ 2
     → is_of_bank c ≡ true → take_step tiles dims steps (decimal agent ∷ choice_words c) ≡ Ok (steps ++ record { agent = agent; choice = c } ∷ [])
-of_bank tiles dims agent steps Send low there kind h = rw (an_index-decimal agent low, there, kind)
-of_bank tiles dims agent steps Take low there kind h = rw (an_index-decimal agent low, there, kind)
+of_bank tiles dims agent steps Send low there kind h = rw (index_of-decimal agent low, there, kind)
+of_bank tiles dims agent steps Take low there kind h = rw (index_of-decimal agent low, there, kind)
 of_bank tiles dims agent steps (TakeFrom n) low there kind h = absurd (cc)
 of_bank tiles dims agent steps (Put n) low there kind h = absurd (cc)
-of_bank tiles dims agent steps Credit low there kind h = rw (an_index-decimal agent low, there, kind)
+of_bank tiles dims agent steps Credit low there kind h = rw (index_of-decimal agent low, there, kind)
 of_bank tiles dims agent steps (CreditOf n) low there kind h = absurd (cc)
-of_bank tiles dims agent steps Serve low there kind h = rw (an_index-decimal agent low, there, kind)
+of_bank tiles dims agent steps Serve low there kind h = rw (index_of-decimal agent low, there, kind)
 of_bank tiles dims agent steps Done low there kind h = absurd (cc)
 of_bank tiles dims agent steps Look low there kind h = absurd (cc)
 

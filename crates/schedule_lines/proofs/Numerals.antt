@@ -1,5 +1,5 @@
 -- A number that is spelled is a word, which is read as the number.
-use Rattle.std.proofs.Common.{◌≡◌, ◌<◌, ◌^◌, ◌==◌, ℕ, true, false, List, [], ◌∷◌, length, decimal, refl, arith, Ok}
+use Rattle.std.proofs.Common.{◌≡◌, ◌<◌, ◌^◌, ◌==◌, ℕ, true, false, List, [], ◌∷◌, length, decimal, refl, arith, Some}
 use Rattle.std.specs.Prelude.{min}
 use Rattle.std.specs.Str.{all_ascii_digits}
 use Rattle.std.specs.Str.Parse.{AllDigits, IsNumeral, digits_value}
@@ -8,7 +8,7 @@ use Rattle.std.proofs.lemmas.Fmt.{decimal_is_IsNumeral, digits_decimal}
 use Rattle.std.proofs.lemmas.List.Elements.{All-from_get_or}
 use Rattle.std.proofs.lemmas.Str.Parse.{IsNumeralModel, numerals_by_value, tells_all_ascii_digits, digit_at}
 use Rattle.lexer.specs.Words.{begins_comment}
-use Rattle.script.specs.Settings.{an_index}
+use Rattle.lexer.specs.Numbers.{index_of}
 use Rattle.schedule_lines.proofs.Cuts.{IsWord}
 
 pub decimal_is_word : (n : ℕ) → n < 2 ^ 64 → IsWord (decimal n)
@@ -29,8 +29,8 @@ decimal_begins_no_comment n small = digits_begin_no_comment (decimal n) (decimal
 numerals : IsNumeralModel (λ ds. all_ascii_digits ds ≡ true) (digits_value 10)
 numerals = numerals_by_value (λ ds. all_ascii_digits ds ≡ true) tells_all_ascii_digits
 
-pub an_index-decimal : (n : ℕ) → n < 2 ^ 31 → an_index (decimal n) ≡ Ok n
-an_index-decimal n small =
+pub index_of-decimal : (n : ℕ) → n < 2 ^ 31 → index_of (decimal n) ≡ Some n
+index_of-decimal n small =
     let is : IsNumeral 10 (decimal n) × (digits_value 10 (decimal n) ≡ n) = decimal_is_IsNumeral n (omega (arith, small)) in
     let some : (length (decimal n) == 0) ≡ false = ne_eqb (length (decimal n)) 0 (λ e. absurd (omega (arith, e, is.0.0))) in
     let digits : all_ascii_digits (decimal n) ≡ true = digits_decimal numerals n (omega (arith, small)) in

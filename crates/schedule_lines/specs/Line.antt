@@ -1,6 +1,7 @@
 -- What each line of a schedule spells (this project's own format).
 use Rattle.std.specs.Prelude.{ℕ, List, [], ◌∷◌, ◌++◌, true, false, codes, decimal}
-use Rattle.std.specs.List.{join_with_byte, flat_map}
+use Rattle.std.specs.List.{flat_map}
+use Rattle.lexer.specs.Joined.{line_of_words}
 use Rattle.torus.specs.declared.step.Step.{Step}
 use Rattle.torus.specs.declared.step.Choice.{Choice}
 use Rattle.torus.specs.declared.step.Choice.TheVariants.{Send, Take, TakeFrom, Put, Credit}
@@ -31,13 +32,9 @@ schedule_words (Move step) = step_words step
 schedule_words (End true) = codes "#" ∷ codes "finished" ∷ []
 schedule_words (End false) = codes "#" ∷ codes "stopped" ∷ []
 
--- words that go on with a line, each after a space
-abbrev pub joined_on : List (List ℕ) → List ℕ
-joined_on words = flat_map (λ word. 32 ∷ word) words
-
 -- the bytes of a line: its words with one space between each two, and a line feed
 abbrev pub line_text : ScheduleLine → List ℕ
-line_text line = join_with_byte 32 (schedule_words line) ++ 10 ∷ []
+line_text line = line_of_words (schedule_words line)
 
 -- the bytes of lines, one after another
 abbrev pub text_of : List ScheduleLine → List ℕ

@@ -2,7 +2,7 @@ ghost use Rattle.std.specs.Prelude.{◌≡◌, ◌+◌, ◌≤◌, ◌∷◌, �
 ghost use Rattle.std.specs.List.{join_with_byte};
 ghost use Rattle.arrayvec.specs.ArrayString.{array_string_len};
 ghost use Rattle.schedule_lines.specs.Line.{choice_words, step_words, schedule_words, line_text};
-ghost use Rattle.schedule_lines.specs.Line.{joined_on};
+ghost use Rattle.lexer.specs.Joined.{joined_on};
 
 use crate::line::ScheduleLine;
 use arrayvec::ArrayString;

@@ -1,10 +1,9 @@
 -- The words of a line name only choices that the agent has.
-use Rattle.std.proofs.Common.{◌≡◌, ℕ, ◌+◌, ◌*◌, ◌==◌, ◌<◌, Bool, true, false, cond, Option, Some, None, refl, sym, ◌∙◌, ap, subst}
+use Rattle.std.proofs.Common.{◌≡◌, ℕ, ◌+◌, ◌*◌, ◌==◌, Bool, true, false, cond, Option, Some, None, refl, sym, ◌∙◌, ap, subst}
 use Rattle.std.specs.Prelude.{nat_lt, ◌&&◌}
 use Rattle.std.proofs.lemmas.Bool.{eqb-true}
 use Rattle.std.proofs.lemmas.Option.{same_Some}
 use Rattle.torus.specs.declared.step.Choice.{Choice}
-use Rattle.torus.specs.declared.step.Choice.TheVariants as choice
 use Rattle.torus.specs.Choices.{is_of_processor, is_of_router, is_of_bank, has_choice}
 use Rattle.script.specs.declared.attempt.ChoiceWord.{ChoiceWord}
 use Rattle.script.specs.declared.attempt.ChoiceWord.TheVariants.{Send, Take, Put, Credit, Serve, Done, Look}

@@ -1,4 +1,5 @@
 pub mod Checks
+pub mod Told
 pub mod LineLists
 pub mod Counted
 pub mod SevenWords

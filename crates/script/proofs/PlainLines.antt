@@ -13,8 +13,6 @@ use Rattle.std.proofs.lemmas.List.Splits.{slice_split_at, slice_split_none, leng
 use Rattle.std.proofs.lemmas.Bool.{cases_eq}
 use Rattle.std.proofs.lemmas.Bool.Decides.{nat_tests}
 use Rattle.std.proofs.lemmas.Str.{digit_value_digit}
-use Rattle.torus.specs.declared.fault.Fault.{Fault}
-use Rattle.torus.specs.declared.fault.Fault.TheVariants as fault
 use Rattle.torus.specs.declared.step.Step.{Step}
 use Rattle.lexer.specs.Words.{is_blank, words_of, begins_comment}
 use Rattle.lexer.specs.Numbers.{index_of, is_number}
@@ -23,9 +21,11 @@ use Rattle.lexer.proofs.WordCuts.{full, full-cons}
 use Rattle.script.specs.declared.attempt.ChoiceWord.{ChoiceWord}
 use Rattle.script.specs.declared.attempt.ChoiceWord.TheVariants.{Send, Take, Put, Credit, Serve, Done, Look}
 use Rattle.script.specs.declared.attempt.Attempt.{Attempt}
-use Rattle.script.specs.declared.fault.LineFault.{LineFault}
-use Rattle.script.specs.Outcome.{◌>>=◌, then_lines}
-use Rattle.script.specs.Settings.{an_index}
+use Rattle.lexer.specs.declared.refusal.Refusal.{Refusal}
+use Rattle.lexer.specs.Outcome.{◌>>=◌, then_lines}
+use Rattle.script.specs.declared.reason.TextReason.{TextReason}
+use Rattle.script.specs.declared.reason.TextReason.TheVariants as reason
+use Rattle.script.specs.Settings.{number_at}
 use Rattle.script.specs.Steps.{attempt_of, a_choice, after_words, steps_from}
 use Rattle.script.specs.Plain.{spelling, BeginsWithNumber, BeginsWithChoice, BeginsWithAttempt, after_attempt, first_line}
 use Rattle.script.proofs.SevenWords.{steps_seven}
@@ -193,7 +193,7 @@ line_of_three text next after last end close rest n m word agent blank choice sp
     (line, ap lines whole ∙ line_first line rest (omega (arith, one.0, length-append digits (32 ∷ tail))) quiet, ap attempt_of words ∙ numbered_line digits other n m word agent.2 number.2)
 
 -- where a line says an attempt, its first word is a number, and so it's no comment
-index_ok : {B : Type 0} (o : Option ℕ) (f : ℕ → Result B Fault) (t : B) → (ok_or o fault.Line >>= f) ≡ Ok t → (n : ℕ) × (o ≡ Some n)
+index_ok : {B : Type 0} (o : Option ℕ) (f : ℕ → Result B TextReason) (t : B) → (ok_or o (reason.NotNumber 0) >>= f) ≡ Ok t → (n : ℕ) × (o ≡ Some n)
 index_ok (Some n) f t h = (n, refl)
 index_ok None f t h = absurd (cc)
 
@@ -209,7 +209,7 @@ no_comment agent (w ∷ []) t h =
     let found = index_ok (index_of agent) (λ a. a_choice w >>= λ c. Ok (record { agent = a; word = c; number = None })) t h in
     digit_first agent found.0 found.1
 no_comment agent (w ∷ m ∷ []) t h =
-    let found = index_ok (index_of agent) (λ a. a_choice w >>= λ c. an_index m >>= λ n. Ok (record { agent = a; word = c; number = Some n })) t h in
+    let found = index_ok (index_of agent) (λ a. a_choice w >>= λ c. number_at 2 m >>= λ n. Ok (record { agent = a; word = c; number = Some n })) t h in
     digit_first agent found.0 found.1
 no_comment agent (w ∷ m ∷ other ∷ more) t h = absurd (cc)
 
@@ -248,7 +248,7 @@ some_line text some none =
     ]
 
 -- one more line of a steps text
-pub steps_step : (tiles dims n : ℕ) (old new : List Step) (line : List ℕ) (rest after : List (List ℕ)) (all : Result (List Step) LineFault) →
+pub steps_step : (tiles dims n : ℕ) (old new : List Step) (line : List ℕ) (rest after : List (List ℕ)) (all : Result (List Step) (Refusal TextReason)) →
     rest ≡ line ∷ after → after_words tiles dims old (words_of line) ≡ Ok new → steps_from tiles dims old n rest ≡ all → steps_from tiles dims new (n + 1) after ≡ all
 steps_step tiles dims n old new line rest after all is made so_far =
     sym (ap (λ r. then_lines n r (λ next. steps_from tiles dims next (n + 1) after)) made)

@@ -1,4 +1,5 @@
 pub mod Outcome
+pub mod Reasons
 pub mod Settings
 pub mod Machine
 pub mod MachineViews

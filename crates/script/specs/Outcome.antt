@@ -1,8 +1,29 @@
 -- What a line makes of what the lines before it made, and what a reader answers.
-use Rattle.std.specs.Prelude.{◌≡◌, ℕ, ◌⊎◌, Result, Ok, Err}
+use Rattle.std.specs.Prelude.{◌≡◌, ℕ, ◌⊎◌, Option, Some, None, Result, Ok, Err}
 use Rattle.torus.specs.declared.fault.Fault.{Fault}
 use Rattle.torus.specs.declared.fault.Fault.TheVariants as fault
+use Rattle.lexer.specs.declared.refusal.Refusal.{Refusal}
 use Rattle.script.specs.declared.fault.LineFault.{LineFault}
+
+-- the fault that a refusal tells: that of its reason, at its line
+abbrev pub fault_of_refusal : {R : Type 0} → (R → Fault) → Refusal R → LineFault
+fault_of_refusal fault_of refusal =
+    record { fault = fault_of refusal.reason; line = refusal.line }
+
+-- what a line makes where only the fault of its reason is told
+abbrev pub line_by_fault : {A R : Type 0} → (R → Fault) → Result A R → Result A Fault
+line_by_fault fault_of (Ok x) = Ok x
+line_by_fault fault_of (Err reason) = Err (fault_of reason)
+
+-- what is made, unless there is a reason against it
+abbrev pub unless : {A R : Type 0} → Option R → Result A R → Result A R
+unless None made = made
+unless (Some reason) made = Err reason
+
+-- what a reader answers where only the fault of a refusal is told
+abbrev pub by_fault : {A R : Type 0} → (R → Fault) → Result A (Refusal R) → Result A LineFault
+by_fault fault_of (Ok x) = Ok x
+by_fault fault_of (Err refusal) = Err (fault_of_refusal fault_of refusal)
 
 -- a second step on what the first one gave; the first fault is the answer
 infixl 10 ◌>>=◌
@@ -20,11 +41,6 @@ then_lines number (Ok x) rest = rest x
 abbrev pub line_of_fault : Fault → ℕ → ℕ
 line_of_fault fault.Memory line = 0
 line_of_fault _ line = line
-
--- a value of the program, seen by view, is what the grammar gives, and so is a fault
-abbrev pub Agrees : {A B : Type 0} → (A → B) → Result A Fault → Result B Fault → Type 0
-Agrees view (Ok x) read = read ≡ Ok (view x)
-Agrees view (Err e) read = read ≡ Err e
 
 -- what a line left is what the grammar makes of it, and so is its fault, but that memory may run
 -- out

@@ -1,14 +1,14 @@
 -- How a steps text begins whose first line has its words one space apart.
 use Rattle.std.specs.Prelude.{◌≡◌, ℕ, List, [], ◌∷◌, ◌++◌, get_or, Some, Result, Ok, codes}
 use Rattle.std.specs.Str.Lines.{lines}
-use Rattle.torus.specs.declared.fault.Fault.{Fault}
 use Rattle.torus.specs.declared.step.Step.{Step}
 use Rattle.lexer.specs.Words.{words_of}
 use Rattle.lexer.specs.Numbers.{index_of}
+use Rattle.lexer.specs.Outcome.{◌>>=◌}
 use Rattle.script.specs.declared.attempt.ChoiceWord.{ChoiceWord}
 use Rattle.script.specs.declared.attempt.ChoiceWord.TheVariants.{Send, Take, Put, Credit, Serve, Done, Look}
 use Rattle.script.specs.declared.attempt.Attempt.{Attempt}
-use Rattle.script.specs.Outcome.{◌>>=◌}
+use Rattle.script.specs.declared.reason.TextReason.{TextReason}
 use Rattle.script.specs.Steps.{attempt_of, step_of}
 
 -- the word for a choice
@@ -39,5 +39,5 @@ abbrev pub first_line : List ℕ → List ℕ
 first_line text = get_or (lines text) 0 []
 
 -- the steps after one more attempt
-abbrev pub after_attempt : ℕ → ℕ → List Step → Attempt → Result (List Step) Fault
+abbrev pub after_attempt : ℕ → ℕ → List Step → Attempt → Result (List Step) TextReason
 after_attempt tiles dims steps t = step_of tiles dims t >>= λ s. Ok (steps ++ s ∷ [])

@@ -1,9 +1,10 @@
 ghost use Rattle.std.specs.Prelude.{◌≡◌, ◌≤◌, ◌∷◌, [], map};
 ghost use Rattle.script.specs.Steps.{choice_word, a_choice, attempt_of, processor_choice, router_choice, bank_choice};
-ghost use Rattle.script.specs.Steps.{agent_choice, step_of};
+ghost use Rattle.script.specs.Steps.{agent_choice, has_word, no_choice, step_of};
 
-use crate::number::an_index;
-use torus::{Choice, Fault, Step};
+use crate::number::number_at;
+use crate::reason::{Agent, TextReason};
+use torus::{Choice, Step};
 
 /// A word for a choice.
 #[derive(Clone, Copy)]
@@ -55,45 +56,53 @@ fn choice_word(word: &[u8]) -> Option<ChoiceWord>
 }
 
 /// A choice word where one belongs.
-fn a_choice(word: &[u8]) -> Result<ChoiceWord, Fault>
+fn a_choice(word: &[u8]) -> Result<ChoiceWord, TextReason>
     ensures { result ≡ a_choice word.now }
 {
-    choice_word(word).ok_or(Fault::Line)
+    choice_word(word).ok_or(TextReason::UnknownChoice)
 }
 
 /// What the words of a line say.
-pub(crate) fn attempt_of(words: &[&[u8]]) -> Result<Attempt, Fault>
+pub(crate) fn attempt_of(words: &[&[u8]]) -> Result<Attempt, TextReason>
     ensures { result ≡ attempt_of (map (λ word. word.now) words.now) }
 {
     match words {
-        [] => Err(Fault::Line),
-        [_] => Err(Fault::Line),
+        [] => Err(TextReason::StepCount),
+        [_] => Err(TextReason::StepCount),
         [agent, word] => two_words(agent, word),
         [agent, word, number] => three_words(agent, word, number),
-        [_, _, _, _, ..] => Err(Fault::Line),
+        [_, _, _, _, ..] => Err(TextReason::StepCount),
     }
 }
 
 /// What an agent and a choice say.
-fn two_words(agent: &[u8], word: &[u8]) -> Result<Attempt, Fault>
+fn two_words(agent: &[u8], word: &[u8]) -> Result<Attempt, TextReason>
     ensures { result ≡ attempt_of (agent.now ∷ word.now ∷ []) }
 {
     Ok(Attempt {
-        agent: an_index(agent)?,
+        agent: number_at(0, agent)?,
         word: a_choice(word)?,
         number: None,
     })
 }
 
 /// What an agent, a choice and the number of an input or output say.
-fn three_words(agent: &[u8], word: &[u8], number: &[u8]) -> Result<Attempt, Fault>
+fn three_words(agent: &[u8], word: &[u8], number: &[u8]) -> Result<Attempt, TextReason>
     ensures { result ≡ attempt_of (agent.now ∷ word.now ∷ number.now ∷ []) }
 {
-    Ok(Attempt {
-        agent: an_index(agent)?,
-        word: a_choice(word)?,
-        number: Some(an_index(number)?),
-    })
+    match (number_at(0, agent), a_choice(word), number_at(2, number)) {
+        (Ok(agent), Ok(word), Ok(number)) => {
+            let number = Some(number);
+            Ok(Attempt {
+                agent,
+                word,
+                number,
+            })
+        }
+        (Err(reason), _, _) => Err(reason),
+        (Ok(_), Err(reason), _) => Err(reason),
+        (Ok(_), Ok(_), Err(reason)) => Err(reason),
+    }
 }
 
 impl ChoiceWord {
@@ -165,23 +174,54 @@ impl Attempt {
         }
     }
 
+    /// Why agents of this kind, whose router has so many inputs and as many outputs, have no such
+    /// choice.
+    fn no_choice(self, ports: u32, kind: Agent) -> TextReason
+        ensures { result ≡ no_choice ports kind self.word self.number }
+    {
+        if !kind.has(self.word) {
+            return TextReason::NoChoice(kind);
+        }
+        match kind {
+            Agent::Processor => TextReason::PortUnwanted(Agent::Processor),
+            Agent::Router => match self.number {
+                None => TextReason::PortWanted,
+                Some(_) => TextReason::PortLimits(ports),
+            },
+            Agent::Bank => TextReason::PortUnwanted(Agent::Bank),
+        }
+    }
+
     /// The step, on a torus of so many tiles and dimensions.
     ///
-    /// Errors: `Fault::Step` where there is no such agent, or it has no such choice.
-    pub(crate) fn step(self, tiles: u32, dims: u32) -> Result<Step, Fault>
+    /// Errors: there is no such agent, or it has no such choice.
+    pub(crate) fn step(self, tiles: u32, dims: u32) -> Result<Step, TextReason>
         requires tiles { tiles ≤ 64 }
         requires dims { dims ≤ 3 }
         ensures { result ≡ step_of tiles dims self }
     {
         if self.agent >= 3 * tiles {
-            return Err(Fault::Step);
+            return Err(TextReason::AgentLimits(3 * tiles));
         }
         match self.choice(dims, self.agent % 3) {
             Some(choice) => Ok(Step {
                 agent: self.agent,
                 choice,
             }),
-            None => Err(Fault::Step),
+            None => Err(self.no_choice(8 * dims + 2, Agent::of(self.agent))),
+        }
+    }
+}
+
+impl Agent {
+    /// Whether agents of this kind have a choice of this word.
+    fn has(self, word: ChoiceWord) -> bool
+        ensures { result ≡ has_word self word }
+    {
+        match self {
+            Agent::Processor => word.of_processor().is_some(),
+            Agent::Router => word.of_router(0).is_some(),
+            Agent::Bank => word.of_bank().is_some(),
         }
     }
 }

@@ -1,6 +1,4 @@
-ghost use Rattle.std.specs.Prelude.{◌≡◌};
-ghost use Rattle.script.specs.Outcome.{line_of_fault};
-
+use lexer::{Reason, Refusal};
 use std::fmt;
 use thiserror::Error;
 use torus::Fault;
@@ -19,22 +17,16 @@ impl fmt::Display for LineFault {
     }
 }
 
-/// A fault that was found at a line.
-pub(crate) fn fault_at(fault: Fault, line: u64) -> LineFault
-    ensures { result ≡ record { fault = fault; line = line_of_fault fault line } }
-{
-    match fault {
-        Fault::Memory => LineFault { fault, line: 0 },
-        _ => LineFault { fault, line },
-    }
-}
+impl<R: Reason> From<Refusal<R>> for LineFault {
+    ghost use Rattle.std.specs.Prelude.{◌≡◌};
+    ghost use Rattle.script.specs.Outcome.{fault_of_refusal};
 
-/// A growth was refused.
-pub(crate) fn out_of_memory() -> LineFault
-    ensures { result ≡ record { fault = Fault.Memory; line = 0 } }
-{
-    LineFault {
-        fault: Fault::Memory,
-        line: 0,
+    ghost from_gives = { λ refusal fault. fault ≡ fault_of_refusal R.fault_of refusal };
+
+    fn from(refusal: Refusal<R>) -> LineFault {
+        LineFault {
+            fault: refusal.reason.fault(),
+            line: refusal.line,
+        }
     }
 }

@@ -1,12 +1,14 @@
-ghost use Rattle.std.specs.Prelude.{◌≡◌, ◌≤◌, true, length, map, ◌-◌, ◌∷◌, [], take, IfOk};
+ghost use Rattle.std.specs.Prelude.{◌≡◌, ◌≤◌, ◌<◌, true, length, map, ◌-◌, ◌∷◌, [], take, IfOk, IfNone};
 ghost use Rattle.std.specs.List.{list_all};
 ghost use Rattle.torus.specs.Refusal.{mixed_of, is_radix, is_dims};
 ghost use Rattle.torus.specs.Shape.{product, IsAccepted};
-ghost use Rattle.script.specs.Outcome.{Agrees};
-ghost use Rattle.script.specs.Settings.{few_indexes, one_index, spread, last_digits, counted, dated};
+ghost use Rattle.lexer.specs.Outcome.{Agrees};
+ghost use Rattle.script.specs.Settings.{few_indexes, one_index, spread, last_digits, uncounted, undated};
+ghost use Rattle.script.specs.Settings.{are_dated, bad_radix, not_below};
 ghost use Rattle.script.specs.Views.{few_list};
 
-use crate::number::an_index;
+use crate::number::number_at;
+use crate::reason::{Keyword, TextReason};
 use torus::{Fault, Torus};
 
 /// One number for each of one to three dimensions, or one for all.
@@ -18,44 +20,71 @@ pub(crate) enum Few {
 }
 
 /// The one to three numbers after a keyword.
-pub(crate) fn few_indexes(values: &[&[u8]]) -> Result<Few, Fault>
-    ensures { Agrees few_list result (few_indexes (map (λ value. value.now) values.now)) }
+pub(crate) fn few_indexes(keyword: Keyword, values: &[&[u8]]) -> Result<Few, TextReason>
+    ensures { Agrees few_list result
+        (few_indexes keyword (map (λ value. value.now) values.now)) }
 {
     match values {
-        [a] => Ok(Few::One(an_index(a)?)),
-        [a, b] => two_indexes(a, b),
-        [a, b, c] => three_indexes(a, b, c),
-        [] => Err(Fault::Line),
-        [_, _, _, _, ..] => Err(Fault::Line),
+        [a] => Ok(Few::One(number_at(1, a)?)),
+        [a, b] => two_indexes(keyword, a, b),
+        [a, b, c] => three_indexes(keyword, a, b, c),
+        [] => Err(TextReason::NumberCount(keyword)),
+        [_, _, _, _, ..] => Err(TextReason::NumberCount(keyword)),
     }
 }
 
 /// Two numbers.
-fn two_indexes(a: &[u8], b: &[u8]) -> Result<Few, Fault>
-    ensures { Agrees few_list result (few_indexes (a.now ∷ b.now ∷ [])) }
+fn two_indexes(keyword: Keyword, a: &[u8], b: &[u8]) -> Result<Few, TextReason>
+    ensures { Agrees few_list result (few_indexes keyword (a.now ∷ b.now ∷ [])) }
 {
-    let a = an_index(a)?;
-    let b = an_index(b)?;
+    let a = number_at(1, a)?;
+    let b = number_at(2, b)?;
     Ok(Few::Two(a, b))
 }
 
 /// Three numbers.
-fn three_indexes(a: &[u8], b: &[u8], c: &[u8]) -> Result<Few, Fault>
-    ensures { Agrees few_list result (few_indexes (a.now ∷ b.now ∷ c.now ∷ [])) }
+fn three_indexes(keyword: Keyword, a: &[u8], b: &[u8], c: &[u8]) -> Result<Few, TextReason>
+    ensures { Agrees few_list result (few_indexes keyword (a.now ∷ b.now ∷ c.now ∷ [])) }
 {
-    let a = an_index(a)?;
-    let b = an_index(b)?;
-    let c = an_index(c)?;
-    Ok(Few::Three(a, b, c))
+    match (number_at(1, a), number_at(2, b), number_at(3, c)) {
+        (Ok(a), Ok(b), Ok(c)) => Ok(Few::Three(a, b, c)),
+        (Err(reason), _, _) => Err(reason),
+        (Ok(_), Err(reason), _) => Err(reason),
+        (Ok(_), Ok(_), Err(reason)) => Err(reason),
+    }
 }
 
 /// The one number after a keyword.
-pub(crate) fn one_index(values: &[&[u8]]) -> Result<u32, Fault>
-    ensures { result ≡ one_index (map (λ value. value.now) values.now) }
+pub(crate) fn one_index(keyword: Keyword, values: &[&[u8]]) -> Result<u32, TextReason>
+    ensures { result ≡ one_index keyword (map (λ value. value.now) values.now) }
 {
     match values {
-        [value] => an_index(value),
-        _ => Err(Fault::Line),
+        [value] => number_at(1, value),
+        _ => Err(TextReason::NumberCount(keyword)),
+    }
+}
+
+/// Why the radix at a place is none.
+fn no_radix(place: u32, radix: u32) -> Option<TextReason>
+    ensures value { result ≡ bad_radix place (radix ∷ []) }
+    ensures radix { IfNone result (is_radix radix ≡ true) }
+{
+    if is_radix(radix) {
+        None
+    } else {
+        Some(TextReason::RadixLimits(place))
+    }
+}
+
+/// Why the dateline at a place is not below its radix.
+fn not_below(place: u32, dateline: u32, radix: u32) -> Option<TextReason>
+    ensures value { result ≡ not_below place dateline radix }
+    ensures below { IfNone result (dateline < radix) }
+{
+    if dateline < radix {
+        None
+    } else {
+        Some(TextReason::DatelineLimits(place, radix))
     }
 }
 
@@ -71,14 +100,15 @@ impl Few {
         }
     }
 
-    /// Whether each number is a radix, 2 to 8.
-    pub(crate) fn are_radices(self) -> bool
-        ensures { result ≡ list_all is_radix (few_list self) }
+    /// The first of the numbers that is no radix, 2 to 8.
+    pub(crate) fn bad_radix(self) -> Option<TextReason>
+        ensures value { result ≡ bad_radix 1 (few_list self) }
+        ensures radices { IfNone result (list_all is_radix (few_list self) ≡ true) }
     {
         match self {
-            Few::One(a) => is_radix(a),
-            Few::Two(a, b) => is_radix(a) && is_radix(b),
-            Few::Three(a, b, c) => is_radix(a) && is_radix(b) && is_radix(c),
+            Few::One(a) => no_radix(1, a),
+            Few::Two(a, b) => no_radix(1, a).or(no_radix(2, b)),
+            Few::Three(a, b, c) => no_radix(1, a).or(no_radix(2, b)).or(no_radix(3, c)),
         }
     }
 
@@ -112,49 +142,48 @@ impl Few {
         }
     }
 
-    /// Whether these radices go with a number of dimensions.
-    ///
-    /// Errors: `Fault::Count` where there is neither one nor one for each dimension, then
-    /// `Fault::Tiles` for more than 64 tiles.
-    pub(crate) fn counted(self, dims: u32) -> Result<(), Fault>
+    /// Why these radices do not go with a number of dimensions.
+    pub(crate) fn uncounted(self, dims: u32) -> Option<TextReason>
         requires radices { list_all is_radix (few_list self) ≡ true }
         requires dims { is_dims dims ≡ true }
-        ensures { result ≡ counted (few_list self) dims }
+        ensures { result ≡ uncounted (few_list self) dims }
     {
         if self.len() != 1 && self.len() != dims {
-            return Err(Fault::Count);
+            return Some(TextReason::RadixCount(self.len(), dims));
         }
-        if self.spread(dims).product() > 64 {
-            return Err(Fault::Tiles);
+        let tiles = self.spread(dims).product();
+        if tiles > 64 {
+            return Some(TextReason::TooManyTiles(tiles));
         }
-        Ok(())
+        None
     }
 
-    /// Whether these are the datelines of dimensions with these radices.
-    ///
-    /// Errors: `Fault::Count` where there is not one for each, then `Fault::Dateline` for one that
-    /// is not below its radix.
-    pub(crate) fn dated(self, radices: Few) -> Result<(), Fault>
-        ensures { result ≡ dated (few_list self) (few_list radices) }
+    /// Why these are not the datelines of dimensions with these radices.
+    pub(crate) fn undated(self, radices: Few) -> Option<TextReason>
+        ensures value { result ≡ undated (few_list self) (few_list radices) }
+        ensures dated { IfNone result (are_dated (few_list self) (few_list radices) ≡ true) }
     {
-        let below = match self {
+        match self {
             Few::One(x) => match radices {
-                Few::One(a) => x < a,
-                Few::Two(_, _) => return Err(Fault::Count),
-                Few::Three(_, _, _) => return Err(Fault::Count),
+                Few::One(a) => not_below(1, x, a),
+                Few::Two(_, _) => Some(TextReason::DatelineCount(1, 2)),
+                Few::Three(_, _, _) => Some(TextReason::DatelineCount(1, 3)),
             },
             Few::Two(x, y) => match radices {
-                Few::One(_) => return Err(Fault::Count),
-                Few::Two(a, b) => x < a && y < b,
-                Few::Three(_, _, _) => return Err(Fault::Count),
+                Few::One(_) => Some(TextReason::DatelineCount(2, 1)),
+                Few::Two(a, b) => not_below(1, x, a).or(not_below(2, y, b)),
+                Few::Three(_, _, _) => Some(TextReason::DatelineCount(2, 3)),
             },
             Few::Three(x, y, z) => match radices {
-                Few::One(_) => return Err(Fault::Count),
-                Few::Two(_, _) => return Err(Fault::Count),
-                Few::Three(a, b, c) => x < a && y < b && z < c,
+                Few::One(_) => Some(TextReason::DatelineCount(3, 1)),
+                Few::Two(_, _) => Some(TextReason::DatelineCount(3, 2)),
+                Few::Three(a, b, c) => {
+                    not_below(1, x, a)
+                        .or(not_below(2, y, b))
+                        .or(not_below(3, z, c))
+                }
             },
-        };
-        if below { Ok(()) } else { Err(Fault::Dateline) }
+        }
     }
 
     /// The last digit of each dimension with these radices.

@@ -1,12 +1,13 @@
-ghost use Rattle.std.specs.Prelude.{◌≡◌, ◌<◌, map, IfOk};
-ghost use Rattle.script.specs.Form.{form_of, one_word, two_words, three_words, four_words, update_form, cas_form};
-ghost use Rattle.script.specs.Form.{spin_form, one_value, operand_of, checked_word, checked_value, update_line};
-ghost use Rattle.script.specs.Form.{line_of_form, below};
-ghost use Rattle.script.specs.Scripts.{IsAcceptedLine, line_for};
+ghost use Rattle.std.specs.Prelude.{◌≡◌, ◌<◌, ◌∷◌, [], map, IfOk};
+ghost use Rattle.script.specs.Form.{form_of, operation_form, fence_form, spin_form, operand_at, word_at};
+ghost use Rattle.script.specs.Form.{cas_form, update_form, load_form, checked_at, line_with, line_of_form};
+ghost use Rattle.script.specs.Scripts.{IsAcceptedLine, IsWord, line_for, line_or_why};
 
-use crate::number::{a_value, an_index};
+use crate::number::{number_at, value_at};
+use crate::reason::TextReason;
 use crate::{Line, Value};
-use lexer::value;
+use lexer::{Reason, value};
+use packet::Code;
 use torus::Fault;
 
 /// A value as a line gives it, before it is checked to be a word.
@@ -16,157 +17,148 @@ pub(crate) enum Operand {
     Last,
 }
 
-/// An operation of one value that replies or drops the old word.
-#[derive(Clone, Copy)]
-pub(crate) enum Update {
-    Store,
-    Swap,
-    Add,
-    And,
-    Or,
-    Xor,
-    Max,
-    Min,
-}
-
 /// What stands after the processor, before its numbers are checked.
 #[derive(Clone, Copy)]
 pub(crate) enum Form {
     Fence,
-    Load(u32),
-    Update(Update, u32, Operand),
-    Cas(u32, Operand, Operand),
+    /// An operation of this name, its address, and as many of the values as it takes.
+    Operation(Code, u32, Operand, Operand),
     Spin(u32, u128, u32),
 }
 
-/// A value: a number or `last`.
-fn operand_of(word: &[u8]) -> Result<Operand, Fault>
-    ensures { result ≡ operand_of word.now }
+/// The value at a place of its line: a number or `last`.
+fn operand_at(place: u32, word: &[u8]) -> Result<Operand, TextReason>
+    ensures { result ≡ operand_at place word.now }
 {
     if word == b"last".as_slice() {
         return Ok(Operand::Last);
     }
     match value(word) {
         Some(number) => Ok(Operand::Number(number)),
-        None => Err(Fault::Line),
+        None => Err(TextReason::NotValue(place)),
     }
 }
 
-/// The operation of one value that a keyword names.
-fn update_of(keyword: &[u8]) -> Option<Update>
-    ensures { result ≡ one_value keyword.now }
+/// An operation of an address alone.
+fn load_form(code: Code, a: &[u8]) -> Result<Form, TextReason>
+    ensures { result ≡ load_form code a.now }
 {
-    if keyword == b"store".as_slice() {
-        return Some(Update::Store);
-    }
-    if keyword == b"swap".as_slice() {
-        return Some(Update::Swap);
-    }
-    if keyword == b"add".as_slice() {
-        return Some(Update::Add);
-    }
-    if keyword == b"and".as_slice() {
-        return Some(Update::And);
-    }
-    if keyword == b"or".as_slice() {
-        return Some(Update::Or);
-    }
-    if keyword == b"xor".as_slice() {
-        return Some(Update::Xor);
-    }
-    if keyword == b"max".as_slice() {
-        return Some(Update::Max);
-    }
-    if keyword == b"min".as_slice() {
-        return Some(Update::Min);
-    }
-    None
+    let a = number_at(2, a)?;
+    Ok(Form::Operation(code, a, Operand::Number(0), Operand::Number(0)))
 }
 
-/// An operation of one value.
-fn update_form(update: Update, a: &[u8], v: &[u8]) -> Result<Form, Fault>
-    ensures { result ≡ update_form update a.now v.now }
+/// An operation of an address and a value.
+fn update_form(code: Code, a: &[u8], v: &[u8]) -> Result<Form, TextReason>
+    ensures { result ≡ update_form code a.now v.now }
 {
-    let a = an_index(a)?;
-    let v = operand_of(v)?;
-    Ok(Form::Update(update, a, v))
+    let a = number_at(2, a)?;
+    let v = operand_at(3, v)?;
+    Ok(Form::Operation(code, a, v, Operand::Number(0)))
 }
 
-/// A compare-and-swap.
-fn cas_form(a: &[u8], e: &[u8], n: &[u8]) -> Result<Form, Fault>
-    ensures { result ≡ cas_form a.now e.now n.now }
+/// An operation of an address and two values.
+fn cas_form(code: Code, a: &[u8], e: &[u8], n: &[u8]) -> Result<Form, TextReason>
+    ensures { result ≡ cas_form code a.now e.now n.now }
 {
-    let a = an_index(a)?;
-    let e = operand_of(e)?;
-    let n = operand_of(n)?;
-    Ok(Form::Cas(a, e, n))
-}
-
-/// A spin.
-fn spin_form(a: &[u8], v: &[u8], m: &[u8]) -> Result<Form, Fault>
-    ensures { result ≡ spin_form a.now v.now m.now }
-{
-    let a = an_index(a)?;
-    let v = a_value(v)?;
-    let m = an_index(m)?;
-    Ok(Form::Spin(a, v, m))
-}
-
-/// What a keyword alone stands for.
-fn one_word(keyword: &[u8]) -> Result<Form, Fault>
-    ensures { result ≡ one_word keyword.now }
-{
-    if keyword == b"fence".as_slice() {
-        return Ok(Form::Fence);
-    }
-    Err(Fault::Line)
-}
-
-/// What a keyword and one word stand for.
-fn two_words(keyword: &[u8], a: &[u8]) -> Result<Form, Fault>
-    ensures { result ≡ two_words keyword.now a.now }
-{
-    if keyword == b"load".as_slice() {
-        return Ok(Form::Load(an_index(a)?));
-    }
-    Err(Fault::Line)
-}
-
-/// What a keyword and two words stand for.
-fn three_words(keyword: &[u8], a: &[u8], v: &[u8]) -> Result<Form, Fault>
-    ensures { result ≡ three_words keyword.now a.now v.now }
-{
-    match update_of(keyword) {
-        Some(update) => update_form(update, a, v),
-        None => Err(Fault::Line),
+    match (number_at(2, a), operand_at(3, e), operand_at(4, n)) {
+        (Ok(a), Ok(e), Ok(n)) => Ok(Form::Operation(code, a, e, n)),
+        (Err(reason), _, _) => Err(reason),
+        (Ok(_), Err(reason), _) => Err(reason),
+        (Ok(_), Ok(_), Err(reason)) => Err(reason),
     }
 }
 
-/// What a keyword and three words stand for.
-fn four_words(keyword: &[u8], a: &[u8], x: &[u8], y: &[u8]) -> Result<Form, Fault>
-    ensures { result ≡ four_words keyword.now a.now x.now y.now }
+/// What an operation and the words behind it stand for.
+fn operation_form(code: Code, rest: &[&[u8]]) -> Result<Form, TextReason>
+    ensures { result ≡ operation_form (map (λ word. word.now) rest.now) code }
 {
-    if keyword == b"cas".as_slice() {
-        return cas_form(a, x, y);
+    match rest {
+        [a] if code.arity() == 0 => load_form(code, a),
+        [a, v] if code.arity() == 1 => update_form(code, a, v),
+        [a, e, n] if code.arity() == 2 => cas_form(code, a, e, n),
+        _ => Err(TextReason::OperandCount),
     }
-    if keyword == b"spin".as_slice() {
-        return spin_form(a, x, y);
+}
+
+/// What a fence and the words behind it stand for.
+fn fence_form(rest: &[&[u8]]) -> Result<Form, TextReason>
+    ensures { result ≡ fence_form (map (λ word. word.now) rest.now) }
+{
+    match rest {
+        [] => Ok(Form::Fence),
+        [_, ..] => Err(TextReason::OperandCount),
     }
-    Err(Fault::Line)
+}
+
+/// What a spin and the words behind it stand for.
+fn spin_form(rest: &[&[u8]]) -> Result<Form, TextReason>
+    ensures { result ≡ spin_form (map (λ word. word.now) rest.now) }
+{
+    match rest {
+        [a, v, m] => spin_of(a, v, m),
+        _ => Err(TextReason::OperandCount),
+    }
+}
+
+/// What the three words behind a spin stand for.
+fn spin_of(a: &[u8], v: &[u8], m: &[u8]) -> Result<Form, TextReason>
+    ensures { result ≡ spin_form (a.now ∷ v.now ∷ m.now ∷ []) }
+{
+    match (number_at(2, a), value_at(3, v), number_at(4, m)) {
+        (Ok(a), Ok(v), Ok(m)) => Ok(Form::Spin(a, v, m)),
+        (Err(reason), _, _) => Err(reason),
+        (Ok(_), Err(reason), _) => Err(reason),
+        (Ok(_), Ok(_), Err(reason)) => Err(reason),
+    }
 }
 
 /// What stands after the processor.
-fn form_of(words: &[&[u8]]) -> Result<Form, Fault>
+fn form_of(words: &[&[u8]]) -> Result<Form, TextReason>
     ensures { result ≡ form_of (map (λ word. word.now) words.now) }
 {
     match words {
-        [] => Err(Fault::Line),
-        [keyword] => one_word(keyword),
-        [keyword, a] => two_words(keyword, a),
-        [keyword, a, v] => three_words(keyword, a, v),
-        [keyword, a, x, y] => four_words(keyword, a, x, y),
-        [_, _, _, _, _, ..] => Err(Fault::Line),
+        [] => Err(TextReason::ProcessorAlone),
+        [keyword, rest @ ..] => keyword_form(keyword, rest),
     }
+}
+
+/// What a keyword and the words behind it stand for.
+fn keyword_form(keyword: &[u8], rest: &[&[u8]]) -> Result<Form, TextReason>
+    ensures { result ≡ form_of (keyword.now ∷ map (λ word. word.now) rest.now) }
+{
+    if keyword == b"fence".as_slice() {
+        return fence_form(rest);
+    }
+    if keyword == b"spin".as_slice() {
+        return spin_form(rest);
+    }
+    match Code::named(keyword) {
+        Some(code) => operation_form(code, rest),
+        None => Err(TextReason::UnknownOperation),
+    }
+}
+
+/// The processor and the line that the words of a line of a script stand for, on a machine of so many
+/// tiles and words of memory.
+///
+/// Errors: why the line is refused: first its shape, then the processor, the address, and the values
+/// from left to right.
+pub fn line_or_why(
+    processor: &[u8],
+    rest: &[&[u8]],
+    tiles: u32,
+    words: u32,
+) -> Result<(u32, Line), TextReason>
+    ensures value { result
+        ≡ line_or_why tiles words processor.now (map (λ word. word.now) rest.now) }
+    ensures accepted { IfOk result (λ found. (found.0 < tiles) × IsAcceptedLine words (found.1)) }
+{
+    let p = number_at(0, processor)?;
+    let form = form_of(rest)?;
+    if p >= tiles {
+        return Err(TextReason::ProcessorLimits(tiles));
+    }
+    Ok((p, form.line(words)?))
 }
 
 /// The processor and the line that the words of a line of a script stand for, on a machine of so many
@@ -184,96 +176,79 @@ pub fn read_line(
         ≡ line_for tiles words processor.now (map (λ word. word.now) rest.now) }
     ensures accepted { IfOk result (λ found. (found.0 < tiles) × IsAcceptedLine words (found.1)) }
 {
-    let p = an_index(processor)?;
-    let form = form_of(rest)?;
-    if p >= tiles {
-        return Err(Fault::Processor);
+    match line_or_why(processor, rest, tiles, words) {
+        Ok(found) => Ok(found),
+        Err(reason) => Err(reason.fault()),
     }
-    Ok((p, form.line(words)?))
 }
 
-/// A number that is a word, below 2^64.
-fn word(number: u128) -> Result<u64, Fault>
-    ensures { result ≡ checked_word number }
+/// The number at a place of its line, if it is a word, below 2^64.
+fn word_at(place: u32, number: u128) -> Result<u64, TextReason>
+    ensures { result ≡ word_at place number }
 {
     if number > u128::from(u64::MAX) {
-        return Err(Fault::Range);
+        return Err(TextReason::ValueLimits(place));
     }
     Ok(number as u64)
 }
 
-/// A value that is checked to be a word.
-fn checked(operand: Operand) -> Result<Value, Fault>
-    ensures { result ≡ checked_value operand }
+/// The value at a place of its line, if its number is a word.
+fn checked_at(place: u32, operand: Operand) -> Result<Value, TextReason>
+    ensures value { result ≡ checked_at place operand }
+    ensures word { IfOk result IsWord }
 {
     match operand {
-        Operand::Number(number) => Ok(Value::Number(word(number)?)),
+        Operand::Number(number) => Ok(Value::Number(word_at(place, number)?)),
         Operand::Last => Ok(Value::Last),
     }
 }
 
-impl Update {
-    /// The line of this operation.
-    fn line(self, a: u32, v: Value) -> Line
-        ensures { result ≡ update_line self a v }
-    {
-        match self {
-            Update::Store => Line::Store(a, v),
-            Update::Swap => Line::Swap(a, v),
-            Update::Add => Line::Add(a, v),
-            Update::And => Line::And(a, v),
-            Update::Or => Line::Or(a, v),
-            Update::Xor => Line::Xor(a, v),
-            Update::Max => Line::Max(a, v),
-            Update::Min => Line::Min(a, v),
-        }
+/// The line of an operation of this name, with as many of these values as it takes.
+fn line_with(code: Code, a: u32, v: Value, w: Value) -> Line
+    ensures { result ≡ line_with code a v w }
+{
+    match code {
+        Code::Load => Line::Load(a),
+        Code::Store => Line::Store(a, v),
+        Code::Swap => Line::Swap(a, v),
+        Code::Cas => Line::Cas(a, v, w),
+        Code::Add => Line::Add(a, v),
+        Code::And => Line::And(a, v),
+        Code::Or => Line::Or(a, v),
+        Code::Xor => Line::Xor(a, v),
+        Code::Max => Line::Max(a, v),
+        Code::Min => Line::Min(a, v),
     }
 }
 
 impl Form {
     /// The line, its values checked to be words from left to right.
     ///
-    /// Errors: `Fault::Address` for an address that is not below the number of words, then
-    /// `Fault::Range`.
-    fn line(self, words: u32) -> Result<Line, Fault>
+    /// Errors: an address that is not below the number of words, then a value, or the loads of a spin.
+    fn line(self, words: u32) -> Result<Line, TextReason>
         ensures value { result ≡ line_of_form words self }
         ensures accepted { IfOk result (IsAcceptedLine words) }
     {
         match self {
             Form::Fence => Ok(Line::Fence),
-            Form::Load(a) => {
-                below(a, words)?;
-                Ok(Line::Load(a))
-            }
-            Form::Update(update, a, v) => {
-                below(a, words)?;
-                Ok(update.line(a, checked(v)?))
-            }
-            Form::Cas(a, e, n) => {
-                below(a, words)?;
-                let e = checked(e)?;
-                let n = checked(n)?;
-                Ok(Line::Cas(a, e, n))
+            Form::Operation(code, a, v, w) => {
+                if a >= words {
+                    return Err(TextReason::AddressLimits(2, words));
+                }
+                let v = checked_at(3, v)?;
+                let w = checked_at(4, w)?;
+                Ok(line_with(code, a, v, w))
             }
             Form::Spin(a, v, m) => {
-                below(a, words)?;
-                let v = word(v)?;
+                if a >= words {
+                    return Err(TextReason::AddressLimits(2, words));
+                }
+                let v = word_at(3, v)?;
                 if !(1 <= m && m <= 4096) {
-                    return Err(Fault::Range);
+                    return Err(TextReason::SpinLimits);
                 }
                 Ok(Line::Spin(a, v, m))
             }
         }
-    }
-}
-
-/// Whether an address is below the number of words.
-fn below(a: u32, words: u32) -> Result<(), Fault>
-    ensures { result ≡ below a words }
-{
-    if a < words {
-        Ok(())
-    } else {
-        Err(Fault::Address)
     }
 }

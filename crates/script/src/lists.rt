@@ -3,9 +3,9 @@ ghost use Rattle.std.specs.Prelude.{is_ok, vec_len, IfErr};
 ghost use Rattle.script.specs.Scripts.{operations_of, mentions_last, is_last, script_of};
 ghost use Rattle.script.specs.ScriptViews.{lists_of};
 
+use crate::reason::TextReason;
 use crate::{Line, Value};
 use std::alloc::{AllocError, Allocator, Global};
-use torus::Fault;
 
 /// The script of one processor, in the order of the text.
 #[derive(Drop)]
@@ -91,17 +91,17 @@ pub(crate) fn push_line<A: Allocator>(
     lists: &mut Vec<LineList<A>, A>,
     p: usize,
     line: Line,
-) -> Result<(), Fault>
+) -> Result<(), TextReason>
     requires { p < vec_len lists.old }
     ensures value { lists_of lists.new.items
         ≡ (if is_ok result then slice_set (lists_of lists.old.items) p
         (script_of (lists_of lists.old.items) p ++ line ∷ []) else lists_of lists.old.items) }
     ensures tiles { vec_len lists.new ≡ vec_len lists.old }
-    ensures memory { IfErr result (λ e. e ≡ Fault.Memory) }
+    ensures memory { IfErr result (λ e. e ≡ TextReason.Memory) }
 {
     let list = &mut lists[p];
     match list.lines.push(line) {
         Ok(()) => Ok(()),
-        Err(_) => Err(Fault::Memory),
+        Err(_) => Err(TextReason::Memory),
     }
 }

@@ -1,17 +1,19 @@
 ghost use Rattle.std.specs.Prelude.{◌≡◌, ◌≤◌, length, slice_get, vec_len};
 ghost use Rattle.std.specs.Str.Lines.{lines};
 ghost use Rattle.torus.specs.Shape.{IsAccepted};
-ghost use Rattle.script.specs.Machine.{MachineSpec, IsAcceptedMachine, machine_of, machine_with};
+ghost use Rattle.lexer.specs.Outcome.{Agrees, Gives as GivesOrWhy};
+ghost use Rattle.script.specs.Machine.{MachineSpec, IsAcceptedMachine, machine_of, machine_or_why};
+ghost use Rattle.script.specs.Machine.{machine_with};
 ghost use Rattle.script.specs.MachineViews.{reading_of, IsChecked};
-ghost use Rattle.script.specs.Outcome.{Agrees, Gives};
+ghost use Rattle.script.specs.Outcome.{Gives};
 
 use crate::LineFault;
-use crate::fault::fault_at;
 use crate::reading::Reading;
-use lexer::{first_words, next_line};
+use crate::reason::{Keyword, TextReason};
+use lexer::{Refusal, first_words, next_line};
 use std::alloc::{Allocator, Global};
 use std::marker::Model;
-use torus::{Fault, Torus};
+use torus::Torus;
 
 /// A machine as its text gives it: the torus, the depth of its channels (1 to 8 flits), the tags of
 /// a processor (1 to 16) and the opening words (1 to 65536).
@@ -108,52 +110,64 @@ impl<A: Allocator> MachineText<A> {
 
 /// Reads a machine text.
 ///
-/// Errors: the first fault and its line, or `Fault::Memory` at line 0.
-pub fn read_machine<A: Allocator + Copy>(alloc: A, text: &[u8]) -> Result<MachineText<A>, LineFault>
-    ensures { Gives (λ m. m) result (machine_of (lines text.now)) }
+/// Errors: where and why its first bad line is refused, or that a request for memory was.
+pub fn read_machine_or_why<A: Allocator + Copy>(
+    alloc: A,
+    text: &[u8],
+) -> Result<MachineText<A>, Refusal<TextReason>>
+    ensures { GivesOrWhy TextReason.Memory (λ m. m) result (machine_or_why (lines text.now)) }
 {
     let mut reading = Reading::none(alloc);
     let mut number = 1u64;
     let mut rest = text;
     while let Some((line, after)) = next_line(rest) {
         let (words, count) = first_words(line);
-        if let Err(fault) = reading.take(alloc, &words[..count]) {
-            return Err(fault_at(fault, number));
+        if let Err(reason) = reading.take(alloc, &words[..count]) {
+            return Err(Refusal::at(number, reason));
         }
         number += 1;
         rest = after;
     }
     match machine_with(reading) {
         Ok(machine) => Ok(machine),
-        Err(fault) => Err(fault_at(fault, number)),
+        Err(reason) => Err(Refusal::at(number, reason)),
     }
 }
 
+/// Reads a machine text.
+///
+/// Errors: the first fault and its line, or `Fault::Memory` at line 0.
+pub fn read_machine<A: Allocator + Copy>(alloc: A, text: &[u8]) -> Result<MachineText<A>, LineFault>
+    ensures { Gives (λ m. m) result (machine_of (lines text.now)) }
+{
+    Ok(read_machine_or_why(alloc, text)?)
+}
+
 /// The machine of settings that are all given.
-fn machine_with<A: Allocator>(reading: Reading<A>) -> Result<MachineText<A>, Fault>
+fn machine_with<A: Allocator>(reading: Reading<A>) -> Result<MachineText<A>, TextReason>
     requires { IsChecked (reading_of reading) }
     ensures { Agrees (λ m. m) result (machine_with (reading_of reading)) }
 {
     let Some(radices) = reading.settings.radices else {
-        return Err(Fault::Setting);
+        return Err(TextReason::Missing(Keyword::Radix));
     };
     let Some(dims) = reading.settings.dims else {
-        return Err(Fault::Setting);
+        return Err(TextReason::Missing(Keyword::Dims));
     };
     let Some(depth) = reading.settings.depth else {
-        return Err(Fault::Setting);
+        return Err(TextReason::Missing(Keyword::Depth));
     };
     let Some(tags) = reading.settings.tags else {
-        return Err(Fault::Setting);
+        return Err(TextReason::Missing(Keyword::Tags));
     };
     if reading.opening.is_empty() {
-        return Err(Fault::Setting);
+        return Err(TextReason::Missing(Keyword::Words));
     }
     let radices = radices.spread(dims);
     let datelines = match reading.settings.datelines {
         Some(datelines) => datelines,
         None => radices.last_digits(),
     };
-    let torus = radices.torus(datelines)?;
+    let torus = radices.torus(datelines).unwrap();
     Ok(MachineText::made(torus, depth, tags, reading.opening))
 }

@@ -1,7 +1,7 @@
-ghost use Rattle.std.specs.Prelude.{◌≡◌, ok_or};
-ghost use Rattle.lexer.specs.Numbers.{value_of};
-ghost use Rattle.script.specs.Settings.{an_index};
+ghost use Rattle.std.specs.Prelude.{◌≡◌};
+ghost use Rattle.script.specs.Settings.{an_index, number_at, value_at};
 
+use crate::reason::TextReason;
 use lexer::{index, value};
 use torus::Fault;
 
@@ -14,9 +14,22 @@ pub fn an_index(word: &[u8]) -> Result<u32, Fault>
     index(word).ok_or(Fault::Line)
 }
 
-/// The value that a word spells where one belongs.
-pub(crate) fn a_value(word: &[u8]) -> Result<u128, Fault>
-    ensures { result ≡ ok_or (value_of word.now) Fault.Line }
+/// The index that the word at a place of its line spells, where one belongs.
+pub(crate) fn number_at(place: u32, word: &[u8]) -> Result<u32, TextReason>
+    ensures { result ≡ number_at place word.now }
 {
-    value(word).ok_or(Fault::Line)
+    match index(word) {
+        Some(number) => Ok(number),
+        None => Err(TextReason::NotNumber(place)),
+    }
+}
+
+/// The value that the word at a place of its line spells, where one belongs.
+pub(crate) fn value_at(place: u32, word: &[u8]) -> Result<u128, TextReason>
+    ensures { result ≡ value_at place word.now }
+{
+    match value(word) {
+        Some(number) => Ok(number),
+        None => Err(TextReason::NotNumber(place)),
+    }
 }

@@ -1,13 +1,15 @@
-ghost use Rattle.std.specs.Prelude.{◌≡◌, ◌<◌, ◌≤◌, ◌∷◌, [], length, map, replicate, OnOk, IfOk, vec_len, Ok};
-ghost use Rattle.script.specs.Scripts.{IsAcceptedLine, add_line, after_words, take_line};
+ghost use Rattle.std.specs.Prelude.{◌≡◌, ◌<◌, ◌≤◌, ◌+◌, ◌∷◌, [], length, map, replicate, slice_index, true};
+ghost use Rattle.std.specs.Prelude.{OnOk, IfOk, IfNone, vec_len, Ok};
+ghost use Rattle.lexer.specs.Outcome.{Makes};
+ghost use Rattle.script.specs.Scripts.{IsAcceptedLine, add_line, after_words, take_line, no_room};
+ghost use Rattle.script.specs.Scripts.{mentions_last, operations_of};
 ghost use Rattle.script.specs.ScriptViews.{lists_of, IsCounted};
-ghost use Rattle.script.specs.Outcome.{Makes};
 
 use crate::Line;
-use crate::form::read_line;
+use crate::form::line_or_why;
 use crate::lists::{LineList, empty_lists, push_line};
+use crate::reason::TextReason;
 use std::alloc::{AllocError, Allocator};
-use torus::Fault;
 
 /// The scripts so far.
 #[derive(Drop)]
@@ -41,9 +43,9 @@ impl<A: Allocator + Copy> Progress<A> {
     }
 
     /// Takes what the words of a line say.
-    pub(crate) fn take(&mut self, words: &[&[u8]]) -> Result<(), Fault>
+    pub(crate) fn take(&mut self, words: &[&[u8]]) -> Result<(), TextReason>
         requires { IsCounted self.old }
-        ensures value { Makes (lists_of self.new.lists.items) result
+        ensures value { Makes TextReason.Memory (lists_of self.new.lists.items) result
             (after_words self.old.words (lists_of self.old.lists.items)
             (map (λ word. word.now) words.now)) }
         ensures words { self.new.words ≡ self.old.words }
@@ -58,42 +60,66 @@ impl<A: Allocator + Copy> Progress<A> {
     }
 
     /// Takes the line of a processor.
-    fn take_line(&mut self, processor: &[u8], rest: &[&[u8]]) -> Result<(), Fault>
+    fn take_line(&mut self, processor: &[u8], rest: &[&[u8]]) -> Result<(), TextReason>
         requires { IsCounted self.old }
-        ensures value { Makes (lists_of self.new.lists.items) result
+        ensures value { Makes TextReason.Memory (lists_of self.new.lists.items) result
             (take_line self.old.words (lists_of self.old.lists.items) processor.now
             (map (λ word. word.now) rest.now)) }
         ensures words { self.new.words ≡ self.old.words }
         ensures tiles { vec_len self.new.lists ≡ vec_len self.old.lists }
         ensures counted { OnOk result (IsCounted self.new) }
     {
-        let (p, line) = read_line(processor, rest, self.lists.len() as u32, self.words)?;
+        let (p, line) = line_or_why(processor, rest, self.lists.len() as u32, self.words)?;
         self.add(p as usize, line)
     }
 
     /// Adds a line to the script of a processor.
-    fn add(&mut self, p: usize, line: Line) -> Result<(), Fault>
+    fn add(&mut self, p: usize, line: Line) -> Result<(), TextReason>
         requires counted { IsCounted self.old }
         requires tile { p < vec_len self.old.lists }
         requires line { IsAcceptedLine self.old.words line }
-        ensures value { Makes (lists_of self.new.lists.items) result
+        ensures value { Makes TextReason.Memory (lists_of self.new.lists.items) result
             (add_line (lists_of self.old.lists.items) p line) }
         ensures words { self.new.words ≡ self.old.words }
         ensures tiles { vec_len self.new.lists ≡ vec_len self.old.lists }
         ensures counted { OnOk result (IsCounted self.new) }
     {
+        if let Some(reason) = self.no_room(p, line) {
+            return Err(reason);
+        }
         let count = self.counts[p];
         let operations = line.operations();
-        if line.mentions_last() && count == 0 {
-            return Err(Fault::Last);
-        }
-        if count + operations > 4096 || self.total + operations > 65536 {
-            return Err(Fault::Length);
-        }
         push_line(&mut self.lists, p, line)?;
         self.counts[p] = count + operations;
         self.total += operations;
         Ok(())
+    }
+
+    /// Why a line may not stand at the end of the script of a processor.
+    fn no_room(&self, p: usize, line: Line) -> Option<TextReason>
+        requires counted { IsCounted self.now }
+        requires tile { p < vec_len self.now.lists }
+        requires line { IsAcceptedLine self.now.words line }
+        ensures value { result ≡ no_room (lists_of self.now.lists.items) p line }
+        ensures later { IfNone result (mentions_last line ≡ true
+            → 0 < slice_index self.now.counts.items p) }
+        ensures few { IfNone result
+            (slice_index self.now.counts.items p + operations_of line ≤ 4096) }
+        ensures all { IfNone result (self.now.total + operations_of line ≤ 65536) }
+    {
+        let count = self.counts[p];
+        if line.mentions_last() && count == 0 {
+            return Some(TextReason::LastFirst);
+        }
+        let own = count + line.operations();
+        if own > 4096 {
+            return Some(TextReason::ScriptLength(own));
+        }
+        let all = self.total + line.operations();
+        if all > 65536 {
+            return Some(TextReason::ScriptsLength(all));
+        }
+        None
     }
 }
 

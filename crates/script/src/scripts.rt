@@ -1,15 +1,17 @@
 ghost use Rattle.std.specs.Prelude.{◌≡◌, ◌≤◌, ◌↔◌, IsTrue, IfOk, [], length, map, replicate, slice_get};
 ghost use Rattle.std.specs.Option.{option_copied};
 ghost use Rattle.std.specs.Str.Lines.{lines};
+ghost use Rattle.lexer.specs.Outcome.{Gives as GivesOrWhy};
 ghost use Rattle.script.specs.Outcome.{Gives};
-ghost use Rattle.script.specs.Scripts.{ScriptsSpec, AreAcceptedScripts, Fit, fits, scripts_of, scripts_from};
+ghost use Rattle.script.specs.Scripts.{ScriptsSpec, AreAcceptedScripts, Fit, fits};
+ghost use Rattle.script.specs.Scripts.{scripts_of, scripts_or_why, scripts_from};
 ghost use Rattle.script.specs.ScriptViews.{lists_of};
 
-use crate::fault::{fault_at, out_of_memory};
 use crate::lists::LineList;
 use crate::progress::Progress;
+use crate::reason::TextReason;
 use crate::{Line, LineFault, MachineText};
-use lexer::{first_words, next_line};
+use lexer::{Refusal, first_words, next_line};
 use std::alloc::{Allocator, Global};
 use std::marker::Model;
 
@@ -65,6 +67,21 @@ impl<A: Allocator> Scripts<A> {
 
 /// Reads a script text for a machine.
 ///
+/// Errors: where and why its first bad line is refused, or that a request for memory was.
+pub fn read_scripts_or_why<A: Allocator + Copy, B: Allocator>(
+    alloc: A,
+    text: &[u8],
+    machine: &MachineText<B>,
+) -> Result<Scripts<A>, Refusal<TextReason>>
+    ensures value { GivesOrWhy TextReason.Memory (λ s. s) result
+        (scripts_or_why machine.now (lines text.now)) }
+    ensures fit { IfOk result (λ s. Fit s machine.now) }
+{
+    read_lists(alloc, text, machine.torus().tiles(), machine.words())
+}
+
+/// Reads a script text for a machine.
+///
 /// Errors: the first fault and its line, or `Fault::Memory` at line 0.
 pub fn read_scripts<A: Allocator + Copy, B: Allocator>(
     alloc: A,
@@ -74,7 +91,7 @@ pub fn read_scripts<A: Allocator + Copy, B: Allocator>(
     ensures value { Gives (λ s. s) result (scripts_of machine.now (lines text.now)) }
     ensures fit { IfOk result (λ s. Fit s machine.now) }
 {
-    read_lists(alloc, text, machine.torus().tiles(), machine.words())
+    Ok(read_scripts_or_why(alloc, text, machine)?)
 }
 
 /// Reads a script text for so many tiles and words.
@@ -83,21 +100,21 @@ fn read_lists<A: Allocator + Copy>(
     text: &[u8],
     tiles: u32,
     words: u32,
-) -> Result<Scripts<A>, LineFault>
+) -> Result<Scripts<A>, Refusal<TextReason>>
     requires { tiles ≤ 64 }
-    ensures value { Gives (λ s. s) result
+    ensures value { GivesOrWhy TextReason.Memory (λ s. s) result
         (scripts_from words (replicate tiles []) 1 (lines text.now)) }
     ensures fit { IfOk result (λ s. (length s.lists ≡ tiles) × (s.words ≡ words)) }
 {
     let Ok(mut progress) = Progress::none(alloc, tiles, words) else {
-        return Err(out_of_memory());
+        return Err(Refusal::at(0, TextReason::Memory));
     };
     let mut number = 1u64;
     let mut rest = text;
     while let Some((line, after)) = next_line(rest) {
         let (found, count) = first_words(line);
-        if let Err(fault) = progress.take(&found[..count]) {
-            return Err(fault_at(fault, number));
+        if let Err(reason) = progress.take(&found[..count]) {
+            return Err(Refusal::at(number, reason));
         }
         number += 1;
         rest = after;

@@ -1,11 +1,11 @@
-ghost use Rattle.std.specs.Prelude.{◌≡◌, map, IfOk};
-ghost use Rattle.script.specs.Outcome.{Agrees};
+ghost use Rattle.std.specs.Prelude.{◌≡◌, IfOk};
+ghost use Rattle.lexer.specs.Outcome.{Agrees};
 ghost use Rattle.script.specs.Settings.{AreChecked, after_radix, after_dims, after_datelines, after_depth};
-ghost use Rattle.script.specs.Settings.{after_tags, after_setting, no_settings};
+ghost use Rattle.script.specs.Settings.{after_tags, no_settings};
 ghost use Rattle.script.specs.Views.{few_list, settings_of};
 
-use crate::few::{Few, few_indexes, one_index};
-use torus::Fault;
+use crate::few::Few;
+use crate::reason::{Keyword, TextReason};
 
 /// The settings of a machine text so far; the words of the memory apart.
 #[derive(Clone, Copy)]
@@ -32,20 +32,23 @@ impl Settings {
         }
     }
 
-    fn after_radix(self, radices: Few) -> Result<Settings, Fault>
+    /// The settings with the radices.
+    pub(crate) fn after_radix(self, radices: Few) -> Result<Settings, TextReason>
         requires { AreChecked (settings_of self) }
         ensures value { Agrees settings_of result
             (after_radix (settings_of self) (few_list radices)) }
         ensures checked { IfOk result (λ s. AreChecked (settings_of s)) }
     {
         if self.radices.is_some() {
-            return Err(Fault::Setting);
+            return Err(TextReason::GivenTwice(Keyword::Radix));
         }
-        if !radices.are_radices() {
-            return Err(Fault::Radix);
+        if let Some(reason) = radices.bad_radix() {
+            return Err(reason);
         }
-        if let Some(dims) = self.dims {
-            radices.counted(dims)?;
+        if let Some(dims) = self.dims
+            && let Some(reason) = radices.uncounted(dims)
+        {
+            return Err(reason);
         }
         Ok(Settings {
             radices: Some(radices),
@@ -53,19 +56,22 @@ impl Settings {
         })
     }
 
-    fn after_dims(self, dims: u32) -> Result<Settings, Fault>
+    /// The settings with the number of dimensions.
+    pub(crate) fn after_dims(self, dims: u32) -> Result<Settings, TextReason>
         requires { AreChecked (settings_of self) }
         ensures value { Agrees settings_of result (after_dims (settings_of self) dims) }
         ensures checked { IfOk result (λ s. AreChecked (settings_of s)) }
     {
         if self.dims.is_some() {
-            return Err(Fault::Setting);
+            return Err(TextReason::GivenTwice(Keyword::Dims));
         }
         if !(1 <= dims && dims <= 3) {
-            return Err(Fault::Dimensions);
+            return Err(TextReason::DimsLimits);
         }
-        if let Some(radices) = self.radices {
-            radices.counted(dims)?;
+        if let Some(radices) = self.radices
+            && let Some(reason) = radices.uncounted(dims)
+        {
+            return Err(reason);
         }
         Ok(Settings {
             dims: Some(dims),
@@ -73,23 +79,24 @@ impl Settings {
         })
     }
 
-    fn after_datelines(self, datelines: Few) -> Result<Settings, Fault>
+    /// The settings with the datelines.
+    pub(crate) fn after_datelines(self, datelines: Few) -> Result<Settings, TextReason>
         requires { AreChecked (settings_of self) }
         ensures value { Agrees settings_of result
             (after_datelines (settings_of self) (few_list datelines)) }
         ensures checked { IfOk result (λ s. AreChecked (settings_of s)) }
     {
         if self.datelines.is_some() {
-            return Err(Fault::Setting);
+            return Err(TextReason::GivenTwice(Keyword::Dateline));
         }
         let Some(radices) = self.radices else {
-            return Err(Fault::Setting);
+            return Err(TextReason::DatelineBefore(Keyword::Radix));
         };
         let Some(dims) = self.dims else {
-            return Err(Fault::Setting);
+            return Err(TextReason::DatelineBefore(Keyword::Dims));
         };
-        if let Err(fault) = datelines.dated(radices.spread(dims)) {
-            return Err(fault);
+        if let Some(reason) = datelines.undated(radices.spread(dims)) {
+            return Err(reason);
         }
         Ok(Settings {
             datelines: Some(datelines),
@@ -97,16 +104,17 @@ impl Settings {
         })
     }
 
-    fn after_depth(self, depth: u32) -> Result<Settings, Fault>
+    /// The settings with the depth.
+    pub(crate) fn after_depth(self, depth: u32) -> Result<Settings, TextReason>
         requires { AreChecked (settings_of self) }
         ensures value { Agrees settings_of result (after_depth (settings_of self) depth) }
         ensures checked { IfOk result (λ s. AreChecked (settings_of s)) }
     {
         if self.depth.is_some() {
-            return Err(Fault::Setting);
+            return Err(TextReason::GivenTwice(Keyword::Depth));
         }
         if !(1 <= depth && depth <= 8) {
-            return Err(Fault::Range);
+            return Err(TextReason::DepthLimits);
         }
         Ok(Settings {
             depth: Some(depth),
@@ -114,45 +122,21 @@ impl Settings {
         })
     }
 
-    fn after_tags(self, tags: u32) -> Result<Settings, Fault>
+    /// The settings with the number of tags.
+    pub(crate) fn after_tags(self, tags: u32) -> Result<Settings, TextReason>
         requires { AreChecked (settings_of self) }
         ensures value { Agrees settings_of result (after_tags (settings_of self) tags) }
         ensures checked { IfOk result (λ s. AreChecked (settings_of s)) }
     {
         if self.tags.is_some() {
-            return Err(Fault::Setting);
+            return Err(TextReason::GivenTwice(Keyword::Tags));
         }
         if !(1 <= tags && tags <= 16) {
-            return Err(Fault::Range);
+            return Err(TextReason::TagsLimits);
         }
         Ok(Settings {
             tags: Some(tags),
             ..self
         })
-    }
-
-    /// The settings after a line of this keyword and these values.
-    pub(crate) fn after(self, keyword: &[u8], values: &[&[u8]]) -> Result<Settings, Fault>
-        requires { AreChecked (settings_of self) }
-        ensures value { Agrees settings_of result
-            (after_setting (settings_of self) keyword.now (map (λ value. value.now) values.now)) }
-        ensures checked { IfOk result (λ s. AreChecked (settings_of s)) }
-    {
-        if keyword == b"radix".as_slice() {
-            return self.after_radix(few_indexes(values)?);
-        }
-        if keyword == b"dims".as_slice() {
-            return self.after_dims(one_index(values)?);
-        }
-        if keyword == b"dateline".as_slice() {
-            return self.after_datelines(few_indexes(values)?);
-        }
-        if keyword == b"depth".as_slice() {
-            return self.after_depth(one_index(values)?);
-        }
-        if keyword == b"tags".as_slice() {
-            return self.after_tags(one_index(values)?);
-        }
-        Err(Fault::Line)
     }
 }

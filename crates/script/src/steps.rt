@@ -1,17 +1,33 @@
 ghost use Rattle.std.specs.Prelude.{◌≡◌, ◌≤◌, ◌<◌, ◌∷◌, [], length, map, IfOk};
 ghost use Rattle.std.specs.Str.Lines.{lines};
 ghost use Rattle.lexer.specs.Words.{words_of};
-ghost use Rattle.script.specs.Outcome.{Gives, Makes};
-ghost use Rattle.script.specs.Steps.{after_words, take_step, steps_from, steps_of};
+ghost use Rattle.lexer.specs.Outcome.{Gives as GivesOrWhy, Makes};
+ghost use Rattle.script.specs.Outcome.{Gives};
+ghost use Rattle.script.specs.Steps.{after_words, take_step, steps_from, steps_of, steps_or_why};
 ghost use Rattle.script.specs.Plain.{first_line, after_attempt};
 
 use crate::attempt::{Attempt, attempt_of};
-use crate::fault::fault_at;
 use crate::plain::plain_attempt;
+use crate::reason::TextReason;
 use crate::{LineFault, MachineText};
-use lexer::{first_words, next_line};
+use lexer::{Refusal, first_words, next_line};
 use std::alloc::Allocator;
-use torus::{Fault, Step};
+use torus::Step;
+
+/// Reads a steps text for a machine.
+///
+/// Errors: where and why its first bad line is refused, or that a request for memory was.
+pub fn read_steps_or_why<A: Allocator + Copy, B: Allocator>(
+    alloc: A,
+    text: &[u8],
+    machine: &MachineText<B>,
+) -> Result<Vec<Step, A>, Refusal<TextReason>>
+    ensures { GivesOrWhy TextReason.Memory (λ v. v.items) result
+        (steps_or_why machine.now (lines text.now)) }
+{
+    let torus = machine.torus();
+    read_list(alloc, text, torus.tiles(), torus.dims())
+}
 
 /// Reads a steps text for a machine.
 ///
@@ -23,8 +39,7 @@ pub fn read_steps<A: Allocator + Copy, B: Allocator>(
 ) -> Result<Vec<Step, A>, LineFault>
     ensures { Gives (λ v. v.items) result (steps_of machine.now (lines text.now)) }
 {
-    let torus = machine.torus();
-    read_list(alloc, text, torus.tiles(), torus.dims())
+    Ok(read_steps_or_why(alloc, text, machine)?)
 }
 
 /// Reads a steps text for a torus of so many tiles and dimensions.
@@ -33,10 +48,11 @@ fn read_list<A: Allocator + Copy>(
     text: &[u8],
     tiles: u32,
     dims: u32,
-) -> Result<Vec<Step, A>, LineFault>
+) -> Result<Vec<Step, A>, Refusal<TextReason>>
     requires tiles { tiles ≤ 64 }
     requires dims { dims ≤ 3 }
-    ensures { Gives (λ v. v.items) result (steps_from tiles dims [] 1 (lines text.now)) }
+    ensures { GivesOrWhy TextReason.Memory (λ v. v.items) result
+        (steps_from tiles dims [] 1 (lines text.now)) }
 {
     let mut steps = Vec::new(alloc);
     let mut number = 1u64;
@@ -44,7 +60,7 @@ fn read_list<A: Allocator + Copy>(
     while !rest.is_empty() {
         match take_line(&mut steps, tiles, dims, rest) {
             Ok(after) => rest = after,
-            Err(fault) => return Err(fault_at(fault, number)),
+            Err(reason) => return Err(Refusal::at(number, reason)),
         }
         number += 1;
     }
@@ -57,13 +73,13 @@ fn take_line<'a, A: Allocator>(
     tiles: u32,
     dims: u32,
     text: &'a [u8],
-) -> Result<&'a [u8], Fault>
+) -> Result<&'a [u8], TextReason>
     requires tiles { tiles ≤ 64 }
     requires dims { dims ≤ 3 }
     requires some { 0 < length text.now }
     ensures rest { IfOk result (λ rest. lines text.now ≡ first_line text.now ∷ lines rest.now) }
     ensures less { IfOk result (λ rest. length rest.now < length text.now) }
-    ensures steps { Makes steps.new.items result
+    ensures steps { Makes TextReason.Memory steps.new.items result
         (after_words tiles dims steps.old.items (words_of (first_line text.now))) }
 {
     match plain_attempt(text) {
@@ -81,13 +97,13 @@ fn take_words_of_line<'a, A: Allocator>(
     tiles: u32,
     dims: u32,
     text: &'a [u8],
-) -> Result<&'a [u8], Fault>
+) -> Result<&'a [u8], TextReason>
     requires tiles { tiles ≤ 64 }
     requires dims { dims ≤ 3 }
     requires some { 0 < length text.now }
     ensures rest { IfOk result (λ rest. lines text.now ≡ first_line text.now ∷ lines rest.now) }
     ensures less { IfOk result (λ rest. length rest.now < length text.now) }
-    ensures steps { Makes steps.new.items result
+    ensures steps { Makes TextReason.Memory steps.new.items result
         (after_words tiles dims steps.old.items (words_of (first_line text.now))) }
 {
     let Some((line, rest)) = next_line(text) else {
@@ -104,10 +120,10 @@ fn take_words<A: Allocator>(
     tiles: u32,
     dims: u32,
     words: &[&[u8]],
-) -> Result<(), Fault>
+) -> Result<(), TextReason>
     requires tiles { tiles ≤ 64 }
     requires dims { dims ≤ 3 }
-    ensures { Makes steps.new.items result
+    ensures { Makes TextReason.Memory steps.new.items result
         (after_words tiles dims steps.old.items (map (λ word. word.now) words.now)) }
 {
     match words {
@@ -123,10 +139,10 @@ fn take_step<A: Allocator>(
     tiles: u32,
     dims: u32,
     words: &[&[u8]],
-) -> Result<(), Fault>
+) -> Result<(), TextReason>
     requires tiles { tiles ≤ 64 }
     requires dims { dims ≤ 3 }
-    ensures { Makes steps.new.items result
+    ensures { Makes TextReason.Memory steps.new.items result
         (take_step tiles dims steps.old.items (map (λ word. word.now) words.now)) }
 {
     take_attempt(steps, tiles, dims, attempt_of(words)?)
@@ -139,14 +155,14 @@ fn take_attempt<A: Allocator>(
     tiles: u32,
     dims: u32,
     attempt: Attempt,
-) -> Result<(), Fault>
+) -> Result<(), TextReason>
     requires tiles { tiles ≤ 64 }
     requires dims { dims ≤ 3 }
-    ensures { Makes steps.new.items result (after_attempt tiles dims steps.old.items attempt) }
+    ensures { Makes TextReason.Memory steps.new.items result (after_attempt tiles dims steps.old.items attempt) }
 {
     let step = attempt.step(tiles, dims)?;
     match steps.push(step) {
         Ok(()) => Ok(()),
-        Err(_) => Err(Fault::Memory),
+        Err(_) => Err(TextReason::Memory),
     }
 }

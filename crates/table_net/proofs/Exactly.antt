@@ -10,7 +10,7 @@ use Rattle.table_net.specs.declared.table.Reply.{Reply}
 use Rattle.table_net.specs.declared.table.NoRoute as no_route
 use Rattle.table_net.specs.declared.table.Verdict.{Verdict}
 use Rattle.table_net.specs.declared.table.Verdict.TheVariants.{Rising, NoRoute, Cycle}
-use Rattle.table_net.specs.Table.{Table, channels_of, kind_of, table_next, is_injection, is_ejection}
+use Rattle.table_net.specs.Table.{Table, channels_of, kind_of, table_next, is_sender, is_receiver}
 use Rattle.table_net.specs.Ways.{place, walk, table_route}
 use Rattle.table_net.specs.Replies.{RiseOver}
 use Rattle.table_net.specs.TableNet.{Flits, table_network}
@@ -60,19 +60,19 @@ walk_stop t j x (suc f) (b ∷ before) y after e = by (eqb x j) refl (λ tail. w
         clear ne n c (suc k) l = c k (omega arith)
 
 -- the kind by its tests
-injection_kind : (o : Option Kind) → is_injection o ≡ true → o ≡ Some Injection
+injection_kind : (o : Option Kind) → is_sender o ≡ true → o ≡ Some Injection
 injection_kind None e = cc
 injection_kind (Some Injection) e = refl
 injection_kind (Some Hop) e = cc
 injection_kind (Some Ejection) e = cc
 
-ejection_kind : (o : Option Kind) → is_ejection o ≡ true → o ≡ Some Ejection
+ejection_kind : (o : Option Kind) → is_receiver o ≡ true → o ≡ Some Ejection
 ejection_kind None e = cc
 ejection_kind (Some Injection) e = cc
 ejection_kind (Some Hop) e = cc
 ejection_kind (Some Ejection) e = refl
 
-hop_kind : (k : Kind) → (is_injection (Some k) ≡ true → ⊥) → (is_ejection (Some k) ≡ true → ⊥) → k ≡ Hop
+hop_kind : (k : Kind) → (is_sender (Some k) ≡ true → ⊥) → (is_receiver (Some k) ≡ true → ⊥) → k ≡ Hop
 hop_kind Injection a b = absurd (a refl)
 hop_kind Hop a b = refl
 hop_kind Ejection a b = absurd (b refl)
@@ -105,8 +105,8 @@ network_arrives t number top depth flits net i j joined =
               let kind : kind_of t x ≡ Some (get_or t.kinds x Hop) = slice_get-get_or t.kinds x Hop (net.within i j x joined (on k (omega arith))) in
               kind
               ∙ ap (λ z. Some z) (hop_kind (get_or t.kinds x Hop)
-              (λ e. same 0 k some (omega arith) (sym (net.injects i j x joined (on k (omega arith)) (ap is_injection kind ∙ e))))
-              (λ e. same k n l (omega arith) (net.ejects i j x joined (on k (omega arith)) (ap is_ejection kind ∙ e) ∙ sym s.here))));
+              (λ e. same 0 k some (omega arith) (sym (net.injects i j x joined (on k (omega arith)) (ap is_sender kind ∙ e))))
+              (λ e. same k n l (omega arith) (net.ejects i j x joined (on k (omega arith)) (ap is_receiver kind ∙ e) ∙ sym s.here))));
         };
         arrives = s.here;
         short = omega arith;

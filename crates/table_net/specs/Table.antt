@@ -59,16 +59,17 @@ joins_of t i j = list_any (λ (pair : Join). pair.from == i && pair.to == j) t.j
 abbrev pub IsFull : Table → Type 0
 IsFull t = length t.choices ≡ channels_of t * columns_of t
 
--- whether a channel of this kind, if any, is an injection channel
-abbrev pub is_injection : Option Kind → Bool
-is_injection (Some Injection) = true
-is_injection (Some Hop) = false
-is_injection (Some Ejection) = false
-is_injection None = false
+-- whether a channel of this kind, if any, is one that a sender puts flits into, an injection
+-- channel
+abbrev pub is_sender : Option Kind → Bool
+is_sender (Some Injection) = true
+is_sender (Some Hop) = false
+is_sender (Some Ejection) = false
+is_sender None = false
 
--- whether it is an ejection channel
-abbrev pub is_ejection : Option Kind → Bool
-is_ejection (Some Injection) = false
-is_ejection (Some Hop) = false
-is_ejection (Some Ejection) = true
-is_ejection None = false
+-- whether it is one that a receiver takes flits from, an ejection channel
+abbrev pub is_receiver : Option Kind → Bool
+is_receiver (Some Injection) = false
+is_receiver (Some Hop) = false
+is_receiver (Some Ejection) = true
+is_receiver None = false

@@ -2,7 +2,7 @@
 
 ghost use Rattle.std.specs.Prelude.{◌≡◌, ◌+◌, ◌*◌, ◌<◌, ◌^◌, ℕ, false, length, slice_get, OnOk};
 ghost use Rattle.std.specs.Prelude.{IfErr};
-ghost use Rattle.table_net.specs.Table.{table_of, columns_of, IsFull};
+ghost use Rattle.table_net.specs.Table.{table_of, columns_of, is_sender, is_receiver, IsFull};
 ghost use Rattle.table_net.specs.Columns.{AreColumns};
 ghost use Rattle.table_net.specs.Verdicts.{FailsAt, IsFirstFault};
 ghost use Rattle.table_net.specs.Marks.{is_marked_at, IsTraced, MarksRoutes, HasTraced};
@@ -17,6 +17,30 @@ pub fn kind_at(kinds: &[Kind], x: usize) -> Option<Kind>
         Some(kinds[x])
     } else {
         None
+    }
+}
+
+/// Whether a channel of this kind, if any, is an injection channel.
+pub fn is_sender(kind: Option<Kind>) -> bool
+    ensures { result ≡ is_sender kind }
+{
+    match kind {
+        None => false,
+        Some(Kind::Injection) => true,
+        Some(Kind::Hop) => false,
+        Some(Kind::Ejection) => false,
+    }
+}
+
+/// Whether it is an ejection channel.
+pub fn is_receiver(kind: Option<Kind>) -> bool
+    ensures { result ≡ is_receiver kind }
+{
+    match kind {
+        None => false,
+        Some(Kind::Injection) => false,
+        Some(Kind::Hop) => false,
+        Some(Kind::Ejection) => true,
     }
 }
 

@@ -11,7 +11,7 @@ use Rattle.wormhole_progress.proofs.Come.{all_come}
 use Rattle.table_net.specs.declared.table.Kind.TheVariants.{Injection, Hop, Ejection}
 use Rattle.table_net.specs.declared.table.Kind.{Kind}
 use Rattle.table_net.specs.declared.table.Reply.{Reply}
-use Rattle.table_net.specs.Table.{Table, channels_of, joins_of, kind_of, is_ejection}
+use Rattle.table_net.specs.Table.{Table, channels_of, joins_of, kind_of, is_receiver}
 use Rattle.table_net.specs.Replies.{AreReplies}
 use Rattle.table_net.specs.TableNet.{Flits, numbered}
 use Rattle.table_net.specs.Verdicts.{IsNumbered}
@@ -52,7 +52,7 @@ all_has_come t replies numbers are is depth flits deep s reached still i j joine
     ∙ all_come n s net (routes_reached n s net reached) quiet i j joined
 
 -- a channel that ejects
-ejection : (k : Option Kind) → is_ejection k ≡ true → k ≡ Some Ejection
+ejection : (k : Option Kind) → is_receiver k ≡ true → k ≡ Some Ejection
 ejection None h = absurd (cc)
 ejection (Some Injection) h = absurd (cc)
 ejection (Some Hop) h = absurd (cc)

@@ -6,7 +6,7 @@ use Rattle.std.proofs.lemmas.List.{length_push, get_or_push, get_or_append_left}
 use Rattle.table_net.specs.declared.table.Kind.TheVariants.{Injection, Hop, Ejection}
 use Rattle.table_net.specs.declared.table.Kind.{Kind}
 use Rattle.table_net.specs.declared.table.Reply.{Reply}
-use Rattle.table_net.specs.Table.{Table, kind_of, is_injection, is_ejection}
+use Rattle.table_net.specs.Table.{Table, kind_of, is_sender, is_receiver}
 use Rattle.table_net.specs.Replies.{AreReplies, reply_at}
 
 -- from an ejection channel to an injection channel
@@ -35,13 +35,13 @@ added t replies a b from to are = λ x y r.
     ]
 
 -- a channel that ejects, and one that injects
-pub ejects_there : (k : Option Kind) → is_ejection k ≡ true → k ≡ Some Ejection
+pub ejects_there : (k : Option Kind) → is_receiver k ≡ true → k ≡ Some Ejection
 ejects_there None h = absurd (cc)
 ejects_there (Some Injection) h = absurd (cc)
 ejects_there (Some Hop) h = absurd (cc)
 ejects_there (Some Ejection) h = refl
 
-pub injects_there : (k : Option Kind) → is_injection k ≡ true → k ≡ Some Injection
+pub injects_there : (k : Option Kind) → is_sender k ≡ true → k ≡ Some Injection
 injects_there None h = absurd (cc)
 injects_there (Some Injection) h = refl
 injects_there (Some Hop) h = absurd (cc)

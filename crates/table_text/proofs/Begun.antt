@@ -1,5 +1,5 @@
 -- A reading with choices, and the place of a choice.
-use Rattle.std.proofs.Common.{◌≡◌, ℕ, ◌+◌, ◌*◌, ◌<◌, ◌≤◌, ◌==◌, Bool, true, false, Some, List, take, refl, ◌∙◌, ap, arith}
+use Rattle.std.proofs.Common.{◌≡◌, ℕ, ◌+◌, ◌*◌, ◌<◌, ◌≤◌, ◌==◌, Bool, true, false, Some, None, List, take, refl, ◌∙◌, ap, arith}
 use Rattle.std.specs.Prelude.{slice_get, slice_index, nat_lt, if◌then◌else◌}
 use Rattle.std.specs.List.{count_by}
 use Rattle.std.proofs.Math.Nat.{mul-le-mul_right}
@@ -7,9 +7,9 @@ use Rattle.std.proofs.lemmas.Option.{slice_get_within}
 use Rattle.std.proofs.lemmas.Bool.Decides.{nat_tests}
 use Rattle.table_net.specs.declared.table.Kind.{Kind}
 use Rattle.table_net.specs.declared.table.Kind.TheVariants.{Ejection}
-use Rattle.table_net.specs.Table.{ejects, is_ejection}
+use Rattle.table_net.specs.Table.{ejects, is_receiver}
 use Rattle.table_net.specs.Columns.{AreColumns}
-use Rattle.table_text.specs.Network.{Reading, count_of, started, begun, cell_of, after_choice, after_next}
+use Rattle.table_text.specs.Network.{Reading, count_of, lacks, started, begun, cell_of, after_choice, after_next}
 
 begun_by : (r : Reading) (b : Bool) → r.begun ≡ b → (begun r).begun ≡ true
 begun_by r true e = ap (λ b. (if b then r else started r).begun) e ∙ e
@@ -37,11 +37,15 @@ pub column_there : (kinds : List Kind) (columns : List ℕ) (j c : ℕ) → AreC
     → c ≡ slice_index columns j → c ≡ count_by ejects (take j kinds)
 column_there kinds columns j c are e read = read ∙ are.each j (slice_get_within kinds j Ejection e)
 
--- a choice that may be given
-pub next_is : (r : Reading) (x j y : ℕ) → x < count_of r → is_ejection (slice_get r.table.kinds j) ≡ true → y < count_of r
-    → after_next r x j y ≡ after_choice (begun r) (cell_of r x j) y
-next_is r x j y low ends inner =
+-- a channel that there is
+pub has_channel : (r : Reading) (place x : ℕ) → x < count_of r → lacks r place x ≡ None
+has_channel r place x low =
     let some : (count_of r == 0) ≡ false = grind (arith, nat_tests) in
     let a : nat_lt x (count_of r) ≡ true = grind (arith, nat_tests) in
-    let b : nat_lt y (count_of r) ≡ true = grind (arith, nat_tests) in
-    rw some (rw a (rw ends (rw b refl)))
+    rw some (rw a refl)
+
+-- a choice that may be given
+pub next_is : (r : Reading) (x j y : ℕ) → x < count_of r → j < count_of r → is_receiver (slice_get r.table.kinds j) ≡ true → y < count_of r
+    → after_next r x j y ≡ after_choice (begun r) (cell_of r x j) y
+next_is r x j y low between ends inner =
+    rw (has_channel r 1 x low) (rw (has_channel r 2 j between) (rw ends (rw (has_channel r 3 y inner) refl)))

@@ -6,7 +6,7 @@ use Rattle.std.proofs.Math.Nat.{mul-le-mul_right}
 use Rattle.std.proofs.lemmas.List.{get_or_read}
 use Rattle.std.proofs.lemmas.Option.{slice_get_within}
 use Rattle.table_net.specs.declared.table.Kind.TheVariants.{Ejection}
-use Rattle.table_net.specs.Table.{ejects, is_ejection}
+use Rattle.table_net.specs.Table.{ejects, is_receiver}
 use Rattle.table_net.proofs.Ends.{column_low}
 use Rattle.table_text.specs.declared.reading.Reading as reading
 use Rattle.table_text.specs.Network.{Reading, begun, count_of, cell_of}
@@ -21,7 +21,7 @@ pub record Cell {A : Type 0} (old : Reading) (r : reading.Reading A) (x j at : �
   pub small : length r.choices.items ≤ 16384 * 1024
 
 pub cell_at : {A : Type 0} (old : Reading) (r : reading.Reading A) (x j at : ℕ) → x < count_of old
-    → is_ejection (slice_get old.table.kinds j) ≡ true → reading_of r ≡ begun old → IsRead r
+    → is_receiver (slice_get old.table.kinds j) ≡ true → reading_of r ≡ begun old → IsRead r
     → at ≡ get_or r.columns.items j at → Cell old r x j at
 cell_at old r x j at low ends is read here =
     let kinds : r.kinds.items ≡ old.table.kinds = begun_kinds old (reading_of r) is in

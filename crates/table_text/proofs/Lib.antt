@@ -4,6 +4,6 @@ pub mod Added
 pub mod Fresh
 pub mod Begun
 pub mod Cells
-pub mod Told
+pub mod Refused
 pub mod Pieces
 pub mod Behind

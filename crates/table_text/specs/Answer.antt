@@ -1,6 +1,6 @@
 -- What is written of a verdict, and what is answered to a network text (this project's own format).
-use Rattle.std.specs.Prelude.{◌≡◌, ◌⊎◌, ℕ, ◌+◌, ◌==◌, Bool, true, false, if◌then◌else◌, List, [], ◌++◌}
-use Rattle.std.specs.Prelude.{length, slice_index, Result, Ok, Err, codes, decimal}
+use Rattle.std.specs.Prelude.{◌≡◌, ◌⊎◌, ℕ, ◌+◌, ◌==◌, Bool, true, false, if◌then◌else◌, List, []}
+use Rattle.std.specs.Prelude.{◌++◌, length, slice_index, Result, Ok, Err, codes, decimal}
 use Rattle.std.specs.List.{flat_map, range_with_len}
 use Rattle.torus.specs.declared.fault.Fault.TheVariants as fault
 use Rattle.script.specs.declared.fault.LineFault.{LineFault}
@@ -9,7 +9,8 @@ use Rattle.table_net.specs.declared.table.By.TheVariants.{To, Replied}
 use Rattle.table_net.specs.declared.table.Link.{Link}
 use Rattle.table_net.specs.declared.table.NoRoute as no_route
 use Rattle.table_net.specs.declared.table.Why.{Why}
-use Rattle.table_net.specs.declared.table.Why.TheVariants.{NoSender, NoReceiver, Leaves, Ejects, Injects, Round}
+use Rattle.table_net.specs.declared.table.Why.TheVariants.{NoSender, NoReceiver, Leaves}
+use Rattle.table_net.specs.declared.table.Why.TheVariants.{Ejects, Injects, Round}
 use Rattle.table_net.specs.declared.table.Verdict.{Verdict}
 use Rattle.table_net.specs.declared.table.Verdict.TheVariants.{Rising, NoRoute, Cycle}
 use Rattle.table_net.specs.Cycles.{link_at}

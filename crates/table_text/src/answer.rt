@@ -3,15 +3,16 @@
 ghost use Rattle.std.specs.Prelude.{◌≡◌, ◌++◌, ◌<◌, length, codes, decimal, IfOk, OnOk};
 ghost use Rattle.std.specs.Str.Lines.{lines};
 ghost use Rattle.table_net.specs.Verdicts.{IsVerdict};
-ghost use Rattle.table_text.specs.Answer.{Answers, verdict_text, is_rising, first_lines, pair_line};
-ghost use Rattle.table_text.specs.Answer.{number_line, why_words, by_line, link_line, next_place, no_route_line};
+ghost use Rattle.table_text.specs.Answer.{Answers, Tells, verdict_text, is_rising, first_lines};
+ghost use Rattle.table_text.specs.Answer.{pair_line, number_line, why_words, by_line, link_line};
+ghost use Rattle.table_text.specs.Answer.{next_place, no_route_line};
 
-use crate::fault::out_of_memory;
 use crate::network::{Network, read_network};
 use itoa::Buffer;
 use script::LineFault;
 use std::alloc::{AllocError, Allocator, Global};
 use table_net::{By, Link, NoRoute, Verdict, Why, judge};
+use torus::Fault;
 
 /// What is answered to a network text.
 #[derive(Drop)]
@@ -185,6 +186,20 @@ pub fn judge_network<A: Allocator + Copy>(
     )
 }
 
+/// Judges a network, and makes the text of the verdict.
+///
+/// Errors: memory.
+fn answered<A: Allocator + Copy>(alloc: A, network: &Network<A>) -> Result<Answer<A>, AllocError>
+    ensures { IfOk result (Tells network.now) }
+{
+    let verdict = judge_network(alloc, network)?;
+    let text = verdict_text(alloc, &verdict)?;
+    Ok(Answer {
+        text,
+        rising: is_rising(&verdict),
+    })
+}
+
 /// Reads a network text, judges the network and answers with the text of the verdict.
 ///
 /// Errors: the first fault of the text and its line, or `Fault::Memory` at line 0.
@@ -192,14 +207,11 @@ pub fn network_answer<A: Allocator + Copy>(alloc: A, text: &[u8]) -> Result<Answ
     ensures { Answers (lines text.now) result }
 {
     let network = read_network(alloc, text)?;
-    let Ok(verdict) = judge_network(alloc, &network) else {
-        return Err(out_of_memory());
-    };
-    let Ok(text) = verdict_text(alloc, &verdict) else {
-        return Err(out_of_memory());
-    };
-    Ok(Answer {
-        text,
-        rising: is_rising(&verdict),
-    })
+    match answered(alloc, &network) {
+        Ok(answer) => Ok(answer),
+        Err(_) => Err(LineFault {
+            fault: Fault::Memory,
+            line: 0,
+        }),
+    }
 }

@@ -1,183 +1,187 @@
 //! What a line gives, by its words.
 
 ghost use Rattle.std.specs.Prelude.{◌≡◌, ℕ, map, Err, IfErr, IfOk, OnOk, Result};
-ghost use Rattle.std.specs.Str.{bytes_eq};
-ghost use Rattle.torus.specs.declared.fault.Fault.{Fault};
-ghost use Rattle.script.specs.Outcome.{Makes};
+ghost use Rattle.table_text.specs.declared.reason.NetworkReason.{NetworkReason};
+ghost use Rattle.lexer.specs.Outcome.{Makes};
 ghost use Rattle.table_text.specs.Network.{Reading as ReadSpec};
 ghost use Rattle.table_text.specs.Network.{after_channels, after_inject, after_eject, after_join};
 ghost use Rattle.table_text.specs.Network.{after_next, after_reply};
 ghost use Rattle.table_text.specs.Network.{after_one, after_two, after_three};
-ghost use Rattle.table_text.specs.Network.{after_keyword, after_words};
+ghost use Rattle.table_text.specs.Network.{after_keyword, after_words, number_at};
 ghost use Rattle.table_text.specs.Reading.{reading_of, IsRead};
 
-use crate::number::an_index;
 use crate::reading::Reading;
+use crate::reason::{Keyword, NetworkReason};
+use lexer::index;
 use std::alloc::Allocator;
-use torus::Fault;
 
-/// Whether a word is this one.
-fn spells(word: &[u8], name: &[u8]) -> bool
-    ensures { result ≡ bytes_eq word.now name.now }
+/// The number that a word spells where one belongs, of the word at this place of its line.
+fn number_at(place: u32, word: &[u8]) -> Result<u32, NetworkReason>
+    ensures { result ≡ number_at place word.now }
 {
-    word == name
+    match index(word) {
+        Some(index) => Ok(index),
+        None => Err(NetworkReason::NotNumber(place)),
+    }
 }
 
 /// The one number behind a keyword.
-fn one_index(values: &[&[u8]]) -> Result<u32, Fault>
-    ensures number { IfOk result (λ x. (f : ℕ → Result ReadSpec Fault)
-        → after_one f (map (λ value. value.now) values.now) ≡ f x) }
-    ensures fault { IfErr result (λ e. (f : ℕ → Result ReadSpec Fault)
-        → after_one f (map (λ value. value.now) values.now) ≡ Err e) }
+fn one_index(keyword: Keyword, values: &[&[u8]]) -> Result<u32, NetworkReason>
+    ensures number { IfOk result (λ x. (f : ℕ → Result ReadSpec NetworkReason)
+        → after_one keyword f (map (λ value. value.now) values.now) ≡ f x) }
+    ensures reason { IfErr result (λ e. (f : ℕ → Result ReadSpec NetworkReason)
+        → after_one keyword f (map (λ value. value.now) values.now) ≡ Err e) }
 {
     match values {
-        [a] => an_index(a),
-        _ => Err(Fault::Line),
+        [a] => number_at(1, a),
+        _ => Err(NetworkReason::NumberCount(keyword)),
     }
 }
 
 /// The two numbers behind a keyword.
-fn two_indexes(values: &[&[u8]]) -> Result<(u32, u32), Fault>
-    ensures numbers { IfOk result (λ r. (f : ℕ → ℕ → Result ReadSpec Fault)
-        → after_two f (map (λ value. value.now) values.now) ≡ f r.0 r.1) }
-    ensures fault { IfErr result (λ e. (f : ℕ → ℕ → Result ReadSpec Fault)
-        → after_two f (map (λ value. value.now) values.now) ≡ Err e) }
+fn two_indexes(keyword: Keyword, values: &[&[u8]]) -> Result<(u32, u32), NetworkReason>
+    ensures numbers { IfOk result (λ r. (f : ℕ → ℕ → Result ReadSpec NetworkReason)
+        → after_two keyword f (map (λ value. value.now) values.now) ≡ f r.0 r.1) }
+    ensures reason { IfErr result (λ e. (f : ℕ → ℕ → Result ReadSpec NetworkReason)
+        → after_two keyword f (map (λ value. value.now) values.now) ≡ Err e) }
 {
     match values {
         [a, b] => {
-            let x = an_index(a)?;
-            let y = an_index(b)?;
+            let x = number_at(1, a)?;
+            let y = number_at(2, b)?;
             Ok((x, y))
         }
-        _ => Err(Fault::Line),
+        _ => Err(NetworkReason::NumberCount(keyword)),
     }
 }
 
 /// The three numbers behind a keyword.
-fn three_indexes(values: &[&[u8]]) -> Result<(u32, u32, u32), Fault>
-    ensures numbers { IfOk result (λ r. (f : ℕ → ℕ → ℕ → Result ReadSpec Fault)
-        → after_three f (map (λ value. value.now) values.now) ≡ f r.0 r.1 r.2) }
-    ensures fault { IfErr result (λ e. (f : ℕ → ℕ → ℕ → Result ReadSpec Fault)
-        → after_three f (map (λ value. value.now) values.now) ≡ Err e) }
+fn three_indexes(keyword: Keyword, values: &[&[u8]]) -> Result<(u32, u32, u32), NetworkReason>
+    ensures numbers { IfOk result (λ r. (f : ℕ → ℕ → ℕ → Result ReadSpec NetworkReason)
+        → after_three keyword f (map (λ value. value.now) values.now) ≡ f r.0 r.1 r.2) }
+    ensures reason { IfErr result (λ e. (f : ℕ → ℕ → ℕ → Result ReadSpec NetworkReason)
+        → after_three keyword f (map (λ value. value.now) values.now) ≡ Err e) }
 {
     match values {
-        [a, b, c] => {
-            let x = an_index(a)?;
-            let j = an_index(b)?;
-            let y = an_index(c)?;
-            Ok((x, j, y))
-        }
-        _ => Err(Fault::Line),
+        [a, b, c] => match (number_at(1, a), number_at(2, b), number_at(3, c)) {
+            (Ok(x), Ok(j), Ok(y)) => Ok((x, j, y)),
+            (Err(reason), _, _) => Err(reason),
+            (Ok(_), Err(reason), _) => Err(reason),
+            (Ok(_), Ok(_), Err(reason)) => Err(reason),
+        },
+        _ => Err(NetworkReason::NumberCount(keyword)),
     }
 }
 
 impl<A: Allocator + Copy> Reading<A> {
     /// Takes what the words of a line give.
-    pub(crate) fn take(&mut self, alloc: A, words: &[&[u8]]) -> Result<(), Fault>
+    pub(crate) fn take(&mut self, alloc: A, words: &[&[u8]]) -> Result<(), NetworkReason>
         requires { IsRead self.old }
-        ensures value { Makes (reading_of self.new) result
+        ensures value { Makes NetworkReason.Memory (reading_of self.new) result
             (after_words (reading_of self.old) (map (λ word. word.now) words.now)) }
         ensures read { OnOk result (IsRead self.new) }
     {
         match words {
             [] => Ok(()),
             [[b'#', ..], ..] => Ok(()),
-            [keyword, values @ ..] => self.take_keyword(alloc, keyword, values),
+            [word, values @ ..] => match Keyword::of(word) {
+                Some(keyword) => self.take_keyword(alloc, keyword, values),
+                None => Err(NetworkReason::UnknownKeyword),
+            },
         }
     }
 
     /// Takes a line by its keyword.
-    fn take_keyword(&mut self, alloc: A, keyword: &[u8], values: &[&[u8]]) -> Result<(), Fault>
+    fn take_keyword(
+        &mut self,
+        alloc: A,
+        keyword: Keyword,
+        values: &[&[u8]],
+    ) -> Result<(), NetworkReason>
         requires { IsRead self.old }
-        ensures value { Makes (reading_of self.new) result (after_keyword (reading_of self.old)
-            keyword.now (map (λ value. value.now) values.now)) }
+        ensures value { Makes NetworkReason.Memory (reading_of self.new) result
+            (after_keyword (reading_of self.old) keyword (map (λ value. value.now) values.now)) }
         ensures read { OnOk result (IsRead self.new) }
     {
-        if spells(keyword, b"channels") {
-            return self.channels_line(alloc, values);
+        match keyword {
+            Keyword::Channels => self.channels_line(alloc, values),
+            Keyword::Inject => self.inject_line(values),
+            Keyword::Eject => self.eject_line(values),
+            Keyword::Join => self.join_line(values),
+            Keyword::Next => self.next_line(alloc, values),
+            Keyword::Reply => self.reply_line(values),
         }
-        if spells(keyword, b"inject") {
-            return self.inject_line(values);
-        }
-        if spells(keyword, b"eject") {
-            return self.eject_line(values);
-        }
-        if spells(keyword, b"join") {
-            return self.join_line(values);
-        }
-        if spells(keyword, b"next") {
-            return self.next_line(alloc, values);
-        }
-        if spells(keyword, b"reply") {
-            return self.reply_line(values);
-        }
-        Err(Fault::Line)
     }
 
     /// Takes the number after `channels`.
-    fn channels_line(&mut self, alloc: A, values: &[&[u8]]) -> Result<(), Fault>
+    fn channels_line(&mut self, alloc: A, values: &[&[u8]]) -> Result<(), NetworkReason>
         requires { IsRead self.old }
-        ensures value { Makes (reading_of self.new) result
-            (after_one (after_channels (reading_of self.old))
+        ensures value { Makes NetworkReason.Memory (reading_of self.new) result
+            (after_one Keyword.Channels (after_channels (reading_of self.old))
             (map (λ value. value.now) values.now)) }
         ensures read { OnOk result (IsRead self.new) }
     {
-        let count = one_index(values)?;
+        let count = one_index(Keyword::Channels, values)?;
         self.take_channels(alloc, count)
     }
 
     /// Takes the number after `inject`.
-    fn inject_line(&mut self, values: &[&[u8]]) -> Result<(), Fault>
+    fn inject_line(&mut self, values: &[&[u8]]) -> Result<(), NetworkReason>
         requires { IsRead self.old }
-        ensures value { Makes (reading_of self.new) result
-            (after_one (after_inject (reading_of self.old)) (map (λ value. value.now) values.now)) }
+        ensures value { Makes NetworkReason.Memory (reading_of self.new) result
+            (after_one Keyword.Inject (after_inject (reading_of self.old))
+            (map (λ value. value.now) values.now)) }
         ensures read { OnOk result (IsRead self.new) }
     {
-        let x = one_index(values)?;
+        let x = one_index(Keyword::Inject, values)?;
         self.take_inject(x)
     }
 
     /// Takes the number after `eject`.
-    fn eject_line(&mut self, values: &[&[u8]]) -> Result<(), Fault>
+    fn eject_line(&mut self, values: &[&[u8]]) -> Result<(), NetworkReason>
         requires { IsRead self.old }
-        ensures value { Makes (reading_of self.new) result
-            (after_one (after_eject (reading_of self.old)) (map (λ value. value.now) values.now)) }
+        ensures value { Makes NetworkReason.Memory (reading_of self.new) result
+            (after_one Keyword.Eject (after_eject (reading_of self.old))
+            (map (λ value. value.now) values.now)) }
         ensures read { OnOk result (IsRead self.new) }
     {
-        let x = one_index(values)?;
+        let x = one_index(Keyword::Eject, values)?;
         self.take_eject(x)
     }
 
     /// Takes the numbers after `join`.
-    fn join_line(&mut self, values: &[&[u8]]) -> Result<(), Fault>
+    fn join_line(&mut self, values: &[&[u8]]) -> Result<(), NetworkReason>
         requires { IsRead self.old }
-        ensures value { Makes (reading_of self.new) result
-            (after_two (after_join (reading_of self.old)) (map (λ value. value.now) values.now)) }
+        ensures value { Makes NetworkReason.Memory (reading_of self.new) result
+            (after_two Keyword.Join (after_join (reading_of self.old))
+            (map (λ value. value.now) values.now)) }
         ensures read { OnOk result (IsRead self.new) }
     {
-        let (i, j) = two_indexes(values)?;
+        let (i, j) = two_indexes(Keyword::Join, values)?;
         self.take_join(i, j)
     }
 
     /// Takes the numbers after `next`.
-    fn next_line(&mut self, alloc: A, values: &[&[u8]]) -> Result<(), Fault>
+    fn next_line(&mut self, alloc: A, values: &[&[u8]]) -> Result<(), NetworkReason>
         requires { IsRead self.old }
-        ensures value { Makes (reading_of self.new) result
-            (after_three (after_next (reading_of self.old)) (map (λ value. value.now) values.now)) }
+        ensures value { Makes NetworkReason.Memory (reading_of self.new) result
+            (after_three Keyword.Next (after_next (reading_of self.old))
+            (map (λ value. value.now) values.now)) }
         ensures read { OnOk result (IsRead self.new) }
     {
-        let (x, j, y) = three_indexes(values)?;
+        let (x, j, y) = three_indexes(Keyword::Next, values)?;
         self.take_next(alloc, x, j, y)
     }
 
     /// Takes the numbers after `reply`.
-    fn reply_line(&mut self, values: &[&[u8]]) -> Result<(), Fault>
+    fn reply_line(&mut self, values: &[&[u8]]) -> Result<(), NetworkReason>
         requires { IsRead self.old }
-        ensures value { Makes (reading_of self.new) result
-            (after_two (after_reply (reading_of self.old)) (map (λ value. value.now) values.now)) }
+        ensures value { Makes NetworkReason.Memory (reading_of self.new) result
+            (after_two Keyword.Reply (after_reply (reading_of self.old))
+            (map (λ value. value.now) values.now)) }
         ensures read { OnOk result (IsRead self.new) }
     {
-        let (x, y) = two_indexes(values)?;
+        let (x, y) = two_indexes(Keyword::Reply, values)?;
         self.take_reply(x, y)
     }
 }

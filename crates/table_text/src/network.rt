@@ -4,19 +4,19 @@ ghost use Rattle.std.specs.Prelude.{◌≡◌};
 ghost use Rattle.std.specs.Str.Lines.{lines};
 ghost use Rattle.table_net.specs.Table.{IsFull};
 ghost use Rattle.table_net.specs.Replies.{AreReplies};
+ghost use Rattle.lexer.specs.Outcome.{Gives as GivesOrWhy};
 ghost use Rattle.script.specs.Outcome.{Gives};
 ghost use Rattle.table_text.specs.Network.{MakesNetwork};
-ghost use Rattle.table_text.specs.Network.{NetworkSpec, network_of, network_with};
+ghost use Rattle.table_text.specs.Network.{NetworkSpec, network_of, network_or_why, network_with};
 ghost use Rattle.table_text.specs.Reading.{reading_of, IsRead};
 
-use crate::fault::fault_at;
 use crate::reading::Reading;
-use lexer::{first_words, next_line};
+use crate::reason::NetworkReason;
+use lexer::{Refusal, first_words, next_line};
 use script::LineFault;
 use std::alloc::{Allocator, Global};
 use std::marker::Model;
 use table_net::{Join, Kind, Reply};
-use torus::Fault;
 
 /// A network as its text gives it.
 #[derive(Drop)]
@@ -63,8 +63,8 @@ impl<A: Allocator> Network<A> {
         &self.replies
     }
 
-    /// The choice behind each channel for each ejection channel, both in channel order; where there is
-    /// none, the number of channels.
+    /// The choice behind each channel for each ejection channel, both in channel order; where there
+    /// is none, the number of channels.
     pub fn choices(&self) -> &[u32]
         ensures { result.now ≡ self.now.table.choices }
     {
@@ -74,35 +74,51 @@ impl<A: Allocator> Network<A> {
 
 /// Reads a network text.
 ///
-/// Errors: the first fault and its line, or `Fault::Memory` at line 0.
-pub fn read_network<A: Allocator + Copy>(alloc: A, text: &[u8]) -> Result<Network<A>, LineFault>
-    ensures { Gives (λ n. n) result (network_of (lines text.now)) }
+/// Errors: where and why its first bad line is refused, or that a request for memory was.
+pub fn read_network_or_why<A: Allocator + Copy>(
+    alloc: A,
+    text: &[u8],
+) -> Result<Network<A>, Refusal<NetworkReason>>
+    ensures { GivesOrWhy NetworkReason.Memory (λ n. n) result (network_or_why (lines text.now)) }
 {
     let mut reading = Reading::none(alloc);
     let mut number = 1u64;
     let mut rest = text;
     while let Some((line, after)) = next_line(rest) {
         let (words, count) = first_words(line);
-        if let Err(fault) = reading.take(alloc, &words[..count]) {
-            return Err(fault_at(fault, number));
+        if let Err(reason) = reading.take(alloc, &words[..count]) {
+            return Err(Refusal::at(number, reason));
         }
         number += 1;
         rest = after;
     }
     match network_with(alloc, reading) {
         Ok(network) => Ok(network),
-        Err(fault) => Err(fault_at(fault, number)),
+        Err(reason) => Err(Refusal::at(number, reason)),
     }
 }
 
+/// Reads a network text.
+///
+/// Errors: the first fault and its line, or `Fault::Memory` at line 0.
+pub fn read_network<A: Allocator + Copy>(alloc: A, text: &[u8]) -> Result<Network<A>, LineFault>
+    ensures { Gives (λ n. n) result (network_of (lines text.now)) }
+{
+    let network = read_network_or_why(alloc, text)?;
+    Ok(network)
+}
+
 /// The network of all lines.
-fn network_with<A: Allocator + Copy>(alloc: A, reading: Reading<A>) -> Result<Network<A>, Fault>
+fn network_with<A: Allocator + Copy>(
+    alloc: A,
+    reading: Reading<A>,
+) -> Result<Network<A>, NetworkReason>
     requires { IsRead reading }
     ensures { MakesNetwork result (network_with (reading_of reading)) }
 {
     let mut reading = reading;
     if reading.kinds.is_empty() {
-        return Err(Fault::Setting);
+        return Err(NetworkReason::ChannelsMissing);
     }
     reading.begin(alloc)?;
     Ok(Network {

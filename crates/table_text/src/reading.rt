@@ -1,13 +1,13 @@
-ghost use Rattle.std.specs.Prelude.{◌≡◌, ◌<◌, length, slice_get, OnOk, IfErr};
-ghost use Rattle.table_net.specs.Table.{is_injection, is_ejection};
-ghost use Rattle.table_text.specs.Network.{nothing_read, is_hop, begun, has_reply};
+ghost use Rattle.std.specs.Prelude.{◌≡◌, ◌<◌, length, slice_get, OnOk, IfNone};
+ghost use Rattle.table_net.specs.Table.{is_sender, is_receiver};
+ghost use Rattle.table_text.specs.Network.{nothing_read, is_hop, begun, has_reply, lacks};
 ghost use Rattle.table_text.specs.Reading.{reading_of, IsRead};
 
-use std::alloc::Allocator;
+use crate::reason::NetworkReason;
+use std::alloc::{AllocError, Allocator};
 use table_net::columns::columns_of;
-use table_net::walk::kind_at;
+use table_net::walk::{is_receiver, is_sender, kind_at};
 use table_net::{Join, Kind, Reply};
-use torus::Fault;
 
 /// What the lines of a network text gave so far.
 #[derive(Drop)]
@@ -34,30 +34,6 @@ pub(crate) fn is_hop(kind: Kind) -> bool
         Kind::Injection => false,
         Kind::Hop => true,
         Kind::Ejection => false,
-    }
-}
-
-/// Whether a channel of this kind, if any, is an injection channel.
-fn is_injection(kind: Option<Kind>) -> bool
-    ensures { result ≡ is_injection kind }
-{
-    match kind {
-        None => false,
-        Some(Kind::Injection) => true,
-        Some(Kind::Hop) => false,
-        Some(Kind::Ejection) => false,
-    }
-}
-
-/// Whether it is an ejection channel.
-fn is_ejection(kind: Option<Kind>) -> bool
-    ensures { result ≡ is_ejection kind }
-{
-    match kind {
-        None => false,
-        Some(Kind::Injection) => false,
-        Some(Kind::Hop) => false,
-        Some(Kind::Ejection) => true,
     }
 }
 
@@ -90,38 +66,49 @@ impl<A: Allocator + Copy> Reading<A> {
         }
     }
 
+    /// Why the word at this place names no channel, where it doesn't.
+    pub(crate) fn lacks(&self, place: u32, x: usize) -> Option<NetworkReason>
+        ensures value { result ≡ lacks (reading_of self.now) place x }
+        ensures there { IfNone result (x < length self.now.kinds.items) }
+    {
+        if self.kinds.is_empty() {
+            return Some(NetworkReason::ChannelsFirst);
+        }
+        if x >= self.kinds.len() {
+            return Some(NetworkReason::ChannelLimits(place, self.kinds.len()));
+        }
+        None
+    }
+
     /// Whether a channel is an injection channel.
     pub(crate) fn injects(&self, x: usize) -> bool
-        ensures { result ≡ is_injection (slice_get self.now.kinds.items x) }
+        ensures { result ≡ is_sender (slice_get self.now.kinds.items x) }
     {
-        is_injection(kind_at(&self.kinds, x))
+        is_sender(kind_at(&self.kinds, x))
     }
 
     /// Whether a channel is an ejection channel.
     pub(crate) fn ejects(&self, x: usize) -> bool
-        ensures { result ≡ is_ejection (slice_get self.now.kinds.items x) }
+        ensures { result ≡ is_receiver (slice_get self.now.kinds.items x) }
     {
-        is_ejection(kind_at(&self.kinds, x))
+        is_receiver(kind_at(&self.kinds, x))
     }
 
     /// Has choices, none yet behind any channel, if none was given.
-    pub(crate) fn begin(&mut self, alloc: A) -> Result<(), Fault>
+    ///
+    /// Errors: memory.
+    pub(crate) fn begin(&mut self, alloc: A) -> Result<(), AllocError>
         requires read { IsRead self.old }
         requires given { 0 < length self.old.kinds.items }
         ensures value { OnOk result (reading_of self.new ≡ begun (reading_of self.old)) }
         ensures read { OnOk result (IsRead self.new) }
-        ensures memory { IfErr result (λ e. e ≡ Fault.Memory) }
     {
         if self.begun {
             return Ok(());
         }
         let count = self.kinds.len();
-        let Ok(columns) = columns_of(alloc, &self.kinds) else {
-            return Err(Fault::Memory);
-        };
-        let Ok(choices) = vec![in alloc; count as u32; count * self.ejections] else {
-            return Err(Fault::Memory);
-        };
+        let columns = columns_of(alloc, &self.kinds)?;
+        let choices = vec![in alloc; count as u32; count * self.ejections]?;
         self.columns = columns;
         self.choices = choices;
         self.begun = true;

@@ -1,15 +1,15 @@
 //! What a line gives, by its numbers.
 
 ghost use Rattle.std.specs.Prelude.{◌<◌, length, OnOk};
-ghost use Rattle.script.specs.Outcome.{Makes};
+ghost use Rattle.lexer.specs.Outcome.{Makes};
 ghost use Rattle.table_text.specs.Network.{after_channels, after_inject, after_eject, after_join};
 ghost use Rattle.table_text.specs.Network.{after_choice, after_next, after_reply};
 ghost use Rattle.table_text.specs.Reading.{reading_of, IsRead};
 
 use crate::reading::{Reading, has_reply, is_hop};
+use crate::reason::NetworkReason;
 use std::alloc::Allocator;
 use table_net::{Join, Kind, Reply};
-use torus::Fault;
 
 /// The most channels of a network.
 const MOST_CHANNELS: u32 = 16384;
@@ -22,68 +22,59 @@ const MOST_JOINS: usize = 1048576;
 
 impl<A: Allocator + Copy> Reading<A> {
     /// Takes the number of channels.
-    pub(crate) fn take_channels(&mut self, alloc: A, count: u32) -> Result<(), Fault>
+    pub(crate) fn take_channels(&mut self, alloc: A, count: u32) -> Result<(), NetworkReason>
         requires { IsRead self.old }
-        ensures value { Makes (reading_of self.new) result
+        ensures value { Makes NetworkReason.Memory (reading_of self.new) result
             (after_channels (reading_of self.old) count) }
         ensures read { OnOk result (IsRead self.new) }
     {
         if !self.kinds.is_empty() {
-            return Err(Fault::Setting);
+            return Err(NetworkReason::ChannelsTwice);
         }
         if !(1 <= count && count <= MOST_CHANNELS) {
-            return Err(Fault::Range);
+            return Err(NetworkReason::ChannelsLimits);
         }
-        let Ok(kinds) = vec![in alloc; Kind::Hop; count as usize] else {
-            return Err(Fault::Memory);
-        };
-        self.kinds = kinds;
+        self.kinds = vec![in alloc; Kind::Hop; count as usize]?;
         Ok(())
     }
 
     /// Takes an injection channel.
-    pub(crate) fn take_inject(&mut self, channel: u32) -> Result<(), Fault>
+    pub(crate) fn take_inject(&mut self, channel: u32) -> Result<(), NetworkReason>
         requires { IsRead self.old }
-        ensures value { Makes (reading_of self.new) result
+        ensures value { Makes NetworkReason.Memory (reading_of self.new) result
             (after_inject (reading_of self.old) channel) }
         ensures read { OnOk result (IsRead self.new) }
     {
         let x = channel as usize;
-        if self.kinds.is_empty() {
-            return Err(Fault::Setting);
-        }
-        if x >= self.kinds.len() {
-            return Err(Fault::Range);
+        if let Some(reason) = self.lacks(1, x) {
+            return Err(reason);
         }
         if !is_hop(self.kinds[x]) {
-            return Err(Fault::Setting);
+            return Err(NetworkReason::KindTwice);
         }
         self.kinds[x] = Kind::Injection;
         Ok(())
     }
 
     /// Takes an ejection channel.
-    pub(crate) fn take_eject(&mut self, channel: u32) -> Result<(), Fault>
+    pub(crate) fn take_eject(&mut self, channel: u32) -> Result<(), NetworkReason>
         requires { IsRead self.old }
-        ensures value { Makes (reading_of self.new) result
+        ensures value { Makes NetworkReason.Memory (reading_of self.new) result
             (after_eject (reading_of self.old) channel) }
         ensures read { OnOk result (IsRead self.new) }
     {
         let x = channel as usize;
-        if self.kinds.is_empty() {
-            return Err(Fault::Setting);
-        }
-        if x >= self.kinds.len() {
-            return Err(Fault::Range);
+        if let Some(reason) = self.lacks(1, x) {
+            return Err(reason);
         }
         if self.begun {
-            return Err(Fault::Setting);
+            return Err(NetworkReason::EjectionLate);
         }
         if !is_hop(self.kinds[x]) {
-            return Err(Fault::Setting);
+            return Err(NetworkReason::KindTwice);
         }
         if self.ejections >= MOST_EJECTIONS {
-            return Err(Fault::Length);
+            return Err(NetworkReason::EjectionsLimits);
         }
         self.kinds[x] = Kind::Ejection;
         self.ejections += 1;
@@ -91,42 +82,39 @@ impl<A: Allocator + Copy> Reading<A> {
     }
 
     /// Takes a pair that packets go between.
-    pub(crate) fn take_join(&mut self, from: u32, to: u32) -> Result<(), Fault>
+    pub(crate) fn take_join(&mut self, from: u32, to: u32) -> Result<(), NetworkReason>
         requires { IsRead self.old }
-        ensures value { Makes (reading_of self.new) result
+        ensures value { Makes NetworkReason.Memory (reading_of self.new) result
             (after_join (reading_of self.old) from to) }
         ensures read { OnOk result (IsRead self.new) }
     {
         let from = from as usize;
         let to = to as usize;
-        if self.kinds.is_empty() {
-            return Err(Fault::Setting);
+        if let Some(reason) = self.lacks(1, from) {
+            return Err(reason);
         }
-        if from >= self.kinds.len() {
-            return Err(Fault::Range);
-        }
-        if to >= self.kinds.len() {
-            return Err(Fault::Range);
+        if let Some(reason) = self.lacks(2, to) {
+            return Err(reason);
         }
         if self.joins.len() >= MOST_JOINS {
-            return Err(Fault::Length);
+            return Err(NetworkReason::JoinsLimits);
         }
         if self.joins.push(Join { from, to }).is_err() {
-            return Err(Fault::Memory);
+            return Err(NetworkReason::Memory);
         }
         Ok(())
     }
 
     /// Takes the choice at a place.
-    fn take_choice(&mut self, cell: usize, choice: u32) -> Result<(), Fault>
+    fn take_choice(&mut self, cell: usize, choice: u32) -> Result<(), NetworkReason>
         requires read { IsRead self.old }
         requires cell { cell < length self.old.choices.items }
-        ensures value { Makes (reading_of self.new) result
+        ensures value { Makes NetworkReason.Memory (reading_of self.new) result
             (after_choice (reading_of self.old) cell choice) }
         ensures read { OnOk result (IsRead self.new) }
     {
         if self.choices[cell] as usize != self.kinds.len() {
-            return Err(Fault::Setting);
+            return Err(NetworkReason::ChoiceTwice);
         }
         self.choices[cell] = choice;
         Ok(())
@@ -139,25 +127,25 @@ impl<A: Allocator + Copy> Reading<A> {
         channel: u32,
         to: u32,
         choice: u32,
-    ) -> Result<(), Fault>
+    ) -> Result<(), NetworkReason>
         requires { IsRead self.old }
-        ensures value { Makes (reading_of self.new) result
+        ensures value { Makes NetworkReason.Memory (reading_of self.new) result
             (after_next (reading_of self.old) channel to choice) }
         ensures read { OnOk result (IsRead self.new) }
     {
         let x = channel as usize;
         let j = to as usize;
-        if self.kinds.is_empty() {
-            return Err(Fault::Setting);
+        if let Some(reason) = self.lacks(1, x) {
+            return Err(reason);
         }
-        if x >= self.kinds.len() {
-            return Err(Fault::Range);
+        if let Some(reason) = self.lacks(2, j) {
+            return Err(reason);
         }
         if !self.ejects(j) {
-            return Err(Fault::Range);
+            return Err(NetworkReason::NotEjection(2));
         }
-        if choice as usize >= self.kinds.len() {
-            return Err(Fault::Range);
+        if let Some(reason) = self.lacks(3, choice as usize) {
+            return Err(reason);
         }
         self.begin(alloc)?;
         let cell = x * self.ejections + self.columns[j];
@@ -165,28 +153,31 @@ impl<A: Allocator + Copy> Reading<A> {
     }
 
     /// Takes where packets from an ejection channel are answered.
-    pub(crate) fn take_reply(&mut self, from: u32, to: u32) -> Result<(), Fault>
+    pub(crate) fn take_reply(&mut self, from: u32, to: u32) -> Result<(), NetworkReason>
         requires { IsRead self.old }
-        ensures value { Makes (reading_of self.new) result
+        ensures value { Makes NetworkReason.Memory (reading_of self.new) result
             (after_reply (reading_of self.old) from to) }
         ensures read { OnOk result (IsRead self.new) }
     {
         let from = from as usize;
         let to = to as usize;
-        if self.kinds.is_empty() {
-            return Err(Fault::Setting);
+        if let Some(reason) = self.lacks(1, from) {
+            return Err(reason);
         }
         if !self.ejects(from) {
-            return Err(Fault::Range);
+            return Err(NetworkReason::NotEjection(1));
+        }
+        if let Some(reason) = self.lacks(2, to) {
+            return Err(reason);
         }
         if !self.injects(to) {
-            return Err(Fault::Range);
+            return Err(NetworkReason::NotInjection(2));
         }
         if has_reply(&self.replies, from, to) {
-            return Err(Fault::Setting);
+            return Err(NetworkReason::ReplyTwice);
         }
         if self.replies.push(Reply { from, to }).is_err() {
-            return Err(Fault::Memory);
+            return Err(NetworkReason::Memory);
         }
         Ok(())
     }

@@ -1,11 +1,9 @@
-use explained::{
-    Named, Sentence, machine_sentence, scripts_sentence, steps_sentence, tile_sentence,
-};
-use fault_reasons::{machine_reason, scripts_reason, steps_reason};
-use std::alloc::Global;
+use explained::{Sentence, machine_sentence, scripts_sentence, steps_sentence, tile_sentence};
+use lexer::{Named, Reason};
+use linked_list_allocator::LocalHeap;
+use std::alloc::{AllocError, Global};
 use std::process::Abort;
 use std::test::Fail;
-use torus::Fault;
 
 /// Names and texts of a machine of two tiles and eight words.
 const SMALL: Named<'static> = Named {
@@ -278,80 +276,50 @@ fn step_sentences(rt: HostRuntime) -> Result<(), Fail> {
     Ok(())
 }
 
-/// Faults that the line hasn't, and out of memory.
-#[test]
-fn other_machine_faults(rt: HostRuntime) -> Result<(), Fail> {
-    let rows: [(&[u8], Fault, u64, &str); 2] = [
-        (
-            b"radix 2\n",
-            Fault::Memory,
-            0,
-            "m: a request for memory was refused while it was read",
-        ),
-        (b"radix 2\n", Fault::Step, 1, "m:1: fault F11"),
-    ];
-    for (text, fault, line, wanted) in rows {
-        let reason = machine_reason(text, fault, line);
-        let sentence = Sentence {
-            name: "m",
-            text,
-            line,
-            reason,
-        };
-        reads(rt.alloc(), &rt, sentence, wanted)?;
-    }
-    Ok(())
+/// The readers and the sentences with so much memory: what they say of these texts, where they refuse
+/// one of them.
+fn said_within(
+    alloc: Global,
+    budget: usize,
+    texts: [Named<'static>; 3],
+) -> Result<Option<Sentence<'static>>, AllocError> {
+    let heap = LocalHeap::new(alloc, budget)?;
+    Ok(steps_sentence(&heap, texts[0], texts[1], texts[2]))
 }
 
-/// Faults that the line hasn't, and out of memory.
+/// A refusal of memory, while each of the texts is read.
 #[test]
-fn other_script_faults(rt: HostRuntime) -> Result<(), Fail> {
-    let rows: [(&[u8], Fault, u64, &str); 4] = [
-        (
-            b"0 load 0\n",
-            Fault::Memory,
-            0,
-            "s: a request for memory was refused while it was read",
-        ),
-        (b"0 load 0\n", Fault::Address, 1, "s:1: fault F7"),
-        (b"0 load 0\n", Fault::Address, 2, "s:2: fault F7"),
-        (b"\n", Fault::Line, 1, "s:1: fault F4"),
+fn refused_memory(rt: HostRuntime) -> Result<(), Fail> {
+    let scripts = Named {
+        name: "s",
+        text: b"0 load 0\n",
+    };
+    let steps = Named {
+        name: "t",
+        text: b"0 send\n0 send\n0 send\n0 send\n0 send\n0 send\n0 send\n0 send\n0 send\n\
+            0 send\n0 send\n0 send\n0 send\n0 send\n0 send\n0 send\n0 send\n0 send\n\
+            0 send\n0 send\n0 send\n0 send\n0 send\n0 send\n0 send\n0 send\n0 send\n\
+            0 send\n0 send\n0 send\n0 send\n0 send\n0 send\n0 send\n0 send\n0 send\n",
+    };
+    let rows = [
+        "machine.txt: a request for memory was refused while it was read",
+        "s: a request for memory was refused while it was read",
+        "t: a request for memory was refused while it was read",
     ];
-    for (text, fault, line, wanted) in rows {
-        let reason = scripts_reason(2, 8, text, fault, line);
-        let sentence = Sentence {
-            name: "s",
-            text,
-            line,
-            reason,
+    let mut row = 0;
+    for at in 0..200 {
+        let said = said_within(rt.alloc(), at * 16, [SMALL, scripts, steps])?;
+        let Some(sentence) = said else {
+            assert_eq!(rt; row, 2);
+            return Ok(());
         };
-        reads(rt.alloc(), &rt, sentence, wanted)?;
+        let text = format!(in rt.alloc(); "{sentence}")?;
+        if row < 2 && text.as_str() != rows[row] {
+            row += 1;
+        }
+        assert_eq!(rt; text.as_str(), rows[row]);
     }
-    Ok(())
-}
-
-/// Faults that the line hasn't, and out of memory.
-#[test]
-fn other_step_faults(rt: HostRuntime) -> Result<(), Fail> {
-    let rows: [(&[u8], Fault, u64, &str); 2] = [
-        (
-            b"0 send\n",
-            Fault::Memory,
-            0,
-            "t: a request for memory was refused while it was read",
-        ),
-        (b"0 send\n", Fault::Step, 1, "t:1: fault F11"),
-    ];
-    for (text, fault, line, wanted) in rows {
-        let reason = steps_reason(2, 1, text, fault, line);
-        let sentence = Sentence {
-            name: "t",
-            text,
-            line,
-            reason,
-        };
-        reads(rt.alloc(), &rt, sentence, wanted)?;
-    }
+    assert!(rt; false, "no memory is enough");
     Ok(())
 }
 

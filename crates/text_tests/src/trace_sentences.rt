@@ -1,8 +1,8 @@
-use explained::Named;
+use lexer::{Named, Reason};
 use std::process::Abort;
 use std::test::Fail;
-use torus::Fault;
-use trace_reasons::{TraceReason, TraceSentence, trace_sentence};
+use trace_text::TraceReason;
+use trace_why::{TraceSentence, trace_sentence};
 
 /// The fault of a sentence and what it reads must be this.
 fn reads<R: Abort + AllocGlobal>(
@@ -220,10 +220,10 @@ fn answers(rt: HostRuntime) -> Result<(), Fail> {
     Ok(())
 }
 
-/// What only a long text has, a refusal of memory, and a fault that the line hasn't.
+/// What only a long text has, and a refusal of memory.
 #[test]
 fn others(rt: HostRuntime) -> Result<(), Fail> {
-    let rows: [(TraceReason, u64, &str); 4] = [
+    let rows: [(TraceReason, u64, &str); 3] = [
         (
             TraceReason::OperationsLimits,
             1,
@@ -239,7 +239,6 @@ fn others(rt: HostRuntime) -> Result<(), Fail> {
             0,
             "F12 t: a request for memory was refused while it was read",
         ),
-        (TraceReason::Other(Fault::Last), 1, "F10 t:1: fault F10"),
     ];
     for (reason, line, wanted) in rows {
         let sentence = TraceSentence {

@@ -1,4 +1,5 @@
-//! The agents of a tile, at their channels.
+//! The agents of a tile with the ends of their channels: a processor, a router and a bank, and one
+//! attempt of each.
 #![tactic(auto)]
 
 pub mod agents;

@@ -1,4 +1,5 @@
-//! A tile: its three agents at their channels.
+//! A tile as definitions and laws: its three agents share no channel, and what an agent does at its
+//! ports is a step of the tile.
 #![tactic(auto)]
 
 pub mod agent;

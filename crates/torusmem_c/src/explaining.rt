@@ -8,7 +8,8 @@ ghost use Rattle.torusmem_c.specs.Explained.{first_fault, no_fault, text_number}
 
 use crate::outcome::{Code, fault_number};
 use crate::room::put_code;
-use explained::{Named, Sentence, machine_sentence, scripts_sentence};
+use explained::{Sentence, machine_sentence, scripts_sentence};
+use lexer::Named;
 use script::LineFault;
 use std::alloc::Global;
 use torus::Fault;

@@ -1,13 +1,14 @@
 //! Words of a line, each after a space.
 
-ghost use Rattle.std.specs.Prelude.{◌≡◌, List, ℕ, ◌+◌, ◌≤◌, ◌∷◌, ◌++◌, length, decimal};
+ghost use Rattle.std.specs.Prelude.{◌≡◌, List, ℕ, ◌+◌, ◌*◌, ◌≤◌, ◌∷◌, ◌++◌, length, map, decimal};
 ghost use Rattle.arrayvec.specs.ArrayString.{array_string_len};
+ghost use Rattle.packet.specs.Names.{values_listed};
 ghost use Rattle.report_lines.specs.Line.{joined_on, op_words};
 ghost use Rattle.trace_answer.specs.Texts.{told_word};
 
 use crate::line::LineText;
 use itoa::Buffer;
-use packet::{Op, Reply};
+use packet::{Op, Reply, Values};
 
 /// Adds a space and a word.
 pub(crate) fn put_word(line: &mut LineText, word: &str)
@@ -39,17 +40,23 @@ pub(crate) fn put_index(line: &mut LineText, n: u32)
     put_word(line, buffer.format(n));
 }
 
-/// Adds the name of an operation, its address and its value.
-fn put_change(line: &mut LineText, name: &str, address: u32, value: u64)
-    requires room { array_string_len line.old + 38 ≤ 128 }
-    requires short { length name.now ≤ 5 }
-    ensures text { line.new.bytes
-        ≡ line.old.bytes ++ (32 ∷ name.now) ++ (32 ∷ decimal address) ++ (32 ∷ decimal value) }
-    ensures len { array_string_len line.new ≤ array_string_len line.old + 38 }
+/// Adds the values of an operation.
+fn put_values(line: &mut LineText, values: Values)
+    requires { array_string_len line.old + 21 * length (values_listed values) ≤ 128 }
+    ensures text { (more : List (List ℕ))
+        → line.new.bytes ++ joined_on more
+        ≡ line.old.bytes ++ joined_on (map decimal (values_listed values) ++ more) }
+    ensures len { array_string_len line.new
+        ≤ array_string_len line.old + 21 * length (values_listed values) }
 {
-    put_word(line, name);
-    put_index(line, address);
-    put_value(line, value);
+    match values {
+        Values::None => {}
+        Values::One(value) => put_value(line, value),
+        Values::Two(first, second) => {
+            put_value(line, first);
+            put_value(line, second);
+        }
+    }
 }
 
 /// Adds the operation with its address and its values.
@@ -60,26 +67,10 @@ pub(crate) fn put_op(line: &mut LineText, op: Op, address: u32)
         ≡ line.old.bytes ++ joined_on (op_words op address more) }
     ensures len { array_string_len line.new ≤ array_string_len line.old + 57 }
 {
-    match op {
-        Op::Load => {
-            put_word(line, "load");
-            put_index(line, address);
-        }
-        Op::Store(value) => put_change(line, "store", address, value),
-        Op::Swap(value) => put_change(line, "swap", address, value),
-        Op::Cas(expected, new) => {
-            put_word(line, "cas");
-            put_index(line, address);
-            put_value(line, expected);
-            put_value(line, new);
-        }
-        Op::Add(value) => put_change(line, "add", address, value),
-        Op::And(value) => put_change(line, "and", address, value),
-        Op::Or(value) => put_change(line, "or", address, value),
-        Op::Xor(value) => put_change(line, "xor", address, value),
-        Op::Max(value) => put_change(line, "max", address, value),
-        Op::Min(value) => put_change(line, "min", address, value),
-    }
+    let word = op.code().word();
+    put_word(line, word);
+    put_index(line, address);
+    put_values(line, op.values());
 }
 
 /// Adds a space and the reply, `-` where there is none.

@@ -7,14 +7,14 @@ use Rattle.trace_search.specs.declared.opened.Open.{Open}
 use Rattle.trace_search.specs.declared.opened.Config.{Config}
 use Rattle.trace_search.specs.declared.opened.Branch.{Branch}
 use Rattle.trace_search.specs.declared.opened.Node.{Node}
-use Rattle.trace_search.specs.Configs.{IsIn, MayTake}
+use Rattle.trace_search.specs.Configs.{IsIn, MayTake, GoesOn}
 use Rattle.trace_search.specs.Searches.{configs_of}
 use Rattle.trace_order.proofs.Lists.{get_push_cases, get_append_left, get_push}
 use Rattle.trace_search.proofs.Picking.{grown, node_of}
 use Rattle.trace_search.proofs.Sound.{sound_add}
 use Rattle.trace_search.proofs.Fewer.{sound_fewer}
 use Rattle.trace_search.proofs.Start.{in_map, map_in}
-use Rattle.trace_judge.specs.Sets.{GoesOn, with_set, StaysSound}
+use Rattle.trace_judge.specs.Sets.{with_set, StaysSound}
 
 pub pushed_in : (old new : List Branch) (b : Branch) → new ≡ old ++ b ∷ [] → IsIn (configs_of new) b.config
 pushed_in old new b e = in_map (λ (c : Branch). c.config) new b

@@ -6,11 +6,11 @@ use Rattle.trace_search.specs.declared.opened.Open.{Open}
 use Rattle.trace_search.specs.declared.opened.Config.{Config}
 use Rattle.trace_search.specs.declared.opened.Branch.{Branch}
 use Rattle.trace_search.specs.declared.opened.Node.{Node}
-use Rattle.trace_search.specs.Configs.{IsIn, IsLeft, IsTaken, HasAsGood, IsExpanded, effect, release, without_bit}
+use Rattle.trace_search.specs.Configs.{IsIn, IsLeft, IsTaken, HasAsGood, IsExpanded, effect, release, without_bit, GoesOn}
 use Rattle.trace_search.specs.Searches.{configs_of, AreReleased}
 use Rattle.trace_order.proofs.Lists.{get_push_cases, get_append_left, get_push, get_within}
 use Rattle.trace_search.proofs.Start.{map_in}
-use Rattle.trace_judge.specs.Sets.{GoesOn, StaysSound}
+use Rattle.trace_judge.specs.Sets.{StaysSound}
 use Rattle.trace_judge.proofs.Branches.{goes_on_more, goes_on_same, stays_same, stays_more}
 use Rattle.trace_judge.proofs.Growth.{has_go_on}
 

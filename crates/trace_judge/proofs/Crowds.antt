@@ -6,11 +6,11 @@ use Rattle.std.proofs.lemmas.List.{length-take-le}
 use Rattle.trace_order.specs.declared.event.Call.{Call}
 use Rattle.trace_order.specs.declared.event.Event.{Event}
 use Rattle.trace_order.specs.declared.event.Event.TheVariants.{Issue}
-use Rattle.trace_order.specs.Traces.{IsIssuedAt, IsAnsweredAt}
+use Rattle.trace_order.specs.Traces.{IsIssuedAt, IsAnsweredAt, IsAnswered}
 use Rattle.trace_order.proofs.Lists.{take_get}
 use Rattle.trace_search.specs.declared.opened.Open.{Open}
 use Rattle.trace_search.specs.Searches.{IsAt, IsTable}
-use Rattle.trace_judge.specs.Stops.{IsAnswered, IsBeginning, IsCrowded}
+use Rattle.trace_judge.specs.Stops.{IsBeginning, IsCrowded}
 use Rattle.trace_judge.specs.Slots.{IsFilled, IsFull, IsFirst, IsParted}
 use Rattle.trace_judge.proofs.Parting.{answer_back}
 

@@ -6,11 +6,11 @@ use Rattle.trace_search.specs.declared.opened.Open.{Open}
 use Rattle.trace_search.specs.declared.opened.Config.{Config}
 use Rattle.trace_search.specs.declared.opened.Branch.{Branch}
 use Rattle.trace_search.specs.declared.opened.Node.{Node}
-use Rattle.trace_search.specs.Configs.{IsIn, IsLeft, MayTake, HasAsGood, effect}
+use Rattle.trace_search.specs.Configs.{IsIn, IsLeft, MayTake, HasAsGood, effect, GoesOn}
 use Rattle.trace_search.specs.Searches.{configs_of}
 use Rattle.trace_order.proofs.Lists.{get_append_left, get_within}
 use Rattle.trace_search.proofs.Start.{map_in}
-use Rattle.trace_judge.specs.Sets.{GoesOn, TakesEffect, StaysSound, Joins, Takes}
+use Rattle.trace_judge.specs.Sets.{TakesEffect, StaysSound, Joins, Takes}
 use Rattle.trace_judge.proofs.Branches.{goes_on_in, goes_on_more, goes_on_same, configs_go_on, stays_same, stays_more, stays_fewer}
 
 -- what goes on has one as good still

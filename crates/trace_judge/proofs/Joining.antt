@@ -4,14 +4,14 @@ use Rattle.trace_search.specs.declared.opened.Open.{Open}
 use Rattle.trace_search.specs.declared.opened.Config.{Config}
 use Rattle.trace_search.specs.declared.opened.Branch.{Branch}
 use Rattle.trace_search.specs.declared.opened.Node.{Node}
-use Rattle.trace_search.specs.Configs.{IsIn, IsAsGood, HasAsGood, release}
+use Rattle.trace_search.specs.Configs.{IsIn, IsAsGood, HasAsGood, release, GoesOn}
 use Rattle.trace_search.specs.Searches.{configs_of}
 use Rattle.trace_search.proofs.Dominance.{good_more, good_unanswered}
 use Rattle.trace_search.proofs.Picking.{grown, node_of}
 use Rattle.trace_order.proofs.Lists.{get_push_cases}
 use Rattle.trace_judge.specs.declared.idles.Idle.{Idle}
 use Rattle.trace_judge.specs.Idles.{AreListed, AreLow, settled}
-use Rattle.trace_judge.specs.Sets.{GoesOn, StaysSound, WaitsFor, LeadsTo, Joins, Takes}
+use Rattle.trace_judge.specs.Sets.{StaysSound, WaitsFor, LeadsTo, Joins, Takes}
 use Rattle.trace_judge.proofs.Branches.{pushed_in, stays_same, stays_more, stays_fewer, stays_added}
 use Rattle.trace_judge.proofs.Calm.{settled_good}
 

@@ -9,12 +9,12 @@ use Rattle.packet.specs.declared.kinds.Reply.{Reply}
 use Rattle.trace_order.specs.declared.event.Call.{Call}
 use Rattle.trace_order.specs.declared.event.Event.{Event}
 use Rattle.trace_order.specs.declared.event.Event.TheVariants.{Answer}
-use Rattle.trace_order.specs.Traces.{IsTrace, IsIssuedAt, IsAnsweredAt}
+use Rattle.trace_order.specs.Traces.{IsTrace, IsIssuedAt, IsAnsweredAt, IsAnswered}
 use Rattle.trace_order.proofs.Issues.{one_issue}
 use Rattle.trace_order.proofs.Lists.{take_get, within_length, get_set_same, get_set_other, get_push_cases}
 use Rattle.trace_search.specs.declared.opened.Open.{Open}
 use Rattle.trace_search.specs.Searches.{IsAt}
-use Rattle.trace_judge.specs.Stops.{IsAnswered, IsBeginning}
+use Rattle.trace_judge.specs.Stops.{IsBeginning}
 use Rattle.trace_judge.specs.Slots.{IsPut, IsBegun, IsFirst, IsParted}
 
 -- slots with nothing in them

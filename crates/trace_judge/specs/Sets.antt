@@ -7,12 +7,8 @@ use Rattle.trace_search.specs.declared.opened.Config.{Config}
 use Rattle.trace_search.specs.declared.opened.Branch.{Branch}
 use Rattle.trace_search.specs.declared.opened.Node.{Node}
 use Rattle.trace_order.specs.Traces.{IsTrace}
-use Rattle.trace_search.specs.Configs.{IsIn, IsLeft, MayTake, Agrees, effect}
+use Rattle.trace_search.specs.Configs.{GoesOn, IsIn, IsLeft, MayTake, Agrees, effect}
 use Rattle.trace_search.specs.Searches.{AreTables, IsSound}
-
--- a list goes on with more
-abbrev pub GoesOn : {A : Type 0} → List A → List A → Type 0
-GoesOn {A} old new = (more : List A) × (new ≡ old ++ more)
 
 -- what a place of the table holds may take effect
 pub record TakesEffect (place : Option Open) (word : ℕ) (c : Config) (s : ℕ) (o : Open) : Type 0

@@ -4,9 +4,8 @@ use Rattle.std.specs.Prelude.{None, length, slice_get, set}
 use Rattle.std.specs.Prelude.{IsSome, replicate}
 use Rattle.packet.specs.declared.kinds.Reply.{Reply}
 use Rattle.trace_order.specs.declared.event.Event.{Event}
-use Rattle.trace_order.specs.Traces.{IsAnsweredAt}
+use Rattle.trace_order.specs.Traces.{IsAnsweredAt, IsAnswered}
 use Rattle.trace_search.specs.declared.opened.Open.{Open}
-use Rattle.trace_judge.specs.Stops.{IsAnswered}
 
 -- of 64 slots from this one on, those that there are have something in them
 abbrev pub IsFilled : ℕ → List (Option Open) → Type 0

@@ -4,14 +4,11 @@ use Rattle.packet.specs.declared.kinds.Reply.{Reply}
 use Rattle.trace_order.specs.declared.event.Call.{Call}
 use Rattle.trace_order.specs.declared.event.Event.{Event}
 use Rattle.trace_order.specs.Traces.{IsIssuedAt, IsAnsweredAt, IsUnanswered}
+pub use Rattle.trace_order.specs.Traces.{IsAnswered}
 use Rattle.trace_order.specs.Orders.{IsOn, memory_of}
 use Rattle.trace_order.specs.Legal.{Legal}
 use Rattle.trace_judge.specs.declared.undecided.Undecided.{Undecided}
 use Rattle.trace_judge.specs.declared.undecided.Undecided.TheVariants.{Memory, Configurations, Operations}
-
--- the trace answers this number
-abbrev pub IsAnswered : List Event → ℕ → Type 0
-IsAnswered trace id = (i : ℕ) × (reply : Reply) × IsAnsweredAt trace i id reply
 
 -- 64 operations are open on a word before event k (Herlihy and Wing, TOPLAS 12(3), 1990: pending),
 -- which issues another on it; and all of them, with the other one, are answered in the trace, or

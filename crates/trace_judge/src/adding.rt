@@ -2,10 +2,10 @@
 
 ghost use Rattle.std.specs.Prelude.{◌≡◌, true, Some, None, ◌∷◌, ◌++◌, [], ◌<◌, ◌≤◌, MatchOption, OnOk, length};
 ghost use Rattle.trace_search.specs.declared.opened.Open.{Open};
-ghost use Rattle.trace_search.specs.Configs.{Agrees, HasAsGood, effect, release};
+ghost use Rattle.trace_search.specs.Configs.{Agrees, HasAsGood, effect, release, GoesOn};
 ghost use Rattle.trace_search.specs.Searches.{configs_of};
 ghost use Rattle.trace_judge.specs.Idles.{AreListed, AreLow};
-ghost use Rattle.trace_judge.specs.Sets.{GoesOn, TakesEffect, WaitsFor, Joins, Takes};
+ghost use Rattle.trace_judge.specs.Sets.{TakesEffect, WaitsFor, Joins, Takes};
 
 use crate::bits::{has, with, without};
 use crate::idles::{Idle, follow, settle};

@@ -3,12 +3,12 @@
 ghost use Rattle.std.specs.Prelude.{◌≡◌, ◌<◌, ◌≤◌, IfErr, IfOk, OnOk, length};
 ghost use Rattle.trace_search.specs.declared.opened.Config.{Config};
 ghost use Rattle.trace_search.specs.declared.opened.Branch.{Branch};
-ghost use Rattle.trace_search.specs.Configs.{IsIn, IsLeft, IsTaken, HasAsGood, IsExpanded, release};
+ghost use Rattle.trace_search.specs.Configs.{IsIn, IsLeft, IsTaken, HasAsGood, IsExpanded, release, GoesOn};
 ghost use Rattle.trace_search.specs.Searches.{configs_of, AreReleased};
 ghost use Rattle.trace_judge.specs.declared.undecided.Full.TheVariants.{Configurations};
 ghost use Rattle.trace_judge.specs.Crowds.{IsOverfull};
 ghost use Rattle.trace_judge.specs.Idles.{AreListed, AreLow};
-ghost use Rattle.trace_judge.specs.Sets.{GoesOn, StaysSound};
+ghost use Rattle.trace_judge.specs.Sets.{StaysSound};
 
 use crate::adding::{add, after, take};
 use crate::bits::{has, without};

@@ -13,6 +13,10 @@ IsIssuedAt trace i call = slice_get trace i ≡ Some (Issue call)
 abbrev pub IsAnsweredAt : List Event → ℕ → ℕ → Reply → Type 0
 IsAnsweredAt trace i id reply = slice_get trace i ≡ Some (Answer id reply)
 
+-- the trace answers this number
+abbrev pub IsAnswered : List Event → ℕ → Type 0
+IsAnswered trace id = (i : ℕ) × (reply : Reply) × IsAnsweredAt trace i id reply
+
 -- an operation of this number is issued before event j
 abbrev pub WasIssued : List Event → ℕ → ℕ → Type 0
 WasIssued trace j id = (i : ℕ) × (call : Call) × (i < j) × (call.id ≡ id) × IsIssuedAt trace i call

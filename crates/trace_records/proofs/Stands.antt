@@ -4,7 +4,8 @@ use Rattle.std.proofs.Common.{slice_get}
 use Rattle.std.specs.Prelude.{nat_lt, not, Result, Ok, Err, ok_or, if◌then◌else◌}
 use Rattle.std.specs.List.{slice_index_or}
 use Rattle.script.specs.declared.fault.LineFault.{LineFault}
-use Rattle.script.specs.Outcome.{line_of_fault, then_lines}
+use Rattle.lexer.specs.Outcome.{line_of_fault}
+use Rattle.script.specs.Outcome.{then_lines}
 use Rattle.trace_order.specs.declared.event.Event.{Event}
 use Rattle.torus.specs.declared.fault.Fault.{Fault}
 use Rattle.torus.specs.declared.fault.Fault.TheVariants as fault

@@ -14,8 +14,9 @@ use Rattle.packet.specs.declared.kinds.Reply.TheVariants.{Ok as Stored, Old}
 use Rattle.packet.specs.Kinds.{code_of, is_store}
 use Rattle.trace_order.specs.declared.event.Event.{Event}
 use Rattle.trace_order.specs.declared.event.Event.TheVariants.{Issue, Answer}
+use Rattle.lexer.specs.Outcome.{◌>>=◌}
 use Rattle.script.specs.declared.fault.LineFault.{LineFault}
-use Rattle.script.specs.Outcome.{◌>>=◌, then_lines}
+use Rattle.script.specs.Outcome.{then_lines}
 use Rattle.trace_text.specs.IssueNumbers.{no_numbers, numbers_of, with_number}
 use Rattle.trace_records.specs.declared.record.EventRecord.{EventRecord}
 use Rattle.trace_records.specs.Numbered.{op_numbered, reply_numbered}

@@ -3,7 +3,7 @@
 ghost use Rattle.std.specs.Prelude.{◌≡◌, ◌<◌, ◌++◌, ◌∷◌, [], true, false, IfOk, IfErr, OnOk};
 ghost use Rattle.std.specs.Prelude.{slice_get, slice_set};
 ghost use Rattle.std.specs.List.{slice_index_or};
-ghost use Rattle.script.specs.Outcome.{Makes};
+ghost use Rattle.lexer.specs.Outcome.{Makes};
 ghost use Rattle.trace_records.specs.Gathered.{answer_added, answer_gathered, issue_gathered};
 ghost use Rattle.trace_records.specs.Gathered.{after_record, is_replied};
 ghost use Rattle.trace_records.specs.Gathered.{nothing_gathered, gathered_issue};
@@ -58,7 +58,7 @@ impl<A: Allocator + Copy> Gathering<A> {
 
     /// Takes what a record gives, over a memory of so many words.
     pub(crate) fn take(&mut self, words: usize, event: EventRecord) -> Result<(), Fault>
-        ensures { Makes (gathered_of self.new) result
+        ensures { Makes Fault.Memory (gathered_of self.new) result
             (after_record words (gathered_of self.old) event) }
     {
         match event.kind {
@@ -70,7 +70,7 @@ impl<A: Allocator + Copy> Gathering<A> {
 
     /// Takes an issue.
     fn take_issue(&mut self, words: usize, event: EventRecord) -> Result<(), Fault>
-        ensures { Makes (gathered_of self.new) result
+        ensures { Makes Fault.Memory (gathered_of self.new) result
             (issue_gathered words (gathered_of self.old) event) }
     {
         let Some(op) = event.op() else {
@@ -117,7 +117,7 @@ impl<A: Allocator + Copy> Gathering<A> {
 
     /// Takes an answer.
     fn take_answer(&mut self, event: EventRecord) -> Result<(), Fault>
-        ensures { Makes (gathered_of self.new) result
+        ensures { Makes Fault.Memory (gathered_of self.new) result
             (answer_gathered (gathered_of self.old) event) }
     {
         let Some(reply) = event.reply() else {
@@ -137,7 +137,7 @@ impl<A: Allocator + Copy> Gathering<A> {
 
     /// Adds the answer to the operation of this number.
     fn answer_added(&mut self, number: u64, reply: Reply) -> Result<(), Fault>
-        ensures { Makes (gathered_of self.new) result
+        ensures { Makes Fault.Memory (gathered_of self.new) result
             (answer_added (gathered_of self.old) number reply) }
     {
         if !is_replied(&self.events, number, reply) {

@@ -1,6 +1,7 @@
 //! Traces as arrays of records, one for each event.
 #![tactic(auto)]
 
+mod fault;
 mod gathering;
 pub mod record;
 pub mod records;

@@ -5,13 +5,13 @@ ghost use Rattle.script.specs.Outcome.{Gives};
 ghost use Rattle.trace_order.specs.Traces.{IsTrace};
 ghost use Rattle.trace_records.specs.Gathered.{trace_of};
 
+use crate::fault::fault_at;
 use crate::gathering::Gathering;
 use crate::record::EventRecord;
 use script::LineFault;
 use std::alloc::Allocator;
 use torus::Fault;
 use trace_order::Event;
-use trace_text::fault_at;
 
 /// The record at a place.
 fn record_at(records: &[EventRecord], place: usize) -> EventRecord

@@ -1,6 +1,6 @@
 -- Configurations of one word: which of the open operations on it have taken effect, and what they
 -- left.
-use Rattle.std.specs.Prelude.{◌≡◌, ◌*◌, ◌%◌, ◌^◌, ◌-◌, ◌<◌, ◌⊎◌, ℕ, List, Option, Some, None}
+use Rattle.std.specs.Prelude.{◌≡◌, ◌*◌, ◌%◌, ◌^◌, ◌-◌, ◌<◌, ◌⊎◌, ℕ, List, ◌++◌, Option, Some, None}
 use Rattle.std.specs.Prelude.{bit_and, bit_or, slice_get, IfSome}
 use Rattle.std.specs.Int.{bit_at}
 use Rattle.packet.specs.Memory.{new_word, reply_to}
@@ -51,6 +51,10 @@ release c s = record { word = c.word; taken = without_bit c.taken s }
 -- an element of a list
 abbrev pub IsIn : {A : Type 0} → List A → A → Type 0
 IsIn xs x = (k : ℕ) × (slice_get xs k ≡ Some x)
+
+-- a list goes on with more
+abbrev pub GoesOn : {A : Type 0} → List A → List A → Type 0
+GoesOn {A} old new = (more : List A) × (new ≡ old ++ more)
 
 -- an idle operation: wherever it may take effect it leaves the word as it is, as a load does
 abbrev pub IsIdle : Open → Type 0

@@ -2,7 +2,6 @@
 use Rattle.std.proofs.Common.{◌≡◌, ⊎_elim, ℕ, List, [], ◌∷◌, subst}
 use Rattle.std.specs.Prelude.{not, Ok, codes}
 use Rattle.std.specs.Str.{bytes_eq}
-use Rattle.torus.specs.declared.fault.Fault.TheVariants as fault
 use Rattle.lexer.specs.Words.{begins_comment}
 use Rattle.trace_text.specs.Kept.{IsKept}
 use Rattle.trace_text.specs.Traced.{TraceReading, after_words_line, after_keyword, after_line_words}
@@ -21,7 +20,7 @@ keyword_kept r next k line keyword values h = ⊎_elim
     (λ m. answer_line_kept r next k line values m.1)
     (λ m. ⊎_elim
     (λ m. init_line_kept r next k values m.1)
-    (λ m. let w = then_ok (bytes_eq keyword (codes "words")) fault.Line (after_words_line r values) next m.1 in
+    (λ m. let w = then_ok (bytes_eq keyword (codes "words")) _ (after_words_line r values) next m.1 in
     words_line_kept r next k values w.1)
     (if_ok (bytes_eq keyword (codes "init")) _ _ next m.1))
     (if_ok (bytes_eq keyword (codes "answer")) _ _ next m.1))

@@ -4,22 +4,21 @@ use Rattle.std.proofs.Common.{ap, subst, arith, slice_get, get_or-set_same, get_
 use Rattle.std.specs.Prelude.{Option, nat_lt, not, is_some, Ok, Err, if◌then◌else◌}
 use Rattle.std.proofs.lemmas.Bool.{cases_eq}
 use Rattle.std.proofs.lemmas.List.{length-set}
-use Rattle.torus.specs.declared.fault.Fault.TheVariants as fault
 use Rattle.packet.specs.declared.kinds.Operation.{Operation}
 use Rattle.packet.specs.Reading.{op_with}
 use Rattle.trace_order.specs.declared.event.Call.{Call}
 use Rattle.trace_order.specs.declared.event.Event.TheVariants.{Issue}
 use Rattle.trace_order.proofs.Lists.{get_push_cases, get_append_left, get_push, get_within}
-use Rattle.script.specs.Form.{below, checked_word}
 use Rattle.trace_text.specs.declared.issued.Issued.{Issued}
 use Rattle.trace_text.specs.declared.form.Form.{Form}
-use Rattle.trace_text.specs.Form.{a_number, spelled_form, form_operation}
+use Rattle.trace_text.specs.declared.reason.TraceReason.TheVariants as reason
+use Rattle.trace_text.specs.Form.{number_at, spelled_form, checked_word, form_operation}
 use Rattle.trace_text.specs.IssueNumbers.{numbers_of, with_number}
 use Rattle.trace_text.specs.Kept.{IsKept, IsKnownAs, AreIndexed}
-use Rattle.trace_text.specs.Traced.{TraceReading, value_in, with_value, with_issue, placed, after_issue_line}
+use Rattle.trace_text.specs.Traced.{TraceReading, value_in, with_value, with_issue, placed, lacks, after_issue_line}
 use Rattle.trace_text.proofs.Entries.{value_new, value_old}
 use Rattle.trace_text.proofs.Growing.{longer, issued_with, answered_before, was_issued, issued_later, issue_grows}
-use Rattle.trace_text.proofs.Outcomes.{one_ok, bind_ok, else_ok, then_ok, if_ok, not_true, lt_true}
+use Rattle.trace_text.proofs.Outcomes.{one_ok, bind_ok, else_ok, then_ok, if_ok, unless_ok, passed, not_true, lt_true}
 
 -- operations are found by processor and index once there is one more
 issue_indexed : (numbers : List (List ℕ)) (issued : List Issued) → length numbers ≡ 4096 → AreIndexed numbers issued → (p : ℕ) → p < 4096
@@ -135,34 +134,35 @@ placed_kept r next k a low h = ⊎_elim
     let q = some_is (value_in r.places a) old.0 in
     subst (λ (n : TraceReading). IsPlaced r n a) same (record { kept = k; words = refl; place = q.0; there = q.1 }))
     (λ new.
-    let room = else_ok (not (nat_lt (length r.addresses) (2 ^ 20))) fault.Length
+    let room = else_ok (not (nat_lt (length r.addresses) (2 ^ 20))) _
     (Ok (record r { places = with_value r.places a (length r.addresses); addresses = r.addresses ++ a ∷ [] })) next new.1 in
     let same : record r { places = with_value r.places a (length r.addresses); addresses = r.addresses ++ a ∷ [] } ≡ next = one_ok _ next room.1 in
     subst (λ (n : TraceReading). IsPlaced r n a) same
     (record { kept = new_place r k a low; words = refl; place = length r.addresses; there = value_new r.places a (length r.addresses) }))
     (if_ok (is_some (value_in r.places a)) (Ok r)
-    (if not (nat_lt (length r.addresses) (2 ^ 20)) then Err fault.Length
+    (if not (nat_lt (length r.addresses) (2 ^ 20)) then Err reason.AddressesLimits
     else Ok (record r { places = with_value r.places a (length r.addresses); addresses = r.addresses ++ a ∷ [] })) next h)
 
 -- a good operation is inside the memory
 inside_of : (words : ℕ) (form : Form) (o : Operation) → form_operation words form ≡ Ok o → o.address < words
 inside_of words form o h =
-    let low = bind_ok (below form.address words) _ o h in
-    let first = bind_ok (checked_word form.first) _ o low.2 in
-    let second = bind_ok (checked_word form.second) _ o first.2 in
+    let low = then_ok (nat_lt form.address words) _ _ o h in
+    let first = bind_ok (checked_word 4 form.first) _ o low.1 in
+    let second = bind_ok (checked_word 5 form.second) _ o first.2 in
     let same : record { address = form.address; op = op_with form.code first.0 second.0 } ≡ o = one_ok _ o second.2 in
-    let below = then_ok (nat_lt form.address words) fault.Address (Ok tt) low.0 low.1 in
-    subst (λ (p : Operation). p.address < words) same (lt_true form.address words below.0)
+    subst (λ (p : Operation). p.address < words) same (lt_true form.address words low.0)
 
 pub issue_line_kept : (r next : TraceReading) → IsKept r → (line : ℕ) (values : List (List ℕ)) → after_issue_line r line values ≡ Ok next → IsKept next
 issue_line_kept r next k line [] h = absurd (cc)
-issue_line_kept r next k line (processor ∷ rest) h =
-    let p = bind_ok (a_number processor) _ next h in
-    let form = bind_ok (spelled_form rest) _ next p.2 in
-    let given = else_ok (r.words == 0) fault.Setting _ next form.2 in
-    let low = else_ok (not (nat_lt p.0 4096)) fault.Processor _ next given.1 in
-    let o = bind_ok (form_operation r.words form.0) _ next low.1 in
-    let room = else_ok (not (nat_lt (length r.issued) (2 ^ 22))) fault.Length _ next o.2 in
+issue_line_kept r next k line (processor ∷ []) h = absurd (cc)
+issue_line_kept r next k line (processor ∷ word ∷ operands) h =
+    let p = bind_ok (number_at 1 processor) _ next h in
+    let form = bind_ok (spelled_form word operands) _ next p.2 in
+    let good = unless_ok (lacks r p.0) _ next form.2 in
+    let given = passed (r.words == 0) _ _ good.0 in
+    let low = passed (not (nat_lt p.0 4096)) _ _ given.1 in
+    let o = bind_ok (form_operation r.words form.0) _ next good.1 in
+    let room = else_ok (not (nat_lt (length r.issued) (2 ^ 22))) _ _ next o.2 in
     let place = bind_ok (placed r o.0.address) _ next room.1 in
     let inside = inside_of r.words form.0 o.0 o.1 in
     let there = placed_kept r place.0 k o.0.address inside place.1 in

@@ -1,18 +1,17 @@
 -- What the title and the lines of settings keep true.
 use Rattle.std.proofs.Common.{◌≡◌, ◌≢◌, ⊎_elim, ℕ, ◌<◌, ◌≤◌, ◌^◌, ◌==◌, ◌&&◌, true, false, List, [], ◌∷◌, length, Some, None, refl, sym, ◌∙◌}
 use Rattle.std.proofs.Common.{subst, arith}
-use Rattle.std.specs.Prelude.{Bool, nat_lt, nat_le, not, is_some, Ok, codes}
+use Rattle.std.specs.Prelude.{Bool, nat_lt, nat_le, not, Ok, codes}
 use Rattle.std.specs.Str.{bytes_eq}
 use Rattle.std.proofs.lemmas.Bool.{cases_eq}
 use Rattle.std.proofs.lemmas.Bool.Decides.{nat_tests}
 use Rattle.std.proofs.lemmas.List.{length-replicate}
-use Rattle.torus.specs.declared.fault.Fault.TheVariants as fault
-use Rattle.trace_text.specs.Form.{a_number}
+use Rattle.trace_text.specs.Form.{number_at}
 use Rattle.trace_text.specs.Kept.{IsKept}
-use Rattle.trace_text.specs.Traced.{TraceReading, no_trace_read, value_in, with_value, after_init_line, after_words_line, after_title}
+use Rattle.trace_text.specs.Traced.{TraceReading, no_trace_read, value_in, with_value, opening_wrong, after_init_line, after_words_line, after_title}
 use Rattle.trace_text.proofs.Entries.{value_old}
 use Rattle.trace_text.proofs.Growing.{none_issued, none_answered, none_trace}
-use Rattle.trace_text.proofs.Outcomes.{one_ok, bind_ok, else_ok, then_ok, not_true, lt_true}
+use Rattle.trace_text.proofs.Outcomes.{one_ok, bind_ok, else_ok, then_ok, unless_ok, passed, not_true, lt_true}
 
 pub kept_none : IsKept no_trace_read
 kept_none = record {
@@ -43,13 +42,13 @@ init_line_kept r next k [] h = absurd (cc)
 init_line_kept r next k (a ∷ []) h = absurd (cc)
 init_line_kept r next k (a ∷ b ∷ c ∷ more) h = absurd (cc)
 init_line_kept r next k (address ∷ value ∷ []) h =
-    let a = bind_ok (a_number address) _ next h in
-    let v = bind_ok (a_number value) _ next a.2 in
-    let given = else_ok (not (not (r.words == 0) && (length r.issued == 0))) fault.Setting _ next v.2 in
-    let low = else_ok (not (nat_lt a.0 r.words)) fault.Address _ next given.1 in
-    let word = else_ok (not (nat_lt v.0 (2 ^ 64))) fault.Range _ next low.1 in
-    let new = else_ok (is_some (value_in r.inits a.0)) fault.Setting _ next word.1 in
-    let same : record r { inits = with_value r.inits a.0 v.0 } ≡ next = one_ok _ next new.1 in
+    let a = bind_ok (number_at 1 address) _ next h in
+    let v = bind_ok (number_at 2 value) _ next a.2 in
+    let good = unless_ok (opening_wrong r a.0 v.0) _ next v.2 in
+    let given = passed (r.words == 0) _ _ good.0 in
+    let early = passed (not (length r.issued == 0)) _ _ given.1 in
+    let low = passed (not (nat_lt a.0 r.words)) _ _ early.1 in
+    let same : record r { inits = with_value r.inits a.0 v.0 } ≡ next = one_ok _ next good.1 in
     subst IsKept same (record {
       words = k.words;
       processors = k.processors;
@@ -79,9 +78,9 @@ pub words_line_kept : (r next : TraceReading) → IsKept r → (values : List (L
 words_line_kept r next k [] h = absurd (cc)
 words_line_kept r next k (a ∷ b ∷ more) h = absurd (cc)
 words_line_kept r next k (count ∷ []) h =
-    let w = bind_ok (a_number count) _ next h in
-    let new = else_ok (not (r.words == 0)) fault.Setting _ next w.2 in
-    let small = then_ok (nat_le 1 w.0 && nat_le w.0 (2 ^ 32)) fault.Range _ next new.1 in
+    let w = bind_ok (number_at 1 count) _ next h in
+    let new = else_ok (not (r.words == 0)) _ _ next w.2 in
+    let small = then_ok (nat_le 1 w.0 && nat_le w.0 (2 ^ 32)) _ _ next new.1 in
     let same : record r { words = w.0 } ≡ next = one_ok _ next small.1 in
     let none : r.words ≡ 0 = zero_is r.words (not_true (r.words == 0) new.0) in
     subst IsKept same (record {
@@ -108,7 +107,7 @@ pub title_kept : (r next : TraceReading) → IsKept r → (keyword : List ℕ) (
 title_kept r next k keyword [] h = absurd (cc)
 title_kept r next k keyword (a ∷ b ∷ more) h = absurd (cc)
 title_kept r next k keyword (version ∷ []) h =
-    let known = then_ok (bytes_eq keyword (codes "trace") && bytes_eq version (codes "1")) fault.Line _ next h in
+    let known = then_ok (bytes_eq keyword (codes "trace") && bytes_eq version (codes "1")) _ _ next h in
     let same : record r { begun = true } ≡ next = one_ok _ next known.1 in
     subst IsKept same (record {
       words = k.words;

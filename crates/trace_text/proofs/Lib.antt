@@ -15,3 +15,4 @@ pub mod Outcomes
 pub mod Read
 pub mod Renumbered
 pub mod SevenWords
+pub mod Told

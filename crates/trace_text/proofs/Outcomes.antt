@@ -2,40 +2,50 @@
 use Rattle.std.proofs.Common.{◌≡◌, ◌⊎◌, inl, inr, ℕ, ◌<◌, Bool, true, false, refl, arith}
 use Rattle.std.specs.Prelude.{Result, Ok, Err, nat_lt, not, if◌then◌else◌, Option, Some, None, ok_or}
 use Rattle.std.proofs.lemmas.Bool.Decides.{nat_tests}
-use Rattle.torus.specs.declared.fault.Fault.{Fault}
-use Rattle.script.specs.Outcome.{◌>>=◌}
+use Rattle.lexer.specs.Outcome.{◌>>=◌}
+use Rattle.trace_text.specs.declared.reason.TraceReason.{TraceReason}
+use Rattle.trace_text.specs.Reasons.{unless}
 
 -- a line is taken, and leaves this
-abbrev pub Leaves : {A : Type 0} → Result A Fault → A → Type 0
+abbrev pub Leaves : {A R : Type 0} → Result A R → A → Type 0
 Leaves m a = m ≡ Ok a
 
 -- what is left is one thing
-pub one_ok : {A : Type 0} (a b : A) → Leaves (Ok a) b → a ≡ b
+pub one_ok : {A R : Type 0} (a b : A) → Leaves {R = R} (Ok a) b → a ≡ b
 one_ok a b h = cc
 
-pub bind_ok : {A B : Type 0} (m : Result A Fault) (f : A → Result B Fault) (y : B) → (m >>= f) ≡ Ok y
+pub bind_ok : {A B R : Type 0} (m : Result A R) (f : A → Result B R) (y : B) → (m >>= f) ≡ Ok y
     → (x : A) × (m ≡ Ok x) × (f x ≡ Ok y)
 bind_ok (Ok x) f y h = (x, refl, h)
 bind_ok (Err e) f y h = absurd (cc)
 
-pub else_ok : {A : Type 0} (b : Bool) (e : Fault) (m : Result A Fault) (y : A) → (if b then Err e else m) ≡ Ok y
+pub else_ok : {A R : Type 0} (b : Bool) (e : R) (m : Result A R) (y : A) → (if b then Err e else m) ≡ Ok y
     → (b ≡ false) × (m ≡ Ok y)
 else_ok true e m y h = absurd (cc)
 else_ok false e m y h = (refl, h)
 
-pub then_ok : {A : Type 0} (b : Bool) (e : Fault) (m : Result A Fault) (y : A) → (if b then m else Err e) ≡ Ok y
+pub then_ok : {A R : Type 0} (b : Bool) (e : R) (m : Result A R) (y : A) → (if b then m else Err e) ≡ Ok y
     → (b ≡ true) × (m ≡ Ok y)
 then_ok true e m y h = (refl, h)
 then_ok false e m y h = absurd (cc)
 
-pub if_ok : {A : Type 0} (b : Bool) (m n : Result A Fault) (y : A) → (if b then m else n) ≡ Ok y
+pub if_ok : {A R : Type 0} (b : Bool) (m n : Result A R) (y : A) → (if b then m else n) ≡ Ok y
     → ((b ≡ true) × (m ≡ Ok y)) ⊎ ((b ≡ false) × (n ≡ Ok y))
 if_ok true m n y h = inl (refl, h)
 if_ok false m n y h = inr (refl, h)
 
-pub or_ok : {A : Type 0} (o : Option A) (e : Fault) (y : A) → ok_or o e ≡ Ok y → o ≡ Some y
+pub or_ok : {A R : Type 0} (o : Option A) (e : R) (y : A) → ok_or o e ≡ Ok y → o ≡ Some y
 or_ok (Some x) e y h = cc
 or_ok None e y h = absurd (cc)
+
+pub unless_ok : {A : Type 0} (o : Option TraceReason) (m : Result A TraceReason) (y : A) → unless o m ≡ Ok y → (o ≡ None) × (m ≡ Ok y)
+unless_ok (Some e) m y h = absurd (cc)
+unless_ok None m y h = (refl, h)
+
+-- a check that is passed, before others
+pub passed : {R : Type 0} (b : Bool) (e : R) (o : Option R) → (if b then Some e else o) ≡ None → (b ≡ false) × (o ≡ None)
+passed true e o h = absurd (cc)
+passed false e o h = (refl, h)
 
 pub lt_true : (a b : ℕ) → nat_lt a b ≡ true → a < b
 lt_true a b h = grind (arith, nat_tests, h)

@@ -1,19 +1,18 @@
 -- What is read of a whole text.
 use Rattle.std.proofs.Common.{◌≡◌, ℕ, ◌==◌, ◌+◌, false, List, [], ◌∷◌, refl, ◌∙◌}
 use Rattle.std.specs.Prelude.{not, Result, Ok, Err}
-use Rattle.torus.specs.declared.fault.Fault.{Fault}
-use Rattle.torus.specs.declared.fault.Fault.TheVariants as fault
 use Rattle.lexer.specs.Words.{words_of}
-use Rattle.script.specs.declared.fault.LineFault.{LineFault}
-use Rattle.script.specs.Outcome.{then_lines}
+use Rattle.lexer.specs.Outcome.{then_lines}
+use Rattle.lexer.specs.declared.refusal.Refusal.{Refusal}
 use Rattle.trace_text.specs.Findings.{trace_read}
 use Rattle.trace_text.specs.Kept.{IsKept}
-use Rattle.trace_text.specs.Traced.{TraceReading, TraceSpec, no_trace_read, after_line_words, trace_with, trace_from, trace_of}
+use Rattle.trace_text.specs.Traced.{TraceReading, TraceSpec, no_trace_read, missing, after_line_words, trace_with, trace_from, trace_or_why, trace_of}
 use Rattle.trace_text.proofs.Kept.{words_kept}
 use Rattle.trace_text.proofs.KeptSettings.{kept_none}
-use Rattle.trace_text.proofs.Outcomes.{one_ok, else_ok}
+use Rattle.trace_text.proofs.Outcomes.{one_ok, unless_ok, passed}
+use Rattle.trace_text.proofs.Told.{read_by_fault}
 
-fine : {A B : Type 0} (number : ℕ) (m : Result A Fault) (f : A → Result B LineFault) (y : B) → then_lines number m f ≡ Ok y
+fine : {A B R : Type 0} (number : ℕ) (m : Result A R) (f : A → Result B (Refusal R)) (y : B) → then_lines number m f ≡ Ok y
     → (x : A) × (m ≡ Ok x) × (f x ≡ Ok y)
 fine number (Ok x) f y h = (x, refl, h)
 fine number (Err e) f y h = absurd (cc)
@@ -28,13 +27,14 @@ pub record IsRead (t : TraceSpec) : Type 0 where
 lines_read : (r : TraceReading) → IsKept r → (number : ℕ) (lines : List (List ℕ)) (t : TraceSpec) → trace_from r number lines ≡ Ok t → IsRead t
 lines_read r k number [] t h =
     let w = fine number (trace_with r) Ok t h in
-    let begun = else_ok (not r.begun) fault.Line _ w.0 w.1 in
-    let given = else_ok (r.words == 0) fault.Setting (Ok (trace_read r)) w.0 begun.1 in
+    let whole = unless_ok (missing r) (Ok (trace_read r)) w.0 w.1 in
+    let begun = passed (not r.begun) _ _ whole.0 in
+    let given = passed (r.words == 0) _ _ begun.1 in
     let same : w.0 ≡ t = let e : Ok w.0 ≡ Ok t = w.2 in cc in
-    record { reading = r; kept = k; some = given.0; is = one_ok (trace_read r) w.0 given.1 ∙ same }
+    record { reading = r; kept = k; some = given.0; is = one_ok (trace_read r) w.0 whole.1 ∙ same }
 lines_read r k number (line ∷ lines) t h =
     let w = fine number (after_line_words r number (words_of line)) _ t h in
     lines_read w.0 (words_kept r w.0 k number (words_of line) w.1) (number + 1) lines t w.2
 
 pub text_read : (lines : List (List ℕ)) (t : TraceSpec) → trace_of lines ≡ Ok t → IsRead t
-text_read lines t h = lines_read no_trace_read kept_none 1 lines t h
+text_read lines t h = lines_read no_trace_read kept_none 1 lines t (read_by_fault (trace_or_why lines) t h)

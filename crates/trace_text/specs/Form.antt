@@ -1,80 +1,81 @@
 -- What stands after the processor of an issue and after the index of an answer (this project's own
 -- format).
-use Rattle.std.specs.Prelude.{ℕ, List, [], ◌∷◌, Option, Some, None, ok_or, Result, Ok, Err}
-use Rattle.std.specs.Prelude.{if◌then◌else◌, codes}
+use Rattle.std.specs.Prelude.{ℕ, ◌^◌, ◌==◌, nat_lt, List, [], ◌∷◌, Option, Some, None, ok_or}
+use Rattle.std.specs.Prelude.{Result, Ok, Err, if◌then◌else◌, codes}
 use Rattle.std.specs.Str.{bytes_eq}
-use Rattle.torus.specs.declared.fault.Fault.{Fault}
-use Rattle.torus.specs.declared.fault.Fault.TheVariants as fault
 use Rattle.packet.specs.declared.kinds.Code.{Code}
-use Rattle.packet.specs.declared.kinds.Code.TheVariants.{Load, Store, Swap, Cas, Add, And, Or, Xor}
-use Rattle.packet.specs.declared.kinds.Code.TheVariants.{Max, Min}
 use Rattle.packet.specs.declared.kinds.Operation.{Operation}
 use Rattle.packet.specs.declared.kinds.Reply.{Reply}
 use Rattle.packet.specs.declared.kinds.Reply.TheVariants.{Old, Ok as Stored}
+use Rattle.packet.specs.Names.{code_named, arity}
 use Rattle.packet.specs.Reading.{op_with}
 use Rattle.lexer.specs.Numbers.{value_of}
-use Rattle.script.specs.Outcome.{◌>>=◌}
-use Rattle.script.specs.Form.{below, checked_word}
+use Rattle.lexer.specs.Outcome.{◌>>=◌}
 use Rattle.trace_text.specs.declared.form.Form.{Form}
+use Rattle.trace_text.specs.declared.reason.TraceReason.{TraceReason}
+use Rattle.trace_text.specs.declared.reason.TraceReason.TheVariants as reason
 
--- the number that a word spells where one belongs; from 2^64 on they count as one
-abbrev pub a_number : List ℕ → Result ℕ Fault
-a_number word = ok_or (value_of word) fault.Line
+-- the number that a word spells where one belongs, of the word at this place of its line; from 2^64
+-- on they count as one
+abbrev pub number_at : ℕ → List ℕ → Result ℕ TraceReason
+number_at place word = ok_or (value_of word) (reason.NotNumber place)
 
--- the operations of an address and one value
-abbrev pub changed_by : List ℕ → Option Code
-changed_by keyword =
-    if bytes_eq keyword (codes "store") then Some Store
-    else (if bytes_eq keyword (codes "swap") then Some Swap
-    else (if bytes_eq keyword (codes "add") then Some Add
-    else (if bytes_eq keyword (codes "and") then Some And
-    else (if bytes_eq keyword (codes "or") then Some Or
-    else (if bytes_eq keyword (codes "xor") then Some Xor
-    else (if bytes_eq keyword (codes "max") then Some Max
-    else (if bytes_eq keyword (codes "min") then Some Min
-    else None)))))))
+-- the forms of an operation and of one to three numbers after it: an address, and as many values as
+-- the operation takes
+abbrev pub one_operand : Code → List ℕ → Result Form TraceReason
+one_operand code a =
+    if arity code == 0
+    then (number_at 3 a >>= λ a. Ok (record { code = code; address = a; first = 0; second = 0 }))
+    else Err reason.OperandCount
 
--- the forms of a keyword and of one to three numbers after it
-abbrev pub one_operand : List ℕ → List ℕ → Result Form Fault
-one_operand keyword a =
-    if bytes_eq keyword (codes "load")
-    then (a_number a >>= λ a. Ok (record { code = Load; address = a; first = 0; second = 0 }))
-    else Err fault.Line
+abbrev pub two_operands : Code → List ℕ → List ℕ → Result Form TraceReason
+two_operands code a v =
+    if arity code == 1
+    then (number_at 3 a >>= λ a. number_at 4 v >>= λ v.
+    Ok (record { code = code; address = a; first = v; second = 0 }))
+    else Err reason.OperandCount
 
-abbrev pub two_operands : List ℕ → List ℕ → List ℕ → Result Form Fault
-two_operands keyword a v =
-    ok_or (changed_by keyword) fault.Line >>= λ code. a_number a >>= λ a. a_number v >>= λ v.
-    Ok (record { code = code; address = a; first = v; second = 0 })
+abbrev pub three_operands : Code → List ℕ → List ℕ → List ℕ → Result Form TraceReason
+three_operands code a x y =
+    if arity code == 2
+    then (number_at 3 a >>= λ a. number_at 4 x >>= λ x. number_at 5 y >>= λ y.
+    Ok (record { code = code; address = a; first = x; second = y }))
+    else Err reason.OperandCount
 
-abbrev pub three_operands : List ℕ → List ℕ → List ℕ → List ℕ → Result Form Fault
-three_operands keyword a x y =
-    if bytes_eq keyword (codes "cas")
-    then (a_number a >>= λ a. a_number x >>= λ x. a_number y >>= λ y.
-    Ok (record { code = Cas; address = a; first = x; second = y }))
-    else Err fault.Line
+-- the form of an operation and of the words after it
+abbrev pub form_with : List (List ℕ) → Code → Result Form TraceReason
+form_with [] code = Err reason.OperandCount
+form_with (a ∷ []) code = one_operand code a
+form_with (a ∷ v ∷ []) code = two_operands code a v
+form_with (a ∷ x ∷ y ∷ []) code = three_operands code a x y
+form_with (a ∷ x ∷ y ∷ z ∷ more) code = Err reason.OperandCount
 
--- the form of an operation: a known keyword, the right count of words, and numbers where they
--- belong
-abbrev pub spelled_form : List (List ℕ) → Result Form Fault
-spelled_form [] = Err fault.Line
-spelled_form (keyword ∷ []) = Err fault.Line
-spelled_form (keyword ∷ a ∷ []) = one_operand keyword a
-spelled_form (keyword ∷ a ∷ v ∷ []) = two_operands keyword a v
-spelled_form (keyword ∷ a ∷ x ∷ y ∷ []) = three_operands keyword a x y
-spelled_form (keyword ∷ a ∷ x ∷ y ∷ z ∷ more) = Err fault.Line
+-- the form of what a word and the words after it spell: a known operation, the right count of
+-- words, and numbers
+abbrev pub spelled_form : List ℕ → List (List ℕ) → Result Form TraceReason
+spelled_form word operands =
+    ok_or (code_named word) reason.UnknownOperation >>= form_with operands
+
+-- a number at a place of its line is a word
+abbrev pub checked_word : ℕ → ℕ → Result ℕ TraceReason
+checked_word place n = if nat_lt n (2 ^ 64) then Ok n else Err (reason.ValueLimits place)
 
 -- the operation of a form: the address is below the number of words, and each value is a word, from
 -- left to right
-abbrev pub form_operation : ℕ → Form → Result Operation Fault
-form_operation words form = below form.address words >>= λ _.
-    checked_word form.first >>= λ first. checked_word form.second >>= λ second.
-    Ok (record { address = form.address; op = op_with form.code first second })
+abbrev pub form_operation : ℕ → Form → Result Operation TraceReason
+form_operation words form =
+    if nat_lt form.address words
+    then (checked_word 4 form.first >>= λ first. checked_word 5 form.second >>= λ second.
+    Ok (record { address = form.address; op = op_with form.code first second }))
+    else Err (reason.AddressLimits 3 words)
 
 -- the number that an answer tells; none for `ok`
-abbrev pub told_of : List ℕ → Result (Option ℕ) Fault
-told_of word = if bytes_eq word (codes "ok") then Ok None else (a_number word >>= λ n. Ok (Some n))
+abbrev pub told_of : List ℕ → Result (Option ℕ) TraceReason
+told_of word =
+    if bytes_eq word (codes "ok") then Ok None
+    else (ok_or (value_of word) reason.NotReply >>= λ n. Ok (Some n))
 
 -- the reply that an answer tells: its number is a word
-abbrev pub reply_read : Option ℕ → Result Reply Fault
+abbrev pub reply_read : Option ℕ → Result Reply TraceReason
 reply_read None = Ok Stored
-reply_read (Some n) = checked_word n >>= λ w. Ok (Old w)
+reply_read (Some n) = checked_word 3 n >>= λ w. Ok (Old w)

@@ -5,6 +5,7 @@ pub mod Inside
 pub mod InsideNumbers
 pub mod IssueNumbers
 pub mod Kept
+pub mod Reasons
 pub mod Renumbered
 pub mod Traced
 pub mod Views

@@ -4,28 +4,30 @@ use Rattle.std.specs.Prelude.{ℕ, ◌+◌, ◌^◌, ◌&&◌, ◌==◌, Bool, t
 use Rattle.std.specs.Prelude.{[], ◌∷◌, ◌++◌}
 use Rattle.std.specs.Prelude.{length, map}
 use Rattle.std.specs.Prelude.{slice_get, slice_set, Option, Some, None, is_some, ok_or, unwrap_or}
-use Rattle.std.specs.Prelude.{Result}
-use Rattle.std.specs.Prelude.{Ok, Err}
-use Rattle.std.specs.Prelude.{if◌then◌else◌, codes}
+use Rattle.std.specs.Prelude.{Result, Ok, Err, if◌then◌else◌, codes}
 use Rattle.std.specs.List.{range_with_len}
 use Rattle.std.specs.Str.{bytes_eq}
 use Rattle.std.specs.Ordering.{nat_cmp}
 use Rattle.std.specs.BTreeMap.{is_at, insert_entry}
 use Rattle.std.specs.Map.{lookup}
-use Rattle.torus.specs.declared.fault.Fault.{Fault}
-use Rattle.torus.specs.declared.fault.Fault.TheVariants as fault
 use Rattle.packet.specs.declared.kinds.Code.{Code}
 use Rattle.packet.specs.declared.kinds.Operation.{Operation}
 use Rattle.packet.specs.Kinds.{code_of, is_store}
 use Rattle.trace_order.specs.declared.event.Event.{Event}
 use Rattle.trace_order.specs.declared.event.Event.TheVariants.{Issue, Answer}
 use Rattle.lexer.specs.Words.{words_of, begins_comment}
+use Rattle.lexer.specs.Outcome.{◌>>=◌, then_lines}
+use Rattle.lexer.specs.declared.refusal.Refusal.{Refusal}
 use Rattle.script.specs.declared.fault.LineFault.{LineFault}
-use Rattle.script.specs.Outcome.{◌>>=◌, then_lines}
+use Rattle.script.specs.Outcome.{by_fault}
 use Rattle.trace_text.specs.declared.form.Form.{Form}
 use Rattle.trace_text.specs.declared.issued.Issued.{Issued}
-use Rattle.trace_text.specs.Form.{a_number, spelled_form, form_operation, told_of, reply_read}
+use Rattle.trace_text.specs.declared.reason.Keyword.TheVariants as key
+use Rattle.trace_text.specs.declared.reason.TraceReason.{TraceReason}
+use Rattle.trace_text.specs.declared.reason.TraceReason.TheVariants as reason
+use Rattle.trace_text.specs.Form.{number_at, spelled_form, form_operation, told_of, reply_read}
 use Rattle.trace_text.specs.IssueNumbers.{no_numbers, numbers_of, with_number}
+use Rattle.trace_text.specs.Reasons.{trace_fault_of, unless}
 
 -- what stands at an address in a list of addresses with something each, addresses rising
 abbrev pub value_in : {X : Type 0} → List (ℕ × X) → ℕ → Option X
@@ -78,47 +80,53 @@ no_trace_read = record {
 }
 
 -- the first line is `trace 1`
-abbrev pub after_title : TraceReading → List ℕ → List (List ℕ) → Result TraceReading Fault
+abbrev pub after_title : TraceReading → List ℕ → List (List ℕ) → Result TraceReading TraceReason
 after_title r keyword (version ∷ []) =
     if bytes_eq keyword (codes "trace") && bytes_eq version (codes "1")
-    then Ok (record r { begun = true }) else Err fault.Line
-after_title r keyword [] = Err fault.Line
-after_title r keyword (version ∷ other ∷ more) = Err fault.Line
+    then Ok (record r { begun = true }) else Err reason.NoTitle
+after_title r keyword [] = Err reason.NoTitle
+after_title r keyword (version ∷ other ∷ more) = Err reason.NoTitle
 
 -- the number of words is given once, 1 to 2^32
-abbrev pub words_read : TraceReading → ℕ → Result TraceReading Fault
+abbrev pub words_read : TraceReading → ℕ → Result TraceReading TraceReason
 words_read r words =
-    if not (r.words == 0) then Err fault.Setting
+    if not (r.words == 0) then Err reason.WordsTwice
     else (if nat_le 1 words && nat_le words (2 ^ 32) then Ok (record r { words = words })
-    else Err fault.Range)
+    else Err reason.WordsLimits)
 
-abbrev pub after_words_line : TraceReading → List (List ℕ) → Result TraceReading Fault
-after_words_line r (count ∷ []) = a_number count >>= words_read r
-after_words_line r [] = Err fault.Line
-after_words_line r (count ∷ other ∷ more) = Err fault.Line
+abbrev pub after_words_line : TraceReading → List (List ℕ) → Result TraceReading TraceReason
+after_words_line r (count ∷ []) = number_at 1 count >>= words_read r
+after_words_line r [] = Err (reason.WordCount key.Words)
+after_words_line r (count ∷ other ∷ more) = Err (reason.WordCount key.Words)
 
--- an opening word: the number of words is given and nothing is issued yet, the address is below it,
--- the value is a word, and no line before named the address
-abbrev pub init_read : TraceReading → ℕ → ℕ → Result TraceReading Fault
-init_read r address value =
-    if not (not (r.words == 0) && (length r.issued == 0)) then Err fault.Setting
-    else (if not (nat_lt address r.words) then Err fault.Address
-    else (if not (nat_lt value (2 ^ 64)) then Err fault.Range
-    else (if is_some (value_in r.inits address) then Err fault.Setting
-    else Ok (record r { inits = with_value r.inits address value }))))
+-- why an opening word is refused: the number of words is not given, an operation is issued already,
+-- the address is not below that number, the value is no word, or a line before named the address
+abbrev pub opening_wrong : TraceReading → ℕ → ℕ → Option TraceReason
+opening_wrong r address value =
+    if r.words == 0 then Some reason.WordsFirst
+    else (if not (length r.issued == 0) then Some reason.InitLate
+    else (if not (nat_lt address r.words) then Some (reason.AddressLimits 1 r.words)
+    else (if not (nat_lt value (2 ^ 64)) then Some (reason.ValueLimits 2)
+    else (if is_some (value_in r.inits address) then Some reason.InitTwice
+    else None))))
 
-abbrev pub after_init_line : TraceReading → List (List ℕ) → Result TraceReading Fault
+-- an opening word
+abbrev pub init_read : TraceReading → ℕ → ℕ → Result TraceReading TraceReason
+init_read r address value = unless (opening_wrong r address value)
+    (Ok (record r { inits = with_value r.inits address value }))
+
+abbrev pub after_init_line : TraceReading → List (List ℕ) → Result TraceReading TraceReason
 after_init_line r (address ∷ value ∷ []) =
-    a_number address >>= λ a. a_number value >>= λ v. init_read r a v
-after_init_line r [] = Err fault.Line
-after_init_line r (address ∷ []) = Err fault.Line
-after_init_line r (address ∷ value ∷ other ∷ more) = Err fault.Line
+    number_at 1 address >>= λ a. number_at 2 value >>= λ v. init_read r a v
+after_init_line r [] = Err (reason.WordCount key.Init)
+after_init_line r (address ∷ []) = Err (reason.WordCount key.Init)
+after_init_line r (address ∷ value ∷ other ∷ more) = Err (reason.WordCount key.Init)
 
 -- an address has a place: its own, or the next one. There are no more than 2^20
-abbrev pub placed : TraceReading → ℕ → Result TraceReading Fault
+abbrev pub placed : TraceReading → ℕ → Result TraceReading TraceReason
 placed r address =
     if is_some (value_in r.places address) then Ok r
-    else (if not (nat_lt (length r.addresses) (2 ^ 20)) then Err fault.Length
+    else (if not (nat_lt (length r.addresses) (2 ^ 20)) then Err reason.AddressesLimits
     else Ok (record r {
       places = with_value r.places address (length r.addresses);
       addresses = r.addresses ++ address ∷ [];
@@ -141,26 +149,33 @@ with_issue r line p o = with_event (record r {
 }) line (Issue (record { id = length r.issued; operation = o }))
 
 -- no more than 2^22 operations are issued, on no more than 2^20 addresses
-abbrev pub add_issue : TraceReading → ℕ → ℕ → Operation → Result TraceReading Fault
+abbrev pub add_issue : TraceReading → ℕ → ℕ → Operation → Result TraceReading TraceReason
 add_issue r line p o =
-    if not (nat_lt (length r.issued) (2 ^ 22)) then Err fault.Length
+    if not (nat_lt (length r.issued) (2 ^ 22)) then Err reason.OperationsLimits
     else (placed r o.address >>= λ next. Ok (with_issue next line p o))
+
+-- what an event of a processor lacks: the number of words, or a processor below 4096
+abbrev pub lacks : TraceReading → ℕ → Option TraceReason
+lacks r p =
+    if r.words == 0 then Some reason.WordsFirst
+    else (if not (nat_lt p 4096) then Some reason.ProcessorLimits
+    else None)
 
 -- an issue: the number of words is given, the processor is below 4096, and the address and the
 -- values are in their ranges
-abbrev pub issue_read : TraceReading → ℕ → ℕ → Form → Result TraceReading Fault
+abbrev pub issue_read : TraceReading → ℕ → ℕ → Form → Result TraceReading TraceReason
 issue_read r line p form =
-    if r.words == 0 then Err fault.Setting
-    else (if not (nat_lt p 4096) then Err fault.Processor
-    else (form_operation r.words form >>= add_issue r line p))
+    unless (lacks r p) (form_operation r.words form >>= add_issue r line p)
 
-abbrev pub after_issue_line : TraceReading → ℕ → List (List ℕ) → Result TraceReading Fault
-after_issue_line r line (processor ∷ rest) =
-    a_number processor >>= λ p. spelled_form rest >>= issue_read r line p
-after_issue_line r line [] = Err fault.Line
+abbrev pub after_issue_line : TraceReading → ℕ → List (List ℕ) → Result TraceReading TraceReason
+after_issue_line r line (processor ∷ word ∷ operands) =
+    number_at 1 processor >>= λ p. spelled_form word operands >>= issue_read r line p
+after_issue_line r line [] = Err (reason.WordCount key.Issue)
+after_issue_line r line (processor ∷ []) = Err (reason.WordCount key.Issue)
 
 -- one answer more, at a line, to the operation of a number
-abbrev pub with_answer : TraceReading → ℕ → ℕ → Issued → Option ℕ → Result TraceReading Fault
+abbrev pub with_answer :
+    TraceReading → ℕ → ℕ → Issued → Option ℕ → Result TraceReading TraceReason
 with_answer r line n i told = reply_read told >>= λ reply.
     Ok (with_event
     (record r { issued = slice_set r.issued n (record i { reply = Some reply }) }) line
@@ -171,67 +186,95 @@ abbrev pub goes_with : Code → Option ℕ → Bool
 goes_with code None = is_store code
 goes_with code (Some n) = not (is_store code)
 
+-- why a reply is refused that goes with another operation
+abbrev pub unwanted : Option ℕ → TraceReason
+unwanted None = reason.OkUnwanted
+unwanted (Some n) = reason.NumberUnwanted
+
+-- why an operation is not answered so: the reply goes with another one, or it is answered already
+abbrev pub answer_wrong : Issued → Option ℕ → Option TraceReason
+answer_wrong i told =
+    if not (goes_with (code_of i.operation.op) told) then Some (unwanted told)
+    else (if is_some i.reply then Some reason.AnsweredTwice
+    else None)
+
 -- the reply goes with the operation, which is not answered yet
-abbrev pub add_answer : TraceReading → ℕ → ℕ → Issued → Option ℕ → Result TraceReading Fault
-add_answer r line n i told =
-    if not (goes_with (code_of i.operation.op) told) then Err fault.Line
-    else (if is_some i.reply then Err fault.Setting
-    else with_answer r line n i told)
+abbrev pub add_answer :
+    TraceReading → ℕ → ℕ → Issued → Option ℕ → Result TraceReading TraceReason
+add_answer r line n i told = unless (answer_wrong i told) (with_answer r line n i told)
+
+-- something that a processor has of each operation that it issued, or how many it issued
+abbrev pub if_issued : {X : Type 0} → TraceReading → ℕ → Option X → Result X TraceReason
+if_issued r p found = ok_or found (reason.NotIssued (length (numbers_of r.numbers p)))
+
+-- an answer of a processor, which has issued an operation of this index
+abbrev pub answer_to : TraceReading → ℕ → ℕ → ℕ → Option ℕ → Result TraceReading TraceReason
+answer_to r line p index told =
+    if_issued r p (slice_get (numbers_of r.numbers p) index) >>= λ n.
+    if_issued r p (slice_get r.issued n) >>= λ i. add_answer r line n i told
 
 -- an answer: the number of words is given, the processor is below 4096, and it has issued an
 -- operation of this index
-abbrev pub answer_read : TraceReading → ℕ → ℕ → ℕ → Option ℕ → Result TraceReading Fault
-answer_read r line p index told =
-    if r.words == 0 then Err fault.Setting
-    else (if not (nat_lt p 4096) then Err fault.Processor
-    else (ok_or (slice_get (numbers_of r.numbers p) index) fault.Range >>= λ n.
-    ok_or (slice_get r.issued n) fault.Range >>= λ i. add_answer r line n i told))
+abbrev pub answer_read : TraceReading → ℕ → ℕ → ℕ → Option ℕ → Result TraceReading TraceReason
+answer_read r line p index told = unless (lacks r p) (answer_to r line p index told)
 
-abbrev pub after_answer_line : TraceReading → ℕ → List (List ℕ) → Result TraceReading Fault
+abbrev pub after_answer_line : TraceReading → ℕ → List (List ℕ) → Result TraceReading TraceReason
 after_answer_line r line (processor ∷ index ∷ reply ∷ []) =
-    a_number processor >>= λ p. a_number index >>= λ k. told_of reply >>= answer_read r line p k
-after_answer_line r line [] = Err fault.Line
-after_answer_line r line (processor ∷ []) = Err fault.Line
-after_answer_line r line (processor ∷ index ∷ []) = Err fault.Line
-after_answer_line r line (processor ∷ index ∷ reply ∷ other ∷ more) = Err fault.Line
+    number_at 1 processor >>= λ p. number_at 2 index >>= λ k. told_of reply
+    >>= answer_read r line p k
+after_answer_line r line [] = Err (reason.WordCount key.Answer)
+after_answer_line r line (processor ∷ []) = Err (reason.WordCount key.Answer)
+after_answer_line r line (processor ∷ index ∷ []) = Err (reason.WordCount key.Answer)
+after_answer_line r line (processor ∷ index ∷ reply ∷ other ∷ more) =
+    Err (reason.WordCount key.Answer)
 
 -- what a line of a keyword and these words makes of it
-abbrev pub after_keyword : TraceReading → ℕ → List ℕ → List (List ℕ) → Result TraceReading Fault
+abbrev pub after_keyword :
+    TraceReading → ℕ → List ℕ → List (List ℕ) → Result TraceReading TraceReason
 after_keyword r line keyword values =
     if not r.begun then after_title r keyword values
     else (if bytes_eq keyword (codes "issue") then after_issue_line r line values
     else (if bytes_eq keyword (codes "answer") then after_answer_line r line values
     else (if bytes_eq keyword (codes "init") then after_init_line r values
     else (if bytes_eq keyword (codes "words") then after_words_line r values
-    else Err fault.Line))))
+    else Err reason.UnknownKeyword))))
 
 -- what the words of a line make of it; a line without words and a comment are skipped
-abbrev pub after_line_words : TraceReading → ℕ → List (List ℕ) → Result TraceReading Fault
+abbrev pub after_line_words : TraceReading → ℕ → List (List ℕ) → Result TraceReading TraceReason
 after_line_words r line [] = Ok r
 after_line_words r line (keyword ∷ values) =
     if begins_comment keyword then Ok r else after_keyword r line keyword values
 
--- the trace of a text that ends here: its first line came, and the number of words
-abbrev pub trace_with : TraceReading → Result TraceSpec Fault
-trace_with r =
-    if not r.begun then Err fault.Line
-    else (if r.words == 0 then Err fault.Setting
-    else Ok (record {
-      words = r.words;
-      inits = r.inits;
-      issued = r.issued;
-      events = r.events;
-      lines = r.lines;
-    }))
+-- what a text lacks that ends here: its first line, or the number of words
+abbrev pub missing : TraceReading → Option TraceReason
+missing r =
+    if not r.begun then Some reason.TitleMissing
+    else (if r.words == 0 then Some reason.WordsMissing
+    else None)
 
--- the trace of these lines, of which the first has this number, after what was read; or the fault
--- of the first bad line. What is missing shows at the line after the last
-abbrev pub trace_from : TraceReading → ℕ → List (List ℕ) → Result TraceSpec LineFault
+-- the trace of a text that ends here
+abbrev pub trace_with : TraceReading → Result TraceSpec TraceReason
+trace_with r = unless (missing r) (Ok (record {
+  words = r.words;
+  inits = r.inits;
+  issued = r.issued;
+  events = r.events;
+  lines = r.lines;
+}))
+
+-- the trace of these lines, of which the first has this number, after what was read; or where and
+-- why the first bad line is refused. What is missing shows at the line after the last
+abbrev pub trace_from :
+    TraceReading → ℕ → List (List ℕ) → Result TraceSpec (Refusal TraceReason)
 trace_from r number [] = then_lines number (trace_with r) Ok
 trace_from r number (line ∷ lines) =
     then_lines number (after_line_words r number (words_of line))
     (λ next. trace_from next (number + 1) lines)
 
--- the trace of a text, given as the list of its lines
+-- the trace of a text, given as the list of its lines, or where and why it is refused
+abbrev pub trace_or_why : List (List ℕ) → Result TraceSpec (Refusal TraceReason)
+trace_or_why lines = trace_from no_trace_read 1 lines
+
+-- the trace of a text, or its first fault and the line of that
 abbrev pub trace_of : List (List ℕ) → Result TraceSpec LineFault
-trace_of lines = trace_from no_trace_read 1 lines
+trace_of lines = by_fault trace_fault_of (trace_or_why lines)

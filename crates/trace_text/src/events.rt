@@ -2,20 +2,21 @@
 
 ghost use Rattle.std.specs.Prelude.{◌≡◌, ◌≤◌, ◌<◌, ◌^◌, ◌++◌, ◌∷◌, [], Some, map, length, OnOk};
 ghost use Rattle.std.specs.Prelude.{IfErr, slice_get, slice_set};
-ghost use Rattle.script.specs.Outcome.{Makes};
+ghost use Rattle.lexer.specs.Outcome.{Makes};
 ghost use Rattle.trace_text.specs.Traced.{after_issue_line, issue_read, add_issue};
-ghost use Rattle.trace_text.specs.Traced.{after_answer_line, answer_read};
-ghost use Rattle.trace_text.specs.Traced.{add_answer, goes_with, placed, with_event, with_value};
+ghost use Rattle.trace_text.specs.Traced.{after_answer_line, answer_read, answer_to, answer_wrong};
+ghost use Rattle.trace_text.specs.Traced.{add_answer, goes_with, unwanted, placed, with_event};
+ghost use Rattle.trace_text.specs.Traced.{with_value};
 ghost use Rattle.trace_text.specs.Views.{trace_so_far};
 
 use crate::form::{Form, reply_read, spelled_form, told_of};
 use crate::issued::Issued;
-use crate::number::a_number;
+use crate::number::number_at;
 use crate::reading::Reading;
+use crate::reason::{Keyword, TraceReason};
 use packet::{Code, Operation, Reply};
 use std::alloc::Allocator;
 use std::collections::BTreeMap;
-use torus::Fault;
 use trace_order::{Call, Event};
 
 /// The operation of a number.
@@ -43,20 +44,20 @@ fn add_place<A: Allocator + Copy>(
     places: &mut BTreeMap<u32, u32, A>,
     addresses: &mut Vec<u32, A>,
     address: u32,
-) -> Result<(), Fault>
+) -> Result<(), TraceReason>
     requires { length addresses.old.items < 2 ^ 20 }
     ensures places { OnOk result (places.new.entries
         ≡ with_value places.old.entries address (length addresses.old.items)) }
     ensures addresses { OnOk result
         (addresses.new.items ≡ addresses.old.items ++ address ∷ []) }
-    ensures memory { IfErr result (λ e. e ≡ Fault.Memory) }
+    ensures memory { IfErr result (λ e. e ≡ TraceReason.Memory) }
 {
     let place = addresses.len() as u32;
     if places.insert(address, place).is_err() {
-        return Err(Fault::Memory);
+        return Err(TraceReason::Memory);
     }
     if addresses.push(address).is_err() {
-        return Err(Fault::Memory);
+        return Err(TraceReason::Memory);
     }
     Ok(())
 }
@@ -71,54 +72,76 @@ fn goes_with(code: Code, told: Option<u128>) -> bool
     }
 }
 
+/// Why a reply is refused that goes with another operation.
+fn unwanted(told: Option<u128>) -> TraceReason
+    ensures { result ≡ unwanted told }
+{
+    match told {
+        None => TraceReason::OkUnwanted,
+        Some(_) => TraceReason::NumberUnwanted,
+    }
+}
+
+/// Why an operation is not answered so.
+fn answer_wrong(issued: Issued, told: Option<u128>) -> Option<TraceReason>
+    ensures { result ≡ answer_wrong issued told }
+{
+    if !goes_with(issued.operation.op.code(), told) {
+        return Some(unwanted(told));
+    }
+    if issued.reply.is_some() {
+        return Some(TraceReason::AnsweredTwice);
+    }
+    None
+}
+
 impl<A: Allocator + Copy> Reading<A> {
     /// Takes the processor and the operation of an issue.
-    pub(crate) fn take_issue(&mut self, line: u64, values: &[&[u8]]) -> Result<(), Fault>
+    pub(crate) fn take_issue(&mut self, line: u64, values: &[&[u8]]) -> Result<(), TraceReason>
         requires { self.old.words ≤ 2 ^ 32 }
-        ensures { Makes (trace_so_far self.new) result
+        ensures { Makes TraceReason.Memory (trace_so_far self.new) result
             (after_issue_line (trace_so_far self.old) line
             (map (λ value. value.now) values.now)) }
     {
         match values {
-            [] => Err(Fault::Line),
-            [processor, rest @ ..] => {
-                let p = a_number(processor)?;
-                let form = spelled_form(rest)?;
+            [processor, word, operands @ ..] => {
+                let p = number_at(1, processor)?;
+                let form = spelled_form(word, operands)?;
                 self.issue(line, p, form)
             }
+            _ => Err(TraceReason::WordCount(Keyword::Issue)),
         }
     }
 
     /// An operation is issued.
-    fn issue(&mut self, line: u64, p: u128, form: Form) -> Result<(), Fault>
+    fn issue(&mut self, line: u64, p: u128, form: Form) -> Result<(), TraceReason>
         requires { self.old.words ≤ 2 ^ 32 }
-        ensures { Makes (trace_so_far self.new) result
+        ensures { Makes TraceReason.Memory (trace_so_far self.new) result
             (issue_read (trace_so_far self.old) line p form) }
     {
-        if self.words == 0 {
-            return Err(Fault::Setting);
-        }
-        if p >= 4096 {
-            return Err(Fault::Processor);
+        if let Some(reason) = self.lacks(p) {
+            return Err(reason);
         }
         let operation = form.operation(self.words)?;
         self.add_issue(line, p as u32, operation)
     }
 
     /// Adds an operation.
-    fn add_issue(&mut self, line: u64, p: u32, operation: Operation) -> Result<(), Fault>
+    fn add_issue(&mut self, line: u64, p: u32, operation: Operation) -> Result<(), TraceReason>
         requires { p < 4096 }
-        ensures { Makes (trace_so_far self.new) result
+        ensures { Makes TraceReason.Memory (trace_so_far self.new) result
             (add_issue (trace_so_far self.old) line p operation) }
     {
         let number = self.issued.len();
         if number >= 1 << 22 {
-            return Err(Fault::Length);
+            return Err(TraceReason::OperationsLimits);
         }
         self.place(operation.address)?;
         let id = number as u64;
         let index = self.numbers.count(p);
-        self.numbers.add(p, id)?;
+        if self.numbers.add(p, id).is_err() {
+            return Err(TraceReason::Memory);
+        }
         let issued = Issued {
             processor: p,
             index,
@@ -126,73 +149,93 @@ impl<A: Allocator + Copy> Reading<A> {
             reply: None,
         };
         if self.issued.push(issued).is_err() {
-            return Err(Fault::Memory);
+            return Err(TraceReason::Memory);
         }
         self.note(line, Event::Issue(Call { id, operation }))
     }
 
     /// Gives an address a place, where it has none.
-    fn place(&mut self, address: u32) -> Result<(), Fault>
-        ensures { Makes (trace_so_far self.new) result (placed (trace_so_far self.old) address) }
+    fn place(&mut self, address: u32) -> Result<(), TraceReason>
+        ensures { Makes TraceReason.Memory (trace_so_far self.new) result
+            (placed (trace_so_far self.old) address) }
     {
         if self.places.contains_key(&address) {
             return Ok(());
         }
         let place = self.addresses.len();
         if place >= 1 << 20 {
-            return Err(Fault::Length);
+            return Err(TraceReason::AddressesLimits);
         }
         add_place(&mut self.places, &mut self.addresses, address)
     }
 
     /// Adds an event.
-    fn note(&mut self, line: u64, event: Event) -> Result<(), Fault>
+    fn note(&mut self, line: u64, event: Event) -> Result<(), TraceReason>
         ensures value { OnOk result
             (trace_so_far self.new ≡ with_event (trace_so_far self.old) line event) }
-        ensures memory { IfErr result (λ e. e ≡ Fault.Memory) }
+        ensures memory { IfErr result (λ e. e ≡ TraceReason.Memory) }
     {
         if self.events.push(event).is_err() {
-            return Err(Fault::Memory);
+            return Err(TraceReason::Memory);
         }
         if self.lines.push(line).is_err() {
-            return Err(Fault::Memory);
+            return Err(TraceReason::Memory);
         }
         Ok(())
     }
 
     /// Takes the processor, the index and the reply of an answer.
-    pub(crate) fn take_answer(&mut self, line: u64, values: &[&[u8]]) -> Result<(), Fault>
-        ensures { Makes (trace_so_far self.new) result
+    pub(crate) fn take_answer(&mut self, line: u64, values: &[&[u8]]) -> Result<(), TraceReason>
+        ensures { Makes TraceReason.Memory (trace_so_far self.new) result
             (after_answer_line (trace_so_far self.old) line
             (map (λ value. value.now) values.now)) }
     {
         match values {
             [processor, index, reply] => {
-                let p = a_number(processor)?;
-                let index = a_number(index)?;
+                let p = number_at(1, processor)?;
+                let index = number_at(2, index)?;
                 let told = told_of(reply)?;
                 self.answer(line, p, index, told)
             }
-            _ => Err(Fault::Line),
+            _ => Err(TraceReason::WordCount(Keyword::Answer)),
         }
     }
 
     /// An operation is answered.
-    fn answer(&mut self, line: u64, p: u128, index: u128, told: Option<u128>) -> Result<(), Fault>
-        ensures { Makes (trace_so_far self.new) result
+    fn answer(
+        &mut self,
+        line: u64,
+        p: u128,
+        index: u128,
+        told: Option<u128>,
+    ) -> Result<(), TraceReason>
+        ensures { Makes TraceReason.Memory (trace_so_far self.new) result
             (answer_read (trace_so_far self.old) line p index told) }
     {
-        if self.words == 0 {
-            return Err(Fault::Setting);
+        match self.lacks(p) {
+            Some(reason) => Err(reason),
+            None => self.answer_to(line, p as u32, index, told),
         }
-        if p >= 4096 {
-            return Err(Fault::Processor);
-        }
-        let Some(number) = self.numbers.number(p as u32, index) else {
-            return Err(Fault::Range);
+    }
+
+    /// An operation of a processor is answered.
+    fn answer_to(
+        &mut self,
+        line: u64,
+        p: u32,
+        index: u128,
+        told: Option<u128>,
+    ) -> Result<(), TraceReason>
+        requires { p < 4096 }
+        ensures { Makes TraceReason.Memory (trace_so_far self.new) result
+            (answer_to (trace_so_far self.old) line p index told) }
+    {
+        let too_few = TraceReason::NotIssued(self.numbers.count(p));
+        let Some(number) = self.numbers.number(p, index) else {
+            return Err(too_few);
         };
         let Some(issued) = issued_at(&self.issued, number) else {
-            return Err(Fault::Range);
+            return Err(too_few);
         };
         self.add_answer(line, number, issued, told)
     }
@@ -204,16 +247,13 @@ impl<A: Allocator + Copy> Reading<A> {
         number: u64,
         issued: Issued,
         told: Option<u128>,
-    ) -> Result<(), Fault>
+    ) -> Result<(), TraceReason>
         requires { slice_get self.old.issued.items number ≡ Some issued }
-        ensures { Makes (trace_so_far self.new) result
+        ensures { Makes TraceReason.Memory (trace_so_far self.new) result
             (add_answer (trace_so_far self.old) line number issued told) }
     {
-        if !goes_with(issued.operation.op.code(), told) {
-            return Err(Fault::Line);
-        }
-        if issued.reply.is_some() {
-            return Err(Fault::Setting);
+        if let Some(reason) = answer_wrong(issued, told) {
+            return Err(reason);
         }
         let reply = reply_read(told)?;
         set_reply(&mut self.issued, number, issued, reply);

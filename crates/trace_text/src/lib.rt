@@ -2,7 +2,6 @@
 #![tactic(auto)]
 
 mod events;
-pub mod fault;
 mod form;
 pub mod issue_numbers;
 pub mod issued;
@@ -10,10 +9,11 @@ pub mod laws;
 pub mod linearize;
 mod number;
 mod reading;
+pub mod reason;
 pub mod text;
 
-pub use fault::fault_at;
 pub use issue_numbers::IssueNumbers;
 pub use issued::Issued;
 pub use linearize::{Finding, Unfound};
-pub use text::{TraceText, read_trace};
+pub use reason::{Keyword, TraceReason};
+pub use text::{TraceText, read_trace, read_trace_or_why};

@@ -204,7 +204,8 @@ impl<A: Allocator + Copy> Reading<A> {
         requires kept { IsKept (trace_so_far self.now) }
         requires answered { (told : Reply) × IsAnsweredAt self.now.events.items event id told }
         ensures yes { IfOk result (λ b. b ≡ true → IsAllowed
-            (opening_of (trace_read (trace_so_far self.now))) self.now.events.items event id reply) }
+            (opening_of (trace_read (trace_so_far self.now))) self.now.events.items event id
+            reply) }
         ensures no { IfOk result (λ b. b ≡ false → IsAllowed
             (opening_of (trace_read (trace_so_far self.now))) self.now.events.items event id reply
             → ⊥) }

@@ -1,12 +1,12 @@
 ghost use Rattle.std.specs.Prelude.{◌≡◌};
-ghost use Rattle.trace_text.specs.Form.{a_number};
+ghost use Rattle.trace_text.specs.Form.{number_at};
 
+use crate::reason::TraceReason;
 use lexer::value;
-use torus::Fault;
 
-/// The number that a word spells where one belongs.
-pub(crate) fn a_number(word: &[u8]) -> Result<u128, Fault>
-    ensures { result ≡ a_number word.now }
+/// The number that a word spells where one belongs, of the word at this place of its line.
+pub(crate) fn number_at(place: u32, word: &[u8]) -> Result<u128, TraceReason>
+    ensures { result ≡ number_at place word.now }
 {
-    value(word).ok_or(Fault::Line)
+    value(word).ok_or(TraceReason::NotNumber(place))
 }

@@ -1,19 +1,19 @@
 //! What the lines of a trace text give, one after the other.
 
-ghost use Rattle.std.specs.Prelude.{◌≡◌, ◌≤◌, ◌^◌, ◌&&◌, codes, map, IfOk};
+ghost use Rattle.std.specs.Prelude.{◌≡◌, ◌≤◌, ◌<◌, ◌^◌, ◌&&◌, codes, map, IfNone, IfOk};
 ghost use Rattle.std.specs.Str.{bytes_eq};
-ghost use Rattle.script.specs.Outcome.{Makes};
+ghost use Rattle.lexer.specs.Outcome.{Makes};
 ghost use Rattle.trace_text.specs.Traced.{after_line_words, after_keyword, after_title, words_read};
-ghost use Rattle.trace_text.specs.Traced.{after_words_line};
+ghost use Rattle.trace_text.specs.Traced.{after_words_line, lacks, missing, opening_wrong};
 ghost use Rattle.trace_text.specs.Traced.{init_read, after_init_line, no_trace_read};
 ghost use Rattle.trace_text.specs.Views.{trace_so_far};
 
 use crate::issue_numbers::IssueNumbers;
 use crate::issued::Issued;
-use crate::number::a_number;
+use crate::number::number_at;
+use crate::reason::{Keyword, TraceReason};
 use std::alloc::{AllocError, Allocator};
 use std::collections::BTreeMap;
-use torus::Fault;
 use trace_order::Event;
 
 /// What the lines so far gave.
@@ -65,9 +65,9 @@ impl<A: Allocator + Copy> Reading<A> {
     }
 
     /// Takes what the words of a line give.
-    pub(crate) fn take(&mut self, line: u64, words: &[&[u8]]) -> Result<(), Fault>
+    pub(crate) fn take(&mut self, line: u64, words: &[&[u8]]) -> Result<(), TraceReason>
         requires { self.old.words ≤ 2 ^ 32 }
-        ensures { Makes (trace_so_far self.new) result
+        ensures { Makes TraceReason.Memory (trace_so_far self.new) result
             (after_line_words (trace_so_far self.old) line (map (λ word. word.now) words.now)) }
     {
         match words {
@@ -78,9 +78,14 @@ impl<A: Allocator + Copy> Reading<A> {
     }
 
     /// Takes a line by its keyword.
-    fn take_keyword(&mut self, line: u64, keyword: &[u8], values: &[&[u8]]) -> Result<(), Fault>
+    fn take_keyword(
+        &mut self,
+        line: u64,
+        keyword: &[u8],
+        values: &[&[u8]],
+    ) -> Result<(), TraceReason>
         requires { self.old.words ≤ 2 ^ 32 }
-        ensures { Makes (trace_so_far self.new) result
+        ensures { Makes TraceReason.Memory (trace_so_far self.new) result
             (after_keyword (trace_so_far self.old) line keyword.now
             (map (λ value. value.now) values.now)) }
     {
@@ -99,13 +104,14 @@ impl<A: Allocator + Copy> Reading<A> {
         if keyword == b"words".as_slice() {
             return self.take_words(values);
         }
-        Err(Fault::Line)
+        Err(TraceReason::UnknownKeyword)
     }
 
     /// Takes the first line.
-    fn take_title(&mut self, keyword: &[u8], values: &[&[u8]]) -> Result<(), Fault>
-        ensures { Makes (trace_so_far self.new) result
-            (after_title (trace_so_far self.old) keyword.now (map (λ value. value.now) values.now)) }
+    fn take_title(&mut self, keyword: &[u8], values: &[&[u8]]) -> Result<(), TraceReason>
+        ensures { Makes TraceReason.Memory (trace_so_far self.new) result
+            (after_title (trace_so_far self.old) keyword.now
+            (map (λ value. value.now) values.now)) }
     {
         match values {
             [version] => {
@@ -113,71 +119,113 @@ impl<A: Allocator + Copy> Reading<A> {
                     self.begun = true;
                     return Ok(());
                 }
-                Err(Fault::Line)
+                Err(TraceReason::NoTitle)
             }
-            _ => Err(Fault::Line),
+            _ => Err(TraceReason::NoTitle),
         }
     }
 
     /// Takes the number of words.
-    fn take_words(&mut self, values: &[&[u8]]) -> Result<(), Fault>
-        ensures { Makes (trace_so_far self.new) result
+    fn take_words(&mut self, values: &[&[u8]]) -> Result<(), TraceReason>
+        ensures { Makes TraceReason.Memory (trace_so_far self.new) result
             (after_words_line (trace_so_far self.old) (map (λ value. value.now) values.now)) }
     {
         match values {
             [count] => {
-                let words = a_number(count)?;
+                let words = number_at(1, count)?;
                 if self.words != 0 {
-                    return Err(Fault::Setting);
+                    return Err(TraceReason::WordsTwice);
                 }
                 if !(1 <= words && words <= 1 << 32) {
-                    return Err(Fault::Range);
+                    return Err(TraceReason::WordsLimits);
                 }
                 self.words = words as u64;
                 Ok(())
             }
-            _ => Err(Fault::Line),
+            _ => Err(TraceReason::WordCount(Keyword::Words)),
         }
     }
 
     /// Takes the address and the value of an opening word.
-    fn take_init(&mut self, values: &[&[u8]]) -> Result<(), Fault>
+    fn take_init(&mut self, values: &[&[u8]]) -> Result<(), TraceReason>
         requires { self.old.words ≤ 2 ^ 32 }
-        ensures { Makes (trace_so_far self.new) result
+        ensures { Makes TraceReason.Memory (trace_so_far self.new) result
             (after_init_line (trace_so_far self.old) (map (λ value. value.now) values.now)) }
     {
         match values {
             [a, v] => {
-                let a = a_number(a)?;
-                let v = a_number(v)?;
+                let a = number_at(1, a)?;
+                let v = number_at(2, v)?;
                 self.set_word(a, v)
             }
-            _ => Err(Fault::Line),
+            _ => Err(TraceReason::WordCount(Keyword::Init)),
         }
     }
 
-    /// Sets an opening word.
-    fn set_word(&mut self, address: u128, value: u128) -> Result<(), Fault>
-        requires { self.old.words ≤ 2 ^ 32 }
-        ensures { Makes (trace_so_far self.new) result
-            (init_read (trace_so_far self.old) address value) }
+    /// Why an opening word is refused; the first check that it fails.
+    fn opening_wrong(&self, address: u128, value: u128) -> Option<TraceReason>
+        requires { self.now.words ≤ 2 ^ 32 }
+        ensures reason { result ≡ opening_wrong (trace_so_far self.now) address value }
+        ensures address { IfNone result (address < 2 ^ 32) }
+        ensures value { IfNone result (value < 2 ^ 64) }
     {
-        if !(self.words != 0 && self.issued.is_empty()) {
-            return Err(Fault::Setting);
+        if self.words == 0 {
+            return Some(TraceReason::WordsFirst);
+        }
+        if !self.issued.is_empty() {
+            return Some(TraceReason::InitLate);
         }
         if address >= u128::from(self.words) {
-            return Err(Fault::Address);
+            return Some(TraceReason::AddressLimits(1, self.words));
         }
         if value > u128::from(u64::MAX) {
-            return Err(Fault::Range);
+            return Some(TraceReason::ValueLimits(2));
         }
-        let address = address as u32;
-        if self.inits.contains_key(&address) {
-            return Err(Fault::Setting);
+        if self.inits.contains_key(&(address as u32)) {
+            return Some(TraceReason::InitTwice);
         }
-        match self.inits.insert(address, value as u64) {
+        None
+    }
+
+    /// Sets an opening word.
+    fn set_word(&mut self, address: u128, value: u128) -> Result<(), TraceReason>
+        requires { self.old.words ≤ 2 ^ 32 }
+        ensures { Makes TraceReason.Memory (trace_so_far self.new) result
+            (init_read (trace_so_far self.old) address value) }
+    {
+        if let Some(reason) = self.opening_wrong(address, value) {
+            return Err(reason);
+        }
+        match self.inits.insert(address as u32, value as u64) {
             Ok(_) => Ok(()),
-            Err(_) => Err(Fault::Memory),
+            Err(_) => Err(TraceReason::Memory),
         }
+    }
+
+    /// What an event of a processor lacks.
+    pub(crate) fn lacks(&self, p: u128) -> Option<TraceReason>
+        ensures reason { result ≡ lacks (trace_so_far self.now) p }
+        ensures below { IfNone result (p < 4096) }
+    {
+        if self.words == 0 {
+            return Some(TraceReason::WordsFirst);
+        }
+        if p >= 4096 {
+            return Some(TraceReason::ProcessorLimits);
+        }
+        None
+    }
+
+    /// What a text lacks that ends here.
+    pub(crate) fn missing(&self) -> Option<TraceReason>
+        ensures { result ≡ missing (trace_so_far self.now) }
+    {
+        if !self.begun {
+            return Some(TraceReason::TitleMissing);
+        }
+        if self.words == 0 {
+            return Some(TraceReason::WordsMissing);
+        }
+        None
     }
 }

@@ -3,24 +3,24 @@
 ghost use Rattle.std.specs.Prelude.{◌≡◌, ℕ, true, false, length, slice_index, IfOk, IfErr};
 ghost use Rattle.std.specs.Str.Lines.{lines};
 ghost use Rattle.packet.specs.declared.kinds.Reply.{Reply};
+ghost use Rattle.lexer.specs.Outcome.{Gives as GivesOrWhy};
 ghost use Rattle.script.specs.Outcome.{Gives};
 ghost use Rattle.trace_order.specs.declared.event.Call.{Call};
 ghost use Rattle.trace_order.specs.Traces.{IsTrace, IsIssuedAt, IsAnsweredAt};
 ghost use Rattle.trace_text.specs.Allowed.{IsAllowed, trace_answered_so};
 ghost use Rattle.trace_text.specs.Findings.{TellsFinding, IsUnfound};
 ghost use Rattle.trace_text.specs.Kept.{IsKnownAs};
-ghost use Rattle.trace_text.specs.Traced.{trace_of, opening_of};
+ghost use Rattle.trace_text.specs.Traced.{trace_of, trace_or_why, opening_of};
 
-use crate::fault::fault_at;
 use crate::issued::Issued;
 use crate::linearize::{Finding, Unfound, word_at};
 use crate::reading::Reading;
-use lexer::{first_words, next_line};
+use crate::reason::TraceReason;
+use lexer::{Refusal, first_words, next_line};
 use packet::Reply;
 use script::LineFault;
 use std::alloc::{Allocator, Global};
 use std::marker::Model;
-use torus::Fault;
 use trace_order::Event;
 
 /// A trace as its text gives it.
@@ -122,28 +122,40 @@ impl<A: Allocator + Copy> TraceText<A> {
 
 /// Reads a trace text.
 ///
-/// Errors: the first fault and its line, or `Fault::Memory` at line 0.
-pub fn read_trace<A: Allocator + Copy>(alloc: A, text: &[u8]) -> Result<TraceText<A>, LineFault>
-    ensures { Gives (λ t. t) result (trace_of (lines text.now)) }
+/// Errors: where and why its first bad line is refused, or that a request for memory was.
+pub fn read_trace_or_why<A: Allocator + Copy>(
+    alloc: A,
+    text: &[u8],
+) -> Result<TraceText<A>, Refusal<TraceReason>>
+    ensures { GivesOrWhy TraceReason.Memory (λ t. t) result (trace_or_why (lines text.now)) }
 {
     let Ok(mut reading) = Reading::none(alloc) else {
-        return Err(fault_at(Fault::Memory, 0));
+        return Err(Refusal::at(0, TraceReason::Memory));
     };
     let mut number = 1u64;
     let mut rest = text;
     while let Some((line, after)) = next_line(rest) {
         let (words, count) = first_words(line);
-        if let Err(fault) = reading.take(number, &words[..count]) {
-            return Err(fault_at(fault, number));
+        if let Err(reason) = reading.take(number, &words[..count]) {
+            return Err(Refusal::at(number, reason));
         }
         number += 1;
         rest = after;
     }
-    if !reading.begun {
-        return Err(fault_at(Fault::Line, number));
-    }
-    if reading.words == 0 {
-        return Err(fault_at(Fault::Setting, number));
+    if let Some(reason) = reading.missing() {
+        return Err(Refusal::at(number, reason));
     }
     Ok(TraceText { reading })
+}
+
+/// Reads a trace text.
+///
+/// Errors: the first fault and its line, or `Fault::Memory` at line 0.
+pub fn read_trace<A: Allocator + Copy>(alloc: A, text: &[u8]) -> Result<TraceText<A>, LineFault>
+    ensures { Gives (λ t. t) result (trace_of (lines text.now)) }
+{
+    match read_trace_or_why(alloc, text) {
+        Ok(trace) => Ok(trace),
+        Err(refusal) => Err(LineFault::from(refusal)),
+    }
 }

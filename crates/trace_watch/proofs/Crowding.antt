@@ -2,6 +2,7 @@
 use Rattle.std.proofs.Common.{◌≡◌, ◌≢◌, ◌⊎◌, ◌↔◌, inl, inr, ⊎_elim, ℕ, ◌+◌, ◌<◌, ◌≤◌, List, [], ◌∷◌, length, Some, Vec, refl, sym, ◌∙◌, ap, subst, arith, slice_get, get_or}
 use Rattle.std.proofs.lemmas.Bool.{cases_eq}
 use Rattle.packet.specs.declared.kinds.Reply.{Reply}
+use Rattle.trace_order.specs.Traces.{IsAnswered}
 use Rattle.trace_order.specs.declared.event.Call.{Call}
 use Rattle.trace_order.specs.declared.event.Event.{Event}
 use Rattle.trace_order.specs.declared.event.Event.TheVariants.{Answer}
@@ -12,7 +13,7 @@ use Rattle.trace_watch.specs.declared.watch.Watch.{Watch}
 use Rattle.trace_watch.specs.declared.watch.Full.{Full}
 use Rattle.trace_watch.specs.declared.watch.Full.TheVariants.{Memory, Configurations}
 use Rattle.trace_watch.specs.States.{Config, IsLike, config_of, configs_of}
-use Rattle.trace_watch.specs.Known.{ArePendingOn, IsAnswered}
+use Rattle.trace_watch.specs.Known.{ArePendingOn}
 use Rattle.trace_watch.specs.Closed.{IsOneMore, Expands, Copies}
 use Rattle.trace_watch.specs.Crowds.{AreUnlike, IsCrowd, GivesUp, IsOverfull}
 use Rattle.trace_watch.specs.Follows.{Follows, AnswersMany, TellsFull, states_of}

@@ -7,7 +7,7 @@ use Rattle.packet.specs.Memory.{new_word, reply_to, reply_of_one}
 use Rattle.trace_order.specs.declared.event.Call.{Call}
 use Rattle.trace_order.specs.declared.event.Event.{Event}
 use Rattle.trace_order.specs.declared.event.Event.TheVariants.{Issue, Answer}
-use Rattle.trace_order.specs.Traces.{IsTrace, IsIssuedAt, IsAnsweredAt}
+use Rattle.trace_order.specs.Traces.{IsTrace, IsIssuedAt, IsAnsweredAt, IsAnswered}
 use Rattle.trace_order.specs.Orders.{IsOn, memory_of}
 use Rattle.trace_order.specs.Locality.{IsOrderOn}
 use Rattle.trace_order.proofs.Lists.{get_push_cases, get_append_left, get_push, get_within}
@@ -15,7 +15,7 @@ use Rattle.trace_order.proofs.Memory.{word_changed}
 use Rattle.trace_search.specs.Configs.{IsIn}
 use Rattle.trace_watch.specs.declared.state.Effect.{Effect}
 use Rattle.trace_watch.specs.States.{Config, HasEffect, IsLike, IsWithout, after}
-use Rattle.trace_watch.specs.Known.{IsAnswered, IsReplied, Explains, IsPending}
+use Rattle.trace_watch.specs.Known.{IsReplied, Explains, IsPending}
 use Rattle.trace_watch.proofs.Events.{issue_up, answered_up, answer_cases, same_number, issue_down}
 
 -- what says the same is explained by the same order

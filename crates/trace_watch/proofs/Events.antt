@@ -5,11 +5,11 @@ use Rattle.packet.specs.declared.kinds.Reply.{Reply}
 use Rattle.trace_order.specs.declared.event.Call.{Call}
 use Rattle.trace_order.specs.declared.event.Event.{Event}
 use Rattle.trace_order.specs.declared.event.Event.TheVariants.{Issue, Answer}
-use Rattle.trace_order.specs.Traces.{IsTrace, IsIssuedAt, IsAnsweredAt, WasIssued}
+use Rattle.trace_order.specs.Traces.{IsTrace, IsIssuedAt, IsAnsweredAt, WasIssued, IsAnswered}
 use Rattle.trace_order.proofs.Issues.{one_issue}
 use Rattle.trace_order.proofs.Lists.{get_push_cases, get_append_left, get_push, get_within}
 use Rattle.trace_search.specs.Configs.{IsIn}
-use Rattle.trace_watch.specs.Known.{IsAnswered, IsPending, ArePending, IsNewest}
+use Rattle.trace_watch.specs.Known.{IsPending, ArePending, IsNewest}
 
 pub issue_up : (t : List Event) (e : Event) (i : ℕ) (c : Call) → IsIssuedAt t i c → IsIssuedAt (t ++ e ∷ []) i c
 issue_up t e i c h = get_append_left t (e ∷ []) i (Issue c) h

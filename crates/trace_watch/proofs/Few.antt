@@ -2,6 +2,7 @@
 use Rattle.std.proofs.Common.{◌≡◌, ◌⊎◌, ◌↔◌, ⊎_elim, ℕ, ◌<◌, ◌≤◌, List, [], ◌∷◌, ◌++◌, length, Some, Vec, refl, sym, ◌∙◌, ap, subst, arith, slice_get, get_or}
 use Rattle.packet.specs.declared.kinds.Reply.{Reply}
 use Rattle.packet.specs.Memory.{new_word, reply_to}
+use Rattle.trace_order.specs.Traces.{IsAnswered}
 use Rattle.trace_order.specs.declared.event.Call.{Call}
 use Rattle.trace_order.specs.declared.event.Event.{Event}
 use Rattle.trace_order.specs.declared.event.Event.TheVariants.{Issue, Answer}
@@ -12,7 +13,7 @@ use Rattle.trace_watch.specs.declared.state.Effect.{Effect}
 use Rattle.trace_watch.specs.declared.state.State.{State}
 use Rattle.trace_watch.specs.declared.watch.Watch.{Watch}
 use Rattle.trace_watch.specs.States.{Config, HasEffect, IsLike, IsAmong, IsExpanded, after, configs_of}
-use Rattle.trace_watch.specs.Known.{IsAnswered, ArePendingOn, IsPending}
+use Rattle.trace_watch.specs.Known.{ArePendingOn, IsPending}
 use Rattle.trace_watch.specs.Closed.{Closes}
 use Rattle.trace_watch.specs.Crowds.{LeadsTo, AreFew}
 use Rattle.trace_watch.specs.Follows.{Follows, AnswersFew, states_of}

@@ -4,11 +4,11 @@ use Rattle.std.proofs.Common.{arith, slice_get, append-nil, append_assoc}
 use Rattle.std.proofs.lemmas.Bool.{cases_eq}
 use Rattle.trace_order.specs.declared.event.Call.{Call}
 use Rattle.trace_order.proofs.Lists.{get_push_cases, get_append_left, get_push, get_within}
-use Rattle.trace_search.specs.Configs.{IsIn}
+use Rattle.trace_search.specs.Configs.{IsIn, GoesOn}
 use Rattle.trace_watch.specs.declared.state.State.{State}
 use Rattle.trace_watch.specs.States.{Config, HasEffect, IsLike, IsAmong, IsExpanded, after, config_of, configs_of}
 use Rattle.trace_watch.specs.Known.{Explains, StaysExplained}
-use Rattle.trace_watch.specs.Closed.{GoesOn, IsOneMore, Expands, Copies, Closes}
+use Rattle.trace_watch.specs.Closed.{IsOneMore, Expands, Copies, Closes}
 use Rattle.trace_watch.proofs.Effects.{explains_after}
 
 -- sets that grow

@@ -3,11 +3,11 @@ use Rattle.std.proofs.Common.{◌≡◌, ℕ, ◌+◌, ◌<◌, ◌≤◌, List,
 use Rattle.std.proofs.lemmas.Option.{slice_get-get_or}
 use Rattle.packet.specs.declared.kinds.Reply.{Reply}
 use Rattle.trace_order.specs.declared.event.Call.{Call}
-use Rattle.trace_search.specs.Configs.{IsIn}
+use Rattle.trace_search.specs.Configs.{IsIn, GoesOn}
 use Rattle.trace_watch.specs.declared.state.Effect.{Effect}
 use Rattle.trace_watch.specs.declared.state.State.{State}
 use Rattle.trace_watch.specs.States.{Config, IsWithout, AreReleased, after, config_of, configs_of}
-use Rattle.trace_watch.specs.Closed.{GoesOn, IsOneMore, Expands, Copies, Closes}
+use Rattle.trace_watch.specs.Closed.{IsOneMore, Expands, Copies, Closes}
 use Rattle.trace_watch.proofs.Growth.{get_config, configs_push, long_configs, expands_nothing, expands_one, Copying, copying_more, copying_all, Closing, closing_skip, closing_expand, closing_all}
 use Rattle.trace_watch.proofs.Sifting.{Keeping, this, keeping_skip, keeping_push, keeping_all}
 

@@ -8,14 +8,14 @@ use Rattle.packet.specs.Memory.{reply_of_one}
 use Rattle.trace_order.specs.declared.event.Call.{Call}
 use Rattle.trace_order.specs.declared.event.Event.{Event}
 use Rattle.trace_order.specs.declared.event.Event.TheVariants.{Answer}
-use Rattle.trace_order.specs.Traces.{IsTrace, IsIssuedAt, IsAnsweredAt}
+use Rattle.trace_order.specs.Traces.{IsTrace, IsIssuedAt, IsAnsweredAt, IsAnswered}
 use Rattle.trace_order.specs.Orders.{IsOn, memory_of}
 use Rattle.trace_order.specs.Locality.{IsOrderOn}
 use Rattle.trace_order.proofs.Lists.{get_push, get_take, take_get, take_push, within_length, get_within}
 use Rattle.trace_search.specs.Configs.{IsIn}
 use Rattle.trace_watch.specs.declared.state.Effect.{Effect}
 use Rattle.trace_watch.specs.States.{Config, HasEffect, after}
-use Rattle.trace_watch.specs.Known.{IsAnswered, Explains, Knows, IsPending, ArePendingOn}
+use Rattle.trace_watch.specs.Known.{Explains, Knows, IsPending, ArePendingOn}
 use Rattle.trace_watch.specs.Closed.{Closes, IsAnsweredBy}
 use Rattle.trace_watch.proofs.Events.{issue_up}
 use Rattle.trace_watch.proofs.Quiet.{order_back}

@@ -7,7 +7,7 @@ use Rattle.packet.specs.declared.kinds.Reply.{Reply}
 use Rattle.trace_order.specs.declared.event.Call.{Call}
 use Rattle.trace_order.specs.declared.event.Event.{Event}
 use Rattle.trace_order.specs.declared.event.Event.TheVariants.{Issue, Answer}
-use Rattle.trace_order.specs.Traces.{IsTrace}
+use Rattle.trace_order.specs.Traces.{IsTrace, IsAnswered}
 use Rattle.trace_order.specs.Orders.{IsLinearizable}
 use Rattle.trace_order.proofs.Merging.{one_order}
 use Rattle.trace_order.proofs.WordOrders.{word_order}
@@ -16,7 +16,7 @@ use Rattle.trace_watch.specs.declared.state.State.{State}
 use Rattle.trace_watch.specs.declared.watch.Watch.{Watch}
 use Rattle.trace_watch.specs.declared.watch.Seen.TheVariants.{Linearizable, NotLinearizable, NoTrace}
 use Rattle.trace_watch.specs.States.{Config, configs_of}
-use Rattle.trace_watch.specs.Known.{IsAnswered, Knows, ArePending, ArePendingOn}
+use Rattle.trace_watch.specs.Known.{Knows, ArePending, ArePendingOn}
 use Rattle.trace_watch.specs.Closed.{IsAnsweredBy}
 use Rattle.trace_watch.specs.Follows.{Follows, TellsSeen, states_of}
 use Rattle.trace_watch.proofs.Events.{trace_issue, trace_answer, outside, not_rising, not_pending, pending_issue, pending_answer, newest_issue, newest_answer, above_all}

@@ -2,13 +2,9 @@
 use Rattle.std.specs.Prelude.{◌≡◌, ◌⊎◌, ℕ, List, [], ◌∷◌, ◌++◌, Some, slice_get}
 use Rattle.packet.specs.declared.kinds.Reply.{Reply}
 use Rattle.trace_order.specs.declared.event.Call.{Call}
-use Rattle.trace_search.specs.Configs.{IsIn}
+use Rattle.trace_search.specs.Configs.{GoesOn, IsIn}
 use Rattle.trace_watch.specs.States.{Config, HasEffect, IsAmong, IsExpanded, AreReleased}
 use Rattle.trace_watch.specs.Known.{StaysExplained}
-
--- a list goes on with more
-abbrev pub GoesOn : List Config → List Config → Type 0
-GoesOn old new = (more : List Config) × (new ≡ old ++ more)
 
 -- a configuration is added, unless one that says the same is there
 abbrev pub IsOneMore : List Config → Config → List Config → Type 0

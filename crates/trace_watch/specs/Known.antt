@@ -4,16 +4,12 @@ use Rattle.packet.specs.declared.kinds.Reply.{Reply}
 use Rattle.packet.specs.Memory.{reply_of_one}
 use Rattle.trace_order.specs.declared.event.Call.{Call}
 use Rattle.trace_order.specs.declared.event.Event.{Event}
-use Rattle.trace_order.specs.Traces.{IsIssuedAt, IsAnsweredAt}
+use Rattle.trace_order.specs.Traces.{IsIssuedAt, IsAnsweredAt, IsAnswered}
 use Rattle.trace_order.specs.Orders.{memory_of}
 use Rattle.trace_order.specs.Locality.{IsOrderOn}
 use Rattle.trace_search.specs.Configs.{IsIn}
 use Rattle.trace_watch.specs.declared.state.Effect.{Effect}
 use Rattle.trace_watch.specs.States.{Config, HasEffect}
-
--- the trace answers this number
-abbrev pub IsAnswered : List Event → ℕ → Type 0
-IsAnswered trace id = (i : ℕ) × (reply : Reply) × IsAnsweredAt trace i id reply
 
 -- an operation stands in an order, and replies there what it took effect with
 pub record IsReplied (opening : List ℕ) (order : List Call) (e : Effect) : Type 0 where

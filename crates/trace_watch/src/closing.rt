@@ -3,12 +3,12 @@
 ghost use Rattle.std.specs.Prelude.{◌≡◌, ◌<◌, ◌≤◌, ℕ, List, [], ◌∷◌, ◌++◌, Some, IfErr, IfOk, OnOk};
 ghost use Rattle.std.specs.Prelude.{length, max, slice_get};
 ghost use Rattle.trace_order.specs.declared.event.Call.{Call};
-ghost use Rattle.trace_search.specs.Configs.{IsIn};
+ghost use Rattle.trace_search.specs.Configs.{IsIn, GoesOn};
 ghost use Rattle.trace_watch.specs.States.{Config, AreReleased, IsAmong, IsExpanded, config_of, configs_of};
 ghost use Rattle.trace_watch.specs.declared.watch.Full.TheVariants.{Configurations};
 ghost use Rattle.trace_watch.specs.Chains.{IsIndexed};
 ghost use Rattle.trace_watch.specs.Crowds.{AreFew, GivesUp, IsCrowd, IsOverfull};
-ghost use Rattle.trace_watch.specs.Closed.{GoesOn, Expands, Copies, Closes, IsAnsweredBy, IsOneMore};
+ghost use Rattle.trace_watch.specs.Closed.{Expands, Copies, Closes, IsAnsweredBy, IsOneMore};
 
 use crate::index::{Index, empty_index, widen};
 use crate::state::{Effect, State, after, copy_of, has_effect, is_in, without};

@@ -1,4 +1,6 @@
+pub mod Before
 pub mod Calls
+pub mod Refused
 pub mod Told
 pub mod Values
 pub mod Why

@@ -23,8 +23,8 @@ pub record AreLinesOf (t : TraceSpec) (calls : List CallAt) (found : List IssueL
       → slice_get found n ≡ Some l → IsLineOf t c l
 
 -- an event of this line of a text is told, and how each operation is issued that is open there
-pub record TellsNoOrder {A : Type 0} (lines : List (List ℕ)) (line : ℕ) (s : NoOrderSentence A) : Type
-    0 where
+pub record TellsNoOrder {A : Type 0} (lines : List (List ℕ)) (line : ℕ) (s : NoOrderSentence A)
+    : Type 0 where
   pub trace : TraceSpec
   pub read : trace_of lines ≡ Ok trace
   pub event : ℕ

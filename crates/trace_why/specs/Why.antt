@@ -43,8 +43,8 @@ pub record IsUndecidedAt (t : TraceSpec) (k bound : ℕ) (why : Unfound) : Type 
   pub value : ℕ
   pub unfound : IsUnfound (trace_answered_so t k id (Old value)) bound why
 
--- why it is not told what event k may answer, where so many values are tried at most, and a word may
--- have so many configurations: of no memory nothing is said
+-- why it is not told what event k may answer, where so many values are tried at most, and a word
+-- may have so many configurations: of no memory nothing is said
 abbrev pub IsUntold : TraceSpec → ℕ → ℕ → ℕ → Untold → Type 0
 IsUntold t k tries bound Memory = Unit {0}
 IsUntold t k tries bound Values = HasManyValues t k tries

@@ -1,19 +1,24 @@
-//! Why a trace has no order: the answer from which on there is none, what is open on its word there, and
-//! the values that it may tell.
+//! Why a trace text is refused, and why a trace has no order: the answer from which on there is
+//! none, what is open on its word there, and the values that it may tell.
 #![tactic(auto)]
 
 mod answers;
+pub mod before;
 pub mod calls;
 pub mod laws;
 mod open;
 mod printed;
+pub mod refused;
 pub mod sentence;
 mod start;
 pub mod untold;
 mod values;
 pub mod why;
+mod wording;
 
+pub use before::earlier_line;
 pub use calls::CallAt;
+pub use refused::{TraceSentence, trace_sentence};
 pub use sentence::{IssueLine, NoOrderSentence, no_order_sentence};
 pub use untold::Untold;
 pub use why::{WhyNot, why_not};

@@ -1,7 +1,7 @@
 //! The sentences that tell a reader why a trace has no order.
 
-ghost use Rattle.std.specs.Prelude.{◌≡◌, ℕ, List, true, false, Some, IfOk, IfSome, MatchOption, Contains};
-ghost use Rattle.std.specs.Prelude.{slice_get};
+ghost use Rattle.std.specs.Prelude.{◌≡◌, ℕ, List, true, false, Some, IfOk, IfSome, MatchOption};
+ghost use Rattle.std.specs.Prelude.{Contains, slice_get};
 ghost use Rattle.std.specs.Str.Lines.{lines};
 ghost use Rattle.trace_order.specs.Traces.{IsIssuedAt};
 ghost use Rattle.trace_text.specs.Traced.{trace_of};
@@ -11,8 +11,8 @@ ghost use Rattle.trace_why.specs.Told.{IsLineOf, AreLinesOf, TellsNoOrder};
 use crate::calls::CallAt;
 use crate::printed::{ReplyWord, Values};
 use crate::why::{WhyNot, why_not};
-use explained::Named;
-use packet::{Op, Operation};
+use lexer::Named;
+use packet::{Operation, Values as OpValues};
 use std::alloc::{AllocError, Allocator, Global};
 use std::fmt;
 use trace_text::{TraceText, read_trace};
@@ -161,40 +161,21 @@ fn sentence_on<'a, A: Allocator + Copy>(
     })
 }
 
-/// The name of an operation, and its values.
-fn parts_of(op: Op) -> (&'static str, Option<u64>, Option<u64>) {
-    match op {
-        Op::Load => ("load", None, None),
-        Op::Store(value) => ("store", Some(value), None),
-        Op::Swap(value) => ("swap", Some(value), None),
-        Op::Cas(expected, new) => ("cas", Some(expected), Some(new)),
-        Op::Add(value) => ("add", Some(value), None),
-        Op::And(value) => ("and", Some(value), None),
-        Op::Or(value) => ("or", Some(value), None),
-        Op::Xor(value) => ("xor", Some(value), None),
-        Op::Max(value) => ("max", Some(value), None),
-        Op::Min(value) => ("min", Some(value), None),
-    }
-}
-
-/// Puts a value behind a space, if there is one.
-fn put_value<W: fmt::Write>(f: &mut fmt::Formatter<W>, value: Option<u64>) -> fmt::Result {
-    match value {
-        Some(value) => write!(f, " {value}"),
-        None => Ok(()),
-    }
-}
-
 impl fmt::Display for IssueLine {
     fn fmt<W: fmt::Write>(&self, f: &mut fmt::Formatter<W>) -> fmt::Result {
-        let (name, first, second) = parts_of(self.operation.op);
+        let op = self.operation.op;
         write!(
             f,
             "issue {} {} {}",
-            self.processor, name, self.operation.address
+            self.processor,
+            op.code().word(),
+            self.operation.address
         )?;
-        put_value(f, first)?;
-        put_value(f, second)
+        match op.values() {
+            OpValues::None => Ok(()),
+            OpValues::One(value) => write!(f, " {value}"),
+            OpValues::Two(expected, new) => write!(f, " {expected} {new}"),
+        }
     }
 }
 

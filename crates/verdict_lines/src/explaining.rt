@@ -1,10 +1,9 @@
 //! The lines on the texts of networks and traces.
 
 use fault_lines::{explain_by, is_of_texts, named, told};
-use network_reasons::network_sentence;
 use program_fault::ProgramFault;
-use trace_reasons::trace_sentence;
-use trace_why::no_order_sentence;
+use table_text::network_sentence;
+use trace_why::{no_order_sentence, trace_sentence};
 
 /// Says why the text of a network has the fault that the command answers, where that can be told.
 pub fn explain_network<R: Eprint + AllocGlobal>(

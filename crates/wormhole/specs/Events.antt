@@ -1,6 +1,6 @@
 -- The events of a network: when each may happen, and what it changes.
 use Rattle.std.specs.Prelude.{◌≡◌, ℕ, ◌+◌, ◌-◌, ◌<◌, Bool, true, false, if◌then◌else◌, List, [], ◌∷◌, ◌++◌, Some, None}
-use Rattle.std.specs.Prelude.{take, drop}
+use Rattle.std.specs.Prelude.{take, drop, Option}
 use Rattle.wormhole.specs.Net.{Net, Parcel, IsParcel}
 use Rattle.wormhole.specs.State.{Line, Note, State, update}
 
@@ -169,6 +169,11 @@ notes_after ns (Return x) = ns
 -- the network after an event
 abbrev pub after : Net → State → Event → State
 after n s e = record { lines = lines_after n s.lines e; notes = notes_after s.notes e }
+
+-- the network after an event, or none
+abbrev pub network_after : Net → State → Option Event → State
+network_after n s None = s
+network_after n s (Some e) = after n s e
 
 -- the network after some events
 abbrev pub after_all : Net → State → List Event → State

@@ -4,12 +4,12 @@ use Rattle.std.specs.List.{sum_by}
 use Rattle.std.proofs.lemmas.List.Sums.{sum_by-cons}
 use Rattle.wormhole.specs.Net.{Net, IsNet}
 use Rattle.wormhole.specs.State.{State, empty}
-use Rattle.wormhole.specs.Events.{Event, CanAllHappen, after, after_all}
+use Rattle.wormhole.specs.Events.{Event, CanAllHappen, after, after_all, network_after}
 use Rattle.wormhole.specs.Words.{Words}
 use Rattle.wormhole.specs.Routes.{Routes}
 use Rattle.wormhole.proofs.Reached.{words_kept, routes_kept, words_empty, routes_empty}
 use Rattle.wormhole_progress.specs.Weight.{weight, promised}
-use Rattle.wormhole_progress.specs.Work.{End, work, IsStep, network_after, MayHappen}
+use Rattle.wormhole_progress.specs.Work.{End, work, IsStep, MayHappen}
 use Rattle.wormhole_progress.proofs.Falls.{one_less}
 use Rattle.wormhole_progress.proofs.Working.{work_falls}
 use Rattle.wormhole_progress.proofs.Bounded.{empty_owes}

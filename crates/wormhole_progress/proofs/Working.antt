@@ -5,9 +5,9 @@ use Rattle.wormhole.specs.Net.{Net, IsNet, Parcel, flits_of}
 use Rattle.wormhole.specs.State.{State}
 use Rattle.wormhole.specs.Words.{Words}
 use Rattle.wormhole.specs.Routes.{Routes}
-use Rattle.wormhole.specs.Events.{Event, InjectHead, InjectRest, Latch, ForwardHead, ForwardRest, AcceptHead, AcceptRest, Return, CanHappen, after}
+use Rattle.wormhole.specs.Events.{Event, InjectHead, InjectRest, Latch, ForwardHead, ForwardRest, AcceptHead, AcceptRest, Return, CanHappen, after, network_after}
 use Rattle.wormhole_progress.specs.Weight.{sum_below, weight, promised}
-use Rattle.wormhole_progress.specs.Work.{End, end_weight, work, Issues, Replies, Serves, Reports, Stays, IsChange, network_after, MayHappen, IsStep}
+use Rattle.wormhole_progress.specs.Work.{End, end_weight, work, Issues, Replies, Serves, Reports, Stays, IsChange, MayHappen, IsStep}
 use Rattle.wormhole_progress.proofs.Sums.{sum_one}
 use Rattle.wormhole_progress.proofs.Falls.{one_less}
 

@@ -2,7 +2,7 @@
 use Rattle.std.specs.Prelude.{◌≡◌, ◌≢◌, ◌⊎◌, ℕ, ◌+◌, ◌*◌, ◌<◌, ◌≤◌, length, Option, Some, None}
 use Rattle.wormhole.specs.Net.{Net, Parcel, flits_of}
 use Rattle.wormhole.specs.State.{State}
-use Rattle.wormhole.specs.Events.{Event, InjectHead, CanHappen, after}
+use Rattle.wormhole.specs.Events.{Event, InjectHead, CanHappen, network_after}
 use Rattle.wormhole_progress.specs.Weight.{sum_below, weight}
 
 -- what the ends of a tile have still to do: operations that the processor's script still allows,
@@ -71,11 +71,6 @@ abbrev pub IsChange : Net → Option Event → End → End → Type 0
 IsChange n (Some (InjectHead x k)) old new = Issues n k old new ⊎ Replies n k old new
 IsChange n (Some e) old new = Stays old new
 IsChange n None old new = Serves old new ⊎ Reports old new
-
--- the network after a step
-abbrev pub network_after : Net → State → Option Event → State
-network_after n s None = s
-network_after n s (Some e) = after n s e
 
 -- what the network does may happen
 abbrev pub MayHappen : Net → State → Option Event → Type 0

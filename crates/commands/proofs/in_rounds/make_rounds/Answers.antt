@@ -2,7 +2,7 @@
 use Rattle.std.proofs.Common.{◌≡◌, ℕ, ◌+◌, [], refl, sym, subst, ◌∙◌, arith}
 use Rattle.machine_texts.specs.order_abstract.specs.Load.{Load}
 use Rattle.core_machine.specs.Machine.{IsAfter}
-use Rattle.commands.specs.Rounds.{AreFewest}
+use Rattle.machine_texts.specs.Rounds.{AreFewest}
 use Rattle.commands.specs.Telling.{AreCallsOf}
 use Rattle.commands.proofs.InRounds.{HasMade, as_allowed, enough, none_made, one_more}
 use Rattle.commands.proofs.Telling.{hears_none, round_heard}

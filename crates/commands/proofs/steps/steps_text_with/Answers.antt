@@ -3,7 +3,8 @@ use Rattle.std.proofs.Common.{Result, subst, sym}
 use Rattle.std.proofs.lemmas.Result.{err_from_is_err_and}
 use Rattle.std.specs.Str.Lines.{lines}
 use Rattle.script.specs.declared.fault.LineFault.{LineFault}
-use Rattle.commands.specs.Run.{Asked, IsNoFault, IsOfMachine, IsReadFault, IsRunText, IsTextsFault, asked_of}
+use Rattle.program_fault.specs.Outcome.{IsReadFault, IsTextsFault}
+use Rattle.commands.specs.Run.{Asked, IsNoFault, IsOfMachine, IsRunText, asked_of}
 use Rattle.commands.specs.Telling.{AreStepsCalls}
 use Rattle.commands.proofs.Asked.{does_more, run_printed}
 use Rattle.commands.proofs.Telling.{none_told, steps_told}

@@ -4,7 +4,8 @@ use Rattle.std.proofs.lemmas.Result.{err_from_is_err_and}
 use Rattle.std.specs.Str.Lines.{lines}
 use Rattle.script.specs.declared.fault.LineFault.{LineFault}
 use Rattle.machine_texts.specs.order_abstract.specs.Load.{Load}
-use Rattle.commands.specs.Run.{IsNoFault, IsReadFault, IsTextsFault}
+use Rattle.program_fault.specs.Outcome.{IsReadFault, IsTextsFault}
+use Rattle.commands.specs.Run.{IsNoFault}
 use Rattle.machine_texts.specs.Loading.{HasLoaded, load_by}
 use Rattle.run_command.specs.Workers.{IsMadeByWorkers, IsOfEnded, IsWorkersText}
 use Rattle.commands.proofs.Asked.{does_more}

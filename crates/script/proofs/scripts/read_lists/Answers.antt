@@ -1,7 +1,8 @@
-use Rattle.std.proofs.Common.{◌∙◌, arith, map, take}
+use Rattle.std.proofs.Common.{ℕ, ◌∙◌, arith, map, take, inl, inr}
 use Rattle.std.specs.Str.Lines.{lines}
 use Rattle.script.specs.ScriptViews.{lists_of}
-use Rattle.script.proofs.SevenWords.{scripts_step}
+use Rattle.script.proofs.SevenWords.{scripts_step, scripts_fault}
+use Rattle.script.proofs.Told.{told}
 use Rattle.script.proofs.scripts.read_lists.Goals as goal
 
 pub loop-line-preserved : goal.loop-line-preserved
@@ -17,3 +18,15 @@ loop-line-preserved g c = record {
       (map (λ word. word.now) (take c.first_words-count.result.1 c.first_words-count.result.0)) _
       c.in-Some.ensures.some c.first_words-count.ensures.words c.loop-line.invariant.words c.in_default-take.ensures.value c.loop-line.invariant.reads;
 }
+
+pub returns-in-Err-clause-value : goal.returns-in-Err-clause-value
+returns-in-Err-clause-value g c =
+    let n : ℕ = c.loop-line.number in
+    told c.in-Err.reason n c.at-in-Err.result _ c.at-in-Err.ensures
+    (elim c.in-Err.ensures.value [
+      | inl m ↦ inl m
+      | inr bad ↦ inr (scripts_fault c.args.words c.loop-line.progress.words n (lists_of c.loop-line.progress.lists.items)
+          c.in-Some.line.now (lines c.loop-line.rest.now) (lines c.in-Some.after.now)
+          (map (λ word. word.now) (take c.first_words-count.result.1 c.first_words-count.result.0)) _ c.in-Err.reason
+          c.in-Some.ensures.some c.first_words-count.ensures.words c.loop-line.invariant.words bad c.loop-line.invariant.reads)
+    ])

@@ -1,6 +1,6 @@
 -- The tables that are judged are those of the network.
 use Rattle.table_net.specs.Table.{table_of}
-use Rattle.table_text.proofs.Told.{moved}
+use Rattle.table_text.proofs.Refused.{moved}
 use Rattle.table_text.proofs.answer.judge_network.Goals as goal
 
 pub judge-requires-clause-replies : goal.judge-requires-clause-replies

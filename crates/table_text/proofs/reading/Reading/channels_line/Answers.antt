@@ -11,7 +11,7 @@ pub returns-in_err-count-clause-value : goal.returns-in_err-count-clause-value
 returns-in_err-count-clause-value g c =
     let p = err_from_is_err_and c.from_residual.result c.from_residual.ensures.1 in
     rw p.1 (inr
-    (c.in_err-count.ensures.fault (after_channels (reading_of c.args.self.now)) ∙ ap Err (sym p.2)))
+    (c.in_err-count.ensures.reason (after_channels (reading_of c.args.self.now)) ∙ ap Err (sym p.2)))
 
 pub returns-in_err-count-clause-read : goal.returns-in_err-count-clause-read
 returns-in_err-count-clause-read g c =

@@ -11,7 +11,7 @@ pub returns-in_err-i-clause-value : goal.returns-in_err-i-clause-value
 returns-in_err-i-clause-value g c =
     let p = err_from_is_err_and c.from_residual.result c.from_residual.ensures.1 in
     rw p.1 (inr
-    (c.in_err-i.ensures.fault (after_join (reading_of c.args.self.now)) ∙ ap Err (sym p.2)))
+    (c.in_err-i.ensures.reason (after_join (reading_of c.args.self.now)) ∙ ap Err (sym p.2)))
 
 pub returns-in_err-i-clause-read : goal.returns-in_err-i-clause-read
 returns-in_err-i-clause-read g c =

@@ -10,7 +10,7 @@ pub returns-clause-read : goal.returns-clause-read
 returns-clause-read g c =
     let r = c.args.self.now in
     let x = c.args.channel in
-    let low : x < length r.kinds.items = omega arith in
+    let low : x < length r.kinds.items = c.in_default.ensures.there in
     let hop : is_hop (get_or r.kinds.items x Hop) ≡ true =
     sym (ap is_hop (get_or_read r.kinds.items x c.index.result.now low c.index.ensures Hop)) ∙ sym c.is_hop.ensures ∙ c.if-not-is_hop.false in
     let size = length-set r.kinds.items x Ejection in

@@ -1,5 +1,0 @@
-pub mod Reasons
-pub mod Before
-pub mod Told
-pub mod Wrong
-pub mod Sentences

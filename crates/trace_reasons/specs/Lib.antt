@@ -1,4 +1,0 @@
-pub mod Before
-pub mod Reasons
-pub mod Told
-pub mod Wrong
