@@ -2,6 +2,7 @@
 import os
 import re
 
+from sources import own_path
 from tree import SKIPPED, read
 
 MADE = {"./golden", "./rounds", "./clocked"}  # programs that commands of the documents make
@@ -95,9 +96,9 @@ class Names:
         return "there is no such type or crate"
 
     def why_no_module(self, word):
-        """Of a whole name of definitions, as `Rattle.a.specs.b.specs.M` or with `.{n}` behind it."""
+        """Of a whole name of definitions, as `Rattle.a.specs.M` or with `.{n}` behind it, also where `a` passes it on."""
         module, _, names = word.partition(".{")
-        parts = [it for it in module.split(".")[1:] if it != "specs"]
+        parts = [it for it in own_path(module).split(".")[1:] if it != "specs"]
         crates = [it for it in parts if it in self.tree.needs]
         path = f"crates/{crates[-1]}/specs/{parts[-1]}.antt" if crates else ""
         known = self.tree.by_file.get(path, set())

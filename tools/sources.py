@@ -98,14 +98,31 @@ def purpose(crate: str) -> str:
     return ""
 
 
+def passed_on(crate: str, kind: str) -> dict[str, str]:
+    """The modules of other crates that a crate passes on, by their names: `pub use Rattle.low.specs.Grid`."""
+    file = f"{CRATES}/{crate}/{kind}/Lib.antt"
+    rows = lines_of(file) if os.path.isfile(file) else []
+    found = (re.match(r"pub use (Rattle\.\w+\.(?:specs|proofs)\.[\w.]+)$", it) for it in rows)
+    return {it[1].split(".")[-1]: it[1] for it in found if it}
+
+
+def own_path(path: str) -> str:
+    """A path in the words of the crate that has the definition, where another one passes it on."""
+    parts = path.split(".")
+    if len(parts) > 3 and parts[0] == "Rattle" and parts[1] in KNOWN and parts[2] in ("specs", "proofs"):
+        own = passed_on(parts[1], parts[2]).get(parts[3])
+        if own:
+            return ".".join([own, *parts[4:]])
+    return path
+
+
 def placed(path: str) -> tuple[str, str] | None:
     """The crate and the module that an import leads to; None where it is of the toolchain's library."""
-    parts = path.split(".")
+    parts = own_path(path).split(".")
     if parts[0] != "Rattle" or len(parts) < 2 or parts[1] not in KNOWN:
         return None
-    last = max(at for at in range(1, len(parts)) if parts[at] in KNOWN and (at == 1 or parts[at - 1] == "specs"))
-    inside = parts[last + 2:] if parts[last + 1: last + 2] == ["specs"] else parts[last + 1:]
-    return parts[last], "/".join(inside)
+    inside = parts[3:] if parts[2:3] == ["specs"] else parts[2:]
+    return parts[1], "/".join(inside)
 
 
 def lines_of(path: str) -> list[str]:

@@ -1,5 +1,5 @@
-//! The reader and the judge of networks in plain Rust, of the same design as the crates `table_text` and
-//! `table_net`:
+//! The reader and the judge of networks in plain Rust, of the same design as the crates `network_text` and
+//! `network_judge`:
 //!
 //!     networks FILE            prints the text of the verdict, as `torusmem network FILE` does
 //!     networks FILE ROUNDS     prints a line `NAME NANOSECONDS` for each time, and what was found as numbers

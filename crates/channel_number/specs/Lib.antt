@@ -1,4 +1,3 @@
-pub use Rattle.dateline_route
 pub mod Order
 pub mod Ports
 pub mod Number

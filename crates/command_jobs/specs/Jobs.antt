@@ -1,8 +1,8 @@
 -- The jobs whose work stands in `commands`, and what each answers (this project's own format).
 use Rattle.std.specs.Prelude.{◌≡◌, Bool, true, false, Result, Ok, Err, IfOk}
 use Rattle.std.specs.Str.Lines.{lines}
-use Rattle.text_files.specs.declared.texts.Texts.{Texts}
-use Rattle.machine_texts.specs.Loading.{load_by}
+use Rattle.program_fault.specs.declared.texts.Texts.{Texts}
+use Rattle.machine_core.specs.Loading.{load_by}
 use Rattle.program_fault.specs.declared.fault.ProgramFault.{ProgramFault}
 use Rattle.program_fault.specs.Done.{Output}
 use Rattle.commands.specs.Run.{PrintsRun, asked_of}

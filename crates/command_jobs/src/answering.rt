@@ -1,7 +1,7 @@
 //! What the jobs answer whose work stands in `commands`.
 ghost use Rattle.std.specs.Prelude.{◌≡◌, true};
 ghost use Rattle.std.specs.Str.Lines.{lines};
-ghost use Rattle.machine_texts.specs.Loading.{load_by};
+ghost use Rattle.machine_core.specs.Loading.{load_by};
 ghost use Rattle.program_fault.specs.Done.{output};
 ghost use Rattle.commands.specs.Run.{PrintsRun, asked_of};
 ghost use Rattle.commands.specs.Rounds.{PrintsRounds};
@@ -11,11 +11,10 @@ ghost use Rattle.command_jobs.specs.Jobs.{is_of_commands};
 use crate::progress_line::ProgressLine;
 use command_line::Job;
 use commands::{channels_text, check_text, round_text_with, route_text, steps_text_with};
-use program_fault::ProgramFault;
+use program_fault::{ProgramFault, Texts};
 use report_lines::Out;
-use run_told::Course;
+use sentences::Course;
 use std::rt::Clock;
-use text_files::Texts;
 
 /// What became of a job.
 #[derive(Clone, Copy)]

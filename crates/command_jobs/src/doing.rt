@@ -7,13 +7,11 @@ use crate::naming::{kind, names};
 use crate::printing::{fault_told, flushed, tell_end_of, writer};
 use crate::reading::texts_of;
 use command_line::Request;
-use fault_lines::explain;
-use program_fault::{ProgramFault, status_of};
+use error_lines::{Kept, explain};
+use program_fault::{ProgramFault, Texts, status_of};
 use report_lines::Piped;
-use run_lines::Kept;
 use std::io::Input;
 use std::rt::{Clock, Files};
-use text_files::Texts;
 
 /// Does the job that is asked for, if its work stands in `commands`, and answers the exit status;
 /// `None` where it is another, of which nothing is done. Results go to standard output, and a fault

@@ -1,8 +1,8 @@
 //! The texts that a job names, and what they are.
 
 use command_line::Job;
-use fault_lines::Kind;
-use text_files::Names;
+use error_lines::Kind;
+use program_fault::Names;
 
 /// The names of the texts of a job.
 pub fn names<'a>(job: &Job<'a>) -> Names<'a> {

@@ -3,10 +3,9 @@
 use crate::answering::Ended;
 use crate::naming::names;
 use command_line::Job;
-use program_fault::{ProgramFault, fault_text, status_of};
-use run_lines::tell_end;
+use error_lines::tell_end;
+use program_fault::{ProgramFault, Texts, fault_text, status_of};
 use std::io::{self, BufWriter, Printer, Write};
-use text_files::Texts;
 use torus::Fault;
 
 /// Standard output, over a buffer.

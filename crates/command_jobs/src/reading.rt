@@ -3,11 +3,10 @@
 use crate::naming::names;
 use crate::printing::fault_told;
 use command_line::{Job, Request};
-use fault_lines::explain_unread;
-use program_fault::ProgramFault;
+use error_lines::explain_unread;
+use program_fault::{Failure, ProgramFault, Texts, Unread, read_texts};
 use std::io::Input;
 use std::rt::Files;
-use text_files::{Failure, Texts, Unread, read_texts};
 use torus::Fault;
 
 /// The texts of a job. Where one can't be read, standard error says so, and why where that is asked

@@ -17,8 +17,8 @@ tile id = record (new_rule id)
     { required = true; parser = Some (vp.Signed (pos 0) (pos 4294967295)) }
 
 -- an option of this name, which has no value
-abbrev pub flag : Text → Rule
-flag name = record (new_rule name) { long = Some name; action = Some SetTrue }
+abbrev pub flag_option : Text → Rule
+flag_option name = record (new_rule name) { long = Some name; action = Some SetTrue }
 
 -- the numbers from 1 to the most
 abbrev pub up_to : ℤ → ValueParser
@@ -62,12 +62,12 @@ abbrev pub seed : Rule
 seed = record (long_number (codes "seed")) { required = true }
 
 -- the option for the most moves of a drawn schedule, a number of 64 bits; it has no default
-abbrev pub most_moves : Rule
-most_moves = long_number (codes "steps")
+abbrev pub steps_option : Rule
+steps_option = long_number (codes "steps")
 
 -- the option to say more of what is wrong, of each subcommand
 abbrev pub explain : Rule
-explain = flag (codes "explain")
+explain = flag_option (codes "explain")
 
 -- a subcommand of this name that takes a file of the machine, and one of the scripts
 abbrev pub loading_app : Text → App
@@ -77,7 +77,7 @@ loading_app name = with_rule (with_rule (new_app name)
 -- `steps MACHINE SCRIPT STEPS [--moves] [--explain]`
 abbrev pub steps_app : App
 steps_app = with_rule (with_rule (with_rule (loading_app (codes "steps"))
-    (needed (codes "STEPS"))) (flag (codes "moves"))) explain
+    (needed (codes "STEPS"))) (flag_option (codes "moves"))) explain
 
 -- `round MACHINE SCRIPT [--rounds R] [--explain]`
 abbrev pub round_app : App
@@ -97,13 +97,13 @@ schedule_app = with_rule (with_rule (loading_app (codes "schedule")) rounds) exp
 
 -- `draw MACHINE SCRIPT --seed S [--steps N] [--explain]`
 abbrev pub draw_app : App
-draw_app = with_rule (with_rule (with_rule (loading_app (codes "draw")) seed) most_moves) explain
+draw_app = with_rule (with_rule (with_rule (loading_app (codes "draw")) seed) steps_option) explain
 
 -- `route MACHINE SRC DST [--reply] [--explain]`
 abbrev pub route_app : App
 route_app = with_rule (with_rule (with_rule (with_rule (with_rule (new_app (codes "route"))
     (needed (codes "MACHINE"))) (tile (codes "SRC"))) (tile (codes "DST")))
-    (flag (codes "reply"))) explain
+    (flag_option (codes "reply"))) explain
 
 -- `channels MACHINE [--explain]`
 abbrev pub channels_app : App
@@ -120,7 +120,7 @@ network_app = with_rule (with_rule (new_app (codes "network")) (needed (codes "N
 -- `linearize TRACE [--configurations N] [--report] [--explain]`
 abbrev pub linearize_app : App
 linearize_app = with_rule (with_rule (with_rule (with_rule (new_app (codes "linearize"))
-    (needed (codes "TRACE"))) configurations) (flag (codes "report"))) explain
+    (needed (codes "TRACE"))) configurations) (flag_option (codes "report"))) explain
 
 -- the program, whose subcommand has to stand there
 abbrev pub top_app : App

@@ -91,15 +91,15 @@ AreOf (Moves machine script steps) rows = (first_of (codes "MACHINE") rows ≡ S
 
 -- the numbers of a job are within their limits: 1 to 1000000 rounds, 1 to 16 workers, 1 to
 -- 1000000000 turns, at least one configuration
-abbrev pub IsWithinLimits : Job → Type 0
-IsWithinLimits (Round machine script rounds) = (1 ≤ rounds) × (rounds ≤ 1000000)
-IsWithinLimits (Run machine script workers turns) =
+abbrev pub AreJobLimits : Job → Type 0
+AreJobLimits (Round machine script rounds) = (1 ≤ rounds) × (rounds ≤ 1000000)
+AreJobLimits (Run machine script workers turns) =
     ((1 ≤ workers) × (workers ≤ 16)) × ((1 ≤ turns) × (turns ≤ 1000000000))
-IsWithinLimits (Linearize trace configurations) = 1 ≤ configurations
-IsWithinLimits (Report trace configurations) = 1 ≤ configurations
-IsWithinLimits (Schedule machine script rounds) = (1 ≤ rounds) × (rounds ≤ 1000000)
-IsWithinLimits _ = Unit {0}
+AreJobLimits (Linearize trace configurations) = 1 ≤ configurations
+AreJobLimits (Report trace configurations) = 1 ≤ configurations
+AreJobLimits (Schedule machine script rounds) = (1 ≤ rounds) × (rounds ≤ 1000000)
+AreJobLimits _ = Unit {0}
 
 -- a job of the subcommand of this name, with the values of these rows, within its limits
-abbrev pub IsOf : Text → List Row → Job → Type 0
-IsOf name rows job = (name_of job ≡ name) × AreOf job rows × IsWithinLimits job
+abbrev pub NamesJob : Text → List Row → Job → Type 0
+NamesJob name rows job = (name_of job ≡ name) × AreOf job rows × AreJobLimits job

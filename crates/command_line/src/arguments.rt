@@ -1,7 +1,7 @@
 //! The kinds of arguments that the subcommands have.
 ghost use Rattle.std.specs.Prelude.{◌≡◌, false};
 ghost use Rattle.clap.specs.Words.{rule_of};
-ghost use Rattle.command_line.specs.CommandLine.{count, flag, long_number, needed, seed, tile};
+ghost use Rattle.command_line.specs.CommandLine.{count, flag_option, long_number, needed, seed, tile};
 
 use clap::builder::ValueParser;
 use clap::{Arg, ArgAction};
@@ -28,7 +28,7 @@ pub(crate) fn tile<'a>(alloc: Global, id: &'a str, help: &'a str) -> Arg<'a>
 
 /// An option of this name, without a value.
 pub(crate) fn flag<'a>(alloc: Global, name: &'a str, help: &'a str) -> Arg<'a>
-    ensures rule { rule_of result ≡ flag name.entry.now }
+    ensures rule { rule_of result ≡ flag_option name.entry.now }
     ensures local { result.global ≡ false }
 {
     Arg::new(alloc, name)

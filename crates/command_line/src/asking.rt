@@ -2,7 +2,7 @@
 
 ghost use Rattle.std.specs.Prelude.{◌≡◌, IfSome, Some, map, codes};
 ghost use Rattle.command_line.specs.CommandLine.{name_by, rows_by};
-ghost use Rattle.command_line.specs.Job.{AreOf, IsFlag, IsWithinLimits, name_of};
+ghost use Rattle.command_line.specs.Job.{AreOf, IsFlag, AreJobLimits, name_of};
 
 use crate::command::{Request, read_request};
 use std::convert::AsStr;
@@ -38,7 +38,7 @@ pub fn request_told<'a, R: Print + Eprint + AllocGlobal, S: AsStr>(
         (λ r. IfSome (rows_by (map S.text words.entry.now)) (AreOf r.job)) }
     ensures explain { IfSome result
         (λ r. IfSome (rows_by (map S.text words.entry.now)) (IsFlag (codes "explain") r.explain)) }
-    ensures limits { IfSome result (λ r. IsWithinLimits r.job) }
+    ensures limits { IfSome result (λ r. AreJobLimits r.job) }
 {
     match read_request(rt.alloc(), words) {
         Ok(request) => Some(request),

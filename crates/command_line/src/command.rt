@@ -1,7 +1,7 @@
 ghost use Rattle.std.specs.Prelude.{◌≡◌, IfOk, IfSome, Some, map, codes};
 ghost use Rattle.clap.specs.Words.{found_of, rows_of, subcommand_name_of, subcommand_rows_of};
 ghost use Rattle.command_line.specs.CommandLine.{name_by, rows_by};
-ghost use Rattle.command_line.specs.Job.{AreOf, IsFlag, IsOf, IsWithinLimits, name_of, rows_in};
+ghost use Rattle.command_line.specs.Job.{AreOf, IsFlag, NamesJob, AreJobLimits, name_of, rows_in};
 
 use crate::building::command;
 use crate::jobs::{
@@ -107,7 +107,7 @@ pub struct Request<'a> {
 pub fn read_command<'a, S: AsStr>(alloc: Global, words: &'a [S]) -> Result<Job<'a>, Error>
     ensures named { IfOk result (λ job. name_by (map S.text words.entry.now) ≡ Some (name_of job)) }
     ensures given { IfOk result (λ job. IfSome (rows_by (map S.text words.entry.now)) (AreOf job)) }
-    ensures limits { IfOk result IsWithinLimits }
+    ensures limits { IfOk result AreJobLimits }
 {
     Ok(read_request(alloc, words)?.job)
 }
@@ -122,7 +122,7 @@ pub fn read_request<'a, S: AsStr>(alloc: Global, words: &'a [S]) -> Result<Reque
         (λ r. IfSome (rows_by (map S.text words.entry.now)) (AreOf r.job)) }
     ensures explain { IfOk result
         (λ r. IfSome (rows_by (map S.text words.entry.now)) (IsFlag (codes "explain") r.explain)) }
-    ensures limits { IfOk result (λ r. IsWithinLimits r.job) }
+    ensures limits { IfOk result (λ r. AreJobLimits r.job) }
 {
     let mut command = command(alloc)?;
     let matches = command.try_get_matches_from_mut(words)?;
@@ -148,7 +148,7 @@ fn request_of<'a>(matches: &ArgMatches<'a>) -> Option<Request<'a>>
     ensures explain { IfSome result
         (λ r. IfSome (rows_in (subcommand_rows_of matches.now))
         (IsFlag (codes "explain") r.explain)) }
-    ensures limits { IfSome result (λ r. IsWithinLimits r.job) }
+    ensures limits { IfSome result (λ r. AreJobLimits r.job) }
 {
     let (name, given) = matches.subcommand()?;
     let job = job_by(name, given)?;
@@ -158,7 +158,7 @@ fn request_of<'a>(matches: &ArgMatches<'a>) -> Option<Request<'a>>
 
 /// The job of the subcommand of this name, from what was given for its arguments.
 fn job_by<'a>(name: &str, given: &ArgMatches<'a>) -> Option<Job<'a>>
-    ensures { IfSome result (IsOf name.now (rows_of (found_of given.now))) }
+    ensures { IfSome result (NamesJob name.now (rows_of (found_of given.now))) }
 {
     match name {
         "steps" => steps_job(given),

@@ -1,7 +1,7 @@
 //! The job of each subcommand, from what was given for its arguments.
 ghost use Rattle.std.specs.Prelude.{IfSome, codes};
 ghost use Rattle.clap.specs.Words.{found_of, rows_of};
-ghost use Rattle.command_line.specs.Job.{IsOf};
+ghost use Rattle.command_line.specs.Job.{NamesJob};
 
 use crate::command::Job;
 use crate::values::{
@@ -11,7 +11,7 @@ use clap::ArgMatches;
 
 /// The steps of `steps`, of which the report or the moves are asked for.
 pub(crate) fn steps_job<'a>(given: &ArgMatches<'a>) -> Option<Job<'a>>
-    ensures { IfSome result (IsOf (codes "steps") (rows_of (found_of given.now))) }
+    ensures { IfSome result (NamesJob (codes "steps") (rows_of (found_of given.now))) }
 {
     let machine = word(given, "MACHINE")?;
     let script = word(given, "SCRIPT")?;
@@ -32,7 +32,7 @@ pub(crate) fn steps_job<'a>(given: &ArgMatches<'a>) -> Option<Job<'a>>
 }
 
 pub(crate) fn round_job<'a>(given: &ArgMatches<'a>) -> Option<Job<'a>>
-    ensures { IfSome result (IsOf (codes "round") (rows_of (found_of given.now))) }
+    ensures { IfSome result (NamesJob (codes "round") (rows_of (found_of given.now))) }
 {
     Some(Job::Round {
         machine: word(given, "MACHINE")?,
@@ -42,7 +42,7 @@ pub(crate) fn round_job<'a>(given: &ArgMatches<'a>) -> Option<Job<'a>>
 }
 
 pub(crate) fn run_job<'a>(given: &ArgMatches<'a>) -> Option<Job<'a>>
-    ensures { IfSome result (IsOf (codes "run") (rows_of (found_of given.now))) }
+    ensures { IfSome result (NamesJob (codes "run") (rows_of (found_of given.now))) }
 {
     Some(Job::Run {
         machine: word(given, "MACHINE")?,
@@ -53,7 +53,7 @@ pub(crate) fn run_job<'a>(given: &ArgMatches<'a>) -> Option<Job<'a>>
 }
 
 pub(crate) fn live_job<'a>(given: &ArgMatches<'a>) -> Option<Job<'a>>
-    ensures { IfSome result (IsOf (codes "live") (rows_of (found_of given.now))) }
+    ensures { IfSome result (NamesJob (codes "live") (rows_of (found_of given.now))) }
 {
     Some(Job::Live {
         machine: word(given, "MACHINE")?,
@@ -61,7 +61,7 @@ pub(crate) fn live_job<'a>(given: &ArgMatches<'a>) -> Option<Job<'a>>
 }
 
 pub(crate) fn schedule_job<'a>(given: &ArgMatches<'a>) -> Option<Job<'a>>
-    ensures { IfSome result (IsOf (codes "schedule") (rows_of (found_of given.now))) }
+    ensures { IfSome result (NamesJob (codes "schedule") (rows_of (found_of given.now))) }
 {
     Some(Job::Schedule {
         machine: word(given, "MACHINE")?,
@@ -71,7 +71,7 @@ pub(crate) fn schedule_job<'a>(given: &ArgMatches<'a>) -> Option<Job<'a>>
 }
 
 pub(crate) fn draw_job<'a>(given: &ArgMatches<'a>) -> Option<Job<'a>>
-    ensures { IfSome result (IsOf (codes "draw") (rows_of (found_of given.now))) }
+    ensures { IfSome result (NamesJob (codes "draw") (rows_of (found_of given.now))) }
 {
     Some(Job::Draw {
         machine: word(given, "MACHINE")?,
@@ -82,7 +82,7 @@ pub(crate) fn draw_job<'a>(given: &ArgMatches<'a>) -> Option<Job<'a>>
 }
 
 pub(crate) fn route_job<'a>(given: &ArgMatches<'a>) -> Option<Job<'a>>
-    ensures { IfSome result (IsOf (codes "route") (rows_of (found_of given.now))) }
+    ensures { IfSome result (NamesJob (codes "route") (rows_of (found_of given.now))) }
 {
     Some(Job::Route {
         machine: word(given, "MACHINE")?,
@@ -93,7 +93,7 @@ pub(crate) fn route_job<'a>(given: &ArgMatches<'a>) -> Option<Job<'a>>
 }
 
 pub(crate) fn channels_job<'a>(given: &ArgMatches<'a>) -> Option<Job<'a>>
-    ensures { IfSome result (IsOf (codes "channels") (rows_of (found_of given.now))) }
+    ensures { IfSome result (NamesJob (codes "channels") (rows_of (found_of given.now))) }
 {
     Some(Job::Channels {
         machine: word(given, "MACHINE")?,
@@ -101,7 +101,7 @@ pub(crate) fn channels_job<'a>(given: &ArgMatches<'a>) -> Option<Job<'a>>
 }
 
 pub(crate) fn check_job<'a>(given: &ArgMatches<'a>) -> Option<Job<'a>>
-    ensures { IfSome result (IsOf (codes "check") (rows_of (found_of given.now))) }
+    ensures { IfSome result (NamesJob (codes "check") (rows_of (found_of given.now))) }
 {
     Some(Job::Check {
         report: word(given, "REPORT")?,
@@ -109,7 +109,7 @@ pub(crate) fn check_job<'a>(given: &ArgMatches<'a>) -> Option<Job<'a>>
 }
 
 pub(crate) fn network_job<'a>(given: &ArgMatches<'a>) -> Option<Job<'a>>
-    ensures { IfSome result (IsOf (codes "network") (rows_of (found_of given.now))) }
+    ensures { IfSome result (NamesJob (codes "network") (rows_of (found_of given.now))) }
 {
     Some(Job::Network {
         network: word(given, "NETWORK")?,
@@ -118,7 +118,7 @@ pub(crate) fn network_job<'a>(given: &ArgMatches<'a>) -> Option<Job<'a>>
 
 /// The trace of `linearize`, of which the lines of an order or its report are asked for.
 pub(crate) fn linearize_job<'a>(given: &ArgMatches<'a>) -> Option<Job<'a>>
-    ensures { IfSome result (IsOf (codes "linearize") (rows_of (found_of given.now))) }
+    ensures { IfSome result (NamesJob (codes "linearize") (rows_of (found_of given.now))) }
 {
     let trace = word(given, "TRACE")?;
     let configurations = number_within(given, "configurations", 4294967295)?;

@@ -5,7 +5,7 @@ use Rattle.script.specs.declared.fault.LineFault.{LineFault}
 use Rattle.script.specs.Machine.{MachineSpec, machine_of}
 use Rattle.script.specs.Scripts.{ScriptsSpec, scripts_of}
 use Rattle.script.specs.Steps.{steps_of}
-use Rattle.machine_texts.specs.order_abstract.specs.Load.{load_of}
+use Rattle.order_abstract.specs.Load.{load_of}
 use Rattle.core_machine.specs.Machine.{Core, IsLawful, all_finished}
 use Rattle.report_lines.specs.Line.{text_of}
 use Rattle.machine_report.specs.Report.{machine_report}

@@ -5,13 +5,13 @@ use Rattle.std.proofs.lemmas.Bool.{cases_lt}
 use Rattle.torus.specs.Shape.{Shape}
 use Rattle.torus.specs.declared.step.Step.{Step}
 use Rattle.script.specs.declared.fault.LineFault.{LineFault}
-use Rattle.machine_texts.specs.order_abstract.specs.Load.{Load}
-use Rattle.machine_texts.specs.core_laws.specs.Core.{round}
+use Rattle.order_abstract.specs.Load.{Load}
+use Rattle.core_laws.specs.Core.{round}
 use Rattle.core_machine.specs.Machine.{Core, IsAfter, all_finished, core_after_load}
-use Rattle.machine_texts.specs.machine_core.specs.Rounds.{rounds_of}
-use Rattle.machine_texts.specs.Loading.{HasLoaded}
+use Rattle.machine_core.specs.Rounds.{rounds_of}
+use Rattle.machine_core.specs.Loading.{HasLoaded}
 use Rattle.commands.specs.Run.{IsOfMachine}
-use Rattle.machine_texts.specs.Rounds.{AreFewest, after_rounds}
+use Rattle.machine_core.specs.FewestRounds.{AreFewest, after_rounds}
 use Rattle.commands.specs.Rounds.{HasMadeRounds, IsRoundText, asked_rounds}
 use Rattle.commands.proofs.Asked.{run_printed}
 

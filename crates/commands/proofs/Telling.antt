@@ -2,11 +2,11 @@
 use Rattle.std.proofs.Common.{◌≡◌, ℕ, suc, ◌+◌, ◌-◌, ◌++◌, List, [], ◌∷◌, Bool, Result, Ok, Err, refl, sym, ap, subst, arith, inl, inr, append_assoc, append-nil}
 use Rattle.torus.specs.declared.step.Step.{Step}
 use Rattle.script.specs.declared.fault.LineFault.{LineFault}
-use Rattle.machine_texts.specs.order_abstract.specs.Load.{Load}
-use Rattle.core_machine.specs.core_progress.specs.Moves.{most_moves, moves_made}
+use Rattle.order_abstract.specs.Load.{Load}
+use Rattle.core_progress.specs.Moves.{most_moves, moves_made}
 use Rattle.core_machine.specs.Machine.{Core, IsAfter, core_after_load}
-use Rattle.machine_texts.specs.machine_core.specs.Rounds.{rounds_of}
-use Rattle.machine_texts.specs.Loading.{HasLoaded}
+use Rattle.machine_core.specs.Rounds.{rounds_of}
+use Rattle.machine_core.specs.Loading.{HasLoaded}
 use Rattle.program_fault.specs.declared.fault.ProgramFault.{ProgramFault}
 use Rattle.program_fault.specs.declared.fault.ProgramFault.TheVariants as program
 use Rattle.program_fault.specs.Done.{Does, Output}

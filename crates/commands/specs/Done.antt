@@ -56,7 +56,7 @@ abbrev pub PrintsChannels : {A : Type 0} → List (List ℕ) → Output → Outp
 PrintsChannels lines = Does (λ done text. IsChannelsText lines text) (IsMachineFault lines)
 
 -- a report is good, and a text says so
-pub record IsVerdict (report text : List ℕ) : Type 0 where
+pub record IsGoodVerdict (report text : List ℕ) : Type 0 where
   pub good : GoodReport report
   pub is : text ≡ codes "good report\n"
 
@@ -67,4 +67,4 @@ IsReportFault report _ = ⊥
 
 -- the verdict on a report was printed
 abbrev pub PrintsVerdict : {A : Type 0} → List ℕ → Output → Output → Result A ProgramFault → Type 0
-PrintsVerdict report = Does (λ done text. IsVerdict report text) (IsReportFault report)
+PrintsVerdict report = Does (λ done text. IsGoodVerdict report text) (IsReportFault report)

@@ -2,10 +2,10 @@
 -- format).
 use Rattle.std.specs.Prelude.{◌≡◌, ℕ, List, Bool, Result, Ok}
 use Rattle.script.specs.declared.fault.LineFault.{LineFault}
-use Rattle.machine_texts.specs.order_abstract.specs.Load.{Load}
+use Rattle.order_abstract.specs.Load.{Load}
 use Rattle.core_machine.specs.Machine.{Core, IsAfter}
-use Rattle.machine_texts.specs.machine_core.specs.Rounds.{rounds_of}
-use Rattle.machine_texts.specs.Rounds.{AreFewest}
+use Rattle.machine_core.specs.Rounds.{rounds_of}
+use Rattle.machine_core.specs.FewestRounds.{AreFewest}
 use Rattle.program_fault.specs.declared.fault.ProgramFault.{ProgramFault}
 use Rattle.program_fault.specs.Done.{Does, Output}
 use Rattle.program_fault.specs.Outcome.{IsTextsFault}

@@ -2,12 +2,12 @@
 use Rattle.std.specs.Prelude.{◌≡◌, ℕ, List, Bool, Result, Ok, IsTrue, ◌↔◌, length}
 use Rattle.torus.specs.declared.step.Step.{Step}
 use Rattle.script.specs.declared.fault.LineFault.{LineFault}
-use Rattle.machine_texts.specs.order_abstract.specs.Load.{Load}
-use Rattle.machine_texts.specs.core_laws.specs.Core.{run_of}
-use Rattle.core_machine.specs.core_progress.specs.Moves.{moves_made}
+use Rattle.order_abstract.specs.Load.{Load}
+use Rattle.core_laws.specs.Core.{run_of}
+use Rattle.core_progress.specs.Moves.{moves_made}
 use Rattle.core_machine.specs.Machine.{Core, IsAfter, IsLawful, core_after_load, all_finished}
-use Rattle.machine_texts.specs.order_abstract.specs.Scripts.{AreFinished}
-pub use Rattle.machine_texts.specs.Run.{Asked, asked_of}
+use Rattle.order_abstract.specs.Scripts.{AreFinished}
+pub use Rattle.machine_core.specs.Run.{Asked, asked_of}
 use Rattle.report_lines.specs.Line.{text_of}
 use Rattle.report_check.specs.Good.{GoodReport}
 use Rattle.machine_report.specs.Report.{machine_report}

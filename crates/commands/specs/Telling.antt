@@ -4,15 +4,15 @@ use Rattle.std.specs.Prelude.{length}
 use Rattle.std.specs.Io.Iter.{u64_saturate}
 use Rattle.std.specs.List.{sum_by}
 use Rattle.script.specs.declared.fault.LineFault.{LineFault}
-use Rattle.machine_texts.specs.order_abstract.specs.Load.{Load}
-use Rattle.core_machine.specs.core_progress.specs.Moves.{moves_made}
+use Rattle.order_abstract.specs.Load.{Load}
+use Rattle.core_progress.specs.Moves.{moves_made}
 use Rattle.core_machine.specs.Machine.{Core, shown}
-use Rattle.machine_texts.specs.machine_core.specs.Rounds.{rounds_of}
+use Rattle.machine_core.specs.Rounds.{rounds_of}
 use Rattle.program_fault.specs.declared.fault.ProgramFault.{ProgramFault}
 use Rattle.program_fault.specs.declared.fault.ProgramFault.TheVariants as program
 use Rattle.commands.specs.Calls.{Call, Wants, Made, Ended, Hears}
 use Rattle.commands.specs.Run.{Asked, HasMoved, core_of}
-use Rattle.machine_texts.specs.Rounds.{AreFewest}
+use Rattle.machine_core.specs.FewestRounds.{AreFewest}
 use Rattle.commands.specs.Rounds.{asked_rounds}
 
 -- how many operations a machine has answered; at most u64::MAX

@@ -1,8 +1,8 @@
 ghost use Rattle.std.specs.Prelude.{◌≡◌, Bool, IfErr, IfOk, []};
 ghost use Rattle.std.specs.Str.Lines.{lines};
-ghost use Rattle.machine_texts.specs.order_abstract.specs.Load.{Load};
+ghost use Rattle.order_abstract.specs.Load.{Load};
 ghost use Rattle.core_machine.specs.Machine.{IsAfter};
-ghost use Rattle.machine_texts.specs.Loading.{HasLoaded, load_by};
+ghost use Rattle.machine_core.specs.Loading.{HasLoaded, load_by};
 ghost use Rattle.program_fault.specs.Done.{output};
 ghost use Rattle.program_fault.specs.Outcome.{IsReadFault};
 ghost use Rattle.commands.specs.Rounds.{HasMadeRounds, PrintsRounds};
@@ -14,7 +14,7 @@ use crate::steps::{moves_since, print_run};
 use core_machine::laws::{
     moves_are_counted, reached_machines_report_well, steps_decide_the_machine,
 };
-use machine_texts::{Machine, load};
+use machine_core::{Machine, load};
 use report_lines::Out;
 use std::alloc::Allocator;
 

@@ -11,13 +11,13 @@ use Rattle.script.specs.declared.line.Line.{Line}
 use Rattle.script.specs.declared.line.Line.TheVariants as line
 use Rattle.script.specs.declared.line.Value.TheVariants.{Number, Last}
 use Rattle.script.specs.Scripts.{total_count}
-use Rattle.core_moves.specs.script_follower.specs.Following.{Following, first_of, next_operation_of}
-use Rattle.core_moves.specs.script_follower.specs.Following.{after_issue, after_answer, is_finished, follower_with}
-use Rattle.core_moves.specs.tile_laws.specs.Tile.{TileState}
-use Rattle.core_moves.specs.core_laws.specs.Core.{Load, first_tile, after}
-use Rattle.core_moves.specs.core_progress.specs.Moves.{moves_made, moves_left}
-use Rattle.core_moves.specs.core_machine.specs.Machine.{core_after_load}
-use Rattle.core_moves.specs.Moves.{moves_of}
+use Rattle.script_follower.specs.Following.{Following, first_of, next_operation_of}
+use Rattle.script_follower.specs.Following.{after_issue, after_answer, is_finished, follower_with}
+use Rattle.core_laws.specs.Tile.{TileState}
+use Rattle.core_laws.specs.Core.{Load, first_tile, after}
+use Rattle.core_progress.specs.Moves.{moves_made, moves_left}
+use Rattle.core_machine.specs.Machine.{core_after_load}
+use Rattle.core_machine.specs.Moves.{moves_of}
 use Rattle.core_growth.specs.Appended.{load_with, MayFollow, IsUnreported}
 use Rattle.core_growth.specs.Doings.{Doing, Tries, Appends, core_done, load_grown, moves_done}
 

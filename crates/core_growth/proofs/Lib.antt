@@ -7,3 +7,10 @@ pub mod Machines
 pub mod Reports
 pub mod Shown
 pub mod Examples
+pub mod Tables
+pub mod UnreportedTiles
+pub mod UnreportedRuns
+pub mod UnreportedMachines
+pub mod UnreportedShown
+pub mod ReopeningExamples
+pub mod Handed

@@ -1,7 +1,7 @@
 -- A load with a further line.
-use Rattle.std.proofs.Common.{◌≡◌, ℕ, zero, suc, ◌+◌, ◌*◌, ◌<◌, ◌==◌, ◌&&◌, Bool, true, false, List, [], ◌∷◌, ◌++◌, map, length, Result, Ok, Err, refl, sym}
+use Rattle.std.proofs.Common.{◌≡◌, ℕ, zero, suc, ◌+◌, ◌*◌, ◌<◌, ◌==◌, ◌&&◌, Bool, true, false, List, [], ◌∷◌, ◌++◌, map, length, Result, Ok, refl, sym}
 use Rattle.std.proofs.Common.{◌∙◌, ap, arith, slice_set}
-use Rattle.std.specs.Prelude.{nat_le, if◌then◌else◌, slice_index}
+use Rattle.std.specs.Prelude.{nat_le, not, Some, None, if◌then◌else◌, slice_index}
 use Rattle.std.proofs.lemmas.List.{length-set}
 use Rattle.std.proofs.lemmas.List.Sums.{sum_by-set, sum_by_push}
 use Rattle.std.proofs.lemmas.Bool.{eqb-false, leb-true}
@@ -13,14 +13,14 @@ use Rattle.script.specs.declared.reason.TextReason.TheVariants as reason
 use Rattle.script.specs.Outcome.{unless}
 use Rattle.script.specs.ScriptViews.{AreCounted}
 use Rattle.script.proofs.Counted.{counted_push}
-use Rattle.core_moves.specs.script_follower.specs.Following.{Following}
-use Rattle.core_moves.specs.tile_laws.specs.Tile.{TileState}
-use Rattle.core_moves.specs.core_laws.specs.Core.{Load, State, first_state, first_tile}
-use Rattle.core_moves.specs.core_laws.specs.Runs.{IsAccepted}
-use Rattle.core_moves.specs.core_progress.specs.Moves.{most_moves}
+use Rattle.script_follower.specs.Following.{Following}
+use Rattle.core_laws.specs.Tile.{TileState}
+use Rattle.core_laws.specs.Core.{Load, State, first_state, first_tile}
+use Rattle.core_laws.specs.Runs.{IsAcceptedLoad}
+use Rattle.core_progress.specs.Moves.{most_moves}
 use Rattle.core_growth.specs.Appended.{tile_with, state_with, load_with, MayFollow}
 use Rattle.core_growth.proofs.Places.{changed_set, map_changed}
-use Rattle.core_moves.specs.script_follower.proofs.Grown.{first_with}
+use Rattle.script_follower.proofs.Grown.{first_with}
 
 abbrev pushed : Line → List Line → List Line
 pushed line lines = lines ++ line ∷ []
@@ -75,8 +75,8 @@ counts_long : (scripts : List (List Line)) → length (map operation_count scrip
 counts_long [] = refl
 counts_long (x ∷ xs) = let rest = counts_long xs in omega (arith, rest)
 
-pub accepted_with : (l : Load) (p : ℕ) (line : Line) → IsAccepted l → MayFollow l p line
-    → IsAccepted (load_with l p line)
+pub accepted_with : (l : Load) (p : ℕ) (line : Line) → IsAcceptedLoad l → MayFollow l p line
+    → IsAcceptedLoad (load_with l p line)
 accepted_with l p line ok may =
     let counted :
     AreCounted (length l.opening) l.scripts (map operation_count l.scripts) (total_count l.scripts) = record {

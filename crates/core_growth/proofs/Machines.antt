@@ -8,17 +8,17 @@ use Rattle.torus.specs.Shape.{tiles_of, dims_of}
 use Rattle.torus.specs.declared.step.Step.{Step}
 use Rattle.script.specs.declared.line.Line.{Line}
 use Rattle.script.specs.Scripts.{operations_of, operation_count, script_of}
-use Rattle.core_moves.specs.order_abstract.specs.EventBook.{EventBook, first_book}
-use Rattle.core_moves.specs.core_laws.specs.Core.{Load, State, design_of, first_state, first_tile, step, after, after_from}
-use Rattle.core_moves.specs.core_laws.specs.Runs.{IsAccepted}
-use Rattle.core_moves.specs.core_progress.specs.Moves.{moves_made, moves_left}
-use Rattle.core_moves.specs.core_progress.proofs.Budget.{few_moves}
-use Rattle.core_moves.specs.core_machine.specs.Machine.{Core, IsAfter, built_to, event_in, book_from, book_after, core_after_load, core_with, core_next}
-use Rattle.core_moves.specs.core_machine.proofs.Counted.{left_is}
-use Rattle.core_moves.specs.core_machine.proofs.Machines.{named_machine, stands_after, after_step}
-use Rattle.core_moves.specs.Enabled.{ahead_if_moved, enabled_of}
-use Rattle.core_moves.specs.Moves.{moves_of, moves_from}
-use Rattle.core_moves.proofs.Moves.{load_count, load_again, load_stands, machine_further, machine_of}
+use Rattle.order_abstract.specs.EventBook.{EventBook, first_book}
+use Rattle.core_laws.specs.Core.{Load, State, design_of, first_state, first_tile, step, after, after_from}
+use Rattle.core_laws.specs.Runs.{IsAcceptedLoad}
+use Rattle.core_progress.specs.Moves.{moves_made, moves_left}
+use Rattle.core_progress.proofs.Budget.{few_moves}
+use Rattle.core_machine.specs.Machine.{Core, IsAfter, built_to, event_in, book_from, book_after, core_after_load, core_with, core_next}
+use Rattle.core_machine.proofs.Counted.{left_is}
+use Rattle.core_machine.proofs.Machines.{named_machine, stands_after, after_step}
+use Rattle.core_machine.specs.Enabled.{ahead_if_moved, enabled_of}
+use Rattle.core_machine.specs.Moves.{moves_of, moves_from}
+use Rattle.core_machine.proofs.StepLists.{load_count, load_again, load_stands, machine_further, machine_of}
 use Rattle.core_growth.specs.Appended.{changed_at, state_with, appended, load_with, IsUnreported}
 use Rattle.core_growth.specs.Doings.{Doing, Tries, Appends, core_done, load_grown, moves_done, MayBeDone}
 use Rattle.core_growth.proofs.Loads.{state_first, most_with, accepted_with}
@@ -76,7 +76,7 @@ module _ (l : Load) (steps : List Step) (p : ℕ) (line : Line) (un : IsUnreport
       let long = length-map l.scripts (first_tile (dims_of l.shape) l.tags) in
       omega (arith, at, long)
 
-  left_again : IsAccepted l
+  left_again : IsAcceptedLoad l
       → moves_left (load_with l p line) (moves_of l steps) (length (moves_of l steps))
       ≡ moves_left l steps (length steps) + 241 * operations_of line
   left_again ok =
@@ -89,7 +89,7 @@ module _ (l : Load) (steps : List Step) (p : ℕ) (line : Line) (un : IsUnreport
       let most = most_with l p line there in
       omega (arith, ours, theirs, few, made, most)
 
-  machine_again : IsAccepted l
+  machine_again : IsAcceptedLoad l
       → appended (core_after_load l steps) p line ≡ core_after_load (load_with l p line) (moves_of l steps)
   machine_again ok =
       let longer : Load = load_with l p line in
@@ -102,7 +102,7 @@ module _ (l : Load) (steps : List Step) (p : ℕ) (line : Line) (un : IsUnreport
 
 -- the law
 pub grown : (l : Load) (c : Core) (steps : List Step) (p : ℕ) (line : Line) → IsAfter l c steps → IsUnreported c.state p
-    → IsAccepted (load_with l p line)
+    → IsAcceptedLoad (load_with l p line)
     → IsAfter (load_with l p line) (appended c p line) (moves_of l steps)
 grown l c steps p line h un ok =
     let un_after : IsUnreported (after l steps) p = subst (λ (s : State). IsUnreported s p) h.state un in
@@ -174,6 +174,6 @@ pub all_moves_again : (l : Load) (c : Core) (steps : List Step) (doings : List D
 all_moves_again l c steps doings h may =
     (doings_grow l c (moves_of l steps) doings (load_stands l c steps h) (load_again l steps) may).moves
 
-pub from_load : (l : Load) (doings : List Doing) → IsAccepted l → MayBeDone l (core_after_load l []) doings
+pub from_load : (l : Load) (doings : List Doing) → IsAcceptedLoad l → MayBeDone l (core_after_load l []) doings
     → IsAfter (load_grown l doings) (core_done (core_after_load l []) doings) (moves_done (core_after_load l []) doings)
 from_load l doings ok may = all_grown l (core_after_load l []) [] doings (stands_after l [] ok) may

@@ -12,21 +12,21 @@ use Rattle.torus.specs.declared.step.Choice.TheVariants as choice
 use Rattle.script.specs.declared.line.Line.{Line}
 use Rattle.flit_buffer.specs.Surroundings.{Surroundings}
 use Rattle.flit_buffer.specs.declared.want.Want.{Want}
-use Rattle.core_moves.specs.script_follower.specs.Following.{is_finished}
-use Rattle.core_moves.specs.script_follower.specs.ProcessorTable.{ProcessorState, processor_wants, processor_after}
+use Rattle.script_follower.specs.Following.{is_finished}
+use Rattle.script_follower.specs.ProcessorTable.{ProcessorState, processor_wants, processor_after}
 use Rattle.router.specs.Table.{RouterState}
 use Rattle.home_bank.specs.BankTable.{BankState}
-use Rattle.core_moves.specs.tile_laws.specs.Wiring.{processor_wiring}
-use Rattle.core_moves.specs.tile_laws.specs.declared.agent.Agent.{Agent}
-use Rattle.core_moves.specs.tile_laws.specs.declared.agent.Agent.TheVariants.{Processor, Router, Bank}
-use Rattle.core_moves.specs.tile_laws.specs.Tile.{Design, TileState, tile_step}
-use Rattle.core_moves.specs.tile_laws.specs.Agents.{agent_number, agent_kind, agent_tile}
-use Rattle.core_moves.specs.tile_laws.proofs.AgentNumbers.{number_is}
-use Rattle.core_moves.specs.core_laws.specs.Core.{Load, State, first_state, first_tile, step, or_same, next, after, after_from, design_of}
-use Rattle.core_moves.specs.core_laws.specs.Reports.{CountsReports}
-use Rattle.core_moves.specs.core_laws.proofs.AgentSteps.{did, option_map_some}
-use Rattle.core_moves.specs.core_laws.proofs.Reached.{reports_counted}
-use Rattle.core_moves.specs.core_machine.specs.Machine.{Core, IsAfter}
+use Rattle.core_laws.specs.Wiring.{processor_wiring}
+use Rattle.core_laws.specs.Agent.{Agent}
+use Rattle.core_laws.specs.Agent.TheVariants.{Processor, Router, Bank}
+use Rattle.core_laws.specs.Tile.{Design, TileState, tile_step}
+use Rattle.core_laws.specs.Agents.{agent_number, agent_kind, agent_tile}
+use Rattle.core_laws.proofs.AgentNumbers.{number_is}
+use Rattle.core_laws.specs.Core.{Load, State, first_state, first_tile, step, or_same, next, after, after_from, design_of}
+use Rattle.core_laws.specs.Reports.{CountsReports}
+use Rattle.core_laws.proofs.AgentSteps.{did, option_map_some}
+use Rattle.core_laws.proofs.Reached.{reports_counted}
+use Rattle.core_machine.specs.Machine.{Core, IsAfter}
 use Rattle.core_growth.specs.Appended.{changed_at, tile_with, state_with, IsUnreported, IsNoReport}
 use Rattle.core_growth.proofs.Places.{get_other, get_map, set_other, set_same, written_other, written_same}
 use Rattle.core_growth.proofs.Tiles.{other_agent, pair_with}

@@ -4,13 +4,13 @@ use Rattle.torus.specs.Shape.{tiles_of}
 use Rattle.torus.specs.declared.step.Step.{Step}
 use Rattle.script.specs.declared.line.Line.{Line}
 use Rattle.one_order.specs.Events.{Event}
-use Rattle.rounds.specs.Rounds as rounds
-use Rattle.core_moves.specs.order_abstract.specs.EventBook.{EventBook, noted_event}
-use Rattle.core_moves.specs.tile_laws.specs.Tile.{Design}
-use Rattle.core_moves.specs.core_laws.specs.Core.{State, step, or_same, next, after_from}
-use Rattle.core_moves.specs.core_machine.specs.Machine.{event_in, book_from}
-use Rattle.core_moves.specs.Enabled.{ahead_if_moved, enabled_of}
-use Rattle.core_moves.proofs.Moves.{idle_event, enabled_rest}
+use Rattle.core_progress.specs.Rounds as rounds
+use Rattle.order_abstract.specs.EventBook.{EventBook, noted_event}
+use Rattle.core_laws.specs.Tile.{Design}
+use Rattle.core_laws.specs.Core.{State, step, or_same, next, after_from}
+use Rattle.core_machine.specs.Machine.{event_in, book_from}
+use Rattle.core_machine.specs.Enabled.{ahead_if_moved, enabled_of}
+use Rattle.core_machine.proofs.StepLists.{idle_event, enabled_rest}
 use Rattle.core_growth.specs.Appended.{state_with, IsUnreported}
 use Rattle.core_growth.proofs.Steps.{Grows, grown_step, same_event}
 

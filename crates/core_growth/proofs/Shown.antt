@@ -6,9 +6,9 @@ use Rattle.script.specs.declared.line.Line.{Line}
 use Rattle.home_bank.specs.declared.entry.Entry.{Entry}
 use Rattle.one_order.specs.declared.answer.Answer.{Answer}
 use Rattle.one_order.specs.Observed.{Observed}
-use Rattle.core_moves.specs.script_follower.specs.ProcessorRecord.{ProcessorRecord}
-use Rattle.core_moves.specs.tile_laws.specs.Tile.{TileState}
-use Rattle.core_moves.specs.core_machine.specs.Machine.{Core, shown}
+use Rattle.script_follower.specs.ProcessorRecord.{ProcessorRecord}
+use Rattle.core_laws.specs.Tile.{TileState}
+use Rattle.core_machine.specs.Machine.{Core, shown}
 use Rattle.core_growth.specs.Appended.{changed_at, tile_with, appended}
 use Rattle.core_growth.proofs.Places.{map_alike}
 

@@ -8,16 +8,16 @@ use Rattle.torus.specs.declared.step.Step.{Step}
 use Rattle.script.specs.declared.line.Line.{Line}
 use Rattle.one_order.specs.Events.{Served, Answered}
 use Rattle.flit_buffer.specs.Surroundings.{Surroundings}
-use Rattle.core_moves.specs.script_follower.specs.ProcessorRecord.{ProcessorRecord, no_processor, index_of, operation_under, answer_of, record_with}
-use Rattle.core_moves.specs.order_abstract.specs.Flight.{Move, Sends, Serves, Takes, event_by}
-use Rattle.core_moves.specs.tile_laws.specs.declared.agent.Agent.{Agent}
-use Rattle.core_moves.specs.tile_laws.specs.Tile.{Design, TileState, tile_step}
-use Rattle.core_moves.specs.tile_laws.specs.Agents.{agent_kind, agent_tile}
-use Rattle.core_moves.specs.core_laws.specs.Core.{State, step, records_of}
-use Rattle.core_moves.specs.core_laws.specs.Moves.{tile_move, move_of}
-use Rattle.core_moves.specs.core_laws.specs.Runs.{without_packets}
-use Rattle.core_moves.specs.core_laws.proofs.AgentSteps.{option_map_some}
-use Rattle.core_moves.specs.core_machine.specs.Machine.{event_in}
+use Rattle.script_follower.specs.ProcessorRecord.{ProcessorRecord, no_processor, index_of, operation_under, answer_of, record_with}
+use Rattle.order_abstract.specs.Flight.{Move, Sends, Serves, Takes, flight_event}
+use Rattle.core_laws.specs.Agent.{Agent}
+use Rattle.core_laws.specs.Tile.{Design, TileState, tile_step}
+use Rattle.core_laws.specs.Agents.{agent_kind, agent_tile}
+use Rattle.core_laws.specs.Core.{State, step, records_of}
+use Rattle.core_laws.specs.Moves.{tile_move, move_of}
+use Rattle.core_laws.specs.Runs.{without_packets}
+use Rattle.core_laws.proofs.AgentSteps.{option_map_some}
+use Rattle.core_machine.specs.Machine.{event_in}
 use Rattle.core_growth.specs.Appended.{changed_at, tile_with, state_with, IsUnreported}
 use Rattle.core_growth.proofs.Places.{get_other, get_same, set_other, set_same, part_same, map_changed, written_other, written_same}
 use Rattle.core_growth.proofs.Tiles.{same_step}
@@ -39,7 +39,7 @@ told_same h s p line t keeps =
 
 -- the event of a move
 event_same : (words : ℕ) (s : State) (p : ℕ) (line : Line) (m : Option Move)
-    → event_by (without_packets words (state_with s p line)) m ≡ event_by (without_packets words s) m
+    → flight_event (without_packets words (state_with s p line)) m ≡ flight_event (without_packets words s) m
 event_same words s p line None = refl
 event_same words s p line (Some (Sends t tag o)) = refl
 event_same words s p line (Some (Serves r)) =
@@ -147,7 +147,7 @@ module _ (d : Design) (s : State) (line : Line) (attempt : Step) where
 
   pub same_event : (p : ℕ) (t : State) → Grows p t → event_in d (state_with s p line) attempt ≡ event_in d s attempt
   same_event p t g =
-      ap (event_by (without_packets d.words (state_with s p line))) g.move
+      ap (flight_event (without_packets d.words (state_with s p line))) g.move
       ∙ event_same d.words s p line (move_of d s attempt)
 
 -- who was unreported still is

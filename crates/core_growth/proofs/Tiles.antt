@@ -18,20 +18,20 @@ use Rattle.flit_buffer.specs.declared.want.Want.{Want}
 use Rattle.flit_buffer.specs.declared.want.Want.TheVariants as want
 use Rattle.flit_buffer.specs.Channel.{first_of, rest}
 use Rattle.flit_buffer.specs.Surroundings.{Surroundings, Wiring, granted, surroundings_after, agent_step, step_with}
-use Rattle.core_moves.specs.script_follower.specs.Following.{Following, next_operation_of}
-use Rattle.core_moves.specs.script_follower.specs.ProcessorRecord.{ProcessorRecord, ready, issued_by, answered_by, index_of, record_with}
-use Rattle.core_moves.specs.script_follower.specs.ProcessorTable.{ProcessorState, request_flits, flits_due, issued_of, record_sent, record_offered}
-use Rattle.core_moves.specs.script_follower.specs.ProcessorTable.{processor_wants, processor_after, processor_with}
+use Rattle.script_follower.specs.Following.{Following, next_operation_of}
+use Rattle.script_follower.specs.ProcessorRecord.{ProcessorRecord, ready, issued_by, answered_by, index_of, record_with}
+use Rattle.script_follower.specs.ProcessorTable.{ProcessorState, request_flits, flits_due, issued_of, record_sent, record_offered}
+use Rattle.script_follower.specs.ProcessorTable.{processor_wants, processor_after, processor_with}
 use Rattle.router.specs.Table.{RouterState}
 use Rattle.home_bank.specs.BankTable.{BankState}
-use Rattle.core_moves.specs.tile_laws.specs.Wiring.{processor_wiring}
-use Rattle.core_moves.specs.tile_laws.specs.declared.agent.Agent.{Agent}
-use Rattle.core_moves.specs.tile_laws.specs.declared.agent.Agent.TheVariants.{Processor, Router, Bank}
-use Rattle.core_moves.specs.tile_laws.specs.Tile.{Design, TileState, tile_step}
-use Rattle.core_moves.specs.core_laws.specs.Moves.{issue_of, processor_move, tile_move}
-use Rattle.core_moves.specs.core_laws.proofs.AgentSteps.{did, did_learn}
+use Rattle.core_laws.specs.Wiring.{processor_wiring}
+use Rattle.core_laws.specs.Agent.{Agent}
+use Rattle.core_laws.specs.Agent.TheVariants.{Processor, Router, Bank}
+use Rattle.core_laws.specs.Tile.{Design, TileState, tile_step}
+use Rattle.core_laws.specs.Moves.{issue_of, processor_move, tile_move}
+use Rattle.core_laws.proofs.AgentSteps.{did, did_learn}
 use Rattle.core_growth.specs.Appended.{tile_with}
-use Rattle.core_moves.specs.script_follower.proofs.Grown.{next_with, issue_with, answer_with}
+use Rattle.script_follower.proofs.Grown.{next_with, issue_with, answer_with}
 
 module _ (line : Line) where
   next_by : (b : ProcessorRecord) (f : ℕ × Operation) (o : Option Operation) → next_operation_of b.following ≡ o

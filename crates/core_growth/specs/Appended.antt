@@ -5,12 +5,12 @@ use Rattle.torus.specs.declared.step.Step.{Step}
 use Rattle.torus.specs.declared.step.Choice.TheVariants.{Done}
 use Rattle.script.specs.declared.line.Line.{Line}
 use Rattle.script.specs.Scripts.{operations_of, operation_count, total_count, script_of, mentions_last, IsAcceptedLine}
-use Rattle.core_moves.specs.script_follower.specs.ProcessorTable.{processor_with}
-use Rattle.core_moves.specs.tile_laws.specs.declared.agent.Agent.TheVariants.{Processor}
-use Rattle.core_moves.specs.tile_laws.specs.Tile.{TileState}
-use Rattle.core_moves.specs.tile_laws.specs.Agents.{agent_number}
-use Rattle.core_moves.specs.core_laws.specs.Core.{Load, State}
-use Rattle.core_moves.specs.core_machine.specs.Machine.{Core}
+use Rattle.script_follower.specs.ProcessorTable.{processor_with}
+use Rattle.core_laws.specs.Agent.TheVariants.{Processor}
+use Rattle.core_laws.specs.Tile.{TileState}
+use Rattle.core_laws.specs.Agents.{agent_number}
+use Rattle.core_laws.specs.Core.{Load, State}
+use Rattle.core_machine.specs.Machine.{Core}
 
 -- the list with the item at a place changed by f; past the end nothing changes
 abbrev pub changed_at : {A : Type 0} → (A → A) → List A → ℕ → List A

@@ -2,9 +2,9 @@
 use Rattle.std.specs.Prelude.{ℕ, List, [], ◌∷◌}
 use Rattle.torus.specs.declared.step.Step.{Step}
 use Rattle.script.specs.declared.line.Line.{Line}
-use Rattle.core_moves.specs.core_laws.specs.Core.{Load, step}
-use Rattle.core_moves.specs.core_machine.specs.Machine.{Core, built_to, core_next}
-use Rattle.core_moves.specs.Enabled.{ahead_if_moved}
+use Rattle.core_laws.specs.Core.{Load, step}
+use Rattle.core_machine.specs.Machine.{Core, built_to, core_next}
+use Rattle.core_machine.specs.Enabled.{ahead_if_moved}
 use Rattle.core_growth.specs.Appended.{appended, load_with, IsUnreported, MayFollow}
 
 -- an attempt at a step, or a further line at the end of a processor's script

@@ -1,9 +1,4 @@
-pub use Rattle.core_moves
-pub use Rattle.core_moves.specs.core_laws
-pub use Rattle.core_moves.specs.core_progress
-pub use Rattle.core_moves.specs.order_abstract
-pub use Rattle.core_moves.specs.core_machine
-pub use Rattle.core_moves.specs.script_follower
-pub use Rattle.core_moves.specs.tile_laws
 pub mod Appended
 pub mod Doings
+pub mod Reopened
+pub mod Handed

@@ -7,17 +7,17 @@ ghost use Rattle.packet.specs.declared.kinds.Reply.{Reply};
 ghost use Rattle.packet.specs.declared.kinds.Operation.{Operation};
 ghost use Rattle.script.specs.declared.line.Line.{Line};
 ghost use Rattle.script.specs.Scripts.{IsAcceptedLine, add_line, operations_of};
-ghost use Rattle.core_moves.specs.script_follower.specs.Following.{Following, first_of, next_operation_of};
-ghost use Rattle.core_moves.specs.script_follower.specs.Following.{after_issue, after_answer, is_finished};
-ghost use Rattle.core_moves.specs.script_follower.specs.Following.{follower_with};
-ghost use Rattle.core_moves.specs.tile_laws.specs.declared.agent.Agent.TheVariants.{Processor};
-ghost use Rattle.core_moves.specs.tile_laws.specs.Tile.{Design, TileState};
-ghost use Rattle.core_moves.specs.tile_laws.specs.Agents.{agent_number};
-ghost use Rattle.core_moves.specs.core_laws.specs.Core.{Load, State, first_state, step, after};
-ghost use Rattle.core_moves.specs.core_laws.specs.Runs.{IsAccepted};
-ghost use Rattle.core_moves.specs.core_progress.specs.Moves.{most_moves};
-ghost use Rattle.core_moves.specs.core_machine.specs.Machine.{Core, IsAfter, event_in, core_after_load, shown};
-ghost use Rattle.core_moves.specs.Moves.{moves_of};
+ghost use Rattle.script_follower.specs.Following.{Following, first_of, next_operation_of};
+ghost use Rattle.script_follower.specs.Following.{after_issue, after_answer, is_finished};
+ghost use Rattle.script_follower.specs.Following.{follower_with};
+ghost use Rattle.core_laws.specs.Agent.TheVariants.{Processor};
+ghost use Rattle.core_laws.specs.Tile.{Design, TileState};
+ghost use Rattle.core_laws.specs.Agents.{agent_number};
+ghost use Rattle.core_laws.specs.Core.{Load, State, first_state, step, after};
+ghost use Rattle.core_laws.specs.Runs.{IsAcceptedLoad};
+ghost use Rattle.core_progress.specs.Moves.{most_moves};
+ghost use Rattle.core_machine.specs.Machine.{Core, IsAfter, event_in, core_after_load, shown};
+ghost use Rattle.core_machine.specs.Moves.{moves_of};
 ghost use Rattle.core_growth.specs.Appended.{tile_with, state_with, appended, load_with};
 ghost use Rattle.core_growth.specs.Appended.{IsUnreported, IsNoReport, MayFollow};
 ghost use Rattle.core_growth.specs.Doings.{Doing, core_done, load_grown, moves_done, MayBeDone};
@@ -94,7 +94,7 @@ pub fn lines_leave_what_is_shown()
 /// adds is one that may follow, and gives the same scripts.
 pub fn loads_take_lines()
     ensures accepted { (l : Load) (p : ℕ) (line : Line)
-        → IsAccepted l → MayFollow l p line → IsAccepted (load_with l p line) }
+        → IsAcceptedLoad l → MayFollow l p line → IsAcceptedLoad (load_with l p line) }
     ensures read { (l : Load) (p : ℕ) (line : Line) (lists : List (List Line))
         → p < length l.scripts → IsAcceptedLine (length l.opening) line
         → add_line l.scripts p line ≡ Ok lists
@@ -109,7 +109,7 @@ pub fn loads_take_lines()
 /// the load with that line at the end of p's script. The moves are moves there too.
 pub fn scripts_grow()
     ensures stands { (l : Load) (c : Core) (steps : List Step) (p : ℕ) (line : Line)
-        → IsAfter l c steps → IsUnreported c.state p → IsAccepted (load_with l p line)
+        → IsAfter l c steps → IsUnreported c.state p → IsAcceptedLoad (load_with l p line)
         → IsAfter (load_with l p line) (appended c p line) (moves_of l steps) }
     ensures within { (l : Load) (c : Core) (steps : List Step) (p : ℕ) (line : Line)
         → IsAfter l c steps → IsUnreported c.state p → MayFollow l p line
@@ -126,7 +126,7 @@ pub fn scripts_grow()
 /// its moves lead from the load with all the lines at the ends of their scripts.
 pub fn machines_grow()
     ensures from_load { (l : Load) (doings : List Doing)
-        → IsAccepted l → MayBeDone l (core_after_load l []) doings
+        → IsAcceptedLoad l → MayBeDone l (core_after_load l []) doings
         → IsAfter (load_grown l doings) (core_done (core_after_load l []) doings)
         (moves_done (core_after_load l []) doings) }
     ensures from_machine { (l : Load) (c : Core) (steps : List Step) (doings : List Doing)

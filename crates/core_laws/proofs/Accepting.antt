@@ -15,16 +15,16 @@ use Rattle.packet.specs.Reading.{packet_told}
 use Rattle.packet.specs.Spelling.{Spells}
 use Rattle.packet.proofs.Told.{packet_told-spelled}
 use Rattle.packet.proofs.Answered.{IsTaken-spelled}
-use Rattle.order_abstract.specs.one_order.specs.Observed.{list_at}
-use Rattle.order_abstract.specs.one_order.specs.Order.{LinearizationPoint}
+use Rattle.one_order.specs.Observed.{list_at}
+use Rattle.one_order.specs.Order.{LinearizationPoint}
 use Rattle.channel_number.specs.Order.{channel_count, channel_at}
 use Rattle.dateline_route.specs.declared.channel.Channel.{Channel}
 use Rattle.flit_buffer.specs.Channel.{CanTake, rest}
 use Rattle.flit_buffer.specs.Places.{IsRing, take_from_ring}
 use Rattle.flit_buffer.specs.Surroundings.{ring}
 use Rattle.flit_buffer.proofs.RingLaws.{take_ring}
-use Rattle.wormhole.specs.Net.{Net, IsNet, Parcel, IsOn, is_empty, flits_of as flits_in}
-use Rattle.wormhole.specs.State.{Line as Lane, State as NetState, update}
+use Rattle.wormhole.specs.Net.{Net, IsNet, Parcel, IsOn, has_no_flit, net_flits as flits_in}
+use Rattle.wormhole.specs.State.{NetLine as Lane, NetState, update}
 use Rattle.wormhole.specs.Events.{accepted, after, CanAccept, CanHappen}
 use Rattle.wormhole.specs.Delivery.{whole, accept, StayWhole}
 use Rattle.wormhole.proofs.Changes.{update_same, update_other}
@@ -50,9 +50,9 @@ ejection_class s t u c e h = ap (λ (x : Channel). x.class) (sym (ejection_is s 
 pub record GoesOn (p : Packet) (so_far : List ℕ) (flit : ℕ) : Type 0 where
   pub left : List ℕ
   pub spelled : Spells p (so_far ++ flit ∷ left)
-  pub tail : is_tail flit ≡ is_empty left
+  pub tail : is_tail flit ≡ has_no_flit left
 
-empty_only : (xs : List ℕ) → is_empty xs ≡ true → xs ≡ []
+empty_only : (xs : List ℕ) → has_no_flit xs ≡ true → xs ≡ []
 empty_only [] h = refl
 empty_only (x ∷ xs) h = cc
 

@@ -11,10 +11,10 @@ use Rattle.flit_buffer.specs.declared.want.Want.{Want}
 use Rattle.flit_buffer.specs.declared.want.Want.TheVariants as want
 use Rattle.flit_buffer.specs.Surroundings.{Surroundings}
 use Rattle.channel_number.specs.Ports.{port_count}
-use Rattle.tile_laws.specs.router.specs.Table.{RouterState, latch_of, wants_to_take, wants_to_put, router_wants, router_after}
-use Rattle.tile_laws.specs.router.specs.Beginning.{router_wiring}
-use Rattle.order_abstract.specs.script_follower.specs.ProcessorTable.{ProcessorState, processor_wants, processor_after}
-use Rattle.order_abstract.specs.home_bank.specs.BankTable.{BankState, bank_wants, bank_after}
+use Rattle.router.specs.Table.{RouterState, latch_of, wants_to_take, wants_to_put, router_wants, router_after}
+use Rattle.router.specs.Beginning.{router_wiring}
+use Rattle.script_follower.specs.ProcessorTable.{ProcessorState, processor_wants, processor_after}
+use Rattle.home_bank.specs.BankTable.{BankState, bank_wants, bank_after}
 use Rattle.tile_laws.specs.Wiring.{processor_wiring, bank_wiring}
 use Rattle.tile_laws.specs.declared.agent.Agent.{Agent}
 use Rattle.tile_laws.specs.declared.agent.Agent.TheVariants.{Processor, Router, Bank}

@@ -10,10 +10,10 @@ use Rattle.packet.specs.declared.kinds.Packet.TheVariants as packet
 use Rattle.packet.specs.declared.kinds.Response.{Response as Telling}
 use Rattle.packet.specs.declared.assembler.Offered.TheVariants.{Whole as Complete}
 use Rattle.packet.specs.Flits.{offered}
-use Rattle.order_abstract.specs.one_order.specs.Observed.{list_at}
-use Rattle.order_abstract.specs.one_order.specs.Order.{LinearizationPoint}
-use Rattle.order_abstract.specs.one_order.specs.Events.{push_at}
-use Rattle.order_abstract.specs.one_order.proofs.Lists.{list_at_push_same, list_at_push_other}
+use Rattle.one_order.specs.Observed.{list_at}
+use Rattle.one_order.specs.Order.{LinearizationPoint}
+use Rattle.one_order.specs.Events.{push_at}
+use Rattle.one_order.proofs.Lists.{list_at_push_same, list_at_push_other}
 use Rattle.order_abstract.specs.Flight.{Takes, is_told_alike, told_place, IsFound}
 use Rattle.order_abstract.proofs.FirstPlaces.{first_removed}
 use Rattle.flit_buffer.specs.Surroundings.{ring}

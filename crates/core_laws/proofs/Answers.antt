@@ -11,11 +11,11 @@ use Rattle.torus.specs.declared.shape.Class.TheVariants.{Request, Reply}
 use Rattle.packet.specs.declared.kinds.Packet.TheVariants as packet
 use Rattle.packet.specs.declared.kinds.Response.{Response as Telling}
 use Rattle.packet.specs.declared.assembler.Offered.TheVariants.{Whole as Complete}
-use Rattle.order_abstract.specs.script_follower.specs.Following.{is_finished}
-use Rattle.order_abstract.specs.one_order.specs.Observed.{list_at}
-use Rattle.order_abstract.specs.one_order.specs.Order.{LinearizationPoint}
-use Rattle.order_abstract.specs.one_order.specs.Events.{points_of, push_at}
-use Rattle.order_abstract.specs.one_order.proofs.Lists.{list_at_push_same, list_at_push_other}
+use Rattle.script_follower.specs.Following.{is_finished}
+use Rattle.one_order.specs.Observed.{list_at}
+use Rattle.one_order.specs.Order.{LinearizationPoint}
+use Rattle.one_order.specs.Events.{points_of, push_at}
+use Rattle.one_order.proofs.Lists.{list_at_push_same, list_at_push_other}
 use Rattle.channel_number.specs.Order.{channel_count, channel_at}
 use Rattle.dateline_route.specs.declared.channel.Channel.{Channel}
 use Rattle.flit_buffer.specs.Channel.{CanTake, rest}
@@ -24,17 +24,17 @@ use Rattle.flit_buffer.specs.Surroundings.{ring, changed, AreRings}
 use Rattle.flit_buffer.proofs.RingLaws.{take_ring}
 use Rattle.flit_buffer.proofs.ManyRings.{changed_here, changed_other}
 use Rattle.wormhole.specs.Net.{Net, IsNet, Parcel}
-use Rattle.wormhole.specs.State.{Line as Lane, Note}
+use Rattle.wormhole.specs.State.{NetLine as Lane, Note}
 use Rattle.wormhole.specs.Events.{accepted, after}
 use Rattle.wormhole.specs.Delivery.{whole, whole_of}
 use Rattle.wormhole.proofs.Changes.{update_same, update_other}
-use Rattle.order_abstract.specs.script_follower.specs.ProcessorRecord.{ProcessorRecord, answered_by, answer_of}
+use Rattle.script_follower.specs.ProcessorRecord.{ProcessorRecord, answered_by, answer_of}
 use Rattle.order_abstract.specs.Flight.{Flight, Takes, event, told_place, IsFound}
 use Rattle.order_abstract.proofs.Whole.{Whole, any_steps}
 use Rattle.packet.specs.Flits.{offered}
 use Rattle.core_laws.specs.Heads.{carries_route}
-use Rattle.order_abstract.specs.home_bank.specs.BankTable.{BankState}
-use Rattle.tile_laws.specs.router.specs.Table.{RouterState, output_owned}
+use Rattle.home_bank.specs.BankTable.{BankState}
+use Rattle.router.specs.Table.{RouterState, output_owned}
 use Rattle.channel_number.specs.Ports.{injection_channel, ejection_channel}
 use Rattle.tile_laws.specs.Tile.{Design, TileState}
 use Rattle.core_laws.specs.Core.{State}

@@ -4,11 +4,11 @@ use Rattle.std.proofs.lemmas.Option.{slice_get_within, get_or_from_slice_get}
 use Rattle.torus.specs.Shape.{tiles_of}
 use Rattle.torus.specs.declared.step.Step.{Step}
 use Rattle.script.specs.Scripts.{script_of}
-use Rattle.order_abstract.specs.one_order.specs.Events.{order_after}
+use Rattle.one_order.specs.Events.{order_after}
 use Rattle.channel_number.specs.Ports.{input_channel}
 use Rattle.tile_laws.specs.Tile.{Design, TileState}
 use Rattle.core_laws.specs.Core.{Load, State, design_of}
-use Rattle.core_laws.specs.Runs.{IsAccepted}
+use Rattle.core_laws.specs.Runs.{IsAcceptedLoad}
 use Rattle.core_laws.specs.Asks.{RouterAsks, ProcessorAsks, BankAsks}
 use Rattle.core_laws.specs.Noted.{noted}
 use Rattle.core_laws.proofs.Asking.{router_asks, processor_finds, bank_finds, waiting_here}
@@ -22,7 +22,7 @@ use Rattle.core_laws.proofs.Histories.{state_at, event_at}
 use Rattle.core_laws.proofs.EveryRun.{holds_in}
 use Rattle.core_laws.proofs.Stands.{Stands, tile_at, no_tile}
 
-module _ (l : Load) (ok : IsAccepted l) (steps : List Step) (n t : ℕ) (tile : TileState) (there : slice_get (state_at l steps n).tiles t ≡ Some tile) where
+module _ (l : Load) (ok : IsAcceptedLoad l) (steps : List Step) (n t : ℕ) (tile : TileState) (there : slice_get (state_at l steps n).tiles t ≡ Some tile) where
   abbrev d : Design
   d = design_of l
 

@@ -20,19 +20,19 @@ use Rattle.packet.specs.Spelling.{Spells, IsTailShaped, destination_of}
 use Rattle.packet.specs.Flits.{is_tail, offered, flits_of}
 use Rattle.packet.proofs.Shapes.{TellsPacket-spelled, IsTailShaped-spelled}
 use Rattle.packet.proofs.Spelled.{IsSpellable-spelled}
-use Rattle.order_abstract.specs.one_order.specs.Observed.{list_at}
-use Rattle.order_abstract.specs.one_order.specs.Order.{LinearizationPoint}
+use Rattle.one_order.specs.Observed.{list_at}
+use Rattle.one_order.specs.Order.{LinearizationPoint}
 use Rattle.flit_buffer.specs.declared.want.Want.TheVariants.{Take}
 use Rattle.flit_buffer.specs.Surroundings.{ring}
-use Rattle.wormhole.specs.Net.{IsNet, IsOn, Parcel, flits_of as flits_in}
+use Rattle.wormhole.specs.Net.{IsNet, IsOn, Parcel, net_flits as flits_in}
 use Rattle.wormhole.proofs.FlitsHold.{HoldsOfNoted, line_holds, sent_holds}
 use Rattle.wormhole.proofs.Lists.{all_on, on_left, all_right}
 use Rattle.channel_number.specs.Ports.{port_count, injection_channel, ejection_channel, input_channel}
-use Rattle.order_abstract.specs.home_bank.specs.BankTable.{bank_wants, is_nil}
-use Rattle.order_abstract.specs.script_follower.specs.ProcessorRecord.{ProcessorRecord}
+use Rattle.home_bank.specs.BankTable.{bank_wants, is_nil}
+use Rattle.script_follower.specs.ProcessorRecord.{ProcessorRecord}
 use Rattle.order_abstract.specs.Flight.{show, told_place}
 use Rattle.order_abstract.proofs.Parts.{tags_of, tags_at, issued_at}
-use Rattle.tile_laws.specs.router.specs.Table.{NamesTile}
+use Rattle.router.specs.Table.{NamesTile}
 use Rattle.tile_laws.specs.Tile.{Design, TileState}
 use Rattle.core_laws.specs.Core.{State}
 use Rattle.core_laws.specs.Delivery.{next_flit}

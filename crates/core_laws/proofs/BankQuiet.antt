@@ -13,8 +13,8 @@ use Rattle.packet.specs.declared.kinds.Packet.TheVariants as packet
 use Rattle.packet.specs.declared.kinds.Request.{Request as Asking}
 use Rattle.packet.specs.declared.assembler.Offered.{Offered}
 use Rattle.packet.specs.Answer.{flits_left}
-use Rattle.order_abstract.specs.home_bank.specs.ServiceList.{address_of}
-use Rattle.order_abstract.specs.one_order.specs.Order.{LinearizationPoint}
+use Rattle.home_bank.specs.ServiceList.{address_of}
+use Rattle.one_order.specs.Order.{LinearizationPoint}
 use Rattle.flit_buffer.specs.Channel.{first_of, rest}
 use Rattle.flit_buffer.specs.declared.want.Want.{Want}
 use Rattle.flit_buffer.specs.declared.want.Want.TheVariants as want
@@ -23,7 +23,7 @@ use Rattle.wormhole.specs.Net.{IsNet}
 use Rattle.order_abstract.specs.Flight.{Serves}
 use Rattle.packet.specs.Flits.{is_tail, offered}
 use Rattle.core_laws.specs.Heads.{carries_route}
-use Rattle.order_abstract.specs.home_bank.specs.BankTable.{BankState, bank_wants, bank_after, is_nil, waiting_offered}
+use Rattle.home_bank.specs.BankTable.{BankState, bank_wants, bank_after, is_nil, waiting_offered}
 use Rattle.channel_number.specs.Ports.{injection_channel, ejection_channel}
 use Rattle.tile_laws.specs.Wiring.{bank_wiring}
 use Rattle.tile_laws.specs.declared.agent.Agent.TheVariants.{Bank}
@@ -48,7 +48,7 @@ use Rattle.core_laws.proofs.Completes.{accepts}
 use Rattle.core_laws.proofs.ResponseLists.{last_is, made_from}
 use Rattle.core_laws.specs.Delivery.{responses_made}
 use Rattle.core_laws.specs.Network.{response_parcel, last_response, reply_event, bank_event, tile_event, network_event}
-use Rattle.wormhole.specs.Events.{Event, InjectHead, InjectRest, Return}
+use Rattle.wormhole.specs.Events.{NetEvent, InjectHead, InjectRest, Return}
 use Rattle.packet.specs.declared.kinds.Response.{Response as Telling}
 use Rattle.core_laws.proofs.QuietSteps.{Stays, with_tile, agent_stays, attempt_stays, if_true, both_true, none_there}
 use Rattle.core_laws.proofs.Stands.{Ghost, Stands, tile_at, in_course, responses_from}
@@ -65,7 +65,7 @@ module _ (d : Design) (accepted : IsAccepted d.shape) (tags : ℕ) (opening : Li
   abbrev tiles : ℕ
   tiles = tiles_of d.shape
 
-  abbrev Kept : State → Option Event → Type 0
+  abbrev Kept : State → Option NetEvent → Type 0
   Kept after e = Stays d tags opening g order after e
 
   abbrev bank_then : ℕ → BankState → Want → State
@@ -126,7 +126,7 @@ module _ (d : Design) (accepted : IsAccepted d.shape) (tags : ℕ) (opening : Li
         (last_response (responses_made t 0 b.entries)) else Some (InjectRest (injection_channel d.shape t Reply) flit (rest b.to_put))) (sym is)
         ∙ ap (reply_event d t b) (sym course))) in
         subst (λ (f : ℕ). Kept (bank_then t (record b { to_put = rest b.to_put }) (want.Put 0 f)) (reply_event d t b b.to_put)) first
-        (subst (λ (e : Option Event). Kept (bank_then t (record b { to_put = rest b.to_put }) (want.Put 0 (first_flit b.to_put))) e) event
+        (subst (λ (e : Option NetEvent). Kept (bank_then t (record b { to_put = rest b.to_put }) (want.Put 0 (first_flit b.to_put))) e) event
         (record { stands = reply_stands d net tags opening s g order st t t_in starts credit; may = can d net tags opening s g order st t t_in starts credit }))
     send_flit flit course credit false is =
         let left : (g.net.lines (injection_channel d.shape t Reply)).rest ≡ flit ∷ rest b.to_put =
@@ -137,7 +137,7 @@ module _ (d : Design) (accepted : IsAccepted d.shape) (tags : ℕ) (opening : Li
         ap (λ (x : Bool). if x then option_map (λ (r : Telling). InjectHead (injection_channel d.shape t Reply) (response_parcel d.shape r))
         (last_response (responses_made t 0 b.entries)) else Some (InjectRest (injection_channel d.shape t Reply) flit (rest b.to_put))) (sym is)
         ∙ ap (reply_event d t b) (sym course) in
-        subst (λ (e : Option Event). Kept (bank_then t (record b { to_put = rest b.to_put }) (want.Put 0 flit)) e) event
+        subst (λ (e : Option NetEvent). Kept (bank_then t (record b { to_put = rest b.to_put }) (want.Put 0 flit)) e) event
         (record {
           stands = rest_stands d net tags opening s g order st t t_in flit (rest b.to_put) course is some credit;
           may = (rest_quiet d net tags opening s g order st t t_in flit (rest b.to_put) course is some credit).can;
@@ -186,7 +186,7 @@ module _ (d : Design) (accepted : IsAccepted d.shape) (tags : ℕ) (opening : Li
     bank_choice_quiet choice h =
         agent_stays (bank_wants tiles t) (bank_after tiles t) d.depth (bank_wiring d.shape t) b s.around choice (bank_move b choice)
         (bank_event d t b s.around choice)
-        (λ (o : Option (BankState × Surroundings)) (e : Option Event). Kept (with_tile s t (option_map (λ p. (record (tile_at s t) { bank = p.0 }, p.1)) o))
+        (λ (o : Option (BankState × Surroundings)) (e : Option NetEvent). Kept (with_tile s t (option_map (λ p. (record (tile_at s t) { bank = p.0 }, p.1)) o))
         e)
         (record { stands = st; may = tt }) (then_bank choice) h
 

@@ -12,27 +12,27 @@ use Rattle.packet.specs.declared.kinds.Operation.{Operation}
 use Rattle.packet.specs.declared.kinds.Request.{Request as Asking}
 use Rattle.packet.specs.declared.kinds.Response.{Response as Telling}
 use Rattle.script.specs.declared.line.Line.{Line}
-use Rattle.order_abstract.specs.home_bank.specs.declared.entry.Entry.{Entry}
-use Rattle.order_abstract.specs.script_follower.specs.Following.{first_of, is_finished}
-use Rattle.order_abstract.specs.one_order.specs.declared.answer.Answer.{Answer}
-use Rattle.order_abstract.specs.one_order.specs.Observed.{Observed, list_at}
-use Rattle.order_abstract.specs.one_order.specs.Events.{nothing_yet}
-use Rattle.order_abstract.specs.one_order.proofs.Lists.{list_at_none, total_none}
-use Rattle.order_abstract.specs.one_order.proofs.AccountKept.{account_none}
+use Rattle.home_bank.specs.declared.entry.Entry.{Entry}
+use Rattle.script_follower.specs.Following.{first_of, is_finished}
+use Rattle.one_order.specs.declared.answer.Answer.{Answer}
+use Rattle.one_order.specs.Observed.{Observed, list_at}
+use Rattle.one_order.specs.Events.{nothing_yet}
+use Rattle.one_order.proofs.Lists.{list_at_none, total_none}
+use Rattle.one_order.proofs.AccountKept.{account_none}
 use Rattle.channel_number.specs.Order.{channel_count}
 use Rattle.flit_buffer.specs.Places.{Ring, IsRing, empty_ring}
 use Rattle.flit_buffer.specs.Surroundings.{ring, no_ring}
 use Rattle.wormhole.specs.Net.{Parcel}
 use Rattle.wormhole.specs.State.{empty, empty_line}
 use Rattle.wormhole.proofs.Reached.{words_empty, routes_empty}
-use Rattle.order_abstract.specs.script_follower.specs.ProcessorRecord.{ProcessorRecord, no_processor}
+use Rattle.script_follower.specs.ProcessorRecord.{ProcessorRecord, no_processor}
 use Rattle.order_abstract.proofs.Whole.{Whole}
 use Rattle.order_abstract.proofs.Parts.{tags_of, same_shown}
 use Rattle.order_abstract.proofs.Counts.{home_total_none}
 use Rattle.order_abstract.proofs.Telling.{telling_none}
 use Rattle.order_abstract.proofs.Transport.{Holds, sound_none}
 use Rattle.channel_number.specs.Ports.{port_count, input_channel}
-use Rattle.tile_laws.specs.router.specs.Table.{latch_of, output_owned}
+use Rattle.router.specs.Table.{latch_of, output_owned}
 use Rattle.tile_laws.specs.Tile.{Design, TileState}
 use Rattle.core_laws.specs.Core.{Load, design_of, first_state, first_tile, show}
 use Rattle.core_laws.proofs.Projection.{net_of, request_parcel, response_parcel}

@@ -9,7 +9,7 @@ use Rattle.flit_buffer.specs.declared.want.Want.{Want}
 use Rattle.flit_buffer.specs.declared.want.Want.TheVariants as want
 use Rattle.flit_buffer.specs.Surroundings.{Surroundings, Wiring, surroundings_after}
 use Rattle.packet.specs.Flits.{head_of}
-use Rattle.tile_laws.specs.router.specs.Table.{RouterState, router_wants, wants_to_take, wants_to_put, latch_of, output_for}
+use Rattle.router.specs.Table.{RouterState, router_wants, wants_to_take, wants_to_put, latch_of, output_for}
 use Rattle.channel_number.specs.Ports.{port_count}
 use Rattle.core_laws.proofs.AgentSteps.{option_map_some}
 

@@ -1,9 +1,9 @@
 -- A tail flit taken makes its packet whole.
 use Rattle.std.proofs.Common.{◌≡◌, ◌≢◌, ⊎_elim, ℕ, Bool, true, false, List, [], ◌∷◌, ◌++◌, take, drop, refl, sym, ◌∙◌, ap, subst}
 use Rattle.std.proofs.lemmas.Bool.{cases_eq}
-use Rattle.wormhole.specs.Net.{Net, IsNet, IsOn, Parcel, IsParcel, IsTailShaped, flits_of, is_empty}
-use Rattle.wormhole.specs.State.{Note, State, update}
-use Rattle.wormhole.specs.Events.{Event, AcceptHead, AcceptRest, CanAccept, after, popped}
+use Rattle.wormhole.specs.Net.{Net, IsNet, IsOn, Parcel, IsParcel, EndsWithTail, net_flits, has_no_flit}
+use Rattle.wormhole.specs.State.{Note, NetState, update}
+use Rattle.wormhole.specs.Events.{NetEvent, AcceptHead, AcceptRest, CanAccept, after, popped}
 use Rattle.wormhole.specs.Words.{Words}
 use Rattle.wormhole.specs.Routes.{Routes, IsBegunHere}
 use Rattle.wormhole.specs.Delivery.{accept, without_last, whole_of, whole}
@@ -15,19 +15,19 @@ use Rattle.wormhole.proofs.Lists.{all_on}
 use Rattle.wormhole.proofs.Arrivals.{was_sent, begun_was_sent}
 
 -- the event of a flit taken by a receiver
-abbrev pub accepts : ℕ → ℕ → List ℕ → Bool → Event
+abbrev pub accepts : ℕ → ℕ → List ℕ → Bool → NetEvent
 accepts x flit more bit = accept bit x flit more
 
 -- the packet that is whole with a flit
-pub record Completes (n : Net) (s t : State) (x flit : ℕ) : Type 0 where
+pub record Completes (n : Net) (s t : NetState) (x flit : ℕ) : Type 0 where
   pub packet : Parcel
   pub parcel : IsParcel n packet
   pub destination : packet.destination ≡ x
   pub sent : IsOn packet (s.notes packet.source).sent
-  pub flits : flits_of packet ≡ (s.lines x).so_far ++ flit ∷ []
+  pub flits : net_flits packet ≡ (s.lines x).so_far ++ flit ∷ []
   pub whole_now : whole t x ≡ whole s x ++ packet ∷ []
 
-is_empty_only : (xs : List ℕ) → is_empty xs ≡ true → xs ≡ []
+is_empty_only : (xs : List ℕ) → has_no_flit xs ≡ true → xs ≡ []
 is_empty_only [] h = refl
 is_empty_only (x ∷ xs) h = cc
 
@@ -36,7 +36,7 @@ without_last_push [] k = refl
 without_last_push (l ∷ []) k = refl
 without_last_push (l ∷ m ∷ ks) k = ap (λ (xs : List Parcel). l ∷ xs) (without_last_push (m ∷ ks) k)
 
-pub completes : (n : Net) (s : State) (x flit : ℕ) (more : List ℕ) (bit : Bool) → IsNet n → Words n s → Routes n s → CanAccept n (s.lines x) x flit more bit
+pub completes : (n : Net) (s : NetState) (x flit : ℕ) (more : List ℕ) (bit : Bool) → IsNet n → Words n s → Routes n s → CanAccept n (s.lines x) x flit more bit
     → n.is_tail flit ≡ true
     → Completes n s (after n s (accepts x flit more bit)) x flit
 completes n s x flit more true net w r c last =
@@ -63,14 +63,14 @@ completes n s x flit more true net w r c last =
 completes n s x flit more false net w r c last =
     let h : Note = s.notes x in
     let p = pop_rest n h.awaited h.parcels flit (more ++ h.owed) (w.parcels x) c.head (ejected n s x flit more false w c) in
-    let shaped : IsTailShaped n (flit ∷ p.0) = subst (IsTailShaped n) p.1 (w.awaited x) in
+    let shaped : EndsWithTail n (flit ∷ p.0) = subst (EndsWithTail n) p.1 (w.awaited x) in
     let none : p.0 ≡ [] = is_empty_only p.0 (sym shaped.1 ∙ last) in
     let awaits : h.awaited ≡ flit ∷ [] = p.1 ∙ ap (λ (fs : List ℕ). flit ∷ fs) none in
     let new : Note = record h { awaited = drop 1 h.awaited } in
     let note : update s.notes x new x ≡ new = update_same s.notes x new in
     ⊎_elim
     (λ (no : (h.awaited ≡ []) × ((s.lines x).so_far ≡ [])). let z = no.0 in let f = p.1 in cc)
-    (λ (q : (before : List Parcel) × (last : Parcel) × (h.begun ≡ before ++ last ∷ []) × ((s.lines x).so_far ++ h.awaited ≡ flits_of last)
+    (λ (q : (before : List Parcel) × (last : Parcel) × (h.begun ≡ before ++ last ∷ []) × ((s.lines x).so_far ++ h.awaited ≡ net_flits last)
     × ((s.lines x).so_far ≢ []) × (h.awaited ≢ [])).
     let here : IsOn q.1 h.begun = (q.0, [], q.2) in
     let begun = all_on (IsBegunHere n x) h.begun q.1 (r.begun x) here in
@@ -88,11 +88,11 @@ completes n s x flit more false net w r c last =
     (w.assembling x c.ejects)
 
 -- what was sent stays as it was
-pub sent_kept : (n : Net) (s : State) (x flit : ℕ) (more : List ℕ) (bit : Bool) (i : ℕ)
+pub sent_kept : (n : Net) (s : NetState) (x flit : ℕ) (more : List ℕ) (bit : Bool) (i : ℕ)
     → ((after n s (accepts x flit more bit)).notes i).sent ≡ (s.notes i).sent
 sent_kept n s x flit more true i = note_kept s x (record (popped (s.notes x)) { begun = (s.notes x).begun ++ take 1 (s.notes x).parcels }) i refl
   where
-    note_kept : (s : State) (x : ℕ) (new : Note) (i : ℕ) → new.sent ≡ (s.notes x).sent → (update s.notes x new i).sent ≡ (s.notes i).sent
+    note_kept : (s : NetState) (x : ℕ) (new : Note) (i : ℕ) → new.sent ≡ (s.notes x).sent → (update s.notes x new i).sent ≡ (s.notes i).sent
     note_kept s x new i same = ⊎_elim
         (λ (e : i ≡ x). ap (λ (j : ℕ). (update s.notes x new j).sent) e
         ∙ (ap (λ (k : Note). k.sent) (update_same s.notes x new) ∙ (same ∙ ap (λ (j : ℕ). (s.notes j).sent) (sym e))))
@@ -100,19 +100,19 @@ sent_kept n s x flit more true i = note_kept s x (record (popped (s.notes x)) { 
         (cases_eq i x)
 sent_kept n s x flit more false i = note_kept s x (record (s.notes x) { awaited = drop 1 (s.notes x).awaited }) i refl
   where
-    note_kept : (s : State) (x : ℕ) (new : Note) (i : ℕ) → new.sent ≡ (s.notes x).sent → (update s.notes x new i).sent ≡ (s.notes i).sent
+    note_kept : (s : NetState) (x : ℕ) (new : Note) (i : ℕ) → new.sent ≡ (s.notes x).sent → (update s.notes x new i).sent ≡ (s.notes i).sent
     note_kept s x new i same = ⊎_elim
         (λ (e : i ≡ x). ap (λ (j : ℕ). (update s.notes x new j).sent) e
         ∙ (ap (λ (k : Note). k.sent) (update_same s.notes x new) ∙ (same ∙ ap (λ (j : ℕ). (s.notes j).sent) (sym e))))
         (λ (other : i ≢ x). ap (λ (k : Note). k.sent) (update_other s.notes x new i other))
         (cases_eq i x)
 
-pub accept_routes : (n : Net) (s : State) (x flit : ℕ) (more : List ℕ) (bit : Bool) → IsNet n → Words n s → Routes n s → CanAccept n (s.lines x) x flit more bit
+pub accept_routes : (n : Net) (s : NetState) (x flit : ℕ) (more : List ℕ) (bit : Bool) → IsNet n → Words n s → Routes n s → CanAccept n (s.lines x) x flit more bit
     → Routes n (after n s (accepts x flit more bit))
 accept_routes n s x flit more true net w r c = routes_kept n s (AcceptHead x flit more) net w r c
 accept_routes n s x flit more false net w r c = routes_kept n s (AcceptRest x flit more) net w r c
 
-pub accept_words : (n : Net) (s : State) (x flit : ℕ) (more : List ℕ) (bit : Bool) → IsNet n → Words n s → Routes n s → CanAccept n (s.lines x) x flit more bit
+pub accept_words : (n : Net) (s : NetState) (x flit : ℕ) (more : List ℕ) (bit : Bool) → IsNet n → Words n s → Routes n s → CanAccept n (s.lines x) x flit more bit
     → Words n (after n s (accepts x flit more bit))
 accept_words n s x flit more true net w r c = words_kept n s (AcceptHead x flit more) net w r c
 accept_words n s x flit more false net w r c = words_kept n s (AcceptRest x flit more) net w r c

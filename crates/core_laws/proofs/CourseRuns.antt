@@ -3,16 +3,16 @@ use Rattle.std.proofs.Common.{◌≡◌, ℕ, suc, List, [], ◌∷◌, map, len
 use Rattle.torus.specs.Shape.{tiles_of, dims_of}
 use Rattle.torus.specs.declared.step.Step.{Step}
 use Rattle.script.specs.declared.line.Line.{Line}
-use Rattle.order_abstract.specs.one_order.specs.Observed.{Observed}
-use Rattle.order_abstract.specs.one_order.specs.Events.{order_after}
+use Rattle.one_order.specs.Observed.{Observed}
+use Rattle.one_order.specs.Events.{order_after}
 use Rattle.wormhole.specs.Events.{CanHappen}
-use Rattle.order_abstract.specs.script_follower.specs.ProcessorRecord.{ProcessorRecord}
+use Rattle.script_follower.specs.ProcessorRecord.{ProcessorRecord}
 use Rattle.order_abstract.specs.Flight.{moved_by}
-use Rattle.order_abstract.specs.script_follower.specs.ProcessorRecord.{first_record}
+use Rattle.script_follower.specs.ProcessorRecord.{first_record}
 use Rattle.order_abstract.specs.Courses.{IsCourse, first_flight}
 use Rattle.tile_laws.specs.Tile.{Design}
 use Rattle.core_laws.specs.Core.{Load, State, design_of, first_tile, first_state}
-use Rattle.core_laws.specs.Runs.{IsAccepted}
+use Rattle.core_laws.specs.Runs.{IsAcceptedLoad}
 use Rattle.core_laws.specs.Network.{net_of}
 use Rattle.core_laws.specs.Noted.{noted, event_by as network_by, flight_of, flight_after, move_after}
 use Rattle.core_laws.proofs.Histories.{state_at, after_more, event_at}
@@ -25,7 +25,7 @@ records_first : (dims tags : ℕ) (scripts : List (List Line)) → map record_in
 records_first dims tags [] = refl
 records_first dims tags (lines ∷ scripts) = ap (λ (bs : List ProcessorRecord). first_record tags lines ∷ bs) (records_first dims tags scripts)
 
-module _ (l : Load) (ok : IsAccepted l) (steps : List Step) where
+module _ (l : Load) (ok : IsAcceptedLoad l) (steps : List Step) where
   abbrev d : Design
   d = design_of l
 

@@ -10,15 +10,15 @@ use Rattle.torus.specs.Shape.{tiles_of}
 use Rattle.torus.specs.declared.shape.Class.TheVariants.{Reply}
 use Rattle.packet.specs.declared.kinds.Request.{Request as Asking}
 use Rattle.packet.specs.declared.kinds.Response.{Response as Telling}
-use Rattle.order_abstract.specs.one_order.specs.Observed.{list_at}
-use Rattle.order_abstract.specs.one_order.specs.Order.{LinearizationPoint}
+use Rattle.one_order.specs.Observed.{list_at}
+use Rattle.one_order.specs.Order.{LinearizationPoint}
 use Rattle.wormhole.specs.Net.{IsNet, Parcel}
 use Rattle.wormhole.specs.Routes.{between}
 use Rattle.wormhole.specs.Delivery.{IsPrefix, without_last}
 use Rattle.wormhole.proofs.Arrivals.{delivered}
-use Rattle.order_abstract.specs.script_follower.specs.ProcessorRecord.{ProcessorRecord, no_processor}
+use Rattle.script_follower.specs.ProcessorRecord.{ProcessorRecord, no_processor}
 use Rattle.core_laws.specs.Heads.{carries_route}
-use Rattle.order_abstract.specs.home_bank.specs.BankTable.{BankState}
+use Rattle.home_bank.specs.BankTable.{BankState}
 use Rattle.channel_number.specs.Ports.{injection_channel, ejection_channel}
 use Rattle.tile_laws.specs.Tile.{Design, TileState}
 use Rattle.core_laws.specs.Core.{State}

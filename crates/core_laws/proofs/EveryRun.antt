@@ -2,13 +2,13 @@
 use Rattle.std.proofs.Common.{ℕ, List, length}
 use Rattle.torus.specs.Shape.{IsAccepted as IsAcceptedShape, tiles_of}
 use Rattle.torus.specs.declared.step.Step.{Step}
-use Rattle.order_abstract.specs.one_order.specs.declared.ordered.Ordered.{Ordered}
-use Rattle.order_abstract.specs.one_order.specs.Events.{IsHistory, order_after}
-use Rattle.order_abstract.specs.one_order.specs.OneOrder.{HasOneOrder}
-use Rattle.order_abstract.specs.one_order.specs.Consequences.{ServesInTurn, AnswersInTurn}
-use Rattle.order_abstract.specs.one_order.proofs.IssueNumbers.{rows_of, one_order}
-use Rattle.order_abstract.specs.one_order.proofs.InTurn.{serves_in_turn}
-use Rattle.order_abstract.specs.one_order.proofs.AnswersInTurn.{answers_in_turn}
+use Rattle.one_order.specs.declared.ordered.Ordered.{Ordered}
+use Rattle.one_order.specs.Events.{IsHistory, order_after}
+use Rattle.one_order.specs.OneOrder.{HasOneOrder}
+use Rattle.one_order.specs.Consequences.{ServesInTurn, AnswersInTurn}
+use Rattle.one_order.proofs.IssueNumbers.{rows_of, one_order}
+use Rattle.one_order.proofs.InTurn.{serves_in_turn}
+use Rattle.one_order.proofs.AnswersInTurn.{answers_in_turn}
 use Rattle.order_abstract.specs.Scripts.{FollowScripts}
 use Rattle.tile_laws.specs.Tile.{Design}
 use Rattle.core_laws.specs.Core.{Load, design_of, run_of}
@@ -17,7 +17,7 @@ use Rattle.core_laws.specs.Noted.{noted}
 use Rattle.core_laws.proofs.Histories.{state_at, event_at}
 use Rattle.core_laws.proofs.Networks.{network}
 use Rattle.core_laws.proofs.Delivered.{delivers}
-use Rattle.core_laws.specs.Runs.{IsAccepted}
+use Rattle.core_laws.specs.Runs.{IsAcceptedLoad}
 use Rattle.core_laws.proofs.RouterQuiet.{router_steps}
 use Rattle.core_laws.proofs.QuietAgents.{agents_quiet}
 use Rattle.core_laws.proofs.Runs as runs
@@ -27,7 +27,7 @@ pub are_quiet : (d : Design) → IsAcceptedShape d.shape → (tags : ℕ) (openi
 are_quiet d accepted tags opening s g order st values attempt none =
     agents_quiet d accepted tags opening s g order st (λ t t_in choice. router_steps d accepted tags opening s g order st t t_in choice) attempt none
 
-module _ (l : Load) (ok : IsAccepted l) where
+module _ (l : Load) (ok : IsAcceptedLoad l) where
   pub quiet : runs.AreQuiet (design_of l) l.tags l.opening
   quiet = are_quiet (design_of l) ok.shape l.tags l.opening
 

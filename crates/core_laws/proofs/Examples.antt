@@ -11,7 +11,7 @@ use Rattle.packet.specs.declared.kinds.Reply.TheVariants.{Old, Ok as Stored}
 use Rattle.script.specs.declared.line.Line.TheVariants as line
 use Rattle.script.specs.declared.line.Line.{Line}
 use Rattle.script.specs.declared.line.Value.TheVariants.{Number}
-use Rattle.order_abstract.specs.script_follower.specs.Following.{first_of, next_operation_of, after_issue, after_answer, is_finished}
+use Rattle.script_follower.specs.Following.{first_of, next_operation_of, after_issue, after_answer, is_finished}
 use Rattle.flit_buffer.specs.Surroundings.{ring}
 use Rattle.packet.specs.Flits.{offered, flits_of}
 use Rattle.wormhole.specs.Events.{ForwardHead, ForwardRest}
@@ -19,7 +19,7 @@ use Rattle.order_abstract.specs.Flight.{Sends}
 use Rattle.core_laws.specs.Asks.{flit_found}
 use Rattle.core_laws.specs.Core.{Load, first_state, first_tile, after, show, round}
 use Rattle.core_laws.specs.Moves.{issue_of, processor_move}
-use Rattle.core_laws.specs.Network.{forwarded}
+use Rattle.core_laws.specs.Network.{words_forwarded}
 use Rattle.core_laws.specs.Noted.{requests_noted}
 
 -- two tiles, depth 4, 4 tags, 8 words
@@ -122,9 +122,9 @@ request_under_its_tag = refl
 empty_channel_shows_zero : flit_found (first_state two_tiles).around 3 ≡ 0
 empty_channel_shows_zero = refl
 
--- a flit that tells where it goes is forwarded as a head, and any other as one that follows
-head_goes_as_a_head : forwarded (Some (record { destination = 1; class = Request })) 8 0 5 ≡ ForwardHead 8 0 5
+-- a flit that tells where it goes is words_forwarded as a head, and any other as one that follows
+head_goes_as_a_head : words_forwarded (Some (record { destination = 1; class = Request })) 8 0 5 ≡ ForwardHead 8 0 5
 head_goes_as_a_head = refl
 
-others_follow : forwarded None 8 0 5 ≡ ForwardRest 8 0 5
+others_follow : words_forwarded None 8 0 5 ≡ ForwardRest 8 0 5
 others_follow = refl

@@ -16,14 +16,14 @@ use Rattle.packet.proofs.Shapes.{flits_above_zero}
 use Rattle.dateline_route.specs.declared.channel.Channel.{Channel}
 use Rattle.dateline_route.specs.Walk.{IsInside}
 use Rattle.channel_number.specs.Order.{channel_count, channels_at_tile, channel_at}
-use Rattle.order_abstract.specs.one_order.specs.Observed.{list_at}
-use Rattle.order_abstract.specs.one_order.specs.Order.{LinearizationPoint}
+use Rattle.one_order.specs.Observed.{list_at}
+use Rattle.one_order.specs.Order.{LinearizationPoint}
 use Rattle.channel_number.specs.Ports.{is_injection, is_ejection, injection_channel}
 use Rattle.wormhole_torus.specs.TorusNet.{same_class as is_same_class, joins_in}
 use Rattle.channel_number.proofs.Decoding.{kind_by}
 use Rattle.wormhole_torus.proofs.Numbers.{number_below}
-use Rattle.wormhole.specs.Net.{Net, Parcel, IsParcel, IsOn, flits_of as flits_in, flits_of_all}
-use Rattle.wormhole.specs.State.{State as NetState, in_line}
+use Rattle.wormhole.specs.Net.{Net, Parcel, IsParcel, IsOn, net_flits as flits_in, flits_of_all}
+use Rattle.wormhole.specs.State.{NetState, in_line}
 use Rattle.wormhole.specs.Words.{Words}
 use Rattle.wormhole.specs.Routes.{Routes, IsBegunHere}
 use Rattle.wormhole.proofs.FlitsHold.{HoldsOfNoted, line_holds}

@@ -6,13 +6,13 @@ use Rattle.std.proofs.lemmas.Bool.{cases_eq}
 use Rattle.torus.specs.Shape.{tiles_of, dims_of}
 use Rattle.channel_number.specs.Ports.{port_count, input_channel, output_channel}
 use Rattle.packet.specs.Flits.{is_tail}
-use Rattle.order_abstract.specs.one_order.specs.Order.{LinearizationPoint}
+use Rattle.one_order.specs.Order.{LinearizationPoint}
 use Rattle.wormhole.specs.Net.{Net}
-use Rattle.wormhole.specs.State.{Line as Lane, Note, update}
+use Rattle.wormhole.specs.State.{NetLine as Lane, Note, update}
 use Rattle.wormhole.specs.Events.{forwarded}
 use Rattle.wormhole.specs.Delivery.{whole, whole_of}
 use Rattle.wormhole.proofs.Changes.{update_same, update_other}
-use Rattle.tile_laws.specs.router.specs.Table.{RouterState, output_owned}
+use Rattle.router.specs.Table.{RouterState, output_owned}
 use Rattle.tile_laws.specs.Tile.{Design}
 use Rattle.core_laws.specs.Core.{State}
 use Rattle.core_laws.proofs.Projection.{net_of}

@@ -6,9 +6,9 @@ use Rattle.torus.specs.declared.step.Step.{Step}
 use Rattle.packet.specs.declared.kinds.Operation.{Operation}
 use Rattle.packet.specs.declared.kinds.Request.{Request as Asking}
 use Rattle.packet.specs.Memory.{reply_to}
-use Rattle.order_abstract.specs.home_bank.specs.ServiceList.{address_of, response_of}
-use Rattle.order_abstract.specs.one_order.specs.Order.{LinearizationPoint}
-use Rattle.order_abstract.specs.script_follower.specs.ProcessorRecord.{ready, request_of}
+use Rattle.home_bank.specs.ServiceList.{address_of, response_of}
+use Rattle.one_order.specs.Order.{LinearizationPoint}
+use Rattle.script_follower.specs.ProcessorRecord.{ready, request_of}
 use Rattle.tile_laws.specs.Tile.{Design}
 use Rattle.core_laws.specs.Core.{State, next}
 use Rattle.core_laws.specs.Moves.{move_of}

@@ -17,18 +17,18 @@ use Rattle.packet.specs.Flit.{field, class_numbered, Heading}
 use Rattle.packet.specs.Spelling.{Spells, SpellsWith, IsTailShaped, heading_of, values_of, word_or_place, class_of}
 use Rattle.packet.specs.Flits.{flits_of, head_of}
 use Rattle.packet.proofs.Shapes.{TellsPacket-spelled, IsTailShaped-spelled}
-use Rattle.order_abstract.specs.one_order.specs.Observed.{list_at}
-use Rattle.order_abstract.specs.one_order.specs.Order.{LinearizationPoint}
+use Rattle.one_order.specs.Observed.{list_at}
+use Rattle.one_order.specs.Order.{LinearizationPoint}
 use Rattle.flit_buffer.specs.Surroundings.{ring}
-use Rattle.wormhole.specs.Net.{IsOn, Parcel, flits_of as flits_in}
+use Rattle.wormhole.specs.Net.{IsOn, Parcel, net_flits as flits_in}
 use Rattle.wormhole.proofs.FlitsHold.{HoldsOfNoted, line_holds, sent_holds}
 use Rattle.wormhole.proofs.Lists.{all_on, on_left, all_right}
 use Rattle.channel_number.specs.Ports.{injection_channel, ejection_channel}
 use Rattle.order_abstract.proofs.Parts.{issued_at}
-use Rattle.order_abstract.specs.script_follower.specs.ProcessorRecord.{ProcessorRecord}
+use Rattle.script_follower.specs.ProcessorRecord.{ProcessorRecord}
 use Rattle.tile_laws.specs.Tile.{Design}
 use Rattle.core_laws.specs.Core.{State}
-use Rattle.core_laws.specs.Delivery.{next_flit, operation_asked}
+use Rattle.core_laws.specs.Delivery.{next_flit, asked_operation}
 use Rattle.core_laws.specs.Asks.{flit_found}
 use Rattle.core_laws.proofs.Projection.{net_of, request_parcel, response_parcel}
 use Rattle.core_laws.proofs.ChannelFacts.{ejection_in}
@@ -90,8 +90,8 @@ module _ (d : Design) (accepted : IsAccepted d.shape) (few : d.words ≤ 65536) 
   abbrev IsLow : Operation → Type 0
   IsLow o = o.address < d.words
 
-  asked_low : (b : ℕ) → All (λ (r : Asking). IsLow (operation_asked (tiles_of d.shape) r)) (list_at g.requests b)
-  asked_low b = all_mapped (operation_asked (tiles_of d.shape)) IsLow (list_at g.requests b) (λ i o there.
+  asked_low : (b : ℕ) → All (λ (r : Asking). IsLow (asked_operation (tiles_of d.shape) r)) (list_at g.requests b)
+  asked_low b = all_mapped (asked_operation (tiles_of d.shape)) IsLow (list_at g.requests b) (λ i o there.
       let f = flight_of d.words s g in
       let same = issued_at f b ∙ ap (λ (x : ProcessorRecord). x.issued) (record_here s.tiles b) in
       subst (λ (k : ℕ). o.address < k) (sym st.words)
@@ -101,7 +101,7 @@ module _ (d : Design) (accepted : IsAccepted d.shape) (few : d.words ≤ 65536) 
   request_names b b_in k sent =
       let q = on_map (request_parcel d.shape) (list_at g.requests b) k (subst (λ (ks : List Parcel). IsOn k ks) (st.carries.requests_sent b b_in) sent) in
       let proper = all_on (λ r. IsProperRequest d r × (r.source ≡ b)) (list_at g.requests b) q.0 (st.carries.requests_proper b) q.1 in
-      let low = all_on (λ (r : Asking). IsLow (operation_asked (tiles_of d.shape) r)) (list_at g.requests b) q.0 (asked_low b) q.1 in
+      let low = all_on (λ (r : Asking). IsLow (asked_operation (tiles_of d.shape) r)) (list_at g.requests b) q.0 (asked_low b) q.1 in
       let flits : flits_of (packet.Request q.0) ≡ k.head ∷ k.tail = parcel_flits d.shape (packet.Request q.0) proper.0.spelled ∙ ap flits_in q.2 in
       let more = le-mul_of_pos_right {m = tiles_of d.shape} q.0.word (omega (arith, b_in)) in
       packet_names (packet.Request q.0) k (subst (Spells (packet.Request q.0)) flits proper.0.spelled) (λ _. omega (arith, low, more, few))

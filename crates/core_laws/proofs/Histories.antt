@@ -1,8 +1,8 @@
 -- Runs of the core are histories of events: what is left is that each step keeps what holds.
 use Rattle.std.proofs.Common.{◌≡◌, ℕ, zero, suc, List, [], ◌∷◌, length, take, Option, Some, None, refl, slice_get}
 use Rattle.torus.specs.declared.step.Step.{Step}
-use Rattle.order_abstract.specs.one_order.specs.Events.{Event}
-use Rattle.order_abstract.specs.Flight.{Move, event_by}
+use Rattle.one_order.specs.Events.{Event}
+use Rattle.order_abstract.specs.Flight.{Move, flight_event}
 use Rattle.tile_laws.specs.Tile.{Design}
 use Rattle.core_laws.specs.Core.{Load, State, design_of, next, after_from, after}
 use Rattle.core_laws.specs.Moves.{move_of}
@@ -22,7 +22,7 @@ state_at l steps k = after l (take k steps)
 
 -- the event of the step after the first k
 abbrev pub event_at : Load → List Step → ℕ → Event
-event_at l steps k = event_by (flight_with (length l.opening) (state_at l steps k) [] []) (move_at (design_of l) (state_at l steps k) (slice_get steps k))
+event_at l steps k = flight_event (flight_with (length l.opening) (state_at l steps k) [] []) (move_at (design_of l) (state_at l steps k) (slice_get steps k))
 
 pub after_more : (d : Design) (steps : List Step) (s : State) (k : ℕ)
     → after_from d s (take (suc k) steps) ≡ next_at d (after_from d s (take k steps)) (slice_get steps k)

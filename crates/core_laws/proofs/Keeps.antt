@@ -19,20 +19,20 @@ use Rattle.packet.specs.declared.assembler.Offered.{Offered}
 use Rattle.packet.specs.declared.assembler.Offered.TheVariants.{Whole as Complete}
 use Rattle.packet.specs.Answer.{flits_left}
 use Rattle.packet.specs.Memory.{reply_to}
-use Rattle.order_abstract.specs.home_bank.specs.ServiceList.{address_of, entry_of, response_of}
-use Rattle.order_abstract.specs.one_order.specs.Order.{LinearizationPoint}
-use Rattle.order_abstract.specs.one_order.specs.Events.{points_of, push_at}
+use Rattle.home_bank.specs.ServiceList.{address_of, entry_of, response_of}
+use Rattle.one_order.specs.Order.{LinearizationPoint}
+use Rattle.one_order.specs.Events.{points_of, push_at}
 use Rattle.flit_buffer.specs.Channel.{first_of, rest}
 use Rattle.flit_buffer.specs.declared.want.Want.{Want}
 use Rattle.flit_buffer.specs.declared.want.Want.TheVariants as want
 use Rattle.flit_buffer.specs.Wants.{told_by}
 use Rattle.flit_buffer.specs.Surroundings.{Surroundings, ring, granted, surroundings_after}
 use Rattle.wormhole.specs.Net.{IsNet}
-use Rattle.order_abstract.specs.script_follower.specs.ProcessorRecord.{ProcessorRecord, ready, request_of}
-use Rattle.order_abstract.specs.Flight.{Move, Sends, Serves, Takes, event_by}
+use Rattle.script_follower.specs.ProcessorRecord.{ProcessorRecord, ready, request_of}
+use Rattle.order_abstract.specs.Flight.{Move, Sends, Serves, Takes, flight_event}
 use Rattle.packet.specs.Flits.{offered, flits_of}
-use Rattle.order_abstract.specs.script_follower.specs.ProcessorTable.{ProcessorState, processor_wants, processor_after, flits_due, record_sent, record_offered, issued_of}
-use Rattle.order_abstract.specs.home_bank.specs.BankTable.{BankState, bank_wants, bank_after, served}
+use Rattle.script_follower.specs.ProcessorTable.{ProcessorState, processor_wants, processor_after, flits_due, record_sent, record_offered, issued_of}
+use Rattle.home_bank.specs.BankTable.{BankState, bank_wants, bank_after, served}
 use Rattle.channel_number.specs.Ports.{injection_channel, ejection_channel}
 use Rattle.tile_laws.specs.Wiring.{processor_wiring, bank_wiring}
 use Rattle.tile_laws.specs.declared.agent.Agent.{Agent}
@@ -51,7 +51,7 @@ use Rattle.core_laws.proofs.StepEvents.{issue_told, answer_told, first_there}
 use Rattle.core_laws.proofs.Sends.{sent_state, sent_ghost, can_inject, sent_stands}
 use Rattle.core_laws.proofs.Services.{served_state, served_ghost, told_same, served_stands}
 use Rattle.core_laws.proofs.Answers.{taken_state, taken_ghost, found, taken_stands}
-use Rattle.wormhole.specs.Events.{Event, InjectHead, CanHappen}
+use Rattle.wormhole.specs.Events.{NetEvent, InjectHead, CanHappen}
 use Rattle.core_laws.specs.Network.{request_parcel, request_event, processor_event, bank_event, tile_event, network_event}
 use Rattle.core_laws.specs.Noted.{noted_by}
 use Rattle.core_laws.proofs.GivenSteps.{IsRestAt}
@@ -62,11 +62,11 @@ use Rattle.core_laws.proofs.Stands.{Ghost, Stands, tile_at, no_tile, flight_of}
 module _ (d : Design) (net : IsNet (net_of d)) (tags : ℕ) (opening : List ℕ) (s : State) (g : Ghost) (order : List LinearizationPoint)
     (st : Stands d tags opening s g order) (rest_is : IsRestAt d tags opening s g order) (n : ℕ) where
   -- what stands after a move, or none, that is this event of the network, or none
-  pub record Goes (after : State) (m : Option Move) (e : Option Event) : Type 0 where
-    pub stands : Stands d tags opening after (noted_by d s g m e) (order ++ points_of (event_by (flight_of d.words s g) m) n)
+  pub record Goes (after : State) (m : Option Move) (e : Option NetEvent) : Type 0 where
+    pub stands : Stands d tags opening after (noted_by d s g m e) (order ++ points_of (flight_event (flight_of d.words s g) m) n)
     pub may : IfSome e (CanHappen (net_of d) g.net.lines)
 
-  abbrev Then : State → Move → Option Event → Type 0
+  abbrev Then : State → Move → Option NetEvent → Type 0
   Then after m e = Goes after (Some m) e
 
   abbrev with_tile : ℕ → Option (TileState × Surroundings) → State
@@ -158,9 +158,9 @@ module _ (d : Design) (net : IsNet (net_of d)) (tags : ℕ) (opening : List ℕ)
       (sym to.1) in
       record {
         stands = subst (λ (h : Ghost). Stands d tags opening (processor_then t (processor_after (tiles_of d.shape) d.words t p Take w learned) w) h
-            (order ++ points_of (event_by (flight_of d.words s g) (Some (Takes r))) n)) noted
+            (order ++ points_of (flight_event (flight_of d.words s g) (Some (Takes r))) n)) noted
             (subst (λ (x : State). Stands d tags opening x (taken_ghost d net tags opening s g order st t t_in learned (rest flits) first r is_whole)
-            (order ++ points_of (event_by (flight_of d.words s g) (Some (Takes r))) n)) same new);
+            (order ++ points_of (flight_event (flight_of d.words s g) (Some (Takes r))) n)) same new);
         may = may_happen d net tags opening s g order st t t_in Reply learned (rest flits) first;
       }
 
@@ -191,9 +191,9 @@ module _ (d : Design) (net : IsNet (net_of d)) (tags : ℕ) (opening : List ℕ)
       (sym (told_same d net tags opening s g order st t t_in r waits (rest_is.responses t r t_in waits))) in
       record {
         stands = subst (λ (h : Ghost). Stands d tags opening (bank_then t (bank_after (tiles_of d.shape) t b Serve w learned) w) h
-            (order ++ points_of (event_by (flight_of d.words s g) (Some (Serves r))) n)) noted
+            (order ++ points_of (flight_event (flight_of d.words s g) (Some (Serves r))) n)) noted
             (subst (λ (x : State). Stands d tags opening x (served_ghost d net tags opening s g order st t t_in r waits)
-            (order ++ points_of (event_by (flight_of d.words s g) (Some (Serves r))) n)) same new);
+            (order ++ points_of (flight_event (flight_of d.words s g) (Some (Serves r))) n)) same new);
         may = tt;
       }
 
@@ -211,7 +211,7 @@ module _ (d : Design) (net : IsNet (net_of d)) (tags : ℕ) (opening : List ℕ)
       ap₂ (request_event d t) (sym idle) (sym f.1) in
       subst (λ (x : Move). Then (processor_then t (processor_after (tiles_of d.shape) d.words t p Send w learned) w) x
       (request_event d t p.to_put (ready p.operations))) f.2
-      (subst (λ (x : Option Event). Then (processor_then t (processor_after (tiles_of d.shape) d.words t p Send w learned) w) (Sends t (f.0).0 (f.0).1) x) event
+      (subst (λ (x : Option NetEvent). Then (processor_then t (processor_after (tiles_of d.shape) d.words t p Send w learned) w) (Sends t (f.0).0 (f.0).1) x) event
       (then_send t t_in w learned f.0 idle f.1 is grants))
   then_processor t t_in Take w learned m is grants e =
       let p : ProcessorState = (tile_at s t).processor in

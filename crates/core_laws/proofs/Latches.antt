@@ -2,17 +2,17 @@
 use Rattle.std.proofs.Common.{◌≡◌, ◌≢◌, ⊎_elim, ℕ, ◌+◌, ◌<◌, List, ◌∷◌, length, Some, None, refl, sym, ◌∙◌, ap, subst, arith}
 use Rattle.std.proofs.lemmas.Bool.{cases_eq}
 use Rattle.torus.specs.Shape.{tiles_of, dims_of}
-use Rattle.order_abstract.specs.one_order.specs.Order.{LinearizationPoint}
+use Rattle.one_order.specs.Order.{LinearizationPoint}
 use Rattle.channel_number.specs.Order.{channel_count}
 use Rattle.flit_buffer.specs.Channel.{rest}
 use Rattle.flit_buffer.specs.Places.{take_from_ring}
 use Rattle.flit_buffer.specs.Surroundings.{ring}
 use Rattle.flit_buffer.proofs.RingLaws.{take_ring}
 use Rattle.wormhole.specs.Net.{IsNet}
-use Rattle.wormhole.specs.State.{Line as Lane, update}
+use Rattle.wormhole.specs.State.{NetLine as Lane, update}
 use Rattle.wormhole.specs.Events.{Latch, CanLatch, taken}
 use Rattle.wormhole.proofs.Changes.{update_same, update_other}
-use Rattle.tile_laws.specs.router.specs.Table.{RouterState, latch_of}
+use Rattle.router.specs.Table.{RouterState, latch_of}
 use Rattle.channel_number.specs.Ports.{port_count, input_channel, output_channel}
 use Rattle.tile_laws.specs.Tile.{Design}
 use Rattle.core_laws.specs.Core.{State}

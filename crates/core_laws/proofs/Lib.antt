@@ -1,3 +1,7 @@
+pub use Rattle.tile_laws.proofs.AgentNumbers
+pub use Rattle.tile_laws.proofs.Channels
+pub use Rattle.tile_laws.proofs.NewTiles
+pub use Rattle.tile_laws.proofs.Tiles
 pub mod Examples
 pub mod Projection
 pub mod Stands

@@ -7,9 +7,9 @@ use Rattle.packet.specs.declared.kinds.Response.{Response as Telling}
 use Rattle.packet.specs.Refusal.{refusal}
 use Rattle.packet.specs.Spelling.{Spells}
 use Rattle.packet.proofs.Answered.{IsTaken-spelled}
-use Rattle.order_abstract.specs.one_order.specs.Order.{LinearizationPoint}
+use Rattle.one_order.specs.Order.{LinearizationPoint}
 use Rattle.flit_buffer.specs.Surroundings.{ring}
-use Rattle.wormhole.specs.Net.{IsNet, Parcel, IsOn, flits_of as flits_in}
+use Rattle.wormhole.specs.Net.{IsNet, Parcel, IsOn, net_flits as flits_in}
 use Rattle.wormhole.proofs.Lists.{all_on, on_left}
 use Rattle.wormhole.proofs.Takes.{is_taken}
 use Rattle.packet.specs.Flits.{flits_of}

@@ -12,14 +12,14 @@ use Rattle.packet.specs.declared.kinds.Packet.TheVariants as packet
 use Rattle.packet.specs.declared.kinds.Response.{Response as Telling}
 use Rattle.packet.specs.Spelling.{Spells}
 use Rattle.packet.proofs.Shapes.{flits_above_zero}
-use Rattle.order_abstract.specs.one_order.specs.Observed.{list_at}
-use Rattle.order_abstract.specs.one_order.specs.Order.{LinearizationPoint}
+use Rattle.one_order.specs.Observed.{list_at}
+use Rattle.one_order.specs.Order.{LinearizationPoint}
 use Rattle.dateline_route.specs.declared.channel.Channel.{Channel}
 use Rattle.dateline_route.specs.declared.channel.Kind.{Kind}
 use Rattle.dateline_route.specs.declared.channel.Kind.TheVariants.{Injection, Hop, Ejection}
 use Rattle.dateline_route.specs.Walk.{IsInside}
 use Rattle.channel_number.specs.Order.{channel_count, channels_at_tile, channel_at}
-use Rattle.wormhole.specs.Net.{IsOn, Parcel, flits_of as flits_in}
+use Rattle.wormhole.specs.Net.{IsOn, Parcel, net_flits as flits_in}
 use Rattle.wormhole.proofs.FlitsHold.{HoldsOfNoted, latch_holds, sent_holds}
 use Rattle.wormhole.proofs.Lists.{all_on, on_left}
 use Rattle.channel_number.specs.Ports.{is_injection, is_ejection, port_count, injection_channel, input_channel}
@@ -28,7 +28,7 @@ use Rattle.channel_number.proofs.Decoding.{kind_by}
 use Rattle.wormhole_torus.proofs.Numbers.{number_below}
 use Rattle.packet.specs.Flits.{flits_of}
 use Rattle.core_laws.specs.Heads.{carries_route}
-use Rattle.tile_laws.specs.router.specs.Table.{latch_of}
+use Rattle.router.specs.Table.{latch_of}
 use Rattle.tile_laws.specs.Tile.{Design}
 use Rattle.core_laws.specs.Core.{State}
 use Rattle.core_laws.proofs.Projection.{net_of, request_parcel, response_parcel}

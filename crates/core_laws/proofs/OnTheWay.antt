@@ -4,11 +4,11 @@ use Rattle.std.proofs.lemmas.List.{length-map}
 use Rattle.torus.specs.Shape.{tiles_of}
 use Rattle.torus.specs.declared.step.Step.{Step}
 use Rattle.script.specs.declared.line.Line.{Line}
-use Rattle.order_abstract.specs.script_follower.specs.ProcessorRecord.{no_processor}
-use Rattle.order_abstract.specs.one_order.specs.Events.{order_after}
+use Rattle.script_follower.specs.ProcessorRecord.{no_processor}
+use Rattle.one_order.specs.Events.{order_after}
 use Rattle.tile_laws.specs.Tile.{TileState}
 use Rattle.core_laws.specs.Core.{Load, run_of}
-use Rattle.core_laws.specs.Runs.{IsAccepted}
+use Rattle.core_laws.specs.Runs.{IsAcceptedLoad}
 use Rattle.core_laws.specs.Noted.{flight_after, move_after}
 use Rattle.core_laws.specs.Pending.{HavePackets, ShowsOperations}
 use Rattle.core_laws.proofs.Histories.{state_at, event_at}
@@ -16,7 +16,7 @@ use Rattle.core_laws.proofs.EveryRun.{holds_in}
 use Rattle.core_laws.proofs.CourseRuns.{is_course}
 use Rattle.core_laws.proofs.TagsPending.{have_any, have_first}
 
-module _ (l : Load) (ok : IsAccepted l) (steps : List Step) where
+module _ (l : Load) (ok : IsAcceptedLoad l) (steps : List Step) where
   -- Who holds a tag has a packet on the way.
   pub have_packets : (n : ℕ) → HavePackets (flight_after l steps n)
   have_packets zero = subst HavePackets (sym (is_course l ok steps 0).start) (have_first (tiles_of l.shape) l.tags l.opening l.scripts)

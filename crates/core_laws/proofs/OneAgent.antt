@@ -1,15 +1,15 @@
 -- What a step touches: one agent of one tile, and what that agent wanted of the surroundings.
 use Rattle.std.proofs.Common.{◌≡◌, ◌≢◌, ℕ, Some, sym, ◌∙◌, ap, slice_get, slice_set}
 use Rattle.std.proofs.lemmas.Option.{option_and_then_some}
-use Rattle.order_abstract.specs.one_order.proofs.Lists.{get_set_other}
+use Rattle.one_order.proofs.Lists.{get_set_other}
 use Rattle.torus.specs.Shape.{tiles_of}
 use Rattle.torus.specs.declared.step.Step.{Step}
 use Rattle.torus.specs.declared.step.Choice.{Choice}
 use Rattle.flit_buffer.specs.Surroundings.{Surroundings}
-use Rattle.tile_laws.specs.router.specs.Table.{RouterState, router_wants, router_after}
-use Rattle.tile_laws.specs.router.specs.Beginning.{router_wiring}
-use Rattle.order_abstract.specs.script_follower.specs.ProcessorTable.{ProcessorState, processor_wants, processor_after}
-use Rattle.order_abstract.specs.home_bank.specs.BankTable.{BankState, bank_wants, bank_after}
+use Rattle.router.specs.Table.{RouterState, router_wants, router_after}
+use Rattle.router.specs.Beginning.{router_wiring}
+use Rattle.script_follower.specs.ProcessorTable.{ProcessorState, processor_wants, processor_after}
+use Rattle.home_bank.specs.BankTable.{BankState, bank_wants, bank_after}
 use Rattle.tile_laws.specs.Wiring.{processor_wiring, bank_wiring}
 use Rattle.tile_laws.specs.declared.agent.Agent.TheVariants.{Processor, Router, Bank}
 use Rattle.tile_laws.specs.Tile.{Design, TileState, tile_step}

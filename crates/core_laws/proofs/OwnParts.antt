@@ -7,10 +7,10 @@ use Rattle.flit_buffer.specs.declared.want.Want.{Want}
 use Rattle.flit_buffer.specs.Surroundings.{Surroundings, Wiring, agent_step}
 use Rattle.flit_buffer.specs.OwnPart.{SameWhereWanted}
 use Rattle.flit_buffer.proofs.OwnParts.{same_steps}
-use Rattle.tile_laws.specs.router.specs.Table.{RouterState, router_wants, router_after}
-use Rattle.tile_laws.specs.router.specs.Beginning.{router_wiring}
-use Rattle.order_abstract.specs.script_follower.specs.ProcessorTable.{ProcessorState, processor_wants, processor_after}
-use Rattle.order_abstract.specs.home_bank.specs.BankTable.{BankState, bank_wants, bank_after}
+use Rattle.router.specs.Table.{RouterState, router_wants, router_after}
+use Rattle.router.specs.Beginning.{router_wiring}
+use Rattle.script_follower.specs.ProcessorTable.{ProcessorState, processor_wants, processor_after}
+use Rattle.home_bank.specs.BankTable.{BankState, bank_wants, bank_after}
 use Rattle.tile_laws.specs.Wiring.{processor_wiring, bank_wiring}
 use Rattle.tile_laws.specs.declared.agent.Agent.TheVariants.{Processor, Router, Bank}
 use Rattle.tile_laws.specs.Tile.{Design, TileState, tile_step}

@@ -7,7 +7,7 @@ use Rattle.packet.specs.declared.kinds.Packet.{Packet}
 use Rattle.packet.specs.Flit.{field}
 use Rattle.packet.specs.Spelling.{Spells, TellsPacket, IsTailShaped as IsShaped, tail_bit_before, class_of, destination_of, source_of}
 use Rattle.packet.proofs.Shapes.{TellsPacket-spelled, tail_bit-head, IsTailShaped-spelled}
-use Rattle.wormhole.specs.Net.{Parcel, IsParcel, IsTailShaped, is_empty}
+use Rattle.wormhole.specs.Net.{Parcel, IsParcel, EndsWithTail, has_no_flit}
 use Rattle.packet.specs.Flits.{is_tail, flits_of}
 use Rattle.channel_number.specs.Ports.{injection_channel, ejection_channel}
 use Rattle.tile_laws.specs.Tile.{Design}
@@ -15,16 +15,16 @@ use Rattle.core_laws.proofs.Projection.{net_of, parcel_of}
 use Rattle.core_laws.proofs.Parcels.{parcel_flits}
 use Rattle.core_laws.proofs.ChannelFacts.{joined}
 
-tail_told : (flits : List ℕ) → (tail_bit_before flits == 1) ≡ is_empty flits
+tail_told : (flits : List ℕ) → (tail_bit_before flits == 1) ≡ has_no_flit flits
 tail_told [] = refl
 tail_told (flit ∷ flits) = refl
 
-shaped : (d : Design) (flits : List ℕ) → IsShaped flits → IsTailShaped (net_of d) flits
+shaped : (d : Design) (flits : List ℕ) → IsShaped flits → EndsWithTail (net_of d) flits
 unfolding net_of
 shaped d [] h = tt
 shaped d (flit ∷ flits) h = (ap (λ (n : ℕ). n == 1 && field flit 61 1 == 1) h.0, ap (λ (n : ℕ). n == 1) h.1 ∙ tail_told flits, shaped d flits h.2)
 
-alone : (flit : ℕ) (flits : List ℕ) → ((field flit 62 1 ≡ 1) ↔ (flits ≡ [])) → is_tail flit ≡ is_empty flits
+alone : (flit : ℕ) (flits : List ℕ) → ((field flit 62 1 ≡ 1) ↔ (flits ≡ [])) → is_tail flit ≡ has_no_flit flits
 alone flit [] h = eq-eqb (field flit 62 1) 1 (h.1 refl)
 alone flit (x ∷ flits) h = ne_eqb (field flit 62 1) 1 (λ e. let no = h.0 e in cc)
 
@@ -37,7 +37,7 @@ told_is d p head h = (
       (ejection_channel d.shape) h.destination h.class,
 )
 
-alone_is : (d : Design) (flit : ℕ) (flits : List ℕ) → ((field flit 62 1 ≡ 1) ↔ (flits ≡ [])) → (net_of d).is_tail flit ≡ is_empty flits
+alone_is : (d : Design) (flit : ℕ) (flits : List ℕ) → ((field flit 62 1 ≡ 1) ↔ (flits ≡ [])) → (net_of d).is_tail flit ≡ has_no_flit flits
 unfolding net_of
 alone_is d flit flits h = alone flit flits h
 

@@ -14,17 +14,17 @@ use Rattle.packet.specs.declared.kinds.Operation.{Operation}
 use Rattle.packet.specs.declared.kinds.Packet.TheVariants as packet
 use Rattle.packet.specs.declared.assembler.Offered.{Offered}
 use Rattle.packet.specs.Answer.{flits_left}
-use Rattle.order_abstract.specs.script_follower.specs.Following.{is_finished}
-use Rattle.order_abstract.specs.one_order.specs.Order.{LinearizationPoint}
+use Rattle.script_follower.specs.Following.{is_finished}
+use Rattle.one_order.specs.Order.{LinearizationPoint}
 use Rattle.flit_buffer.specs.Channel.{first_of, rest}
 use Rattle.flit_buffer.specs.declared.want.Want.{Want}
 use Rattle.flit_buffer.specs.declared.want.Want.TheVariants as want
 use Rattle.flit_buffer.specs.Surroundings.{Surroundings, ring, granted, surroundings_after}
 use Rattle.wormhole.specs.Net.{IsNet}
-use Rattle.order_abstract.specs.script_follower.specs.ProcessorRecord.{ready}
+use Rattle.script_follower.specs.ProcessorRecord.{ready}
 use Rattle.order_abstract.specs.Flight.{Move, Takes}
 use Rattle.packet.specs.Flits.{is_tail, offered}
-use Rattle.order_abstract.specs.script_follower.specs.ProcessorTable.{ProcessorState, processor_wants, processor_after, flits_due, record_sent, record_offered}
+use Rattle.script_follower.specs.ProcessorTable.{ProcessorState, processor_wants, processor_after, flits_due, record_sent, record_offered}
 use Rattle.channel_number.specs.Ports.{injection_channel, ejection_channel}
 use Rattle.tile_laws.specs.Wiring.{processor_wiring}
 use Rattle.tile_laws.specs.declared.agent.Agent.TheVariants.{Processor}
@@ -44,7 +44,7 @@ use Rattle.core_laws.proofs.SendsRest.{rest_quiet, rest_stands}
 use Rattle.core_laws.proofs.Completes.{accepts}
 use Rattle.core_laws.specs.Heads.{carries_route}
 use Rattle.core_laws.specs.Network.{request_event, processor_event, tile_event, network_event}
-use Rattle.wormhole.specs.Events.{Event, Return}
+use Rattle.wormhole.specs.Events.{NetEvent, Return}
 use Rattle.core_laws.proofs.Reports.{done_stands, seen_stands}
 use Rattle.core_laws.proofs.Quiet.{back_quiet, back_stands}
 use Rattle.core_laws.proofs.QuietSteps.{Stays, with_tile, agent_stays, attempt_stays, if_true, both_true, not_true}
@@ -58,7 +58,7 @@ module _ (d : Design) (accepted : IsAccepted d.shape) (tags : ℕ) (opening : Li
   abbrev tiles : ℕ
   tiles = tiles_of d.shape
 
-  abbrev Kept : State → Option Event → Type 0
+  abbrev Kept : State → Option NetEvent → Type 0
   Kept after e = Stays d tags opening g order after e
 
   abbrev processor_then : ℕ → ProcessorState → Want → State
@@ -165,7 +165,7 @@ module _ (d : Design) (accepted : IsAccepted d.shape) (tags : ℕ) (opening : Li
         agent_stays (processor_wants tiles d.words t) (processor_after tiles d.words t) d.depth (processor_wiring d.shape t) p s.around choice
         (processor_move t p choice)
         (processor_event d t p s.around choice)
-        (λ (o : Option (ProcessorState × Surroundings)) (e : Option Event). Kept
+        (λ (o : Option (ProcessorState × Surroundings)) (e : Option NetEvent). Kept
         (with_tile s t (option_map (λ q. (record (tile_at s t) { processor = q.0 }, q.1)) o)) e)
         (record { stands = st; may = tt }) (then_processor choice) h
 

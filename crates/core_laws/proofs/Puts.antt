@@ -6,18 +6,18 @@ use Rattle.torus.specs.Shape.{tiles_of, dims_of}
 use Rattle.packet.specs.declared.heading.Head.{Head}
 use Rattle.packet.specs.Flit.{field, class_numbered}
 use Rattle.channel_number.specs.Order.{channel_count, channel_at}
-use Rattle.order_abstract.specs.one_order.specs.Order.{LinearizationPoint}
+use Rattle.one_order.specs.Order.{LinearizationPoint}
 use Rattle.flit_buffer.specs.Places.{put_in_ring}
 use Rattle.flit_buffer.specs.Surroundings.{ring}
 use Rattle.flit_buffer.proofs.RingLaws.{put_ring}
 use Rattle.wormhole.specs.Net.{Net, IsNet}
-use Rattle.wormhole.specs.State.{Line as Lane, Note}
+use Rattle.wormhole.specs.State.{NetLine as Lane, Note}
 use Rattle.wormhole.specs.Events.{ForwardHead, CanForwardHead, first_tail}
 use Rattle.wormhole.proofs.RouteSteps.{has_way}
 use Rattle.wormhole.proofs.Receivers.{moved}
 use Rattle.wormhole.proofs.Routers.{latched}
 use Rattle.packet.specs.Flits.{is_tail, head_of}
-use Rattle.tile_laws.specs.router.specs.Table.{RouterState, latch_of, output_owned, is_owned, way_of}
+use Rattle.router.specs.Table.{RouterState, latch_of, output_owned, is_owned, way_of}
 use Rattle.channel_number.specs.Ports.{port_count, ejection_channel, input_channel, output_channel}
 use Rattle.tile_laws.specs.Tile.{Design}
 use Rattle.core_laws.specs.Core.{State}

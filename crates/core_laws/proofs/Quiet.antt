@@ -5,24 +5,24 @@ use Rattle.std.proofs.lemmas.Bool.{cases_eq}
 use Rattle.std.proofs.lemmas.Option.{slice_get-get_or}
 use Rattle.torus.specs.Shape.{tiles_of}
 use Rattle.torus.specs.declared.shape.Class.TheVariants.{Request, Reply}
-use Rattle.order_abstract.specs.script_follower.specs.Following.{is_finished}
-use Rattle.order_abstract.specs.one_order.specs.Order.{LinearizationPoint}
+use Rattle.script_follower.specs.Following.{is_finished}
+use Rattle.one_order.specs.Order.{LinearizationPoint}
 use Rattle.channel_number.specs.Order.{channel_count}
 use Rattle.flit_buffer.specs.Places.{Ring, IsRing, credit_of_ring}
 use Rattle.flit_buffer.specs.Surroundings.{ring, changed, AreRings}
 use Rattle.flit_buffer.proofs.RingLaws.{credit_ring}
 use Rattle.flit_buffer.proofs.ManyRings.{changed_here, changed_other}
 use Rattle.wormhole.specs.Net.{Net, IsNet, Parcel}
-use Rattle.wormhole.specs.State.{Line as Lane}
-use Rattle.wormhole.specs.Events.{Event, Return, CanHappen, after}
+use Rattle.wormhole.specs.State.{NetLine as Lane}
+use Rattle.wormhole.specs.Events.{NetEvent, Return, CanHappen, after}
 use Rattle.wormhole.specs.Delivery.{whole}
 use Rattle.wormhole.proofs.Changes.{update_same, update_other}
 use Rattle.wormhole.proofs.Reached.{words_kept, routes_kept}
-use Rattle.order_abstract.specs.script_follower.specs.ProcessorRecord.{ProcessorRecord, no_processor}
+use Rattle.script_follower.specs.ProcessorRecord.{ProcessorRecord, no_processor}
 use Rattle.order_abstract.specs.Flight.{Flight}
 use Rattle.order_abstract.proofs.Whole.{Whole}
 use Rattle.core_laws.specs.Heads.{carries_route}
-use Rattle.tile_laws.specs.router.specs.Table.{RouterState, output_owned}
+use Rattle.router.specs.Table.{RouterState, output_owned}
 use Rattle.channel_number.specs.Ports.{injection_channel, ejection_channel}
 use Rattle.tile_laws.specs.Tile.{Design, TileState}
 use Rattle.core_laws.specs.Core.{State}
@@ -36,7 +36,7 @@ use Rattle.core_laws.proofs.Stands.{in_course}
 
 module _ (d : Design) (net : IsNet (net_of d)) (tags : ℕ) (opening : List ℕ) (s : State) (g : Ghost) (order : List LinearizationPoint)
     (st : Stands d tags opening s g order)
-    (t : ℕ) (t_in : t < tiles_of d.shape) (new_tile : TileState) (x : ℕ) (x_in : x < channel_count d.shape) (f : Ring → Ring) (e : Event) where
+    (t : ℕ) (t_in : t < tiles_of d.shape) (new_tile : TileState) (x : ℕ) (x_in : x < channel_count d.shape) (f : Ring → Ring) (e : NetEvent) where
   abbrev n : Net
   n = net_of d
 

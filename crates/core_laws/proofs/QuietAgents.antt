@@ -3,7 +3,7 @@ use Rattle.std.proofs.Common.{◌≡◌, ℕ, ◌<◌, List, None, refl}
 use Rattle.torus.specs.Shape.{IsAccepted, tiles_of}
 use Rattle.torus.specs.declared.step.Choice.{Choice}
 use Rattle.torus.specs.declared.step.Step.{Step}
-use Rattle.order_abstract.specs.one_order.specs.Order.{LinearizationPoint}
+use Rattle.one_order.specs.Order.{LinearizationPoint}
 use Rattle.tile_laws.specs.declared.agent.Agent.{Agent}
 use Rattle.tile_laws.specs.declared.agent.Agent.TheVariants.{Processor, Router, Bank}
 use Rattle.tile_laws.specs.Tile.{Design, tile_step}

@@ -6,7 +6,7 @@ use Rattle.std.proofs.lemmas.Option.{slice_get_within, get_or_from_slice_get}
 use Rattle.torus.specs.Shape.{tiles_of}
 use Rattle.torus.specs.declared.step.Choice.{Choice}
 use Rattle.torus.specs.declared.step.Step.{Step}
-use Rattle.order_abstract.specs.one_order.specs.Order.{LinearizationPoint}
+use Rattle.one_order.specs.Order.{LinearizationPoint}
 use Rattle.flit_buffer.specs.declared.want.Want.{Want}
 use Rattle.flit_buffer.specs.Surroundings.{Surroundings, Wiring, granted, surroundings_after, agent_step, step_with}
 use Rattle.order_abstract.specs.Flight.{Move}
@@ -15,7 +15,7 @@ use Rattle.tile_laws.specs.Tile.{Design, TileState, tile_step}
 use Rattle.tile_laws.specs.Agents.{agent_kind, agent_tile}
 use Rattle.core_laws.specs.Core.{State, next, or_same}
 use Rattle.core_laws.specs.Moves.{learned_by, tile_move, move_of}
-use Rattle.wormhole.specs.Events.{Event, CanHappen, network_after}
+use Rattle.wormhole.specs.Events.{NetEvent, CanHappen, network_after}
 use Rattle.core_laws.specs.Network.{net_of, tile_event, network_event}
 use Rattle.core_laws.proofs.Stands.{Ghost, Stands, tile_at, no_tile}
 
@@ -39,7 +39,7 @@ none_there (Some x) h = absurd (cc)
 -- What holds after a step of an agent that isn't enabled, and after each that is no move, holds after every one that is no move.
 module _ {S : Type 0} (wants : S → Choice → Option Want) (after : S → Choice → Want → ℕ → S) (depth : ℕ) (wiring : Wiring) (state : S) (around : Surroundings)
     (choice : Choice) (move : ℕ → Option Move)
-    (event : ℕ → Option Event) (P : Option (S × Surroundings) → Option Event → Type 0) (same : P None None)
+    (event : ℕ → Option NetEvent) (P : Option (S × Surroundings) → Option NetEvent → Type 0) (same : P None None)
     (does : (w : Want) (learned : ℕ) → wants state choice ≡ Some w → granted around wiring w ≡ Some learned → move learned ≡ None
     → P (Some (after state choice w learned, surroundings_after depth around wiring w)) (event learned)) where
   by_learned : (w : Want) → wants state choice ≡ Some w → (o : Option ℕ) → granted around wiring w ≡ o → option_and_then move o ≡ None
@@ -58,7 +58,7 @@ module _ {S : Type 0} (wants : S → Choice → Option Want) (after : S → Choi
   agent_stays h = by_want (wants state choice) refl h
 
 -- a state stands after an event of the network that may happen, or none: beside it the network after the event is noted
-pub record Stays (d : Design) (tags : ℕ) (opening : List ℕ) (g : Ghost) (order : List LinearizationPoint) (after : State) (e : Option Event) : Type 0 where
+pub record Stays (d : Design) (tags : ℕ) (opening : List ℕ) (g : Ghost) (order : List LinearizationPoint) (after : State) (e : Option NetEvent) : Type 0 where
   pub stands : Stands d tags opening after (record g { net = network_after (net_of d) g.net e }) order
   pub may : IfSome e (CanHappen (net_of d) g.net.lines)
 
@@ -79,7 +79,7 @@ module _ (d : Design) (tags : ℕ) (opening : List ℕ) (s : State) (g : Ghost) 
   next_by a t choice o = or_same s
       (option_and_then (λ tile. option_map (λ p. record { tiles = slice_set s.tiles t p.0; around = p.1 }) (tile_step d t tile s.around a choice)) o)
 
-  abbrev event_by : Agent → ℕ → Choice → Option TileState → Option Event
+  abbrev event_by : Agent → ℕ → Choice → Option TileState → Option NetEvent
   event_by a t choice o = option_and_then (λ tile. tile_event d t tile s.around a choice) o
 
   at_tile : (t : ℕ) (choice : Choice) (o : Option TileState) → slice_get s.tiles t ≡ o → move_by agent t choice o ≡ None

@@ -4,14 +4,14 @@ use Rattle.std.specs.Prelude.{filter}
 use Rattle.std.proofs.lemmas.List.Sums.{count_by-le-length, length-filter}
 use Rattle.std.proofs.lemmas.Option.{same_Some, get_or_from_slice_get}
 use Rattle.torus.specs.declared.step.Step.{Step}
-use Rattle.order_abstract.specs.script_follower.specs.Following.{is_finished}
+use Rattle.script_follower.specs.Following.{is_finished}
 use Rattle.channel_number.specs.Order.{channel_count}
 use Rattle.flit_buffer.specs.Channel.{IsChannelState}
 use Rattle.flit_buffer.specs.Surroundings.{ring}
-use Rattle.order_abstract.specs.one_order.specs.Events.{order_after}
+use Rattle.one_order.specs.Events.{order_after}
 use Rattle.tile_laws.specs.Tile.{TileState}
 use Rattle.core_laws.specs.Core.{Load, State, design_of}
-use Rattle.core_laws.specs.Runs.{IsAccepted}
+use Rattle.core_laws.specs.Runs.{IsAcceptedLoad}
 use Rattle.core_laws.specs.Reports.{CountsReports}
 use Rattle.wormhole.specs.Words.{Words}
 use Rattle.wormhole.specs.Routes.{Routes}
@@ -36,7 +36,7 @@ passes : {A : Type 0} (test : A → Bool) (xs : List A) (x : A) → length (filt
 passes test [] x h i there = absurd (cc)
 passes test (y ∷ xs) x h i there = passes_by test y xs x (test y) refl h i there (λ k j z. passes test xs x k j z)
 
-module _ (l : Load) (ok : IsAccepted l) (steps : List Step) (n : ℕ) where
+module _ (l : Load) (ok : IsAcceptedLoad l) (steps : List Step) (n : ℕ) where
   abbrev s : State
   s = state_at l steps n
 

@@ -8,7 +8,7 @@ use Rattle.torus.specs.declared.shape.Class.{Class}
 use Rattle.torus.specs.declared.shape.Class.TheVariants.{Request, Reply}
 use Rattle.packet.specs.declared.kinds.Packet.TheVariants as packet
 use Rattle.packet.specs.declared.kinds.Response.{Response as Telling}
-use Rattle.order_abstract.specs.one_order.specs.Order.{LinearizationPoint}
+use Rattle.one_order.specs.Order.{LinearizationPoint}
 use Rattle.channel_number.specs.Order.{channel_count}
 use Rattle.flit_buffer.specs.Channel.{rest}
 use Rattle.flit_buffer.specs.Places.{Ring, IsRing, put_in_ring}
@@ -16,19 +16,19 @@ use Rattle.flit_buffer.specs.Surroundings.{ring, changed, AreRings}
 use Rattle.flit_buffer.proofs.RingLaws.{put_ring}
 use Rattle.flit_buffer.proofs.ManyRings.{changed_here, changed_other}
 use Rattle.wormhole.specs.Net.{Net, IsNet, Parcel, IsParcel}
-use Rattle.wormhole.specs.State.{Line as Lane, Note}
+use Rattle.wormhole.specs.State.{NetLine as Lane, Note}
 use Rattle.wormhole.specs.Events.{InjectHead, CanInjectHead, after, put}
 use Rattle.wormhole.specs.Delivery.{whole, whole_of}
 use Rattle.wormhole.proofs.Changes.{update_same, update_other}
 use Rattle.wormhole.proofs.Reached.{words_kept, routes_kept}
 use Rattle.wormhole.proofs.Lists.{all_on}
-use Rattle.order_abstract.specs.script_follower.specs.ProcessorRecord.{no_processor}
+use Rattle.script_follower.specs.ProcessorRecord.{no_processor}
 use Rattle.order_abstract.specs.Flight.{Flight}
 use Rattle.order_abstract.proofs.Whole.{Whole}
 use Rattle.packet.specs.Flits.{flits_of}
 use Rattle.core_laws.specs.Heads.{carries_route}
-use Rattle.order_abstract.specs.script_follower.specs.ProcessorTable.{ProcessorState}
-use Rattle.tile_laws.specs.router.specs.Table.{RouterState, output_owned}
+use Rattle.script_follower.specs.ProcessorTable.{ProcessorState}
+use Rattle.router.specs.Table.{RouterState, output_owned}
 use Rattle.channel_number.specs.Ports.{injection_channel}
 use Rattle.tile_laws.specs.Tile.{Design, TileState}
 use Rattle.core_laws.specs.Core.{State}

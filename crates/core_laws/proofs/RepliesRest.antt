@@ -4,13 +4,13 @@ use Rattle.std.proofs.lemmas.Bool.{cases_eq}
 use Rattle.torus.specs.Shape.{tiles_of}
 use Rattle.torus.specs.declared.shape.Class.{Class}
 use Rattle.torus.specs.declared.shape.Class.TheVariants.{Request, Reply}
-use Rattle.order_abstract.specs.one_order.specs.Order.{LinearizationPoint}
+use Rattle.one_order.specs.Order.{LinearizationPoint}
 use Rattle.channel_number.specs.Order.{channel_count}
 use Rattle.flit_buffer.specs.Places.{put_in_ring}
 use Rattle.flit_buffer.specs.Surroundings.{ring}
 use Rattle.flit_buffer.proofs.RingLaws.{put_ring}
-use Rattle.wormhole.specs.Net.{IsNet, IsTailShaped}
-use Rattle.wormhole.specs.State.{Line as Lane, Note, update}
+use Rattle.wormhole.specs.Net.{IsNet, EndsWithTail}
+use Rattle.wormhole.specs.State.{NetLine as Lane, Note, update}
 use Rattle.wormhole.specs.Events.{InjectRest, put}
 use Rattle.wormhole.specs.Delivery.{whole_of}
 use Rattle.wormhole.proofs.Changes.{update_same, update_other}
@@ -65,8 +65,8 @@ module _ (d : Design) (net : IsNet (net_of d)) (tags : ℕ) (opening : List ℕ)
 
   no_more : carries_route (first_flit more) ≡ false
   no_more =
-      let shaped : IsTailShaped (net_of d) (flit ∷ more) =
-      subst (IsTailShaped (net_of d)) (st.lines.senders lane (injects_at d t Reply) ∙ in_rest) (st.lines.owed lane) in
+      let shaped : EndsWithTail (net_of d) (flit ∷ more) =
+      subst (EndsWithTail (net_of d)) (st.lines.senders lane (injects_at d t Reply) ∙ in_rest) (st.lines.owed lane) in
       no_head_after d more shaped.2
 
   some_left : (tile_at s t).bank.to_put ≢ []

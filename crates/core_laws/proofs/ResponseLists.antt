@@ -8,9 +8,9 @@ use Rattle.packet.specs.declared.kinds.Response.{Response as Telling}
 use Rattle.packet.specs.Flit.{field}
 use Rattle.packet.specs.Spelling.{Spells}
 use Rattle.packet.proofs.Shapes.{TellsPacket-spelled, length-spelled}
-use Rattle.order_abstract.specs.home_bank.specs.declared.entry.Entry.{Entry}
+use Rattle.home_bank.specs.declared.entry.Entry.{Entry}
 use Rattle.packet.specs.Flits.{flits_of}
-use Rattle.wormhole.specs.Net.{IsOn, IsTailShaped}
+use Rattle.wormhole.specs.Net.{IsOn, EndsWithTail}
 use Rattle.tile_laws.specs.Tile.{Design}
 use Rattle.core_laws.specs.Heads.{carries_route}
 use Rattle.core_laws.proofs.Projection.{net_of, first_flit}
@@ -79,6 +79,6 @@ one_of_map f (x ∷ []) y h = (x, refl, cc)
 one_of_map f (x ∷ z ∷ xs) y h = absurd (cc)
 
 -- what follows a head doesn't begin with one
-pub no_head_after : (d : Design) (flits : List ℕ) → IsTailShaped (net_of d) flits → carries_route (first_flit flits) ≡ false
+pub no_head_after : (d : Design) (flits : List ℕ) → EndsWithTail (net_of d) flits → carries_route (first_flit flits) ≡ false
 no_head_after d [] h = no_head
 no_head_after d (flit ∷ flits) h = sym (is_head_of d flit) ∙ h.0

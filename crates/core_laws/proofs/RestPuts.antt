@@ -3,18 +3,18 @@ use Rattle.std.proofs.Common.{◌≡◌, ◌≢◌, ℕ, ◌-◌, ◌<◌, false
 use Rattle.std.proofs.Common.{subst, slice_set, length-set, if◌then◌else◌}
 use Rattle.std.proofs.lemmas.Option.{same_Some}
 use Rattle.torus.specs.Shape.{tiles_of, dims_of}
-use Rattle.order_abstract.specs.one_order.specs.Order.{LinearizationPoint}
+use Rattle.one_order.specs.Order.{LinearizationPoint}
 use Rattle.channel_number.specs.Order.{channel_count}
 use Rattle.flit_buffer.specs.Places.{put_in_ring}
 use Rattle.flit_buffer.specs.Surroundings.{ring}
 use Rattle.flit_buffer.proofs.RingLaws.{put_ring}
 use Rattle.wormhole.specs.Net.{Net, IsNet}
-use Rattle.wormhole.specs.State.{Line as Lane, Note}
+use Rattle.wormhole.specs.State.{NetLine as Lane, Note}
 use Rattle.wormhole.specs.Events.{ForwardRest, CanForwardRest}
 use Rattle.wormhole.proofs.Ways.{apart_by_number}
 use Rattle.packet.specs.Flits.{is_tail}
 use Rattle.core_laws.specs.Heads.{carries_route}
-use Rattle.tile_laws.specs.router.specs.Table.{RouterState, latch_of, output_owned}
+use Rattle.router.specs.Table.{RouterState, latch_of, output_owned}
 use Rattle.channel_number.specs.Ports.{port_count, input_channel, output_channel}
 use Rattle.tile_laws.specs.Tile.{Design}
 use Rattle.core_laws.specs.Core.{State}

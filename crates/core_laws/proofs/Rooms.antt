@@ -8,20 +8,20 @@ use Rattle.packet.specs.declared.kinds.Operation.{Operation}
 use Rattle.packet.specs.declared.kinds.Request.{Request as Asking}
 use Rattle.script.specs.declared.line.Line.{Line}
 use Rattle.script.specs.Scripts.{operation_count, script_of, IsAcceptedScript as IsReadScript}
-use Rattle.order_abstract.specs.script_follower.specs.Scripts.{IsFollowable}
-use Rattle.order_abstract.specs.script_follower.specs.Following.{next_operation_of}
-use Rattle.order_abstract.specs.script_follower.specs.ProcessorRecord.{ProcessorRecord, ready}
-use Rattle.order_abstract.specs.script_follower.proofs.Shown.{followed, left_after_issue, left_within}
-use Rattle.order_abstract.specs.script_follower.proofs.Followable.{accepted_followable}
-use Rattle.order_abstract.specs.one_order.specs.Observed.{list_at}
-use Rattle.order_abstract.specs.one_order.specs.Events.{order_after}
-use Rattle.order_abstract.specs.one_order.proofs.Lists.{within_length}
+use Rattle.script_follower.specs.Scripts.{IsFollowable}
+use Rattle.script_follower.specs.Following.{next_operation_of}
+use Rattle.script_follower.specs.ProcessorRecord.{ProcessorRecord, ready}
+use Rattle.script_follower.proofs.Shown.{followed, left_after_issue, left_within}
+use Rattle.script_follower.proofs.Followable.{accepted_followable}
+use Rattle.one_order.specs.Observed.{list_at}
+use Rattle.one_order.specs.Events.{order_after}
+use Rattle.one_order.proofs.Lists.{within_length}
 use Rattle.order_abstract.specs.Flight.{Flight, show, asked_place}
 use Rattle.order_abstract.proofs.Counts.{home_total, asked_remove}
 use Rattle.order_abstract.proofs.Parts.{issued_at, list_at_map}
 use Rattle.tile_laws.specs.Tile.{Design}
 use Rattle.core_laws.specs.Core.{Load, State, design_of}
-use Rattle.core_laws.specs.Runs.{IsAccepted}
+use Rattle.core_laws.specs.Runs.{IsAcceptedLoad}
 use Rattle.order_abstract.specs.Room.{home_room}
 use Rattle.order_abstract.proofs.BoundsScripts.{followed_home_within, home_total_within}
 use Rattle.core_laws.specs.Noted.{noted}
@@ -35,7 +35,7 @@ use Rattle.core_laws.proofs.Runs.{following_in}
 use Rattle.core_laws.proofs.EveryRun.{holds_in}
 use Rattle.core_laws.proofs.Stands.{Stands, tile_at, no_tile, flight_of}
 
-module _ (l : Load) (ok : IsAccepted l) (steps : List Step) (n : ℕ) where
+module _ (l : Load) (ok : IsAcceptedLoad l) (steps : List Step) (n : ℕ) where
   abbrev d : Design
   d = design_of l
 

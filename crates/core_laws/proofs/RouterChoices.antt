@@ -9,7 +9,7 @@ use Rattle.torus.specs.Shape.{Shape, IsAccepted, tiles_of, dims_of}
 use Rattle.torus.specs.declared.step.Choice.{Choice}
 use Rattle.torus.specs.declared.step.Choice.TheVariants.{Send, Take, TakeFrom, Put, Credit, CreditOf, Serve, Done, Look}
 use Rattle.packet.specs.declared.heading.Head.{Head}
-use Rattle.order_abstract.specs.one_order.specs.Order.{LinearizationPoint}
+use Rattle.one_order.specs.Order.{LinearizationPoint}
 use Rattle.flit_buffer.specs.Channel.{rest}
 use Rattle.flit_buffer.specs.Places.{put_in_ring, take_from_ring, credit_of_ring}
 use Rattle.flit_buffer.specs.declared.want.Want.{Want}
@@ -18,12 +18,12 @@ use Rattle.flit_buffer.specs.Surroundings.{ring, granted, surroundings_after, ch
 use Rattle.wormhole.specs.Net.{Net}
 use Rattle.wormhole.proofs.Receivers.{moved}
 use Rattle.wormhole.proofs.Routers.{latched}
-use Rattle.wormhole.specs.Events.{Event, ForwardRest, Return}
+use Rattle.wormhole.specs.Events.{NetEvent, ForwardRest, Return}
 use Rattle.packet.specs.Flits.{head_of, is_tail}
 use Rattle.core_laws.specs.Heads.{carries_route}
-use Rattle.tile_laws.specs.router.specs.Table.{RouterState, latch_of, output_owned, output_for, wants_to_take, wants_to_put, router_wants, router_after}
+use Rattle.router.specs.Table.{RouterState, latch_of, output_owned, output_for, wants_to_take, wants_to_put, router_wants, router_after}
 use Rattle.channel_number.specs.Ports.{port_count, input_channel, output_channel}
-use Rattle.tile_laws.specs.router.specs.Beginning.{router_wiring}
+use Rattle.router.specs.Beginning.{router_wiring}
 use Rattle.tile_laws.specs.Tile.{Design}
 use Rattle.core_laws.specs.Core.{State}
 use Rattle.core_laws.proofs.Projection.{net_of}
@@ -34,7 +34,7 @@ use Rattle.core_laws.proofs.StepEvents.{first_there}
 use Rattle.core_laws.proofs.Wired.{is_wired_up}
 use Rattle.core_laws.proofs.ChannelWants.{if_what}
 use Rattle.core_laws.proofs.Quiet.{quiet_state, quiet_ghost, back_quiet, back_stands}
-use Rattle.core_laws.specs.Network.{put_event, forwarded, router_event}
+use Rattle.core_laws.specs.Network.{put_event, words_forwarded, router_event}
 use Rattle.core_laws.proofs.QuietSteps.{Stays}
 use Rattle.core_laws.proofs.RouterSteps.{output_at, held_of, then_put}
 use Rattle.core_laws.proofs.Latches.{latched_state, latched_ghost, can_latch, latched_stands}
@@ -80,7 +80,7 @@ module _ (d : Design) (accepted : IsAccepted d.shape) (tags : ℕ) (opening : Li
         around = surroundings_after d.depth s.around (router_wiring d.shape t) w;
       }
 
-  abbrev Keeps : State → Option Event → Type 0
+  abbrev Keeps : State → Option NetEvent → Type 0
   Keeps after e = Stays d tags opening g order after e
 
   then_latch : (i : ℕ) (w : Want) (learned : ℕ) → router_wants d.shape t r (TakeFrom i) ≡ Some w → granted s.around (router_wiring d.shape t) w ≡ Some learned
@@ -176,9 +176,9 @@ module _ (d : Design) (accepted : IsAccepted d.shape) (tags : ℕ) (opening : Li
       let x : ℕ = input_channel d.shape t i in
       let event : Some (ForwardRest x (output_channel d.shape t o) flit) ≡ put_event d t r i (latch_of r i) =
       ap (option_map (λ (p : ℕ). ForwardRest x (output_channel d.shape t p) flit)) (sym k.1)
-      ∙ (ap (λ (z : Option Head). option_map (λ (p : ℕ). forwarded z x (output_channel d.shape t p) flit) (output_for d.shape t r i z)) (sym tells)
+      ∙ (ap (λ (z : Option Head). option_map (λ (p : ℕ). words_forwarded z x (output_channel d.shape t p) flit) (output_for d.shape t r i z)) (sym tells)
       ∙ ap (put_event d t r i) (sym full)) in
-      subst (λ (e : Option Event). Keeps (router_then (Put i) w learned) e) event
+      subst (λ (e : Option NetEvent). Keeps (router_then (Put i) w learned) e) event
       (record {
         stands = subst (λ (z : State). Stands d tags opening z (rest_ghost d net wired tags opening s g order st t t_in i i_in flit o full body k.1 held some)
             order) same new;

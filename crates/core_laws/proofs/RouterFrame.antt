@@ -3,13 +3,13 @@ use Rattle.std.proofs.Common.{◌≡◌, ◌≢◌, ◌↔◌, ⊎_elim, ℕ, �
 use Rattle.std.proofs.Common.{get_or-set_same, get_or-set_other}
 use Rattle.std.proofs.lemmas.Bool.{cases_eq}
 use Rattle.torus.specs.Shape.{tiles_of, dims_of}
-use Rattle.order_abstract.specs.one_order.specs.Order.{LinearizationPoint}
+use Rattle.one_order.specs.Order.{LinearizationPoint}
 use Rattle.channel_number.specs.Order.{channel_count}
 use Rattle.flit_buffer.specs.Places.{Ring}
 use Rattle.wormhole.specs.Net.{IsNet}
-use Rattle.wormhole.specs.State.{Line as Lane}
-use Rattle.wormhole.specs.Events.{Event, after}
-use Rattle.tile_laws.specs.router.specs.Table.{RouterState, latch_of, output_owned}
+use Rattle.wormhole.specs.State.{NetLine as Lane}
+use Rattle.wormhole.specs.Events.{NetEvent, after}
+use Rattle.router.specs.Table.{RouterState, latch_of, output_owned}
 use Rattle.channel_number.specs.Ports.{port_count, input_channel, output_channel}
 use Rattle.tile_laws.specs.Tile.{Design, TileState}
 use Rattle.core_laws.specs.Core.{State}
@@ -21,7 +21,7 @@ use Rattle.core_laws.proofs.Stands.{Ghost, Stands, Mirrors, tile_at, in_course}
 module _ (d : Design) (net : IsNet (net_of d)) (wired : IsWiredUp d) (tags : ℕ) (opening : List ℕ) (s : State) (g : Ghost) (order : List LinearizationPoint)
     (st : Stands d tags opening s g order)
     (t : ℕ) (t_in : t < tiles_of d.shape) (i : ℕ) (i_in : i < port_count (dims_of d.shape)) (latch : Option ℕ) (owned : List (Option ℕ))
-    (y : ℕ) (y_in : y < channel_count d.shape) (f : Ring → Ring) (e : Event) where
+    (y : ℕ) (y_in : y < channel_count d.shape) (f : Ring → Ring) (e : NetEvent) where
   abbrev r : RouterState
   r = (tile_at s t).router
 

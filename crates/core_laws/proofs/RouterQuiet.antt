@@ -3,12 +3,12 @@ use Rattle.std.proofs.Common.{◌≡◌, ℕ, ◌<◌, List, Option, Some, None,
 use Rattle.std.specs.Prelude.{option_and_then, option_map}
 use Rattle.torus.specs.Shape.{IsAccepted, tiles_of}
 use Rattle.torus.specs.declared.step.Choice.{Choice}
-use Rattle.order_abstract.specs.one_order.specs.Order.{LinearizationPoint}
+use Rattle.one_order.specs.Order.{LinearizationPoint}
 use Rattle.flit_buffer.specs.Surroundings.{Surroundings}
-use Rattle.tile_laws.specs.router.specs.Table.{RouterState, router_wants, router_after}
-use Rattle.tile_laws.specs.router.specs.Beginning.{router_wiring}
+use Rattle.router.specs.Table.{RouterState, router_wants, router_after}
+use Rattle.router.specs.Beginning.{router_wiring}
 use Rattle.order_abstract.specs.Flight.{Move}
-use Rattle.wormhole.specs.Events.{Event}
+use Rattle.wormhole.specs.Events.{NetEvent}
 use Rattle.tile_laws.specs.declared.agent.Agent.TheVariants.{Router}
 use Rattle.tile_laws.specs.Tile.{Design, tile_step}
 use Rattle.core_laws.specs.Core.{State}
@@ -35,7 +35,7 @@ module _ (d : Design) (accepted : IsAccepted d.shape) (tags : ℕ) (opening : Li
   router_steps t t_in choice =
       agent_stays (router_wants d.shape t) router_after d.depth (router_wiring d.shape t) (tile_at s t).router s.around choice no_move
       (router_event d t (tile_at s t).router s.around choice)
-      (λ (o : Option (RouterState × Surroundings)) (e : Option Event). Stays d tags opening g order
+      (λ (o : Option (RouterState × Surroundings)) (e : Option NetEvent). Stays d tags opening g order
       (with_tile s t (option_map (λ q. (record (tile_at s t) { router = q.0 }, q.1)) o)) e)
       (record { stands = st; may = tt })
       (λ w learned is grants none. then_router d accepted tags opening s g order st t t_in

@@ -8,15 +8,15 @@ use Rattle.std.proofs.lemmas.Option.{same_Some}
 use Rattle.torus.specs.Shape.{Shape, IsAccepted, tiles_of, dims_of}
 use Rattle.torus.specs.declared.step.Choice.TheVariants.{Put}
 use Rattle.packet.specs.declared.heading.Head.{Head}
-use Rattle.order_abstract.specs.one_order.specs.Order.{LinearizationPoint}
+use Rattle.one_order.specs.Order.{LinearizationPoint}
 use Rattle.flit_buffer.specs.declared.want.Want.{Want}
 use Rattle.flit_buffer.specs.declared.want.Want.TheVariants as want
 use Rattle.flit_buffer.specs.Surroundings.{ring, granted, surroundings_after, changed}
 use Rattle.flit_buffer.specs.Places.{put_in_ring}
 use Rattle.packet.specs.Flits.{head_of, is_tail}
-use Rattle.tile_laws.specs.router.specs.Table.{RouterState, latch_of, output_for, way_of, is_owned, wants_to_put, router_wants, router_after}
+use Rattle.router.specs.Table.{RouterState, latch_of, output_for, way_of, is_owned, wants_to_put, router_wants, router_after}
 use Rattle.channel_number.specs.Ports.{port_count, input_channel, output_channel}
-use Rattle.tile_laws.specs.router.specs.Beginning.{router_wiring}
+use Rattle.router.specs.Beginning.{router_wiring}
 use Rattle.tile_laws.specs.Tile.{Design}
 use Rattle.core_laws.specs.Core.{State}
 use Rattle.core_laws.proofs.AgentSteps.{option_map_some}
@@ -24,8 +24,8 @@ use Rattle.core_laws.proofs.ChannelFacts.{is_head_of}
 use Rattle.core_laws.proofs.Networks.{network}
 use Rattle.core_laws.proofs.WiredUp.{head_told}
 use Rattle.core_laws.proofs.Puts.{put_state, put_ghost, put_stands, can_forward}
-use Rattle.core_laws.specs.Network.{put_event, forwarded}
-use Rattle.wormhole.specs.Events.{Event, ForwardHead}
+use Rattle.core_laws.specs.Network.{put_event, words_forwarded}
+use Rattle.wormhole.specs.Events.{NetEvent, ForwardHead}
 use Rattle.core_laws.proofs.QuietSteps.{Stays}
 use Rattle.core_laws.proofs.Wired.{is_wired_up, head_there}
 use Rattle.core_laws.proofs.ChannelWants.{if_what}
@@ -97,9 +97,9 @@ module _ (d : Design) (accepted : IsAccepted d.shape) (tags : ℕ) (opening : Li
       let event : Some (ForwardHead x (output_channel d.shape t o) flit) ≡ put_event d t r i (latch_of r i) =
       ap (λ (p : ℕ). Some (ForwardHead x (output_channel d.shape t p) flit)) free.1
       ∙ (ap (option_map (λ (p : ℕ). ForwardHead x (output_channel d.shape t p) flit)) (sym k.1)
-      ∙ (ap (λ (z : Option Head). option_map (λ (p : ℕ). forwarded z x (output_channel d.shape t p) flit) (output_for d.shape t r i z)) (sym tells)
+      ∙ (ap (λ (z : Option Head). option_map (λ (p : ℕ). words_forwarded z x (output_channel d.shape t p) flit) (output_for d.shape t r i z)) (sym tells)
       ∙ ap (put_event d t r i) (sym full))) in
-      subst (λ (e : Option Event). Stays d tags opening g order router_then e) event
+      subst (λ (e : Option NetEvent). Stays d tags opening g order router_then e) event
       (record {
         stands = subst (λ (x : State). Stands d tags opening x
             (put_ghost d net wired tags opening s g order st t t_in i i_in flit head full tells there.0 there.1 free.0 held) order) same new;

@@ -10,15 +10,15 @@ use Rattle.torus.specs.declared.step.Step.{Step}
 use Rattle.packet.specs.declared.kinds.Operation.{Operation}
 use Rattle.script.specs.declared.line.Line.{Line}
 use Rattle.script.specs.Scripts.{IsAcceptedScript as IsReadScript}
-use Rattle.order_abstract.specs.script_follower.specs.Following.{Following, first_of, next_operation_of}
-use Rattle.order_abstract.specs.script_follower.proofs.Shown.{followed}
-use Rattle.order_abstract.specs.one_order.specs.Observed.{Observed, list_at}
-use Rattle.order_abstract.specs.one_order.proofs.Lists.{list_at_none, within_length}
-use Rattle.order_abstract.specs.one_order.specs.Order.{LinearizationPoint}
-use Rattle.order_abstract.specs.one_order.specs.Events.{Event, happens, points_of, order_after, MayHappen, IsHistory}
+use Rattle.script_follower.specs.Following.{Following, first_of, next_operation_of}
+use Rattle.script_follower.proofs.Shown.{followed}
+use Rattle.one_order.specs.Observed.{Observed, list_at}
+use Rattle.one_order.proofs.Lists.{list_at_none, within_length}
+use Rattle.one_order.specs.Order.{LinearizationPoint}
+use Rattle.one_order.specs.Events.{Event, happens, points_of, order_after, MayHappen, IsHistory}
 use Rattle.wormhole.specs.Net.{IsNet}
-use Rattle.order_abstract.specs.script_follower.specs.ProcessorRecord.{ProcessorRecord, no_processor}
-use Rattle.order_abstract.specs.Flight.{Flight, Move, Sends, Serves, Takes, moved_by, event_by, IsFound}
+use Rattle.script_follower.specs.ProcessorRecord.{ProcessorRecord, no_processor}
+use Rattle.order_abstract.specs.Flight.{Flight, Move, Sends, Serves, Takes, moved_by, flight_event, IsFound}
 use Rattle.order_abstract.specs.Scripts.{HasFollowed, FollowScripts}
 use Rattle.order_abstract.proofs.Follows.{Follows, follows_first}
 use Rattle.order_abstract.proofs.FollowsMoves.{follows_any}
@@ -33,8 +33,8 @@ use Rattle.core_laws.proofs.Begins.{begins, first_shown}
 use Rattle.core_laws.proofs.Histories.{move_at, next_at, state_at, event_at, after_more}
 use Rattle.core_laws.proofs.Keeps.{keeps_step}
 use Rattle.core_laws.proofs.Followed.{next_inside}
-use Rattle.order_abstract.specs.script_follower.proofs.Followable.{accepted_followable}
-use Rattle.core_laws.specs.Runs.{IsAccepted}
+use Rattle.script_follower.proofs.Followable.{accepted_followable}
+use Rattle.core_laws.specs.Runs.{IsAcceptedLoad}
 use Rattle.wormhole.specs.Events.{CanHappen}
 use Rattle.core_laws.specs.Network.{network_event}
 use Rattle.core_laws.specs.Noted.{noted_by, noted, event_by as network_by}
@@ -50,7 +50,7 @@ AreQuiet d tags opening = (s : State) (g : Ghost) (order : List LinearizationPoi
     → (attempt : Step) → move_of d s attempt ≡ None → Stays d tags opening g order (next d s attempt) (network_event d s attempt)
 
 -- which event a move is depends on the records alone
-event_same : (words : ℕ) (s : State) (g : Ghost) (m : Option Move) → event_by (flight_of words s g) m ≡ event_by (flight_with words s [] []) m
+event_same : (words : ℕ) (s : State) (g : Ghost) (m : Option Move) → flight_event (flight_of words s g) m ≡ flight_event (flight_with words s [] []) m
 event_same words s g None = refl
 event_same words s g (Some (Sends t tag o)) = refl
 event_same words s g (Some (Serves r)) = refl
@@ -77,19 +77,19 @@ pub record HoldsIn (l : Load) (steps : List Step) (n : ℕ) : Type 0 where
 pub record Goes (l : Load) (n : ℕ) (s : State) (g : Ghost) (order : List LinearizationPoint) (attempt : Option Step) : Type 0 where
   pub stands : Stands (design_of l) l.tags l.opening (next_at (design_of l) s attempt)
       (noted_by (design_of l) s g (move_at (design_of l) s attempt) (network_by l s attempt))
-      (order ++ points_of (event_by (flight_with (length l.opening) s [] []) (move_at (design_of l) s attempt)) (suc n))
+      (order ++ points_of (flight_event (flight_with (length l.opening) s [] []) (move_at (design_of l) s attempt)) (suc n))
   pub values : HasValues (design_of l) (next_at (design_of l) s attempt)
   pub shown : show (length l.opening) (next_at (design_of l) s attempt)
-      ≡ happens (tiles_of l.shape) (show (length l.opening) s) (event_by (flight_with (length l.opening) s [] []) (move_at (design_of l) s attempt))
+      ≡ happens (tiles_of l.shape) (show (length l.opening) s) (flight_event (flight_with (length l.opening) s [] []) (move_at (design_of l) s attempt))
   pub may : MayHappen (tiles_of l.shape) l.tags l.opening (show (length l.opening) s) order
-      (event_by (flight_with (length l.opening) s [] []) (move_at (design_of l) s attempt))
+      (flight_event (flight_with (length l.opening) s [] []) (move_at (design_of l) s attempt))
   pub can : IfSome (network_by l s attempt) (CanHappen (net_of (design_of l)) g.net.lines)
   pub finds : (m : Move) → move_at (design_of l) s attempt ≡ Some m → IsFound (length l.opening) (flight_of (length l.opening) s g) m
   pub flight : flight_of (length l.opening) (next_at (design_of l) s attempt)
       (noted_by (design_of l) s g (move_at (design_of l) s attempt) (network_by l s attempt))
       ≡ moved_by (tiles_of l.shape) (flight_of (length l.opening) s g) (move_at (design_of l) s attempt)
 
-module _ (l : Load) (ok : IsAccepted l) (quiet : AreQuiet (design_of l) l.tags l.opening) where
+module _ (l : Load) (ok : IsAcceptedLoad l) (quiet : AreQuiet (design_of l) l.tags l.opening) where
   abbrev d : Design
   d = design_of l
 
@@ -166,10 +166,10 @@ module _ (l : Load) (ok : IsAccepted l) (quiet : AreQuiet (design_of l) l.tags l
         follows = λ p lines there.
             let f : Flight = flight_of (length l.opening) s (noted l steps n) in
             let m : Option Move = move_at d s (slice_get steps n) in
-            let same : event_by f m ≡ event_at l steps n = event_same (length l.opening) s (noted l steps n) m in
-            let happened : run_of l steps (suc n) ≡ happens (tiles_of l.shape) (run_of l steps n) (event_by f m) =
+            let same : flight_event f m ≡ event_at l steps n = event_same (length l.opening) s (noted l steps n) m in
+            let happened : run_of l steps (suc n) ≡ happens (tiles_of l.shape) (run_of l steps n) (flight_event f m) =
             (ap (show (length l.opening)) now ∙ go.shown) ∙ ap (happens (tiles_of l.shape) (run_of l steps n)) (sym same) in
-            let may : MayHappen (tiles_of l.shape) l.tags l.opening (run_of l steps n) order (event_by f m) =
+            let may : MayHappen (tiles_of l.shape) l.tags l.opening (run_of l steps n) order (flight_event f m) =
             subst (MayHappen (tiles_of l.shape) l.tags l.opening (run_of l steps n) order) (sym same) go.may in
             let new = follows_any (tiles_of l.shape) l.tags l.opening (run_of l steps) n f order refl before.stands.flight (event_at l steps) before.history m
             go.finds happened may p lines (before.follows p lines there) in

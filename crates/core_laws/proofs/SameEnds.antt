@@ -14,10 +14,10 @@ use Rattle.flit_buffer.specs.declared.want.Want.TheVariants.{Take, Put, Credit, 
 use Rattle.flit_buffer.specs.OwnPart.{SameWhereWanted}
 use Rattle.flit_buffer.specs.Surroundings.{Surroundings, Wiring, ring, no_ring, changed, granted, surroundings_after, agent_step}
 use Rattle.flit_buffer.proofs.ManyRings.{changed_here}
-use Rattle.tile_laws.specs.router.specs.Table.{RouterState, router_wants, router_after}
-use Rattle.tile_laws.specs.router.specs.Beginning.{router_wiring}
-use Rattle.order_abstract.specs.script_follower.specs.ProcessorTable.{ProcessorState, processor_wants, processor_after}
-use Rattle.order_abstract.specs.home_bank.specs.BankTable.{BankState, bank_wants, bank_after}
+use Rattle.router.specs.Table.{RouterState, router_wants, router_after}
+use Rattle.router.specs.Beginning.{router_wiring}
+use Rattle.script_follower.specs.ProcessorTable.{ProcessorState, processor_wants, processor_after}
+use Rattle.home_bank.specs.BankTable.{BankState, bank_wants, bank_after}
 use Rattle.tile_laws.specs.Wiring.{processor_wiring, bank_wiring}
 use Rattle.tile_laws.specs.declared.agent.Agent.TheVariants.{Processor, Router, Bank}
 use Rattle.tile_laws.specs.Tile.{Design, TileState, tile_step}

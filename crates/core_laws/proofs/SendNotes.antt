@@ -9,17 +9,17 @@ use Rattle.torus.specs.Shape.{tiles_of}
 use Rattle.torus.specs.declared.shape.Class.TheVariants.{Request}
 use Rattle.packet.specs.declared.kinds.Operation.{Operation}
 use Rattle.packet.specs.declared.kinds.Request.{Request as Asking}
-use Rattle.order_abstract.specs.one_order.specs.Observed.{list_at}
-use Rattle.order_abstract.specs.one_order.specs.Events.{push_at}
-use Rattle.order_abstract.specs.one_order.proofs.Lists.{list_at_push_same, list_at_push_other}
-use Rattle.order_abstract.specs.script_follower.specs.ProcessorRecord.{request_of}
+use Rattle.one_order.specs.Observed.{list_at}
+use Rattle.one_order.specs.Events.{push_at}
+use Rattle.one_order.proofs.Lists.{list_at_push_same, list_at_push_other}
+use Rattle.script_follower.specs.ProcessorRecord.{request_of}
 use Rattle.order_abstract.proofs.Whole.{address_is}
 use Rattle.wormhole.specs.Net.{Parcel}
 use Rattle.wormhole.specs.State.{Note}
 use Rattle.channel_number.specs.Ports.{injection_channel}
 use Rattle.tile_laws.specs.Tile.{Design}
 use Rattle.core_laws.specs.Core.{State}
-use Rattle.core_laws.specs.Delivery.{operation_asked}
+use Rattle.core_laws.specs.Delivery.{asked_operation}
 use Rattle.core_laws.proofs.Projection.{request_parcel}
 use Rattle.core_laws.proofs.SendFacts.{injection_tile}
 use Rattle.core_laws.proofs.Stands.{Ghost, Carries, IsProperRequest, tile_at, asked_between, served_requests}
@@ -81,9 +81,9 @@ module _ (d : Design) (s : State) (g : Ghost) (carries : Carries d s g) (t : ℕ
   -- the operations of its requests are those that it has issued
   pub issued_all : (issued : ℕ → List Operation) → issued t ≡ (tile_at s t).processor.operations.issued ++ o ∷ []
       → ((p : ℕ) → p ≢ t → issued p ≡ (tile_at s p).processor.operations.issued)
-      → (p : ℕ) → map (operation_asked (tiles_of d.shape)) (list_at requests p) ≡ issued p
+      → (p : ℕ) → map (asked_operation (tiles_of d.shape)) (list_at requests p) ≡ issued p
   issued_all issued new old p =
-      let A : Asking → Operation = operation_asked (tiles_of d.shape) in
+      let A : Asking → Operation = asked_operation (tiles_of d.shape) in
       let asked_is : A asks ≡ o = ap (λ (a : ℕ). record { address = a; op = o.op })
       (address_is (tiles_of d.shape) o.address (o.address / tiles_of d.shape) (o.address % tiles_of d.shape) refl refl) in
       ⊎_elim

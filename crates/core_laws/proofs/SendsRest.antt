@@ -4,13 +4,13 @@ use Rattle.std.proofs.lemmas.Bool.{cases_eq}
 use Rattle.torus.specs.Shape.{tiles_of}
 use Rattle.torus.specs.declared.shape.Class.{Class}
 use Rattle.torus.specs.declared.shape.Class.TheVariants.{Request, Reply}
-use Rattle.order_abstract.specs.one_order.specs.Order.{LinearizationPoint}
+use Rattle.one_order.specs.Order.{LinearizationPoint}
 use Rattle.channel_number.specs.Order.{channel_count}
 use Rattle.flit_buffer.specs.Places.{put_in_ring}
 use Rattle.flit_buffer.specs.Surroundings.{ring}
 use Rattle.flit_buffer.proofs.RingLaws.{put_ring}
 use Rattle.wormhole.specs.Net.{IsNet}
-use Rattle.wormhole.specs.State.{Line as Lane, Note, update}
+use Rattle.wormhole.specs.State.{NetLine as Lane, Note, update}
 use Rattle.wormhole.specs.Events.{InjectRest, put}
 use Rattle.wormhole.specs.Delivery.{whole_of}
 use Rattle.wormhole.proofs.Changes.{update_same, update_other}

@@ -7,9 +7,9 @@ use Rattle.std.proofs.lemmas.List.Elements.{filter-append, All-filter}
 use Rattle.torus.specs.Shape.{tiles_of}
 use Rattle.torus.specs.declared.shape.Class.TheVariants.{Request}
 use Rattle.packet.specs.declared.kinds.Request.{Request as Asking}
-use Rattle.order_abstract.specs.home_bank.specs.ServiceList.{address_of}
-use Rattle.order_abstract.specs.one_order.specs.Observed.{list_at}
-use Rattle.order_abstract.specs.one_order.specs.Order.{LinearizationPoint}
+use Rattle.home_bank.specs.ServiceList.{address_of}
+use Rattle.one_order.specs.Observed.{list_at}
+use Rattle.one_order.specs.Order.{LinearizationPoint}
 use Rattle.wormhole.specs.Net.{Net, IsNet, Parcel}
 use Rattle.wormhole.specs.Routes.{between}
 use Rattle.wormhole.specs.Delivery.{whole}

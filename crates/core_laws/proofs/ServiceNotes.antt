@@ -10,11 +10,11 @@ use Rattle.std.proofs.lemmas.Nat.{div-mul-add}
 use Rattle.torus.specs.Shape.{tiles_of}
 use Rattle.packet.specs.declared.kinds.Request.{Request as Asking}
 use Rattle.packet.specs.declared.kinds.Reply.{Reply as Answering}
-use Rattle.order_abstract.specs.home_bank.specs.declared.entry.Entry.{Entry}
-use Rattle.order_abstract.specs.home_bank.specs.ServiceList.{entry_of}
-use Rattle.order_abstract.specs.home_bank.specs.BankTable.{BankState}
-use Rattle.order_abstract.specs.one_order.specs.Observed.{list_at}
-use Rattle.order_abstract.specs.one_order.specs.Order.{LinearizationPoint}
+use Rattle.home_bank.specs.declared.entry.Entry.{Entry}
+use Rattle.home_bank.specs.ServiceList.{entry_of}
+use Rattle.home_bank.specs.BankTable.{BankState}
+use Rattle.one_order.specs.Observed.{list_at}
+use Rattle.one_order.specs.Order.{LinearizationPoint}
 use Rattle.order_abstract.specs.Flight.{Serves, is_asked_alike, asked_place, IsFound}
 use Rattle.order_abstract.proofs.FirstPlaces.{first_removed}
 use Rattle.wormhole.specs.Net.{IsNet}

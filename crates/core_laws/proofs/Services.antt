@@ -15,20 +15,20 @@ use Rattle.packet.specs.declared.kinds.Request.{Request as Asking}
 use Rattle.packet.specs.declared.kinds.Response.{Response as Telling}
 use Rattle.packet.specs.declared.kinds.Reply.{Reply as Answering}
 use Rattle.packet.specs.Memory.{new_word, reply_to}
-use Rattle.order_abstract.specs.home_bank.specs.declared.entry.Entry.{Entry}
-use Rattle.order_abstract.specs.home_bank.specs.ServiceList.{address_of, entry_of, response_of}
-use Rattle.order_abstract.specs.one_order.specs.Observed.{list_at}
-use Rattle.order_abstract.specs.one_order.specs.Order.{LinearizationPoint}
-use Rattle.order_abstract.specs.one_order.specs.Events.{points_of}
+use Rattle.home_bank.specs.declared.entry.Entry.{Entry}
+use Rattle.home_bank.specs.ServiceList.{address_of, entry_of, response_of}
+use Rattle.one_order.specs.Observed.{list_at}
+use Rattle.one_order.specs.Order.{LinearizationPoint}
+use Rattle.one_order.specs.Events.{points_of}
 use Rattle.wormhole.specs.Net.{IsNet, Parcel}
 use Rattle.wormhole.specs.Delivery.{whole}
 use Rattle.order_abstract.specs.Flight.{Flight, Serves, moved, event, asked_place, reply_given, IsFound}
 use Rattle.order_abstract.proofs.Whole.{Whole, any_steps}
 use Rattle.packet.specs.Flits.{flits_of}
 use Rattle.core_laws.specs.Heads.{carries_route}
-use Rattle.order_abstract.specs.home_bank.specs.BankTable.{BankState}
-use Rattle.order_abstract.specs.script_follower.specs.ProcessorTable.{ProcessorState}
-use Rattle.tile_laws.specs.router.specs.Table.{RouterState, output_owned}
+use Rattle.home_bank.specs.BankTable.{BankState}
+use Rattle.script_follower.specs.ProcessorTable.{ProcessorState}
+use Rattle.router.specs.Table.{RouterState, output_owned}
 use Rattle.channel_number.specs.Ports.{injection_channel, ejection_channel}
 use Rattle.tile_laws.specs.Tile.{Design, TileState}
 use Rattle.core_laws.specs.Core.{State, records_of, show}

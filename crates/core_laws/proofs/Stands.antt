@@ -8,10 +8,10 @@ use Rattle.packet.specs.declared.kinds.Request.{Request as Asking}
 use Rattle.packet.specs.declared.kinds.Response.{Response as Telling}
 use Rattle.packet.specs.Kinds.{code_of}
 use Rattle.packet.specs.Spelling.{Spells}
-use Rattle.order_abstract.specs.home_bank.specs.declared.entry.Entry.{Entry}
-use Rattle.order_abstract.specs.script_follower.specs.Following.{is_finished}
-use Rattle.order_abstract.specs.one_order.specs.Observed.{list_at}
-use Rattle.order_abstract.specs.one_order.specs.Order.{LinearizationPoint}
+use Rattle.home_bank.specs.declared.entry.Entry.{Entry}
+use Rattle.script_follower.specs.Following.{is_finished}
+use Rattle.one_order.specs.Observed.{list_at}
+use Rattle.one_order.specs.Order.{LinearizationPoint}
 use Rattle.flit_buffer.specs.Surroundings.{AreRings}
 use Rattle.wormhole.specs.Words.{Words}
 use Rattle.wormhole.specs.Routes.{Routes}
@@ -20,10 +20,10 @@ use Rattle.order_abstract.proofs.Whole.{Whole}
 use Rattle.packet.specs.Flits.{flits_of}
 use Rattle.core_laws.specs.Heads.{carries_route}
 use Rattle.channel_number.specs.Ports.{injection_channel, ejection_channel}
-use Rattle.order_abstract.specs.home_bank.specs.BankTable.{BankState}
+use Rattle.home_bank.specs.BankTable.{BankState}
 use Rattle.tile_laws.specs.Tile.{Design}
 use Rattle.core_laws.specs.Core.{State}
-use Rattle.core_laws.specs.Delivery.{operation_asked, notice_of, notice_by}
+use Rattle.core_laws.specs.Delivery.{asked_operation, notice_of, notice_by}
 use Rattle.core_laws.proofs.Projection.{net_of, request_parcel, response_parcel, first_flit}
 pub use Rattle.core_laws.specs.Noted.{Noted as Ghost, flight_of}
 pub use Rattle.core_laws.specs.Mirrors.{no_tile, tile_at, IsLane, in_course, Mirrors}
@@ -96,7 +96,7 @@ pub record Carries (d : Design) (s : State) (g : Ghost) : Type 0 where
   pub told : (b p : ℕ) → b < tiles_of d.shape → p < tiles_of d.shape → told_between b p (responses_from b 0 (tile_at s b).bank.entries)
       ≡ told_between b p (list_at g.taken p) ++ told_between b p g.told
   -- a processor's requests are those of the operations that it has issued
-  pub issued : (p : ℕ) → map (operation_asked (tiles_of d.shape)) (list_at g.requests p) ≡ (tile_at s p).processor.operations.issued
+  pub issued : (p : ℕ) → map (asked_operation (tiles_of d.shape)) (list_at g.requests p) ≡ (tile_at s p).processor.operations.issued
   -- a processor's answers are those that its taken responses bring
   pub answered : (p : ℕ) → map (notice_by p) (tile_at s p).processor.operations.answers ≡ map notice_of (list_at g.taken p)
 

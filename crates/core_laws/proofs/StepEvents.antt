@@ -13,18 +13,18 @@ use Rattle.packet.specs.declared.kinds.Request.{Request as Asking}
 use Rattle.packet.specs.declared.kinds.Response.{Response as Telling}
 use Rattle.packet.specs.declared.assembler.Offered.{Offered}
 use Rattle.packet.specs.declared.assembler.Offered.TheVariants.{More, Whole as Complete, Refused}
-use Rattle.order_abstract.specs.script_follower.specs.Following.{next_operation_of}
-use Rattle.order_abstract.specs.one_order.specs.Order.{LinearizationPoint}
-use Rattle.order_abstract.specs.one_order.specs.Events.{Event, happens, points_of, MayHappen}
+use Rattle.script_follower.specs.Following.{next_operation_of}
+use Rattle.one_order.specs.Order.{LinearizationPoint}
+use Rattle.one_order.specs.Events.{Event, happens, points_of, MayHappen}
 use Rattle.flit_buffer.specs.Channel.{first_of, rest}
 use Rattle.flit_buffer.specs.Surroundings.{ring}
 use Rattle.wormhole.specs.Net.{IsNet}
-use Rattle.order_abstract.specs.script_follower.specs.ProcessorRecord.{ProcessorRecord, no_processor, ready}
+use Rattle.script_follower.specs.ProcessorRecord.{ProcessorRecord, no_processor, ready}
 use Rattle.order_abstract.specs.Flight as flight
-use Rattle.order_abstract.specs.Flight.{Flight, Move, Sends, Serves, Takes, moved_by, event_by, IsFound}
+use Rattle.order_abstract.specs.Flight.{Flight, Move, Sends, Serves, Takes, moved_by, flight_event, IsFound}
 use Rattle.order_abstract.proofs.Whole.{Whole, any_steps}
 use Rattle.packet.specs.Flits.{offered}
-use Rattle.order_abstract.specs.script_follower.specs.ProcessorTable.{processor_wants}
+use Rattle.script_follower.specs.ProcessorTable.{processor_wants}
 use Rattle.channel_number.specs.Ports.{ejection_channel}
 use Rattle.tile_laws.specs.Wiring.{processor_wiring}
 use Rattle.tile_laws.specs.declared.agent.Agent.{Agent}
@@ -130,7 +130,7 @@ module _ (d : Design) (net : IsNet (net_of d)) (tags : ℕ) (opening : List ℕ)
 
   -- the event of a step
   abbrev pub event_here : Step → Event
-  event_here attempt = event_by (flight_of d.words s g) (move_of d s attempt)
+  event_here attempt = flight_event (flight_of d.words s g) (move_of d s attempt)
 
   -- the flight after a step
   abbrev pub flight_then : Step → Flight

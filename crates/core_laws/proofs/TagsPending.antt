@@ -12,19 +12,19 @@ use Rattle.packet.specs.declared.kinds.Request.{Request}
 use Rattle.packet.specs.declared.kinds.Response.{Response}
 use Rattle.script.specs.declared.line.Line.{Line}
 use Rattle.tag_table.specs.Tags.{out_count}
-use Rattle.order_abstract.specs.home_bank.specs.ServiceList.{response_of}
-use Rattle.order_abstract.specs.script_follower.specs.Following.{Following, first_of, after_issue, after_answer, last_answered, other_answered}
-use Rattle.order_abstract.specs.script_follower.specs.ProcessorRecord.{ProcessorRecord, no_processor, issued_by, answered_by, request_of, index_of}
-use Rattle.order_abstract.specs.one_order.specs.Observed.{list_at}
-use Rattle.order_abstract.specs.one_order.specs.Order.{LinearizationPoint}
-use Rattle.order_abstract.specs.one_order.proofs.Lists.{get_push, get_append_left, get_set_same, get_set_other}
+use Rattle.home_bank.specs.ServiceList.{response_of}
+use Rattle.script_follower.specs.Following.{Following, first_of, after_issue, after_answer, last_answered, other_answered}
+use Rattle.script_follower.specs.ProcessorRecord.{ProcessorRecord, no_processor, issued_by, answered_by, request_of, index_of}
+use Rattle.one_order.specs.Observed.{list_at}
+use Rattle.one_order.specs.Order.{LinearizationPoint}
+use Rattle.one_order.proofs.Lists.{get_push, get_append_left, get_set_same, get_set_other}
 use Rattle.order_abstract.specs.Flight.{Flight, Move, Sends, Serves, Takes, processor_at, asked_place, told_place, reply_given, moved, moved_by, IsFound}
-use Rattle.order_abstract.specs.script_follower.specs.ProcessorRecord.{first_record}
+use Rattle.script_follower.specs.ProcessorRecord.{first_record}
 use Rattle.order_abstract.specs.Courses.{first_flight}
 use Rattle.order_abstract.proofs.Places.{still_there}
 use Rattle.order_abstract.proofs.Parts.{tags_at, processor_set}
 use Rattle.order_abstract.proofs.Whole.{Whole}
-use Rattle.core_laws.specs.Pending.{IsAsked, IsTold, HavePackets}
+use Rattle.core_laws.specs.Pending.{AwaitsRequest, AwaitsReply, HavePackets}
 
 -- a tag goes out, or comes back
 out_more : (tags : List (Option OpId)) (tag : ℕ) (id : OpId) → slice_get tags tag ≡ Some None → out_count (set tags tag (Some id)) ≡ out_count tags + 1
@@ -95,15 +95,15 @@ record_after (x ∷ xs) (suc t) (suc p) b = ⊎_elim
     (record_after xs t p b)
 
 abbrev IsFlying : Flight → ℕ → ℕ → Type 0
-IsFlying f p k = IsAsked f p k ⊎ IsTold f p k
+IsFlying f p k = AwaitsRequest f p k ⊎ AwaitsReply f p k
 
 module _ (tiles : ℕ) (f : Flight) (have : HavePackets f) where
   -- requests that are asked more are on the way too
   more_asked : (bs : List ProcessorRecord) (r : Request) (p k : ℕ) → IsFlying f p k
       → IsFlying (record { processors = bs; entries = f.entries; memory = f.memory; asked = f.asked ++ r ∷ []; told = f.told }) p k
   more_asked bs r p k = λ at. ⊎_elim
-      (λ (a : IsAsked f p k). inl (a.0, a.1, get_append_left f.asked (r ∷ []) a.0 a.1 a.2, a.3, a.4))
-      (λ (a : IsTold f p k). inr a)
+      (λ (a : AwaitsRequest f p k). inl (a.0, a.1, get_append_left f.asked (r ∷ []) a.0 a.1 a.2, a.3, a.4))
+      (λ (a : AwaitsReply f p k). inr a)
       at
 
   sends_pending : (t tag : ℕ) (o : Operation) (p k : ℕ) (id : OpId) → slice_get (processor_at (moved tiles f (Sends t tag o)) p).tags k ≡ Some (Some id)
@@ -127,7 +127,7 @@ module _ (tiles : ℕ) (f : Flight) (have : HavePackets f) where
   serves_pending r there p k id h =
       let made : Response = response_of r.destination (length (list_at f.entries r.destination)) r (reply_given tiles f r) in
       ⊎_elim
-      (λ (a : IsAsked f p k). ⊎_elim
+      (λ (a : AwaitsRequest f p k). ⊎_elim
       (λ (here : a.0 ≡ asked_place f.asked r).
       let same : a.1 ≡ r = same_Some _ _ (sym a.2 ∙ ap (slice_get f.asked) here ∙ there) in
       inr (length f.told, made, get_push f.told made, ap (λ (q : Request). q.source) (sym same) ∙ a.3, ap (λ (q : Request). q.tag.0) (sym same) ∙ a.4))
@@ -135,15 +135,15 @@ module _ (tiles : ℕ) (f : Flight) (have : HavePackets f) where
       let at = still_there f.asked (asked_place f.asked r) a.0 a.1 a.2 other in
       inl (at.0, a.1, at.1, a.3, a.4))
       (cases_eq a.0 (asked_place f.asked r)))
-      (λ (a : IsTold f p k). inr (a.0, a.1, get_append_left f.told (made ∷ []) a.0 a.1 a.2, a.3, a.4))
+      (λ (a : AwaitsReply f p k). inr (a.0, a.1, get_append_left f.told (made ∷ []) a.0 a.1 a.2, a.3, a.4))
       (have.pending p k id h)
 
   -- a response that another processor or tag awaits is still on the way
   still_told : (r : Response) (p k : ℕ) → slice_get f.told (told_place f.told r) ≡ Some r → (p ≡ r.destination → k ≡ r.tag.0 → ⊥) → IsFlying f p k
       → IsFlying (moved tiles f (Takes r)) p k
   still_told r p k there other at = ⊎_elim
-      (λ (a : IsAsked f p k). inl a)
-      (λ (a : IsTold f p k). ⊎_elim
+      (λ (a : AwaitsRequest f p k). inl a)
+      (λ (a : AwaitsReply f p k). ⊎_elim
       (λ (here : a.0 ≡ told_place f.told r).
       let same : a.1 ≡ r = same_Some _ _ (sym a.2 ∙ ap (slice_get f.told) here ∙ there) in
       absurd (other (sym a.3 ∙ ap (λ (q : Response). q.destination) same) (sym a.4 ∙ ap (λ (q : Response). q.tag.0) same)))

@@ -15,11 +15,11 @@ use Rattle.packet.specs.declared.assembler.Offered.TheVariants.{More, Whole as C
 use Rattle.packet.specs.Refusal.{refusal}
 use Rattle.packet.specs.Reading.{packet_told}
 use Rattle.packet.proofs.Told.{packet_told-spelled}
-use Rattle.order_abstract.specs.one_order.specs.Observed.{list_at}
-use Rattle.order_abstract.specs.one_order.specs.Order.{LinearizationPoint}
+use Rattle.one_order.specs.Observed.{list_at}
+use Rattle.one_order.specs.Order.{LinearizationPoint}
 use Rattle.flit_buffer.specs.Surroundings.{ring}
-use Rattle.wormhole.specs.Net.{Net, IsNet, Parcel, IsOn, flits_of as flits_in}
-use Rattle.wormhole.specs.State.{State as NetState}
+use Rattle.wormhole.specs.Net.{Net, IsNet, Parcel, IsOn, net_flits as flits_in}
+use Rattle.wormhole.specs.State.{NetState}
 use Rattle.wormhole.specs.Events.{CanAccept, after}
 use Rattle.wormhole.specs.Routes.{between}
 use Rattle.wormhole.specs.Delivery.{whole}

@@ -5,16 +5,16 @@ use Rattle.torus.specs.Shape.{tiles_of}
 use Rattle.torus.specs.declared.shape.Class.{Class}
 use Rattle.torus.specs.declared.shape.Class.TheVariants.{Request, Reply}
 use Rattle.packet.specs.declared.kinds.Request.{Request as Asking}
-use Rattle.order_abstract.specs.one_order.specs.Order.{LinearizationPoint}
+use Rattle.one_order.specs.Order.{LinearizationPoint}
 use Rattle.channel_number.specs.Order.{channel_count}
 use Rattle.flit_buffer.specs.Places.{take_from_ring}
 use Rattle.flit_buffer.specs.Surroundings.{ring}
 use Rattle.wormhole.specs.Net.{IsNet}
-use Rattle.wormhole.specs.State.{Line as Lane}
-use Rattle.wormhole.specs.Events.{Event}
+use Rattle.wormhole.specs.State.{NetLine as Lane}
+use Rattle.wormhole.specs.Events.{NetEvent}
 use Rattle.packet.specs.Flits.{is_tail}
 use Rattle.core_laws.specs.Heads.{carries_route}
-use Rattle.order_abstract.specs.home_bank.specs.BankTable.{BankState}
+use Rattle.home_bank.specs.BankTable.{BankState}
 use Rattle.channel_number.specs.Ports.{ejection_channel}
 use Rattle.tile_laws.specs.Tile.{Design, TileState}
 use Rattle.core_laws.specs.Core.{State}
@@ -59,7 +59,7 @@ module _ (d : Design) (net : IsNet (net_of d)) (tags : ℕ) (opening : List ℕ)
   abbrev lane : ℕ
   lane = ejection_channel d.shape t class
 
-  abbrev event : Event
+  abbrev event : NetEvent
   event = accepts lane flit more (carries_route flit)
 
   pub lane_in : lane < channel_count d.shape

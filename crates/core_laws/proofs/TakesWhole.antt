@@ -12,23 +12,23 @@ use Rattle.packet.specs.declared.kinds.Packet.TheVariants as packet
 use Rattle.packet.specs.declared.kinds.Request.{Request as Asking}
 use Rattle.packet.specs.declared.assembler.Offered.TheVariants.{Whole as Complete}
 use Rattle.packet.specs.Spelling.{Spells}
-use Rattle.order_abstract.specs.one_order.specs.Observed.{list_at}
-use Rattle.order_abstract.specs.one_order.specs.Order.{LinearizationPoint}
+use Rattle.one_order.specs.Observed.{list_at}
+use Rattle.one_order.specs.Order.{LinearizationPoint}
 use Rattle.channel_number.specs.Order.{channel_count}
 use Rattle.flit_buffer.specs.Places.{Ring, IsRing, take_from_ring}
 use Rattle.flit_buffer.specs.Surroundings.{ring, changed, AreRings}
 use Rattle.flit_buffer.proofs.ManyRings.{changed_here, changed_other}
-use Rattle.wormhole.specs.Net.{IsNet, Parcel, IsOn, flits_of as flits_in}
-use Rattle.wormhole.specs.State.{Line as Lane, Note, State as NetState}
+use Rattle.wormhole.specs.Net.{IsNet, Parcel, IsOn, net_flits as flits_in}
+use Rattle.wormhole.specs.State.{NetLine as Lane, Note, NetState}
 use Rattle.wormhole.specs.Delivery.{whole, whole_of}
 use Rattle.wormhole.proofs.Lists.{all_on}
-use Rattle.order_abstract.specs.script_follower.specs.ProcessorRecord.{no_processor}
+use Rattle.script_follower.specs.ProcessorRecord.{no_processor}
 use Rattle.order_abstract.specs.Flight.{Flight}
 use Rattle.order_abstract.proofs.Whole.{Whole}
 use Rattle.packet.specs.Flits.{is_tail, offered, flits_of}
 use Rattle.core_laws.specs.Heads.{carries_route}
-use Rattle.order_abstract.specs.script_follower.specs.ProcessorTable.{ProcessorState}
-use Rattle.tile_laws.specs.router.specs.Table.{RouterState, output_owned}
+use Rattle.script_follower.specs.ProcessorTable.{ProcessorState}
+use Rattle.router.specs.Table.{RouterState, output_owned}
 use Rattle.channel_number.specs.Ports.{injection_channel, ejection_channel}
 use Rattle.tile_laws.specs.Tile.{Design, TileState}
 use Rattle.core_laws.specs.Core.{State}

@@ -15,10 +15,10 @@ use Rattle.script.specs.declared.line.Line.TheVariants as line
 use Rattle.script.specs.declared.line.Value.{Value}
 use Rattle.script.specs.declared.line.Value.TheVariants.{Number, Last}
 use Rattle.script.specs.Scripts.{IsWord, IsAcceptedLine}
-use Rattle.order_abstract.specs.script_follower.specs.declared.spin.OpenSpin.{OpenSpin}
-use Rattle.order_abstract.specs.script_follower.specs.Scripts.{reply_number}
-use Rattle.order_abstract.specs.script_follower.specs.Following.{ready_operation, operation_asked, asked, operand_of}
-use Rattle.order_abstract.specs.script_follower.proofs.Places.{Each}
+use Rattle.script_follower.specs.declared.spin.OpenSpin.{OpenSpin}
+use Rattle.script_follower.specs.Scripts.{reply_number}
+use Rattle.script_follower.specs.Following.{ready_operation, operation_asked, asked, operand_of}
+use Rattle.script_follower.proofs.Places.{Each}
 
 -- what an operation replies is a reply of its kind
 pub reply_fits : (op : Op) (w : ℕ) → IsReplyOf (code_of op) (reply_to op w)

@@ -8,10 +8,10 @@ use Rattle.torus.specs.Shape.{dims_of, IsAccepted as IsAcceptedShape}
 use Rattle.script.specs.declared.line.Line.{Line}
 use Rattle.script.specs.Scripts.{IsAcceptedScript, script_of}
 use Rattle.channel_number.specs.Ports.{port_count}
-use Rattle.tile_laws.specs.router.specs.Table.{latch_of}
+use Rattle.router.specs.Table.{latch_of}
 use Rattle.tile_laws.specs.Tile.{Design, TileState}
 use Rattle.core_laws.specs.Core.{Load, State, design_of, first_tile, first_state}
-use Rattle.core_laws.specs.Runs.{IsAccepted}
+use Rattle.core_laws.specs.Runs.{IsAcceptedLoad}
 use Rattle.core_laws.proofs.Followed.{IsFollowed, followed_first, followed_none}
 use Rattle.core_laws.proofs.Stands.{tile_at, no_tile}
 
@@ -21,7 +21,7 @@ pub record IsLimited (d : Design) (tags : ℕ) : Type 0 where
   pub few_tags : tags ≤ 16
   pub few_words : d.words ≤ 65536
 
-pub limited : (l : Load) → IsAccepted l → IsLimited (design_of l) l.tags
+pub limited : (l : Load) → IsAcceptedLoad l → IsLimited (design_of l) l.tags
 limited l ok = record { shape = ok.shape; few_tags = ok.tags.1; few_words = ok.size.1 }
 
 -- the numbers of a list are above 0
@@ -79,7 +79,7 @@ words_below (w ∷ words) h zero = h 0 (omega arith)
 words_below (w ∷ words) h (suc a) = words_below words (λ b low. h (suc b) (omega arith)) a
 
 -- It holds of the first state of an accepted load.
-pub values_first : (l : Load) → IsAccepted l → HasValues (design_of l) (first_state l)
+pub values_first : (l : Load) → IsAcceptedLoad l → HasValues (design_of l) (first_state l)
 values_first l ok = record {
   words = words_below l.opening ok.words;
   tiles = tiles_values (length l.opening) (dims_of l.shape) l.tags l.scripts ok.scripts.each;

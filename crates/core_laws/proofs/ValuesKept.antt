@@ -16,20 +16,20 @@ use Rattle.packet.specs.declared.kinds.Request.{Request as Asking}
 use Rattle.packet.specs.declared.kinds.Reply.{Reply}
 use Rattle.packet.specs.Memory.{reply_to}
 use Rattle.packet.proofs.Shapes.{flits_above_zero}
-use Rattle.order_abstract.specs.home_bank.specs.ServiceList.{address_of, response_of}
-use Rattle.order_abstract.specs.one_order.specs.Order.{LinearizationPoint}
+use Rattle.home_bank.specs.ServiceList.{address_of, response_of}
+use Rattle.one_order.specs.Order.{LinearizationPoint}
 use Rattle.flit_buffer.specs.Channel.{first_of}
 use Rattle.flit_buffer.specs.Wants.{told_by}
 use Rattle.flit_buffer.specs.declared.want.Want.{Want}
 use Rattle.flit_buffer.specs.declared.want.Want.TheVariants as want
 use Rattle.flit_buffer.specs.Surroundings.{Surroundings, ring, no_ring, granted}
-use Rattle.order_abstract.specs.script_follower.specs.ProcessorRecord.{ready, request_of}
+use Rattle.script_follower.specs.ProcessorRecord.{ready, request_of}
 use Rattle.packet.specs.Flits.{flits_of}
-use Rattle.tile_laws.specs.router.specs.Table.{RouterState, latch_of, router_wants, router_after}
-use Rattle.order_abstract.specs.script_follower.specs.ProcessorTable.{ProcessorState, processor_wants, processor_after}
-use Rattle.order_abstract.specs.home_bank.specs.BankTable.{BankState, bank_wants, bank_after}
+use Rattle.router.specs.Table.{RouterState, latch_of, router_wants, router_after}
+use Rattle.script_follower.specs.ProcessorTable.{ProcessorState, processor_wants, processor_after}
+use Rattle.home_bank.specs.BankTable.{BankState, bank_wants, bank_after}
 use Rattle.tile_laws.specs.Wiring.{processor_wiring, bank_wiring}
-use Rattle.tile_laws.specs.router.specs.Beginning.{router_wiring}
+use Rattle.router.specs.Beginning.{router_wiring}
 use Rattle.tile_laws.specs.declared.agent.Agent.{Agent}
 use Rattle.tile_laws.specs.declared.agent.Agent.TheVariants.{Processor, Router, Bank}
 use Rattle.tile_laws.specs.Tile.{Design, TileState, tile_step}

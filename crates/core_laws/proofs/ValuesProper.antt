@@ -11,10 +11,10 @@ use Rattle.packet.specs.declared.kinds.Request.{Request as Asking}
 use Rattle.packet.specs.Memory.{reply_to}
 use Rattle.packet.specs.Spelling.{values_of_op}
 use Rattle.packet.proofs.Spelled.{IsSpellable-spelled, IsOfWords-spelled}
-use Rattle.order_abstract.specs.home_bank.specs.ServiceList.{address_of, response_of}
-use Rattle.order_abstract.specs.one_order.specs.Observed.{list_at, total}
-use Rattle.order_abstract.specs.one_order.specs.Order.{LinearizationPoint}
-use Rattle.order_abstract.specs.script_follower.specs.ProcessorRecord.{ProcessorRecord, no_processor, ready, request_of}
+use Rattle.home_bank.specs.ServiceList.{address_of, response_of}
+use Rattle.one_order.specs.Observed.{list_at, total}
+use Rattle.one_order.specs.Order.{LinearizationPoint}
+use Rattle.script_follower.specs.ProcessorRecord.{ProcessorRecord, no_processor, ready, request_of}
 use Rattle.order_abstract.specs.Flight.{Flight, show}
 use Rattle.order_abstract.proofs.Counts.{total_within}
 use Rattle.order_abstract.proofs.Parts.{list_at_map, issued_at, tags_at}

@@ -4,7 +4,7 @@ use Rattle.torus.specs.Shape.{IsAccepted, tiles_of, dims_of}
 use Rattle.packet.specs.declared.heading.Head.{Head}
 use Rattle.dateline_route.specs.Next.{next_of}
 use Rattle.wormhole.specs.Net.{IsNet}
-use Rattle.wormhole.specs.State.{State as NetState}
+use Rattle.wormhole.specs.State.{NetState}
 use Rattle.wormhole.specs.Words.{Words}
 use Rattle.wormhole.specs.Routes.{Routes}
 use Rattle.wormhole.proofs.Arrivals.{is_routed}

@@ -10,7 +10,7 @@ use Rattle.packet.specs.Flit.{field, class_numbered}
 use Rattle.channel_number.specs.Order.{channel_count, channel_at}
 use Rattle.packet.specs.Flits.{head_of}
 use Rattle.core_laws.specs.Heads.{carries_route}
-use Rattle.tile_laws.specs.router.specs.Table.{RouterState, output_owned, is_owned, is_output, way_of}
+use Rattle.router.specs.Table.{RouterState, output_owned, is_owned, is_output, way_of}
 use Rattle.channel_number.specs.Ports.{port_count, ejection_channel, input_channel, output_channel}
 use Rattle.tile_laws.specs.Tile.{Design}
 use Rattle.core_laws.proofs.Projection.{net_of}

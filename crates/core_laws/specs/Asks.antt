@@ -18,12 +18,12 @@ use Rattle.script.specs.Scripts.{operation_count}
 use Rattle.flit_buffer.specs.declared.want.Want.TheVariants.{Take}
 use Rattle.flit_buffer.specs.Surroundings.{Surroundings, ring}
 use Rattle.channel_number.specs.Ports.{port_count, input_channel, ejection_channel}
-use Rattle.order_abstract.specs.home_bank.specs.ServiceList.{address_of}
-use Rattle.order_abstract.specs.home_bank.specs.BankTable.{BankState, bank_wants}
-use Rattle.order_abstract.specs.script_follower.specs.ProcessorRecord.{ProcessorRecord, ready, request_of}
-use Rattle.order_abstract.specs.script_follower.specs.ProcessorTable.{ProcessorState}
+use Rattle.home_bank.specs.ServiceList.{address_of}
+use Rattle.home_bank.specs.BankTable.{BankState, bank_wants}
+use Rattle.script_follower.specs.ProcessorRecord.{ProcessorRecord, ready, request_of}
+use Rattle.script_follower.specs.ProcessorTable.{ProcessorState}
 use Rattle.order_abstract.specs.Room.{home_room}
-use Rattle.tile_laws.specs.router.specs.Table.{IsRoutable}
+use Rattle.router.specs.Table.{IsRoutable}
 use Rattle.tile_laws.specs.Tile.{Design}
 use Rattle.core_laws.specs.Delivery.{next_flit}
 

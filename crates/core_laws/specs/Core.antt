@@ -11,9 +11,9 @@ use Rattle.script.specs.declared.line.Line.{Line}
 use Rattle.flit_buffer.specs.Places.{empty_ring}
 use Rattle.flit_buffer.specs.Surroundings.{Surroundings}
 use Rattle.channel_number.specs.Order.{channel_count}
-use Rattle.order_abstract.specs.script_follower.specs.Following.{first_of}
-use Rattle.order_abstract.specs.one_order.specs.Observed.{Observed, Run}
-use Rattle.order_abstract.specs.script_follower.specs.ProcessorRecord.{ProcessorRecord}
+use Rattle.script_follower.specs.Following.{first_of}
+use Rattle.one_order.specs.Observed.{Observed, Run}
+use Rattle.script_follower.specs.ProcessorRecord.{ProcessorRecord}
 use Rattle.channel_number.specs.Ports.{port_count}
 pub use Rattle.order_abstract.specs.Load.{Load}
 use Rattle.tile_laws.specs.declared.agent.Agent.TheVariants.{Processor, Router, Bank}

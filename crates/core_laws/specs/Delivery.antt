@@ -7,19 +7,19 @@ use Rattle.packet.specs.declared.kinds.Request.{Request}
 use Rattle.packet.specs.declared.kinds.Response.{Response}
 use Rattle.packet.specs.declared.kinds.Reply.{Reply}
 use Rattle.packet.specs.Kinds.{code_of}
-use Rattle.order_abstract.specs.home_bank.specs.declared.entry.Entry.{Entry}
-use Rattle.order_abstract.specs.home_bank.specs.ServiceList.{address_of}
-use Rattle.order_abstract.specs.one_order.specs.declared.answer.Answer.{Answer}
-use Rattle.order_abstract.specs.one_order.specs.Observed.{list_at}
+use Rattle.home_bank.specs.declared.entry.Entry.{Entry}
+use Rattle.home_bank.specs.ServiceList.{address_of}
+use Rattle.one_order.specs.declared.answer.Answer.{Answer}
+use Rattle.one_order.specs.Observed.{list_at}
 use Rattle.wormhole.specs.Delivery.{IsPrefix, without_last}
 use Rattle.core_laws.specs.Heads.{carries_route}
-use Rattle.order_abstract.specs.home_bank.specs.BankTable.{BankState}
+use Rattle.home_bank.specs.BankTable.{BankState}
 use Rattle.tile_laws.specs.Tile.{Design, TileState}
 use Rattle.core_laws.specs.Core.{State, show}
 
 -- the operation that a request asks for
-abbrev pub operation_asked : ℕ → Request → Operation
-operation_asked tiles r = record { address = address_of r.destination tiles r.word; op = r.op }
+abbrev pub asked_operation : ℕ → Request → Operation
+asked_operation tiles r = record { address = address_of r.destination tiles r.word; op = r.op }
 
 -- what is told of a service: to which processor, by which bank, its place, and the reply
 pub record Notice : Type 0 where
@@ -101,7 +101,7 @@ responses_sent b bank =
 pub record DeliversPackets (d : Design) (words : ℕ) (s : State) (requests : List (List Request))
     (taken : List (List Response)) : Type 0 where
   pub issued : (p : ℕ)
-      → map (operation_asked (tiles_of d.shape)) (list_at requests p)
+      → map (asked_operation (tiles_of d.shape)) (list_at requests p)
       ≡ list_at (show words s).issued p
   pub proper : (p : ℕ)
       → All (λ r. (r.source ≡ p) × (r.destination < tiles_of d.shape)) (list_at requests p)

@@ -1,10 +1,10 @@
-pub use Rattle.order_abstract.specs.home_bank
-pub use Rattle.order_abstract.specs.one_order
-pub use Rattle.tile_laws.specs.router
-pub use Rattle.wormhole_torus
-pub use Rattle.order_abstract
-pub use Rattle.order_abstract.specs.script_follower
-pub use Rattle.tile_laws
+pub use Rattle.tile_laws.specs.Agents
+pub use Rattle.tile_laws.specs.Beginning
+pub use Rattle.tile_laws.specs.Choices
+pub use Rattle.tile_laws.specs.Refinement
+pub use Rattle.tile_laws.specs.Tile
+pub use Rattle.tile_laws.specs.Wiring
+pub use Rattle.tile_laws.specs.declared.agent.Agent
 pub mod Heads
 pub mod Core
 pub mod Moves

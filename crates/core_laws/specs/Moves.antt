@@ -10,11 +10,11 @@ use Rattle.packet.specs.declared.assembler.Offered.{Offered}
 use Rattle.packet.specs.declared.assembler.Offered.TheVariants.{Whole}
 use Rattle.flit_buffer.specs.declared.want.Want.{Want}
 use Rattle.flit_buffer.specs.Surroundings.{Surroundings, Wiring, granted}
-use Rattle.order_abstract.specs.script_follower.specs.ProcessorRecord.{ready}
+use Rattle.script_follower.specs.ProcessorRecord.{ready}
 use Rattle.order_abstract.specs.Flight.{Move, Sends, Serves, Takes}
 use Rattle.packet.specs.Flits.{offered}
-use Rattle.order_abstract.specs.script_follower.specs.ProcessorTable.{ProcessorState, processor_wants}
-use Rattle.order_abstract.specs.home_bank.specs.BankTable.{BankState, bank_wants}
+use Rattle.script_follower.specs.ProcessorTable.{ProcessorState, processor_wants}
+use Rattle.home_bank.specs.BankTable.{BankState, bank_wants}
 use Rattle.tile_laws.specs.Wiring.{processor_wiring, bank_wiring}
 use Rattle.tile_laws.specs.declared.agent.Agent.{Agent}
 use Rattle.tile_laws.specs.declared.agent.Agent.TheVariants.{Processor, Router, Bank}

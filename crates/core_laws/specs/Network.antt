@@ -17,14 +17,14 @@ use Rattle.flit_buffer.specs.Channel.{rest}
 use Rattle.flit_buffer.specs.Surroundings.{Surroundings, ring}
 use Rattle.channel_number.specs.Ports.{injection_channel, ejection_channel, input_channel, output_channel}
 use Rattle.wormhole.specs.Net.{Net, Parcel}
-use Rattle.wormhole.specs.Events.{Event, InjectHead, InjectRest, Latch, ForwardHead, ForwardRest, Return}
+use Rattle.wormhole.specs.Events.{NetEvent, InjectHead, InjectRest, Latch, ForwardHead, ForwardRest, Return}
 use Rattle.wormhole.specs.Delivery.{accept}
 use Rattle.wormhole_torus.specs.TorusNet as wormhole_torus
-use Rattle.tile_laws.specs.router.specs.Table.{RouterState, router_wants, latch_of, output_for}
-use Rattle.tile_laws.specs.router.specs.Beginning.{router_wiring}
-use Rattle.order_abstract.specs.script_follower.specs.ProcessorRecord.{ready, request_of}
-use Rattle.order_abstract.specs.script_follower.specs.ProcessorTable.{ProcessorState, processor_wants}
-use Rattle.order_abstract.specs.home_bank.specs.BankTable.{BankState, bank_wants}
+use Rattle.router.specs.Table.{RouterState, router_wants, latch_of, output_for}
+use Rattle.router.specs.Beginning.{router_wiring}
+use Rattle.script_follower.specs.ProcessorRecord.{ready, request_of}
+use Rattle.script_follower.specs.ProcessorTable.{ProcessorState, processor_wants}
+use Rattle.home_bank.specs.BankTable.{BankState, bank_wants}
 use Rattle.tile_laws.specs.Wiring.{processor_wiring, bank_wiring}
 use Rattle.tile_laws.specs.declared.agent.Agent.{Agent}
 use Rattle.tile_laws.specs.declared.agent.Agent.TheVariants.{Processor, Router, Bank}
@@ -37,11 +37,11 @@ use Rattle.core_laws.specs.Delivery.{next_flit, responses_made}
 
 -- the network of a machine, by the channels' numbers
 unfoldable pub net_of : Design → Net
-net_of d = wormhole_torus.net_of d.shape d.depth
+net_of d = wormhole_torus.torus_net d.shape d.depth
 
 -- a packet as the network has it
 unfoldable pub parcel_of : Shape → Packet → Parcel
-parcel_of s p = wormhole_torus.parcel_of s p 0 (next_flit (flits_of p)) (rest (flits_of p))
+parcel_of s p = wormhole_torus.torus_parcel s p 0 (next_flit (flits_of p)) (rest (flits_of p))
 
 abbrev pub request_parcel : Shape → Request → Parcel
 request_parcel s r = parcel_of s (packet.Request r)
@@ -56,26 +56,26 @@ last_response (r ∷ []) = Some r
 last_response (r ∷ q ∷ rs) = last_response (q ∷ rs)
 
 -- a flit comes to the receiving end of channel x, the first that is there
-abbrev pub taken_there : Surroundings → ℕ → ℕ → Event
+abbrev pub taken_there : Surroundings → ℕ → ℕ → NetEvent
 taken_there around x flit = accept (carries_route flit) x flit (rest (ring around.rings x).channel.flits)
 
 -- a flit goes from the latch behind x into y: a head, or one that follows (Dally and Towles,
 -- chapter 16)
-abbrev pub forwarded : Option Head → ℕ → ℕ → ℕ → Event
-forwarded (Some head) x y flit = ForwardHead x y flit
-forwarded None x y flit = ForwardRest x y flit
+abbrev pub words_forwarded : Option Head → ℕ → ℕ → ℕ → NetEvent
+words_forwarded (Some head) x y flit = ForwardHead x y flit
+words_forwarded None x y flit = ForwardRest x y flit
 
 module _ (d : Design) (t : ℕ) where
   -- the flit that a processor sends: the next of the request in course, or the head of the request
   -- that is ready
-  abbrev pub request_event : List ℕ → Option (ℕ × Operation) → Option Event
+  abbrev pub request_event : List ℕ → Option (ℕ × Operation) → Option NetEvent
   request_event [] next = option_map (λ f. InjectHead (injection_channel d.shape t class.Request)
       (request_parcel d.shape (request_of (tiles_of d.shape) t f.0 f.1))) next
   request_event (flit ∷ more) next =
       Some (InjectRest (injection_channel d.shape t class.Request) flit more)
 
   -- the flit that a bank sends: the head of its last reply, or a further flit of it
-  abbrev pub reply_event : BankState → List ℕ → Option Event
+  abbrev pub reply_event : BankState → List ℕ → Option NetEvent
   reply_event b [] = None
   reply_event b (flit ∷ more) =
       if carries_route flit
@@ -85,15 +85,15 @@ module _ (d : Design) (t : ℕ) where
       else Some (InjectRest (injection_channel d.shape t class.Reply) flit more)
 
   -- the flit in a latch goes to the output for it
-  abbrev pub put_event : RouterState → ℕ → Option ℕ → Option Event
+  abbrev pub put_event : RouterState → ℕ → Option ℕ → Option NetEvent
   put_event r i None = None
   put_event r i (Some flit) =
-      option_map (λ o. forwarded (head_of flit) (input_channel d.shape t i)
+      option_map (λ o. words_forwarded (head_of flit) (input_channel d.shape t i)
       (output_channel d.shape t o) flit)
       (output_for d.shape t r i (head_of flit))
 
   -- the event of a processor's choice, with what it learns: none where it looks or reports
-  abbrev pub processor_event : ProcessorState → Surroundings → Choice → ℕ → Option Event
+  abbrev pub processor_event : ProcessorState → Surroundings → Choice → ℕ → Option NetEvent
   processor_event p around choice.Send learned = request_event p.to_put (ready p.operations)
   processor_event p around choice.Take flit =
       Some (taken_there around (ejection_channel d.shape t class.Reply) flit)
@@ -102,7 +102,7 @@ module _ (d : Design) (t : ℕ) where
   processor_event p around _ learned = None
 
   -- the event of a router's choice
-  abbrev pub router_event : RouterState → Surroundings → Choice → ℕ → Option Event
+  abbrev pub router_event : RouterState → Surroundings → Choice → ℕ → Option NetEvent
   router_event r around (choice.TakeFrom i) flit =
       Some (Latch (input_channel d.shape t i) flit
       (rest (ring around.rings (input_channel d.shape t i)).channel.flits))
@@ -111,7 +111,7 @@ module _ (d : Design) (t : ℕ) where
   router_event r around _ learned = None
 
   -- the event of a bank's choice: none where it serves
-  abbrev pub bank_event : BankState → Surroundings → Choice → ℕ → Option Event
+  abbrev pub bank_event : BankState → Surroundings → Choice → ℕ → Option NetEvent
   bank_event b around choice.Take flit =
       Some (taken_there around (ejection_channel d.shape t class.Request) flit)
   bank_event b around choice.Send learned = reply_event b b.to_put
@@ -120,7 +120,7 @@ module _ (d : Design) (t : ℕ) where
   bank_event b around _ learned = None
 
   -- the event of a choice of one of a tile's agents; none where it isn't enabled
-  abbrev pub tile_event : TileState → Surroundings → Agent → Choice → Option Event
+  abbrev pub tile_event : TileState → Surroundings → Agent → Choice → Option NetEvent
   tile_event tile around Processor choice =
       option_and_then (processor_event tile.processor around choice)
       (learned_by (processor_wants (tiles_of d.shape) d.words t) (processor_wiring d.shape t)
@@ -132,7 +132,7 @@ module _ (d : Design) (t : ℕ) where
 
 -- what a step is of the network: a flit or a credit that moves, or nothing (Dally and Towles,
 -- chapters 13 and 16)
-abbrev pub network_event : Design → State → Step → Option Event
+abbrev pub network_event : Design → State → Step → Option NetEvent
 network_event d s attempt = option_and_then (λ tile.
     tile_event d (agent_tile attempt.agent) tile s.around (agent_kind attempt.agent)
     attempt.choice)

@@ -4,11 +4,11 @@ use Rattle.torus.specs.Shape.{tiles_of}
 use Rattle.torus.specs.declared.step.Step.{Step}
 use Rattle.packet.specs.declared.kinds.Request.{Request}
 use Rattle.packet.specs.declared.kinds.Response.{Response}
-use Rattle.order_abstract.specs.one_order.specs.Events.{push_at}
-use Rattle.order_abstract.specs.script_follower.specs.ProcessorRecord.{request_of}
+use Rattle.one_order.specs.Events.{push_at}
+use Rattle.script_follower.specs.ProcessorRecord.{request_of}
 use Rattle.order_abstract.specs.Flight.{Flight, Move, Sends, Takes, moved_by}
-use Rattle.wormhole.specs.State.{State as NetState, empty}
-use Rattle.wormhole.specs.Events.{Event, network_after}
+use Rattle.wormhole.specs.State.{NetState, empty}
+use Rattle.wormhole.specs.Events.{NetEvent, network_after}
 use Rattle.tile_laws.specs.Tile.{Design}
 use Rattle.core_laws.specs.Core.{Load, State, design_of, records_of, show}
 use Rattle.core_laws.specs.Network.{net_of, network_event}
@@ -46,7 +46,7 @@ taken_noted _ taken = taken
 
 -- what is noted after a step that is this move, or none, of the operations, and this event, or
 -- none, of the network
-abbrev pub noted_by : Design → State → Noted → Option Move → Option Event → Noted
+abbrev pub noted_by : Design → State → Noted → Option Move → Option NetEvent → Noted
 noted_by d s g m e = record {
   net = network_after (net_of d) g.net e;
   asked = (moved_by (tiles_of d.shape) (flight_of d.words s g) m).asked;
@@ -56,7 +56,7 @@ noted_by d s g m e = record {
 }
 
 -- the event of the step after the first k
-abbrev pub event_by : Load → State → Option Step → Option Event
+abbrev pub event_by : Load → State → Option Step → Option NetEvent
 event_by l s None = None
 event_by l s (Some step) = network_event (design_of l) s step
 

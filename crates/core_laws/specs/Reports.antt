@@ -1,6 +1,6 @@
 -- What the done word counts.
 use Rattle.std.specs.Prelude.{◌≡◌, ℕ, true, Some, slice_get, slice_index, count_by}
-use Rattle.order_abstract.specs.script_follower.specs.Following.{is_finished}
+use Rattle.script_follower.specs.Following.{is_finished}
 use Rattle.tile_laws.specs.Tile.{Design, TileState}
 use Rattle.core_laws.specs.Core.{State}
 

@@ -1,9 +1,9 @@
 -- Accepted loads, and the events of their runs.
 use Rattle.std.specs.Prelude.{ℕ, List, [], length, take, Option, Some, None, slice_get}
 use Rattle.torus.specs.declared.step.Step.{Step}
-use Rattle.order_abstract.specs.one_order.specs.Events.{Event}
-pub use Rattle.order_abstract.specs.Load.{IsAccepted}
-use Rattle.order_abstract.specs.Flight.{Flight, Move, event_by}
+use Rattle.one_order.specs.Events.{Event}
+pub use Rattle.order_abstract.specs.Load.{IsAcceptedLoad}
+use Rattle.order_abstract.specs.Flight.{Flight, Move, flight_event}
 use Rattle.core_laws.specs.Core.{Load, State, design_of, after, records_of, show}
 use Rattle.core_laws.specs.Moves.{move_of}
 
@@ -28,5 +28,5 @@ move_by l s (Some step) = move_of (design_of l) s step
 
 -- the event of the step after the first k (Herlihy and Wing)
 abbrev pub event_of : Load → List Step → ℕ → Event
-event_of l steps k = event_by (without_packets (length l.opening) (state_after l steps k))
+event_of l steps k = flight_event (without_packets (length l.opening) (state_after l steps k))
     (move_by l (state_after l steps k) (slice_get steps k))

@@ -4,10 +4,10 @@ use Rattle.torus.specs.Shape.{tiles_of}
 use Rattle.torus.specs.declared.step.Choice.{Choice}
 use Rattle.flit_buffer.specs.declared.want.Want.{Want}
 use Rattle.flit_buffer.specs.Surroundings.{Surroundings, surroundings_after}
-use Rattle.tile_laws.specs.router.specs.Table.{router_wants}
-use Rattle.tile_laws.specs.router.specs.Beginning.{router_wiring}
-use Rattle.order_abstract.specs.script_follower.specs.ProcessorTable.{processor_wants}
-use Rattle.order_abstract.specs.home_bank.specs.BankTable.{bank_wants}
+use Rattle.router.specs.Table.{router_wants}
+use Rattle.router.specs.Beginning.{router_wiring}
+use Rattle.script_follower.specs.ProcessorTable.{processor_wants}
+use Rattle.home_bank.specs.BankTable.{bank_wants}
 use Rattle.tile_laws.specs.Wiring.{processor_wiring, bank_wiring}
 use Rattle.tile_laws.specs.Tile.{Design, TileState}
 

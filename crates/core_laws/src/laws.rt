@@ -8,27 +8,27 @@ ghost use Rattle.torus.specs.declared.step.Step.{Step};
 ghost use Rattle.torus.specs.declared.step.Choice.{Choice};
 ghost use Rattle.script.specs.Machine.{MachineSpec, IsAcceptedMachine};
 ghost use Rattle.script.specs.Scripts.{ScriptsSpec, AreAcceptedScripts, Fit, script_of};
-ghost use Rattle.order_abstract.specs.one_order.specs.declared.ordered.Ordered.{Ordered};
-ghost use Rattle.order_abstract.specs.one_order.specs.Events.{IsHistory};
-ghost use Rattle.order_abstract.specs.one_order.specs.OneOrder.{HasOneOrder};
-ghost use Rattle.order_abstract.specs.one_order.specs.Consequences.{ServesInTurn, AnswersInTurn};
+ghost use Rattle.one_order.specs.declared.ordered.Ordered.{Ordered};
+ghost use Rattle.one_order.specs.Events.{IsHistory};
+ghost use Rattle.one_order.specs.OneOrder.{HasOneOrder};
+ghost use Rattle.one_order.specs.Consequences.{ServesInTurn, AnswersInTurn};
 ghost use Rattle.channel_number.specs.Order.{channel_count};
 ghost use Rattle.channel_number.specs.Ports.{port_count};
 ghost use Rattle.flit_buffer.specs.Channel.{IsChannelState};
 ghost use Rattle.flit_buffer.specs.declared.want.Want.{Want};
 ghost use Rattle.flit_buffer.specs.Surroundings.{Surroundings, ring};
 ghost use Rattle.flit_buffer.specs.OwnPart.{SameWhereWanted};
-ghost use Rattle.tile_laws.specs.router.specs.Table.{router_wants};
-ghost use Rattle.tile_laws.specs.router.specs.Beginning.{router_wiring};
+ghost use Rattle.router.specs.Table.{router_wants};
+ghost use Rattle.router.specs.Beginning.{router_wiring};
 ghost use Rattle.order_abstract.specs.Scripts.{FollowScripts};
-ghost use Rattle.order_abstract.specs.script_follower.specs.ProcessorTable.{processor_wants};
-ghost use Rattle.order_abstract.specs.home_bank.specs.BankTable.{bank_wants};
+ghost use Rattle.script_follower.specs.ProcessorTable.{processor_wants};
+ghost use Rattle.home_bank.specs.BankTable.{bank_wants};
 ghost use Rattle.tile_laws.specs.Wiring.{processor_wiring, bank_wiring};
 ghost use Rattle.tile_laws.specs.declared.agent.Agent.TheVariants.{Processor, Router, Bank};
 ghost use Rattle.tile_laws.specs.Tile.{Design, TileState, tile_step};
 ghost use Rattle.tile_laws.specs.Agents.{agent_numbered, agent_kind, agent_tile};
 ghost use Rattle.core_laws.specs.Core.{Load, State, design_of, step, after_from, run_of};
-ghost use Rattle.core_laws.specs.Runs.{IsAccepted, state_after, event_of};
+ghost use Rattle.core_laws.specs.Runs.{IsAcceptedLoad, state_after, event_of};
 ghost use Rattle.core_laws.specs.Delivery.{DeliversPackets};
 ghost use Rattle.tile_laws.specs.Choices.{has_choice};
 ghost use Rattle.core_laws.specs.Touches.{ProcessorAlone, RouterAlone, BankAlone};
@@ -49,7 +49,7 @@ ghost use Rattle.core_laws.specs.Asks.{RouterAsks, ProcessorAsks, BankAsks};
 pub fn readers_give_accepted_loads()
     ensures { (m : MachineSpec) (s : ScriptsSpec) → IsAcceptedMachine m → AreAcceptedScripts s
         → Fit s m
-        → IsAccepted (record {
+        → IsAcceptedLoad (record {
           shape = m.shape;
           depth = m.depth;
           tags = m.tags;
@@ -61,13 +61,13 @@ pub fn readers_give_accepted_loads()
 /// Every run from an accepted load, whatever its steps, goes from where nothing has happened by
 /// issues, services and answers, each of which may happen where it does.
 pub fn runs_are_histories()
-    ensures { (l : Load) → IsAccepted l → (steps : List Step) (n : ℕ)
+    ensures { (l : Load) → IsAcceptedLoad l → (steps : List Step) (n : ℕ)
         → IsHistory (tiles_of l.shape) l.tags l.opening (run_of l steps) (event_of l steps) n }
 {}
 
 /// In every run from an accepted load each processor follows its script.
 pub fn scripts_are_followed()
-    ensures { (l : Load) → IsAccepted l → (steps : List Step) (n : ℕ)
+    ensures { (l : Load) → IsAcceptedLoad l → (steps : List Step) (n : ℕ)
         → FollowScripts (run_of l steps) n l.scripts }
 {}
 
@@ -81,14 +81,14 @@ pub fn first_steps_begin_the_run()
 
 /// Every run from an accepted load has one legal order, that of its services.
 pub fn runs_have_one_order()
-    ensures { (l : Load) → IsAccepted l → (steps : List Step) (n : ℕ) → (rows : List Ordered)
+    ensures { (l : Load) → IsAcceptedLoad l → (steps : List Step) (n : ℕ) → (rows : List Ordered)
         × HasOneOrder (tiles_of l.shape) l.tags l.opening (run_of l steps) n rows }
 {}
 
 /// Of each bank and processor, the bank's entries of the processor are a beginning of the operations
 /// that it issued with that home, in the order of issue.
 pub fn banks_serve_in_turn()
-    ensures { (l : Load) → IsAccepted l → (steps : List Step) (n b p : ℕ)
+    ensures { (l : Load) → IsAcceptedLoad l → (steps : List Step) (n b p : ℕ)
         → ServesInTurn (tiles_of l.shape) (run_of l steps n) b p }
 {}
 
@@ -96,7 +96,7 @@ pub fn banks_serve_in_turn()
 /// those whose heads the sender has put: none is invented, doubled, mixed or overtaken. The requests
 /// are those noted at the issues, each under the tag under which its operation was issued.
 pub fn packets_are_delivered_in_order()
-    ensures { (l : Load) → IsAccepted l → (steps : List Step) (n : ℕ)
+    ensures { (l : Load) → IsAcceptedLoad l → (steps : List Step) (n : ℕ)
         → DeliversPackets (design_of l) (length l.opening) (state_after l steps n)
         (noted l steps n).requests (noted l steps n).taken }
 {}
@@ -104,16 +104,16 @@ pub fn packets_are_delivered_in_order()
 /// Of each processor and bank, the answers in the order of answering are a beginning of the bank's
 /// entries of the processor.
 pub fn answers_come_in_turn()
-    ensures { (l : Load) → IsAccepted l → (steps : List Step) (n b p : ℕ)
+    ensures { (l : Load) → IsAcceptedLoad l → (steps : List Step) (n b p : ℕ)
         → AnswersInTurn (run_of l steps n) b p }
 {}
 
 /// In every state that a run reaches the channels of the torus are there, and of each the flits, the
 /// credits held and the credits returning add up to the depth.
 pub fn credits_add_up()
-    ensures count { (l : Load) → IsAccepted l → (steps : List Step) (n : ℕ)
+    ensures count { (l : Load) → IsAcceptedLoad l → (steps : List Step) (n : ℕ)
         → length (state_after l steps n).around.rings ≡ channel_count l.shape }
-    ensures depth { (l : Load) → IsAccepted l → (steps : List Step) (n x : ℕ)
+    ensures depth { (l : Load) → IsAcceptedLoad l → (steps : List Step) (n x : ℕ)
         → x < channel_count l.shape
         → IsChannelState l.depth (ring (state_after l steps n).around.rings x).channel }
 {}
@@ -121,7 +121,7 @@ pub fn credits_add_up()
 /// In every state that a run reaches the done word counts the processors that have reported; only
 /// processors whose script is finished have; and who has seen the end saw that all have.
 pub fn done_word_counts_reports()
-    ensures { (l : Load) → IsAccepted l → (steps : List Step) (n : ℕ)
+    ensures { (l : Load) → IsAcceptedLoad l → (steps : List Step) (n : ℕ)
         → CountsReports (design_of l) (state_after l steps n) }
 {}
 
@@ -214,14 +214,14 @@ pub fn steps_touch_one_agent()
 /// In every state that a run reaches each agent finds what it asks for: a router flits that name
 /// tiles, a processor and a bank the next flits of packets to them, and room for what they note.
 pub fn agents_find_what_they_ask()
-    ensures router { (l : Load) → IsAccepted l → (steps : List Step) (n t : ℕ) (tile : TileState)
+    ensures router { (l : Load) → IsAcceptedLoad l → (steps : List Step) (n t : ℕ) (tile : TileState)
         → slice_get (state_after l steps n).tiles t ≡ Some tile
         → RouterAsks (design_of l) t (state_after l steps n).around }
-    ensures processor { (l : Load) → IsAccepted l → (steps : List Step) (n t : ℕ) (tile : TileState)
+    ensures processor { (l : Load) → IsAcceptedLoad l → (steps : List Step) (n t : ℕ) (tile : TileState)
         → slice_get (state_after l steps n).tiles t ≡ Some tile
         → ProcessorAsks (design_of l) (script_of l.scripts t) t tile.processor
         (state_after l steps n).around }
-    ensures bank { (l : Load) → IsAccepted l → (steps : List Step) (n t : ℕ) (tile : TileState)
+    ensures bank { (l : Load) → IsAcceptedLoad l → (steps : List Step) (n t : ℕ) (tile : TileState)
         → slice_get (state_after l steps n).tiles t ≡ Some tile
         → BankAsks (design_of l) l.scripts t tile.bank (state_after l steps n).around }
 {}
@@ -229,7 +229,7 @@ pub fn agents_find_what_they_ask()
 /// The flights of every run, that is the machine without its network and the packets on their way, go
 /// from where nothing has happened by found moves: so each law of such courses holds of the run.
 pub fn runs_are_courses()
-    ensures { (l : Load) → IsAccepted l → (steps : List Step) (n : ℕ)
+    ensures { (l : Load) → IsAcceptedLoad l → (steps : List Step) (n : ℕ)
         → IsCourse (tiles_of l.shape) l.tags l.opening l.scripts (flight_after l steps)
         (move_after l steps) n }
 {}
@@ -237,27 +237,27 @@ pub fn runs_are_courses()
 /// Each step is an event of the network that may happen, or none; the network after these events
 /// mirrors the machine's channels and agents, and no two packets mix or lose their way in it.
 pub fn steps_are_events_of_the_network()
-    ensures may { (l : Load) → IsAccepted l → (steps : List Step) (n : ℕ)
+    ensures may { (l : Load) → IsAcceptedLoad l → (steps : List Step) (n : ℕ)
         → IfSome (event_by l (state_after l steps n) (slice_get steps n))
         (CanHappen (net_of (design_of l)) (noted l steps n).net.lines) }
-    ensures mirrors { (l : Load) → IsAccepted l → (steps : List Step) (n : ℕ)
+    ensures mirrors { (l : Load) → IsAcceptedLoad l → (steps : List Step) (n : ℕ)
         → Mirrors (design_of l) (state_after l steps n) (noted l steps n).net.lines }
-    ensures words { (l : Load) → IsAccepted l → (steps : List Step) (n : ℕ)
+    ensures words { (l : Load) → IsAcceptedLoad l → (steps : List Step) (n : ℕ)
         → Words (net_of (design_of l)) (noted l steps n).net }
-    ensures routes { (l : Load) → IsAccepted l → (steps : List Step) (n : ℕ)
+    ensures routes { (l : Load) → IsAcceptedLoad l → (steps : List Step) (n : ℕ)
         → Routes (net_of (design_of l)) (noted l steps n).net }
 {}
 
 /// Who holds a tag has its request or the response to it on the way, and as many tags of a processor
 /// are out as of its operations await an answer.
 pub fn held_tags_have_packets_on_the_way()
-    ensures { (l : Load) → IsAccepted l → (steps : List Step) (n : ℕ)
+    ensures { (l : Load) → IsAcceptedLoad l → (steps : List Step) (n : ℕ)
         → HavePackets (flight_after l steps n) }
 {}
 
 /// Each processor's follower shows the operations that the processor has issued in the run.
 pub fn followers_show_what_was_issued()
-    ensures { (l : Load) → IsAccepted l → (steps : List Step) (n p : ℕ) (lines : List Line)
+    ensures { (l : Load) → IsAcceptedLoad l → (steps : List Step) (n p : ℕ) (lines : List Line)
         → slice_get l.scripts p ≡ Some lines
         → ShowsOperations (run_of l steps) n p lines
         (processor_at (flight_after l steps n) p).following }

@@ -2,13 +2,13 @@
 use Rattle.std.proofs.Common.{◌≡◌, ℕ, zero, suc, ◌≤◌, List, [], ◌∷◌, ◌++◌, length, take, refl, sym, ap, arith, length-append}
 use Rattle.torus.specs.Shape.{tiles_of}
 use Rattle.torus.specs.declared.step.Step.{Step}
-use Rattle.core_progress.specs.one_order.specs.Rows.{BeginRows}
-use Rattle.core_progress.specs.one_order.proofs.Agreement.{one_order_agree}
-use Rattle.core_progress.specs.one_order.proofs.Beginnings.{rows_go_on}
-use Rattle.core_progress.specs.core_laws.specs.Core.{Load, show, after, run_of}
-use Rattle.core_progress.specs.core_laws.specs.Runs.{IsAccepted}
-use Rattle.core_progress.specs.core_laws.proofs.Histories.{event_at}
-use Rattle.core_progress.specs.core_laws.proofs.EveryRun.{run_is_history}
+use Rattle.one_order.specs.Rows.{BeginRows}
+use Rattle.one_order.proofs.Agreement.{one_order_agree}
+use Rattle.one_order.proofs.Beginnings.{rows_go_on}
+use Rattle.core_laws.specs.Core.{Load, show, after, run_of}
+use Rattle.core_laws.specs.Runs.{IsAcceptedLoad}
+use Rattle.core_laws.proofs.Histories.{event_at}
+use Rattle.core_laws.proofs.EveryRun.{run_is_history}
 use Rattle.core_machine.specs.Machine.{book_after}
 use Rattle.core_machine.proofs.Lawful.{one_order}
 
@@ -22,7 +22,7 @@ pub run_begins : (l : Load) (steps more : List Step) (k : ℕ) → k ≤ length 
 run_begins l steps more k le = ap (λ (xs : List Step). show (length l.opening) (after l xs)) (first_steps steps more k le)
 
 -- the rows of a longer list of steps begin with those of its first steps
-pub rows_begin : (l : Load) (steps more : List Step) → IsAccepted l → BeginRows (book_after l steps).rows (book_after l (steps ++ more)).rows
+pub rows_begin : (l : Load) (steps more : List Step) → IsAcceptedLoad l → BeginRows (book_after l steps).rows (book_after l (steps ++ more)).rows
 rows_begin l steps more ok =
     let tiles : ℕ = tiles_of l.shape in
     let all : List Step = steps ++ more in

@@ -3,13 +3,13 @@ use Rattle.std.proofs.Common.{◌≡◌, ℕ, zero, suc, List, [], ◌∷◌, �
 use Rattle.std.proofs.lemmas.List.{take_all}
 use Rattle.torus.specs.Shape.{tiles_of}
 use Rattle.torus.specs.declared.step.Step.{Step}
-use Rattle.core_progress.specs.one_order.specs.Events.{Event}
-use Rattle.core_progress.specs.order_abstract.specs.Flight.{event_by}
-use Rattle.core_progress.specs.order_abstract.specs.EventBook.{EventBook, first_book, noted_event, book_of}
-use Rattle.core_progress.specs.tile_laws.specs.Tile.{Design}
-use Rattle.core_progress.specs.core_laws.specs.Core.{Load, State, design_of, first_state, next, after_from}
-use Rattle.core_progress.specs.core_laws.proofs.FlightSteps.{flight_with}
-use Rattle.core_progress.specs.core_laws.proofs.Histories.{move_at, event_at}
+use Rattle.one_order.specs.Events.{Event}
+use Rattle.order_abstract.specs.Flight.{flight_event}
+use Rattle.order_abstract.specs.EventBook.{EventBook, first_book, noted_event, book_of}
+use Rattle.core_laws.specs.Tile.{Design}
+use Rattle.core_laws.specs.Core.{Load, State, design_of, first_state, next, after_from}
+use Rattle.core_laws.proofs.FlightSteps.{flight_with}
+use Rattle.core_laws.proofs.Histories.{move_at, event_at}
 use Rattle.core_machine.specs.Machine.{event_in, book_from, book_after}
 
 pub after_append : (d : Design) (s : State) (a b : List Step) → after_from d s (a ++ b) ≡ after_from d (after_from d s a) b
@@ -22,7 +22,7 @@ book_append d s g (x ∷ a) b = book_append d (next d s x) (noted_event (tiles_o
 
 -- the event of a step that is there, and of none
 abbrev event_given : Design → State → Option Step → Event
-event_given d s attempt = event_by (flight_with d.words s [] []) (move_at d s attempt)
+event_given d s attempt = flight_event (flight_with d.words s [] []) (move_at d s attempt)
 
 book_more : (d : Design) (steps : List Step) (s : State) (g : EventBook) (k : ℕ) → book_from d s g (take (suc k) steps)
     ≡ noted_event (tiles_of d.shape) (book_from d s g (take k steps)) (event_given d (after_from d s (take k steps)) (slice_get steps k))

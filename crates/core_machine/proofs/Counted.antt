@@ -1,10 +1,10 @@
 -- The moves left of a longer list of steps.
 use Rattle.std.proofs.Common.{◌≡◌, ◌+◌, ◌-◌, List, [], ◌∷◌, ◌++◌, length, ap, arith}
 use Rattle.torus.specs.declared.step.Step.{Step}
-use Rattle.rounds.specs.Rounds.{moves_in, one_if_moved}
-use Rattle.rounds.specs.Rounds as rounds
-use Rattle.core_progress.specs.tile_laws.specs.Tile.{Design}
-use Rattle.core_progress.specs.core_laws.specs.Core.{Load, State, design_of, first_state, step, next, after, after_from}
+use Rattle.core_progress.specs.Rounds.{moves_in, one_if_moved}
+use Rattle.core_progress.specs.Rounds as rounds
+use Rattle.core_laws.specs.Tile.{Design}
+use Rattle.core_laws.specs.Core.{Load, State, design_of, first_state, step, next, after, after_from}
 use Rattle.core_progress.specs.Moves.{moves_made, most_moves, moves_left}
 use Rattle.core_progress.proofs.Made.{or_is, take_all, made_push}
 

@@ -10,27 +10,27 @@ use Rattle.torus.specs.Shape.{tiles_of}
 use Rattle.torus.specs.declared.step.Step.{Step}
 use Rattle.packet.specs.declared.kinds.Request.{Request}
 use Rattle.packet.specs.declared.kinds.Response.{Response}
-use Rattle.core_progress.specs.home_bank.specs.declared.entry.Entry.{Entry}
-use Rattle.core_progress.specs.home_bank.specs.BankTable.{BankState}
-use Rattle.core_progress.specs.one_order.specs.declared.answer.Answer.{Answer}
-use Rattle.core_progress.specs.one_order.specs.Observed.{Observed, list_at}
-use Rattle.core_progress.specs.one_order.specs.Events.{push_at, order_after}
-use Rattle.core_progress.specs.one_order.proofs.Lists.{list_at_push_same, list_at_push_other, list_at_none, list_within}
-use Rattle.core_progress.specs.one_order.proofs.Naming.{answers_name}
+use Rattle.home_bank.specs.declared.entry.Entry.{Entry}
+use Rattle.home_bank.specs.BankTable.{BankState}
+use Rattle.one_order.specs.declared.answer.Answer.{Answer}
+use Rattle.one_order.specs.Observed.{Observed, list_at}
+use Rattle.one_order.specs.Events.{push_at, order_after}
+use Rattle.one_order.proofs.Lists.{list_at_push_same, list_at_push_other, list_at_none, list_within}
+use Rattle.one_order.proofs.Naming.{answers_name}
 use Rattle.wormhole.specs.Delivery.{IsPrefix}
-use Rattle.core_progress.specs.script_follower.specs.ProcessorRecord.{request_of}
-use Rattle.core_progress.specs.order_abstract.specs.Flight.{Move, Sends, Serves, Takes}
-use Rattle.core_progress.specs.tile_laws.specs.Tile.{Design, TileState}
-use Rattle.core_progress.specs.core_laws.specs.Core.{Load, State, design_of, first_state, next, after, after_from, run_of, show}
-use Rattle.core_progress.specs.core_laws.specs.Moves.{move_of}
-use Rattle.core_progress.specs.core_laws.specs.Mirrors.{no_tile, tile_at}
-use Rattle.core_progress.specs.core_laws.specs.Noted.{noted, requests_noted, taken_noted}
-use Rattle.core_progress.specs.core_laws.specs.Runs.{IsAccepted}
-use Rattle.core_progress.specs.core_laws.specs.Delivery.{operation_asked, notice_of, notice_by, requests_between, responses_between, requests_whole}
-use Rattle.core_progress.specs.core_laws.specs.Delivery.{request_served, responses_sent, DeliversPackets}
-use Rattle.core_progress.specs.core_laws.proofs.Histories.{move_at, state_at, event_at}
-use Rattle.core_progress.specs.core_laws.proofs.EveryRun.{holds_in, packets_delivered}
-use Rattle.core_progress.specs.core_laws.proofs.Stands.{Stands, IsProperRequest, IsProperResponse, responses_from}
+use Rattle.script_follower.specs.ProcessorRecord.{request_of}
+use Rattle.order_abstract.specs.Flight.{Move, Sends, Serves, Takes}
+use Rattle.core_laws.specs.Tile.{Design, TileState}
+use Rattle.core_laws.specs.Core.{Load, State, design_of, first_state, next, after, after_from, run_of, show}
+use Rattle.core_laws.specs.Moves.{move_of}
+use Rattle.core_laws.specs.Mirrors.{no_tile, tile_at}
+use Rattle.core_laws.specs.Noted.{noted, requests_noted, taken_noted}
+use Rattle.core_laws.specs.Runs.{IsAcceptedLoad}
+use Rattle.core_laws.specs.Delivery.{asked_operation, notice_of, notice_by, requests_between, responses_between, requests_whole}
+use Rattle.core_laws.specs.Delivery.{request_served, responses_sent, DeliversPackets}
+use Rattle.core_laws.proofs.Histories.{move_at, state_at, event_at}
+use Rattle.core_laws.proofs.EveryRun.{holds_in, packets_delivered}
+use Rattle.core_laws.proofs.Stands.{Stands, IsProperRequest, IsProperResponse, responses_from}
 use Rattle.core_machine.specs.Machine.{Core, IsAfter, core_after_load}
 use Rattle.core_machine.specs.Delivered.{request_sent, response_taken, brought_from, sent_requests, whole_responses, requests_from, responses_to}
 use Rattle.core_machine.specs.Delivered.{DeliversInOrder}
@@ -140,7 +140,7 @@ waiting_from tiles b None h = All-nil (λ r. (r.source < tiles) × (r.destinatio
 waiting_from tiles b (Some r) h =
     All-cons (λ r. (r.source < tiles) × (r.destination ≡ b)) r [] (h r refl) (All-nil (λ r. (r.source < tiles) × (r.destination ≡ b)))
 
-module _ (l : Load) (ok : IsAccepted l) (steps : List Step) where
+module _ (l : Load) (ok : IsAcceptedLoad l) (steps : List Step) where
   abbrev tiles : ℕ
   tiles = tiles_of l.shape
 
@@ -261,7 +261,7 @@ module _ (l : Load) (ok : IsAccepted l) (steps : List Step) where
   pub delivers : DeliversInOrder l steps (core_after_load l steps)
   delivers =
       record {
-        issued = λ p p_in. ap (map (operation_asked tiles)) (sym (sent_are p p_in))
+        issued = λ p p_in. ap (map (asked_operation tiles)) (sym (sent_are p p_in))
             ∙ (by_law.issued p ∙ ap (λ (xs : List Step). list_at (show (length l.opening) (after l xs)).issued p) all_steps);
         answered = λ p p_in. ap (map notice_of) (sym (whole_are p p_in))
             ∙ (sym (by_law.answered p) ∙ ap (λ (xs : List Step). map (notice_by p) (list_at (show (length l.opening) (after l xs)).answers p)) all_steps);

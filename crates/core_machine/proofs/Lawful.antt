@@ -3,23 +3,23 @@ use Rattle.std.proofs.Common.{◌≡◌, ◌↔◌, ℕ, true, List, length, sym
 use Rattle.std.proofs.lemmas.List.{take_all}
 use Rattle.torus.specs.Shape.{tiles_of}
 use Rattle.torus.specs.declared.step.Step.{Step}
-use Rattle.core_progress.specs.one_order.specs.OneOrder.{HasOneOrder}
-use Rattle.core_progress.specs.order_abstract.specs.EventBook.{EventBook}
-use Rattle.core_progress.specs.order_abstract.specs.Scripts.{AreFinished}
-use Rattle.core_progress.specs.order_abstract.specs.Reported.{ShowsWell}
-use Rattle.core_progress.specs.order_abstract.proofs.EventBooks.{order_of_book}
-use Rattle.core_progress.specs.order_abstract.proofs.Finished.{finished_law}
-use Rattle.core_progress.specs.order_abstract.proofs.Reports.{shows_well}
-use Rattle.core_progress.specs.core_laws.specs.Core.{Load, State, run_of, after, show}
-use Rattle.core_progress.specs.core_laws.specs.Runs.{IsAccepted}
-use Rattle.core_progress.specs.core_laws.specs.Noted.{flight_after}
-use Rattle.core_progress.specs.core_laws.proofs.Histories.{state_at, event_at}
-use Rattle.core_progress.specs.core_laws.proofs.EveryRun.{run_is_history, scripts_are_followed}
+use Rattle.one_order.specs.OneOrder.{HasOneOrder}
+use Rattle.order_abstract.specs.EventBook.{EventBook}
+use Rattle.order_abstract.specs.Scripts.{AreFinished}
+use Rattle.order_abstract.specs.Reported.{ShowsWell}
+use Rattle.order_abstract.proofs.EventBooks.{order_of_book}
+use Rattle.order_abstract.proofs.Finished.{finished_law}
+use Rattle.order_abstract.proofs.Reports.{shows_well}
+use Rattle.core_laws.specs.Core.{Load, State, run_of, after, show}
+use Rattle.core_laws.specs.Runs.{IsAcceptedLoad}
+use Rattle.core_laws.specs.Noted.{flight_after}
+use Rattle.core_laws.proofs.Histories.{state_at, event_at}
+use Rattle.core_laws.proofs.EveryRun.{run_is_history, scripts_are_followed}
 use Rattle.core_machine.specs.Machine.{IsLawful, book_after, all_finished}
 use Rattle.core_machine.proofs.Books.{book_is}
 use Rattle.core_machine.proofs.Moments.{points, moment}
 
-module _ (l : Load) (ok : IsAccepted l) (steps : List Step) where
+module _ (l : Load) (ok : IsAcceptedLoad l) (steps : List Step) where
   abbrev n : ℕ
   n = length steps
 

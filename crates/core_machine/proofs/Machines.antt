@@ -7,24 +7,24 @@ use Rattle.torus.specs.Shape.{Shape, tiles_of}
 use Rattle.torus.specs.declared.step.Step.{Step}
 use Rattle.torus.specs.declared.step.Choice.{Choice}
 use Rattle.script.specs.Scripts.{operation_count}
-use Rattle.core_progress.specs.one_order.specs.declared.ordered.Ordered.{Ordered}
-use Rattle.core_progress.specs.one_order.specs.Order.{LinearizationPoint, IsLegalOrder, StandsBefore}
-use Rattle.core_progress.specs.one_order.specs.Consequences.{Precedes}
-use Rattle.core_progress.specs.one_order.specs.Events.{Event}
-use Rattle.core_progress.specs.one_order.proofs.EventNumbers.{real_time, real_time_of_rows}
+use Rattle.one_order.specs.declared.ordered.Ordered.{Ordered}
+use Rattle.one_order.specs.Order.{LinearizationPoint, IsLegalOrder, StandsBefore}
+use Rattle.one_order.specs.Consequences.{Precedes}
+use Rattle.one_order.specs.Events.{Event}
+use Rattle.one_order.proofs.EventNumbers.{real_time, real_time_of_rows}
 use Rattle.flit_buffer.specs.Surroundings.{Surroundings}
-use Rattle.core_progress.specs.order_abstract.specs.Flight.{Move, event_by}
-use Rattle.core_progress.specs.order_abstract.specs.Scripts.{AreFinished}
-use Rattle.core_progress.specs.order_abstract.specs.EventBook.{EventBook, first_book, noted_event}
-use Rattle.core_progress.specs.tile_laws.specs.declared.agent.Agent.{Agent}
-use Rattle.core_progress.specs.tile_laws.specs.Tile.{Design, TileState, tile_step}
-use Rattle.core_progress.specs.tile_laws.specs.Agents.{agent_kind, agent_tile}
-use Rattle.core_progress.specs.core_laws.specs.Core.{Load, State, design_of, step, or_same, first_state, after, run_of}
-use Rattle.core_progress.specs.core_laws.specs.Moves.{move_of, tile_move}
-use Rattle.core_progress.specs.core_laws.specs.Runs.{IsAccepted, without_packets}
-use Rattle.core_progress.specs.core_laws.proofs.AgentSteps.{option_map_none}
-use Rattle.core_progress.specs.core_laws.proofs.FlightSteps.{refused_tile}
-use Rattle.rounds.specs.Rounds.{one_if_moved}
+use Rattle.order_abstract.specs.Flight.{Move, flight_event}
+use Rattle.order_abstract.specs.Scripts.{AreFinished}
+use Rattle.order_abstract.specs.EventBook.{EventBook, first_book, noted_event}
+use Rattle.core_laws.specs.Agent.{Agent}
+use Rattle.core_laws.specs.Tile.{Design, TileState, tile_step}
+use Rattle.core_laws.specs.Agents.{agent_kind, agent_tile}
+use Rattle.core_laws.specs.Core.{Load, State, design_of, step, or_same, first_state, after, run_of}
+use Rattle.core_laws.specs.Moves.{move_of, tile_move}
+use Rattle.core_laws.specs.Runs.{IsAcceptedLoad, without_packets}
+use Rattle.core_laws.proofs.AgentSteps.{option_map_none}
+use Rattle.core_laws.proofs.FlightSteps.{refused_tile}
+use Rattle.core_progress.specs.Rounds.{one_if_moved}
 use Rattle.core_progress.specs.Moves.{moves_left}
 use Rattle.core_machine.specs.Machine.{Core, IsAfter, event_in, book_after, core_after_load, core_with, core_next, core_after, all_finished}
 use Rattle.core_machine.specs.Reported.{ReportsWell}
@@ -50,7 +50,7 @@ named_machine l c steps f =
     ∙ ap (core l.shape l.depth l.tags l.opening allowed (after l steps) (book_after l steps)) f.moves))))))
 
 -- and it stands after them
-pub stands_after : (l : Load) (steps : List Step) → IsAccepted l → IsAfter l (core_after_load l steps) steps
+pub stands_after : (l : Load) (steps : List Step) → IsAcceptedLoad l → IsAfter l (core_after_load l steps) steps
 stands_after l steps ok = record {
   accepted = ok;
   shape = refl;
@@ -69,7 +69,7 @@ pub same_machine : (l : Load) (c d : Core) (steps : List Step) → IsAfter l c s
 same_machine l c d steps f g = named_machine l c steps f ∙ sym (named_machine l d steps g)
 
 -- the machine that steps lead to reports well
-led_reports : (l : Load) (steps : List Step) → IsAccepted l → ReportsWell (core_after_load l steps)
+led_reports : (l : Load) (steps : List Step) → IsAcceptedLoad l → ReportsWell (core_after_load l steps)
 led_reports l steps ok = record { shape = ok.shape; tags = ok.tags.1; words_low = ok.size.0; words_high = ok.size.1; shows = shows l ok steps }
 
 pub reports_well : (l : Load) (c : Core) (steps : List Step) → IsAfter l c steps → ReportsWell c
@@ -128,7 +128,7 @@ module _ (l : Load) (steps : List Step) (attempt : Step) where
       → core_with (core_after_load l steps) event o ≡ of_load (or_same s o) (noted_event (tiles_of l.shape) (book_after l steps) event) (left - one_if_moved o)
   led_next None h =
       let stays : left ≡ left - 0 = omega arith in
-      ap (λ (m : Option Move). of_load s (noted_event (tiles_of l.shape) (book_after l steps) (event_by (without_packets (length l.opening) s) m)) left)
+      ap (λ (m : Option Move). of_load s (noted_event (tiles_of l.shape) (book_after l steps) (flight_event (without_packets (length l.opening) s) m)) left)
       (sym (refused_step (design_of l) s attempt h))
       ∙ ap (of_load s (noted_event (tiles_of l.shape) (book_after l steps) event)) stays
   led_next (Some t) h = refl

@@ -2,22 +2,22 @@
 use Rattle.std.proofs.Common.{ℕ, List}
 use Rattle.torus.specs.Shape.{tiles_of}
 use Rattle.torus.specs.declared.step.Step.{Step}
-use Rattle.core_progress.specs.one_order.specs.Order.{LinearizationPoint}
-use Rattle.core_progress.specs.one_order.specs.Events.{order_after}
-use Rattle.core_progress.specs.order_abstract.specs.Courses.{events_of}
-use Rattle.core_progress.specs.order_abstract.proofs.Bounds.{Moment}
-use Rattle.core_progress.specs.order_abstract.proofs.Reports as reports
-use Rattle.core_progress.specs.core_laws.specs.Core.{Load, run_of}
-use Rattle.core_progress.specs.core_laws.specs.Runs.{IsAccepted}
-use Rattle.core_progress.specs.core_laws.specs.Noted.{flight_after, move_after}
-use Rattle.core_progress.specs.core_laws.proofs.CourseRuns.{is_course}
+use Rattle.one_order.specs.Order.{LinearizationPoint}
+use Rattle.one_order.specs.Events.{order_after}
+use Rattle.order_abstract.specs.Courses.{events_of}
+use Rattle.order_abstract.proofs.Bounds.{Moment}
+use Rattle.order_abstract.proofs.Reports as reports
+use Rattle.core_laws.specs.Core.{Load, run_of}
+use Rattle.core_laws.specs.Runs.{IsAcceptedLoad}
+use Rattle.core_laws.specs.Noted.{flight_after, move_after}
+use Rattle.core_laws.proofs.CourseRuns.{is_course}
 
 module _ (l : Load) (steps : List Step) where
   -- the operations in the order of their services, after n steps
   abbrev pub points : ℕ → List LinearizationPoint
   points n = order_after (events_of (flight_after l steps) (move_after l steps)) n
 
-  pub moment : IsAccepted l → (n : ℕ) → Moment (tiles_of l.shape) l.tags l.opening l.scripts (run_of l steps) n (flight_after l steps n) (points n)
+  pub moment : IsAcceptedLoad l → (n : ℕ) → Moment (tiles_of l.shape) l.tags l.opening l.scripts (run_of l steps) n (flight_after l steps n) (points n)
   moment ok n =
       reports.moment (tiles_of l.shape) l.tags l.opening l.scripts (flight_after l steps) (move_after l steps) n (is_course l ok steps n)
       (reports.all_followable (tiles_of l.shape) l.tags l.opening l.scripts (flight_after l steps) (move_after l steps) ok.scripts)

@@ -3,12 +3,12 @@ use Rattle.std.proofs.Common.{◌≡◌, ◌+◌, ◌<◌, ◌≤◌, false, Lis
 use Rattle.std.proofs.lemmas.List.Folds.{list_all-map}
 use Rattle.torus.specs.Shape.{Shape}
 use Rattle.torus.specs.declared.step.Step.{Step}
-use Rattle.core_progress.specs.script_follower.specs.Following.{is_finished}
-use Rattle.core_progress.specs.script_follower.specs.ProcessorRecord.{ProcessorRecord}
-use Rattle.rounds.specs.Rounds.{or_same, one_if_moved, moves_in, IsEnabled}
-use Rattle.core_progress.specs.tile_laws.specs.Tile.{Design, TileState}
-use Rattle.core_progress.specs.core_laws.specs.Core.{Load, State, design_of, first_state, step, round, after}
-use Rattle.core_progress.specs.core_laws.specs.Runs.{state_after}
+use Rattle.script_follower.specs.Following.{is_finished}
+use Rattle.script_follower.specs.ProcessorRecord.{ProcessorRecord}
+use Rattle.core_progress.specs.Rounds.{or_same, one_if_moved, moves_in, IsEnabled}
+use Rattle.core_laws.specs.Tile.{Design, TileState}
+use Rattle.core_laws.specs.Core.{Load, State, design_of, first_state, step, round, after}
+use Rattle.core_laws.specs.Runs.{state_after}
 use Rattle.core_progress.specs.Moves.{IsLive, tiles_finished, moves_made, most_moves}
 use Rattle.core_progress.proofs.Made.{take_all}
 use Rattle.core_progress.proofs.Budget.{few_moves}

@@ -4,17 +4,17 @@ use Rattle.torus.specs.Shape.{tiles_of}
 use Rattle.torus.specs.declared.step.Step.{Step}
 use Rattle.packet.specs.declared.kinds.Request.{Request}
 use Rattle.packet.specs.declared.kinds.Response.{Response}
-use Rattle.core_progress.specs.home_bank.specs.BankTable.{BankState}
-use Rattle.core_progress.specs.one_order.specs.Observed.{list_at}
+use Rattle.home_bank.specs.BankTable.{BankState}
+use Rattle.one_order.specs.Observed.{list_at}
 use Rattle.wormhole.specs.Delivery.{IsPrefix}
-use Rattle.core_progress.specs.script_follower.specs.ProcessorRecord.{request_of}
-use Rattle.core_progress.specs.order_abstract.specs.Flight.{Move, Sends, Takes}
-use Rattle.core_progress.specs.tile_laws.specs.Tile.{Design}
-use Rattle.core_progress.specs.core_laws.specs.Core.{Load, State, design_of, first_state, next}
-use Rattle.core_progress.specs.core_laws.specs.Moves.{move_of}
-use Rattle.core_progress.specs.core_laws.specs.Mirrors.{tile_at}
-use Rattle.core_progress.specs.core_laws.specs.Delivery.{operation_asked, notice_of, notice_by, requests_between}
-use Rattle.core_progress.specs.core_laws.specs.Delivery.{responses_between, requests_whole, responses_sent}
+use Rattle.script_follower.specs.ProcessorRecord.{request_of}
+use Rattle.order_abstract.specs.Flight.{Move, Sends, Takes}
+use Rattle.core_laws.specs.Tile.{Design}
+use Rattle.core_laws.specs.Core.{Load, State, design_of, first_state, next}
+use Rattle.core_laws.specs.Moves.{move_of}
+use Rattle.core_laws.specs.Mirrors.{tile_at}
+use Rattle.core_laws.specs.Delivery.{asked_operation, notice_of, notice_by, requests_between}
+use Rattle.core_laws.specs.Delivery.{responses_between, requests_whole, responses_sent}
 use Rattle.core_machine.specs.Machine.{Core, shown}
 
 -- the request that a processor sends by a move: where it issues an operation, it puts the head of
@@ -67,7 +67,7 @@ responses_to p rs = filter (λ r. r.destination == p) rs
 -- still to put.
 pub record DeliversInOrder (l : Load) (steps : List Step) (c : Core) : Type 0 where
   pub issued : (p : ℕ) → p < tiles_of l.shape
-      → map (operation_asked (tiles_of l.shape)) (requests_from p (sent_requests l steps))
+      → map (asked_operation (tiles_of l.shape)) (requests_from p (sent_requests l steps))
       ≡ list_at (shown c).issued p
   pub answered : (p : ℕ) → p < tiles_of l.shape
       → map notice_of (responses_to p (whole_responses l steps))

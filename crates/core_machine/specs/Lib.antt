@@ -1,10 +1,6 @@
-pub use Rattle.core_progress.specs.home_bank
-pub use Rattle.core_progress.specs.one_order
-pub use Rattle.core_progress.specs.core_laws
-pub use Rattle.core_progress
-pub use Rattle.core_progress.specs.order_abstract
-pub use Rattle.core_progress.specs.script_follower
-pub use Rattle.core_progress.specs.tile_laws
 pub mod Machine
 pub mod Reported
 pub mod Delivered
+pub mod Enabled
+pub mod Moves
+pub mod TraceOfRun

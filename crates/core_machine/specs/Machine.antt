@@ -6,20 +6,20 @@ use Rattle.torus.specs.declared.step.Step.{Step}
 use Rattle.torus.specs.declared.step.Stepped.{Stepped}
 use Rattle.torus.specs.declared.step.Stepped.TheVariants.{Moved, Idle}
 use Rattle.script.specs.Scripts.{operation_count}
-use Rattle.core_progress.specs.script_follower.specs.Following.{is_finished}
-use Rattle.core_progress.specs.one_order.specs.declared.ordered.Ordered.{Ordered}
-use Rattle.core_progress.specs.one_order.specs.Observed.{Observed}
-use Rattle.core_progress.specs.one_order.specs.Events.{Event}
-use Rattle.core_progress.specs.one_order.specs.OneOrder.{HasOneOrder}
-use Rattle.core_progress.specs.order_abstract.specs.Flight.{event_by}
-use Rattle.core_progress.specs.order_abstract.specs.Scripts.{FollowScripts}
-use Rattle.core_progress.specs.order_abstract.specs.EventBook.{EventBook, first_book, noted_event}
-use Rattle.core_progress.specs.tile_laws.specs.Tile.{Design}
-use Rattle.core_progress.specs.core_laws.specs.Core.{Load, State, design_of, step, next, first_state, after, run_of}
-use Rattle.core_progress.specs.core_laws.specs.Core.{records_of, show}
-use Rattle.core_progress.specs.core_laws.specs.Moves.{move_of}
-use Rattle.core_progress.specs.core_laws.specs.Runs.{IsAccepted, without_packets}
-use Rattle.rounds.specs.Rounds.{IsEnabled}
+use Rattle.script_follower.specs.Following.{is_finished}
+use Rattle.one_order.specs.declared.ordered.Ordered.{Ordered}
+use Rattle.one_order.specs.Observed.{Observed}
+use Rattle.one_order.specs.Events.{Event}
+use Rattle.one_order.specs.OneOrder.{HasOneOrder}
+use Rattle.order_abstract.specs.Flight.{flight_event}
+use Rattle.order_abstract.specs.Scripts.{FollowScripts}
+use Rattle.order_abstract.specs.EventBook.{EventBook, first_book, noted_event}
+use Rattle.core_laws.specs.Tile.{Design}
+use Rattle.core_laws.specs.Core.{Load, State, design_of, step, next, first_state, after, run_of}
+use Rattle.core_laws.specs.Core.{records_of, show}
+use Rattle.core_laws.specs.Moves.{move_of}
+use Rattle.core_laws.specs.Runs.{IsAcceptedLoad, without_packets}
+use Rattle.core_progress.specs.Rounds.{IsEnabled}
 use Rattle.core_progress.specs.Moves.{moves_left}
 
 -- a machine: what was loaded of shape, depth, tags and words, how many operations each of its
@@ -48,7 +48,7 @@ pub record IsLawful (l : Load) (steps : List Step) (rows : List Ordered) : Type 
 
 -- the event that an attempt is in a state (Herlihy and Wing)
 abbrev pub event_in : Design → State → Step → Event
-event_in d s attempt = event_by (without_packets d.words s) (move_of d s attempt)
+event_in d s attempt = flight_event (without_packets d.words s) (move_of d s attempt)
 
 -- the book after a list of steps
 abbrev pub book_from : Design → State → EventBook → List Step → EventBook
@@ -63,7 +63,7 @@ book_after l steps = book_from (design_of l) (first_state l) (first_book (tiles_
 -- and the moves that are left are what they make; and the headline holds of the run, with the rows
 -- of the book.
 pub record IsAfter (l : Load) (c : Core) (steps : List Step) : Type 0 where
-  pub accepted : IsAccepted l
+  pub accepted : IsAcceptedLoad l
   pub shape : c.shape ≡ l.shape
   pub depth : c.depth ≡ l.depth
   pub tags : c.tags ≡ l.tags
@@ -106,9 +106,9 @@ core_after_load l steps = record {
 }
 
 -- what a step tells: Moved exactly when it is enabled
-abbrev pub told : Option State → Stepped
-told None = Idle
-told (Some s) = Moved
+abbrev pub machine_told : Option State → Stepped
+machine_told None = Idle
+machine_told (Some s) = Moved
 
 -- the machine in another state, after a move with an event
 abbrev pub core_moved : Core → State → Event → Core
@@ -136,7 +136,7 @@ core_next c attempt = core_with c (event_in (built_to c) c.state attempt)
 -- a step does exactly what its choice says: Moved exactly when it is enabled, with the stated
 -- change
 pub record Steps (old new : Core) (stepped : Stepped) (attempt : Step) : Type 0 where
-  pub result : stepped ≡ told (step (built_to old) old.state attempt)
+  pub result : stepped ≡ machine_told (step (built_to old) old.state attempt)
   pub change : new ≡ core_next old attempt
 
 -- the machine after a list of steps

@@ -1,7 +1,7 @@
 -- What makes the report of a machine a good one.
 use Rattle.std.specs.Prelude.{◌≤◌, length}
 use Rattle.torus.specs.Shape.{tiles_of, IsAccepted as IsAcceptedShape}
-use Rattle.core_progress.specs.order_abstract.specs.Reported.{ShowsWell}
+use Rattle.order_abstract.specs.Reported.{ShowsWell}
 use Rattle.core_machine.specs.Machine.{Core, shown, all_finished}
 
 -- The machine has a shape, tags and words as its text may ask for, and what it shows goes with the

@@ -6,15 +6,15 @@ ghost use Rattle.std.specs.Prelude.{slice_get};
 ghost use Rattle.torus.specs.declared.step.Step.{Step};
 ghost use Rattle.script.specs.Machine.{MachineSpec, IsAcceptedMachine};
 ghost use Rattle.script.specs.Scripts.{ScriptsSpec, AreAcceptedScripts, Fit};
-ghost use Rattle.core_progress.specs.one_order.specs.declared.ordered.Ordered.{Ordered};
-ghost use Rattle.core_progress.specs.one_order.specs.Order.{LinearizationPoint, IsLegalOrder, StandsBefore};
-ghost use Rattle.core_progress.specs.one_order.specs.Rows.{BeginRows};
-ghost use Rattle.core_progress.specs.one_order.specs.Consequences.{Precedes};
-ghost use Rattle.core_progress.specs.order_abstract.specs.Load.{load_of};
-ghost use Rattle.core_progress.specs.order_abstract.specs.Scripts.{AreFinished};
-ghost use Rattle.rounds.specs.Rounds.{moves_in};
-ghost use Rattle.core_progress.specs.core_laws.specs.Core.{Load, run_of, step, round};
-ghost use Rattle.core_progress.specs.core_laws.specs.Runs.{IsAccepted};
+ghost use Rattle.one_order.specs.declared.ordered.Ordered.{Ordered};
+ghost use Rattle.one_order.specs.Order.{LinearizationPoint, IsLegalOrder, StandsBefore};
+ghost use Rattle.one_order.specs.Rows.{BeginRows};
+ghost use Rattle.one_order.specs.Consequences.{Precedes};
+ghost use Rattle.order_abstract.specs.Load.{load_of};
+ghost use Rattle.order_abstract.specs.Scripts.{AreFinished};
+ghost use Rattle.core_progress.specs.Rounds.{moves_in};
+ghost use Rattle.core_laws.specs.Core.{Load, run_of, step, round};
+ghost use Rattle.core_laws.specs.Runs.{IsAcceptedLoad};
 ghost use Rattle.core_progress.specs.Moves.{IsLive, moves_made, most_moves};
 ghost use Rattle.core_machine.specs.Machine.{Core, IsAfter, IsLawful, MakesMove, built_to, book_after, core_after_load};
 ghost use Rattle.core_machine.specs.Machine.{core_next, core_after, all_finished};
@@ -61,20 +61,20 @@ pub fn steps_decide_the_machine()
 /// What the readers give is an accepted load.
 pub fn readers_give_accepted_loads()
     ensures { (machine : MachineSpec) (scripts : ScriptsSpec) → IsAcceptedMachine machine
-        → AreAcceptedScripts scripts → Fit scripts machine → IsAccepted (load_of machine scripts) }
+        → AreAcceptedScripts scripts → Fit scripts machine → IsAcceptedLoad (load_of machine scripts) }
 {}
 
 /// The run of any list of steps from any accepted load is lawful.
 pub fn every_run_is_lawful()
-    ensures { (l : Load) (steps : List Step) → IsAccepted l
+    ensures { (l : Load) (steps : List Step) → IsAcceptedLoad l
         → IsLawful l steps (book_after l steps).rows }
 {}
 
 /// From any accepted load any steps lead to a machine that stands after them, and reports well.
 pub fn steps_lead_to_a_machine()
-    ensures after { (l : Load) (steps : List Step) → IsAccepted l
+    ensures after { (l : Load) (steps : List Step) → IsAcceptedLoad l
         → IsAfter l (core_after_load l steps) steps }
-    ensures reports { (l : Load) (steps : List Step) → IsAccepted l
+    ensures reports { (l : Load) (steps : List Step) → IsAcceptedLoad l
         → ReportsWell (core_after_load l steps) }
 {}
 
@@ -102,7 +102,7 @@ pub fn first_steps_begin_the_run()
 /// stand where they stood, with the numbers that they had, and with answers' numbers that have come
 /// since.
 pub fn orders_go_on()
-    ensures { (l : Load) (steps more : List Step) → IsAccepted l
+    ensures { (l : Load) (steps more : List Step) → IsAcceptedLoad l
         → BeginRows (book_after l steps).rows (book_after l (steps ++ more)).rows }
 {}
 

@@ -7,10 +7,10 @@ use Rattle.torus.specs.declared.step.Choice.{Choice}
 use Rattle.torus.specs.declared.step.Choice.TheVariants.{Send, Take, TakeFrom, Put, Credit, CreditOf, Serve, Done, Look}
 use Rattle.wormhole.specs.Net.{IsOn}
 use Rattle.channel_number.specs.Ports.{port_count}
-use Rattle.core_laws.specs.tile_laws.specs.declared.agent.Agent.TheVariants.{Processor, Router, Bank}
-use Rattle.core_laws.specs.tile_laws.specs.Agents.{agent_number}
+use Rattle.core_laws.specs.Agent.TheVariants.{Processor, Router, Bank}
+use Rattle.core_laws.specs.Agents.{agent_number}
 use Rattle.core_laws.specs.Core.{attempts_of, round_at, round}
-use Rattle.rounds.proofs.Members.{on_head, on_tail}
+use Rattle.core_progress.proofs.Members.{on_head, on_tail}
 
 module _ {A : Type 0} where
   pub on_left : (x : A) (xs ys : List A) → IsOn x xs → IsOn x (xs ++ ys)

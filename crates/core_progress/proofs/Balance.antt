@@ -5,11 +5,11 @@ use Rattle.torus.specs.declared.step.OpId.{OpId}
 use Rattle.packet.specs.declared.kinds.Operation.{Operation}
 use Rattle.packet.specs.declared.kinds.Response.{Response}
 use Rattle.tag_table.specs.Tags.{out_count}
-use Rattle.core_laws.specs.script_follower.specs.ProcessorRecord.{ProcessorRecord, issued_by, answered_by, index_of, answer_of}
-use Rattle.core_laws.specs.one_order.specs.Order.{LinearizationPoint}
-use Rattle.core_laws.specs.order_abstract.specs.Flight.{Flight, Move, Sends, Serves, Takes, IsFound, processor_at, moved, moved_by}
-use Rattle.core_laws.specs.order_abstract.proofs.Whole.{Whole}
-use Rattle.core_laws.specs.order_abstract.proofs.Parts.{tags_at, processor_set}
+use Rattle.script_follower.specs.ProcessorRecord.{ProcessorRecord, issued_by, answered_by, index_of, answer_of}
+use Rattle.one_order.specs.Order.{LinearizationPoint}
+use Rattle.order_abstract.specs.Flight.{Flight, Move, Sends, Serves, Takes, IsFound, processor_at, moved, moved_by}
+use Rattle.order_abstract.proofs.Whole.{Whole}
+use Rattle.order_abstract.proofs.Parts.{tags_at, processor_set}
 use Rattle.core_progress.proofs.Out.{AreOut, issue_out, answer_out, issue_waits, answer_waits, out_some}
 
 -- who awaits an answer holds a tag, and the others are answered

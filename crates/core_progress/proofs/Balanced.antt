@@ -9,16 +9,16 @@ use Rattle.torus.specs.declared.step.OpId.{OpId}
 use Rattle.torus.specs.declared.step.Step.{Step}
 use Rattle.packet.specs.declared.kinds.Operation.{Operation}
 use Rattle.script.specs.declared.line.Line.{Line}
-use Rattle.core_laws.specs.script_follower.specs.Following.{next_operation_of, first_of}
-use Rattle.core_laws.specs.script_follower.specs.ProcessorRecord.{ProcessorRecord, no_processor}
+use Rattle.script_follower.specs.Following.{next_operation_of, first_of}
+use Rattle.script_follower.specs.ProcessorRecord.{ProcessorRecord, no_processor}
 use Rattle.tag_table.specs.Tags.{out_count}
-use Rattle.core_laws.specs.one_order.specs.Events.{order_after}
-use Rattle.core_laws.specs.order_abstract.specs.Flight.{Flight, moved_by}
-use Rattle.core_laws.specs.tile_laws.specs.Tile.{Design, TileState}
+use Rattle.one_order.specs.Events.{order_after}
+use Rattle.order_abstract.specs.Flight.{Flight, moved_by}
+use Rattle.core_laws.specs.Tile.{Design, TileState}
 use Rattle.core_laws.specs.Core.{Load, State, design_of, first_state, first_tile, records_of, next}
 use Rattle.core_laws.specs.Moves.{move_of}
 use Rattle.core_laws.specs.Noted.{Noted, noted}
-use Rattle.core_laws.specs.Runs.{IsAccepted}
+use Rattle.core_laws.specs.Runs.{IsAcceptedLoad}
 use Rattle.core_laws.proofs.Networks.{network}
 use Rattle.core_laws.proofs.FlightSteps.{flight_step}
 use Rattle.core_laws.proofs.StepEvents.{found}
@@ -47,7 +47,7 @@ first_records dims tags [] p = first_record 0 []
 first_records dims tags (lines ∷ scripts) zero = first_record tags lines
 first_records dims tags (lines ∷ scripts) (suc p) = first_records dims tags scripts p
 
-module _ (l : Load) (ok : IsAccepted l) where
+module _ (l : Load) (ok : IsAcceptedLoad l) where
   first_balanced : RecordsBalanced (records_of (first_state l))
   first_balanced p = first_records (dims_of l.shape) l.tags l.scripts p
 

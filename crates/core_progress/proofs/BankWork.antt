@@ -14,24 +14,24 @@ use Rattle.packet.specs.declared.kinds.Reply.TheVariants.{Old, Ok as Stored}
 use Rattle.packet.specs.Spelling.{heading_of, values_of_reply}
 use Rattle.packet.specs.Written.{head_flit, flits_for}
 use Rattle.packet.specs.Memory.{reply_to}
-use Rattle.core_laws.specs.home_bank.specs.ServiceList.{response_of}
+use Rattle.home_bank.specs.ServiceList.{response_of}
 use Rattle.flit_buffer.specs.declared.want.Want.{Want}
 use Rattle.flit_buffer.specs.declared.want.Want.TheVariants as want
 use Rattle.flit_buffer.specs.Channel as channel
 use Rattle.flit_buffer.specs.Surroundings.{granted, ring}
-use Rattle.wormhole.specs.Net.{IsOn, IsParcel, IsTailShaped, Parcel, flits_of as flits_in}
+use Rattle.wormhole.specs.Net.{IsOn, IsParcel, EndsWithTail, Parcel, net_flits as flits_in}
 use Rattle.wormhole.specs.Words.{Words}
 use Rattle.wormhole.specs.Events.{InjectHead, InjectRest}
-use Rattle.core_laws.specs.wormhole_torus.proofs.Ends.{few_channels}
-use Rattle.wormhole_progress.specs.Work.{End}
-use Rattle.rounds.proofs.Members.{on_head, on_tail}
+use Rattle.wormhole_torus.proofs.Ends.{few_channels}
+use Rattle.wormhole.specs.Work.{End}
+use Rattle.core_progress.proofs.Members.{on_head, on_tail}
 use Rattle.wormhole.proofs.Lists.{all_on}
 use Rattle.packet.specs.Flits.{flits_of}
 use Rattle.core_laws.specs.Heads.{carries_route}
-use Rattle.core_laws.specs.home_bank.specs.BankTable.{bank_wants, bank_after, is_nil}
+use Rattle.home_bank.specs.BankTable.{bank_wants, bank_after, is_nil}
 use Rattle.channel_number.specs.Ports.{injection_channel, ejection_channel}
-use Rattle.core_laws.specs.tile_laws.specs.Wiring.{bank_wiring}
-use Rattle.core_laws.specs.tile_laws.specs.Tile.{Design}
+use Rattle.core_laws.specs.Wiring.{bank_wiring}
+use Rattle.core_laws.specs.Tile.{Design}
 use Rattle.core_laws.specs.Core.{State}
 use Rattle.core_laws.proofs.AgentSteps.{option_map_some}
 use Rattle.core_laws.proofs.Projection.{net_of, response_parcel, first_flit}
@@ -40,7 +40,7 @@ use Rattle.core_laws.proofs.Parcels.{parcel_flits, response_ends}
 use Rattle.core_laws.proofs.PacketFacts.{is_parcel}
 use Rattle.core_laws.proofs.Stands.{tile_at, Ghost, Mirrors, Carries, IsInPhase, IsProperResponse, responses_from, last_of}
 use Rattle.core_progress.proofs.Lives.{no_head}
-use Rattle.core_laws.specs.home_bank.specs.declared.entry.Entry.{Entry}
+use Rattle.home_bank.specs.declared.entry.Entry.{Entry}
 use Rattle.core_laws.specs.Delivery.{responses_made, response_made}
 use Rattle.core_laws.specs.Network as network
 use Rattle.core_progress.proofs.RouterWork.{if_so}
@@ -78,7 +78,7 @@ made_same b k [] = refl
 made_same b k (e ∷ es) = ap (λ rs. response_made b k e ∷ rs) (made_same b (k + 1) es)
 
 -- flits that follow a head have no head first
-tail_first : (d : Design) (fs : List ℕ) → IsTailShaped (net_of d) fs → carries_route (first_flit fs) ≡ false
+tail_first : (d : Design) (fs : List ℕ) → EndsWithTail (net_of d) fs → carries_route (first_flit fs) ≡ false
 tail_first d [] shaped = no_head
 tail_first d (f ∷ fs) shaped = sym (is_head_of d f) ∙ shaped.0
 
@@ -141,7 +141,7 @@ module _ (d : Design) (s : State) (g : Ghost) (mirrors : Mirrors d s g.net.lines
       let end = injection_low d s g.net mirrors t Reply here in
       let bit : carries_route (first_flit (tile_at s t).bank.to_put) ≡ false = ap (λ l. carries_route (first_flit l)) due ∙ rest in
       let course : (g.net.lines x).rest ≡ f ∷ fs = mirrors.sends_replies t here ∙ ap (λ b. cond b [] (tile_at s t).bank.to_put) bit ∙ due in
-      let shaped : IsTailShaped (net_of d) (f ∷ fs) = subst (IsTailShaped (net_of d)) (words.senders x end.1 ∙ course) (words.owed x) in
+      let shaped : EndsWithTail (net_of d) (f ∷ fs) = subst (EndsWithTail (net_of d)) (words.senders x end.1 ∙ course) (words.owed x) in
       subst (λ (b : Bool). IsTileEvent d g.net
       (if b then option_map (λ q. InjectHead x (response_parcel d.shape q)) (network.last_response (responses_made t 0 (tile_at s t).bank.entries))
       else Some (InjectRest x f fs)) now (after_choice choice.Send w learned)) (sym rest)

@@ -6,21 +6,20 @@ use Rattle.torus.specs.Shape.{tiles_of, dims_of}
 use Rattle.torus.specs.declared.step.Step.{Step}
 use Rattle.script.specs.declared.line.Line.{Line}
 use Rattle.script.specs.Scripts.{operation_count, total_count}
-use Rattle.core_laws.specs.script_follower.specs.Following.{first_of, left_of}
-use Rattle.core_laws.specs.script_follower.proofs.Followable.{accepted_followable}
-use Rattle.core_laws.specs.one_order.specs.Events.{order_after}
-use Rattle.wormhole.specs.State.{State as NetState}
-use Rattle.wormhole.specs.Events.{Event, network_after}
-use Rattle.wormhole_progress.specs.Weight.{sum_below}
-use Rattle.wormhole_progress.specs.Work.{End, end_weight, work, first_end}
-use Rattle.wormhole_progress.specs.Work as progress
-use Rattle.rounds.specs.Rounds.{one_if_moved}
-use Rattle.wormhole_progress.proofs.Sums.{sum_same}
-use Rattle.wormhole_progress.proofs.Bounded.{ends_owe, empty_owes}
-use Rattle.core_laws.specs.tile_laws.specs.Tile.{Design, TileState}
+use Rattle.script_follower.specs.Following.{first_of, left_of}
+use Rattle.script_follower.proofs.Followable.{accepted_followable}
+use Rattle.one_order.specs.Events.{order_after}
+use Rattle.wormhole.specs.State.{NetState}
+use Rattle.wormhole.specs.Events.{network_after}
+use Rattle.wormhole.specs.Weight.{sum_below}
+use Rattle.wormhole.specs.Work.{End, end_weight, work, first_end}
+use Rattle.core_progress.specs.Rounds.{one_if_moved}
+use Rattle.wormhole.proofs.Sums.{sum_same}
+use Rattle.wormhole.proofs.Bounded.{ends_owe, empty_owes}
+use Rattle.core_laws.specs.Tile.{Design, TileState}
 use Rattle.core_laws.specs.Core.{Load, State, design_of, first_state, first_tile, or_same, step}
-use Rattle.core_laws.specs.Runs.{IsAccepted, state_after}
-use Rattle.core_laws.specs.order_abstract.specs.Room.{home_room}
+use Rattle.core_laws.specs.Runs.{IsAcceptedLoad, state_after}
+use Rattle.order_abstract.specs.Room.{home_room}
 use Rattle.core_laws.specs.Network.{net_of, network_event}
 use Rattle.core_laws.specs.Noted.{noted, event_by}
 use Rattle.core_laws.proofs.Histories.{event_at, next_at, after_more}
@@ -37,10 +36,6 @@ use Rattle.core_progress.proofs.MachineWork.{ends_at, HasRoom, machine_work_fall
 use Rattle.core_progress.proofs.Counts.{all_homes, all_left, left_at_first}
 use Rattle.core_progress.proofs.Made.{made_by, made_more, take_all, still}
 
-same_after : (d : Design) (net : NetState) (e : Option Event) → progress.network_after (net_of d) net e ≡ network_after (net_of d) net e
-same_after d net None = refl
-same_after d net (Some e) = refl
-
 -- what the ends of a tile have to do at first
 first_weight : (dims tags cap : ℕ) (lines : List Line)
     → end_weight (end_of cap (first_tile dims tags lines).processor (first_tile dims tags lines).bank) ≡ end_weight (first_end (left_of (first_of lines)) cap)
@@ -48,7 +43,7 @@ first_weight dims tags cap lines =
     let none : (end_of cap (first_tile dims tags lines).processor (first_tile dims tags lines).bank).unsent ≡ 0 = ap (λ b. cond b 0 0) no_head in
     omega arith
 
-module _ (l : Load) (ok : IsAccepted l) where
+module _ (l : Load) (ok : IsAcceptedLoad l) where
   abbrev d : Design
   d = design_of l
 
@@ -109,10 +104,9 @@ module _ (l : Load) (ok : IsAccepted l) where
       let s : State = state_after l steps n in
       let made : one_if_moved (step d s a) ≡ 1 = ap one_if_moved is in
       let state : state_after l steps (suc n) ≡ after = after_more d steps (first_state l) n ∙ ap (next_at d s) there ∙ ap (or_same s) is in
-      let new : NetState = progress.network_after (net_of d) (noted l steps n).net (network_event d s a) in
+      let new : NetState = network_after (net_of d) (noted l steps n).net (network_event d s a) in
       let net : (noted l steps (suc n)).net ≡ new =
-      ap (λ (b : Option Step). network_after (net_of d) (noted l steps n).net (event_by l s b)) there
-      ∙ sym (same_after d (noted l steps n).net (network_event d s a)) in
+      ap (λ (b : Option Step). network_after (net_of d) (noted l steps n).net (event_by l s b)) there in
       let same : owed steps (suc n) ≡ work (net_of d) (tiles_of l.shape) (ends_at cap after) new =
       ap (λ (t : State). work (net_of d) (tiles_of l.shape) (ends_at cap t) (noted l steps (suc n)).net) state
       ∙ ap (work (net_of d) (tiles_of l.shape) (ends_at cap after)) net in

@@ -6,12 +6,12 @@ use Rattle.std.proofs.lemmas.Bool.{cases_eq, ne_eqb}
 use Rattle.std.proofs.lemmas.List.Sums.{sum_by-cons}
 use Rattle.script.specs.declared.line.Line.{Line}
 use Rattle.script.specs.Scripts.{operations_of, operation_count, total_count}
-use Rattle.core_laws.specs.script_follower.specs.Scripts.{IsFollowable, address_of}
-use Rattle.core_laws.specs.script_follower.specs.Homes.{is_home, line_home_count, script_home_count}
-use Rattle.core_laws.specs.script_follower.specs.Following.{first_of, left_of, starts}
-use Rattle.core_laws.specs.script_follower.proofs.Shown.{left_within}
-use Rattle.core_laws.specs.order_abstract.specs.Room.{home_room}
-use Rattle.wormhole_progress.specs.Weight.{sum_below}
+use Rattle.script_follower.specs.Scripts.{IsFollowable, address_of}
+use Rattle.script_follower.specs.Homes.{is_home, line_home_count, script_home_count}
+use Rattle.script_follower.specs.Following.{first_of, left_of, starts}
+use Rattle.script_follower.proofs.Shown.{left_within}
+use Rattle.order_abstract.specs.Room.{home_room}
+use Rattle.wormhole.specs.Weight.{sum_below}
 
 -- the sum of two counts
 sum_both : (m : ℕ) (f g h : ℕ → ℕ) → ((b : ℕ) → h b ≡ f b + g b) → sum_below m h ≡ sum_below m f + sum_below m g

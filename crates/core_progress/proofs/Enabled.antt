@@ -13,29 +13,29 @@ use Rattle.torus.specs.declared.shape.Class.TheVariants.{Request, Reply}
 use Rattle.torus.specs.declared.step.Step.{Step}
 use Rattle.torus.specs.declared.step.Choice.TheVariants as choice
 use Rattle.packet.specs.declared.kinds.Request.{Request as Asking}
-use Rattle.core_laws.specs.home_bank.specs.ServiceList.{address_of}
+use Rattle.home_bank.specs.ServiceList.{address_of}
 use Rattle.flit_buffer.specs.declared.want.Want.TheVariants as want
 use Rattle.flit_buffer.specs.Channel as channel
 use Rattle.flit_buffer.specs.Wants.{told_by}
 use Rattle.flit_buffer.specs.Surroundings.{Wiring, granted, ring}
 use Rattle.wormhole.specs.Net.{IsNet, IsOn}
-use Rattle.wormhole.specs.State.{State as NetState, Line}
+use Rattle.wormhole.specs.State.{NetState, NetLine}
 use Rattle.wormhole.specs.Words.{Words}
 use Rattle.wormhole.specs.Routes.{Routes}
-use Rattle.wormhole.specs.Events.{Event, InjectHead, InjectRest, Latch, ForwardHead, ForwardRest, AcceptHead, AcceptRest, Return, CanHappen}
-use Rattle.wormhole_progress.specs.Ends.{IsOwed, Goes}
-use Rattle.wormhole_progress.proofs.Heads.{Heads, heads, leads, in_line_is}
-use Rattle.core_laws.specs.script_follower.specs.ProcessorRecord.{ready}
+use Rattle.wormhole.specs.Events.{NetEvent, InjectHead, InjectRest, Latch, ForwardHead, ForwardRest, AcceptHead, AcceptRest, Return, CanHappen}
+use Rattle.wormhole.specs.Ends.{IsOwed, Goes}
+use Rattle.wormhole.proofs.Heads.{Heads, heads, leads, in_line_is}
+use Rattle.script_follower.specs.ProcessorRecord.{ready}
 use Rattle.packet.specs.Flits.{head_of}
 use Rattle.core_laws.specs.Heads.{carries_route}
-use Rattle.core_laws.specs.router.specs.Table.{RouterState, latch_of, output_owned, is_owned, is_output, output_for, wants_to_take, wants_to_put, way_of}
+use Rattle.router.specs.Table.{RouterState, latch_of, output_owned, is_owned, is_output, output_for, wants_to_take, wants_to_put, way_of}
 use Rattle.channel_number.specs.Ports.{port_count}
-use Rattle.core_laws.specs.script_follower.specs.ProcessorTable.{flits_due}
-use Rattle.core_laws.specs.home_bank.specs.BankTable.{is_nil}
+use Rattle.script_follower.specs.ProcessorTable.{flits_due}
+use Rattle.home_bank.specs.BankTable.{is_nil}
 use Rattle.channel_number.specs.Ports.{injection_channel, ejection_channel, input_channel, output_channel}
-use Rattle.core_laws.specs.tile_laws.specs.Wiring.{processor_wiring, bank_wiring}
-use Rattle.core_laws.specs.router.specs.Beginning.{router_wiring}
-use Rattle.core_laws.specs.tile_laws.specs.Tile.{Design}
+use Rattle.core_laws.specs.Wiring.{processor_wiring, bank_wiring}
+use Rattle.router.specs.Beginning.{router_wiring}
+use Rattle.core_laws.specs.Tile.{Design}
 use Rattle.core_laws.specs.Core.{State, step, round}
 use Rattle.core_laws.proofs.WiredUp.{not_owned as no_owner}
 use Rattle.core_laws.proofs.Projection.{net_of, first_flit}
@@ -59,7 +59,7 @@ owned_by r o owned =
     let at : Any (λ (k : Option ℕ). is_output k o ≡ true) r.owned = Any-from_list_any (λ (k : Option ℕ). is_output k o) r.owned owned in
     (at.0, at.2, owned_output r at.0 o at.1 at.4 (get_or_from_slice_get r.owned at.0 at.1 None (slice_get-get_or r.owned at.0 at.1 at.2 ∙ ap Some at.3)))
 
-module _ (d : Design) (s : State) (lines : ℕ → Line) (Go : Type 0) (filled : length s.tiles ≡ tiles_of d.shape)
+module _ (d : Design) (s : State) (lines : ℕ → NetLine) (Go : Type 0) (filled : length s.tiles ≡ tiles_of d.shape)
     (go : (a : Step) → IsOn a (round d.shape) → IsThere (step d s a) → Go) (mirrors : Mirrors d s lines) (wires : AreWires d) where
   lane : (x : ℕ) → x < (net_of d).channels → IsLane (ring s.around.rings x).channel (lines x)
   lane x within = mirrors.rings x (subst (λ n. x < n) wires.count within)
@@ -235,7 +235,7 @@ module _ (d : Design) (s : State) (net : NetState) (Go : Type 0) (filled : lengt
     (go : (a : Step) → IsOn a (round d.shape) → IsThere (step d s a) → Go)
     (is_net : IsNet (net_of d)) (words : Words (net_of d) net) (routes : Routes (net_of d) net) (mirrors : Mirrors d s net.lines) (wires : AreWires d)
     (tell : FlitsTell d s) where
-  move_goes : (e : Event) → IsOwed e → CanHappen (net_of d) net.lines e → Go
+  move_goes : (e : NetEvent) → IsOwed e → CanHappen (net_of d) net.lines e → Go
   move_goes (InjectHead x k) owed may = absurd (owed)
   move_goes (InjectRest x f more) owed may =
       let at = wires.injections x may.here may.injects in

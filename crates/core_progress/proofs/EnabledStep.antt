@@ -3,16 +3,16 @@ use Rattle.std.proofs.Common.{◌≡◌, ◌⊎◌, ⊎_elim, ℕ, ◌<◌, true
 use Rattle.torus.specs.Shape.{tiles_of}
 use Rattle.torus.specs.declared.shape.Class.TheVariants.{Request, Reply}
 use Rattle.torus.specs.declared.step.Step.{Step}
-use Rattle.core_laws.specs.script_follower.specs.Following.{is_finished}
+use Rattle.script_follower.specs.Following.{is_finished}
 use Rattle.wormhole.specs.Net.{IsNet, IsOn}
 use Rattle.wormhole.specs.Words.{Words}
 use Rattle.wormhole.specs.Routes.{Routes}
-use Rattle.wormhole_progress.specs.Ends.{AreTiles}
-use Rattle.rounds.specs.Rounds.{moves_in}
-use Rattle.rounds.proofs.Rounds.{none_enabled, round_moves}
-use Rattle.wormhole_progress.proofs.Quiet.{or_all}
+use Rattle.wormhole.specs.Ends.{AreTiles}
+use Rattle.core_progress.specs.Rounds.{moves_in}
+use Rattle.core_progress.proofs.Rounds.{none_enabled, round_moves}
+use Rattle.wormhole.proofs.Quiescence.{or_all}
 use Rattle.channel_number.specs.Ports.{injection_channel, ejection_channel}
-use Rattle.core_laws.specs.tile_laws.specs.Tile.{Design}
+use Rattle.core_laws.specs.Tile.{Design}
 use Rattle.core_laws.specs.Core.{State, step, round}
 use Rattle.core_laws.proofs.Projection.{net_of}
 use Rattle.core_laws.proofs.Stands.{tile_at, Ghost, Mirrors, Carries}

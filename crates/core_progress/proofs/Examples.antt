@@ -9,9 +9,9 @@ use Rattle.packet.specs.Flits.{offered, flits_of}
 use Rattle.script.specs.declared.line.Line.{Line}
 use Rattle.script.specs.declared.line.Line.TheVariants as line
 use Rattle.script.specs.declared.line.Value.TheVariants.{Number}
-use Rattle.core_laws.specs.script_follower.specs.Following.{first_of, next_operation_of, after_issue, after_answer, is_finished}
+use Rattle.script_follower.specs.Following.{first_of, next_operation_of, after_issue, after_answer, is_finished}
 use Rattle.core_laws.specs.Core.{Load, design_of, first_state, after, step, round}
-use Rattle.rounds.specs.Rounds.{after_rounds}
+use Rattle.core_progress.specs.Rounds.{after_rounds}
 use Rattle.core_progress.specs.Moves.{enabled_step, tiles_finished, moves_left}
 
 abbrev with_scripts : List (List Line) → Load

@@ -1,19 +1,19 @@
 -- Rounds finish every script.
 use Rattle.std.proofs.Common.{◌≡◌, ℕ, ◌-◌, ◌<◌, false, List, [], ◌∷◌, ◌++◌, length, take, Option, Some, None, option_map, refl, ◌∙◌, ap, subst, arith}
 use Rattle.torus.specs.declared.step.Step.{Step}
-use Rattle.rounds.specs.Rounds.{first_enabled, one_if_moved, Finishes}
-use Rattle.rounds.proofs.Rounds.{rounds_finish}
-use Rattle.rounds.proofs.Simulates.{first_shown, finishes_shown}
-use Rattle.core_laws.specs.tile_laws.specs.Tile.{Design}
+use Rattle.core_progress.specs.Rounds.{first_enabled, one_if_moved, Finishes}
+use Rattle.core_progress.proofs.Rounds.{rounds_finish}
+use Rattle.core_progress.proofs.Simulates.{first_shown, finishes_shown}
+use Rattle.core_laws.specs.Tile.{Design}
 use Rattle.core_laws.specs.Core.{Load, State, design_of, first_state, step, or_same, after, round}
-use Rattle.core_laws.specs.Runs.{IsAccepted, state_after}
+use Rattle.core_laws.specs.Runs.{IsAcceptedLoad, state_after}
 use Rattle.core_laws.proofs.AgentSteps.{option_map_some}
 use Rattle.core_progress.specs.Moves.{IsLive, tiles_finished, moves_made, most_moves, moves_left}
 use Rattle.core_progress.proofs.Live.{is_live}
 use Rattle.core_progress.proofs.Made.{take_all, after_push, made_push}
 use Rattle.core_progress.proofs.Budget.{few_moves}
 
-module _ (l : Load) (ok : IsAccepted l) where
+module _ (l : Load) (ok : IsAcceptedLoad l) where
   abbrev d : Design
   d = design_of l
 

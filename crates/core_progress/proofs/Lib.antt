@@ -1,3 +1,7 @@
+pub mod Members
+pub mod Rounds
+pub mod Simulates
+mod RoundExamples
 pub mod Attempts
 pub mod Steps
 pub mod Wires

@@ -8,32 +8,32 @@ use Rattle.torus.specs.declared.step.Step.{Step}
 use Rattle.packet.specs.declared.kinds.Operation.{Operation}
 use Rattle.script.specs.declared.line.Line.{Line}
 use Rattle.script.specs.Scripts.{IsAcceptedScript}
-use Rattle.core_laws.specs.script_follower.specs.Scripts.{IsFollowable, HasFinished}
-use Rattle.core_laws.specs.script_follower.specs.Following.{Following, is_finished}
-use Rattle.core_laws.specs.script_follower.specs.ProcessorRecord.{ProcessorRecord}
-use Rattle.core_laws.specs.script_follower.proofs.Followable.{accepted_followable}
-use Rattle.core_laws.specs.script_follower.proofs.Shown.{finished_is, finished_from}
-use Rattle.core_laws.specs.one_order.specs.Observed.{list_at, HasAnswered}
-use Rattle.core_laws.specs.one_order.specs.Events.{order_after}
-use Rattle.core_laws.specs.one_order.proofs.Lists.{within_length, list_within}
+use Rattle.script_follower.specs.Scripts.{IsFollowable, HasFinished}
+use Rattle.script_follower.specs.Following.{Following, is_finished}
+use Rattle.script_follower.specs.ProcessorRecord.{ProcessorRecord}
+use Rattle.script_follower.proofs.Followable.{accepted_followable}
+use Rattle.script_follower.proofs.Shown.{finished_is, finished_from}
+use Rattle.one_order.specs.Observed.{list_at, HasAnswered}
+use Rattle.one_order.specs.Events.{order_after}
+use Rattle.one_order.proofs.Lists.{within_length, list_within}
 use Rattle.std.proofs.lemmas.List.{length-map}
-use Rattle.core_laws.specs.order_abstract.specs.Scripts.{HasFinishedIn, AreFinished}
-use Rattle.core_laws.specs.order_abstract.proofs.Follows.{Follows}
-use Rattle.rounds.specs.Rounds.{moves_in}
-use Rattle.rounds.proofs.Rounds.{round_moves}
-use Rattle.core_laws.specs.tile_laws.specs.Tile.{Design, TileState}
+use Rattle.order_abstract.specs.Scripts.{HasFinishedIn, AreFinished}
+use Rattle.order_abstract.proofs.Follows.{Follows}
+use Rattle.core_progress.specs.Rounds.{moves_in}
+use Rattle.core_progress.proofs.Rounds.{round_moves}
+use Rattle.core_laws.specs.Tile.{Design, TileState}
 use Rattle.core_laws.specs.Core.{Load, State, design_of, records_of, step, round, run_of}
-use Rattle.core_laws.specs.Runs.{IsAccepted, state_after}
+use Rattle.core_laws.specs.Runs.{IsAcceptedLoad, state_after}
 use Rattle.core_laws.specs.Noted.{noted}
 use Rattle.core_laws.proofs.Histories.{event_at}
 use Rattle.core_laws.proofs.EveryRun.{holds_in, has_one_order}
 use Rattle.core_laws.proofs.Stands.{tile_at, no_tile}
 use Rattle.core_progress.specs.Moves.{IsLive, tiles_finished}
 use Rattle.core_progress.proofs.Balanced.{run_balanced}
-use Rattle.core_laws.specs.order_abstract.proofs.Finished.{AnswersOnce, same_invocations, all_at, all_from}
+use Rattle.order_abstract.proofs.Finished.{AnswersOnce, same_invocations, all_at, all_from}
 use Rattle.core_progress.proofs.Machine.{StandsLive, machine_is_live}
 
-module _ (l : Load) (ok : IsAccepted l) (steps : List Step) (n : ℕ) where
+module _ (l : Load) (ok : IsAcceptedLoad l) (steps : List Step) (n : ℕ) where
   abbrev d : Design
   d = design_of l
 

@@ -11,18 +11,18 @@ use Rattle.packet.specs.declared.kinds.Operation.{Operation}
 use Rattle.packet.specs.declared.kinds.Request.{Request as Asking}
 use Rattle.packet.specs.declared.kinds.Response.{Response as Telling}
 use Rattle.tag_table.specs.Tags.{free_tag}
-use Rattle.core_laws.specs.script_follower.specs.Following.{next_operation_of, is_finished}
-use Rattle.core_laws.specs.one_order.specs.Observed.{list_at}
+use Rattle.script_follower.specs.Following.{next_operation_of, is_finished}
+use Rattle.one_order.specs.Observed.{list_at}
 use Rattle.flit_buffer.specs.declared.want.Want.TheVariants as want
 use Rattle.flit_buffer.specs.Channel as channel
 use Rattle.wormhole.specs.Net.{IsNet, IsOn}
 use Rattle.wormhole.specs.Words.{Words}
 use Rattle.wormhole.specs.Routes.{Routes, between}
 use Rattle.wormhole.specs.Delivery.{whole, whole_of}
-use Rattle.wormhole_progress.specs.Ends.{AreTiles, IsQuiet}
-use Rattle.wormhole_progress.proofs.Quiet.{goes_or_quiet, or_all}
-use Rattle.wormhole_progress.proofs.Come.{all_come}
-use Rattle.core_laws.specs.script_follower.specs.ProcessorRecord.{ProcessorRecord, ready, request_of}
+use Rattle.wormhole.specs.Ends.{AreTiles, IsQuiet}
+use Rattle.wormhole.proofs.Quiescence.{goes_or_quiet, or_all}
+use Rattle.wormhole.proofs.Come.{all_come}
+use Rattle.script_follower.specs.ProcessorRecord.{ProcessorRecord, ready, request_of}
 use Rattle.packet.specs.Flit.{field}
 use Rattle.packet.specs.Spelling.{heading_of, values_of}
 use Rattle.packet.specs.Written.{head_flit, flits_for}
@@ -30,10 +30,10 @@ use Rattle.packet.specs.declared.kinds.Packet.{Packet}
 use Rattle.packet.specs.declared.kinds.Packet.TheVariants as packet
 use Rattle.core_laws.specs.Heads.{carries_route}
 use Rattle.packet.specs.Flits.{flits_of}
-use Rattle.core_laws.specs.script_follower.specs.ProcessorTable.{flits_due, request_flits}
+use Rattle.script_follower.specs.ProcessorTable.{flits_due, request_flits}
 use Rattle.channel_number.specs.Ports.{injection_channel, ejection_channel}
-use Rattle.core_laws.specs.tile_laws.specs.Wiring.{processor_wiring}
-use Rattle.core_laws.specs.tile_laws.specs.Tile.{Design}
+use Rattle.core_laws.specs.Wiring.{processor_wiring}
+use Rattle.core_laws.specs.Tile.{Design}
 use Rattle.core_laws.specs.Core.{State, step, round}
 use Rattle.core_laws.proofs.Projection.{net_of, request_parcel, response_parcel}
 use Rattle.core_laws.proofs.Stands.{tile_at, Ghost, Mirrors, Carries, served_requests, responses_from, unsent, last_of, asked_between, told_between}

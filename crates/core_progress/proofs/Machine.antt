@@ -2,11 +2,11 @@
 use Rattle.std.proofs.Common.{◌≡◌, ◌⊎◌, ℕ, ◌<◌, true, List}
 use Rattle.torus.specs.Shape.{IsAccepted, tiles_of}
 use Rattle.script.specs.declared.line.Line.{Line}
-use Rattle.core_laws.specs.script_follower.specs.Scripts.{IsFollowable, Invocation}
-use Rattle.core_laws.specs.script_follower.specs.Following.{ShowsPast, is_finished}
-use Rattle.core_laws.specs.one_order.specs.Order.{LinearizationPoint}
-use Rattle.rounds.specs.Rounds.{moves_in}
-use Rattle.core_laws.specs.tile_laws.specs.Tile.{Design}
+use Rattle.script_follower.specs.Scripts.{IsFollowable, Invocation}
+use Rattle.script_follower.specs.Following.{ShowsPast, is_finished}
+use Rattle.one_order.specs.Order.{LinearizationPoint}
+use Rattle.core_progress.specs.Rounds.{moves_in}
+use Rattle.core_laws.specs.Tile.{Design}
 use Rattle.core_laws.specs.Core.{State, step, round}
 use Rattle.core_laws.proofs.Stands.{Ghost, Stands, tile_at, flight_of}
 use Rattle.core_progress.proofs.Wired.{machine_net}

@@ -9,19 +9,19 @@ use Rattle.torus.specs.declared.step.Choice.{Choice}
 use Rattle.packet.specs.declared.kinds.Operation.{Operation}
 use Rattle.packet.specs.declared.kinds.Request.{Request as Asking}
 use Rattle.flit_buffer.specs.Surroundings.{Surroundings, agent_step}
-use Rattle.core_laws.specs.script_follower.specs.ProcessorRecord.{ready, request_of}
-use Rattle.core_laws.specs.one_order.specs.Order.{LinearizationPoint}
-use Rattle.wormhole_progress.specs.Work.{End, IsChange, IsStep, work}
-use Rattle.wormhole_progress.proofs.Working.{work_falls}
-use Rattle.core_laws.specs.router.specs.Table.{router_wants, router_after}
-use Rattle.core_laws.specs.script_follower.specs.ProcessorTable.{processor_wants, processor_after}
-use Rattle.core_laws.specs.home_bank.specs.BankTable.{bank_wants, bank_after}
-use Rattle.core_laws.specs.tile_laws.specs.Wiring.{processor_wiring, bank_wiring}
-use Rattle.core_laws.specs.router.specs.Beginning.{router_wiring}
-use Rattle.core_laws.specs.tile_laws.specs.declared.agent.Agent.{Agent}
-use Rattle.core_laws.specs.tile_laws.specs.declared.agent.Agent.TheVariants.{Processor, Router, Bank}
-use Rattle.core_laws.specs.tile_laws.specs.Tile.{Design, TileState, tile_step}
-use Rattle.core_laws.specs.tile_laws.specs.Agents.{agent_kind, agent_tile}
+use Rattle.script_follower.specs.ProcessorRecord.{ready, request_of}
+use Rattle.one_order.specs.Order.{LinearizationPoint}
+use Rattle.wormhole.specs.Work.{End, IsChange, IsStep, work}
+use Rattle.wormhole.proofs.Working.{work_falls}
+use Rattle.router.specs.Table.{router_wants, router_after}
+use Rattle.script_follower.specs.ProcessorTable.{processor_wants, processor_after}
+use Rattle.home_bank.specs.BankTable.{bank_wants, bank_after}
+use Rattle.core_laws.specs.Wiring.{processor_wiring, bank_wiring}
+use Rattle.router.specs.Beginning.{router_wiring}
+use Rattle.core_laws.specs.Agent.{Agent}
+use Rattle.core_laws.specs.Agent.TheVariants.{Processor, Router, Bank}
+use Rattle.core_laws.specs.Tile.{Design, TileState, tile_step}
+use Rattle.core_laws.specs.Agents.{agent_kind, agent_tile}
 use Rattle.core_laws.specs.Core.{State, step}
 use Rattle.core_laws.proofs.AgentSteps.{Did, did, option_map_some}
 use Rattle.core_laws.proofs.Projection.{net_of}
@@ -30,12 +30,12 @@ use Rattle.core_progress.proofs.Wired.{net_is}
 use Rattle.core_progress.proofs.Told.{flits_tell}
 use Rattle.core_progress.proofs.Machine.{StandsLive}
 use Rattle.core_progress.proofs.RouterWork.{router_event}
-use Rattle.wormhole.specs.Events.{Event, network_after}
+use Rattle.wormhole.specs.Events.{NetEvent, network_after}
 use Rattle.flit_buffer.specs.declared.want.Want.{Want}
 use Rattle.flit_buffer.specs.Surroundings.{Wiring, granted}
-use Rattle.core_laws.specs.router.specs.Table.{RouterState}
-use Rattle.core_laws.specs.home_bank.specs.BankTable.{BankState}
-use Rattle.core_laws.specs.script_follower.specs.ProcessorTable.{ProcessorState}
+use Rattle.router.specs.Table.{RouterState}
+use Rattle.home_bank.specs.BankTable.{BankState}
+use Rattle.script_follower.specs.ProcessorTable.{ProcessorState}
 use Rattle.core_laws.specs.Moves.{learned_by}
 use Rattle.core_laws.specs.Network as network
 use Rattle.core_progress.proofs.ProcessorWork.{IsTileEvent, processor_event}
@@ -144,7 +144,7 @@ module _ (d : Design) (tags : ℕ) (opening : List ℕ) (s : State) (g : Ghost) 
       ap (λ (u : TileState). network.tile_event d t u s.around agent a.choice) now
       ∙ ap (λ (o : Option TileState). option_and_then (λ tile. network.tile_event d t tile s.around agent a.choice) o) (sym h.there) in
       let new : tile_at after t ≡ (h.moved).0 = ap (λ (z : State). tile_at z t) (sym h.is) ∙ get_or-set_same s.tiles t (h.moved).0 no_tile low in
-      subst (λ (v : Option Event). IsStep (net_of d) (tiles_of d.shape) (ends_at cap s) g.net (ends_at cap after) (network_after (net_of d) g.net v)) told
+      subst (λ (v : Option NetEvent). IsStep (net_of d) (tiles_of d.shape) (ends_at cap s) g.net (ends_at cap after) (network_after (net_of d) g.net v)) told
       (record {
         tile = t;
         here = here;

@@ -5,17 +5,17 @@ use Rattle.torus.specs.Shape.{tiles_of}
 use Rattle.torus.specs.declared.step.Step.{Step}
 use Rattle.torus.specs.declared.step.Choice.{Choice}
 use Rattle.flit_buffer.specs.Surroundings.{Surroundings}
-use Rattle.core_laws.specs.router.specs.Table.{RouterState, router_wants, router_after}
-use Rattle.core_laws.specs.router.specs.Beginning.{router_wiring}
-use Rattle.core_laws.specs.script_follower.specs.ProcessorTable.{ProcessorState, processor_wants, processor_after}
-use Rattle.core_laws.specs.home_bank.specs.BankTable.{BankState, bank_wants, bank_after}
-use Rattle.core_laws.specs.tile_laws.specs.Wiring.{processor_wiring, bank_wiring}
-use Rattle.core_laws.specs.tile_laws.specs.declared.agent.Agent.{Agent}
-use Rattle.core_laws.specs.tile_laws.specs.declared.agent.Agent.TheVariants.{Processor, Router, Bank}
-use Rattle.core_laws.specs.tile_laws.specs.Tile.{Design, TileState, tile_step}
-use Rattle.core_laws.specs.tile_laws.specs.Agents.{agent_kind, agent_tile}
-use Rattle.rounds.specs.Rounds as rounds
-use Rattle.rounds.specs.Rounds.{moves_in, one_if_moved}
+use Rattle.router.specs.Table.{RouterState, router_wants, router_after}
+use Rattle.router.specs.Beginning.{router_wiring}
+use Rattle.script_follower.specs.ProcessorTable.{ProcessorState, processor_wants, processor_after}
+use Rattle.home_bank.specs.BankTable.{BankState, bank_wants, bank_after}
+use Rattle.core_laws.specs.Wiring.{processor_wiring, bank_wiring}
+use Rattle.core_laws.specs.Agent.{Agent}
+use Rattle.core_laws.specs.Agent.TheVariants.{Processor, Router, Bank}
+use Rattle.core_laws.specs.Tile.{Design, TileState, tile_step}
+use Rattle.core_laws.specs.Agents.{agent_kind, agent_tile}
+use Rattle.core_progress.specs.Rounds as rounds
+use Rattle.core_progress.specs.Rounds.{moves_in, one_if_moved}
 use Rattle.core_laws.specs.Core.{State, step, next, or_same, after_from}
 use Rattle.core_laws.specs.Network.{tile_event, network_event, processor_event, router_event, bank_event}
 use Rattle.core_laws.proofs.AgentSteps.{refused, option_map_none}

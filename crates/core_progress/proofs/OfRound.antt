@@ -8,17 +8,17 @@ use Rattle.torus.specs.declared.step.Step.{Step}
 use Rattle.torus.specs.declared.step.Choice.{Choice}
 use Rattle.torus.specs.declared.step.Choice.TheVariants as choice
 use Rattle.channel_number.specs.Ports.{port_count}
-use Rattle.rounds.specs.Rounds.{IsEnabled}
-use Rattle.rounds.proofs.Rounds.{found_enabled, none_enabled}
+use Rattle.core_progress.specs.Rounds.{IsEnabled}
+use Rattle.core_progress.proofs.Rounds.{found_enabled, none_enabled}
 use Rattle.wormhole.specs.Net.{IsOn}
-use Rattle.core_laws.specs.tile_laws.specs.declared.agent.Agent.{Agent}
-use Rattle.core_laws.specs.tile_laws.specs.declared.agent.Agent.TheVariants.{Processor, Router, Bank}
-use Rattle.core_laws.specs.tile_laws.specs.Tile.{Design, TileState, tile_step}
-use Rattle.core_laws.specs.tile_laws.specs.Choices.{has_choice}
-use Rattle.core_laws.specs.tile_laws.specs.Agents.{agent_number, agent_kind, agent_tile}
-use Rattle.core_laws.specs.tile_laws.proofs.AgentNumbers.{number_of_agent}
+use Rattle.core_laws.specs.Agent.{Agent}
+use Rattle.core_laws.specs.Agent.TheVariants.{Processor, Router, Bank}
+use Rattle.core_laws.specs.Tile.{Design, TileState, tile_step}
+use Rattle.core_laws.specs.Choices.{has_choice}
+use Rattle.core_laws.specs.Agents.{agent_number, agent_kind, agent_tile}
+use Rattle.core_laws.proofs.AgentNumbers.{number_of_agent}
 use Rattle.core_laws.specs.Core.{Load, State, design_of, step, round}
-use Rattle.core_laws.specs.Runs.{IsAccepted, state_after}
+use Rattle.core_laws.specs.Runs.{IsAcceptedLoad, state_after}
 use Rattle.core_laws.proofs.AgentChoices.{own_choice}
 use Rattle.core_laws.proofs.EveryRun.{holds_in}
 use Rattle.core_progress.specs.Moves.{enabled_step}
@@ -85,7 +85,7 @@ tile_there d s a after enabled = by_tile (slice_get s.tiles (agent_tile a.agent)
     by_tile None there h = absurd (cc)
     by_tile (Some tile) there h = slice_get_within s.tiles (agent_tile a.agent) tile there
 
-module _ (l : Load) (ok : IsAccepted l) (steps : List Step) (n : ℕ) where
+module _ (l : Load) (ok : IsAcceptedLoad l) (steps : List Step) (n : ℕ) where
   abbrev d : Design
   d = design_of l
 

@@ -9,10 +9,10 @@ use Rattle.packet.specs.declared.kinds.Operation.{Operation}
 use Rattle.packet.specs.declared.kinds.Reply.{Reply}
 use Rattle.script.specs.declared.line.Line.{Line}
 use Rattle.tag_table.specs.Tags.{holder_of, out_count}
-use Rattle.core_laws.specs.script_follower.specs.Scripts.{IsFollowable, Invocation, AreAnswered, unanswered, awaited}
-use Rattle.core_laws.specs.script_follower.specs.Following.{Following, ShowsPast, next_operation_of, after_issue, after_answer, is_finished, last_answered}
-use Rattle.core_laws.specs.script_follower.specs.Following.{other_answered}
-use Rattle.core_laws.specs.script_follower.proofs.Shown.{waiting_is, progress}
+use Rattle.script_follower.specs.Scripts.{IsFollowable, Invocation, AreAnswered, unanswered, awaited}
+use Rattle.script_follower.specs.Following.{Following, ShowsPast, next_operation_of, after_issue, after_answer, is_finished, last_answered}
+use Rattle.script_follower.specs.Following.{other_answered}
+use Rattle.script_follower.proofs.Shown.{waiting_is, progress}
 
 -- a tag goes out, or comes back
 pub out_more : (tags : List (Option OpId)) (tag : ℕ) (id : OpId) → slice_get tags tag ≡ Some None → out_count (set tags tag (Some id)) ≡ out_count tags + 1

@@ -13,22 +13,22 @@ use Rattle.packet.specs.declared.kinds.Packet.TheVariants as packet
 use Rattle.packet.specs.declared.kinds.Request.{Request as Asking}
 use Rattle.packet.specs.Spelling.{Spells}
 use Rattle.packet.proofs.Shapes.{at_most_five}
-use Rattle.core_laws.specs.script_follower.specs.Following.{left_of, after_issue}
-use Rattle.core_laws.specs.script_follower.proofs.Shown.{left_after_issue}
+use Rattle.script_follower.specs.Following.{left_of, after_issue}
+use Rattle.script_follower.proofs.Shown.{left_after_issue}
 use Rattle.flit_buffer.specs.declared.want.Want.{Want}
 use Rattle.flit_buffer.specs.declared.want.Want.TheVariants as want
 use Rattle.flit_buffer.specs.Channel as channel
 use Rattle.flit_buffer.specs.Surroundings.{Wiring, granted, ring}
-use Rattle.core_laws.specs.script_follower.specs.ProcessorRecord.{ready, request_of}
-use Rattle.wormhole.specs.Net.{IsParcel, Parcel, flits_of as flits_in}
-use Rattle.wormhole.specs.State.{State as NetState}
-use Rattle.wormhole.specs.Events.{Event, InjectHead, InjectRest}
-use Rattle.core_laws.specs.wormhole_torus.proofs.Ends.{ends_are, few_channels}
-use Rattle.wormhole_progress.specs.Work.{End, IsChange, MayHappen, Stays}
-use Rattle.core_laws.specs.script_follower.specs.ProcessorTable.{processor_wants, processor_after, flits_due, request_flits}
+use Rattle.script_follower.specs.ProcessorRecord.{ready, request_of}
+use Rattle.wormhole.specs.Net.{IsParcel, Parcel, net_flits as flits_in}
+use Rattle.wormhole.specs.State.{NetState}
+use Rattle.wormhole.specs.Events.{NetEvent, InjectHead, InjectRest}
+use Rattle.wormhole_torus.proofs.Ends.{ends_are, few_channels}
+use Rattle.wormhole.specs.Work.{End, IsChange, EventMayHappen, NetStays}
+use Rattle.script_follower.specs.ProcessorTable.{processor_wants, processor_after, flits_due, request_flits}
 use Rattle.channel_number.specs.Ports.{injection_channel, ejection_channel}
-use Rattle.core_laws.specs.tile_laws.specs.Wiring.{processor_wiring}
-use Rattle.core_laws.specs.tile_laws.specs.Tile.{Design}
+use Rattle.core_laws.specs.Wiring.{processor_wiring}
+use Rattle.core_laws.specs.Tile.{Design}
 use Rattle.core_laws.specs.Core.{State}
 use Rattle.core_laws.proofs.AgentSteps.{option_map_some}
 use Rattle.core_laws.proofs.Projection.{net_of, request_parcel}
@@ -45,8 +45,8 @@ use Rattle.core_progress.proofs.RouterWork.{if_so, first_there}
 use Rattle.core_progress.proofs.Rows.{end_of, processor_takes, issue_left, send_stays, done_reports, look_reports, processor_credit}
 
 -- an event of the network or none, that a step of the tile is, and what becomes of the ends
-pub record IsTileEvent (d : Design) (net : NetState) (event : Option Event) (old new : End) : Type 0 where
-  pub may : MayHappen (net_of d) net event
+pub record IsTileEvent (d : Design) (net : NetState) (event : Option NetEvent) (old new : End) : Type 0 where
+  pub may : EventMayHappen (net_of d) net event
   pub change : IsChange (net_of d) event old new
 
 module _ (d : Design) (s : State) (net : NetState) (mirrors : Mirrors d s net.lines) where
@@ -87,7 +87,7 @@ module _ (d : Design) (s : State) (net : NetState) (mirrors : Mirrors d s net.li
 
   -- a receiver takes a flit
   pub accepts : (x f : ℕ) (more : List ℕ) (old new : End) → x < (net_of d).channels → (net_of d).ejects x ≡ true → (net.lines x).flits ≡ f ∷ more
-      → Stays old new → (b : Bool) → (net_of d).is_head f ≡ b → IsTileEvent d net (Some (accept b x f more)) old new
+      → NetStays old new → (b : Bool) → (net_of d).is_head f ≡ b → IsTileEvent d net (Some (accept b x f more)) old new
   accepts x f more old new within ejects first row true bit =
       record { may = record { here = within; ejects = ejects; first = first; head = bit }; change = row }
   accepts x f more old new within ejects first row false bit =

@@ -13,16 +13,16 @@ use Rattle.flit_buffer.specs.declared.want.Want.TheVariants as want
 use Rattle.std.specs.Prelude.{option_map}
 use Rattle.flit_buffer.specs.Channel as channel
 use Rattle.flit_buffer.specs.Surroundings.{granted, ring}
-use Rattle.wormhole.specs.State.{State as NetState}
-use Rattle.wormhole.specs.Events.{Event, Latch, ForwardHead, ForwardRest}
+use Rattle.wormhole.specs.State.{NetState}
+use Rattle.wormhole.specs.Events.{NetEvent, Latch, ForwardHead, ForwardRest}
 use Rattle.channel_number.proofs.Ports.{is_input, is_output}
-use Rattle.wormhole_progress.specs.Work.{End, IsChange, Stays, MayHappen}
+use Rattle.wormhole.specs.Work.{End, IsChange, NetStays, EventMayHappen}
 use Rattle.packet.specs.Flits.{head_of}
 use Rattle.channel_number.specs.Ports.{port_count}
-use Rattle.core_laws.specs.router.specs.Table.{latch_of, output_owned, is_owned, output_for, wants_to_take, wants_to_put, router_wants, way_of}
+use Rattle.router.specs.Table.{latch_of, output_owned, is_owned, output_for, wants_to_take, wants_to_put, router_wants, way_of}
 use Rattle.channel_number.specs.Ports.{input_channel, output_channel}
-use Rattle.core_laws.specs.router.specs.Beginning.{router_wiring}
-use Rattle.core_laws.specs.tile_laws.specs.Tile.{Design}
+use Rattle.router.specs.Beginning.{router_wiring}
+use Rattle.core_laws.specs.Tile.{Design}
 use Rattle.core_laws.specs.Core.{State}
 use Rattle.core_laws.proofs.AgentSteps.{option_map_some}
 use Rattle.core_laws.proofs.WiredUp.{not_owned as no_owner}
@@ -45,12 +45,12 @@ first_there [] f h = absurd (cc)
 first_there (g ∷ gs) f h = ap (λ z. z ∷ gs) (same_Some g f h)
 
 -- ends that stay as they were
-same_ends : (e : End) → Stays e e
+same_ends : (e : End) → NetStays e e
 same_ends e = record { left = omega arith; reports = refl; room = refl; unsent = refl }
 
 -- an event of the network that a router's step is
-pub record IsRouterEvent (d : Design) (net : NetState) (event : Option Event) : Type 0 where
-  pub may : MayHappen (net_of d) net event
+pub record IsRouterEvent (d : Design) (net : NetState) (event : Option NetEvent) : Type 0 where
+  pub may : EventMayHappen (net_of d) net event
   pub stays : (e : End) → IsChange (net_of d) event e e
 
 module _ (d : Design) (s : State) (net : NetState) (accepted : IsAccepted d.shape) (mirrors : Mirrors d s net.lines) (tell : FlitsTell d s) (t : ℕ)
@@ -163,7 +163,7 @@ module _ (d : Design) (s : State) (net : NetState) (accepted : IsAccepted d.shap
   put_by : (i f o l : ℕ) (h : Option Head) → i < port_count (dims_of d.shape) → latch_of (tile_at s t).router i ≡ Some f → head_of f ≡ h
       → output_for d.shape t (tile_at s t).router i h ≡ Some o
       → granted s.around (router_wiring d.shape t) (want.Put o f) ≡ Some l
-      → IsRouterEvent d net (Some (network.forwarded h (input_channel d.shape t i) (output_channel d.shape t o) f))
+      → IsRouterEvent d net (Some (network.words_forwarded h (input_channel d.shape t i) (output_channel d.shape t o) f))
   put_by i f o l (Some h) low latched told output grants = head_event i f o l h low latched told output grants ((net_of d).is_head f) refl
   put_by i f o l None low latched told output grants = rest_event i f o l low latched told output grants ((net_of d).is_head f) refl
 
@@ -174,7 +174,7 @@ module _ (d : Design) (s : State) (net : NetState) (accepted : IsAccepted d.shap
   put_event i learned w (Some f) low latched wanted grants =
       let o = option_map_some (λ o. want.Put o f) (output_for d.shape t (tile_at s t).router i (head_of f)) w wanted in
       subst (λ (p : Option ℕ). IsRouterEvent d net
-      (option_map (λ q. network.forwarded (head_of f) (input_channel d.shape t i) (output_channel d.shape t q) f) p)) (sym o.1)
+      (option_map (λ q. network.words_forwarded (head_of f) (input_channel d.shape t i) (output_channel d.shape t q) f) p)) (sym o.1)
       (put_by i f o.0 learned (head_of f) low latched refl o.1 (ap (granted s.around (router_wiring d.shape t)) o.2 ∙ grants))
 
   -- each choice of a router that is enabled

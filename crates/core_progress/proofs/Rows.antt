@@ -9,18 +9,18 @@ use Rattle.packet.specs.declared.kinds.Request.{Request}
 use Rattle.packet.specs.declared.assembler.Offered.{Offered}
 use Rattle.packet.specs.declared.assembler.Offered.TheVariants.{More, Whole, Refused}
 use Rattle.packet.specs.Memory.{reply_to}
-use Rattle.core_laws.specs.home_bank.specs.ServiceList.{entry_of, response_of}
-use Rattle.core_laws.specs.script_follower.specs.Following.{left_of, is_finished, after_issue}
-use Rattle.core_laws.specs.script_follower.proofs.Shown.{left_after_answer}
+use Rattle.home_bank.specs.ServiceList.{entry_of, response_of}
+use Rattle.script_follower.specs.Following.{left_of, is_finished, after_issue}
+use Rattle.script_follower.proofs.Shown.{left_after_answer}
 use Rattle.flit_buffer.specs.declared.want.Want.{Want}
 use Rattle.flit_buffer.specs.Channel.{rest}
-use Rattle.core_laws.specs.script_follower.specs.ProcessorRecord.{ProcessorRecord, ready, issued_by, index_of}
-use Rattle.wormhole.specs.Net.{Net, Parcel, flits_of as parcel_flits}
-use Rattle.wormhole_progress.specs.Work.{End, Issues, Replies, Serves, Reports, Stays}
+use Rattle.script_follower.specs.ProcessorRecord.{ProcessorRecord, ready, issued_by, index_of}
+use Rattle.wormhole.specs.Net.{Net, Parcel, net_flits as parcel_flits}
+use Rattle.wormhole.specs.Work.{End, Issues, Replies, Serves, NetReports, NetStays}
 use Rattle.packet.specs.Flits.{offered, flits_of}
 use Rattle.core_laws.specs.Heads.{carries_route}
-use Rattle.core_laws.specs.script_follower.specs.ProcessorTable.{ProcessorState, processor_wants, processor_after, record_sent, record_offered, issued_of}
-use Rattle.core_laws.specs.home_bank.specs.BankTable.{BankState, bank_after, served}
+use Rattle.script_follower.specs.ProcessorTable.{ProcessorState, processor_wants, processor_after, record_sent, record_offered, issued_of}
+use Rattle.home_bank.specs.BankTable.{BankState, bank_after, served}
 use Rattle.core_laws.proofs.Projection.{first_flit}
 
 -- 1 unless it is done
@@ -49,7 +49,7 @@ module _ (tiles words t cap : ℕ) (p : ProcessorState) (b : BankState) where
   offered_left c (Whole (packet.Response r)) = left_after_answer c.following (index_of c r.tag.0) r.reply
   offered_left c (Refused k) = omega arith
 
-  pub processor_takes : (w : Want) (flit : ℕ) → Stays (end_of cap p b) (end_of cap (processor_after tiles words t p choice.Take w flit) b)
+  pub processor_takes : (w : Want) (flit : ℕ) → NetStays (end_of cap p b) (end_of cap (processor_after tiles words t p choice.Take w flit) b)
   processor_takes w flit = record { left = offered_left p.operations (offered p.so_far flit); reports = refl; room = refl; unsent = refl }
 
   -- a request's first flit: the operation is issued
@@ -66,7 +66,7 @@ module _ (tiles words t cap : ℕ) (p : ProcessorState) (b : BankState) where
 
   -- a further flit of a request
   pub send_stays : (w : Want) (learned f : ℕ) (fs : List ℕ) → p.to_put ≡ f ∷ fs
-      → Stays (end_of cap p b) (end_of cap (processor_after tiles words t p choice.Send w learned) b)
+      → NetStays (end_of cap p b) (end_of cap (processor_after tiles words t p choice.Send w learned) b)
   send_stays w learned f fs due =
       let book : record_sent tiles words t p.to_put p.operations ≡ p.operations = ap (λ l. record_sent tiles words t l p.operations) due in
       let left : left_of (record_sent tiles words t p.to_put p.operations).following ≡ left_of p.operations.following =
@@ -80,13 +80,13 @@ module _ (tiles words t cap : ℕ) (p : ProcessorState) (b : BankState) where
 
   -- a report, and the sight of the end
   pub done_reports : (w : Want) (learned : ℕ) → processor_wants tiles words t p choice.Done ≡ Some w
-      → Reports (end_of cap p b) (end_of cap (processor_after tiles words t p choice.Done w learned) b)
+      → NetReports (end_of cap p b) (end_of cap (processor_after tiles words t p choice.Done w learned) b)
   done_reports w learned wanted =
       let new = ap unless (not_yet (is_finished p.operations.following) p.reported _ w wanted) in
       record { left = refl; reports = omega arith; room = refl; unsent = refl }
 
   pub look_reports : (w : Want) (learned : ℕ) → processor_wants tiles words t p choice.Look ≡ Some w
-      → Reports (end_of cap p b) (end_of cap (processor_after tiles words t p choice.Look w learned) b)
+      → NetReports (end_of cap p b) (end_of cap (processor_after tiles words t p choice.Look w learned) b)
   look_reports w learned wanted =
       let new = ap unless (not_yet p.reported p.seen _ w wanted) in
       record { left = refl; reports = omega arith; room = refl; unsent = refl }
@@ -122,7 +122,7 @@ module _ (tiles words t cap : ℕ) (p : ProcessorState) (b : BankState) where
 
   -- a further flit of a reply
   pub reply_goes_on : (w : Want) (learned f : ℕ) (fs : List ℕ) → b.to_put ≡ f ∷ fs → carries_route f ≡ false → carries_route (first_flit fs) ≡ false
-      → Stays (end_of cap p b) (end_of cap p (bank_after tiles t b choice.Send w learned))
+      → NetStays (end_of cap p b) (end_of cap p (bank_after tiles t b choice.Send w learned))
   reply_goes_on w learned f fs due first later = record {
     left = omega arith;
     reports = refl;
@@ -132,12 +132,12 @@ module _ (tiles words t cap : ℕ) (p : ProcessorState) (b : BankState) where
   }
 
   -- a bank takes a flit
-  pub bank_takes : (w : Want) (flit : ℕ) → Stays (end_of cap p b) (end_of cap p (bank_after tiles t b choice.Take w flit))
+  pub bank_takes : (w : Want) (flit : ℕ) → NetStays (end_of cap p b) (end_of cap p (bank_after tiles t b choice.Take w flit))
   bank_takes w flit = record { left = omega arith; reports = refl; room = refl; unsent = refl }
 
   -- a credit comes back
-  pub processor_credit : (w : Want) (learned : ℕ) → Stays (end_of cap p b) (end_of cap (processor_after tiles words t p choice.Credit w learned) b)
+  pub processor_credit : (w : Want) (learned : ℕ) → NetStays (end_of cap p b) (end_of cap (processor_after tiles words t p choice.Credit w learned) b)
   processor_credit w learned = record { left = omega arith; reports = refl; room = refl; unsent = refl }
 
-  pub bank_credit : (w : Want) (learned : ℕ) → Stays (end_of cap p b) (end_of cap p (bank_after tiles t b choice.Credit w learned))
+  pub bank_credit : (w : Want) (learned : ℕ) → NetStays (end_of cap p b) (end_of cap p (bank_after tiles t b choice.Credit w learned))
   bank_credit w learned = record { left = omega arith; reports = refl; room = refl; unsent = refl }

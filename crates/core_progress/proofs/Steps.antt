@@ -7,16 +7,16 @@ use Rattle.torus.specs.declared.step.Step.{Step}
 use Rattle.torus.specs.declared.step.Choice.{Choice}
 use Rattle.flit_buffer.specs.declared.want.Want.{Want}
 use Rattle.flit_buffer.specs.Surroundings.{Surroundings, Wiring, granted, surroundings_after, agent_step, step_with}
-use Rattle.core_laws.specs.router.specs.Table.{router_wants, router_after}
-use Rattle.core_laws.specs.script_follower.specs.ProcessorTable.{processor_wants, processor_after}
-use Rattle.core_laws.specs.home_bank.specs.BankTable.{bank_wants, bank_after}
-use Rattle.core_laws.specs.tile_laws.specs.Wiring.{processor_wiring, bank_wiring}
-use Rattle.core_laws.specs.router.specs.Beginning.{router_wiring}
-use Rattle.core_laws.specs.tile_laws.specs.declared.agent.Agent.{Agent}
-use Rattle.core_laws.specs.tile_laws.specs.declared.agent.Agent.TheVariants.{Processor, Router, Bank}
-use Rattle.core_laws.specs.tile_laws.specs.Tile.{Design, TileState, tile_step}
-use Rattle.core_laws.specs.tile_laws.specs.Agents.{agent_number, agent_tile, agent_kind}
-use Rattle.core_laws.specs.tile_laws.proofs.AgentNumbers.{tile_of_number, kind_of_number}
+use Rattle.router.specs.Table.{router_wants, router_after}
+use Rattle.script_follower.specs.ProcessorTable.{processor_wants, processor_after}
+use Rattle.home_bank.specs.BankTable.{bank_wants, bank_after}
+use Rattle.core_laws.specs.Wiring.{processor_wiring, bank_wiring}
+use Rattle.router.specs.Beginning.{router_wiring}
+use Rattle.core_laws.specs.Agent.{Agent}
+use Rattle.core_laws.specs.Agent.TheVariants.{Processor, Router, Bank}
+use Rattle.core_laws.specs.Tile.{Design, TileState, tile_step}
+use Rattle.core_laws.specs.Agents.{agent_number, agent_tile, agent_kind}
+use Rattle.core_laws.proofs.AgentNumbers.{tile_of_number, kind_of_number}
 use Rattle.wormhole.specs.Net.{IsOn}
 use Rattle.core_laws.specs.Core.{State, step, round}
 use Rattle.core_laws.proofs.Stands.{no_tile, tile_at}

@@ -10,15 +10,15 @@ use Rattle.packet.specs.declared.kinds.Operation.{Operation}
 use Rattle.packet.specs.declared.kinds.Request.{Request as Asking}
 use Rattle.packet.specs.declared.kinds.Response.{Response as Telling}
 use Rattle.tag_table.specs.Tags.{holder_of, free_tag}
-use Rattle.core_laws.specs.script_follower.specs.Following.{next_operation_of, is_finished}
-use Rattle.core_laws.specs.script_follower.specs.ProcessorRecord.{ProcessorRecord, no_processor}
-use Rattle.core_laws.specs.one_order.specs.Observed.{total}
-use Rattle.core_laws.specs.one_order.specs.Order.{LinearizationPoint}
-use Rattle.core_laws.specs.one_order.proofs.Lists.{list_within}
-use Rattle.core_laws.specs.order_abstract.specs.Flight.{Flight, processor_at}
-use Rattle.core_laws.specs.order_abstract.proofs.Whole.{Whole}
-use Rattle.core_laws.specs.order_abstract.proofs.Parts.{tags_at, tags_of}
-use Rattle.core_laws.specs.tile_laws.specs.Tile.{Design, TileState}
+use Rattle.script_follower.specs.Following.{next_operation_of, is_finished}
+use Rattle.script_follower.specs.ProcessorRecord.{ProcessorRecord, no_processor}
+use Rattle.one_order.specs.Observed.{total}
+use Rattle.one_order.specs.Order.{LinearizationPoint}
+use Rattle.one_order.proofs.Lists.{list_within}
+use Rattle.order_abstract.specs.Flight.{Flight, processor_at}
+use Rattle.order_abstract.proofs.Whole.{Whole}
+use Rattle.order_abstract.proofs.Parts.{tags_at, tags_of}
+use Rattle.core_laws.specs.Tile.{Design, TileState}
 use Rattle.core_laws.specs.Core.{State}
 use Rattle.core_laws.proofs.Stands.{Ghost, tile_at, no_tile, flight_of}
 use Rattle.core_progress.proofs.Lives.{IsInFlight, TagsTell}

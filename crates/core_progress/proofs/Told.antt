@@ -6,11 +6,11 @@ use Rattle.packet.specs.declared.heading.Head.{Head}
 use Rattle.packet.specs.Flit.{field, class_numbered}
 use Rattle.packet.specs.Flits.{head_of}
 use Rattle.channel_number.specs.Ports.{port_count, input_channel}
-use Rattle.wormhole.specs.State.{State as NetState}
+use Rattle.wormhole.specs.State.{NetState}
 use Rattle.wormhole.specs.Words.{Words}
 use Rattle.wormhole.specs.Routes.{Routes}
-use Rattle.core_laws.specs.router.specs.Table.{latch_of}
-use Rattle.core_laws.specs.tile_laws.specs.Tile.{Design}
+use Rattle.router.specs.Table.{latch_of}
+use Rattle.core_laws.specs.Tile.{Design}
 use Rattle.core_laws.specs.Core.{State}
 use Rattle.core_laws.proofs.Projection.{net_of}
 use Rattle.core_laws.proofs.Networks.{network}

@@ -4,13 +4,13 @@ use Rattle.torus.specs.Shape.{IsAccepted, tiles_of}
 use Rattle.torus.specs.declared.shape.Class.{Class}
 use Rattle.torus.specs.declared.shape.Class.TheVariants.{Request, Reply}
 use Rattle.wormhole.specs.Net.{IsNet}
-use Rattle.core_laws.specs.wormhole_torus.specs.Ends.{IsEjection}
+use Rattle.wormhole_torus.specs.Ends.{IsEjection}
 use Rattle.channel_number.proofs.Ports.{has_input, has_output}
-use Rattle.core_laws.specs.wormhole_torus.proofs.Ends.{is_injection_at, is_ejection_at, ends_are, replies_above}
-use Rattle.core_laws.specs.wormhole_torus.proofs.Facts.{is_net}
-use Rattle.wormhole_progress.specs.Ends.{AreTiles}
+use Rattle.wormhole_torus.proofs.Ends.{is_injection_at, is_ejection_at, ends_are, replies_above}
+use Rattle.wormhole_torus.proofs.Facts.{is_net}
+use Rattle.wormhole.specs.Ends.{AreTiles}
 use Rattle.channel_number.specs.Ports.{ejection_channel, input_router, input_port, output_router, output_port}
-use Rattle.core_laws.specs.tile_laws.specs.Tile.{Design}
+use Rattle.core_laws.specs.Tile.{Design}
 use Rattle.core_laws.proofs.Projection.{net_of}
 use Rattle.core_laws.proofs.ChannelFacts.{joined, injects_at}
 use Rattle.core_progress.proofs.Wires.{AreWires, ends_of}

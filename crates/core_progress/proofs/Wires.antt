@@ -5,12 +5,12 @@ use Rattle.torus.specs.declared.shape.Class.{Class}
 use Rattle.torus.specs.declared.shape.Class.TheVariants.{Request, Reply}
 use Rattle.packet.specs.declared.heading.Head.{Head}
 use Rattle.channel_number.specs.Order.{channel_count}
-use Rattle.wormhole_progress.specs.Ends.{Tiles}
+use Rattle.wormhole.specs.Ends.{Tiles}
 use Rattle.packet.specs.Flits.{head_of}
 use Rattle.channel_number.specs.Ports.{port_count}
-use Rattle.core_laws.specs.router.specs.Table.{latch_of, way_of}
+use Rattle.router.specs.Table.{latch_of, way_of}
 use Rattle.channel_number.specs.Ports.{injection_channel, ejection_channel, input_channel, output_channel}
-use Rattle.core_laws.specs.tile_laws.specs.Tile.{Design}
+use Rattle.core_laws.specs.Tile.{Design}
 use Rattle.core_laws.specs.Core.{State}
 use Rattle.core_laws.proofs.Projection.{net_of}
 use Rattle.core_laws.proofs.Stands.{tile_at}

@@ -10,10 +10,10 @@ use Rattle.packet.specs.Flits.{offered, flits_of}
 use Rattle.script.specs.declared.line.Line.{Line}
 use Rattle.script.specs.declared.line.Line.TheVariants as line
 use Rattle.script.specs.declared.line.Value.TheVariants.{Number}
-use Rattle.core_laws.specs.script_follower.specs.Following.{first_of, next_operation_of, after_issue, after_answer, is_finished}
-use Rattle.core_laws.specs.tile_laws.specs.Tile.{Design}
+use Rattle.script_follower.specs.Following.{first_of, next_operation_of, after_issue, after_answer, is_finished}
+use Rattle.core_laws.specs.Tile.{Design}
 use Rattle.core_laws.specs.Core.{Load, State, design_of, first_state, after, step, round, attempts_of}
-use Rattle.rounds.specs.Rounds.{first_enabled}
+use Rattle.core_progress.specs.Rounds.{first_enabled}
 use Rattle.core_progress.specs.Moves.{enabled_step, IsLive, tiles_finished}
 
 -- two tiles with channels of one flit and eight words

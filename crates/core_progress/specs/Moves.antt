@@ -5,10 +5,10 @@ use Rattle.std.specs.List.{list_all}
 use Rattle.torus.specs.Shape.{tiles_of}
 use Rattle.torus.specs.declared.step.Step.{Step}
 use Rattle.script.specs.Scripts.{total_count}
-use Rattle.core_laws.specs.script_follower.specs.Following.{is_finished}
-use Rattle.core_laws.specs.tile_laws.specs.Tile.{Design}
+use Rattle.script_follower.specs.Following.{is_finished}
+use Rattle.core_laws.specs.Tile.{Design}
 use Rattle.core_laws.specs.Core.{Load, State, design_of, first_state, step, round}
-use Rattle.rounds.specs.Rounds.{first_enabled, moves_in}
+use Rattle.core_progress.specs.Rounds.{first_enabled, moves_in}
 
 -- the first step, in the order of a round, that is enabled in a state (this project's own format)
 abbrev pub enabled_step : Design → State → Option Step

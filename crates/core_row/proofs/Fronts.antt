@@ -1,4 +1,4 @@
--- The front of a channel counts the flits that were taken from it, round the ring.
+-- The front of a channel counts the flits that were words_taken from it, round the ring.
 use Rattle.std.proofs.Common.{◌≡◌, ℕ, ◌+◌, ◌*◌, ◌%◌, ◌<◌, List, [], ◌∷◌, ◌++◌, length, take, get_or, Option, Some, None, refl, sym, ap, ◌∙◌, subst}
 use Rattle.std.proofs.Common.{arith, mod-eq_of_lt, slice_get, slice_set}
 use Rattle.std.specs.Prelude.{is_some, if◌then◌else◌, option_map, option_and_then}
@@ -13,20 +13,20 @@ use Rattle.flit_buffer.specs.Surroundings.{Surroundings, Wiring, ring, no_ring, 
 use Rattle.flit_buffer.specs.declared.want.Want.{Want}
 use Rattle.flit_buffer.proofs.AgentSteps.{front_counts}
 use Rattle.flit_buffer.proofs.RingArithmetic.{place_from}
-use Rattle.core_laws.specs.script_follower.specs.ProcessorTable.{processor_wants, processor_after}
-use Rattle.core_laws.specs.home_bank.specs.BankTable.{bank_wants, bank_after}
-use Rattle.core_laws.specs.router.specs.Table.{router_wants, router_after}
-use Rattle.core_laws.specs.tile_laws.specs.declared.agent.Agent.{Agent}
-use Rattle.core_laws.specs.tile_laws.specs.declared.agent.Agent.TheVariants.{Processor, Router, Bank}
-use Rattle.core_laws.specs.tile_laws.specs.Tile.{Design, TileState, tile_step}
-use Rattle.core_laws.specs.tile_laws.specs.Agents.{wiring_of, tile_wants, agent_kind, agent_tile}
-use Rattle.core_laws.specs.tile_laws.specs.Refinement.{IsSurrounded, IsPossibleChoice}
-use Rattle.core_laws.specs.tile_laws.proofs.Channels.{wired}
+use Rattle.script_follower.specs.ProcessorTable.{processor_wants, processor_after}
+use Rattle.home_bank.specs.BankTable.{bank_wants, bank_after}
+use Rattle.router.specs.Table.{router_wants, router_after}
+use Rattle.core_laws.specs.Agent.{Agent}
+use Rattle.core_laws.specs.Agent.TheVariants.{Processor, Router, Bank}
+use Rattle.core_laws.specs.Tile.{Design, TileState, tile_step}
+use Rattle.core_laws.specs.Agents.{wiring_of, tile_wants, agent_kind, agent_tile}
+use Rattle.core_laws.specs.Refinement.{IsSurrounded, IsPossibleChoice}
+use Rattle.core_laws.proofs.Channels.{wired}
 use Rattle.core_laws.specs.Core.{Load, State, design_of, first_state, after, after_from, next, or_same}
-use Rattle.core_laws.specs.Runs.{IsAccepted, state_after}
+use Rattle.core_laws.specs.Runs.{IsAcceptedLoad, state_after}
 use Rattle.core_row.specs.Row.{row_of}
-use Rattle.core_row.specs.Taken.{want_takes, tile_takes, step_takes, takes_of, taken}
-use Rattle.core_row.proofs.Reached as reached
+use Rattle.core_row.specs.Taken.{want_takes, tile_takes, step_takes, row_takes, words_taken}
+use Rattle.core_row.proofs.RowOfRuns as reached
 use Rattle.core_row.proofs.Steps.{step_of_tile, step_of_none}
 
 -- the surroundings after a step, or the same where there is none
@@ -100,7 +100,7 @@ left_next : (s : State) (t : ℕ) (o : Option (TileState × Surroundings))
 left_next s t None = refl
 left_next s t (Some p) = refl
 
-module _ (l : Load) (ok : IsAccepted l) (steps : List Step) (n : ℕ) (attempt : Step) (x : ℕ) (x_in : x < channel_count l.shape) where
+module _ (l : Load) (ok : IsAcceptedLoad l) (steps : List Step) (n : ℕ) (attempt : Step) (x : ℕ) (x_in : x < channel_count l.shape) where
   abbrev s : State
   s = state_after l steps n
 
@@ -128,7 +128,7 @@ module _ (l : Load) (ok : IsAccepted l) (steps : List Step) (n : ℕ) (attempt :
   step_front : (ring (next (design_of l) s attempt).around.rings x).front ≡ ((ring s.around.rings x).front + step_takes (design_of l) s attempt x) % l.depth
   step_front = by_tile (slice_get s.tiles t) refl
 
-module _ (l : Load) (ok : IsAccepted l) (x : ℕ) (x_in : x < channel_count l.shape) where
+module _ (l : Load) (ok : IsAcceptedLoad l) (x : ℕ) (x_in : x < channel_count l.shape) where
   one_more : (xs : List Step) (attempt : Step)
       → (ring (next (design_of l) (after l xs) attempt).around.rings x).front
       ≡ ((ring (after l xs).around.rings x).front + step_takes (design_of l) (after l xs) attempt x) % l.depth
@@ -143,33 +143,33 @@ module _ (l : Load) (ok : IsAccepted l) (x : ℕ) (x_in : x < channel_count l.sh
 
   fronts_from : (xs ys : List Step)
       → (ring (after_from (design_of l) (after l xs) ys).around.rings x).front
-      ≡ ((ring (after l xs).around.rings x).front + takes_of (design_of l) (after l xs) ys x) % l.depth
+      ≡ ((ring (after l xs).around.rings x).front + row_takes (design_of l) (after l xs) ys x) % l.depth
   fronts_from xs [] = let low = front_in xs in sym (ap (λ n. n % l.depth) (omega arith) ∙ mod-eq_of_lt low)
   fronts_from xs (attempt ∷ ys) =
       let more : after l (xs ++ attempt ∷ []) ≡ next (design_of l) (after l xs) attempt = reached.run_append l (first_state l) xs (attempt ∷ []) in
       let rest = fronts_from (xs ++ attempt ∷ []) ys in
       subst (λ (z : State). (ring (after_from (design_of l) z ys).around.rings x).front
-      ≡ ((ring z.around.rings x).front + takes_of (design_of l) z ys x) % l.depth) more rest
-      ∙ (ap (λ k. (k + takes_of (design_of l) (next (design_of l) (after l xs) attempt) ys x) % l.depth) (one_more xs attempt)
+      ≡ ((ring z.around.rings x).front + row_takes (design_of l) z ys x) % l.depth) more rest
+      ∙ (ap (λ k. (k + row_takes (design_of l) (next (design_of l) (after l xs) attempt) ys x) % l.depth) (one_more xs attempt)
       ∙ place_from l.depth (ring (after l xs).around.rings x).front (step_takes (design_of l) (after l xs) attempt x)
-      (takes_of (design_of l) (next (design_of l) (after l xs) attempt) ys x))
+      (row_takes (design_of l) (next (design_of l) (after l xs) attempt) ys x))
 
   first_front : (ring (first_state l).around.rings x).front ≡ 0
   first_front = ap (λ r. r.front) (get_or-replicate (channel_count l.shape) x (empty_ring l.depth) no_ring x_in)
 
-  -- the front counts the flits taken
-  pub front_counts_taken : (steps : List Step) (n : ℕ) → (ring (state_after l steps n).around.rings x).front ≡ taken l (take n steps) x % l.depth
+  -- the front counts the flits words_taken
+  pub front_counts_taken : (steps : List Step) (n : ℕ) → (ring (state_after l steps n).around.rings x).front ≡ words_taken l (take n steps) x % l.depth
   front_counts_taken steps n =
       fronts_from [] (take n steps)
-      ∙ ap (λ k. (k + taken l (take n steps) x) % l.depth) first_front
+      ∙ ap (λ k. (k + words_taken l (take n steps) x) % l.depth) first_front
       ∙ ap (λ k. k % l.depth) (omega arith)
 
-  -- so flit i stands where the flits taken and i lead
+  -- so flit i stands where the flits words_taken and i lead
   pub flit_behind_taken : (steps : List Step) (n i : ℕ) → i < length (ring (state_after l steps n).around.rings x).channel.flits
-      → get_or (row_of (design_of l) (state_after l steps n)) (x * l.depth + (taken l (take n steps) x + i) % l.depth) 0
+      → get_or (row_of (design_of l) (state_after l steps n)) (x * l.depth + (words_taken l (take n steps) x + i) % l.depth) 0
       ≡ get_or (ring (state_after l steps n).around.rings x).channel.flits i 0
   flit_behind_taken steps n i h =
-      let gone : ℕ = taken l (take n steps) x in
+      let gone : ℕ = words_taken l (take n steps) x in
       let at : (gone % l.depth + i) % l.depth ≡ (gone + i) % l.depth =
       ap (λ k. (k % l.depth + i) % l.depth) (let z : gone ≡ gone + 0 = omega arith in z)
       ∙ (place_from l.depth gone 0 i ∙ ap (λ k. k % l.depth) (omega arith)) in

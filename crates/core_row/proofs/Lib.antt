@@ -1,7 +1,20 @@
 pub mod Rows
 pub mod Possible
 pub mod Steps
-pub mod Reached
+pub mod RowOfRuns
 pub mod First
 pub mod Fronts
 pub mod Examples
+pub mod Ends
+pub mod SeenStates
+pub mod ReachedRows
+pub mod Attempts
+pub mod Events
+pub mod Found
+pub mod Tries
+pub mod Room
+pub mod Counts
+pub mod Rooms
+pub mod NotesReached
+pub mod Notes
+mod SeenExamples

@@ -14,26 +14,26 @@ use Rattle.packet.specs.declared.kinds.Packet.TheVariants as packet
 use Rattle.packet.specs.declared.kinds.Request.{Request as Asking}
 use Rattle.packet.specs.Flits.{flits_of}
 use Rattle.packet.proofs.Shapes.{flits_above_zero}
-use Rattle.core_laws.specs.one_order.specs.Order.{LinearizationPoint}
+use Rattle.one_order.specs.Order.{LinearizationPoint}
 use Rattle.flit_buffer.specs.Channel.{first_of}
 use Rattle.flit_buffer.specs.Surroundings.{Wiring, IsPossible}
 use Rattle.flit_buffer.specs.declared.want.Want.{Want}
 use Rattle.flit_buffer.specs.declared.want.Want.TheVariants as want
 use Rattle.flit_buffer.proofs.PortLaws.{some_if}
 use Rattle.channel_number.specs.Ports.{port_count, input_channel, output_channel, injection_channel, ejection_channel}
-use Rattle.core_laws.specs.home_bank.specs.ServiceList.{address_of}
-use Rattle.core_laws.specs.script_follower.specs.Following.{is_finished}
-use Rattle.core_laws.specs.script_follower.specs.ProcessorRecord.{ready, request_of}
-use Rattle.core_laws.specs.script_follower.specs.ProcessorTable.{ProcessorState, processor_wants, request_flits, flits_due}
-use Rattle.core_laws.specs.home_bank.specs.BankTable.{BankState, bank_wants, is_nil}
-use Rattle.core_laws.specs.router.specs.Beginning.{router_wiring}
-use Rattle.core_laws.specs.router.specs.Reach.{IsRouterState}
-use Rattle.core_laws.specs.router.proofs.WantedPorts as router
-use Rattle.core_laws.specs.tile_laws.specs.Wiring.{processor_wiring, bank_wiring}
-use Rattle.core_laws.specs.tile_laws.specs.declared.agent.Agent.{Agent}
-use Rattle.core_laws.specs.tile_laws.specs.declared.agent.Agent.TheVariants.{Processor, Router, Bank}
-use Rattle.core_laws.specs.tile_laws.specs.Tile.{Design}
-use Rattle.core_laws.specs.tile_laws.specs.Refinement.{IsSurrounded, IsPossibleChoice}
+use Rattle.home_bank.specs.ServiceList.{address_of}
+use Rattle.script_follower.specs.Following.{is_finished}
+use Rattle.script_follower.specs.ProcessorRecord.{ready, request_of}
+use Rattle.script_follower.specs.ProcessorTable.{ProcessorState, processor_wants, request_flits, flits_due}
+use Rattle.home_bank.specs.BankTable.{BankState, bank_wants, is_nil}
+use Rattle.router.specs.Beginning.{router_wiring}
+use Rattle.router.specs.Reach.{IsRouterState}
+use Rattle.router.proofs.WantedPorts as router
+use Rattle.core_laws.specs.Wiring.{processor_wiring, bank_wiring}
+use Rattle.core_laws.specs.Agent.{Agent}
+use Rattle.core_laws.specs.Agent.TheVariants.{Processor, Router, Bank}
+use Rattle.core_laws.specs.Tile.{Design}
+use Rattle.core_laws.specs.Refinement.{IsSurrounded, IsPossibleChoice}
 use Rattle.core_laws.specs.Core.{State}
 use Rattle.core_laws.proofs.AgentSteps.{option_map_some}
 use Rattle.core_laws.proofs.Networks.{network}

@@ -3,18 +3,18 @@ use Rattle.std.proofs.Common.{◌≡◌, ◌≢◌, ℕ, ◌==◌, ◌<◌, Bool
 use Rattle.std.proofs.Common.{eq-eqb}
 use Rattle.std.specs.Prelude.{option_map, option_and_then, if◌then◌else◌, MatchOption}
 use Rattle.std.proofs.lemmas.Option.{slice_get_within, same_Some}
-use Rattle.core_laws.specs.one_order.proofs.Lists.{get_set_same, get_set_other}
+use Rattle.one_order.proofs.Lists.{get_set_same, get_set_other}
 use Rattle.torus.specs.Shape.{IsAccepted, tiles_of}
 use Rattle.torus.specs.declared.step.Step.{Step}
 use Rattle.flit_buffer.specs.Words.{word_of, performed}
 use Rattle.flit_buffer.specs.Surroundings.{Surroundings}
 use Rattle.flit_buffer.specs.declared.word_op.WordOp.{WordOp}
-use Rattle.core_laws.specs.tile_laws.specs.declared.agent.Agent.{Agent}
-use Rattle.core_laws.specs.tile_laws.specs.declared.agent.Agent.TheVariants.{Processor, Router, Bank}
-use Rattle.core_laws.specs.tile_laws.specs.Tile.{Design, TileState, tile_step}
-use Rattle.core_laws.specs.tile_laws.specs.Agents.{TilePlace, tile_placed, agent_op, agent_absorbed, tile_next_op, tile_absorbed, agent_kind, agent_tile}
-use Rattle.core_laws.specs.tile_laws.specs.Refinement.{IsSurrounded, IsPossibleChoice, TileStays, TileMoves, TileRefines, KeepsOthers, OnlyAgent}
-use Rattle.core_laws.specs.tile_laws.proofs.Tiles.{tile_refines, tile_keeps}
+use Rattle.core_laws.specs.Agent.{Agent}
+use Rattle.core_laws.specs.Agent.TheVariants.{Processor, Router, Bank}
+use Rattle.core_laws.specs.Tile.{Design, TileState, tile_step}
+use Rattle.core_laws.specs.Agents.{TilePlace, tile_placed, agent_op, agent_absorbed, tile_next_op, tile_absorbed, agent_kind, agent_tile}
+use Rattle.core_laws.specs.Refinement.{IsSurrounded, IsPossibleChoice, TileStays, TileMoves, TileRefines, KeepsOthers, OnlyAgent}
+use Rattle.core_laws.proofs.Tiles.{tile_refines, tile_keeps}
 use Rattle.core_laws.specs.Core.{State, step}
 use Rattle.core_laws.proofs.AgentSteps.{option_map_some}
 use Rattle.core_laws.proofs.OneAgent.{processor_alone, router_alone, bank_alone}

@@ -1,5 +1,5 @@
-pub use Rattle.core_laws.specs.router
-pub use Rattle.core_laws.specs.wormhole_torus
 pub mod Row
 pub mod Attempts
 pub mod Taken
+pub mod Seen
+pub mod Notes

@@ -4,7 +4,7 @@ use Rattle.std.specs.Prelude.{ℕ, ◌+◌, ◌-◌, ◌%◌, List, ◌++◌, ma
 use Rattle.std.specs.List.{flat_map, range_with_len}
 use Rattle.flit_buffer.specs.Places.{Ring}
 use Rattle.flit_buffer.specs.Surroundings.{Surroundings}
-use Rattle.core_laws.specs.tile_laws.specs.Tile.{Design}
+use Rattle.core_laws.specs.Tile.{Design}
 use Rattle.core_laws.specs.Core.{State}
 
 -- the word at place q of a channel: the flit that is as many after the first as the place is after

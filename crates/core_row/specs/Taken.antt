@@ -3,8 +3,8 @@ use Rattle.std.specs.Prelude.{ℕ, ◌+◌, is_some, if◌then◌else◌, List, 
 use Rattle.torus.specs.declared.step.Step.{Step}
 use Rattle.flit_buffer.specs.Surroundings.{Surroundings, Wiring, granted, taken_from}
 use Rattle.flit_buffer.specs.declared.want.Want.{Want}
-use Rattle.core_laws.specs.tile_laws.specs.Tile.{Design, TileState}
-use Rattle.core_laws.specs.tile_laws.specs.Agents.{wiring_of, tile_wants, agent_kind, agent_tile}
+use Rattle.core_laws.specs.Tile.{Design, TileState}
+use Rattle.core_laws.specs.Agents.{wiring_of, tile_wants, agent_kind, agent_tile}
 use Rattle.core_laws.specs.Core.{State, Load, design_of, first_state, next}
 
 -- how many flits a choice takes from channel x, by what it wants: one where that is the channel's
@@ -26,11 +26,11 @@ step_takes d s attempt x =
     tile_takes d s.around attempt x (slice_get s.tiles (agent_tile attempt.agent))
 
 -- how many a list of attempts takes, one after the other
-abbrev pub takes_of : Design → State → List Step → ℕ → ℕ
-takes_of d s [] x = 0
-takes_of d s (attempt ∷ attempts) x =
-    step_takes d s attempt x + takes_of d (next d s attempt) attempts x
+abbrev pub row_takes : Design → State → List Step → ℕ → ℕ
+row_takes d s [] x = 0
+row_takes d s (attempt ∷ attempts) x =
+    step_takes d s attempt x + row_takes d (next d s attempt) attempts x
 
--- how many flits are taken from channel x by a list of attempts from a load
-abbrev pub taken : Load → List Step → ℕ → ℕ
-taken l attempts x = takes_of (design_of l) (first_state l) attempts x
+-- how many flits are words_taken from channel x by a list of attempts from a load
+abbrev pub words_taken : Load → List Step → ℕ → ℕ
+words_taken l attempts x = row_takes (design_of l) (first_state l) attempts x

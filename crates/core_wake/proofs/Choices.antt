@@ -21,19 +21,19 @@ use Rattle.flit_buffer.specs.declared.word_op.WordOp.TheVariants as word_op
 use Rattle.flit_buffer.specs.declared.want.Want.{Want}
 use Rattle.flit_buffer.specs.declared.want.Want.TheVariants.{Take, Put, Credit, Access, Await}
 use Rattle.flit_buffer.proofs.PortLaws.{some_if}
-use Rattle.core_seen.specs.script_follower.specs.Following.{is_finished}
-use Rattle.core_seen.specs.script_follower.specs.ProcessorRecord.{ready}
-use Rattle.core_seen.specs.script_follower.specs.ProcessorTable.{ProcessorState, processor_wants, flits_due}
+use Rattle.script_follower.specs.Following.{is_finished}
+use Rattle.script_follower.specs.ProcessorRecord.{ready}
+use Rattle.script_follower.specs.ProcessorTable.{ProcessorState, processor_wants, flits_due}
 use Rattle.home_bank.specs.BankTable.{bank_wants, is_nil}
 use Rattle.home_bank.specs.ServiceList.{address_of}
-use Rattle.core_seen.specs.tile_laws.specs.declared.agent.Agent.{Agent}
-use Rattle.core_seen.specs.tile_laws.specs.declared.agent.Agent.TheVariants.{Processor, Router, Bank}
-use Rattle.core_seen.specs.tile_laws.specs.Tile.{Design, TileState}
-use Rattle.core_seen.specs.tile_laws.specs.Agents.{tile_wants, agent_kind, agent_tile}
-use Rattle.core_seen.specs.core_laws.specs.Core.{Load, State, design_of, step, after}
-use Rattle.core_seen.specs.core_laws.specs.Runs.{IsAccepted}
-use Rattle.core_seen.specs.core_laws.proofs.AgentSteps.{option_map_some}
-use Rattle.core_seen.specs.core_row.specs.Attempts.{step_op}
+use Rattle.core_laws.specs.Agent.{Agent}
+use Rattle.core_laws.specs.Agent.TheVariants.{Processor, Router, Bank}
+use Rattle.core_laws.specs.Tile.{Design, TileState}
+use Rattle.core_laws.specs.Agents.{tile_wants, agent_kind, agent_tile}
+use Rattle.core_laws.specs.Core.{Load, State, design_of, step, after}
+use Rattle.core_laws.specs.Runs.{IsAcceptedLoad}
+use Rattle.core_laws.proofs.AgentSteps.{option_map_some}
+use Rattle.core_row.specs.Attempts.{step_op}
 use Rattle.core_wake.specs.Waking.{wiring_at, wanted, Meets, Disturbs}
 use Rattle.core_wake.specs.Operations.{woken_by_operation}
 use Rattle.core_wake.specs.Choices.{can_enable, OtherChoicesSleep, choices_woken}
@@ -140,7 +140,7 @@ adds n v (choice.TakeFrom i) = refl
 adds n v (choice.Put i) = refl
 adds n v (choice.CreditOf o) = refl
 
-module _ (l : Load) (ok : IsAccepted l) (steps : List Step) (attempt : Step) (op : WordOp) (by : step_op (design_of l) (after l steps) attempt ≡ Some op) where
+module _ (l : Load) (ok : IsAcceptedLoad l) (steps : List Step) (attempt : Step) (op : WordOp) (by : step_op (design_of l) (after l steps) attempt ≡ Some op) where
   abbrev d : Design
   d = design_of l
 

@@ -12,9 +12,9 @@ use Rattle.channel_number.specs.Ports.{output_router}
 use Rattle.channel_number.proofs.Decoding.{encoded}
 use Rattle.channel_number.proofs.Ports.{is_input, is_output}
 use Rattle.router.proofs.EmptyChannels.{input_at, output_at}
-use Rattle.core_seen.specs.tile_laws.specs.declared.agent.Agent.{Agent}
-use Rattle.core_seen.specs.tile_laws.specs.declared.agent.Agent.TheVariants.{Processor, Router, Bank}
-use Rattle.core_seen.specs.tile_laws.specs.Agents.{wiring_of, agent_number}
+use Rattle.core_laws.specs.Agent.{Agent}
+use Rattle.core_laws.specs.Agent.TheVariants.{Processor, Router, Bank}
+use Rattle.core_laws.specs.Agents.{wiring_of, agent_number}
 use Rattle.core_wake.specs.Waking.{taker, speaker, receiver_of, sender_of}
 
 only : (x i : ℕ) → i < length (x ∷ []) → get_or (x ∷ []) i 0 ≡ x

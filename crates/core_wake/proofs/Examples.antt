@@ -5,9 +5,9 @@ use Rattle.torus.specs.declared.step.Choice.TheVariants as choice
 use Rattle.packet.specs.declared.kinds.Op.TheVariants as op
 use Rattle.flit_buffer.specs.declared.want.Want.TheVariants as want
 use Rattle.flit_buffer.specs.declared.word_op.WordOp.TheVariants.{Store}
-use Rattle.core_seen.specs.tile_laws.specs.declared.agent.Agent.TheVariants.{Processor}
-use Rattle.core_seen.specs.tile_laws.specs.Tile.{Design}
-use Rattle.core_seen.specs.tile_laws.specs.Agents.{wiring_of}
+use Rattle.core_laws.specs.Agent.TheVariants.{Processor}
+use Rattle.core_laws.specs.Tile.{Design}
+use Rattle.core_laws.specs.Agents.{wiring_of}
 use Rattle.core_wake.specs.Choices.{can_enable}
 use Rattle.core_wake.specs.Operations.{woken_by_operation}
 use Rattle.core_wake.specs.Routers.{PortFlags, frees_put, ports_woken, router_moved}

@@ -26,27 +26,27 @@ use Rattle.flit_buffer.specs.declared.want.Want.{Want}
 use Rattle.flit_buffer.specs.declared.want.Want.TheVariants.{Take, Put, Credit, Access, Await}
 use Rattle.flit_buffer.proofs.ManyRings.{before}
 use Rattle.flit_buffer.proofs.PortLaws.{some_if, less, is_less}
-use Rattle.core_seen.specs.script_follower.specs.Following.{is_finished}
-use Rattle.core_seen.specs.script_follower.specs.ProcessorRecord.{ready}
-use Rattle.core_seen.specs.script_follower.specs.ProcessorTable.{ProcessorState, processor_wants, flits_due}
+use Rattle.script_follower.specs.Following.{is_finished}
+use Rattle.script_follower.specs.ProcessorRecord.{ready}
+use Rattle.script_follower.specs.ProcessorTable.{ProcessorState, processor_wants, flits_due}
 use Rattle.home_bank.specs.BankTable.{bank_wants, is_nil}
 use Rattle.home_bank.specs.ServiceList.{address_of}
-use Rattle.core_seen.specs.tile_laws.specs.declared.agent.Agent.{Agent}
-use Rattle.core_seen.specs.tile_laws.specs.declared.agent.Agent.TheVariants.{Processor, Router, Bank}
-use Rattle.core_seen.specs.tile_laws.specs.Tile.{Design, TileState}
-use Rattle.core_seen.specs.tile_laws.specs.Agents.{wiring_of, tile_wants, tile_placed, agent_op, tile_next_op, agent_kind, agent_tile}
-use Rattle.core_seen.specs.tile_laws.specs.Refinement.{IsSurrounded}
-use Rattle.core_seen.specs.tile_laws.proofs.Channels.{wired}
-use Rattle.core_seen.specs.core_laws.specs.Core.{Load, State, design_of, after}
-use Rattle.core_seen.specs.core_laws.specs.Runs.{IsAccepted}
-use Rattle.core_seen.specs.core_laws.proofs.AgentSteps.{option_map_some}
-use Rattle.core_seen.specs.core_laws.proofs.AskedFor.{bank_asked}
-use Rattle.core_seen.specs.core_laws.proofs.ChannelWants.{router_of_channel}
-use Rattle.core_seen.specs.core_row.specs.Attempts.{step_op}
-use Rattle.core_seen.specs.core_row.proofs.Reached.{all_steps}
-use Rattle.core_seen.specs.core_row.proofs.Reached as reached
+use Rattle.core_laws.specs.Agent.{Agent}
+use Rattle.core_laws.specs.Agent.TheVariants.{Processor, Router, Bank}
+use Rattle.core_laws.specs.Tile.{Design, TileState}
+use Rattle.core_laws.specs.Agents.{wiring_of, tile_wants, tile_placed, agent_op, tile_next_op, agent_kind, agent_tile}
+use Rattle.core_laws.specs.Refinement.{IsSurrounded}
+use Rattle.core_laws.proofs.Channels.{wired}
+use Rattle.core_laws.specs.Core.{Load, State, design_of, after}
+use Rattle.core_laws.specs.Runs.{IsAcceptedLoad}
+use Rattle.core_laws.proofs.AgentSteps.{option_map_some}
+use Rattle.core_laws.proofs.AskedFor.{bank_asked}
+use Rattle.core_laws.proofs.ChannelWants.{router_of_channel}
+use Rattle.core_row.specs.Attempts.{step_op}
+use Rattle.core_row.proofs.RowOfRuns.{all_steps}
+use Rattle.core_row.proofs.RowOfRuns as reached
 use Rattle.core_wake.specs.Waking.{receiver_of, sender_of, wiring_at, wanted, processors, woken_by, woken}
-use Rattle.core_wake.specs.Operations.{places_in, woken_by_operation}
+use Rattle.core_wake.specs.Operations.{wake_places, woken_by_operation}
 use Rattle.core_wake.proofs.Wakes.{IsReady, ready_after, Asks, asks_of, low, possible_of}
 
 -- the operation of an attempt is that of what it wants
@@ -149,19 +149,19 @@ module _ (d : Design) (s : State) (is_ready : IsReady d s) (surrounded : IsSurro
 
   -- a place of a channel is among the places, and tells the channel
   module _ (x q : ℕ) (there : x < channel_count d.shape) (within : q < d.depth) where
-    pub in_places : nat_lt (x * d.depth + q) (places_in d) ≡ true
+    pub in_places : nat_lt (x * d.depth + q) (wake_places d) ≡ true
     in_places = is_less _ _ (let b = before d.depth x (channel_count d.shape) there in omega (arith, b, within))
 
     pub of_channel : (x * d.depth + q) / d.depth ≡ x
     of_channel = div-mul-add x d.depth q within
 
-    told : (f : ℕ → ℕ) → (f x ∷ []) ≡ (if nat_lt (x * d.depth + q) (places_in d) then f ((x * d.depth + q) / d.depth) ∷ [] else [])
+    told : (f : ℕ → ℕ) → (f x ∷ []) ≡ (if nat_lt (x * d.depth + q) (wake_places d) then f ((x * d.depth + q) / d.depth) ∷ [] else [])
     told f =
         ap (λ (k : ℕ). f k ∷ []) (sym of_channel)
         ∙ ap (λ (b : Bool). if b then f ((x * d.depth + q) / d.depth) ∷ [] else []) (sym in_places)
 
   -- a word behind the places
-  same_count : length s.around.rings * d.depth ≡ places_in d
+  same_count : length s.around.rings * d.depth ≡ wake_places d
   same_count = ap (λ (k : ℕ). k * d.depth) surrounded.count
 
   in_rest : (n : ℕ) (o : Op) → n < d.words → woken_by_operation d (at (length s.around.rings * d.depth + n) o) ≡ []
@@ -169,15 +169,15 @@ module _ (d : Design) (s : State) (is_ready : IsReady d s) (surrounded : IsSurro
   in_rest n (op.Store k) h =
       let w : ℕ = length s.around.rings * d.depth + n in
       let e = same_count in
-      ap (λ (b : Bool). if b then receiver_of d.shape (w / d.depth) ∷ [] else []) (not_less w (places_in d) (omega (arith, e)))
+      ap (λ (b : Bool). if b then receiver_of d.shape (w / d.depth) ∷ [] else []) (not_less w (wake_places d) (omega (arith, e)))
   in_rest n (op.Swap k) h =
       let w : ℕ = length s.around.rings * d.depth + n in
       let e = same_count in
-      ap (λ (b : Bool). if b then sender_of d.shape (w / d.depth) ∷ [] else []) (not_less w (places_in d) (omega (arith, e)))
+      ap (λ (b : Bool). if b then sender_of d.shape (w / d.depth) ∷ [] else []) (not_less w (wake_places d) (omega (arith, e)))
   in_rest n (op.Add k) h =
       let w : ℕ = length s.around.rings * d.depth + n in
       let e = same_count in
-      ap (λ (b : Bool). if b then processors (tiles_of d.shape) else []) (ne_eqb w (places_in d + d.words) (λ z. omega (arith, e, h, z)))
+      ap (λ (b : Bool). if b then processors (tiles_of d.shape) else []) (ne_eqb w (wake_places d + d.words) (λ z. omega (arith, e, h, z)))
   in_rest n (op.Cas a b) h = refl
   in_rest n (op.And k) h = refl
   in_rest n (op.Or k) h = refl
@@ -193,7 +193,7 @@ module _ (d : Design) (s : State) (is_ready : IsReady d s) (surrounded : IsSurro
       let g = h.0 in
       let pick : Bool → List ℕ = λ b. if b then processors (tiles_of d.shape) else [] in
       ap pick (eq-eqb n d.words h.0)
-      ∙ (ap pick (sym (eq-eqb w (places_in d + d.words) (omega (arith, e, g))))
+      ∙ (ap pick (sym (eq-eqb w (wake_places d + d.words) (omega (arith, e, g))))
       ∙ ap (λ (z : Op). woken_by_operation d (at w z)) (sym h.1))
   by_access n o (inr h) =
       ap (λ (b : Bool). if b then processors (tiles_of d.shape) else []) (ne_eqb n d.words (λ z. omega (arith, h, z)))
@@ -243,7 +243,7 @@ module _ (d : Design) (s : State) (is_ready : IsReady d s) (surrounded : IsSurro
       ap (λ (rest : List ℕ). attempt.agent ∷ rest)
       (ap (woken_by d v) f.1 ∙ tells f.0 op (asks_of d s is_ready attempt f.0 f.1) f.2)
 
-module _ (l : Load) (ok : IsAccepted l) (steps : List Step) where
+module _ (l : Load) (ok : IsAcceptedLoad l) (steps : List Step) where
   pub surrounded_after : IsSurrounded (design_of l) (after l steps).around
   surrounded_after = subst (λ (s : State). IsSurrounded (design_of l) s.around) (all_steps l steps) (reached.surrounded l ok steps (length steps))
 

@@ -12,9 +12,9 @@ use Rattle.flit_buffer.specs.declared.want.Want.{Want}
 use Rattle.flit_buffer.specs.declared.want.Want.TheVariants.{Take, Put, Credit, Access, Await}
 use Rattle.router.specs.Table.{RouterState, latch_of, router_wants}
 use Rattle.router.specs.Beginning.{router_wiring}
-use Rattle.core_seen.specs.tile_laws.specs.Tile.{Design, TileState}
-use Rattle.core_seen.specs.core_laws.specs.Core.{State, step}
-use Rattle.core_seen.specs.core_laws.proofs.ChannelWants.{IsOfChannel, router_of_channel}
+use Rattle.core_laws.specs.Tile.{Design, TileState}
+use Rattle.core_laws.specs.Core.{State, step}
+use Rattle.core_laws.proofs.ChannelWants.{IsOfChannel, router_of_channel}
 use Rattle.core_wake.specs.Routers.{of_router, PortFlags, OtherPortsSleep}
 use Rattle.core_wake.proofs.RouterMoves.{router_idle}
 

@@ -16,13 +16,13 @@ use Rattle.flit_buffer.specs.declared.word_op.WordOp.{WordOp}
 use Rattle.flit_buffer.specs.declared.word_op.WordOp.TheVariants as word_op
 use Rattle.flit_buffer.specs.declared.want.Want.{Want}
 use Rattle.flit_buffer.specs.declared.want.Want.TheVariants.{Take, Put, Credit}
-use Rattle.core_seen.specs.tile_laws.specs.declared.agent.Agent.TheVariants.{Router}
-use Rattle.core_seen.specs.tile_laws.specs.Tile.{Design, TileState}
-use Rattle.core_seen.specs.tile_laws.specs.Agents.{agent_number}
-use Rattle.core_seen.specs.tile_laws.specs.Refinement.{IsSurrounded}
-use Rattle.core_seen.specs.core_laws.specs.Core.{Load, State, design_of, step, after}
-use Rattle.core_seen.specs.core_laws.specs.Runs.{IsAccepted}
-use Rattle.core_seen.specs.core_row.specs.Attempts.{step_op}
+use Rattle.core_laws.specs.Agent.TheVariants.{Router}
+use Rattle.core_laws.specs.Tile.{Design, TileState}
+use Rattle.core_laws.specs.Agents.{agent_number}
+use Rattle.core_laws.specs.Refinement.{IsSurrounded}
+use Rattle.core_laws.specs.Core.{Load, State, design_of, step, after}
+use Rattle.core_laws.specs.Runs.{IsAcceptedLoad}
+use Rattle.core_row.specs.Attempts.{step_op}
 use Rattle.core_wake.specs.Waking.{wiring_at, Meets}
 use Rattle.core_wake.specs.Routers.{of_router, brings_flit, returns_credit, empties, fills, frees_put, latch_at}
 use Rattle.core_wake.specs.Routers.{PortFlags, OtherPortsSleep, ports_woken, router_moved}
@@ -140,7 +140,7 @@ module _ (d : Design) (s : State) (is_ready : IsReady d s) (surrounded : IsSurro
   pub moved : OtherPortsSleep d next now
   moved = record { takes = taken; puts = freed; credits = credited; full = emptied }
 
-module _ (l : Load) (ok : IsAccepted l) (steps : List Step) where
+module _ (l : Load) (ok : IsAcceptedLoad l) (steps : List Step) where
   abbrev s_then : State
   s_then = after l steps
 

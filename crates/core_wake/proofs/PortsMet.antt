@@ -28,18 +28,18 @@ use Rattle.flit_buffer.specs.declared.word_op.WordOp.TheVariants as word_op
 use Rattle.flit_buffer.specs.declared.want.Want.{Want}
 use Rattle.flit_buffer.specs.declared.want.Want.TheVariants.{Take, Put, Credit, Access, Await}
 use Rattle.flit_buffer.proofs.PortLaws.{some_if}
-use Rattle.core_seen.specs.tile_laws.specs.declared.agent.Agent.{Agent}
-use Rattle.core_seen.specs.tile_laws.specs.declared.agent.Agent.TheVariants.{Processor, Router, Bank}
-use Rattle.core_seen.specs.tile_laws.specs.Tile.{Design, TileState, tile_step}
-use Rattle.core_seen.specs.tile_laws.specs.Agents.{agent_number, agent_kind, agent_tile}
-use Rattle.core_seen.specs.tile_laws.specs.Refinement.{IsSurrounded}
-use Rattle.core_seen.specs.tile_laws.proofs.AgentNumbers.{number_is, tile_of_number}
-use Rattle.core_seen.specs.core_laws.specs.Core.{State, step}
-use Rattle.core_seen.specs.core_laws.proofs.OneAgent.{other_tiles, processor_alone, bank_alone}
-use Rattle.core_seen.specs.core_laws.proofs.AgentSteps.{option_map_some}
-use Rattle.core_seen.specs.core_row.specs.Attempts.{step_op}
+use Rattle.core_laws.specs.Agent.{Agent}
+use Rattle.core_laws.specs.Agent.TheVariants.{Processor, Router, Bank}
+use Rattle.core_laws.specs.Tile.{Design, TileState, tile_step}
+use Rattle.core_laws.specs.Agents.{agent_number, agent_kind, agent_tile}
+use Rattle.core_laws.specs.Refinement.{IsSurrounded}
+use Rattle.core_laws.proofs.AgentNumbers.{number_is, tile_of_number}
+use Rattle.core_laws.specs.Core.{State, step}
+use Rattle.core_laws.proofs.OneAgent.{other_tiles, processor_alone, bank_alone}
+use Rattle.core_laws.proofs.AgentSteps.{option_map_some}
+use Rattle.core_row.specs.Attempts.{step_op}
 use Rattle.core_wake.specs.Waking.{wiring_at, wanted, Meets, Disturbs}
-use Rattle.core_wake.specs.Operations.{places_in}
+use Rattle.core_wake.specs.Operations.{wake_places}
 use Rattle.core_wake.specs.Routers.{of_router, input_end, output_end, is_port, brings_flit, returns_credit, latch_at}
 use Rattle.core_wake.specs.Routers.{PortFlags, OtherPortsSleep, ports_woken}
 use Rattle.core_wake.proofs.Operations.{op_is, in_places, of_channel, is_wired, there_is}
@@ -106,7 +106,7 @@ module _ (d : Design) (s : State) (is_ready : IsReady d s) (surrounded : IsSurro
         let at = input_at d.shape is_ready.shape t within i (omega (arith, there, long)) in
         let is : y ≡ input_channel d.shape t i = m ∙ at.1 in
         ap (λ (z : WordOp). brings_flit d z t i) (sym f.1)
-        ∙ both (nat_lt (y * d.depth + q) (places_in d)) _ (in_places d s is_ready surrounded in_memory attempt y q y_in inside)
+        ∙ both (nat_lt (y * d.depth + q) (wake_places d)) _ (in_places d s is_ready surrounded in_memory attempt y q y_in inside)
         (ap (λ (z : ℕ). is_port (input_end d.shape z) t i) (of_channel d s is_ready surrounded in_memory attempt y q y_in inside ∙ is) ∙ input_is i at.0)
     brought (Take j) i wants there m = absurd m
     brought (Credit o) i wants there m = absurd m
@@ -129,7 +129,7 @@ module _ (d : Design) (s : State) (is_ready : IsReady d s) (surrounded : IsSurro
         let at = output_at d.shape is_ready.shape t within o (omega (arith, there, long)) in
         let is : y ≡ output_channel d.shape t o = m ∙ at.1 in
         ap (λ (z : WordOp). returns_credit d z t o) (sym f)
-        ∙ both (nat_lt (y * d.depth + r.front) (places_in d)) _ (in_places d s is_ready surrounded in_memory attempt y r.front y_in front)
+        ∙ both (nat_lt (y * d.depth + r.front) (wake_places d)) _ (in_places d s is_ready surrounded in_memory attempt y r.front y_in front)
         (ap (λ (z : ℕ). is_port (output_end d.shape z) t o) (of_channel d s is_ready surrounded in_memory attempt y r.front y_in front ∙ is) ∙ output_is o at.0)
     returned (Put p flit) o wants there m = absurd m
     returned (Credit p) o wants there m = absurd m

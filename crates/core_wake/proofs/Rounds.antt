@@ -7,15 +7,15 @@ use Rattle.std.proofs.lemmas.Bool.{eqb-true}
 use Rattle.torus.specs.Shape.{tiles_of, dims_of}
 use Rattle.torus.specs.declared.step.Step.{Step}
 use Rattle.channel_number.specs.Ports.{port_count}
-use Rattle.core_seen.specs.tile_laws.specs.declared.agent.Agent.{Agent}
-use Rattle.core_seen.specs.tile_laws.specs.declared.agent.Agent.TheVariants.{Processor, Router, Bank}
-use Rattle.core_seen.specs.tile_laws.specs.Tile.{Design}
-use Rattle.core_seen.specs.tile_laws.specs.Agents.{agent_number, agent_kind}
-use Rattle.core_seen.specs.tile_laws.proofs.AgentNumbers.{kind_of_number}
-use Rattle.core_seen.specs.core_laws.specs.Core.{Load, State, design_of, step, or_same, next, after_from, first_state, after, attempts_of}
-use Rattle.core_seen.specs.core_laws.specs.Core.{round_at, round}
-use Rattle.core_seen.specs.core_laws.specs.Runs.{IsAccepted}
-use Rattle.core_seen.specs.core_machine.proofs.Books.{after_append}
+use Rattle.core_laws.specs.Agent.{Agent}
+use Rattle.core_laws.specs.Agent.TheVariants.{Processor, Router, Bank}
+use Rattle.core_laws.specs.Tile.{Design}
+use Rattle.core_laws.specs.Agents.{agent_number, agent_kind}
+use Rattle.core_laws.proofs.AgentNumbers.{kind_of_number}
+use Rattle.core_laws.specs.Core.{Load, State, design_of, step, or_same, next, after_from, first_state, after, attempts_of}
+use Rattle.core_laws.specs.Core.{round_at, round}
+use Rattle.core_laws.specs.Runs.{IsAcceptedLoad}
+use Rattle.core_machine.proofs.Books.{after_append}
 use Rattle.core_wake.specs.Waking.{is_woken}
 use Rattle.core_wake.specs.Sleep.{IsAsleep, OthersSleep, choices_of, attempts_at, has_moved}
 use Rattle.core_wake.specs.Watch.{Watch, watched, after_watching, rested, agent_turn, tile_turn, tile_turns, round_awake}
@@ -29,7 +29,7 @@ both_false false b h = (refl, h)
 pub all_awake : (d : Design) (s : State) → OthersSleep d s (λ agent. true)
 all_awake d s agent h = absurd (cc)
 
-module _ (l : Load) (ok : IsAccepted l) where
+module _ (l : Load) (ok : IsAcceptedLoad l) where
   abbrev d : Design
   d = design_of l
 

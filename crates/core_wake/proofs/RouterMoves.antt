@@ -13,13 +13,13 @@ use Rattle.flit_buffer.specs.declared.want.Want.{Want}
 use Rattle.flit_buffer.specs.declared.want.Want.TheVariants.{Take, Put, Credit, Access, Await}
 use Rattle.router.specs.Table.{RouterState, latch_of, wants_to_take, wants_to_put, router_wants, router_after}
 use Rattle.router.specs.Beginning.{router_wiring}
-use Rattle.core_seen.specs.tile_laws.specs.declared.agent.Agent.{Agent}
-use Rattle.core_seen.specs.tile_laws.specs.declared.agent.Agent.TheVariants.{Router}
-use Rattle.core_seen.specs.tile_laws.specs.Tile.{Design, TileState, tile_step}
-use Rattle.core_seen.specs.tile_laws.specs.Agents.{wiring_of, tile_wants, agent_number, agent_kind}
-use Rattle.core_seen.specs.tile_laws.proofs.AgentNumbers.{tile_of_number, kind_of_number}
-use Rattle.core_seen.specs.core_laws.specs.Core.{State, step}
-use Rattle.core_seen.specs.core_laws.proofs.AgentSteps.{did, option_map_some}
+use Rattle.core_laws.specs.Agent.{Agent}
+use Rattle.core_laws.specs.Agent.TheVariants.{Router}
+use Rattle.core_laws.specs.Tile.{Design, TileState, tile_step}
+use Rattle.core_laws.specs.Agents.{wiring_of, tile_wants, agent_number, agent_kind}
+use Rattle.core_laws.proofs.AgentNumbers.{tile_of_number, kind_of_number}
+use Rattle.core_laws.specs.Core.{State, step}
+use Rattle.core_laws.proofs.AgentSteps.{did, option_map_some}
 use Rattle.core_wake.specs.Waking.{Meets, wiring_at, wanted}
 use Rattle.core_wake.specs.Routers.{of_router, empties, fills, frees_put, latch_at}
 use Rattle.core_wake.proofs.Grants.{Spares, own_refused}

@@ -14,9 +14,9 @@ use Rattle.flit_buffer.specs.declared.want.Want.{Want}
 use Rattle.flit_buffer.specs.declared.want.Want.TheVariants.{Take, Put, Credit, Access, Await}
 use Rattle.flit_buffer.proofs.PortLaws.{some_if, less}
 use Rattle.router.specs.Table.{RouterState, latch_of, output_for, wants_to_take, wants_to_put, router_wants, router_after}
-use Rattle.core_seen.specs.core_laws.proofs.AgentSteps.{option_map_some}
-use Rattle.core_seen.specs.core_laws.proofs.ChannelWants.{if_what}
-use Rattle.core_seen.specs.core_laws.proofs.RouterChoices.{if_true}
+use Rattle.core_laws.proofs.AgentSteps.{option_map_some}
+use Rattle.core_laws.proofs.ChannelWants.{if_what}
+use Rattle.core_laws.proofs.RouterChoices.{if_true}
 use Rattle.core_wake.specs.Routers.{empties, fills}
 
 unequal : (a b : ℕ) → a ≡ b → (a == b) ≡ false → ⊥

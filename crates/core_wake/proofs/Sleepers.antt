@@ -8,14 +8,14 @@ use Rattle.torus.specs.declared.step.Step.{Step}
 use Rattle.torus.specs.declared.step.Choice.{Choice}
 use Rattle.torus.specs.declared.step.Choice.TheVariants as choice
 use Rattle.channel_number.specs.Ports.{port_count}
-use Rattle.core_seen.specs.tile_laws.specs.declared.agent.Agent.{Agent}
-use Rattle.core_seen.specs.tile_laws.specs.declared.agent.Agent.TheVariants.{Processor, Router, Bank}
-use Rattle.core_seen.specs.tile_laws.specs.Tile.{Design}
-use Rattle.core_seen.specs.tile_laws.specs.Agents.{agent_kind}
-use Rattle.core_seen.specs.core_laws.specs.Core.{State, step, or_same, after_from, attempts_of}
-use Rattle.core_seen.specs.tile_laws.specs.Choices.{has_choice}
-use Rattle.core_seen.specs.core_laws.proofs.AgentChoices.{other_choice}
-use Rattle.core_seen.specs.core_machine.specs.Machine.{Core, built_to, event_in, core_with, core_after}
+use Rattle.core_laws.specs.Agent.{Agent}
+use Rattle.core_laws.specs.Agent.TheVariants.{Processor, Router, Bank}
+use Rattle.core_laws.specs.Tile.{Design}
+use Rattle.core_laws.specs.Agents.{agent_kind}
+use Rattle.core_laws.specs.Core.{State, step, or_same, after_from, attempts_of}
+use Rattle.core_laws.specs.Choices.{has_choice}
+use Rattle.core_laws.proofs.AgentChoices.{other_choice}
+use Rattle.core_machine.specs.Machine.{Core, built_to, event_in, core_with, core_after}
 use Rattle.core_wake.specs.Sleep.{IsAsleep, choices_of, attempts_at, has_moved}
 
 -- what holds of each choice of a list

@@ -12,18 +12,18 @@ use Rattle.flit_buffer.specs.declared.want.Want.{Want}
 use Rattle.flit_buffer.specs.Surroundings.{Surroundings, Wiring, granted, surroundings_after, agent_step, step_with}
 use Rattle.router.specs.Table.{RouterState, router_wants, router_after}
 use Rattle.router.specs.Beginning.{router_wiring}
-use Rattle.core_seen.specs.script_follower.specs.ProcessorTable.{ProcessorState, processor_wants, processor_after}
+use Rattle.script_follower.specs.ProcessorTable.{ProcessorState, processor_wants, processor_after}
 use Rattle.home_bank.specs.BankTable.{BankState, bank_wants, bank_after}
-use Rattle.core_seen.specs.tile_laws.specs.Wiring.{processor_wiring, bank_wiring}
-use Rattle.core_seen.specs.tile_laws.specs.declared.agent.Agent.{Agent}
-use Rattle.core_seen.specs.tile_laws.specs.declared.agent.Agent.TheVariants.{Processor, Router, Bank}
-use Rattle.core_seen.specs.tile_laws.specs.Tile.{Design, TileState, tile_step}
-use Rattle.core_seen.specs.tile_laws.specs.Agents.{wiring_of, tile_wants, agent_kind, agent_tile}
-use Rattle.core_seen.specs.tile_laws.proofs.AgentNumbers.{number_of_agent, number_is}
-use Rattle.core_seen.specs.core_laws.specs.Core.{State, step}
-use Rattle.core_seen.specs.core_laws.proofs.AgentSteps.{option_map_some, option_map_none, refused}
-use Rattle.core_seen.specs.core_laws.proofs.OneAgent.{processor_alone, router_alone, bank_alone}
-use Rattle.core_seen.specs.core_row.proofs.Steps.{step_of_tile, step_of_none}
+use Rattle.core_laws.specs.Wiring.{processor_wiring, bank_wiring}
+use Rattle.core_laws.specs.Agent.{Agent}
+use Rattle.core_laws.specs.Agent.TheVariants.{Processor, Router, Bank}
+use Rattle.core_laws.specs.Tile.{Design, TileState, tile_step}
+use Rattle.core_laws.specs.Agents.{wiring_of, tile_wants, agent_kind, agent_tile}
+use Rattle.core_laws.proofs.AgentNumbers.{number_of_agent, number_is}
+use Rattle.core_laws.specs.Core.{State, step}
+use Rattle.core_laws.proofs.AgentSteps.{option_map_some, option_map_none, refused}
+use Rattle.core_laws.proofs.OneAgent.{processor_alone, router_alone, bank_alone}
+use Rattle.core_row.proofs.Steps.{step_of_tile, step_of_none}
 use Rattle.core_wake.specs.Waking.{wiring_at, wanted}
 
 map_none : {A B : Type 0} (f : A → B) (o : Option A) → o ≡ None → option_map f o ≡ None

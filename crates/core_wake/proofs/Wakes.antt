@@ -19,26 +19,26 @@ use Rattle.flit_buffer.specs.Surroundings.{Surroundings, granted, surroundings_a
 use Rattle.flit_buffer.specs.declared.want.Want.{Want}
 use Rattle.flit_buffer.specs.declared.want.Want.TheVariants.{Take, Put, Credit, Access, Await}
 use Rattle.flit_buffer.proofs.PortLaws.{some_if}
-use Rattle.core_seen.specs.script_follower.specs.Following.{is_finished}
-use Rattle.core_seen.specs.script_follower.specs.ProcessorRecord.{ready}
-use Rattle.core_seen.specs.script_follower.specs.ProcessorTable.{ProcessorState, processor_wants, flits_due}
+use Rattle.script_follower.specs.Following.{is_finished}
+use Rattle.script_follower.specs.ProcessorRecord.{ready}
+use Rattle.script_follower.specs.ProcessorTable.{ProcessorState, processor_wants, flits_due}
 use Rattle.home_bank.specs.BankTable.{BankState, bank_wants, is_nil}
 use Rattle.home_bank.specs.ServiceList.{address_of}
-use Rattle.core_seen.specs.tile_laws.specs.declared.agent.Agent.{Agent}
-use Rattle.core_seen.specs.tile_laws.specs.declared.agent.Agent.TheVariants.{Processor, Router, Bank}
-use Rattle.core_seen.specs.tile_laws.specs.Tile.{Design, TileState}
-use Rattle.core_seen.specs.tile_laws.specs.Agents.{tile_wants, agent_number, agent_kind, agent_tile}
-use Rattle.core_seen.specs.tile_laws.proofs.AgentNumbers.{number_of_agent, number_is}
-use Rattle.core_seen.specs.tile_laws.specs.Refinement.{IsPossibleChoice}
-use Rattle.core_seen.specs.tile_laws.proofs.Channels.{apart}
-use Rattle.core_seen.specs.core_laws.specs.Core.{Load, State, design_of, step, after}
-use Rattle.core_seen.specs.core_laws.specs.Runs.{IsAccepted}
-use Rattle.core_seen.specs.core_laws.specs.Asks.{BankAsks}
-use Rattle.core_seen.specs.core_laws.proofs.AgentSteps.{option_map_some}
-use Rattle.core_seen.specs.core_laws.proofs.AskedFor.{bank_asked}
-use Rattle.core_seen.specs.core_laws.proofs.ChannelWants.{router_of_channel}
-use Rattle.core_seen.specs.core_row.proofs.Reached.{all_steps}
-use Rattle.core_seen.specs.core_row.proofs.Reached as reached
+use Rattle.core_laws.specs.Agent.{Agent}
+use Rattle.core_laws.specs.Agent.TheVariants.{Processor, Router, Bank}
+use Rattle.core_laws.specs.Tile.{Design, TileState}
+use Rattle.core_laws.specs.Agents.{tile_wants, agent_number, agent_kind, agent_tile}
+use Rattle.core_laws.proofs.AgentNumbers.{number_of_agent, number_is}
+use Rattle.core_laws.specs.Refinement.{IsPossibleChoice}
+use Rattle.core_laws.proofs.Channels.{apart}
+use Rattle.core_laws.specs.Core.{Load, State, design_of, step, after}
+use Rattle.core_laws.specs.Runs.{IsAcceptedLoad}
+use Rattle.core_laws.specs.Asks.{BankAsks}
+use Rattle.core_laws.proofs.AgentSteps.{option_map_some}
+use Rattle.core_laws.proofs.AskedFor.{bank_asked}
+use Rattle.core_laws.proofs.ChannelWants.{router_of_channel}
+use Rattle.core_row.proofs.RowOfRuns.{all_steps}
+use Rattle.core_row.proofs.RowOfRuns as reached
 use Rattle.core_wake.specs.Waking.{receiver_of, sender_of, wiring_at, wanted, Meets, Disturbs, processors, woken_by, woken, is_woken}
 use Rattle.core_wake.specs.Sleep.{IsAsleep}
 use Rattle.core_wake.proofs.Ends.{receiver_is, sender_is}
@@ -52,7 +52,7 @@ pub record IsReady (d : Design) (s : State) : Type 0 where
   pub possible : (attempt : Step) (tile : TileState) → slice_get s.tiles (agent_tile attempt.agent) ≡ Some tile
       → IsPossibleChoice d (agent_tile attempt.agent) tile s.around (agent_kind attempt.agent) attempt.choice
 
-pub ready_after : (l : Load) → IsAccepted l → (steps : List Step) → IsReady (design_of l) (after l steps)
+pub ready_after : (l : Load) → IsAcceptedLoad l → (steps : List Step) → IsReady (design_of l) (after l steps)
 ready_after l ok steps = subst (IsReady (design_of l)) (all_steps l steps) (record {
   shape = ok.shape;
   count = reached.tiles_there l ok steps (length steps);
@@ -235,7 +235,7 @@ module _ (d : Design) (s : State) (is_ready : IsReady d s) where
       both.1 (asleep c)
 
 -- a service wakes no other agent
-module _ (l : Load) (ok : IsAccepted l) (steps : List Step) (agent : ℕ) (is_bank : agent_kind agent ≡ Bank) where
+module _ (l : Load) (ok : IsAcceptedLoad l) (steps : List Step) (agent : ℕ) (is_bank : agent_kind agent ≡ Bank) where
   abbrev d : Design
   d = design_of l
 

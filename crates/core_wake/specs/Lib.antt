@@ -1,12 +1,3 @@
-pub use Rattle.core_seen
-pub use Rattle.core_seen.specs.core_laws
-pub use Rattle.core_seen.specs.core_progress
-pub use Rattle.core_seen.specs.core_row
-pub use Rattle.core_seen.specs.order_abstract
-pub use Rattle.core_seen.specs.core_machine
-pub use Rattle.core_seen.specs.script_follower
-pub use Rattle.core_seen.specs.tile_laws
-pub use Rattle.core_seen.specs.tile
 pub mod Waking
 pub mod Sleep
 pub mod Watch

@@ -11,11 +11,11 @@ use Rattle.channel_number.specs.Ports.{is_injection, is_ejection, input_router, 
 use Rattle.flit_buffer.specs.declared.word_op.WordOp.{WordOp}
 use Rattle.flit_buffer.specs.declared.word_op.WordOp.TheVariants.{Store, Swap}
 use Rattle.router.specs.Table.{latch_of}
-use Rattle.core_seen.specs.tile_laws.specs.declared.agent.Agent.TheVariants.{Router}
-use Rattle.core_seen.specs.tile_laws.specs.Tile.{Design}
-use Rattle.core_seen.specs.tile_laws.specs.Agents.{agent_number}
-use Rattle.core_seen.specs.core_laws.specs.Core.{State, step}
-use Rattle.core_wake.specs.Operations.{places_in}
+use Rattle.core_laws.specs.Agent.TheVariants.{Router}
+use Rattle.core_laws.specs.Tile.{Design}
+use Rattle.core_laws.specs.Agents.{agent_number}
+use Rattle.core_laws.specs.Core.{State, step}
+use Rattle.core_wake.specs.Operations.{wake_places}
 
 -- a choice of tile t's router
 abbrev pub of_router : ℕ → Choice → Step
@@ -42,14 +42,14 @@ is_port (Some end) t port = (end.0 == t) && (end.1 == port)
 -- channel there (this project's own format)
 abbrev pub brings_flit : Design → WordOp → ℕ → ℕ → Bool
 brings_flit d (Store word v) t i =
-    nat_lt word (places_in d) && is_port (input_end d.shape (word / d.depth)) t i
+    nat_lt word (wake_places d) && is_port (input_end d.shape (word / d.depth)) t i
 brings_flit d _ t i = false
 
 -- whether an operation returns a credit to output o of tile t's router: a swap at a place of the
 -- channel there (this project's own format)
 abbrev pub returns_credit : Design → WordOp → ℕ → ℕ → Bool
 returns_credit d (Swap word v) t o =
-    nat_lt word (places_in d) && is_port (output_end d.shape (word / d.depth)) t o
+    nat_lt word (wake_places d) && is_port (output_end d.shape (word / d.depth)) t o
 returns_credit d _ t o = false
 
 -- whether a router's move empties the latch of input i, or fills it: a put empties that of its

@@ -5,11 +5,11 @@ use Rattle.torus.specs.declared.step.Step.{Step}
 use Rattle.torus.specs.declared.step.Choice.{Choice}
 use Rattle.torus.specs.Choices.{processor_choices, router_choices, bank_choices}
 use Rattle.channel_number.specs.Ports.{port_count}
-use Rattle.core_seen.specs.tile_laws.specs.declared.agent.Agent.{Agent}
-use Rattle.core_seen.specs.tile_laws.specs.declared.agent.Agent.TheVariants.{Processor, Router, Bank}
-use Rattle.core_seen.specs.tile_laws.specs.Tile.{Design}
-use Rattle.core_seen.specs.tile_laws.specs.Agents.{agent_kind}
-use Rattle.core_seen.specs.core_laws.specs.Core.{State, step, next, attempts_of}
+use Rattle.core_laws.specs.Agent.{Agent}
+use Rattle.core_laws.specs.Agent.TheVariants.{Processor, Router, Bank}
+use Rattle.core_laws.specs.Tile.{Design}
+use Rattle.core_laws.specs.Agents.{agent_kind}
+use Rattle.core_laws.specs.Core.{State, step, next, attempts_of}
 
 -- no choice of the agent is enabled (this project's own format)
 abbrev pub IsAsleep : Design → State → ℕ → Type 0

@@ -11,11 +11,11 @@ use Rattle.channel_number.specs.Ports.{is_injection, is_ejection, input_router, 
 use Rattle.flit_buffer.specs.Surroundings.{Wiring}
 use Rattle.flit_buffer.specs.declared.want.Want.{Want}
 use Rattle.flit_buffer.specs.declared.want.Want.TheVariants.{Take, Put, Credit, Access, Await}
-use Rattle.core_seen.specs.tile_laws.specs.declared.agent.Agent.{Agent}
-use Rattle.core_seen.specs.tile_laws.specs.declared.agent.Agent.TheVariants.{Processor, Router, Bank}
-use Rattle.core_seen.specs.tile_laws.specs.Tile.{Design}
-use Rattle.core_seen.specs.tile_laws.specs.Agents.{wiring_of, tile_wants, agent_number, agent_kind, agent_tile}
-use Rattle.core_seen.specs.core_laws.specs.Core.{State}
+use Rattle.core_laws.specs.Agent.{Agent}
+use Rattle.core_laws.specs.Agent.TheVariants.{Processor, Router, Bank}
+use Rattle.core_laws.specs.Tile.{Design}
+use Rattle.core_laws.specs.Agents.{wiring_of, tile_wants, agent_number, agent_kind, agent_tile}
+use Rattle.core_laws.specs.Core.{State}
 
 -- the agent that takes the packets of a class out of the network, and the one that sends them into
 -- it (Dally and Towles, chapter 20)

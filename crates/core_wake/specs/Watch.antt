@@ -4,10 +4,10 @@ use Rattle.std.specs.Prelude.{Option, Some, None}
 use Rattle.std.specs.List.{range_with_len}
 use Rattle.torus.specs.Shape.{tiles_of}
 use Rattle.torus.specs.declared.step.Step.{Step}
-use Rattle.core_seen.specs.tile_laws.specs.declared.agent.Agent.TheVariants.{Processor, Router, Bank}
-use Rattle.core_seen.specs.tile_laws.specs.Tile.{Design}
-use Rattle.core_seen.specs.tile_laws.specs.Agents.{agent_number}
-use Rattle.core_seen.specs.core_laws.specs.Core.{State, step}
+use Rattle.core_laws.specs.Agent.TheVariants.{Processor, Router, Bank}
+use Rattle.core_laws.specs.Tile.{Design}
+use Rattle.core_laws.specs.Agents.{agent_number}
+use Rattle.core_laws.specs.Core.{State, step}
 use Rattle.core_wake.specs.Waking.{is_woken}
 use Rattle.core_wake.specs.Sleep.{attempts_at, has_moved}
 

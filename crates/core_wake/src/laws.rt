@@ -7,15 +7,15 @@ ghost use Rattle.torus.specs.declared.step.Step.{Step};
 ghost use Rattle.torus.specs.declared.step.Choice.{Choice};
 ghost use Rattle.torus.specs.declared.step.Choice.TheVariants.{Serve, Put};
 ghost use Rattle.flit_buffer.specs.declared.word_op.WordOp.{WordOp};
-ghost use Rattle.core_seen.specs.tile_laws.specs.declared.agent.Agent.{Agent};
-ghost use Rattle.core_seen.specs.tile_laws.specs.declared.agent.Agent.TheVariants.{Router, Bank};
-ghost use Rattle.core_seen.specs.tile_laws.specs.Tile.{Design};
-ghost use Rattle.core_seen.specs.tile_laws.specs.Agents.{wiring_of, agent_number, agent_kind};
-ghost use Rattle.core_seen.specs.core_laws.specs.Core.{Load, State, design_of, step, after_from};
-ghost use Rattle.core_seen.specs.core_laws.specs.Core.{after, attempts_of, round};
-ghost use Rattle.core_seen.specs.core_laws.specs.Runs.{IsAccepted};
-ghost use Rattle.core_seen.specs.core_row.specs.Attempts.{step_op};
-ghost use Rattle.core_seen.specs.core_machine.specs.Machine.{Core, built_to, core_after};
+ghost use Rattle.core_laws.specs.Agent.{Agent};
+ghost use Rattle.core_laws.specs.Agent.TheVariants.{Router, Bank};
+ghost use Rattle.core_laws.specs.Tile.{Design};
+ghost use Rattle.core_laws.specs.Agents.{wiring_of, agent_number, agent_kind};
+ghost use Rattle.core_laws.specs.Core.{Load, State, design_of, step, after_from};
+ghost use Rattle.core_laws.specs.Core.{after, attempts_of, round};
+ghost use Rattle.core_laws.specs.Runs.{IsAcceptedLoad};
+ghost use Rattle.core_row.specs.Attempts.{step_op};
+ghost use Rattle.core_machine.specs.Machine.{Core, built_to, core_after};
 ghost use Rattle.core_wake.specs.Waking.{receiver_of, sender_of, Disturbs, woken, is_woken};
 ghost use Rattle.core_wake.specs.Sleep.{IsAsleep, OthersSleep, attempts_at, has_moved};
 ghost use Rattle.core_wake.specs.Operations.{woken_by_operation};
@@ -27,7 +27,7 @@ ghost use Rattle.core_wake.specs.Routers.{router_moved, latch_at};
 /// A step leaves the choices of another agent that look at nothing that it changes enabled, or not
 /// enabled, as they were.
 pub fn steps_leave_distant_choices()
-    ensures { (l : Load) → IsAccepted l → (steps : List Step) (attempt other : Step) (next : State)
+    ensures { (l : Load) → IsAcceptedLoad l → (steps : List Step) (attempt other : Step) (next : State)
         → step (design_of l) (after l steps) attempt ≡ Some next → other.agent ≢ attempt.agent
         → (Disturbs (design_of l) (after l steps) attempt other → ⊥)
         → (step (design_of l) next other ≡ None)
@@ -48,15 +48,15 @@ pub fn channels_have_two_agents()
 /// changed, or, where it changed the done word, the processors: every other agent that had no enabled
 /// choice has none after it. A service wakes no other agent.
 pub fn moves_wake_few()
-    ensures disturbed { (l : Load) → IsAccepted l → (steps : List Step) (attempt other : Step)
+    ensures disturbed { (l : Load) → IsAcceptedLoad l → (steps : List Step) (attempt other : Step)
         → Disturbs (design_of l) (after l steps) attempt other
         → is_woken (design_of l) (after l steps) attempt other.agent ≡ true }
-    ensures others { (l : Load) → IsAccepted l
+    ensures others { (l : Load) → IsAcceptedLoad l
         → (steps : List Step) (attempt : Step) (next : State) (agent : ℕ)
         → step (design_of l) (after l steps) attempt ≡ Some next
         → is_woken (design_of l) (after l steps) attempt agent ≡ false
         → IsAsleep (design_of l) (after l steps) agent → IsAsleep (design_of l) next agent }
-    ensures services { (l : Load) → IsAccepted l → (steps : List Step) (agent : ℕ)
+    ensures services { (l : Load) → IsAcceptedLoad l → (steps : List Step) (agent : ℕ)
         → agent_kind agent ≡ Bank
         → woken (design_of l) (after l steps) (record { agent = agent; choice = Serve })
         ≡ agent ∷ [] }
@@ -65,7 +65,7 @@ pub fn moves_wake_few()
 /// The operation of an attempt tells whom it wakes: a swap at a place of a channel its sender, a store
 /// there its receiver, an addition to the done word the processors, and any other nobody.
 pub fn operations_tell_whom_they_wake()
-    ensures { (l : Load) → IsAccepted l → (steps : List Step) (attempt : Step) (op : WordOp)
+    ensures { (l : Load) → IsAcceptedLoad l → (steps : List Step) (attempt : Step) (op : WordOp)
         → step_op (design_of l) (after l steps) attempt ≡ Some op
         → woken (design_of l) (after l steps) attempt
         ≡ attempt.agent ∷ woken_by_operation (design_of l) op }
@@ -92,7 +92,7 @@ pub fn moves_keep_sleepers()
     ensures all { (d : Design) (s : State) → OthersSleep d s (λ agent. true) }
     ensures more { (d : Design) (s : State) (awake more : ℕ → Bool) → OthersSleep d s awake
         → ((agent : ℕ) → more agent ≡ false → awake agent ≡ false) → OthersSleep d s more }
-    ensures kept { (l : Load) → IsAccepted l
+    ensures kept { (l : Load) → IsAcceptedLoad l
         → (steps : List Step) (attempt : Step) (next : State) (awake : ℕ → Bool)
         → OthersSleep (design_of l) (after l steps) awake
         → step (design_of l) (after l steps) attempt ≡ Some next
@@ -103,11 +103,11 @@ pub fn moves_keep_sleepers()
 /// A round that leaves out the agents that aren't awake when their turn comes leads where the round
 /// leads, and all agents but those then awake are asleep there.
 pub fn rounds_may_skip_sleepers()
-    ensures state { (l : Load) → IsAccepted l → (steps : List Step) (awake : ℕ → Bool)
+    ensures state { (l : Load) → IsAcceptedLoad l → (steps : List Step) (awake : ℕ → Bool)
         → OthersSleep (design_of l) (after l steps) awake
         → (round_awake (design_of l) (record { state = after l steps; awake = awake })).state
         ≡ after_from (design_of l) (after l steps) (round l.shape) }
-    ensures awake { (l : Load) → IsAccepted l → (steps : List Step) (awake : ℕ → Bool)
+    ensures awake { (l : Load) → IsAcceptedLoad l → (steps : List Step) (awake : ℕ → Bool)
         → OthersSleep (design_of l) (after l steps) awake
         → OthersSleep (design_of l) (after_from (design_of l) (after l steps) (round l.shape))
         (round_awake (design_of l) (record { state = after l steps; awake = awake })).awake }
@@ -119,13 +119,13 @@ pub fn rounds_may_skip_sleepers()
 /// the take is whose latch it empties, and its puts of full latches that it may free are. A put of an
 /// empty latch isn't enabled. And it hangs on the channels and the routers alone.
 pub fn moves_keep_sleeping_ports()
-    ensures others { (l : Load) → IsAccepted l → (steps : List Step) (attempt : Step) (op : WordOp)
+    ensures others { (l : Load) → IsAcceptedLoad l → (steps : List Step) (attempt : Step) (op : WordOp)
         (next : State) (f : PortFlags) → step_op (design_of l) (after l steps) attempt ≡ Some op
         → step (design_of l) (after l steps) attempt ≡ Some next
         → ((t : ℕ) → agent_number t Router ≢ attempt.agent)
         → OtherPortsSleep (design_of l) (after l steps) f
         → OtherPortsSleep (design_of l) next (ports_woken (design_of l) op f) }
-    ensures routers { (l : Load) → IsAccepted l → (steps : List Step) (t : ℕ) (choice : Choice)
+    ensures routers { (l : Load) → IsAcceptedLoad l → (steps : List Step) (t : ℕ) (choice : Choice)
         (op : WordOp) (next : State) (f : PortFlags)
         → step_op (design_of l) (after l steps) (of_router t choice) ≡ Some op
         → step (design_of l) (after l steps) (of_router t choice) ≡ Some next
@@ -144,13 +144,13 @@ pub fn moves_keep_sleeping_ports()
 /// an agent of which none is counted is asleep.
 pub fn moves_keep_sleeping_choices()
     ensures all { (d : Design) (s : State) → OtherChoicesSleep d s (λ agent choice. true) }
-    ensures kept { (l : Load) → IsAccepted l → (steps : List Step) (attempt : Step) (op : WordOp)
+    ensures kept { (l : Load) → IsAcceptedLoad l → (steps : List Step) (attempt : Step) (op : WordOp)
         (next : State) (awake : ℕ → Choice → Bool)
         → step_op (design_of l) (after l steps) attempt ≡ Some op
         → step (design_of l) (after l steps) attempt ≡ Some next
         → OtherChoicesSleep (design_of l) (after l steps) awake
         → OtherChoicesSleep (design_of l) next (choices_woken (design_of l) attempt.agent op awake) }
-    ensures enabled { (l : Load) → IsAccepted l → (steps : List Step) (attempt other : Step) (op : WordOp)
+    ensures enabled { (l : Load) → IsAcceptedLoad l → (steps : List Step) (attempt other : Step) (op : WordOp)
         → step_op (design_of l) (after l steps) attempt ≡ Some op
         → Disturbs (design_of l) (after l steps) attempt other → can_enable op other.choice ≡ true }
     ensures agents { (d : Design) (s : State) (awake : ℕ → Choice → Bool) (agent : ℕ)

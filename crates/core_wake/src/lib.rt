@@ -3,4 +3,4 @@
 
 pub mod laws;
 
-pub use core_seen::{Agent, TileAgents, agent_kind, agent_number, agent_tile};
+pub use core_row::{Agent, TileAgents, agent_kind, agent_number, agent_tile};

@@ -12,11 +12,11 @@ use Rattle.torus.specs.Shape.{Shape, tiles_of}
 use Rattle.torus.specs.declared.step.Step.{Step}
 use Rattle.channel_number.specs.Order.{channel_count}
 use Rattle.one_order.specs.Observed.{Observed}
-use Rattle.fabric_rule.specs.tile.specs.Placed.{PlacedTile}
-use Rattle.fabric_rule.specs.core_laws.specs.Core.{Load, after, show}
-use Rattle.fabric_rule.specs.core_laws.specs.Runs.{IsAccepted}
-use Rattle.fabric_rule.specs.core_machine.proofs.Lawful.{lawful}
-use Rattle.fabric_rule.specs.Known.{Shows, word_after, row_length}
+use Rattle.fabric_rule.specs.Placed.{PlacedTile}
+use Rattle.fabric_rule.specs.Core.{Load, after, show}
+use Rattle.fabric_rule.specs.Runs.{IsAcceptedLoad}
+use Rattle.fabric_rule.proofs.Lawful.{lawful}
+use Rattle.fabric_rule.specs.Known.{ShowsBeginning, word_after, row_length}
 use Rattle.fabric_rule.specs.View.{View}
 use Rattle.fabric_rule.specs.Groups.{In, with_groups, note}
 use Rattle.fabric_rule.specs.Rule.{Kept}
@@ -43,12 +43,12 @@ longest k whole words views r id other v u kept at same tiles there =
 -- the row at the end, shown by the table's last state, where the seat has every tile
 whole_row : (load : Load) (slots : List (Option PlacedTile)) (s n : S) (st : State (Unit {0}) View) → Seated slots s → s.me.0.load ≡ load
     → n.me.0 ≡ with_groups s.me.0 s.me.0.groups → IsWhole (seat_knows s)
-    → Holds load st → get_elem? st.views n.id ≡ some n.me.0 → Shows s.me.0.load st.words s.me.0.run
+    → Holds load st → get_elem? st.views n.id ≡ some n.me.0 → ShowsBeginning s.me.0.load st.words s.me.0.run
 whole_row load slots s n st k same e whole h at =
     let all : (t : ℕ) → t < tiles_of load.shape → In n.me.0.groups t
     = λ t lt. subst (λ (v : View). In v.groups t) (sym e)
     (in_group s.me.0.groups t k.one_group (whole t (subst (λ (l : Load). t < tiles_of l.shape) (sym same) lt))) in
-    subst (λ (l : Load). Shows l st.words s.me.0.run) (sym same) (subst (λ (v : View). Shows load st.words v.run) e (ends load n.id n.me.0 st h at all))
+    subst (λ (l : Load). ShowsBeginning l st.words s.me.0.run) (sym same) (subst (λ (v : View). ShowsBeginning load st.words v.run) e (ends load n.id n.me.0 st h at all))
 
 -- what is kept when a seat that has every tile is closed: n is the seat then, and b a seat that was told of its run
 pub is_end : (load : Load) (slots : List (Option PlacedTile)) (s n b : S) (st : State (Unit {0}) View) (v : Knowing) (start : ℕ) (shape : Shape)
@@ -124,12 +124,12 @@ elem_index (x ∷ l) zero a e = sym (some-injective x a e)
 elem_index (x ∷ l) (suc i) a e = elem_index l i a e
 
 -- the memory that is shown stands in the row behind the places
-memory_count : (load : Load) (run : List Step) → IsAccepted load → length (shown_after load run).memory ≡ length load.opening
+memory_count : (load : Load) (run : List Step) → IsAcceptedLoad load → length (shown_after load run).memory ≡ length load.opening
 memory_count load run ok =
     subst (λ (s : Observed). length s.memory ≡ length load.opening) (ap (λ (xs : List Step). show (length load.opening) (after load xs)) (take-length run))
     (lawful load ok run).order.shown.size
 
-pub word_at : (load : Load) (run : List Step) (row : List ℕ) (start a n : ℕ) → IsAccepted load → Shows load row run
+pub word_at : (load : Load) (run : List Step) (row : List ℕ) (start a n : ℕ) → IsAcceptedLoad load → ShowsBeginning load row run
     → start ≡ channel_count load.shape * load.depth → a < length load.opening → get_elem? row (start + a) ≡ some n
     → Some n ≡ slice_get (shown_after load run).memory a
 unfolding word_after
@@ -140,7 +140,7 @@ word_at load run row start a n ok shows base h at =
     ∙ (word_shown load ok row run shows a ∙ sym (get_or-take (length load.opening) (after load run).around.words a 0 h))))
     ∙ sym (slice_get-get_or (shown_after load run).memory a 0 (omega (arith, m, h)))
 
-pub no_word_at : (load : Load) (run : List Step) (a : ℕ) → IsAccepted load → length load.opening ≤ a → None ≡ slice_get (shown_after load run).memory a
+pub no_word_at : (load : Load) (run : List Step) (a : ℕ) → IsAcceptedLoad load → length load.opening ≤ a → None ≡ slice_get (shown_after load run).memory a
 no_word_at load run a ok h = sym (slice_get_past (shown_after load run).memory a (let m = memory_count load run ok in omega (arith, m, h)))
 
 -- the words that were loaded, in a vector

@@ -8,15 +8,15 @@ use Rattle.std.proofs.lemmas.Option.{same_Some, slice_get-map, slice_get_past, s
 use Rattle.atomic_table.specs.declared.shared.Seat.{Seat}
 use Rattle.torus.specs.Shape.{tiles_of}
 use Rattle.torus.specs.declared.step.Step.{Step}
-use Rattle.fabric_rule.specs.script_follower.specs.Following.{is_finished}
-use Rattle.fabric_rule.specs.script_follower.specs.ProcessorRecord.{ProcessorRecord}
-use Rattle.fabric_rule.specs.tile_laws.specs.Tile.{TileState}
-use Rattle.fabric_rule.specs.tile_laws.specs.Agents.{TilePlace, tile_placed}
-use Rattle.fabric_rule.specs.tile.specs.Placed.{PlacedTile}
-use Rattle.fabric_rule.specs.core_laws.specs.Core.{Load, design_of, after, records_of}
-use Rattle.fabric_rule.specs.core_laws.specs.Runs.{IsAccepted}
-use Rattle.fabric_rule.specs.core_row.proofs.Reached.{tiles_there, all_steps}
-use Rattle.fabric_rule.specs.core_machine.specs.Machine.{all_finished}
+use Rattle.script_follower.specs.Following.{is_finished}
+use Rattle.script_follower.specs.ProcessorRecord.{ProcessorRecord}
+use Rattle.tile_laws.specs.Tile.{TileState}
+use Rattle.tile_laws.specs.Agents.{TilePlace, tile_placed}
+use Rattle.fabric_rule.specs.Placed.{PlacedTile}
+use Rattle.fabric_rule.specs.Core.{Load, design_of, after, records_of}
+use Rattle.fabric_rule.specs.Runs.{IsAcceptedLoad}
+use Rattle.fabric_rule.proofs.RowOfRuns.{tiles_there, all_steps}
+use Rattle.fabric_rule.specs.Machine.{all_finished}
 use Rattle.fabric_rule.specs.Known.{known}
 use Rattle.fabric_rule.specs.View.{View}
 use Rattle.fabric_rule.specs.Groups.{Owns}
@@ -66,17 +66,17 @@ entries_known load run t p e =
     slice_get-map (λ (s : TileState). s.bank.entries) (after load run).tiles t
     ∙ (ap (option_map (λ (s : TileState). s.bank.entries)) k.there ∙ ap (λ (q : TilePlace). Some q.bank.state.entries) (sym k.placed))
 
-tile_count : (load : Load) (run : List Step) → IsAccepted load → length (after load run).tiles ≡ tiles_of load.shape
+tile_count : (load : Load) (run : List Step) → IsAcceptedLoad load → length (after load run).tiles ≡ tiles_of load.shape
 tile_count load run ok = subst (λ s. length s.tiles ≡ tiles_of load.shape) (all_steps load run) (tiles_there load ok run (length run))
 
 -- and of no tile
-pub no_answers : (load : Load) (run : List Step) (t : ℕ) → IsAccepted load → tiles_of load.shape ≤ t → slice_get (shown_after load run).answers t ≡ None
+pub no_answers : (load : Load) (run : List Step) (t : ℕ) → IsAcceptedLoad load → tiles_of load.shape ≤ t → slice_get (shown_after load run).answers t ≡ None
 no_answers load run t ok past =
     let n = tile_count load run ok in
     slice_get-map (λ (b : ProcessorRecord). b.answers) (records_of (after load run)) t
     ∙ ap (option_map (λ (b : ProcessorRecord). b.answers)) (record_at load run t None (slice_get_past (after load run).tiles t (omega (arith, n, past))))
 
-pub no_entries : (load : Load) (run : List Step) (t : ℕ) → IsAccepted load → tiles_of load.shape ≤ t → slice_get (shown_after load run).entries t ≡ None
+pub no_entries : (load : Load) (run : List Step) (t : ℕ) → IsAcceptedLoad load → tiles_of load.shape ≤ t → slice_get (shown_after load run).entries t ≡ None
 no_entries load run t ok past =
     let n = tile_count load run ok in
     slice_get-map (λ (s : TileState). s.bank.entries) (after load run).tiles t
@@ -129,7 +129,7 @@ module _ (slots : List (Option PlacedTile)) (s : S) (v : Knowing) (is : seat_kno
   unowned t none o = let p = owned_slot t o in none p.0 p.1
 
 -- whether all scripts are finished, told by the slots
-pub finished_slots : (slots : List (Option PlacedTile)) (load : Load) (run : List Step) → IsAccepted load → HasAll slots load run
+pub finished_slots : (slots : List (Option PlacedTile)) (load : Load) (run : List Step) → IsAcceptedLoad load → HasAll slots load run
     → all_finished (after load run) ≡ list_all slot_finished slots
 finished_slots slots load run ok all =
     list_all-map (λ (b : ProcessorRecord). is_finished b.following) (λ (s : TileState). s.processor.operations) (after load run).tiles

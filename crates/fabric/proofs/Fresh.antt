@@ -10,14 +10,14 @@ use Rattle.atomic_table.specs.declared.shared.Seat.{Seat}
 use Rattle.torus.specs.Shape.{tiles_of}
 use Rattle.torus.specs.declared.step.Step.{Step}
 use Rattle.channel_number.specs.Order.{channel_count}
-use Rattle.fabric_rule.specs.tile.specs.Placed.{PlacedTile}
-use Rattle.fabric_rule.specs.core_laws.specs.Core.{Load, design_of, after}
-use Rattle.fabric_rule.specs.core_laws.specs.Runs.{IsAccepted}
-use Rattle.fabric_rule.specs.core_row.proofs.Reached.{at_most}
-use Rattle.fabric_rule.specs.core_machine.specs.Machine.{Core, IsAfter}
-use Rattle.fabric_rule.specs.core_seen.specs.Seen.{IsShown}
+use Rattle.fabric_rule.specs.Placed.{PlacedTile}
+use Rattle.fabric_rule.specs.Core.{Load, design_of, after}
+use Rattle.fabric_rule.specs.Runs.{IsAcceptedLoad}
+use Rattle.fabric_rule.proofs.RowOfRuns.{at_most}
+use Rattle.fabric_rule.specs.Machine.{Core, IsAfter}
+use Rattle.fabric_rule.specs.Seen.{IsShown}
 use Rattle.machine_core.specs.Inside.{HaveRoom}
-use Rattle.fabric_rule.specs.Known.{Shows, known, row_length}
+use Rattle.fabric_rule.specs.Known.{ShowsBeginning, known, row_length}
 use Rattle.fabric_rule.specs.View.{View}
 use Rattle.fabric_rule.specs.Groups.{first_group, first_half, with_groups}
 use Rattle.fabric_rule.proofs.Runs.{row_size}
@@ -60,7 +60,7 @@ placed_half s z gs table held e p = record {
   quiet = ap (λ (v : View). v.told) e;
   no_slot = held;
   words = ap (λ k. k.words) table ∙ p.words ∙ ap (λ (v : View). row_length v.load) (sym e);
-  accepted = subst IsAccepted (ap (λ (v : View). v.load) (sym e)) p.accepted;
+  accepted = subst IsAcceptedLoad (ap (λ (v : View). v.load) (sym e)) p.accepted;
 }
 
 pub rest_half : (z : TableId) (s q : S) (gs : List (List ℕ)) → HasRest z s.me.0.load s.me.0.groups s → q.table_id ≡ s.table_id → q.me.1 ≡ []
@@ -111,8 +111,8 @@ known_first load row tiles shown t x at =
     sym (shown.tiles t) ∙ (slice_get-map (λ (v : PlacedTile). v.place) tiles t ∙ ap (option_map (λ (v : PlacedTile). v.place)) at)
 
 shows_first : (load : Load) (row : List ℕ) (tiles : List PlacedTile) → IsShown (design_of load) (after load []) (map (λ v. v.place) tiles) row
-    → Shows load row []
-unfolding Shows
+    → ShowsBeginning load row []
+unfolding ShowsBeginning
 shows_first load row tiles shown = shown.row_is
 
 pub is_fresh : (load : Load) (c : Core) (row : List ℕ) (tiles : List PlacedTile) → IsAfter load c [] → length tiles ≡ tiles_of c.shape
@@ -125,10 +125,10 @@ is_fresh load c row tiles k count shown rooms = record {
 }
 
 -- the table at first, and its first seat
-pub holds_first : (k : Opening) (row : List ℕ) → Shows k.load row [] → Rises 0 k.cuts (tiles_of k.load.shape) → Holds k.load (opening row [] (first_view k))
+pub holds_first : (k : Opening) (row : List ℕ) → ShowsBeginning k.load row [] → Rises 0 k.cuts (tiles_of k.load.shape) → Holds k.load (opening row [] (first_view k))
 holds_first k row shown r = begins k.load row (first_view k) shown refl refl refl (ranges_apart 0 k.cuts (tiles_of k.load.shape) r)
 
-pub first_seat : (k : Opening) (row : List ℕ) (z : TableId) (s : S) → IsAccepted k.load → Shows k.load row [] → s.table_id ≡ z → z.words ≡ length row
+pub first_seat : (k : Opening) (row : List ℕ) (z : TableId) (s : S) → IsAcceptedLoad k.load → ShowsBeginning k.load row [] → s.table_id ≡ z → z.words ≡ length row
     → s.me ≡ (first_view k, [])
     → HasRest z s.me.0.load (ranges 0 k.cuts (tiles_of k.load.shape)) s × (0 < z.words)
 first_seat k row z s accepted shown table words me =
@@ -141,7 +141,7 @@ first_seat k row z s accepted shown table words me =
           quiet = ap (λ (v : View). v.told) e;
           no_slot = ap (λ m. m.1) me;
           words = ap (λ i. i.words) table ∙ words ∙ n ∙ ap (λ (v : View). row_length v.load) (sym e);
-          accepted = subst IsAccepted (ap (λ (v : View). v.load) (sym e)) accepted;
+          accepted = subst IsAcceptedLoad (ap (λ (v : View). v.load) (sym e)) accepted;
         };
         loaded = refl;
         run = ap (λ (v : View). v.run) e;
@@ -157,8 +157,8 @@ rest_at k row tiles all s fresh me e =
     (subst (λ (a : List (Option PlacedTile)). Rest k.load a 0) (sym e) (rest_first k.load row tiles fresh))
 
 -- the row is short
-pub base_short : (load : Load) → IsAccepted load → (row : List ℕ) → Shows load row [] → channel_count load.shape * load.depth + length load.opening < 2 ^ 32
-unfolding Shows
+pub base_short : (load : Load) → IsAcceptedLoad load → (row : List ℕ) → ShowsBeginning load row [] → channel_count load.shape * load.depth + length load.opening < 2 ^ 32
+unfolding ShowsBeginning
 base_short load ok row shown =
     let few : length row ≤ 79873 = subst (λ (xs : List ℕ). length xs ≤ 79873) (sym shown) (at_most load ok [] 0) in
     let size : length row ≡ channel_count load.shape * load.depth + (length load.opening + 1) = row_size load ok row [] shown in
@@ -177,5 +177,5 @@ rises_as k o cuts c e same h rise =
     subst (λ (x : Opening). Rises 0 x.cuts (tiles_of x.load.shape)) (sym e)
     (subst (λ (n : ℕ). Rises 0 o.cuts n) (ap tiles_of h.shape) (subst (λ (xs : List ℕ). Rises 0 xs (tiles_of c.shape)) (sym same) rise))
 
-pub shows_as : (load : Load) (row found : List ℕ) → found ≡ row → Shows load row [] → Shows load found []
-shows_as load row found e shown = subst (λ (xs : List ℕ). Shows load xs []) (sym e) shown
+pub shows_as : (load : Load) (row found : List ℕ) → found ≡ row → ShowsBeginning load row [] → ShowsBeginning load found []
+shows_as load row found e shown = subst (λ (xs : List ℕ). ShowsBeginning load xs []) (sym e) shown

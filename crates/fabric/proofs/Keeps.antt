@@ -10,13 +10,13 @@ use Rattle.packet.specs.Memory.{new_word}
 use Rattle.flit_buffer.specs.Words.{word_of, effect_of}
 use Rattle.flit_buffer.specs.declared.word_op.WordOp.{WordOp}
 use Rattle.flit_buffer.specs.declared.word_op.WordOp.TheVariants.{Load as Read, Store, Swap, Cas, Add, And, Or, Xor, Max, Min}
-use Rattle.fabric_rule.specs.tile_laws.specs.Agents.{TilePlace}
-use Rattle.fabric_rule.specs.core_laws.specs.Core.{Load}
-use Rattle.fabric_rule.specs.core_laws.specs.Runs.{IsAccepted}
-use Rattle.fabric_rule.specs.Known.{tile_of, known, Shows, op_of, moves}
+use Rattle.tile_laws.specs.Agents.{TilePlace}
+use Rattle.fabric_rule.specs.Core.{Load}
+use Rattle.fabric_rule.specs.Runs.{IsAcceptedLoad}
+use Rattle.fabric_rule.specs.Known.{tile_of, known, ShowsBeginning, op_of, moves}
 use Rattle.fabric_rule.specs.Told.{grown, made}
 use Rattle.fabric_rule.specs.View.{View}
-use Rattle.fabric_rule.specs.Groups.{In, Told, knowing}
+use Rattle.fabric_rule.specs.Groups.{In, ToldOfGroup, knowing}
 use Rattle.fabric_rule.specs.Rule.{Kept, Attempted, Looked}
 use Rattle.fabric_rule.proofs.Stores.{blind_moves, blind_left, blind_suits}
 use Rattle.fabric_rule.proofs.Growing.{kept_grow}
@@ -25,7 +25,7 @@ use Rattle.fabric.specs.Table.{Holds, attempted}
 
 -- an operation on a word, which is a step of the seat's own tile
 module _ (load : Load) (slots id : ℕ) (me : Me (Unit {0}) View) (c : Step) (x : TilePlace) (o : WordOp) (f : ℕ → ℕ)
-    (accepted : IsAccepted me.0.load) (live : me.0.live ≡ true) (quiet : me.0.told ≡ []) (mine : In me.0.groups (tile_of c))
+    (accepted : IsAcceptedLoad me.0.load) (live : me.0.live ≡ true) (quiet : me.0.told ≡ []) (mine : In me.0.groups (tile_of c))
     (here : known me.0.load me.0.run (tile_of c) ≡ Some x) (op : op_of x c ≡ Some o)
     (same : (n : ℕ) → f n ≡ new_word (effect_of o) n) where
   pub steps_on : (told : ℕ → Me (Unit {0}) View → Type 0) → ((n : ℕ) (m : Me (Unit {0}) View) → Attempted c x me.0 n m.0 → m.1 ≡ me.1 → told n m)
@@ -33,7 +33,7 @@ module _ (load : Load) (slots id : ℕ) (me : Me (Unit {0}) View) (c : Step) (x 
   steps_on told tells s h _ at small =
       let fit = h.1.fits id me.0 at in
       let loaded : me.0.load ≡ load = fit.same_load live in
-      let good : IsAccepted load = subst (λ (l : Load). IsAccepted l) loaded accepted in
+      let good : IsAcceptedLoad load = subst (λ (l : Load). IsAcceptedLoad l) loaded accepted in
       let n : ℕ = slice_index s.words (word_of o) in
       let more : List Step = made (moves x c n) c in
       let w : View = knowing me.0 (h.0 ++ more) in
@@ -58,10 +58,10 @@ blind c x w a n m v u op t = let e : moves x c n ≡ moves x c m = blind_moves x
 
 -- by a seat that still knows v
 module _ (load : Load) (slots id : ℕ) (me : Me (Unit {0}) View) (c : Step) (x : TilePlace) (v : View) (turning : me.0 ≡ v)
-    (accepted' : IsAccepted v.load) (live' : v.live ≡ true) (quiet' : v.told ≡ []) (mine' : In v.groups (tile_of c))
+    (accepted' : IsAcceptedLoad v.load) (live' : v.live ≡ true) (quiet' : v.told ≡ []) (mine' : In v.groups (tile_of c))
     (here' : known v.load v.run (tile_of c) ≡ Some x) where
-  accepted : IsAccepted me.0.load
-  accepted = subst (λ (u : View). IsAccepted u.load) (sym turning) accepted'
+  accepted : IsAcceptedLoad me.0.load
+  accepted = subst (λ (u : View). IsAcceptedLoad u.load) (sym turning) accepted'
 
   live : me.0.live ≡ true
   live = ap (λ (u : View). u.live) turning ∙ live'
@@ -126,9 +126,9 @@ looks load slots id i me live quiet s h _ at small =
     let n : ℕ = slice_index s.words i in
     let w : View = knowing me.0 (h.0 ++ []) in
     let same : set s.words i n ≡ s.words = set-get_or s.words i 0 in
-    let here : Shows load s.words (h.0 ++ []) = subst (λ (l : List Step). Shows load s.words l) (sym (append-nil h.0)) h.1.shown in
-    let kept = kept_grow load s.words (set s.words i n) s.views h.0 [] id me.0 w h.1 at (subst (λ (l : List ℕ). Shows load l (h.0 ++ [])) (sym same) here) tt tt
-    refl fit.same_load (λ t i. i) fit.apart (subst (Told (h.0 ++ []) me.0.groups) (sym quiet) tt) in (
+    let here : ShowsBeginning load s.words (h.0 ++ []) = subst (λ (l : List Step). ShowsBeginning load s.words l) (sym (append-nil h.0)) h.1.shown in
+    let kept = kept_grow load s.words (set s.words i n) s.views h.0 [] id me.0 w h.1 at (subst (λ (l : List ℕ). ShowsBeginning load l (h.0 ++ [])) (sym same) here) tt tt
+    refl fit.same_load (λ t i. i) fit.apart (subst (ToldOfGroup (h.0 ++ []) me.0.groups) (sym quiet) tt) in (
       w,
       keeps,
       tt,
@@ -138,7 +138,7 @@ looks load slots id i me live quiet s h _ at small =
           between = fit.begins.0;
           others = fit.begins.2;
           view = ap (knowing me.0) (append-nil h.0 ∙ fit.begins.1);
-          row = (s.words, subst (λ (l : Load). Shows l s.words (h.0 ++ [])) (sym (fit.same_load live)) here, refl);
+          row = (s.words, subst (λ (l : Load). ShowsBeginning l s.words (h.0 ++ [])) (sym (fit.same_load live)) here, refl);
         },
         refl,
       ),

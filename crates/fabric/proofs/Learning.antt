@@ -4,12 +4,12 @@ use Rattle.std.specs.Prelude.{slice_get}
 use Rattle.std.proofs.lemmas.List.{append-nil}
 use Rattle.atomic_table.specs.declared.shared.Seat.{Seat}
 use Rattle.torus.specs.declared.step.Step.{Step}
-use Rattle.fabric_rule.specs.tile.specs.Placed.{PlacedTile}
-use Rattle.fabric_rule.specs.core_laws.specs.Core.{Load}
-use Rattle.fabric_rule.specs.core_laws.specs.Runs.{IsAccepted}
+use Rattle.fabric_rule.specs.Placed.{PlacedTile}
+use Rattle.fabric_rule.specs.Core.{Load}
+use Rattle.fabric_rule.specs.Runs.{IsAcceptedLoad}
 use Rattle.fabric_rule.specs.Known.{tile_of, known, row_length}
 use Rattle.fabric_rule.specs.View.{View}
-use Rattle.fabric_rule.specs.Groups.{Owns, In, Others, GoesOn, Extends, flat, first_group, other_groups, with_groups, first_half, second_half, both, knowing}
+use Rattle.fabric_rule.specs.Groups.{Owns, In, Others, GroupGoesOn, Extends, flat, first_group, other_groups, with_groups, first_half, second_half, both, knowing}
 use Rattle.fabric_rule.specs.Rule.{Learned}
 use Rattle.fabric_rule.proofs.Groups.{away, owns_append, owns_left, owns_right}
 use Rattle.fabric_rule.proofs.Runs.{known_away}
@@ -29,10 +29,10 @@ placed_on s z run on p = record {
   quiet = ap (λ (v : View). v.told) on.2;
   no_slot = on.1;
   words = ap (λ k. k.words) on.0 ∙ p.words ∙ ap (λ (v : View). row_length v.load) (sym on.2);
-  accepted = subst (λ (l : Load). IsAccepted l) (ap (λ (v : View). v.load) (sym on.2)) p.accepted;
+  accepted = subst (λ (l : Load). IsAcceptedLoad l) (ap (λ (v : View). v.load) (sym on.2)) p.accepted;
 }
 
-pub seated_on : (slots : List (Option PlacedTile)) (s z : S) (run : List Step) → IsOn s run z → GoesOn s.me.0.groups run s.me.0.run → Seated slots s
+pub seated_on : (slots : List (Option PlacedTile)) (s z : S) (run : List Step) → IsOn s run z → GroupGoesOn s.me.0.groups run s.me.0.run → Seated slots s
     → Seated slots z
 seated_on slots s z run on go k =
     let p = k.placed in
@@ -54,10 +54,10 @@ knows_on s z run on = λ i. record { table = on.0 i; load = (on.2 i).load; run =
 
 -- what was learned, of both
 module _ (v w z : View) (gs : List (List ℕ)) (l : Learned (both v w) gs z) where
-  pub from_one : GoesOn v.groups z.run v.run
+  pub from_one : GroupGoesOn v.groups z.run v.run
   from_one = l.told.0
 
-  pub from_other : GoesOn w.groups z.run w.run
+  pub from_other : GroupGoesOn w.groups z.run w.run
   from_other = l.told.2.0
 
 pub learned_at : (u v z : View) → u ≡ v → Learned u u.groups z → Learned v v.groups z
@@ -85,23 +85,23 @@ bare_others (st ∷ more) = (none, bare_others more)
     none (inl o) = o
     none (inr i) = i
 
-pub bare_goes : (gs : List (List ℕ)) (r a : List Step) → gs ≡ [] → GoesOn gs r a → GoesOn (first_group gs ∷ []) r a
+pub bare_goes : (gs : List (List ℕ)) (r a : List Step) → gs ≡ [] → GroupGoesOn gs r a → GroupGoesOn (first_group gs ∷ []) r a
 bare_goes gs r a none go = (go.0, go.1, subst (λ (h : List (List ℕ)). Others (first_group h ∷ []) go.0) (sym none) (bare_others go.0))
 
 pub learns_said : (s o z : S) (v u : Knowing) → seat_knows s ≡ v → seat_knows o ≡ u → seat_knows z ≡ with_run (seat_knows s) z.me.0.run
-    → GoesOn (first_group s.me.0.groups ∷ []) z.me.0.run s.me.0.run → Extends z.me.0.run o.me.0.run → Learns v u (seat_knows z)
+    → GroupGoesOn (first_group s.me.0.groups ∷ []) z.me.0.run s.me.0.run → Extends z.me.0.run o.me.0.run → Learns v u (seat_knows z)
 learns_said s o z v u e f known go begins =
     subst (λ (k : Knowing). Learns k u (seat_knows z)) e (subst (λ (k : Knowing). Learns (seat_knows s) k (seat_knows z)) f (known, go, begins))
 
 -- what a seat learned that was put together with another
 pub learns_on : (s o z : S) (v u : Knowing) (run : List Step) (gs : List (List ℕ)) → IsOn s run z → seat_knows s ≡ v → seat_knows o ≡ u
     → s.me.0.groups ≡ first_group s.me.0.groups ∷ []
-    → GoesOn s.me.0.groups run s.me.0.run → GoesOn gs run o.me.0.run → Learns v u (seat_knows z)
+    → GroupGoesOn s.me.0.groups run s.me.0.run → GroupGoesOn gs run o.me.0.run → Learns v u (seat_knows z)
 learns_on s o z v u run gs on e f one own other =
     let same : z.me.0.run ≡ run = ap (λ (x : View). x.run) on.2 in
     learns_said s o z v u e f (knows_on s z run on ∙ ap (with_run (seat_knows s)) (sym same))
-    (subst (λ (l : List Step). GoesOn (first_group s.me.0.groups ∷ []) l s.me.0.run) (sym same)
-    (subst (λ (hs : List (List ℕ)). GoesOn hs run s.me.0.run) one own))
+    (subst (λ (l : List Step). GroupGoesOn (first_group s.me.0.groups ∷ []) l s.me.0.run) (sym same)
+    (subst (λ (hs : List (List ℕ)). GroupGoesOn hs run s.me.0.run) one own))
     (subst (λ (l : List Step). Extends l o.me.0.run) (sym same) (other.0, other.1))
 
 -- of two beginnings of one list, one begins with the other
@@ -140,7 +140,7 @@ tied_mix one other slots load run a b k m len at = record {
       (owns_append a b t o);
 }
 
-grown_tied : (slots : List (Option PlacedTile)) (s : S) (run : List Step) → GoesOn s.me.0.groups run s.me.0.run → Seated slots s
+grown_tied : (slots : List (Option PlacedTile)) (s : S) (run : List Step) → GroupGoesOn s.me.0.groups run s.me.0.run → Seated slots s
     → Tied slots s.me.0.load run (first_group s.me.0.groups)
 grown_tied slots s run go k = let p = k.placed in subst (λ (l : List Step). Tied slots s.me.0.load l (first_group s.me.0.groups)) (sym go.1)
     (tied_grow slots s.me.0.load s.me.0.run (s.me.0.run ++ go.0) (first_group s.me.0.groups) k.tied
@@ -163,7 +163,7 @@ seated_joined one other slots s o z k m same l table held len at =
         quiet = ap (λ (v : View). v.told) l.view;
         no_slot = held;
         words = ap (λ x. x.words) table ∙ p.words ∙ ap (λ (v : View). row_length v.load) (sym l.view);
-        accepted = subst (λ (x : Load). IsAccepted x) (ap (λ (v : View). v.load) (sym l.view)) p.accepted;
+        accepted = subst (λ (x : Load). IsAcceptedLoad x) (ap (λ (v : View). v.load) (sym l.view)) p.accepted;
       };
       one_group = subst (λ (v : View). v.groups ≡ first_group v.groups ∷ []) (sym l.view) refl;
       tied = subst (λ (v : View). Tied slots v.load v.run (first_group v.groups)) (sym l.view)

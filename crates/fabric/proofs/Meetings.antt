@@ -10,19 +10,19 @@ use Rattle.one_order.specs.Order.{LinearizationPoint, IsLegalOrder, StandsBefore
 use Rattle.one_order.specs.Growth.{OnlyGrows}
 use Rattle.one_order.proofs.Growth.{kept_along, length_kept}
 use Rattle.one_order.proofs.EventNumbers.{real_time}
-use Rattle.fabric_rule.specs.core_laws.specs.Core.{Load, after, show, run_of}
-use Rattle.fabric_rule.specs.core_laws.specs.Runs.{IsAccepted}
-use Rattle.fabric_rule.specs.core_machine.proofs.Lawful.{lawful}
+use Rattle.fabric_rule.specs.Core.{Load, after, show, run_of}
+use Rattle.fabric_rule.specs.Runs.{IsAcceptedLoad}
+use Rattle.fabric_rule.proofs.Lawful.{lawful}
 use Rattle.fabric_rule.specs.Groups.{Extends}
 use Rattle.fabric_rule.specs.View.{View}
 use Rattle.fabric.specs.Seats.{Knowing, seat_knows, Learns, JoinsTo}
 use Rattle.fabric.specs.Ending.{shown_after}
 use Rattle.fabric.specs.Lawful.{HasLawfulRun, IsAnsweredIn, KeepsAnswersFirst, KeepsBothFirst}
 
-pub every_run : (load : Load) (run : List Step) → IsAccepted load → HasLawfulRun load run
+pub every_run : (load : Load) (run : List Step) → IsAcceptedLoad load → HasLawfulRun load run
 every_run load run ok = record { accepted = ok; lawful = lawful load ok run }
 
-only_grows : (load : Load) (run : List Step) → IsAccepted load → OnlyGrows load.opening (run_of load run) (length run)
+only_grows : (load : Load) (run : List Step) → IsAcceptedLoad load → OnlyGrows load.opening (run_of load run) (length run)
 only_grows load run ok = (lawful load ok run).order.grows
 
 -- what is shown at the end of the first steps
@@ -55,7 +55,7 @@ module _ (opening : List ℕ) (run : Run) (n m : ℕ) (order : List Linearizatio
       (λ (soon : u ≤ m). absurd (new (issue_stays opening run n grows u m soon le y.source y.index issue.issued.holds))) (cases_lt m u) in
       real_time opening run n order legal grows p i k y there (t, u, answered, issue.issued, omega (arith, early, late))
 
-pub known_first : (load : Load) (run : List Step) → IsAccepted load → KeepsAnswersFirst load run
+pub known_first : (load : Load) (run : List Step) → IsAcceptedLoad load → KeepsAnswersFirst load run
 known_first load run ok later order begins legal k p i y there new old =
     let rest : List Step = begins.0 in
     let whole : later ≡ run ++ rest = begins.1 in
@@ -66,7 +66,7 @@ known_first load run ok later order begins legal k p i y there new old =
     (subst (λ (s : Observed). HasAnswered s p i) (sym shown) old)
 
 -- what is answered in a run is answered in each that goes on from it
-answered_on : (load : Load) (run later : List Step) (p i : ℕ) → IsAccepted load → Extends later run → IsAnsweredIn load run p i → IsAnsweredIn load later p i
+answered_on : (load : Load) (run later : List Step) (p i : ℕ) → IsAcceptedLoad load → Extends later run → IsAnsweredIn load run p i → IsAnsweredIn load later p i
 answered_on load run later p i ok begins old =
     let rest : List Step = begins.0 in
     let whole : later ≡ run ++ rest = begins.1 in
@@ -80,38 +80,38 @@ answered_on load run later p i ok begins old =
     subst (λ (s : Observed). HasAnswered s p i) last (here.0, here.1, there, here.3)
 
 -- and so for a seat that knows what either knew
-told_both : (v u w : Knowing) (p i : ℕ) → IsAccepted v.load → u.load ≡ v.load → w.load ≡ v.load → Extends w.run v.run → Extends w.run u.run
+told_both : (v u w : Knowing) (p i : ℕ) → IsAcceptedLoad v.load → u.load ≡ v.load → w.load ≡ v.load → Extends w.run v.run → Extends w.run u.run
     → IsAnsweredIn v.load v.run p i ⊎ IsAnsweredIn u.load u.run p i → IsAnsweredIn w.load w.run p i
 told_both v u w p i ok same kept one other either =
     subst (λ (l : Load). IsAnsweredIn l w.run p i) (sym kept)
     (⊎_elim (answered_on v.load v.run w.run p i ok one)
     (λ h. answered_on v.load u.run w.run p i ok other (subst (λ (l : Load). IsAnsweredIn l u.run p i) same h)) either)
 
-pub met : (v u w : Knowing) (p i : ℕ) → IsAccepted v.load → u.load ≡ v.load → Learns v u w → IsAnsweredIn v.load v.run p i ⊎ IsAnsweredIn u.load u.run p i
+pub met : (v u w : Knowing) (p i : ℕ) → IsAcceptedLoad v.load → u.load ≡ v.load → Learns v u w → IsAnsweredIn v.load v.run p i ⊎ IsAnsweredIn u.load u.run p i
     → IsAnsweredIn w.load w.run p i
 met v u w p i ok same learns = told_both v u w p i ok same (ap (λ (k : Knowing). k.load) learns.0) (learns.1.0, learns.1.1) learns.2
 
-pub joined : (v u w : Knowing) (p i : ℕ) → IsAccepted v.load → u.load ≡ v.load → JoinsTo v u w → IsAnsweredIn v.load v.run p i ⊎ IsAnsweredIn u.load u.run p i
+pub joined : (v u w : Knowing) (p i : ℕ) → IsAcceptedLoad v.load → u.load ≡ v.load → JoinsTo v u w → IsAnsweredIn v.load v.run p i ⊎ IsAnsweredIn u.load u.run p i
     → IsAnsweredIn w.load w.run p i
 joined v u w p i ok same joins = told_both v u w p i ok same joins.1 (joins.3.0, joins.3.1) (joins.4.0, joins.4.1)
 
 -- so the run that a seat knows is lawful, and the one that is known after a view changed
-pub knows_lawful : (s : Seat (Unit {0}) View) (v : Knowing) → seat_knows s ≡ v → IsAccepted s.me.0.load → HasLawfulRun v.load v.run
+pub knows_lawful : (s : Seat (Unit {0}) View) (v : Knowing) → seat_knows s ≡ v → IsAcceptedLoad s.me.0.load → HasLawfulRun v.load v.run
 knows_lawful s v is ok = subst (λ (k : Knowing). HasLawfulRun k.load k.run) is (every_run s.me.0.load s.me.0.run ok)
 
-pub lawful_view : (v w : View) → IsAccepted v.load → w.load ≡ v.load → HasLawfulRun w.load w.run
-lawful_view v w ok same = every_run w.load w.run (subst IsAccepted (sym same) ok)
+pub lawful_view : (v w : View) → IsAcceptedLoad v.load → w.load ≡ v.load → HasLawfulRun w.load w.run
+lawful_view v w ok same = every_run w.load w.run (subst IsAcceptedLoad (sym same) ok)
 
 -- what isn't issued in the run that is known after a meeting, or by a seat that took another in, stands behind all that
 -- either knew as answered
-pub met_first : (v u w : Knowing) → IsAccepted v.load → u.load ≡ v.load → Learns v u w → KeepsBothFirst v u w
+pub met_first : (v u w : Knowing) → IsAcceptedLoad v.load → u.load ≡ v.load → Learns v u w → KeepsBothFirst v u w
 met_first v u w ok same learns later order begins legal k p i y there new either =
-    known_first w.load w.run (subst IsAccepted (ap (λ (x : Knowing). x.load) (sym learns.0)) ok) later order begins legal k p i y there new
+    known_first w.load w.run (subst IsAcceptedLoad (ap (λ (x : Knowing). x.load) (sym learns.0)) ok) later order begins legal k p i y there new
     (met v u w p i ok same learns either)
 
-pub joined_first : (v u w : Knowing) → IsAccepted v.load → u.load ≡ v.load → JoinsTo v u w → KeepsBothFirst v u w
+pub joined_first : (v u w : Knowing) → IsAcceptedLoad v.load → u.load ≡ v.load → JoinsTo v u w → KeepsBothFirst v u w
 joined_first v u w ok same joins later order begins legal k p i y there new either =
-    known_first w.load w.run (subst IsAccepted (sym joins.1) ok) later order begins legal k p i y there new (joined v u w p i ok same joins either)
+    known_first w.load w.run (subst IsAcceptedLoad (sym joins.1) ok) later order begins legal k p i y there new (joined v u w p i ok same joins either)
 
 -- and for the other of two seats that met
 pub swap_first : (v u w : Knowing) → KeepsBothFirst u v w → KeepsBothFirst v u w

@@ -4,12 +4,12 @@ use Rattle.std.proofs.Common.{append_assoc}
 use Rattle.std.specs.Prelude.{◌^◌}
 use Rattle.atomic_table.specs.Seated.{TableId}
 use Rattle.torus.specs.Shape.{Shape, dims_of}
-use Rattle.fabric_rule.specs.tile.specs.Placed.{PlacedTile}
+use Rattle.fabric_rule.specs.Placed.{PlacedTile}
 use Rattle.channel_number.specs.Order.{channel_count}
 use Rattle.channel_number.specs.Ports.{port_count}
-use Rattle.fabric_rule.specs.core_laws.specs.Core.{Load}
-use Rattle.fabric_rule.specs.core_machine.specs.Machine.{Core, IsAfter}
-use Rattle.fabric_rule.specs.Known.{Shows, row_length}
+use Rattle.fabric_rule.specs.Core.{Load}
+use Rattle.fabric_rule.specs.Machine.{Core, IsAfter}
+use Rattle.fabric_rule.specs.Known.{ShowsBeginning, row_length}
 use Rattle.fabric_rule.proofs.Runs.{row_size}
 use Rattle.fabric.specs.Key.{Opening, count_up, ranges}
 use Rattle.fabric.specs.Seats.{Knowing}
@@ -53,7 +53,7 @@ IsSound l base words row_words slots ports torus opening =
 
 pub sound_made : (key o : Opening) (c : Core) (row : List ℕ) (base words row_words slots ports depth : ℕ) (torus : Shape) (opening : List ℕ) → key ≡ o
     → IsAfter o.load c []
-    → Shows o.load row [] → torus ≡ c.shape → depth ≡ c.depth → opening ≡ c.opening
+    → ShowsBeginning o.load row [] → torus ≡ c.shape → depth ≡ c.depth → opening ≡ c.opening
     → base ≡ channel_count torus * depth → words ≡ length opening → row_words ≡ length row → slots ≡ 0 → ports ≡ port_count (dims_of torus)
     → IsSound key.load base words row_words slots ports torus opening
 sound_made key o c row base words row_words slots ports depth torus opening e k shown ht hd ho hb hw hr hs hp =

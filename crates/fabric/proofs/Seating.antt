@@ -9,10 +9,10 @@ use mathlib.Core.Logic.{dite}
 use native.Mathlib.Decide.{ℕ_discrete}
 use Rattle.atomic_table.specs.declared.shared.Seat.{Seat}
 use Rattle.torus.specs.declared.step.Step.{Step}
-use Rattle.fabric_rule.specs.tile.specs.Placed.{PlacedTile}
-use Rattle.fabric_rule.specs.core_laws.specs.Core.{Load}
-use Rattle.fabric_rule.specs.core_laws.specs.Runs.{IsAccepted}
-use Rattle.fabric_rule.specs.Known.{tile_of, known, word_after, Shows, row_length}
+use Rattle.fabric_rule.specs.Placed.{PlacedTile}
+use Rattle.fabric_rule.specs.Core.{Load}
+use Rattle.fabric_rule.specs.Runs.{IsAcceptedLoad}
+use Rattle.fabric_rule.specs.Known.{tile_of, known, word_after, ShowsBeginning, row_length}
 use Rattle.fabric_rule.specs.View.{View}
 use Rattle.fabric_rule.specs.Groups.{Owns, In, Others, first_group, knowing}
 use Rattle.fabric_rule.specs.Rule.{Looked}
@@ -31,7 +31,7 @@ placed_after s z t h e p = record {
   quiet = ap (λ (v : View). v.told) e ∙ p.quiet;
   no_slot = h ∙ p.no_slot;
   words = ap (λ k. k.words) t ∙ p.words ∙ ap (λ (v : View). row_length v.load) (sym e);
-  accepted = subst (λ (l : Load). IsAccepted l) (ap (λ (v : View). v.load) (sym e)) p.accepted;
+  accepted = subst (λ (l : Load). IsAcceptedLoad l) (ap (λ (v : View). v.load) (sym e)) p.accepted;
 }
 
 pub groups_after : (s z : S) → z.me.0 ≡ knowing s.me.0 z.me.0.run → z.me.0.groups ≡ s.me.0.groups
@@ -137,11 +137,11 @@ not_not_mine k c owns has neither =
     ⊎_elim (λ (f : Owns k.tiles (tile_of c) → ⊥). f owns) (λ (e : has_choice k.load.shape c ≡ false). true≢false (sym has ∙ e)) neither
 
 -- the word that a look found is the memory's
-pub looked_word : (i : ℕ) (v w : View) (n : ℕ) (l : Looked i v n w) (load : Load) → IsAccepted v.load → v.load ≡ load → (a : ℕ)
+pub looked_word : (i : ℕ) (v w : View) (n : ℕ) (l : Looked i v n w) (load : Load) → IsAcceptedLoad v.load → v.load ≡ load → (a : ℕ)
     → i ≡ channel_count load.shape * load.depth + a → n ≡ word_after w.load w.run a
 looked_word i v w n l load accepted same a is =
     let words : List ℕ = l.row.0 in
     let loaded : w.load ≡ load = ap (λ (u : View). u.load) l.view ∙ same in
-    let good : IsAccepted load = subst (λ (z : Load). IsAccepted z) same accepted in
-    let shows : Shows load words w.run = subst (λ (z : Load). Shows z words w.run) loaded l.row.1 in
+    let good : IsAcceptedLoad load = subst (λ (z : Load). IsAcceptedLoad z) same accepted in
+    let shows : ShowsBeginning load words w.run = subst (λ (z : Load). ShowsBeginning z words w.run) loaded l.row.1 in
     l.row.2 ∙ (ap (λ j. slice_index words j) is ∙ (word_shown load good words w.run shows a ∙ ap (λ (z : Load). word_after z w.run a) (sym loaded)))

@@ -2,8 +2,8 @@
 use Rattle.std.proofs.Common.{◌≡◌, ℕ, ◌<◌, ◌≤◌, true, List, length, Option, Some, subst, arith}
 use Rattle.std.proofs.lemmas.Option.{slice_get_within}
 use Rattle.atomic_table.specs.declared.shared.Seat.{Seat}
-use Rattle.fabric_rule.specs.tile_laws.specs.Agents.{TilePlace}
-use Rattle.fabric_rule.specs.tile.specs.Placed.{PlacedTile}
+use Rattle.tile_laws.specs.Agents.{TilePlace}
+use Rattle.fabric_rule.specs.Placed.{PlacedTile}
 use Rattle.fabric_rule.specs.Known.{known}
 use Rattle.fabric_rule.specs.View.{View}
 use Rattle.fabric_rule.specs.Groups.{Owns}

@@ -8,10 +8,10 @@ use Rattle.atomic_table.specs.Table.{State, Me, step, keeps, Allows, Splits, Joi
 use Rattle.atomic_table.proofs.Lists.{at_set}
 use Rattle.torus.specs.Shape.{tiles_of}
 use Rattle.torus.specs.declared.step.Step.{Step}
-use Rattle.fabric_rule.specs.core_laws.specs.Core.{Load}
-use Rattle.fabric_rule.specs.Known.{Shows}
+use Rattle.fabric_rule.specs.Core.{Load}
+use Rattle.fabric_rule.specs.Known.{ShowsBeginning}
 use Rattle.fabric_rule.specs.View.{View, blank}
-use Rattle.fabric_rule.specs.Groups.{In, Apart, Told, GoesOn, flat, with_groups, first_half, second_half, first_group, other_groups, note, both, knowing}
+use Rattle.fabric_rule.specs.Groups.{In, Apart, ToldOfGroup, GroupGoesOn, flat, with_groups, first_half, second_half, first_group, other_groups, note, both, knowing}
 use Rattle.fabric_rule.specs.Rule.{Learned}
 use Rattle.fabric_rule.proofs.Groups.{in_flat, in_one, nothing, first_in, others_in, halves_apart, others_apart}
 use Rattle.fabric_rule.proofs.Growing.{kept_grow}
@@ -28,18 +28,18 @@ learns_as load slots id i me gs sub parted s h _ at small =
     let fit = h.1.fits id me.0 at in
     let n : ℕ = slice_index s.words i in
     let w : View = with_groups (knowing me.0 (h.0 ++ [])) gs in
-    let shown : Shows load (set s.words i n) (h.0 ++ []) =
-    subst (λ (l : List ℕ). Shows load l (h.0 ++ [])) (sym (set-get_or s.words i 0))
-    (subst (λ (l : List Step). Shows load s.words l) (sym (append-nil h.0)) h.1.shown) in (
+    let shown : ShowsBeginning load (set s.words i n) (h.0 ++ []) =
+    subst (λ (l : List ℕ). ShowsBeginning load l (h.0 ++ [])) (sym (set-get_or s.words i 0))
+    (subst (λ (l : List Step). ShowsBeginning load s.words l) (sym (append-nil h.0)) h.1.shown) in (
       w,
       keeps,
       tt,
       (h.0 ++ [], kept_grow load s.words (set s.words i n) s.views h.0 [] id me.0 w h.1 at shown tt tt refl fit.same_load sub (parted fit.apart) tt),
       (
         record {
-          from = subst (λ (l : List Step). GoesOn me.0.groups l me.0.run) (sym (append-nil h.0)) fit.begins;
+          from = subst (λ (l : List Step). GroupGoesOn me.0.groups l me.0.run) (sym (append-nil h.0)) fit.begins;
           view = refl;
-          told = subst (λ (l : List Step). Told l me.0.groups me.0.told) (sym (append-nil h.0)) fit.told;
+          told = subst (λ (l : List Step). ToldOfGroup l me.0.groups me.0.told) (sym (append-nil h.0)) fit.told;
         },
         refl,
       ),
@@ -73,11 +73,11 @@ halves load id v s h at = let a = (h.1.fits id v at).apart in (
 )
 
 -- the table at the start
-pub begins : (load : Load) (row : List ℕ) (v : View) → Shows load row [] → v.load ≡ load → v.run ≡ [] → v.told ≡ [] → Apart v.groups
+pub begins : (load : Load) (row : List ℕ) (v : View) → ShowsBeginning load row [] → v.load ≡ load → v.run ≡ [] → v.told ≡ [] → Apart v.groups
     → Holds load (opening row [] v)
 begins load row v shown e f g parted = ([], ending.begins load row v shown e f g parted)
 
 -- the table at the end, with a seat that has every tile: its run is the longest
 pub ends : (load : Load) (id : ℕ) (v : View) (s : State (Unit {0}) View) → Holds load s → get_elem? s.views id ≡ some v
-    → ((t : ℕ) → t < tiles_of load.shape → In v.groups t) → Shows load s.words v.run
-ends load id v s h at all = let k = h.1 in subst (λ (l : List Step). Shows load s.words l) (sym (ending.ends load s.words s.views h.0 id v k at all)) k.shown
+    → ((t : ℕ) → t < tiles_of load.shape → In v.groups t) → ShowsBeginning load s.words v.run
+ends load id v s h at all = let k = h.1 in subst (λ (l : List Step). ShowsBeginning load s.words l) (sym (ending.ends load s.words s.views h.0 id v k at all)) k.shown

@@ -7,14 +7,14 @@ use Rattle.torus.specs.Shape.{tiles_of}
 use Rattle.torus.specs.declared.step.Step.{Step}
 use Rattle.torus.specs.declared.step.Stepped.{Stepped}
 use Rattle.torus.specs.declared.step.Stepped.TheVariants.{Moved, Idle}
-use Rattle.fabric_rule.specs.order_abstract.specs.Room.{home_room}
+use Rattle.fabric_rule.specs.Room.{home_room}
 use Rattle.flit_buffer.specs.declared.word_op.WordOp.{WordOp}
 use Rattle.flit_buffer.specs.Words.{word_of}
-use Rattle.fabric_rule.specs.tile_laws.specs.Agents.{TilePlace, tile_next_op, tile_absorbed, tile_placed, agent_kind}
-use Rattle.fabric_rule.specs.tile.specs.Placed.{PlacedTile, with_place, IsAcceptableTo, HasRoomForEntry}
-use Rattle.fabric_rule.specs.tile_laws.specs.Tile.{TileState}
-use Rattle.fabric_rule.specs.core_laws.specs.Core.{Load, after, design_of}
-use Rattle.fabric_rule.specs.core_laws.specs.Runs.{IsAccepted}
+use Rattle.tile_laws.specs.Agents.{TilePlace, tile_next_op, tile_absorbed, tile_placed, agent_kind}
+use Rattle.fabric_rule.specs.Placed.{PlacedTile, with_place, IsAcceptableTo, HasRoomForEntry}
+use Rattle.tile_laws.specs.Tile.{TileState}
+use Rattle.fabric_rule.specs.Core.{Load, after, design_of}
+use Rattle.fabric_rule.specs.Runs.{IsAcceptedLoad}
 use Rattle.fabric_rule.specs.Known.{tile_of, known, op_of, moves, left_by, Suits, row_length}
 use Rattle.fabric_rule.specs.Told.{Away, grown}
 use Rattle.fabric_rule.specs.View.{View}
@@ -108,8 +108,8 @@ idle_is v c n w k = by_tile (tile_absorbed v.place c n) k
 pub before : (v u : View) (t : ℕ) (x : PlacedTile) → v ≡ u → StandsAt u.load u.run t x → StandsAt v.load v.run t x
 before v u t x e s = subst (λ (w : View). StandsAt w.load w.run t x) (sym e) s
 
-pub accepted_before : (v u : View) → v ≡ u → IsAccepted u.load → IsAccepted v.load
-accepted_before v u e a = subst (λ (w : View). IsAccepted w.load) (sym e) a
+pub accepted_before : (v u : View) → v ≡ u → IsAcceptedLoad u.load → IsAcceptedLoad v.load
+accepted_before v u e a = subst (λ (w : View). IsAcceptedLoad w.load) (sym e) a
 
 -- the tile in code after an attempt stands as after the run that its seat knows then
 pub stands_then : (c : Step) (v : PlacedTile) (a b : View) (n : ℕ) (answer : Stepped) (w : PlacedTile) → StandsAt a.load a.run (tile_of c) v
@@ -120,7 +120,7 @@ stands_then c v a b n answer w here t k =
     subst P (sym is) record { place = t.tile; room = here.room ∙ ap (λ (u : View). home_room (tiles_of u.load.shape) (tile_of c) u.load.scripts) (sym t.view) }
 
 -- the word of an operation is one of the row
-pub word_in_row : (load : Load) (run : List Step) (c : Step) (x : TilePlace) (o : WordOp) → IsAccepted load → known load run (tile_of c) ≡ Some x
+pub word_in_row : (load : Load) (run : List Step) (c : Step) (x : TilePlace) (o : WordOp) → IsAcceptedLoad load → known load run (tile_of c) ≡ Some x
     → op_of x c ≡ Some o → word_of o < row_length load
 word_in_row load run c x o ok here asks =
     let row : List ℕ = shown_row load run in
@@ -128,7 +128,7 @@ word_in_row load run c x o ok here asks =
     subst (λ (m : ℕ). word_of o < m) (row_size load ok row run (row_shows load run)) k.within
 
 -- what a turn picked is what it attempts
-pub as_picked : (v : View) (s c : Step) (p : TilePlace) (x : PlacedTile) (o : WordOp) → s ≡ c → p ≡ x.place → IsAccepted v.load
+pub as_picked : (v : View) (s c : Step) (p : TilePlace) (x : PlacedTile) (o : WordOp) → s ≡ c → p ≡ x.place → IsAcceptedLoad v.load
     → StandsAt v.load v.run (tile_of c) x → Some o ≡ tile_next_op x.place c
     → (known v.load v.run (tile_of s) ≡ Some p) × (op_of p s ≡ Some o) × (word_of o < row_length v.load)
 as_picked v s c p x o step place ok here op =
@@ -146,7 +146,7 @@ away_one t [] c a ne = (ne, tt)
 away_one t (x ∷ xs) c a ne = (a.0, away_one t xs c a.1 ne)
 
 -- with b, the step c after the others
-only_by : (b : Bool) (c : Step) (v w : View) (between : List Step) → IsAccepted v.load → Others v.groups between → w ≡ knowing v (grown b (v.run ++ between) c)
+only_by : (b : Bool) (c : Step) (v w : View) (between : List Step) → IsAcceptedLoad v.load → Others v.groups between → w ≡ knowing v (grown b (v.run ++ between) c)
     → OnlyTile v (tile_of c) w
 only_by true c v w between accepted o e = record {
   same = e ∙ ap (λ (u : View). knowing v u.run) (sym e);
@@ -160,7 +160,7 @@ only_by false c v w between accepted o e = record {
   rest = λ u ne i. ap (λ (z : View). known z.load z.run u) e ∙ known_away v.load accepted v.run between u (away v.groups u between i o);
 }
 
-pub only_tile : (c : Step) (x : TilePlace) (v w : View) (n : ℕ) → IsAccepted v.load → Attempted c x v n w → OnlyTile v (tile_of c) w
+pub only_tile : (c : Step) (x : TilePlace) (v w : View) (n : ℕ) → IsAcceptedLoad v.load → Attempted c x v n w → OnlyTile v (tile_of c) w
 only_tile c x v w n accepted t = only_by (moves x c n) c v w t.between accepted t.others t.view
 
 pub only_same : (v : View) (t : ℕ) → OnlyTile v t v

@@ -6,11 +6,11 @@ use Rattle.torus.specs.Shape.{Shape, tiles_of}
 use Rattle.torus.specs.declared.step.Step.{Step}
 use Rattle.channel_number.specs.Order.{channel_count}
 use Rattle.one_order.specs.Observed.{Observed}
-use Rattle.fabric_rule.specs.tile.specs.Placed.{PlacedTile}
-use Rattle.fabric_rule.specs.script_follower.specs.Following.{is_finished}
-use Rattle.fabric_rule.specs.core_laws.specs.Core.{Load, after, show}
-use Rattle.fabric_rule.specs.core_laws.specs.Runs.{IsAccepted}
-use Rattle.fabric_rule.specs.Known.{Shows}
+use Rattle.fabric_rule.specs.Placed.{PlacedTile}
+use Rattle.script_follower.specs.Following.{is_finished}
+use Rattle.fabric_rule.specs.Core.{Load, after, show}
+use Rattle.fabric_rule.specs.Runs.{IsAcceptedLoad}
+use Rattle.fabric_rule.specs.Known.{ShowsBeginning}
 use Rattle.fabric_rule.specs.View.{View}
 use Rattle.fabric_rule.specs.Groups.{Extends}
 use Rattle.fabric_rule.specs.Rule.{Kept}
@@ -68,9 +68,9 @@ slot_finished (Some x) = is_finished x.place.processor.state.operations.followin
 -- torus, and the opening words (this project's own format)
 pub record IsEnd (last : Ended) (slots : List (Option PlacedTile)) (words : List ℕ) (start : ℕ)
     (shape : Shape) (first : List ℕ) : Type 0 where
-  pub accepted : IsAccepted last.load
+  pub accepted : IsAcceptedLoad last.load
   pub tiles : HasAll slots last.load last.run
-  pub row : Shows last.load words last.run
+  pub row : ShowsBeginning last.load words last.run
   pub base : start ≡ channel_count last.load.shape * last.load.depth
   pub torus : shape ≡ last.load.shape
   pub opening : first ≡ last.load.opening

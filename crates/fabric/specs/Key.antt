@@ -3,9 +3,9 @@ use Rattle.std.specs.Prelude.{ℕ, zero, suc, ◌-◌, ◌<◌, List, [], ◌∷
 use Rattle.torus.specs.Shape.{tiles_of}
 use Rattle.torus.specs.declared.step.Step.{Step}
 use Rattle.torus.specs.declared.step.Choice.TheVariants.{Send}
-use Rattle.fabric_rule.specs.tile_laws.specs.Agents.{TilePlace}
-use Rattle.fabric_rule.specs.tile_laws.specs.Beginning.{new_tile}
-use Rattle.fabric_rule.specs.core_laws.specs.Core.{Load, design_of, first_tile}
+use Rattle.tile_laws.specs.Agents.{TilePlace}
+use Rattle.tile_laws.specs.Beginning.{new_tile}
+use Rattle.fabric_rule.specs.Core.{Load, design_of, first_tile}
 use Rattle.fabric_rule.specs.View.{View, no_load}
 
 -- what is loaded, and at which tiles the tiles are cut into ranges (this project's own format)

@@ -3,9 +3,9 @@ use Rattle.std.specs.Prelude.{◌≡◌, ◌⊎◌, ℕ, List, length, Some, sli
 use Rattle.torus.specs.declared.step.Step.{Step}
 use Rattle.one_order.specs.Observed.{HasIssued, HasAnswered}
 use Rattle.one_order.specs.Order.{LinearizationPoint, IsLegalOrder, StandsBefore}
-use Rattle.fabric_rule.specs.core_laws.specs.Core.{Load, run_of}
-use Rattle.fabric_rule.specs.core_laws.specs.Runs.{IsAccepted}
-use Rattle.fabric_rule.specs.core_machine.specs.Machine.{IsLawful, book_after}
+use Rattle.fabric_rule.specs.Core.{Load, run_of}
+use Rattle.fabric_rule.specs.Runs.{IsAcceptedLoad}
+use Rattle.fabric_rule.specs.Machine.{IsLawful, book_after}
 use Rattle.fabric_rule.specs.Groups.{Extends}
 use Rattle.fabric.specs.Seats.{Knowing}
 use Rattle.fabric.specs.Ending.{shown_after}
@@ -15,7 +15,7 @@ use Rattle.fabric.specs.Ending.{shown_after}
 -- and its reply is that entry's; and every processor has followed its script (Herlihy and Wing,
 -- TOPLAS 12(3), 1990: linearizability).
 pub record HasLawfulRun (load : Load) (run : List Step) : Type 0 where
-  pub accepted : IsAccepted load
+  pub accepted : IsAcceptedLoad load
   pub lawful : IsLawful load run (book_after load run).rows
 
 -- operation i of p is issued, or answered, in a run

@@ -1,5 +1,3 @@
-pub use Rattle.fabric_rule.specs.core_laws
-pub use Rattle.fabric_rule
 pub mod Key
 pub mod Table
 pub mod Turns

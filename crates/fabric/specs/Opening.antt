@@ -4,10 +4,10 @@ use Rattle.std.specs.Prelude.{slice_get, Some, Option}
 use Rattle.atomic_table.specs.Seated.{TableId}
 use Rattle.atomic_table.specs.declared.shared.Seat.{Seat}
 use Rattle.torus.specs.Shape.{tiles_of}
-use Rattle.fabric_rule.specs.tile.specs.Placed.{PlacedTile}
-use Rattle.fabric_rule.specs.core_laws.specs.Core.{Load}
-use Rattle.fabric_rule.specs.core_laws.specs.Runs.{IsAccepted}
-use Rattle.fabric_rule.specs.Known.{Shows}
+use Rattle.fabric_rule.specs.Placed.{PlacedTile}
+use Rattle.fabric_rule.specs.Core.{Load}
+use Rattle.fabric_rule.specs.Runs.{IsAcceptedLoad}
+use Rattle.fabric_rule.specs.Known.{ShowsBeginning}
 use Rattle.fabric_rule.specs.View.{View}
 use Rattle.fabric.specs.Key.{Rises}
 use Rattle.fabric.specs.Seats.{Knowing, Placed, StandsAt}
@@ -35,8 +35,8 @@ fresh z load tiles = record { table = z; load = load; run = []; tiles = tiles }
 -- a freshly loaded machine in its parts: the row shows the state after no step, and so stand the
 -- tiles
 pub record IsFresh (load : Load) (row : List ℕ) (tiles : List PlacedTile) : Type 0 where
-  pub accepted : IsAccepted load
-  pub shows : Shows load row []
+  pub accepted : IsAcceptedLoad load
+  pub shows : ShowsBeginning load row []
   pub count : length tiles ≡ tiles_of load.shape
   pub stand : (t : ℕ) (x : PlacedTile) → slice_get tiles t ≡ Some x → StandsAt load [] t x
 

@@ -5,13 +5,13 @@ use Rattle.atomic_table.specs.Seated.{TableId}
 use Rattle.atomic_table.specs.declared.shared.Seat.{Seat}
 use Rattle.torus.specs.Shape.{tiles_of}
 use Rattle.torus.specs.declared.step.Step.{Step}
-use Rattle.fabric_rule.specs.order_abstract.specs.Room.{home_room}
-use Rattle.fabric_rule.specs.tile.specs.Placed.{PlacedTile}
-use Rattle.fabric_rule.specs.core_laws.specs.Core.{Load}
-use Rattle.fabric_rule.specs.core_laws.specs.Runs.{IsAccepted}
+use Rattle.fabric_rule.specs.Room.{home_room}
+use Rattle.fabric_rule.specs.Placed.{PlacedTile}
+use Rattle.fabric_rule.specs.Core.{Load}
+use Rattle.fabric_rule.specs.Runs.{IsAcceptedLoad}
 use Rattle.fabric_rule.specs.Known.{tile_of, known, enabled, row_length}
 use Rattle.fabric_rule.specs.View.{View}
-use Rattle.fabric_rule.specs.Groups.{Owns, Others, GoesOn, Extends, first_group}
+use Rattle.fabric_rule.specs.Groups.{Owns, Others, GroupGoesOn, Extends, first_group}
 use Rattle.fabric.specs.Turns.{is_ready, has_choice}
 
 -- what a seat knows: which fabric it is of, what was loaded, a run of it, and which tiles are its
@@ -53,7 +53,7 @@ pub record Placed (s : Seat (Unit {0}) View) : Type 0 where
   pub quiet : s.me.0.told ≡ []
   pub no_slot : s.me.1 ≡ []
   pub words : s.table_id.words ≡ row_length s.me.0.load
-  pub accepted : IsAccepted s.me.0.load
+  pub accepted : IsAcceptedLoad s.me.0.load
 
 -- a seat that has tiles, in one group
 pub record Seated (slots : List (Option PlacedTile)) (s : Seat (Unit {0}) View) : Type 0 where
@@ -93,17 +93,17 @@ pub record Origin : Type 0 where
   pub load : Load
 
 -- the seat is of this fabric
-abbrev pub IsOf : Origin → Knowing → Type 0
-IsOf f k = (k.table ≡ f.table) × (k.load ≡ f.load)
+abbrev pub IsSeatOf : Origin → Knowing → Type 0
+IsSeatOf f k = (k.table ≡ f.table) × (k.load ≡ f.load)
 
 -- v came to know all that u knew, and w is what it knows then
 abbrev pub Learns : Knowing → Knowing → Knowing → Type 0
-Learns v u w = (w ≡ with_run v w.run) × GoesOn (v.tiles ∷ []) w.run v.run × Extends w.run u.run
+Learns v u w = (w ≡ with_run v w.run) × GroupGoesOn (v.tiles ∷ []) w.run v.run × Extends w.run u.run
 
 -- both in one: the tiles of both, and a run that goes on from both
 abbrev pub JoinsTo : Knowing → Knowing → Knowing → Type 0
 JoinsTo v u w = (w.table ≡ v.table) × (w.load ≡ v.load) × (w.tiles ≡ v.tiles ++ u.tiles)
-    × GoesOn (v.tiles ∷ []) w.run v.run × GoesOn (u.tiles ∷ []) w.run u.run
+    × GroupGoesOn (v.tiles ∷ []) w.run v.run × GroupGoesOn (u.tiles ∷ []) w.run u.run
 
 -- every tile is the seat's
 abbrev pub IsWhole : Knowing → Type 0

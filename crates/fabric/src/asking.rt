@@ -2,7 +2,7 @@
 ghost use Rattle.std.specs.Prelude.{◌≡◌, ◌≤◌, ◌<◌, ◌↔◌, ℕ, IsTrue, IfNone, IfSome};
 ghost use Rattle.torus.specs.Shape.{dims_of, tiles_of};
 ghost use Rattle.channel_number.specs.Ports.{port_count};
-ghost use Rattle.fabric_rule.specs.core_laws.specs.Runs.{IsAccepted};
+ghost use Rattle.fabric_rule.specs.Runs.{IsAcceptedLoad};
 ghost use Rattle.fabric_rule.specs.Groups.{Owns};
 ghost use Rattle.fabric_rule.specs.Ended.{AreAllFinished};
 ghost use Rattle.fabric.specs.Asking.{HasSeen, IsNextTile};
@@ -23,7 +23,7 @@ impl<A: Allocator> Fabric<A> {
 impl<A: Allocator> TileSeat<A> {
     /// What was loaded was accepted, and the run that the seat knows is lawful.
     pub fn accepted(&self)
-        ensures accepted { IsAccepted self.now.load }
+        ensures accepted { IsAcceptedLoad self.now.load }
         ensures one_order { HasLawfulRun self.now.load self.now.run }
     {
         let _ = &self.slots;

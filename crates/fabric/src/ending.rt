@@ -2,12 +2,12 @@
 ghost use Rattle.std.specs.Prelude.{◌≡◌, ◌↔◌, ◌≤◌, true, IsNone, IsTrue, IfSome, Some, length, slice_get, is_some};
 ghost use Rattle.std.specs.Option.{option_copied};
 ghost use Rattle.torus.specs.Shape.{tiles_of};
-ghost use Rattle.fabric_rule.specs.order_abstract.specs.Scripts.{AreFinished};
-ghost use Rattle.fabric_rule.specs.core_laws.specs.Core.{after, run_of};
-ghost use Rattle.fabric_rule.specs.core_laws.specs.Runs.{IsAccepted};
-ghost use Rattle.fabric_rule.specs.core_machine.specs.Machine.{all_finished};
+ghost use Rattle.fabric_rule.specs.Scripts.{AreFinished};
+ghost use Rattle.fabric_rule.specs.Core.{after, run_of};
+ghost use Rattle.fabric_rule.specs.Runs.{IsAcceptedLoad};
+ghost use Rattle.fabric_rule.specs.Machine.{all_finished};
 ghost use Rattle.fabric_rule.specs.Groups.{Owns};
-ghost use Rattle.fabric.specs.Seats.{IsOf, IsWhole, StandsAt};
+ghost use Rattle.fabric.specs.Seats.{IsSeatOf, IsWhole, StandsAt};
 ghost use Rattle.fabric.specs.Ending.{IsLongest, WasLongest, shown_after, slot_finished};
 ghost use Rattle.fabric.specs.Lawful.{HasLawfulRun};
 
@@ -56,7 +56,7 @@ impl<A: Allocator> TileSeat<A> {
 impl<A: Allocator> Fabric<A> {
     /// The end. The seat has every tile, so no other seat knows a longer run.
     pub fn close(self, seat: TileSeat<A>) -> Final<A>
-        requires { IsOf self seat × IsWhole seat }
+        requires { IsSeatOf self seat × IsWhole seat }
         ensures known { result ≡ record { load = seat.load; run = seat.run } }
         ensures longest { IsLongest seat }
         ensures was_longest { WasLongest seat }
@@ -133,7 +133,7 @@ impl<A: Allocator> Final<A> {
     /// What was loaded was accepted, and the run behind the end is lawful: its operations have one
     /// legal order, that of the services, and every processor has followed its script.
     pub fn reached(&self)
-        ensures accepted { IsAccepted self.now.load }
+        ensures accepted { IsAcceptedLoad self.now.load }
         ensures one_order { HasLawfulRun self.now.load self.now.run }
     {
         let _ = &self.slots;
@@ -168,7 +168,7 @@ impl<A: Allocator> Final<A> {
     fn tile(&self, number: u32) -> Option<&TileAgents<A>>
         ensures none { IsNone result ↔ (tiles_of self.now.load.shape ≤ number) }
         ensures some { IfSome result (λ x. StandsAt self.now.load self.now.run number x.now) }
-        ensures accepted { IsAccepted self.now.load }
+        ensures accepted { IsAcceptedLoad self.now.load }
     {
         let at = number as usize;
         if at >= self.slots.len() {

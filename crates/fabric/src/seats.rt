@@ -3,7 +3,7 @@ ghost use Rattle.std.specs.Prelude.{◌≡◌, ◌≤◌, ◌↔◌, ◌⊎◌, 
 ghost use Rattle.fabric_rule.specs.Known.{word_after};
 ghost use Rattle.fabric_rule.specs.Groups.{Extends};
 ghost use Rattle.fabric.specs.Turns.{Sees};
-ghost use Rattle.fabric.specs.Seats.{Moves, Idles, Grows, IsNotMine, IsOf, Learns, JoinsTo, Placed, mix_at};
+ghost use Rattle.fabric.specs.Seats.{Moves, Idles, Grows, IsNotMine, IsSeatOf, Learns, JoinsTo, Placed, mix_at};
 ghost use Rattle.fabric.specs.Seats.{seat_knows, with_run};
 ghost use Rattle.fabric.specs.Lawful.{HasLawfulRun, KeepsBothFirst};
 ghost use Rattle.fabric.specs.declared.steps.Turned.TheVariants.{Moved, Idle, NotMine};
@@ -93,7 +93,7 @@ impl<A: Allocator> Fabric<A> {
     /// found. `NotMine` exactly where the step is of no tile of the seat, or its agent hasn't the choice.
     #[inline(always)]
     pub fn turn(&self, seat: &mut TileSeat<A>, step: Step) -> Turned
-        requires { IsOf self.now seat.old }
+        requires { IsSeatOf self.now seat.old }
         ensures moved { result ≡ Moved → Moves seat.old step seat.new }
         ensures idle { result ≡ Idle → Idles seat.old step seat.new }
         ensures not_mine { (result ≡ NotMine) ↔ IsNotMine seat.old step }
@@ -117,7 +117,7 @@ impl<A: Allocator> Fabric<A> {
 
     // The memory word at an address, after the run that the seat knows then.
     fn look(&self, seat: &mut Seat<(), Knowledge>, address: usize) -> Option<u64>
-        requires own { IsOf self.now (seat_knows seat.old) }
+        requires own { IsSeatOf self.now (seat_knows seat.old) }
         requires placed { Placed seat.old }
         ensures none { IsNone result ↔ (length self.now.load.opening ≤ address) }
         ensures word { IfSome result
@@ -133,7 +133,7 @@ impl<A: Allocator> Fabric<A> {
     /// The memory word at an address, after the run that the seat knows then; None exactly where the
     /// address isn't below the number of words.
     pub fn probe(&self, seat: &mut ProbeSeat, address: usize) -> Option<u64>
-        requires { IsOf self.now seat.old }
+        requires { IsSeatOf self.now seat.old }
         ensures none { IsNone result ↔ (length self.now.load.opening ≤ address) }
         ensures word { IfSome result (λ n. n ≡ word_after seat.new.load seat.new.run address) }
         ensures later { Grows seat.old seat.new }
@@ -143,7 +143,7 @@ impl<A: Allocator> Fabric<A> {
 
     /// The same, by a seat that has tiles.
     pub fn probe_as(&self, seat: &mut TileSeat<A>, address: usize) -> Option<u64>
-        requires { IsOf self.now seat.old }
+        requires { IsSeatOf self.now seat.old }
         ensures none { IsNone result ↔ (length self.now.load.opening ≤ address) }
         ensures word { IfSome result (λ n. n ≡ word_after seat.new.load seat.new.run address) }
         ensures later { Grows seat.old seat.new }
@@ -157,7 +157,7 @@ impl<A: Allocator> Fabric<A> {
     /// Each of the seats comes to know what either knew. What either then issues stands, once served,
     /// behind all that either knew as answered.
     pub fn meet(&self, one: TileSeat<A>, other: TileSeat<A>) -> (TileSeat<A>, TileSeat<A>)
-        requires { IsOf self.now one × IsOf self.now other }
+        requires { IsSeatOf self.now one × IsSeatOf self.now other }
         ensures one { Learns one other result.0 }
         ensures other { Learns other one result.1 }
         ensures one_order { HasLawfulRun result.0.load result.0.run
@@ -182,7 +182,7 @@ impl<A: Allocator> Fabric<A> {
 
     /// The probe seat comes to know what either knew.
     pub fn hear(&self, probe: ProbeSeat, other: TileSeat<A>) -> (ProbeSeat, TileSeat<A>)
-        requires { IsOf self.now probe × IsOf self.now other }
+        requires { IsSeatOf self.now probe × IsSeatOf self.now other }
         ensures probe { Learns probe other result.0 }
         ensures other { result.1 ≡ other }
     {
@@ -204,7 +204,7 @@ impl<A: Allocator> Fabric<A> {
 
     /// One seat with the tiles of both, which knows what either knew.
     pub fn join(&self, one: TileSeat<A>, other: TileSeat<A>) -> TileSeat<A>
-        requires { IsOf self.now one × IsOf self.now other }
+        requires { IsSeatOf self.now one × IsSeatOf self.now other }
         ensures both { JoinsTo one other result }
         ensures ordered { Extends one.run other.run ⊎ Extends other.run one.run }
         ensures one_order { HasLawfulRun result.load result.run }

@@ -1,7 +1,7 @@
 //! The atomic operations on the row.
 ghost use Rattle.std.specs.Prelude.{◌≡◌, ◌≢◌, ◌<◌, true, Some, []};
-ghost use Rattle.fabric_rule.specs.tile_laws.specs.Agents.{tile_next_op};
-ghost use Rattle.fabric_rule.specs.core_laws.specs.Runs.{IsAccepted};
+ghost use Rattle.tile_laws.specs.Agents.{tile_next_op};
+ghost use Rattle.fabric_rule.specs.Runs.{IsAcceptedLoad};
 ghost use Rattle.fabric_rule.specs.Known.{tile_of, row_length};
 ghost use Rattle.fabric_rule.specs.Groups.{In};
 ghost use Rattle.fabric_rule.specs.Rule.{Attempted};
@@ -38,7 +38,7 @@ pub type Row = Shared<(), Knowledge, Dealing, OneRun>;
 /// its run may have grown, so it has none for a second.
 pub trait Turning {
     ghost use Rattle.torus.specs.declared.step.Step.{Step};
-    ghost use Rattle.fabric_rule.specs.tile_laws.specs.Agents.{TilePlace};
+    ghost use Rattle.tile_laws.specs.Agents.{TilePlace};
     ghost use Rattle.fabric_rule.specs.View.{View};
 
     ghost view: { View };
@@ -95,7 +95,7 @@ fn perform<A: Allocator, B: Turning>(
     requires picked { (B.step ≡ step) × (B.place ≡ tile.now.place) }
     requires table { (seat.old.table_id ≡ row.now.table_id)
         × (row.now.table_id.words ≡ row_length B.view.load) }
-    requires load { IsAccepted B.view.load }
+    requires load { IsAcceptedLoad B.view.load }
     requires seat { (B.view.live ≡ true) × (B.view.told ≡ []) × In B.view.groups (tile_of B.step) }
     requires tile { StandsAt B.view.load B.view.run (tile_of step) tile.now }
     requires op { Some op ≡ tile_next_op tile.now.place step }
@@ -147,7 +147,7 @@ pub(crate) fn turn_tile<A: Allocator, B: Turning>(
     requires picked { (B.step ≡ step) × (B.place ≡ tile.old.place) }
     requires table { (seat.old.table_id ≡ row.now.table_id)
         × (row.now.table_id.words ≡ row_length B.view.load) }
-    requires load { IsAccepted B.view.load }
+    requires load { IsAcceptedLoad B.view.load }
     requires seat { (B.view.live ≡ true) × (B.view.told ≡ []) × In B.view.groups (tile_of B.step) }
     requires tile { StandsAt B.view.load B.view.run (tile_of step) tile.old }
     ensures seat { (seat.new.table_id ≡ seat.old.table_id) × (seat.new.id ≡ seat.old.id)

@@ -8,19 +8,19 @@ use Rattle.torus.specs.Shape.{tiles_of}
 use Rattle.torus.specs.declared.step.Step.{Step}
 use Rattle.flit_buffer.specs.Words.{word_of, performed}
 use Rattle.flit_buffer.specs.declared.word_op.WordOp.{WordOp}
-use Rattle.core_seen.specs.tile_laws.specs.Agents.{TilePlace}
-use Rattle.core_seen.specs.core_laws.specs.Core.{Load}
-use Rattle.core_seen.specs.core_laws.specs.Runs.{IsAccepted}
-use Rattle.fabric_rule.specs.Known.{tile_of, known, Shows, op_of, moves}
+use Rattle.tile_laws.specs.Agents.{TilePlace}
+use Rattle.core_laws.specs.Core.{Load}
+use Rattle.core_laws.specs.Runs.{IsAcceptedLoad}
+use Rattle.fabric_rule.specs.Known.{tile_of, known, ShowsBeginning, op_of, moves}
 use Rattle.fabric_rule.specs.Told.{grown, made, Tells}
 use Rattle.fabric_rule.specs.View.{View}
-use Rattle.fabric_rule.specs.Groups.{In, Others, Mine, Named, Told, knowing}
+use Rattle.fabric_rule.specs.Groups.{In, Others, Mine, Named, ToldOfGroup, knowing}
 use Rattle.fabric_rule.specs.Rule.{Kept, Attempted}
 use Rattle.fabric_rule.proofs.Groups.{away}
 use Rattle.fabric_rule.proofs.Growing.{kept_grow}
 use Rattle.fabric_rule.proofs.Runs.{tells_later, names_tile}
 
-module _ (load : Load) (ok : IsAccepted load) (words : List ℕ) (views : List View) (id : ℕ) (v : View) (c : Step) (p : TilePlace) (o : WordOp)
+module _ (load : Load) (ok : IsAcceptedLoad load) (words : List ℕ) (views : List View) (id : ℕ) (v : View) (c : Step) (p : TilePlace) (o : WordOp)
     (r between : List Step)
     (k : Kept load words views r) (at : get_elem? views id ≡ some v) (loaded : v.load ≡ load) (quiet : v.told ≡ []) (is : r ≡ v.run ++ between)
     (others : Others v.groups between)
@@ -35,7 +35,7 @@ module _ (load : Load) (ok : IsAccepted load) (words : List ℕ) (views : List V
   here_load = subst (λ (l : Load). known l v.run (tile_of c) ≡ Some p) loaded here
 
   pub told_here : Tells load words (v.run ++ between) c p o
-  told_here = tells_later load ok words v.run between c p o (subst (λ (l : List Step). Shows load words l) is k.shown)
+  told_here = tells_later load ok words v.run between c p o (subst (λ (l : List Step). ShowsBeginning load words l) is k.shown)
       (away v.groups (tile_of c) between mine others) here_load op
 
   abbrev more : List Step
@@ -57,8 +57,8 @@ module _ (load : Load) (ok : IsAccepted load) (words : List ℕ) (views : List V
   step_kept =
       let t = told_here in
       kept_grow load words (performed o words) views r more id v (knowing v (r ++ more)) k at
-      (subst (λ (l : List Step). Shows load (performed o words) l) (sym (grows_by b)) t.shows)
-      (named_by b) (mine_by b) refl (λ _. loaded) (λ t i. i) (k.fits id v at).apart (subst (Told (r ++ more) v.groups) (sym quiet) tt)
+      (subst (λ (l : List Step). ShowsBeginning load (performed o words) l) (sym (grows_by b)) t.shows)
+      (named_by b) (mine_by b) refl (λ _. loaded) (λ t i. i) (k.fits id v at).apart (subst (ToldOfGroup (r ++ more) v.groups) (sym quiet) tt)
 
   pub step_told : Attempted c p v n (knowing v (r ++ more))
   step_told =

@@ -6,10 +6,10 @@ use native.Mathlib.Decide.{ℕ_discrete}
 use lib.ListN.{get_elem?}
 use Rattle.atomic_table.proofs.Lists.{at_set, set_here, set_else, at_longer}
 use Rattle.torus.specs.declared.step.Step.{Step}
-use Rattle.core_seen.specs.core_laws.specs.Core.{Load}
+use Rattle.core_laws.specs.Core.{Load}
 use Rattle.fabric_rule.specs.View.{View}
 use Rattle.fabric_rule.specs.Groups.{In, Apart, with_groups}
-use Rattle.fabric_rule.specs.Rule.{Fits, Kept}
+use Rattle.fabric_rule.specs.Rule.{IsBegunBy, Kept}
 use Rattle.fabric_rule.proofs.Groups.{others_sub}
 use Rattle.fabric_rule.proofs.Growing.{there_length}
 
@@ -31,7 +31,7 @@ module _ (load : Load) (words : List ℕ) (views : List View) (r : List Step) (i
   abbrev cut : List View
   cut = set views id L ++ Q ∷ []
 
-  cut_fits : (gs : List (List ℕ)) → ((t : ℕ) → In gs t → In v.groups t) → Apart gs → Fits load r (with_groups v gs)
+  cut_fits : (gs : List (List ℕ)) → ((t : ℕ) → In gs t → In v.groups t) → Apart gs → IsBegunBy load r (with_groups v gs)
   cut_fits gs sub part = let f = k.fits id v at in record {
     same_load = f.same_load;
     begins = (f.begins.0, f.begins.1, others_sub v.groups gs f.begins.0 sub f.begins.2);
@@ -45,10 +45,10 @@ module _ (load : Load) (words : List ℕ) (views : List View) (r : List Step) (i
   place : (j : ℕ) (u : View) → get_elem? cut j ≡ some u → Place j u
   place j u e = ⊎_elim (λ p. inl (at_set views id j L u p)) (λ p. inr p) (at_end (set views id L) Q u j e)
 
-  place_fits : (j : ℕ) (u : View) → Place j u → Fits load r u
-  place_fits j u (inl (inl p)) = subst (Fits load r) p.1 (cut_fits gl subl partl)
+  place_fits : (j : ℕ) (u : View) → Place j u → IsBegunBy load r u
+  place_fits j u (inl (inl p)) = subst (IsBegunBy load r) p.1 (cut_fits gl subl partl)
   place_fits j u (inl (inr p)) = k.fits j u p.1
-  place_fits j u (inr p) = subst (Fits load r) p.1 (cut_fits gq subq partq)
+  place_fits j u (inr p) = subst (IsBegunBy load r) p.1 (cut_fits gq subq partq)
 
   move : (a b : View) (t : ℕ) → a ≡ b → In b.groups t → In a.groups t
   move a b t e i = subst (λ (z : View). In z.groups t) (sym e) i

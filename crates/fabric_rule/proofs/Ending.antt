@@ -5,20 +5,20 @@ use mathlib.Core.Option.{some, some-injective, some-ne-none}
 use lib.ListN.{get_elem?}
 use Rattle.torus.specs.Shape.{tiles_of}
 use Rattle.torus.specs.declared.step.Step.{Step}
-use Rattle.core_seen.specs.core_laws.specs.Core.{Load}
-use Rattle.fabric_rule.specs.Known.{tile_of, Shows}
+use Rattle.core_laws.specs.Core.{Load}
+use Rattle.fabric_rule.specs.Known.{tile_of, ShowsBeginning}
 use Rattle.fabric_rule.specs.View.{View}
-use Rattle.fabric_rule.specs.Groups.{In, Apart, Others, Named, Told}
-use Rattle.fabric_rule.specs.Rule.{Fits, Kept}
+use Rattle.fabric_rule.specs.Groups.{In, Apart, Others, Named, ToldOfGroup}
+use Rattle.fabric_rule.specs.Rule.{IsBegunBy, Kept}
 
-pub begins : (load : Load) (row : List ℕ) (v : View) → Shows load row [] → v.load ≡ load → v.run ≡ [] → v.told ≡ [] → Apart v.groups → Kept load row (v ∷ []) []
+pub begins : (load : Load) (row : List ℕ) (v : View) → ShowsBeginning load row [] → v.load ≡ load → v.run ≡ [] → v.told ≡ [] → Apart v.groups → Kept load row (v ∷ []) []
 begins load row v shown e f g parted = record { shown = shown; named = tt; fits = fits; apart = apart; known = (0, v, refl, f) }
   where
-    own : Fits load [] v
-    own = record { same_load = (λ _. e); begins = ([], sym (append-nil v.run ∙ f), tt); apart = parted; told = subst (Told [] v.groups) (sym g) tt }
+    own : IsBegunBy load [] v
+    own = record { same_load = (λ _. e); begins = ([], sym (append-nil v.run ∙ f), tt); apart = parted; told = subst (ToldOfGroup [] v.groups) (sym g) tt }
 
-    fits : (j : ℕ) (u : View) → get_elem? (v ∷ []) j ≡ some u → Fits load [] u
-    fits zero u p = subst (Fits load []) (some-injective v u p) own
+    fits : (j : ℕ) (u : View) → get_elem? (v ∷ []) j ≡ some u → IsBegunBy load [] u
+    fits zero u p = subst (IsBegunBy load []) (some-injective v u p) own
     fits (suc j) u p = absurd (some-ne-none u (sym p))
 
     apart : (i j : ℕ) (a b : View) → get_elem? (v ∷ []) i ≡ some a → get_elem? (v ∷ []) j ≡ some b → i ≢ j → (t : ℕ) → In a.groups t → In b.groups t → ⊥

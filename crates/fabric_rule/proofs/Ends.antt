@@ -5,15 +5,15 @@ use Rattle.std.specs.List.{list_all}
 use Rattle.std.proofs.lemmas.List.Folds.{list_all-map}
 use Rattle.std.proofs.lemmas.Option.{same_Some}
 use Rattle.torus.specs.declared.step.Step.{Step}
-use Rattle.core_seen.specs.script_follower.specs.Following.{is_finished}
-use Rattle.core_seen.specs.script_follower.specs.ProcessorRecord.{ProcessorRecord}
-use Rattle.core_seen.specs.tile_laws.specs.Tile.{TileState}
-use Rattle.core_seen.specs.tile_laws.specs.Agents.{TilePlace, tile_placed}
-use Rattle.core_seen.specs.core_laws.specs.Core.{Load, State, design_of, after}
-use Rattle.core_seen.specs.core_laws.specs.Runs.{IsAccepted}
-use Rattle.core_seen.specs.core_laws.specs.Reports.{CountsReports}
-use Rattle.core_seen.specs.core_laws.proofs.Reached.{reports_counted}
-use Rattle.core_seen.specs.core_row.proofs.Reached.{all_steps}
+use Rattle.script_follower.specs.Following.{is_finished}
+use Rattle.script_follower.specs.ProcessorRecord.{ProcessorRecord}
+use Rattle.tile_laws.specs.Tile.{TileState}
+use Rattle.tile_laws.specs.Agents.{TilePlace, tile_placed}
+use Rattle.core_laws.specs.Core.{Load, State, design_of, after}
+use Rattle.core_laws.specs.Runs.{IsAcceptedLoad}
+use Rattle.core_laws.specs.Reports.{CountsReports}
+use Rattle.core_laws.proofs.Reached.{reports_counted}
+use Rattle.core_row.proofs.RowOfRuns.{all_steps}
 use Rattle.fabric_rule.specs.Known.{known}
 use Rattle.fabric_rule.specs.Ended.{AreAllFinished}
 
@@ -22,7 +22,7 @@ passes : {X : Type 0} (p : X → Bool) (xs : List X) → ((i : ℕ) (x : X) → 
 passes p [] each = refl
 passes p (x ∷ xs) each = ap (λ (b : Bool). b && list_all p xs) (each 0 x refl) ∙ passes p xs (λ i y e. each (suc i) y e)
 
-module _ (load : Load) (ok : IsAccepted load) (run : List Step) where
+module _ (load : Load) (ok : IsAcceptedLoad load) (run : List Step) where
   abbrev s : State
   s = after load run
 

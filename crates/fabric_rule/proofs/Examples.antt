@@ -2,9 +2,9 @@
 use Rattle.std.proofs.Common.{◌≡◌, ℕ, true, false, List, [], ◌∷◌, refl, replicate}
 use Rattle.torus.specs.declared.step.Step.{Step}
 use Rattle.torus.specs.declared.step.Choice.TheVariants.{Done, TakeFrom}
-use Rattle.core_seen.specs.script_follower.specs.Following.{first_of, is_finished}
-use Rattle.core_seen.specs.tile_laws.specs.Agents.{TilePlace, tile_placed}
-use Rattle.core_seen.specs.core_laws.specs.Core.{Load, design_of, first_state, first_tile}
+use Rattle.script_follower.specs.Following.{first_of, is_finished}
+use Rattle.tile_laws.specs.Agents.{TilePlace, tile_placed}
+use Rattle.core_laws.specs.Core.{Load, design_of, first_state, first_tile}
 use Rattle.fabric_rule.specs.View.{View, blank}
 use Rattle.fabric_rule.specs.Known.{row_length, word_after, moves}
 use Rattle.fabric_rule.specs.Told.{made}

@@ -7,7 +7,7 @@ use Rattle.std.proofs.lemmas.Bool.Decides.{nat_tests}
 use Rattle.torus.specs.declared.step.Step.{Step}
 use Rattle.fabric_rule.specs.Known.{tile_of}
 use Rattle.fabric_rule.specs.Told.{Away}
-use Rattle.fabric_rule.specs.Groups.{Owns, In, Apart, Others, Mine, Named, GoesOn, Told, flat, first_group, other_groups, longer}
+use Rattle.fabric_rule.specs.Groups.{Owns, In, Apart, Others, Mine, Named, GroupGoesOn, ToldOfGroup, flat, first_group, other_groups, longer}
 
 pub others_append : (gs : List (List ℕ)) (xs ys : List Step) → Others gs xs → Others gs ys → Others gs (xs ++ ys)
 others_append gs [] ys a b = b
@@ -26,7 +26,7 @@ away gs t [] i o = tt
 away gs t (c ∷ more) i o = ((λ e. o.0 (subst (In gs) (sym e) i)), away gs t more i o.1)
 
 pub told_more : (gs : List (List ℕ)) (r more : List Step) (hs : List (List ℕ)) (told : List (List Step × List (List ℕ))) → ((t : ℕ) → In gs t → In hs t → ⊥)
-    → Mine gs more → Told r hs told → Told (r ++ more) hs told
+    → Mine gs more → ToldOfGroup r hs told → ToldOfGroup (r ++ more) hs told
 told_more gs r more hs [] no_tile m k = tt
 told_more gs r more hs (x ∷ xs) no_tile m k = (
   (
@@ -82,14 +82,14 @@ suffix gs [] x b y e le o = others_right gs b y (subst (Others gs) e o)
 suffix gs (c ∷ a) x [] y e le o = absurd (omega arith)
 suffix gs (c ∷ a) x (d ∷ b) y e le o = let f : a ++ x ≡ b ++ y = cc in suffix gs a x b y f (omega arith) o
 
-pub goes_by : (q : Bool) (gs hs : List (List ℕ)) (r a b : List Step) → nat_lt (length a) (length b) ≡ q → GoesOn gs r a → GoesOn hs r b
-    → GoesOn (gs ++ hs) r (if q then b else a)
+pub goes_by : (q : Bool) (gs hs : List (List ℕ)) (r a b : List Step) → nat_lt (length a) (length b) ≡ q → GroupGoesOn gs r a → GroupGoesOn hs r b
+    → GroupGoesOn (gs ++ hs) r (if q then b else a)
 goes_by true gs hs r a b e x y = let le : length a ≤ length b = grind (arith, nat_tests) in
     (y.0, y.1, others_both gs hs y.0 (suffix gs a x.0 b y.0 (sym x.1 ∙ y.1) le x.2) y.2)
 goes_by false gs hs r a b e x y = let le : length b ≤ length a = grind (arith, nat_tests) in
     (x.0, x.1, others_both gs hs x.0 x.2 (suffix hs b y.0 a x.0 (sym y.1 ∙ x.1) le y.2))
 
-pub longer_goes : (gs hs : List (List ℕ)) (r a b : List Step) → GoesOn gs r a → GoesOn hs r b → GoesOn (gs ++ hs) r (longer a b)
+pub longer_goes : (gs hs : List (List ℕ)) (r a b : List Step) → GroupGoesOn gs r a → GroupGoesOn hs r b → GroupGoesOn (gs ++ hs) r (longer a b)
 longer_goes gs hs r a b x y = goes_by (nat_lt (length a) (length b)) gs hs r a b refl x y
 
 longer_by : (q : Bool) (a b : List Step) → nat_lt (length a) (length b) ≡ q

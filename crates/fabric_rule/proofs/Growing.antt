@@ -6,11 +6,11 @@ use lib.ListN.{get_elem?}
 use Rattle.atomic_table.proofs.Lists.{at_set, set_here}
 use Rattle.torus.specs.Shape.{tiles_of}
 use Rattle.torus.specs.declared.step.Step.{Step}
-use Rattle.core_seen.specs.core_laws.specs.Core.{Load}
-use Rattle.fabric_rule.specs.Known.{Shows}
+use Rattle.core_laws.specs.Core.{Load}
+use Rattle.fabric_rule.specs.Known.{ShowsBeginning}
 use Rattle.fabric_rule.specs.View.{View}
-use Rattle.fabric_rule.specs.Groups.{In, Apart, Mine, Named, Told}
-use Rattle.fabric_rule.specs.Rule.{Fits, Kept}
+use Rattle.fabric_rule.specs.Groups.{In, Apart, Mine, Named, ToldOfGroup}
+use Rattle.fabric_rule.specs.Rule.{IsBegunBy, Kept}
 use Rattle.fabric_rule.proofs.Groups.{others_append, named_append, others_of_mine, told_more}
 
 pub there_length : (l : List View) (i : ℕ) (u : View) → get_elem? l i ≡ some u → i < length l
@@ -20,11 +20,11 @@ there_length (x ∷ l) (suc i) u e = let p = there_length l i u e in omega arith
 
 -- one seat learns the longest run, which goes on by steps of its own. Its view becomes w
 module _ (load : Load) (words now : List ℕ) (views : List View) (r more : List Step) (id : ℕ) (v w : View)
-    (k : Kept load words views r) (at : get_elem? views id ≡ some v) (shown : Shows load now (r ++ more)) (named : Named (tiles_of load.shape) more)
+    (k : Kept load words views r) (at : get_elem? views id ≡ some v) (shown : ShowsBeginning load now (r ++ more)) (named : Named (tiles_of load.shape) more)
     (mine : Mine v.groups more)
     (run : w.run ≡ r ++ more) (same_load : w.live ≡ true → w.load ≡ load) (sub : (t : ℕ) → In w.groups t → In v.groups t) (parted : Apart w.groups)
-    (told : Told (r ++ more) w.groups w.told) where
-  fits_other : (j : ℕ) (u : View) → j ≢ id → get_elem? views j ≡ some u → Fits load (r ++ more) u
+    (told : ToldOfGroup (r ++ more) w.groups w.told) where
+  fits_other : (j : ℕ) (u : View) → j ≢ id → get_elem? views j ≡ some u → IsBegunBy load (r ++ more) u
   fits_other j u ne e = let f = k.fits j u e in let no_tile = k.apart id j v u at e (λ s. ne (sym s)) in record {
     same_load = f.same_load;
     begins = (
@@ -36,11 +36,11 @@ module _ (load : Load) (words now : List ℕ) (views : List View) (r more : List
     told = told_more v.groups r more u.groups u.told no_tile mine f.told;
   }
 
-  fits_own : Fits load (r ++ more) w
+  fits_own : IsBegunBy load (r ++ more) w
   fits_own = record { same_load = same_load; begins = ([], sym (append-nil w.run ∙ run), tt); apart = parted; told = told }
 
-  fits_all : (j : ℕ) (u : View) → get_elem? (set views id w) j ≡ some u → Fits load (r ++ more) u
-  fits_all j u e = ⊎_elim (λ (p : (j ≡ id) × (w ≡ u)). subst (Fits load (r ++ more)) p.1 fits_own)
+  fits_all : (j : ℕ) (u : View) → get_elem? (set views id w) j ≡ some u → IsBegunBy load (r ++ more) u
+  fits_all j u e = ⊎_elim (λ (p : (j ≡ id) × (w ≡ u)). subst (IsBegunBy load (r ++ more)) p.1 fits_own)
       (λ (p : (j ≢ id) × (get_elem? views j ≡ some u)). fits_other j u p.0 p.1) (at_set views id j w u e)
 
   -- no seat has a tile that it hadn't

@@ -6,10 +6,10 @@ use native.Mathlib.Decide.{ℕ_discrete}
 use lib.ListN.{get_elem?}
 use Rattle.atomic_table.proofs.Lists.{at_set, set_here, set_else}
 use Rattle.torus.specs.declared.step.Step.{Step}
-use Rattle.core_seen.specs.core_laws.specs.Core.{Load}
+use Rattle.core_laws.specs.Core.{Load}
 use Rattle.fabric_rule.specs.View.{View, blank}
 use Rattle.fabric_rule.specs.Groups.{In, both, longer}
-use Rattle.fabric_rule.specs.Rule.{Fits, Kept}
+use Rattle.fabric_rule.specs.Rule.{IsBegunBy, Kept}
 use Rattle.fabric_rule.proofs.Groups.{in_append, in_left, in_right, apart_append, others_none, longer_goes, longer_length, whole}
 use Rattle.fabric_rule.proofs.Growing.{there_length}
 
@@ -18,7 +18,7 @@ module _ (load : Load) (words : List ℕ) (views : List View) (r : List Step) (i
   abbrev B : View
   B = both v w
 
-  fits_both : Fits load r B
+  fits_both : IsBegunBy load r B
   fits_both = let f = k.fits id v at in let g = k.fits other w at' in record {
     same_load = f.same_load;
     begins = longer_goes v.groups w.groups r v.run w.run f.begins g.begins;
@@ -26,7 +26,7 @@ module _ (load : Load) (words : List ℕ) (views : List View) (r : List Step) (i
     told = (f.begins, in_left v.groups w.groups, (g.begins, in_right v.groups w.groups, tt));
   }
 
-  fits_blank : Fits load r blank
+  fits_blank : IsBegunBy load r blank
   fits_blank = record { same_load = (λ e. absurd (true≢false (sym e))); begins = (r, refl, others_none r); apart = tt; told = tt }
 
   abbrev now : List View
@@ -42,9 +42,9 @@ module _ (load : Load) (words : List ℕ) (views : List View) (r : List Step) (i
       (λ (p : (j ≢ other) × (get_elem? (set views id B) j ≡ some u)). inr (p.0, at_set views id j B u p.1))
       (at_set (set views id B) other j blank u e)
 
-  fits_by : (j : ℕ) (u : View) → Origin j u → Fits load r u
-  fits_by j u (inl e) = subst (Fits load r) e fits_blank
-  fits_by j u (inr p) = ⊎_elim (λ (q : (j ≡ id) × (B ≡ u)). subst (Fits load r) q.1 fits_both) (λ (q : (j ≢ id) × (get_elem? views j ≡ some u)). k.fits j u q.1)
+  fits_by : (j : ℕ) (u : View) → Origin j u → IsBegunBy load r u
+  fits_by j u (inl e) = subst (IsBegunBy load r) e fits_blank
+  fits_by j u (inr p) = ⊎_elim (λ (q : (j ≡ id) × (B ≡ u)). subst (IsBegunBy load r) q.1 fits_both) (λ (q : (j ≢ id) × (get_elem? views j ≡ some u)). k.fits j u q.1)
       p.1
 
   -- a seat before that had the tile, which is the same one or the one that was taken in

@@ -1,3 +1,5 @@
+pub use Rattle.core_machine.proofs.Lawful
+pub use Rattle.core_row.proofs.RowOfRuns
 pub mod Runs
 pub mod Stores
 pub mod Groups

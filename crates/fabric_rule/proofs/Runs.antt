@@ -12,21 +12,21 @@ use Rattle.packet.specs.declared.kinds.Request.{Request}
 use Rattle.flit_buffer.specs.Words.{word_of, performed}
 use Rattle.flit_buffer.specs.declared.word_op.WordOp.{WordOp}
 use Rattle.channel_number.specs.Order.{channel_count}
-use Rattle.core_seen.specs.order_abstract.specs.Room.{home_room}
-use Rattle.core_seen.specs.tile_laws.specs.declared.agent.Agent.{Agent}
-use Rattle.core_seen.specs.tile_laws.specs.declared.agent.Agent.TheVariants.{Processor, Router, Bank}
-use Rattle.core_seen.specs.tile_laws.specs.Tile.{Design, TileState}
-use Rattle.core_seen.specs.tile_laws.specs.Agents.{TilePlace, tile_placed, agent_op, tile_next_op, tile_absorbed, agent_kind, agent_tile}
-use Rattle.core_seen.specs.tile.specs.Placed.{IsAcceptableTo, HasRoomForEntry}
-use Rattle.core_seen.specs.core_laws.specs.Core.{Load, State, design_of, first_state, after, next, or_same, step}
-use Rattle.core_seen.specs.core_laws.specs.Runs.{IsAccepted, state_after}
-use Rattle.core_seen.specs.core_laws.proofs.AskedFor.{bank_asked}
-use Rattle.core_seen.specs.core_row.specs.Row.{row_of}
-use Rattle.core_seen.specs.core_row.specs.Attempts.{tile_in, LeavesRow, MovesRow, IsWordOperation}
-use Rattle.core_seen.specs.core_row.proofs.Reached.{is_operation, run_leaves, all_steps, run_append, size, tiles_there, surrounded}
-use Rattle.core_seen.specs.core_row.proofs.Rows.{row_word}
-use Rattle.core_seen.proofs.Tries.{may_try}
-use Rattle.fabric_rule.specs.Known.{tile_of, known, enabled, Shows, word_after, row_length, op_of, moves, left_by, Suits}
+use Rattle.order_abstract.specs.Room.{home_room}
+use Rattle.tile_laws.specs.declared.agent.Agent.{Agent}
+use Rattle.tile_laws.specs.declared.agent.Agent.TheVariants.{Processor, Router, Bank}
+use Rattle.tile_laws.specs.Tile.{Design, TileState}
+use Rattle.tile_laws.specs.Agents.{TilePlace, tile_placed, agent_op, tile_next_op, tile_absorbed, agent_kind, agent_tile}
+use Rattle.tile.specs.Placed.{IsAcceptableTo, HasRoomForEntry}
+use Rattle.core_laws.specs.Core.{Load, State, design_of, first_state, after, next, or_same, step}
+use Rattle.core_laws.specs.Runs.{IsAcceptedLoad, state_after}
+use Rattle.core_laws.proofs.AskedFor.{bank_asked}
+use Rattle.core_row.specs.Row.{row_of}
+use Rattle.core_row.specs.Attempts.{tile_in, LeavesRow, MovesRow, IsWordOperation}
+use Rattle.core_row.proofs.RowOfRuns.{is_operation, run_leaves, all_steps, run_append, size, tiles_there, surrounded}
+use Rattle.core_row.proofs.Rows.{row_word}
+use Rattle.core_row.proofs.Tries.{may_try}
+use Rattle.fabric_rule.specs.Known.{tile_of, known, enabled, ShowsBeginning, word_after, row_length, op_of, moves, left_by, Suits}
 use Rattle.fabric_rule.specs.Told.{Away, grown, Tells}
 
 away_all : (t : ℕ) (more : List Step) → Away t more → All (λ (attempt : Step). agent_tile attempt.agent ≢ t) more
@@ -75,11 +75,11 @@ after_one load xs attempt = run_append load (first_state load) xs (attempt ∷ [
 abbrev pub shown_row : Load → List Step → List ℕ
 shown_row load run = row_of (design_of load) (after load run)
 
-pub row_shows : (load : Load) (run : List Step) → Shows load (shown_row load run) run
-unfolding Shows
+pub row_shows : (load : Load) (run : List Step) → ShowsBeginning load (shown_row load run) run
+unfolding ShowsBeginning
 row_shows load run = refl
 
-module _ (load : Load) (ok : IsAccepted load) where
+module _ (load : Load) (ok : IsAcceptedLoad load) where
   abbrev d : Design
   d = design_of load
 
@@ -109,15 +109,15 @@ module _ (load : Load) (ok : IsAccepted load) where
       let k = tile_last run t p (to_last run t p here) in
       subst (λ (n : ℕ). t < n) (tiles_there load ok run (length run)) (slice_get_within (last run).tiles t k.0 k.1)
 
-  pub row_size : (row : List ℕ) (run : List Step) → Shows load row run → length row ≡ row_length load
-  unfolding Shows
+  pub row_size : (row : List ℕ) (run : List Step) → ShowsBeginning load row run → length row ≡ row_length load
+  unfolding ShowsBeginning
   row_size row run shows =
       let n = size load ok run (length run) in
       ap length (shows ∙ ap (λ (z : State). row_of d z) (sym (all_steps load run))) ∙ (omega (arith, n))
 
-  pub word_shown : (row : List ℕ) (run : List Step) → Shows load row run → (a : ℕ)
+  pub word_shown : (row : List ℕ) (run : List Step) → ShowsBeginning load row run → (a : ℕ)
       → slice_index row (channel_count load.shape * load.depth + a) ≡ word_after load run a
-  unfolding Shows word_after
+  unfolding ShowsBeginning word_after
   word_shown row run shows a =
       let s = last run in
       ap (λ (r : List ℕ). slice_index r (channel_count load.shape * load.depth + a)) (shows ∙ ap (λ (z : State). row_of d z) (sym (all_steps load run)))
@@ -133,8 +133,8 @@ module _ (load : Load) (ok : IsAccepted load) where
     n = slice_index row (word_of op)
 
     -- the word found suits the attempt
-    suits_here : Shows load row run → known load run t ≡ Some p → op_of p attempt ≡ Some op → Suits load p attempt n
-    unfolding Shows op_of Suits
+    suits_here : ShowsBeginning load row run → known load run t ≡ Some p → op_of p attempt ≡ Some op → Suits load p attempt n
+    unfolding ShowsBeginning op_of Suits
     suits_here shows here asks =
         let k = tile_last run t p (to_last run t p here) in
         let asked = bank_asked load ok run (length run) t k.0 k.1 in
@@ -194,8 +194,8 @@ module _ (load : Load) (ok : IsAccepted load) where
         subst (λ (z : State). IsWordOperation d z attempt) (all_steps load run) (is_operation load ok run (length run) attempt) in
         subst OfOp (ap (λ (o : Option TilePlace). option_and_then (λ (q : TilePlace). tile_next_op q attempt) o) here ∙ asks) any
 
-    pub tells : Shows load row run → known load run t ≡ Some p → op_of p attempt ≡ Some op → Tells load row run attempt p op
-    unfolding known Shows enabled op_of moves left_by
+    pub tells : ShowsBeginning load row run → known load run t ≡ Some p → op_of p attempt ≡ Some op → Tells load row run attempt p op
+    unfolding known ShowsBeginning enabled op_of moves left_by
     tells shows here asks =
         let k = operation here asks in
         let so = by_step shows here (step d s attempt) refl k.1 in
@@ -208,7 +208,7 @@ module _ (load : Load) (ok : IsAccepted load) where
         }
 
   -- the same by a beginning of the run, after which the tile made no step
-  pub tells_later : (row : List ℕ) (run more : List Step) (attempt : Step) (p : TilePlace) (op : WordOp) → Shows load row (run ++ more)
+  pub tells_later : (row : List ℕ) (run more : List Step) (attempt : Step) (p : TilePlace) (op : WordOp) → ShowsBeginning load row (run ++ more)
       → Away (tile_of attempt) more
       → known load run (tile_of attempt) ≡ Some p → op_of p attempt ≡ Some op → Tells load row (run ++ more) attempt p op
   tells_later row run more attempt p op shows away here asks =

@@ -5,12 +5,12 @@ use lib.ListN.{get_elem?}
 use Rattle.torus.specs.Shape.{tiles_of}
 use Rattle.torus.specs.declared.step.Step.{Step}
 use Rattle.torus.specs.declared.step.Choice.TheVariants.{Done}
-use Rattle.core_seen.specs.script_follower.specs.Following.{first_of, is_finished}
-use Rattle.core_seen.specs.core_laws.specs.Core.{Load}
-use Rattle.fabric_rule.specs.Known.{Shows}
+use Rattle.script_follower.specs.Following.{first_of, is_finished}
+use Rattle.core_laws.specs.Core.{Load}
+use Rattle.fabric_rule.specs.Known.{ShowsBeginning}
 use Rattle.fabric_rule.specs.View.{View}
-use Rattle.fabric_rule.specs.Groups.{In, Apart, Others, Extends, Named, Told}
-use Rattle.fabric_rule.specs.Rule.{Fits, Kept}
+use Rattle.fabric_rule.specs.Groups.{In, Apart, Others, Extends, Named, ToldOfGroup}
+use Rattle.fabric_rule.specs.Rule.{IsBegunBy, Kept}
 
 -- two tiles with eight words, and empty scripts
 abbrev load : Load
@@ -37,8 +37,8 @@ seat tile known = record { live = true; load = load; run = known; groups = (tile
 abbrev seats : List View
 seats = seat 0 run ∷ seat 1 [] ∷ []
 
-words_show_the_run : Shows load words run
-unfolding Shows first_of is_finished
+words_show_the_run : ShowsBeginning load words run
+unfolding ShowsBeginning first_of is_finished
 words_show_the_run = refl
 
 -- what holds of two views holds of each of them, and of pairs of different ones
@@ -87,7 +87,7 @@ rule_is_kept : Kept load words seats run
 rule_is_kept = record {
   shown = words_show_the_run;
   named = (omega arith, tt);
-  fits = each_of_two (seat 0 run) (seat 1 []) (Fits load run)
+  fits = each_of_two (seat 0 run) (seat 1 []) (IsBegunBy load run)
       (record { same_load = (λ _. refl); begins = ([], refl, tt); apart = one_group 0; told = tt })
       (record { same_load = (λ _. refl); begins = (run, refl, not_of_tile_1); apart = one_group 1; told = tt });
   apart = pair_apart (seat 0 run) (seat 1 []) seats_apart;
@@ -135,17 +135,17 @@ tile_has_two_seats = each_of_two (seat 0 run) (seat 0 run) (λ v. Apart v.groups
 
 -- wrong: the words show a state that some seat knows, and not that after the longest run
 abbrev ShowsSome : List ℕ → List View → Type 0
-ShowsSome row views = (id : ℕ) × (v : View) × (get_elem? views id ≡ some v) × Shows load row v.run
+ShowsSome row views = (id : ℕ) × (v : View) × (get_elem? views id ≡ some v) × ShowsBeginning load row v.run
 
 abbrev first_words : List ℕ
 first_words = replicate 105 0
 
 older_row_is_refused : Kept load first_words seats run → ⊥
-unfolding Shows first_of is_finished
+unfolding ShowsBeginning first_of is_finished
 older_row_is_refused k =
     let e : ◌≡◌ {A = ℕ} 0 1 = ap (λ (row : List ℕ). slice_index row 104) k.shown in
     absurd (omega (arith, e))
 
 older_row_is_taken : ShowsSome first_words seats
-unfolding Shows first_of is_finished
+unfolding ShowsBeginning first_of is_finished
 older_row_is_taken = (1, seat 1 [], refl, refl)

@@ -57,13 +57,13 @@ other_groups [] = []
 other_groups (g ∷ gs) = gs
 
 -- the run goes on from another, with no step of these groups
-abbrev pub GoesOn : List (List ℕ) → List Step → List Step → Type 0
-GoesOn gs r first = (rest : List Step) × (r ≡ first ++ rest) × Others gs rest
+abbrev pub GroupGoesOn : List (List ℕ) → List Step → List Step → Type 0
+GroupGoesOn gs r first = (rest : List Step) × (r ≡ first ++ rest) × Others gs rest
 
 -- the run goes on from each run that was told of, with no step of its groups, which are among these
-abbrev pub Told : List Step → List (List ℕ) → List (List Step × List (List ℕ)) → Type 0
-Told r groups [] = Unit {0}
-Told r groups (x ∷ xs) = GoesOn x.1 r x.0 × ((t : ℕ) → In x.1 t → In groups t) × Told r groups xs
+abbrev pub ToldOfGroup : List Step → List (List ℕ) → List (List Step × List (List ℕ)) → Type 0
+ToldOfGroup r groups [] = Unit {0}
+ToldOfGroup r groups (x ∷ xs) = GroupGoesOn x.1 r x.0 × ((t : ℕ) → In x.1 t → In groups t) × ToldOfGroup r groups xs
 
 -- how a view is cut: the first group stays, or the new view has no group
 abbrev pub with_groups : View → List (List ℕ) → View

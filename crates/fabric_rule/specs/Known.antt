@@ -4,13 +4,13 @@ use Rattle.std.specs.Prelude.{◌≡◌, ℕ, ◌+◌, ◌*◌, Bool, List, leng
 use Rattle.torus.specs.Shape.{tiles_of}
 use Rattle.torus.specs.declared.step.Step.{Step}
 use Rattle.channel_number.specs.Order.{channel_count}
-use Rattle.core_seen.specs.order_abstract.specs.Room.{home_room}
+use Rattle.order_abstract.specs.Room.{home_room}
 use Rattle.flit_buffer.specs.declared.word_op.WordOp.{WordOp}
-use Rattle.core_seen.specs.tile_laws.specs.Agents.{TilePlace, tile_next_op, tile_absorbed, agent_kind, agent_tile}
-use Rattle.core_seen.specs.tile.specs.Placed.{IsAcceptableTo, HasRoomForEntry}
-use Rattle.core_seen.specs.core_laws.specs.Core.{Load, design_of, after, step}
-use Rattle.core_seen.specs.core_row.specs.Row.{row_of}
-use Rattle.core_seen.specs.core_row.specs.Attempts.{tile_in}
+use Rattle.tile_laws.specs.Agents.{TilePlace, tile_next_op, tile_absorbed, agent_kind, agent_tile}
+use Rattle.tile.specs.Placed.{IsAcceptableTo, HasRoomForEntry}
+use Rattle.core_laws.specs.Core.{Load, design_of, after, step}
+use Rattle.core_row.specs.Row.{row_of}
+use Rattle.core_row.specs.Attempts.{tile_in}
 
 -- the tile of an attempt
 abbrev pub tile_of : Step → ℕ
@@ -25,8 +25,8 @@ unfoldable pub enabled : Load → List Step → Step → Bool
 enabled load run attempt = is_some (step (design_of load) (after load run) attempt)
 
 -- the row of words is that of the state after a run
-unfoldable pub Shows : Load → List ℕ → List Step → Type 0
-Shows load row run = row ≡ row_of (design_of load) (after load run)
+unfoldable pub ShowsBeginning : Load → List ℕ → List Step → Type 0
+ShowsBeginning load row run = row ≡ row_of (design_of load) (after load run)
 
 -- the word of the memory, or behind it the done word, that stands after a run
 unfoldable pub word_after : Load → List Step → ℕ → ℕ

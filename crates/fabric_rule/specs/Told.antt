@@ -3,9 +3,9 @@ use Rattle.std.specs.Prelude.{◌≡◌, ◌≢◌, ℕ, ◌<◌, Bool, if◌the
 use Rattle.torus.specs.declared.step.Step.{Step}
 use Rattle.flit_buffer.specs.Words.{word_of, performed}
 use Rattle.flit_buffer.specs.declared.word_op.WordOp.{WordOp}
-use Rattle.core_seen.specs.tile_laws.specs.Agents.{TilePlace}
-use Rattle.core_seen.specs.core_laws.specs.Core.{Load}
-use Rattle.fabric_rule.specs.Known.{tile_of, known, enabled, Shows, moves, left_by, Suits}
+use Rattle.tile_laws.specs.Agents.{TilePlace}
+use Rattle.core_laws.specs.Core.{Load}
+use Rattle.fabric_rule.specs.Known.{tile_of, known, enabled, ShowsBeginning, moves, left_by, Suits}
 
 -- no attempt of tile t among these
 abbrev pub Away : ℕ → List Step → Type 0
@@ -28,7 +28,7 @@ pub record Tells (load : Load) (row : List ℕ) (run : List Step) (attempt : Ste
     (op : WordOp) : Type 0 where
   pub within : word_of op < length row
   pub enabled_there : enabled load run attempt ≡ moves p attempt (slice_index row (word_of op))
-  pub shows : Shows load (performed op row)
+  pub shows : ShowsBeginning load (performed op row)
       (grown (moves p attempt (slice_index row (word_of op))) run attempt)
   pub tile : known load (grown (moves p attempt (slice_index row (word_of op))) run attempt)
       (tile_of attempt)

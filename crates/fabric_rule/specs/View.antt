@@ -1,7 +1,7 @@
 -- What a seat knows, as the rule of the shared row has it.
 use Rattle.std.specs.Prelude.{ℕ, Bool, false, List, []}
 use Rattle.torus.specs.declared.step.Step.{Step}
-use Rattle.core_seen.specs.core_laws.specs.Core.{Load}
+use Rattle.core_laws.specs.Core.{Load}
 
 -- what a seat knows: whether it is still there, false once another took it in; what was loaded; a
 -- run of it; the seat's tiles, in groups; and the runs that it was told of last, each with the

@@ -9,24 +9,24 @@ ghost use Rattle.torus.specs.declared.step.Step.{Step};
 ghost use Rattle.flit_buffer.specs.Words.{word_of, performed};
 ghost use Rattle.flit_buffer.specs.declared.word_op.WordOp.{WordOp};
 ghost use Rattle.flit_buffer.specs.declared.word_op.WordOp.TheVariants.{Store};
-ghost use Rattle.core_seen.specs.tile_laws.specs.Agents.{TilePlace};
-ghost use Rattle.core_seen.specs.core_laws.specs.Core.{Load};
-ghost use Rattle.core_seen.specs.core_laws.specs.Runs.{IsAccepted};
-ghost use Rattle.fabric_rule.specs.Known.{tile_of, known, Shows, word_after, row_length, op_of, moves, left_by, Suits};
+ghost use Rattle.tile_laws.specs.Agents.{TilePlace};
+ghost use Rattle.core_laws.specs.Core.{Load};
+ghost use Rattle.core_laws.specs.Runs.{IsAcceptedLoad};
+ghost use Rattle.fabric_rule.specs.Known.{tile_of, known, ShowsBeginning, word_after, row_length, op_of, moves, left_by, Suits};
 ghost use Rattle.fabric_rule.specs.Told.{Away, Tells, made};
 ghost use Rattle.fabric_rule.specs.View.{View, blank};
-ghost use Rattle.fabric_rule.specs.Groups.{In, Apart, Others, Mine, Named, Told, both, knowing, with_groups};
+ghost use Rattle.fabric_rule.specs.Groups.{In, Apart, Others, Mine, Named, ToldOfGroup, both, knowing, with_groups};
 ghost use Rattle.fabric_rule.specs.Rule.{Kept, Attempted};
 
 /// Only its own steps change a tile. So by a run that is the beginning of a longer one, after which its
 /// tile made no step, and by one word of a row that shows the longer run, a seat knows whether its
 /// attempt is enabled after the longer run, and what stands then.
 pub fn a_seat_knows_enough()
-    ensures tile { (load : Load) → IsAccepted load → (run more : List Step) (t : ℕ) → Away t more
+    ensures tile { (load : Load) → IsAcceptedLoad load → (run more : List Step) (t : ℕ) → Away t more
         → known load (run ++ more) t ≡ known load run t }
-    ensures word { (load : Load) → IsAccepted load
+    ensures word { (load : Load) → IsAcceptedLoad load
         → (row : List ℕ) (run more : List Step) (attempt : Step) (p : TilePlace) (op : WordOp)
-        → Shows load row (run ++ more) → Away (tile_of attempt) more
+        → ShowsBeginning load row (run ++ more) → Away (tile_of attempt) more
         → known load run (tile_of attempt) ≡ Some p → op_of p attempt ≡ Some op
         → Tells load row (run ++ more) attempt p op }
 {}
@@ -34,12 +34,12 @@ pub fn a_seat_knows_enough()
 /// The words of the memory stand in the row behind the places of all channels, and behind them the
 /// done word; a tile of which something is known is one of the torus.
 pub fn words_are_shown()
-    ensures size { (load : Load) → IsAccepted load → (row : List ℕ) (run : List Step)
-        → Shows load row run → length row ≡ row_length load }
-    ensures words { (load : Load) → IsAccepted load → (row : List ℕ) (run : List Step) (a : ℕ)
-        → Shows load row run
+    ensures size { (load : Load) → IsAcceptedLoad load → (row : List ℕ) (run : List Step)
+        → ShowsBeginning load row run → length row ≡ row_length load }
+    ensures words { (load : Load) → IsAcceptedLoad load → (row : List ℕ) (run : List Step) (a : ℕ)
+        → ShowsBeginning load row run
         → slice_index row (channel_count load.shape * load.depth + a) ≡ word_after load run a }
-    ensures tiles { (load : Load) → IsAccepted load → (run : List Step) (t : ℕ) (p : TilePlace)
+    ensures tiles { (load : Load) → IsAcceptedLoad load → (run : List Step) (t : ℕ) (p : TilePlace)
         → known load run t ≡ Some p → t < tiles_of load.shape }
 {}
 
@@ -55,7 +55,7 @@ pub fn stores_are_blind()
 /// The rule begins with one seat that knows the empty run, over the row that shows the state before any
 /// step; and the run of a seat that has every tile is the longest.
 pub fn the_rule_begins_and_ends()
-    ensures begins { (load : Load) (row : List ℕ) (v : View) → Shows load row [] → v.load ≡ load
+    ensures begins { (load : Load) (row : List ℕ) (v : View) → ShowsBeginning load row [] → v.load ≡ load
         → v.run ≡ [] → v.told ≡ [] → Apart v.groups
         → Kept load row (v ∷ []) [] }
     ensures ends { (load : Load) (words : List ℕ) (views : List View) (r : List Step) (id : ℕ)
@@ -68,7 +68,7 @@ pub fn the_rule_begins_and_ends()
 /// at a tile of its own, that stands as after the seat's run, the rule is kept: the longest run goes on
 /// by the attempt if it moved, and the seat knows all of it.
 pub fn operations_keep_the_rule()
-    ensures kept { (load : Load) → IsAccepted load
+    ensures kept { (load : Load) → IsAcceptedLoad load
         → (words : List ℕ) (views : List View) (id : ℕ) (v : View)
         (attempt : Step) (p : TilePlace) (op : WordOp) (r between : List Step)
         → Kept load words views r → get_elem? views id ≡ some v → v.load ≡ load → v.told ≡ []
@@ -79,7 +79,7 @@ pub fn operations_keep_the_rule()
         (set views id (knowing v (r
         ++ made (moves p attempt (slice_index words (word_of op))) attempt)))
         (r ++ made (moves p attempt (slice_index words (word_of op))) attempt) }
-    ensures told { (load : Load) → IsAccepted load
+    ensures told { (load : Load) → IsAcceptedLoad load
         → (words : List ℕ) (views : List View) (id : ℕ) (v : View)
         (attempt : Step) (p : TilePlace) (op : WordOp) (r between : List Step)
         → Kept load words views r → get_elem? views id ≡ some v → v.load ≡ load → v.told ≡ []
@@ -96,10 +96,10 @@ pub fn views_keep_the_rule()
     ensures grown { (load : Load) (words now : List ℕ) (views : List View) (r more : List Step)
         (id : ℕ) (v w : View)
         → Kept load words views r → get_elem? views id ≡ some v
-        → Shows load now (r ++ more) → Named (tiles_of load.shape) more → Mine v.groups more
+        → ShowsBeginning load now (r ++ more) → Named (tiles_of load.shape) more → Mine v.groups more
         → w.run ≡ r ++ more → (w.live ≡ true → w.load ≡ load)
         → ((t : ℕ) → In w.groups t → In v.groups t) → Apart w.groups
-        → Told (r ++ more) w.groups w.told
+        → ToldOfGroup (r ++ more) w.groups w.told
         → Kept load now (set views id w) (r ++ more) }
     ensures joined { (load : Load) (words : List ℕ) (views : List View) (r : List Step)
         (id other : ℕ) (v w : View)

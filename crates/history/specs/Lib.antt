@@ -1,3 +1,10 @@
-pub use Rattle.machine_report
-pub use Rattle.worker_run
+pub use Rattle.fabric.specs.Asking
+pub use Rattle.fabric.specs.Ending
+pub use Rattle.fabric.specs.Key
+pub use Rattle.fabric.specs.Opening
+pub use Rattle.fabric.specs.Seats
+pub use Rattle.fabric_rule.specs.Ended
+pub use Rattle.fabric_rule.specs.Groups
+pub use Rattle.fabric_rule.specs.Known
+pub use Rattle.machine_report.specs.Report
 pub mod RunReport

@@ -3,7 +3,7 @@ use Rattle.std.proofs.Common.{◌≡◌, ℕ, ◌<◌, List}
 use Rattle.std.specs.Prelude.{replicate}
 use Rattle.torus.specs.Shape.{Shape, tiles_of}
 use Rattle.torus.specs.declared.shape.Class.TheVariants.{Request, Reply}
-use Rattle.channel_number.specs.dateline_route.specs.declared.channel.Kind.TheVariants.{Injection, Ejection}
+use Rattle.dateline_route.specs.declared.channel.Kind.TheVariants.{Injection, Ejection}
 use Rattle.channel_number.specs.Order.{channel_count}
 use Rattle.channel_number.specs.Ports.{injection_channel, ejection_channel}
 use Rattle.channel_number.proofs.Orders.{index_below}

@@ -1,4 +1,3 @@
-pub use Rattle.flit_buffer
 pub mod ServiceList
 pub mod Inside
 pub mod BankTable

@@ -2,7 +2,7 @@
 
 ghost use Rattle.std.specs.Prelude.{◌≡◌, ◌<◌, ◌≤◌, ◌*◌, IfOk, ◌+◌, ◌-◌};
 ghost use Rattle.torus.specs.Shape.{tiles_of};
-ghost use Rattle.channel_number.specs.dateline_route.specs.Walk.{IsChannel};
+ghost use Rattle.dateline_route.specs.Walk.{IsChannel};
 ghost use Rattle.channel_number.specs.Order.{channel_index};
 ghost use Rattle.home_bank.specs.Beginning.{bank_ports};
 

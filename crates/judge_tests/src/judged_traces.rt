@@ -7,7 +7,7 @@ use std::test::Fail;
 use trace_judge::judge::{Verdict, judge};
 use trace_judge::trace::is_trace;
 use trace_judge::undecided::Undecided;
-use trace_order::{Call, Event};
+use trace_laws::{Call, Event};
 
 /// What is seen of a list of events.
 #[derive(Clone, Copy, PartialEq, Eq)]

@@ -1,5 +1,5 @@
+use network_judge::{By, Join, Kind, Reply, Verdict, Why, judge};
 use std::test::Fail;
-use table_net::{By, Join, Kind, Reply, Verdict, Why, judge};
 
 /// Two injection channels, two ejection channels and two hops.
 const KINDS: [Kind; 6] = [

@@ -1,9 +1,9 @@
 use linked_list_allocator::LocalHeap;
+use network_text::{Answer, network_answer, read_network};
 use script::LineFault;
 use std::alloc::{AllocError, Global};
 use std::process::Abort;
 use std::test::Fail;
-use table_text::{Answer, network_answer, read_network};
 use torus::Fault;
 
 /// A ring of two routers: packets from channel 0 go over the hops 4 and 5 to channel 2, and those

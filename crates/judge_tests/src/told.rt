@@ -1,6 +1,6 @@
 use packet::{Op, Operation, Reply};
 use std::alloc::Allocator;
-use trace_order::{Call, Event};
+use trace_laws::{Call, Event};
 use trace_watch::{Full, Seen, begin};
 
 /// What a watch tells of a list of events.

@@ -6,9 +6,9 @@ ghost use Rattle.dateline_route.specs.Walk.{IsChannel};
 
 use channel_number::{channel_at, channel_count, channel_index};
 use dateline_route::{Channel, Kind, route};
+use network_text::network_answer;
 use std::alloc::Global;
 use std::test::Fail;
-use table_text::network_answer;
 use torus::{Class, Torus};
 
 /// The most ejection channels: two of each tile.

@@ -5,7 +5,7 @@ use linked_list_allocator::LocalHeap;
 use packet::Op;
 use std::alloc::{AllocError, Allocator, Global};
 use std::test::Fail;
-use trace_order::Event;
+use trace_laws::Event;
 use trace_watch::{Full, Seen, Watch, begin};
 
 /// What is told within a budget of bytes.

@@ -6,7 +6,7 @@ use std::alloc::{AllocError, Global};
 use std::test::Fail;
 use trace_judge::judge::{Verdict, judge};
 use trace_judge::trace::is_trace;
-use trace_order::{Call, Event};
+use trace_laws::{Call, Event};
 
 /// A drawn number, the next of a sequence.
 fn draw(state: &mut u64, below: u64) -> u64

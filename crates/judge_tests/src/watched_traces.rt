@@ -2,7 +2,7 @@ use crate::told::{Told, issue, read, stored, told_of};
 use packet::Op;
 use std::alloc::{AllocError, Global};
 use std::test::Fail;
-use trace_order::Event;
+use trace_laws::Event;
 use trace_watch::{Full, Seen, begin};
 
 /// Whether a watch tells so of some events, with at most 100 configurations.

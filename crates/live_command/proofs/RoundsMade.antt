@@ -2,12 +2,12 @@
 use Rattle.std.proofs.Common.{◌≡◌, ℕ, ◌+◌, ◌++◌, List, refl, sym, ◌∙◌, ap, subst}
 use Rattle.torus.specs.Shape.{Shape}
 use Rattle.torus.specs.declared.step.Step.{Step}
-use Rattle.machine_asked.specs.core_laws.specs.Core.{Load, round}
-use Rattle.machine_asked.specs.machine_core.specs.core_machine.specs.Machine.{Core, IsAfter, RunsOn, core_after}
-use Rattle.machine_asked.specs.machine_core.specs.core_machine.proofs.Machines.{after_steps}
-use Rattle.machine_asked.specs.machine_core.specs.Rounds.{rounds_of}
-use Rattle.machine_asked.specs.machine_core.proofs.Finishing.{rounds_push}
-use Rattle.machine_asked.specs.machine_core.proofs.Rounds.{core_append, same_shape}
+use Rattle.core_laws.specs.Core.{Load, round}
+use Rattle.core_machine.specs.Machine.{Core, IsAfter, RunsOn, core_after}
+use Rattle.core_machine.proofs.Machines.{after_steps}
+use Rattle.machine_asked.specs.Rounds.{rounds_of}
+use Rattle.machine_asked.proofs.Finishing.{rounds_push}
+use Rattle.machine_asked.proofs.Rounds.{core_append, same_shape}
 
 -- a round more
 pub one_more : (start now next : Core) (k : ℕ) → now ≡ core_after start (rounds_of start.shape k) → next ≡ core_after now (round now.shape)

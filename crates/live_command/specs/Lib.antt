@@ -1,4 +1,5 @@
-pub use Rattle.machine_asked
+pub mod Command
+pub mod Text
 pub mod Said
 pub mod Obeying
 pub mod Responding

@@ -9,16 +9,16 @@ use Rattle.one_order.specs.declared.answer.Answer.{Answer}
 use Rattle.report_lines.specs.Line.{text_of}
 use Rattle.report_check.specs.Good.{GoodReport}
 use Rattle.machine_report.specs.Report.{machine_report}
-use Rattle.machine_asked.specs.core_laws.specs.Core.{Load}
-use Rattle.machine_asked.specs.machine_core.specs.core_growth.specs.Appended.{load_with}
-use Rattle.machine_asked.specs.machine_core.specs.core_reopening.specs.Handed.{handed, moves_kept, refused}
-use Rattle.machine_asked.specs.machine_core.specs.core_machine.specs.Machine.{IsAfter, RunsOn, core_after}
-use Rattle.machine_asked.specs.machine_core.specs.Rounds.{rounds_of, NeedsRounds}
+use Rattle.core_laws.specs.Core.{Load}
+use Rattle.core_growth.specs.Appended.{load_with}
+use Rattle.core_growth.specs.Handed.{handed, moves_kept, refused}
+use Rattle.core_machine.specs.Machine.{IsAfter, RunsOn, core_after}
+use Rattle.machine_asked.specs.Rounds.{rounds_of, NeedsRounds}
 use Rattle.machine_asked.specs.Asked.{Asked, IsNumbered, NeedsToWait, answer_to, has_spin, index_asked, spins_with}
-use Rattle.live_lines.specs.declared.command.Command.{Command}
-use Rattle.live_lines.specs.declared.command.Command.TheVariants as command
-use Rattle.live_lines.specs.declared.told.Told.{Told as ToldLine}
-use Rattle.live_lines.specs.declared.told.Told.TheVariants as reply
+use Rattle.live_command.specs.declared.command.Command.{Command}
+use Rattle.live_command.specs.declared.command.Command.TheVariants as command
+use Rattle.live_command.specs.declared.told.Told.{Told as ToldLine}
+use Rattle.live_command.specs.declared.told.Told.TheVariants as reply
 use Rattle.live_command.specs.declared.said.Said.{Said}
 use Rattle.live_command.specs.declared.said.Said.TheVariants.{Told, Report}
 

@@ -5,9 +5,9 @@ use Rattle.torus.specs.Shape.{tiles_of}
 use Rattle.lexer.specs.Words.{first_words}
 use Rattle.machine_asked.specs.Asked.{Asked}
 use Rattle.program_fault.specs.Done.{Output, TookAll, TookFront}
-use Rattle.live_lines.specs.declared.command.Command.{Command}
-use Rattle.live_lines.specs.declared.command.Command.TheVariants as command
-use Rattle.live_lines.specs.Command.{command_of}
+use Rattle.live_command.specs.declared.command.Command.{Command}
+use Rattle.live_command.specs.declared.command.Command.TheVariants as command
+use Rattle.live_command.specs.Command.{command_of}
 use Rattle.live_command.specs.declared.said.Said.{Said}
 use Rattle.live_command.specs.Said.{said_text}
 use Rattle.live_command.specs.Obeying.{Obeys}

@@ -1,7 +1,7 @@
 -- The text of what is answered to a line of a dialogue (this project's own format).
 use Rattle.std.specs.Prelude.{ℕ, List}
 use Rattle.report_lines.specs.Line.{text_of}
-use Rattle.live_lines.specs.Text.{told_text}
+use Rattle.live_command.specs.Text.{told_text}
 use Rattle.live_command.specs.declared.said.Said.{Said as WhatIsSaid}
 use Rattle.live_command.specs.declared.said.Said.TheVariants.{Told, Report}
 

@@ -2,13 +2,13 @@
 
 ghost use Rattle.std.specs.Prelude.{◌≡◌, IfOk, OnOk, true};
 ghost use Rattle.std.specs.Io.KnownBytes.{Appends};
-ghost use Rattle.live_lines.specs.Text.{told_text};
+ghost use Rattle.live_command.specs.Text.{told_text};
 ghost use Rattle.program_fault.specs.Done.{output};
 ghost use Rattle.live_command.specs.Responding.{Responds, goes_on};
 
 use crate::obeying::obey;
 use crate::said::put_said;
-use live_lines::{Command, Told, read_command, told_text};
+use crate::{Command, Told, read_command, told_text};
 use machine_asked::AskedMachine;
 use program_fault::ProgramFault;
 use report_lines::output::put_all;

@@ -1,13 +1,20 @@
-//! The command that holds a dialogue with a machine: each line that is read, what the machine does for it,
-//! and what is answered.
+//! The command that holds a dialogue with a machine: what each line asks for, what the machine does
+//! for it, and the text of each answer.
 #![tactic(auto)]
 
+pub mod command;
 pub mod dialogue;
 pub mod obeying;
+pub mod reading;
 pub mod said;
+pub mod text;
+pub mod told;
 
+pub use command::Command;
 pub use dialogue::{converse, respond};
-pub use live_lines::{Command, Told};
 pub use machine_asked::AskedMachine;
 pub use obeying::obey;
+pub use reading::read_command;
 pub use said::{Said, put_said};
+pub use text::{ToldText, told_text};
+pub use told::Told;

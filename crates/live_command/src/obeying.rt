@@ -1,12 +1,12 @@
 //! What a machine does for a line of a dialogue.
 
 ghost use Rattle.std.specs.Prelude.{◌≡◌};
-ghost use Rattle.machine_asked.specs.machine_core.specs.core_machine.specs.Machine.{RunsOn, core_after};
-ghost use Rattle.machine_asked.specs.machine_core.specs.Rounds.{rounds_of};
+ghost use Rattle.core_machine.specs.Machine.{RunsOn, core_after};
+ghost use Rattle.machine_asked.specs.Rounds.{rounds_of};
 ghost use Rattle.live_command.specs.Obeying.{Asks, MakesRounds, Obeys, Reports, WaitsFor};
 
 use crate::said::Said;
-use live_lines::{Command, Told};
+use crate::{Command, Told};
 use machine_asked::AskedMachine;
 use machine_report::of_run;
 use script::Line;

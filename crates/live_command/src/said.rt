@@ -3,7 +3,7 @@ ghost use Rattle.std.specs.Io.KnownBytes.{Appends};
 ghost use Rattle.report_lines.specs.Taken.{AppendsFront, Rose};
 ghost use Rattle.live_command.specs.Said.{said_text};
 
-use live_lines::{Told, told_text};
+use crate::{Told, told_text};
 use report_lines::output::put_all;
 use report_lines::{Out, OutputFailed, Report, write_report};
 use std::alloc::{Allocator, Global};

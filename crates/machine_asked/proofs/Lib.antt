@@ -1,3 +1,5 @@
+pub use Rattle.machine_core.proofs.Finishing
+pub use Rattle.machine_core.proofs.Rounds
 pub mod Numbered
 pub mod Standing
 pub mod OneMore

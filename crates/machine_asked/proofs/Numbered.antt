@@ -7,10 +7,10 @@ use Rattle.torus.specs.declared.step.Step.{Step}
 use Rattle.script.specs.declared.line.Line.{Line}
 use Rattle.script.specs.declared.line.Line.TheVariants as kind
 use Rattle.script.specs.Scripts.{operations_of, operation_count, script_of}
-use Rattle.machine_texts.specs.machine_core.specs.core_growth.specs.script_follower.specs.Scripts.{Invocation, IsOf, Allows}
-use Rattle.machine_texts.specs.machine_core.specs.core_growth.specs.Appended.{load_with}
-use Rattle.machine_texts.specs.machine_core.specs.core_machine.specs.Machine.{Core, IsAfter}
-use Rattle.machine_texts.specs.core_laws.specs.Core.{Load, run_of}
+use Rattle.script_follower.specs.Scripts.{Invocation, IsOf, Allows}
+use Rattle.machine_parts.specs.Appended.{load_with}
+use Rattle.machine_parts.specs.Machine.{Core, IsAfter}
+use Rattle.machine_parts.specs.Core.{Load, run_of}
 use Rattle.machine_asked.specs.Asked.{is_operation, has_spin, IsIssuedAs, IsNumbered}
 
 -- what a line allows first, where it is an operation

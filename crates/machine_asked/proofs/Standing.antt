@@ -10,11 +10,11 @@ use Rattle.std.proofs.lemmas.List.Sums.{sum_by_push}
 use Rattle.torus.specs.declared.step.Step.{Step}
 use Rattle.script.specs.declared.line.Line.{Line}
 use Rattle.script.specs.Scripts.{operations_of, operation_count, script_of}
-use Rattle.machine_texts.specs.core_laws.specs.Core.{Load}
-use Rattle.machine_texts.specs.machine_core.specs.core_growth.specs.Appended.{load_with, MayFollow}
-use Rattle.machine_texts.specs.machine_core.specs.core_reopening.specs.Handed.{BringsWords, refused, moves_kept, handed}
-use Rattle.machine_texts.specs.machine_core.specs.core_reopening.proofs.Handed.{taken}
-use Rattle.machine_texts.specs.machine_core.specs.core_machine.specs.Machine.{Core, IsAfter, RunsOn}
+use Rattle.machine_parts.specs.Core.{Load}
+use Rattle.machine_parts.specs.Appended.{load_with, MayFollow}
+use Rattle.machine_parts.specs.Handed.{BringsWords, refused, moves_kept, handed}
+use Rattle.machine_parts.proofs.Handed.{taken}
+use Rattle.machine_parts.specs.Machine.{Core, IsAfter, RunsOn}
 use Rattle.machine_asked.specs.declared.asked.AskedMachine.TheInside.{Inside}
 use Rattle.machine_asked.specs.Asked.{Asked, IsAsked, IsNumbered, has_spin, index_asked, is_operation, is_spin, spins_with}
 use Rattle.machine_asked.specs.Inside.{IsAskedMachine}

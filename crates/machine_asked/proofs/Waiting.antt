@@ -3,11 +3,11 @@ use Rattle.std.proofs.Common.{◌≡◌, inl, inr, ℕ, ◌+◌, ◌<◌, ◌||�
 use Rattle.std.specs.Prelude.{is_some}
 use Rattle.std.proofs.lemmas.Bool.{cases_lt}
 use Rattle.torus.specs.declared.step.Step.{Step}
-use Rattle.machine_texts.specs.core_laws.specs.Core.{Load, round}
-use Rattle.machine_texts.specs.machine_core.specs.core_machine.specs.Machine.{Core, IsAfter, RunsOn, core_after, all_finished}
-use Rattle.machine_texts.specs.machine_core.specs.core_machine.proofs.Machines.{after_steps}
-use Rattle.machine_texts.specs.machine_core.specs.Rounds.{rounds_of}
-use Rattle.machine_texts.specs.machine_core.proofs.Finishing.{HasMade, has_none, has_more, still_few}
+use Rattle.machine_parts.specs.Core.{Load, round}
+use Rattle.machine_parts.specs.Machine.{Core, IsAfter, RunsOn, core_after, all_finished}
+use Rattle.machine_parts.proofs.Machines.{after_steps}
+use Rattle.machine_core.specs.Rounds.{rounds_of}
+use Rattle.machine_core.proofs.Finishing.{HasMade, has_none, has_more, still_few}
 use Rattle.machine_asked.specs.Asked.{answer_to, is_settled, NeedsToWait}
 
 -- whether nobody has to wait after so many rounds

@@ -10,13 +10,13 @@ use Rattle.script.specs.declared.line.Line.TheVariants as line
 use Rattle.script.specs.Scripts.{script_of}
 use Rattle.one_order.specs.declared.answer.Answer.{Answer}
 use Rattle.one_order.specs.Observed.{Run}
-use Rattle.machine_texts.specs.machine_core.specs.core_growth.specs.script_follower.specs.Scripts.{Invocation, IsOf}
-use Rattle.machine_texts.specs.order_abstract.specs.Scripts.{AreInvocationsOf}
-use Rattle.machine_texts.specs.core_laws.specs.Core.{Load, run_of}
-use Rattle.machine_texts.specs.machine_core.specs.core_machine.specs.Machine.{Core, IsAfter}
-use Rattle.machine_texts.specs.machine_core.specs.core_machine.specs.Machine.{all_finished, core_after}
-use Rattle.machine_texts.specs.machine_core.specs.core_machine.specs.Machine.{shown}
-use Rattle.machine_texts.specs.machine_core.specs.Rounds.{rounds_of}
+use Rattle.script_follower.specs.Scripts.{Invocation, IsOf}
+use Rattle.machine_parts.specs.Scripts.{AreInvocationsOf}
+use Rattle.machine_parts.specs.Core.{Load, run_of}
+use Rattle.machine_parts.specs.Machine.{Core, IsAfter}
+use Rattle.machine_parts.specs.Machine.{all_finished, core_after}
+use Rattle.machine_parts.specs.Machine.{shown}
+use Rattle.machine_core.specs.Rounds.{rounds_of}
 
 -- a line is a spin: nobody can tell beforehand how many loads it makes
 abbrev pub is_spin : Line → Bool

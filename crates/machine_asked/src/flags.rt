@@ -4,7 +4,7 @@ ghost use Rattle.std.specs.Prelude.{◌≡◌, ◌+◌, ◌<◌, ◌≤◌, IfOk
 ghost use Rattle.script.specs.Scripts.{operation_count, operations_of};
 ghost use Rattle.machine_asked.specs.Asked.{has_spin, is_operation, is_spin, spins_with};
 
-use order_rooms::operation_count;
+use order_book::operation_count;
 use script::{Line, Scripts};
 use std::alloc::{AllocError, Allocator};
 

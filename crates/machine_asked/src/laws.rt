@@ -3,8 +3,8 @@
 ghost use Rattle.std.specs.Prelude.{◌≡◌, ◌<◌, ℕ, false, true, length};
 ghost use Rattle.script.specs.declared.line.Line.{Line};
 ghost use Rattle.script.specs.Scripts.{operation_count, script_of};
-ghost use Rattle.machine_texts.specs.core_laws.specs.Core.{Load};
-ghost use Rattle.machine_texts.specs.machine_core.specs.core_growth.specs.Appended.{load_with};
+ghost use Rattle.machine_parts.specs.Core.{Load};
+ghost use Rattle.machine_parts.specs.Appended.{load_with};
 ghost use Rattle.machine_asked.specs.Asked.{IsNumbered, has_spin, is_operation};
 
 /// A line that is put behind a script without spins has the index of as many operations as the script

@@ -6,4 +6,4 @@ mod flags;
 pub mod laws;
 
 pub use asked::AskedMachine;
-pub use machine_texts::Machine;
+pub use machine_core::Machine;

@@ -16,23 +16,23 @@ use Rattle.flit_buffer.specs.Surroundings.{Surroundings}
 use Rattle.flit_buffer.specs.Tries.{performed_by}
 use Rattle.flit_buffer.specs.Words.{word_of}
 use Rattle.flit_buffer.specs.declared.word_op.WordOp.{WordOp}
-use Rattle.machine_growth.specs.order_abstract.specs.EventBook.{EventBook}
-use Rattle.machine_growth.specs.script_follower.specs.ProcessorRecord.{ProcessorRecord}
-use Rattle.machine_growth.specs.script_follower.specs.ProcessorTable.{ProcessorState}
+use Rattle.machine_parts.specs.EventBook.{EventBook}
+use Rattle.script_follower.specs.ProcessorRecord.{ProcessorRecord}
+use Rattle.script_follower.specs.ProcessorTable.{ProcessorState}
 use Rattle.home_bank.specs.BankTable.{BankState}
 use Rattle.router.specs.Table.{RouterState, router_wants, router_after}
 use Rattle.order_book.specs.RoomyBook.{RoomyBook, KeepsRoom}
-use Rattle.machine_growth.specs.tile_laws.specs.declared.agent.Agent.{Agent}
-use Rattle.machine_growth.specs.tile_laws.specs.declared.agent.Agent.TheVariants.{Router, Bank}
-use Rattle.machine_growth.specs.tile_laws.specs.Tile.{Design, TileState}
-use Rattle.machine_growth.specs.tile_laws.specs.Agents.{TilePlace, state_of, tile_placed, tile_next_op, agent_op, agent_absorbed, agent_kind, agent_tile}
-use Rattle.machine_growth.specs.tile.specs.Placed.{PlacedTile, IsAcceptableTo, with_place, agent_attempted, tile_attempted}
-use Rattle.machine_growth.specs.tile.proofs.OwnAttempts.{own_attempt}
-use Rattle.machine_growth.specs.core_laws.specs.Core.{design_of, after}
-use Rattle.machine_growth.specs.core_seen.specs.Notes.{book_noted}
-use Rattle.machine_growth.specs.core_machine.specs.Machine.{Core, Steps}
-use Rattle.machine_growth.specs.machine_wake.specs.Awake.{Awake, moved as after_move}
-use Rattle.machine_growth.specs.machine_wake.specs.Ports.{AwakePorts}
+use Rattle.tile_laws.specs.declared.agent.Agent.{Agent}
+use Rattle.tile_laws.specs.declared.agent.Agent.TheVariants.{Router, Bank}
+use Rattle.tile_laws.specs.Tile.{Design, TileState}
+use Rattle.tile_laws.specs.Agents.{TilePlace, state_of, tile_placed, tile_next_op, agent_op, agent_absorbed, agent_kind, agent_tile}
+use Rattle.machine_parts.specs.Placed.{PlacedTile, IsAcceptableTo, with_place, agent_attempted, tile_attempted}
+use Rattle.machine_parts.proofs.OwnAttempts.{own_attempt}
+use Rattle.machine_parts.specs.Core.{design_of, after}
+use Rattle.machine_parts.specs.Notes.{book_noted}
+use Rattle.machine_parts.specs.Machine.{Core, Steps}
+use Rattle.machine_parts.specs.Awake.{Awake, awake_after as after_move}
+use Rattle.machine_parts.specs.Ports.{AwakePorts}
 use Rattle.machine_core.proofs.RouterFlags.{FollowMove}
 use Rattle.machine_core.specs.declared.machine.Machine.TheInside.{Inside}
 use Rattle.machine_core.specs.Noted.{HasRoomToNote, IsOfFullBank, counts_of, records_in}

@@ -5,22 +5,22 @@ use Rattle.std.specs.Prelude.{MatchOption, is_some}
 use Rattle.std.specs.Option.{IsSome}
 use Rattle.torus.specs.declared.step.Step.{Step}
 use Rattle.flit_buffer.specs.Tries.{performed_by}
-use Rattle.machine_growth.specs.tile_laws.specs.Tile.{Design}
-use Rattle.machine_growth.specs.tile_laws.specs.Agents.{TilePlace, tile_next_op, agent_tile}
-use Rattle.machine_growth.specs.tile.specs.Placed.{PlacedTile, tile_attempted}
-use Rattle.machine_growth.specs.core_laws.specs.Core.{Load, State, design_of, step, after}
-use Rattle.machine_growth.specs.core_laws.specs.Runs.{state_after}
-use Rattle.machine_growth.specs.core_row.proofs.Reached.{all_steps}
-use Rattle.machine_growth.specs.core_progress.specs.Moves.{enabled_step, IsLive}
-use Rattle.machine_growth.specs.core_progress.proofs.Live.{is_live}
-use Rattle.machine_growth.specs.core_progress.proofs.OfRound.{found_is, none_is}
-use Rattle.machine_growth.specs.core_seen.specs.Seen.{IsShown}
-use Rattle.machine_growth.specs.core_machine.specs.Machine.{Core, IsAfter, built_to, all_finished}
+use Rattle.tile_laws.specs.Tile.{Design}
+use Rattle.tile_laws.specs.Agents.{TilePlace, tile_next_op, agent_tile}
+use Rattle.machine_parts.specs.Placed.{PlacedTile, tile_attempted}
+use Rattle.machine_parts.specs.Core.{Load, State, design_of, step, after}
+use Rattle.machine_parts.specs.Runs.{state_after}
+use Rattle.machine_parts.proofs.RowOfRuns.{all_steps}
+use Rattle.machine_parts.specs.Moves.{enabled_step, IsLive}
+use Rattle.machine_parts.proofs.Live.{is_live}
+use Rattle.machine_parts.proofs.OfRound.{found_is, none_is}
+use Rattle.machine_parts.specs.Seen.{IsShown}
+use Rattle.machine_parts.specs.Machine.{Core, IsAfter, built_to, all_finished}
 use Rattle.machine_core.specs.declared.machine.Machine.TheInside.{Inside}
 use Rattle.machine_core.specs.Inside.{core_of, places_in, IsMachine}
 use Rattle.machine_core.proofs.Standing.{none_past}
 use Rattle.machine_core.proofs.Attempting.{leads, step_is}
-use Rattle.machine_growth.specs.core_machine.proofs.Moves.{built, same_finished}
+use Rattle.machine_parts.proofs.Moves.{built, same_finished}
 
 module _ {A : Type 0} (a : Inside A) (is : IsMachine a) (attempt : Step) where
   -- a tile that isn't there makes no step

@@ -4,34 +4,34 @@ use Rattle.std.proofs.Common.{arith, slice_get, take, get_or, get_or-take}
 use Rattle.std.specs.Prelude.{option_map}
 use Rattle.std.proofs.lemmas.Option.{slice_get-map, slice_get_within, slice_get-get_or, get_or_from_slice_get}
 use Rattle.std.proofs.lemmas.List.{length-take}
-use Rattle.order_rooms.proofs.Counts.{home_within}
+use Rattle.order_book.proofs.Counts.{home_within}
 use Rattle.order_book.specs.RoomyBook.{RoomyBook}
 use Rattle.torus.specs.Shape.{Shape, tiles_of, dims_of}
 use Rattle.script.specs.Machine.{MachineSpec, IsAcceptedMachine}
 use Rattle.script.specs.Scripts.{ScriptsSpec, AreAcceptedScripts, Fit, operation_count, script_of, total_count}
 use Rattle.script.specs.declared.line.Line.{Line}
 use Rattle.channel_number.specs.Order.{channel_count}
-use Rattle.machine_growth.specs.order_abstract.specs.Load.{load_of}
-use Rattle.machine_growth.specs.order_abstract.specs.Room.{home_room}
-use Rattle.machine_growth.specs.order_abstract.specs.EventBook.{EventBook, first_book}
-use Rattle.machine_growth.specs.order_abstract.proofs.LoadingAccepted.{accepted_load}
-use Rattle.machine_growth.specs.tile_laws.specs.Tile.{TileState}
-use Rattle.machine_growth.specs.tile_laws.specs.Agents.{tile_placed}
-use Rattle.machine_growth.specs.tile.specs.Placed.{PlacedTile, first_tile}
-use Rattle.machine_growth.specs.core_laws.specs.Core.{Load, design_of, first_state, first_tile as first_tile_state}
-use Rattle.machine_growth.specs.core_laws.specs.Runs.{IsAccepted}
-use Rattle.machine_growth.specs.core_row.specs.Attempts.{tile_in}
-use Rattle.machine_growth.specs.core_row.proofs.First.{first_row, first_tiles as first_places}
-use Rattle.machine_growth.specs.core_progress.specs.Moves.{most_moves}
-use Rattle.machine_growth.specs.core_machine.specs.Machine.{IsAfter, IsLawful}
-use Rattle.machine_growth.specs.core_machine.proofs.Lawful.{lawful}
-use Rattle.machine_growth.specs.core_seen.specs.Seen.{IsShown}
-use Rattle.machine_growth.specs.core_seen.proofs.Reached.{seen_state}
-use Rattle.machine_growth.specs.machine_wake.specs.Awake.{Awake, is_choice_awake}
-use Rattle.machine_growth.specs.machine_wake.specs.Ports.{flags_of, fresh_ports}
-use Rattle.machine_growth.specs.core_wake.specs.Routers.{PortFlags, OtherPortsSleep}
-use Rattle.machine_growth.specs.core_wake.specs.Choices.{OtherChoicesSleep}
-use Rattle.machine_growth.specs.machine_wake.proofs.KeptSleepers.{fresh}
+use Rattle.machine_parts.specs.Load.{load_of}
+use Rattle.machine_parts.specs.Room.{home_room}
+use Rattle.machine_parts.specs.EventBook.{EventBook, first_book}
+use Rattle.machine_parts.proofs.LoadingAccepted.{accepted_load}
+use Rattle.tile_laws.specs.Tile.{TileState}
+use Rattle.tile_laws.specs.Agents.{tile_placed}
+use Rattle.machine_parts.specs.Placed.{PlacedTile, first_tile}
+use Rattle.machine_parts.specs.Core.{Load, design_of, first_state, first_tile as first_tile_state}
+use Rattle.machine_parts.specs.Runs.{IsAcceptedLoad}
+use Rattle.machine_parts.specs.Attempts.{tile_in}
+use Rattle.machine_parts.proofs.First.{first_row, first_tiles as first_places}
+use Rattle.machine_parts.specs.Moves.{most_moves}
+use Rattle.machine_parts.specs.Machine.{IsAfter, IsLawful}
+use Rattle.machine_parts.proofs.Lawful.{lawful}
+use Rattle.machine_parts.specs.Seen.{IsShown}
+use Rattle.machine_parts.proofs.ReachedRows.{seen_state}
+use Rattle.machine_parts.specs.Awake.{Awake, is_choice_awake}
+use Rattle.machine_parts.specs.Ports.{flags_of, fresh_ports}
+use Rattle.machine_parts.specs.Routers.{PortFlags, OtherPortsSleep}
+use Rattle.machine_parts.specs.Choices.{OtherChoicesSleep}
+use Rattle.machine_parts.proofs.KeptSleepers.{fresh}
 use Rattle.machine_core.specs.declared.machine.Machine.TheInside.{Inside}
 use Rattle.machine_core.specs.Inside.{design_in, places_in, core_of, HaveRoom, HasRoomForScripts, IsMachine}
 use Rattle.machine_core.specs.Loaded.{first_tiles}
@@ -58,7 +58,7 @@ pub record Begun {A : Type 0} (a : Inside A) (scripts : List (List Line)) : Type
   pub routed : a.ports.design ≡ design_in a
   pub ports : flags_of a.ports ≡ fresh_ports
 
-module _ (l : Load) (ok : IsAccepted l) (rooms : ℕ → ℕ) where
+module _ (l : Load) (ok : IsAcceptedLoad l) (rooms : ℕ → ℕ) where
   abbrev first_at : ℕ → List Line → PlacedTile
   first_at t lines = first_tile (design_of l) t l.tags lines (rooms t)
 
@@ -87,7 +87,7 @@ module _ (l : Load) (ok : IsAccepted l) (rooms : ℕ → ℕ) where
       → (t < tiles_of l.shape) × (v.room ≡ rooms t)
   first_room t v h = room_of t v (slice_get l.scripts t) refl (sym (at (design_of l) l.tags rooms t l.scripts) ∙ h)
 
-module _ {A : Type 0} (a : Inside A) (scripts : List (List Line)) (ok : IsAccepted (load_in a scripts)) (b : Begun a scripts) where
+module _ {A : Type 0} (a : Inside A) (scripts : List (List Line)) (ok : IsAcceptedLoad (load_in a scripts)) (b : Begun a scripts) where
   shown : IsShown (design_in a) (first_state (load_in a scripts)) (places_in a) a.row.items
   shown = record {
     tiles = λ t. ap (λ (vs : List PlacedTile). slice_get (map (λ v. v.place) vs) t) b.tiles ∙ first_place (load_in a scripts) ok b.rooms t;
@@ -180,7 +180,7 @@ homes_as tiles n entries scripts lists same same_lists homes b low =
     (subst (λ (k : ℕ). get_or entries b 0 ≡ home_room k b lists) same (homes b (subst (λ (k : ℕ). b < k) (sym same) low)))
 
 -- and is at most that of all operations
-pub home_small : (l : Load) → IsAccepted l → (entries : List ℕ)
+pub home_small : (l : Load) → IsAcceptedLoad l → (entries : List ℕ)
     → ((b : ℕ) → b < tiles_of l.shape → get_or entries b 0 ≡ home_room (tiles_of l.shape) b l.scripts)
     → (b : ℕ) → b < tiles_of l.shape → get_or entries b 0 ≤ 65536
 home_small l ok entries homes b low =
@@ -192,7 +192,7 @@ pub part_small : (n : ℕ) (entries : List ℕ) → ((b : ℕ) → b < n → get
 part_small n entries small b room there = let is = part_at n entries b room there in omega (arith, is.1, small b is.0)
 
 -- a book that was made with the rooms that the scripts can ask has room for them
-pub has_room : (l : Load) → IsAccepted l → (n rows : ℕ) (issues entries : List ℕ) (g : RoomyBook) → n ≡ tiles_of l.shape → n ≤ length issues
+pub has_room : (l : Load) → IsAcceptedLoad l → (n rows : ℕ) (issues entries : List ℕ) (g : RoomyBook) → n ≡ tiles_of l.shape → n ≤ length issues
     → n ≤ length entries
     → ((p : ℕ) → get_or issues p 0 ≡ operation_count (script_of l.scripts p))
     → ((b : ℕ) → b < tiles_of l.shape → get_or entries b 0 ≡ home_room (tiles_of l.shape) b l.scripts) → rows ≡ total_count l.scripts
@@ -225,6 +225,6 @@ same_load m s shape depth tags opening scripts hs hd ht ho hl =
 pub accepted_as : (m : MachineSpec) (s : ScriptsSpec) (shape : Shape) (depth tags : ℕ) (opening : List ℕ) (scripts : List (List Line)) → IsAcceptedMachine m
     → AreAcceptedScripts s → Fit s m
     → shape ≡ m.shape → depth ≡ m.depth → tags ≡ m.tags → opening ≡ m.opening → scripts ≡ s.lists
-    → IsAccepted (record { shape = shape; depth = depth; tags = tags; opening = opening; scripts = scripts })
+    → IsAcceptedLoad (record { shape = shape; depth = depth; tags = tags; opening = opening; scripts = scripts })
 accepted_as m s shape depth tags opening scripts machine script fit hs hd ht ho hl =
-    subst IsAccepted (sym (same_load m s shape depth tags opening scripts hs hd ht ho hl)) (accepted_load m s machine script fit)
+    subst IsAcceptedLoad (sym (same_load m s shape depth tags opening scripts hs hd ht ho hl)) (accepted_load m s machine script fit)

@@ -6,8 +6,8 @@ use Rattle.std.proofs.lemmas.Option.{slice_get-map, slice_get_within}
 use Rattle.script.specs.declared.line.Line.{Line}
 use Rattle.script.specs.declared.lists.LineList.{LineList}
 use Rattle.script.specs.ScriptViews.{lists_of}
-use Rattle.machine_growth.specs.tile_laws.specs.Tile.{Design}
-use Rattle.machine_growth.specs.tile.specs.Placed.{PlacedTile, first_tile}
+use Rattle.tile_laws.specs.Tile.{Design}
+use Rattle.machine_parts.specs.Placed.{PlacedTile, first_tile}
 use Rattle.machine_core.specs.Loaded.{tiles_from, first_tiles}
 
 module _ (d : Design) (tags : ℕ) (room : ℕ → ℕ) where

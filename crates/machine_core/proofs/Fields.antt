@@ -7,26 +7,26 @@ use Rattle.std.proofs.lemmas.Option.{same_Some}
 use Rattle.torus.specs.declared.step.Step.{Step}
 use Rattle.torus.specs.declared.step.Stepped.{Stepped}
 use Rattle.torus.specs.declared.step.Stepped.TheVariants.{Idle}
-use Rattle.machine_growth.specs.script_follower.specs.ProcessorRecord.{ProcessorRecord}
-use Rattle.machine_growth.specs.order_abstract.specs.EventBook.{EventBook}
+use Rattle.script_follower.specs.ProcessorRecord.{ProcessorRecord}
+use Rattle.machine_parts.specs.EventBook.{EventBook}
 use Rattle.flit_buffer.specs.Surroundings.{Surroundings}
 use Rattle.flit_buffer.specs.declared.word_op.WordOp.{WordOp}
 use Rattle.order_book.specs.RoomyBook.{RoomyBook}
-use Rattle.machine_growth.specs.tile_laws.specs.Tile.{Design, TileState}
-use Rattle.machine_growth.specs.tile_laws.specs.Agents.{TilePlace, state_of, tile_placed}
-use Rattle.machine_growth.specs.tile.specs.Placed.{PlacedTile, with_place}
-use Rattle.machine_growth.specs.core_laws.specs.Core.{Load, State, step}
-use Rattle.machine_growth.specs.core_seen.specs.Seen.{IsShown}
-use Rattle.machine_growth.specs.core_machine.specs.Machine.{Core, IsAfter, Steps, built_to, told, event_in, core_with}
-use Rattle.machine_growth.specs.core_machine.proofs.Machines.{after_step}
-use Rattle.machine_growth.specs.core_seen.specs.Notes.{book_noted}
+use Rattle.tile_laws.specs.Tile.{Design, TileState}
+use Rattle.tile_laws.specs.Agents.{TilePlace, state_of, tile_placed}
+use Rattle.machine_parts.specs.Placed.{PlacedTile, with_place}
+use Rattle.machine_parts.specs.Core.{Load, State, step}
+use Rattle.machine_parts.specs.Seen.{IsShown}
+use Rattle.machine_parts.specs.Machine.{Core, IsAfter, Steps, built_to, machine_told, event_in, core_with}
+use Rattle.machine_parts.proofs.Machines.{after_step}
+use Rattle.machine_parts.specs.Notes.{book_noted}
 use Rattle.machine_core.proofs.NotedBooks.{seen_at}
 use Rattle.machine_core.specs.declared.noting.Counts.{Counts}
 use Rattle.machine_core.specs.declared.machine.Machine.TheInside.{Inside}
 use Rattle.machine_core.specs.Noted.{records_in}
 use Rattle.machine_core.specs.Inside.{core_of, IsMachine}
-use Rattle.machine_growth.specs.machine_wake.specs.Awake.{Awake}
-use Rattle.machine_growth.specs.machine_wake.specs.Ports.{AwakePorts}
+use Rattle.machine_parts.specs.Awake.{Awake}
+use Rattle.machine_parts.specs.Ports.{AwakePorts}
 
 -- a step from where some steps led leads on
 pub follows : (old new : Core) (stepped : Stepped) (attempt : Step) → Steps old new stepped attempt
@@ -37,7 +37,7 @@ follows old new stepped attempt h l steps is =
 -- an attempt that isn't enabled changes nothing
 pub stays : (c : Core) (attempt : Step) → step (built_to c) c.state attempt ≡ None → Steps c c Idle attempt
 stays c attempt none = record {
-  result = sym (ap told none);
+  result = sym (ap machine_told none);
   change = sym (ap (core_with c (event_in (built_to c) c.state attempt)) none);
 }
 

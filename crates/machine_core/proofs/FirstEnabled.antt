@@ -6,9 +6,9 @@ use Rattle.std.specs.List.{flat_map, range_with_len}
 use Rattle.std.proofs.lemmas.List.{map-append}
 use Rattle.torus.specs.declared.step.Step.{Step}
 use Rattle.torus.specs.declared.step.Choice.{Choice}
-use Rattle.rounds.specs.Rounds.{if_enabled}
-use Rattle.machine_growth.specs.core_laws.specs.Core.{State, step, attempts_of, round_at}
-use Rattle.machine_growth.specs.core_machine.specs.Machine.{Core, built_to}
+use Rattle.machine_parts.specs.Rounds.{if_enabled}
+use Rattle.machine_parts.specs.Core.{State, step, attempts_of, round_at}
+use Rattle.machine_parts.specs.Machine.{Core, built_to}
 use Rattle.torus.specs.Choices.{processor_choices, bank_choices, takes_of_all, puts_of_all, credits_of_all}
 use Rattle.machine_core.specs.Rounds.{first_in}
 

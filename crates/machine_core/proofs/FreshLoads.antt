@@ -6,13 +6,13 @@ use Rattle.torus.specs.Shape.{dims_of}
 use Rattle.script.specs.declared.line.Line.{Line}
 use Rattle.script.specs.declared.line.Line.TheVariants as line
 use Rattle.script.specs.Scripts.{operations_of, operation_count, script_of, total_count, IsAcceptedScript}
-use Rattle.machine_growth.specs.script_follower.specs.Following.{past_fences, first_of}
-use Rattle.machine_growth.specs.script_follower.specs.Homes.{line_home_count, script_home_count}
-use Rattle.machine_growth.specs.script_follower.proofs.Places.{count_past_fences}
-use Rattle.machine_growth.specs.order_abstract.specs.Room.{home_room}
-use Rattle.machine_growth.specs.tile_laws.specs.Tile.{TileState}
-use Rattle.machine_growth.specs.core_laws.specs.Core.{Load, first_state, first_tile}
-use Rattle.machine_growth.specs.core_laws.specs.Runs.{IsAccepted}
+use Rattle.script_follower.specs.Following.{past_fences, first_of}
+use Rattle.script_follower.specs.Homes.{line_home_count, script_home_count}
+use Rattle.script_follower.proofs.Places.{count_past_fences}
+use Rattle.machine_parts.specs.Room.{home_room}
+use Rattle.tile_laws.specs.Tile.{TileState}
+use Rattle.machine_parts.specs.Core.{Load, first_state, first_tile}
+use Rattle.machine_parts.specs.Runs.{IsAcceptedLoad}
 
 -- the load without the fences in front of its scripts
 abbrev pub bare : Load → Load
@@ -57,7 +57,7 @@ allowed_same (lines ∷ scripts) =
     ap (λ n. n ∷ map operation_count (map past_fences scripts)) (count_past_fences lines)
     ∙ ap (λ ns. operation_count lines ∷ ns) (allowed_same scripts)
 
-pub bare_accepted : (l : Load) → IsAccepted l → IsAccepted (bare l)
+pub bare_accepted : (l : Load) → IsAcceptedLoad l → IsAcceptedLoad (bare l)
 bare_accepted l ok = record {
   shape = ok.shape;
   depth = ok.depth;

@@ -6,20 +6,20 @@ use Rattle.std.proofs.lemmas.Option.{slice_get_within}
 use Rattle.torus.specs.Shape.{tiles_of, dims_of}
 use Rattle.torus.specs.declared.step.Step.{Step}
 use Rattle.script.specs.declared.line.Line.{Line}
-use Rattle.machine_growth.specs.script_follower.specs.Scripts.{Invocation}
-use Rattle.machine_growth.specs.script_follower.specs.Following.{Following, ShowsPast, starts, issues, answers, first_of, past_fences}
-use Rattle.machine_growth.specs.script_follower.specs.ProcessorRecord.{ProcessorRecord, no_processor}
+use Rattle.script_follower.specs.Scripts.{Invocation}
+use Rattle.script_follower.specs.Following.{Following, ShowsPast, starts, issues, answers, first_of, past_fences}
+use Rattle.script_follower.specs.ProcessorRecord.{ProcessorRecord, no_processor}
 use Rattle.one_order.specs.Observed.{list_at}
-use Rattle.machine_growth.specs.order_abstract.specs.EventBook.{EventBook}
-use Rattle.machine_growth.specs.order_abstract.specs.Room.{home_room}
-use Rattle.machine_growth.specs.tile_laws.specs.Tile.{Design, TileState}
-use Rattle.machine_growth.specs.core_laws.specs.Core.{Load, State, design_of, first_state, first_tile, after, after_from, records_of}
-use Rattle.machine_growth.specs.core_laws.specs.Runs.{state_after}
-use Rattle.machine_growth.specs.core_laws.proofs.OnTheWay.{shows_operations}
-use Rattle.machine_growth.specs.core_row.proofs.Reached.{all_steps}
-use Rattle.machine_growth.specs.core_machine.specs.Machine.{Core, IsAfter, IsLawful}
-use Rattle.machine_growth.specs.core_machine.proofs.Lawful.{lawful}
-use Rattle.machine_growth.specs.core_seen.specs.Seen.{IsShown}
+use Rattle.machine_parts.specs.EventBook.{EventBook}
+use Rattle.machine_parts.specs.Room.{home_room}
+use Rattle.tile_laws.specs.Tile.{Design, TileState}
+use Rattle.machine_parts.specs.Core.{Load, State, design_of, first_state, first_tile, after, after_from, records_of}
+use Rattle.machine_parts.specs.Runs.{state_after}
+use Rattle.machine_parts.proofs.OnTheWay.{shows_operations}
+use Rattle.machine_parts.proofs.RowOfRuns.{all_steps}
+use Rattle.machine_parts.specs.Machine.{Core, IsAfter, IsLawful}
+use Rattle.machine_parts.proofs.Lawful.{lawful}
+use Rattle.machine_parts.specs.Seen.{IsShown}
 use Rattle.machine_core.specs.declared.machine.Machine.TheInside.{Inside}
 use Rattle.machine_core.specs.Inside.{core_of, places_in, HaveRoom, IsMachine}
 use Rattle.machine_core.specs.Fresh.{told_load}

@@ -3,17 +3,17 @@ use Rattle.std.proofs.Common.{◌≡◌, ℕ, ◌*◌, Bool, true, false, List, 
 use Rattle.std.specs.Prelude.{option_map}
 use Rattle.torus.specs.declared.step.Step.{Step}
 use Rattle.script.specs.declared.line.Line.{Line}
-use Rattle.machine_growth.specs.tile.specs.Placed.{PlacedTile}
-use Rattle.machine_growth.specs.core_laws.specs.Core.{State}
-use Rattle.machine_growth.specs.core_machine.specs.Machine.{Core, built_to}
-use Rattle.machine_growth.specs.core_growth.specs.Appended.{state_with, appended}
-use Rattle.machine_growth.specs.core_growth.proofs.Reports.{others_step}
-use Rattle.machine_growth.specs.core_reopening.specs.Reopened.{reopened}
-use Rattle.machine_growth.specs.core_reopening.specs.Handed.{handed, has_reported}
-use Rattle.machine_growth.specs.core_wake.specs.Choices.{OtherChoicesSleep}
-use Rattle.machine_growth.specs.machine_wake.specs.Awake.{Awake, is_choice_awake, roused}
-use Rattle.machine_growth.specs.machine_wake.proofs.KeptSleepers.{choice_roused, every_choice}
-use Rattle.machine_growth.specs.Grown.{tiles_given, AreAsReported}
+use Rattle.machine_parts.specs.Placed.{PlacedTile}
+use Rattle.machine_parts.specs.Core.{State}
+use Rattle.machine_parts.specs.Machine.{Core, built_to}
+use Rattle.machine_parts.specs.Appended.{state_with, appended}
+use Rattle.machine_parts.proofs.Reports.{others_step}
+use Rattle.machine_parts.specs.Reopened.{reopened}
+use Rattle.machine_parts.specs.Handed.{handed, has_reported}
+use Rattle.machine_parts.specs.Choices.{OtherChoicesSleep}
+use Rattle.machine_parts.specs.Awake.{Awake, is_choice_awake, roused}
+use Rattle.machine_parts.proofs.KeptSleepers.{choice_roused, every_choice}
+use Rattle.machine_parts.specs.Grown.{tiles_given, AreAsReported}
 
 module _ (c : Core) (p : ℕ) (line : Line) (home : ℕ) (tiles new_tiles : List PlacedTile) (row new_row : List ℕ) (awake new_awake : Awake) (taken : ℕ) where
   abbrev AreNow : Bool → Type 0

@@ -12,29 +12,29 @@ use Rattle.script.specs.declared.line.Line.{Line}
 use Rattle.script.specs.Scripts.{operations_of, operation_count, total_count, script_of}
 use Rattle.one_order.proofs.Lists.{get_set_same, get_set_other}
 use Rattle.order_book.specs.RoomyBook.{RoomyBook, KeepsRoom}
-use Rattle.machine_growth.specs.script_follower.specs.Homes.{line_home_count}
-use Rattle.machine_growth.specs.order_abstract.specs.Room.{home_room}
-use Rattle.machine_growth.specs.tile_laws.specs.Tile.{Design}
-use Rattle.machine_growth.specs.tile.specs.Placed.{PlacedTile}
-use Rattle.machine_growth.specs.core_laws.specs.Core.{Load, State, design_of, after}
-use Rattle.machine_growth.specs.core_laws.proofs.EveryRun.{holds_in}
-use Rattle.machine_growth.specs.core_machine.specs.Machine.{Core, IsAfter}
-use Rattle.machine_growth.specs.core_seen.specs.Seen.{IsShown, state_seen}
-use Rattle.machine_growth.specs.core_seen.proofs.Reached.{seen_state}
-use Rattle.machine_growth.specs.core_wake.specs.Choices.{OtherChoicesSleep}
-use Rattle.machine_growth.specs.machine_wake.specs.Awake.{Awake, is_choice_awake, roused}
-use Rattle.machine_growth.specs.machine_wake.specs.Ports.{flags_of}
-use Rattle.machine_growth.specs.core_wake.specs.Routers.{OtherPortsSleep}
+use Rattle.script_follower.specs.Homes.{line_home_count}
+use Rattle.machine_parts.specs.Room.{home_room}
+use Rattle.tile_laws.specs.Tile.{Design}
+use Rattle.machine_parts.specs.Placed.{PlacedTile}
+use Rattle.machine_parts.specs.Core.{Load, State, design_of, after}
+use Rattle.machine_parts.proofs.EveryRun.{holds_in}
+use Rattle.machine_parts.specs.Machine.{Core, IsAfter}
+use Rattle.machine_parts.specs.Seen.{IsShown, state_seen}
+use Rattle.machine_parts.proofs.ReachedRows.{seen_state}
+use Rattle.machine_parts.specs.Choices.{OtherChoicesSleep}
+use Rattle.machine_parts.specs.Awake.{Awake, is_choice_awake, roused}
+use Rattle.machine_parts.specs.Ports.{flags_of}
+use Rattle.machine_parts.specs.Routers.{OtherPortsSleep}
 use Rattle.machine_core.proofs.HandedPorts.{ports_handed}
 use Rattle.machine_core.proofs.HandedChoices.{choices_handed}
-use Rattle.machine_growth.specs.core_growth.specs.Appended.{load_with, MayFollow}
-use Rattle.machine_growth.specs.core_growth.proofs.Places.{changed_set}
-use Rattle.machine_growth.specs.core_growth.proofs.Loads.{total_with}
-use Rattle.machine_growth.specs.core_reopening.specs.Handed.{has_reported, handed, moves_kept, refused, BringsWords}
-use Rattle.machine_growth.specs.core_reopening.proofs.Handed.{stands}
-use Rattle.machine_growth.specs.Grown.{tiles_given, AreAsReported}
-use Rattle.machine_growth.proofs.Handing.{reported_there, core_is, shown_then, design_then, left_then}
-use Rattle.machine_growth.proofs.Rooms.{homes_with, rooms_then}
+use Rattle.machine_parts.specs.Appended.{load_with, MayFollow}
+use Rattle.machine_parts.proofs.Places.{changed_set}
+use Rattle.machine_parts.proofs.Loads.{total_with}
+use Rattle.machine_parts.specs.Handed.{has_reported, handed, moves_kept, refused, BringsWords}
+use Rattle.machine_parts.proofs.Handed.{stands}
+use Rattle.machine_parts.specs.Grown.{tiles_given, AreAsReported}
+use Rattle.machine_parts.proofs.Handing.{reported_there, core_is, shown_then, design_then, left_then}
+use Rattle.machine_parts.proofs.Rooms.{homes_with, rooms_then}
 use Rattle.machine_core.specs.declared.machine.Machine.TheInside.{Inside}
 use Rattle.machine_core.specs.Inside.{design_in, places_in, core_of, HasRoomForScripts, IsMachine}
 use Rattle.machine_core.proofs.Standing.{all_steps, design_is}

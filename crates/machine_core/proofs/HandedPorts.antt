@@ -2,13 +2,13 @@
 use Rattle.std.proofs.Common.{◌≡◌, ℕ, zero, suc, Bool, true, false, List, [], ◌∷◌, map, refl, ◌∙◌, ap, if◌then◌else◌}
 use Rattle.script.specs.declared.line.Line.{Line}
 use Rattle.router.specs.Table.{RouterState}
-use Rattle.machine_growth.specs.tile_laws.specs.Tile.{Design, TileState}
-use Rattle.machine_growth.specs.core_machine.specs.Machine.{Core}
-use Rattle.machine_growth.specs.core_growth.specs.Appended.{changed_at, tile_with, appended}
-use Rattle.machine_growth.specs.core_reopening.specs.Reopened.{tile_open, reopened}
-use Rattle.machine_growth.specs.core_reopening.specs.Handed.{handed, has_reported}
-use Rattle.machine_growth.specs.core_wake.specs.Routers.{PortFlags, OtherPortsSleep}
-use Rattle.machine_growth.specs.core_wake.proofs.PortsAlike.{alike}
+use Rattle.tile_laws.specs.Tile.{Design, TileState}
+use Rattle.machine_parts.specs.Machine.{Core}
+use Rattle.machine_parts.specs.Appended.{changed_at, tile_with, appended}
+use Rattle.machine_parts.specs.Reopened.{tile_open, reopened}
+use Rattle.machine_parts.specs.Handed.{handed, has_reported}
+use Rattle.machine_parts.specs.Routers.{PortFlags, OtherPortsSleep}
+use Rattle.machine_parts.proofs.PortsAlike.{alike}
 
 abbrev routers : List TileState → List RouterState
 routers tiles = map (λ (tile : TileState). tile.router) tiles

@@ -11,28 +11,28 @@ use Rattle.script.specs.declared.line.Line.{Line}
 use Rattle.script.specs.declared.line.Line.TheVariants as line
 use Rattle.script.specs.Scripts.{operations_of, operation_count, total_count, script_of, IsAcceptedLine}
 use Rattle.one_order.proofs.Lists.{within_length}
-use Rattle.order_rooms.proofs.Counts.{home_within}
+use Rattle.order_book.proofs.Counts.{home_within}
 use Rattle.order_book.specs.RoomyBook.{RoomyBook, KeepsRoom}
-use Rattle.machine_growth.specs.script_follower.specs.ProcessorRecord.{ProcessorRecord, no_processor}
-use Rattle.machine_growth.specs.script_follower.specs.Following.{left_of}
-use Rattle.machine_growth.specs.script_follower.proofs.Shown.{left_within}
-use Rattle.machine_growth.specs.script_follower.proofs.Grown.{some_of}
-use Rattle.machine_growth.specs.order_abstract.proofs.LoadingAccepted.{followable}
-use Rattle.machine_growth.specs.tile_laws.specs.Tile.{TileState}
-use Rattle.machine_growth.specs.tile_laws.specs.Agents.{state_of}
-use Rattle.machine_growth.specs.tile.specs.Placed.{PlacedTile}
-use Rattle.machine_growth.specs.core_laws.specs.Core.{Load, design_of, after, records_of}
-use Rattle.machine_growth.specs.core_laws.specs.Runs.{state_after}
-use Rattle.machine_growth.specs.core_laws.proofs.OnTheWay.{shows_operations}
-use Rattle.machine_growth.specs.core_machine.specs.Machine.{Core, IsAfter}
-use Rattle.machine_growth.specs.core_seen.specs.Seen.{IsShown, state_seen}
-use Rattle.machine_growth.specs.core_seen.specs.Notes.{FitsLoad}
-use Rattle.machine_growth.specs.core_seen.proofs.Notes.{book_fits}
-use Rattle.machine_growth.specs.core_growth.specs.Appended.{MayFollow}
-use Rattle.machine_growth.specs.core_reopening.specs.Handed.{refused, BringsWords}
-use Rattle.machine_growth.specs.core_reopening.proofs.Handed.{taken}
-use Rattle.machine_growth.specs.Grown.{CanTake}
-use Rattle.machine_growth.proofs.Items.{seen_at}
+use Rattle.script_follower.specs.ProcessorRecord.{ProcessorRecord, no_processor}
+use Rattle.script_follower.specs.Following.{left_of}
+use Rattle.script_follower.proofs.Shown.{left_within}
+use Rattle.script_follower.proofs.Grown.{some_of}
+use Rattle.machine_parts.proofs.LoadingAccepted.{followable}
+use Rattle.tile_laws.specs.Tile.{TileState}
+use Rattle.tile_laws.specs.Agents.{state_of}
+use Rattle.machine_parts.specs.Placed.{PlacedTile}
+use Rattle.machine_parts.specs.Core.{Load, design_of, after, records_of}
+use Rattle.machine_parts.specs.Runs.{state_after}
+use Rattle.machine_parts.proofs.OnTheWay.{shows_operations}
+use Rattle.machine_parts.specs.Machine.{Core, IsAfter}
+use Rattle.machine_parts.specs.Seen.{IsShown, state_seen}
+use Rattle.machine_parts.specs.Notes.{FitsLoad}
+use Rattle.machine_parts.proofs.Notes.{book_fits}
+use Rattle.machine_parts.specs.Appended.{MayFollow}
+use Rattle.machine_parts.specs.Handed.{refused, BringsWords}
+use Rattle.machine_parts.proofs.Handed.{taken}
+use Rattle.machine_parts.specs.Grown.{HasRoomFor}
+use Rattle.machine_parts.proofs.Items.{seen_at}
 use Rattle.machine_core.specs.declared.machine.Machine.TheInside.{Inside}
 use Rattle.machine_core.specs.Inside.{design_in, places_in, core_of, HaveRoom, HasRoomForScripts, IsMachine}
 use Rattle.machine_core.proofs.Fields.{state_at}
@@ -184,7 +184,7 @@ module _ {A : Type 0} (a : Inside A) (is : IsMachine a) (seen : Core) (view : co
 
   -- the processor can take it
   pub can_take : (most : ℕ) → most ≡ own + more → (v : PlacedTile) → slice_get a.tiles.items p ≡ Some v
-      → CanTake first most v.place.processor.state.operations
+      → HasRoomFor first most v.place.processor.state.operations
   can_take most most_is v at =
       let n = length is.steps in
       let b : ProcessorRecord = v.place.processor.state.operations in

@@ -22,3 +22,4 @@ pub mod HandedPorts
 pub mod HandedChoices
 pub mod HandedMachines
 pub mod Skips
+pub mod BothRead

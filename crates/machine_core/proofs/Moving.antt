@@ -14,37 +14,37 @@ use Rattle.one_order.specs.declared.answer.Answer.{Answer}
 use Rattle.one_order.specs.Events.{Event}
 use Rattle.one_order.specs.Observed.{list_at}
 use Rattle.one_order.proofs.Lists.{get_set_same, get_set_other}
-use Rattle.machine_growth.specs.script_follower.specs.ProcessorRecord.{ProcessorRecord}
-use Rattle.machine_growth.specs.order_abstract.specs.EventBook.{EventBook, noted_event}
-use Rattle.machine_growth.specs.order_abstract.specs.Room.{home_room}
+use Rattle.script_follower.specs.ProcessorRecord.{ProcessorRecord}
+use Rattle.machine_parts.specs.EventBook.{EventBook, noted_event}
+use Rattle.machine_parts.specs.Room.{home_room}
 use Rattle.flit_buffer.specs.Tries.{performed_by}
 use Rattle.flit_buffer.specs.declared.word_op.WordOp.{WordOp}
-use Rattle.machine_growth.specs.core_row.specs.Attempts.{step_op}
+use Rattle.machine_parts.specs.Attempts.{step_op}
 use Rattle.order_book.specs.RoomyBook.{RoomyBook, KeepsRoom}
-use Rattle.rounds.specs.Rounds.{moves_in, one_if_moved}
-use Rattle.machine_growth.specs.tile_laws.specs.Tile.{Design}
-use Rattle.machine_growth.specs.tile_laws.specs.Agents.{TilePlace, state_of, tile_next_op, agent_kind, agent_tile}
-use Rattle.machine_growth.specs.tile.specs.Placed.{PlacedTile, with_place, tile_attempted}
-use Rattle.machine_growth.specs.core_laws.specs.Core.{Load, State, design_of, step, or_same, first_state, after, records_of}
-use Rattle.machine_growth.specs.core_seen.specs.Seen.{IsShown, state_seen}
-use Rattle.machine_growth.specs.core_seen.proofs.Reached.{seen_state}
-use Rattle.machine_growth.specs.core_machine.specs.Machine.{Core, IsAfter, built_to, told, event_in, core_with, core_next}
-use Rattle.machine_growth.specs.core_machine.proofs.Books.{after_append}
-use Rattle.machine_growth.specs.core_machine.proofs.Machines.{after_step}
-use Rattle.machine_growth.specs.core_machine.proofs.Moves.{most_left}
-use Rattle.machine_growth.specs.core_seen.specs.Notes.{FitsLoad, RoomToNoteService, RoomToNoteAnswer, book_noted, index_served}
-use Rattle.machine_growth.specs.core_seen.proofs.Notes.{book_fits, noted_is, room_to_issue, room_to_serve, room_to_answer}
+use Rattle.machine_parts.specs.Rounds.{moves_in, one_if_moved}
+use Rattle.tile_laws.specs.Tile.{Design}
+use Rattle.tile_laws.specs.Agents.{TilePlace, state_of, tile_next_op, agent_kind, agent_tile}
+use Rattle.machine_parts.specs.Placed.{PlacedTile, with_place, tile_attempted}
+use Rattle.machine_parts.specs.Core.{Load, State, design_of, step, or_same, first_state, after, records_of}
+use Rattle.machine_parts.specs.Seen.{IsShown, state_seen}
+use Rattle.machine_parts.proofs.ReachedRows.{seen_state}
+use Rattle.machine_parts.specs.Machine.{Core, IsAfter, built_to, machine_told, event_in, core_with, core_next}
+use Rattle.machine_parts.proofs.Books.{after_append}
+use Rattle.machine_parts.proofs.Machines.{after_step}
+use Rattle.machine_parts.proofs.Moves.{most_left}
+use Rattle.machine_parts.specs.Notes.{FitsLoad, RoomToNoteService, RoomToNoteAnswer, book_noted, index_served}
+use Rattle.machine_parts.proofs.Notes.{book_fits, noted_is, room_to_issue, room_to_serve, room_to_answer}
 use Rattle.machine_core.specs.declared.machine.Machine.TheInside.{Inside}
 use Rattle.machine_core.specs.Noted.{HasRoomForIssue, HasRoomForService, HasRoomToNote, counts_of, records_in}
-use Rattle.machine_core.specs.Inside.{design_in, places_in, core_of, HaveRoom, HasRoomForScripts as HasRoomForScripts, IsMachine}
-use Rattle.machine_growth.specs.machine_wake.specs.Awake.{Awake, is_choice_awake, moved as after_move}
-use Rattle.machine_growth.specs.machine_wake.specs.Ports.{AwakePorts, flags_of}
-use Rattle.machine_growth.specs.core_wake.specs.Routers.{PortFlags, OtherPortsSleep}
+use Rattle.machine_core.specs.Inside.{design_in, places_in, core_of, HaveRoom, HasRoomForScripts, IsMachine}
+use Rattle.machine_parts.specs.Awake.{Awake, is_choice_awake, awake_after as after_move}
+use Rattle.machine_parts.specs.Ports.{AwakePorts, flags_of}
+use Rattle.machine_parts.specs.Routers.{PortFlags, OtherPortsSleep}
 use Rattle.machine_core.proofs.RouterFlags.{FollowMove, ports_kept}
-use Rattle.machine_growth.specs.core_wake.specs.Choices.{OtherChoicesSleep}
+use Rattle.machine_parts.specs.Choices.{OtherChoicesSleep}
 use Rattle.machine_core.proofs.Fields.{Led, state_at, records_shown, with_parts, core_by}
 use Rattle.machine_core.proofs.Standing.{design_is, book_is, tiles_counted}
-use Rattle.machine_growth.specs.machine_wake.proofs.KeptSleepers as kept
+use Rattle.machine_parts.proofs.KeptSleepers as kept
 use Rattle.machine_core.proofs.Attempting.{step_is, event_is, place_there, leads}
 
 module _ {A : Type 0} (a : Inside A) (is : IsMachine a) where
@@ -281,7 +281,7 @@ module _ {A : Type 0} (a : Inside A) (is : IsMachine a) where
               ports = ports_led q attempted w new_tile tiles.items tiles_are row.items row_is op asked ports ports_are;
             };
             steps = record {
-              result = sym (ap told (next_is q attempted w new_tile tiles.items tiles_are row.items row_is));
+              result = sym (ap machine_told (next_is q attempted w new_tile tiles.items tiles_are row.items row_is));
               change = change;
             };
           }

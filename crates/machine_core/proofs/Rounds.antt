@@ -9,8 +9,8 @@ use Rattle.torus.specs.declared.step.Step.{Step}
 use Rattle.torus.specs.declared.step.Choice.{Choice}
 use Rattle.channel_number.specs.Ports.{port_count}
 use Rattle.one_order.specs.Events.{Event}
-use Rattle.machine_growth.specs.core_laws.specs.Core.{State, step, attempts_of, round_at, round}
-use Rattle.machine_growth.specs.core_machine.specs.Machine.{Core, built_to, event_in, core_with, core_next, core_after}
+use Rattle.machine_parts.specs.Core.{State, step, attempts_of, round_at, round}
+use Rattle.machine_parts.specs.Machine.{Core, built_to, event_in, core_with, core_next, core_after}
 use Rattle.torus.specs.Choices.{processor_choices, bank_choices, takes_of_all, puts_of_all, credits_of_all, router_choices}
 
 -- attempts, one after the other

@@ -11,18 +11,18 @@ use Rattle.torus.specs.declared.step.Choice.{Choice}
 use Rattle.script.specs.declared.line.Line.{Line}
 use Rattle.channel_number.specs.Ports.{port_count}
 use Rattle.flit_buffer.specs.declared.word_op.WordOp.{WordOp}
-use Rattle.machine_growth.specs.tile_laws.specs.declared.agent.Agent.{Agent}
-use Rattle.machine_growth.specs.tile_laws.specs.declared.agent.Agent.TheVariants.{Processor, Router, Bank}
-use Rattle.machine_growth.specs.tile_laws.specs.Tile.{Design, TileState}
-use Rattle.machine_growth.specs.tile_laws.specs.router.specs.Table.{latch_of}
-use Rattle.machine_growth.specs.tile_laws.specs.Agents.{agent_number, agent_kind, agent_tile}
-use Rattle.machine_growth.specs.tile_laws.proofs.AgentNumbers.{kind_of_number, number_is}
-use Rattle.machine_growth.specs.core_laws.specs.Core.{Load, State, design_of, step, after, first_state, first_tile}
-use Rattle.machine_growth.specs.core_laws.specs.Runs.{IsAccepted}
-use Rattle.machine_growth.specs.core_row.specs.Attempts.{step_op}
-use Rattle.machine_growth.specs.core_wake.specs.Routers.{PortFlags, OtherPortsSleep, latch_at, ports_woken, router_moved}
-use Rattle.machine_growth.specs.core_wake.proofs.PortsKept.{woken_after, moved_after}
-use Rattle.machine_growth.specs.machine_wake.specs.Ports.{AwakePorts, flags_of, fresh_ports, lowered}
+use Rattle.tile_laws.specs.declared.agent.Agent.{Agent}
+use Rattle.tile_laws.specs.declared.agent.Agent.TheVariants.{Processor, Router, Bank}
+use Rattle.tile_laws.specs.Tile.{Design, TileState}
+use Rattle.router.specs.Table.{latch_of}
+use Rattle.tile_laws.specs.Agents.{agent_number, agent_kind, agent_tile}
+use Rattle.tile_laws.proofs.AgentNumbers.{kind_of_number, number_is}
+use Rattle.machine_parts.specs.Core.{Load, State, design_of, step, after, first_state, first_tile}
+use Rattle.machine_parts.specs.Runs.{IsAcceptedLoad}
+use Rattle.machine_parts.specs.Attempts.{step_op}
+use Rattle.machine_parts.specs.Routers.{PortFlags, OtherPortsSleep, latch_at, ports_woken, router_moved}
+use Rattle.machine_parts.proofs.PortsKept.{woken_after, moved_after}
+use Rattle.machine_parts.specs.Ports.{AwakePorts, flags_of, fresh_ports, lowered}
 
 -- after a move of an agent: a router's frees choices of its own too
 abbrev pub ports_by : Agent → Design → ℕ → Choice → WordOp → PortFlags → PortFlags
@@ -60,7 +60,7 @@ fresh_sleep l = record {
   full = λ t i out. first_latches l t i;
 }
 
-module _ (l : Load) (ok : IsAccepted l) (steps : List Step) (attempt : Step) (op : WordOp) (next : State) (w : AwakePorts) (built : w.design ≡ design_of l)
+module _ (l : Load) (ok : IsAcceptedLoad l) (steps : List Step) (attempt : Step) (op : WordOp) (next : State) (w : AwakePorts) (built : w.design ≡ design_of l)
     (sleep : OtherPortsSleep (design_of l) (after l steps) (flags_of w)) (by : step_op (design_of l) (after l steps) attempt ≡ Some op)
     (moves : step (design_of l) (after l steps) attempt ≡ Some next) where
   -- no router moved where another kind of agent did

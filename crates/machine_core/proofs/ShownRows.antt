@@ -3,14 +3,14 @@ use Rattle.std.proofs.Common.{◌≡◌, ℕ, ◌+◌, ◌%◌, List, length, ta
 use Rattle.std.proofs.Math.Seq.{take-length}
 use Rattle.torus.specs.declared.step.Step.{Step}
 use Rattle.flit_buffer.proofs.RingArithmetic.{place_from}
-use Rattle.machine_growth.specs.core_laws.specs.Core.{Load}
-use Rattle.machine_growth.specs.core_laws.specs.Runs.{IsAccepted}
-use Rattle.machine_growth.specs.core_laws.proofs.Reached.{reports_counted}
-use Rattle.machine_growth.specs.core_row.specs.Taken.{taken}
-use Rattle.machine_growth.specs.core_row.proofs.Reached as reached
-use Rattle.machine_growth.specs.core_row.proofs.Fronts.{front_counts_taken, flit_behind_taken}
-use Rattle.machine_growth.specs.core_machine.specs.Machine.{Core, IsAfter, core_after_load}
-use Rattle.machine_growth.specs.core_machine.proofs.Machines.{named_machine}
+use Rattle.machine_parts.specs.Core.{Load}
+use Rattle.machine_parts.specs.Runs.{IsAcceptedLoad}
+use Rattle.machine_parts.proofs.Reached.{reports_counted}
+use Rattle.machine_parts.specs.Taken.{words_taken}
+use Rattle.machine_parts.proofs.RowOfRuns as reached
+use Rattle.machine_parts.proofs.Fronts.{front_counts_taken, flit_behind_taken}
+use Rattle.machine_parts.specs.Machine.{Core, IsAfter, core_after_load}
+use Rattle.machine_parts.proofs.Machines.{named_machine}
 use Rattle.machine_core.specs.Shown.{ShowsRow}
 
 -- a place counted on from a remainder
@@ -19,12 +19,12 @@ from_rest depth a i =
     ap (λ k. (k % depth + i) % depth) (let z : a ≡ a + 0 = omega arith in z) ∙ (place_from depth a 0 i ∙ ap (λ k. k % depth) (omega arith))
 
 -- the row after the first n steps
-after_first : (l : Load) (steps : List Step) (n : ℕ) → IsAccepted l → ShowsRow l (take n steps) (core_after_load l (take n steps))
+after_first : (l : Load) (steps : List Step) (n : ℕ) → IsAcceptedLoad l → ShowsRow l (take n steps) (core_after_load l (take n steps))
 after_first l steps n ok = record {
   size = reached.size l ok steps n;
   flits = λ x i x_in h. flit_behind_taken l ok x x_in steps n i h;
   empty = λ x q x_in low none. reached.rest_empty l ok steps n x x_in q low (λ i h e. none i h
-      (sym (from_rest l.depth (taken l (take n steps) x) i) ∙ (ap (λ k. (k + i) % l.depth) (sym (front_counts_taken l ok x x_in steps n)) ∙ e)));
+      (sym (from_rest l.depth (words_taken l (take n steps) x) i) ∙ (ap (λ k. (k + i) % l.depth) (sym (front_counts_taken l ok x x_in steps n)) ∙ e)));
   words = reached.memory_shown l ok steps n;
   done = reached.done_shown l ok steps n ∙ (reports_counted l ok steps n).counts;
 }

@@ -9,11 +9,11 @@ use Rattle.torus.specs.declared.step.Choice.{Choice}
 use Rattle.torus.specs.declared.step.Choice.TheVariants.{TakeFrom, Put, CreditOf}
 use Rattle.torus.specs.declared.step.Stepped.{Stepped}
 use Rattle.torus.specs.declared.step.Stepped.TheVariants.{Idle}
-use Rattle.machine_growth.specs.tile_laws.specs.Tile.{Design}
-use Rattle.machine_growth.specs.core_laws.specs.Core.{State, design_of, step, after, attempts_of}
-use Rattle.machine_growth.specs.core_machine.specs.Machine.{Core, Steps, built_to, told, event_in, core_with, core_next, core_after}
-use Rattle.machine_growth.specs.core_wake.specs.Routers.{PortFlags, OtherPortsSleep, of_router}
-use Rattle.machine_growth.specs.machine_wake.specs.Ports.{AwakePorts, flags_of, take_rested, put_rested, credit_rested}
+use Rattle.tile_laws.specs.Tile.{Design}
+use Rattle.machine_parts.specs.Core.{State, design_of, step, after, attempts_of}
+use Rattle.machine_parts.specs.Machine.{Core, Steps, built_to, machine_told, event_in, core_with, core_next, core_after}
+use Rattle.machine_parts.specs.Routers.{PortFlags, OtherPortsSleep, of_router}
+use Rattle.machine_parts.specs.Ports.{AwakePorts, flags_of, take_rested, put_rested, credit_rested}
 use Rattle.machine_core.specs.declared.machine.Machine.TheInside.{Inside}
 use Rattle.machine_core.specs.Inside.{core_of, IsMachine}
 use Rattle.machine_core.specs.Rounds.{attempts_between, first_in}
@@ -34,7 +34,7 @@ idle_of old new stepped attempt h is =
     let same : new ≡ old = h.change ∙ ap (core_with old (event_in (built_to old) old.state attempt)) none in
     subst (λ (c : Core). IsIdle c attempt) (sym same) none
   where
-    by_told : (o : Option State) → told o ≡ Idle → o ≡ None
+    by_told : (o : Option State) → machine_told o ≡ Idle → o ≡ None
     by_told None e = refl
     by_told (Some s) e = absurd (cc)
 

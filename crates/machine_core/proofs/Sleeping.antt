@@ -6,21 +6,21 @@ use Rattle.torus.specs.Shape.{Shape, dims_of}
 use Rattle.torus.specs.declared.step.Step.{Step}
 use Rattle.torus.specs.declared.step.Choice.{Choice}
 use Rattle.channel_number.specs.Ports.{port_count}
-use Rattle.rounds.specs.Rounds.{one_if_moved, moves_in, or_same}
-use Rattle.machine_growth.specs.tile_laws.specs.declared.agent.Agent.{Agent}
-use Rattle.machine_growth.specs.tile_laws.specs.declared.agent.Agent.TheVariants.{Router}
-use Rattle.machine_growth.specs.tile_laws.specs.Tile.{Design}
-use Rattle.machine_growth.specs.tile_laws.specs.Agents.{agent_kind}
-use Rattle.machine_growth.specs.tile_laws.specs.Choices.{has_choice}
-use Rattle.machine_growth.specs.tile_laws.proofs.AgentNumbers.{kind_of_number}
-use Rattle.machine_growth.specs.core_laws.specs.Core.{State, design_of, step, or_same as state_or, after, attempts_of}
-use Rattle.machine_growth.specs.core_machine.specs.Machine.{Core, IsAfter, built_to, event_in, core_with, core_next, core_after}
-use Rattle.machine_growth.specs.core_machine.proofs.Moves.{left_after}
-use Rattle.machine_growth.specs.machine_wake.specs.Awake.{Awake, is_awake, is_choice_awake, rested, choice_rested}
-use Rattle.machine_growth.specs.core_wake.specs.Sleep.{IsAsleep, choices_of, attempts_at, has_moved}
-use Rattle.machine_growth.specs.core_wake.specs.Choices.{OtherChoicesSleep}
-use Rattle.machine_growth.specs.core_wake.proofs.Sleepers.{falls, same_machine}
-use Rattle.machine_growth.specs.machine_wake.proofs.KeptSleepers.{rests, agents_sleep, choice_rests}
+use Rattle.machine_parts.specs.Rounds.{one_if_moved, moves_in, or_same}
+use Rattle.tile_laws.specs.declared.agent.Agent.{Agent}
+use Rattle.tile_laws.specs.declared.agent.Agent.TheVariants.{Router}
+use Rattle.tile_laws.specs.Tile.{Design}
+use Rattle.tile_laws.specs.Agents.{agent_kind}
+use Rattle.tile_laws.specs.Choices.{has_choice}
+use Rattle.tile_laws.proofs.AgentNumbers.{kind_of_number}
+use Rattle.machine_parts.specs.Core.{State, design_of, step, or_same as state_or, after, attempts_of}
+use Rattle.machine_parts.specs.Machine.{Core, IsAfter, built_to, event_in, core_with, core_next, core_after}
+use Rattle.machine_parts.proofs.Moves.{left_after}
+use Rattle.machine_parts.specs.Awake.{Awake, is_awake, is_choice_awake, rested, choice_rested}
+use Rattle.machine_parts.specs.Sleep.{IsAsleep, choices_of, attempts_at, has_moved}
+use Rattle.machine_parts.specs.Choices.{OtherChoicesSleep}
+use Rattle.machine_parts.proofs.Sleepers.{falls, same_machine}
+use Rattle.machine_parts.proofs.KeptSleepers.{rests, agents_sleep, choice_rests}
 use Rattle.machine_core.specs.declared.machine.Machine.TheInside.{Inside}
 use Rattle.machine_core.specs.Inside.{core_of, IsMachine}
 use Rattle.torus.specs.Choices.{router_choices}

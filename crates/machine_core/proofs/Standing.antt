@@ -6,13 +6,13 @@ use Rattle.std.proofs.lemmas.Option.{slice_get_past}
 use Rattle.torus.specs.Shape.{Shape, tiles_of, dims_of}
 use Rattle.torus.specs.declared.step.Step.{Step}
 use Rattle.channel_number.specs.Ports.{port_count}
-use Rattle.machine_growth.specs.tile_laws.specs.Agents.{state_of, agent_tile}
-use Rattle.machine_growth.specs.tile.specs.Placed.{PlacedTile}
-use Rattle.machine_growth.specs.core_laws.specs.Core.{Load, State, design_of, step, after}
-use Rattle.machine_growth.specs.core_laws.specs.Runs.{state_after}
-use Rattle.machine_growth.specs.core_laws.proofs.EveryRun.{holds_in}
-use Rattle.machine_growth.specs.core_seen.specs.Seen.{IsShown}
-use Rattle.machine_growth.specs.core_machine.specs.Machine.{Core, built_to, book_after}
+use Rattle.tile_laws.specs.Agents.{state_of, agent_tile}
+use Rattle.machine_parts.specs.Placed.{PlacedTile}
+use Rattle.machine_parts.specs.Core.{Load, State, design_of, step, after}
+use Rattle.machine_parts.specs.Runs.{state_after}
+use Rattle.machine_parts.proofs.EveryRun.{holds_in}
+use Rattle.machine_parts.specs.Seen.{IsShown}
+use Rattle.machine_parts.specs.Machine.{Core, built_to, book_after}
 use Rattle.machine_core.specs.declared.machine.Machine.TheInside.{Inside}
 use Rattle.machine_core.specs.Inside.{design_in, places_in, core_of, IsMachine}
 

@@ -7,15 +7,15 @@ use Rattle.std.specs.List.{list_all}
 use Rattle.std.proofs.lemmas.List.Folds.{list_all-map}
 use Rattle.std.proofs.lemmas.Option.{slice_get-map, slice_get-get_or, slice_get_past}
 use Rattle.channel_number.specs.Order.{channel_count}
-use Rattle.machine_growth.specs.script_follower.specs.Following.{is_finished}
-use Rattle.machine_growth.specs.script_follower.specs.ProcessorRecord.{ProcessorRecord}
-use Rattle.machine_growth.specs.tile_laws.specs.Tile.{TileState}
-use Rattle.machine_growth.specs.tile_laws.specs.Agents.{TilePlace, state_of}
-use Rattle.machine_growth.specs.tile.specs.Placed.{PlacedTile}
-use Rattle.machine_growth.specs.core_laws.specs.Core.{Load, State, design_of, records_of}
-use Rattle.machine_growth.specs.core_row.specs.Row.{row_of}
-use Rattle.machine_growth.specs.core_row.proofs.Reached.{all_steps, size}
-use Rattle.machine_growth.specs.core_machine.specs.Machine.{shown, all_finished}
+use Rattle.script_follower.specs.Following.{is_finished}
+use Rattle.script_follower.specs.ProcessorRecord.{ProcessorRecord}
+use Rattle.tile_laws.specs.Tile.{TileState}
+use Rattle.tile_laws.specs.Agents.{TilePlace, state_of}
+use Rattle.machine_parts.specs.Placed.{PlacedTile}
+use Rattle.machine_parts.specs.Core.{Load, State, design_of, records_of}
+use Rattle.machine_parts.specs.Row.{row_of}
+use Rattle.machine_parts.proofs.RowOfRuns.{all_steps, size}
+use Rattle.machine_parts.specs.Machine.{shown, all_finished}
 use Rattle.machine_core.specs.declared.machine.Machine.TheInside.{Inside}
 use Rattle.machine_core.specs.Inside.{core_of, places_in, IsMachine}
 

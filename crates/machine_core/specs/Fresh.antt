@@ -1,7 +1,7 @@
 -- What a freshly loaded machine tells of its load.
 use Rattle.std.specs.Prelude.{map}
-use Rattle.machine_growth.specs.core_laws.specs.Core.{Load}
-use Rattle.machine_growth.specs.core_machine.specs.Machine.{Core}
+use Rattle.machine_parts.specs.Core.{Load}
+use Rattle.machine_parts.specs.Machine.{Core}
 
 -- the load that a freshly loaded machine tells: what was loaded, without the fences in front of
 -- each script, which hold nothing back (this project's own format)

@@ -4,18 +4,18 @@ use Rattle.torus.specs.Shape.{tiles_of}
 use Rattle.torus.specs.declared.step.Step.{Step}
 use Rattle.script.specs.declared.line.Line.{Line}
 use Rattle.script.specs.Scripts.{operation_count, total_count}
-use Rattle.machine_growth.specs.order_abstract.specs.Room.{home_room}
+use Rattle.machine_parts.specs.Room.{home_room}
 use Rattle.order_book.specs.RoomyBook.{RoomyBook}
-use Rattle.machine_growth.specs.tile_laws.specs.Tile.{Design}
-use Rattle.machine_growth.specs.tile_laws.specs.Agents.{TilePlace}
-use Rattle.machine_growth.specs.tile.specs.Placed.{PlacedTile}
-use Rattle.machine_growth.specs.core_laws.specs.Core.{Load, design_of, after as state_after_steps}
-use Rattle.machine_growth.specs.core_seen.specs.Seen.{IsShown, state_seen}
-use Rattle.machine_growth.specs.core_machine.specs.Machine.{Core, IsAfter}
-use Rattle.machine_growth.specs.core_wake.specs.Choices.{OtherChoicesSleep}
-use Rattle.machine_growth.specs.core_wake.specs.Routers.{OtherPortsSleep}
-use Rattle.machine_growth.specs.machine_wake.specs.Awake.{is_choice_awake}
-use Rattle.machine_growth.specs.machine_wake.specs.Ports.{flags_of}
+use Rattle.tile_laws.specs.Tile.{Design}
+use Rattle.tile_laws.specs.Agents.{TilePlace}
+use Rattle.machine_parts.specs.Placed.{PlacedTile}
+use Rattle.machine_parts.specs.Core.{Load, design_of, after as state_after_steps}
+use Rattle.machine_parts.specs.Seen.{IsShown, state_seen}
+use Rattle.machine_parts.specs.Machine.{Core, IsAfter}
+use Rattle.machine_parts.specs.Choices.{OtherChoicesSleep}
+use Rattle.machine_parts.specs.Routers.{OtherPortsSleep}
+use Rattle.machine_parts.specs.Awake.{is_choice_awake}
+use Rattle.machine_parts.specs.Ports.{flags_of}
 use Rattle.machine_core.specs.declared.machine.Machine.TheInside.{Inside}
 
 -- what the machine is built to

@@ -1,8 +1,3 @@
-pub use Rattle.machine_growth.specs.core_machine
-pub use Rattle.machine_growth.specs.core_laws
-pub use Rattle.machine_growth.specs.order_abstract
-pub use Rattle.machine_growth.specs.core_growth
-pub use Rattle.machine_growth.specs.core_reopening
 pub mod Inside
 pub mod Loaded
 pub mod Rounds
@@ -10,3 +5,6 @@ pub mod Shown
 pub mod Noted
 pub mod Fresh
 pub mod Growing
+pub mod Loading
+pub mod Run
+pub mod FewestRounds

@@ -1,8 +1,8 @@
 -- The tiles that a machine begins with.
 use Rattle.std.specs.Prelude.{ℕ, ◌+◌, List, [], ◌∷◌}
 use Rattle.script.specs.declared.line.Line.{Line}
-use Rattle.machine_growth.specs.tile_laws.specs.Tile.{Design}
-use Rattle.machine_growth.specs.tile.specs.Placed.{PlacedTile, first_tile}
+use Rattle.tile_laws.specs.Tile.{Design}
+use Rattle.machine_parts.specs.Placed.{PlacedTile, first_tile}
 
 -- the tiles from tile t on, before any step: one for each script, each bank with its room (this
 -- project's own format)

@@ -5,9 +5,9 @@ use Rattle.std.specs.List.{range_with_len}
 use Rattle.torus.specs.Shape.{Shape}
 use Rattle.torus.specs.declared.step.Step.{Step}
 use Rattle.torus.specs.declared.step.Choice.{Choice}
-use Rattle.rounds.specs.Rounds.{first_enabled}
-use Rattle.machine_growth.specs.core_laws.specs.Core.{step, attempts_of, round}
-use Rattle.machine_growth.specs.core_machine.specs.Machine.{Core, built_to, core_after, all_finished}
+use Rattle.machine_parts.specs.Rounds.{first_enabled}
+use Rattle.machine_parts.specs.Core.{step, attempts_of, round}
+use Rattle.machine_parts.specs.Machine.{Core, built_to, core_after, all_finished}
 
 -- the first of some attempts that is enabled in a machine now (this project's own format)
 abbrev pub first_in : Core → List Step → Option Step

@@ -3,10 +3,10 @@ use Rattle.std.specs.Prelude.{◌≡◌, ◌≢◌, ℕ, ◌+◌, ◌*◌, ◌%�
 use Rattle.torus.specs.declared.step.Step.{Step}
 use Rattle.channel_number.specs.Order.{channel_count}
 use Rattle.flit_buffer.specs.Surroundings.{ring}
-use Rattle.machine_growth.specs.core_laws.specs.Core.{Load}
-use Rattle.machine_growth.specs.core_row.specs.Row.{row_of}
-use Rattle.machine_growth.specs.core_row.specs.Taken.{taken}
-use Rattle.machine_growth.specs.core_machine.specs.Machine.{Core, built_to, shown}
+use Rattle.machine_parts.specs.Core.{Load}
+use Rattle.machine_parts.specs.Row.{row_of}
+use Rattle.machine_parts.specs.Taken.{words_taken}
+use Rattle.machine_parts.specs.Machine.{Core, built_to, shown}
 
 -- the row of a machine's words (this project's own format)
 abbrev pub row_in : Core → List ℕ
@@ -17,17 +17,17 @@ abbrev pub flits_in : Core → ℕ → List ℕ
 flits_in c x = (ring c.state.around.rings x).channel.flits
 
 -- The row of a machine that stands after these steps from a load: flit i of a channel stands as
--- many places after the channel's first as flits were taken from it so far and i together, modulo
+-- many places after the channel's first as flits were words_taken from it so far and i together, modulo
 -- the depth, and 0 at every other place of the channel; behind the channels stand the words of the
 -- memory by address, and behind those the done word, which is the number of the processors that
 -- have reported that their script is finished (this project's own format).
 pub record ShowsRow (l : Load) (steps : List Step) (c : Core) : Type 0 where
   pub size : length (row_in c) ≡ channel_count c.shape * c.depth + length c.opening + 1
   pub flits : (x i : ℕ) → x < channel_count c.shape → i < length (flits_in c x)
-      → slice_index (row_in c) (x * c.depth + (taken l steps x + i) % c.depth)
+      → slice_index (row_in c) (x * c.depth + (words_taken l steps x + i) % c.depth)
       ≡ slice_index (flits_in c x) i
   pub empty : (x q : ℕ) → x < channel_count c.shape → q < c.depth
-      → ((i : ℕ) → i < length (flits_in c x) → (taken l steps x + i) % c.depth ≢ q)
+      → ((i : ℕ) → i < length (flits_in c x) → (words_taken l steps x + i) % c.depth ≢ q)
       → slice_index (row_in c) (x * c.depth + q) ≡ 0
   pub words : (a : ℕ) → a < length c.opening
       → slice_index (row_in c) (channel_count c.shape * c.depth + a)

@@ -4,10 +4,10 @@
 ghost use Rattle.std.specs.Prelude.{◌≡◌, ◌<◌, ◌+◌, ◌*◌, true, false, None};
 ghost use Rattle.torus.specs.Shape.{tiles_of, dims_of};
 ghost use Rattle.channel_number.specs.Ports.{port_count};
-ghost use Rattle.rounds.specs.Rounds.{moves_in};
-ghost use Rattle.machine_growth.specs.core_laws.specs.Core.{step, attempts_of, round_at, round};
-ghost use Rattle.machine_growth.specs.core_machine.specs.Machine.{RunsOn, MakesMove, Steps, core_after, built_to};
-ghost use Rattle.machine_growth.specs.core_machine.specs.Machine.{all_finished, core_next};
+ghost use Rattle.machine_parts.specs.Rounds.{moves_in};
+ghost use Rattle.machine_parts.specs.Core.{step, attempts_of, round_at, round};
+ghost use Rattle.machine_parts.specs.Machine.{RunsOn, MakesMove, Steps, core_after, built_to};
+ghost use Rattle.machine_parts.specs.Machine.{all_finished, core_next};
 ghost use Rattle.torus.specs.Choices.{processor_choices, bank_choices, router_choices, is_of_processor, is_of_bank};
 
 use crate::machine::Machine;

@@ -4,14 +4,14 @@ ghost use Rattle.std.specs.Prelude.{◌≡◌, ◌⊎◌, List, Some, None, map,
 ghost use Rattle.torus.specs.declared.fault.Fault.{Fault};
 ghost use Rattle.torus.specs.declared.step.Step.{Step};
 ghost use Rattle.script.specs.Scripts.{operation_count};
-ghost use Rattle.machine_growth.specs.core_laws.specs.Core.{Load};
-ghost use Rattle.machine_growth.specs.core_machine.specs.Machine.{IsAfter};
-ghost use Rattle.machine_growth.specs.core_growth.specs.Appended.{load_with};
-ghost use Rattle.machine_growth.specs.core_reopening.specs.Handed.{handed, moves_kept, refused};
+ghost use Rattle.machine_parts.specs.Core.{Load};
+ghost use Rattle.machine_parts.specs.Machine.{IsAfter};
+ghost use Rattle.machine_parts.specs.Appended.{load_with};
+ghost use Rattle.machine_parts.specs.Handed.{handed, moves_kept, refused};
 ghost use Rattle.machine_core.specs.Growing.{room_left};
 
 use crate::machine::Machine;
-use machine_growth::{brings_words, home_of, put_line, refusal, sum_of, take_back};
+use machine_parts::{brings_words, home_of, put_line, refusal, sum_of, take_back};
 use script::Line;
 use std::alloc::{AllocError, Allocator};
 use torus::Fault;

@@ -2,8 +2,8 @@
 
 ghost use Rattle.std.specs.Prelude.{◌≡◌, List, []};
 ghost use Rattle.torus.specs.declared.step.Step.{Step};
-ghost use Rattle.machine_growth.specs.core_laws.specs.Core.{Load, after};
-ghost use Rattle.machine_growth.specs.core_machine.specs.Machine.{Core, IsAfter};
+ghost use Rattle.machine_parts.specs.Core.{Load, after};
+ghost use Rattle.machine_parts.specs.Machine.{Core, IsAfter};
 ghost use Rattle.machine_core.specs.Shown.{ShowsRow};
 ghost use Rattle.machine_core.specs.Fresh.{told_load};
 

@@ -1,4 +1,5 @@
-//! The machine: its tiles on the wormhole network, its steps and rounds, and the one legal order of its runs.
+//! The machine: how two texts load it, its tiles on the wormhole network, its steps and rounds, and
+//! the one legal order of its runs.
 #![tactic(auto)]
 
 mod asking;
@@ -10,9 +11,11 @@ pub mod machine;
 mod noting;
 pub mod parts;
 mod routers;
+mod texts;
 
 pub use home_bank::Entry;
 pub use machine::Machine;
-pub use machine_growth::{TileAgents, agent_kind, agent_tile};
+pub use machine_parts::{TileAgents, agent_kind, agent_tile};
 pub use one_order::{Answer, Ordered};
 pub use parts::Parts;
+pub use texts::load;

@@ -2,20 +2,20 @@ ghost use Rattle.std.specs.Prelude.{◌≡◌, ◌+◌, ◌<◌, ◌≤◌, ◌�
 ghost use Rattle.std.specs.Prelude.{slice_get};
 ghost use Rattle.std.specs.Option.{option_copied};
 ghost use Rattle.torus.specs.declared.step.Step.{Step};
-ghost use Rattle.machine_growth.specs.script_follower.specs.Following.{is_finished};
-ghost use Rattle.machine_growth.specs.order_abstract.specs.Scripts.{AreFinished};
-ghost use Rattle.rounds.specs.Rounds.{moves_in};
-ghost use Rattle.machine_growth.specs.core_laws.specs.Core.{Load, run_of, step};
-ghost use Rattle.machine_growth.specs.core_row.specs.Row.{row_of};
-ghost use Rattle.machine_growth.specs.core_machine.specs.Machine.{IsAfter, RunsOn};
-ghost use Rattle.machine_growth.specs.core_machine.specs.Machine.{HasOneOrderSoFar, Steps};
-ghost use Rattle.machine_growth.specs.core_machine.specs.Machine.{core_after, shown};
-ghost use Rattle.machine_growth.specs.core_machine.specs.Machine.{built_to, all_finished};
-ghost use Rattle.machine_growth.specs.core_progress.specs.Moves.{IsLive, moves_left};
+ghost use Rattle.script_follower.specs.Following.{is_finished};
+ghost use Rattle.machine_parts.specs.Scripts.{AreFinished};
+ghost use Rattle.machine_parts.specs.Rounds.{moves_in};
+ghost use Rattle.machine_parts.specs.Core.{Load, run_of, step};
+ghost use Rattle.machine_parts.specs.Row.{row_of};
+ghost use Rattle.machine_parts.specs.Machine.{IsAfter, RunsOn};
+ghost use Rattle.machine_parts.specs.Machine.{HasOneOrderSoFar, Steps};
+ghost use Rattle.machine_parts.specs.Machine.{core_after, shown};
+ghost use Rattle.machine_parts.specs.Machine.{built_to, all_finished};
+ghost use Rattle.machine_parts.specs.Moves.{IsLive, moves_left};
 ghost use Rattle.machine_core.specs.Rounds.{rounds_of, NeedsRounds};
 
 use home_bank::Entry;
-use machine_growth::{Agent, RouterFlags, TileAgents, WakeFlags, agent_kind, agent_tile};
+use machine_parts::{Agent, RouterFlags, TileAgents, WakeFlags, agent_kind, agent_tile};
 use one_order::{Answer, Ordered};
 use order_book::EventBook;
 use std::alloc::{Allocator, Global};
@@ -42,7 +42,7 @@ pub struct Machine<A: Allocator = Global> {
 }
 
 impl<A: Allocator> Model for Machine<A> {
-    ghost use Rattle.machine_growth.specs.core_machine.specs.Machine.{Core};
+    ghost use Rattle.machine_parts.specs.Machine.{Core};
 
     ghost Value = { Core };
 

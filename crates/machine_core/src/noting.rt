@@ -2,15 +2,15 @@
 //! entries its tile had before it.
 
 ghost use Rattle.std.specs.Prelude.{◌≡◌, ◌<◌, length, false, IsTrue, Some, slice_get};
-ghost use Rattle.machine_growth.specs.script_follower.specs.ProcessorRecord.{index_of};
-ghost use Rattle.machine_growth.specs.tile_laws.specs.declared.agent.Agent.TheVariants.{Bank};
-ghost use Rattle.machine_growth.specs.tile_laws.specs.Agents.{state_of};
+ghost use Rattle.script_follower.specs.ProcessorRecord.{index_of};
+ghost use Rattle.tile_laws.specs.declared.agent.Agent.TheVariants.{Bank};
+ghost use Rattle.tile_laws.specs.Agents.{state_of};
 ghost use Rattle.order_book.specs.RoomyBook.{KeepsRoom};
-ghost use Rattle.machine_growth.specs.tile.specs.Placed.{HasRoomForEntry, PlacedTile};
-ghost use Rattle.machine_growth.specs.core_seen.specs.Notes.{book_noted};
+ghost use Rattle.machine_parts.specs.Placed.{HasRoomForEntry, PlacedTile};
+ghost use Rattle.machine_parts.specs.Notes.{book_noted};
 ghost use Rattle.machine_core.specs.Noted.{HasRoomToNote, IsOfFullBank, counts_of, records_in};
 
-use machine_growth::TileAgents;
+use machine_parts::TileAgents;
 use order_book::EventBook;
 use std::alloc::Allocator;
 use tag_table::{OpId, Tag};

@@ -2,13 +2,13 @@
 ghost use Rattle.std.specs.Prelude.{◌≡◌, List, [], length, map};
 ghost use Rattle.torus.specs.Shape.{tiles_of};
 ghost use Rattle.torus.specs.declared.step.Step.{Step};
-ghost use Rattle.machine_growth.specs.core_laws.specs.Core.{Load, design_of, after};
-ghost use Rattle.machine_growth.specs.core_machine.specs.Machine.{IsAfter};
-ghost use Rattle.machine_growth.specs.core_seen.specs.Seen.{IsShown};
+ghost use Rattle.machine_parts.specs.Core.{Load, design_of, after};
+ghost use Rattle.machine_parts.specs.Machine.{IsAfter};
+ghost use Rattle.machine_parts.specs.Seen.{IsShown};
 ghost use Rattle.machine_core.specs.Inside.{HaveRoom};
 
 use crate::machine::Machine;
-use machine_growth::TileAgents;
+use machine_parts::TileAgents;
 use std::alloc::{Allocator, Global};
 use torus::Torus;
 

@@ -4,8 +4,8 @@ ghost use Rattle.std.specs.Prelude.{◌≡◌, ◌<◌, ◌≤◌, ◌+◌, ◌*
 ghost use Rattle.torus.specs.Shape.{tiles_of};
 ghost use Rattle.torus.specs.Choices.{takes_of_all, puts_of_all, credits_of_all};
 ghost use Rattle.torus.specs.declared.step.Choice.TheVariants.{TakeFrom, Put, CreditOf};
-ghost use Rattle.machine_growth.specs.core_laws.specs.Core.{step, attempts_of};
-ghost use Rattle.machine_growth.specs.core_machine.specs.Machine.{core_after, built_to};
+ghost use Rattle.machine_parts.specs.Core.{step, attempts_of};
+ghost use Rattle.machine_parts.specs.Machine.{core_after, built_to};
 ghost use Rattle.machine_core.specs.Rounds.{attempts_between};
 
 use crate::machine::Machine;

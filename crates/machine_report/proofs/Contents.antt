@@ -17,8 +17,8 @@ use Rattle.one_order.proofs.Lists.{within_length}
 use Rattle.report_lines.specs.declared.line.OrderLine.{OrderLine}
 use Rattle.report_lines.specs.declared.parts.EntryRow.{EntryRow}
 use Rattle.report_lines.specs.declared.parts.AnswerRow.{AnswerRow}
-use Rattle.report_good.specs.Facts.{operation_in, rows_at, AnswersAreTold, AreAnswers, AreEntries, AreNumbered, AreOrdered, HasAnswer, HasNumber, NamesRow}
-use Rattle.report_good.specs.Facts.{StandsIn}
+use Rattle.report_check.specs.Facts.{operation_in, rows_at, AnswersAreTold, AreAnswers, AreEntries, AreNumbered, AreOrdered, HasAnswer, HasNumber, NamesRow}
+use Rattle.report_check.specs.Facts.{StandsIn}
 use Rattle.machine_report.specs.Report.{answer_row, entry_row, order_line}
 use Rattle.machine_report.proofs.Mapped.{all_count, all_rows, count_rows, element_at, element_of, map_twice, row_at, row_count, row_of}
 

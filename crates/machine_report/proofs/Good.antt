@@ -11,7 +11,7 @@ use Rattle.report_lines.specs.declared.parts.EntryRow.{EntryRow}
 use Rattle.report_lines.specs.declared.parts.AnswerRow.{AnswerRow}
 use Rattle.report_lines.specs.Fits.{FitsLine}
 use Rattle.report_check.specs.Good.{AreGood, GoodReport}
-use Rattle.report_good.specs.Facts.{AnswersAreTold, AreContents, AreNumbered, AreOrdered}
+use Rattle.report_check.specs.Facts.{AnswersAreTold, AreContents, AreNumbered, AreOrdered}
 use Rattle.core_machine.specs.Machine.{Core, shown, all_finished}
 use Rattle.core_machine.specs.Reported.{ReportsWell}
 use Rattle.machine_report.specs.Report.{IsReportOf, answer_row, entry_row, order_line, report_with}

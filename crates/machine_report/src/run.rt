@@ -8,8 +8,8 @@ ghost use Rattle.machine_report.specs.Report.{IsMadeOf, IsReportOf, IsWithinLimi
 use crate::reached::Reached;
 use crate::rows::{bank_rows, last_words, opening_words, order_lines, processor_rows};
 use machine_core::Machine;
-use report_good::laws::contents_are_good;
-use report_good::numbers_fit;
+use report_check::good_laws::contents_are_good;
+use report_check::numbers_fit;
 use report_lines::{OrderLine, Parts, Report};
 use std::alloc::{AllocError, Allocator};
 use torus::Fault;

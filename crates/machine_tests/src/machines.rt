@@ -1,6 +1,5 @@
 use linked_list_allocator::LocalHeap;
-use machine_core::{Answer, Entry, Machine, Ordered};
-use machine_texts::load;
+use machine_core::{Answer, Entry, Machine, Ordered, load};
 use packet::{Op, Reply};
 use script::{read_machine, read_scripts};
 use std::alloc::{AllocError, Allocator, Global};

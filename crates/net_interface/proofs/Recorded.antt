@@ -14,8 +14,8 @@ use Rattle.script.specs.declared.line.Line.TheVariants.{Spin}
 use Rattle.script.specs.Scripts.{mentions_last}
 use Rattle.tag_table.specs.Tags.{holder_of, free_tag, HoldsNone}
 use Rattle.tag_table.proofs.Moves.{taken, given, distinct-taken, distinct-given}
-use Rattle.script_follower.specs.one_order.proofs.Lists.{get_append_left, get_push, get_push_cases, get_set_same, get_set_other}
-use Rattle.script_follower.specs.one_order.specs.declared.answer.Answer.{Answer}
+use Rattle.one_order.proofs.Lists.{get_append_left, get_push, get_push_cases, get_set_same, get_set_other}
+use Rattle.one_order.specs.declared.answer.Answer.{Answer}
 use Rattle.script_follower.specs.Scripts.{Invocation, IsFollowable, AreAnswersBefore}
 use Rattle.script_follower.specs.Following.{Following, ShowsPast, starts, issues, answers, first_of, next_operation_of, after_issue, after_answer}
 use Rattle.script_follower.specs.Following.{left_of}

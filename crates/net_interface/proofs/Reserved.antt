@@ -6,7 +6,7 @@ use Rattle.packet.specs.declared.kinds.Operation.{Operation}
 use Rattle.script.specs.declared.line.Line.{Line}
 use Rattle.script.specs.declared.line.Line.TheVariants.{Spin}
 use Rattle.script.specs.Scripts.{operation_count, operations_of, mentions_last}
-use Rattle.script_follower.specs.one_order.specs.declared.answer.Answer.{Answer}
+use Rattle.one_order.specs.declared.answer.Answer.{Answer}
 use Rattle.script_follower.specs.Following.{Following, first_of, left_of, follower_with}
 use Rattle.script_follower.specs.ProcessorRecord.{ProcessorRecord, record_with}
 use Rattle.script_follower.proofs.Grown.{left_with}

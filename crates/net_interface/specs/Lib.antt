@@ -1,5 +1,3 @@
-pub use Rattle.script_follower
-pub use Rattle.script_follower.specs.home_bank
 pub mod Place
 pub mod Beginning
 pub mod Inside

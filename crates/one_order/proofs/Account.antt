@@ -12,7 +12,7 @@ use Rattle.home_bank.specs.declared.entry.Entry.{Entry}
 use Rattle.one_order.specs.declared.answer.Answer.{Answer}
 use Rattle.one_order.specs.Observed.{Observed, list_at, HasAnswered, IsOfMachine}
 use Rattle.one_order.specs.Order.{LinearizationPoint, operations_of, home, count_at, IsInOrder, StandsBefore, IsToldBefore}
-use Rattle.one_order.specs.Events.{Served, push_at, entry_of, happens, points_of, MayServe}
+use Rattle.one_order.specs.Events.{Served, push_at, event_entry, happens, points_of, MayServe}
 use Rattle.one_order.specs.Events.{TellsService}
 use Rattle.one_order.proofs.Lists.{push_at_cases, push_at_keeps, push_at_new, length-push_at, length_list_at_push, list_within, get_push_cases}
 use Rattle.one_order.proofs.Lists.{get_append_left}
@@ -109,14 +109,14 @@ served_shown : (tiles tags : ℕ) (opening : List ℕ) (s : Observed) (order : L
 served_shown tiles tags opening s order p i tag o shown may = record {
   processors = shown.processors;
   answerers = shown.answerers;
-  banks = length-push_at s.entries (home tiles o) (entry_of p tag o s.memory) ∙ shown.banks;
+  banks = length-push_at s.entries (home tiles o) (event_entry p tag o s.memory) ∙ shown.banks;
   size = length-set s.memory o.address (new_word o.op (slice_index s.memory o.address)) ∙ shown.size;
   addresses = shown.addresses;
   tagged = λ b place e h. ⊎_elim
       (λ old. shown.tagged b place e old)
-      (λ (new : (b ≡ home tiles o) × (place ≡ length (list_at s.entries (home tiles o))) × (entry_of p tag o s.memory ≡ e)).
+      (λ (new : (b ≡ home tiles o) × (place ≡ length (list_at s.entries (home tiles o))) × (event_entry p tag o s.memory ≡ e)).
       subst (λ (x : Entry). x.tag.0 < tags) new.2 may.tagged)
-      (push_at_cases s.entries (home tiles o) (entry_of p tag o s.memory) b place e h);
+      (push_at_cases s.entries (home tiles o) (event_entry p tag o s.memory) b place e h);
 }
 
 -- the service that an answer tells has been made
@@ -137,7 +137,7 @@ pub served_keeps : (tiles tags : ℕ) (opening : List ℕ) (s : Observed) (order
 served_keeps tiles tags opening s order p i tag o t a may =
     let new : LinearizationPoint = record { source = p; index = i; operation = o; step = t } in
     let b : ℕ = home tiles o in
-    let e : Entry = entry_of p tag o s.memory in
+    let e : Entry = event_entry p tag o s.memory in
     let after : Observed = happens tiles s (Served p i tag o) in
     let in_range : b < length s.entries = subst (λ (n : ℕ). b < n) (sym a.shown.banks) (home_within tiles tags (length opening) s p i o a.shown may.issued) in
     let front : take (length order) (order ++ new ∷ []) ≡ order = take_at order (new ∷ []) (length order) refl in

@@ -8,14 +8,14 @@ use Rattle.home_bank.specs.declared.entry.Entry.{Entry}
 use Rattle.one_order.specs.declared.answer.Answer.{Answer}
 use Rattle.one_order.specs.Observed.{Observed}
 use Rattle.one_order.specs.Order.{LinearizationPoint}
-use Rattle.one_order.specs.Events.{entry_of, MayServe, MayAnswer}
+use Rattle.one_order.specs.Events.{event_entry, MayServe, MayAnswer}
 
 -- two processors and two words; operations are on word 0, whose home is bank 0
 abbrev on_word_0 : Op → Operation
 on_word_0 op = record { address = 0; op = op }
 
 -- a service of an addition replies the word that it found
-reply_is_the_old_word : (entry_of 1 (record { 0 = 0 }) (on_word_0 (Add 2)) (5 ∷ 0 ∷ [])).reply ≡ Old 5
+reply_is_the_old_word : (event_entry 1 (record { 0 = 0 }) (on_word_0 (Add 2)) (5 ∷ 0 ∷ [])).reply ≡ Old 5
 reply_is_the_old_word = refl
 
 -- processor 1 has issued two loads
@@ -33,7 +33,7 @@ no_service_overtakes may = let first = may.in_turn 0 (on_word_0 Load) (omega ari
 
 -- both are served, and none is answered
 abbrev entry_under : ℕ → Entry
-entry_under tag = entry_of 1 (record { 0 = tag }) (on_word_0 Load) (0 ∷ 0 ∷ [])
+entry_under tag = event_entry 1 (record { 0 = tag }) (on_word_0 Load) (0 ∷ 0 ∷ [])
 
 abbrev two_served : Observed
 two_served = record two_issued { entries = (entry_under 0 ∷ entry_under 1 ∷ []) ∷ [] ∷ [] }

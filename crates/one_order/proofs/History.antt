@@ -9,7 +9,7 @@ use Rattle.torus.specs.declared.step.Tag.{Tag}
 use Rattle.one_order.specs.declared.answer.Answer.{Answer}
 use Rattle.one_order.specs.Observed.{Observed, Run, list_at, IsFirst, HasAnswered, IsIssuedAt, IsServedAt, IsAnsweredAt}
 use Rattle.one_order.specs.Order.{LinearizationPoint, home, count_at, IsLegalOrder, IsServiceOrder}
-use Rattle.one_order.specs.Events.{Event, Nothing, Issued, Served, Answered, push_at, entry_of, happens, points_of, order_after, MayHappen, TellsService}
+use Rattle.one_order.specs.Events.{Event, Nothing, Issued, Served, Answered, push_at, event_entry, happens, points_of, order_after, MayHappen, TellsService}
 use Rattle.one_order.specs.Events.{IsHistory}
 use Rattle.one_order.proofs.Lists.{push_at_cases, push_at_keeps, length_list_at_push, length_list_at_push_grows, get_push_cases}
 use Rattle.one_order.proofs.Folds.{before_kept}
@@ -89,15 +89,15 @@ steps_rise event (suc n) j k x y l hj hk = ⊎_elim
 entries_grow : (tiles : ℕ) (s : Observed) (e : Event) (b : ℕ) → length (list_at s.entries b) ≤ length (list_at (happens tiles s e).entries b)
 entries_grow tiles s Nothing b = omega arith
 entries_grow tiles s (Issued p o) b = omega arith
-entries_grow tiles s (Served p i tag o) b = length_list_at_push_grows s.entries (home tiles o) (entry_of p tag o s.memory) b
+entries_grow tiles s (Served p i tag o) b = length_list_at_push_grows s.entries (home tiles o) (event_entry p tag o s.memory) b
 entries_grow tiles s (Answered p a) b = omega arith
 
 served_longer : (tiles : ℕ) (s : Observed) (p i : ℕ) (tag : Tag) (o : Operation) → home tiles o < length s.entries
     → length (list_at s.entries (home tiles o)) < length (list_at (happens tiles s (Served p i tag o)).entries (home tiles o))
 served_longer tiles s p i tag o h =
     let b : ℕ = home tiles o in
-    let one : length (list_at (push_at s.entries b (entry_of p tag o s.memory)) b) ≡ length (list_at s.entries b) + cond (b == b) 1 0 =
-    length_list_at_push s.entries b (entry_of p tag o s.memory) b h in
+    let one : length (list_at (push_at s.entries b (event_entry p tag o s.memory)) b) ≡ length (list_at s.entries b) + cond (b == b) 1 0 =
+    length_list_at_push s.entries b (event_entry p tag o s.memory) b h in
     let same = cond-true {A = ℕ} (b == b) 1 0 (eq-eqb b b refl) in
     omega (arith, one, same)
 

@@ -7,7 +7,7 @@ use Rattle.one_order.specs.declared.answer.Answer.{Answer}
 use Rattle.one_order.specs.Observed.{Observed, Run, list_at, total, event_count}
 use Rattle.one_order.specs.Order.{LinearizationPoint, home}
 use Rattle.one_order.specs.Growth.{OnlyGrows}
-use Rattle.one_order.specs.Events.{Event, Nothing, Issued, Served, Answered, entry_of, happens, nothing_yet, order_after, MayHappen, IsHistory}
+use Rattle.one_order.specs.Events.{Event, Nothing, Issued, Served, Answered, event_entry, happens, nothing_yet, order_after, MayHappen, IsHistory}
 use Rattle.one_order.proofs.Lists.{push_at_keeps, total_push, total_none, list_within}
 use Rattle.one_order.proofs.Account.{Account, home_within}
 use Rattle.one_order.proofs.History.{shorter, account}
@@ -47,7 +47,7 @@ count_step tiles tags opening s order Nothing acc may = omega arith
 count_step tiles tags opening s order (Issued p o) acc may =
     let h : p < length s.issued = subst (λ (n : ℕ). p < n) (sym acc.shown.processors) may.source in omega (arith, total_push s.issued p o h)
 count_step tiles tags opening s order (Served p i tag o) acc may =
-    let h = server_within tiles tags opening s order p i tag o acc may in omega (arith, total_push s.entries (home tiles o) (entry_of p tag o s.memory) h)
+    let h = server_within tiles tags opening s order p i tag o acc may in omega (arith, total_push s.entries (home tiles o) (event_entry p tag o s.memory) h)
 count_step tiles tags opening s order (Answered p a) acc may =
     let h = answerer_within tiles tags opening s order p a acc may in omega (arith, total_push s.answers p a h)
 
@@ -80,7 +80,7 @@ pub entries_kept : (tiles : ℕ) (s : Observed) (e : Event) (b place : ℕ) (x :
     → slice_get (list_at (happens tiles s e).entries b) place ≡ Some x
 entries_kept tiles s Nothing b place x h = h
 entries_kept tiles s (Issued q o) b place x h = h
-entries_kept tiles s (Served q j tag o) b place x h = push_at_keeps s.entries (home tiles o) (entry_of q tag o s.memory) b place x h
+entries_kept tiles s (Served q j tag o) b place x h = push_at_keeps s.entries (home tiles o) (event_entry q tag o s.memory) b place x h
 entries_kept tiles s (Answered q a) b place x h = h
 
 -- an event that adds no entry leaves the words
@@ -91,7 +91,7 @@ words_kept tiles tags opening s order Nothing acc may same = refl
 words_kept tiles tags opening s order (Issued p o) acc may same = refl
 words_kept tiles tags opening s order (Served p i tag o) acc may same =
     let h = server_within tiles tags opening s order p i tag o acc may in
-    absurd (omega (arith, same, total_push s.entries (home tiles o) (entry_of p tag o s.memory) h))
+    absurd (omega (arith, same, total_push s.entries (home tiles o) (event_entry p tag o s.memory) h))
 words_kept tiles tags opening s order (Answered p a) acc may same = refl
 
 -- What a history shows only grows, by an event a step at most.

@@ -25,8 +25,8 @@ abbrev pub push_at : {A : Type 0} → List (List A) → ℕ → A → List (List
 push_at xss p x = slice_set xss p (list_at xss p ++ x ∷ [])
 
 -- what a bank keeps of a service
-abbrev pub entry_of : ℕ → Tag → Operation → List ℕ → Entry
-entry_of p tag o memory =
+abbrev pub event_entry : ℕ → Tag → Operation → List ℕ → Entry
+event_entry p tag o memory =
     record { source = p; tag = tag; address = o.address; op = o.op; reply = reply_of_one o memory }
 
 -- what is shown after an event
@@ -42,7 +42,7 @@ happens tiles s (Issued p o) =
 happens tiles s (Served p i tag o) = record {
   issued = s.issued;
   answers = s.answers;
-  entries = push_at s.entries (home tiles o) (entry_of p tag o s.memory);
+  entries = push_at s.entries (home tiles o) (event_entry p tag o s.memory);
   memory = memory_after_one o s.memory;
 }
 happens tiles s (Answered p a) =

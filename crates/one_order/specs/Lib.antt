@@ -1,5 +1,3 @@
-pub use Rattle.home_bank
-pub use Rattle.home_bank.specs.flit_buffer
 pub mod Observed
 pub mod Order
 pub mod Growth

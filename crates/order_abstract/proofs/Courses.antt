@@ -12,7 +12,7 @@ use Rattle.one_order.specs.Order.{LinearizationPoint}
 use Rattle.one_order.specs.Events.{happens, order_after, IsHistory, MayHappen}
 use Rattle.one_order.proofs.Lists.{list_at_none, within_length}
 use Rattle.order_abstract.specs.Flight.{Flight, Move, IsFound, processor_at, moved_by, show}
-use Rattle.order_abstract.specs.Courses.{IsCourse, run_of, events_of}
+use Rattle.order_abstract.specs.Courses.{IsCourse, course_run, events_of}
 use Rattle.order_abstract.specs.Scripts.{HasFollowed, FollowScripts}
 use Rattle.order_abstract.proofs.Whole.{Whole, any_steps}
 use Rattle.order_abstract.proofs.Follows.{Follows, follows_first}
@@ -32,9 +32,9 @@ module _ (tiles tags : ℕ) (opening : List ℕ) (scripts : List (List Line)) (f
   -- what holds after n steps
   pub record HoldsAt (n : ℕ) : Type 0 where
     pub whole : Whole tiles tags opening (flight n) (order_after (events_of flight move) n)
-    pub history : IsHistory tiles tags opening (run_of flight) (events_of flight move) n
+    pub history : IsHistory tiles tags opening (course_run flight) (events_of flight move) n
     pub follows : (p : ℕ) (lines : List Line) → slice_get scripts p ≡ Some lines
-        → Follows (run_of flight) n p lines (processor_at (flight n) p).following
+        → Follows (course_run flight) n p lines (processor_at (flight n) p).following
 
   pub holds_at : (n : ℕ) → IsCourse tiles tags opening scripts flight move n → HoldsAt n
   holds_at zero c =
@@ -43,9 +43,9 @@ module _ (tiles tags : ℕ) (opening : List ℕ) (scripts : List (List Line)) (f
         whole = subst (λ (f : Flight). Whole tiles tags opening f []) (sym c.start) (first_whole tiles tags opening scripts c.processors);
         history = record { start = shown; each = λ j h. absurd (omega arith); may = λ j h. absurd (omega arith) };
         follows = λ p lines there.
-            subst (Follows (run_of flight) 0 p lines)
+            subst (Follows (course_run flight) 0 p lines)
             (sym (ap (λ (f : Flight). (processor_at f p).following) c.start ∙ first_following tags scripts p lines there))
-            (follows_first (run_of flight) p lines (ap (λ (y : Observed). list_at y.issued p) shown ∙ list_at_none {A = Operation} tiles p));
+            (follows_first (course_run flight) p lines (ap (λ (y : Observed). list_at y.issued p) shown ∙ list_at_none {A = Operation} tiles p));
       }
   holds_at (suc n) c =
       let before = holds_at n (shorter n c) in
@@ -55,7 +55,7 @@ module _ (tiles tags : ℕ) (opening : List ℕ) (scripts : List (List Line)) (f
       let found : (x : Move) → m ≡ Some x → IsFound (length opening) f x = λ x e. c.found n x (omega arith) e in
       let goes = any_steps tiles tags opening f order (suc n) m before.whole found in
       let now : flight (suc n) ≡ moved_by tiles f m = c.each n (omega arith) in
-      let happened : run_of flight (suc n) ≡ happens tiles (run_of flight n) (events_of flight move n) = ap show now ∙ goes.shown in
+      let happened : course_run flight (suc n) ≡ happens tiles (course_run flight n) (events_of flight move n) = ap show now ∙ goes.shown in
       record {
         whole = subst (λ (x : Flight). Whole tiles tags opening x (order_after (events_of flight move) (suc n))) (sym now) goes.whole;
         history = record {
@@ -64,29 +64,29 @@ module _ (tiles tags : ℕ) (opening : List ℕ) (scripts : List (List Line)) (f
               (λ (below : j < n). before.history.each j below)
               (λ (above : n ≤ j).
               let e : n ≡ j = omega arith in
-              subst (λ (x : ℕ). run_of flight (suc x) ≡ happens tiles (run_of flight x) (events_of flight move x)) e happened)
+              subst (λ (x : ℕ). course_run flight (suc x) ≡ happens tiles (course_run flight x) (events_of flight move x)) e happened)
               (cases_lt j n);
           may = λ j h. ⊎_elim
               (λ (below : j < n). before.history.may j below)
               (λ (above : n ≤ j).
               let e : n ≡ j = omega arith in
-              subst (λ (x : ℕ). MayHappen tiles tags opening (run_of flight x) (order_after (events_of flight move) x) (events_of flight move x)) e goes.may)
+              subst (λ (x : ℕ). MayHappen tiles tags opening (course_run flight x) (order_after (events_of flight move) x) (events_of flight move x)) e goes.may)
               (cases_lt j n);
         };
         follows = λ p lines there.
-            subst (λ (x : Flight). Follows (run_of flight) (suc n) p lines (processor_at x p).following) (sym now)
-            (follows_any tiles tags opening (run_of flight) n f order refl before.whole (events_of flight move) before.history m found happened goes.may p lines
+            subst (λ (x : Flight). Follows (course_run flight) (suc n) p lines (processor_at x p).following) (sym now)
+            (follows_any tiles tags opening (course_run flight) n f order refl before.whole (events_of flight move) before.history m found happened goes.may p lines
             (before.follows p lines there));
       }
 
   pub scripts_followed : (n : ℕ) → IsCourse tiles tags opening scripts flight move n
-      → ((p : ℕ) → p < length scripts → IsFollowable (list_at scripts p)) → FollowScripts (run_of flight) n scripts
+      → ((p : ℕ) → p < length scripts → IsFollowable (list_at scripts p)) → FollowScripts (course_run flight) n scripts
   scripts_followed n c accepted = record {
     each = λ p below.
         let script = within_length scripts p below in
         let lines_are : list_at scripts p ≡ script.0 = get_or_from_slice_get scripts p script.0 [] script.1 in
         let f = (holds_at n c).follows p script.0 script.1 in
         let good : IsFollowable script.0 = subst IsFollowable lines_are (accepted p below) in
-        subst (HasFollowed (run_of flight) n p) (sym lines_are)
+        subst (HasFollowed (course_run flight) n p) (sym lines_are)
         (record { ops = f.ops; are = f.are; follows = followed script.0 f.ops (processor_at (flight n) p).following good f.shows });
   }

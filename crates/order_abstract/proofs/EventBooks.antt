@@ -6,13 +6,13 @@ use Rattle.std.proofs.lemmas.List.{length-replicate}
 use Rattle.std.proofs.lemmas.Option.{slice_get_within, same_Some, get_or_from_slice_get}
 use Rattle.torus.specs.declared.step.Tag.{Tag}
 use Rattle.packet.specs.declared.kinds.Operation.{Operation}
-use Rattle.script_follower.specs.home_bank.specs.declared.entry.Entry.{Entry}
+use Rattle.home_bank.specs.declared.entry.Entry.{Entry}
 use Rattle.one_order.specs.declared.answer.Answer.{Answer}
 use Rattle.one_order.specs.declared.ordered.Ordered.{Ordered}
 use Rattle.one_order.specs.Observed.{Observed, Run, list_at, event_count}
 use Rattle.one_order.specs.Order.{LinearizationPoint, home, count_at}
 use Rattle.one_order.specs.Rows.{AreIssueNumbers, AreRowsOf, IsIssueNumber}
-use Rattle.one_order.specs.Events.{Event, Nothing, Issued, Served, Answered, push_at, happens, order_after, IsHistory, MayHappen, entry_of}
+use Rattle.one_order.specs.Events.{Event, Nothing, Issued, Served, Answered, push_at, happens, order_after, IsHistory, MayHappen, event_entry}
 use Rattle.one_order.proofs.Lists.{push_at_cases, length-push_at, length_list_at_push, get_append_left, get_push, within_length, get_set_same, get_set_other}
 use Rattle.one_order.proofs.Lists.{list_at_none}
 use Rattle.one_order.proofs.Account.{home_within}
@@ -103,7 +103,7 @@ kept_served tiles tags opening run event n l p i tag o h is k =
     let number = within_length (list_at l.issues p) i issued_here in
     let read : slice_index (list_at l.issues p) i ≡ number.0 = get_or_from_slice_get (list_at l.issues p) i number.0 0 number.1 in
     let issue : IsIssueNumber run p i row.issued = subst (λ (m : ℕ). IsIssueNumber run p i m) (sym read) (k.book.issues.each p i number.0 number.1) in
-    let entry : Entry = entry_of p tag o s.memory in
+    let entry : Entry = event_entry p tag o s.memory in
     record {
       rows = rows_served tiles tags opening run event n h p i tag o is l.rows row k.rows refl refl refl (k.book.service_counts b) issue count refl;
       book = record {

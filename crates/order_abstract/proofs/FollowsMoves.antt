@@ -13,7 +13,7 @@ use Rattle.one_order.proofs.Lists.{list_at_push_same, list_at_push_other, list_w
 use Rattle.one_order.proofs.History.{answered_monotone, shorter}
 use Rattle.script_follower.specs.ProcessorRecord.{ProcessorRecord, no_processor, issued_by, answered_by, answer_of}
 use Rattle.order_abstract.specs.Flight.{Flight, Move, Sends, Serves, Takes, processor_at, told_place, IsFound, moved}
-use Rattle.order_abstract.specs.Flight.{moved_by, show, event, event_by}
+use Rattle.order_abstract.specs.Flight.{moved_by, show, event, flight_event}
 use Rattle.order_abstract.proofs.Follows.{Follows, follows_kept, follows_issued, follows_answered}
 use Rattle.order_abstract.proofs.Parts.{tags_of}
 use Rattle.order_abstract.proofs.Whole.{Whole}
@@ -136,8 +136,8 @@ module _ (tiles tags : ℕ) (opening : List ℕ) (run : Run) (n : ℕ) (f : Flig
       (follows_kept run n p lines (processor_at f p).following h issued_now (answers_now ∙ list_at_push_other (run n).answers t p a other)))
       (cases_eq p t)
 
-  follows_goes : (m : Option Move) → ((x : Move) → m ≡ Some x → IsFound (length opening) f x) → Goes run n tiles (event_by f m)
-      → MayHappen tiles tags opening (run n) order (event_by f m)
+  follows_goes : (m : Option Move) → ((x : Move) → m ≡ Some x → IsFound (length opening) f x) → Goes run n tiles (flight_event f m)
+      → MayHappen tiles tags opening (run n) order (flight_event f m)
       → (p : ℕ) (lines : List Line) → Follows run n p lines (processor_at f p).following
       → Follows run (suc n) p lines (processor_at (moved_by tiles f m) p).following
   follows_goes None found g may p lines h =
@@ -148,7 +148,7 @@ module _ (tiles tags : ℕ) (opening : List ℕ) (run : Run) (n : ℕ) (f : Flig
   -- the followers after a move or none of a history
   pub follows_any : (ev : ℕ → Event) → IsHistory tiles tags opening run ev n → (m : Option Move)
       → ((x : Move) → m ≡ Some x → IsFound (length opening) f x)
-      → run (suc n) ≡ happens tiles (run n) (event_by f m) → MayHappen tiles tags opening (run n) order (event_by f m)
+      → run (suc n) ≡ happens tiles (run n) (flight_event f m) → MayHappen tiles tags opening (run n) order (flight_event f m)
       → (p : ℕ) (lines : List Line) → Follows run n p lines (processor_at f p).following
       → Follows run (suc n) p lines (processor_at (moved_by tiles f m) p).following
   follows_any ev history m found next may p lines h = follows_goes m found (record {

@@ -7,10 +7,10 @@ use Rattle.script.specs.Machine.{MachineSpec, IsAcceptedMachine}
 use Rattle.script.specs.Scripts.{ScriptsSpec, AreAcceptedScripts, IsAcceptedScript, IsAcceptedLine, Fit, operation_count}
 use Rattle.script_follower.specs.Scripts.{address_of, IsAddressIn, IsFollowable}
 use Rattle.script_follower.proofs.Followable.{accepted_followable}
-use Rattle.order_abstract.specs.Load.{Load, IsAccepted, load_of}
+use Rattle.order_abstract.specs.Load.{Load, IsAcceptedLoad, load_of}
 
 -- the script of a processor is as its reader accepts it
-read : (l : Load) → IsAccepted l → (p : ℕ) (lines : List Line) → slice_get l.scripts p ≡ Some lines → IsAcceptedScript (length l.opening) lines
+read : (l : Load) → IsAcceptedLoad l → (p : ℕ) (lines : List Line) → slice_get l.scripts p ≡ Some lines → IsAcceptedScript (length l.opening) lines
 read l ok p lines at = subst (IsAcceptedScript (length l.opening)) (get_or_from_slice_get l.scripts p lines [] at) (ok.scripts.each p)
 
 -- a line's address is below the number of words
@@ -29,18 +29,18 @@ address_within words line.Fence a h e = absurd (cc)
 address_within words (line.Spin b v m) a h e = let s : b ≡ a = cc in omega (arith, h.0)
 
 -- the script of a processor of an accepted load can be followed
-pub followable : (l : Load) → IsAccepted l → (p : ℕ) (lines : List Line) → slice_get l.scripts p ≡ Some lines
+pub followable : (l : Load) → IsAcceptedLoad l → (p : ℕ) (lines : List Line) → slice_get l.scripts p ≡ Some lines
     → IsFollowable lines × (operation_count lines ≤ 4096)
 followable l ok p lines at =
     let h : IsAcceptedScript (length l.opening) lines = read l ok p lines at in
     (accepted_followable (length l.opening) lines h, h.count)
 
 -- and its addresses are below the number of words
-pub address_below : (l : Load) → IsAccepted l → (p a : ℕ) (lines : List Line) → slice_get l.scripts p ≡ Some lines → IsAddressIn lines a → a < length l.opening
+pub address_below : (l : Load) → IsAcceptedLoad l → (p a : ℕ) (lines : List Line) → slice_get l.scripts p ≡ Some lines → IsAddressIn lines a → a < length l.opening
 address_below l ok p a lines at named = address_within (length l.opening) named.1 a ((read l ok p lines at).each named.0 named.1 named.2) named.3
 
 -- the load of an accepted machine and of accepted scripts that fit it is accepted
-pub accepted_load : (m : MachineSpec) (s : ScriptsSpec) → IsAcceptedMachine m → AreAcceptedScripts s → Fit s m → IsAccepted (load_of m s)
+pub accepted_load : (m : MachineSpec) (s : ScriptsSpec) → IsAcceptedMachine m → AreAcceptedScripts s → Fit s m → IsAcceptedLoad (load_of m s)
 accepted_load m s machine scripts fit = record {
   shape = machine.shape;
   depth = machine.depth;

@@ -2,7 +2,7 @@
 use Rattle.std.proofs.Common.{◌≡◌, ℕ, zero, suc, List, [], ◌∷◌, map, refl, sym, ◌∙◌, ap, slice_set, slice_index_or, set}
 use Rattle.std.proofs.lemmas.List.{map-set, set-get_or}
 use Rattle.packet.specs.declared.kinds.Operation.{Operation}
-use Rattle.script_follower.specs.home_bank.specs.declared.entry.Entry.{Entry}
+use Rattle.home_bank.specs.declared.entry.Entry.{Entry}
 use Rattle.one_order.specs.declared.answer.Answer.{Answer}
 use Rattle.one_order.specs.Observed.{Observed, list_at}
 use Rattle.script_follower.specs.ProcessorRecord.{ProcessorRecord, no_processor}

@@ -21,7 +21,7 @@ use Rattle.one_order.proofs.InTurn.{serves_in_turn}
 use Rattle.one_order.proofs.AnswersInTurn.{answers_in_turn}
 use Rattle.one_order.proofs.Naming.{answers_numbered, answers_name, entry_stands}
 use Rattle.order_abstract.specs.Flight.{Flight, Move, IsFound, show, processors_finished}
-use Rattle.order_abstract.specs.Courses.{IsCourse, run_of, events_of}
+use Rattle.order_abstract.specs.Courses.{IsCourse, course_run, events_of}
 use Rattle.order_abstract.specs.Scripts.{AreFinished}
 use Rattle.order_abstract.specs.EventBook.{book_of}
 use Rattle.order_abstract.specs.Room.{IsWithin, IsBookWithin, HasRoomForMove}
@@ -106,7 +106,7 @@ module _ (tiles tags : ℕ) (opening : List ℕ) (scripts : List (List Line)) (r
 module _ (tiles tags : ℕ) (opening : List ℕ) (scripts : List (List Line)) (flight : ℕ → Flight) (move : ℕ → Option Move) where
   -- a moment of a course
   pub moment : (n : ℕ) → IsCourse tiles tags opening scripts flight move n → ((p : ℕ) → p < length scripts → IsFollowable (list_at scripts p))
-      → Moment tiles tags opening scripts (run_of flight) n (flight n) (order_after (events_of flight move) n)
+      → Moment tiles tags opening scripts (course_run flight) n (flight n) (order_after (events_of flight move) n)
   moment n c good =
       let at = holds_at tiles tags opening scripts flight move n c in
       record {
@@ -123,30 +123,30 @@ module _ (tiles tags : ℕ) (opening : List ℕ) (scripts : List (List Line)) (f
   all_followable accepted p below = accepted_followable (length opening) (list_at scripts p) (accepted.each p)
 
   pub one_order : (n : ℕ) → IsCourse tiles tags opening scripts flight move n
-      → HasOneOrder tiles tags opening (run_of flight) n (book_of tiles (events_of flight move) n).rows
-  one_order n c = order_of_book tiles tags opening (run_of flight) (events_of flight move) n (holds_at tiles tags opening scripts flight move n c).history
+      → HasOneOrder tiles tags opening (course_run flight) n (book_of tiles (events_of flight move) n).rows
+  one_order n c = order_of_book tiles tags opening (course_run flight) (events_of flight move) n (holds_at tiles tags opening scripts flight move n c).history
 
   pub course_within : (n : ℕ) → IsCourse tiles tags opening scripts flight move n → ((p : ℕ) → p < length scripts → IsFollowable (list_at scripts p))
       → IsWithin tiles scripts (flight n)
-  course_within n c good = within tiles tags opening scripts (run_of flight) n (flight n) _ (moment n c good)
+  course_within n c good = within tiles tags opening scripts (course_run flight) n (flight n) _ (moment n c good)
 
   pub course_book : (n : ℕ) → IsCourse tiles tags opening scripts flight move n → ((p : ℕ) → p < length scripts → IsFollowable (list_at scripts p))
       → IsBookWithin scripts (flight n) (book_of tiles (events_of flight move) n)
-  course_book n c good = book_within tiles tags opening scripts (run_of flight) n (flight n) _ (moment n c good)
+  course_book n c good = book_within tiles tags opening scripts (course_run flight) n (flight n) _ (moment n c good)
       (book_of tiles (events_of flight move) n)
-      (kept tiles tags opening (run_of flight) (events_of flight move) n (holds_at tiles tags opening scripts flight move n c).history).book
+      (kept tiles tags opening (course_run flight) (events_of flight move) n (holds_at tiles tags opening scripts flight move n c).history).book
       (one_order n c)
 
   pub course_room : (n : ℕ) → IsCourse tiles tags opening scripts flight move n → ((p : ℕ) → p < length scripts → IsFollowable (list_at scripts p))
       → (m : Move) → IsFound (length opening) (flight n) m → HasRoomForMove tiles (length opening) scripts (flight n) m
-  course_room n c good m found = room_for tiles tags opening scripts (run_of flight) n (flight n) _ (moment n c good) m found
+  course_room n c good m found = room_for tiles tags opening scripts (course_run flight) n (flight n) _ (moment n c good) m found
 
   pub course_finished : (n : ℕ) → IsCourse tiles tags opening scripts flight move n → ((p : ℕ) → p < length scripts → IsFollowable (list_at scripts p))
-      → (processors_finished (flight n) ≡ true) ↔ AreFinished (run_of flight) n scripts
-  course_finished n c good = finished_law tiles tags opening scripts (run_of flight) n (flight n) _ (moment n c good)
+      → (processors_finished (flight n) ≡ true) ↔ AreFinished (course_run flight) n scripts
+  course_finished n c good = finished_law tiles tags opening scripts (course_run flight) n (flight n) _ (moment n c good)
       (λ q j k a b hj hk same. (one_order n c).services.once q j k a b hj hk same)
 
   pub course_shows : (n : ℕ) → IsCourse tiles tags opening scripts flight move n → AreAcceptedScripts (record { words = length opening; lists = scripts })
       → ShowsWell tiles tags opening (show (flight n)) (processors_finished (flight n)) (book_of tiles (events_of flight move) n).rows
   course_shows n c accepted =
-      shows_well tiles tags opening scripts (run_of flight) n (flight n) _ (moment n c (all_followable accepted)) _ (one_order n c) accepted
+      shows_well tiles tags opening scripts (course_run flight) n (flight n) _ (moment n c (all_followable accepted)) _ (one_order n c) accepted

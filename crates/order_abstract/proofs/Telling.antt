@@ -7,10 +7,10 @@ use Rattle.torus.specs.declared.step.Tag.{Tag}
 use Rattle.packet.specs.declared.kinds.Op.{Op}
 use Rattle.packet.specs.declared.kinds.Operation.{Operation}
 use Rattle.packet.specs.declared.kinds.Response.{Response}
-use Rattle.script_follower.specs.home_bank.specs.declared.entry.Entry.{Entry}
+use Rattle.home_bank.specs.declared.entry.Entry.{Entry}
 use Rattle.one_order.specs.Observed.{Observed, list_at, IsTold}
 use Rattle.one_order.specs.Order.{LinearizationPoint, home}
-use Rattle.one_order.specs.Events.{Issued, Served, Answered, happens, entry_of}
+use Rattle.one_order.specs.Events.{Issued, Served, Answered, happens, event_entry}
 use Rattle.one_order.proofs.Lists.{push_at_cases, push_at_keeps, push_at_new, get_push_cases, get_append_left, get_push}
 use Rattle.one_order.proofs.Account.{Account, told_within}
 use Rattle.order_abstract.proofs.Places.{stood, removed_is, stood_rises, still_there}
@@ -64,7 +64,7 @@ pub telling_serves : (tiles tag_count : ℕ) (opening : List ℕ) (s : Observed)
     → Telling (happens tiles s (Served p i tag o)) (told ++ q ∷ [])
 telling_serves tiles tag_count opening s tags told order acc responses t p i tag o q to from last =
     let b : ℕ = home tiles o in
-    let e : Entry = entry_of p tag o s.memory in
+    let e : Entry = event_entry p tag o s.memory in
     record {
       turns = λ j k x y below hj hk same_bank same_processor. ⊎_elim
           (λ (lj : slice_get told j ≡ Some x). ⊎_elim

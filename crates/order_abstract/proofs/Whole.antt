@@ -15,13 +15,13 @@ use Rattle.packet.specs.declared.kinds.Reply.{Reply}
 use Rattle.packet.specs.declared.kinds.Request.{Request}
 use Rattle.packet.specs.declared.kinds.Response.{Response}
 use Rattle.packet.specs.Memory.{reply_to, new_word, reply_of_one}
-use Rattle.script_follower.specs.home_bank.specs.declared.entry.Entry.{Entry}
-use Rattle.script_follower.specs.home_bank.specs.ServiceList.{response_of}
+use Rattle.home_bank.specs.declared.entry.Entry.{Entry}
+use Rattle.home_bank.specs.ServiceList.{response_of}
 use Rattle.script_follower.specs.Following.{Following, after_issue, after_answer, last_answered, other_answered}
 use Rattle.one_order.specs.declared.answer.Answer.{Answer}
 use Rattle.one_order.specs.Observed.{list_at}
 use Rattle.one_order.specs.Order.{LinearizationPoint}
-use Rattle.one_order.specs.Events.{Event, Issued, Served, Answered, push_at, entry_of, happens, points_of, MayIssue}
+use Rattle.one_order.specs.Events.{Event, Issued, Served, Answered, push_at, event_entry, happens, points_of, MayIssue}
 use Rattle.one_order.specs.Events.{MayServe, MayAnswer, MayHappen}
 use Rattle.one_order.proofs.Lists.{length_list_at_push, total_push, list_within}
 use Rattle.one_order.proofs.Account.{Account, home_within}
@@ -29,7 +29,7 @@ use Rattle.one_order.proofs.AccountKept.{keeps}
 use Rattle.script_follower.specs.ProcessorRecord.{ProcessorRecord, no_processor, index_in, index_of, operation_under, issued_by}
 use Rattle.script_follower.specs.ProcessorRecord.{answered_by, request_of, answer_of}
 use Rattle.order_abstract.specs.Flight.{Flight, Move, Sends, Serves, Takes, processor_at, is_asked_alike, is_told_alike, asked_place}
-use Rattle.order_abstract.specs.Flight.{told_place, word_asked, reply_given, IsFound, moved, moved_by, show, event, event_by}
+use Rattle.order_abstract.specs.Flight.{told_place, word_asked, reply_given, IsFound, moved, moved_by, show, event, flight_event}
 use Rattle.order_abstract.proofs.Counts.{Counted, length-remove, home_total_push, asked_of, asked_push, asked_remove}
 use Rattle.one_order.proofs.Words.{put, length_list_at_put}
 use Rattle.order_abstract.proofs.Transport.{Holds, answer_in, Sound, sends_sound}
@@ -157,7 +157,7 @@ serves_steps tiles tags opening f order r n w there =
     ap (λ k. reply_to r.op (slice_index m k)) address ∙ sym (ap (λ p. reply_to p (slice_index m a)) q.op) in
     let shown : show after ≡ happens tiles (show f) (Served r.source q.index r.tag o) = same_shown _ _ _ _ _ _ _ _ refl refl
     (ap (λ e. push_at f.entries r.destination e) (same_entry _ _ _ _ _ _ r.source r.tag address (sym q.op) told)
-    ∙ sym (ap (λ c. push_at f.entries c (entry_of r.source r.tag o m)) q.bank))
+    ∙ sym (ap (λ c. push_at f.entries c (event_entry r.source r.tag o m)) q.bank))
     (ap (λ k. slice_set m k (new_word r.op (slice_index m k))) address ∙ sym (ap (λ p. slice_set m a (new_word p (slice_index m a))) q.op)) in
     let oldest : (k : ℕ) (x : Request) → k < place → slice_get f.asked k ≡ Some x → x.source ≡ r.source → x.destination ≡ r.destination → ⊥ =
     λ k x below at source to. none_before (is_asked_alike r) f.asked k x below at (alike_true r x source to) in
@@ -187,14 +187,14 @@ serves_steps tiles tags opening f order r n w there =
             arith,
             w.counted.asked,
             total_push f.entries (a % tiles)
-                (entry_of r.source r.tag o m) in_entries,
+                (event_entry r.source r.tag o m) in_entries,
             length-remove f.asked place (slice_get_within f.asked place r there),
           );
-          told = omega (arith, w.counted.told, total_push f.entries (a % tiles) (entry_of r.source r.tag o m) in_entries);
+          told = omega (arith, w.counted.told, total_push f.entries (a % tiles) (event_entry r.source r.tag o m) in_entries);
           homes = λ c.
               let gone : asked_of c (remove f.asked place) + cond ((a % tiles) == c) 1 0 ≡ asked_of c f.asked =
               ap (λ d. asked_of c (remove f.asked place) + cond (d == c) 1 0) q.bank ∙ asked_remove c f.asked place r there in
-              omega (arith, w.counted.homes c, gone, length_list_at_push f.entries (a % tiles) (entry_of r.source r.tag o m) c in_entries);
+              omega (arith, w.counted.homes c, gone, length_list_at_push f.entries (a % tiles) (event_entry r.source r.tag o m) c in_entries);
         });
         telling = rw shown telling;
       };
@@ -285,6 +285,6 @@ move_steps tiles tags opening f order n (Takes r) w g =
 -- any step, be it a move or none
 pub any_steps : (tiles tags : ℕ) (opening : List ℕ) (f : Flight) (order : List LinearizationPoint) (n : ℕ) (m : Option Move)
     → Whole tiles tags opening f order
-    → ((x : Move) → m ≡ Some x → IsFound (length opening) f x) → Steps tiles tags opening f order n (moved_by tiles f m) (event_by f m)
+    → ((x : Move) → m ≡ Some x → IsFound (length opening) f x) → Steps tiles tags opening f order n (moved_by tiles f m) (flight_event f m)
 any_steps tiles tags opening f order n None w g = record { shown = refl; may = tt; whole = rw append-nil w }
 any_steps tiles tags opening f order n (Some m) w g = move_steps tiles tags opening f order n m w (g m refl)

@@ -5,7 +5,7 @@ use Rattle.script_follower.specs.Following.{first_of}
 use Rattle.one_order.specs.Observed.{Run}
 use Rattle.one_order.specs.Events.{Event}
 use Rattle.script_follower.specs.ProcessorRecord.{ProcessorRecord, first_record}
-use Rattle.order_abstract.specs.Flight.{Flight, Move, IsFound, moved_by, show, event_by}
+use Rattle.order_abstract.specs.Flight.{Flight, Move, IsFound, moved_by, show, flight_event}
 
 -- the flight before any step, of so many tiles with so many tags, these opening words and these
 -- scripts
@@ -27,9 +27,9 @@ pub record IsCourse (tiles tags : ℕ) (opening : List ℕ) (scripts : List (Lis
   pub found : (k : ℕ) (m : Move) → k < n → move k ≡ Some m → IsFound (length opening) (flight k) m
 
 -- what is shown after each step
-abbrev pub run_of : (ℕ → Flight) → Run
-run_of flight k = show (flight k)
+abbrev pub course_run : (ℕ → Flight) → Run
+course_run flight k = show (flight k)
 
 -- the event that each step is
 abbrev pub events_of : (ℕ → Flight) → (ℕ → Option Move) → ℕ → Event
-events_of flight move k = event_by (flight k) (move k)
+events_of flight move k = flight_event (flight k) (move k)

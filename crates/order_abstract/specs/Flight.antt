@@ -9,8 +9,8 @@ use Rattle.packet.specs.declared.kinds.Request.{Request}
 use Rattle.packet.specs.declared.kinds.Response.{Response}
 use Rattle.packet.specs.declared.kinds.Reply.{Reply}
 use Rattle.packet.specs.Memory.{new_word, reply_to}
-use Rattle.script_follower.specs.home_bank.specs.declared.entry.Entry.{Entry}
-use Rattle.script_follower.specs.home_bank.specs.ServiceList.{address_of, entry_of, response_of}
+use Rattle.home_bank.specs.declared.entry.Entry.{Entry}
+use Rattle.home_bank.specs.ServiceList.{address_of, entry_of, response_of}
 use Rattle.script_follower.specs.Following.{next_operation_of, is_finished}
 use Rattle.one_order.specs.Observed.{Observed, list_at}
 use Rattle.one_order.specs.Events.{Event, Nothing, Issued, Served, Answered, push_at}
@@ -131,9 +131,9 @@ event f (Serves r) =
 event f (Takes r) = Answered r.destination (answer_of (processor_at f r.destination) r)
 
 -- the event that a step is, be it a move or none
-abbrev pub event_by : Flight → Option Move → Event
-event_by f None = Nothing
-event_by f (Some m) = event f m
+abbrev pub flight_event : Flight → Option Move → Event
+flight_event f None = Nothing
+flight_event f (Some m) = event f m
 
 -- whether each processor's follower has come to the end of its script
 abbrev pub processors_finished : Flight → Bool

@@ -1,6 +1,3 @@
-pub use Rattle.script_follower
-pub use Rattle.one_order
-pub use Rattle.one_order.specs.home_bank
 pub mod Load
 pub mod Flight
 pub mod Courses

@@ -16,7 +16,7 @@ pub record Load : Type 0 where
 
 -- what is accepted of a load: the limits of the machine's text, a script for each processor, and
 -- the scripts as their reader accepts them (this project's own format)
-pub record IsAccepted (l : Load) : Type 0 where
+pub record IsAcceptedLoad (l : Load) : Type 0 where
   pub shape : IsAcceptedShape l.shape
   pub depth : (1 ≤ l.depth) × (l.depth ≤ 8)
   pub tags : (1 ≤ l.tags) × (l.tags ≤ 16)

@@ -1,6 +1,6 @@
 -- What makes the report of a run a good one.
 use Rattle.std.specs.Prelude.{◌≡◌, ℕ, true, Bool, ◌<◌, ◌≤◌, List, Some, None, length, slice_get}
-use Rattle.script_follower.specs.home_bank.specs.declared.entry.Entry.{Entry}
+use Rattle.home_bank.specs.declared.entry.Entry.{Entry}
 use Rattle.one_order.specs.declared.ordered.Ordered.{Ordered}
 use Rattle.one_order.specs.Observed.{Observed, list_at, event_count, HasIssued, HasAnswered, IsOfMachine}
 use Rattle.one_order.specs.Consequences.{NameEntries, AnswersAreNumbered, AreEventNumbers, AnswersNameEntries}

@@ -10,7 +10,7 @@ ghost use Rattle.one_order.specs.Events.{Event, IsHistory, order_after};
 ghost use Rattle.one_order.specs.Rows.{AreRowsOf};
 ghost use Rattle.one_order.specs.OneOrder.{HasOneOrder};
 ghost use Rattle.order_abstract.specs.Flight.{Flight, Move, IsFound, show, processors_finished};
-ghost use Rattle.order_abstract.specs.Courses.{IsCourse, run_of, events_of};
+ghost use Rattle.order_abstract.specs.Courses.{IsCourse, course_run, events_of};
 ghost use Rattle.order_abstract.specs.Scripts.{FollowScripts, AreFinished};
 ghost use Rattle.order_abstract.specs.EventBook.{book_of};
 ghost use Rattle.order_abstract.specs.Room.{IsWithin, IsBookWithin, HasRoomForMove};
@@ -23,7 +23,7 @@ pub fn courses_are_histories()
     ensures { (tiles tags : ℕ) (opening : List ℕ) (scripts : List (List Line)) (flight : ℕ → Flight)
         (move : ℕ → Option Move)
         → (n : ℕ) → IsCourse tiles tags opening scripts flight move n
-        → IsHistory tiles tags opening (run_of flight) (events_of flight move) n }
+        → IsHistory tiles tags opening (course_run flight) (events_of flight move) n }
 {}
 
 /// It has one legal order, that of its services, and rows that tell it with the numbers of the
@@ -32,12 +32,12 @@ pub fn courses_have_one_order()
     ensures every { (tiles tags : ℕ) (opening : List ℕ) (scripts : List (List Line))
         (flight : ℕ → Flight) (move : ℕ → Option Move)
         → (n : ℕ) (rows : List Ordered) → IsCourse tiles tags opening scripts flight move n
-        → AreRowsOf tiles (run_of flight) n (order_after (events_of flight move) n) rows
-        → HasOneOrder tiles tags opening (run_of flight) n rows }
+        → AreRowsOf tiles (course_run flight) n (order_after (events_of flight move) n) rows
+        → HasOneOrder tiles tags opening (course_run flight) n rows }
     ensures some { (tiles tags : ℕ) (opening : List ℕ) (scripts : List (List Line))
         (flight : ℕ → Flight) (move : ℕ → Option Move)
         → (n : ℕ) → IsCourse tiles tags opening scripts flight move n
-        → (rows : List Ordered) × HasOneOrder tiles tags opening (run_of flight) n rows }
+        → (rows : List Ordered) × HasOneOrder tiles tags opening (course_run flight) n rows }
 {}
 
 /// In it every processor follows its script, if that can be followed.
@@ -46,7 +46,7 @@ pub fn courses_follow_scripts()
         (move : ℕ → Option Move)
         → (n : ℕ) → IsCourse tiles tags opening scripts flight move n
         → ((p : ℕ) → p < length scripts → IsFollowable (list_at scripts p))
-        → FollowScripts (run_of flight) n scripts }
+        → FollowScripts (course_run flight) n scripts }
 {}
 
 /// Of each processor and bank, the answers in the order of answering are of a beginning of the
@@ -55,7 +55,7 @@ pub fn answers_come_in_turn()
     ensures { (tiles tags : ℕ) (opening : List ℕ) (scripts : List (List Line)) (flight : ℕ → Flight)
         (move : ℕ → Option Move)
         → (n : ℕ) → IsCourse tiles tags opening scripts flight move n
-        → (b p : ℕ) → AnswersInTurn (run_of flight n) b p }
+        → (b p : ℕ) → AnswersInTurn (course_run flight n) b p }
 {}
 
 /// Of any history the book of its events tells the one legal order, and so it does of a course.
@@ -66,7 +66,7 @@ pub fn books_tell_the_one_order()
     ensures courses { (tiles tags : ℕ) (opening : List ℕ) (scripts : List (List Line))
         (flight : ℕ → Flight) (move : ℕ → Option Move)
         → (n : ℕ) → IsCourse tiles tags opening scripts flight move n
-        → HasOneOrder tiles tags opening (run_of flight) n
+        → HasOneOrder tiles tags opening (course_run flight) n
         (book_of tiles (events_of flight move) n).rows }
 {}
 
@@ -97,7 +97,7 @@ pub fn ended_followers_finish_scripts()
         (move : ℕ → Option Move)
         → (n : ℕ) → IsCourse tiles tags opening scripts flight move n
         → ((p : ℕ) → p < length scripts → IsFollowable (list_at scripts p))
-        → (processors_finished (flight n) ≡ true) ↔ AreFinished (run_of flight) n scripts }
+        → (processors_finished (flight n) ≡ true) ↔ AreFinished (course_run flight) n scripts }
 {}
 
 /// What a course shows goes with the rows of its book, if its scripts are accepted: its report is a

@@ -1,5 +1,5 @@
-//! What goes between processors and banks: operations, their replies and packets; and what the
-//! operations mean on one sequential memory.
+//! What goes between processors and banks: operations, the words that name them, their replies and
+//! packets; and what the operations mean on one sequential memory.
 #![tactic(auto)]
 
 pub mod assembler;
@@ -9,8 +9,8 @@ pub mod heading;
 pub mod kinds;
 pub mod laws;
 pub mod memory;
-pub mod spelling;
 pub mod names;
+pub mod spelling;
 
 pub use assembler::{Assembler, Kind, Offered};
 pub use flit::{head, is_tail};

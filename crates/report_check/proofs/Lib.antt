@@ -9,3 +9,21 @@ pub mod Legal
 pub mod Answered
 pub mod Progress
 pub mod Verdict
+pub mod Going
+pub mod SetWords
+pub mod Inits
+pub mod Words
+pub mod Entries
+pub mod Answers
+pub mod GoodOrders
+pub mod EntryLists
+pub mod EntryNext
+pub mod Shapes
+pub mod AnswerLists
+pub mod GoodAnswers
+pub mod AnswerNext
+pub mod Counts
+pub mod OrderNext
+pub mod Whole
+mod WrongOnes
+mod WholeReport

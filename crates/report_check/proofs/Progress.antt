@@ -8,12 +8,12 @@ use Rattle.report_lines.specs.Line.{line_text, text_of}
 use Rattle.report_lines.specs.declared.line.ReportLine.{ReportLine}
 use Rattle.report_check.specs.declared.checker.Checker.{Checker}
 use Rattle.report_lines.specs.Fits.{FitsLine}
-use Rattle.report_reader.specs.Reading.{report_line_at}
+use Rattle.report_lines.specs.Reading.{report_line_at}
 use Rattle.report_check.specs.Seen.{Seen, nothing_seen, seen_after, seen_of}
 use Rattle.report_check.specs.Good.{Allowed, MayStand, AllStand, AreGood, GoodReport, FirstBad, IsStuck}
 use Rattle.report_check.specs.Shows.{KeepsSeen}
-use Rattle.report_reader.proofs.LinesFound.{read_of}
-use Rattle.report_reader.proofs.Joined.{line_some}
+use Rattle.report_lines.proofs.LinesFound.{read_of}
+use Rattle.report_lines.proofs.Joined.{line_some}
 
 -- the lines that were read stand, and the rest is left
 pub record Progress {A : Type 0} (text rest : List ℕ) (number : ℕ) (c : Checker A) : Type 0 where

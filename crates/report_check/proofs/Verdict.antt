@@ -11,8 +11,8 @@ use Rattle.report_check.specs.Seen.{Seen, nothing_seen, seen_after, seen_of}
 use Rattle.report_check.specs.Good.{MayStand, AllStand, GoodReport, FirstBad, IsStuck, HasFault}
 use Rattle.report_check.specs.declared.fault.CheckFault.{CheckFault}
 use Rattle.report_check.specs.declared.fault.CheckFault.TheVariants.{BadReport, Memory}
-use Rattle.report_reader.proofs.Joined.{line_some}
-use Rattle.report_reader.proofs.LinesFound.{read_of}
+use Rattle.report_lines.proofs.Joined.{line_some}
+use Rattle.report_lines.proofs.LinesFound.{read_of}
 
 -- two lines that a text begins with are one, and so are the bytes behind them
 pub same_first : (l o : ReportLine) (x y : List ℕ) → FitsLine l → FitsLine o → line_text l ++ x ≡ line_text o ++ y → (l ≡ o) × (x ≡ y)

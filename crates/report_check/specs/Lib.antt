@@ -3,3 +3,4 @@ pub mod Good
 pub mod Shows
 pub mod Meaning
 pub mod Message
+pub mod Facts

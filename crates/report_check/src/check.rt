@@ -8,8 +8,7 @@ ghost use Rattle.report_check.specs.Shows.{KeepsSeen, Checks};
 use crate::checker::Checker;
 use crate::fault::CheckFault;
 use crate::making::start;
-use report_lines::ReportLine;
-use report_reader::read_line;
+use report_lines::{ReportLine, read_line};
 use std::alloc::{AllocError, Allocator};
 
 /// Takes one more line, or says that it may not stand there.

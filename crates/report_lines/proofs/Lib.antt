@@ -2,3 +2,12 @@ pub mod Fronts
 pub mod Pieces
 pub mod Indexes
 pub mod Put
+pub mod Spelled
+pub mod Words
+pub mod Sound
+pub mod Operations
+pub mod Again
+pub mod LinesAgain
+pub mod Joined
+pub mod Found
+pub mod LinesFound

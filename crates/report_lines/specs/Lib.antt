@@ -3,3 +3,4 @@ pub mod Fits
 pub mod Taken
 pub mod Contents
 pub mod Parts
+pub mod Reading

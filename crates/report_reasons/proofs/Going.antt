@@ -7,11 +7,11 @@ use Rattle.std.proofs.lemmas.List.Concat.{flat_map-append}
 use Rattle.std.proofs.lemmas.Option.{none-some, same_Some}
 use Rattle.report_lines.specs.Line.{line_text, text_of}
 use Rattle.report_lines.specs.declared.line.ReportLine.{ReportLine}
-use Rattle.report_reader.specs.Reading.{GivesRead, report_line_at}
+use Rattle.report_lines.specs.Reading.{GivesRead, report_line_at}
 use Rattle.report_check.specs.Seen.{Seen, nothing_seen, seen_after, seen_of}
 use Rattle.report_check.specs.Good.{Allowed, AllStand, FirstBad, IsStuck}
 use Rattle.report_check.proofs.Progress.{all_stand_push}
-use Rattle.report_reader.proofs.LinesFound.{read_of}
+use Rattle.report_lines.proofs.LinesFound.{read_of}
 
 -- the lines before number are read, those from it on to the first bad line are ahead
 pub record Going (text rest : List ℕ) (number line : ℕ) (s : Seen) : Type 0 where

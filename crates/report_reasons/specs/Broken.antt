@@ -17,7 +17,7 @@ use Rattle.report_lines.specs.declared.line.OrderLine.{OrderLine}
 use Rattle.report_lines.specs.declared.line.ReportLine.{ReportLine}
 use Rattle.report_lines.specs.declared.line.ReportLine.TheVariants as line
 use Rattle.report_lines.specs.Fits.{FitsLine}
-use Rattle.report_reader.specs.Reading.{report_line_at}
+use Rattle.report_lines.specs.Reading.{report_line_at}
 use Rattle.report_check.specs.Seen.{Seen, above_last, last_bank, entries_at, has_newer, is_answered}
 use Rattle.report_check.specs.Seen.{key_of}
 use Rattle.report_check.specs.Seen.{line_operation, orders_at, is_named}

@@ -12,8 +12,7 @@ use crate::kept::nothing;
 use crate::queries::has_line_feed;
 use crate::rule::{BadReport, Rule};
 use report_check::{CheckFault, check_report};
-use report_lines::ReportLine;
-use report_reader::read_line;
+use report_lines::{ReportLine, read_line};
 use std::alloc::{AllocError, Allocator};
 
 impl<'a> Before<'a> {

@@ -9,30 +9,30 @@ use Rattle.std.proofs.lemmas.List.FromFn.{get_or-map-range_with_len, length-map-
 use Rattle.torus.specs.Shape.{tiles_of}
 use Rattle.torus.specs.declared.step.Step.{Step}
 use Rattle.script.specs.declared.fault.LineFault.{LineFault}
-use Rattle.machine_texts.specs.order_abstract.specs.Load.{Load}
-use Rattle.machine_texts.specs.order_abstract.specs.Scripts.{AreFinished}
-use Rattle.machine_texts.specs.core_laws.specs.Core.{after, records_of, run_of}
-use Rattle.machine_texts.specs.core_laws.specs.Runs.{IsAccepted}
+use Rattle.order_abstract.specs.Load.{Load}
+use Rattle.order_abstract.specs.Scripts.{AreFinished}
+use Rattle.core_laws.specs.Core.{after, records_of, run_of}
+use Rattle.core_laws.specs.Runs.{IsAcceptedLoad}
 use Rattle.core_machine.specs.Machine.{Core, IsAfter, all_finished, core_after, core_after_load, shown}
 use Rattle.core_machine.specs.Reported.{ReportsWell}
-use Rattle.history.specs.worker_run.specs.fabric.specs.fabric_rule.specs.Ended.{AreAllFinished}
-use Rattle.history.specs.worker_run.specs.fabric.specs.fabric_rule.specs.Groups.{GoesOn, Owns}
-use Rattle.history.specs.worker_run.specs.fabric.specs.fabric_rule.specs.Known.{known}
-use Rattle.history.specs.worker_run.specs.fabric.specs.fabric_rule.proofs.Ends.{all_ended}
-use Rattle.history.specs.worker_run.specs.fabric.specs.fabric_rule.proofs.Groups.{away}
-use Rattle.history.specs.worker_run.specs.fabric.specs.fabric_rule.proofs.Runs.{known_away}
-use Rattle.history.specs.worker_run.specs.fabric.specs.Asking.{HasSeen}
-use Rattle.history.specs.worker_run.specs.fabric.specs.Ending.{Ended}
-use Rattle.history.specs.worker_run.specs.fabric.specs.Key.{ranges}
-use Rattle.history.specs.worker_run.specs.fabric.specs.Opening.{fresh}
-use Rattle.history.specs.worker_run.specs.fabric.specs.Seats.{Knowing, Origin, IsOf, IsWhole}
-use Rattle.history.specs.worker_run.specs.Working.{HasTurned, HasWorked, EndsAs, Working}
-use Rattle.history.specs.worker_run.specs.declared.worker.End.{End}
-use Rattle.history.specs.worker_run.specs.declared.worker.End.TheVariants.{Held, Finished, Stopped}
+use Rattle.history.specs.Ended.{AreAllFinished}
+use Rattle.history.specs.Groups.{GroupGoesOn, Owns}
+use Rattle.history.specs.Known.{known}
+use Rattle.history.proofs.Ends.{all_ended}
+use Rattle.history.proofs.Groups.{away}
+use Rattle.history.proofs.Runs.{known_away}
+use Rattle.history.specs.Asking.{HasSeen}
+use Rattle.history.specs.Ending.{Ended}
+use Rattle.history.specs.Key.{ranges}
+use Rattle.history.specs.Opening.{fresh}
+use Rattle.history.specs.Seats.{Knowing, Origin, IsSeatOf, IsWhole}
+use Rattle.worker_run.specs.Working.{HasTurned, HasWorked, EndsAs, Working}
+use Rattle.worker_run.specs.declared.worker.End.{End}
+use Rattle.worker_run.specs.declared.worker.End.TheVariants.{Held, Finished, Stopped}
 use Rattle.report_lines.specs.Line.{text_of}
-use Rattle.history.specs.machine_report.specs.Report.{report_of}
-use Rattle.machine_texts.specs.Loading.{HasLoaded}
-use Rattle.run_command.specs.Workers.{HasDonePart, IsMadeByWorkers, IsOfEnded, IsTakenIn, IsWorkersText, LetsAll, crew, first_held, held, new_worker}
+use Rattle.history.specs.Report.{report_of}
+use Rattle.machine_core.specs.Loading.{HasLoaded}
+use Rattle.run_command.specs.Workers.{HasDonePart, IsMadeByWorkers, IsOfEnded, IsTakenIn, IsWorkersText, LetsAll, crew, first_held, tiles_of_worker, new_worker}
 use Rattle.run_command.proofs.Shares.{holder, holds_tiles, shares}
 
 -- a tile is known where the state has it
@@ -62,7 +62,7 @@ mapped g f (x ∷ xs) = ap (λ l. g (f x) ∷ l) (mapped g f xs)
 
 -- every machine that steps lead to reports well
 abbrev pub ReportWell : Type 0
-ReportWell = (l : Load) (steps : List Step) → IsAccepted l → ReportsWell (core_after_load l steps)
+ReportWell = (l : Load) (steps : List Step) → IsAcceptedLoad l → ReportsWell (core_after_load l steps)
 
 -- turns that a gate may have stopped, and never did
 turned_on : (stops : Step → Type 0) (turns : ℕ) (v w : Knowing) → ((step : Step) → stops step → ⊥) → HasTurned stops turns v w → HasTurned (λ step. ⊥) turns v w
@@ -123,7 +123,7 @@ module _ (f : Origin) (turns : ℕ) (tiles : List ℕ) (whole : Knowing) (s : Ha
   holds : (t : ℕ) → Owns tiles t → Owns whole.tiles t
   holds t o = s.taken.0 t (subst (λ (l : List ℕ). Owns l t) (sym same_tiles) o)
 
-  module _ (ok : IsAccepted f.load) (report : ReportWell) (within : (t : ℕ) → Owns tiles t → t < tiles_of f.load.shape) where
+  module _ (ok : IsAcceptedLoad f.load) (report : ReportWell) (within : (t : ℕ) → Owns tiles t → t < tiles_of f.load.shape) where
     -- who saw the end in a beginning of the run still sees it
     still_ended : HasSeen w → AreAllFinished f.load whole.run
     still_ended seen =
@@ -150,13 +150,13 @@ module _ (f : Origin) (turns : ℕ) (tiles : List ℕ) (whole : Knowing) (s : Ha
       holds = ap (λ (k : Knowing). k.tiles) began;
       turned = turned;
       all = λ unfinished. ⊎_elim (λ seen. absurd (unfinished (still_ended seen))) (λ other. ⊎_elim (λ e. e) (λ stopped. absurd stopped.2) other) turned.until;
-      rest = subst (λ (l : List ℕ). GoesOn (l ∷ []) whole.run w.run) same_tiles s.taken.1;
+      rest = subst (λ (l : List ℕ). GroupGoesOn (l ∷ []) whole.run w.run) same_tiles s.taken.1;
     }
 
 -- workers after their turns are of the fabric that they were of
-pub own_after : (f : Origin) (turns : ℕ) (old new : List Working) → length new ≡ length old → All (λ (w : Working). IsOf f w.knows) old
+pub own_after : (f : Origin) (turns : ℕ) (old new : List Working) → length new ≡ length old → All (λ (w : Working). IsSeatOf f w.knows) old
     → ((i : ℕ) (d : Working) → i < length old → HasWorked ⊥ (λ step. ⊥) turns (slice_index_or old i d) (slice_index_or new i d))
-    → All (λ (w : Working). IsOf f w.knows) new
+    → All (λ (w : Working). IsSeatOf f w.knows) new
 own_after f turns old new count own worked = λ i d lt.
     let within : i < length old = omega (arith, lt, count) in
     let before = own i d within in
@@ -165,23 +165,23 @@ own_after f turns old new count own worked = λ i d lt.
 
 -- so many workers share n tiles, and a seat has taken in all of them
 pub record IsCrew (f : Origin) (n count turns : ℕ) (whole : Knowing) : Type 0 where
-  pub own : IsOf f whole
-  pub each : (j : ℕ) → j < count → HasServed f turns (held n count j) whole
+  pub own : IsSeatOf f whole
+  pub each : (j : ℕ) → j < count → HasServed f turns (tiles_of_worker n count j) whole
 
 module _ (f : Origin) (n count : ℕ) where
   -- the seat of worker j
   abbrev pub seat_of : ℕ → Knowing
-  seat_of j = fresh f.table f.load (held n count j)
+  seat_of j = fresh f.table f.load (tiles_of_worker n count j)
 
   -- the seats between the cuts are those of the workers
   pub seats_dealt : 0 < count → count ≤ n → (cuts : List ℕ) (tiles : ℕ) → cuts ≡ map (first_held n count) (range_with_len 1 (count - 1)) → n ≡ tiles
       → map (fresh f.table f.load) (ranges 0 cuts tiles) ≡ map seat_of (range_with_len 0 count)
   seats_dealt some few cuts tiles ec en =
       ap (λ (l : List (List ℕ)). map (fresh f.table f.load) l) ((λ i. ranges 0 (ec i) (sym en i)) ∙ shares n count some few)
-      ∙ mapped (fresh f.table f.load) (held n count) (range_with_len 0 count)
+      ∙ mapped (fresh f.table f.load) (tiles_of_worker n count) (range_with_len 0 count)
 
-  pub seats_own : (seats : List Knowing) → seats ≡ map seat_of (range_with_len 0 count) → All (IsOf f) seats
-  seats_own seats es = subst (All (IsOf f)) (sym es) (All-map (IsOf f) seat_of (range_with_len 0 count) (λ k d lt. (refl, refl)))
+  pub seats_own : (seats : List Knowing) → seats ≡ map seat_of (range_with_len 0 count) → All (IsSeatOf f) seats
+  seats_own seats es = subst (All (IsSeatOf f)) (sym es) (All-map (IsSeatOf f) seat_of (range_with_len 0 count) (λ k d lt. (refl, refl)))
 
   pub seats_count : (seats : List Knowing) → seats ≡ map seat_of (range_with_len 0 count) → length seats ≡ count
   seats_count seats es = ap length es ∙ length-map-range_with_len seat_of 0 count
@@ -197,7 +197,7 @@ module _ (f : Origin) (n count : ℕ) where
       ∙ ap new_worker (ap (λ (l : List Knowing). get_or l j k) es ∙ get_or-map-range_with_len seat_of 0 count j j k lt (omega arith)))
 
 module _ (f : Origin) (n count turns : ℕ) (whole : Knowing) where
-  pub crew_made : (seats : List Knowing) (old new : List Working) → IsOf f whole → seats ≡ map (seat_of f n count) (range_with_len 0 count)
+  pub crew_made : (seats : List Knowing) (old new : List Working) → IsSeatOf f whole → seats ≡ map (seat_of f n count) (range_with_len 0 count)
       → old ≡ map new_worker seats → length new ≡ length old
       → ((i : ℕ) (d : Working) → i < length old → HasWorked ⊥ (λ step. ⊥) turns (slice_index_or old i d) (slice_index_or new i d))
       → All (λ (x : Working). IsTakenIn x.knows whole) new → IsCrew f n count turns whole
@@ -223,12 +223,12 @@ module _ (f : Origin) (n count turns : ℕ) (whole : Knowing) where
     crew_whole size = λ t lt.
         let shape : tiles_of whole.load.shape ≡ tiles_of f.load.shape = ap (λ (l : Load). tiles_of l.shape) k.own.1 in
         let h = holder n count some few t (omega (arith, lt, shape, size)) in
-        holds f turns (held n count h.0) whole (k.each h.0 h.1) t h.2
+        holds f turns (tiles_of_worker n count h.0) whole (k.each h.0 h.1) t h.2
 
     -- each worker did its part
-    crew_parts : tiles_of f.load.shape ≡ n → IsAccepted f.load → ReportWell → (j : ℕ) → j < count → HasDonePart f.load turns (held n count j) whole.run
+    crew_parts : tiles_of f.load.shape ≡ n → IsAcceptedLoad f.load → ReportWell → (j : ℕ) → j < count → HasDonePart f.load turns (tiles_of_worker n count j) whole.run
     crew_parts size ok report j lt =
-        done_part f turns (held n count j) whole (k.each j lt) ok report
+        done_part f turns (tiles_of_worker n count j) whole (k.each j lt) ok report
         (λ t o. let below = holds_tiles n count some few j t lt o in omega (arith, below, size))
 
     -- what steps lead to, from either of two loads of one machine
@@ -253,8 +253,8 @@ module _ (f : Origin) (n count turns : ℕ) (whole : Knowing) where
             alike = λ steps. ap (λ (x : Load). core_after_load x steps) loaded
                 ∙ (sym (named f.load (core_after c steps) steps (lead f.load c [] steps told)) ∙ named l (core_after c steps) steps (lead l c [] steps from));
             each = λ j lt.
-                subst (λ (p : ℕ × ℕ). HasDonePart end.load turns (held p.0 p.1 j) end.run) (λ i. (sym same.0 i, sym same.1 i))
-                (subst (λ (p : Load × List Step). HasDonePart p.0 turns (held n count j) p.1) (λ i. (sym loaded i, sym ran i))
+                subst (λ (p : ℕ × ℕ). HasDonePart end.load turns (tiles_of_worker p.0 p.1 j) end.run) (λ i. (sym same.0 i, sym same.1 i))
+                (subst (λ (p : Load × List Step). HasDonePart p.0 turns (tiles_of_worker n count j) p.1) (λ i. (sym loaded i, sym ran i))
                 (parts j (let e = same.1 in omega (arith, lt, e))));
           }
 
@@ -262,7 +262,7 @@ module _ (f : Origin) (n count turns : ℕ) (whole : Knowing) where
 pub workers_printed : (asked : Result Load LineFault) (workers turns : ℕ) (start : Core) (end : Ended) (finished : Bool) (text : List ℕ)
     (loaded : HasLoaded asked start)
     → IsMadeByWorkers loaded.load workers turns end
-    → ((l : Load) (steps : List Step) → IsAccepted l → IsAfter l (core_after_load l steps) steps)
+    → ((l : Load) (steps : List Step) → IsAcceptedLoad l → IsAfter l (core_after_load l steps) steps)
     → ((l : Load) (c : Core) (steps : List Step) → IsAfter l c steps → (all_finished c.state ≡ true) ↔ AreFinished (run_of l steps) (length steps) l.scripts)
     → IsOfEnded end finished text → IsWorkersText asked workers turns finished text
 workers_printed asked workers turns start end finished text loaded made leads ends printed =

@@ -2,10 +2,10 @@
 use Rattle.std.proofs.Common.{◌≡◌, ℕ, All, List, [], ◌∷◌, ◌++◌, Some, sym, ap, ◌∙◌, subst, inl, append_assoc}
 use Rattle.std.proofs.lemmas.List.{append-nil}
 use Rattle.std.proofs.lemmas.List.Elements.{All-cons, All-nil, All-pop, All-weaker}
-use Rattle.history.specs.worker_run.specs.fabric.specs.fabric_rule.specs.Groups.{Owns}
-use Rattle.history.specs.worker_run.specs.fabric.specs.fabric_rule.proofs.Groups.{in_one, others_append, others_sub, owns_left, owns_right}
-use Rattle.history.specs.worker_run.specs.fabric.specs.Seats.{Knowing, Origin, IsOf, JoinsTo}
-use Rattle.history.specs.worker_run.specs.Working.{Working}
+use Rattle.history.specs.Groups.{Owns}
+use Rattle.history.proofs.Groups.{in_one, others_append, others_sub, owns_left, owns_right}
+use Rattle.history.specs.Seats.{Knowing, Origin, IsSeatOf, JoinsTo}
+use Rattle.worker_run.specs.Working.{Working}
 use Rattle.run_command.specs.Workers.{IsTakenIn}
 
 -- what the seat of two takes in
@@ -30,18 +30,18 @@ in_self v = ((λ t o. o), ([], sym (append-nil v.run), tt))
 
 -- some of the workers are left, and the seat has taken in the others
 pub record IsJoining (f : Origin) (all left : List Working) (whole : Knowing) : Type 0 where
-  pub own : IsOf f whole
-  pub each : All (λ (w : Working). IsOf f w.knows) left
+  pub own : IsSeatOf f whole
+  pub each : All (λ (w : Working). IsSeatOf f w.knows) left
   pub others : List Working
   pub split : all ≡ left ++ others
   pub taken : All (λ (w : Working). IsTakenIn w.knows whole) others
 
 module _ (f : Origin) (all : List Working) where
   -- the first of them
-  pub joins_first : (left : List Working) (last : Working) → All (λ (w : Working). IsOf f w.knows) all → all ≡ left ++ last ∷ []
+  pub joins_first : (left : List Working) (last : Working) → All (λ (w : Working). IsSeatOf f w.knows) all → all ≡ left ++ last ∷ []
       → IsJoining f all left last.knows
   joins_first left last own split =
-      let p = All-pop (λ (w : Working). IsOf f w.knows) all left (Some last) split own in
+      let p = All-pop (λ (w : Working). IsSeatOf f w.knows) all left (Some last) split own in
       record {
         own = p.1;
         each = p.0;
@@ -52,14 +52,14 @@ module _ (f : Origin) (all : List Working) where
 
   module _ (now left : List Working) (whole : Knowing) (w : Working) (so_far : IsJoining f all now whole) (split : now ≡ left ++ w ∷ []) where
     -- the next is of the same fabric
-    pub joins_own : IsOf f w.knows
-    joins_own = (All-pop (λ (x : Working). IsOf f x.knows) now left (Some w) split so_far.each).1
+    pub joins_own : IsSeatOf f w.knows
+    joins_own = (All-pop (λ (x : Working). IsSeatOf f x.knows) now left (Some w) split so_far.each).1
 
     -- one more
     pub joins_more : (both : Knowing) → JoinsTo whole w.knows both → IsJoining f all left both
     joins_more both j = record {
       own = (j.0 ∙ so_far.own.0, j.1 ∙ so_far.own.1);
-      each = (All-pop (λ (x : Working). IsOf f x.knows) now left (Some w) split so_far.each).0;
+      each = (All-pop (λ (x : Working). IsSeatOf f x.knows) now left (Some w) split so_far.each).0;
       others = w ∷ so_far.others;
       split = so_far.split ∙ (ap (λ (l : List Working). l ++ so_far.others) split ∙ append_assoc left (w ∷ []) so_far.others);
       taken = All-cons (λ (x : Working). IsTakenIn x.knows both) w so_far.others (in_second whole w.knows both j)

@@ -1,4 +1,4 @@
--- How workers share the tiles: each tile is held by one of them.
+-- How workers share the tiles: each tile is tiles_of_worker by one of them.
 use Rattle.std.proofs.Common.{◌≡◌, ℕ, zero, suc, ◌+◌, ◌-◌, ◌*◌, ◌/◌, ◌<◌, ◌≤◌, List, [], ◌∷◌, length, map, sym, ap, ◌∙◌, subst, inl, inr, ⊎_elim, arith}
 use mathlib.Core.Logic.{dite}
 use native.Mathlib.Decide.{ℕ_discrete}
@@ -7,10 +7,10 @@ use Rattle.std.proofs.Math.Nat.{add-mul, div-mul-le_self, mul-div_cancel_left, z
 use Rattle.std.proofs.lemmas.Bool.{cases_lt}
 use Rattle.std.proofs.lemmas.List.FromFn.{length-map-range_with_len}
 use Rattle.std.proofs.lemmas.Nat.{le-div}
-use Rattle.history.specs.worker_run.specs.fabric.specs.fabric_rule.specs.Groups.{Owns}
-use Rattle.history.specs.worker_run.specs.fabric.specs.Key.{count_up, ranges, Rises}
-use Rattle.history.specs.worker_run.specs.fabric.specs.Opening.{CanDeal}
-use Rattle.run_command.specs.Workers.{first_held, held}
+use Rattle.history.specs.Groups.{Owns}
+use Rattle.history.specs.Key.{count_up, ranges, Rises}
+use Rattle.history.specs.Opening.{CanDeal}
+use Rattle.run_command.specs.Workers.{first_held, tiles_of_worker}
 
 owns_count : (a k t : ℕ) → Owns (count_up a k) t → (a ≤ t) × (t < a + k)
 owns_count a zero t o = absurd o
@@ -86,7 +86,7 @@ module _ (n workers : ℕ) (some : 0 < workers) (few : workers ≤ n) where
       let same : 0 + suc k ≡ workers = omega (arith, e) in
       ap g same ∙ ends
 
-  shares_by : (k : ℕ) → workers ≡ suc k → ranges 0 (map g (range_with_len 1 k)) n ≡ map (held n workers) (range_with_len 0 (suc k))
+  shares_by : (k : ℕ) → workers ≡ suc k → ranges 0 (map g (range_with_len 1 k)) n ≡ map (tiles_of_worker n workers) (range_with_len 0 (suc k))
   shares_by k e = ap (λ (a : ℕ). ranges a (map g (range_with_len 1 k)) n) (sym begins) ∙ ranges_are g 0 k n (last k e)
 
   rise_by : (k : ℕ) → workers ≡ suc k → Rises 0 (map g (range_with_len 1 k)) n
@@ -96,16 +96,16 @@ module _ (n workers : ℕ) (some : 0 < workers) (few : workers ≤ n) where
   one_less = omega (arith, some)
 
   -- the ranges between the cuts are what the workers hold
-  pub shares : ranges 0 (map g (range_with_len 1 (workers - 1))) n ≡ map (held n workers) (range_with_len 0 workers)
-  shares = shares_by (workers - 1) (sym one_less) ∙ ap (λ (m : ℕ). map (held n workers) (range_with_len 0 m)) one_less
+  pub shares : ranges 0 (map g (range_with_len 1 (workers - 1))) n ≡ map (tiles_of_worker n workers) (range_with_len 0 workers)
+  shares = shares_by (workers - 1) (sym one_less) ∙ ap (λ (m : ℕ). map (tiles_of_worker n workers) (range_with_len 0 m)) one_less
 
   pub can_deal_shares : workers ≤ 16 → CanDeal (map g (range_with_len 1 (workers - 1))) 0 n
   can_deal_shares most =
       let count : length (map g (range_with_len 1 (workers - 1))) ≡ workers - 1 = length-map-range_with_len g 1 (workers - 1) in
       record { rise = rise_by (workers - 1) (sym one_less); few_cuts = omega (arith, count, most); few_probes = omega arith }
 
-  -- each tile is held by a worker
-  pub holder : (t : ℕ) → t < n → (j : ℕ) × (j < workers) × Owns (held n workers j) t
+  -- each tile is tiles_of_worker by a worker
+  pub holder : (t : ℕ) → t < n → (j : ℕ) × (j < workers) × Owns (tiles_of_worker n workers j) t
   holder t lt =
       let from : g 0 ≤ t = let e = begins in omega (arith, e) in
       let same : 0 + workers ≡ workers = omega arith in
@@ -127,7 +127,7 @@ module _ (n workers : ℕ) (some : 0 < workers) (few : workers ≤ n) where
           omega (arith, more, grows)
 
   -- what a worker holds are tiles
-  pub holds_tiles : (j t : ℕ) → j < workers → Owns (held n workers j) t → t < n
+  pub holds_tiles : (j t : ℕ) → j < workers → Owns (tiles_of_worker n workers j) t → t < n
   holds_tiles j t lt o =
       let p = owns_count (g j) (g (j + 1) - g j) t o in
       let high = p.1 in
@@ -136,5 +136,5 @@ module _ (n workers : ℕ) (some : 0 < workers) (few : workers ≤ n) where
       omega (arith, high, grows, end)
 
   -- the first worker's first tile
-  pub holds_some : (j : ℕ) → Owns (held n workers j) (g j)
+  pub holds_some : (j : ℕ) → Owns (tiles_of_worker n workers j) (g j)
   holds_some j = let grows = up j in count_owns (g j) (g (j + 1) - g j) (g j) (omega arith) (omega (arith, grows))

@@ -5,19 +5,19 @@ use Rattle.std.specs.List.{range_with_len}
 use Rattle.torus.specs.Shape.{tiles_of}
 use Rattle.torus.specs.declared.step.Step.{Step}
 use Rattle.script.specs.declared.fault.LineFault.{LineFault}
-use Rattle.machine_texts.specs.order_abstract.specs.Load.{Load}
+use Rattle.order_abstract.specs.Load.{Load}
 use Rattle.core_machine.specs.Machine.{core_after_load}
-use Rattle.history.specs.worker_run.specs.fabric.specs.Opening.{fresh}
-use Rattle.history.specs.worker_run.specs.fabric.specs.Seats.{Knowing, Origin}
-use Rattle.history.specs.worker_run.specs.Calls.{Call}
-use Rattle.history.specs.worker_run.specs.Watching.{AreCallsOfRun, AreCallsOfTurns, AreCallsTo, IsWatched}
-use Rattle.history.specs.worker_run.specs.Working.{EndsAs, HasWorked, Working}
-use Rattle.history.specs.worker_run.specs.declared.worker.End.{End}
-use Rattle.history.specs.worker_run.specs.declared.worker.End.TheVariants.{Held, Finished, Stopped}
+use Rattle.history.specs.Opening.{fresh}
+use Rattle.history.specs.Seats.{Knowing, Origin}
+use Rattle.worker_run.specs.Calls.{Call}
+use Rattle.worker_run.specs.Watching.{AreCallsOfRun, AreCallsOfTurns, AreCallsTo, IsWatched}
+use Rattle.worker_run.specs.Working.{EndsAs, HasWorked, Working}
+use Rattle.worker_run.specs.declared.worker.End.{End}
+use Rattle.worker_run.specs.declared.worker.End.TheVariants.{Held, Finished, Stopped}
 use Rattle.program_fault.specs.declared.fault.ProgramFault.{ProgramFault}
 use Rattle.program_fault.specs.declared.fault.ProgramFault.TheVariants as program
 use Rattle.program_fault.specs.Outcome.{IsReadFault}
-use Rattle.run_command.specs.Workers.{LetsAll, crew, held, new_worker}
+use Rattle.run_command.specs.Workers.{LetsAll, crew, tiles_of_worker, new_worker}
 use Rattle.run_command.specs.Watched.{HearsPart, HearsWorkers, TellsWorkers}
 use Rattle.run_command.proofs.ByWorkers.{seat_of, worker_starts}
 
@@ -86,8 +86,8 @@ module _ (f : Origin) (turns : ℕ) (l : Load) (alike : (steps : List Step) → 
   hears_workers over n count workers seats old new es eo worked watched size hired = λ j lt.
       let d : Working = new_worker (fresh f.table f.load []) in
       let below : j < count = omega (arith, lt, hired) in
-      subst (λ (p : ℕ × ℕ). HearsPart l turns (held p.0 p.1 j) (over j)) (λ i. (sym size i, sym hired i))
-      (hears_part (held n count j) (over j) (slice_index_or old j d) (slice_index_or new j d) (worker_starts f n count seats old es eo j d below)
+      subst (λ (p : ℕ × ℕ). HearsPart l turns (tiles_of_worker p.0 p.1 j) (over j)) (λ i. (sym size i, sym hired i))
+      (hears_part (tiles_of_worker n count j) (over j) (slice_index_or old j d) (slice_index_or new j d) (worker_starts f n count seats old es eo j d below)
       (worked j d below) (watched j d below))
 
 -- all calls, however the report was written

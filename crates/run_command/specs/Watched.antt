@@ -3,14 +3,14 @@ use Rattle.std.specs.Prelude.{◌≡◌, ℕ, ◌<◌, List, [], Bool, Result, O
 use Rattle.torus.specs.Shape.{tiles_of}
 use Rattle.torus.specs.declared.step.Step.{Step}
 use Rattle.script.specs.declared.fault.LineFault.{LineFault}
-use Rattle.machine_texts.specs.order_abstract.specs.Load.{Load}
+use Rattle.order_abstract.specs.Load.{Load}
 use Rattle.core_machine.specs.Machine.{core_after_load}
-use Rattle.history.specs.worker_run.specs.fabric.specs.Seats.{Knowing}
-use Rattle.history.specs.worker_run.specs.Calls.{Call}
-use Rattle.history.specs.worker_run.specs.Watching.{AreCallsOfRun}
+use Rattle.history.specs.Seats.{Knowing}
+use Rattle.worker_run.specs.Calls.{Call}
+use Rattle.worker_run.specs.Watching.{AreCallsOfRun}
 use Rattle.program_fault.specs.declared.fault.ProgramFault.{ProgramFault}
 use Rattle.program_fault.specs.declared.fault.ProgramFault.TheVariants as program
-use Rattle.run_command.specs.Workers.{crew, held}
+use Rattle.run_command.specs.Workers.{crew, tiles_of_worker}
 
 -- A watcher hears all calls for a worker of a run of a load, by what may be all of them: those behind
 -- the turns that it makes with its tiles from the empty run on, and its end. What the worker knows as
@@ -29,7 +29,7 @@ pub record HearsPart (load : Load) (turns : ℕ) (tiles : List ℕ) (over : List
 -- a watcher hears all calls for each of so many workers
 abbrev pub HearsWorkers : Load → ℕ → ℕ → (ℕ → List Call → Type 0) → Type 0
 HearsWorkers load workers turns over = (j : ℕ) → j < crew workers load
-    → HearsPart load turns (held (tiles_of load.shape) (crew workers load) j) (over j)
+    → HearsPart load turns (tiles_of_worker (tiles_of load.shape) (crew workers load) j) (over j)
 
 -- whoever watches the run by workers of what was asked for hears all calls, where the report was
 -- written or the output failed

@@ -5,16 +5,16 @@ use Rattle.std.specs.Prelude.{IsTrue, ◌↔◌}
 use Rattle.torus.specs.Shape.{tiles_of}
 use Rattle.torus.specs.declared.step.Step.{Step}
 use Rattle.script.specs.declared.fault.LineFault.{LineFault}
-use Rattle.machine_texts.specs.order_abstract.specs.Load.{Load}
-use Rattle.machine_texts.specs.order_abstract.specs.Scripts.{AreFinished}
-use Rattle.machine_texts.specs.core_laws.specs.Core.{after, run_of}
+use Rattle.order_abstract.specs.Load.{Load}
+use Rattle.order_abstract.specs.Scripts.{AreFinished}
+use Rattle.core_laws.specs.Core.{after, run_of}
 use Rattle.core_machine.specs.Machine.{IsLawful, all_finished, book_after, core_after_load}
-use Rattle.history.specs.worker_run.specs.fabric.specs.fabric_rule.specs.Ended.{AreAllFinished}
-use Rattle.history.specs.worker_run.specs.fabric.specs.fabric_rule.specs.Groups.{GoesOn, Owns}
-use Rattle.history.specs.worker_run.specs.fabric.specs.Ending.{Ended}
-use Rattle.history.specs.worker_run.specs.fabric.specs.Key.{count_up}
-use Rattle.history.specs.worker_run.specs.fabric.specs.Seats.{Knowing}
-use Rattle.history.specs.worker_run.specs.Working.{HasTurned, Working}
+use Rattle.history.specs.Ended.{AreAllFinished}
+use Rattle.history.specs.Groups.{GroupGoesOn, Owns}
+use Rattle.history.specs.Ending.{Ended}
+use Rattle.history.specs.Key.{count_up}
+use Rattle.history.specs.Seats.{Knowing}
+use Rattle.worker_run.specs.Working.{HasTurned, Working}
 use Rattle.report_lines.specs.Line.{text_of}
 use Rattle.report_check.specs.Good.{GoodReport}
 use Rattle.history.specs.RunReport.{run_report}
@@ -27,8 +27,8 @@ abbrev pub first_held : ℕ → ℕ → ℕ → ℕ
 first_held n workers j = j * n / workers
 
 -- the tiles of worker j: from its first one on, up to that of the next
-abbrev pub held : ℕ → ℕ → ℕ → List ℕ
-held n workers j = count_up (first_held n workers j)
+abbrev pub tiles_of_worker : ℕ → ℕ → ℕ → List ℕ
+tiles_of_worker n workers j = count_up (first_held n workers j)
     (first_held n workers (j + 1) - first_held n workers j)
 
 -- how many workers there are, where so many are asked for: no more than there are tiles
@@ -47,7 +47,7 @@ pub record LetsAll (holds : ℕ → Type 0) (stops : ℕ → Step → Type 0) : 
 -- all tiles of a seat are another's, whose run goes on from the seat's by steps of other tiles
 abbrev pub IsTakenIn : Knowing → Knowing → Type 0
 IsTakenIn k whole = ((t : ℕ) → Owns k.tiles t → Owns whole.tiles t)
-    × GoesOn (k.tiles ∷ []) whole.run k.run
+    × GroupGoesOn (k.tiles ∷ []) whole.run k.run
 
 -- A worker did its part of a run: with its tiles it made turns from the empty run on, in the order
 -- of rounds, until its processors had seen the end or it had made all its turns, and all of them
@@ -61,14 +61,14 @@ pub record HasDonePart (load : Load) (turns : ℕ) (tiles : List ℕ) (run : Lis
   pub holds : first.tiles ≡ tiles
   pub turned : HasTurned (λ step. ⊥) turns first last
   pub all : (AreAllFinished load run → ⊥) → length turned.steps ≡ turns
-  pub rest : GoesOn (tiles ∷ []) run last.run
+  pub rest : GroupGoesOn (tiles ∷ []) run last.run
 
 -- So many workers have made a run of a load, each its part. What the end says was loaded leads to
 -- the same machines as the load; it may lack fences in front of scripts, which no machine tells.
 pub record IsMadeByWorkers (load : Load) (workers turns : ℕ) (end : Ended) : Type 0 where
   pub alike : (steps : List Step) → core_after_load end.load steps ≡ core_after_load load steps
   pub each : (j : ℕ) → j < crew workers load
-      → HasDonePart end.load turns (held (tiles_of load.shape) (crew workers load) j) end.run
+      → HasDonePart end.load turns (tiles_of_worker (tiles_of load.shape) (crew workers load) j) end.run
 
 -- a text is the report of a run, a good one without order lines, and the answer says whether every
 -- script is finished

@@ -3,17 +3,17 @@ ghost use Rattle.std.specs.List.{range_with_len};
 ghost use Rattle.std.specs.Str.Lines.{lines};
 ghost use Rattle.torus.specs.Shape.{tiles_of};
 ghost use Rattle.torus.specs.declared.fault.Fault.TheVariants as fault;
-ghost use Rattle.machine_texts.specs.order_abstract.specs.Load.{Load};
+ghost use Rattle.order_abstract.specs.Load.{Load};
 ghost use Rattle.core_machine.specs.Machine.{IsAfter};
-ghost use Rattle.machine_texts.specs.Loading.{load_by};
-ghost use Rattle.history.specs.worker_run.specs.fabric.specs.Opening.{fresh};
-ghost use Rattle.history.specs.worker_run.specs.fabric.specs.Seats.{IsOf};
-ghost use Rattle.history.specs.worker_run.specs.Watching.{IsWatched};
-ghost use Rattle.history.specs.worker_run.specs.Working.{HasWorked, Working};
+ghost use Rattle.machine_core.specs.Loading.{load_by};
+ghost use Rattle.history.specs.Opening.{fresh};
+ghost use Rattle.history.specs.Seats.{IsSeatOf};
+ghost use Rattle.worker_run.specs.Watching.{IsWatched};
+ghost use Rattle.worker_run.specs.Working.{HasWorked, Working};
 ghost use Rattle.program_fault.specs.Done.{Does, output};
 ghost use Rattle.commands.specs.Run.{IsNoFault};
 ghost use Rattle.run_command.specs.Workers.{IsMadeByWorkers, IsOfEnded, IsTakenIn, LetsAll, PrintsWorkers, first_held};
-ghost use Rattle.run_command.specs.Workers.{held, new_worker};
+ghost use Rattle.run_command.specs.Workers.{tiles_of_worker, new_worker};
 ghost use Rattle.run_command.specs.Watched.{HearsWorkers, TellsWorkers};
 
 use arrayvec::ArrayVec;
@@ -26,7 +26,7 @@ use history::{
     Fabric, Final, Gate, Open, TileSeat, Unwatched, Watch, Worker, of_final, run_workers,
     write_report,
 };
-use machine_texts::Machine;
+use machine_core::Machine;
 use program_fault::ProgramFault;
 use report_lines::Out;
 use std::alloc::{AllocError, Allocator};
@@ -158,7 +158,7 @@ fn opened<A: Allocator + Copy>(
     requires crew { (1 ≤ crew) × (crew ≤ 16) × (crew ≤ tiles) }
     ensures load { IfOk result (λ r. IsAfter r.0.load machine []) }
     ensures seats { IfOk result
-        (λ r. r.1.items ≡ map (λ j. fresh r.0.table r.0.load (held tiles crew j))
+        (λ r. r.1.items ≡ map (λ j. fresh r.0.table r.0.load (tiles_of_worker tiles crew j))
         (range_with_len 0 crew)) }
     ensures fault { IfErr result (λ fault. fault ≡ Fault.Memory) }
 {
@@ -191,11 +191,11 @@ fn worked<R: Threads + Wait + Sync, A: Allocator + Copy + Send + Sync, G: Gate, 
     gate: &G,
     watch: &V,
 ) -> Result<Vec<Worker<A>, A>, AllocError>
-    requires own { All (IsOf fabric.now) seats.items }
+    requires own { All (IsSeatOf fabric.now) seats.items }
     requires few { length seats.items ≤ 16 }
     requires turns { (1 ≤ turns) × (turns ≤ 1000000000) }
     requires gate { LetsAll (G.holds gate.now) (G.stops gate.now) }
-    ensures own { IfOk result (λ workers. All (λ w. IsOf fabric.now w.knows) workers.items) }
+    ensures own { IfOk result (λ workers. All (λ w. IsSeatOf fabric.now w.knows) workers.items) }
     ensures count { IfOk result (λ workers. length workers.items ≡ length seats.items) }
     ensures worked { IfOk result
         (λ workers. (i : ℕ) (d : Working) → i < length seats.items
@@ -227,9 +227,9 @@ fn workers_of<A: Allocator + Copy>(
 
 /// One seat with the tiles of all workers.
 fn joined<A: Allocator>(fabric: &Fabric<A>, mut workers: Vec<Worker<A>, A>) -> TileSeat<A>
-    requires own { All (λ w. IsOf fabric.now w.knows) workers.items }
+    requires own { All (λ w. IsSeatOf fabric.now w.knows) workers.items }
     requires some { 0 < length workers.items }
-    ensures own { IsOf fabric.now result }
+    ensures own { IsSeatOf fabric.now result }
     ensures all { All (λ w. IsTakenIn w.knows result) workers.items }
 {
     let Some(last) = workers.pop() else {

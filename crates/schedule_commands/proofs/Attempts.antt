@@ -3,31 +3,31 @@ use Rattle.std.proofs.Common.{◌≡◌, ℕ, ◌++◌, List, [], ◌∷◌, Opt
 use Rattle.torus.specs.declared.step.Step.{Step}
 use Rattle.torus.specs.declared.step.Stepped.{Stepped}
 use Rattle.torus.specs.declared.step.Stepped.TheVariants.{Moved, Idle}
-use Rattle.core_machine.specs.core_laws.specs.Core.{State, step}
-use Rattle.core_machine.specs.Machine.{Core, built_to, told, core_next, core_after}
-use Rattle.core_moves.specs.Enabled.{ahead_if_moved}
-use Rattle.core_moves.specs.Moves.{moves_from}
-use Rattle.core_moves.proofs.Moves.{machine_joined}
+use Rattle.core_laws.specs.Core.{State, step}
+use Rattle.core_machine.specs.Machine.{Core, built_to, machine_told, core_next, core_after}
+use Rattle.core_machine.specs.Enabled.{ahead_if_moved}
+use Rattle.core_machine.specs.Moves.{moves_from}
+use Rattle.core_machine.proofs.StepLists.{machine_joined}
 use Rattle.program_fault.specs.Done.{Output, TookAll, TookFront}
-use Rattle.schedule_lines.specs.declared.line.ScheduleLine.{ScheduleLine}
-use Rattle.schedule_lines.specs.Line.{text_of}
+use Rattle.schedule_commands.specs.declared.line.ScheduleLine.{ScheduleLine}
+use Rattle.schedule_commands.specs.Line.{text_of}
 use Rattle.schedule_commands.specs.Output.{headed, heading_behind}
 use Rattle.schedule_commands.proofs.Outputs.{took_none, took_then, front_then, front_of_more}
 use Rattle.schedule_commands.proofs.Headed.{headed_more, headed_none}
 
-moved_by : (x : Step) (o : Option State) (r : Stepped) → r ≡ told o → r ≡ Moved → ahead_if_moved x o [] ≡ x ∷ []
+moved_by : (x : Step) (o : Option State) (r : Stepped) → r ≡ machine_told o → r ≡ Moved → ahead_if_moved x o [] ≡ x ∷ []
 moved_by x None r is moved = absurd (let e : Moved ≡ Idle = sym moved ∙ is in cc)
 moved_by x (Some s) r is moved = refl
 
-idle_by : (x : Step) (o : Option State) (r : Stepped) → r ≡ told o → r ≡ Idle → ahead_if_moved x o [] ≡ []
+idle_by : (x : Step) (o : Option State) (r : Stepped) → r ≡ machine_told o → r ≡ Idle → ahead_if_moved x o [] ≡ []
 idle_by x None r is idle = refl
 idle_by x (Some s) r is idle = absurd (let e : Idle ≡ Moved = sym idle ∙ is in cc)
 
 -- an attempt that moved is a move, and one that didn't is none
-pub one_moved : (c : Core) (x : Step) (r : Stepped) → r ≡ told (step (built_to c) c.state x) → r ≡ Moved → moves_from c (x ∷ []) ≡ x ∷ []
+pub one_moved : (c : Core) (x : Step) (r : Stepped) → r ≡ machine_told (step (built_to c) c.state x) → r ≡ Moved → moves_from c (x ∷ []) ≡ x ∷ []
 one_moved c x r is moved = moved_by x (step (built_to c) c.state x) r is moved
 
-pub one_idle : (c : Core) (x : Step) (r : Stepped) → r ≡ told (step (built_to c) c.state x) → r ≡ Idle → moves_from c (x ∷ []) ≡ []
+pub one_idle : (c : Core) (x : Step) (r : Stepped) → r ≡ machine_told (step (built_to c) c.state x) → r ≡ Idle → moves_from c (x ∷ []) ≡ []
 one_idle c x r is idle = idle_by x (step (built_to c) c.state x) r is idle
 
 -- Of the attempts from a machine some are made and these are left, from the machine now, with a heading

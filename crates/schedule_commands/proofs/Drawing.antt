@@ -7,13 +7,13 @@ use Rattle.std.proofs.lemmas.List.Filters.{length-filter_more}
 use Rattle.std.specs.Int.{from_bool}
 use Rattle.std.proofs.lemmas.List.Concat.{flat_map-append}
 use Rattle.torus.specs.declared.step.Step.{Step}
-use Rattle.core_machine.specs.core_laws.specs.Core.{round}
+use Rattle.core_laws.specs.Core.{round}
 use Rattle.core_machine.specs.Machine.{Core, core_next, core_after, all_finished}
 use Rattle.machine_core.proofs.Rounds.{core_append}
 use Rattle.rand_xoshiro.specs.SplitMix64.{mix_u64}
-use Rattle.schedule_lines.specs.declared.line.ScheduleLine.{ScheduleLine}
-use Rattle.schedule_lines.specs.declared.line.ScheduleLine.TheVariants.{Move}
-use Rattle.schedule_lines.specs.Line.{line_text, text_of}
+use Rattle.schedule_commands.specs.declared.line.ScheduleLine.{ScheduleLine}
+use Rattle.schedule_commands.specs.declared.line.ScheduleLine.TheVariants.{Move}
+use Rattle.schedule_commands.specs.Line.{line_text, text_of}
 use Rattle.program_fault.specs.Done.{Output, TookAll, TookFront}
 use Rattle.schedule_commands.specs.Output.{headed}
 use Rattle.schedule_commands.specs.Drawn.{drawn_moves, drawn_of, enabled_now, move_then, unless_finished}

@@ -3,9 +3,9 @@ use Rattle.std.proofs.Common.{◌≡◌, ℕ, ◌++◌, List, [], ◌∷◌, Opt
 use Rattle.std.proofs.lemmas.List.{map-append}
 use Rattle.std.proofs.lemmas.List.Concat.{flat_map-append}
 use Rattle.torus.specs.declared.step.Step.{Step}
-use Rattle.schedule_lines.specs.declared.line.ScheduleLine.{ScheduleLine}
-use Rattle.schedule_lines.specs.declared.line.ScheduleLine.TheVariants.{Move, Round}
-use Rattle.schedule_lines.specs.Line.{line_text, text_of}
+use Rattle.schedule_commands.specs.declared.line.ScheduleLine.{ScheduleLine}
+use Rattle.schedule_commands.specs.declared.line.ScheduleLine.TheVariants.{Move, Round}
+use Rattle.schedule_commands.specs.Line.{line_text, text_of}
 use Rattle.schedule_commands.specs.Output.{headed, heading_behind}
 
 -- no moves have no lines

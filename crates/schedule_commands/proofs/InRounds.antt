@@ -7,19 +7,19 @@ use Rattle.std.proofs.lemmas.List.Concat.{flat_map-append}
 use Rattle.std.proofs.lemmas.List.FromFn.{length-map-range_with_len, map-range_with_len_more}
 use Rattle.torus.specs.Shape.{Shape}
 use Rattle.torus.specs.declared.step.Step.{Step}
-use Rattle.core_machine.specs.order_abstract.specs.Load.{Load}
-use Rattle.core_machine.specs.core_laws.specs.Core.{round}
+use Rattle.order_abstract.specs.Load.{Load}
+use Rattle.core_laws.specs.Core.{round}
 use Rattle.machine_core.specs.Rounds.{rounds_of}
 use Rattle.core_machine.specs.Machine.{Core, IsAfter, all_finished, core_after, core_after_load}
 use Rattle.core_machine.proofs.Machines.{named_machine, after_steps}
-use Rattle.core_moves.specs.Moves.{moves_from}
-use Rattle.schedule_lines.specs.declared.line.ScheduleLine.{ScheduleLine}
-use Rattle.schedule_lines.specs.Line.{line_text, text_of}
-use Rattle.schedule_lines.specs.Schedule.{round_lines, lines_of_rounds}
-use Rattle.schedule_lines.proofs.Growing.{one_more_round}
+use Rattle.core_machine.specs.Moves.{moves_from}
+use Rattle.schedule_commands.specs.declared.line.ScheduleLine.{ScheduleLine}
+use Rattle.schedule_commands.specs.Line.{line_text, text_of}
+use Rattle.schedule_commands.specs.Schedule.{round_lines, lines_of_rounds}
+use Rattle.schedule_commands.proofs.Growing.{one_more_round}
 use Rattle.program_fault.specs.Done.{Output, TookAll, TookFront}
 use Rattle.schedule_commands.specs.Output.{headed}
-use Rattle.machine_texts.specs.Rounds.{AreFewest, after_rounds}
+use Rattle.machine_core.specs.FewestRounds.{AreFewest, after_rounds}
 use Rattle.schedule_commands.specs.Rounds.{HasPutRounds, HasPutSome, moves_of_rounds, round_moves, rounds_text}
 use Rattle.schedule_commands.proofs.Outputs.{took_none, took_then, front_then, front_of_more}
 

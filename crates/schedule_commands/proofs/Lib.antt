@@ -1,3 +1,11 @@
+pub mod Cuts
+pub mod Numerals
+pub mod StepWords
+pub mod Again
+pub mod Growing
+mod Examples
+pub mod OfTorus
+pub mod RunsAgain
 pub mod Outputs
 pub mod Headed
 pub mod Attempts

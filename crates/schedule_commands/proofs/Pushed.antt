@@ -6,7 +6,7 @@ use Rattle.std.proofs.lemmas.List.Folds.{flat_map-map}
 use Rattle.std.proofs.lemmas.List.FromFn.{map-range_with_len_more}
 use Rattle.torus.specs.declared.step.Step.{Step}
 use Rattle.torus.specs.declared.step.Choice.{Choice}
-use Rattle.core_machine.specs.core_laws.specs.Core.{attempts_of}
+use Rattle.core_laws.specs.Core.{attempts_of}
 
 -- one attempt more of a choice for each port
 pub port_more : (f : ℕ → Choice) (agent n : ℕ) (old now after : List Step) → now ≡ old ++ attempts_of agent (map f (range_with_len 0 n))

@@ -4,8 +4,8 @@ use Rattle.torus.specs.declared.step.Step.{Step}
 use Rattle.script.specs.Machine.{MachineSpec, machine_of}
 use Rattle.script.specs.Scripts.{ScriptsSpec, scripts_of}
 use Rattle.script.specs.Steps.{steps_of}
-use Rattle.core_machine.specs.order_abstract.specs.Load.{load_of}
-use Rattle.machine_texts.specs.Run.{asked_of}
+use Rattle.order_abstract.specs.Load.{load_of}
+use Rattle.machine_core.specs.Run.{asked_of}
 
 -- all three are read
 pub all_read : (a b c : List (List ℕ)) (m : MachineSpec) (s : ScriptsSpec) (list : List Step) → machine_of a ≡ Ok m → scripts_of m b ≡ Ok s

@@ -9,26 +9,26 @@ use Rattle.torus.specs.declared.step.Step.{Step}
 use Rattle.script.specs.declared.fault.LineFault.{LineFault}
 use Rattle.script.specs.Machine.{MachineSpec}
 use Rattle.script.specs.Steps.{steps_of}
-use Rattle.core_machine.specs.order_abstract.specs.Load.{Load}
-use Rattle.core_machine.specs.order_abstract.specs.Scripts.{AreFinished}
-use Rattle.core_machine.specs.core_laws.specs.Core.{round, run_of}
-use Rattle.core_machine.specs.core_laws.specs.Runs.{IsAccepted}
+use Rattle.order_abstract.specs.Load.{Load}
+use Rattle.order_abstract.specs.Scripts.{AreFinished}
+use Rattle.core_laws.specs.Core.{round, run_of}
+use Rattle.core_laws.specs.Runs.{IsAcceptedLoad}
 use Rattle.machine_core.specs.Rounds.{rounds_of}
-use Rattle.machine_texts.specs.Loading.{HasLoaded}
+use Rattle.machine_core.specs.Loading.{HasLoaded}
 use Rattle.core_machine.specs.Machine.{Core, IsAfter, all_finished, core_after, core_after_load}
 use Rattle.core_machine.proofs.Machines.{named_machine, stands_after, after_steps, finished_of_machine}
-use Rattle.core_moves.specs.Moves.{moves_of, moves_from}
-use Rattle.core_moves.proofs.Moves.{load_machine, machine_further}
-use Rattle.schedule_lines.specs.declared.line.ScheduleLine.{ScheduleLine}
-use Rattle.schedule_lines.specs.declared.line.ScheduleLine.TheVariants.{End, Move}
-use Rattle.schedule_lines.specs.Line.{line_text, text_of}
-use Rattle.schedule_lines.specs.Schedule.{schedule_of, moves_schedule}
-use Rattle.schedule_runs.proofs.Again.{rounds_again, moves_again}
+use Rattle.core_machine.specs.Moves.{moves_of, moves_from}
+use Rattle.core_machine.proofs.StepLists.{load_machine, machine_further}
+use Rattle.schedule_commands.specs.declared.line.ScheduleLine.{ScheduleLine}
+use Rattle.schedule_commands.specs.declared.line.ScheduleLine.TheVariants.{End, Move}
+use Rattle.schedule_commands.specs.Line.{line_text, text_of}
+use Rattle.schedule_commands.specs.Schedule.{schedule_of, moves_schedule}
+use Rattle.schedule_commands.proofs.RunsAgain.{rounds_again, moves_again}
 use Rattle.program_fault.specs.Done.{Output, TookAll, TookFront, Wrote}
-use Rattle.machine_texts.specs.Run.{Asked}
+use Rattle.machine_core.specs.Run.{Asked}
 use Rattle.schedule_commands.specs.Asked.{HasOpened}
 use Rattle.schedule_commands.specs.Output.{headed}
-use Rattle.machine_texts.specs.Rounds.{AreFewest, after_rounds}
+use Rattle.machine_core.specs.FewestRounds.{AreFewest, after_rounds}
 use Rattle.schedule_commands.specs.Rounds.{HasPutRounds, HasPutSome, moves_of_rounds, round_moves, rounds_text}
 use Rattle.schedule_commands.specs.Schedules.{TellsRun, IsRoundsText, IsMovesText}
 use Rattle.schedule_commands.proofs.Outputs.{took_then, front_then, front_of_more}
@@ -46,7 +46,7 @@ one_round l k =
     ∙ flat_map-append (λ moves. moves) (moves_of_rounds l k) (round_moves l k ∷ [])
     ∙ ap (λ (xs : List Step). flat_map (λ moves. moves) (moves_of_rounds l k) ++ xs) (append-nil (round_moves l k))
 
-all_rounds : (l : Load) (k : ℕ) → IsAccepted l → flat_map (λ moves. moves) (moves_of_rounds l k) ≡ moves_of l (rounds_of l.shape k)
+all_rounds : (l : Load) (k : ℕ) → IsAcceptedLoad l → flat_map (λ moves. moves) (moves_of_rounds l k) ≡ moves_of l (rounds_of l.shape k)
 all_rounds l zero ok = refl
 all_rounds l (suc k) ok =
     let one : k + 1 ≡ suc k = omega arith in

@@ -3,7 +3,7 @@ use Rattle.std.specs.Prelude.{◌≡◌, List, [], Result, Ok}
 use Rattle.torus.specs.declared.step.Step.{Step}
 use Rattle.script.specs.declared.fault.LineFault.{LineFault}
 use Rattle.core_machine.specs.Machine.{Core, IsAfter}
-use Rattle.machine_texts.specs.Run.{Asked}
+use Rattle.machine_core.specs.Run.{Asked}
 
 -- a machine has made no step of what is asked for, and these are the steps
 pub record HasOpened (asked : Result Asked LineFault) (c : Core) (steps : List Step) : Type 0 where

@@ -1,3 +1,5 @@
+pub mod Line
+pub mod Schedule
 pub mod Asked
 pub mod Output
 pub mod Rounds

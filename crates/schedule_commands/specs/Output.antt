@@ -1,9 +1,9 @@
 -- What an output took of a schedule (this project's own format).
 use Rattle.std.specs.Prelude.{ℕ, List, [], ◌∷◌, map, Option, Some, None, Result, Ok, Err}
 use Rattle.torus.specs.declared.step.Step.{Step}
-use Rattle.schedule_lines.specs.declared.line.ScheduleLine.{ScheduleLine}
-use Rattle.schedule_lines.specs.declared.line.ScheduleLine.TheVariants.{Move}
-use Rattle.schedule_lines.specs.Schedule.{round_lines}
+use Rattle.schedule_commands.specs.declared.line.ScheduleLine.{ScheduleLine}
+use Rattle.schedule_commands.specs.declared.line.ScheduleLine.TheVariants.{Move}
+use Rattle.schedule_commands.specs.Schedule.{round_lines}
 use Rattle.program_fault.specs.Done.{Output, TookAll, TookFront}
 
 -- the whole of a text was taken, or, where that failed, a beginning of it

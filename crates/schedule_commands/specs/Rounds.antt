@@ -2,14 +2,14 @@
 use Rattle.std.specs.Prelude.{ℕ, List, map, Result, Ok, Err}
 use Rattle.std.specs.List.{range_with_len}
 use Rattle.torus.specs.declared.step.Step.{Step}
-use Rattle.core_machine.specs.order_abstract.specs.Load.{Load}
-use Rattle.core_machine.specs.core_laws.specs.Core.{round}
+use Rattle.order_abstract.specs.Load.{Load}
+use Rattle.core_laws.specs.Core.{round}
 use Rattle.machine_core.specs.Rounds.{rounds_of}
 use Rattle.core_machine.specs.Machine.{Core, IsAfter}
-use Rattle.machine_texts.specs.Rounds.{AreFewest, after_rounds}
-use Rattle.core_moves.specs.Moves.{moves_from}
-use Rattle.schedule_lines.specs.Line.{text_of}
-use Rattle.schedule_lines.specs.Schedule.{lines_of_rounds}
+use Rattle.machine_core.specs.FewestRounds.{AreFewest, after_rounds}
+use Rattle.core_machine.specs.Moves.{moves_from}
+use Rattle.schedule_commands.specs.Line.{text_of}
+use Rattle.schedule_commands.specs.Schedule.{lines_of_rounds}
 use Rattle.program_fault.specs.Done.{Output, TookAll, TookFront}
 
 -- the attempts of the round behind so many that are enabled where they come

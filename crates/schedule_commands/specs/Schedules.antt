@@ -5,19 +5,19 @@ use Rattle.torus.specs.declared.step.Step.{Step}
 use Rattle.script.specs.declared.fault.LineFault.{LineFault}
 use Rattle.script.specs.Machine.{MachineSpec}
 use Rattle.script.specs.Steps.{steps_of}
-use Rattle.core_machine.specs.order_abstract.specs.Load.{Load}
-use Rattle.core_machine.specs.order_abstract.specs.Scripts.{AreFinished}
-use Rattle.core_machine.specs.core_laws.specs.Core.{run_of}
+use Rattle.order_abstract.specs.Load.{Load}
+use Rattle.order_abstract.specs.Scripts.{AreFinished}
+use Rattle.core_laws.specs.Core.{run_of}
 use Rattle.machine_core.specs.Rounds.{rounds_of}
 use Rattle.core_machine.specs.Machine.{core_after_load, all_finished}
-use Rattle.core_moves.specs.Moves.{moves_of}
-use Rattle.schedule_lines.specs.Line.{text_of}
-use Rattle.schedule_lines.specs.Schedule.{schedule_of, moves_schedule}
+use Rattle.core_machine.specs.Moves.{moves_of}
+use Rattle.schedule_commands.specs.Line.{text_of}
+use Rattle.schedule_commands.specs.Schedule.{schedule_of, moves_schedule}
 use Rattle.program_fault.specs.declared.fault.ProgramFault.{ProgramFault}
 use Rattle.program_fault.specs.Done.{Does, Output}
 use Rattle.program_fault.specs.Outcome.{IsTextsFault}
-use Rattle.machine_texts.specs.Run.{Asked}
-use Rattle.machine_texts.specs.Rounds.{AreFewest}
+use Rattle.machine_core.specs.Run.{Asked}
+use Rattle.machine_core.specs.FewestRounds.{AreFewest}
 use Rattle.schedule_commands.specs.Rounds.{moves_of_rounds}
 
 -- A text tells of a run of these steps from a load: the answer says whether every script is

@@ -1,23 +1,23 @@
 ghost use Rattle.std.specs.Prelude.{◌≡◌, None, OnOk, length, slice_get};
 ghost use Rattle.std.specs.Str.Lines.{lines};
-ghost use Rattle.core_machine.specs.core_laws.specs.Core.{round};
-ghost use Rattle.machine_texts.specs.Loading.{load_by};
+ghost use Rattle.core_laws.specs.Core.{round};
+ghost use Rattle.machine_core.specs.Loading.{load_by};
 ghost use Rattle.core_machine.specs.Machine.{core_after};
-ghost use Rattle.schedule_lines.specs.Line.{text_of};
+ghost use Rattle.schedule_commands.specs.Line.{text_of};
 ghost use Rattle.program_fault.specs.Done.{output};
 ghost use Rattle.schedule_commands.specs.Output.{Took, headed};
 ghost use Rattle.schedule_commands.specs.Drawn.{PrintsDrawn, drawn_moves, drawn_of, enabled_now};
 
+use crate::ScheduleLine;
 use crate::in_rounds::loaded;
 use crate::output::{put_end, put_line};
 use crate::round_list::round_of;
-use machine_texts::Machine;
+use machine_core::Machine;
 use program_fault::ProgramFault;
 use rand_core::SeedableRng;
 use rand_core::utils::NextWord;
 use rand_xoshiro::SplitMix64;
 use report_lines::{Out, OutputFailed};
-use schedule_lines::ScheduleLine;
 use std::alloc::Allocator;
 use torus::Step;
 

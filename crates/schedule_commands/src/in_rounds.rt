@@ -1,8 +1,8 @@
 ghost use Rattle.std.specs.Prelude.{◌≡◌, IfErr, IfOk, []};
 ghost use Rattle.std.specs.Str.Lines.{lines};
-ghost use Rattle.core_machine.specs.order_abstract.specs.Load.{Load};
-ghost use Rattle.core_machine.specs.core_laws.specs.Core.{round};
-ghost use Rattle.machine_texts.specs.Loading.{HasLoaded, load_by};
+ghost use Rattle.order_abstract.specs.Load.{Load};
+ghost use Rattle.core_laws.specs.Core.{round};
+ghost use Rattle.machine_core.specs.Loading.{HasLoaded, load_by};
 ghost use Rattle.core_machine.specs.Machine.{IsAfter};
 ghost use Rattle.program_fault.specs.Done.{output};
 ghost use Rattle.program_fault.specs.Outcome.{IsReadFault};
@@ -11,7 +11,7 @@ ghost use Rattle.schedule_commands.specs.Schedules.{PrintsSchedule};
 
 use crate::output::{put_end, put_moves};
 use crate::round_list::round_of;
-use machine_texts::{Machine, load};
+use machine_core::{Machine, load};
 use program_fault::ProgramFault;
 use report_lines::{Out, OutputFailed};
 use std::alloc::Allocator;

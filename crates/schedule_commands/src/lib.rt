@@ -1,13 +1,19 @@
-//! The commands that print a run as the list of its moves: the moves of its rounds, the moves among
-//! listed steps, and moves that are drawn. What each prints is a steps text.
+//! Schedules: the moves of a run as a steps text, and the commands that print the moves of rounds,
+//! those among listed steps, and moves that are drawn.
 #![tactic(auto)]
 
 pub mod drawn;
 pub mod in_rounds;
+pub mod line;
+pub mod line_laws;
 pub mod moves;
 mod output;
 mod round_list;
+pub mod run_laws;
+pub mod text;
 
 pub use drawn::draw_text;
 pub use in_rounds::schedule_text;
+pub use line::ScheduleLine;
 pub use moves::moves_text;
+pub use text::{LineText, line_of};

@@ -2,12 +2,12 @@ ghost use Rattle.std.specs.Prelude.{IfErr, IfOk};
 ghost use Rattle.std.specs.Str.Lines.{lines};
 ghost use Rattle.program_fault.specs.Done.{output};
 ghost use Rattle.program_fault.specs.Outcome.{IsReadFault};
-ghost use Rattle.machine_texts.specs.Run.{asked_of};
+ghost use Rattle.machine_core.specs.Run.{asked_of};
 ghost use Rattle.schedule_commands.specs.Asked.{HasOpened};
 ghost use Rattle.schedule_commands.specs.Schedules.{PrintsMoves};
 
 use crate::output::{put_end, put_moves};
-use machine_texts::Machine;
+use machine_core::Machine;
 use program_fault::ProgramFault;
 use report_lines::Out;
 use script::{read_machine, read_scripts, read_steps};

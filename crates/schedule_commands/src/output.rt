@@ -2,16 +2,16 @@
 
 ghost use Rattle.std.specs.Prelude.{◌≡◌, ◌∷◌, [], IfOk, OnOk};
 ghost use Rattle.core_machine.specs.Machine.{core_next, core_after, all_finished};
-ghost use Rattle.core_moves.specs.Moves.{moves_from};
-ghost use Rattle.schedule_lines.specs.declared.line.ScheduleLine.TheVariants.{End};
-ghost use Rattle.schedule_lines.specs.Line.{line_text, text_of};
+ghost use Rattle.core_machine.specs.Moves.{moves_from};
+ghost use Rattle.schedule_commands.specs.declared.line.ScheduleLine.TheVariants.{End};
+ghost use Rattle.schedule_commands.specs.Line.{line_text, text_of};
 ghost use Rattle.program_fault.specs.Done.{output};
 ghost use Rattle.schedule_commands.specs.Output.{Took, headed, heading_behind};
 
+use crate::{ScheduleLine, line_of};
 use machine_core::Machine;
 use report_lines::output::put_all;
 use report_lines::{Out, OutputFailed};
-use schedule_lines::{ScheduleLine, line_of};
 use std::alloc::Allocator;
 use torus::{Step, Stepped};
 

@@ -119,7 +119,8 @@ abbrev pub take_line : ℕ → List (List Line) → List ℕ → List (List ℕ)
 take_line words lists processor rest =
     line_or_why (length lists) words processor rest >>= λ found. add_line lists (found.0) (found.1)
 
-abbrev pub after_words : ℕ → List (List Line) → List (List ℕ) → Result (List (List Line)) TextReason
+abbrev pub after_words : ℕ → List (List Line) → List (List ℕ)
+    → Result (List (List Line)) TextReason
 after_words words lists [] = Ok lists
 after_words words lists (processor ∷ rest) =
     if begins_comment processor then Ok lists else take_line words lists processor rest

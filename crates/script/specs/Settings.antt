@@ -74,7 +74,8 @@ not_below place z k = if nat_lt z k then None else Some (reason.DatelineLimits p
 
 -- the first of these datelines that is not below its radix
 abbrev pub bad_dateline : ℕ → List ℕ → List ℕ → Option TextReason
-bad_dateline place (z ∷ zs) (k ∷ ks) = option_or (not_below place z k) (bad_dateline (place + 1) zs ks)
+bad_dateline place (z ∷ zs) (k ∷ ks) =
+    option_or (not_below place z k) (bad_dateline (place + 1) zs ks)
 bad_dateline place [] ks = None
 bad_dateline place (z ∷ zs) [] = None
 
@@ -123,7 +124,8 @@ after_datelines s datelines =
     if is_some s.datelines then Err (reason.GivenTwice key.Dateline)
     else (ok_or s.radices (reason.DatelineBefore key.Radix) >>= λ radices.
     ok_or s.dims (reason.DatelineBefore key.Dims) >>= λ dims.
-    unless (undated datelines (spread dims radices)) (Ok (record s { datelines = Some datelines })))
+    unless (undated datelines (spread dims radices))
+    (Ok (record s { datelines = Some datelines })))
 
 abbrev pub after_depth : Settings → ℕ → Result Settings TextReason
 after_depth s depth =

@@ -158,7 +158,8 @@ fn take_attempt<A: Allocator>(
 ) -> Result<(), TextReason>
     requires tiles { tiles ≤ 64 }
     requires dims { dims ≤ 3 }
-    ensures { Makes TextReason.Memory steps.new.items result (after_attempt tiles dims steps.old.items attempt) }
+    ensures { Makes TextReason.Memory steps.new.items result
+        (after_attempt tiles dims steps.old.items attempt) }
 {
     let step = attempt.step(tiles, dims)?;
     match steps.push(step) {

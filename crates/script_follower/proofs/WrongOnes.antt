@@ -11,9 +11,9 @@ use Rattle.packet.specs.Flits.{flits_of}
 use Rattle.script.specs.declared.line.Line.TheVariants as line
 use Rattle.script.specs.declared.line.Value.TheVariants.{Number}
 use Rattle.tag_table.specs.Tags.{free_tag}
-use Rattle.one_order.specs.flit_buffer.specs.declared.want.Want.{Want}
-use Rattle.one_order.specs.flit_buffer.specs.declared.want.Want.TheVariants.{Put, Access}
-use Rattle.one_order.specs.flit_buffer.specs.Channel.{first_of as first_flit}
+use Rattle.flit_buffer.specs.declared.want.Want.{Want}
+use Rattle.flit_buffer.specs.declared.want.Want.TheVariants.{Put, Access}
+use Rattle.flit_buffer.specs.Channel.{first_of as first_flit}
 use Rattle.script_follower.specs.Following.{Following, past_fences, ready_operation as ready_of, first_of, next_operation_of, after_issue, after_answer, is_finished}
 use Rattle.script_follower.specs.ProcessorRecord.{ProcessorRecord, ready}
 use Rattle.script_follower.specs.ProcessorTable.{ProcessorState, flits_due, processor_wants}

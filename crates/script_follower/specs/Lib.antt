@@ -1,5 +1,3 @@
-pub use Rattle.one_order
-pub use Rattle.one_order.specs.home_bank
 pub mod Scripts
 pub mod Homes
 pub mod Following

@@ -10,9 +10,9 @@ use Rattle.packet.specs.declared.assembler.Offered.{Offered}
 use Rattle.packet.specs.declared.assembler.Offered.TheVariants.{Whole}
 use Rattle.packet.specs.Answer.{flits_left}
 use Rattle.script.specs.declared.line.Line.{Line}
-use Rattle.one_order.specs.flit_buffer.specs.declared.want.Want.{Want}
-use Rattle.one_order.specs.flit_buffer.specs.declared.want.Want.TheVariants.{Take, Put, Credit, Access, Await}
-use Rattle.one_order.specs.flit_buffer.specs.Channel.{first_of, rest}
+use Rattle.flit_buffer.specs.declared.want.Want.{Want}
+use Rattle.flit_buffer.specs.declared.want.Want.TheVariants.{Take, Put, Credit, Access, Await}
+use Rattle.flit_buffer.specs.Channel.{first_of, rest}
 use Rattle.script_follower.specs.Following.{is_finished}
 use Rattle.script_follower.specs.ProcessorRecord.{ProcessorRecord, ready, issued_by, answered_by, request_of}
 use Rattle.script_follower.specs.ProcessorRecord.{record_with}

@@ -1,8 +1,8 @@
 use lexer::{Named, Reason, Refusal};
+use network_text::{NetworkReason, NetworkSentence, network_sentence};
 use std::alloc::Global;
 use std::process::Abort;
 use std::test::Fail;
-use table_text::{NetworkReason, NetworkSentence, network_sentence};
 
 /// The sentence must be this, behind the code of its fault.
 fn reads<R: Abort>(

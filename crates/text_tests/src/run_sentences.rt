@@ -1,4 +1,4 @@
-use run_told::{Course, EndSentence, EndedSpin, SpinSentence, told};
+use sentences::{Course, EndSentence, EndedSpin, SpinSentence, told};
 use std::alloc::Global;
 use std::process::Abort;
 use std::test::Fail;

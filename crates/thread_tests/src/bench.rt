@@ -1,11 +1,11 @@
 //! A fabric with its workers, and gates.
 ghost use Rattle.std.specs.Prelude.{◌≤◌, All, IfSome, length};
-ghost use Rattle.history.specs.worker_run.specs.fabric.specs.Seats.{IsOf};
+ghost use Rattle.fabric.specs.Seats.{IsSeatOf};
 
 use history::{
     End, Fabric, Final, Gate, ProbeSeat, TileSeat, Turned, Unwatched, Worker, run_workers,
 };
-use machine_texts::load;
+use machine_core::load;
 use std::alloc::Global;
 use std::sync::Wait;
 use std::sync::atomic::{AtomicBool, AtomicU64, Ordering};
@@ -21,9 +21,9 @@ pub struct Bench {
     pub seats: Vec<TileSeat>,
     pub workers: Vec<Worker>,
     pub probes: Vec<ProbeSeat>,
-    ghost own_seats: { All (λ s. IsOf fabric s) seats.items },
-    ghost own_workers: { All (λ w. IsOf fabric w.knows) workers.items },
-    ghost own_probes: { All (λ s. IsOf fabric s) probes.items },
+    ghost own_seats: { All (λ s. IsSeatOf fabric s) seats.items },
+    ghost own_workers: { All (λ w. IsSeatOf fabric w.knows) workers.items },
+    ghost own_probes: { All (λ s. IsSeatOf fabric s) probes.items },
 }
 
 /// Reads both texts, loads the machine and opens it, with no worker yet.
@@ -56,27 +56,27 @@ pub fn deal_workers(
 
 /// Takes the last of some seats.
 fn last_seat(fabric: &Fabric, seats: &mut Vec<TileSeat>) -> Option<TileSeat>
-    requires { All (λ s. IsOf fabric.now s) seats.old.items }
-    ensures rest { All (λ s. IsOf fabric.now s) seats.new.items }
-    ensures own { IfSome result (λ s. IsOf fabric.now s) }
+    requires { All (λ s. IsSeatOf fabric.now s) seats.old.items }
+    ensures rest { All (λ s. IsSeatOf fabric.now s) seats.new.items }
+    ensures own { IfSome result (λ s. IsSeatOf fabric.now s) }
 {
     seats.pop()
 }
 
 /// Takes the last of some workers.
 fn last_worker(fabric: &Fabric, workers: &mut Vec<Worker>) -> Option<Worker>
-    requires { All (λ w. IsOf fabric.now w.knows) workers.old.items }
-    ensures rest { All (λ w. IsOf fabric.now w.knows) workers.new.items }
-    ensures own { IfSome result (λ w. IsOf fabric.now w.knows) }
+    requires { All (λ w. IsSeatOf fabric.now w.knows) workers.old.items }
+    ensures rest { All (λ w. IsSeatOf fabric.now w.knows) workers.new.items }
+    ensures own { IfSome result (λ w. IsSeatOf fabric.now w.knows) }
 {
     workers.pop()
 }
 
 /// Takes the last of some probe seats.
 fn last_probe(fabric: &Fabric, probes: &mut Vec<ProbeSeat>) -> Option<ProbeSeat>
-    requires { All (λ s. IsOf fabric.now s) probes.old.items }
-    ensures rest { All (λ s. IsOf fabric.now s) probes.new.items }
-    ensures own { IfSome result (λ s. IsOf fabric.now s) }
+    requires { All (λ s. IsSeatOf fabric.now s) probes.old.items }
+    ensures rest { All (λ s. IsSeatOf fabric.now s) probes.new.items }
+    ensures own { IfSome result (λ s. IsSeatOf fabric.now s) }
 {
     probes.pop()
 }
@@ -89,9 +89,9 @@ fn run_all<R: Threads + Wait + Sync, G: Gate>(
     gate: &G,
     turns: u64,
 )
-    requires own { All (λ w. IsOf fabric.now w.knows) workers.old }
+    requires own { All (λ w. IsSeatOf fabric.now w.knows) workers.old }
     requires few { length workers.old ≤ 16 }
-    ensures { All (λ w. IsOf fabric.now w.knows) workers.new }
+    ensures { All (λ w. IsSeatOf fabric.now w.knows) workers.new }
 {
     let turns = turns.max(1).min(1000000000);
     run_workers(rt, fabric, workers, gate, &Unwatched, turns);
@@ -105,8 +105,8 @@ fn ran<R: Threads + Wait + Sync, G: Gate>(
     gate: &G,
     turns: u64,
 ) -> Vec<Worker>
-    requires { All (λ w. IsOf fabric.now w.knows) workers.items }
-    ensures { All (λ w. IsOf fabric.now w.knows) result.items }
+    requires { All (λ w. IsSeatOf fabric.now w.knows) workers.items }
+    ensures { All (λ w. IsSeatOf fabric.now w.knows) result.items }
 {
     if workers.len() > 16 {
         return workers;
@@ -118,7 +118,7 @@ fn ran<R: Threads + Wait + Sync, G: Gate>(
 /// Reads the addresses 0 to 7, over and over, until the flag is raised, at most so many times; and tells
 /// whether each word that was read is 0, or 17 at address 5.
 fn read_all(fabric: &Fabric, mut probe: ProbeSeat, done: &AtomicBool, most: u32) -> bool
-    requires { IsOf fabric.now probe }
+    requires { IsSeatOf fabric.now probe }
 {
     for _ in 0..most {
         for address in 0..8 {
@@ -190,11 +190,11 @@ impl Bench {
         let (is_good, workers) = thread::join(
             rt,
             move || -> bool
-                requires { IsOf row.now probe }
+                requires { IsSeatOf row.now probe }
             { read_all(row, probe, flag, 100000) },
             move || -> Vec<Worker>
-                requires { All (λ w. IsOf row.now w.knows) workers.items }
-                ensures { All (λ w. IsOf row.entry.now w.knows) result.items }
+                requires { All (λ w. IsSeatOf row.now w.knows) workers.items }
+                ensures { All (λ w. IsSeatOf row.entry.now w.knows) result.items }
             {
                 let workers = ran(rt, row, workers, gate, turns);
                 flag.store(true, Ordering::SeqCst);
@@ -259,7 +259,7 @@ impl Bench {
 pub struct Whole {
     fabric: Fabric,
     seat: TileSeat,
-    ghost own: { IsOf fabric seat },
+    ghost own: { IsSeatOf fabric seat },
 }
 
 impl Whole {

@@ -1,11 +1,11 @@
 //! Machines that are loaded, and fabrics with their seats.
 ghost use Rattle.std.specs.Prelude.{◌≤◌, [], All};
-ghost use Rattle.machine_texts.specs.core_laws.specs.Core.{Load};
-ghost use Rattle.machine_texts.specs.machine_core.specs.core_machine.specs.Machine.{IsAfter};
-ghost use Rattle.fabric.specs.Seats.{IsOf};
+ghost use Rattle.core_laws.specs.Core.{Load};
+ghost use Rattle.core_machine.specs.Machine.{IsAfter};
+ghost use Rattle.fabric.specs.Seats.{IsSeatOf};
 
 use fabric::{Fabric, Final, ProbeSeat, TileSeat};
-use machine_texts::{Machine, load};
+use machine_core::{Machine, load};
 use std::alloc::{Allocator, Global};
 use std::process::Abort;
 use std::test::Fail;
@@ -33,8 +33,8 @@ pub struct Dealt<A: Allocator = Global> {
     pub fabric: Fabric<A>,
     pub seats: Vec<TileSeat<A>, A>,
     pub probes: Vec<ProbeSeat, A>,
-    ghost own_seats: { All (λ s. IsOf fabric s) seats.items },
-    ghost own_probes: { All (λ s. IsOf fabric s) probes.items },
+    ghost own_seats: { All (λ s. IsSeatOf fabric s) seats.items },
+    ghost own_probes: { All (λ s. IsSeatOf fabric s) probes.items },
 }
 
 /// Loads the machine of two texts, and opens it.
@@ -75,7 +75,7 @@ pub fn opened<A: Allocator + Copy>(
 pub struct Whole<A: Allocator = Global> {
     pub fabric: Fabric<A>,
     pub seat: TileSeat<A>,
-    ghost own: { IsOf fabric seat },
+    ghost own: { IsSeatOf fabric seat },
 }
 
 impl<A: Allocator> Whole<A> {
@@ -119,10 +119,10 @@ pub struct Pair<A: Allocator = Global> {
     pub other: TileSeat<A>,
     pub first: ProbeSeat,
     pub second: ProbeSeat,
-    ghost own_one: { IsOf fabric one },
-    ghost own_other: { IsOf fabric other },
-    ghost own_first: { IsOf fabric first },
-    ghost own_second: { IsOf fabric second },
+    ghost own_one: { IsSeatOf fabric one },
+    ghost own_other: { IsSeatOf fabric other },
+    ghost own_first: { IsSeatOf fabric first },
+    ghost own_second: { IsSeatOf fabric second },
 }
 
 /// Two tiles in two seats, with these scripts.
@@ -151,8 +151,8 @@ pub fn deal_pair<A: Allocator + Copy>(alloc: A, scripts: &[u8]) -> Result<Pair<A
 /// Makes rounds until the seat's processors have seen the end, at most very many; of all choices of two
 /// tiles, of which the seat has those of its own.
 pub fn make_rounds<A: Allocator>(fabric: &Fabric<A>, mut seat: TileSeat<A>) -> TileSeat<A>
-    requires { IsOf fabric.now seat }
-    ensures { IsOf fabric.now result }
+    requires { IsSeatOf fabric.now seat }
+    ensures { IsSeatOf fabric.now result }
 {
     for place in 0..u32::MAX {
         if place % 78 == 0 {

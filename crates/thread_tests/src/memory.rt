@@ -1,5 +1,5 @@
 //! Seats take no memory: the heap of a fabric stands as it did after each call of a run.
-ghost use Rattle.fabric.specs.Seats.{IsOf};
+ghost use Rattle.fabric.specs.Seats.{IsSeatOf};
 
 use crate::fixtures::{Pair, Whole, deal_pair, hold, step_at};
 use fabric::{Fabric, Final, ProbeSeat, TileSeat};
@@ -19,8 +19,8 @@ fn turn_takes_none<'h>(
     seat: &mut TileSeat<&'h LocalHeap>,
     step: Step,
 ) -> bool
-    requires { IsOf fabric.now seat.old }
-    ensures { IsOf fabric.now seat.new }
+    requires { IsSeatOf fabric.now seat.old }
+    ensures { IsSeatOf fabric.now seat.new }
 {
     let used = heap.used();
     let _ = fabric.turn(seat, step);
@@ -34,10 +34,10 @@ fn looks_take_none<'h>(
     seat: &mut TileSeat<&'h LocalHeap>,
     probe: &mut ProbeSeat,
 ) -> bool
-    requires seat { IsOf fabric.now seat.old }
-    requires probe { IsOf fabric.now probe.old }
-    ensures seat { IsOf fabric.now seat.new }
-    ensures probe { IsOf fabric.now probe.new }
+    requires seat { IsSeatOf fabric.now seat.old }
+    requires probe { IsSeatOf fabric.now probe.old }
+    ensures seat { IsSeatOf fabric.now seat.new }
+    ensures probe { IsSeatOf fabric.now probe.new }
 {
     let used = heap.used();
     for address in 0..9 {

@@ -1,12 +1,12 @@
 //! Schedules that are made to hurt, on a machine and on a fabric whose one seat has all tiles.
 ghost use Rattle.std.specs.Prelude.{◌≡◌, ◌≤◌, [], true, IfSome};
-ghost use Rattle.machine_texts.specs.core_laws.specs.Core.{Load};
-ghost use Rattle.machine_texts.specs.machine_core.specs.core_machine.specs.Machine.{IsAfter};
-ghost use Rattle.fabric.specs.Seats.{IsOf};
+ghost use Rattle.core_laws.specs.Core.{Load};
+ghost use Rattle.core_machine.specs.Machine.{IsAfter};
+ghost use Rattle.fabric.specs.Seats.{IsSeatOf};
 
 use crate::fixtures::{PAIR, Whole, deal_whole, only_seat, opened, step_at};
 use fabric::{Fabric, Final, Machine, TileSeat, Turned};
-use machine_texts::load;
+use machine_core::load;
 use script::{Line, Value};
 use std::alloc::Global;
 use std::test::Fail;
@@ -60,8 +60,8 @@ fn follow(
     seat: &mut TileSeat,
     schedules: &[Schedule],
 ) -> Option<u32>
-    requires { IsOf fabric.now seat.old }
-    ensures { IsOf fabric.now seat.new }
+    requires { IsSeatOf fabric.now seat.old }
+    ensures { IsSeatOf fabric.now seat.new }
 {
     let tiles = machine.torus().tiles();
     let ports = fabric.ports().min(26);

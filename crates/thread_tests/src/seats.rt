@@ -1,4 +1,4 @@
-ghost use Rattle.fabric.specs.Seats.{IsOf};
+ghost use Rattle.fabric.specs.Seats.{IsSeatOf};
 
 use crate::fixtures::{Call, PAIR, Pair, Whole, deal, deal_pair, deal_whole, hold, make_rounds};
 use fabric::{Fabric, Final, ProbeSeat, TileSeat, Turned};
@@ -119,10 +119,10 @@ fn is_same(one: Turned, other: Turned) -> bool {
 
 /// Whether each of the turns comes to this, by both seats.
 fn come_to(fabric: &Fabric, one: &mut TileSeat, other: &mut TileSeat, turns: &[Turn]) -> bool
-    requires one { IsOf fabric.now one.old }
-    requires other { IsOf fabric.now other.old }
-    ensures one { IsOf fabric.now one.new }
-    ensures other { IsOf fabric.now other.new }
+    requires one { IsSeatOf fabric.now one.old }
+    requires other { IsSeatOf fabric.now other.old }
+    ensures one { IsSeatOf fabric.now one.new }
+    ensures other { IsSeatOf fabric.now other.new }
 {
     for &(agent, choice, by_one, by_other) in turns {
         let step = Step { agent, choice };
@@ -142,10 +142,10 @@ fn read(
     second: &mut ProbeSeat,
     address: usize,
 ) -> (Option<u64>, Option<u64>)
-    requires first { IsOf fabric.now first.old }
-    requires second { IsOf fabric.now second.old }
-    ensures first { IsOf fabric.now first.new }
-    ensures second { IsOf fabric.now second.new }
+    requires first { IsSeatOf fabric.now first.old }
+    requires second { IsSeatOf fabric.now second.old }
+    ensures first { IsSeatOf fabric.now first.new }
+    ensures second { IsSeatOf fabric.now second.new }
 {
     (fabric.probe(first, address), fabric.probe(second, address))
 }
@@ -258,12 +258,12 @@ fn two_threads_finish_a_script(rt: HostRuntime) -> Result<(), Fail> {
     let (one, other) = thread::join(
         &rt,
         move || -> TileSeat
-            requires { IsOf row.now one }
-            ensures { IsOf row.entry.now result }
+            requires { IsSeatOf row.now one }
+            ensures { IsSeatOf row.entry.now result }
         { make_rounds(row, one) },
         move || -> TileSeat
-            requires { IsOf row.now other }
-            ensures { IsOf row.entry.now result }
+            requires { IsSeatOf row.now other }
+            ensures { IsSeatOf row.entry.now result }
         { make_rounds(row, other) },
     );
     let seen = (one.has_seen(), other.has_seen());

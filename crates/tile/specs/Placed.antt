@@ -11,9 +11,9 @@ use Rattle.channel_number.specs.Ports.{port_count}
 use Rattle.router.specs.Table.{IsRoutable, empty_router}
 use Rattle.home_bank.specs.BankAgent.{IsAcceptableToBank}
 use Rattle.home_bank.specs.Beginning.{empty_bank}
-use Rattle.tile_laws.specs.script_follower.specs.ProcessorTable.{ProcessorState}
-use Rattle.tile_laws.specs.net_interface.specs.Place.{IsAcceptableToProcessor}
-use Rattle.tile_laws.specs.net_interface.specs.Beginning.{first_processor}
+use Rattle.script_follower.specs.ProcessorTable.{ProcessorState}
+use Rattle.net_interface.specs.Place.{IsAcceptableToProcessor}
+use Rattle.net_interface.specs.Beginning.{first_processor}
 use Rattle.tile_laws.specs.declared.agent.Agent.{Agent}
 use Rattle.tile_laws.specs.declared.agent.Agent.TheVariants.{Processor, Router, Bank}
 use Rattle.tile_laws.specs.Tile.{Design, TileState}

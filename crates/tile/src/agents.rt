@@ -5,7 +5,7 @@ ghost use Rattle.torus.specs.declared.step.Stepped.TheVariants as stepped;
 ghost use Rattle.script.specs.Scripts.{operation_count};
 ghost use Rattle.flit_buffer.specs.Tries.{performed_by};
 ghost use Rattle.flit_buffer.specs.Words.{word_of};
-ghost use Rattle.tile_laws.specs.script_follower.specs.Scripts.{IsFollowable};
+ghost use Rattle.script_follower.specs.Scripts.{IsFollowable};
 ghost use Rattle.tile_laws.specs.declared.agent.Agent.TheVariants.{Processor as ProcessorAgent};
 ghost use Rattle.tile_laws.specs.declared.agent.Agent.TheVariants.{Router as RouterAgent};
 ghost use Rattle.tile_laws.specs.declared.agent.Agent.TheVariants.{Bank as BankOfTile};

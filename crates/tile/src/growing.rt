@@ -2,8 +2,8 @@
 
 ghost use Rattle.std.specs.Prelude.{◌≡◌, ◌<◌, ◌≤◌, ◌+◌, ◌-◌, ℕ, true, length, OnOk, OnErr};
 ghost use Rattle.script.specs.Scripts.{operations_of, mentions_last};
-ghost use Rattle.tile_laws.specs.script_follower.specs.Following.{left_of};
-ghost use Rattle.tile_laws.specs.script_follower.specs.ProcessorTable.{processor_with, processor_open};
+ghost use Rattle.script_follower.specs.Following.{left_of};
+ghost use Rattle.script_follower.specs.ProcessorTable.{processor_with, processor_open};
 ghost use Rattle.tile.specs.Placed.{with_room, with_processor};
 
 use crate::agents::TileAgents;

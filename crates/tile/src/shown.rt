@@ -2,7 +2,7 @@
 
 ghost use Rattle.std.specs.Prelude.{◌≡◌, ◌≤◌, ◌↔◌, length, IsTrue};
 ghost use Rattle.tag_table.specs.Tags.{holder_of};
-ghost use Rattle.tile_laws.specs.script_follower.specs.Following.{is_finished};
+ghost use Rattle.script_follower.specs.Following.{is_finished};
 
 use crate::agents::TileAgents;
 use home_bank::Entry;

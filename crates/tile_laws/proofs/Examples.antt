@@ -4,7 +4,7 @@ use Rattle.std.specs.Prelude.{is_some, option_map}
 use Rattle.torus.specs.Shape.{Shape}
 use Rattle.torus.specs.declared.step.Choice.TheVariants.{Take}
 use Rattle.router.specs.Table.{empty_router}
-use Rattle.net_interface.specs.home_bank.specs.Beginning.{empty_bank}
+use Rattle.home_bank.specs.Beginning.{empty_bank}
 use Rattle.net_interface.specs.Beginning.{first_processor}
 use Rattle.tile_laws.specs.declared.agent.Agent.TheVariants.{Bank}
 use Rattle.tile_laws.specs.Tile.{Design, TileState}

@@ -3,7 +3,7 @@ use Rattle.std.proofs.Common.{◌≡◌, ℕ, ◌<◌, List}
 use Rattle.torus.specs.Shape.{IsAccepted, tiles_of}
 use Rattle.router.specs.Beginning.{empty_surroundings}
 use Rattle.router.proofs.EmptyChannels.{ports_shown as router_shown}
-use Rattle.net_interface.specs.home_bank.proofs.EmptyChannels.{ports_shown as bank_shown}
+use Rattle.home_bank.proofs.EmptyChannels.{ports_shown as bank_shown}
 use Rattle.net_interface.proofs.EmptyChannels.{ports_shown as processor_shown}
 use Rattle.tile_laws.specs.Tile.{Design, TileState}
 use Rattle.tile_laws.specs.Agents.{tile_placed}

@@ -9,8 +9,8 @@ use Rattle.flit_buffer.specs.Refinement.{agent_of, IsPlaced}
 use Rattle.flit_buffer.specs.declared.want.Want.{Want}
 use Rattle.router.specs.Beginning.{router_wiring}
 use Rattle.router.specs.Table.{RouterState, router_wants, router_after}
-use Rattle.net_interface.specs.script_follower.specs.ProcessorTable.{ProcessorState, processor_wants, processor_after}
-use Rattle.net_interface.specs.home_bank.specs.BankTable.{BankState, bank_wants, bank_after}
+use Rattle.script_follower.specs.ProcessorTable.{ProcessorState, processor_wants, processor_after}
+use Rattle.home_bank.specs.BankTable.{BankState, bank_wants, bank_after}
 use Rattle.tile_laws.specs.Wiring.{processor_wiring, bank_wiring}
 use Rattle.tile_laws.specs.declared.agent.Agent.{Agent}
 use Rattle.tile_laws.specs.declared.agent.Agent.TheVariants.{Processor, Router, Bank}

@@ -1,6 +1,3 @@
-pub use Rattle.router
-pub use Rattle.net_interface
-pub use Rattle.net_interface.specs.script_follower
 pub mod Wiring
 pub mod Tile
 pub mod Choices

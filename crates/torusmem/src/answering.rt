@@ -1,19 +1,17 @@
 //! What each job answers whose work doesn't stand in `commands`.
-ghost use Rattle.command_line.specs.Job.{IsWithinLimits};
+ghost use Rattle.command_line.specs.Job.{AreJobLimits};
 
 use crate::running::by_workers;
 use command_jobs::Ended;
 use command_line::Job;
-use linearize_command::{Judged, linearize_text, report_text};
-use network_command::network_text;
-use program_fault::ProgramFault;
+use command_verdicts::{Judged, linearize_text, network_text, report_text};
+use program_fault::{ProgramFault, Texts};
 use report_lines::Out;
 use schedule_commands::{draw_text, moves_text, schedule_text};
 use std::alloc::Global;
 use std::rt::Clock;
 use std::sync::Wait;
 use std::thread::Threads;
-use text_files::Texts;
 
 /// What a job answers.
 #[derive(Clone, Copy)]
@@ -36,7 +34,7 @@ pub(crate) fn answer<R: Eprint + Clock + AllocGlobal + Threads + Wait + Sync, W:
     is_seen: bool,
     out: &mut W,
 ) -> Result<Outcome, ProgramFault>
-    requires { IsWithinLimits job.now }
+    requires { AreJobLimits job.now }
 {
     let alloc = rt.alloc();
     let first = texts.first.as_slice();

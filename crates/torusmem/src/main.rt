@@ -1,7 +1,7 @@
 //! The command line of torusmem, a shared memory spread over a torus of tiles.
 #![tactic(auto)]
 
-ghost use Rattle.command_line.specs.Job.{IsWithinLimits};
+ghost use Rattle.command_line.specs.Job.{AreJobLimits};
 
 mod answering;
 mod running;
@@ -11,9 +11,9 @@ mod telling;
 use answering::{Outcome, answer};
 use command_jobs::{done, fault_told, flushed, tell_end_of, texts_of, writer};
 use command_line::{Job, Request, request_told, words_told};
-use program_fault::ProgramFault;
+use error_lines::Kept;
+use program_fault::{ProgramFault, Texts};
 use report_lines::Piped;
-use run_lines::Kept;
 use std::io::{Input, IsTerminal};
 use std::process::ExitCode;
 use std::rt::{Clock, Env, Files};
@@ -21,7 +21,6 @@ use std::sync::Wait;
 use std::thread::Threads;
 use talking::talk;
 use telling::{explain_fault, explain_outcome, status_told};
-use text_files::Texts;
 
 fn main(rt: HostRuntime) -> ExitCode {
     let is_seen = rt.stderr().is_terminal();
@@ -52,7 +51,7 @@ fn other_done<R: Files + Input + Print + Eprint + Clock + AllocGlobal + Threads 
     request: &Request,
     is_seen: bool,
 ) -> u8
-    requires { IsWithinLimits request.now.job }
+    requires { AreJobLimits request.now.job }
 {
     let is_explained = request.explain || is_seen;
     let texts = match texts_of(rt, request, is_seen) {
@@ -85,7 +84,7 @@ fn printed<R: Input + Print + Eprint + Clock + AllocGlobal + Threads + Wait + Sy
     texts: &Texts,
     is_seen: bool,
 ) -> Result<Outcome, ProgramFault>
-    requires { IsWithinLimits request.now.job }
+    requires { AreJobLimits request.now.job }
 {
     if let Job::Live { .. } = request.job {
         talk(rt, &texts.first)?;

@@ -3,15 +3,13 @@ ghost use Rattle.std.specs.Prelude.{◌≤◌};
 
 use crate::answering::Outcome;
 use command_jobs::Ended;
-use program_fault::ProgramFault;
+use program_fault::{ProgramFault, Texts};
 use report_lines::Out;
-use run_command::{Open, run_text_with};
-use run_told::Course;
+use run_command::{Open, TurnsLine, run_text_with};
+use sentences::Course;
 use std::rt::Clock;
 use std::sync::Wait;
 use std::thread::Threads;
-use text_files::Texts;
-use worker_lines::TurnsLine;
 
 /// Runs the scripts by so many workers, each with at most so many turns, and prints the report.
 pub(crate) fn by_workers<R: Eprint + Clock + AllocGlobal + Threads + Wait + Sync, W: Out>(

@@ -3,11 +3,11 @@
 use crate::answering::Outcome;
 use command_jobs::{kind, names};
 use command_line::Job;
-use fault_lines::explain;
-use linearize_command::{Judged, status, verdict_text};
-use program_fault::{ProgramFault, status_of};
-use text_files::Texts;
-use verdict_lines::{explain_network, explain_no_order, explain_trace};
+use command_verdicts::{
+    Judged, explain_network, explain_no_order, explain_trace, status, verdict_text,
+};
+use error_lines::explain;
+use program_fault::{ProgramFault, Texts, status_of};
 
 /// The exit status of an answer. Where a trace has no order, standard error says so.
 pub(crate) fn status_told<R: Eprint>(rt: &R, outcome: &Outcome) -> u8 {

@@ -8,18 +8,18 @@ use Rattle.torus.specs.declared.fault.Fault.TheVariants as fault
 use Rattle.script.specs.declared.line.Line.{Line}
 use Rattle.script.specs.declared.line.Value.{Value}
 use Rattle.torus.specs.declared.step.Step.{Step}
-use Rattle.machine_handle.specs.machine_core.specs.core_laws.specs.Core.{Load}
-use Rattle.machine_handle.specs.machine_core.specs.core_growth.specs.Appended.{load_with}
-use Rattle.machine_handle.specs.machine_core.specs.core_reopening.specs.Handed.{refused}
-use Rattle.machine_handle.specs.core_machine.specs.Machine.{IsAfter}
-use Rattle.machine_handle.specs.machine_asked.specs.Asked.{Asked, IsNumbered, has_spin, index_asked, is_behind_spin, is_operation}
+use Rattle.core_laws.specs.Core.{Load}
+use Rattle.core_growth.specs.Appended.{load_with}
+use Rattle.core_growth.specs.Handed.{refused}
+use Rattle.core_machine.specs.Machine.{IsAfter}
+use Rattle.machine_asked.specs.Asked.{Asked, IsNumbered, has_spin, index_asked, is_behind_spin, is_operation}
 use Rattle.torusmem_c.specs.declared.outcome.Outcome.{Outcome}
 use Rattle.torusmem_c.specs.declared.outcome.Code.TheVariants as code
-use Rattle.torusmem_c.specs.Outcome.{outcome}
-use Rattle.torusmem_c.specs.Appending.{IsHanded, Numbers, is_first_last, is_second_last, line_named, line_of, operation_named, value_of}
+use Rattle.torusmem_c.specs.Outcome.{c_outcome}
+use Rattle.torusmem_c.specs.Appending.{IsHanded, Numbers, is_first_last, is_second_last, line_named, numbered_line, c_operation, c_value}
 
 -- the lines below ten are operations
-single : (number a : ℕ) (one two : Value) (sought loads : ℕ) (line : Line) → number ≤ 9 → line_of number a one two sought loads ≡ Some line
+single : (number a : ℕ) (one two : Value) (sought loads : ℕ) (line : Line) → number ≤ 9 → numbered_line number a one two sought loads ≡ Some line
     → is_operation line ≡ true
 single zero a one two sought loads line low e = subst (λ (x : Line). is_operation x ≡ true) (same_Some _ line e) refl
 single (suc zero) a one two sought loads line low e = subst (λ (x : Line). is_operation x ≡ true) (same_Some _ line e) refl
@@ -39,9 +39,9 @@ by_test true None h = tt
 by_test true (Some line) h = h refl line refl
 by_test false found h = tt
 
-pub named_operation : (number a first second lasts : ℕ) → IfSome (operation_named number a first second lasts) (λ line. is_operation line ≡ true)
+pub named_operation : (number a first second lasts : ℕ) → IfSome (c_operation number a first second lasts) (λ line. is_operation line ≡ true)
 named_operation number a first second lasts = by_test (nat_le number 9) (line_named number a first second lasts) (λ low line e.
-    single number a (value_of (is_first_last lasts) first) (value_of (is_second_last lasts) second) first second line (leb-true number 9 low) e)
+    single number a (c_value (is_first_last lasts) first) (c_value (is_second_last lasts) second) first second line (leb-true number 9 low) e)
 
 -- the first reason to refuse a line is that there is no processor
 there_of : (b : Bool) (rest : Option Fault) → ◌≡◌ {A = Option Fault} (if not b then Some fault.Processor else rest) None → b ≡ true
@@ -72,7 +72,7 @@ pub numbers_of : (p : ℕ) (line : Line) (old new : Asked) (r : Outcome) (index 
     → IsHanded p line old new → index ≡ index_asked old p line
     → IfSome index (λ i. (l : Load) (steps : List Step) → IsAfter l old.core steps → old.spins ≡ map has_spin l.scripts
     → IsNumbered (load_with l p line) p line i)
-    → r ≡ outcome code.Done (unwrap_or index 0) → Numbers p line old new r
+    → r ≡ c_outcome code.Done (unwrap_or index 0) → Numbers p line old new r
 numbers_of p line old new r None operation plain handed is numbered told = absurd (index_there old p line operation plain handed.taken is)
 numbers_of p line old new r (Some i) operation plain handed is numbered told =
     record { handed = handed; index = i; many = sym (is ∙ index_known old p line operation plain); numbered = numbered; answer = told }

@@ -2,9 +2,9 @@
 use Rattle.std.proofs.Common.{◌≡◌}
 use Rattle.std.specs.Prelude.{Option, None, Result}
 use Rattle.script.specs.declared.fault.LineFault.{LineFault}
-use Rattle.machine_handle.specs.machine_core.specs.order_abstract.specs.Load.{Load}
-use Rattle.machine_handle.specs.machine_asked.specs.Asked.{Asked}
-use Rattle.machine_texts.specs.Loading.{IsLoadFault}
+use Rattle.order_abstract.specs.Load.{Load}
+use Rattle.machine_asked.specs.Asked.{Asked}
+use Rattle.machine_core.specs.Loading.{IsLoadFault}
 use Rattle.torusmem_c.specs.declared.outcome.Outcome.{Outcome}
 use Rattle.torusmem_c.specs.Outcome.{fault_outcome}
 use Rattle.torusmem_c.specs.Texts.{Loads}

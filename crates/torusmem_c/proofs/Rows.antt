@@ -8,9 +8,9 @@ use Rattle.torus.specs.Shape.{Shape, dims_of, tiles_of}
 use Rattle.torus.specs.declared.step.Step.{Step}
 use Rattle.channel_number.specs.Order.{channel_count}
 use Rattle.core_row.specs.Row.{row_of}
-use Rattle.machine_handle.specs.machine_core.specs.core_laws.specs.Core.{Load}
-use Rattle.machine_handle.specs.core_machine.specs.Machine.{Core, IsAfter, built_to}
-use Rattle.machine_handle.specs.machine_core.proofs.ShownRows.{shows_row}
+use Rattle.core_laws.specs.Core.{Load}
+use Rattle.core_machine.specs.Machine.{Core, IsAfter, built_to}
+use Rattle.machine_core.proofs.ShownRows.{shows_row}
 
 -- a row has at most as many words as 1792 channels of 8 places, 65536 addresses and the done word
 pub row_small : (l : Load) (c : Core) (steps : List Step) → IsAfter l c steps → length (row_of (built_to c) c.state) ≤ 79873

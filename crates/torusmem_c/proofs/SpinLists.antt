@@ -2,8 +2,8 @@
 use Rattle.std.proofs.Common.{◌≡◌, ℕ, zero, suc, ◌+◌, ◌-◌, ◌<◌, List, [], ◌∷◌, ◌++◌, length, take, map, get_or, refl, sym, ◌∙◌, ap, arith}
 use Rattle.std.proofs.lemmas.List.{append_assoc}
 use Rattle.script.specs.declared.line.Line.{Line}
-use Rattle.machine_handle.specs.core_machine.specs.Machine.{Core}
-use Rattle.spins_told.specs.declared.spins.SpentSpin.{SpentSpin}
+use Rattle.core_machine.specs.Machine.{Core}
+use Rattle.sentences.specs.declared.spins.SpentSpin.{SpentSpin}
 use Rattle.torusmem_c.specs.declared.spinning.SpinRecord.{SpinRecord}
 use Rattle.torusmem_c.specs.Spins.{spin_record, spins_from, spins_of}
 

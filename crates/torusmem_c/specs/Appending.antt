@@ -10,20 +10,20 @@ use Rattle.script.specs.declared.line.Line.{Line}
 use Rattle.script.specs.declared.line.Line.TheVariants as line
 use Rattle.script.specs.declared.line.Value.{Value}
 use Rattle.script.specs.declared.line.Value.TheVariants.{Number, Last}
-use Rattle.machine_handle.specs.core_machine.specs.Machine.{IsAfter}
-use Rattle.machine_handle.specs.machine_asked.specs.Asked.{Asked, IsNumbered, has_spin, is_behind_spin, spins_with}
-use Rattle.machine_handle.specs.machine_core.specs.core_laws.specs.Core.{Load}
-use Rattle.machine_handle.specs.machine_core.specs.core_growth.specs.Appended.{load_with}
-use Rattle.machine_handle.specs.machine_core.specs.core_reopening.specs.Handed.{handed, moves_kept, refused}
+use Rattle.core_machine.specs.Machine.{IsAfter}
+use Rattle.machine_asked.specs.Asked.{Asked, IsNumbered, has_spin, is_behind_spin, spins_with}
+use Rattle.core_laws.specs.Core.{Load}
+use Rattle.core_growth.specs.Appended.{load_with}
+use Rattle.core_growth.specs.Handed.{handed, moves_kept, refused}
 use Rattle.torusmem_c.specs.declared.outcome.Outcome.{Outcome}
 use Rattle.torusmem_c.specs.declared.outcome.Code.{Code}
 use Rattle.torusmem_c.specs.declared.outcome.Code.TheVariants as code
-use Rattle.torusmem_c.specs.Outcome.{outcome}
+use Rattle.torusmem_c.specs.Outcome.{c_outcome}
 
 -- a value: a number, or `last`
-abbrev pub value_of : Bool → ℕ → Value
-value_of true number = Last
-value_of false number = Number number
+abbrev pub c_value : Bool → ℕ → Value
+c_value true number = Last
+c_value false number = Number number
 
 -- whether the first value is `last`, by the number that says so of both: 1 of the first, 2 of the
 -- second, 3 of both
@@ -52,14 +52,14 @@ lines address one two sought loads =
     ∷ []
 
 -- the line that has a number
-abbrev pub line_of : ℕ → ℕ → Value → Value → ℕ → ℕ → Option Line
-line_of number address one two sought loads = slice_get (lines address one two sought loads) number
+abbrev pub numbered_line : ℕ → ℕ → Value → Value → ℕ → ℕ → Option Line
+numbered_line number address one two sought loads = slice_get (lines address one two sought loads) number
 
 -- the same, of two numbers, of which `lasts` says whether they stand for `last`
 abbrev pub line_named : ℕ → ℕ → ℕ → ℕ → ℕ → Option Line
 line_named number address first second lasts =
-    line_of number address (value_of (is_first_last lasts) first)
-    (value_of (is_second_last lasts) second) first second
+    numbered_line number address (c_value (is_first_last lasts) first)
+    (c_value (is_second_last lasts) second) first second
 
 -- the machine takes a line for a processor: it is the one that is handed the line, and stands where
 -- its moves lead from the load with the line
@@ -71,7 +71,7 @@ pub record IsHanded (p : ℕ) (line : Line) (old new : Asked) : Type 0 where
       → IsAfter (load_with l p line) new.core (moves_kept l old.core p steps)
 
 abbrev pub TakesLine : ℕ → Line → Asked → Asked → Outcome → Type 0
-TakesLine p line old new r = IsHanded p line old new × (r ≡ outcome code.Done 0)
+TakesLine p line old new r = IsHanded p line old new × (r ≡ c_outcome code.Done 0)
 
 -- it refuses the line for this reason, or there is no memory, and stays as it was
 pub record RefusesLine (p : ℕ) (line : Line) (old new : Asked) (r : Outcome) : Type 0 where
@@ -79,16 +79,16 @@ pub record RefusesLine (p : ℕ) (line : Line) (old new : Asked) (r : Outcome) :
   pub why : (refused old.core p line ≡ Some reason)
       ⊎ ((refused old.core p line ≡ None) × (reason ≡ fault.Memory))
   pub same : new ≡ old
-  pub answer : r ≡ outcome (code.Fault reason) 0
+  pub answer : r ≡ c_outcome (code.Fault reason) 0
 
 -- it takes the line that is named, or refuses it; where none is, nothing changes
 abbrev pub Appends : ℕ → Option Line → Asked → Asked → Outcome → Type 0
-Appends p None old new r = (new ≡ old) × (r ≡ outcome code.NoSuch 0)
+Appends p None old new r = (new ≡ old) × (r ≡ c_outcome code.NoSuch 0)
 Appends p (Some line) old new r = TakesLine p line old new r ⊎ RefusesLine p line old new r
 
 -- the operation that has a number: no fence and no spin
-abbrev pub operation_named : ℕ → ℕ → ℕ → ℕ → ℕ → Option Line
-operation_named number address first second lasts =
+abbrev pub c_operation : ℕ → ℕ → ℕ → ℕ → ℕ → Option Line
+c_operation number address first second lasts =
     if nat_le number 9 then line_named number address first second lasts else None
 
 -- the machine takes an operation, and answers its index: as many as the script of its processor can
@@ -100,15 +100,15 @@ pub record Numbers (p : ℕ) (line : Line) (old new : Asked) (r : Outcome) : Typ
   pub many : slice_get old.core.allowed p ≡ Some index
   pub numbered : (l : Load) (steps : List Step) → IsAfter l old.core steps
       → old.spins ≡ map has_spin l.scripts → IsNumbered (load_with l p line) p line index
-  pub answer : r ≡ outcome code.Done index
+  pub answer : r ≡ c_outcome code.Done index
 
 -- nothing changes, and this is told
-abbrev pub Stays : Code → Asked → Asked → Outcome → Type 0
-Stays why old new r = (new ≡ old) × (r ≡ outcome why 0)
+abbrev pub KeepsMachine : Code → Asked → Asked → Outcome → Type 0
+KeepsMachine why old new r = (new ≡ old) × (r ≡ c_outcome why 0)
 
 -- it takes the operation that is named, and answers its index, or refuses it. Behind a spin, where
 -- no index is known, and where none is named nothing changes
-abbrev pub Asks : ℕ → Option Line → Asked → Asked → Outcome → Type 0
-Asks p None old new r = Stays code.NoSuch old new r
-Asks p (Some line) old new r = MatchBool (is_behind_spin old p) (Stays code.BehindSpin old new r)
+abbrev pub AsksAppend : ℕ → Option Line → Asked → Asked → Outcome → Type 0
+AsksAppend p None old new r = KeepsMachine code.NoSuch old new r
+AsksAppend p (Some line) old new r = MatchBool (is_behind_spin old p) (KeepsMachine code.BehindSpin old new r)
     (Numbers p line old new r ⊎ RefusesLine p line old new r)

@@ -10,11 +10,11 @@ use Rattle.dateline_route.specs.declared.channel.Kind.TheVariants.{Injection, Ho
 use Rattle.dateline_route.specs.Route.{route_of}
 use Rattle.channel_number.specs.Number.{number_of}
 use Rattle.channel_number.specs.Order.{bit_place, dir_place}
-use Rattle.machine_handle.specs.core_machine.specs.Machine.{Core}
+use Rattle.core_machine.specs.Machine.{Core}
 use Rattle.torusmem_c.specs.declared.outcome.Outcome.{Outcome}
 use Rattle.torusmem_c.specs.declared.outcome.Code.TheVariants as code
 use Rattle.torusmem_c.specs.declared.routes.ChannelRecord.{ChannelRecord}
-use Rattle.torusmem_c.specs.Outcome.{outcome}
+use Rattle.torusmem_c.specs.Outcome.{c_outcome}
 use Rattle.torusmem_c.specs.Room.{put_over, put_outcome}
 
 -- the number by which C knows a kind of channel; for a hop its dimension, whether it goes minus,
@@ -52,14 +52,14 @@ abbrev pub class_named : ℕ → Option Class
 class_named class = slice_get (Request ∷ Reply ∷ []) class
 
 -- what C sees of a route
-abbrev pub records_of : Shape → ℕ → ℕ → Class → List ChannelRecord
-records_of s src dst class = map (channel_record s) (route_of s src dst class)
+abbrev pub channel_records : Shape → ℕ → ℕ → Class → List ChannelRecord
+channel_records s src dst class = map (channel_record s) (route_of s src dst class)
 
 -- the route of a class that has a number, where there are such tiles and such a class
 abbrev pub route_named : Shape → ℕ → ℕ → ℕ → Option (List ChannelRecord)
 route_named s src dst class =
     if nat_lt src (tiles_of s) && nat_lt dst (tiles_of s)
-    then option_map (records_of s src dst) (class_named class) else None
+    then option_map (channel_records s src dst) (class_named class) else None
 
 -- a buffer with that route at its front
 abbrev pub put_found : {A : Type 0} → Option (List A) → List A → List A
@@ -67,7 +67,7 @@ put_found None out = out
 put_found (Some found) out = put_over found out
 
 abbrev pub found_outcome : {A : Type 0} → Option (List A) → List A → Outcome
-found_outcome None out = outcome code.NoSuch 0
+found_outcome None out = c_outcome code.NoSuch 0
 found_outcome (Some found) out = put_outcome found out
 
 abbrev pub put_route : Shape → ℕ → ℕ → ℕ → List ChannelRecord → List ChannelRecord

@@ -10,7 +10,7 @@ use Rattle.torusmem_c.specs.declared.outcome.Code.TheVariants as code
 use Rattle.torusmem_c.specs.declared.explaining.Text.{Text}
 use Rattle.torusmem_c.specs.declared.explaining.Text.TheVariants.{Machine, Scripts}
 use Rattle.torusmem_c.specs.declared.explaining.Explanation.{Explanation}
-use Rattle.torusmem_c.specs.Outcome.{fault_number, number_of}
+use Rattle.torusmem_c.specs.Outcome.{fault_number, c_code}
 use Rattle.torusmem_c.specs.Room.{put_over, put_code}
 
 -- a fault with its line, and the text that it is in
@@ -41,7 +41,7 @@ text_number Scripts _ = 2
 -- what C sees of a fault: what became of its sentence, and how long that is
 abbrev pub explanation : Code → Found → ℕ → Explanation
 explanation c found length = record {
-  code = number_of c;
+  code = c_code c;
   fault = fault_number found.fault.fault;
   text = text_number found.text found.fault.fault;
   line = found.fault.line;

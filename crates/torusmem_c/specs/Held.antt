@@ -1,10 +1,10 @@
 -- What a call does to what a handle holds, and what it answers (this project's own format).
 use Rattle.std.specs.Prelude.{◌≡◌, Option, Some, None}
-use Rattle.machine_handle.specs.core_machine.specs.Machine.{Core}
-use Rattle.machine_handle.specs.machine_asked.specs.Asked.{Asked}
+use Rattle.core_machine.specs.Machine.{Core}
+use Rattle.machine_asked.specs.Asked.{Asked}
 use Rattle.torusmem_c.specs.declared.outcome.Outcome.{Outcome}
 use Rattle.torusmem_c.specs.declared.outcome.Code.TheVariants as code
-use Rattle.torusmem_c.specs.Outcome.{outcome}
+use Rattle.torusmem_c.specs.Outcome.{c_outcome}
 
 -- A call works on what a handle holds, a machine and which of its scripts have spins, and leaves it
 -- there. Where none is held it answers so, and still none is held.
@@ -23,11 +23,11 @@ abbrev pub OfHeld : {R : Type 0} → R → (Core → Core → R → Type 0) → 
     → Type 0
 OfHeld empty does = OfAsked empty (OnCore does)
 
--- the same, of a call that answers by an outcome
+-- the same, of a call that answers by an c_outcome
 abbrev pub OnHeld : (Core → Core → Outcome → Type 0) → Option Asked → Option Asked → Outcome
     → Type 0
-OnHeld does = OfHeld (outcome code.Empty 0) does
+OnHeld does = OfHeld (c_outcome code.Empty 0) does
 
 -- a call changes nothing of the machine, and answers what there is to tell of it
-abbrev pub Tells : {R : Type 0} → (Core → R) → Core → Core → R → Type 0
-Tells told c d r = (d ≡ c) × (r ≡ told c)
+abbrev pub HandleTells : {R : Type 0} → (Core → R) → Core → Core → R → Type 0
+HandleTells told c d r = (d ≡ c) × (r ≡ told c)

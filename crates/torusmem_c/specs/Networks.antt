@@ -1,11 +1,11 @@
 -- The verdict on a network, as C sees it (this project's own format).
 use Rattle.std.specs.Prelude.{◌≡◌, ◌⊎◌, ℕ, List, Result, Ok, Err}
 use Rattle.script.specs.declared.fault.LineFault.{LineFault}
-use Rattle.table_net.specs.declared.table.Verdict.{Verdict}
-use Rattle.table_net.specs.declared.table.Verdict.TheVariants as verdict
-use Rattle.table_net.specs.Verdicts.{IsVerdict}
-use Rattle.table_text.specs.Network.{NetworkSpec}
-use Rattle.table_text.specs.Answer.{verdict_text}
+use Rattle.network_judge.specs.declared.table.Verdict.{Verdict}
+use Rattle.network_judge.specs.declared.table.Verdict.TheVariants as verdict
+use Rattle.network_judge.specs.Verdicts.{IsVerdict}
+use Rattle.network_text.specs.Network.{NetworkSpec}
+use Rattle.network_text.specs.Answer.{verdict_text}
 use Rattle.torusmem_c.specs.declared.outcome.Outcome.{Outcome}
 use Rattle.torusmem_c.specs.declared.outcome.Code.{Code}
 use Rattle.torusmem_c.specs.declared.outcome.Code.TheVariants as code

@@ -25,40 +25,40 @@ fault_number fault.Count = 13
 fault_number fault.Dateline = 14
 
 -- the number by which C knows a code
-abbrev pub number_of : Code → ℕ
-number_of code.Done = 0
-number_of (code.Fault f) = fault_number f
-number_of code.BadReport = 15
-number_of code.Empty = 16
-number_of code.Full = 17
-number_of code.NoSuch = 18
-number_of code.Short = 19
-number_of code.NoRoute = 20
-number_of code.Cycle = 21
-number_of code.NotLinearizable = 22
-number_of code.TooMany = 23
-number_of code.TooOpen = 24
-number_of code.BehindSpin = 25
-number_of code.NotYet = 26
+abbrev pub c_code : Code → ℕ
+c_code code.Done = 0
+c_code (code.Fault f) = fault_number f
+c_code code.BadReport = 15
+c_code code.Empty = 16
+c_code code.Full = 17
+c_code code.NoSuch = 18
+c_code code.Short = 19
+c_code code.NoRoute = 20
+c_code code.Cycle = 21
+c_code code.NotLinearizable = 22
+c_code code.TooMany = 23
+c_code code.TooOpen = 24
+c_code code.BehindSpin = 25
+c_code code.NotYet = 26
 
 -- a code, and the number that goes with it
-abbrev pub outcome : Code → ℕ → Outcome
-outcome c value = record { code = number_of c; value = value }
+abbrev pub c_outcome : Code → ℕ → Outcome
+c_outcome c value = record { code = c_code c; value = value }
 
 -- 1 for yes, 0 for no
-abbrev pub flag : Bool → ℕ
-flag true = 1
-flag false = 0
+abbrev pub c_flag : Bool → ℕ
+c_flag true = 1
+c_flag false = 0
 
 -- the number of things there are, or that there are none such
-abbrev pub counted : {A : Type 0} → Option A → (A → ℕ) → Outcome
-counted None count = outcome code.NoSuch 0
-counted (Some x) count = outcome code.Done (count x)
+abbrev pub c_count : {A : Type 0} → Option A → (A → ℕ) → Outcome
+c_count None count = c_outcome code.NoSuch 0
+c_count (Some x) count = c_outcome code.Done (count x)
 
 -- memory was refused
 abbrev pub no_memory : Outcome
-no_memory = outcome (code.Fault fault.Memory) 0
+no_memory = c_outcome (code.Fault fault.Memory) 0
 
 -- a fault of a text with its line; out of memory is at line 0
 abbrev pub fault_outcome : LineFault → Outcome
-fault_outcome found = outcome (code.Fault found.fault) found.line
+fault_outcome found = c_outcome (code.Fault found.fault) found.line

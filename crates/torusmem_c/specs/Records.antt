@@ -10,7 +10,7 @@ use Rattle.torusmem_c.specs.declared.outcome.Code.{Code}
 use Rattle.torusmem_c.specs.declared.outcome.Code.TheVariants as code
 use Rattle.torusmem_c.specs.declared.records.AnswerRecord.{AnswerRecord}
 use Rattle.torusmem_c.specs.declared.records.EntryRecord.{EntryRecord}
-use Rattle.torusmem_c.specs.Outcome.{number_of}
+use Rattle.torusmem_c.specs.Outcome.{c_code}
 
 -- the number by which C knows an operation
 abbrev pub operation_number : Op → ℕ
@@ -26,22 +26,22 @@ operation_number (Max value) = 8
 operation_number (Min value) = 9
 
 -- the first value that an operation brings, or 0
-abbrev pub first_value : Op → ℕ
-first_value Load = 0
-first_value (Store value) = value
-first_value (Swap value) = value
-first_value (Cas expected new) = expected
-first_value (Add value) = value
-first_value (And value) = value
-first_value (Or value) = value
-first_value (Xor value) = value
-first_value (Max value) = value
-first_value (Min value) = value
+abbrev pub c_first_value : Op → ℕ
+c_first_value Load = 0
+c_first_value (Store value) = value
+c_first_value (Swap value) = value
+c_first_value (Cas expected new) = expected
+c_first_value (Add value) = value
+c_first_value (And value) = value
+c_first_value (Or value) = value
+c_first_value (Xor value) = value
+c_first_value (Max value) = value
+c_first_value (Min value) = value
 
 -- the second value of a compare-and-swap, or 0
-abbrev pub second_value : Op → ℕ
-second_value (Cas expected new) = new
-second_value _ = 0
+abbrev pub c_second_value : Op → ℕ
+c_second_value (Cas expected new) = new
+c_second_value _ = 0
 
 -- whether a reply is an old word
 abbrev pub has_old : Reply → ℕ
@@ -56,21 +56,21 @@ old_word (Old word) = word
 -- what C sees of an answer
 abbrev pub answer_record : Answer → AnswerRecord
 answer_record a = record {
-  code = number_of code.Done;
+  code = c_code code.Done;
   index = a.index;
   operation = operation_number a.op;
   bank = a.bank;
   place = a.place;
   has_old = has_old a.reply;
-  first = first_value a.op;
-  second = second_value a.op;
+  first = c_first_value a.op;
+  second = c_second_value a.op;
   old = old_word a.reply;
 }
 
 -- a code, and all else 0
 abbrev pub no_answer : Code → AnswerRecord
 no_answer c = record {
-  code = number_of c;
+  code = c_code c;
   index = 0;
   operation = 0;
   bank = 0;
@@ -89,21 +89,21 @@ answer_or_none (Some a) = answer_record a
 -- what C sees of an entry
 abbrev pub entry_record : Entry → EntryRecord
 entry_record e = record {
-  code = number_of code.Done;
+  code = c_code code.Done;
   source = e.source;
   tag = e.tag.0;
   address = e.address;
   operation = operation_number e.op;
   has_old = has_old e.reply;
-  first = first_value e.op;
-  second = second_value e.op;
+  first = c_first_value e.op;
+  second = c_second_value e.op;
   old = old_word e.reply;
 }
 
 -- a code, and all else 0
 abbrev pub no_entry : Code → EntryRecord
 no_entry c = record {
-  code = number_of c;
+  code = c_code c;
   source = 0;
   tag = 0;
   address = 0;

@@ -3,7 +3,7 @@ use Rattle.std.specs.Prelude.{◌≡◌, ℕ, ◌++◌, List, length, drop, nat_
 use Rattle.torusmem_c.specs.declared.outcome.Outcome.{Outcome}
 use Rattle.torusmem_c.specs.declared.outcome.Code.{Code}
 use Rattle.torusmem_c.specs.declared.outcome.Code.TheVariants as code
-use Rattle.torusmem_c.specs.Outcome.{no_memory, outcome}
+use Rattle.torusmem_c.specs.Outcome.{no_memory, c_outcome}
 
 -- a buffer with these at its front; one that is too short for all stays as it was
 abbrev pub put_over : {A : Type 0} → List A → List A → List A
@@ -16,7 +16,7 @@ put_code c found out = if nat_lt (length out) (length found) then code.Short els
 
 -- how many they are, and by this code that they were put
 abbrev pub put_as : {A : Type 0} → Code → List A → List A → Outcome
-put_as c found out = outcome (put_code c found out) (length found)
+put_as c found out = c_outcome (put_code c found out) (length found)
 
 -- how many they are, and whether they were put
 abbrev pub put_outcome : {A : Type 0} → List A → List A → Outcome

@@ -2,14 +2,14 @@
 use Rattle.std.specs.Prelude.{◌≡◌, ℕ, List, length, Option, Some, None, nat_lt, option_and_then}
 use Rattle.std.specs.Prelude.{slice_get, if◌then◌else◌}
 use Rattle.torus.specs.Shape.{tiles_of}
-use Rattle.machine_handle.specs.core_machine.specs.Machine.{Core, built_to, shown}
+use Rattle.core_machine.specs.Machine.{Core, built_to, shown}
 use Rattle.core_row.specs.Row.{row_of}
 use Rattle.torusmem_c.specs.declared.outcome.Outcome.{Outcome}
 use Rattle.torusmem_c.specs.declared.outcome.Code.TheVariants as code
 use Rattle.torusmem_c.specs.declared.records.AnswerRecord.{AnswerRecord}
 use Rattle.torusmem_c.specs.declared.records.EntryRecord.{EntryRecord}
-use Rattle.torusmem_c.specs.Outcome.{outcome}
-use Rattle.machine_handle.specs.machine_asked.specs.Asked.{answer_to}
+use Rattle.torusmem_c.specs.Outcome.{c_outcome}
+use Rattle.machine_asked.specs.Asked.{answer_to}
 use Rattle.one_order.specs.declared.answer.Answer.{Answer}
 use Rattle.torusmem_c.specs.Records.{answer_or_none, entry_or_none, no_answer}
 use Rattle.torusmem_c.specs.Room.{put_over, put_outcome}
@@ -17,20 +17,20 @@ use Rattle.torusmem_c.specs.Routes.{next_number}
 
 -- a number, or that there is none such
 abbrev pub number_outcome : Option ℕ → Outcome
-number_outcome None = outcome code.NoSuch 0
-number_outcome (Some n) = outcome code.Done n
+number_outcome None = c_outcome code.NoSuch 0
+number_outcome (Some n) = c_outcome code.Done n
 
 -- how many there are in a list, or that there is none such
 abbrev pub count_outcome : {A : Type 0} → Option (List A) → Outcome
-count_outcome None = outcome code.NoSuch 0
-count_outcome (Some list) = outcome code.Done (length list)
+count_outcome None = c_outcome code.NoSuch 0
+count_outcome (Some list) = c_outcome code.Done (length list)
 
 -- how many tiles and words there are
 abbrev pub tiles_told : Core → Outcome
-tiles_told c = outcome code.Done (tiles_of c.shape)
+tiles_told c = c_outcome code.Done (tiles_of c.shape)
 
 abbrev pub words_told : Core → Outcome
-words_told c = outcome code.Done (length c.opening)
+words_told c = c_outcome code.Done (length c.opening)
 
 -- the word of an address
 abbrev pub word_told : ℕ → Core → Outcome

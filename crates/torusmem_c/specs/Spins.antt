@@ -7,10 +7,10 @@ use Rattle.script.specs.declared.line.Line.{Line}
 use Rattle.script.specs.Machine.{machine_of}
 use Rattle.script.specs.Scripts.{ScriptsSpec, scripts_of}
 use Rattle.one_order.specs.declared.answer.Answer.{Answer}
-use Rattle.machine_handle.specs.core_machine.specs.Machine.{Core, shown}
-use Rattle.machine_texts.specs.Loading.{◌then◌}
-use Rattle.spins_told.specs.declared.spins.SpentSpin.{SpentSpin}
-use Rattle.spins_told.specs.Texts.{spent_lines}
+use Rattle.core_machine.specs.Machine.{Core, shown}
+use Rattle.machine_core.specs.Loading.{◌then◌}
+use Rattle.sentences.specs.declared.spins.SpentSpin.{SpentSpin}
+use Rattle.sentences.specs.Texts.{spent_lines}
 use Rattle.torusmem_c.specs.declared.outcome.Outcome.{Outcome}
 use Rattle.torusmem_c.specs.declared.spinning.SpinRecord.{SpinRecord}
 use Rattle.torusmem_c.specs.Outcome.{fault_outcome}

@@ -5,59 +5,59 @@ use Rattle.std.specs.List.{filter_map}
 use Rattle.torus.specs.declared.step.Step.{Step}
 use Rattle.torus.specs.declared.step.Stepped.{Stepped}
 use Rattle.torus.specs.declared.step.Stepped.TheVariants.{Moved, Idle}
-use Rattle.rounds.specs.Rounds.{moves_in}
-use Rattle.machine_handle.specs.machine_core.specs.order_abstract.specs.Scripts.{AreFinished}
-use Rattle.machine_handle.specs.machine_core.specs.core_laws.specs.Core.{Load, run_of, step, round}
-use Rattle.machine_handle.specs.core_machine.specs.Machine.{Core, IsAfter, RunsOn, MakesMove, Steps}
-use Rattle.machine_handle.specs.core_machine.specs.Machine.{core_after, built_to}
-use Rattle.machine_handle.specs.core_machine.specs.Machine.{all_finished}
-use Rattle.machine_handle.specs.machine_core.specs.Rounds.{rounds_of, NeedsRounds}
-use Rattle.machine_handle.specs.core_machine.specs.core_progress.specs.Moves.{IsLive, moves_left}
+use Rattle.core_progress.specs.Rounds.{moves_in}
+use Rattle.order_abstract.specs.Scripts.{AreFinished}
+use Rattle.core_laws.specs.Core.{Load, run_of, step, round}
+use Rattle.core_machine.specs.Machine.{Core, IsAfter, RunsOn, MakesMove, Steps}
+use Rattle.core_machine.specs.Machine.{core_after, built_to}
+use Rattle.core_machine.specs.Machine.{all_finished}
+use Rattle.machine_core.specs.Rounds.{rounds_of, NeedsRounds}
+use Rattle.core_progress.specs.Moves.{IsLive, moves_left}
 use Rattle.torusmem_c.specs.declared.outcome.Outcome.{Outcome}
 use Rattle.torusmem_c.specs.declared.outcome.Code.TheVariants as code
 use Rattle.torusmem_c.specs.declared.stepping.AttemptRecord.{AttemptRecord}
 use Rattle.torusmem_c.specs.Choices.{attempt_named}
-use Rattle.torusmem_c.specs.Outcome.{outcome, flag}
-use Rattle.torusmem_c.specs.Held.{Tells}
+use Rattle.torusmem_c.specs.Outcome.{c_outcome, c_flag}
+use Rattle.torusmem_c.specs.Held.{HandleTells}
 
--- 1 where a step moved, 0 where it was idle (this project's own format)
-abbrev pub moved : Stepped → ℕ
-moved Moved = 1
-moved Idle = 0
+-- 1 where a step moved_number, 0 where it was idle (this project's own format)
+abbrev pub moved_number : Stepped → ℕ
+moved_number Moved = 1
+moved_number Idle = 0
 
 -- the machine makes a step, which does exactly what its choice says; after any steps that led to
 -- the machine from a load it leads on
 pub record MakesStep (attempt : Step) (old new : Core) (r : Outcome) : Type 0 where
   pub stepped : Stepped
   pub step : Steps old new stepped attempt
-  pub answer : r ≡ outcome code.Done (moved stepped)
+  pub answer : r ≡ c_outcome code.Done (moved_number stepped)
   pub runs_on : RunsOn old new (attempt ∷ [])
 
 -- the machine makes the step that is named, and none where none is (this project's own format)
-abbrev pub Attempts : Option Step → Core → Core → Outcome → Type 0
-Attempts None old new r = (new ≡ old) × (r ≡ outcome code.Done 0)
-Attempts (Some attempt) old new r = MakesStep attempt old new r
+abbrev pub MakesAttempt : Option Step → Core → Core → Outcome → Type 0
+MakesAttempt None old new r = (new ≡ old) × (r ≡ c_outcome code.Done 0)
+MakesAttempt (Some attempt) old new r = MakesStep attempt old new r
 
 -- the steps that attempts name, in order; what names none is left out (this project's own format)
 abbrev pub steps_named : List AttemptRecord → List Step
 steps_named attempts = filter_map (λ it. attempt_named it.agent it.choice it.number) attempts
 
--- the machine makes these steps, one after the other, and how many of them moved is answered; after
+-- the machine makes these steps, one after the other, and how many of them moved_number is answered; after
 -- any steps that led to the machine from a load they lead on
 pub record MakesSteps (steps : List Step) (old new : Core) (r : Outcome) : Type 0 where
   pub state : new ≡ core_after old steps
-  pub answer : r ≡ outcome code.Done (moves_in (step (built_to old)) old.state steps)
+  pub answer : r ≡ c_outcome code.Done (moves_in (step (built_to old)) old.state steps)
   pub left : new.moves_left + moves_in (step (built_to old)) old.state steps ≡ old.moves_left
   pub runs_on : RunsOn old new steps
 
 -- whether the step that is named is enabled (this project's own format)
-abbrev pub is_enabled : Option Step → Core → Bool
-is_enabled None c = false
-is_enabled (Some attempt) c = is_some (step (built_to c) c.state attempt)
+abbrev pub c_enabled : Option Step → Core → Bool
+c_enabled None c = false
+c_enabled (Some attempt) c = is_some (step (built_to c) c.state attempt)
 
 -- it is told whether that step is enabled (this project's own format)
 abbrev pub TellsEnabled : Option Step → Core → Core → Outcome → Type 0
-TellsEnabled attempt = Tells (λ c. outcome code.Done (flag (is_enabled attempt c)))
+TellsEnabled attempt = HandleTells (λ c. c_outcome code.Done (c_flag (c_enabled attempt c)))
 
 -- the machine makes one round; where some script isn't finished, the round makes a move
 pub record MakesRound (old new : Core) (r : Outcome) : Type 0 where
@@ -66,13 +66,13 @@ pub record MakesRound (old new : Core) (r : Outcome) : Type 0 where
       ≡ old.moves_left
   pub live : all_finished old.state ≡ false → MakesMove old (round old.shape)
   pub runs_on : RunsOn old new (round old.shape)
-  pub answer : r ≡ outcome code.Done 0
+  pub answer : r ≡ c_outcome code.Done 0
 
 -- the machine makes the least number of rounds after which every script is finished, and that
 -- number is answered
-pub record Finishes (old new : Core) (r : Outcome) : Type 0 where
+pub record SaysFinished (old new : Core) (r : Outcome) : Type 0 where
   pub rounds : ℕ
-  pub answer : r ≡ outcome code.Done rounds
+  pub answer : r ≡ c_outcome code.Done rounds
   pub state : new ≡ core_after old (rounds_of old.shape rounds)
   pub needed : NeedsRounds old rounds
   pub few : (l : Load) (steps : List Step) → IsAfter l old steps
@@ -86,7 +86,7 @@ pub record Finishes (old new : Core) (r : Outcome) : Type 0 where
 -- it is told whether every script is finished; until then some step of a round is enabled
 pub record TellsFinished (old new : Core) (r : Outcome) : Type 0 where
   pub same : new ≡ old
-  pub answer : r ≡ outcome code.Done (flag (all_finished old.state))
+  pub answer : r ≡ c_outcome code.Done (c_flag (all_finished old.state))
   pub live : all_finished old.state ≡ false → IsLive (built_to old) old.state
   pub scripts : (l : Load) (steps : List Step) → IsAfter l old steps
       → IsTrue (all_finished old.state) ↔ AreFinished (run_of l steps) (length steps) l.scripts
@@ -94,7 +94,7 @@ pub record TellsFinished (old new : Core) (r : Outcome) : Type 0 where
 -- it is told how many moves the scripts still allow; no list of steps makes more
 pub record TellsMovesLeft (old new : Core) (r : Outcome) : Type 0 where
   pub same : new ≡ old
-  pub answer : r ≡ outcome code.Done old.moves_left
+  pub answer : r ≡ c_outcome code.Done old.moves_left
   pub left : (l : Load) (steps : List Step) → IsAfter l old steps
       → old.moves_left ≡ moves_left l steps (length steps)
   pub exact : (more : List Step) → moves_in (step (built_to old)) old.state more ≤ old.moves_left

@@ -1,23 +1,23 @@
 -- Loads, reports and their check, as C sees them (this project's own format).
 use Rattle.std.specs.Prelude.{◌≡◌, ◌⊎◌, ℕ, List, map, Result, Ok, Option, Some, None}
 use Rattle.script.specs.declared.fault.LineFault.{LineFault}
-use Rattle.machine_handle.specs.machine_core.specs.order_abstract.specs.Load.{Load}
-use Rattle.machine_handle.specs.core_machine.specs.Machine.{Core}
-use Rattle.machine_handle.specs.machine_asked.specs.Asked.{Asked, has_spin}
+use Rattle.order_abstract.specs.Load.{Load}
+use Rattle.core_machine.specs.Machine.{Core}
+use Rattle.machine_asked.specs.Asked.{Asked, has_spin}
 use Rattle.report_lines.specs.Line.{text_of}
 use Rattle.report_check.specs.Good.{GoodReport, HasFault}
 use Rattle.report_check.specs.declared.fault.CheckFault.{CheckFault}
 use Rattle.report_check.specs.declared.fault.CheckFault.TheVariants.{BadReport, Memory}
 use Rattle.machine_report.specs.Report.{machine_report}
-use Rattle.machine_texts.specs.Loading.{HasLoaded, IsLoadFault}
+use Rattle.machine_core.specs.Loading.{HasLoaded, IsLoadFault}
 use Rattle.torusmem_c.specs.declared.outcome.Outcome.{Outcome}
 use Rattle.torusmem_c.specs.declared.outcome.Code.TheVariants as code
-use Rattle.torusmem_c.specs.Outcome.{fault_outcome, no_memory, outcome}
+use Rattle.torusmem_c.specs.Outcome.{fault_outcome, no_memory, c_outcome}
 use Rattle.torusmem_c.specs.Room.{LacksMemory, put_over, put_outcome}
 
 -- the first bad line of a report, or that memory was refused
 abbrev pub check_outcome : CheckFault → Outcome
-check_outcome (BadReport line) = outcome code.BadReport line
+check_outcome (BadReport line) = c_outcome code.BadReport line
 check_outcome Memory = no_memory
 
 -- what an empty handle holds after a load: nothing, and the answer is the first fault of the texts
@@ -26,12 +26,12 @@ abbrev pub LoadsEmpty : Result Load LineFault → Option Asked → Outcome → T
 LoadsEmpty asked None r = (f : LineFault) × IsLoadFault asked f × (r ≡ fault_outcome f)
 LoadsEmpty asked (Some v) r =
     HasLoaded asked v.core × ((l : Load) → asked ≡ Ok l → v.spins ≡ map has_spin l.scripts)
-    × (r ≡ outcome code.Done 0)
+    × (r ≡ c_outcome code.Done 0)
 
 -- a load: where a machine is held already, it stays, and the answer says so
 abbrev pub Loads : Result Load LineFault → Option Asked → Option Asked → Outcome → Type 0
 Loads asked None new r = LoadsEmpty asked new r
-Loads asked (Some v) new r = (new ≡ Some v) × (r ≡ outcome code.Full 0)
+Loads asked (Some v) new r = (new ≡ Some v) × (r ≡ c_outcome code.Full 0)
 
 -- the text of a machine's report, a good one, is put into a buffer
 pub record PutsText (c : Core) (before after : List ℕ) (r : Outcome) : Type 0 where
@@ -46,11 +46,11 @@ pub record PutsReport (before after : List ℕ) (old new : Core) (r : Outcome) :
   pub put : PutsText old before after r ⊎ LacksMemory before after r
 
 -- the report is good, or the answer tells its first bad line, or that memory was refused
-abbrev pub IsVerdict : List ℕ → Outcome → Type 0
-IsVerdict report r =
-    (GoodReport report × (r ≡ outcome code.Done 0))
+abbrev pub SaysVerdict : List ℕ → Outcome → Type 0
+SaysVerdict report r =
+    (GoodReport report × (r ≡ c_outcome code.Done 0))
     ⊎ ((f : CheckFault) × HasFault report f × (r ≡ check_outcome f))
 
 -- a report that is good is told to be so, unless memory is refused
-abbrev pub IsAccepted : Outcome → Type 0
-IsAccepted r = (r ≡ outcome code.Done 0) ⊎ (r ≡ no_memory)
+abbrev pub SaysGood : Outcome → Type 0
+SaysGood r = (r ≡ c_outcome code.Done 0) ⊎ (r ≡ no_memory)

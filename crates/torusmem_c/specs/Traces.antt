@@ -1,8 +1,8 @@
 -- The verdict on a trace, as C sees it (this project's own format).
 use Rattle.std.specs.Prelude.{◌≡◌, ◌⊎◌, ℕ, List, map, Result, Ok, Err}
 use Rattle.script.specs.declared.fault.LineFault.{LineFault}
-use Rattle.trace_order.specs.declared.event.Call.{Call}
-use Rattle.trace_order.specs.declared.event.Event.{Event}
+use Rattle.trace_laws.specs.declared.event.Call.{Call}
+use Rattle.trace_laws.specs.declared.event.Event.{Event}
 use Rattle.trace_judge.specs.declared.judge.Verdict.{Verdict}
 use Rattle.trace_judge.specs.declared.judge.Verdict.TheVariants.{Linearizable, No}
 use Rattle.trace_judge.specs.declared.undecided.Undecided.{Undecided}
@@ -11,7 +11,7 @@ use Rattle.trace_judge.specs.Stops.{IsUndecided, TellsMany}
 use Rattle.trace_judge.specs.Verdicts.{Tells}
 use Rattle.torusmem_c.specs.declared.outcome.Outcome.{Outcome}
 use Rattle.torusmem_c.specs.declared.outcome.Code.TheVariants as code
-use Rattle.torusmem_c.specs.Outcome.{fault_outcome, no_memory, outcome}
+use Rattle.torusmem_c.specs.Outcome.{fault_outcome, no_memory, c_outcome}
 use Rattle.torusmem_c.specs.Room.{put_over, put_outcome}
 
 -- the numbers of an order's operations
@@ -25,13 +25,13 @@ PutsVerdict (Linearizable order) before after r =
     (after ≡ put_over (numbers_in order.items) before)
     × (r ≡ put_outcome (numbers_in order.items) before)
 PutsVerdict (No event) before after r =
-    (after ≡ before) × (r ≡ outcome code.NotLinearizable event)
+    (after ≡ before) × (r ≡ c_outcome code.NotLinearizable event)
 
 -- why a trace is not judged, and at which event
 abbrev pub undecided_outcome : Undecided → Outcome
 undecided_outcome undecided.Memory = no_memory
-undecided_outcome (undecided.Configurations event) = outcome code.TooMany event
-undecided_outcome (undecided.Operations event) = outcome code.TooOpen event
+undecided_outcome (undecided.Configurations event) = c_outcome code.TooMany event
+undecided_outcome (undecided.Operations event) = c_outcome code.TooOpen event
 
 -- what is told of a trace that is judged: a verdict that holds of it
 abbrev pub TellsVerdict : Type 0 → List ℕ → List Event → List ℕ → List ℕ → Outcome → Type 0

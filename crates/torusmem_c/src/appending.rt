@@ -3,11 +3,11 @@
 ghost use Rattle.std.specs.Prelude.{◌≡◌, ◌⊎◌, IfSome, false, true, unwrap_or};
 ghost use Rattle.machine_handle.specs.Held.{held};
 ghost use Rattle.machine_asked.specs.Asked.{is_behind_spin, is_operation};
-ghost use Rattle.torusmem_c.specs.Appending.{Appends, Asks, Numbers, RefusesLine, is_first_last};
-ghost use Rattle.torusmem_c.specs.Appending.{is_second_last, line_named, line_of};
-ghost use Rattle.torusmem_c.specs.Appending.{operation_named, value_of};
+ghost use Rattle.torusmem_c.specs.Appending.{Appends, AsksAppend, Numbers, RefusesLine, is_first_last};
+ghost use Rattle.torusmem_c.specs.Appending.{is_second_last, line_named, numbered_line};
+ghost use Rattle.torusmem_c.specs.Appending.{c_operation, c_value};
 ghost use Rattle.torusmem_c.specs.Held.{OfAsked};
-ghost use Rattle.torusmem_c.specs.Outcome.{outcome};
+ghost use Rattle.torusmem_c.specs.Outcome.{c_outcome};
 
 use crate::outcome::{Code, Outcome};
 use machine_asked::AskedMachine;
@@ -16,7 +16,7 @@ use script::{Line, Value};
 
 /// A value: a number, or `last`.
 fn value_of(is_last: bool, number: u64) -> Value
-    ensures { result ≡ value_of is_last number }
+    ensures { result ≡ c_value is_last number }
 {
     if is_last {
         Value::Last
@@ -48,7 +48,7 @@ fn line_of(
     sought: u64,
     loads: u64,
 ) -> Option<Line>
-    ensures { result ≡ line_of number address one two sought loads }
+    ensures { result ≡ numbered_line number address one two sought loads }
 {
     match number {
         0 => Some(Line::Load(address)),
@@ -103,7 +103,7 @@ pub extern "C" fn torusmem_append(
     second: u64,
     lasts: u32,
 ) -> Outcome
-    ensures { OfAsked (outcome Code.Empty 0)
+    ensures { OfAsked (c_outcome Code.Empty 0)
         (Appends processor (line_named operation address first second lasts)) (held handle.old)
         (held handle.new) result }
 {
@@ -119,7 +119,7 @@ pub extern "C" fn torusmem_append(
 
 /// The operation that has this number, of two numbers, of which `lasts` says whether they stand for `last`.
 fn operation_named(number: u32, address: u32, first: u64, second: u64, lasts: u32) -> Option<Line>
-    ensures { result ≡ operation_named number address first second lasts }
+    ensures { result ≡ c_operation number address first second lasts }
 {
     if number <= 9 {
         line_named(number, address, first, second, lasts)
@@ -154,7 +154,7 @@ fn numbered(machine: &mut AskedMachine, processor: u32, line: Line) -> Outcome
 /// Gives a processor the operation that is named, and answers its index, if it is known.
 fn asked(machine: &mut AskedMachine, processor: u32, line: Option<Line>) -> Outcome
     requires { IfSome line (λ line. is_operation line ≡ true) }
-    ensures { Asks processor line machine.old machine.new result }
+    ensures { AsksAppend processor line machine.old machine.new result }
 {
     let Some(line) = line else {
         return Outcome::no_such();
@@ -180,8 +180,8 @@ pub extern "C" fn torusmem_ask(
     second: u64,
     lasts: u32,
 ) -> Outcome
-    ensures { OfAsked (outcome Code.Empty 0)
-        (Asks processor (operation_named operation address first second lasts)) (held handle.old)
+    ensures { OfAsked (c_outcome Code.Empty 0)
+        (AsksAppend processor (c_operation operation address first second lasts)) (held handle.old)
         (held handle.new) result }
 {
     match handle.machine() {

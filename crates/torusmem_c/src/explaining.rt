@@ -2,15 +2,15 @@
 
 ghost use Rattle.std.specs.Prelude.{◌≡◌, ◌⊎◌};
 ghost use Rattle.std.specs.Str.Lines.{lines};
-ghost use Rattle.explained.specs.Told.{fault_in};
+ghost use Rattle.sentences.specs.Told.{fault_in};
 ghost use Rattle.torusmem_c.specs.Explained.{TellsFault, TellsFirst, TellsMemory, explanation};
 ghost use Rattle.torusmem_c.specs.Explained.{first_fault, no_fault, text_number};
 
 use crate::outcome::{Code, fault_number};
 use crate::room::put_code;
-use explained::{Sentence, machine_sentence, scripts_sentence};
-use lexer::Named;
+use lexer::{Named, Reason};
 use script::LineFault;
+use sentences::{Sentence, machine_sentence, scripts_sentence};
 use std::alloc::Global;
 use torus::Fault;
 

@@ -2,15 +2,15 @@
 
 ghost use Rattle.std.specs.Prelude.{◌≡◌, ◌⊎◌};
 ghost use Rattle.std.specs.Str.Lines.{lines};
-ghost use Rattle.table_text.specs.Network.{network_of};
+ghost use Rattle.network_text.specs.Network.{network_of};
 ghost use Rattle.torusmem_c.specs.Networks.{PutsVerdict, TellsText, verdict_code};
 ghost use Rattle.torusmem_c.specs.Room.{LacksMemory};
 
 use crate::outcome::{Code, Outcome, fault_outcome, no_memory};
 use crate::room::put_as;
+use network_judge::Verdict;
+use network_text::{judge_network, read_network, verdict_text};
 use std::alloc::Global;
-use table_net::Verdict;
-use table_text::{judge_network, read_network, verdict_text};
 
 /// The code of a verdict.
 fn verdict_code(verdict: &Verdict<Global>) -> Code

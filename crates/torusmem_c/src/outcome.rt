@@ -1,7 +1,7 @@
 //! What calls answer, as C sees it.
 
 ghost use Rattle.std.specs.Prelude.{◌≡◌, ◌≤◌};
-ghost use Rattle.torusmem_c.specs.Outcome.{fault_number, number_of, outcome, flag};
+ghost use Rattle.torusmem_c.specs.Outcome.{fault_number, c_code, c_outcome, c_flag};
 ghost use Rattle.torusmem_c.specs.Outcome.{fault_outcome, no_memory};
 
 use script::LineFault;
@@ -43,7 +43,7 @@ pub enum Code {
 impl Code {
     /// The number by which C knows it.
     pub fn number(self) -> u32
-        ensures value { result ≡ number_of self }
+        ensures value { result ≡ c_code self }
         ensures small { result ≤ 26 }
     {
         match self {
@@ -99,7 +99,7 @@ pub struct Outcome {
 impl Outcome {
     /// A code, and the number that goes with it.
     pub fn of(code: Code, value: u64) -> Outcome
-        ensures { result ≡ outcome code value }
+        ensures { result ≡ c_outcome code value }
     {
         Outcome {
             code: code.number(),
@@ -109,28 +109,28 @@ impl Outcome {
 
     /// The call did what it is for, and answers a number.
     pub fn done(value: u64) -> Outcome
-        ensures { result ≡ outcome Code.Done value }
+        ensures { result ≡ c_outcome Code.Done value }
     {
         Outcome::of(Code::Done, value)
     }
 
     /// The call did what it is for, and answers yes or no.
     pub fn told(answer: bool) -> Outcome
-        ensures { result ≡ outcome Code.Done (flag answer) }
+        ensures { result ≡ c_outcome Code.Done (c_flag answer) }
     {
         Outcome::done(u64::from(answer))
     }
 
     /// The handle holds no machine.
     pub fn empty() -> Outcome
-        ensures { result ≡ outcome Code.Empty 0 }
+        ensures { result ≡ c_outcome Code.Empty 0 }
     {
         Outcome::of(Code::Empty, 0)
     }
 
     /// There is no such tile, address, place or index.
     pub fn no_such() -> Outcome
-        ensures { result ≡ outcome Code.NoSuch 0 }
+        ensures { result ≡ c_outcome Code.NoSuch 0 }
     {
         Outcome::of(Code::NoSuch, 0)
     }

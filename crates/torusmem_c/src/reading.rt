@@ -3,9 +3,9 @@
 ghost use Rattle.std.specs.Prelude.{◌≡◌, None, length};
 ghost use Rattle.core_row.specs.Row.{row_of};
 ghost use Rattle.machine_handle.specs.Held.{held};
-ghost use Rattle.machine_handle.specs.core_machine.specs.Machine.{built_to};
+ghost use Rattle.core_machine.specs.Machine.{built_to};
 ghost use Rattle.torusmem_c.specs.Room.{put_over, put_outcome};
-ghost use Rattle.torusmem_c.specs.Held.{OfHeld, OnHeld, Tells};
+ghost use Rattle.torusmem_c.specs.Held.{OfHeld, OnHeld, HandleTells};
 ghost use Rattle.torusmem_c.specs.Records.{no_answer, no_entry};
 ghost use Rattle.torusmem_c.specs.Shown.{PutsRow, answer_of_told, answer_told, answers_told};
 ghost use Rattle.torusmem_c.specs.Shown.{entries_told, entry_told, next_told};
@@ -32,7 +32,7 @@ fn number_outcome(found: Option<u64>) -> Outcome
 /// How many tiles there are.
 #[unsafe(no_mangle)]
 pub extern "C" fn torusmem_tiles(handle: &mut Handle) -> Outcome
-    ensures { OnHeld (Tells tiles_told) (held handle.old) (held handle.new) result }
+    ensures { OnHeld (HandleTells tiles_told) (held handle.old) (held handle.new) result }
 {
     match handle.machine() {
         Some(machine) => Outcome::done(u64::from(machine.machine().torus().tiles())),
@@ -43,7 +43,7 @@ pub extern "C" fn torusmem_tiles(handle: &mut Handle) -> Outcome
 /// How many words there are.
 #[unsafe(no_mangle)]
 pub extern "C" fn torusmem_words(handle: &mut Handle) -> Outcome
-    ensures { OnHeld (Tells words_told) (held handle.old) (held handle.new) result }
+    ensures { OnHeld (HandleTells words_told) (held handle.old) (held handle.new) result }
 {
     match handle.machine() {
         Some(machine) => Outcome::done(u64::from(machine.machine().words())),
@@ -54,7 +54,7 @@ pub extern "C" fn torusmem_words(handle: &mut Handle) -> Outcome
 /// The word of an address.
 #[unsafe(no_mangle)]
 pub extern "C" fn torusmem_word(handle: &mut Handle, address: u32) -> Outcome
-    ensures { OnHeld (Tells (word_told address)) (held handle.old) (held handle.new) result }
+    ensures { OnHeld (HandleTells (word_told address)) (held handle.old) (held handle.new) result }
 {
     match handle.machine() {
         Some(machine) => number_outcome(machine.machine().word(address)),
@@ -65,7 +65,7 @@ pub extern "C" fn torusmem_word(handle: &mut Handle, address: u32) -> Outcome
 /// The word at a place of the row: the places of the channels, the memory, the done word.
 #[unsafe(no_mangle)]
 pub extern "C" fn torusmem_row(handle: &mut Handle, at: u32) -> Outcome
-    ensures { OnHeld (Tells (row_told at)) (held handle.old) (held handle.new) result }
+    ensures { OnHeld (HandleTells (row_told at)) (held handle.old) (held handle.new) result }
 {
     match handle.machine() {
         Some(machine) => number_outcome(machine.machine().row(at)),
@@ -116,7 +116,7 @@ fn row_length(machine: &Machine) -> u32
 /// How many answers a processor has.
 #[unsafe(no_mangle)]
 pub extern "C" fn torusmem_answers(handle: &mut Handle, processor: u32) -> Outcome
-    ensures { OnHeld (Tells (answers_told processor)) (held handle.old) (held handle.new) result }
+    ensures { OnHeld (HandleTells (answers_told processor)) (held handle.old) (held handle.new) result }
 {
     match handle.machine() {
         Some(machine) => match machine.machine().answers(processor) {
@@ -130,7 +130,7 @@ pub extern "C" fn torusmem_answers(handle: &mut Handle, processor: u32) -> Outco
 /// Answer i of a processor, from 0 in the order of answering.
 #[unsafe(no_mangle)]
 pub extern "C" fn torusmem_answer_at(handle: &mut Handle, processor: u32, i: u32) -> AnswerRecord
-    ensures { OfHeld (no_answer code.Empty) (Tells (answer_told processor i)) (held handle.old)
+    ensures { OfHeld (no_answer code.Empty) (HandleTells (answer_told processor i)) (held handle.old)
         (held handle.new) result }
 {
     match handle.machine() {
@@ -156,7 +156,7 @@ pub extern "C" fn torusmem_answer_of(
     processor: u32,
     index: u32,
 ) -> AnswerRecord
-    ensures { OfHeld (no_answer code.Empty) (Tells (answer_of_told processor index))
+    ensures { OfHeld (no_answer code.Empty) (HandleTells (answer_of_told processor index))
         (held handle.old) (held handle.new) result }
 {
     match handle.machine() {
@@ -181,7 +181,7 @@ fn answer_or_wait(machine: &AskedMachine, processor: u32, index: u32) -> AnswerR
 /// How many entries a bank has.
 #[unsafe(no_mangle)]
 pub extern "C" fn torusmem_entries(handle: &mut Handle, bank: u32) -> Outcome
-    ensures { OnHeld (Tells (entries_told bank)) (held handle.old) (held handle.new) result }
+    ensures { OnHeld (HandleTells (entries_told bank)) (held handle.old) (held handle.new) result }
 {
     match handle.machine() {
         Some(machine) => match machine.machine().bank(bank) {
@@ -195,7 +195,7 @@ pub extern "C" fn torusmem_entries(handle: &mut Handle, bank: u32) -> Outcome
 /// Entry i of a bank, from 0 in the order of its services.
 #[unsafe(no_mangle)]
 pub extern "C" fn torusmem_entry_at(handle: &mut Handle, bank: u32, i: u32) -> EntryRecord
-    ensures { OfHeld (no_entry code.Empty) (Tells (entry_told bank i)) (held handle.old)
+    ensures { OfHeld (no_entry code.Empty) (HandleTells (entry_told bank i)) (held handle.old)
         (held handle.new) result }
 {
     match handle.machine() {
@@ -218,7 +218,7 @@ fn entry_of(machine: &Machine, bank: u32, i: u32) -> EntryRecord
 /// input.
 #[unsafe(no_mangle)]
 pub extern "C" fn torusmem_next(handle: &mut Handle, at: u32, input: u32, dst: u32) -> Outcome
-    ensures { OnHeld (Tells (next_told at input dst)) (held handle.old) (held handle.new) result }
+    ensures { OnHeld (HandleTells (next_told at input dst)) (held handle.old) (held handle.new) result }
 {
     match handle.machine() {
         Some(machine) => match next_number(machine.machine().torus(), at, input, dst) {

@@ -1,8 +1,8 @@
 //! Answers, entries and channels, as C sees them.
 
 ghost use Rattle.std.specs.Prelude.{◌≡◌};
-ghost use Rattle.torusmem_c.specs.Outcome.{flag, number_of};
-ghost use Rattle.torusmem_c.specs.Records.{operation_number, first_value, second_value, has_old, old_word};
+ghost use Rattle.torusmem_c.specs.Outcome.{c_flag, c_code};
+ghost use Rattle.torusmem_c.specs.Records.{operation_number, c_first_value, c_second_value, has_old, old_word};
 ghost use Rattle.torusmem_c.specs.Records.{answer_record, no_answer, answer_or_none, entry_record, no_entry};
 ghost use Rattle.torusmem_c.specs.Records.{entry_or_none};
 
@@ -154,7 +154,7 @@ fn operation_number(op: Op) -> u32
 
 /// The first value that an operation brings, or 0.
 fn first_value(op: Op) -> u64
-    ensures { result ≡ first_value op }
+    ensures { result ≡ c_first_value op }
 {
     match op {
         Op::Load => 0,
@@ -172,7 +172,7 @@ fn first_value(op: Op) -> u64
 
 /// The second value of a compare-and-swap, or 0.
 fn second_value(op: Op) -> u64
-    ensures { result ≡ second_value op }
+    ensures { result ≡ c_second_value op }
 {
     match op {
         Op::Cas(_, new) => new,

@@ -13,7 +13,7 @@ use crate::room::put_over;
 use machine_handle::Handle;
 use machine_report::Machine;
 use script::{LineFault, Scripts, read_machine, read_scripts};
-use spins_told::{SpentSpin, spent_lines};
+use sentences::{SpentSpin, spent_lines};
 use std::alloc::{AllocError, Global};
 
 /// A spin that ran out of loads: its processor, its line in the scripts text, from 1, and the number

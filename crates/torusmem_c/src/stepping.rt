@@ -4,9 +4,9 @@ ghost use Rattle.std.specs.Prelude.{◌≡◌};
 ghost use Rattle.machine_handle.specs.Held.{held};
 ghost use Rattle.torusmem_c.specs.Choices.{attempt_named};
 ghost use Rattle.torusmem_c.specs.Held.{OnCore, OnHeld};
-ghost use Rattle.torusmem_c.specs.Outcome.{outcome};
-ghost use Rattle.torusmem_c.specs.Steps.{Attempts, Finishes, MakesRound, MakesSteps, TellsEnabled, TellsFinished};
-ghost use Rattle.torusmem_c.specs.Steps.{TellsMovesLeft, is_enabled, moved, steps_named};
+ghost use Rattle.torusmem_c.specs.Outcome.{c_outcome};
+ghost use Rattle.torusmem_c.specs.Steps.{MakesAttempt, SaysFinished, MakesRound, MakesSteps, TellsEnabled, TellsFinished};
+ghost use Rattle.torusmem_c.specs.Steps.{TellsMovesLeft, c_enabled, moved_number, steps_named};
 
 use crate::choice::attempt_named;
 use crate::outcome::{Code, Outcome};
@@ -23,7 +23,7 @@ pub extern "C" fn torusmem_step(
     choice: u32,
     number: u32,
 ) -> Outcome
-    ensures { OnHeld (Attempts (attempt_named agent choice number)) (held handle.old)
+    ensures { OnHeld (MakesAttempt (attempt_named agent choice number)) (held handle.old)
         (held handle.new) result }
 {
     match handle.machine() {
@@ -35,7 +35,7 @@ pub extern "C" fn torusmem_step(
 /// Makes the step that is named, if one is.
 #[inline(always)]
 fn made(machine: &mut AskedMachine, attempt: Option<Step>) -> Outcome
-    ensures { OnCore (Attempts attempt) machine.old machine.new result }
+    ensures { OnCore (MakesAttempt attempt) machine.old machine.new result }
 {
     match attempt {
         Some(attempt) => Outcome::done(moved(machine.step(attempt))),
@@ -46,7 +46,7 @@ fn made(machine: &mut AskedMachine, attempt: Option<Step>) -> Outcome
 /// 1 where a step moved, 0 where it was idle.
 #[inline(always)]
 fn moved(stepped: Stepped) -> u64
-    ensures { result ≡ moved stepped }
+    ensures { result ≡ moved_number stepped }
 {
     match stepped {
         Stepped::Moved => 1,
@@ -87,7 +87,7 @@ fn moves_left(machine: &AskedMachine) -> u64
 /// takes one from the moves that are left.
 fn made_all(machine: &mut AskedMachine, attempts: &[AttemptRecord]) -> u64
     ensures { OnCore (MakesSteps (steps_named attempts.now)) machine.old machine.new
-        (outcome Code.Done result) }
+        (c_outcome Code.Done result) }
 {
     machine.reached();
     let left = moves_left(machine);
@@ -121,7 +121,7 @@ pub extern "C" fn torusmem_enabled(
 
 /// Whether the step that is named is enabled.
 fn is_enabled(machine: &Machine, attempt: Option<Step>) -> bool
-    ensures { result ≡ is_enabled attempt machine.now }
+    ensures { result ≡ c_enabled attempt machine.now }
 {
     match attempt {
         Some(attempt) => machine.enabled(attempt),
@@ -146,7 +146,7 @@ pub extern "C" fn torusmem_round(handle: &mut Handle) -> Outcome
 /// Makes rounds until every script is finished, and answers how many.
 #[unsafe(no_mangle)]
 pub extern "C" fn torusmem_finish(handle: &mut Handle) -> Outcome
-    ensures { OnHeld Finishes (held handle.old) (held handle.new) result }
+    ensures { OnHeld SaysFinished (held handle.old) (held handle.new) result }
 {
     match handle.machine() {
         Some(machine) => Outcome::done(machine.finish()),

@@ -4,12 +4,12 @@ ghost use Rattle.std.specs.Prelude.{◌≡◌, ◌⊎◌, IfErr, IfOk, None};
 ghost use Rattle.std.specs.Str.Lines.{lines};
 ghost use Rattle.machine_report.specs.Report.{machine_report};
 ghost use Rattle.machine_handle.specs.Held.{held};
-ghost use Rattle.machine_texts.specs.Loading.{load_by};
+ghost use Rattle.machine_core.specs.Loading.{load_by};
 ghost use Rattle.report_check.specs.Good.{GoodReport};
 ghost use Rattle.report_lines.specs.Line.{text_of};
 ghost use Rattle.torusmem_c.specs.Held.{OnHeld};
 ghost use Rattle.torusmem_c.specs.Room.{LacksMemory};
-ghost use Rattle.torusmem_c.specs.Texts.{IsAccepted, IsVerdict, Loads, PutsReport, PutsText};
+ghost use Rattle.torusmem_c.specs.Texts.{SaysGood, SaysVerdict, Loads, PutsReport, PutsText};
 ghost use Rattle.torusmem_c.specs.Texts.{check_outcome};
 
 use crate::outcome::{Code, Outcome, fault_outcome, no_memory};
@@ -134,8 +134,8 @@ pub extern "C" fn torusmem_report(alloc: Global, handle: &mut Handle, out: &mut 
 /// Checks a report. Errors: its first bad line, or out of memory.
 #[unsafe(no_mangle)]
 pub extern "C" fn torusmem_check(alloc: Global, report: &[u8]) -> Outcome
-    ensures verdict { IsVerdict report.now result }
-    ensures only { GoodReport report.now → IsAccepted result }
+    ensures verdict { SaysVerdict report.now result }
+    ensures only { GoodReport report.now → SaysGood result }
 {
     match check_report(alloc, report) {
         Ok(()) => Outcome::done(0),

@@ -1,7 +1,7 @@
 //! The judge of traces, as C sees it.
 
 ghost use Rattle.std.specs.Prelude.{◌≡◌, ◌⊎◌, IfOk, length};
-ghost use Rattle.trace_order.specs.Traces.{IsTrace};
+ghost use Rattle.trace_laws.specs.Traces.{IsTrace};
 ghost use Rattle.trace_records.specs.Gathered.{trace_of};
 ghost use Rattle.torusmem_c.specs.Room.{LacksMemory};
 ghost use Rattle.torusmem_c.specs.Traces.{PutsVerdict, TellsTrace, TellsUnjudged, TellsVerdict, numbers_in};
@@ -12,7 +12,7 @@ use crate::room::put_over;
 use std::alloc::{AllocError, Global};
 use trace_judge::Undecided;
 use trace_judge::judge::{Verdict, judge};
-use trace_order::{Call, Event};
+use trace_laws::{Call, Event};
 use trace_records::{EventRecord, trace_of};
 
 /// The numbers of an order's operations.

@@ -8,7 +8,7 @@ ghost use Rattle.torusmem_c.specs.Watching.{told_outcome};
 use crate::outcome::{Code, Outcome, no_memory};
 use packet::Operation;
 use std::alloc::Global;
-use trace_order::{Call, Event};
+use trace_laws::{Call, Event};
 use trace_records::record::{op_numbered, reply_numbered};
 use trace_watch::{Full, Seen, begin};
 use watch_handle::{Handle, Kept};

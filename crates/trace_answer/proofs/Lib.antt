@@ -1,2 +1,16 @@
 pub mod Behind
 pub mod Operations
+pub mod Lists
+pub mod Waiting
+pub mod Given
+pub mod Rows
+pub mod Numbered
+pub mod Replayed
+pub mod Answered
+pub mod Shapes
+pub mod Goodness
+pub mod Noting
+pub mod Growing
+pub mod Waits
+pub mod Parts
+pub mod Whole

@@ -5,7 +5,7 @@ use Rattle.std.specs.Prelude.{option_map}
 use Rattle.std.specs.List.{join_with_byte, flat_map}
 use Rattle.packet.specs.declared.kinds.Reply.{Reply}
 use Rattle.report_lines.specs.Line.{op_words, reply_word}
-use Rattle.trace_order.specs.declared.event.Call.{Call}
+use Rattle.trace_laws.specs.declared.event.Call.{Call}
 use Rattle.trace_text.specs.declared.issued.Issued.{Issued}
 use Rattle.trace_text.specs.declared.linearize.Unfound.{Unfound}
 use Rattle.trace_text.specs.declared.linearize.Unfound.TheVariants.{Memory, Configurations}

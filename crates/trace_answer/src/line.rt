@@ -7,7 +7,7 @@ ghost use Rattle.trace_answer.specs.Texts.{order_words, order_line_text, call_li
 
 use crate::words::{put_index, put_op, put_reply, put_value, put_word};
 use arrayvec::ArrayString;
-use trace_order::Call;
+use trace_laws::Call;
 use trace_text::{Issued, Unfound};
 
 /// The text of one line: the longest has 128 bytes at most, its line feed with it.

@@ -8,7 +8,7 @@ ghost use Rattle.trace_answer.specs.Texts.{order_text, lines_text};
 use crate::line::call_line;
 use report_lines::output::put_all;
 use report_lines::{Out, OutputFailed};
-use trace_order::Call;
+use trace_laws::Call;
 use trace_text::Issued;
 
 /// Writes the line of each operation.

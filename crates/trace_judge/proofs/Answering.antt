@@ -5,23 +5,23 @@ use Rattle.std.proofs.Common.{length-set, vec_len, not}
 use Rattle.std.proofs.lemmas.Bool.{cases_eq, cases_lt, eqb-true, eqb-false}
 use Rattle.std.proofs.lemmas.List.{nil_from_length}
 use Rattle.packet.specs.declared.kinds.Reply.{Reply}
-use Rattle.trace_order.specs.declared.event.Call.{Call}
-use Rattle.trace_order.specs.declared.event.Event.{Event}
-use Rattle.trace_search.specs.declared.opened.Open.{Open}
-use Rattle.trace_search.specs.declared.opened.Config.{Config}
-use Rattle.trace_search.specs.declared.opened.Branch.{Branch}
-use Rattle.trace_search.specs.declared.opened.Node.{Node}
-use Rattle.trace_order.specs.Traces.{IsTrace, IsIssuedAt, IsAnsweredAt}
-use Rattle.trace_order.specs.Orders.{IsLinearizable}
-use Rattle.trace_search.specs.Configs.{IsIn, IsLeft, IsTaken, HasAsGood, IsExpanded, release}
-use Rattle.trace_search.specs.Searches.{IsAt, IsSound, IsSearched, configs_of, AreReleased}
-use Rattle.trace_search.proofs.Start.{searched_answer, in_map, map_in}
-use Rattle.trace_search.proofs.Complete.{complete_none}
-use Rattle.trace_order.proofs.Lists.{get_within}
+use Rattle.trace_laws.specs.declared.event.Call.{Call}
+use Rattle.trace_laws.specs.declared.event.Event.{Event}
+use Rattle.trace_laws.specs.declared.opened.Open.{Open}
+use Rattle.trace_laws.specs.declared.opened.Config.{Config}
+use Rattle.trace_laws.specs.declared.opened.Branch.{Branch}
+use Rattle.trace_laws.specs.declared.opened.Node.{Node}
+use Rattle.trace_laws.specs.Traces.{IsTrace, TraceIssuesAt, TraceAnswersAt}
+use Rattle.trace_laws.specs.Orders.{IsLinearizable}
+use Rattle.trace_laws.specs.Configs.{IsIn, IsLeft, HasTakenEffect, HasAsGood, IsExpanded, release}
+use Rattle.trace_laws.specs.Searches.{IsAt, IsSoundSearch, IsSearched, configs_of, AreReleased}
+use Rattle.trace_laws.proofs.Start.{searched_answer, in_map, map_in}
+use Rattle.trace_laws.proofs.Complete.{complete_none}
+use Rattle.trace_laws.proofs.Lists.{get_within}
 use Rattle.trace_judge.specs.declared.search.Search.{Search}
 use Rattle.trace_judge.specs.declared.index.Index.{Index}
 use Rattle.trace_judge.specs.Sets.{lists_of, with_set, StaysSound}
-use Rattle.trace_judge.specs.Searched.{Holds}
+use Rattle.trace_judge.specs.Searched.{HasSearched}
 use Rattle.trace_judge.specs.Slots.{IsParted}
 use Rattle.trace_judge.proofs.Branches.{with_same, with_other}
 use Rattle.trace_judge.proofs.Parting.{parted_freed}
@@ -29,28 +29,28 @@ use Rattle.trace_judge.proofs.Searching.{set_same, set_other, read_set}
 
 -- what is answered was issued
 pub issue_known : (words : ℕ) (trace : List Event) (k id : ℕ) → IsTrace words trace
-    → (reply : Reply) × IsAnsweredAt trace k id reply
-    → ((i : ℕ) (call : Call) → i < k → IsIssuedAt trace i call → call.id ≡ id → ⊥) → ⊥
+    → (reply : Reply) × TraceAnswersAt trace k id reply
+    → ((i : ℕ) (call : Call) → i < k → TraceIssuesAt trace i call → call.id ≡ id → ⊥) → ⊥
 issue_known words trace k id t now none = let r = t.issued k id now.0 now.1 in none r.0 r.1 r.2 r.4 r.3
 
 -- on a word that there is
 pub issue_inside : (words : ℕ) (trace : List Event) (k id : ℕ) (call : Call) → IsTrace words trace
-    → (i : ℕ) × (i < k) × IsIssuedAt trace i call × (call.id ≡ id) → call.operation.address < words
+    → (i : ℕ) × (i < k) × TraceIssuesAt trace i call × (call.id ≡ id) → call.operation.address < words
 issue_inside words trace k id call t is = t.inside is.0 call is.2
 
 -- and is in a slot
 pub slot_known : {A : Type 0} (opening : List ℕ) (trace whole : List Event) (k : ℕ) (s : Search A) (id : ℕ) (call : Call)
     (seen : List (Option Open))
-    → IsTrace (length opening) trace → Holds {A = A} opening trace whole k s
-    → (reply : Reply) × IsAnsweredAt trace k id reply
-    → (i : ℕ) × (i < k) × IsIssuedAt trace i call × (call.id ≡ id)
+    → IsTrace (length opening) trace → HasSearched {A = A} opening trace whole k s
+    → (reply : Reply) × TraceAnswersAt trace k id reply
+    → (i : ℕ) × (i < k) × TraceIssuesAt trace i call × (call.id ≡ id)
     → seen ≡ lists_of s.tables.items call.operation.address
     → ((u : ℕ) (o : Open) → IsAt seen u o → o.call.id ≡ id → ⊥) → ⊥
 slot_known {A} opening trace whole k s id call seen t holds now is e none =
     let inside : call.operation.address < length opening = t.inside is.0 call is.2 in
     ⊎_elim {C = ⊥}
-    (λ (a : (i : ℕ) × (told : Reply) × (i < k) × IsAnsweredAt trace i call.id told).
-    let same = t.once a.0 k id a.1 now.0 (subst (λ (n : ℕ). IsAnsweredAt trace a.0 n a.1) is.3 a.3) now.1 in
+    (λ (a : (i : ℕ) × (told : Reply) × (i < k) × TraceAnswersAt trace i call.id told).
+    let same = t.once a.0 k id a.1 now.0 (subst (λ (n : ℕ). TraceAnswersAt trace a.0 n a.1) is.3 a.3) now.1 in
     let l = a.2 in
     omega arith)
     (λ (a : (u : ℕ) × (o : Open) × IsAt (lists_of s.tables.items call.operation.address) u o × (o.call ≡ call)).
@@ -61,7 +61,7 @@ slot_known {A} opening trace whole k s id call seen t holds now is e none =
 -- which is in the table of its word
 pub slot_there : {A : Type 0} (opening : List ℕ) (trace whole : List Event) (k : ℕ) (s : Search A) (w slot : ℕ) (o : Open)
     (seen : List (Option Open))
-    → Holds {A = A} opening trace whole k s → w < length opening → seen ≡ lists_of s.tables.items w → IsAt seen slot o
+    → HasSearched {A = A} opening trace whole k s → w < length opening → seen ≡ lists_of s.tables.items w → IsAt seen slot o
     → IsAt (lists_of s.tables.items o.call.operation.address) slot o × (o.call.operation.address < length opening)
 slot_there {A} opening trace whole k s w slot o seen holds inside e at =
     let there : IsAt (lists_of s.tables.items w) slot o = subst (λ (ts : List (Option Open)). IsAt ts slot o) e at in
@@ -78,7 +78,7 @@ slot_low {A} tables w slot o v l e at = get_within v.items slot (Some o)
 pub sound_as : (opening : List ℕ) (trace : List Event) (k : ℕ) (tables : ℕ → List (Option Open))
     (sets others : ℕ → List Branch) (nodes : List Node)
     → ((v : ℕ) → others v ≡ sets v)
-    → IsSound opening trace k tables sets nodes → IsSound opening trace k tables others nodes
+    → IsSoundSearch opening trace k tables sets nodes → IsSoundSearch opening trace k tables others nodes
 sound_as opening trace k tables sets others nodes same sound = record {
   back = sound.back;
   inside = λ v i b l h e. sound.inside v i b l (subst (λ (bs : List Branch). IsIn bs b) (same v) h) e;
@@ -96,9 +96,9 @@ pub holds_answer : {A : Type 0} (opening : List ℕ) (trace whole : List Event) 
     (tables : Vec (Vec (Option Open) A) A) (words : Vec (Vec Branch A) A) (nodes : Vec Node A)
     (slot : ℕ) (a : Open) (id : ℕ) (reply : Reply) (old middle : List Branch) (cleared : Vec (Option Open) A)
     (later : Vec Branch A)
-    → IsTrace (length opening) trace → IsAnsweredAt trace k id reply → a.call.id ≡ id
+    → IsTrace (length opening) trace → TraceAnswersAt trace k id reply → a.call.id ≡ id
     → a.call.operation.address < length opening
-    → IsAt (lists_of s.tables.items a.call.operation.address) slot a → Holds {A = A} opening trace whole k s
+    → IsAt (lists_of s.tables.items a.call.operation.address) slot a → HasSearched {A = A} opening trace whole k s
     → old ≡ lists_of s.words.items a.call.operation.address
     → tables.items ≡ set s.tables.items a.call.operation.address cleared
     → cleared.items ≡ set (lists_of s.tables.items a.call.operation.address) slot None
@@ -110,7 +110,7 @@ pub holds_answer : {A : Type 0} (opening : List ℕ) (trace whole : List Event) 
     → StaysSound (lists_of s.tables.items a.call.operation.address) a.call.operation.address old s.nodes.items
     middle nodes.items
     → AreReleased slot middle later.items
-    → ((b : Branch) → IsIn middle b → IsTaken b.config slot → IsIn later.items
+    → ((b : Branch) → IsIn middle b → HasTakenEffect b.config slot → IsIn later.items
     (record { config = release b.config slot; trail = b.trail }))
     → IsSearched opening trace (suc k) (lists_of tables.items) (lists_of words.items) nodes.items
 holds_answer {A} opening trace whole k s tables words nodes slot a id reply old middle cleared later t now is far at holds was emptied clear
@@ -131,8 +131,8 @@ holds_answer {A} opening trace whole k s tables words nodes slot a id reply old 
     let same_table : (v : ℕ) → v ≢ w → lists_of tables.items v ≡ open' v =
     λ v ne. ap (λ (vs : List (Vec (Option Open) A)). lists_of vs v) emptied ∙ set_other s.tables.items w cleared v ne in
     let mid_same : mid w ≡ middle = with_same sets w middle in
-    let now' : IsAnsweredAt trace k a.call.id reply = subst (λ (n : ℕ). IsAnsweredAt trace k n reply) (sym is) now in
-    let begun : IsSound opening trace k open' (with_set sets w old) s.nodes.items =
+    let now' : TraceAnswersAt trace k a.call.id reply = subst (λ (n : ℕ). TraceAnswersAt trace k n reply) (sym is) now in
+    let begun : IsSoundSearch opening trace k open' (with_set sets w old) s.nodes.items =
     sound_as opening trace k open' sets (with_set sets w old) s.nodes.items
     (λ v. ⊎_elim {C = with_set sets w old v ≡ sets v}
     (λ (e : v ≡ w). ap (λ (u : ℕ). with_set sets w old u) e ∙ (with_same sets w old ∙ (was ∙ ap sets (sym e))))
@@ -150,7 +150,7 @@ holds_answer {A} opening trace whole k s tables words nodes slot a id reply old 
     let r = map_in (λ (b : Branch). b.config) middle c
     (subst (λ (bs : List Branch). IsIn (configs_of bs) c) mid_same h) in
     let b : Branch = r.0 in
-    let q = released b r.1 (subst (λ (d : Config). IsTaken d slot) r.2 taken) in
+    let q = released b r.1 (subst (λ (d : Config). HasTakenEffect d slot) r.2 taken) in
     subst (λ (bs : List Branch). IsIn (configs_of bs) (release c slot)) (sym here)
     (subst (λ (d : Config). IsIn (configs_of later.items) (release d slot)) (sym r.2)
     (in_map (λ (b : Branch). b.config) later.items (record { config = release b.config slot; trail = b.trail }) q)))
@@ -162,9 +162,9 @@ pub seen_answer : {A : Type 0} (opening : List ℕ) (trace whole : List Event) (
     (tables : Vec (Vec (Option Open) A) A) (words : Vec (Vec Branch A) A) (nodes : Vec Node A)
     (slot : ℕ) (a : Open) (id : ℕ) (reply : Reply) (table shown cleared : Vec (Option Open) A) (seen : List (Option Open))
     (branches : Vec Branch A) (old middle view : List Branch) (later : Vec Branch A)
-    → IsTrace (length opening) trace → IsAnsweredAt trace k id reply → a.call.id ≡ id
+    → IsTrace (length opening) trace → TraceAnswersAt trace k id reply → a.call.id ≡ id
     → a.call.operation.address < length opening
-    → IsAt (lists_of s.tables.items a.call.operation.address) slot a → Holds {A = A} opening trace whole k s
+    → IsAt (lists_of s.tables.items a.call.operation.address) slot a → HasSearched {A = A} opening trace whole k s
     → table ≡ get_or s.tables.items a.call.operation.address table
     → shown ≡ get_or s.tables.items a.call.operation.address shown → seen ≡ shown.items
     → branches ≡ get_or s.words.items a.call.operation.address branches → old ≡ branches.items
@@ -177,7 +177,7 @@ pub seen_answer : {A : Type 0} (opening : List ℕ) (trace whole : List Event) (
     (configs_of middle) c)
     → StaysSound seen a.call.operation.address old s.nodes.items middle nodes.items
     → AreReleased slot view later.items
-    → ((b : Branch) → IsIn view b → IsTaken b.config slot → IsIn later.items
+    → ((b : Branch) → IsIn view b → HasTakenEffect b.config slot → IsIn later.items
     (record { config = release b.config slot; trail = b.trail }))
     → IsSearched opening trace (suc k) (lists_of tables.items) (lists_of words.items) nodes.items
 seen_answer {A} opening trace whole k s tables words nodes slot a id reply table shown cleared seen branches old middle view later t now is far at holds
@@ -195,7 +195,7 @@ seen_answer {A} opening trace whole k s tables words nodes slot a id reply table
     → IsExpanded ts w (configs_of middle) c) e2 closed)
     (subst (λ (ts : List (Option Open)). StaysSound ts w old s.nodes.items middle nodes.items) e2 sound)
     (subst (λ (bs : List Branch). AreReleased slot bs later.items) viewed from)
-    (subst (λ (bs : List Branch). (b : Branch) → IsIn bs b → IsTaken b.config slot → IsIn later.items
+    (subst (λ (bs : List Branch). (b : Branch) → IsIn bs b → HasTakenEffect b.config slot → IsIn later.items
     (record { config = release b.config slot; trail = b.trail })) viewed released)
 
 some_in : (bs : List Branch) → 0 < length bs → (b : Branch) × IsIn bs b
@@ -209,9 +209,9 @@ pub answer_yes : {A : Type 0} (opening : List ℕ) (trace whole : List Event) (k
     → w < length opening → 0 < length later.items
     → table ≡ get_or s.tables.items w table → IsAt (lists_of s.tables.items w) slot a
     → tables.items ≡ set s.tables.items w cleared → cleared.items ≡ set table.items slot None
-    → words.items ≡ set s.words.items w later → Holds {A = A} opening trace whole k s
+    → words.items ≡ set s.words.items w later → HasSearched {A = A} opening trace whole k s
     → IsSearched opening trace (suc k) (lists_of tables.items) (lists_of words.items) nodes.items
-    → Holds {A = A} opening trace whole (k + 1) (record { tables = tables; words = words; nodes = nodes; index = index; most = s.most; stuck = stuck })
+    → HasSearched {A = A} opening trace whole (k + 1) (record { tables = tables; words = words; nodes = nodes; index = index; most = s.most; stuck = stuck })
 answer_yes {A} opening trace whole k s tables words nodes index stuck w slot a table cleared later far some read at emptied clear written holds searched = record {
   tabled = ap (λ (vs : List (Vec (Option Open) A)). length vs) emptied ∙ (length-set s.tables.items w cleared ∙ holds.tabled);
   sized = ap (λ (vs : List (Vec Branch A)). length vs) written ∙ (length-set s.words.items w later ∙ holds.sized);

@@ -1,8 +1,8 @@
 -- The lists of the words before the first event.
 use Rattle.std.proofs.Common.{◌≡◌, ◌≢◌, ⊎_elim, ℕ, zero, suc, ◌+◌, ◌<◌, List, [], ◌∷◌, ◌++◌, length, Vec, refl, sym, ◌∙◌, ap, arith, get_or}
 use Rattle.std.proofs.lemmas.Bool.{cases_eq}
-use Rattle.trace_search.specs.declared.opened.Branch.{Branch}
-use Rattle.trace_search.specs.Searches.{first_branch}
+use Rattle.trace_laws.specs.declared.opened.Branch.{Branch}
+use Rattle.trace_laws.specs.Searches.{first_branch}
 use Rattle.trace_judge.specs.Sets.{lists_of}
 use Rattle.trace_judge.proofs.Ranks.{length_pushed, lists_before, lists_pushed}
 

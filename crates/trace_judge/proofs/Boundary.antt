@@ -1,11 +1,11 @@
 -- Between a beginning that is linearizable and one that isn't.
 use Rattle.std.proofs.Common.{◌≡◌, ℕ, ◌+◌, ◌<◌, ◌≤◌, List, length, subst, sym, arith, take}
 use Rattle.std.proofs.lemmas.List.{take_all}
-use Rattle.trace_order.specs.declared.event.Event.{Event}
-use Rattle.trace_order.specs.declared.event.Event.TheVariants.{Issue, Answer}
-use Rattle.trace_order.specs.Traces.{IsTrace}
-use Rattle.trace_order.specs.Orders.{IsLinearizable}
-use Rattle.trace_order.proofs.Lists.{get_take, take_get}
+use Rattle.trace_laws.specs.declared.event.Event.{Event}
+use Rattle.trace_laws.specs.declared.event.Event.TheVariants.{Issue, Answer}
+use Rattle.trace_laws.specs.Traces.{IsTrace}
+use Rattle.trace_laws.specs.Orders.{IsLinearizable}
+use Rattle.trace_laws.proofs.Lists.{get_take, take_get}
 use Rattle.trace_judge.specs.Verdicts.{IsGoodUntil}
 use Rattle.trace_judge.specs.Stops.{IsBeginning}
 

@@ -3,17 +3,17 @@ use Rattle.std.proofs.Common.{◌≡◌, ◌≢◌, inl, inr, ⊎_elim, ℕ, ◌
 use Rattle.std.proofs.Common.{append_assoc, append-nil, eq-eqb}
 use Rattle.std.proofs.lemmas.Bool.{cases_eq, ne_eqb, cond-true, cond-false}
 use Rattle.std.proofs.lemmas.Result.{IfOk-weaker}
-use Rattle.trace_search.specs.declared.opened.Open.{Open}
-use Rattle.trace_search.specs.declared.opened.Config.{Config}
-use Rattle.trace_search.specs.declared.opened.Branch.{Branch}
-use Rattle.trace_search.specs.declared.opened.Node.{Node}
-use Rattle.trace_search.specs.Configs.{IsIn, MayTake, GoesOn}
-use Rattle.trace_search.specs.Searches.{configs_of}
-use Rattle.trace_order.proofs.Lists.{get_push_cases, get_append_left, get_push}
-use Rattle.trace_search.proofs.Picking.{grown, node_of}
-use Rattle.trace_search.proofs.Sound.{sound_add}
-use Rattle.trace_search.proofs.Fewer.{sound_fewer}
-use Rattle.trace_search.proofs.Start.{in_map, map_in}
+use Rattle.trace_laws.specs.declared.opened.Open.{Open}
+use Rattle.trace_laws.specs.declared.opened.Config.{Config}
+use Rattle.trace_laws.specs.declared.opened.Branch.{Branch}
+use Rattle.trace_laws.specs.declared.opened.Node.{Node}
+use Rattle.trace_laws.specs.Configs.{IsIn, MayTake, GoesOn}
+use Rattle.trace_laws.specs.Searches.{configs_of}
+use Rattle.trace_laws.proofs.Lists.{get_push_cases, get_append_left, get_push}
+use Rattle.trace_laws.proofs.Picking.{grown, node_of}
+use Rattle.trace_laws.proofs.Sound.{sound_add}
+use Rattle.trace_laws.proofs.Fewer.{sound_fewer}
+use Rattle.trace_laws.proofs.Start.{in_map, map_in}
 use Rattle.trace_judge.specs.Sets.{with_set, StaysSound}
 
 pub pushed_in : (old new : List Branch) (b : Branch) → new ≡ old ++ b ∷ [] → IsIn (configs_of new) b.config

@@ -10,17 +10,17 @@ use Rattle.packet.specs.declared.kinds.Op.TheVariants.{Load, Store, Swap, Cas, A
 use Rattle.packet.specs.declared.kinds.Reply.{Reply}
 use Rattle.packet.specs.declared.kinds.Reply.TheVariants.{Old}
 use Rattle.packet.specs.Memory.{new_word, reply_to}
-use Rattle.trace_search.specs.declared.opened.Open.{Open}
-use Rattle.trace_search.specs.declared.opened.Config.{Config}
-use Rattle.trace_search.specs.declared.opened.Branch.{Branch}
-use Rattle.trace_search.specs.declared.opened.Node.{Node}
-use Rattle.trace_search.specs.Configs.{IsIn, IsLeft, MayTake, Agrees, IsIdle, IsAsGood, effect, with_bit}
-use Rattle.trace_search.proofs.Dominance.{good_same, good_more, good_idle}
-use Rattle.trace_search.proofs.Picking.{grown, node_of}
-use Rattle.trace_order.proofs.Lists.{get_push, get_push_cases, get_append_left}
+use Rattle.trace_laws.specs.declared.opened.Open.{Open}
+use Rattle.trace_laws.specs.declared.opened.Config.{Config}
+use Rattle.trace_laws.specs.declared.opened.Branch.{Branch}
+use Rattle.trace_laws.specs.declared.opened.Node.{Node}
+use Rattle.trace_laws.specs.Configs.{IsIn, IsLeft, MayTake, AgreesWithValue, IsIdle, IsAsGood, effect, with_bit}
+use Rattle.trace_laws.proofs.Dominance.{good_same, good_more, good_idle}
+use Rattle.trace_laws.proofs.Picking.{grown, node_of}
+use Rattle.trace_laws.proofs.Lists.{get_push, get_push_cases, get_append_left}
 use Rattle.trace_judge.specs.declared.idles.Idle.{Idle}
 use Rattle.trace_judge.specs.Idles.{FitsAt, IsListed, AreListed, AreLow, fits_at, applies, calmed, settled}
-use Rattle.trace_judge.specs.Sets.{StaysSound, LeadsTo}
+use Rattle.trace_judge.specs.Sets.{StaysSound, Replaces}
 use Rattle.trace_judge.proofs.Branches.{stays_same, stays_more, stays_fewer, stays_added}
 
 -- a reply that is a word is the word that was found
@@ -45,13 +45,13 @@ told_idle o r told left = λ word agrees.
     ap (λ (v : ℕ). new_word o.call.operation.op v) e ∙ (left ∙ sym e)
 
 pub told_fits : (o : Open) (r : ℕ) → o.promise ≡ Some (Old r) → reply_to o.call.operation.op r ≡ Old r
-    → (word : ℕ) → FitsAt (Some r) word → Agrees o word
+    → (word : ℕ) → FitsAt (Some r) word → AgreesWithValue o word
 told_fits o r told fits = λ word e.
     subst (λ (p : Option Reply). IfSome p (λ reply. reply_to o.call.operation.op word ≡ reply)) (sym told)
     (subst (λ (v : ℕ). reply_to o.call.operation.op v ≡ Old r) e fits)
 
 -- one that is told another word than this doesn't take effect at it
-pub other_told : (o : Open) (word told : ℕ) → o.promise ≡ Some (Old told) → told ≢ word → Agrees o word → ⊥
+pub other_told : (o : Open) (word told : ℕ) → o.promise ≡ Some (Old told) → told ≢ word → AgreesWithValue o word → ⊥
 other_told o word told e ne agrees =
     let h : reply_to o.call.operation.op word ≡ Old told =
     subst (λ (p : Option Reply). IfSome p (λ reply. reply_to o.call.operation.op word ≡ reply)) e agrees in
@@ -61,7 +61,7 @@ other_told o word told e ne agrees =
 pub load_idle : (o : Open) → o.call.operation.op ≡ Load → IsIdle o
 load_idle o e = λ word agrees. ap (λ (op : Op). new_word op word) e
 
-pub load_fits : (o : Open) → o.promise ≡ None → (word : ℕ) → Agrees o word
+pub load_fits : (o : Open) → o.promise ≡ None → (word : ℕ) → AgreesWithValue o word
 load_fits o none = λ word.
     subst (λ (p : Option Reply). IfSome p (λ reply. reply_to o.call.operation.op word ≡ reply)) (sym none) tt
 
@@ -148,11 +148,11 @@ settled_all idles i c start all was = ap (λ (qs : List Idle). settled qs c) (sy
 
 -- the branch that an idle operation leads to
 pub leads_same : (table : List (Option Open)) (w : ℕ) (from : Branch) (nodes : List Node)
-    → LeadsTo table w from nodes from nodes
+    → Replaces table w from nodes from nodes
 leads_same table w from nodes = λ others. stays_same table w (others ++ from ∷ []) nodes
 
 pub leads_more : (table : List (Option Open)) (w : ℕ) (a b c : Branch) (l m n : List Node)
-    → LeadsTo table w a l b m → LeadsTo table w b m c n → LeadsTo table w a l c n
+    → Replaces table w a l b m → Replaces table w b m c n → Replaces table w a l c n
 leads_more table w a b c l m n f g = λ others.
     stays_more table w (others ++ a ∷ []) (others ++ b ∷ []) (others ++ c ∷ []) l m n (f others) (g others)
 
@@ -172,7 +172,7 @@ pub leads_one : (table : List (Option Open)) (w : ℕ) (from to : Branch) (nodes
     → IsListed table w q → applies q from.config ≡ true
     → to ≡ record { config = record { word = from.config.word; taken = with_bit from.config.taken q.slot }; trail = Some (length nodes) }
     → more ≡ nodes ++ record { call = q.opened.call; before = from.trail } ∷ []
-    → LeadsTo table w from nodes to more
+    → Replaces table w from nodes to more
 leads_one table w from to nodes more q is h made longer = λ others.
     let o : Open = q.opened in
     let next : Branch = grown nodes from q.slot o in
@@ -196,7 +196,7 @@ low_more idles later q l e low = λ p h. ⊎_elim {C = p.slot < 128}
 pub listed_more : (table : List (Option Open)) (w slot : ℕ) (place : Option Open) (idles later : List Idle) (q : Idle)
     → slice_get table slot ≡ Some place
     → (q.slot ≡ slot) × (place ≡ Some q.opened) × (q.opened.call.operation.address ≡ w) × IsIdle q.opened
-    × ((word : ℕ) → FitsAt q.at word → Agrees q.opened word)
+    × ((word : ℕ) → FitsAt q.at word → AgreesWithValue q.opened word)
     → later ≡ idles ++ q ∷ [] → AreListed table w idles → AreListed table w later
 listed_more table w slot place idles later q at is e are = λ p h. ⊎_elim {C = IsListed table w p}
     (λ (old : slice_get idles h.0 ≡ Some p). are p (h.0, old))

@@ -2,33 +2,33 @@
 use Rattle.std.proofs.Common.{◌≡◌, ◌≢◌, ◌⊎◌, ⊎_elim, ℕ, ◌+◌, ◌<◌, ◌≤◌, List, length, Option, Some, None, refl, sym, ◌∙◌, ap, subst, arith, slice_get}
 use Rattle.std.proofs.lemmas.Bool.{cases_eq, cases_lt}
 use Rattle.packet.specs.declared.kinds.Reply.{Reply}
-use Rattle.trace_order.specs.declared.event.Call.{Call}
-use Rattle.trace_order.specs.declared.event.Event.{Event}
-use Rattle.trace_order.specs.declared.event.Event.TheVariants.{Issue, Answer}
-use Rattle.trace_order.specs.Traces.{IsTrace, IsIssuedAt, IsAnsweredAt, WasIssued}
-use Rattle.trace_order.proofs.Lists.{get_within}
+use Rattle.trace_laws.specs.declared.event.Call.{Call}
+use Rattle.trace_laws.specs.declared.event.Event.{Event}
+use Rattle.trace_laws.specs.declared.event.Event.TheVariants.{Issue, Answer}
+use Rattle.trace_laws.specs.Traces.{IsTrace, TraceIssuesAt, TraceAnswersAt, WasIssued}
+use Rattle.trace_laws.proofs.Lists.{get_within}
 use Rattle.trace_judge.specs.Opened.{WasLeftOpen}
 
 -- no event from i up to k is of this number
 pub record NoneSince (trace : List Event) (k id i : ℕ) : Type 0 where
   pub low : i ≤ k
-  pub issues : (j : ℕ) (call : Call) → i ≤ j → j < k → IsIssuedAt trace j call → call.id ≡ id → ⊥
-  pub answers : (j : ℕ) (reply : Reply) → i ≤ j → j < k → IsAnsweredAt trace j id reply → ⊥
+  pub issues : (j : ℕ) (call : Call) → i ≤ j → j < k → TraceIssuesAt trace j call → call.id ≡ id → ⊥
+  pub answers : (j : ℕ) (reply : Reply) → i ≤ j → j < k → TraceAnswersAt trace j id reply → ⊥
 
 -- the last number that was issued before event k
 abbrev pub IsLast : List Event → ℕ → Option ℕ → Type 0
-IsLast trace k None = (i : ℕ) (call : Call) → i < k → IsIssuedAt trace i call → ⊥
-IsLast trace k (Some n) = ((i : ℕ) (call : Call) → i < k → IsIssuedAt trace i call → call.id ≤ n)
-    × ((i : ℕ) × (call : Call) × (i < k) × IsIssuedAt trace i call × (call.id ≡ n))
+IsLast trace k None = (i : ℕ) (call : Call) → i < k → TraceIssuesAt trace i call → ⊥
+IsLast trace k (Some n) = ((i : ℕ) (call : Call) → i < k → TraceIssuesAt trace i call → call.id ≤ n)
+    × ((i : ℕ) × (call : Call) × (i < k) × TraceIssuesAt trace i call × (call.id ≡ n))
 
 -- the first k events are a trace
 pub record IsChecked (words : ℕ) (trace : List Event) (k : ℕ) (last : Option ℕ) : Type 0 where
-  pub rising : (i j : ℕ) (a b : Call) → i < j → j < k → IsIssuedAt trace i a → IsIssuedAt trace j b
+  pub rising : (i j : ℕ) (a b : Call) → i < j → j < k → TraceIssuesAt trace i a → TraceIssuesAt trace j b
       → a.id < b.id
-  pub issued : (j id : ℕ) (reply : Reply) → j < k → IsAnsweredAt trace j id reply → WasIssued trace j id
-  pub once : (i j id : ℕ) (r s : Reply) → i < j → j < k → IsAnsweredAt trace i id r → IsAnsweredAt trace j id s
+  pub issued : (j id : ℕ) (reply : Reply) → j < k → TraceAnswersAt trace j id reply → WasIssued trace j id
+  pub once : (i j id : ℕ) (r s : Reply) → i < j → j < k → TraceAnswersAt trace i id r → TraceAnswersAt trace j id s
       → ⊥
-  pub inside : (i : ℕ) (call : Call) → i < k → IsIssuedAt trace i call → call.operation.address < words
+  pub inside : (i : ℕ) (call : Call) → i < k → TraceIssuesAt trace i call → call.operation.address < words
   pub greatest : IsLast trace k last
 
 pub checked_none : (words : ℕ) (trace : List Event) → IsChecked words trace 0 None
@@ -42,18 +42,18 @@ checked_none words trace = record {
 
 -- numbers that were issued are at most the last
 below_last : (trace : List Event) (k : ℕ) (last : Option ℕ) (n : ℕ) → IsLast trace k last
-    → ((m : ℕ) → last ≡ Some m → m < n) → (i : ℕ) (call : Call) → i < k → IsIssuedAt trace i call → call.id < n
+    → ((m : ℕ) → last ≡ Some m → m < n) → (i : ℕ) (call : Call) → i < k → TraceIssuesAt trace i call → call.id < n
 below_last trace k None n is less i call l h = absurd (is i call l h)
 below_last trace k (Some m) n is less i call l h = let a = is.0 i call l h in let b = less m refl in omega arith
 
 pub checked_issue : (words : ℕ) (trace : List Event) (k : ℕ) (last : Option ℕ) (call : Call)
-    → IsIssuedAt trace k call → call.operation.address < words
+    → TraceIssuesAt trace k call → call.operation.address < words
     → ((m : ℕ) → last ≡ Some m → m < call.id) → IsChecked words trace k last
     → IsChecked words trace (k + 1) (Some call.id)
 checked_issue words trace k last call now inside above was =
-    let here : (j : ℕ) → j ≡ k → (b : Call) → IsIssuedAt trace j b → call ≡ b = λ j e b h.
+    let here : (j : ℕ) → j ≡ k → (b : Call) → TraceIssuesAt trace j b → call ≡ b = λ j e b h.
     let at : slice_get trace k ≡ Some (Issue b) = ap (λ (n : ℕ). slice_get trace n) (sym e) ∙ h in cc in
-    let never : (j : ℕ) → j ≡ k → (id : ℕ) (r : Reply) → IsAnsweredAt trace j id r → ⊥ = λ j e id r h.
+    let never : (j : ℕ) → j ≡ k → (id : ℕ) (r : Reply) → TraceAnswersAt trace j id r → ⊥ = λ j e id r h.
     let at : slice_get trace k ≡ Some (Answer id r) = ap (λ (n : ℕ). slice_get trace n) (sym e) ∙ h in cc in
     record {
       rising = λ i j a b l m h g. ⊎_elim {C = a.id < b.id}
@@ -79,7 +79,7 @@ checked_issue words trace k last call now inside above was =
       );
     }
 
-last_later : (trace : List Event) (k : ℕ) (last : Option ℕ) → ((call : Call) → IsIssuedAt trace k call → ⊥)
+last_later : (trace : List Event) (k : ℕ) (last : Option ℕ) → ((call : Call) → TraceIssuesAt trace k call → ⊥)
     → IsLast trace k last → IsLast trace (k + 1) last
 last_later trace k None never is = λ i call l h. ⊎_elim {C = ⊥}
     (λ (e : i ≡ k). never call (ap (λ (n : ℕ). slice_get trace n) (sym e) ∙ h))
@@ -94,12 +94,12 @@ last_later trace k (Some n) never is = (
 )
 
 pub checked_answer : (words : ℕ) (trace : List Event) (k : ℕ) (last : Option ℕ) (id : ℕ) (reply : Reply)
-    → IsAnsweredAt trace k id reply → WasLeftOpen trace k id
+    → TraceAnswersAt trace k id reply → WasLeftOpen trace k id
     → IsChecked words trace k last → IsChecked words trace (k + 1) last
 checked_answer words trace k last id reply now left was =
-    let never : (j : ℕ) → j ≡ k → (call : Call) → IsIssuedAt trace j call → ⊥ = λ j e call h.
+    let never : (j : ℕ) → j ≡ k → (call : Call) → TraceIssuesAt trace j call → ⊥ = λ j e call h.
     let at : slice_get trace k ≡ Some (Issue call) = ap (λ (n : ℕ). slice_get trace n) (sym e) ∙ h in cc in
-    let here : (j : ℕ) → j ≡ k → (other : ℕ) (r : Reply) → IsAnsweredAt trace j other r
+    let here : (j : ℕ) → j ≡ k → (other : ℕ) (r : Reply) → TraceAnswersAt trace j other r
     → id ≡ other = λ j e other r h.
     let at : slice_get trace k ≡ Some (Answer other r) = ap (λ (n : ℕ). slice_get trace n) (sym e) ∙ h in cc in
     record {
@@ -113,7 +113,7 @@ checked_answer words trace k last id reply now left was =
       once = λ i j other r s l m h g. ⊎_elim {C = ⊥}
           (λ (e : j ≡ k).
           let same = here j e other s g in
-          let at : IsAnsweredAt trace i id r = subst (λ (n : ℕ). IsAnsweredAt trace i n r) (sym same) h in
+          let at : TraceAnswersAt trace i id r = subst (λ (n : ℕ). TraceAnswersAt trace i n r) (sym same) h in
           ⊎_elim {C = ⊥}
           (λ (late : left.at < i). left.unanswered i r late (omega arith) at)
           (λ (low : i ≤ left.at).
@@ -146,12 +146,12 @@ checked_all words trace k last all was = record {
 }
 
 -- what breaks a rule
-pub outside : (words : ℕ) (trace : List Event) (k : ℕ) (call : Call) → IsIssuedAt trace k call
+pub outside : (words : ℕ) (trace : List Event) (k : ℕ) (call : Call) → TraceIssuesAt trace k call
     → words ≤ call.operation.address → IsTrace words trace → ⊥
 outside words trace k call now far t = let l = t.inside k call now in omega arith
 
 pub not_rising : (words : ℕ) (trace : List Event) (k : ℕ) (last : Option ℕ) (n : ℕ) (call : Call)
-    → last ≡ Some n → IsIssuedAt trace k call → call.id ≤ n → IsChecked words trace k last → IsTrace words trace
+    → last ≡ Some n → TraceIssuesAt trace k call → call.id ≤ n → IsChecked words trace k last → IsTrace words trace
     → ⊥
 not_rising words trace k last n call e now low was t =
     let is : IsLast trace k (Some n) = subst (λ (l : Option ℕ). IsLast trace k l) e was.greatest in
@@ -160,11 +160,11 @@ not_rising words trace k last n call e now low was t =
     let same = r.4 in
     omega arith
 
-pub not_open : (words : ℕ) (trace : List Event) (k id : ℕ) (reply : Reply) → IsAnsweredAt trace k id reply
-    → (WasIssued trace k id → ⊥) ⊎ ((j : ℕ) × (told : Reply) × (j < k) × IsAnsweredAt trace j id told)
+pub not_open : (words : ℕ) (trace : List Event) (k id : ℕ) (reply : Reply) → TraceAnswersAt trace k id reply
+    → (WasIssued trace k id → ⊥) ⊎ ((j : ℕ) × (told : Reply) × (j < k) × TraceAnswersAt trace j id told)
     → IsTrace words trace → ⊥
 not_open words trace k id reply now why t = ⊎_elim {C = ⊥}
     (λ none. none (t.issued k id reply now))
     (λ (r : (j : ℕ) × (told : Reply) × (j < k)
-    × IsAnsweredAt trace j id told). let e = t.once r.0 k id r.1 reply r.3 now in let l = r.2 in omega arith)
+    × TraceAnswersAt trace j id told). let e = t.once r.0 k id r.1 reply r.3 now in let l = r.2 in omega arith)
     why

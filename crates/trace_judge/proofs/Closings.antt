@@ -2,14 +2,14 @@
 use Rattle.std.proofs.Common.{◌≡◌, ◌≢◌, ⊎_elim, ℕ, zero, suc, ◌+◌, ◌<◌, ◌≤◌, List, [], ◌∷◌, ◌++◌, length, Option, Some, None, sym, ◌∙◌, ap, subst}
 use Rattle.std.proofs.Common.{arith, slice_get}
 use Rattle.std.proofs.lemmas.Bool.{cases_eq}
-use Rattle.trace_search.specs.declared.opened.Open.{Open}
-use Rattle.trace_search.specs.declared.opened.Config.{Config}
-use Rattle.trace_search.specs.declared.opened.Branch.{Branch}
-use Rattle.trace_search.specs.declared.opened.Node.{Node}
-use Rattle.trace_search.specs.Configs.{IsIn, IsLeft, IsTaken, HasAsGood, IsExpanded, effect, release, without_bit, GoesOn}
-use Rattle.trace_search.specs.Searches.{configs_of, AreReleased}
-use Rattle.trace_order.proofs.Lists.{get_push_cases, get_append_left, get_push, get_within}
-use Rattle.trace_search.proofs.Start.{map_in}
+use Rattle.trace_laws.specs.declared.opened.Open.{Open}
+use Rattle.trace_laws.specs.declared.opened.Config.{Config}
+use Rattle.trace_laws.specs.declared.opened.Branch.{Branch}
+use Rattle.trace_laws.specs.declared.opened.Node.{Node}
+use Rattle.trace_laws.specs.Configs.{IsIn, IsLeft, HasTakenEffect, HasAsGood, IsExpanded, effect, release, without_bit, GoesOn}
+use Rattle.trace_laws.specs.Searches.{configs_of, AreReleased}
+use Rattle.trace_laws.proofs.Lists.{get_push_cases, get_append_left, get_push, get_within}
+use Rattle.trace_laws.proofs.Start.{map_in}
 use Rattle.trace_judge.specs.Sets.{StaysSound}
 use Rattle.trace_judge.proofs.Branches.{goes_on_more, goes_on_same, stays_same, stays_more}
 use Rattle.trace_judge.proofs.Growth.{has_go_on}
@@ -113,7 +113,7 @@ closing_kept table w slot branches begun nodes next found more kept was c h =
 -- those that are kept, up to branch i
 pub record Keeping (slot : ℕ) (branches : List Branch) (i : ℕ) (kept : List Branch) : Type 0 where
   pub from : AreReleased slot branches kept
-  pub released : (j : ℕ) (b : Branch) → j < i → slice_get branches j ≡ Some b → IsTaken b.config slot
+  pub released : (j : ℕ) (b : Branch) → j < i → slice_get branches j ≡ Some b → HasTakenEffect b.config slot
       → IsIn kept (record { config = release b.config slot; trail = b.trail })
 
 pub keeping_none : (slot : ℕ) (branches : List Branch) → Keeping slot branches 0 []
@@ -123,7 +123,7 @@ keeping_none slot branches = record {
 }
 
 pub keeping_skip : (slot : ℕ) (branches : List Branch) (i : ℕ) (kept : List Branch) (b : Branch)
-    → slice_get branches i ≡ Some b → (IsTaken b.config slot → ⊥)
+    → slice_get branches i ≡ Some b → (HasTakenEffect b.config slot → ⊥)
     → Keeping slot branches i kept → Keeping slot branches (i + 1) kept
 keeping_skip slot branches i kept b at left was = record {
   from = was.from;
@@ -131,13 +131,13 @@ keeping_skip slot branches i kept b at left was = record {
       (λ (e : j ≡ i).
       let here : slice_get branches i ≡ Some c = ap (λ (n : ℕ). slice_get branches n) (sym e) ∙ h in
       let same : c ≡ b = cc in
-      absurd (left (subst (λ (d : Branch). IsTaken d.config slot) same taken)))
+      absurd (left (subst (λ (d : Branch). HasTakenEffect d.config slot) same taken)))
       (λ (ne : j ≢ i). was.released j c (omega arith) h taken)
       (cases_eq j i);
 }
 
 pub keeping_push : (slot : ℕ) (branches : List Branch) (i : ℕ) (kept later : List Branch) (b : Branch)
-    → slice_get branches i ≡ Some b → IsTaken b.config slot
+    → slice_get branches i ≡ Some b → HasTakenEffect b.config slot
     → later ≡ kept ++ record { config = release b.config slot; trail = b.trail } ∷ []
     → Keeping slot branches i kept → Keeping slot branches (i + 1) later
 keeping_push slot branches i kept later b at taken e was =
@@ -162,7 +162,7 @@ keeping_push slot branches i kept later b at taken e was =
 
 -- the same, where the slots without this one have a name
 pub keeping_pushed : (slot : ℕ) (branches : List Branch) (i : ℕ) (kept later : List Branch) (b : Branch) (taken : ℕ)
-    → slice_get branches i ≡ Some b → IsTaken b.config slot → taken ≡ without_bit b.config.taken slot
+    → slice_get branches i ≡ Some b → HasTakenEffect b.config slot → taken ≡ without_bit b.config.taken slot
     → later ≡ kept ++ record { config = record { word = b.config.word; taken = taken }; trail = b.trail } ∷ []
     → Keeping slot branches i kept → Keeping slot branches (i + 1) later
 keeping_pushed slot branches i kept later b taken at has without is was =
@@ -171,7 +171,7 @@ keeping_pushed slot branches i kept later b taken at has without is was =
 
 pub keeping_all : (slot : ℕ) (branches : List Branch) (i : ℕ) (kept : List Branch) → length branches ≤ i
     → Keeping slot branches i kept
-    → (b : Branch) → IsIn branches b → IsTaken b.config slot
+    → (b : Branch) → IsIn branches b → HasTakenEffect b.config slot
     → IsIn kept (record { config = release b.config slot; trail = b.trail })
 keeping_all slot branches i kept all was b h taken = let l = get_within branches h.0 b h.1 in was.released h.0 b
     (omega arith) h.1 taken

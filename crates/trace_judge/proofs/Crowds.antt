@@ -3,13 +3,13 @@ use Rattle.std.proofs.Common.{◌≡◌, ⊎_elim, ℕ, zero, suc, ◌+◌, ◌<
 use Rattle.std.proofs.Common.{take, drop, length-drop}
 use Rattle.std.proofs.lemmas.Bool.{cases_lt}
 use Rattle.std.proofs.lemmas.List.{length-take-le}
-use Rattle.trace_order.specs.declared.event.Call.{Call}
-use Rattle.trace_order.specs.declared.event.Event.{Event}
-use Rattle.trace_order.specs.declared.event.Event.TheVariants.{Issue}
-use Rattle.trace_order.specs.Traces.{IsIssuedAt, IsAnsweredAt, IsAnswered}
-use Rattle.trace_order.proofs.Lists.{take_get}
-use Rattle.trace_search.specs.declared.opened.Open.{Open}
-use Rattle.trace_search.specs.Searches.{IsAt, IsTable}
+use Rattle.trace_laws.specs.declared.event.Call.{Call}
+use Rattle.trace_laws.specs.declared.event.Event.{Event}
+use Rattle.trace_laws.specs.declared.event.Event.TheVariants.{Issue}
+use Rattle.trace_laws.specs.Traces.{TraceIssuesAt, TraceAnswersAt, IsAnswered}
+use Rattle.trace_laws.proofs.Lists.{take_get}
+use Rattle.trace_laws.specs.declared.opened.Open.{Open}
+use Rattle.trace_laws.specs.Searches.{IsAt, IsIndexTable}
 use Rattle.trace_judge.specs.Stops.{IsBeginning, IsCrowded}
 use Rattle.trace_judge.specs.Slots.{IsFilled, IsFull, IsFirst, IsParted}
 use Rattle.trace_judge.proofs.Parting.{answer_back}
@@ -87,16 +87,16 @@ alike_never whole id other first j is parted low high answered = ⊎_elim {C = I
     parted)
     is
 
-issue_on : (events whole : List Event) (i : ℕ) (c : Call) → IsBeginning events whole → IsIssuedAt events i c
-    → IsIssuedAt whole i c
+issue_on : (events whole : List Event) (i : ℕ) (c : Call) → IsBeginning events whole → TraceIssuesAt events i c
+    → TraceIssuesAt whole i c
 issue_on events whole i c is h = (take_get is.0 whole i (Issue c)
-    (subst (λ (es : List Event). IsIssuedAt es i c) is.1 h)).1
+    (subst (λ (es : List Event). TraceIssuesAt es i c) is.1 h)).1
 
 -- so an issue finds 64 operations open on its word
 pub crowded : (trace whole : List Event) (k first : ℕ) (table : List (Option Open)) (call : Call)
     → IsBeginning trace whole → k < length trace → IsFirst whole call.id first
     → ((s : ℕ) (o : Open) → IsAt table s o → IsParted whole s o.call.id)
-    → IsTable trace k call.operation.address table → IsFull first table → IsIssuedAt trace k call
+    → IsIndexTable trace k call.operation.address table → IsFull first table → TraceIssuesAt trace k call
     → IsCrowded whole k
 crowded trace whole k first table call begun inside begins parted t is now =
     let enough : 64 ≤ length (drop first table) =
@@ -109,14 +109,14 @@ crowded trace whole k first table call begun inside begins parted t is now =
       issued = λ s c h.
           let o = crowd_at first table is.filled s c h in
           let p = t.pending o.0 o.1 o.4 in
-          (p.at, p.early, subst (λ (d : Call). IsIssuedAt whole p.at d) o.5 (issue_on trace whole p.at o.1.call begun p.issue));
+          (p.at, p.early, subst (λ (d : Call). TraceIssuesAt whole p.at d) o.5 (issue_on trace whole p.at o.1.call begun p.issue));
       pending = λ s c h i reply at.
           let o = crowd_at first table is.filled s c h in
           let p = t.pending o.0 o.1 o.4 in
           ⊎_elim {C = k ≤ i}
           (λ (l : i < length trace). p.unanswered i reply
           (answer_back trace whole i o.1.call.id reply begun l
-          (subst (λ (d : Call). IsAnsweredAt whole i d.id reply) (sym o.5) at)))
+          (subst (λ (d : Call). TraceAnswersAt whole i d.id reply) (sym o.5) at)))
           (λ (l : length trace ≤ i). omega arith)
           (cases_lt i (length trace));
       here = λ s c h.

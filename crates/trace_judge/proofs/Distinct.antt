@@ -2,9 +2,9 @@
 use Rattle.std.proofs.Common.{◌≡◌, ◌≢◌, ⊎_elim, ℕ, ◌+◌, ◌<◌, ◌≤◌, ◌^◌, ◌==◌, ◌&&◌, Bool, true, false, cond, not, List, length, Some, refl, sym, ◌∙◌, ap, subst, arith, slice_get}
 use Rattle.std.proofs.lemmas.Bool.{cases_eq}
 use Rattle.std.specs.HashSet.{HashSet, contains}
-use Rattle.trace_order.proofs.Lists.{get_within}
-use Rattle.trace_search.specs.declared.opened.Config.{Config}
-use Rattle.trace_search.specs.declared.opened.Branch.{Branch}
+use Rattle.trace_laws.proofs.Lists.{get_within}
+use Rattle.trace_laws.specs.declared.opened.Config.{Config}
+use Rattle.trace_laws.specs.declared.opened.Branch.{Branch}
 use Rattle.trace_judge.specs.Crowds.{AreDistinct}
 
 -- the pair of numbers of a configuration

@@ -2,20 +2,20 @@
 use Rattle.std.proofs.Common.{◌≡◌, ◌≢◌, ◌⊎◌, inl, inr, ⊎_elim, ℕ, zero, suc, ◌<◌, ◌≤◌, Bool, true, false, List, [], ◌∷◌, length, Option, Some, None, refl, sym, ◌∙◌, ap, subst}
 use Rattle.std.proofs.Common.{arith, slice_get, set, length-set, replicate, add-one, take}
 use Rattle.std.proofs.lemmas.Bool.{cases_eq}
-use Rattle.trace_order.specs.declared.event.Call.{Call}
-use Rattle.trace_order.specs.declared.event.Event.{Event}
-use Rattle.trace_order.specs.declared.event.Event.TheVariants.{Issue, Answer}
-use Rattle.trace_order.specs.Orders.{IsOrder, IsLinearizable}
-use Rattle.trace_order.specs.Legal.{Legal}
-use Rattle.trace_order.proofs.Lists.{get_take, take_get, within_length, set_get_same, get_set_other}
-use Rattle.trace_search.specs.declared.opened.Branch.{Branch}
-use Rattle.trace_search.specs.declared.opened.Node.{Node}
-use Rattle.trace_search.specs.Configs.{IsIn}
-use Rattle.trace_search.specs.Searches.{IsTrail, IsSound, order_of}
-use Rattle.trace_search.proofs.Trails.{trail_below}
+use Rattle.trace_laws.specs.declared.event.Call.{Call}
+use Rattle.trace_laws.specs.declared.event.Event.{Event}
+use Rattle.trace_laws.specs.declared.event.Event.TheVariants.{Issue, Answer}
+use Rattle.trace_laws.specs.Orders.{IsOrder, IsLinearizable}
+use Rattle.trace_laws.specs.Legal.{Legal}
+use Rattle.trace_laws.proofs.Lists.{get_take, take_get, within_length, set_get_same, get_set_other}
+use Rattle.trace_laws.specs.declared.opened.Branch.{Branch}
+use Rattle.trace_laws.specs.declared.opened.Node.{Node}
+use Rattle.trace_laws.specs.Configs.{IsIn}
+use Rattle.trace_laws.specs.Searches.{IsTrail, IsSoundSearch, order_of}
+use Rattle.trace_laws.proofs.Trails.{trail_below}
 use Rattle.trace_judge.specs.declared.search.Search.{Search}
 use Rattle.trace_judge.specs.Sets.{lists_of}
-use Rattle.trace_judge.specs.Searched.{Holds}
+use Rattle.trace_judge.specs.Searched.{HasSearched}
 use Rattle.trace_judge.specs.Marks.{AreNodes, IsBelow, AreMarked}
 use Rattle.trace_judge.proofs.Marking.{PicksSoFar, first_of, first_in, picks_none, picks_more}
 
@@ -113,10 +113,10 @@ legal_take opening trace k order l = record {
 
 -- what a search holds before event k
 pub holds_linearizable : {A : Type 0} (opening : List ℕ) (trace whole : List Event) (k : ℕ) (s : Search A)
-    → Holds {A = A} opening trace whole k s → IsLinearizable opening (take k trace)
+    → HasSearched {A = A} opening trace whole k s → IsLinearizable opening (take k trace)
 holds_linearizable {A} opening trace whole k s holds =
     let sets : ℕ → List Branch = lists_of s.words.items in
-    let sound : IsSound opening trace k (lists_of s.tables.items) sets s.nodes.items = holds.searched.sound in
+    let sound : IsSoundSearch opening trace k (lists_of s.tables.items) sets s.nodes.items = holds.searched.sound in
     let picked = pick_firsts sets s.nodes.items (length opening) sound.back sound.inside holds.filled (length opening) (omega arith) in
     let explained = sound.explained (λ v. first_of (sets v)) picked.1.0 picked.0 picked.1.1 in
     (order_of s.nodes.items picked.0, legal_take opening trace k (order_of s.nodes.items picked.0) explained.legal)

@@ -2,11 +2,11 @@
 use Rattle.std.proofs.Common.{◌≡◌, ℕ, ◌+◌, ◌<◌, Bool, List, length, Some, Vec}
 use Rattle.std.proofs.Common.{refl, sym, ◌∙◌, ap, subst, arith, slice_get, get_or}
 use Rattle.std.proofs.Common.{vec_len}
-use Rattle.trace_search.specs.declared.opened.Branch.{Branch}
-use Rattle.trace_search.specs.declared.opened.Node.{Node}
-use Rattle.trace_search.specs.Configs.{IsIn}
-use Rattle.trace_search.specs.Searches.{IsTrail}
-use Rattle.trace_order.proofs.Lists.{get_within}
+use Rattle.trace_laws.specs.declared.opened.Branch.{Branch}
+use Rattle.trace_laws.specs.declared.opened.Node.{Node}
+use Rattle.trace_laws.specs.Configs.{IsIn}
+use Rattle.trace_laws.specs.Searches.{IsTrail}
+use Rattle.trace_laws.proofs.Lists.{get_within}
 use Rattle.std.proofs.lemmas.Option.{slice_get_read}
 use Rattle.trace_judge.specs.Sets.{lists_of}
 use Rattle.trace_judge.specs.Marks.{AreMarked}

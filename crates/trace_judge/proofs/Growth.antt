@@ -2,14 +2,14 @@
 use Rattle.std.proofs.Common.{◌≡◌, ◌≢◌, ⊎_elim, ℕ, suc, ◌+◌, ◌<◌, ◌≤◌, List, [], ◌∷◌, ◌++◌, length, Option, Some, sym, ◌∙◌, ap, subst}
 use Rattle.std.proofs.Common.{arith, slice_get, append-nil}
 use Rattle.std.proofs.lemmas.Bool.{cases_eq}
-use Rattle.trace_search.specs.declared.opened.Open.{Open}
-use Rattle.trace_search.specs.declared.opened.Config.{Config}
-use Rattle.trace_search.specs.declared.opened.Branch.{Branch}
-use Rattle.trace_search.specs.declared.opened.Node.{Node}
-use Rattle.trace_search.specs.Configs.{IsIn, IsLeft, MayTake, HasAsGood, effect, GoesOn}
-use Rattle.trace_search.specs.Searches.{configs_of}
-use Rattle.trace_order.proofs.Lists.{get_append_left, get_within}
-use Rattle.trace_search.proofs.Start.{map_in}
+use Rattle.trace_laws.specs.declared.opened.Open.{Open}
+use Rattle.trace_laws.specs.declared.opened.Config.{Config}
+use Rattle.trace_laws.specs.declared.opened.Branch.{Branch}
+use Rattle.trace_laws.specs.declared.opened.Node.{Node}
+use Rattle.trace_laws.specs.Configs.{IsIn, IsLeft, MayTake, HasAsGood, effect, GoesOn}
+use Rattle.trace_laws.specs.Searches.{configs_of}
+use Rattle.trace_laws.proofs.Lists.{get_append_left, get_within}
+use Rattle.trace_laws.proofs.Start.{map_in}
 use Rattle.trace_judge.specs.Sets.{TakesEffect, StaysSound, Joins, Takes}
 use Rattle.trace_judge.proofs.Branches.{goes_on_in, goes_on_more, goes_on_same, configs_go_on, stays_same, stays_more, stays_fewer}
 

@@ -1,17 +1,17 @@
 -- A branch that is added, or one as good is there.
 use Rattle.std.proofs.Common.{◌≡◌, ⊎_elim, ℕ, ◌<◌, List, [], ◌∷◌, ◌++◌, length, Option, Some, sym, ◌∙◌, ap, subst, slice_get, append_assoc}
-use Rattle.trace_search.specs.declared.opened.Open.{Open}
-use Rattle.trace_search.specs.declared.opened.Config.{Config}
-use Rattle.trace_search.specs.declared.opened.Branch.{Branch}
-use Rattle.trace_search.specs.declared.opened.Node.{Node}
-use Rattle.trace_search.specs.Configs.{IsIn, IsAsGood, HasAsGood, release, GoesOn}
-use Rattle.trace_search.specs.Searches.{configs_of}
-use Rattle.trace_search.proofs.Dominance.{good_more, good_unanswered}
-use Rattle.trace_search.proofs.Picking.{grown, node_of}
-use Rattle.trace_order.proofs.Lists.{get_push_cases}
+use Rattle.trace_laws.specs.declared.opened.Open.{Open}
+use Rattle.trace_laws.specs.declared.opened.Config.{Config}
+use Rattle.trace_laws.specs.declared.opened.Branch.{Branch}
+use Rattle.trace_laws.specs.declared.opened.Node.{Node}
+use Rattle.trace_laws.specs.Configs.{IsIn, IsAsGood, HasAsGood, release, GoesOn}
+use Rattle.trace_laws.specs.Searches.{configs_of}
+use Rattle.trace_laws.proofs.Dominance.{good_more, good_unanswered}
+use Rattle.trace_laws.proofs.Picking.{grown, node_of}
+use Rattle.trace_laws.proofs.Lists.{get_push_cases}
 use Rattle.trace_judge.specs.declared.idles.Idle.{Idle}
 use Rattle.trace_judge.specs.Idles.{AreListed, AreLow, settled}
-use Rattle.trace_judge.specs.Sets.{StaysSound, WaitsFor, LeadsTo, Joins, Takes}
+use Rattle.trace_judge.specs.Sets.{StaysSound, WaitsFor, Replaces, Joins, Takes}
 use Rattle.trace_judge.proofs.Branches.{pushed_in, stays_same, stays_more, stays_fewer, stays_added}
 use Rattle.trace_judge.proofs.Calm.{settled_good}
 
@@ -56,7 +56,7 @@ again_in all from b here h = ⊎_elim {C = IsIn all b}
     (get_push_cases all from h.0 b h.1)
 
 pub joins_push : (table : List (Option Open)) (w : ℕ) (from to : Branch) (found more : List Branch)
-    (nodes most : List Node) → LeadsTo table w from nodes to most → more ≡ found ++ to ∷ []
+    (nodes most : List Node) → Replaces table w from nodes to most → more ≡ found ++ to ∷ []
     → Joins table w from found nodes more most
 joins_push table w from to found more nodes most leads is = λ others here.
     let all : List Branch = others ++ found in
@@ -75,7 +75,7 @@ takes_same table w from o config found nodes = λ s here may is. stays_same tabl
 pub takes_push : (table : List (Option Open)) (w : ℕ) (from to : Branch) (o : Open) (config : Config)
     (found more : List Branch) (nodes middle most : List Node)
     → middle ≡ nodes ++ record { call = o.call; before = from.trail } ∷ []
-    → LeadsTo table w (record { config = config; trail = Some (length nodes) }) middle to most
+    → Replaces table w (record { config = config; trail = Some (length nodes) }) middle to most
     → more ≡ found ++ to ∷ []
     → Takes table w from o config found nodes more most
 takes_push table w from to o config found more nodes middle most pushed leads is = λ s here may e.

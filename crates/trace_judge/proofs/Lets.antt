@@ -1,16 +1,16 @@
 -- What a search holds without the nodes that no branch leads back to.
 use Rattle.std.proofs.Common.{◌≡◌, ℕ, ◌<◌, Bool, List, [], ◌∷◌, length, Option, Vec, refl, sym, ◌∙◌, ap, subst, arith}
-use Rattle.trace_order.specs.declared.event.Event.{Event}
-use Rattle.trace_search.specs.declared.opened.Open.{Open}
-use Rattle.trace_search.specs.declared.opened.Config.{Config}
-use Rattle.trace_search.specs.declared.opened.Branch.{Branch}
-use Rattle.trace_search.specs.declared.opened.Node.{Node}
-use Rattle.trace_search.specs.Configs.{IsIn}
-use Rattle.trace_search.specs.Searches.{IsSound, IsComplete, IsCovered, configs_of}
-use Rattle.trace_search.proofs.Start.{in_map}
+use Rattle.trace_laws.specs.declared.event.Event.{Event}
+use Rattle.trace_laws.specs.declared.opened.Open.{Open}
+use Rattle.trace_laws.specs.declared.opened.Config.{Config}
+use Rattle.trace_laws.specs.declared.opened.Branch.{Branch}
+use Rattle.trace_laws.specs.declared.opened.Node.{Node}
+use Rattle.trace_laws.specs.Configs.{IsIn}
+use Rattle.trace_laws.specs.Searches.{IsSoundSearch, IsComplete, IsCovered, configs_of}
+use Rattle.trace_laws.proofs.Start.{in_map}
 use Rattle.trace_judge.specs.declared.search.Search.{Search}
 use Rattle.trace_judge.specs.Sets.{lists_of}
-use Rattle.trace_judge.specs.Searched.{Holds}
+use Rattle.trace_judge.specs.Searched.{HasSearched}
 use Rattle.trace_judge.specs.Kept.{renumbered, renumbered_all, marked_nodes, AreEnds, AreWithin, IsClosed, Lets}
 use Rattle.trace_judge.specs.Marks.{AreNodes}
 use Rattle.trace_judge.proofs.LettingGo.{let_go_sound}
@@ -32,8 +32,8 @@ complete_stays opening trace k tables sets others marks same complete = λ order
 pub holds_lets : {A : Type 0} (opening : List ℕ) (trace whole : List Event) (k most : ℕ) (s : Search A)
     (words : Vec (Vec Branch A) A) (nodes : Vec Node A) (shown : List (Vec Branch A)) (seen : List Node)
     → shown ≡ s.words.items → seen ≡ s.nodes.items → Lets {A = A} shown seen words.items nodes.items
-    → Holds {A = A} opening trace whole k s
-    → Holds {A = A} opening trace whole k (record { tables = s.tables; words = words; nodes = nodes; index = s.index; most = most; stuck = s.stuck })
+    → HasSearched {A = A} opening trace whole k s
+    → HasSearched {A = A} opening trace whole k (record { tables = s.tables; words = words; nodes = nodes; index = s.index; most = most; stuck = s.stuck })
 holds_lets {A} opening trace whole k most s words nodes shown seen e1 e2 lets holds =
     let marks : List Bool = lets.marks in
     let sets : ℕ → List Branch = lists_of s.words.items in
@@ -52,7 +52,7 @@ holds_lets {A} opening trace whole k most s words nodes shown seen e1 e2 lets ho
       tabled = holds.tabled;
       searched = record {
         tabled = holds.searched.tabled;
-        sound = subst (λ (ns : List Node). IsSound opening trace k (lists_of s.tables.items) others ns)
+        sound = subst (λ (ns : List Node). IsSoundSearch opening trace k (lists_of s.tables.items) others ns)
             (sym (lets.only ∙ ap (λ (ns : List Node). marked_nodes marks marks ns) e2)) sound;
         complete = complete_stays opening trace k (lists_of s.tables.items) sets others marks same holds.searched.complete;
       };
@@ -69,7 +69,7 @@ holds_lets {A} opening trace whole k most s words nodes shown seen e1 e2 lets ho
 -- branches lead to nodes that there are
 pub search_within : {A : Type 0} (opening : List ℕ) (trace whole : List Event) (k : ℕ) (s : Search A)
     (shown : List (Vec Branch A)) (seen : List Node) → shown ≡ s.words.items → seen ≡ s.nodes.items
-    → Holds {A = A} opening trace whole k s
+    → HasSearched {A = A} opening trace whole k s
     → (w : ℕ) → w < length shown → AreWithin (length seen) (lists_of shown w)
 search_within {A} opening trace whole k s shown seen e1 e2 holds = λ w l i b h e.
     let long : length shown ≡ length s.words.items = ap (λ (vs : List (Vec Branch A)). length vs) e1 in
@@ -79,6 +79,6 @@ search_within {A} opening trace whole k s shown seen e1 e2 holds = λ w l i b h 
     subst (λ (ns : List Node). i < length ns) (sym e2) r
 
 pub search_back : {A : Type 0} (opening : List ℕ) (trace whole : List Event) (k : ℕ) (s : Search A)
-    (seen : List Node) → seen ≡ s.nodes.items → Holds {A = A} opening trace whole k s → AreNodes seen
+    (seen : List Node) → seen ≡ s.nodes.items → HasSearched {A = A} opening trace whole k s → AreNodes seen
 search_back {A} opening trace whole k s seen e holds =
     subst (λ (ns : List Node). AreNodes ns) (sym e) holds.searched.sound.back

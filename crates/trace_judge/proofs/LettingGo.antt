@@ -2,17 +2,17 @@
 use Rattle.std.proofs.Common.{◌≡◌, ⊎_elim, ℕ, zero, suc, ◌+◌, ◌<◌, ◌≤◌, Bool, true, false, List, [], ◌∷◌, length, Option, Some, None, refl, sym, ◌∙◌, ap, subst}
 use Rattle.std.proofs.Common.{arith, slice_get, map}
 use Rattle.std.proofs.lemmas.Bool.{cases_lt}
-use Rattle.trace_order.specs.declared.event.Call.{Call}
-use Rattle.trace_order.specs.declared.event.Event.{Event}
-use Rattle.trace_order.proofs.Lists.{get_within, within_length}
-use Rattle.trace_search.specs.declared.opened.Open.{Open}
-use Rattle.trace_search.specs.declared.opened.Branch.{Branch}
-use Rattle.trace_search.specs.declared.opened.Node.{Node}
-use Rattle.trace_search.specs.declared.opened.Config.{Config}
-use Rattle.trace_order.specs.Legal.{Legal}
-use Rattle.trace_search.specs.Configs.{IsIn}
-use Rattle.trace_search.specs.Searches.{Fits, IsTrail, Picks, IsSound, order_of}
-use Rattle.trace_search.proofs.Start.{map_in}
+use Rattle.trace_laws.specs.declared.event.Call.{Call}
+use Rattle.trace_laws.specs.declared.event.Event.{Event}
+use Rattle.trace_laws.proofs.Lists.{get_within, within_length}
+use Rattle.trace_laws.specs.declared.opened.Open.{Open}
+use Rattle.trace_laws.specs.declared.opened.Branch.{Branch}
+use Rattle.trace_laws.specs.declared.opened.Node.{Node}
+use Rattle.trace_laws.specs.declared.opened.Config.{Config}
+use Rattle.trace_laws.specs.Legal.{Legal}
+use Rattle.trace_laws.specs.Configs.{IsIn}
+use Rattle.trace_laws.specs.Searches.{Fits, IsTrail, Picks, IsSoundSearch, order_of}
+use Rattle.trace_laws.proofs.Start.{map_in}
 use Rattle.trace_judge.specs.Kept.{rank, renumbered, marked_nodes, renumbered_all, AreEnds, IsClosed}
 
 -- places that are marked keep their order
@@ -188,8 +188,8 @@ pub let_go_sound : (opening : List ℕ) (trace : List Event) (k : ℕ) (tables :
     (sets others : ℕ → List Branch) (nodes : List Node) (all : List Bool)
     → length all ≡ length nodes → IsClosed all nodes → ((w : ℕ) → w < length opening → AreEnds all (sets w))
     → ((w : ℕ) → w < length opening → others w ≡ renumbered_all all (sets w))
-    → IsSound opening trace k tables sets nodes
-    → IsSound opening trace k tables others (marked_nodes all all nodes)
+    → IsSoundSearch opening trace k tables sets nodes
+    → IsSoundSearch opening trace k tables others (marked_nodes all all nodes)
 let_go_sound opening trace k tables sets others nodes all sized closed ends same sound = record {
   back = λ i j n h e.
       let r = at_node all all nodes i n sized h in

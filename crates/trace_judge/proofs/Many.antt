@@ -5,26 +5,26 @@ use Rattle.std.proofs.lemmas.List.{length-take}
 use Rattle.std.specs.Int.{bit_at}
 use Rattle.std.proofs.lemmas.Bool.{cases_eq}
 use Rattle.std.proofs.lemmas.Nat.Bits.{same_from_bits_below}
-use Rattle.trace_order.specs.declared.event.Call.{Call}
+use Rattle.trace_laws.specs.declared.event.Call.{Call}
 use Rattle.packet.specs.declared.kinds.Reply.{Reply}
-use Rattle.trace_order.specs.declared.event.Event.{Event}
-use Rattle.trace_order.specs.declared.event.Event.TheVariants.{Answer}
-use Rattle.trace_order.specs.Traces.{IsTrace, IsAnsweredAt}
-use Rattle.trace_order.proofs.Lists.{take_get}
-use Rattle.trace_order.specs.Orders.{IsOn}
-use Rattle.trace_order.specs.Legal.{Legal}
-use Rattle.trace_search.specs.declared.opened.Open.{Open}
-use Rattle.trace_search.specs.declared.opened.Config.{Config}
-use Rattle.trace_search.specs.declared.opened.Branch.{Branch}
-use Rattle.trace_search.specs.declared.opened.Node.{Node}
-use Rattle.trace_search.specs.Configs.{IsOpen, IsIn, IsLeft, IsTaken}
-use Rattle.trace_search.specs.Searches.{IsTable, AreTables, Fits, IsSound, order_of}
-use Rattle.trace_search.proofs.Bits.{bit_cases, not_both}
+use Rattle.trace_laws.specs.declared.event.Event.{Event}
+use Rattle.trace_laws.specs.declared.event.Event.TheVariants.{Answer}
+use Rattle.trace_laws.specs.Traces.{IsTrace, TraceAnswersAt}
+use Rattle.trace_laws.proofs.Lists.{take_get}
+use Rattle.trace_laws.specs.Orders.{IsOn}
+use Rattle.trace_laws.specs.Legal.{Legal}
+use Rattle.trace_laws.specs.declared.opened.Open.{Open}
+use Rattle.trace_laws.specs.declared.opened.Config.{Config}
+use Rattle.trace_laws.specs.declared.opened.Branch.{Branch}
+use Rattle.trace_laws.specs.declared.opened.Node.{Node}
+use Rattle.trace_laws.specs.Configs.{IsOpen, IsIn, IsLeft, HasTakenEffect}
+use Rattle.trace_laws.specs.Searches.{IsIndexTable, AreTables, Fits, IsSoundSearch, order_of}
+use Rattle.trace_laws.proofs.Bits.{bit_cases, not_both}
 use Rattle.trace_judge.specs.declared.search.Search.{Search}
 use Rattle.trace_judge.specs.declared.undecided.Full.{Full}
 use Rattle.trace_judge.specs.declared.undecided.Full.TheVariants.{Configurations}
 use Rattle.trace_judge.specs.Sets.{lists_of, with_set, StaysSound}
-use Rattle.trace_judge.specs.Searched.{Holds}
+use Rattle.trace_judge.specs.Searched.{HasSearched}
 use Rattle.trace_judge.specs.Stops.{IsAnAnswer, IsBeginning, LeaveSame, HasMany}
 use Rattle.trace_judge.specs.Crowds.{AreDistinct, IsOverfull}
 use Rattle.trace_judge.proofs.Branches.{with_same, with_other, stays_fewer}
@@ -40,7 +40,7 @@ Tells opening trace k table w b order = Legal opening trace k order × Fits open
 branch_order : (opening : List ℕ) (trace : List Event) (k : ℕ) (tables : ℕ → List (Option Open))
     (sets : ℕ → List Branch) (nodes : List Node) (w : ℕ) (b : Branch) → w < length opening
     → ((v : ℕ) → v < length opening → (c : Branch) × IsIn (sets v) c)
-    → IsSound opening trace k tables (with_set sets w (b ∷ [])) nodes
+    → IsSoundSearch opening trace k tables (with_set sets w (b ∷ [])) nodes
     → (order : List Call) × Tells opening trace k (tables w) w b order
 branch_order opening trace k tables sets nodes w b inside filled sound =
     let picked = pick_firsts alone nodes (length opening) sound.back sound.inside some (length opening) (omega arith) in
@@ -90,8 +90,8 @@ orders_of P (b ∷ found) tells =
 
 -- an operation that has taken effect in one configuration and not in the other
 clash : (opening : List ℕ) (trace : List Event) (k w : ℕ) (table : List (Option Open)) (a b : List Call) (c d : Config)
-    (s : ℕ) (o : Open) → IsTable trace k w table → Fits opening table w a c → Fits opening table w b d
-    → LeaveSame opening trace k w a b → IsOpen table w s o → (IsTaken c s → IsLeft d s → ⊥) × (IsLeft c s → IsTaken d s → ⊥)
+    (s : ℕ) (o : Open) → IsIndexTable trace k w table → Fits opening table w a c → Fits opening table w b d
+    → LeaveSame opening trace k w a b → IsOpen table w s o → (HasTakenEffect c s → IsLeft d s → ⊥) × (IsLeft c s → HasTakenEffect d s → ⊥)
 clash opening trace k w table a b c d s o is fits also same at =
     let p = is.pending s o at.there in
     let on = same.on p.at o.call p.early p.issue at.here p.unanswered in (
@@ -101,7 +101,7 @@ clash opening trace k w table a b c d s o is fits also same at =
 
 -- orders that leave the same have one configuration
 same_config : (opening : List ℕ) (trace : List Event) (k w : ℕ) (table : List (Option Open)) (a b : List Call)
-    (c d : Config) → IsTable trace k w table → Fits opening table w a c → Fits opening table w b d
+    (c d : Config) → IsIndexTable trace k w table → Fits opening table w a c → Fits opening table w b d
     → c.taken < 2 ^ 128 → d.taken < 2 ^ 128 → LeaveSame opening trace k w a b → c ≡ d
 same_config opening trace k w table a b c d is fits also low below same =
     let word : c.word ≡ d.word = fits.word ∙ (same.word ∙ sym also.word) in
@@ -137,7 +137,7 @@ same_config opening trace k w table a b c d is fits also low below same =
 
 -- the branches of a word lead to too many, before an event of a beginning of a trace
 many_orders : (opening : List ℕ) (trace whole : List Event) (k w n bound : ℕ) (table : List (Option Open))
-    (found : List Branch) → trace ≡ take n whole → k < length trace → IsTable trace k w table
+    (found : List Branch) → trace ≡ take n whole → k < length trace → IsIndexTable trace k w table
     → bound < length found → AreDistinct found
     → ((b : Branch) → IsIn found b → (order : List Call) × Tells opening trace k table w b order)
     → HasMany opening whole k bound
@@ -160,12 +160,12 @@ many_orders opening trace whole k w n bound table found begins early is many dis
 
 pub has_many : {A : Type 0} (opening : List ℕ) (trace whole : List Event) (k bound : ℕ) (s : Search A) (w : ℕ)
     (branches : List Branch) (nodes : List Node) (table : List (Option Open)) → IsTrace (length opening) trace
-    → IsBeginning trace whole → k < length trace → Holds {A = A} opening trace whole k s → w < length opening
+    → IsBeginning trace whole → k < length trace → HasSearched {A = A} opening trace whole k s → w < length opening
     → branches ≡ lists_of s.words.items w → nodes ≡ s.nodes.items → table ≡ lists_of s.tables.items w
     → IsOverfull table w bound branches nodes → HasMany opening whole k bound
 has_many {A} opening trace whole k bound s w branches nodes table t begins early holds inside was kept listed over =
     many_orders opening trace whole k w begins.0 bound table over.found begins.1 early
-    (subst (λ (os : List (Option Open)). IsTable trace k w os) (sym listed) (holds.searched.tabled w inside))
+    (subst (λ (os : List (Option Open)). IsIndexTable trace k w os) (sym listed) (holds.searched.tabled w inside))
     over.crowd.many over.crowd.distinct (λ b on.
     let alone = stays_fewer table w over.found (b ∷ []) over.more (λ c h. subst (λ (d : Branch). IsIn over.found d) (only b c h) on) in
     let sound = alone opening trace k tables sets t holds.searched.tabled (sym listed) inside
@@ -183,8 +183,8 @@ has_many {A} opening trace whole k bound s w branches nodes table t begins early
     only b c (zero, h) = cc
     only b c (suc i, h) = absurd (let e : None ≡ Some c = h in cc)
 
-    begun : IsSound opening trace k tables (with_set sets w branches) nodes
-    begun = subst (λ (ns : List Node). IsSound opening trace k tables (with_set sets w branches) ns) (sym kept)
+    begun : IsSoundSearch opening trace k tables (with_set sets w branches) nodes
+    begun = subst (λ (ns : List Node). IsSoundSearch opening trace k tables (with_set sets w branches) ns) (sym kept)
         (sound_as opening trace k tables sets (with_set sets w branches) s.nodes.items
         (λ v. ⊎_elim {C = with_set sets w branches v ≡ sets v}
         (λ (e : v ≡ w). ap (λ (u : ℕ). with_set sets w branches u) e ∙ (with_same sets w branches ∙ (was ∙ ap sets (sym e))))
@@ -198,7 +198,7 @@ full_told {X} r e P is told says = subst (λ (s : Result X Full). IfErr s (λ fu
 
 -- an event of a beginning is one of the whole trace
 pub answer_in : (trace whole : List Event) (k id : ℕ) (reply : Reply) → IsBeginning trace whole
-    → IsAnsweredAt trace k id reply → IsAnAnswer whole k
+    → TraceAnswersAt trace k id reply → IsAnAnswer whole k
 answer_in trace whole k id reply begins answer = (
   id,
   reply,

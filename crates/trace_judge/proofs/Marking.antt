@@ -4,13 +4,13 @@ use Rattle.std.proofs.Common.{None, refl, sym, ◌∙◌, ap, subst, arith, slic
 use Rattle.std.proofs.Common.{get_or}
 use Rattle.std.proofs.lemmas.List.{length-take-le, take_all, length-replicate}
 use Rattle.std.proofs.lemmas.Bool.{cases_eq}
-use Rattle.trace_search.specs.declared.opened.Node.{Node}
-use Rattle.trace_search.specs.Configs.{IsIn}
-use Rattle.trace_order.specs.declared.event.Call.{Call}
-use Rattle.trace_search.specs.declared.opened.Branch.{Branch}
-use Rattle.trace_search.specs.Searches.{IsTrail, Picks, order_of}
-use Rattle.trace_search.proofs.Trails.{put, put_same, put_other, order_push}
-use Rattle.trace_order.proofs.Lists.{take_push, get_push_cases, get_append_left, get_push, get_within, set_get_same, get_set_other, within_length}
+use Rattle.trace_laws.specs.declared.opened.Node.{Node}
+use Rattle.trace_laws.specs.Configs.{IsIn}
+use Rattle.trace_laws.specs.declared.event.Call.{Call}
+use Rattle.trace_laws.specs.declared.opened.Branch.{Branch}
+use Rattle.trace_laws.specs.Searches.{IsTrail, Picks, order_of}
+use Rattle.trace_laws.proofs.Trails.{put, put_same, put_other, order_push}
+use Rattle.trace_laws.proofs.Lists.{take_push, get_push_cases, get_append_left, get_push, get_within, set_get_same, get_set_other, within_length}
 use Rattle.trace_judge.specs.Marks.{AreNodes, IsBelow, AreMarked}
 
 -- what is marked so far: the trail's beginning, of which the rest leads back from next

@@ -6,14 +6,14 @@ use Rattle.std.proofs.lemmas.List.{length-replicate}
 use Rattle.std.proofs.Common.{length-append}
 use Rattle.std.specs.Prelude.{IsSome}
 use Rattle.packet.specs.declared.kinds.Reply.{Reply}
-use Rattle.trace_order.specs.declared.event.Call.{Call}
-use Rattle.trace_order.specs.declared.event.Event.{Event}
-use Rattle.trace_order.specs.declared.event.Event.TheVariants.{Answer}
-use Rattle.trace_order.specs.Traces.{IsTrace, IsIssuedAt, IsAnsweredAt, IsAnswered}
-use Rattle.trace_order.proofs.Issues.{one_issue}
-use Rattle.trace_order.proofs.Lists.{take_get, within_length, get_set_same, get_set_other, get_push_cases}
-use Rattle.trace_search.specs.declared.opened.Open.{Open}
-use Rattle.trace_search.specs.Searches.{IsAt}
+use Rattle.trace_laws.specs.declared.event.Call.{Call}
+use Rattle.trace_laws.specs.declared.event.Event.{Event}
+use Rattle.trace_laws.specs.declared.event.Event.TheVariants.{Answer}
+use Rattle.trace_laws.specs.Traces.{IsTrace, TraceIssuesAt, TraceAnswersAt, IsAnswered}
+use Rattle.trace_laws.proofs.Issues.{one_issue}
+use Rattle.trace_laws.proofs.Lists.{take_get, within_length, get_set_same, get_set_other, get_push_cases}
+use Rattle.trace_laws.specs.declared.opened.Open.{Open}
+use Rattle.trace_laws.specs.Searches.{IsAt}
 use Rattle.trace_judge.specs.Stops.{IsBeginning}
 use Rattle.trace_judge.specs.Slots.{IsPut, IsBegun, IsFirst, IsParted}
 
@@ -53,13 +53,13 @@ padded_at table n s o h = ⊎_elim {C = IsAt table s o}
 
 -- what a beginning answers, the whole trace does
 pub answer_on : (events whole : List Event) (i id : ℕ) (reply : Reply) → IsBeginning events whole
-    → IsAnsweredAt events i id reply → IsAnsweredAt whole i id reply
+    → TraceAnswersAt events i id reply → TraceAnswersAt whole i id reply
 answer_on events whole i id reply is h = (take_get is.0 whole i (Answer id reply)
-    (subst (λ (es : List Event). IsAnsweredAt es i id reply) is.1 h)).1
+    (subst (λ (es : List Event). TraceAnswersAt es i id reply) is.1 h)).1
 
 -- and the other way, below its end
 pub answer_back : (events whole : List Event) (i id : ℕ) (reply : Reply) → IsBeginning events whole → i < length events
-    → IsAnsweredAt whole i id reply → IsAnsweredAt events i id reply
+    → TraceAnswersAt whole i id reply → TraceAnswersAt events i id reply
 answer_back events whole i id reply is l h =
     let e = within_length events i l in
     let at = (take_get is.0 whole i e.0 (subst (λ (es : List Event). slice_get es i ≡ Some e.0) is.1 e.1)).1 in
@@ -68,9 +68,9 @@ answer_back events whole i id reply is l h =
 
 -- where an operation is put, tells whether the whole trace answers it
 pub begun_first : (words : ℕ) (events whole : List Event) (k : ℕ) (call : Call) (promise : Option Reply) (first : ℕ)
-    → IsTrace words events → IsBeginning events whole → IsIssuedAt events k call
-    → MatchOption promise ((i : ℕ) (reply : Reply) → k + 1 ≤ i → IsAnsweredAt events i call.id reply → ⊥)
-    (λ reply. (i : ℕ) × (k + 1 ≤ i) × IsAnsweredAt events i call.id reply)
+    → IsTrace words events → IsBeginning events whole → TraceIssuesAt events k call
+    → MatchOption promise ((i : ℕ) (reply : Reply) → k + 1 ≤ i → TraceAnswersAt events i call.id reply → ⊥)
+    (λ reply. (i : ℕ) × (k + 1 ≤ i) × TraceAnswersAt events i call.id reply)
     → IsBegun whole (length events) call.id promise first → IsFirst whole call.id first
 begun_first words events whole k call promise first t is now tells begun = ⊎_elim {C = IsFirst whole call.id first}
     (λ (r : (first ≡ 0) × (IsSome promise ⊎ IsAnswered whole call.id)). inl (
@@ -80,7 +80,7 @@ begun_first words events whole k call promise first t is now tells begun = ⊎_e
           (λ (a : IsAnswered whole call.id). a)
           r.1,
     ))
-    (λ (r : (first ≡ 64) × (promise ≡ None) × ((i : ℕ) (reply : Reply) → length events ≤ i → IsAnsweredAt whole i call.id reply → ⊥)).
+    (λ (r : (first ≡ 64) × (promise ≡ None) × ((i : ℕ) (reply : Reply) → length events ≤ i → TraceAnswersAt whole i call.id reply → ⊥)).
     inr (
       r.0,
       λ (a : IsAnswered whole call.id). ⊎_elim {C = ⊥}
@@ -91,16 +91,16 @@ begun_first words events whole k call promise first t is now tells begun = ⊎_e
     begun
   where
     told : (p : Option Reply) → IsSome p
-        → MatchOption p ((i : ℕ) (reply : Reply) → k + 1 ≤ i → IsAnsweredAt events i call.id reply → ⊥)
-        (λ reply. (i : ℕ) × (k + 1 ≤ i) × IsAnsweredAt events i call.id reply) → IsAnswered whole call.id
+        → MatchOption p ((i : ℕ) (reply : Reply) → k + 1 ≤ i → TraceAnswersAt events i call.id reply → ⊥)
+        (λ reply. (i : ℕ) × (k + 1 ≤ i) × TraceAnswersAt events i call.id reply) → IsAnswered whole call.id
     told None some h = cc
     told (Some reply) some h = (h.0, reply, answer_on events whole h.0 call.id reply is h.2)
 
-    never : promise ≡ None → (i : ℕ) (reply : Reply) → IsAnsweredAt events i call.id reply → ⊥
+    never : promise ≡ None → (i : ℕ) (reply : Reply) → TraceAnswersAt events i call.id reply → ⊥
     never none i reply h =
-        let late : (j : ℕ) (s : Reply) → k + 1 ≤ j → IsAnsweredAt events j call.id s → ⊥ =
-        subst (λ (p : Option Reply). MatchOption p ((j : ℕ) (s : Reply) → k + 1 ≤ j → IsAnsweredAt events j call.id s → ⊥)
-        (λ s. (j : ℕ) × (k + 1 ≤ j) × IsAnsweredAt events j call.id s)) none tells in
+        let late : (j : ℕ) (s : Reply) → k + 1 ≤ j → TraceAnswersAt events j call.id s → ⊥ =
+        subst (λ (p : Option Reply). MatchOption p ((j : ℕ) (s : Reply) → k + 1 ≤ j → TraceAnswersAt events j call.id s → ⊥)
+        (λ s. (j : ℕ) × (k + 1 ≤ j) × TraceAnswersAt events j call.id s)) none tells in
         ⊎_elim {C = ⊥}
         (λ (early : i < k + 1).
         let issue = t.issued i call.id reply h in

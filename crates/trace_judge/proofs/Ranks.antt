@@ -3,9 +3,9 @@ use Rattle.std.proofs.Common.{◌≡◌, ◌≢◌, ◌⊎◌, inl, inr, ⊎_eli
 use Rattle.std.proofs.Common.{arith, slice_get, set, take, add-one, Vec}
 use Rattle.std.proofs.lemmas.Bool.{cases_eq}
 use Rattle.std.proofs.lemmas.List.{length-take-le, take_all, map_push}
-use Rattle.trace_search.specs.declared.opened.Branch.{Branch}
-use Rattle.trace_search.specs.declared.opened.Node.{Node}
-use Rattle.trace_order.proofs.Lists.{get_within, within_length, set_get_same, get_set_other, get_append_left, get_push, take_push}
+use Rattle.trace_laws.specs.declared.opened.Branch.{Branch}
+use Rattle.trace_laws.specs.declared.opened.Node.{Node}
+use Rattle.trace_laws.proofs.Lists.{get_within, within_length, set_get_same, get_set_other, get_append_left, get_push, take_push}
 use Rattle.trace_judge.specs.Marks.{AreNodes}
 use Rattle.trace_judge.specs.Sets.{lists_of}
 use Rattle.trace_judge.specs.Kept.{rank, renumbered, marked_nodes, renumbered_all, AreEnds, Keeps, ClosesAt, AreRanks}

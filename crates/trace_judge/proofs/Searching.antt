@@ -6,21 +6,21 @@ use Rattle.std.proofs.lemmas.Bool.{cases_eq}
 use Rattle.std.proofs.lemmas.List.{map-set, length-map, length-replicate, get_or-map, length_push}
 use Rattle.std.proofs.Common.{◌-◌, length-append, append-nil, append_assoc}
 use Rattle.packet.specs.declared.kinds.Reply.{Reply}
-use Rattle.trace_order.specs.declared.event.Call.{Call}
-use Rattle.trace_order.specs.declared.event.Event.{Event}
-use Rattle.trace_search.specs.declared.opened.Open.{Open}
-use Rattle.trace_search.specs.declared.opened.Branch.{Branch}
-use Rattle.trace_search.specs.declared.opened.Node.{Node}
-use Rattle.trace_order.specs.Traces.{IsTrace, IsIssuedAt, IsAnsweredAt}
-use Rattle.trace_search.specs.Configs.{IsIn}
-use Rattle.trace_search.specs.Searches.{IsAt, IsPending, IsTable, Fits, IsCovered, IsSearched, first_branch, configs_of, order_of}
-use Rattle.trace_search.proofs.Start.{none_at, searched_none, searched_issue, searched_more, pending_now}
-use Rattle.trace_search.proofs.Trails.{put, put_same, put_other}
-use Rattle.trace_order.proofs.Lists.{get_push}
+use Rattle.trace_laws.specs.declared.event.Call.{Call}
+use Rattle.trace_laws.specs.declared.event.Event.{Event}
+use Rattle.trace_laws.specs.declared.opened.Open.{Open}
+use Rattle.trace_laws.specs.declared.opened.Branch.{Branch}
+use Rattle.trace_laws.specs.declared.opened.Node.{Node}
+use Rattle.trace_laws.specs.Traces.{IsTrace, TraceIssuesAt, TraceAnswersAt}
+use Rattle.trace_laws.specs.Configs.{IsIn}
+use Rattle.trace_laws.specs.Searches.{IsAt, IsPending, IsIndexTable, Fits, IsCovered, IsSearched, first_branch, configs_of, order_of}
+use Rattle.trace_laws.proofs.Start.{none_at, searched_none, searched_issue, searched_more, pending_now}
+use Rattle.trace_laws.proofs.Trails.{put, put_same, put_other}
+use Rattle.trace_laws.proofs.Lists.{get_push}
 use Rattle.trace_judge.specs.declared.search.Search.{Search}
 use Rattle.trace_judge.specs.declared.index.Index.{Index}
 use Rattle.trace_judge.specs.Sets.{lists_of}
-use Rattle.trace_judge.specs.Searched.{Holds}
+use Rattle.trace_judge.specs.Searched.{HasSearched}
 use Rattle.trace_judge.specs.Slots.{IsPut, IsBegun, IsFirst, IsParted}
 use Rattle.trace_judge.specs.Stops.{IsBeginning}
 use Rattle.trace_judge.proofs.Parting.{begun_first, first_low, parted_put}
@@ -31,7 +31,7 @@ pub holds_start : {A : Type 0} (opening : List ℕ) (trace whole : List Event) (
     → length words.items ≡ length opening
     → ((w : ℕ) → w < length opening → lists_of words.items w ≡ first_branch (get_or opening w 0) ∷ [])
     → nodes.items ≡ []
-    → Holds {A = A} opening trace whole 0 (record { tables = tables; words = words; nodes = nodes; index = index; most = most; stuck = stuck })
+    → HasSearched {A = A} opening trace whole 0 (record { tables = tables; words = words; nodes = nodes; index = index; most = most; stuck = stuck })
 holds_start {A} opening trace whole tables words nodes index most stuck tabled empty sized first none = record {
   sized = sized;
   tabled = tabled;
@@ -64,9 +64,9 @@ set_other {X} {A} words w v u ne =
 
 -- the promise is what the trace will answer
 promised : (words : ℕ) (trace : List Event) (k : ℕ) (call : Call) (promise : Option Reply) → IsTrace words trace
-    → IsIssuedAt trace k call
-    → MatchOption promise ((i : ℕ) (reply : Reply) → k + 1 ≤ i → IsAnsweredAt trace i call.id reply → ⊥)
-    (λ reply. (i : ℕ) × (k + 1 ≤ i) × IsAnsweredAt trace i call.id reply)
+    → TraceIssuesAt trace k call
+    → MatchOption promise ((i : ℕ) (reply : Reply) → k + 1 ≤ i → TraceAnswersAt trace i call.id reply → ⊥)
+    (λ reply. (i : ℕ) × (k + 1 ≤ i) × TraceAnswersAt trace i call.id reply)
     → IsPending trace (suc k) (record { call = call; promise = promise })
 promised words trace k call None t now tells = pending_now words trace k
     (record { call = call; promise = None }) t now
@@ -76,14 +76,14 @@ promised words trace k call (Some told) t now tells = pending_now words trace k
     (record { call = call; promise = Some told }) t now
     (λ i reply l h.
     let same = t.once tells.0 i call.id told reply tells.2 h in
-    let there : IsAnsweredAt trace tells.0 call.id reply = subst (λ (j : ℕ). IsAnsweredAt trace j call.id reply)
+    let there : TraceAnswersAt trace tells.0 call.id reply = subst (λ (j : ℕ). TraceAnswersAt trace j call.id reply)
     (sym same) h in
-    let here : IsAnsweredAt trace tells.0 call.id told = tells.2 in
+    let here : TraceAnswersAt trace tells.0 call.id told = tells.2 in
     cc)
     (λ reply e. (
       tells.0,
       let same : told ≡ reply = cc in subst
-          (λ (r : Reply). IsAnsweredAt trace tells.0 call.id r) same tells.2,
+          (λ (r : Reply). TraceAnswersAt trace tells.0 call.id r) same tells.2,
     ))
 
 -- the same tables
@@ -91,7 +91,7 @@ searched_as : (opening : List ℕ) (trace : List Event) (k : ℕ) (tables others
     (sets : ℕ → List Branch) (nodes : List Node) → ((v : ℕ) → others v ≡ tables v)
     → IsSearched opening trace k tables sets nodes → IsSearched opening trace k others sets nodes
 searched_as opening trace k tables others sets nodes same is = record {
-  tabled = λ v l. subst (λ (ts : List (Option Open)). IsTable trace k v ts) (sym (same v)) (is.tabled v l);
+  tabled = λ v l. subst (λ (ts : List (Option Open)). IsIndexTable trace k v ts) (sym (same v)) (is.tabled v l);
   sound = record {
     back = is.sound.back;
     inside = is.sound.inside;
@@ -146,7 +146,7 @@ searched_pads (suc n) opening trace k tables later sets nodes w few written same
 -- an operation takes a slot
 searched_put : (opening : List ℕ) (trace : List Event) (k first : ℕ) (tables later : ℕ → List (Option Open))
     (sets : ℕ → List Branch) (nodes : List Node) (o : Open)
-    → IsTrace (length opening) trace → IsIssuedAt trace k o.call → IsPending trace (suc k) o → first ≤ 64
+    → IsTrace (length opening) trace → TraceIssuesAt trace k o.call → IsPending trace (suc k) o → first ≤ 64
     → IsPut (tables o.call.operation.address) first o (later o.call.operation.address)
     → ((v : ℕ) → v ≢ o.call.operation.address → later v ≡ tables v)
     → IsSearched opening trace k tables sets nodes → IsSearched opening trace (suc k) later sets nodes
@@ -184,13 +184,13 @@ pub holds_issue : {A : Type 0} (opening : List ℕ) (trace whole : List Event) (
     (tables : Vec (Vec (Option Open) A) A) (old table : Vec (Option Open) A) (first : ℕ) (call : Call) (promise : Option Reply)
     → old ≡ get_or s.tables.items call.operation.address old
     → tables.items ≡ set s.tables.items call.operation.address table
-    → IsTrace (length opening) trace → IsIssuedAt trace k call
+    → IsTrace (length opening) trace → TraceIssuesAt trace k call
     → IsBeginning trace whole → IsBegun whole (length trace) call.id promise first
     → IsPut old.items first (record { call = call; promise = promise }) table.items
-    → MatchOption promise ((i : ℕ) (reply : Reply) → k + 1 ≤ i → IsAnsweredAt trace i call.id reply → ⊥)
-    (λ reply. (i : ℕ) × (k + 1 ≤ i) × IsAnsweredAt trace i call.id reply)
-    → Holds {A = A} opening trace whole k s
-    → Holds {A = A} opening trace whole (k + 1)
+    → MatchOption promise ((i : ℕ) (reply : Reply) → k + 1 ≤ i → TraceAnswersAt trace i call.id reply → ⊥)
+    (λ reply. (i : ℕ) × (k + 1 ≤ i) × TraceAnswersAt trace i call.id reply)
+    → HasSearched {A = A} opening trace whole k s
+    → HasSearched {A = A} opening trace whole (k + 1)
     (record { tables = tables; words = s.words; nodes = s.nodes; index = s.index; most = s.most; stuck = s.stuck })
 holds_issue {A} opening trace whole k s tables old table first call promise seen written t now is begun put_in tells holds =
     let w : ℕ = call.operation.address in

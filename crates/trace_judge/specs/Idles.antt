@@ -1,9 +1,9 @@
 -- Idle operations that are open on a word.
 use Rattle.std.specs.Prelude.{◌≡◌, ◌<◌, ◌==◌, ℕ, Bool, true, false, cond, List, [], ◌∷◌, Option, Some, None, IfSome}
 use Rattle.std.specs.Int.{bit_at}
-use Rattle.trace_search.specs.declared.opened.Open.{Open}
-use Rattle.trace_search.specs.declared.opened.Config.{Config}
-use Rattle.trace_search.specs.Configs.{IsOpen, IsIdle, Agrees, IsIn, with_bit}
+use Rattle.trace_laws.specs.declared.opened.Open.{Open}
+use Rattle.trace_laws.specs.declared.opened.Config.{Config}
+use Rattle.trace_laws.specs.Configs.{IsOpen, IsIdle, AgreesWithValue, IsIn, with_bit}
 use Rattle.trace_judge.specs.declared.idles.Idle.{Idle}
 
 -- a reply fits at this word, or at any
@@ -14,7 +14,7 @@ FitsAt at word = IfSome at (λ v. v ≡ word)
 pub record IsListed (table : List (Option Open)) (word : ℕ) (q : Idle) : Type 0 where
   pub pending : IsOpen table word q.slot q.opened
   pub idle : IsIdle q.opened
-  pub fits : (v : ℕ) → FitsAt q.at v → Agrees q.opened v
+  pub fits : (v : ℕ) → FitsAt q.at v → AgreesWithValue q.opened v
 
 abbrev pub AreListed : List (Option Open) → ℕ → List Idle → Type 0
 AreListed table word idles = (q : Idle) → IsIn idles q → IsListed table word q

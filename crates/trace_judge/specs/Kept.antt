@@ -1,9 +1,9 @@
 -- Nodes that some branch leads back to, and those that none does.
 use Rattle.std.specs.Prelude.{◌≡◌, ◌<◌, ◌+◌, ℕ, zero, suc, Bool, true, cond, List, [], ◌∷◌, Option}
 use Rattle.std.specs.Prelude.{Some, None, Vec, length, map, slice_get}
-use Rattle.trace_search.specs.declared.opened.Node.{Node}
-use Rattle.trace_search.specs.declared.opened.Branch.{Branch}
-use Rattle.trace_search.specs.Configs.{IsIn}
+use Rattle.trace_laws.specs.declared.opened.Node.{Node}
+use Rattle.trace_laws.specs.declared.opened.Branch.{Branch}
+use Rattle.trace_laws.specs.Configs.{IsIn}
 use Rattle.trace_judge.specs.Sets.{lists_of}
 
 -- how many are marked before place i

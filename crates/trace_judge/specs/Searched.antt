@@ -1,17 +1,17 @@
 -- What the judge holds between two events, and what it says in the end.
 use Rattle.std.specs.Prelude.{◌≡◌, ◌<◌, ℕ, List, length}
-use Rattle.trace_order.specs.declared.event.Event.{Event}
-use Rattle.trace_search.specs.declared.opened.Branch.{Branch}
-use Rattle.trace_search.specs.declared.opened.Open.{Open}
-use Rattle.trace_search.specs.Configs.{IsIn}
-use Rattle.trace_search.specs.Searches.{IsAt, IsSearched}
+use Rattle.trace_laws.specs.declared.event.Event.{Event}
+use Rattle.trace_laws.specs.declared.opened.Branch.{Branch}
+use Rattle.trace_laws.specs.declared.opened.Open.{Open}
+use Rattle.trace_laws.specs.Configs.{IsIn}
+use Rattle.trace_laws.specs.Searches.{IsAt, IsSearched}
 use Rattle.trace_judge.specs.declared.search.Search.{Search}
 use Rattle.trace_judge.specs.Sets.{lists_of}
 use Rattle.trace_judge.specs.Slots.{IsParted}
 
 -- it knows what a search knows before event k, each word has a branch, and open operations are in
 -- slots of those that the whole trace answers, or never does
-pub record Holds {A : Type 0} (opening : List ℕ) (trace whole : List Event) (k : ℕ) (s : Search A)
+pub record HasSearched {A : Type 0} (opening : List ℕ) (trace whole : List Event) (k : ℕ) (s : Search A)
     : Type 0 where
   pub sized : length s.words.items ≡ length opening
   pub tabled : length s.tables.items ≡ length opening

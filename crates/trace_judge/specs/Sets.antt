@@ -1,14 +1,14 @@
 -- Sets of branches, as lists that grow at their ends.
 use Rattle.std.specs.Prelude.{◌≡◌, ◌<◌, ℕ, List, [], ◌∷◌, ◌++◌, Option, Some, None, Vec, length, map, slice_index_or}
 use Rattle.std.specs.Prelude.{cond, ◌==◌}
-use Rattle.trace_order.specs.declared.event.Event.{Event}
-use Rattle.trace_search.specs.declared.opened.Open.{Open}
-use Rattle.trace_search.specs.declared.opened.Config.{Config}
-use Rattle.trace_search.specs.declared.opened.Branch.{Branch}
-use Rattle.trace_search.specs.declared.opened.Node.{Node}
-use Rattle.trace_order.specs.Traces.{IsTrace}
-use Rattle.trace_search.specs.Configs.{GoesOn, IsIn, IsLeft, MayTake, Agrees, effect}
-use Rattle.trace_search.specs.Searches.{AreTables, IsSound}
+use Rattle.trace_laws.specs.declared.event.Event.{Event}
+use Rattle.trace_laws.specs.declared.opened.Open.{Open}
+use Rattle.trace_laws.specs.declared.opened.Config.{Config}
+use Rattle.trace_laws.specs.declared.opened.Branch.{Branch}
+use Rattle.trace_laws.specs.declared.opened.Node.{Node}
+use Rattle.trace_laws.specs.Traces.{IsTrace}
+use Rattle.trace_laws.specs.Configs.{GoesOn, IsIn, IsLeft, MayTake, AgreesWithValue, effect}
+use Rattle.trace_laws.specs.Searches.{AreTables, IsSoundSearch}
 
 -- what a place of the table holds may take effect
 pub record TakesEffect (place : Option Open) (word : ℕ) (c : Config) (s : ℕ) (o : Open) : Type 0
@@ -16,7 +16,7 @@ pub record TakesEffect (place : Option Open) (word : ℕ) (c : Config) (s : ℕ)
     pub there : place ≡ Some o
     pub here : o.call.operation.address ≡ word
     pub left : IsLeft c s
-    pub agrees : Agrees o c.word
+    pub agrees : AgreesWithValue o c.word
 
 -- what a place of the table holds is on this word, and never answered
 abbrev pub WaitsFor : Option Open → ℕ → Type 0
@@ -38,12 +38,12 @@ StaysSound table w old nodes new more =
     (opening : List ℕ) (trace : List Event) (k : ℕ) (tables : ℕ → List (Option Open))
     (sets : ℕ → List Branch) → IsTrace (length opening) trace
     → AreTables (length opening) trace k tables → tables w ≡ table → w < length opening
-    → IsSound opening trace k tables (with_set sets w old) nodes
-    → IsSound opening trace k tables (with_set sets w new) more
+    → IsSoundSearch opening trace k tables (with_set sets w old) nodes
+    → IsSoundSearch opening trace k tables (with_set sets w new) more
 
 -- another branch stands in the place of this one
-abbrev pub LeadsTo : List (Option Open) → ℕ → Branch → List Node → Branch → List Node → Type 0
-LeadsTo table w from nodes to more = (others : List Branch)
+abbrev pub Replaces : List (Option Open) → ℕ → Branch → List Node → Branch → List Node → Type 0
+Replaces table w from nodes to more = (others : List Branch)
     → StaysSound table w (others ++ from ∷ []) nodes (others ++ to ∷ []) more
 
 -- beside others, of which this branch is one or which it is found among, there are more

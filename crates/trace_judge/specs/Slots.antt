@@ -3,9 +3,9 @@ use Rattle.std.specs.Prelude.{◌≡◌, ◌⊎◌, ◌<◌, ◌≤◌, ◌+◌,
 use Rattle.std.specs.Prelude.{None, length, slice_get, set}
 use Rattle.std.specs.Prelude.{IsSome, replicate}
 use Rattle.packet.specs.declared.kinds.Reply.{Reply}
-use Rattle.trace_order.specs.declared.event.Event.{Event}
-use Rattle.trace_order.specs.Traces.{IsAnsweredAt, IsAnswered}
-use Rattle.trace_search.specs.declared.opened.Open.{Open}
+use Rattle.trace_laws.specs.declared.event.Event.{Event}
+use Rattle.trace_laws.specs.Traces.{TraceAnswersAt, IsAnswered}
+use Rattle.trace_laws.specs.declared.opened.Open.{Open}
 
 -- of 64 slots from this one on, those that there are have something in them
 abbrev pub IsFilled : ℕ → List (Option Open) → Type 0
@@ -30,7 +30,7 @@ abbrev pub IsBegun : List Event → ℕ → ℕ → Option Reply → ℕ → Typ
 IsBegun whole from id promise first =
     ((first ≡ 0) × (IsSome promise ⊎ IsAnswered whole id))
     ⊎ ((first ≡ 64) × (promise ≡ None)
-    × ((i : ℕ) (reply : Reply) → from ≤ i → IsAnsweredAt whole i id reply → ⊥))
+    × ((i : ℕ) (reply : Reply) → from ≤ i → TraceAnswersAt whole i id reply → ⊥))
 
 -- the first slot for an operation of this number: the slots from 0 on are of operations that the
 -- trace answers, those from 64 on of those that it never does

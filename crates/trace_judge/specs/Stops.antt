@@ -1,12 +1,12 @@
 -- Why a trace is not judged.
 use Rattle.std.specs.Prelude.{◌≡◌, ◌↔◌, ◌<◌, ℕ, List, Some, length, slice_get, slice_index, take}
 use Rattle.packet.specs.declared.kinds.Reply.{Reply}
-use Rattle.trace_order.specs.declared.event.Call.{Call}
-use Rattle.trace_order.specs.declared.event.Event.{Event}
-use Rattle.trace_order.specs.Traces.{IsIssuedAt, IsAnsweredAt, IsUnanswered}
-pub use Rattle.trace_order.specs.Traces.{IsAnswered}
-use Rattle.trace_order.specs.Orders.{IsOn, memory_of}
-use Rattle.trace_order.specs.Legal.{Legal}
+use Rattle.trace_laws.specs.declared.event.Call.{Call}
+use Rattle.trace_laws.specs.declared.event.Event.{Event}
+use Rattle.trace_laws.specs.Traces.{TraceIssuesAt, TraceAnswersAt, IsUnanswered}
+pub use Rattle.trace_laws.specs.Traces.{IsAnswered}
+use Rattle.trace_laws.specs.Orders.{IsOn, memory_of}
+use Rattle.trace_laws.specs.Legal.{Legal}
 use Rattle.trace_judge.specs.declared.undecided.Undecided.{Undecided}
 use Rattle.trace_judge.specs.declared.undecided.Undecided.TheVariants.{Memory, Configurations, Operations}
 
@@ -15,11 +15,11 @@ use Rattle.trace_judge.specs.declared.undecided.Undecided.TheVariants.{Memory, C
 -- none of them is
 pub record IsCrowded (trace : List Event) (k : ℕ) : Type 0 where
   pub another : Call
-  pub issue : IsIssuedAt trace k another
+  pub issue : TraceIssuesAt trace k another
   pub calls : List Call
   pub many : length calls ≡ 64
   pub issued : (s : ℕ) (c : Call) → slice_get calls s ≡ Some c
-      → (i : ℕ) × (i < k) × IsIssuedAt trace i c
+      → (i : ℕ) × (i < k) × TraceIssuesAt trace i c
   pub pending : (s : ℕ) (c : Call) → slice_get calls s ≡ Some c → IsUnanswered trace k c.id
   pub here : (s : ℕ) (c : Call) → slice_get calls s ≡ Some c
       → c.operation.address ≡ another.operation.address
@@ -32,7 +32,7 @@ pub record IsCrowded (trace : List Event) (k : ℕ) : Type 0 where
 
 -- event k answers an operation
 abbrev pub IsAnAnswer : List Event → ℕ → Type 0
-IsAnAnswer trace k = (id : ℕ) × (reply : Reply) × IsAnsweredAt trace k id reply
+IsAnAnswer trace k = (id : ℕ) × (reply : Reply) × TraceAnswersAt trace k id reply
 
 -- why a trace is not judged: there are too many open operations on a word, or configurations of
 -- it, or no memory
@@ -46,7 +46,7 @@ IsUndecided trace (Operations event) = IsCrowded trace event
 pub record LeaveSame (opening : List ℕ) (trace : List Event) (k w : ℕ) (a b : List Call) : Type 0
   where
     pub word : slice_index (memory_of opening a) w ≡ slice_index (memory_of opening b) w
-    pub on : (i : ℕ) (call : Call) → i < k → IsIssuedAt trace i call → call.operation.address ≡ w
+    pub on : (i : ℕ) (call : Call) → i < k → TraceIssuesAt trace i call → call.operation.address ≡ w
         → IsUnanswered trace k call.id → IsOn a call.id ↔ IsOn b call.id
 
 -- a word has more than so many configurations before event k: as many orders explain what comes

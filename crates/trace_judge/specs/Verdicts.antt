@@ -1,7 +1,7 @@
 -- What a verdict says.
 use Rattle.std.specs.Prelude.{◌<◌, ◌+◌, ℕ, List, length, take}
-use Rattle.trace_order.specs.declared.event.Event.{Event}
-use Rattle.trace_order.specs.Orders.{IsOrder, IsLinearizable}
+use Rattle.trace_laws.specs.declared.event.Event.{Event}
+use Rattle.trace_laws.specs.Orders.{IsOrder, IsLinearizable}
 use Rattle.trace_judge.specs.declared.judge.Verdict.{Verdict}
 use Rattle.trace_judge.specs.declared.judge.Verdict.TheVariants.{Linearizable, No}
 

@@ -1,9 +1,9 @@
 //! Adds branches to those that were found, unless one as good is there.
 
 ghost use Rattle.std.specs.Prelude.{◌≡◌, true, Some, None, ◌∷◌, ◌++◌, [], ◌<◌, ◌≤◌, MatchOption, OnOk, length};
-ghost use Rattle.trace_search.specs.declared.opened.Open.{Open};
-ghost use Rattle.trace_search.specs.Configs.{Agrees, HasAsGood, effect, release, GoesOn};
-ghost use Rattle.trace_search.specs.Searches.{configs_of};
+ghost use Rattle.trace_laws.specs.declared.opened.Open.{Open};
+ghost use Rattle.trace_laws.specs.Configs.{AgreesWithValue, HasAsGood, effect, release, GoesOn};
+ghost use Rattle.trace_laws.specs.Searches.{configs_of};
 ghost use Rattle.trace_judge.specs.Idles.{AreListed, AreLow};
 ghost use Rattle.trace_judge.specs.Sets.{TakesEffect, WaitsFor, Joins, Takes};
 
@@ -12,12 +12,12 @@ use crate::idles::{Idle, follow, settle};
 use crate::index::Index;
 use packet::{Reply, apply};
 use std::alloc::{AllocError, Allocator};
-use trace_search::{Branch, Config, Node, Open};
+use trace_laws::{Branch, Config, Node, Open};
 
 /// Whether the trace tells as the reply of an operation another word than this.
 #[tactic(auto, using(crate::proofs::Calm::other_told))]
 fn tells_other(opened: Open, word: u64) -> bool
-    ensures { result ≡ true → Agrees opened word → ⊥ }
+    ensures { result ≡ true → AgreesWithValue opened word → ⊥ }
 {
     match opened.promise {
         Some(Reply::Old(told)) => told != word,

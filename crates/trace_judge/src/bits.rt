@@ -2,7 +2,7 @@
 
 ghost use Rattle.std.specs.Prelude.{◌≡◌, ◌<◌, true, false};
 ghost use Rattle.std.specs.Int.{bit_at};
-ghost use Rattle.trace_search.specs.Configs.{with_bit, without_bit};
+ghost use Rattle.trace_laws.specs.Configs.{with_bit, without_bit};
 
 /// Whether the slot is in the set.
 pub fn has(set: u128, slot: usize) -> bool

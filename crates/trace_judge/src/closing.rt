@@ -1,10 +1,10 @@
 //! Lets open operations take effect, until the answered one has.
 
 ghost use Rattle.std.specs.Prelude.{◌≡◌, ◌<◌, ◌≤◌, IfErr, IfOk, OnOk, length};
-ghost use Rattle.trace_search.specs.declared.opened.Config.{Config};
-ghost use Rattle.trace_search.specs.declared.opened.Branch.{Branch};
-ghost use Rattle.trace_search.specs.Configs.{IsIn, IsLeft, IsTaken, HasAsGood, IsExpanded, release, GoesOn};
-ghost use Rattle.trace_search.specs.Searches.{configs_of, AreReleased};
+ghost use Rattle.trace_laws.specs.declared.opened.Config.{Config};
+ghost use Rattle.trace_laws.specs.declared.opened.Branch.{Branch};
+ghost use Rattle.trace_laws.specs.Configs.{IsIn, IsLeft, HasTakenEffect, HasAsGood, IsExpanded, release, GoesOn};
+ghost use Rattle.trace_laws.specs.Searches.{configs_of, AreReleased};
 ghost use Rattle.trace_judge.specs.declared.undecided.Full.TheVariants.{Configurations};
 ghost use Rattle.trace_judge.specs.Crowds.{IsOverfull};
 ghost use Rattle.trace_judge.specs.Idles.{AreListed, AreLow};
@@ -17,7 +17,7 @@ use crate::idles::{Idle, idles_of};
 use crate::index::Index;
 use crate::undecided::Full;
 use std::alloc::{AllocError, Allocator};
-use trace_search::{Branch, Config, Node, Open};
+use trace_laws::{Branch, Config, Node, Open};
 
 /// The branches of a word after their idle operations took effect.
 fn settle_all<A: Allocator + Copy>(
@@ -156,7 +156,7 @@ pub fn keep<A: Allocator>(
 ) -> Result<Vec<Branch, A>, AllocError>
     requires { slot < 128 }
     ensures from { IfOk result (λ v. AreReleased slot branches.now v.items) }
-    ensures released { IfOk result (λ v. (b : Branch) → IsIn branches.now b → IsTaken b.config slot
+    ensures released { IfOk result (λ v. (b : Branch) → IsIn branches.now b → HasTakenEffect b.config slot
         → IsIn v.items (record { config = release b.config slot; trail = b.trail })) }
 {
     let mut kept = Vec::new(alloc);

@@ -5,7 +5,7 @@ ghost use Rattle.trace_judge.specs.Crowds.{AreDistinct, IsCrowd};
 
 use std::alloc::{AllocError, Allocator};
 use std::collections::HashSet;
-use trace_search::{Branch, Config};
+use trace_laws::{Branch, Config};
 
 /// The slots of the operations that have taken effect.
 fn taken_of(config: Config) -> u128

@@ -1,15 +1,15 @@
 //! Idle operations, which leave the word as it is wherever they may take effect: they do so at once.
 
 ghost use Rattle.std.specs.Prelude.{◌≡◌, ◌<◌, ◌≤◌, ℕ, List, Option, Some, MatchOption, IfOk, length};
-ghost use Rattle.trace_search.specs.declared.opened.Open.{Open};
-ghost use Rattle.trace_search.specs.Configs.{IsIdle, Agrees};
+ghost use Rattle.trace_laws.specs.declared.opened.Open.{Open};
+ghost use Rattle.trace_laws.specs.Configs.{IsIdle, AgreesWithValue};
 ghost use Rattle.trace_judge.specs.Idles.{FitsAt, IsListed, AreListed, AreLow, applies, calmed, settled};
-ghost use Rattle.trace_judge.specs.Sets.{LeadsTo};
+ghost use Rattle.trace_judge.specs.Sets.{Replaces};
 
 use crate::bits::{has, with};
 use packet::{Op, Reply, apply};
 use std::alloc::{AllocError, Allocator};
-use trace_search::{Branch, Config, Node, Open};
+use trace_laws::{Branch, Config, Node, Open};
 
 /// An idle operation that is open, and the word at which its reply fits: `None` where it is any.
 #[derive(Clone, Copy)]
@@ -22,7 +22,7 @@ pub struct Idle {
 /// Where the reply of an operation fits, if it is idle.
 fn idle_at(opened: Open) -> Option<Option<u64>>
     ensures { MatchOption result (Unit {0})
-        (λ at. IsIdle opened × ((word : ℕ) → FitsAt at word → Agrees opened word)) }
+        (λ at. IsIdle opened × ((word : ℕ) → FitsAt at word → AgreesWithValue opened word)) }
 {
     match opened.promise {
         Some(Reply::Old(word)) => {
@@ -48,7 +48,7 @@ fn idle_at(opened: Open) -> Option<Option<u64>>
 fn idle_in(place: Option<Open>, address: u32, slot: usize) -> Option<Idle>
     ensures { MatchOption result (Unit {0}) (λ q. (q.slot ≡ slot) × (place ≡ Some q.opened)
         × (q.opened.call.operation.address ≡ address) × IsIdle q.opened
-        × ((word : ℕ) → FitsAt q.at word → Agrees q.opened word)) }
+        × ((word : ℕ) → FitsAt q.at word → AgreesWithValue q.opened word)) }
 {
     let opened = place?;
     if opened.call.operation.address != address {
@@ -126,7 +126,7 @@ fn follow_one<A: Allocator>(
     requires { idle.slot < 128 }
     ensures config { IfOk result (λ to. to.config ≡ calmed idle from.config) }
     ensures ways { IfOk result (λ to. (table : List (Option Open)) (w : ℕ) → IsListed table w idle
-        → LeadsTo table w from nodes.old.items to nodes.new.items) }
+        → Replaces table w from nodes.old.items to nodes.new.items) }
 {
     if !may_take(idle, from.config) {
         return Ok(from);
@@ -156,7 +156,7 @@ pub fn follow<A: Allocator>(
     ensures config { IfOk result (λ to. to.config ≡ settled idles.now from.config) }
     ensures ways { IfOk result (λ to. (table : List (Option Open)) (w : ℕ)
         → AreListed table w idles.now
-        → LeadsTo table w from nodes.old.items to nodes.new.items) }
+        → Replaces table w from nodes.old.items to nodes.new.items) }
 {
     let mut to = from;
     for i in 0..idles.len() {

@@ -1,11 +1,11 @@
 //! Where configurations are among those that were found.
 
 ghost use Rattle.std.specs.Prelude.{◌≡◌, None};
-ghost use Rattle.trace_search.specs.Configs.{IsIn};
-ghost use Rattle.trace_search.specs.Searches.{configs_of};
+ghost use Rattle.trace_laws.specs.Configs.{IsIn};
+ghost use Rattle.trace_laws.specs.Searches.{configs_of};
 
 use std::alloc::{AllocError, Allocator};
-use trace_search::{Branch, Config};
+use trace_laws::{Branch, Config};
 
 /// How many places there are at first: a power of two, as later on.
 const PLACES: usize = 64;

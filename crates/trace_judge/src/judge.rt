@@ -2,10 +2,10 @@
 
 ghost use Rattle.std.specs.Prelude.{◌≡◌, ◌<◌, ◌+◌, ℕ, List, true, IfOk, IfErr, MatchOption, length};
 ghost use Rattle.std.specs.Prelude.{Some, None};
-ghost use Rattle.trace_order.specs.Traces.{IsTrace};
-ghost use Rattle.trace_order.specs.Orders.{IsOrder, IsLinearizable};
-ghost use Rattle.trace_search.specs.Searches.{IsTrail, order_of};
-ghost use Rattle.trace_judge.specs.Searched.{Holds};
+ghost use Rattle.trace_laws.specs.Traces.{IsTrace};
+ghost use Rattle.trace_laws.specs.Orders.{IsOrder, IsLinearizable};
+ghost use Rattle.trace_laws.specs.Searches.{IsTrail, order_of};
+ghost use Rattle.trace_judge.specs.Searched.{HasSearched};
 ghost use Rattle.trace_judge.specs.Stops.{IsBeginning, IsUndecided, TellsMany};
 ghost use Rattle.trace_judge.specs.Verdicts.{IsGoodUntil, Tells};
 ghost use Rattle.trace_judge.specs.Marks.{AreNodes, IsBelow, AreMarked, ArePicked};
@@ -16,8 +16,7 @@ use crate::search::{Search, start};
 use crate::stuck::answer_from;
 use crate::undecided::Undecided;
 use std::alloc::{AllocError, Allocator};
-use trace_order::{Call, Event};
-use trace_search::Node;
+use trace_laws::{Call, Event, Node};
 
 /// What a trace is judged to be.
 #[derive(Drop)]
@@ -54,7 +53,7 @@ fn run<A: Allocator + Copy>(
         → IsGoodUntil opening.now events.now ended.new.event) }
     ensures decided { IfOk result (λ found. MatchOption found
         (IsLinearizable opening.now events.now → ⊥)
-        (λ search. Holds opening.now events.now whole.now (length events.now) search)) }
+        (λ search. HasSearched opening.now events.now whole.now (length events.now) search)) }
 {
     let mut search = start(alloc, opening, events, whole)?;
     for k in 0..events.len() {
@@ -92,7 +91,7 @@ fn mark_all<A: Allocator + Copy>(
     events: &[Event],
     whole: &[Event],
 ) -> Result<Vec<bool, A>, AllocError>
-    requires { Holds opening.now events.now whole.now (length events.now) search.now }
+    requires { HasSearched opening.now events.now whole.now (length events.now) search.now }
     ensures { IfOk result (λ v. ArePicked (length opening.now) (lists_of search.now.words.items)
         search.now.nodes.items v.items) }
 {

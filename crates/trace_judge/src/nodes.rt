@@ -9,7 +9,7 @@ ghost use Rattle.trace_judge.specs.Marks.{AreNodes};
 ghost use Rattle.trace_judge.specs.Sets.{lists_of};
 
 use std::alloc::{AllocError, Allocator};
-use trace_search::{Branch, Node};
+use trace_laws::{Branch, Node};
 
 /// No marks.
 pub fn no_marks<A: Allocator + Copy>(alloc: A, count: usize) -> Result<Vec<bool, A>, AllocError>

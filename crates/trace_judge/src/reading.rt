@@ -2,18 +2,18 @@
 
 ghost use Rattle.std.specs.Prelude.{◌≡◌, ◌<◌, ◌≤◌, ℕ, MatchOption, length};
 ghost use Rattle.packet.specs.declared.kinds.Reply.{Reply};
-ghost use Rattle.trace_order.specs.declared.event.Call.{Call};
-ghost use Rattle.trace_order.specs.Traces.{IsAnsweredAt, IsIssuedAt};
+ghost use Rattle.trace_laws.specs.declared.event.Call.{Call};
+ghost use Rattle.trace_laws.specs.Traces.{TraceAnswersAt, TraceIssuesAt};
 ghost use Rattle.trace_judge.specs.Slots.{IsBegun};
 
 use packet::Reply;
-use trace_order::{Call, Event};
+use trace_laws::{Call, Event};
 
 /// The reply to the operation of this number, if it is answered from this event on.
 pub fn promise_of(events: &[Event], from: usize, id: u64) -> Option<Reply>
     ensures { MatchOption result
-        ((i : ℕ) (reply : Reply) → from ≤ i → IsAnsweredAt events.now i id reply → ⊥)
-        (λ reply. (i : ℕ) × (from ≤ i) × IsAnsweredAt events.now i id reply) }
+        ((i : ℕ) (reply : Reply) → from ≤ i → TraceAnswersAt events.now i id reply → ⊥)
+        (λ reply. (i : ℕ) × (from ≤ i) × TraceAnswersAt events.now i id reply) }
 {
     for i in from..events.len() {
         if let Event::Answer(other, reply) = events[i]
@@ -29,8 +29,8 @@ pub fn promise_of(events: &[Event], from: usize, id: u64) -> Option<Reply>
 pub fn issue_of(events: &[Event], k: usize, id: u64) -> Option<Call>
     requires { k ≤ length events.now }
     ensures { MatchOption result
-        ((i : ℕ) (call : Call) → i < k → IsIssuedAt events.now i call → call.id ≡ id → ⊥)
-        (λ call. (i : ℕ) × (i < k) × IsIssuedAt events.now i call × (call.id ≡ id)) }
+        ((i : ℕ) (call : Call) → i < k → TraceIssuesAt events.now i call → call.id ≡ id → ⊥)
+        (λ call. (i : ℕ) × (i < k) × TraceIssuesAt events.now i call × (call.id ≡ id)) }
 {
     let mut i = k;
     while i > 0 {

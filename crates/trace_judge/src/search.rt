@@ -3,11 +3,11 @@
 ghost use Rattle.std.specs.Prelude.{◌≡◌, ◌<◌, ◌+◌, ◌∷◌, ℕ, [], true, false, IfOk, IfErr, OnOk, length};
 ghost use Rattle.std.specs.Prelude.{slice_index};
 ghost use Rattle.packet.specs.declared.kinds.Reply.{Reply};
-ghost use Rattle.trace_order.specs.Traces.{IsTrace, IsIssuedAt, IsAnsweredAt};
-ghost use Rattle.trace_order.specs.Orders.{IsLinearizable};
-ghost use Rattle.trace_search.specs.Searches.{IsAt, first_branch};
+ghost use Rattle.trace_laws.specs.Traces.{IsTrace, TraceIssuesAt, TraceAnswersAt};
+ghost use Rattle.trace_laws.specs.Orders.{IsLinearizable};
+ghost use Rattle.trace_laws.specs.Searches.{IsAt, first_branch};
 ghost use Rattle.trace_judge.specs.Sets.{lists_of};
-ghost use Rattle.trace_judge.specs.Searched.{Holds};
+ghost use Rattle.trace_judge.specs.Searched.{HasSearched};
 ghost use Rattle.trace_judge.specs.Stops.{IsBeginning, IsUndecided, TellsMany};
 
 use crate::closing::{close, keep};
@@ -19,8 +19,7 @@ use crate::stuck::stuck_in;
 use crate::undecided::{Undecided, at_event};
 use packet::Reply;
 use std::alloc::{AllocError, Allocator};
-use trace_order::{Call, Event};
-use trace_search::{Branch, Config, Node, Open};
+use trace_laws::{Branch, Call, Config, Event, Node, Open};
 
 /// Of each word the open operations and the branches, the nodes on the ways to these, and an index of
 /// the configurations of one word.
@@ -85,7 +84,7 @@ pub fn start<A: Allocator + Copy>(
     events: &[Event],
     whole: &[Event],
 ) -> Result<Search<A>, AllocError>
-    ensures { IfOk result (λ s. Holds opening.now events.now whole.now 0 s) }
+    ensures { IfOk result (λ s. HasSearched opening.now events.now whole.now 0 s) }
 {
     Ok(Search {
         tables: empty_tables(alloc, opening.len())?,
@@ -110,9 +109,9 @@ impl<A: Allocator + Copy> Search<A> {
         requires trace { IsTrace (length opening.now) events.now }
         requires beginning { IsBeginning events.now whole.now }
         requires inside { k < length events.now }
-        requires issued { IsIssuedAt events.now k call }
-        requires holds { Holds opening.now events.now whole.now k self.old }
-        ensures holds { OnOk result (Holds opening.now events.now whole.now (k + 1) self.new) }
+        requires issued { TraceIssuesAt events.now k call }
+        requires holds { HasSearched opening.now events.now whole.now k self.old }
+        ensures holds { OnOk result (HasSearched opening.now events.now whole.now (k + 1) self.new) }
         ensures undecided { IfErr result (IsUndecided whole.now) }
         ensures full { IfErr result (λ why. (bound : ℕ) → TellsMany opening.now whole.now bound why) }
     {
@@ -137,8 +136,8 @@ impl<A: Allocator + Copy> Search<A> {
     ) -> (usize, Open)
         requires trace { IsTrace (length opening.now) events.now }
         requires inside { k < length events.now }
-        requires answered { (reply : Reply) × IsAnsweredAt events.now k id reply }
-        requires holds { Holds opening.now events.now whole.now k self.now }
+        requires answered { (reply : Reply) × TraceAnswersAt events.now k id reply }
+        requires holds { HasSearched opening.now events.now whole.now k self.now }
         ensures there { IsAt (lists_of self.now.tables.items result.1.call.operation.address)
             result.0 result.1 }
         ensures number { result.1.call.id ≡ id }
@@ -168,9 +167,9 @@ impl<A: Allocator + Copy> Search<A> {
         requires trace { IsTrace (length opening.now) events.now }
         requires beginning { IsBeginning events.now whole.now }
         requires inside { k < length events.now }
-        requires answered { IsAnsweredAt events.now k id reply }
-        requires holds { Holds opening.now events.now whole.now k self.old }
-        ensures yes { IfOk result (λ b. b ≡ true → Holds opening.now events.now whole.now (k + 1) self.new) }
+        requires answered { TraceAnswersAt events.now k id reply }
+        requires holds { HasSearched opening.now events.now whole.now k self.old }
+        ensures yes { IfOk result (λ b. b ≡ true → HasSearched opening.now events.now whole.now (k + 1) self.new) }
         ensures no { IfOk result (λ b. b ≡ false → IsLinearizable opening.now events.now → ⊥) }
         ensures undecided { IfErr result (IsUndecided whole.now) }
         ensures full { IfErr result (TellsMany opening.now whole.now bound) }
@@ -209,8 +208,8 @@ impl<A: Allocator + Copy> Search<A> {
         whole: &[Event],
         k: usize,
     ) -> Result<(), AllocError>
-        requires { Holds opening.now events.now whole.now k self.old }
-        ensures { OnOk result (Holds opening.now events.now whole.now k self.new) }
+        requires { HasSearched opening.now events.now whole.now k self.old }
+        ensures { OnOk result (HasSearched opening.now events.now whole.now k self.new) }
     {
         if self.nodes.len() <= self.most {
             return Ok(());
@@ -235,8 +234,8 @@ impl<A: Allocator + Copy> Search<A> {
         requires trace { IsTrace (length opening.now) events.now }
         requires beginning { IsBeginning events.now whole.now }
         requires inside { k < length events.now }
-        requires holds { Holds opening.now events.now whole.now k self.old }
-        ensures yes { IfOk result (λ b. b ≡ true → Holds opening.now events.now whole.now (k + 1) self.new) }
+        requires holds { HasSearched opening.now events.now whole.now k self.old }
+        ensures yes { IfOk result (λ b. b ≡ true → HasSearched opening.now events.now whole.now (k + 1) self.new) }
         ensures no { IfOk result (λ b. b ≡ false → IsLinearizable opening.now events.now → ⊥) }
         ensures undecided { IfErr result (IsUndecided whole.now) }
         ensures full { IfErr result (TellsMany opening.now whole.now bound) }

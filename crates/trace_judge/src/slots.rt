@@ -3,12 +3,12 @@
 ghost use Rattle.std.specs.Prelude.{◌≡◌, ◌<◌, ◌≤◌, ◌+◌, ◌-◌, ◌++◌, ℕ, Some, None, true, false};
 ghost use Rattle.std.specs.Prelude.{IfOk, OnOk, MatchOption, length};
 ghost use Rattle.std.specs.Prelude.{slice_get, set, replicate};
-ghost use Rattle.trace_search.specs.declared.opened.Open.{Open};
-ghost use Rattle.trace_search.specs.Searches.{IsAt};
+ghost use Rattle.trace_laws.specs.declared.opened.Open.{Open};
+ghost use Rattle.trace_laws.specs.Searches.{IsAt};
 ghost use Rattle.trace_judge.specs.Slots.{IsFilled, IsFull, IsPut};
 
 use std::alloc::{AllocError, Allocator};
-use trace_search::Open;
+use trace_laws::Open;
 
 /// How many slots of a word there are for operations that are answered later, and again for those
 /// that never are.

@@ -3,8 +3,7 @@
 ghost use Rattle.std.specs.Prelude.{◌≤◌, length};
 
 use crate::bits::has;
-use trace_order::Event;
-use trace_search::{Branch, Open};
+use trace_laws::{Branch, Event, Open};
 
 /// The slots whose operations have taken effect in some branch.
 fn taken_in(branches: &[Branch]) -> u128 {

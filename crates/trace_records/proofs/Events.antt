@@ -6,11 +6,11 @@ use Rattle.std.specs.List.{slice_index_or}
 use Rattle.std.proofs.lemmas.List.{length-set}
 use Rattle.packet.specs.declared.kinds.Operation.{Operation}
 use Rattle.packet.specs.declared.kinds.Reply.{Reply}
-use Rattle.trace_order.specs.declared.event.Call.{Call}
-use Rattle.trace_order.specs.declared.event.Event.{Event}
-use Rattle.trace_order.specs.declared.event.Event.TheVariants.{Issue, Answer}
-use Rattle.trace_order.specs.Traces.{IsAnsweredAt}
-use Rattle.trace_order.proofs.Lists.{get_append_left, get_within, within_length, set_get_same, get_set_other}
+use Rattle.trace_laws.specs.declared.event.Call.{Call}
+use Rattle.trace_laws.specs.declared.event.Event.{Event}
+use Rattle.trace_laws.specs.declared.event.Event.TheVariants.{Issue, Answer}
+use Rattle.trace_laws.specs.Traces.{TraceAnswersAt}
+use Rattle.trace_laws.proofs.Lists.{get_append_left, get_within, within_length, set_get_same, get_set_other}
 use Rattle.trace_text.proofs.Growing.{longer, none_issued, none_answered, none_trace, issued_with, issued_before, answered_with, answered_before}
 use Rattle.trace_text.proofs.Growing.{issue_grows, answer_grows}
 use Rattle.trace_records.specs.Gathered.{Gathered, nothing_gathered, gathered_issue, gathered_answer, is_replied}
@@ -59,15 +59,15 @@ answer_kept words g k n reply goes open_ =
     let issue = issue_of (slice_get g.events n) reply goes in
     let low = get_within g.events n (Issue issue.0) issue.1 in
     let place = within_length g.answered n (let s = k.sized in omega (arith, s, low)) in
-    let none : (j : ℕ) (s : Reply) → IsAnsweredAt g.events j n s → ⊥ = λ j s old. not_marked g.answered n open_ (k.marked j n s old) in
+    let none : (j : ℕ) (s : Reply) → TraceAnswersAt g.events j n s → ⊥ = λ j s old. not_marked g.answered n open_ (k.marked j n s old) in
     record {
       sized = longer (slice_set g.answered n true) false
           ∙ (ap (λ m. m + 1) (length-set g.answered n true ∙ k.sized) ∙ sym (longer g.events (Answer n reply)));
       trace = answer_grows words g.events n reply k.trace (n, issue.0, low, k.ids n issue.0 issue.1, issue.1) none;
       ids = λ i c h. k.ids i c (issued_before g.events n reply i c h);
       marked = λ j id s h. ⊎_elim
-          (λ (old : IsAnsweredAt g.events j id s). get_append_left (slice_set g.answered n true) (false ∷ []) id true
-          (get_set_other g.answered n id true (λ (e : id ≡ n). none j s (subst (λ (m : ℕ). IsAnsweredAt g.events j m s) e old))
+          (λ (old : TraceAnswersAt g.events j id s). get_append_left (slice_set g.answered n true) (false ∷ []) id true
+          (get_set_other g.answered n id true (λ (e : id ≡ n). none j s (subst (λ (m : ℕ). TraceAnswersAt g.events j m s) e old))
           ∙ k.marked j id s old))
           (λ (last : (j ≡ length g.events) × (n ≡ id) × (reply ≡ s)).
           subst (λ (m : ℕ). slice_get (slice_set g.answered n true ++ false ∷ []) m ≡ Some true) last.1

@@ -6,7 +6,7 @@ use Rattle.std.specs.List.{slice_index_or}
 use Rattle.script.specs.declared.fault.LineFault.{LineFault}
 use Rattle.lexer.specs.Outcome.{line_of_fault}
 use Rattle.script.specs.Outcome.{then_lines}
-use Rattle.trace_order.specs.declared.event.Event.{Event}
+use Rattle.trace_laws.specs.declared.event.Event.{Event}
 use Rattle.torus.specs.declared.fault.Fault.{Fault}
 use Rattle.torus.specs.declared.fault.Fault.TheVariants as fault
 use Rattle.trace_text.proofs.Outcomes.{one_ok, bind_ok, else_ok, then_ok, if_ok, not_true, lt_true}

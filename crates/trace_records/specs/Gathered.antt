@@ -12,8 +12,8 @@ use Rattle.packet.specs.declared.kinds.Operation.{Operation}
 use Rattle.packet.specs.declared.kinds.Reply.{Reply}
 use Rattle.packet.specs.declared.kinds.Reply.TheVariants.{Ok as Stored, Old}
 use Rattle.packet.specs.Kinds.{code_of, is_store}
-use Rattle.trace_order.specs.declared.event.Event.{Event}
-use Rattle.trace_order.specs.declared.event.Event.TheVariants.{Issue, Answer}
+use Rattle.trace_laws.specs.declared.event.Event.{Event}
+use Rattle.trace_laws.specs.declared.event.Event.TheVariants.{Issue, Answer}
 use Rattle.lexer.specs.Outcome.{◌>>=◌}
 use Rattle.script.specs.declared.fault.LineFault.{LineFault}
 use Rattle.script.specs.Outcome.{then_lines}

@@ -13,7 +13,7 @@ use crate::record::{EventRecord, is_reply_to};
 use packet::{Operation, Reply};
 use std::alloc::{AllocError, Allocator};
 use torus::Fault;
-use trace_order::{Call, Event};
+use trace_laws::{Call, Event};
 use trace_text::IssueNumbers;
 
 /// What the records so far gave.

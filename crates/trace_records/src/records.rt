@@ -2,7 +2,7 @@
 
 ghost use Rattle.std.specs.Prelude.{◌≡◌, ◌<◌, IfOk, Some, length, slice_get};
 ghost use Rattle.script.specs.Outcome.{Gives};
-ghost use Rattle.trace_order.specs.Traces.{IsTrace};
+ghost use Rattle.trace_laws.specs.Traces.{IsTrace};
 ghost use Rattle.trace_records.specs.Gathered.{trace_of};
 
 use crate::fault::fault_at;
@@ -11,7 +11,7 @@ use crate::record::EventRecord;
 use script::LineFault;
 use std::alloc::Allocator;
 use torus::Fault;
-use trace_order::Event;
+use trace_laws::Event;
 
 /// The record at a place.
 fn record_at(records: &[EventRecord], place: usize) -> EventRecord

@@ -4,12 +4,12 @@ use Rattle.std.proofs.Common.{Bool, true, false}
 use Rattle.std.specs.Prelude.{Vec, Option, None, Result, Ok, Err, MatchOption, is_some, is_ok, is_err, if◌then◌else◌}
 use Rattle.std.proofs.lemmas.List.{map_push, length-take-le}
 use Rattle.packet.specs.declared.kinds.Reply.{Reply}
-use Rattle.trace_order.specs.declared.event.Call.{Call}
-use Rattle.trace_order.specs.declared.event.Event.{Event}
-use Rattle.trace_order.specs.declared.event.Event.TheVariants.{Issue, Answer}
-use Rattle.trace_order.specs.Traces.{IsTrace, IsIssuedAt, IsAnsweredAt}
-use Rattle.trace_order.specs.Orders.{IsOrder, IsLinearizable}
-use Rattle.trace_order.proofs.Lists.{get_push_cases, get_append_left, get_push, get_within, take_get, get_take}
+use Rattle.trace_laws.specs.declared.event.Call.{Call}
+use Rattle.trace_laws.specs.declared.event.Event.{Event}
+use Rattle.trace_laws.specs.declared.event.Event.TheVariants.{Issue, Answer}
+use Rattle.trace_laws.specs.Traces.{IsTrace, TraceIssuesAt, TraceAnswersAt}
+use Rattle.trace_laws.specs.Orders.{IsOrder, IsLinearizable}
+use Rattle.trace_laws.proofs.Lists.{get_push_cases, get_append_left, get_push, get_within, take_get, get_take}
 use Rattle.trace_judge.specs.Stops.{IsUndecided, TellsMany}
 use Rattle.trace_judge.specs.declared.undecided.Undecided.{Undecided}
 use Rattle.trace_judge.specs.declared.undecided.Undecided.TheVariants as undecided
@@ -24,22 +24,22 @@ use Rattle.trace_text.proofs.Many.{many_back}
 use Rattle.trace_text.proofs.Renumbered.{map_get, issue_back, answer_back, order_there, order_back}
 
 -- what the trace with another answer issues is issued before it
-pub issue_before : (trace : List Event) (n id : ℕ) (reply : Reply) (i : ℕ) (c : Call) → IsIssuedAt (answered_so trace n id reply) i c
-    → (i < n) × IsIssuedAt trace i c
+pub issue_before : (trace : List Event) (n id : ℕ) (reply : Reply) (i : ℕ) (c : Call) → TraceIssuesAt (answered_so trace n id reply) i c
+    → (i < n) × TraceIssuesAt trace i c
 issue_before trace n id reply i c h = ⊎_elim
     (λ l. take_get n trace i (Issue c) l)
     (λ (r : (i ≡ length (take n trace)) × (Answer id reply ≡ Issue c)). absurd (let e = r.1 in cc))
     (get_push_cases (take n trace) (Answer id reply) i (Issue c) h)
 
-pub issue_kept : (trace : List Event) (n id : ℕ) (reply : Reply) (i : ℕ) (c : Call) → i < n → IsIssuedAt trace i c
-    → IsIssuedAt (answered_so trace n id reply) i c
+pub issue_kept : (trace : List Event) (n id : ℕ) (reply : Reply) (i : ℕ) (c : Call) → i < n → TraceIssuesAt trace i c
+    → TraceIssuesAt (answered_so trace n id reply) i c
 issue_kept trace n id reply i c l h =
     get_append_left (take n trace) (Answer id reply ∷ []) i (Issue c) (get_take n trace i (Issue c) l h)
 
 -- what it answers is answered in the trace, maybe otherwise
-pub answer_before : (trace : List Event) (n id : ℕ) (reply told : Reply) → IsAnsweredAt trace n id told → (i other : ℕ) (r : Reply)
-    → IsAnsweredAt (answered_so trace n id reply) i other r
-    → ((i < n) × IsAnsweredAt trace i other r) ⊎ ((i ≡ n) × (other ≡ id) × (r ≡ reply))
+pub answer_before : (trace : List Event) (n id : ℕ) (reply told : Reply) → TraceAnswersAt trace n id told → (i other : ℕ) (r : Reply)
+    → TraceAnswersAt (answered_so trace n id reply) i other r
+    → ((i < n) × TraceAnswersAt trace i other r) ⊎ ((i ≡ n) × (other ≡ id) × (r ≡ reply))
 answer_before trace n id reply told at i other r h =
     let low = get_within trace n (Answer id told) at in
     ⊎_elim
@@ -48,38 +48,38 @@ answer_before trace n id reply told at i other r h =
     inr (e.0 ∙ length-take-le n trace (omega arith), (let f = e.1 in cc), (let f = e.1 in cc)))
     (get_push_cases (take n trace) (Answer id reply) i (Answer other r) h)
 
-pub answer_kept : (trace : List Event) (n id : ℕ) (reply : Reply) (i other : ℕ) (r : Reply) → i < n → IsAnsweredAt trace i other r
-    → IsAnsweredAt (answered_so trace n id reply) i other r
+pub answer_kept : (trace : List Event) (n id : ℕ) (reply : Reply) (i other : ℕ) (r : Reply) → i < n → TraceAnswersAt trace i other r
+    → TraceAnswersAt (answered_so trace n id reply) i other r
 answer_kept trace n id reply i other r l h =
     get_append_left (take n trace) (Answer id reply ∷ []) i (Answer other r) (get_take n trace i (Answer other r) l h)
 
-pub answer_last : (trace : List Event) (n id : ℕ) (reply told : Reply) → IsAnsweredAt trace n id told
-    → IsAnsweredAt (answered_so trace n id reply) n id reply
+pub answer_last : (trace : List Event) (n id : ℕ) (reply told : Reply) → TraceAnswersAt trace n id told
+    → TraceAnswersAt (answered_so trace n id reply) n id reply
 answer_last trace n id reply told at =
     let low = get_within trace n (Answer id told) at in
     subst (λ (k : ℕ). slice_get (answered_so trace n id reply) k ≡ Some (Answer id reply)) (length-take-le n trace (omega arith))
     (get_push (take n trace) (Answer id reply))
 
 -- an answer at its place in the trace itself
-there : (trace : List Event) (n id : ℕ) (told : Reply) → IsAnsweredAt trace n id told → (i other : ℕ) (r reply : Reply)
-    → ((i < n) × IsAnsweredAt trace i other r) ⊎ ((i ≡ n) × (other ≡ id) × (r ≡ reply))
-    → (i ≤ n) × (s : Reply) × IsAnsweredAt trace i other s
+there : (trace : List Event) (n id : ℕ) (told : Reply) → TraceAnswersAt trace n id told → (i other : ℕ) (r reply : Reply)
+    → ((i < n) × TraceAnswersAt trace i other r) ⊎ ((i ≡ n) × (other ≡ id) × (r ≡ reply))
+    → (i ≤ n) × (s : Reply) × TraceAnswersAt trace i other s
 there trace n id told at i other r reply h = ⊎_elim
-    (λ (l : (i < n) × IsAnsweredAt trace i other r). (omega arith, r, l.1))
+    (λ (l : (i < n) × TraceAnswersAt trace i other r). (omega arith, r, l.1))
     (λ (e : (i ≡ n) × (other ≡ id) × (r ≡ reply)).
     let same = e.0 in (
       omega arith,
       told,
-      subst (λ (k : ℕ). IsAnsweredAt trace k other told) (sym e.0) (subst (λ (k : ℕ). IsAnsweredAt trace n k told) (sym e.1) at),
+      subst (λ (k : ℕ). TraceAnswersAt trace k other told) (sym e.0) (subst (λ (k : ℕ). TraceAnswersAt trace n k told) (sym e.1) at),
     ))
     h
 
 -- it is a trace
-pub trace_answered : (words : ℕ) (trace : List Event) (n id : ℕ) (reply told : Reply) → IsTrace words trace → IsAnsweredAt trace n id told
+pub trace_answered : (words : ℕ) (trace : List Event) (n id : ℕ) (reply told : Reply) → IsTrace words trace → TraceAnswersAt trace n id told
     → IsTrace words (answered_so trace n id reply)
 trace_answered words trace n id reply told t at =
-    let back : (i other : ℕ) (r : Reply) → IsAnsweredAt (answered_so trace n id reply) i other r
-    → (i ≤ n) × (s : Reply) × IsAnsweredAt trace i other s = λ i other r h.
+    let back : (i other : ℕ) (r : Reply) → TraceAnswersAt (answered_so trace n id reply) i other r
+    → (i ≤ n) × (s : Reply) × TraceAnswersAt trace i other s = λ i other r h.
     there trace n id told at i other r reply (answer_before trace n id reply told at i other r h) in
     record {
       rising = λ i j a b l h m.
@@ -138,7 +138,7 @@ given_is r n id reply begun es b e =
     e ∙ (ap (λ (xs : List Event). xs ++ Answer id reply ∷ []) b
     ∙ sym (map_push (moved_event (place_of_address r.places)) (take n r.events) (Answer id reply)))
 
-pub answered_given : (r : TraceReading) → IsKept r → (n id : ℕ) (reply told : Reply) → IsAnsweredAt r.events n id told → (ws : List ℕ) (es : List Event)
+pub answered_given : (r : TraceReading) → IsKept r → (n id : ℕ) (reply told : Reply) → TraceAnswersAt r.events n id told → (ws : List ℕ) (es : List Event)
     → ws ≡ others r → es ≡ map (moved_event (place_of_address r.places)) (answered_so r.events n id reply) → IsTrace (length ws) es
 answered_given r k n id reply told at ws es w e = rw (w, e)
     (trace_placed (place_of_address r.places) (placed_address r.addresses) (opening_of (trace_read r)) (others r) (answered_so r.events n id reply) r.words
@@ -170,7 +170,7 @@ given_allowed r k n id reply ws es w e is = rw (w, e) (
 )
 
 -- why it isn't decided, of the trace as it is written
-not_decided : (r : TraceReading) → IsKept r → (n id : ℕ) (reply told : Reply) → IsAnsweredAt r.events n id told → (bound : ℕ) (why : Undecided)
+not_decided : (r : TraceReading) → IsKept r → (n id : ℕ) (reply told : Reply) → TraceAnswersAt r.events n id told → (bound : ℕ) (why : Undecided)
     → IsUndecided (map (moved_event (place_of_address r.places)) (answered_so r.events n id reply)) why
     → TellsMany (others r) (map (moved_event (place_of_address r.places)) (answered_so r.events n id reply)) bound why
     → IsUnfound (trace_answered_so (trace_read r) n id reply) bound (unfound_at r.lines why)
@@ -197,7 +197,7 @@ not_decided r k n id reply told at bound (undecided.Operations event) u many =
     let low = get_within r.events n (Answer id told) at in
     (event, line_is r k event (omega arith), w)
 
-pub undecided_given : (r : TraceReading) → IsKept r → (n id : ℕ) (reply told : Reply) → IsAnsweredAt r.events n id told → (ws : List ℕ) (es : List Event)
+pub undecided_given : (r : TraceReading) → IsKept r → (n id : ℕ) (reply told : Reply) → TraceAnswersAt r.events n id told → (ws : List ℕ) (es : List Event)
     → ws ≡ others r → es ≡ map (moved_event (place_of_address r.places)) (answered_so r.events n id reply) → (bound : ℕ) (why : Undecided)
     (tells : Unfound) → IsUndecided es why → TellsMany ws es bound why → tells ≡ unfound_at r.lines why
     → IsUnfound (trace_answered_so (trace_read r) n id reply) bound tells

@@ -5,12 +5,12 @@ use Rattle.std.specs.Prelude.{unwrap_or}
 use Rattle.std.proofs.lemmas.List.{length-map}
 use Rattle.std.proofs.lemmas.List.FromFn.{length-map-range_with_len, get_or-map-range_with_len}
 use Rattle.packet.specs.declared.kinds.Reply.{Reply}
-use Rattle.trace_order.specs.declared.event.Call.{Call}
-use Rattle.trace_order.specs.declared.event.Event.{Event}
-use Rattle.trace_order.specs.declared.event.Event.TheVariants.{Issue, Answer}
-use Rattle.trace_order.specs.Traces.{IsTrace, IsIssuedAt, IsAnsweredAt}
-use Rattle.trace_order.specs.Orders.{IsOrder, IsLinearizable}
-use Rattle.trace_order.proofs.Lists.{get_within, within_length}
+use Rattle.trace_laws.specs.declared.event.Call.{Call}
+use Rattle.trace_laws.specs.declared.event.Event.{Event}
+use Rattle.trace_laws.specs.declared.event.Event.TheVariants.{Issue, Answer}
+use Rattle.trace_laws.specs.Traces.{IsTrace, TraceIssuesAt, TraceAnswersAt}
+use Rattle.trace_laws.specs.Orders.{IsOrder, IsLinearizable}
+use Rattle.trace_laws.proofs.Lists.{get_within, within_length}
 use Rattle.trace_judge.specs.Stops.{IsAnswered, IsCrowded, IsAnAnswer, IsUndecided, TellsMany}
 use Rattle.trace_judge.specs.declared.undecided.Undecided.{Undecided}
 use Rattle.trace_judge.specs.declared.undecided.Undecided.TheVariants as undecided
@@ -150,13 +150,13 @@ answer_in r event a =
 pub crowd_in : (place back : ℕ → ℕ) (opening words : List ℕ) (trace : List Event) → IsRenumbering place back opening words trace → (event : ℕ)
     → IsCrowded (map (moved_event place) trace) event → IsCrowded trace event
 crowd_in place back opening words trace n event w =
-    let issue : (i : ℕ) (c : Call) → IsIssuedAt (map (moved_event place) trace) i c → IsIssuedAt trace i (moved_call back c) = λ i c h.
+    let issue : (i : ℕ) (c : Call) → TraceIssuesAt (map (moved_event place) trace) i c → TraceIssuesAt trace i (moved_call back c) = λ i c h.
     let b = issue_back place trace i c h in
     let inverse = n.inverse i b.0 b.1 in
     let same : moved_call back c ≡ b.0 =
     ap (moved_call back) (sym b.2) ∙ ap (λ (a : ℕ). record { id = b.0.id; operation = record { address = a; op = b.0.operation.op } }) inverse in
-    subst (λ (x : Call). IsIssuedAt trace i x) (sym same) b.1 in
-    let forth : (i id : ℕ) (reply : Reply) → IsAnsweredAt trace i id reply → IsAnsweredAt (map (moved_event place) trace) i id reply =
+    subst (λ (x : Call). TraceIssuesAt trace i x) (sym same) b.1 in
+    let forth : (i id : ℕ) (reply : Reply) → TraceAnswersAt trace i id reply → TraceAnswersAt (map (moved_event place) trace) i id reply =
     λ i id reply at. map_get (moved_event place) trace i (Answer id reply) at in
     let answered_forth : (id : ℕ) → IsAnswered trace id → IsAnswered (map (moved_event place) trace) id = λ id a. (a.0, a.1, forth a.0 id a.1 a.2) in
     let answered_back : (id : ℕ) → IsAnswered (map (moved_event place) trace) id → IsAnswered trace id =
@@ -168,11 +168,11 @@ crowd_in place back opening words trace n event w =
           let g = get_map (moved_call back) w.calls s c h in
           let i = w.issued s g.0 g.1 in
           let at = issue i.0 g.0 i.2 in
-          (i.0, i.1, subst (λ (x : Call). IsIssuedAt trace i.0 x) g.2 at);
+          (i.0, i.1, subst (λ (x : Call). TraceIssuesAt trace i.0 x) g.2 at);
       pending = λ s c h i reply at.
           let g = get_map (moved_call back) w.calls s c h in
           let e = ap (λ (x : Call). x.id) g.2 in
-          w.pending s g.0 g.1 i reply (forth i g.0.id reply (subst (λ (m : ℕ). IsAnsweredAt trace i m reply) (sym e) at));
+          w.pending s g.0 g.1 i reply (forth i g.0.id reply (subst (λ (m : ℕ). TraceAnswersAt trace i m reply) (sym e) at));
       distinct = λ s u c d h m e.
           let g = get_map (moved_call back) w.calls s c h in
           let f = get_map (moved_call back) w.calls u d m in

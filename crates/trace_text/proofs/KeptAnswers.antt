@@ -6,9 +6,9 @@ use Rattle.std.proofs.lemmas.Bool.{cases_eq}
 use Rattle.std.proofs.lemmas.List.{length-set}
 use Rattle.packet.specs.declared.kinds.Reply.{Reply}
 use Rattle.packet.specs.Kinds.{code_of}
-use Rattle.trace_order.specs.declared.event.Event.TheVariants.{Answer}
-use Rattle.trace_order.specs.Traces.{IsAnsweredAt}
-use Rattle.trace_order.proofs.Lists.{get_within, get_set_same, set_get_same, get_set_other}
+use Rattle.trace_laws.specs.declared.event.Event.TheVariants.{Answer}
+use Rattle.trace_laws.specs.Traces.{TraceAnswersAt}
+use Rattle.trace_laws.proofs.Lists.{get_within, get_set_same, set_get_same, get_set_other}
 use Rattle.trace_text.specs.declared.issued.Issued.{Issued}
 use Rattle.trace_text.specs.Form.{number_at, told_of, reply_read}
 use Rattle.trace_text.specs.IssueNumbers.{numbers_of}
@@ -36,7 +36,7 @@ answer_kept r k line n i at none reply =
     let told : Issued = record i { reply = Some reply } in
     let other : (m : ℕ) → m ≢ n → slice_get (slice_set r.issued n told) m ≡ slice_get r.issued m =
     λ m ne. get_set_other r.issued n m told ne in
-    let new : (j id : ℕ) (s : Reply) → IsAnsweredAt r.events j id s → id ≢ n = λ j id s old e.
+    let new : (j id : ℕ) (s : Reply) → TraceAnswersAt r.events j id s → id ≢ n = λ j id s old e.
     let b = k.replied j id s old in
     let there : slice_get r.issued n ≡ Some b.0 = ap (slice_get r.issued) (sym e) ∙ b.1 in
     let same : i ≡ b.0 = cc in

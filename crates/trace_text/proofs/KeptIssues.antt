@@ -6,9 +6,9 @@ use Rattle.std.proofs.lemmas.Bool.{cases_eq}
 use Rattle.std.proofs.lemmas.List.{length-set}
 use Rattle.packet.specs.declared.kinds.Operation.{Operation}
 use Rattle.packet.specs.Reading.{op_with}
-use Rattle.trace_order.specs.declared.event.Call.{Call}
-use Rattle.trace_order.specs.declared.event.Event.TheVariants.{Issue}
-use Rattle.trace_order.proofs.Lists.{get_push_cases, get_append_left, get_push, get_within}
+use Rattle.trace_laws.specs.declared.event.Call.{Call}
+use Rattle.trace_laws.specs.declared.event.Event.TheVariants.{Issue}
+use Rattle.trace_laws.proofs.Lists.{get_push_cases, get_append_left, get_push, get_within}
 use Rattle.trace_text.specs.declared.issued.Issued.{Issued}
 use Rattle.trace_text.specs.declared.form.Form.{Form}
 use Rattle.trace_text.specs.declared.reason.TraceReason.TheVariants as reason

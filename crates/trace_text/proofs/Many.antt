@@ -5,12 +5,12 @@ use Rattle.std.proofs.lemmas.Bool.{cases_eq}
 use Rattle.std.proofs.lemmas.List.{length-map}
 use Rattle.packet.specs.Memory.{reply_to, memory_after_one}
 use Rattle.packet.proofs.Folds.{other_word}
-use Rattle.trace_order.specs.declared.event.Call.{Call}
-use Rattle.trace_order.specs.declared.event.Event.{Event}
-use Rattle.trace_order.specs.declared.event.Event.TheVariants.{Issue, Answer}
-use Rattle.trace_order.specs.Traces.{IsIssuedAt}
-use Rattle.trace_order.specs.Orders.{IsOn, memory_of}
-use Rattle.trace_order.specs.Legal.{Legal}
+use Rattle.trace_laws.specs.declared.event.Call.{Call}
+use Rattle.trace_laws.specs.declared.event.Event.{Event}
+use Rattle.trace_laws.specs.declared.event.Event.TheVariants.{Issue, Answer}
+use Rattle.trace_laws.specs.Traces.{TraceIssuesAt}
+use Rattle.trace_laws.specs.Orders.{IsOn, memory_of}
+use Rattle.trace_laws.specs.Legal.{Legal}
 use Rattle.trace_judge.specs.Stops.{LeaveSame, HasMany}
 use Rattle.trace_text.specs.Renumbered.{moved_call, moved_event, IsRenumbering}
 use Rattle.trace_text.proofs.Renumbered.{map_get, get_map, take_map, map_back, issue_back, issue_there, answer_there, IsSomewhere, same_left, same_found, issue_image, renumbering_take}
@@ -29,12 +29,12 @@ placed_again place back opening others trace k r order o =
 -- its operations are issued in the trace
 issued_before : (place back : ℕ → ℕ) (opening others : List ℕ) (trace : List Event) (k : ℕ) → IsRenumbering place back opening others trace
     → (order : List Call) → Legal others (map (moved_event place) trace) k order → (x : ℕ) (c : Call) → slice_get (named back order) x ≡ Some c
-    → (i : ℕ) × (i < k) × IsIssuedAt trace i c
+    → (i : ℕ) × (i < k) × TraceIssuesAt trace i c
 issued_before place back opening others trace k r order o x c h =
     let g = get_map (moved_call back) order x c h in
     let at = o.issued x g.0 g.1 in
     let i = issue_image place back opening others trace r at.0 g.0 at.2 in
-    (at.0, at.1, subst (λ (d : Call). IsIssuedAt trace at.0 d) g.2 i.0)
+    (at.0, at.1, subst (λ (d : Call). TraceIssuesAt trace at.0 d) g.2 i.0)
 
 somewhere : (place back : ℕ → ℕ) (opening others : List ℕ) (trace : List Event) (k : ℕ) → IsRenumbering place back opening others trace
     → (order : List Call) → Legal others (map (moved_event place) trace) k order → (x : ℕ) (c : Call) → slice_get (named back order) x ≡ Some c

@@ -7,12 +7,12 @@ use Rattle.packet.specs.declared.kinds.Op.{Op}
 use Rattle.packet.specs.declared.kinds.Reply.{Reply}
 use Rattle.packet.specs.Memory.{new_word, reply_to, memory_after_one}
 use Rattle.packet.proofs.Folds.{other_word}
-use Rattle.trace_order.specs.declared.event.Call.{Call}
-use Rattle.trace_order.specs.declared.event.Event.{Event}
-use Rattle.trace_order.specs.declared.event.Event.TheVariants.{Issue, Answer}
-use Rattle.trace_order.specs.Traces.{IsIssuedAt, IsAnsweredAt}
-use Rattle.trace_order.specs.Orders.{IsOrder, memory_of}
-use Rattle.trace_order.proofs.Lists.{take_get}
+use Rattle.trace_laws.specs.declared.event.Call.{Call}
+use Rattle.trace_laws.specs.declared.event.Event.{Event}
+use Rattle.trace_laws.specs.declared.event.Event.TheVariants.{Issue, Answer}
+use Rattle.trace_laws.specs.Traces.{TraceIssuesAt, TraceAnswersAt}
+use Rattle.trace_laws.specs.Orders.{IsOrder, memory_of}
+use Rattle.trace_laws.proofs.Lists.{take_get}
 use Rattle.trace_text.specs.Renumbered.{moved_call, moved_event, IsRenumbering}
 
 -- lists of images
@@ -41,30 +41,30 @@ map_back f g (x ∷ xs) h =
 
 -- events of the trace with other numbers
 pub issue_back : (place : ℕ → ℕ) (trace : List Event) (i : ℕ) (d : Call)
-    → IsIssuedAt (map (moved_event place) trace) i d → (c : Call) × IsIssuedAt trace i c × (moved_call place c ≡ d)
+    → TraceIssuesAt (map (moved_event place) trace) i d → (c : Call) × TraceIssuesAt trace i c × (moved_call place c ≡ d)
 issue_back place [] i d h = absurd (let e : None ≡ Some (Issue d) = h in cc)
 issue_back place (Issue c ∷ trace) zero d h = (c, refl, cc)
 issue_back place (Answer id reply ∷ trace) zero d h = absurd (cc)
 issue_back place (e ∷ trace) (suc i) d h = issue_back place trace i d h
 
 pub answer_back : (place : ℕ → ℕ) (trace : List Event) (i id : ℕ) (reply : Reply)
-    → IsAnsweredAt (map (moved_event place) trace) i id reply → IsAnsweredAt trace i id reply
+    → TraceAnswersAt (map (moved_event place) trace) i id reply → TraceAnswersAt trace i id reply
 answer_back place [] i id reply h = absurd (let e : None ≡ Some (Answer id reply) = h in cc)
 answer_back place (Issue c ∷ trace) zero id reply h = absurd (cc)
 answer_back place (Answer n told ∷ trace) zero id reply h = h
 answer_back place (e ∷ trace) (suc i) id reply h = answer_back place trace i id reply h
 
-pub issue_there : (place : ℕ → ℕ) (trace : List Event) (i : ℕ) (c : Call) → IsIssuedAt trace i c
-    → IsIssuedAt (map (moved_event place) trace) i (moved_call place c)
+pub issue_there : (place : ℕ → ℕ) (trace : List Event) (i : ℕ) (c : Call) → TraceIssuesAt trace i c
+    → TraceIssuesAt (map (moved_event place) trace) i (moved_call place c)
 issue_there place trace i c h = map_get (moved_event place) trace i (Issue c) h
 
-pub answer_there : (place : ℕ → ℕ) (trace : List Event) (i id : ℕ) (reply : Reply) → IsAnsweredAt trace i id reply
-    → IsAnsweredAt (map (moved_event place) trace) i id reply
+pub answer_there : (place : ℕ → ℕ) (trace : List Event) (i id : ℕ) (reply : Reply) → TraceAnswersAt trace i id reply
+    → TraceAnswersAt (map (moved_event place) trace) i id reply
 answer_there place trace i id reply h = map_get (moved_event place) trace i (Answer id reply) h
 
 -- an operation is issued in the trace
 abbrev pub IsSomewhere : List Event → Call → Type 0
-IsSomewhere trace c = (i : ℕ) × IsIssuedAt trace i c
+IsSomewhere trace c = (i : ℕ) × TraceIssuesAt trace i c
 
 -- two memories have the same words at the addresses of a trace's operations and at their places
 record AreAlike (place : ℕ → ℕ) (trace : List Event) (m n : List ℕ) : Type 0 where
@@ -162,7 +162,7 @@ order_there place back opening others trace r order o = record {
   issued = λ x c h.
       let g = get_map (moved_call place) order x c h in
       let at = o.issued x g.0 g.1 in
-      (at.0, subst (λ (d : Call). IsIssuedAt (map (moved_event place) trace) at.0 d) g.2 (issue_there place trace at.0 g.0 at.1));
+      (at.0, subst (λ (d : Call). TraceIssuesAt (map (moved_event place) trace) at.0 d) g.2 (issue_there place trace at.0 g.0 at.1));
   answered = λ i id reply h.
       let on = o.answered i id reply (answer_back place trace i id reply h) in
       (on.0, moved_call place on.1, map_get (moved_call place) order on.0 on.1 on.2, on.3);
@@ -171,13 +171,13 @@ order_there place back opening others trace r order o = record {
       let f = get_map (moved_call place) order y d n in
       let b = issue_back place trace j d k in
       let same : b.0 ≡ f.0 = one_image place back opening others trace r b.0 f.0 (j, b.1) (o.issued y f.0 f.1) (b.2 ∙ sym f.2) in
-      let answer : IsAnsweredAt trace i g.0.id reply =
-      subst (λ (id : ℕ). IsAnsweredAt trace i id reply) (sym (ap (λ (a : Call). a.id) g.2)) (answer_back place trace i c.id reply h) in
-      o.real_time i j x y g.0 f.0 reply less answer (subst (λ (a : Call). IsIssuedAt trace j a) same b.1) g.1 f.1;
+      let answer : TraceAnswersAt trace i g.0.id reply =
+      subst (λ (id : ℕ). TraceAnswersAt trace i id reply) (sym (ap (λ (a : Call). a.id) g.2)) (answer_back place trace i c.id reply h) in
+      o.real_time i j x y g.0 f.0 reply less answer (subst (λ (a : Call). TraceIssuesAt trace j a) same b.1) g.1 f.1;
   replies = λ i x c reply h k.
       let g = get_map (moved_call place) order x c h in
-      let answer : IsAnsweredAt trace i g.0.id reply =
-      subst (λ (id : ℕ). IsAnsweredAt trace i id reply) (sym (ap (λ (a : Call). a.id) g.2)) (answer_back place trace i c.id reply k) in
+      let answer : TraceAnswersAt trace i g.0.id reply =
+      subst (λ (id : ℕ). TraceAnswersAt trace i id reply) (sym (ap (λ (a : Call). a.id) g.2)) (answer_back place trace i c.id reply k) in
       o.replies i x g.0 reply g.1 answer
       ∙ (ap (reply_to g.0.operation.op) (sym (same_found place back opening others trace r order o.issued x g.0 (o.issued x g.0 g.1)))
       ∙ ap (λ (a : Call). reply_to a.operation.op (get_or (memory_of others (take x (map (moved_call place) order))) a.operation.address 0)) g.2);
@@ -185,8 +185,8 @@ order_there place back opening others trace r order o = record {
 
 -- what is issued with other numbers is the image of an operation of the trace
 pub issue_image : (place back : ℕ → ℕ) (opening others : List ℕ) (trace : List Event) → IsRenumbering place back opening others trace
-    → (i : ℕ) (d : Call) → IsIssuedAt (map (moved_event place) trace) i d
-    → IsIssuedAt trace i (moved_call back d) × (moved_call place (moved_call back d) ≡ d)
+    → (i : ℕ) (d : Call) → TraceIssuesAt (map (moved_event place) trace) i d
+    → TraceIssuesAt trace i (moved_call back d) × (moved_call place (moved_call back d) ≡ d)
 issue_image place back opening others trace r i d at =
     let b = issue_back place trace i d at in
     let a : back d.operation.address ≡ b.0.operation.address =
@@ -194,7 +194,7 @@ issue_image place back opening others trace r i d at =
     let q : d.operation.op ≡ b.0.operation.op = ap (λ (k : Call). k.operation.op) (sym b.2) in
     let n : d.id ≡ b.0.id = ap (λ (k : Call). k.id) (sym b.2) in
     let same : b.0 ≡ moved_call back d = same_call b.0 (moved_call back d) (sym n) (sym a) (sym q) in
-    (subst (λ (k : Call). IsIssuedAt trace i k) same b.1, ap (moved_call place) (sym same) ∙ b.2)
+    (subst (λ (k : Call). TraceIssuesAt trace i k) same b.1, ap (moved_call place) (sym same) ∙ b.2)
 
 -- so it is of what stands in an order with other numbers
 image_of : (place back : ℕ → ℕ) (opening others : List ℕ) (trace : List Event) → IsRenumbering place back opening others trace

@@ -1,7 +1,7 @@
 -- What is found of the trace of a text.
 use Rattle.std.specs.Prelude.{◌≡◌, ◌+◌, ℕ, List, Some, map, slice_get, take, unwrap_or}
 use Rattle.std.specs.List.{slice_index_or}
-use Rattle.trace_order.specs.Orders.{IsOrder, IsLinearizable}
+use Rattle.trace_laws.specs.Orders.{IsOrder, IsLinearizable}
 use Rattle.trace_judge.specs.declared.undecided.Undecided.{Undecided}
 use Rattle.trace_judge.specs.declared.undecided.Undecided.TheVariants as undecided
 use Rattle.trace_judge.specs.Stops.{HasMany, IsCrowded, IsAnAnswer}

@@ -1,8 +1,8 @@
 -- What the lines of a trace text leave true of what they gave.
 use Rattle.std.specs.Prelude.{◌≡◌, ◌<◌, ◌≤◌, ◌^◌, ℕ, List, Some, length, slice_get}
 use Rattle.packet.specs.declared.kinds.Reply.{Reply}
-use Rattle.trace_order.specs.declared.event.Call.{Call}
-use Rattle.trace_order.specs.Traces.{IsTrace, IsIssuedAt, IsAnsweredAt, WasIssued}
+use Rattle.trace_laws.specs.declared.event.Call.{Call}
+use Rattle.trace_laws.specs.Traces.{IsTrace, TraceIssuesAt, TraceAnswersAt, WasIssued}
 use Rattle.trace_text.specs.declared.issued.Issued.{Issued}
 use Rattle.trace_text.specs.IssueNumbers.{numbers_of}
 use Rattle.trace_text.specs.Traced.{TraceReading, value_in}
@@ -29,12 +29,12 @@ pub record IsKept (r : TraceReading) : Type 0 where
   pub opened : (a w : ℕ) → value_in r.inits a ≡ Some w → a < r.words
   pub trace : IsTrace r.words r.events
   pub lines : length r.lines ≡ length r.events
-  pub known : (i : ℕ) (call : Call) → IsIssuedAt r.events i call → IsKnownAs r.issued call
+  pub known : (i : ℕ) (call : Call) → TraceIssuesAt r.events i call → IsKnownAs r.issued call
   pub issued : (n : ℕ) → n < length r.issued → WasIssued r.events (length r.events) n
-  pub replied : (i id : ℕ) (reply : Reply) → IsAnsweredAt r.events i id reply
+  pub replied : (i id : ℕ) (reply : Reply) → TraceAnswersAt r.events i id reply
       → IsRepliedTo r.issued id reply
   pub indexed : AreIndexed r.numbers r.issued
-  pub placed : (i : ℕ) (call : Call) → IsIssuedAt r.events i call
+  pub placed : (i : ℕ) (call : Call) → TraceIssuesAt r.events i call
       → (p : ℕ) × (value_in r.places call.operation.address ≡ Some p)
   pub addressed : (a p : ℕ) → value_in r.places a ≡ Some p → slice_get r.addresses p ≡ Some a
   pub below : (p a : ℕ) → slice_get r.addresses p ≡ Some a → a < r.words

@@ -1,9 +1,9 @@
 -- A trace whose addresses have other numbers.
 use Rattle.std.specs.Prelude.{◌≡◌, ◌<◌, ℕ, List, length, slice_index}
-use Rattle.trace_order.specs.declared.event.Call.{Call}
-use Rattle.trace_order.specs.declared.event.Event.{Event}
-use Rattle.trace_order.specs.declared.event.Event.TheVariants.{Issue, Answer}
-use Rattle.trace_order.specs.Traces.{IsIssuedAt}
+use Rattle.trace_laws.specs.declared.event.Call.{Call}
+use Rattle.trace_laws.specs.declared.event.Event.{Event}
+use Rattle.trace_laws.specs.declared.event.Event.TheVariants.{Issue, Answer}
+use Rattle.trace_laws.specs.Traces.{TraceIssuesAt}
 
 -- an operation on the word of another number
 abbrev pub moved_call : (ℕ → ℕ) → Call → Call
@@ -21,9 +21,9 @@ moved_event place (Answer id reply) = Answer id reply
 -- words stand
 pub record IsRenumbering (place back : ℕ → ℕ) (opening others : List ℕ) (trace : List Event) : Type
     0 where
-  pub inside : (i : ℕ) (c : Call) → IsIssuedAt trace i c → c.operation.address < length opening
-  pub placed : (i : ℕ) (c : Call) → IsIssuedAt trace i c → place c.operation.address < length others
-  pub word : (i : ℕ) (c : Call) → IsIssuedAt trace i c
+  pub inside : (i : ℕ) (c : Call) → TraceIssuesAt trace i c → c.operation.address < length opening
+  pub placed : (i : ℕ) (c : Call) → TraceIssuesAt trace i c → place c.operation.address < length others
+  pub word : (i : ℕ) (c : Call) → TraceIssuesAt trace i c
       → slice_index others (place c.operation.address) ≡ slice_index opening c.operation.address
-  pub inverse : (i : ℕ) (c : Call) → IsIssuedAt trace i c
+  pub inverse : (i : ℕ) (c : Call) → TraceIssuesAt trace i c
       → back (place c.operation.address) ≡ c.operation.address

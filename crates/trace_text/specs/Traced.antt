@@ -13,8 +13,8 @@ use Rattle.std.specs.Map.{lookup}
 use Rattle.packet.specs.declared.kinds.Code.{Code}
 use Rattle.packet.specs.declared.kinds.Operation.{Operation}
 use Rattle.packet.specs.Kinds.{code_of, is_store}
-use Rattle.trace_order.specs.declared.event.Event.{Event}
-use Rattle.trace_order.specs.declared.event.Event.TheVariants.{Issue, Answer}
+use Rattle.trace_laws.specs.declared.event.Event.{Event}
+use Rattle.trace_laws.specs.declared.event.Event.TheVariants.{Issue, Answer}
 use Rattle.lexer.specs.Words.{words_of, begins_comment}
 use Rattle.lexer.specs.Outcome.{◌>>=◌, then_lines}
 use Rattle.lexer.specs.declared.refusal.Refusal.{Refusal}

@@ -17,7 +17,7 @@ use crate::reason::{Keyword, TraceReason};
 use packet::{Code, Operation, Reply};
 use std::alloc::Allocator;
 use std::collections::BTreeMap;
-use trace_order::{Call, Event};
+use trace_laws::{Call, Event};
 
 /// The operation of a number.
 fn issued_at(issued: &[Issued], number: u64) -> Option<Issued>

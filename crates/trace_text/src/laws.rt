@@ -1,9 +1,9 @@
 //! A law of traces whose addresses have other numbers, the contract of a function that does nothing.
 
 ghost use Rattle.std.specs.Prelude.{ℕ, List, map};
-ghost use Rattle.trace_order.specs.declared.event.Call.{Call};
-ghost use Rattle.trace_order.specs.declared.event.Event.{Event};
-ghost use Rattle.trace_order.specs.Orders.{IsOrder};
+ghost use Rattle.trace_laws.specs.declared.event.Call.{Call};
+ghost use Rattle.trace_laws.specs.declared.event.Event.{Event};
+ghost use Rattle.trace_laws.specs.Orders.{IsOrder};
 ghost use Rattle.trace_text.specs.Renumbered.{IsRenumbering, moved_call, moved_event};
 
 /// A trace and the same trace with other numbers of its words have the same orders, up to these

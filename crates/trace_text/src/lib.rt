@@ -1,4 +1,4 @@
-//! The trace text: events of processors, in the order of time.
+//! The trace text: events of processors, in the order of time; and where and why it is refused.
 #![tactic(auto)]
 
 mod events;

@@ -3,7 +3,7 @@
 ghost use Rattle.std.specs.Prelude.{◌≡◌, true, false, map, unwrap_or, IfOk, IfErr};
 ghost use Rattle.std.specs.List.{slice_index_or};
 ghost use Rattle.packet.specs.declared.kinds.Reply.{Reply};
-ghost use Rattle.trace_order.specs.Traces.{IsAnsweredAt};
+ghost use Rattle.trace_laws.specs.Traces.{TraceAnswersAt};
 ghost use Rattle.trace_text.specs.Allowed.{IsAllowed, trace_answered_so};
 ghost use Rattle.trace_text.specs.Findings.{TellsFinding, IsUnfound, trace_read, place_of_address};
 ghost use Rattle.trace_text.specs.Findings.{placed_address, opening_words_at, unfound_at};
@@ -18,7 +18,7 @@ use std::alloc::{AllocError, Allocator};
 use std::collections::BTreeMap;
 use trace_judge::judge::{Verdict, decide, judge};
 use trace_judge::undecided::Undecided;
-use trace_order::{Call, Event};
+use trace_laws::{Call, Event};
 
 /// What the trace of a text is judged to be.
 #[derive(Drop)]
@@ -202,7 +202,7 @@ impl<A: Allocator + Copy> Reading<A> {
         bound: usize,
     ) -> Result<bool, Unfound>
         requires kept { IsKept (trace_so_far self.now) }
-        requires answered { (told : Reply) × IsAnsweredAt self.now.events.items event id told }
+        requires answered { (told : Reply) × TraceAnswersAt self.now.events.items event id told }
         ensures yes { IfOk result (λ b. b ≡ true → IsAllowed
             (opening_of (trace_read (trace_so_far self.now))) self.now.events.items event id
             reply) }

@@ -14,7 +14,7 @@ use crate::number::number_at;
 use crate::reason::{Keyword, TraceReason};
 use std::alloc::{AllocError, Allocator};
 use std::collections::BTreeMap;
-use trace_order::Event;
+use trace_laws::Event;
 
 /// What the lines so far gave.
 #[derive(Drop)]

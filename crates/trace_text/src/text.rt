@@ -5,8 +5,8 @@ ghost use Rattle.std.specs.Str.Lines.{lines};
 ghost use Rattle.packet.specs.declared.kinds.Reply.{Reply};
 ghost use Rattle.lexer.specs.Outcome.{Gives as GivesOrWhy};
 ghost use Rattle.script.specs.Outcome.{Gives};
-ghost use Rattle.trace_order.specs.declared.event.Call.{Call};
-ghost use Rattle.trace_order.specs.Traces.{IsTrace, IsIssuedAt, IsAnsweredAt};
+ghost use Rattle.trace_laws.specs.declared.event.Call.{Call};
+ghost use Rattle.trace_laws.specs.Traces.{IsTrace, TraceIssuesAt, TraceAnswersAt};
 ghost use Rattle.trace_text.specs.Allowed.{IsAllowed, trace_answered_so};
 ghost use Rattle.trace_text.specs.Findings.{TellsFinding, IsUnfound};
 ghost use Rattle.trace_text.specs.Kept.{IsKnownAs};
@@ -21,7 +21,7 @@ use packet::Reply;
 use script::LineFault;
 use std::alloc::{Allocator, Global};
 use std::marker::Model;
-use trace_order::Event;
+use trace_laws::Event;
 
 /// A trace as its text gives it.
 #[derive(Drop)]
@@ -60,7 +60,7 @@ impl<A: Allocator> TraceText<A> {
     pub fn events(&self) -> &[Event]
         ensures value { result.now ≡ self.now.events }
         ensures trace { IsTrace self.now.words self.now.events }
-        ensures known { (i : ℕ) (call : Call) → IsIssuedAt self.now.events i call
+        ensures known { (i : ℕ) (call : Call) → TraceIssuesAt self.now.events i call
             → IsKnownAs self.now.issued call }
     {
         &self.reading.events
@@ -108,7 +108,7 @@ impl<A: Allocator + Copy> TraceText<A> {
         reply: Reply,
         bound: usize,
     ) -> Result<bool, Unfound>
-        requires { (told : Reply) × IsAnsweredAt self.now.events event id told }
+        requires { (told : Reply) × TraceAnswersAt self.now.events event id told }
         ensures yes { IfOk result (λ b. b ≡ true
             → IsAllowed (opening_of self.now) self.now.events event id reply) }
         ensures no { IfOk result (λ b. b ≡ false

@@ -4,16 +4,16 @@ use Rattle.std.proofs.Common.{set, get_or, vec_len}
 use Rattle.std.proofs.lemmas.Bool.{cases_lt, eqb-true, eqb-false}
 use Rattle.std.proofs.lemmas.List.{nil_from_length}
 use Rattle.packet.specs.declared.kinds.Reply.{Reply}
-use Rattle.trace_order.specs.declared.event.Call.{Call}
-use Rattle.trace_order.specs.declared.event.Event.{Event}
-use Rattle.trace_order.specs.declared.event.Event.TheVariants.{Answer}
-use Rattle.trace_search.specs.Configs.{IsIn}
+use Rattle.trace_laws.specs.declared.event.Call.{Call}
+use Rattle.trace_laws.specs.declared.event.Event.{Event}
+use Rattle.trace_laws.specs.declared.event.Event.TheVariants.{Answer}
+use Rattle.trace_laws.specs.Configs.{IsIn}
 use Rattle.trace_watch.specs.declared.state.State.{State}
 use Rattle.trace_watch.specs.declared.watch.Watch.{Watch}
 use Rattle.trace_watch.specs.declared.watch.Seen.TheVariants.{Linearizable, NotLinearizable}
 use Rattle.trace_watch.specs.States.{Config, config_of, configs_of}
 use Rattle.trace_watch.specs.Closed.{IsAnsweredBy}
-use Rattle.trace_watch.specs.Follows.{Follows, TellsSeen, states_of}
+use Rattle.trace_watch.specs.Follows.{Tracks, TellsSeen, states_of}
 use Rattle.trace_watch.proofs.Watching.{seen_answer, seen_no_answer, states_read}
 
 -- what the code read before it judged an answer: the open operations, those on the word, and its states
@@ -66,7 +66,7 @@ pub answer_yes : {A : Type 0} (opening : List ℕ) (t : List Event) (watch : Wat
     (pending : Vec Call A) → IsRead watch call id reply calls (configs_of later.items)
     → false ≡ (vec_len later == 0) → r ≡ watch.pending.items
     → ((c : Call) → IsIn pending.items c ↔ (IsIn r c × (c.id ≡ id → ⊥)))
-    → words.items ≡ set watch.words.items call.operation.address later → Follows opening t watch
+    → words.items ≡ set watch.words.items call.operation.address later → Tracks opening t watch
     → TellsSeen {A = A} opening t (Answer id reply)
     (record { words = words; pending = pending; last = watch.last }) Linearizable
 answer_yes opening t watch call id reply calls r later words pending read full same less written f =
@@ -77,7 +77,7 @@ answer_yes opening t watch call id reply calls r later words pending read full s
 
 pub answer_no : {A : Type 0} (opening : List ℕ) (t : List Event) (watch : Watch A) (call : Call) (id : ℕ)
     (reply : Reply) (calls : List Call) (later : Vec (State A) A)
-    → IsRead watch call id reply calls (configs_of later.items) → true ≡ (vec_len later == 0) → Follows opening t watch
+    → IsRead watch call id reply calls (configs_of later.items) → true ≡ (vec_len later == 0) → Tracks opening t watch
     → TellsSeen {A = A} opening t (Answer id reply) watch NotLinearizable
 answer_no opening t watch call id reply calls later read none f =
     seen_no_answer opening t watch call id reply calls later.items read.on read.number read.here read.by

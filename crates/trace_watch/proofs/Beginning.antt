@@ -2,14 +2,14 @@
 use Rattle.std.proofs.Common.{◌≡◌, ◌≢◌, ⊎_elim, ℕ, zero, suc, ◌+◌, ◌<◌, List, [], ◌∷◌, ◌++◌, length, Some, None, Vec, refl, sym, ◌∙◌, ap, subst}
 use Rattle.std.proofs.Common.{arith, slice_get, get_or}
 use Rattle.std.proofs.lemmas.Bool.{cases_eq}
-use Rattle.trace_order.specs.declared.event.Call.{Call}
-use Rattle.trace_order.specs.declared.event.Event.TheVariants.{Issue}
-use Rattle.trace_order.specs.Locality.{IsOrderOn}
-use Rattle.trace_search.specs.Configs.{IsIn}
+use Rattle.trace_laws.specs.declared.event.Call.{Call}
+use Rattle.trace_laws.specs.declared.event.Event.TheVariants.{Issue}
+use Rattle.trace_laws.specs.Locality.{IsOrderOn}
+use Rattle.trace_laws.specs.Configs.{IsIn}
 use Rattle.trace_watch.specs.declared.state.State.{State}
 use Rattle.trace_watch.specs.States.{Config, configs_of}
 use Rattle.trace_watch.specs.Known.{Explains, Knows, ArePending}
-use Rattle.trace_watch.specs.Follows.{Follows, states_of}
+use Rattle.trace_watch.specs.Follows.{Tracks, states_of}
 use Rattle.trace_watch.proofs.Events.{trace_none}
 
 -- a word that nothing was done to
@@ -50,7 +50,7 @@ pub follows_begin : {A : Type 0} (opening : List ℕ) (words : Vec (Vec (State A
     → length words.items ≡ length opening
     → ((w : ℕ) → w < length opening → states_of words.items w ≡ first_config (get_or opening w 0) ∷ [])
     → pending.items ≡ []
-    → Follows {A = A} opening [] (record { words = words; pending = pending; last = None })
+    → Tracks {A = A} opening [] (record { words = words; pending = pending; last = None })
 follows_begin {A} opening words pending sized first none = record {
   well = trace_none (length opening);
   newest = record {

@@ -8,9 +8,9 @@ use Rattle.std.proofs.lemmas.Bool.{cases_eq}
 use Rattle.std.proofs.lemmas.Nat.{or_lt}
 use Rattle.std.proofs.Math.Nat.{mod-lt}
 use Rattle.std.proofs.lemmas.Nat.Bits.{bit_at_set_same, bit_at_set_other, bit_at-zero, same_from_bits_below}
-use Rattle.trace_order.proofs.Lists.{get_push_cases, get_append_left, get_push, get_within, within_length, get_set_same, get_set_other}
-use Rattle.trace_search.specs.Configs.{IsIn}
-use Rattle.trace_search.proofs.Bits.{bit_cases, not_both}
+use Rattle.trace_laws.proofs.Lists.{get_push_cases, get_append_left, get_push, get_within, within_length, get_set_same, get_set_other}
+use Rattle.trace_laws.specs.Configs.{IsIn}
+use Rattle.trace_laws.proofs.Bits.{bit_cases, not_both}
 use Rattle.trace_watch.specs.declared.state.Effect.{Effect}
 use Rattle.trace_watch.specs.declared.index.Index.{Index}
 use Rattle.trace_watch.specs.States.{Config, IsLike, IsAmong, config_of, configs_of}

@@ -2,11 +2,11 @@
 use Rattle.std.proofs.Common.{◌≡◌, ◌≢◌, ◌⊎◌, ◌↔◌, inl, inr, ⊎_elim, ℕ, ◌+◌, ◌<◌, ◌≤◌, List, [], ◌∷◌, length, Some, Vec, refl, sym, ◌∙◌, ap, subst, arith, slice_get, get_or}
 use Rattle.std.proofs.lemmas.Bool.{cases_eq}
 use Rattle.packet.specs.declared.kinds.Reply.{Reply}
-use Rattle.trace_order.specs.Traces.{IsAnswered}
-use Rattle.trace_order.specs.declared.event.Call.{Call}
-use Rattle.trace_order.specs.declared.event.Event.{Event}
-use Rattle.trace_order.specs.declared.event.Event.TheVariants.{Answer}
-use Rattle.trace_search.specs.Configs.{IsIn}
+use Rattle.trace_laws.specs.Traces.{IsAnswered}
+use Rattle.trace_laws.specs.declared.event.Call.{Call}
+use Rattle.trace_laws.specs.declared.event.Event.{Event}
+use Rattle.trace_laws.specs.declared.event.Event.TheVariants.{Answer}
+use Rattle.trace_laws.specs.Configs.{IsIn}
 use Rattle.trace_watch.specs.declared.state.Effect.{Effect}
 use Rattle.trace_watch.specs.declared.state.State.{State}
 use Rattle.trace_watch.specs.declared.watch.Watch.{Watch}
@@ -16,7 +16,7 @@ use Rattle.trace_watch.specs.States.{Config, IsLike, config_of, configs_of}
 use Rattle.trace_watch.specs.Known.{ArePendingOn}
 use Rattle.trace_watch.specs.Closed.{IsOneMore, Expands, Copies}
 use Rattle.trace_watch.specs.Crowds.{AreUnlike, IsCrowd, GivesUp, IsOverfull}
-use Rattle.trace_watch.specs.Follows.{Follows, AnswersMany, TellsFull, states_of}
+use Rattle.trace_watch.specs.Follows.{Tracks, AnswersMany, TellsFull, states_of}
 use Rattle.trace_watch.proofs.Growth.{one_in, get_config, long_configs, Expanding, Copying, copying_more, Closing}
 use Rattle.trace_watch.proofs.Watching.{states_read}
 
@@ -104,7 +104,7 @@ closing_overfull id calls bound states begun next found later copies up was = re
 -- the open operations on a word are those of its address
 pub pending_here : {A : Type 0} (opening : List ℕ) (t : List Event) (watch : Watch A) (call : Call) (calls : List Call)
     → ((c : Call) → IsIn calls c ↔ (IsIn watch.pending.items c × (c.operation.address ≡ call.operation.address)))
-    → Follows opening t watch → ArePendingOn t call.operation.address calls
+    → Tracks opening t watch → ArePendingOn t call.operation.address calls
 pending_here opening t watch call calls here f = record {
   each = λ c in_calls. f.pending.each c ((here c).0 in_calls).0;
   here = λ c in_calls. ((here c).0 in_calls).1;
@@ -119,7 +119,7 @@ pub answers_many : {A : Type 0} (opening : List ℕ) (t : List Event) (watch : W
     (reply : Reply) (bound : ℕ) (calls : List Call) → IsIn watch.pending.items call → call.id ≡ id
     → ((c : Call) → IsIn calls c ↔ (IsIn watch.pending.items c × (c.operation.address ≡ call.operation.address)))
     → IsOverfull calls bound (states_of watch.words.items call.operation.address)
-    → Follows opening t watch → AnswersMany opening t (Answer id reply) bound
+    → Tracks opening t watch → AnswersMany opening t (Answer id reply) bound
 answers_many opening t watch call id reply bound calls on number here over f =
     let p = f.pending.each call on in
     let inside = f.well.inside p.issued.0 call p.issued.1 in

@@ -4,15 +4,15 @@ use Rattle.std.proofs.Common.{arith, slice_get, take, get_or}
 use Rattle.std.proofs.lemmas.List.{take_at, take-append-le}
 use Rattle.packet.specs.declared.kinds.Reply.{Reply}
 use Rattle.packet.specs.Memory.{new_word, reply_to, reply_of_one}
-use Rattle.trace_order.specs.declared.event.Call.{Call}
-use Rattle.trace_order.specs.declared.event.Event.{Event}
-use Rattle.trace_order.specs.declared.event.Event.TheVariants.{Issue, Answer}
-use Rattle.trace_order.specs.Traces.{IsTrace, IsIssuedAt, IsAnsweredAt, IsAnswered}
-use Rattle.trace_order.specs.Orders.{IsOn, memory_of}
-use Rattle.trace_order.specs.Locality.{IsOrderOn}
-use Rattle.trace_order.proofs.Lists.{get_push_cases, get_append_left, get_push, get_within}
-use Rattle.trace_order.proofs.Memory.{word_changed}
-use Rattle.trace_search.specs.Configs.{IsIn}
+use Rattle.trace_laws.specs.declared.event.Call.{Call}
+use Rattle.trace_laws.specs.declared.event.Event.{Event}
+use Rattle.trace_laws.specs.declared.event.Event.TheVariants.{Issue, Answer}
+use Rattle.trace_laws.specs.Traces.{IsTrace, TraceIssuesAt, TraceAnswersAt, IsAnswered}
+use Rattle.trace_laws.specs.Orders.{IsOn, memory_of}
+use Rattle.trace_laws.specs.Locality.{IsOrderOn}
+use Rattle.trace_laws.proofs.Lists.{get_push_cases, get_append_left, get_push, get_within}
+use Rattle.trace_laws.proofs.Memory.{word_changed}
+use Rattle.trace_laws.specs.Configs.{IsIn}
 use Rattle.trace_watch.specs.declared.state.Effect.{Effect}
 use Rattle.trace_watch.specs.States.{Config, HasEffect, IsLike, IsWithout, after}
 use Rattle.trace_watch.specs.Known.{IsReplied, Explains, IsPending}
@@ -52,8 +52,8 @@ explains_after opening t w order c b inside waits here none x =
     let apart : (p : ℕ) (d : Call) → slice_get order p ≡ Some d → d.id ≢ b.id = λ p d h e.
     let r = x.all p d h (λ a. waits.unanswered (subst (λ (n : ℕ). IsAnswered t n) e a)) in
     none (r.0, r.1, r.2 ∙ e) in
-    let silent : (d : Call) (i : ℕ) (r : Reply) → b ≡ d → IsAnsweredAt t i d.id r → ⊥ = λ d i r e told.
-    waits.unanswered (i, r, subst (λ (f : Call). IsAnsweredAt t i f.id r) (sym e) told) in
+    let silent : (d : Call) (i : ℕ) (r : Reply) → b ≡ d → TraceAnswersAt t i d.id r → ⊥ = λ d i r e told.
+    waits.unanswered (i, r, subst (λ (f : Call). TraceAnswersAt t i f.id r) (sym e) told) in
     let legal : IsOrderOn w opening t (order ++ b ∷ []) = record {
       here = λ p d h. ⊎_elim {C = d.operation.address ≡ w}
           (λ old. o.here p d old)
@@ -71,9 +71,9 @@ explains_after opening t w order c b inside waits here none x =
           (λ (also : (q ≡ length order) × (b ≡ f)). new.0 ∙ sym also.0)
           (get_push_cases order b q f k))
           (get_push_cases order b p d h);
-      issued = λ p d h. ⊎_elim {C = (i : ℕ) × IsIssuedAt t i d}
+      issued = λ p d h. ⊎_elim {C = (i : ℕ) × TraceIssuesAt t i d}
           (λ old. o.issued p d old)
-          (λ new. subst (λ (f : Call). (i : ℕ) × IsIssuedAt t i f) new.1 waits.issued)
+          (λ new. subst (λ (f : Call). (i : ℕ) × TraceIssuesAt t i f) new.1 waits.issued)
           (get_push_cases order b p d h);
       answered = λ i j d r issue at told.
           let on : IsOn order d.id = o.answered i j d r issue at told in
@@ -137,24 +137,24 @@ explains_answer words opening t w order c d e id reply is on number told less x 
     let o = x.legal in
     let more = t ++ Answer id reply ∷ [] in
     let r = x.replied e on in
-    let now : IsAnsweredAt more (length t) id reply = get_push t (Answer id reply) in
+    let now : TraceAnswersAt more (length t) id reply = get_push t (Answer id reply) in
     let legal : IsOrderOn w opening more order = record {
       here = o.here;
       once = o.once;
       issued = λ p f h. let q = o.issued p f h in (q.0, issue_up t (Answer id reply) q.0 f q.1);
       answered = λ i j f s issue at a. ⊎_elim {C = IsOn order f.id}
-          (λ (old : IsAnsweredAt t j f.id s). o.answered i j f s (issue_down t id reply i f issue) at old)
+          (λ (old : TraceAnswersAt t j f.id s). o.answered i j f s (issue_down t id reply i f issue) at old)
           (λ (new : (j ≡ length t) × (Answer id reply ≡ Answer f.id s)).
           (r.at, r.call, r.there, r.number ∙ (number ∙ (same_number id f.id reply s new.1).0)))
           (answer_cases t (Answer id reply) j f.id s a);
       real_time = λ i j p q f g s less a issue h k. ⊎_elim {C = p < q}
-          (λ (old : IsAnsweredAt t i f.id s).
+          (λ (old : TraceAnswersAt t i f.id s).
           o.real_time i j p q f g s less old (issue_down t id reply j g issue) h k)
           (λ (new : (i ≡ length t) × (Answer id reply ≡ Answer f.id s)).
           let l = get_within t j (Issue g) (issue_down t id reply j g issue) in let n = new.0 in absurd (omega arith))
           (answer_cases t (Answer id reply) i f.id s a);
       replies = λ i p f s h a. ⊎_elim {C = s ≡ reply_of_one f.operation (memory_of opening (take p order))}
-          (λ (old : IsAnsweredAt t i f.id s). o.replies i p f s h old)
+          (λ (old : TraceAnswersAt t i f.id s). o.replies i p f s h old)
           (λ (new : (i ≡ length t) × (Answer id reply ≡ Answer f.id s)).
           let same = same_number id f.id reply s new.1 in
           let place : r.at ≡ p = o.once r.at p r.call f r.there h (r.number ∙ (number ∙ same.0)) in
@@ -171,7 +171,7 @@ explains_answer words opening t w order c d e id reply is on number told less x 
       pending = λ f in_d a.
           let q = (less.effects f).0 in_d in
           ⊎_elim {C = ⊥}
-          (λ (old : IsAnsweredAt t a.0 f.id a.1). x.pending f q.0 (a.0, a.1, old))
+          (λ (old : TraceAnswersAt t a.0 f.id a.1). x.pending f q.0 (a.0, a.1, old))
           (λ (new : (a.0 ≡ length t) × (Answer id reply ≡ Answer f.id a.1)).
           q.1 (sym (same_number id f.id reply a.1 new.1).0))
           (answer_cases t (Answer id reply) a.0 f.id a.1 a.2);
@@ -181,7 +181,7 @@ explains_answer words opening t w order c d e id reply is on number told less x 
           let other : q.0.id ≡ id → ⊥ = λ s. never (
             length t,
             reply,
-            subst (λ (n : ℕ). IsAnsweredAt more (length t) n reply) (sym s ∙ q.2) now,
+            subst (λ (n : ℕ). TraceAnswersAt more (length t) n reply) (sym s ∙ q.2) now,
           ) in
           (q.0, (less.effects q.0).1 (q.1, other), q.2);
     }

@@ -2,31 +2,31 @@
 use Rattle.std.proofs.Common.{◌≡◌, ◌⊎◌, inl, inr, ⊎_elim, ℕ, ◌<◌, ◌≤◌, List, [], ◌∷◌, ◌++◌, length, Option, Some, None, refl, sym, ◌∙◌, ap, subst, arith}
 use Rattle.std.proofs.Common.{slice_get}
 use Rattle.packet.specs.declared.kinds.Reply.{Reply}
-use Rattle.trace_order.specs.declared.event.Call.{Call}
-use Rattle.trace_order.specs.declared.event.Event.{Event}
-use Rattle.trace_order.specs.declared.event.Event.TheVariants.{Issue, Answer}
-use Rattle.trace_order.specs.Traces.{IsTrace, IsIssuedAt, IsAnsweredAt, WasIssued, IsAnswered}
-use Rattle.trace_order.proofs.Issues.{one_issue}
-use Rattle.trace_order.proofs.Lists.{get_push_cases, get_append_left, get_push, get_within}
-use Rattle.trace_search.specs.Configs.{IsIn}
+use Rattle.trace_laws.specs.declared.event.Call.{Call}
+use Rattle.trace_laws.specs.declared.event.Event.{Event}
+use Rattle.trace_laws.specs.declared.event.Event.TheVariants.{Issue, Answer}
+use Rattle.trace_laws.specs.Traces.{IsTrace, TraceIssuesAt, TraceAnswersAt, WasIssued, IsAnswered}
+use Rattle.trace_laws.proofs.Issues.{one_issue}
+use Rattle.trace_laws.proofs.Lists.{get_push_cases, get_append_left, get_push, get_within}
+use Rattle.trace_laws.specs.Configs.{IsIn}
 use Rattle.trace_watch.specs.Known.{IsPending, ArePending, IsNewest}
 
-pub issue_up : (t : List Event) (e : Event) (i : ℕ) (c : Call) → IsIssuedAt t i c → IsIssuedAt (t ++ e ∷ []) i c
+pub issue_up : (t : List Event) (e : Event) (i : ℕ) (c : Call) → TraceIssuesAt t i c → TraceIssuesAt (t ++ e ∷ []) i c
 issue_up t e i c h = get_append_left t (e ∷ []) i (Issue c) h
 
-pub answer_up : (t : List Event) (e : Event) (i id : ℕ) (r : Reply) → IsAnsweredAt t i id r
-    → IsAnsweredAt (t ++ e ∷ []) i id r
+pub answer_up : (t : List Event) (e : Event) (i id : ℕ) (r : Reply) → TraceAnswersAt t i id r
+    → TraceAnswersAt (t ++ e ∷ []) i id r
 answer_up t e i id r h = get_append_left t (e ∷ []) i (Answer id r) h
 
 pub answered_up : (t : List Event) (e : Event) (id : ℕ) → IsAnswered t id → IsAnswered (t ++ e ∷ []) id
 answered_up t e id a = (a.0, a.1, answer_up t e a.0 id a.1 a.2)
 
-pub issue_cases : (t : List Event) (e : Event) (i : ℕ) (c : Call) → IsIssuedAt (t ++ e ∷ []) i c
-    → IsIssuedAt t i c ⊎ ((i ≡ length t) × (e ≡ Issue c))
+pub issue_cases : (t : List Event) (e : Event) (i : ℕ) (c : Call) → TraceIssuesAt (t ++ e ∷ []) i c
+    → TraceIssuesAt t i c ⊎ ((i ≡ length t) × (e ≡ Issue c))
 issue_cases t e i c h = get_push_cases t e i (Issue c) h
 
-pub answer_cases : (t : List Event) (e : Event) (i id : ℕ) (r : Reply) → IsAnsweredAt (t ++ e ∷ []) i id r
-    → IsAnsweredAt t i id r ⊎ ((i ≡ length t) × (e ≡ Answer id r))
+pub answer_cases : (t : List Event) (e : Event) (i id : ℕ) (r : Reply) → TraceAnswersAt (t ++ e ∷ []) i id r
+    → TraceAnswersAt t i id r ⊎ ((i ≡ length t) × (e ≡ Answer id r))
 answer_cases t e i id r h = get_push_cases t e i (Answer id r) h
 
 pub no_issue : (id : ℕ) (r : Reply) (c : Call) → Answer id r ≡ Issue c → ⊥
@@ -43,14 +43,14 @@ same_number id other r s e = (cc, cc)
 
 -- before an answer the issues are the old ones
 pub issue_down : (t : List Event) (id : ℕ) (r : Reply) (i : ℕ) (c : Call)
-    → IsIssuedAt (t ++ Answer id r ∷ []) i c → IsIssuedAt t i c
-issue_down t id r i c h = ⊎_elim {C = IsIssuedAt t i c} (λ old. old) (λ new. absurd (no_issue id r c new.1))
+    → TraceIssuesAt (t ++ Answer id r ∷ []) i c → TraceIssuesAt t i c
+issue_down t id r i c h = ⊎_elim {C = TraceIssuesAt t i c} (λ old. old) (λ new. absurd (no_issue id r c new.1))
     (issue_cases t (Answer id r) i c h)
 
 -- and before an issue the answers
 pub answer_down : (t : List Event) (b : Call) (i id : ℕ) (r : Reply)
-    → IsAnsweredAt (t ++ Issue b ∷ []) i id r → IsAnsweredAt t i id r
-answer_down t b i id r h = ⊎_elim {C = IsAnsweredAt t i id r} (λ old. old) (λ new. absurd (no_answer id r b new.1))
+    → TraceAnswersAt (t ++ Issue b ∷ []) i id r → TraceAnswersAt t i id r
+answer_down t b i id r h = ⊎_elim {C = TraceAnswersAt t i id r} (λ old. old) (λ new. absurd (no_answer id r b new.1))
     (answer_cases t (Issue b) i id r h)
 
 pub trace_none : (words : ℕ) → IsTrace words []
@@ -63,20 +63,20 @@ trace_none words = record {
 
 -- an operation with a new number is issued
 pub trace_issue : (words : ℕ) (t : List Event) (b : Call) → IsTrace words t
-    → ((i : ℕ) (a : Call) → IsIssuedAt t i a → a.id < b.id) → b.operation.address < words
+    → ((i : ℕ) (a : Call) → TraceIssuesAt t i a → a.id < b.id) → b.operation.address < words
     → IsTrace words (t ++ Issue b ∷ [])
 trace_issue words t b is above inside = record {
   rising = λ i j a c l h k. ⊎_elim {C = a.id < c.id}
-      (λ (old : IsIssuedAt t j c).
+      (λ (old : TraceIssuesAt t j c).
       ⊎_elim {C = a.id < c.id}
-      (λ (also : IsIssuedAt t i a). is.rising i j a c l also old)
+      (λ (also : TraceIssuesAt t i a). is.rising i j a c l also old)
       (λ (new : (i ≡ length t) × (Issue b ≡ Issue a)).
       let m = get_within t j (Issue c) old in let n = new.0 in absurd (omega arith))
       (issue_cases t (Issue b) i a h))
       (λ (new : (j ≡ length t) × (Issue b ≡ Issue c)).
       let same = same_call b c new.1 in
       ⊎_elim {C = a.id < c.id}
-      (λ (old : IsIssuedAt t i a). subst (λ (d : Call). a.id < d.id) same (above i a old))
+      (λ (old : TraceIssuesAt t i a). subst (λ (d : Call). a.id < d.id) same (above i a old))
       (λ (also : (i ≡ length t) × (Issue b ≡ Issue a)). let n = new.0 in let m = also.0 in absurd (omega arith))
       (issue_cases t (Issue b) i a h))
       (issue_cases t (Issue b) j c k);
@@ -92,7 +92,7 @@ trace_issue words t b is above inside = record {
 
 -- an open operation is answered
 pub trace_answer : (words : ℕ) (t : List Event) (id : ℕ) (reply : Reply) (at : ℕ) (b : Call) → IsTrace words t
-    → IsIssuedAt t at b → b.id ≡ id → (IsAnswered t id → ⊥) → IsTrace words (t ++ Answer id reply ∷ [])
+    → TraceIssuesAt t at b → b.id ≡ id → (IsAnswered t id → ⊥) → IsTrace words (t ++ Answer id reply ∷ [])
 trace_answer words t id reply at b is issue number never = record {
   rising = λ i j a c l h k. is.rising i j a c l (issue_down t id reply i a h) (issue_down t id reply j c k);
   issued = λ j other r h. ⊎_elim {C = WasIssued (t ++ Answer id reply ∷ []) j other}
@@ -104,13 +104,13 @@ trace_answer words t id reply at b is issue number never = record {
       (at, b, omega arith, number ∙ (same_number id other reply r new.1).0, issue_up t (Answer id reply) at b issue))
       (answer_cases t (Answer id reply) j other r h);
   once = λ i j other r s h k. ⊎_elim {C = i ≡ j}
-      (λ (old : IsAnsweredAt t i other r). ⊎_elim {C = i ≡ j}
-      (λ (also : IsAnsweredAt t j other s). is.once i j other r s old also)
+      (λ (old : TraceAnswersAt t i other r). ⊎_elim {C = i ≡ j}
+      (λ (also : TraceAnswersAt t j other s). is.once i j other r s old also)
       (λ (new : (j ≡ length t) × (Answer id reply ≡ Answer other s)).
       absurd (never (subst (λ (n : ℕ). IsAnswered t n) (sym (same_number id other reply s new.1).0) (i, r, old))))
       (answer_cases t (Answer id reply) j other s k))
       (λ (new : (i ≡ length t) × (Answer id reply ≡ Answer other r)). ⊎_elim {C = i ≡ j}
-      (λ (old : IsAnsweredAt t j other s).
+      (λ (old : TraceAnswersAt t j other s).
       absurd (never (subst (λ (n : ℕ). IsAnswered t n) (sym (same_number id other reply r new.1).0) (j, s, old))))
       (λ (also : (j ≡ length t) × (Answer id reply ≡ Answer other s)). new.0 ∙ sym also.0)
       (answer_cases t (Answer id reply) j other s k))
@@ -141,7 +141,7 @@ not_pending words t id reply calls pending none is =
     let issue = issue_down t id reply w.0 w.1 w.4 in
     ⊎_elim {C = ⊥}
     (λ (a : IsAnswered t w.1.id).
-    let told : IsAnsweredAt t a.0 id a.1 = subst (λ (n : ℕ). IsAnsweredAt t a.0 n a.1) w.3 a.2 in
+    let told : TraceAnswersAt t a.0 id a.1 = subst (λ (n : ℕ). TraceAnswersAt t a.0 n a.1) w.3 a.2 in
     let m = get_within t a.0 (Answer id a.1) told in
     let e = is.once a.0 (length t) id a.1 reply (answer_up t (Answer id reply) a.0 id a.1 told)
     (get_push t (Answer id reply)) in
@@ -181,7 +181,7 @@ pending_issue words t b calls is p = record {
       }))
       (get_push_cases calls b on.0 c on.1);
   all = λ i c h. ⊎_elim {C = IsAnswered (t ++ Issue b ∷ []) c.id ⊎ IsIn (calls ++ b ∷ []) c}
-      (λ (old : IsIssuedAt t i c).
+      (λ (old : TraceIssuesAt t i c).
       ⊎_elim {C = IsAnswered (t ++ Issue b ∷ []) c.id ⊎ IsIn (calls ++ b ∷ []) c}
       (λ (a : IsAnswered t c.id). inl (answered_up t (Issue b) c.id a))
       (λ (on : IsIn calls c). inr (on.0, get_append_left calls (b ∷ []) on.0 c on.1))
@@ -203,7 +203,7 @@ pending_answer t id reply calls later p from kept = record {
       record {
         issued = (q.issued.0, issue_up t (Answer id reply) q.issued.0 c q.issued.1);
         unanswered = λ a. ⊎_elim {C = ⊥}
-            (λ (old : IsAnsweredAt t a.0 c.id a.1). q.unanswered (a.0, a.1, old))
+            (λ (old : TraceAnswersAt t a.0 c.id a.1). q.unanswered (a.0, a.1, old))
             (λ new. f.1 (sym (same_number id c.id reply a.1 new.1).0))
             (answer_cases t (Answer id reply) a.0 c.id a.1 a.2);
       };
@@ -213,7 +213,7 @@ pending_answer t id reply calls later p from kept = record {
       (λ (e : c.id ≡ id). inl (
         length t,
         reply,
-        subst (λ (n : ℕ). IsAnsweredAt (t ++ Answer id reply ∷ []) (length t) n reply)
+        subst (λ (n : ℕ). TraceAnswersAt (t ++ Answer id reply ∷ []) (length t) n reply)
             (sym e) (get_push t (Answer id reply)),
       ))
       (λ (l : IsIn later c). inr l)
@@ -222,10 +222,10 @@ pending_answer t id reply calls later p from kept = record {
 }
 
 pub newest_issue : (t : List Event) (b : Call) (last : Option ℕ) → IsNewest t last
-    → ((i : ℕ) (a : Call) → IsIssuedAt t i a → a.id < b.id) → IsNewest (t ++ Issue b ∷ []) (Some b.id)
+    → ((i : ℕ) (a : Call) → TraceIssuesAt t i a → a.id < b.id) → IsNewest (t ++ Issue b ∷ []) (Some b.id)
 newest_issue t b last n above = record {
   above = λ i c h. ⊎_elim {C = (m : ℕ) × (Some b.id ≡ Some m) × (c.id ≤ m)}
-      (λ (old : IsIssuedAt t i c). let l = above i c old in (b.id, refl, omega arith))
+      (λ (old : TraceIssuesAt t i c). let l = above i c old in (b.id, refl, omega arith))
       (λ (new : (i ≡ length t) × (Issue b ≡ Issue c)).
       let e = ap (λ (d : Call). d.id) (same_call b c new.1) in (b.id, refl, omega arith))
       (issue_cases t (Issue b) i c h);
@@ -241,5 +241,5 @@ newest_answer t id reply last n = record {
 
 -- numbers that are above the newest are above all
 pub above_all : (t : List Event) (last : Option ℕ) (id : ℕ) → IsNewest t last
-    → ((n : ℕ) → last ≡ Some n → n < id) → (i : ℕ) (a : Call) → IsIssuedAt t i a → a.id < id
+    → ((n : ℕ) → last ≡ Some n → n < id) → (i : ℕ) (a : Call) → TraceIssuesAt t i a → a.id < id
 above_all t last id n less i a h = let r = n.above i a h in let l = less r.0 r.1 in let m = r.2 in omega arith

@@ -2,21 +2,21 @@
 use Rattle.std.proofs.Common.{◌≡◌, ◌⊎◌, ◌↔◌, ⊎_elim, ℕ, ◌<◌, ◌≤◌, List, [], ◌∷◌, ◌++◌, length, Some, Vec, refl, sym, ◌∙◌, ap, subst, arith, slice_get, get_or}
 use Rattle.packet.specs.declared.kinds.Reply.{Reply}
 use Rattle.packet.specs.Memory.{new_word, reply_to}
-use Rattle.trace_order.specs.Traces.{IsAnswered}
-use Rattle.trace_order.specs.declared.event.Call.{Call}
-use Rattle.trace_order.specs.declared.event.Event.{Event}
-use Rattle.trace_order.specs.declared.event.Event.TheVariants.{Issue, Answer}
-use Rattle.trace_order.proofs.Lists.{get_push_cases, get_append_left, get_push}
-use Rattle.trace_order.proofs.Issues.{one_issue}
-use Rattle.trace_search.specs.Configs.{IsIn}
+use Rattle.trace_laws.specs.Traces.{IsAnswered}
+use Rattle.trace_laws.specs.declared.event.Call.{Call}
+use Rattle.trace_laws.specs.declared.event.Event.{Event}
+use Rattle.trace_laws.specs.declared.event.Event.TheVariants.{Issue, Answer}
+use Rattle.trace_laws.proofs.Lists.{get_push_cases, get_append_left, get_push}
+use Rattle.trace_laws.proofs.Issues.{one_issue}
+use Rattle.trace_laws.specs.Configs.{IsIn}
 use Rattle.trace_watch.specs.declared.state.Effect.{Effect}
 use Rattle.trace_watch.specs.declared.state.State.{State}
 use Rattle.trace_watch.specs.declared.watch.Watch.{Watch}
 use Rattle.trace_watch.specs.States.{Config, HasEffect, IsLike, IsAmong, IsExpanded, after, configs_of}
 use Rattle.trace_watch.specs.Known.{ArePendingOn, IsPending}
 use Rattle.trace_watch.specs.Closed.{Closes}
-use Rattle.trace_watch.specs.Crowds.{LeadsTo, AreFew}
-use Rattle.trace_watch.specs.Follows.{Follows, AnswersFew, states_of}
+use Rattle.trace_watch.specs.Crowds.{Explains, AreFew}
+use Rattle.trace_watch.specs.Follows.{Tracks, AnswersFew, states_of}
 use Rattle.trace_watch.proofs.Events.{same_number, same_call}
 use Rattle.trace_watch.proofs.Watching.{pending_inside, states_read}
 
@@ -59,7 +59,7 @@ like_after c d call like = record {
 -- whatever operations lead to is among the configurations that are closed under them
 reached : (id : ℕ) (calls : List Call) (found : List Config)
     → ((f : Config) → IsIn found f → (HasEffect f id → ⊥) → IsExpanded calls found f)
-    → (path : List Call) (c d f : Config) → IsIn found f → IsLike f c → LeadsTo id calls c path d → IsAmong found d
+    → (path : List Call) (c d f : Config) → IsIn found f → IsLike f c → Explains id calls c path d → IsAmong found d
 reached id calls found closed [] c d f on like leads = (f, on, subst (λ (x : Config). IsLike f x) leads like)
 reached id calls found closed (call ∷ path) c d f on like leads =
     let a = closed f on (λ has. leads.2 (like_has f c id like has)) call leads.0
@@ -79,7 +79,7 @@ few_found id calls bound old found short closes = record {
 
 -- fewer operations lead to no more
 leads_more : (id : ℕ) (calls more : List Call) → ((c : Call) → IsIn calls c → IsIn more c)
-    → (path : List Call) (c d : Config) → LeadsTo id calls c path d → LeadsTo id more c path d
+    → (path : List Call) (c d : Config) → Explains id calls c path d → Explains id more c path d
 leads_more id calls more among [] c d leads = leads
 leads_more id calls more among (call ∷ path) c d leads =
     (among call leads.0, leads.1, leads.2, leads_more id calls more among path (after c call) d leads.3)
@@ -93,7 +93,7 @@ few_fewer id calls more bound old among few = record {
 }
 
 -- an operation that is open is one of those that a watch holds
-held : {A : Type 0} (opening : List ℕ) (t : List Event) (watch : Watch A) (call : Call) → Follows opening t watch
+held : {A : Type 0} (opening : List ℕ) (t : List Event) (watch : Watch A) (call : Call) → Tracks opening t watch
     → IsPending t call → IsIn watch.pending.items call
 held opening t watch call f p = ⊎_elim {C = IsIn watch.pending.items call}
     (λ (a : IsAnswered t call.id). absurd (p.unanswered a))
@@ -102,7 +102,7 @@ held opening t watch call f p = ⊎_elim {C = IsIn watch.pending.items call}
 
 -- no open operation is answered
 pub none_few : {A : Type 0} (opening : List ℕ) (t : List Event) (watch : Watch A) (id : ℕ) (reply : Reply) (bound : ℕ)
-    → ((k : ℕ) (c : Call) → slice_get watch.pending.items k ≡ Some c → c.id ≡ id → ⊥) → Follows opening t watch
+    → ((k : ℕ) (c : Call) → slice_get watch.pending.items k ≡ Some c → c.id ≡ id → ⊥) → Tracks opening t watch
     → AnswersFew t (Answer id reply) bound watch
 none_few opening t watch id reply bound none f = λ other r calls p e on.
     let h = held opening t watch other f p in
@@ -111,7 +111,7 @@ none_few opening t watch id reply bound none f = λ other r calls p e on.
 -- an open operation on a word that there isn't
 pub far_few : {A : Type 0} (opening : List ℕ) (t : List Event) (watch : Watch A) (call : Call) (id : ℕ) (reply : Reply)
     (bound : ℕ) → IsIn watch.pending.items call → length watch.words.items ≤ call.operation.address
-    → Follows opening t watch → AnswersFew t (Answer id reply) bound watch
+    → Tracks opening t watch → AnswersFew t (Answer id reply) bound watch
 far_few opening t watch call id reply bound on far f =
     absurd (let l = pending_inside opening t watch call on f in omega arith)
 
@@ -120,7 +120,7 @@ pub answers_few : {A : Type 0} (opening : List ℕ) (t : List Event) (watch : Wa
     (reply : Reply) (bound : ℕ) (calls : List Call) → IsIn watch.pending.items call → call.id ≡ id
     → ((c : Call) → IsIn calls c ↔ (IsIn watch.pending.items c × (c.operation.address ≡ call.operation.address)))
     → AreFew id calls bound (states_of watch.words.items call.operation.address)
-    → Follows opening t watch → AnswersFew t (Answer id reply) bound watch
+    → Tracks opening t watch → AnswersFew t (Answer id reply) bound watch
 answers_few opening t watch call id reply bound calls on number here few f = λ other r also p e are.
     let q = f.pending.each call on in
     let told : id ≡ other.id = (same_number id other.id reply r e).0 in

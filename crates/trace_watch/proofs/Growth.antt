@@ -2,9 +2,9 @@
 use Rattle.std.proofs.Common.{◌≡◌, ◌≢◌, ◌⊎◌, inl, inr, ⊎_elim, ℕ, zero, suc, ◌+◌, ◌<◌, ◌≤◌, List, [], ◌∷◌, ◌++◌, length, Some, None, refl, sym, ◌∙◌, ap, subst}
 use Rattle.std.proofs.Common.{arith, slice_get, append-nil, append_assoc}
 use Rattle.std.proofs.lemmas.Bool.{cases_eq}
-use Rattle.trace_order.specs.declared.event.Call.{Call}
-use Rattle.trace_order.proofs.Lists.{get_push_cases, get_append_left, get_push, get_within}
-use Rattle.trace_search.specs.Configs.{IsIn, GoesOn}
+use Rattle.trace_laws.specs.declared.event.Call.{Call}
+use Rattle.trace_laws.proofs.Lists.{get_push_cases, get_append_left, get_push, get_within}
+use Rattle.trace_laws.specs.Configs.{IsIn, GoesOn}
 use Rattle.trace_watch.specs.declared.state.State.{State}
 use Rattle.trace_watch.specs.States.{Config, HasEffect, IsLike, IsAmong, IsExpanded, after, config_of, configs_of}
 use Rattle.trace_watch.specs.Known.{Explains, StaysExplained}

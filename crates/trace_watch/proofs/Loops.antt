@@ -2,8 +2,8 @@
 use Rattle.std.proofs.Common.{◌≡◌, ℕ, ◌+◌, ◌<◌, ◌≤◌, List, [], ◌∷◌, ◌++◌, length, Some, sym, ◌∙◌, ap, subst, arith, slice_get, get_or}
 use Rattle.std.proofs.lemmas.Option.{slice_get-get_or}
 use Rattle.packet.specs.declared.kinds.Reply.{Reply}
-use Rattle.trace_order.specs.declared.event.Call.{Call}
-use Rattle.trace_search.specs.Configs.{IsIn, GoesOn}
+use Rattle.trace_laws.specs.declared.event.Call.{Call}
+use Rattle.trace_laws.specs.Configs.{IsIn, GoesOn}
 use Rattle.trace_watch.specs.declared.state.Effect.{Effect}
 use Rattle.trace_watch.specs.declared.state.State.{State}
 use Rattle.trace_watch.specs.States.{Config, IsWithout, AreReleased, after, config_of, configs_of}

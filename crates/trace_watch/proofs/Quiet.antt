@@ -5,27 +5,27 @@ use Rattle.std.proofs.lemmas.Bool.{cases_eq, cases_lt}
 use Rattle.std.proofs.lemmas.List.{take-take, take_all}
 use Rattle.packet.specs.declared.kinds.Reply.{Reply}
 use Rattle.packet.specs.Memory.{reply_of_one}
-use Rattle.trace_order.specs.declared.event.Call.{Call}
-use Rattle.trace_order.specs.declared.event.Event.{Event}
-use Rattle.trace_order.specs.declared.event.Event.TheVariants.{Issue, Answer}
-use Rattle.trace_order.specs.Traces.{IsTrace, IsIssuedAt, IsAnsweredAt}
-use Rattle.trace_order.specs.Orders.{IsOn, memory_of}
-use Rattle.trace_order.specs.Locality.{IsOrderOn}
-use Rattle.trace_order.proofs.Issues.{one_issue, one_call}
-use Rattle.trace_order.proofs.Lists.{get_push, get_within, get_take, take_get}
+use Rattle.trace_laws.specs.declared.event.Call.{Call}
+use Rattle.trace_laws.specs.declared.event.Event.{Event}
+use Rattle.trace_laws.specs.declared.event.Event.TheVariants.{Issue, Answer}
+use Rattle.trace_laws.specs.Traces.{IsTrace, TraceIssuesAt, TraceAnswersAt}
+use Rattle.trace_laws.specs.Orders.{IsOn, memory_of}
+use Rattle.trace_laws.specs.Locality.{IsOrderOn}
+use Rattle.trace_laws.proofs.Issues.{one_issue, one_call}
+use Rattle.trace_laws.proofs.Lists.{get_push, get_within, get_take, take_get}
 use Rattle.trace_watch.specs.States.{Config}
 use Rattle.trace_watch.specs.Known.{Explains, Knows}
 use Rattle.trace_watch.proofs.Events.{issue_up, answer_up, answered_up, issue_cases, answer_cases, no_answer, same_call, issue_down}
 
 -- the event answers no operation on word w
 abbrev pub IsQuiet : List Event → ℕ → Event → Type 0
-IsQuiet t w e = (i : ℕ) (c : Call) (r : Reply) → IsIssuedAt t i c → c.operation.address ≡ w → e ≡ Answer c.id r → ⊥
+IsQuiet t w e = (i : ℕ) (c : Call) (r : Reply) → TraceIssuesAt t i c → c.operation.address ≡ w → e ≡ Answer c.id r → ⊥
 
 pub quiet_issue : (t : List Event) (w : ℕ) (b : Call) → IsQuiet t w (Issue b)
 quiet_issue t w b i c r h here e = no_answer c.id r b e
 
 pub quiet_answer : (words : ℕ) (t : List Event) (w : ℕ) (id : ℕ) (reply : Reply) (at : ℕ) (b : Call)
-    → IsTrace words t → IsIssuedAt t at b → b.id ≡ id → b.operation.address ≢ w → IsQuiet t w (Answer id reply)
+    → IsTrace words t → TraceIssuesAt t at b → b.id ≡ id → b.operation.address ≢ w → IsQuiet t w (Answer id reply)
 quiet_answer words t w id reply at b is issue number other i c r h here e =
     let n : c.id ≡ b.id = let f : id ≡ c.id = cc in sym f ∙ sym number in
     other (ap (λ (d : Call). d.operation.address) (sym (one_call words t is i at c b h issue n)) ∙ here)
@@ -37,23 +37,23 @@ pub explains_kept : (words : ℕ) (opening : List ℕ) (t : List Event) (w : ℕ
 explains_kept words opening t w e order c is quiet x =
     let o = x.legal in
     let more = t ++ e ∷ [] in
-    let known : (i : ℕ) (d : Call) (j : ℕ) (r : Reply) → IsIssuedAt t i d → d.operation.address ≡ w
-    → IsAnsweredAt more j d.id r → IsAnsweredAt t j d.id r = λ i d j r h here told.
-    ⊎_elim {C = IsAnsweredAt t j d.id r} (λ old. old) (λ new. absurd (quiet i d r h here new.1))
+    let known : (i : ℕ) (d : Call) (j : ℕ) (r : Reply) → TraceIssuesAt t i d → d.operation.address ≡ w
+    → TraceAnswersAt more j d.id r → TraceAnswersAt t j d.id r = λ i d j r h here told.
+    ⊎_elim {C = TraceAnswersAt t j d.id r} (λ old. old) (λ new. absurd (quiet i d r h here new.1))
     (answer_cases t e j d.id r told) in
     let legal : IsOrderOn w opening more order = record {
       here = o.here;
       once = o.once;
       issued = λ p d h. let q = o.issued p d h in (q.0, issue_up t e q.0 d q.1);
       answered = λ i j d r issue here told. ⊎_elim {C = IsOn order d.id}
-          (λ (old : IsIssuedAt t i d). o.answered i j d r old here (known i d j r old here told))
+          (λ (old : TraceIssuesAt t i d). o.answered i j d r old here (known i d j r old here told))
           (λ (new : (i ≡ length t) × (e ≡ Issue d)).
           let before = is.issued j d.id r told in
           let same = one_issue words more is before.0 i before.1 d before.4 issue before.3 in
           let early = before.2 in
           let at = new.0 in
           ⊎_elim {C = IsOn order d.id}
-          (λ (old : IsAnsweredAt t j d.id r). let l = get_within t j (Answer d.id r) old in absurd (omega arith))
+          (λ (old : TraceAnswersAt t j d.id r). let l = get_within t j (Answer d.id r) old in absurd (omega arith))
           (λ (also : (j ≡ length t) × (e ≡ Answer d.id r)). absurd (no_answer d.id r d (sym new.1 ∙ also.1)))
           (answer_cases t e j d.id r told))
           (issue_cases t e i d issue);
@@ -62,7 +62,7 @@ explains_kept words opening t w e order c is quiet x =
           let b = o.issued q f k in
           let old = known a.0 d i r a.1 (o.here p d h) told in
           let same = one_issue words more is b.0 j f f (issue_up t e b.0 f b.1) issue refl in
-          let there : IsIssuedAt t j f = subst (λ (n : ℕ). IsIssuedAt t n f) same b.1 in
+          let there : TraceIssuesAt t j f = subst (λ (n : ℕ). TraceIssuesAt t n f) same b.1 in
           o.real_time i j p q d f r less old there h k;
       replies = λ i p d r h told.
           let a = o.issued p d h in
@@ -74,10 +74,10 @@ explains_kept words opening t w e order c is quiet x =
       pending = λ f on told.
           let r = x.replied f on in
           let a = o.issued r.at r.call r.there in
-          let also : IsAnsweredAt more told.0 r.call.id told.1 = subst (λ (n : ℕ). IsAnsweredAt more told.0 n told.1)
+          let also : TraceAnswersAt more told.0 r.call.id told.1 = subst (λ (n : ℕ). TraceAnswersAt more told.0 n told.1)
           (sym r.number) told.2 in
           let old = known a.0 r.call told.0 told.1 a.1 (o.here r.at r.call r.there) also in
-          x.pending f on (told.0, told.1, subst (λ (n : ℕ). IsAnsweredAt t told.0 n told.1) r.number old);
+          x.pending f on (told.0, told.1, subst (λ (n : ℕ). TraceAnswersAt t told.0 n told.1) r.number old);
       replied = x.replied;
       all = λ p d h never. x.all p d h (λ told. never (answered_up t e d.id told));
     }
@@ -143,8 +143,8 @@ order_cut words opening t w b order is o =
         issued = λ x c h.
             let r = take_get p order x c h in
             let q = o.issued x c r.1 in
-            ⊎_elim {C = (i : ℕ) × IsIssuedAt t i c}
-            (λ (old : IsIssuedAt t q.0 c). (q.0, old))
+            ⊎_elim {C = (i : ℕ) × TraceIssuesAt t i c}
+            (λ (old : TraceIssuesAt t q.0 c). (q.0, old))
             (λ (new : (q.0 ≡ length t) × (Issue b ≡ Issue c)).
             absurd (at.before x c r.0 r.1 (ap (λ (d : Call). d.id) (sym (same_call b c new.1)))))
             (issue_cases t (Issue b) q.0 c q.1);
@@ -158,7 +158,7 @@ order_cut words opening t w b order is o =
             let issued = o.issued p late.0 late.1 in
             let same = one_issue words more is issued.0 (length t) late.0 b issued.1 (get_push t (Issue b)) late.2 in
             let m = get_within t j (Answer c.id r) told in
-            let also : IsAnsweredAt more j on.1.id r = subst (λ (n : ℕ). IsAnsweredAt more j n r) (sym on.3)
+            let also : TraceAnswersAt more j on.1.id r = subst (λ (n : ℕ). TraceAnswersAt more j n r) (sym on.3)
             (answer_up t (Issue b) j c.id r told) in
             let wrong = o.real_time j issued.0 on.0 p on.1 late.0 r (omega arith) also issued.1 on.2 late.1 in
             absurd (omega arith))

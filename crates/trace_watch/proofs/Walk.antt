@@ -5,14 +5,14 @@ use Rattle.std.proofs.lemmas.Bool.{cases_eq, cases_lt}
 use Rattle.std.proofs.lemmas.List.{take-take}
 use Rattle.packet.specs.declared.kinds.Reply.{Reply}
 use Rattle.packet.specs.Memory.{reply_of_one}
-use Rattle.trace_order.specs.declared.event.Call.{Call}
-use Rattle.trace_order.specs.declared.event.Event.{Event}
-use Rattle.trace_order.specs.declared.event.Event.TheVariants.{Answer}
-use Rattle.trace_order.specs.Traces.{IsTrace, IsIssuedAt, IsAnsweredAt, IsAnswered}
-use Rattle.trace_order.specs.Orders.{IsOn, memory_of}
-use Rattle.trace_order.specs.Locality.{IsOrderOn}
-use Rattle.trace_order.proofs.Lists.{get_push, get_take, take_get, take_push, within_length, get_within}
-use Rattle.trace_search.specs.Configs.{IsIn}
+use Rattle.trace_laws.specs.declared.event.Call.{Call}
+use Rattle.trace_laws.specs.declared.event.Event.{Event}
+use Rattle.trace_laws.specs.declared.event.Event.TheVariants.{Answer}
+use Rattle.trace_laws.specs.Traces.{IsTrace, TraceIssuesAt, TraceAnswersAt, IsAnswered}
+use Rattle.trace_laws.specs.Orders.{IsOn, memory_of}
+use Rattle.trace_laws.specs.Locality.{IsOrderOn}
+use Rattle.trace_laws.proofs.Lists.{get_push, get_take, take_get, take_push, within_length, get_within}
+use Rattle.trace_laws.specs.Configs.{IsIn}
 use Rattle.trace_watch.specs.declared.state.Effect.{Effect}
 use Rattle.trace_watch.specs.States.{Config, HasEffect, after}
 use Rattle.trace_watch.specs.Known.{Explains, Knows, IsPending, ArePendingOn}
@@ -134,7 +134,7 @@ walk opening t w id calls old found order y b inside pending closed o at number 
 -- what is known of the word of the answered operation
 pub knows_answer : (words : ℕ) (opening : List ℕ) (t : List Event) (w : ℕ) (id : ℕ) (reply : Reply) (at : ℕ) (b : Call)
     (calls : List Call) (old new : List Config)
-    → w < length opening → IsTrace words (t ++ Answer id reply ∷ []) → IsIssuedAt t at b → b.id ≡ id
+    → w < length opening → IsTrace words (t ++ Answer id reply ∷ []) → TraceIssuesAt t at b → b.id ≡ id
     → b.operation.address ≡ w → (IsAnswered t id → ⊥) → ArePendingOn t w calls
     → IsAnsweredBy id reply calls old new → Knows opening t w old → Knows opening (t ++ Answer id reply ∷ []) w new
 knows_answer words opening t w id reply at b calls old new inside is issue number here never pending by knows =
@@ -152,8 +152,8 @@ knows_answer words opening t w id reply at b calls old new inside is issue numbe
           let first = knows.complete order back in
           let k = closed.kept first.1 first.2 in
           let now = get_push t (Answer id reply) in
-          let told : IsAnsweredAt (t ++ Answer id reply ∷ []) (length t) b.id reply = subst
-          (λ (m : ℕ). IsAnsweredAt (t ++ Answer id reply ∷ []) (length t) m reply) (sym number) now in
+          let told : TraceAnswersAt (t ++ Answer id reply ∷ []) (length t) b.id reply = subst
+          (λ (m : ℕ). TraceAnswersAt (t ++ Answer id reply ∷ []) (length t) m reply) (sym number) now in
           let y : IsOn order b.id = o.answered at (length t) b reply (issue_up t (Answer id reply) at b issue) here told in
           let start = explains_like opening t w (take first.0 order) first.1 k.0 k.2 first.3 in
           let r = walk opening t w id calls old found order y.0 y.1 inside pending closed back y.2 (y.3 ∙ number) never
@@ -164,8 +164,8 @@ knows_answer words opening t w id reply at b calls old new inside is issue numbe
           let x : Explains opening t w (take n order) c = r.6 in
           let p = x.replied e r.4 in
           let there = take_get n order p.at p.call p.there in
-          let also : IsAnsweredAt (t ++ Answer id reply ∷ []) (length t) p.call.id reply = subst
-          (λ (m : ℕ). IsAnsweredAt (t ++ Answer id reply ∷ []) (length t) m reply) (sym (p.number ∙ r.5)) now in
+          let also : TraceAnswersAt (t ++ Answer id reply ∷ []) (length t) p.call.id reply = subst
+          (λ (m : ℕ). TraceAnswersAt (t ++ Answer id reply ∷ []) (length t) m reply) (sym (p.number ∙ r.5)) now in
           let same : take p.at (take n order) ≡ take p.at order = take-take p.at n order (omega (arith, there.0)) in
           let good : e.reply ≡ reply = p.reply
           ∙ (ap (λ (l : List Call). reply_of_one p.call.operation (memory_of opening l)) same

@@ -4,27 +4,27 @@ use Rattle.std.proofs.Common.{arith, slice_get, set, map, get_or, get_or-set_sam
 use Rattle.std.proofs.lemmas.Bool.{cases_eq}
 use Rattle.std.proofs.lemmas.List.{map-set, length-map, get_or-map}
 use Rattle.packet.specs.declared.kinds.Reply.{Reply}
-use Rattle.trace_order.specs.declared.event.Call.{Call}
-use Rattle.trace_order.specs.declared.event.Event.{Event}
-use Rattle.trace_order.specs.declared.event.Event.TheVariants.{Issue, Answer}
-use Rattle.trace_order.specs.Traces.{IsTrace, IsAnswered}
-use Rattle.trace_order.specs.Orders.{IsLinearizable}
-use Rattle.trace_order.proofs.Merging.{one_order}
-use Rattle.trace_order.proofs.WordOrders.{word_order}
-use Rattle.trace_search.specs.Configs.{IsIn}
+use Rattle.trace_laws.specs.declared.event.Call.{Call}
+use Rattle.trace_laws.specs.declared.event.Event.{Event}
+use Rattle.trace_laws.specs.declared.event.Event.TheVariants.{Issue, Answer}
+use Rattle.trace_laws.specs.Traces.{IsTrace, IsAnswered}
+use Rattle.trace_laws.specs.Orders.{IsLinearizable}
+use Rattle.trace_laws.proofs.Merging.{one_order}
+use Rattle.trace_laws.proofs.WordOrders.{word_order}
+use Rattle.trace_laws.specs.Configs.{IsIn}
 use Rattle.trace_watch.specs.declared.state.State.{State}
 use Rattle.trace_watch.specs.declared.watch.Watch.{Watch}
 use Rattle.trace_watch.specs.declared.watch.Seen.TheVariants.{Linearizable, NotLinearizable, NoTrace}
 use Rattle.trace_watch.specs.States.{Config, configs_of}
 use Rattle.trace_watch.specs.Known.{Knows, ArePending, ArePendingOn}
 use Rattle.trace_watch.specs.Closed.{IsAnsweredBy}
-use Rattle.trace_watch.specs.Follows.{Follows, TellsSeen, states_of}
+use Rattle.trace_watch.specs.Follows.{Tracks, TellsSeen, states_of}
 use Rattle.trace_watch.proofs.Events.{trace_issue, trace_answer, outside, not_rising, not_pending, pending_issue, pending_answer, newest_issue, newest_answer, above_all}
 use Rattle.trace_watch.proofs.Quiet.{quiet_answer, knows_issue, knows_elsewhere}
 use Rattle.trace_watch.proofs.Walk.{knows_answer}
 
 -- what is known says that the trace is linearizable
-pub follows_order : {A : Type 0} (opening : List ℕ) (t : List Event) (watch : Watch A) → Follows opening t watch
+pub follows_order : {A : Type 0} (opening : List ℕ) (t : List Event) (watch : Watch A) → Tracks opening t watch
     → IsLinearizable opening t
 follows_order opening t watch f = one_order opening t f.well (λ w l.
     let c = f.filled w l in
@@ -34,14 +34,14 @@ follows_order opening t watch f = one_order opening t f.well (λ w l.
 -- an operation is issued
 pub seen_issue : {A : Type 0} (opening : List ℕ) (t : List Event) (watch : Watch A) (call : Call) (pending : Vec Call A)
     → call.operation.address < length watch.words.items → ((n : ℕ) → watch.last ≡ Some n → n < call.id)
-    → pending.items ≡ watch.pending.items ++ call ∷ [] → Follows opening t watch
+    → pending.items ≡ watch.pending.items ++ call ∷ [] → Tracks opening t watch
     → TellsSeen {A = A} opening t (Issue call)
     (record { words = watch.words; pending = pending; last = Some call.id }) Linearizable
 seen_issue {A} opening t watch call pending inside rising pushed f =
     let above = above_all t watch.last call.id f.newest rising in
     let low : call.operation.address < length opening = let e = f.sized in omega arith in
     let is = trace_issue (length opening) t call f.well above low in
-    let later : Follows {A = A} opening (t ++ Issue call ∷ [])
+    let later : Tracks {A = A} opening (t ++ Issue call ∷ [])
     (record { words = watch.words; pending = pending; last = Some call.id }) = record {
       well = is;
       newest = newest_issue t call watch.last f.newest above;
@@ -58,27 +58,27 @@ seen_issue {A} opening t watch call pending inside rising pushed f =
 
 -- no operation is issued so
 pub seen_outside : {A : Type 0} (opening : List ℕ) (t : List Event) (watch : Watch A) (call : Call)
-    → length watch.words.items ≤ call.operation.address → Follows opening t watch
+    → length watch.words.items ≤ call.operation.address → Tracks opening t watch
     → TellsSeen opening t (Issue call) watch NoTrace
 seen_outside opening t watch call far f =
     (f, outside (length opening) t call (let e = f.sized in omega arith))
 
 pub seen_not_rising : {A : Type 0} (opening : List ℕ) (t : List Event) (watch : Watch A) (call : Call) (n : ℕ)
-    → watch.last ≡ Some n → call.id ≤ n → Follows opening t watch
+    → watch.last ≡ Some n → call.id ≤ n → Tracks opening t watch
     → TellsSeen opening t (Issue call) watch NoTrace
 seen_not_rising opening t watch call n e low f =
     (f, not_rising (length opening) t call watch.last n f.newest e low)
 
 -- no open operation is answered
 pub seen_not_pending : {A : Type 0} (opening : List ℕ) (t : List Event) (watch : Watch A) (id : ℕ) (reply : Reply)
-    → ((k : ℕ) (c : Call) → slice_get watch.pending.items k ≡ Some c → c.id ≡ id → ⊥) → Follows opening t watch
+    → ((k : ℕ) (c : Call) → slice_get watch.pending.items k ≡ Some c → c.id ≡ id → ⊥) → Tracks opening t watch
     → TellsSeen opening t (Answer id reply) watch NoTrace
 seen_not_pending opening t watch id reply none f =
     (f, not_pending (length opening) t id reply watch.pending.items f.pending (λ c on. none on.0 c on.1))
 
 -- open operations are on words of the memory
 pub pending_inside : {A : Type 0} (opening : List ℕ) (t : List Event) (watch : Watch A) (call : Call)
-    → IsIn watch.pending.items call → Follows opening t watch → call.operation.address < length watch.words.items
+    → IsIn watch.pending.items call → Tracks opening t watch → call.operation.address < length watch.words.items
 pending_inside opening t watch call on f =
     let p = f.pending.each call on in
     let l = f.well.inside p.issued.0 call p.issued.1 in
@@ -88,7 +88,7 @@ pending_inside opening t watch call on f =
 -- a word that there isn't has no open operation
 pub seen_no_word : {A : Type 0} (opening : List ℕ) (t : List Event) (watch : Watch A) (call : Call) (id : ℕ)
     (reply : Reply) → IsIn watch.pending.items call → length watch.words.items ≤ call.operation.address
-    → Follows opening t watch → TellsSeen opening t (Answer id reply) watch NoTrace
+    → Tracks opening t watch → TellsSeen opening t (Answer id reply) watch NoTrace
 seen_no_word opening t watch call id reply on far f =
     absurd (let l = pending_inside opening t watch call on f in omega arith)
 
@@ -105,7 +105,7 @@ has_answer : {A : Type 0} (opening : List ℕ) (t : List Event) (watch : Watch A
     (calls : List Call) (new : List Config) → IsIn watch.pending.items call → call.id ≡ id
     → ((c : Call) → IsIn calls c ↔ (IsIn watch.pending.items c × (c.operation.address ≡ call.operation.address)))
     → IsAnsweredBy id reply calls (states_of watch.words.items call.operation.address) new
-    → Follows opening t watch → HasAnswer opening t watch call id reply new
+    → Tracks opening t watch → HasAnswer opening t watch call id reply new
 has_answer opening t watch call id reply calls new on number here by f =
     let p = f.pending.each call on in
     let at = p.issued.0 in
@@ -157,7 +157,7 @@ pub seen_answer : {A : Type 0} (opening : List ℕ) (t : List Event) (watch : Wa
     → IsIn (configs_of later.items) some
     → ((c : Call) → IsIn pending.items c ↔ (IsIn watch.pending.items c × (c.id ≡ id → ⊥)))
     → words.items ≡ set watch.words.items call.operation.address later
-    → Follows opening t watch
+    → Tracks opening t watch
     → TellsSeen {A = A} opening t (Answer id reply)
     (record { words = words; pending = pending; last = watch.last }) Linearizable
 seen_answer {A} opening t watch call id reply calls later words pending some on number here by filled less written f =
@@ -170,7 +170,7 @@ seen_answer {A} opening t watch call id reply calls later words pending some on 
     let other : (v : ℕ) → v ≢ w → states_of words.items v ≡ states_of watch.words.items v = λ v ne.
     ap (λ (ws : List (Vec (State A) A)). states_of ws v) written ∙ states_other watch.words.items w later v ne in
     let next : Watch A = record { words = words; pending = pending; last = watch.last } in
-    let follows : Follows {A = A} opening more next = record {
+    let follows : Tracks {A = A} opening more next = record {
       well = h.is;
       newest = newest_answer t id reply watch.last f.newest;
       pending = pending_answer t id reply watch.pending.items pending.items f.pending (λ c in_p. (less c).0 in_p)
@@ -204,7 +204,7 @@ pub seen_no_answer : {A : Type 0} (opening : List ℕ) (t : List Event) (watch :
     → ((c : Call) → IsIn calls c ↔ (IsIn watch.pending.items c × (c.operation.address ≡ call.operation.address)))
     → IsAnsweredBy id reply calls (states_of watch.words.items call.operation.address) (configs_of later)
     → later ≡ []
-    → Follows opening t watch
+    → Tracks opening t watch
     → TellsSeen {A = A} opening t (Answer id reply) watch NotLinearizable
 seen_no_answer {A} opening t watch call id reply calls later on number here by none f =
     let h = has_answer opening t watch call id reply calls (configs_of later) on number here by f in (

@@ -3,20 +3,20 @@ use Rattle.std.specs.Prelude.{◌≡◌, ◌<◌, ◌≤◌, ◌+◌, ◌*◌, �
 use Rattle.std.specs.Int.{bit_at}
 use Rattle.packet.specs.declared.kinds.Reply.{Reply}
 use Rattle.packet.specs.declared.kinds.Reply.TheVariants.{Old, Ok as Stored}
-use Rattle.trace_search.specs.Configs.{IsIn}
+use Rattle.trace_laws.specs.Configs.{IsIn}
 use Rattle.trace_watch.specs.declared.state.Effect.{Effect}
 use Rattle.trace_watch.specs.declared.index.Index.{Index}
 use Rattle.trace_watch.specs.States.{Config}
 use Rattle.trace_watch.specs.Crowds.{AreUnlike}
 
 -- the word of a reply, or 0
-abbrev pub told : Reply → ℕ
-told Stored = 0
-told (Old word) = word
+abbrev pub chain_told : Reply → ℕ
+chain_told Stored = 0
+chain_told (Old word) = word
 
 -- the bit of an effect
 abbrev pub spot_of : Effect → ℕ
-spot_of e = (e.id % 64 + told e.reply % 64 * 11) % 64
+spot_of e = (e.id % 64 + chain_told e.reply % 64 * 11) % 64
 
 -- a number whose bits are those of effects
 pub record IsMask (effects : List Effect) (mask : ℕ) : Type 0 where

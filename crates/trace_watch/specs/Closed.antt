@@ -1,8 +1,8 @@
 -- Sets of configurations that grow, and what an answer makes of them.
 use Rattle.std.specs.Prelude.{◌≡◌, ◌⊎◌, ℕ, List, [], ◌∷◌, ◌++◌, Some, slice_get}
 use Rattle.packet.specs.declared.kinds.Reply.{Reply}
-use Rattle.trace_order.specs.declared.event.Call.{Call}
-use Rattle.trace_search.specs.Configs.{GoesOn, IsIn}
+use Rattle.trace_laws.specs.declared.event.Call.{Call}
+use Rattle.trace_laws.specs.Configs.{GoesOn, IsIn}
 use Rattle.trace_watch.specs.States.{Config, HasEffect, IsAmong, IsExpanded, AreReleased}
 use Rattle.trace_watch.specs.Known.{StaysExplained}
 

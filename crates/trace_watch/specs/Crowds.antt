@@ -1,7 +1,7 @@
 -- How many configurations of a word are looked at.
 use Rattle.std.specs.Prelude.{◌≡◌, ◌<◌, ◌≤◌, ℕ, List, [], ◌∷◌, Some, length, slice_get}
-use Rattle.trace_order.specs.declared.event.Call.{Call}
-use Rattle.trace_search.specs.Configs.{IsIn}
+use Rattle.trace_laws.specs.declared.event.Call.{Call}
+use Rattle.trace_laws.specs.Configs.{IsIn}
 use Rattle.trace_watch.specs.States.{Config, HasEffect, IsLike, IsAmong, after}
 use Rattle.trace_watch.specs.Known.{StaysExplained}
 
@@ -30,15 +30,15 @@ pub record IsOverfull (calls : List Call) (bound : ℕ) (old : List Config) : Ty
 
 -- operations take effect one after the other, each before the one of this number has (Lowe:
 -- just-in-time linearization)
-abbrev pub LeadsTo : ℕ → List Call → Config → List Call → Config → Type 0
-LeadsTo id calls c [] d = c ≡ d
-LeadsTo id calls c (call ∷ path) d = IsIn calls call × (HasEffect c call.id → ⊥)
-    × (HasEffect c id → ⊥) × LeadsTo id calls (after c call) path d
+abbrev pub Explains : ℕ → List Call → Config → List Call → Config → Type 0
+Explains id calls c [] d = c ≡ d
+Explains id calls c (call ∷ path) d = IsIn calls call × (HasEffect c call.id → ⊥)
+    × (HasEffect c id → ⊥) × Explains id calls (after c call) path d
 
 -- whatever these operations so lead to from some configurations says the same as one of so many at
 -- most
 pub record AreFew (id : ℕ) (calls : List Call) (bound : ℕ) (old : List Config) : Type 0 where
   pub found : List Config
   pub short : length found ≤ bound
-  pub all : (c d : Config) (path : List Call) → IsIn old c → LeadsTo id calls c path d
+  pub all : (c d : Config) (path : List Call) → IsIn old c → Explains id calls c path d
       → IsAmong found d

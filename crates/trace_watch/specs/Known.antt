@@ -2,12 +2,12 @@
 use Rattle.std.specs.Prelude.{◌≡◌, ◌⊎◌, ◌<◌, ◌≤◌, ℕ, List, Option, Some, length, take, slice_get, slice_index}
 use Rattle.packet.specs.declared.kinds.Reply.{Reply}
 use Rattle.packet.specs.Memory.{reply_of_one}
-use Rattle.trace_order.specs.declared.event.Call.{Call}
-use Rattle.trace_order.specs.declared.event.Event.{Event}
-use Rattle.trace_order.specs.Traces.{IsIssuedAt, IsAnsweredAt, IsAnswered}
-use Rattle.trace_order.specs.Orders.{memory_of}
-use Rattle.trace_order.specs.Locality.{IsOrderOn}
-use Rattle.trace_search.specs.Configs.{IsIn}
+use Rattle.trace_laws.specs.declared.event.Call.{Call}
+use Rattle.trace_laws.specs.declared.event.Event.{Event}
+use Rattle.trace_laws.specs.Traces.{TraceIssuesAt, TraceAnswersAt, IsAnswered}
+use Rattle.trace_laws.specs.Orders.{memory_of}
+use Rattle.trace_laws.specs.Locality.{IsOrderOn}
+use Rattle.trace_laws.specs.Configs.{IsIn}
 use Rattle.trace_watch.specs.declared.state.Effect.{Effect}
 use Rattle.trace_watch.specs.States.{Config, HasEffect}
 
@@ -45,27 +45,27 @@ pub record Knows (opening : List ℕ) (trace : List Event) (w : ℕ) (configs : 
 
 -- an operation was issued, and isn't answered
 pub record IsPending (trace : List Event) (call : Call) : Type 0 where
-  pub issued : (i : ℕ) × IsIssuedAt trace i call
+  pub issued : (i : ℕ) × TraceIssuesAt trace i call
   pub unanswered : IsAnswered trace call.id → ⊥
 
 -- these are the open operations
 pub record ArePending (trace : List Event) (calls : List Call) : Type 0 where
   pub each : (call : Call) → IsIn calls call → IsPending trace call
-  pub all : (i : ℕ) (call : Call) → IsIssuedAt trace i call
+  pub all : (i : ℕ) (call : Call) → TraceIssuesAt trace i call
       → IsAnswered trace call.id ⊎ IsIn calls call
 
 -- these are the open operations on word w
 pub record ArePendingOn (trace : List Event) (w : ℕ) (calls : List Call) : Type 0 where
   pub each : (call : Call) → IsIn calls call → IsPending trace call
   pub here : (call : Call) → IsIn calls call → call.operation.address ≡ w
-  pub all : (i : ℕ) (call : Call) → IsIssuedAt trace i call → call.operation.address ≡ w
+  pub all : (i : ℕ) (call : Call) → TraceIssuesAt trace i call → call.operation.address ≡ w
       → IsAnswered trace call.id ⊎ IsIn calls call
 
 -- the number of the newest operation
 pub record IsNewest (trace : List Event) (last : Option ℕ) : Type 0 where
-  pub above : (i : ℕ) (call : Call) → IsIssuedAt trace i call
+  pub above : (i : ℕ) (call : Call) → TraceIssuesAt trace i call
       → (n : ℕ) × (last ≡ Some n) × (call.id ≤ n)
-  pub told : (n : ℕ) → last ≡ Some n → (i : ℕ) × (call : Call) × IsIssuedAt trace i call
+  pub told : (n : ℕ) → last ≡ Some n → (i : ℕ) × (call : Call) × TraceIssuesAt trace i call
       × (call.id ≡ n)
 
 -- where these operations are open on a word, and orders lead to the old configurations, orders lead

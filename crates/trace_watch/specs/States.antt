@@ -3,8 +3,8 @@
 use Rattle.std.specs.Prelude.{◌≡◌, ◌↔◌, ℕ, List, [], ◌∷◌, ◌++◌, map}
 use Rattle.packet.specs.declared.kinds.Reply.{Reply}
 use Rattle.packet.specs.Memory.{new_word, reply_to}
-use Rattle.trace_order.specs.declared.event.Call.{Call}
-use Rattle.trace_search.specs.Configs.{IsIn}
+use Rattle.trace_laws.specs.declared.event.Call.{Call}
+use Rattle.trace_laws.specs.Configs.{IsIn}
 use Rattle.trace_watch.specs.declared.state.Effect.{Effect}
 use Rattle.trace_watch.specs.declared.state.State.{State}
 

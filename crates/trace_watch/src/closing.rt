@@ -2,8 +2,8 @@
 
 ghost use Rattle.std.specs.Prelude.{◌≡◌, ◌<◌, ◌≤◌, ℕ, List, [], ◌∷◌, ◌++◌, Some, IfErr, IfOk, OnOk};
 ghost use Rattle.std.specs.Prelude.{length, max, slice_get};
-ghost use Rattle.trace_order.specs.declared.event.Call.{Call};
-ghost use Rattle.trace_search.specs.Configs.{IsIn, GoesOn};
+ghost use Rattle.trace_laws.specs.declared.event.Call.{Call};
+ghost use Rattle.trace_laws.specs.Configs.{IsIn, GoesOn};
 ghost use Rattle.trace_watch.specs.States.{Config, AreReleased, IsAmong, IsExpanded, config_of, configs_of};
 ghost use Rattle.trace_watch.specs.declared.watch.Full.TheVariants.{Configurations};
 ghost use Rattle.trace_watch.specs.Chains.{IsIndexed};
@@ -15,7 +15,7 @@ use crate::state::{Effect, State, after, copy_of, has_effect, is_in, without};
 use crate::watch::Full;
 use packet::Reply;
 use std::alloc::{AllocError, Allocator};
-use trace_order::Call;
+use trace_laws::Call;
 
 /// Puts a state at the end.
 fn push<A: Allocator>(found: &mut Vec<State<A>, A>, state: State<A>) -> Result<(), AllocError>

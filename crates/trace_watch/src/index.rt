@@ -2,7 +2,7 @@
 
 ghost use Rattle.std.specs.Prelude.{◌≡◌, ◌<◌, ◌+◌, ◌*◌, ◌%◌, ◌^◌, ℕ, List, [], Some, true, false, length, slice_get};
 ghost use Rattle.std.specs.Prelude.{IfOk, OnOk, bit_or};
-ghost use Rattle.trace_watch.specs.Chains.{AreChained, IsIndexed, IsMask, place_of, spot_of, told};
+ghost use Rattle.trace_watch.specs.Chains.{AreChained, IsIndexed, IsMask, place_of, spot_of, chain_told};
 ghost use Rattle.trace_watch.specs.States.{Config, IsAmong, config_of, configs_of};
 
 use crate::state::{Effect, State, is_like};
@@ -45,7 +45,7 @@ pub(crate) fn empty_index<A: Allocator + Copy>(alloc: A) -> Result<Index<A>, All
 
 /// The word of a reply, or 0.
 fn told(reply: Reply) -> u64
-    ensures { result ≡ told reply }
+    ensures { result ≡ chain_told reply }
 {
     match reply {
         Reply::Ok => 0,

@@ -1,10 +1,10 @@
 //! The open operations.
 
 ghost use Rattle.std.specs.Prelude.{◌≡◌, ◌↔◌, ◌++◌, ◌∷◌, [], ℕ, Some, IfOk, MatchOption, slice_get};
-ghost use Rattle.trace_search.specs.Configs.{IsIn};
+ghost use Rattle.trace_laws.specs.Configs.{IsIn};
 
 use std::alloc::{AllocError, Allocator};
-use trace_order::Call;
+use trace_laws::Call;
 
 /// The operation of this number, if it is one of these.
 pub(crate) fn call_of(calls: &[Call], id: u64) -> Option<Call>

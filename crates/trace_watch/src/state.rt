@@ -1,12 +1,12 @@
 //! What may have become of a word.
 
 ghost use Rattle.std.specs.Prelude.{◌≡◌, ◌↔◌, ℕ, Some, true, false, IfOk, slice_get};
-ghost use Rattle.trace_search.specs.Configs.{IsIn};
+ghost use Rattle.trace_laws.specs.Configs.{IsIn};
 ghost use Rattle.trace_watch.specs.States.{IsLike, IsWithout, after, config_of};
 
 use packet::{Reply, apply};
 use std::alloc::{AllocError, Allocator};
-use trace_order::Call;
+use trace_laws::Call;
 
 /// An operation that took effect, with what it replied.
 #[derive(Clone, Copy, PartialEq, Eq)]

@@ -2,10 +2,10 @@
 
 ghost use Rattle.std.specs.Prelude.{◌≡◌, ◌∷◌, ◌<◌, ◌≤◌, ℕ, [], Some, true, false, List, IfOk, IfErr, length};
 ghost use Rattle.std.specs.Prelude.{slice_index};
-ghost use Rattle.trace_order.specs.declared.event.Event.{Event};
-ghost use Rattle.trace_order.specs.declared.event.Event.TheVariants.{Issue, Answer};
+ghost use Rattle.trace_laws.specs.declared.event.Event.{Event};
+ghost use Rattle.trace_laws.specs.declared.event.Event.TheVariants.{Issue, Answer};
 ghost use Rattle.trace_watch.specs.declared.watch.Full.TheVariants.{Memory};
-ghost use Rattle.trace_watch.specs.Follows.{AnswersFew, Follows, TellsFull, TellsSeen, states_of};
+ghost use Rattle.trace_watch.specs.Follows.{AnswersFew, Tracks, TellsFull, TellsSeen, states_of};
 ghost use Rattle.trace_watch.specs.States.{configs_of};
 
 use crate::closing::answered;
@@ -13,7 +13,7 @@ use crate::pending::{call_of, calls_on, with_call, without_call};
 use crate::state::State;
 use packet::Reply;
 use std::alloc::{AllocError, Allocator};
-use trace_order::{Call, Event};
+use trace_laws::{Call, Event};
 
 /// What is seen of an event.
 #[derive(Clone, Copy, Debug, PartialEq, Eq)]
@@ -83,7 +83,7 @@ fn first_words<A: Allocator + Copy>(
 
 /// A watch of a trace over a memory that opens with these words, before its first event.
 pub fn begin<A: Allocator + Copy>(alloc: A, opening: &[u64]) -> Result<Watch<A>, AllocError>
-    ensures { IfOk result (λ watch. Follows opening.now [] watch) }
+    ensures { IfOk result (λ watch. Tracks opening.now [] watch) }
 {
     Ok(Watch {
         words: first_words(alloc, opening)?,
@@ -107,10 +107,10 @@ impl<A: Allocator + Copy> Watch<A> {
     /// An operation is issued.
     fn issue(&mut self, alloc: A, call: Call) -> Result<Seen, Full>
         ensures seen { IfOk result (λ seen. (opening : List ℕ) (trace : List Event)
-            → Follows opening trace self.old → TellsSeen opening trace (Issue call) self.new seen) }
+            → Tracks opening trace self.old → TellsSeen opening trace (Issue call) self.new seen) }
         ensures same { IfErr result (λ full. (full ≡ Memory)
-            × ((opening : List ℕ) (trace : List Event) → Follows opening trace self.old
-            → Follows opening trace self.new)) }
+            × ((opening : List ℕ) (trace : List Event) → Tracks opening trace self.old
+            → Tracks opening trace self.new)) }
     {
         if call.operation.address as usize >= self.words.len() || !is_above(call.id, self.last) {
             return Ok(Seen::NoTrace);
@@ -123,15 +123,15 @@ impl<A: Allocator + Copy> Watch<A> {
     /// The operation of this number is answered.
     fn answer(&mut self, alloc: A, id: u64, reply: Reply, bound: usize) -> Result<Seen, Full>
         ensures seen { IfOk result (λ seen. (opening : List ℕ) (trace : List Event)
-            → Follows opening trace self.old
+            → Tracks opening trace self.old
             → TellsSeen opening trace (Answer id reply) self.new seen) }
         ensures same { IfErr result (λ full. (opening : List ℕ) (trace : List Event)
-            → Follows opening trace self.old → Follows opening trace self.new) }
+            → Tracks opening trace self.old → Tracks opening trace self.new) }
         ensures full { IfErr result (λ full. (opening : List ℕ) (trace : List Event)
-            → Follows opening trace self.old
+            → Tracks opening trace self.old
             → TellsFull opening trace (Answer id reply) bound full) }
         ensures few { IfOk result (λ seen. (opening : List ℕ) (trace : List Event)
-            → Follows opening trace self.old
+            → Tracks opening trace self.old
             → AnswersFew trace (Answer id reply) bound self.old) }
     {
         let Some(call) = call_of(&self.pending, id) else {
@@ -156,13 +156,13 @@ impl<A: Allocator + Copy> Watch<A> {
     /// taken.
     pub fn event(&mut self, alloc: A, event: Event, bound: usize) -> Result<Seen, Full>
         ensures seen { IfOk result (λ seen. (opening : List ℕ) (trace : List Event)
-            → Follows opening trace self.old → TellsSeen opening trace event self.new seen) }
+            → Tracks opening trace self.old → TellsSeen opening trace event self.new seen) }
         ensures same { IfErr result (λ full. (opening : List ℕ) (trace : List Event)
-            → Follows opening trace self.old → Follows opening trace self.new) }
+            → Tracks opening trace self.old → Tracks opening trace self.new) }
         ensures full { IfErr result (λ full. (opening : List ℕ) (trace : List Event)
-            → Follows opening trace self.old → TellsFull opening trace event bound full) }
+            → Tracks opening trace self.old → TellsFull opening trace event bound full) }
         ensures few { IfOk result (λ seen. (opening : List ℕ) (trace : List Event)
-            → Follows opening trace self.old → AnswersFew trace event bound self.old) }
+            → Tracks opening trace self.old → AnswersFew trace event bound self.old) }
     {
         match event {
             Event::Issue(call) => self.issue(alloc, call),

@@ -4,7 +4,7 @@ use Rattle.std.specs.Prelude.{Contains}
 use Rattle.std.proofs.lemmas.Bool.{cases_lt}
 use Rattle.std.proofs.lemmas.List.Elements.{Contains-push, Contains-push_cases, Contains-append_left}
 use Rattle.packet.specs.Memory.{new_word}
-use Rattle.trace_order.proofs.Lists.{same_get, get_within}
+use Rattle.trace_laws.proofs.Lists.{same_get, get_within}
 use Rattle.trace_why.specs.declared.calls.CallAt.{CallAt}
 use Rattle.trace_why.specs.Values.{IsReachedIn}
 use Rattle.trace_why.proofs.Places.{contains_in, in_contains}

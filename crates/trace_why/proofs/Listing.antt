@@ -4,12 +4,12 @@ use Rattle.std.specs.Prelude.{Contains, Option, IfSome, MatchOption}
 use Rattle.std.proofs.lemmas.Bool.{cases_lt}
 use Rattle.std.proofs.lemmas.List.Elements.{Contains-push, Contains-push_cases, Contains-append_left}
 use Rattle.packet.specs.declared.kinds.Reply.{Reply}
-use Rattle.trace_order.specs.declared.event.Call.{Call}
-use Rattle.trace_order.specs.declared.event.Event.{Event}
-use Rattle.trace_order.specs.declared.event.Event.TheVariants.{Issue, Answer}
-use Rattle.trace_order.specs.Traces.{IsTrace, IsIssuedAt, IsAnsweredAt}
-use Rattle.trace_order.proofs.Lists.{get_push_cases, get_within, same_get}
-use Rattle.trace_order.proofs.Issues.{one_issue, one_call}
+use Rattle.trace_laws.specs.declared.event.Call.{Call}
+use Rattle.trace_laws.specs.declared.event.Event.{Event}
+use Rattle.trace_laws.specs.declared.event.Event.TheVariants.{Issue, Answer}
+use Rattle.trace_laws.specs.Traces.{IsTrace, TraceIssuesAt, TraceAnswersAt}
+use Rattle.trace_laws.proofs.Lists.{get_push_cases, get_within, same_get}
+use Rattle.trace_laws.proofs.Issues.{one_issue, one_call}
 use Rattle.trace_why.specs.declared.calls.CallAt.{CallAt}
 use Rattle.trace_why.specs.Calls.{IsOpenOn, AreOpenOn, IsAnsweredOn, IsOver}
 use Rattle.trace_why.specs.Values.{left_word}
@@ -20,12 +20,12 @@ same_at : (c d : CallAt) → c.event ≡ d.event → c.call ≡ d.call → c ≡
 same_at c d e f = ap (λ (n : ℕ). record { event = n; call = c.call }) e ∙ ap (λ (k : Call). record { event = d.event; call = k }) f
 
 -- what an event issues
-pub one_at : (trace : List Event) (i : ℕ) (c d : Call) → IsIssuedAt trace i c → IsIssuedAt trace i d → c ≡ d
+pub one_at : (trace : List Event) (i : ℕ) (c d : Call) → TraceIssuesAt trace i c → TraceIssuesAt trace i d → c ≡ d
 one_at trace i c d h k = let e = same_get trace i (Issue c) (Issue d) h k in cc
 
 -- an operation that isn't answered from its issue on is open
-pub is_open : (words : ℕ) (trace : List Event) (k w i : ℕ) (c : Call) → IsTrace words trace → i < k → IsIssuedAt trace i c → c.operation.address ≡ w
-    → ((j : ℕ) (reply : Reply) → i ≤ j → j < k → IsAnsweredAt trace j c.id reply → ⊥) → IsOpenOn trace k w (record { event = i; call = c })
+pub is_open : (words : ℕ) (trace : List Event) (k w i : ℕ) (c : Call) → IsTrace words trace → i < k → TraceIssuesAt trace i c → c.operation.address ≡ w
+    → ((j : ℕ) (reply : Reply) → i ≤ j → j < k → TraceAnswersAt trace j c.id reply → ⊥) → IsOpenOn trace k w (record { event = i; call = c })
 is_open words trace k w i c t low issue here none = record {
   early = low;
   issue = issue;
@@ -83,7 +83,7 @@ opening_push trace k w i pending found o is e = record {
       (λ (high : i ≤ c.event).
       let f : found.event ≡ c.event = omega arith in
       let g : found.call ≡ c.call = one_at trace found.event found.call c.call is.issue
-      (subst (λ (n : ℕ). IsIssuedAt trace n c.call) (sym f) there.issue) in
+      (subst (λ (n : ℕ). TraceIssuesAt trace n c.call) (sym f) there.issue) in
       subst (λ (x : CallAt). Contains (pending ++ found ∷ []) x) (same_at found c f g) (Contains-push pending found))
       (cases_lt c.event i);
   rising = λ x y c d l h m. ⊎_elim {C = c.event < d.event}

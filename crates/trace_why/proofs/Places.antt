@@ -4,9 +4,9 @@ use Rattle.std.specs.Prelude.{Contains}
 use Rattle.std.proofs.lemmas.Bool.{cases_eq, cases_lt}
 use Rattle.std.proofs.lemmas.Option.{slice_get_within, get_or_from_slice_get, slice_get-get_or}
 use Rattle.packet.specs.declared.kinds.Reply.{Reply}
-use Rattle.trace_order.specs.declared.event.Event.{Event}
-use Rattle.trace_order.specs.declared.event.Event.TheVariants.{Issue, Answer}
-use Rattle.trace_order.specs.Traces.{IsAnsweredAt, IsUnanswered}
+use Rattle.trace_laws.specs.declared.event.Event.{Event}
+use Rattle.trace_laws.specs.declared.event.Event.TheVariants.{Issue, Answer}
+use Rattle.trace_laws.specs.Traces.{TraceAnswersAt, IsUnanswered}
 
 -- an element at some place
 abbrev pub IsIn : {A : Type 0} → List A → A → Type 0
@@ -45,7 +45,7 @@ without_in (z ∷ xs) (suc n) y (suc m, e) = let r = without_in xs n y (m, e) in
 
 -- an event answers an operation, or doesn't
 answered_at : (trace : List Event) (k id : ℕ)
-    → ((reply : Reply) × IsAnsweredAt trace k id reply) ⊎ ((reply : Reply) → IsAnsweredAt trace k id reply → ⊥)
+    → ((reply : Reply) × TraceAnswersAt trace k id reply) ⊎ ((reply : Reply) → TraceAnswersAt trace k id reply → ⊥)
 answered_at [] k id = inr (λ r h. let e : None ≡ Some (Answer id r) = h in cc)
 answered_at (Issue c ∷ trace) zero id = inr (λ r h. let e : Some (Issue c) ≡ Some (Answer id r) = h in cc)
 answered_at (Answer n r ∷ trace) zero id = ⊎_elim
@@ -56,19 +56,19 @@ answered_at (e ∷ trace) (suc k) id = answered_at trace k id
 
 -- an operation is answered before event k, or not
 pub answered_or_not : (trace : List Event) (k id : ℕ)
-    → ((i : ℕ) × (reply : Reply) × (i < k) × IsAnsweredAt trace i id reply) ⊎ IsUnanswered trace k id
+    → ((i : ℕ) × (reply : Reply) × (i < k) × TraceAnswersAt trace i id reply) ⊎ IsUnanswered trace k id
 answered_or_not trace zero id = inr (λ i r h. omega arith)
 answered_or_not trace (suc k) id = ⊎_elim
-    (λ (a : (i : ℕ) × (reply : Reply) × (i < k) × IsAnsweredAt trace i id reply).
+    (λ (a : (i : ℕ) × (reply : Reply) × (i < k) × TraceAnswersAt trace i id reply).
     let low = a.2 in inl (a.0, a.1, omega arith, a.3))
     (λ (u : IsUnanswered trace k id). ⊎_elim
-    (λ (b : (reply : Reply) × IsAnsweredAt trace k id reply). inl (k, b.0, omega arith, b.1))
-    (λ (none : (reply : Reply) → IsAnsweredAt trace k id reply → ⊥). inr (λ i r h.
+    (λ (b : (reply : Reply) × TraceAnswersAt trace k id reply). inl (k, b.0, omega arith, b.1))
+    (λ (none : (reply : Reply) → TraceAnswersAt trace k id reply → ⊥). inr (λ i r h.
     let far = u i r h in
     ⊎_elim
     (λ (l : k < i). omega arith)
     (λ (m : i ≤ k).
-    let same : i ≡ k = omega arith in absurd (none r (subst (λ (j : ℕ). IsAnsweredAt trace j id r) same h)))
+    let same : i ≡ k = omega arith in absurd (none r (subst (λ (j : ℕ). TraceAnswersAt trace j id r) same h)))
     (cases_lt k i)))
     (answered_at trace k id))
     (answered_or_not trace k id)

@@ -8,13 +8,13 @@ use Rattle.packet.specs.declared.kinds.Op.TheVariants.{Load, Store, Swap, Cas, A
 use Rattle.packet.specs.declared.kinds.Reply.{Reply}
 use Rattle.packet.specs.declared.kinds.Reply.TheVariants.{Old}
 use Rattle.packet.specs.Memory.{new_word, reply_to}
-use Rattle.trace_order.specs.declared.event.Call.{Call}
-use Rattle.trace_order.specs.declared.event.Event.{Event}
-use Rattle.trace_order.specs.Traces.{IsTrace, IsIssuedAt, IsAnsweredAt, IsUnanswered}
-use Rattle.trace_order.specs.Orders.{IsOn, IsOrder, memory_of}
-use Rattle.trace_order.proofs.Lists.{within_length, get_within, take_push}
-use Rattle.trace_order.proofs.Issues.{one_issue, one_call}
-use Rattle.trace_order.proofs.Memory.{word_changed, word_kept}
+use Rattle.trace_laws.specs.declared.event.Call.{Call}
+use Rattle.trace_laws.specs.declared.event.Event.{Event}
+use Rattle.trace_laws.specs.Traces.{IsTrace, TraceIssuesAt, TraceAnswersAt, IsUnanswered}
+use Rattle.trace_laws.specs.Orders.{IsOn, IsOrder, memory_of}
+use Rattle.trace_laws.proofs.Lists.{within_length, get_within, take_push}
+use Rattle.trace_laws.proofs.Issues.{one_issue, one_call}
+use Rattle.trace_laws.proofs.Memory.{word_changed, word_kept}
 use Rattle.trace_text.specs.Allowed.{answered_so, IsAllowed}
 use Rattle.trace_text.proofs.Allowing.{issue_before, issue_kept, answer_kept, answer_last}
 use Rattle.trace_why.specs.declared.calls.CallAt.{CallAt}
@@ -82,7 +82,7 @@ pub record Answering (opening : List ℕ) (trace : List Event) (k v : ℕ) (issu
 
 -- the place of an operation that is answered before event k
 placed : (opening : List ℕ) (trace : List Event) (k v : ℕ) (issue : CallAt) (order : List Call) → IsTrace (length opening) trace
-    → IsOrder opening (answered_so trace k issue.call.id (Old v)) order → (c : CallAt) → IsIssuedAt trace c.event c.call
+    → IsOrder opening (answered_so trace k issue.call.id (Old v)) order → (c : CallAt) → TraceIssuesAt trace c.event c.call
     → IsOn order c.call.id → (x : ℕ) × (slice_get order x ≡ Some c.call)
 placed opening trace k v issue order t is c at on =
     let was = is.issued on.0 on.1 on.2 in
@@ -95,12 +95,12 @@ record Begun (opening : List ℕ) (trace : List Event) (k v : ℕ) (issue : Call
   pub at : ℕ
   pub early : at ≤ x
   pub word : Contains base (word_at opening order issue.call.operation.address at)
-  pub late : (i y : ℕ) (d : Call) (reply : Reply) → at ≤ y → slice_get order y ≡ Some d → i < k → IsAnsweredAt trace i d.id reply → from ≤ i
+  pub late : (i y : ℕ) (d : Call) (reply : Reply) → at ≤ y → slice_get order y ≡ Some d → i < k → TraceAnswersAt trace i d.id reply → from ≤ i
 
 -- what an operation of the order left, which is answered before event k
 left_here : (opening : List ℕ) (trace : List Event) (k v : ℕ) (issue : CallAt) (from : ℕ) (base : List ℕ) (pending : List CallAt) (order : List Call)
     → Answering opening trace k v issue from base pending order → (y i j : ℕ) (d : Call) (reply : Reply) → slice_get order y ≡ Some d
-    → d.operation.address ≡ issue.call.operation.address → from ≤ i → i < k → IsAnsweredAt trace i d.id reply → IsIssuedAt trace j d
+    → d.operation.address ≡ issue.call.operation.address → from ≤ i → i < k → TraceAnswersAt trace i d.id reply → TraceIssuesAt trace j d
     → Contains base (word_at opening order issue.call.operation.address (suc y))
 left_here opening trace k v issue from base pending order f y i j d reply h here late low at issued =
     let w = issue.call.operation.address in
@@ -181,7 +181,7 @@ reaches opening trace k v issue from base pending order f x h b (suc m) y e belo
     let R : ℕ → Type 0 = λ u. IsReachedIn base pending (length some) u in
     ⊎_elim {C = IsReachedIn base pending (length some) (word_at opening order w y)}
     (λ (here : d.operation.address ≡ w). ⊎_elim {C = IsReachedIn base pending (length some) (word_at opening order w y)}
-    (λ (a : (i : ℕ) × (reply : Reply) × (i < k) × IsAnsweredAt trace i d.id reply).
+    (λ (a : (i : ℕ) × (reply : Reply) × (i < k) × TraceAnswersAt trace i d.id reply).
     subst (λ (n : ℕ). IsReachedIn base pending (length some) (word_at opening order w n)) (sym next)
     (reached_base base pending (length some) _
     (left_here opening trace k v issue from base pending order f p a.0 was.0 d a.1 there.1 here

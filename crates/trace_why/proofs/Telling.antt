@@ -1,6 +1,6 @@
 -- How operations are issued, one after the other.
 use Rattle.std.proofs.Common.{◌≡◌, ⊎_elim, ℕ, ◌+◌, List, [], ◌∷◌, ◌++◌, length, Some, ◌∙◌, subst, arith, slice_get, length-append}
-use Rattle.trace_order.proofs.Lists.{get_push_cases, same_get}
+use Rattle.trace_laws.proofs.Lists.{get_push_cases, same_get}
 use Rattle.trace_text.specs.Traced.{TraceSpec}
 use Rattle.trace_why.specs.declared.calls.CallAt.{CallAt}
 use Rattle.trace_why.specs.declared.sentence.IssueLine.{IssueLine}

@@ -5,8 +5,8 @@ use Rattle.std.proofs.lemmas.Bool.{cases_lt}
 use Rattle.std.proofs.lemmas.List.Elements.{Contains-push_cases}
 use Rattle.packet.specs.declared.kinds.Reply.{Reply}
 use Rattle.packet.specs.Memory.{new_word}
-use Rattle.trace_order.specs.declared.event.Event.{Event}
-use Rattle.trace_order.proofs.Lists.{get_push_cases}
+use Rattle.trace_laws.specs.declared.event.Event.{Event}
+use Rattle.trace_laws.proofs.Lists.{get_push_cases}
 use Rattle.trace_text.specs.Traced.{TraceSpec, opening_of}
 use Rattle.trace_why.specs.declared.calls.CallAt.{CallAt}
 use Rattle.trace_why.specs.declared.untold.Untold.{Untold}

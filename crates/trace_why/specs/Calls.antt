@@ -1,15 +1,15 @@
 -- Operations of a trace, with the events that issue them.
 use Rattle.std.specs.Prelude.{◌≡◌, ◌<◌, ℕ, List, Some, Contains, slice_get}
 use Rattle.packet.specs.declared.kinds.Reply.{Reply}
-use Rattle.trace_order.specs.declared.event.Event.{Event}
-use Rattle.trace_order.specs.Traces.{IsIssuedAt, IsAnsweredAt, IsUnanswered}
+use Rattle.trace_laws.specs.declared.event.Event.{Event}
+use Rattle.trace_laws.specs.Traces.{TraceIssuesAt, TraceAnswersAt, IsUnanswered}
 use Rattle.trace_why.specs.declared.calls.CallAt.{CallAt}
 
 -- an operation is open on word w before event k: it was issued and not answered (Herlihy and Wing,
 -- TOPLAS 12(3), 1990: pending)
 pub record IsOpenOn (trace : List Event) (k w : ℕ) (c : CallAt) : Type 0 where
   pub early : c.event < k
-  pub issue : IsIssuedAt trace c.event c.call
+  pub issue : TraceIssuesAt trace c.event c.call
   pub here : c.call.operation.address ≡ w
   pub unanswered : IsUnanswered trace k c.call.id
 
@@ -22,8 +22,8 @@ pub record AreOpenOn (trace : List Event) (k w : ℕ) (pending : List CallAt) : 
 
 -- event k answers an operation on word w so
 pub record IsAnsweredOn (trace : List Event) (k w : ℕ) (c : CallAt) (reply : Reply) : Type 0 where
-  pub answer : IsAnsweredAt trace k c.call.id reply
-  pub issue : IsIssuedAt trace c.event c.call
+  pub answer : TraceAnswersAt trace k c.call.id reply
+  pub issue : TraceIssuesAt trace c.event c.call
   pub early : c.event < k
   pub here : c.call.operation.address ≡ w
 

@@ -5,7 +5,7 @@ use Rattle.packet.specs.declared.kinds.Op.{Op}
 use Rattle.packet.specs.declared.kinds.Reply.{Reply}
 use Rattle.packet.specs.declared.kinds.Reply.TheVariants.{Old, Ok as Stored}
 use Rattle.packet.specs.Memory.{new_word}
-use Rattle.trace_order.specs.declared.event.Event.{Event}
+use Rattle.trace_laws.specs.declared.event.Event.{Event}
 use Rattle.trace_why.specs.declared.calls.CallAt.{CallAt}
 use Rattle.trace_why.specs.declared.untold.Untold.{Untold}
 use Rattle.trace_why.specs.declared.untold.Untold.TheVariants.{Memory, Values, Undecided}

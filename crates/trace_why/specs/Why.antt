@@ -3,7 +3,7 @@ use Rattle.std.specs.Prelude.{◌≡◌, ◌↔◌, ℕ, Contains}
 use Rattle.std.specs.List.Sorted.{IsStrictlyIncreasing}
 use Rattle.packet.specs.declared.kinds.Reply.{Reply}
 use Rattle.packet.specs.declared.kinds.Reply.TheVariants.{Old}
-use Rattle.trace_order.specs.Traces.{IsAnsweredAt}
+use Rattle.trace_laws.specs.Traces.{TraceAnswersAt}
 use Rattle.trace_text.specs.Allowed.{IsAllowed, trace_answered_so}
 use Rattle.trace_text.specs.Findings.{IsUnfound}
 use Rattle.trace_text.specs.Traced.{TraceSpec, opening_of}
@@ -39,7 +39,7 @@ pub record HasManyValues (t : TraceSpec) (k tries : ℕ) : Type 0 where
 pub record IsUndecidedAt (t : TraceSpec) (k bound : ℕ) (why : Unfound) : Type 0 where
   pub id : ℕ
   pub reply : Reply
-  pub answer : IsAnsweredAt t.events k id reply
+  pub answer : TraceAnswersAt t.events k id reply
   pub value : ℕ
   pub unfound : IsUnfound (trace_answered_so t k id (Old value)) bound why
 

@@ -3,7 +3,7 @@
 ghost use Rattle.std.specs.Prelude.{◌≡◌, ◌<◌, ◌≤◌, ◌⊎◌, ℕ, Some, MatchOption, OnOk, IfErr, IfSome};
 ghost use Rattle.std.specs.Prelude.{Contains, length};
 ghost use Rattle.packet.specs.declared.kinds.Reply.{Reply};
-ghost use Rattle.trace_order.specs.Traces.{IsTrace};
+ghost use Rattle.trace_laws.specs.Traces.{IsTrace};
 ghost use Rattle.trace_why.specs.declared.calls.CallAt.{CallAt};
 ghost use Rattle.trace_why.specs.Calls.{IsAnsweredOn, IsOver};
 ghost use Rattle.trace_why.specs.Values.{left_word, AreApart, AreApartAnd, AreLeftBetween};
@@ -14,7 +14,7 @@ use crate::untold::Untold;
 use crate::values::add;
 use packet::{Op, Reply, apply};
 use std::alloc::Allocator;
-use trace_order::Event;
+use trace_laws::Event;
 
 /// The operation on a word that event i answers, and its reply.
 fn answered_on(events: &[Event], i: usize, address: u32) -> Option<(CallAt, Reply)>

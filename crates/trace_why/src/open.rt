@@ -1,13 +1,13 @@
 //! The operations that are open on a word.
 
 ghost use Rattle.std.specs.Prelude.{◌≡◌, ◌<◌, ◌≤◌, ℕ, MatchOption, IfOk, length};
-ghost use Rattle.trace_order.specs.Traces.{IsTrace};
+ghost use Rattle.trace_laws.specs.Traces.{IsTrace};
 ghost use Rattle.trace_why.specs.declared.calls.CallAt.{CallAt};
 ghost use Rattle.trace_why.specs.Calls.{IsOpenOn, AreOpenOn};
 
 use crate::calls::{CallAt, is_answered};
 use std::alloc::{AllocError, Allocator};
-use trace_order::Event;
+use trace_laws::Event;
 
 /// The operation that event i issues, if it is on this word and open before event k.
 fn opened(events: &[Event], k: usize, address: u32, i: usize) -> Option<CallAt>

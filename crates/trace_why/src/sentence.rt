@@ -3,7 +3,7 @@
 ghost use Rattle.std.specs.Prelude.{◌≡◌, ℕ, List, true, false, Some, IfOk, IfSome, MatchOption};
 ghost use Rattle.std.specs.Prelude.{Contains, slice_get};
 ghost use Rattle.std.specs.Str.Lines.{lines};
-ghost use Rattle.trace_order.specs.Traces.{IsIssuedAt};
+ghost use Rattle.trace_laws.specs.Traces.{TraceIssuesAt};
 ghost use Rattle.trace_text.specs.Traced.{trace_of};
 ghost use Rattle.trace_why.specs.declared.calls.CallAt.{CallAt};
 ghost use Rattle.trace_why.specs.Told.{IsLineOf, AreLinesOf, TellsNoOrder};
@@ -83,7 +83,7 @@ fn event_at(lines: &[u64], line: u64) -> Option<usize>
 
 /// How the text of a trace issues an operation.
 fn line_of<A: Allocator>(trace: &TraceText<A>, call: CallAt) -> IssueLine
-    requires { IsIssuedAt trace.now.events call.event call.call }
+    requires { TraceIssuesAt trace.now.events call.event call.call }
     ensures { IsLineOf trace.now call result }
 {
     let _events = trace.events();
@@ -106,7 +106,7 @@ fn lines_of<A: Allocator + Copy>(
     calls: &[CallAt],
 ) -> Result<Vec<IssueLine, A>, AllocError>
     requires { (c : CallAt) → Contains calls.now c
-        → IsIssuedAt trace.now.events c.event c.call }
+        → TraceIssuesAt trace.now.events c.event c.call }
     ensures { IfOk result (λ found. AreLinesOf trace.now calls.now found.items) }
 {
     let mut found = Vec::new(alloc);

@@ -5,7 +5,7 @@ ghost use Rattle.std.specs.Prelude.{Contains};
 ghost use Rattle.std.specs.List.Sorted.{IsStrictlyIncreasing};
 ghost use Rattle.packet.specs.declared.kinds.Reply.{Reply};
 ghost use Rattle.packet.specs.declared.kinds.Reply.TheVariants.{Old};
-ghost use Rattle.trace_order.specs.Traces.{IsAnsweredAt};
+ghost use Rattle.trace_laws.specs.Traces.{TraceAnswersAt};
 ghost use Rattle.trace_judge.specs.Stops.{IsAnAnswer};
 ghost use Rattle.trace_text.specs.Allowed.{IsAllowed};
 ghost use Rattle.trace_text.specs.Traced.{opening_of};
@@ -21,7 +21,7 @@ use crate::untold::Untold;
 use crate::values::reach;
 use packet::Reply;
 use std::alloc::Allocator;
-use trace_order::Event;
+use trace_laws::Event;
 use trace_text::TraceText;
 
 /// Why no order explains a trace with an answer: what else may be told there.
@@ -72,7 +72,7 @@ fn may_tell<A: Allocator + Copy>(
     value: u64,
     bound: usize,
 ) -> Result<bool, Untold>
-    requires { (told : Reply) × IsAnsweredAt trace.now.events event id told }
+    requires { (told : Reply) × TraceAnswersAt trace.now.events event id told }
     ensures yes { IfOk result (λ b. b ≡ true
         → IsAllowed (opening_of trace.now) trace.now.events event id (Old value)) }
     ensures no { IfOk result (λ b. b ≡ false
@@ -94,7 +94,7 @@ fn allowed<A: Allocator + Copy>(
     values: &[u64],
     bound: usize,
 ) -> Result<Vec<u64, A>, Untold>
-    requires { (told : Reply) × IsAnsweredAt trace.now.events event id told }
+    requires { (told : Reply) × TraceAnswersAt trace.now.events event id told }
     ensures exact { IfOk result (λ kept. (v : ℕ) → Contains kept.items v ↔ (Contains values.now v
         × IsAllowed (opening_of trace.now) trace.now.events event id (Old v))) }
     ensures untold { (tries : ℕ) → IfErr result (IsUntold trace.now event tries bound) }

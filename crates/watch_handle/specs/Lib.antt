@@ -1,3 +1,2 @@
-pub use Rattle.trace_watch
 pub mod Row
 pub mod Held

@@ -1,10 +1,10 @@
 ghost use Rattle.std.specs.Prelude.{◌≡◌, ℕ, List, IfOk, IfErr};
-ghost use Rattle.trace_order.specs.declared.event.Event.{Event};
-ghost use Rattle.trace_watch.specs.Follows.{AnswersFew, Follows, TellsFull, TellsSeen};
+ghost use Rattle.trace_laws.specs.declared.event.Event.{Event};
+ghost use Rattle.trace_watch.specs.Follows.{AnswersFew, Tracks, TellsFull, TellsSeen};
 
 use std::alloc::{Allocator, Global};
 use std::marker::Model;
-use trace_order::Event;
+use trace_laws::Event;
 use trace_watch::{Full, Seen, Watch};
 
 /// A watch as a handle holds it: contracts see the watch.
@@ -32,13 +32,13 @@ impl<A: Allocator + Copy> Kept<A> {
     /// Takes the next event, as `Watch::event` does.
     pub fn event(&mut self, alloc: A, event: Event, bound: usize) -> Result<Seen, Full>
         ensures seen { IfOk result (λ seen. (opening : List ℕ) (trace : List Event)
-            → Follows opening trace self.old → TellsSeen opening trace event self.new seen) }
+            → Tracks opening trace self.old → TellsSeen opening trace event self.new seen) }
         ensures same { IfErr result (λ full. (opening : List ℕ) (trace : List Event)
-            → Follows opening trace self.old → Follows opening trace self.new) }
+            → Tracks opening trace self.old → Tracks opening trace self.new) }
         ensures full { IfErr result (λ full. (opening : List ℕ) (trace : List Event)
-            → Follows opening trace self.old → TellsFull opening trace event bound full) }
+            → Tracks opening trace self.old → TellsFull opening trace event bound full) }
         ensures few { IfOk result (λ seen. (opening : List ℕ) (trace : List Event)
-            → Follows opening trace self.old → AnswersFew trace event bound self.old) }
+            → Tracks opening trace self.old → AnswersFew trace event bound self.old) }
     {
         self.watch.event(alloc, event, bound)
     }

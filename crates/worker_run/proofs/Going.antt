@@ -8,10 +8,10 @@ use Rattle.channel_number.specs.Ports.{port_count}
 use Rattle.fabric.specs.Seats.{Knowing}
 use Rattle.fabric.specs.Asking.{HasSeen}
 use Rattle.worker_run.specs.Calls.{Call, Hears}
-use Rattle.worker_run.specs.Going.{IsUnderWay, IsOver, IsGoing, MakesNone, IsStopped, MakesTurn, Tries, Leads, at_place}
-use Rattle.worker_run.specs.Places.{EndsPass, Follows, IsFirst, choice_count}
+use Rattle.worker_run.specs.Going.{IsUnderWay, HasEnded, IsGoing, MakesNone, IsStopped, MakesTurn, Tries, Leads, at_place}
+use Rattle.worker_run.specs.Places.{EndsPass, ComesAfter, IsFirstPlace, choice_count}
 use Rattle.worker_run.specs.Watching.{AreCallsOf, AreCallsOfTurn, AreCallsOfTurns}
-use Rattle.worker_run.specs.Working.{Attempts, Grew, IsAt, Turns}
+use Rattle.worker_run.specs.Working.{Attempts, Grew, IsStepAt, Turns}
 use Rattle.worker_run.specs.declared.place.Place.{Place}
 use Rattle.worker_run.specs.declared.turns.Run.{Run}
 use Rattle.worker_run.proofs.Moving.{grew_not, grew_on, one_more}
@@ -22,11 +22,11 @@ begun ports v p = record { steps = []; count = refl; attempts = (refl, refl); gr
 
 -- one turn more, and the calls behind it
 under_on : (ports made more_made : ℕ) (u v w : Knowing) (first p q : Place) (c : Step) (calls more : List Call) → more_made ≡ made + 1
-    → IsUnderWay ports made u v first p calls → IsAt ports p c → Turns v c w → Grew v w → Follows ports v.tiles p q → AreCallsOfTurn more_made p q more
+    → IsUnderWay ports made u v first p calls → IsStepAt ports p c → Turns v c w → Grew v w → ComesAfter ports v.tiles p q → AreCallsOfTurn more_made p q more
     → IsUnderWay ports more_made u w first q (calls ++ more)
 under_on ports made more_made u v w first p q c calls more e so_far at turns grew follows told =
     let same : v.tiles ≡ u.tiles = ap (λ (k : Knowing). k.tiles) so_far.grew.0 in
-    let follows' = subst (λ (tiles : List ℕ). Follows ports tiles p q) same follows in
+    let follows' = subst (λ (tiles : List ℕ). ComesAfter ports tiles p q) same follows in
     let told' = subst (λ (n : ℕ). AreCallsOfTurn n p q more) e told in
     let one : suc made ≡ more_made = omega (arith, e) in
     record {
@@ -43,14 +43,14 @@ under_same ports made n u v w first p calls e is k =
     subst (λ (m : ℕ). IsUnderWay ports m u w first p calls) (sym e) (subst (λ (x : Knowing). IsUnderWay ports made u x first p calls) (sym is) k)
 
 over_same : (stops : Step → Type 0) (turns ports made n : ℕ) (u v w : Knowing) (first : Place) (calls : List Call) → n ≡ made → w ≡ v
-    → IsOver stops turns ports made u v first calls → IsOver stops turns ports n u w first calls
+    → HasEnded stops turns ports made u v first calls → HasEnded stops turns ports n u w first calls
 over_same stops turns ports made n u v w first calls e is k =
-    subst (λ (m : ℕ). IsOver stops turns ports m u w first calls) (sym e) (subst (λ (x : Knowing). IsOver stops turns ports made u x first calls) (sym is) k)
+    subst (λ (m : ℕ). HasEnded stops turns ports m u w first calls) (sym e) (subst (λ (x : Knowing). HasEnded stops turns ports made u x first calls) (sym is) k)
 
 module _ (stops : Step → Type 0) (turns ports : ℕ) (u : Knowing) (first p : Place) (calls : List Call) (c : Step) (r s : Run) (v w : Knowing) where
   -- no turn is left, and none is to come
   pub rests : MakesNone r v s w → IsGoing stops turns ports u first calls r v p
-      → (s.most ≤ s.made) × (s.made ≤ turns) × IsOver stops turns ports s.made u w first calls
+      → (s.most ≤ s.made) × (s.made ≤ turns) × HasEnded stops turns ports s.made u w first calls
   rests k (inl g) =
       let none = k.none in
       let made = k.made in
@@ -75,8 +75,8 @@ module _ (stops : Step → Type 0) (turns ports : ℕ) (u : Knowing) (first p : 
         over_same stops turns ports r.made s.made u v w first calls made k.same g.2,
       )
 
-  pub stopped : IsStopped stops r v c s w → IsAt ports p c → IsGoing stops turns ports u first calls r v p
-      → (s.most ≤ s.made) × (s.made ≤ turns) × IsOver stops turns ports s.made u w first calls
+  pub stopped : IsStopped stops r v c s w → IsStepAt ports p c → IsGoing stops turns ports u first calls r v p
+      → (s.most ≤ s.made) × (s.made ≤ turns) × HasEnded stops turns ports s.made u w first calls
   stopped k at (inl g) =
       let made = k.made in
       let most = k.most in
@@ -101,7 +101,7 @@ module _ (stops : Step → Type 0) (turns ports : ℕ) (u : Knowing) (first p : 
       inr (omega (arith, most), omega (arith, some, made, all), record { last = q; under_way = so_far; until = inl seen.1 })
 
   -- a turn is made, and so many calls are behind it
-  pub moves_on : (q : Place) (more : List Call) → MakesTurn r v c s w → IsAt ports p c → Follows ports v.tiles p q → AreCallsOfTurn s.made p q more
+  pub moves_on : (q : Place) (more : List Call) → MakesTurn r v c s w → IsStepAt ports p c → ComesAfter ports v.tiles p q → AreCallsOfTurn s.made p q more
       → IsGoing stops turns ports u first calls r v p → IsGoing stops turns ports u first (calls ++ more) s w q
   moves_on q more k at follows told (inl g) =
       by_most q (calls ++ more) k g.0 g.1
@@ -109,7 +109,7 @@ module _ (stops : Step → Type 0) (turns ports : ℕ) (u : Knowing) (first p : 
   moves_on q more k at follows told (inr g) = let some = k.some in let over = g.0 in absurd (omega (arith, some, over))
 
   -- the same by a turn that leads to the next choice of a tile, behind which there are none
-  pub goes_on : (q : Place) → q.tile ≡ p.tile → q.at ≡ p.at + 1 → p.at + 1 < choice_count ports → IsAt ports p c → Tries stops r v c s w
+  pub goes_on : (q : Place) → q.tile ≡ p.tile → q.at ≡ p.at + 1 → p.at + 1 < choice_count ports → IsStepAt ports p c → Tries stops r v c s w
       → IsGoing stops turns ports u first calls r v p → IsGoing stops turns ports u first calls s w q
   goes_on q tile next within at tries going = by_outcome tries.outcome
     where
@@ -117,13 +117,13 @@ module _ (stops : Step → Type 0) (turns ports : ℕ) (u : Knowing) (first p : 
       by_outcome (inl k) = inr (rests k going)
       by_outcome (inr (inl k)) = inr (stopped k at going)
       by_outcome (inr (inr k)) =
-          let follows : Follows ports v.tiles p q = inl (within, tile, next) in
+          let follows : ComesAfter ports v.tiles p q = inl (within, tile, next) in
           let apart : EndsPass p q → ⊥ = λ e. let start = e.0 in absurd (omega (arith, start, next)) in
           subst (λ (more : List Call). IsGoing stops turns ports u first more s w q) (append-nil calls)
           (moves_on q [] k at follows (inr (apart, refl)) going)
 
 -- an attempt at a place of a tile that isn't its last
-pub one_on : (stops : Step → Type 0) (ports t a b : ℕ) (c : Step) (r s : Run) (v w : Knowing) → b ≡ a + 1 → b < choice_count ports → IsAt ports (at_place t a) c
+pub one_on : (stops : Step → Type 0) (ports t a b : ℕ) (c : Step) (r s : Run) (v w : Knowing) → b ≡ a + 1 → b < choice_count ports → IsStepAt ports (at_place t a) c
     → Tries stops r v c s w → Leads stops ports r v (at_place t a) s w (at_place t b)
 one_on stops ports t a b c r s v w next within at tries = record {
   later = by_outcome tries.outcome;
@@ -181,8 +181,8 @@ by_bank stops ports t r0 r1 r2 r3 v0 v1 v2 v3 take serve send =
     leads_on stops ports _ _ _ _ _ _ _ _ _ a (leads_on stops ports _ _ _ _ _ _ _ _ _ b c)
 
 -- where no turn is to come, those that were made are all
-pub told_over : (stops : Step → Type 0) (turns ports made : ℕ) (v w : Knowing) (first : Place) (calls : List Call) → IsFirst v.tiles first
-    → ports ≡ port_count (dims_of v.load.shape) → made ≤ turns → (HasSeen v → ⊥) → IsOver stops turns ports made v w first calls
+pub told_over : (stops : Step → Type 0) (turns ports made : ℕ) (v w : Knowing) (first : Place) (calls : List Call) → IsFirstPlace v.tiles first
+    → ports ≡ port_count (dims_of v.load.shape) → made ≤ turns → (HasSeen v → ⊥) → HasEnded stops turns ports made v w first calls
     → AreCallsOfTurns stops turns v w made calls
 told_over stops turns ports made v w first calls start is few not_yet over = record {
   turned = record {
@@ -200,11 +200,11 @@ told_over stops turns ports made v w first calls start is few not_yet over = rec
   each = subst (λ (n : ℕ). AreCallsOf n v.tiles made first calls over.last) is over.under_way.told;
 }
   where
-    by_end : HasSeen w ⊎ (made ≡ turns) ⊎ ((c : Step) × IsAt ports over.last c × stops c)
-        → HasSeen w ⊎ (length over.under_way.steps ≡ turns) ⊎ ((c : Step) × IsAt (port_count (dims_of v.load.shape)) over.last c × stops c)
+    by_end : HasSeen w ⊎ (made ≡ turns) ⊎ ((c : Step) × IsStepAt ports over.last c × stops c)
+        → HasSeen w ⊎ (length over.under_way.steps ≡ turns) ⊎ ((c : Step) × IsStepAt (port_count (dims_of v.load.shape)) over.last c × stops c)
     by_end (inl seen) = inl seen
     by_end (inr (inl all)) = inr (inl (over.under_way.count ∙ all))
-    by_end (inr (inr k)) = inr (inr (k.0, subst (λ (n : ℕ). IsAt n over.last k.0) is k.1, k.2))
+    by_end (inr (inr k)) = inr (inr (k.0, subst (λ (n : ℕ). IsStepAt n over.last k.0) is k.1, k.2))
 
 -- the calls behind the turns of a worker that has gone so far were heard
 abbrev pub IsHeardSoFar : (Step → Type 0) → ℕ → ℕ → Knowing → Place → Run → Knowing → Place → (List Call → Type 0) → (List Call → Type 0) → Type 0
@@ -217,10 +217,10 @@ last_of ports t = at_place t (8 + 3 * ports)
 abbrev pub last_step : ℕ → Step
 last_step t = record { agent = 3 * t + 2; choice = Credit }
 
-is_last_step : (ports t : ℕ) → IsAt ports (last_of ports t) (last_step t)
+is_last_step : (ports t : ℕ) → IsStepAt ports (last_of ports t) (last_step t)
 is_last_step ports t = bank_place ports t 3 (8 + 3 * ports) Credit (omega arith) refl
 
-pub next_starts : (ports t : ℕ) (tiles : List ℕ) (next : Place) → Follows ports tiles (last_of ports t) next → next.at ≡ 0
+pub next_starts : (ports t : ℕ) (tiles : List ℕ) (next : Place) → ComesAfter ports tiles (last_of ports t) next → next.at ≡ 0
 next_starts ports t tiles next (inl k) = let more = k.0 in absurd (omega (arith, more))
 next_starts ports t tiles next (inr (inl k)) = k.1
 next_starts ports t tiles next (inr (inr k)) = k.2.0
@@ -234,7 +234,7 @@ module _ (stops : Step → Type 0) (turns ports : ℕ) (u : Knowing) (first p : 
       leads.goes turns u first so_far.0 here
 
   -- the last turn of a tile, and all turns before it
-  pub tile_on : (next : Place) (quiet : Bool) (new : List Call → Type 0) → Follows ports w.tiles (last_of ports p.tile) next → s.made < z.made
+  pub tile_on : (next : Place) (quiet : Bool) (new : List Call → Type 0) → ComesAfter ports w.tiles (last_of ports p.tile) next → s.made < z.made
       → ((calls : List Call) × AreCallsOfTurn z.made (last_of ports p.tile) next calls × Hears mid new calls)
       → IsHeardSoFar stops turns ports u first (record z { quiet = quiet }) x next old new
   tile_on next quiet new follows made told = (
@@ -252,11 +252,11 @@ module _ (stops : Step → Type 0) (turns ports : ℕ) (u : Knowing) (first p : 
           at_last
 
   -- that turn isn't made: none is to come
-  pub tile_over : z.made ≤ s.made → (z.made ≤ turns) × IsOver stops turns ports z.made u x first so_far.0
+  pub tile_over : z.made ≤ s.made → (z.made ≤ turns) × HasEnded stops turns ports z.made u x first so_far.0
   tile_over none = by_outcome tries.outcome
     where
       by_outcome : MakesNone s w z x ⊎ IsStopped stops s w (last_step p.tile) z x ⊎ MakesTurn s w (last_step p.tile) z x
-          → (z.made ≤ turns) × IsOver stops turns ports z.made u x first so_far.0
+          → (z.made ≤ turns) × HasEnded stops turns ports z.made u x first so_far.0
       by_outcome (inl k) = let over = rests stops turns ports u first (last_of ports p.tile) so_far.0 (last_step p.tile) s z w x k at_last in (over.1, over.2)
       by_outcome (inr (inl k)) =
           let over = stopped stops turns ports u first (last_of ports p.tile) so_far.0 (last_step p.tile) s z w x k (is_last_step ports p.tile) at_last in
@@ -265,7 +265,7 @@ module _ (stops : Step → Type 0) (turns ports : ℕ) (u : Knowing) (first p : 
 
 -- all turns are made
 pub all_over : (stops : Step → Type 0) (turns ports : ℕ) (u : Knowing) (first p : Place) (calls : List Call) (r : Run) (v : Knowing) → turns ≤ r.made
-    → IsGoing stops turns ports u first calls r v p → (r.made ≤ turns) × IsOver stops turns ports r.made u v first calls
+    → IsGoing stops turns ports u first calls r v p → (r.made ≤ turns) × HasEnded stops turns ports r.made u v first calls
 all_over stops turns ports u first p calls r v many (inl g) =
     let le = g.0 in
     let all = g.1 in

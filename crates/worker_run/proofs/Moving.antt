@@ -4,14 +4,14 @@ use Rattle.std.proofs.lemmas.List.{append-nil}
 use Rattle.torus.specs.Shape.{dims_of}
 use Rattle.torus.specs.declared.step.Step.{Step}
 use Rattle.channel_number.specs.Ports.{port_count}
-use Rattle.fabric.specs.core_laws.specs.Core.{Load}
-use Rattle.fabric.specs.Seats.{Knowing, Origin, IsOf, Moves, Idles, IsNotMine, with_run}
+use Rattle.fabric_rule.specs.Core.{Load}
+use Rattle.fabric.specs.Seats.{Knowing, Origin, IsSeatOf, Moves, Idles, IsNotMine, with_run}
 use Rattle.fabric.specs.Asking.{HasSeen}
 use Rattle.fabric.specs.declared.steps.Turned.{Turned}
 use Rattle.fabric.specs.declared.steps.Turned.TheVariants.{Moved, Idle, NotMine}
 use Rattle.fabric.proofs.Turning.{begins_trans}
-use Rattle.worker_run.specs.Places.{IsFirst, IsWithin, Follows}
-use Rattle.worker_run.specs.Working.{Grew, Turns, IsAt, Attempts}
+use Rattle.worker_run.specs.Places.{IsFirstPlace, IsPlaceOf, ComesAfter}
+use Rattle.worker_run.specs.Working.{Grew, Turns, IsStepAt, Attempts}
 use Rattle.worker_run.specs.Calls.{Call, Hears}
 use Rattle.worker_run.specs.Watching.{AreCallsOfTurns}
 use Rattle.worker_run.specs.declared.place.Place.{Place}
@@ -30,11 +30,11 @@ grew_not v = (refl, ([], sym (append-nil v.run)))
 
 -- one turn more
 pub one_more : (ports : ℕ) (v : Knowing) (p : Place) (steps : List Step) (w : Knowing) (q : Place) (c : Step) (u : Knowing) (r : Place)
-    → Attempts ports v p steps w q → IsAt ports q c → Turns w c u → Follows ports w.tiles q r → Attempts ports v p (steps ++ c ∷ []) u r
+    → Attempts ports v p steps w q → IsStepAt ports q c → Turns w c u → ComesAfter ports w.tiles q r → Attempts ports v p (steps ++ c ∷ []) u r
 one_more ports v p [] w q c u r made at turns follows =
-    let at' = subst (λ (x : Place). IsAt ports x c) made.1 at in
+    let at' = subst (λ (x : Place). IsStepAt ports x c) made.1 at in
     let turns' = subst (λ (k : Knowing). Turns k c u) made.0 turns in
-    let follows' = subst (λ (x : Place). Follows ports v.tiles x r) made.1 (subst (λ (k : Knowing). Follows ports k.tiles q r) made.0 follows) in
+    let follows' = subst (λ (x : Place). ComesAfter ports v.tiles x r) made.1 (subst (λ (k : Knowing). ComesAfter ports k.tiles q r) made.0 follows) in
     (u, r, at', turns', follows', (refl, refl))
 one_more ports v p (d ∷ steps) w q c u r (x, y, there, turns, follows, rest) at turns' follows' =
     (x, y, there, turns, follows, one_more ports x y steps w q c u r rest at turns' follows')
@@ -44,7 +44,7 @@ pub hears_none : (h : List Call → Type 0) → Hears h h []
 hears_none h = λ calls o. subst h (sym (append-nil calls)) o
 
 -- no turn was made by a seat whose processors had seen the end, and none is told
-pub told_none : (stops : Step → Type 0) (turns : ℕ) (v : Knowing) (first : Place) → IsFirst v.tiles first → HasSeen v
+pub told_none : (stops : Step → Type 0) (turns : ℕ) (v : Knowing) (first : Place) → IsFirstPlace v.tiles first → HasSeen v
     → AreCallsOfTurns stops turns v v 0 []
 told_none stops turns v first start seen = record {
   turned = record {
@@ -63,11 +63,11 @@ told_none stops turns v first start seen = record {
 }
 
 -- the ports of the fabric are those of the seat's machine
-pub ports_are : (n : ℕ) (f : Origin) (v : Knowing) → n ≡ port_count (dims_of f.load.shape) → IsOf f v → n ≡ port_count (dims_of v.load.shape)
+pub ports_are : (n : ℕ) (f : Origin) (v : Knowing) → n ≡ port_count (dims_of f.load.shape) → IsSeatOf f v → n ≡ port_count (dims_of v.load.shape)
 ports_are n f v e own = e ∙ ap (λ (l : Load). port_count (dims_of l.shape)) (sym own.1)
 
-pub within_ports : (n m : ℕ) (p : Place) → n ≡ m → IsWithin m p → IsWithin n p
-within_ports n m p e w = subst (λ (k : ℕ). IsWithin k p) (sym e) w
+pub within_ports : (n m : ℕ) (p : Place) → n ≡ m → IsPlaceOf m p → IsPlaceOf n p
+within_ports n m p e w = subst (λ (k : ℕ). IsPlaceOf k p) (sym e) w
 
-pub own_on : (f : Origin) (v w : Knowing) → IsOf f v → w ≡ with_run v w.run → IsOf f w
+pub own_on : (f : Origin) (v w : Knowing) → IsSeatOf f v → w ≡ with_run v w.run → IsSeatOf f w
 own_on f v w own e = (ap (λ (k : Knowing). k.table) e ∙ own.0, ap (λ (k : Knowing). k.load) e ∙ own.1)

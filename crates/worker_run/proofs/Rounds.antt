@@ -8,7 +8,7 @@ use Rattle.std.proofs.lemmas.Option.{slice_get-map}
 use Rattle.torus.specs.declared.step.Step.{Step}
 use Rattle.torus.specs.declared.step.Choice.{Choice}
 use Rattle.torus.specs.declared.step.Choice.TheVariants.{TakeFrom, Put, CreditOf}
-use Rattle.fabric.specs.core_laws.specs.Core.{attempts_of, round_at}
+use Rattle.fabric_rule.specs.Core.{attempts_of, round_at}
 use Rattle.torus.specs.Choices.{processor_choices, router_choices, bank_choices}
 
 -- an element of the first list stands in both together, and one of the second stands behind it

@@ -5,7 +5,7 @@ use Rattle.fabric.specs.Seats.{Knowing}
 use Rattle.fabric.specs.Asking.{HasSeen}
 use Rattle.worker_run.specs.Calls.{Call}
 use Rattle.worker_run.specs.Watching.{AreCallsOf}
-use Rattle.worker_run.specs.Working.{Attempts, Grew, IsAt, Turns}
+use Rattle.worker_run.specs.Working.{Attempts, Grew, IsStepAt, Turns}
 use Rattle.worker_run.specs.declared.place.Place.{Place}
 use Rattle.worker_run.specs.declared.turns.Run.{Run}
 
@@ -24,11 +24,11 @@ pub record IsUnderWay (ports made : ℕ) (v w : Knowing) (first last : Place) (c
 
 -- no turn is to come: the seat's processors have seen the end, all turns are made, or the gate may
 -- stop the worker before the step that is next
-pub record IsOver (stops : Step → Type 0) (turns ports made : ℕ) (v w : Knowing) (first : Place)
+pub record HasEnded (stops : Step → Type 0) (turns ports made : ℕ) (v w : Knowing) (first : Place)
     (calls : List Call) : Type 0 where
   pub last : Place
   pub under_way : IsUnderWay ports made v w first last calls
-  pub until : HasSeen w ⊎ (made ≡ turns) ⊎ ((c : Step) × IsAt ports last c × stops c)
+  pub until : HasSeen w ⊎ (made ≡ turns) ⊎ ((c : Step) × IsStepAt ports last c × stops c)
 
 -- a worker has gone from a first place on, as far as it says: it is at this place, or no turn is to
 -- come
@@ -36,7 +36,7 @@ abbrev pub IsGoing : (Step → Type 0) → ℕ → ℕ → Knowing → Place →
     → Type 0
 IsGoing stops turns ports v first calls r w p =
     ((r.made ≤ r.most) × (r.most ≡ turns) × IsUnderWay ports r.made v w first p calls)
-    ⊎ ((r.most ≤ r.made) × (r.made ≤ turns) × IsOver stops turns ports r.made v w first calls)
+    ⊎ ((r.most ≤ r.made) × (r.made ≤ turns) × HasEnded stops turns ports r.made v w first calls)
 
 -- no turn was left: nothing changed
 pub record MakesNone (r : Run) (v : Knowing) (s : Run) (w : Knowing) : Type 0 where

@@ -1,4 +1,3 @@
-pub use Rattle.fabric
 pub mod Working
 pub mod Places
 pub mod Calls

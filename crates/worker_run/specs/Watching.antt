@@ -5,7 +5,7 @@ use Rattle.torus.specs.declared.step.Step.{Step}
 use Rattle.channel_number.specs.Ports.{port_count}
 use Rattle.fabric.specs.Seats.{Knowing}
 use Rattle.worker_run.specs.Calls.{Call, Passed, Ended, Hears}
-use Rattle.worker_run.specs.Places.{EndsPass, Follows}
+use Rattle.worker_run.specs.Places.{EndsPass, ComesAfter}
 use Rattle.worker_run.specs.Working.{HasTurned, Working}
 use Rattle.worker_run.specs.declared.place.Place.{Place}
 use Rattle.worker_run.specs.declared.worker.End.{End}
@@ -23,7 +23,7 @@ abbrev pub AreCallsOf : ℕ → List ℕ → ℕ → Place → List Call → Pla
 AreCallsOf ports tiles zero p calls r = (calls ≡ []) × (r ≡ p)
 AreCallsOf ports tiles (suc k) p calls r =
     (before : List Call) × (q : Place) × (more : List Call) × AreCallsOf ports tiles k p before q
-    × Follows ports tiles q r × AreCallsOfTurn (k + 1) q r more × (calls ≡ before ++ more)
+    × ComesAfter ports tiles q r × AreCallsOfTurn (k + 1) q r more × (calls ≡ before ++ more)
 
 -- so many turns were made of a seat, and these are the calls behind them
 pub record AreCallsOfTurns (stops : Step → Type 0) (turns : ℕ) (v w : Knowing) (count : ℕ)

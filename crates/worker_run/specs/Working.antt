@@ -3,13 +3,13 @@ use Rattle.std.specs.Prelude.{◌≡◌, ◌⊎◌, ℕ, ◌≤◌, List, [], �
 use Rattle.torus.specs.Shape.{dims_of}
 use Rattle.torus.specs.declared.step.Step.{Step}
 use Rattle.channel_number.specs.Ports.{port_count}
-use Rattle.fabric.specs.core_laws.specs.Core.{round_at}
-use Rattle.fabric.specs.fabric_rule.specs.Groups.{Extends}
-use Rattle.fabric.specs.fabric_rule.specs.Ended.{AreAllFinished}
+use Rattle.fabric_rule.specs.Core.{round_at}
+use Rattle.fabric_rule.specs.Groups.{Extends}
+use Rattle.fabric_rule.specs.Ended.{AreAllFinished}
 use Rattle.fabric.specs.Seats.{Knowing, Moves, Idles, IsNotMine, with_run}
 use Rattle.fabric.specs.Asking.{HasSeen}
 use Rattle.fabric.specs.Lawful.{HasLawfulRun}
-use Rattle.worker_run.specs.Places.{IsFirst, Follows}
+use Rattle.worker_run.specs.Places.{IsFirstPlace, ComesAfter}
 use Rattle.worker_run.specs.declared.place.Place.{Place}
 use Rattle.worker_run.specs.declared.worker.End.{End}
 use Rattle.worker_run.specs.declared.worker.End.TheVariants.{Held, Finished, Stopped}
@@ -29,15 +29,15 @@ abbrev pub Turns : Knowing → Step → Knowing → Type 0
 Turns v c w = Moves v c w ⊎ Idles v c w ⊎ (IsNotMine v c × (w ≡ v))
 
 -- the step at a place of the rounds, where a router has so many ports (this project's own format)
-abbrev pub IsAt : ℕ → Place → Step → Type 0
-IsAt ports p c = slice_get (round_at ports p.tile) p.at ≡ Some c
+abbrev pub IsStepAt : ℕ → Place → Step → Type 0
+IsStepAt ports p c = slice_get (round_at ports p.tile) p.at ≡ Some c
 
 -- the steps from a place of a seat's rounds on, one a turn, lead the seat from what it knew to what
 -- it knows, and to another place
 abbrev pub Attempts : ℕ → Knowing → Place → List Step → Knowing → Place → Type 0
 Attempts ports v p [] w q = (w ≡ v) × (q ≡ p)
 Attempts ports v p (c ∷ more) w q =
-    (u : Knowing) × (r : Place) × IsAt ports p c × Turns v c u × Follows ports v.tiles p r
+    (u : Knowing) × (r : Place) × IsStepAt ports p c × Turns v c u × ComesAfter ports v.tiles p r
     × Attempts ports u r more w q
 
 -- Turns were made in the order of rounds, from a round's start: none if the seat's processors had
@@ -48,12 +48,12 @@ pub record HasTurned (stops : Step → Type 0) (turns : ℕ) (v w : Knowing) : T
   pub steps : List Step
   pub first : Place
   pub last : Place
-  pub start : IsFirst v.tiles first
+  pub start : IsFirstPlace v.tiles first
   pub made : Attempts (port_count (dims_of v.load.shape)) v first steps w last
   pub few : length steps ≤ turns
   pub none : HasSeen v → steps ≡ []
   pub until : HasSeen w ⊎ (length steps ≡ turns)
-      ⊎ ((c : Step) × IsAt (port_count (dims_of v.load.shape)) last c × stops c)
+      ⊎ ((c : Step) × IsStepAt (port_count (dims_of v.load.shape)) last c × stops c)
 
 -- how a worker ended: held back by the gate with its seat as it was; or it made turns, and its
 -- processors have seen the end, and every script is finished; or they haven't

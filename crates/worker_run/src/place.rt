@@ -1,9 +1,9 @@
 ghost use Rattle.std.specs.Prelude.{◌≡◌, ◌<◌, ◌≤◌, ◌+◌, ◌*◌, ◌↔◌, IsTrue, Some, slice_get};
 ghost use Rattle.torus.specs.Shape.{dims_of};
 ghost use Rattle.channel_number.specs.Ports.{port_count};
-ghost use Rattle.fabric.specs.core_laws.specs.Core.{round_at};
+ghost use Rattle.fabric_rule.specs.Core.{round_at};
 ghost use Rattle.torus.specs.Choices.{processor_choices, router_choices, bank_choices};
-ghost use Rattle.worker_run.specs.Places.{EndsPass, IsWithin, Follows, IsFirst};
+ghost use Rattle.worker_run.specs.Places.{EndsPass, IsPlaceOf, ComesAfter, IsFirstPlace};
 
 use fabric::seats::TileSeat;
 use std::alloc::Allocator;
@@ -19,8 +19,8 @@ pub struct Place {
 impl Place {
     /// The first place of a seat's rounds; that of tile 0 where it has no tile.
     pub fn first<A: Allocator>(seat: &TileSeat<A>) -> Place
-        ensures first { IsFirst seat.now.tiles result }
-        ensures within { IsWithin (port_count (dims_of seat.now.load.shape)) result }
+        ensures first { IsFirstPlace seat.now.tiles result }
+        ensures within { IsPlaceOf (port_count (dims_of seat.now.load.shape)) result }
     {
         seat.accepted();
         match seat.next_tile(0) {
@@ -35,7 +35,7 @@ impl Place {
     /// The step to attempt at this place, where a router has so many ports.
     pub fn step(self, ports: u32) -> Step
         requires ports { ports ≤ 26 }
-        requires within { IsWithin ports self }
+        requires within { IsPlaceOf ports self }
         ensures { slice_get (round_at ports self.tile) self.at ≡ Some result }
     {
         let processor = 3 * self.tile;
@@ -67,9 +67,9 @@ impl Place {
     /// The place after this one in the rounds of a seat.
     pub fn after<A: Allocator>(self, ports: u32, seat: &TileSeat<A>) -> Place
         requires ports { ports ≡ port_count (dims_of seat.now.load.shape) }
-        requires within { IsWithin ports self }
-        ensures follows { Follows ports seat.now.tiles self result }
-        ensures within { IsWithin (port_count (dims_of seat.now.load.shape)) result }
+        requires within { IsPlaceOf ports self }
+        ensures follows { ComesAfter ports seat.now.tiles self result }
+        ensures within { IsPlaceOf (port_count (dims_of seat.now.load.shape)) result }
     {
         seat.accepted();
         if self.at + 1 < 9 + 3 * ports {

@@ -1,7 +1,7 @@
 //! The turns of a worker at a tile, but for the last: the choices of its agents, agent by agent. Each
 //! attempt names its choice, so that little is left of it once the calls are inlined.
 ghost use Rattle.std.specs.Prelude.{◌<◌, ◌+◌, ◌*◌, ℕ};
-ghost use Rattle.fabric.specs.Seats.{IsOf};
+ghost use Rattle.fabric.specs.Seats.{IsSeatOf};
 ghost use Rattle.worker_run.specs.Going.{Leads, Tries, at_place};
 
 use crate::gate::Gate;
@@ -32,8 +32,8 @@ pub(crate) fn attempt<A: Allocator, G: Gate>(
     agent: u32,
     choice: Choice,
 )
-    requires { IsOf fabric.now seat.old }
-    ensures own { IsOf fabric.now seat.new }
+    requires { IsSeatOf fabric.now seat.old }
+    ensures own { IsSeatOf fabric.now seat.new }
     ensures tried { Tries (G.stops gate.now worker) run.old seat.old
         (record { agent = agent; choice = choice }) run.new seat.new }
 {
@@ -68,9 +68,9 @@ pub(crate) fn tile_turns<A: Allocator, G: Gate>(
     tile: u32,
     ports: u32,
 )
-    requires own { IsOf fabric.now seat.old }
+    requires own { IsSeatOf fabric.now seat.old }
     requires tile { tile < 64 }
-    ensures own { IsOf fabric.now seat.new }
+    ensures own { IsSeatOf fabric.now seat.new }
     ensures leads { Leads (G.stops gate.now worker) ports run.old seat.old (at_place tile 0) run.new
         seat.new (at_place tile (8 + 3 * ports)) }
 {
@@ -91,9 +91,9 @@ fn processor_turns<A: Allocator, G: Gate>(
     run: &mut Run,
     tile: u32,
 )
-    requires own { IsOf fabric.now seat.old }
+    requires own { IsSeatOf fabric.now seat.old }
     requires tile { tile < 64 }
-    ensures own { IsOf fabric.now seat.new }
+    ensures own { IsSeatOf fabric.now seat.new }
     ensures leads { (ports : ℕ) → Leads (G.stops gate.now worker) ports run.old seat.old
         (at_place tile 0) run.new seat.new (at_place tile 5) }
 {
@@ -116,9 +116,9 @@ fn router_takes<A: Allocator, G: Gate>(
     tile: u32,
     ports: u32,
 )
-    requires own { IsOf fabric.now seat.old }
+    requires own { IsSeatOf fabric.now seat.old }
     requires tile { tile < 64 }
-    ensures own { IsOf fabric.now seat.new }
+    ensures own { IsSeatOf fabric.now seat.new }
     ensures leads { Leads (G.stops gate.now worker) ports run.old seat.old (at_place tile 5) run.new
         seat.new (at_place tile (5 + ports)) }
 {
@@ -147,9 +147,9 @@ fn router_puts<A: Allocator, G: Gate>(
     tile: u32,
     ports: u32,
 )
-    requires own { IsOf fabric.now seat.old }
+    requires own { IsSeatOf fabric.now seat.old }
     requires tile { tile < 64 }
-    ensures own { IsOf fabric.now seat.new }
+    ensures own { IsSeatOf fabric.now seat.new }
     ensures leads { Leads (G.stops gate.now worker) ports run.old seat.old
         (at_place tile (5 + ports)) run.new seat.new (at_place tile (5 + 2 * ports)) }
 {
@@ -170,9 +170,9 @@ fn router_credits<A: Allocator, G: Gate>(
     tile: u32,
     ports: u32,
 )
-    requires own { IsOf fabric.now seat.old }
+    requires own { IsSeatOf fabric.now seat.old }
     requires tile { tile < 64 }
-    ensures own { IsOf fabric.now seat.new }
+    ensures own { IsSeatOf fabric.now seat.new }
     ensures leads { Leads (G.stops gate.now worker) ports run.old seat.old
         (at_place tile (5 + 2 * ports)) run.new seat.new (at_place tile (5 + 3 * ports)) }
 {
@@ -200,9 +200,9 @@ fn bank_turns<A: Allocator, G: Gate>(
     run: &mut Run,
     tile: u32,
 )
-    requires own { IsOf fabric.now seat.old }
+    requires own { IsSeatOf fabric.now seat.old }
     requires tile { tile < 64 }
-    ensures own { IsOf fabric.now seat.new }
+    ensures own { IsSeatOf fabric.now seat.new }
     ensures leads { (ports : ℕ) → Leads (G.stops gate.now worker) ports run.old seat.old
         (at_place tile (5 + 3 * ports)) run.new seat.new (at_place tile (8 + 3 * ports)) }
 {

@@ -1,5 +1,5 @@
 ghost use Rattle.std.specs.Prelude.{◌≡◌, ◌<◌, ◌≤◌, ℕ, All, List, length, slice_index_or};
-ghost use Rattle.fabric.specs.Seats.{IsOf};
+ghost use Rattle.fabric.specs.Seats.{IsSeatOf};
 ghost use Rattle.worker_run.specs.Calls.{Call, Hears};
 ghost use Rattle.worker_run.specs.Watching.{AreCallsOfTurn, HearsTurns, IsWatched};
 ghost use Rattle.worker_run.specs.Working.{Working, HasWorked};
@@ -30,7 +30,7 @@ pub fn run_workers<R: Threads + Wait + Sync, A: Allocator + Send + Sync, G: Gate
     watch: &V,
     turns: u64,
 )
-    requires own { All (λ w. IsOf fabric.now w.knows) workers.old }
+    requires own { All (λ w. IsSeatOf fabric.now w.knows) workers.old }
     requires few { length workers.old ≤ 16 }
     requires some { 1 ≤ turns }
     requires most { turns ≤ 1000000000 }
@@ -47,7 +47,7 @@ pub fn run_workers<R: Threads + Wait + Sync, A: Allocator + Send + Sync, G: Gate
         workers,
         16,
         &|i: usize, worker: &mut Worker<A>|
-            requires { IsOf fabric.now worker.old.knows }
+            requires { IsSeatOf fabric.now worker.old.knows }
             ensures worked { HasWorked (G.holds gate.entry.now i) (G.stops gate.entry.now i) turns
                 worker.old worker.new }
             ensures told { IsWatched (V.over watch.entry.now i) (G.stops gate.entry.now i) turns
@@ -65,7 +65,7 @@ fn work<A: Allocator, G: Gate, V: Watch>(
     number: usize,
     turns: u64,
 )
-    requires { IsOf fabric.now worker.old.knows }
+    requires { IsSeatOf fabric.now worker.old.knows }
     ensures worked { HasWorked (G.holds gate.now number) (G.stops gate.now number) turns worker.old
         worker.new }
     ensures told { IsWatched (V.over watch.now number) (G.stops gate.now number) turns worker.old
@@ -106,7 +106,7 @@ fn make_turns<A: Allocator, G: Gate, V: Watch>(
     worker: usize,
     turns: u64,
 ) -> u64
-    requires { IsOf fabric.now seat.old }
+    requires { IsSeatOf fabric.now seat.old }
     ensures { HearsTurns (G.stops gate.now worker) turns seat.old seat.new result
         (V.heard watch.now worker kept.old) (V.heard watch.now worker kept.new) }
 {

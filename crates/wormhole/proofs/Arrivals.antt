@@ -2,10 +2,10 @@
 use Rattle.std.proofs.Common.{◌≡◌, ⊎_elim, ℕ, ◌<◌, ◌==◌, ◌&&◌, Bool, true, false, cond, List, [], ◌∷◌, ◌++◌, Some}
 use Rattle.std.proofs.Common.{drop, All, refl, sym, ◌∙◌, ap, ap₂, subst, append_assoc, append-nil, eq-eqb}
 use Rattle.wormhole.specs.Net.{Net, IsNet, IsOn, Parcel, IsParcel}
-use Rattle.wormhole.specs.State.{Note, State}
+use Rattle.wormhole.specs.State.{Note, NetState}
 use Rattle.wormhole.specs.Words.{Words}
 use Rattle.wormhole.specs.Routes.{between, on_the_way, IsBegunHere, Routes}
-use Rattle.wormhole.specs.Delivery.{without_last, whole_of, whole, IsDelivered, WasSentTo, IsRouted, HasOutput}
+use Rattle.wormhole.specs.Delivery.{without_last, whole_of, whole, IsDelivered, WasSentTo, IsRouted, HeadHasOutput}
 use Rattle.wormhole.proofs.Lists.{all_on, all_from, all_left, on_left, on_right}
 use Rattle.wormhole.proofs.Channels.{pop_rest}
 use Rattle.wormhole.proofs.Receivers.{moved}
@@ -53,7 +53,7 @@ on_way i j x k p (y ∷ before) after on =
     on_left k (on_the_way i j p (before ++ x ∷ after)) (between i j (p y)) (on_way i j x k p before after on)
 
 -- a packet in a channel was sent
-pub was_sent : (n : Net) (s : State) (x : ℕ) (k : Parcel) → Words n s → Routes n s → IsOn k (s.notes x).parcels
+pub was_sent : (n : Net) (s : NetState) (x : ℕ) (k : Parcel) → Words n s → Routes n s → IsOn k (s.notes x).parcels
     → IsOn k (s.notes k.source).sent
 was_sent n s x k w r on =
     let i : ℕ = k.source in
@@ -67,7 +67,7 @@ was_sent n s x k w r on =
     (on_right k (between i j (s.notes j).begun) (on_the_way i j p (n.route i j)) there))
 
 -- a packet begun at its receiver was sent
-pub begun_was_sent : (n : Net) (s : State) (x : ℕ) (k : Parcel) → Routes n s → IsOn k (s.notes x).begun → IsOn k (s.notes k.source).sent
+pub begun_was_sent : (n : Net) (s : NetState) (x : ℕ) (k : Parcel) → Routes n s → IsOn k (s.notes x).begun → IsOn k (s.notes k.source).sent
 begun_was_sent n s x k r on =
     let i : ℕ = k.source in
     let j : ℕ = k.destination in
@@ -88,7 +88,7 @@ whole_begins : (awaited : List ℕ) (ks : List Parcel) → (ls : List Parcel) ×
 whole_begins [] ks = ([], sym (append-nil ks))
 whole_begins (f ∷ fs) ks = last_apart ks
 
-pub delivered : (n : Net) (s : State) (i j : ℕ) → Routes n s → n.joins i j ≡ true → IsDelivered s i j
+pub delivered : (n : Net) (s : NetState) (i j : ℕ) → Routes n s → n.joins i j ≡ true → IsDelivered s i j
 delivered n s i j r joined =
     let at = whole_begins (s.notes j).awaited (s.notes j).begun in
     let rest : List Parcel = between i j at.0 in
@@ -100,7 +100,7 @@ delivered n s i j r joined =
     )
 
 -- a whole packet was sent to where it is
-pub whole_was_sent : (n : Net) (s : State) (x : ℕ) → Routes n s → All (WasSentTo n s x) (whole s x)
+pub whole_was_sent : (n : Net) (s : NetState) (x : ℕ) → Routes n s → All (WasSentTo n s x) (whole s x)
 whole_was_sent n s x r =
     let at = whole_begins (s.notes x).awaited (s.notes x).begun in
     let all : All (WasSentTo n s x) (s.notes x).begun = all_from (WasSentTo n s x) (s.notes x).begun (λ k on.
@@ -109,7 +109,7 @@ whole_was_sent n s x r =
     all_left (WasSentTo n s x) (whole s x) at.0 (subst (λ (ks : List Parcel). All (WasSentTo n s x) ks) at.1 all)
 
 -- a head flit in a latch
-pub is_routed : (n : Net) (s : State) (x flit : ℕ) → IsNet n → Words n s → Routes n s → n.ejects x ≡ false → (s.lines x).latch ≡ Some flit
+pub is_routed : (n : Net) (s : NetState) (x flit : ℕ) → IsNet n → Words n s → Routes n s → n.ejects x ≡ false → (s.lines x).latch ≡ Some flit
     → n.is_head flit ≡ true → IsRouted n s x flit
 is_routed n s x flit net w r input full head =
     let h : Note = s.notes x in
@@ -132,8 +132,8 @@ is_routed n s x flit net w r input full head =
     }
 
 -- a body or tail flit in a latch
-pub has_output : (n : Net) (s : State) (x flit : ℕ) → Words n s → n.ejects x ≡ false → (s.lines x).latch ≡ Some flit
-    → n.is_head flit ≡ false → HasOutput s x
+pub has_output : (n : Net) (s : NetState) (x flit : ℕ) → Words n s → n.ejects x ≡ false → (s.lines x).latch ≡ Some flit
+    → n.is_head flit ≡ false → HeadHasOutput s x
 has_output n s x flit w input full rest =
     let h : Note = s.notes x in
     let p = pop_rest n h.awaited h.parcels flit ((s.lines x).flits ++ h.owed) (w.parcels x) rest (latched n s x flit w full) in

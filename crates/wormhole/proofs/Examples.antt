@@ -1,8 +1,8 @@
 -- A network of three channels in a row, and a packet of three flits that goes through it.
 use Rattle.std.proofs.Common.{◌≡◌, ◌+◌, ◌==◌, ◌&&◌, List, [], ◌∷◌, Some, None, refl, arith}
 use Rattle.wormhole.specs.Net.{Net, Parcel}
-use Rattle.wormhole.specs.State.{Line, State, empty, empty_line}
-use Rattle.wormhole.specs.Events.{Event, InjectHead, InjectRest, Latch, ForwardHead, ForwardRest, AcceptHead}
+use Rattle.wormhole.specs.State.{NetLine, NetState, empty, empty_line}
+use Rattle.wormhole.specs.Events.{NetEvent, InjectHead, InjectRest, Latch, ForwardHead, ForwardRest, AcceptHead}
 use Rattle.wormhole.specs.Events.{AcceptRest, Return, after_all, CanAllHappen, forwarded}
 use Rattle.wormhole.specs.Events.{CanInjectHead, CanLatch, CanForwardHead, CanReturn}
 use Rattle.wormhole.specs.Delivery.{whole, IsReached}
@@ -28,7 +28,7 @@ abbrev packet : Parcel
 packet = record { source = 0; destination = 2; index = 5; head = 9; tail = 4 ∷ 7 ∷ [] }
 
 -- the head flit goes ahead, and the others follow
-abbrev events : List Event
+abbrev events : List NetEvent
 events =
     InjectHead 0 packet
     ∷ Latch 0 9 []
@@ -51,7 +51,7 @@ events =
     ∷ Return 0
     ∷ []
 
-abbrev end : State
+abbrev end : NetState
 end = after_all row (empty row) events
 
 -- the packet is whole at the receiver, and all but returning credits is as in the beginning
@@ -130,10 +130,10 @@ reached : IsReached row end
 reached = record { events = events; may = may; stands = refl }
 
 -- an empty channel with a flit in the latch behind it, and one that input 0 owns
-abbrev with_head : Line
+abbrev with_head : NetLine
 with_head = record (empty_line row) { latch = Some 9 }
 
-abbrev owned : Line
+abbrev owned : NetLine
 owned = record (empty_line row) { owner = Some 0 }
 
 -- a tail flit frees the output that it is put into, and a body flit leaves it owned

@@ -2,8 +2,8 @@
 use Rattle.std.proofs.Common.{◌≡◌, ⊎_elim, ℕ, zero, suc, ◌+◌, ◌≤◌, Bool, true, false, List, [], ◌∷◌, ◌++◌, Some}
 use Rattle.std.proofs.Common.{All, option_to_list, refl, sym, subst, arith}
 use Rattle.std.proofs.lemmas.List.Elements.{All-nil, All-head, All-tail, All-append}
-use Rattle.wormhole.specs.Net.{Net, IsNet, IsOn, Parcel, IsParcel, flits_of, flits_of_all}
-use Rattle.wormhole.specs.State.{State, in_line}
+use Rattle.wormhole.specs.Net.{Net, IsNet, IsOn, Parcel, IsParcel, net_flits, flits_of_all}
+use Rattle.wormhole.specs.State.{NetState, in_line}
 use Rattle.wormhole.specs.Words.{HasBeginning, Words}
 use Rattle.wormhole.specs.Routes.{IsBegunHere, Routes}
 use Rattle.wormhole.specs.Flits.{HoldsOfSent, HoldsOfFlits}
@@ -11,35 +11,35 @@ use Rattle.wormhole.proofs.Lists.{all_on, all_from, all_left, all_right}
 use Rattle.wormhole.proofs.Arrivals.{was_sent, begun_was_sent}
 
 -- it holds of all flits that are noted
-pub record HoldsOfNoted (P : ℕ → Type 0) (s : State) : Type 0 where
-  pub parcels : (x : ℕ) → All (λ (k : Parcel). All P (flits_of k)) (s.notes x).parcels
+pub record HoldsOfNoted (P : ℕ → Type 0) (s : NetState) : Type 0 where
+  pub parcels : (x : ℕ) → All (λ (k : Parcel). All P (net_flits k)) (s.notes x).parcels
   pub awaited : (x : ℕ) → All P (s.notes x).awaited
   pub owed : (x : ℕ) → All P (s.notes x).owed
 
-all_of_all : (P : ℕ → Type 0) (ks : List Parcel) → All (λ (k : Parcel). All P (flits_of k)) ks → All P (flits_of_all ks)
+all_of_all : (P : ℕ → Type 0) (ks : List Parcel) → All (λ (k : Parcel). All P (net_flits k)) ks → All P (flits_of_all ks)
 all_of_all P [] h = All-nil P
 all_of_all P (k ∷ ks) h =
-    All-append P (flits_of k) (flits_of_all ks)
-    (All-head (λ (k : Parcel). All P (flits_of k)) k ks h)
-    (all_of_all P ks (All-tail (λ (k : Parcel). All P (flits_of k)) k ks h))
+    All-append P (net_flits k) (flits_of_all ks)
+    (All-head (λ (k : Parcel). All P (net_flits k)) k ks h)
+    (all_of_all P ks (All-tail (λ (k : Parcel). All P (net_flits k)) k ks h))
 
 -- of each flit in a channel or in the latch behind it
-pub line_holds : (n : Net) (P : ℕ → Type 0) (s : State) (x : ℕ) → Words n s → HoldsOfNoted P s → All P (in_line (s.lines x))
+pub line_holds : (n : Net) (P : ℕ → Type 0) (s : NetState) (x : ℕ) → Words n s → HoldsOfNoted P s → All P (in_line (s.lines x))
 line_holds n P s x w h =
     all_left P (in_line (s.lines x)) (s.notes x).owed
     (subst (λ (fs : List ℕ). All P fs) (w.contiguous x)
     (All-append P (s.notes x).awaited (flits_of_all (s.notes x).parcels) (h.awaited x) (all_of_all P (s.notes x).parcels (h.parcels x))))
 
-pub latch_holds : (n : Net) (P : ℕ → Type 0) (s : State) (x flit : ℕ) → Words n s → HoldsOfNoted P s → (s.lines x).latch ≡ Some flit
+pub latch_holds : (n : Net) (P : ℕ → Type 0) (s : NetState) (x flit : ℕ) → Words n s → HoldsOfNoted P s → (s.lines x).latch ≡ Some flit
     → P flit
 latch_holds n P s x flit w h full =
     All-head P flit (s.lines x).flits (subst (λ o. All P (option_to_list o ++ (s.lines x).flits)) full (line_holds n P s x w h))
 
-module _ (n : Net) (P : ℕ → Type 0) (s : State) (net : IsNet n) (w : Words n s) (r : Routes n s)
-    (sent : (k : Parcel) → IsParcel n k → IsOn k (s.notes k.source).sent → All P (flits_of k)) where
-  parcels_hold : (x : ℕ) → All (λ (k : Parcel). All P (flits_of k)) (s.notes x).parcels
+module _ (n : Net) (P : ℕ → Type 0) (s : NetState) (net : IsNet n) (w : Words n s) (r : Routes n s)
+    (sent : (k : Parcel) → IsParcel n k → IsOn k (s.notes k.source).sent → All P (net_flits k)) where
+  parcels_hold : (x : ℕ) → All (λ (k : Parcel). All P (net_flits k)) (s.notes x).parcels
   parcels_hold x =
-      all_from (λ (k : Parcel). All P (flits_of k)) (s.notes x).parcels
+      all_from (λ (k : Parcel). All P (net_flits k)) (s.notes x).parcels
       (λ k on. sent k (all_on (IsParcel n) (s.notes x).parcels k (w.parcels x) on) (was_sent n s x k w r on))
 
   -- what is owed in a channel is of what is awaited there, or of its packets
@@ -93,6 +93,6 @@ module _ (n : Net) (P : ℕ → Type 0) (s : State) (net : IsNet n) (w : Words n
     receivers = λ x e. (assembling_holds x e).0;
   }
 
-pub flits_of_sent : (n : Net) (P : ℕ → Type 0) (s : State) → IsNet n → Words n s → Routes n s → HoldsOfSent P s → HoldsOfFlits n P s
+pub flits_of_sent : (n : Net) (P : ℕ → Type 0) (s : NetState) → IsNet n → Words n s → Routes n s → HoldsOfSent P s → HoldsOfFlits n P s
 flits_of_sent n P s net w r h =
-    flits_hold n P s net w r (λ k parcel on. all_on (λ (k : Parcel). All P (flits_of k)) (s.notes k.source).sent k (h k.source) on)
+    flits_hold n P s net w r (λ k parcel on. all_on (λ (k : Parcel). All P (net_flits k)) (s.notes k.source).sent k (h k.source) on)

@@ -18,3 +18,16 @@ pub mod Wholes
 pub mod Examples
 pub mod Holding
 pub mod FlitsHold
+pub mod Inductions
+pub mod Sums
+pub mod Beyond
+pub mod Heads
+pub mod Owed
+pub mod Held
+pub mod Quiescence
+pub mod Come
+pub mod Falls
+pub mod Working
+pub mod Bounded
+pub mod ProgressReached
+mod ProgressExamples

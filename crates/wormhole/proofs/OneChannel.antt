@@ -1,22 +1,22 @@
 -- What holds of the flits stays when one channel changes, and no router's output.
 use Rattle.std.proofs.Common.{◌≡◌, ◌⊎◌, inl, inr, ⊎_elim, ℕ, ◌+◌, true, false, [], length, Some, None, All, refl, sym, ◌∙◌}
-use Rattle.wormhole.specs.Net.{Net, IsParcel, IsTailShaped}
-use Rattle.wormhole.specs.State.{Line, Note, State}
+use Rattle.wormhole.specs.Net.{Net, IsParcel, EndsWithTail}
+use Rattle.wormhole.specs.State.{NetLine, Note, NetState}
 use Rattle.wormhole.specs.Words.{IsContiguous, IsHeld, IsAssembling, Words}
 use Rattle.wormhole.proofs.Changes.{IsChangedAt, kept}
 
 -- what holds of each channel by itself
-pub record Local (n : Net) (x : ℕ) (l : Line) (k : Note) : Type 0 where
+pub record Local (n : Net) (x : ℕ) (l : NetLine) (k : Note) : Type 0 where
   pub credits : l.held + length l.flits + l.returning ≡ n.depth
   pub contiguous : IsContiguous l k
   pub parcels : All (IsParcel n) k.parcels
-  pub awaited : IsTailShaped n k.awaited
-  pub owed : IsTailShaped n k.owed
+  pub awaited : EndsWithTail n k.awaited
+  pub owed : EndsWithTail n k.owed
   pub senders : n.injects x ≡ true → k.owed ≡ l.rest
   pub unlatched : n.ejects x ≡ true → l.latch ≡ None
   pub assembling : n.ejects x ≡ true → IsAssembling l k
 
-pub local_of : (n : Net) (s : State) → Words n s → (x : ℕ) → Local n x (s.lines x) (s.notes x)
+pub local_of : (n : Net) (s : NetState) → Words n s → (x : ℕ) → Local n x (s.lines x) (s.notes x)
 local_of n s w x = record {
   credits = w.credits x;
   contiguous = w.contiguous x;
@@ -29,7 +29,7 @@ local_of n s w x = record {
 }
 
 -- an input's owned output, and what both are owed
-pub held_from : (n : Net) (s t : State) (x y : ℕ) → IsHeld n s x y → (t.notes y).owed ≡ (s.notes y).owed
+pub held_from : (n : Net) (s t : NetState) (x y : ℕ) → IsHeld n s x y → (t.notes y).owed ≡ (s.notes y).owed
     → (t.notes x).awaited ≡ (s.notes x).awaited → IsHeld n t x y
 held_from n s t x y h owed awaited = record {
   input = h.input;
@@ -39,7 +39,7 @@ held_from n s t x y h owed awaited = record {
 }
 
 -- one channel has changed: its owner hasn't, and of the packets at a router nothing
-pub words_one : (n : Net) (s t : State) (x : ℕ) (l : Line) (k : Note) → Words n s → IsChangedAt s t x l k → Local n x l k
+pub words_one : (n : Net) (s t : NetState) (x : ℕ) (l : NetLine) (k : Note) → Words n s → IsChangedAt s t x l k → Local n x l k
     → l.owner ≡ (s.lines x).owner
     → (n.ejects x ≡ true) ⊎ (k.awaited ≡ (s.notes x).awaited) → (n.injects x ≡ true) ⊎ (k.owed ≡ (s.notes x).owed) → Words n t
 words_one n s t x l k w c new owner awaited owed =

@@ -2,8 +2,8 @@
 use Rattle.std.proofs.Common.{◌≡◌, inl, ℕ, List, [], ◌∷◌, refl, sym, ◌∙◌, subst, arith, append-nil}
 use Rattle.std.proofs.lemmas.List.Elements.{All-nil}
 use Rattle.wormhole.specs.Net.{Net, IsNet, IsOn, IsParcel, Parcel}
-use Rattle.wormhole.specs.State.{State, empty}
-use Rattle.wormhole.specs.Events.{Event, InjectHead, InjectRest, Latch, ForwardHead, ForwardRest, AcceptHead}
+use Rattle.wormhole.specs.State.{NetState, empty}
+use Rattle.wormhole.specs.Events.{NetEvent, InjectHead, InjectRest, Latch, ForwardHead, ForwardRest, AcceptHead}
 use Rattle.wormhole.specs.Events.{AcceptRest, Return, CanHappen, CanAllHappen, after, after_all}
 use Rattle.wormhole.specs.Words.{Words}
 use Rattle.wormhole.specs.Routes.{on_the_way, IsSentHere, IsBegunHere, Routes}
@@ -16,7 +16,7 @@ use Rattle.wormhole.proofs.Quiet.{routes_inject_rest, routes_latch, routes_accep
 use Rattle.wormhole.proofs.RouteEnds.{routes_inject_head, routes_accept_head}
 use Rattle.wormhole.proofs.RouteSteps.{has_way, routes_forward_head}
 
-pub words_kept : (n : Net) (s : State) (e : Event) → IsNet n → Words n s → Routes n s → CanHappen n s.lines e → Words n (after n s e)
+pub words_kept : (n : Net) (s : NetState) (e : NetEvent) → IsNet n → Words n s → Routes n s → CanHappen n s.lines e → Words n (after n s e)
 words_kept n s (InjectHead x k) net w r c = words_inject_head n s x k w c
 words_kept n s (InjectRest x flit more) net w r c = words_inject_rest n s x flit more w c
 words_kept n s (Latch x flit more) net w r c = words_latch n s x flit more w c
@@ -27,7 +27,7 @@ words_kept n s (AcceptHead x flit more) net w r c = words_accept_head n s x flit
 words_kept n s (AcceptRest x flit more) net w r c = words_accept_rest n s x flit more w c
 words_kept n s (Return x) net w r c = words_return n s x w c
 
-pub routes_kept : (n : Net) (s : State) (e : Event) → IsNet n → Words n s → Routes n s → CanHappen n s.lines e → Routes n (after n s e)
+pub routes_kept : (n : Net) (s : NetState) (e : NetEvent) → IsNet n → Words n s → Routes n s → CanHappen n s.lines e → Routes n (after n s e)
 routes_kept n s (InjectHead x k) net w r c = routes_inject_head n s x k net r c
 routes_kept n s (InjectRest x flit more) net w r c = routes_inject_rest n s x flit more r
 routes_kept n s (Latch x flit more) net w r c = routes_latch n s x flit more r
@@ -68,14 +68,14 @@ routes_empty n = record {
   flow = λ i j joined. nothing_on_the_way i j (n.route i j);
 }
 
-pub kept_by_all : (n : Net) (s : State) (es : List Event) → IsNet n → Words n s → Routes n s → CanAllHappen n s es
+pub kept_by_all : (n : Net) (s : NetState) (es : List NetEvent) → IsNet n → Words n s → Routes n s → CanAllHappen n s es
     → Words n (after_all n s es) × Routes n (after_all n s es)
 kept_by_all n s [] net w r c = (w, r)
 kept_by_all n s (e ∷ es) net w r c = kept_by_all n (after n s e) es net (words_kept n s e net w r c.0) (routes_kept n s e net w r c.0) c.1
 
-pub words_reached : (n : Net) (s : State) → IsNet n → IsReached n s → Words n s
+pub words_reached : (n : Net) (s : NetState) → IsNet n → IsReached n s → Words n s
 words_reached n s net is = subst (Words n) (sym is.stands) (kept_by_all n (empty n) is.events net (words_empty n) (routes_empty n) is.may).0
 
-pub routes_reached : (n : Net) (s : State) → IsNet n → IsReached n s → Routes n s
+pub routes_reached : (n : Net) (s : NetState) → IsNet n → IsReached n s → Routes n s
 routes_reached n s net is =
     subst (Routes n) (sym is.stands) (kept_by_all n (empty n) is.events net (words_empty n) (routes_empty n) is.may).1

@@ -2,7 +2,7 @@
 use Rattle.std.proofs.Common.{◌≡◌, ⊎_elim, ℕ, true, List, [], ◌∷◌, ◌++◌, take, drop, All, refl, sym, ◌∙◌, ap, subst, append_assoc}
 use Rattle.std.proofs.lemmas.List.Elements.{All-push, All-head, All-tail}
 use Rattle.wormhole.specs.Net.{Net, IsNet, IsOn, Parcel}
-use Rattle.wormhole.specs.State.{Line, Note, State}
+use Rattle.wormhole.specs.State.{NetLine, Note, NetState}
 use Rattle.wormhole.specs.Events.{InjectHead, AcceptHead, CanInjectHead, CanAccept, put, accepted, popped, after}
 use Rattle.wormhole.specs.Words.{Words}
 use Rattle.wormhole.specs.Routes.{between, on_the_way, IsSentHere, IsBegunHere, Routes}
@@ -12,12 +12,12 @@ use Rattle.wormhole.proofs.Flows.{IsBetween, between_cases, push_other, pop_othe
 use Rattle.wormhole.proofs.Ways.{begins_at, ends_at}
 use Rattle.wormhole.proofs.Quiet.{SeesSame, flow_same, rising_one}
 
-pub routes_inject_head : (n : Net) (s : State) (x : ℕ) (k : Parcel) → IsNet n → Routes n s → CanInjectHead n (s.lines x) x k
+pub routes_inject_head : (n : Net) (s : NetState) (x : ℕ) (k : Parcel) → IsNet n → Routes n s → CanInjectHead n (s.lines x) x k
     → Routes n (after n s (InjectHead x k))
 routes_inject_head n s x k net r c =
-    let t : State = after n s (InjectHead x k) in
+    let t : NetState = after n s (InjectHead x k) in
     let h : Note = s.notes x in
-    let l : Line = record (put k.head (s.lines x)) { rest = k.tail } in
+    let l : NetLine = record (put k.head (s.lines x)) { rest = k.tail } in
     let new : Note = record h { parcels = h.parcels ++ k ∷ []; owed = k.tail; sent = h.sent ++ k ∷ [] } in
     let ch : IsChangedAt s t x l new = changed s x l new in
     let on : IsOn x (n.route k.source k.destination) =
@@ -61,14 +61,14 @@ routes_inject_head n s x k net r c =
           (between_cases i j k);
     }
 
-pub routes_accept_head : (n : Net) (s : State) (x flit : ℕ) (more : List ℕ) → IsNet n → Words n s → Routes n s
+pub routes_accept_head : (n : Net) (s : NetState) (x flit : ℕ) (more : List ℕ) → IsNet n → Words n s → Routes n s
     → CanAccept n (s.lines x) x flit more true → Routes n (after n s (AcceptHead x flit more))
 routes_accept_head n s x flit more net w r c =
-    let t : State = after n s (AcceptHead x flit more) in
+    let t : NetState = after n s (AcceptHead x flit more) in
     let h : Note = s.notes x in
     let m = moved n h flit (more ++ h.owed) (w.parcels x) (w.awaited x) c.head (ejected n s x flit more true w c) in
     let k : Parcel = m.first in
-    let l : Line = accepted n flit more (s.lines x) in
+    let l : NetLine = accepted n flit more (s.lines x) in
     let new : Note = record (popped h) { begun = h.begun ++ take 1 h.parcels } in
     let ch : IsChangedAt s t x l new = changed s x l new in
     let ons : All (λ (k : Parcel). IsOn x (n.route k.source k.destination)) (k ∷ drop 1 h.parcels) =

@@ -2,7 +2,7 @@
 use Rattle.std.proofs.Common.{◌≡◌, ◌≢◌, ⊎_elim, ℕ, ◌<◌, List, [], ◌∷◌, ◌++◌, take, drop, None, All, refl, sym, ◌∙◌, ap, ap₂, subst}
 use Rattle.std.proofs.lemmas.List.Elements.{All-push, All-head, All-tail}
 use Rattle.wormhole.specs.Net.{Net, IsNet, IsOn, Parcel}
-use Rattle.wormhole.specs.State.{Line, Note, State}
+use Rattle.wormhole.specs.State.{NetLine, Note, NetState}
 use Rattle.wormhole.specs.Events.{ForwardHead, CanForwardHead, forwarded, first_tail, popped, after}
 use Rattle.wormhole.specs.Words.{Words}
 use Rattle.wormhole.specs.Routes.{between, on_the_way, IsSentHere, IsBegunHere, Routes}
@@ -14,14 +14,14 @@ use Rattle.wormhole.proofs.Ways.{GoesOn, goes_on, next_on, apart_by_number}
 use Rattle.wormhole.proofs.Quiet.{SeesSame, flow_same, rising_two, forwarded_owner}
 
 -- a latched head flit's packet, and where it goes on
-pub record HasWay (n : Net) (s : State) (x y flit : ℕ) : Type 0 where
+pub record HasWay (n : Net) (s : NetState) (x y flit : ℕ) : Type 0 where
   pub moves : HasMoved n (s.notes x) flit ((s.lines x).flits ++ (s.notes x).owed)
   pub ons : All (λ (k : Parcel). IsOn x (n.route k.source k.destination)) (moves.first ∷ drop 1 (s.notes x).parcels)
   pub goes : GoesOn n moves.first.source moves.first.destination x y
   pub within : y < n.channels
   pub apart : x ≢ y
 
-pub has_way : (n : Net) (s : State) (x y flit : ℕ) → IsNet n → Words n s → Routes n s → CanForwardHead n (s.lines x) (s.lines y) x y flit
+pub has_way : (n : Net) (s : NetState) (x y flit : ℕ) → IsNet n → Words n s → Routes n s → CanForwardHead n (s.lines x) (s.lines y) x y flit
     → HasWay n s x y flit
 has_way n s x y flit net w r c =
     let h : Note = s.notes x in
@@ -42,17 +42,17 @@ has_way n s x y flit net w r c =
       apart = apart_by_number n x y goes.rises;
     }
 
-pub routes_forward_head : (n : Net) (s : State) (x y flit : ℕ) → Routes n s → HasWay n s x y flit
+pub routes_forward_head : (n : Net) (s : NetState) (x y flit : ℕ) → Routes n s → HasWay n s x y flit
     → Routes n (after n s (ForwardHead x y flit))
 routes_forward_head n s x y flit r way =
-    let t : State = after n s (ForwardHead x y flit) in
+    let t : NetState = after n s (ForwardHead x y flit) in
     let h : Note = s.notes x in
     let g : Note = s.notes y in
     let m = way.moves in
     let k : Parcel = m.first in
-    let l : Line = record (s.lines x) { latch = None } in
+    let l : NetLine = record (s.lines x) { latch = None } in
     let new : Note = popped h in
-    let line : Line = forwarded n x flit (s.lines y) in
+    let line : NetLine = forwarded n x flit (s.lines y) in
     let note : Note = record g { parcels = g.parcels ++ take 1 h.parcels; owed = first_tail h.parcels } in
     let ch : AreChangedAt s t x l new y line note = changed_both s x l new y line note way.apart in
     let parcels : g.parcels ++ take 1 h.parcels ≡ g.parcels ++ k ∷ [] = ap (λ (ks : List Parcel). g.parcels ++ ks) m.one in

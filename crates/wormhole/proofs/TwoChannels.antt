@@ -2,13 +2,13 @@
 use Rattle.std.proofs.Common.{◌≡◌, ◌≢◌, ◌⊎◌, inl, inr, ⊎_elim, ℕ, ◌<◌, false, [], Some, None, refl, sym, ◌∙◌, ap, subst}
 use Rattle.std.proofs.lemmas.Bool.{cases_eq}
 use Rattle.wormhole.specs.Net.{Net}
-use Rattle.wormhole.specs.State.{Line, Note, State}
+use Rattle.wormhole.specs.State.{NetLine, Note, NetState}
 use Rattle.wormhole.specs.Words.{IsHeld, Words}
 use Rattle.wormhole.proofs.Changes.{AreChangedAt, kept_both}
 use Rattle.wormhole.proofs.OneChannel.{Local, local_of, held_from}
 
 -- an input and an output after a flit went from one to the other
-pub record IsForwarded (n : Net) (s : State) (x : ℕ) (l : Line) (k : Note) (y : ℕ) (m : Line) (h : Note) : Type 0 where
+pub record IsForwarded (n : Net) (s : NetState) (x : ℕ) (l : NetLine) (k : Note) (y : ℕ) (m : NetLine) (h : Note) : Type 0 where
   pub here : x < n.channels
   pub there : y < n.channels
   pub apart : x ≢ y
@@ -25,7 +25,7 @@ pub record IsForwarded (n : Net) (s : State) (x : ℕ) (l : Line) (k : Note) (y 
   pub only : (z : ℕ) → (s.lines z).owner ≡ Some x → z ≡ y
   pub before : ((s.lines y).owner ≡ None) ⊎ ((s.lines y).owner ≡ Some x)
 
-pub words_two : (n : Net) (s t : State) (x : ℕ) (l : Line) (k : Note) (y : ℕ) (m : Line) (h : Note) → Words n s
+pub words_two : (n : Net) (s t : NetState) (x : ℕ) (l : NetLine) (k : Note) (y : ℕ) (m : NetLine) (h : Note) → Words n s
     → AreChangedAt s t x l k y m h → IsForwarded n s x l k y m h → Words n t
 words_two n s t x l k y m h w c f =
     let local : (z : ℕ) → Local n z (t.lines z) (t.notes z) =
@@ -38,7 +38,7 @@ words_two n s t x l k y m h w c f =
     kept_both (λ z l k. z ≢ y → k.owed ≡ (s.notes z).owed) s t x l k y m h c (λ d. f.owed) (λ d. absurd (d refl)) (λ z d e g. refl) z in
     let awaited_x : (t.notes x).awaited ≡ k.awaited = ap (λ (k : Note). k.awaited) c.note in
     let owed_y : (t.notes y).owed ≡ k.awaited = ap (λ (k : Note). k.owed) c.note_too ∙ f.same in
-    let owner_y : (t.lines y).owner ≡ m.owner = ap (λ (l : Line). l.owner) c.line_too in
+    let owner_y : (t.lines y).owner ≡ m.owner = ap (λ (l : NetLine). l.owner) c.line_too in
     -- the output's owner is the input
     let owner_is : (a : ℕ) → (t.lines y).owner ≡ Some a → (a ≡ x) × (k.awaited ≢ []) = λ a g. ⊎_elim
     (λ (o : (m.owner ≡ Some x) × (k.awaited ≢ [])). let e = o.0 in let i : a ≡ x = cc in (i, o.1))

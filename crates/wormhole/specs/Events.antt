@@ -2,31 +2,31 @@
 use Rattle.std.specs.Prelude.{◌≡◌, ℕ, ◌+◌, ◌-◌, ◌<◌, Bool, true, false, if◌then◌else◌, List, [], ◌∷◌, ◌++◌, Some, None}
 use Rattle.std.specs.Prelude.{take, drop, Option}
 use Rattle.wormhole.specs.Net.{Net, Parcel, IsParcel}
-use Rattle.wormhole.specs.State.{Line, Note, State, update}
+use Rattle.wormhole.specs.State.{NetLine, Note, NetState, update}
 
 -- one flit moves from or to channel x, from x to y, or one credit comes back (Dally and Towles,
 -- chapters 13 and 16)
-pub data Event : Type 0 where
+pub data NetEvent : Type 0 where
   -- a sender puts the head flit of a packet into its injection channel
-  InjectHead : (x : ℕ) (k : Parcel) → Event
+  InjectHead : (x : ℕ) (k : Parcel) → NetEvent
   -- a sender puts the next flit of the packet in course; more are left
-  InjectRest : (x flit : ℕ) (more : List ℕ) → Event
+  InjectRest : (x flit : ℕ) (more : List ℕ) → NetEvent
   -- a router takes the first flit of an input into the latch; more are left in the channel
-  Latch : (x flit : ℕ) (more : List ℕ) → Event
+  Latch : (x flit : ℕ) (more : List ℕ) → NetEvent
   -- a router puts a head flit from an input's latch into an output
-  ForwardHead : (x y flit : ℕ) → Event
+  ForwardHead : (x y flit : ℕ) → NetEvent
   -- a router puts a body or tail flit from an input's latch into the output that the input owns
-  ForwardRest : (x y flit : ℕ) → Event
+  ForwardRest : (x y flit : ℕ) → NetEvent
   -- a receiver takes a head flit from its ejection channel; more are left in the channel
-  AcceptHead : (x flit : ℕ) (more : List ℕ) → Event
+  AcceptHead : (x flit : ℕ) (more : List ℕ) → NetEvent
   -- a receiver takes a body or tail flit
-  AcceptRest : (x flit : ℕ) (more : List ℕ) → Event
+  AcceptRest : (x flit : ℕ) (more : List ℕ) → NetEvent
   -- a credit comes back to a channel's sending end
-  Return : (x : ℕ) → Event
+  Return : (x : ℕ) → NetEvent
 
 -- a sender may begin a packet if none is in course and it holds a credit (Dally and Towles, chapter
 -- 13)
-pub record CanInjectHead (n : Net) (l : Line) (x : ℕ) (k : Parcel) : Type 0 where
+pub record CanInjectHead (n : Net) (l : NetLine) (x : ℕ) (k : Parcel) : Type 0 where
   pub here : x < n.channels
   pub injects : n.injects x ≡ true
   pub idle : l.rest ≡ []
@@ -35,7 +35,7 @@ pub record CanInjectHead (n : Net) (l : Line) (x : ℕ) (k : Parcel) : Type 0 wh
   pub source : k.source ≡ x
 
 -- a packet in course may go on if its sender holds a credit
-pub record CanInjectRest (n : Net) (l : Line) (x flit : ℕ) (more : List ℕ) : Type 0 where
+pub record CanInjectRest (n : Net) (l : NetLine) (x flit : ℕ) (more : List ℕ) : Type 0 where
   pub here : x < n.channels
   pub injects : n.injects x ≡ true
   pub course : l.rest ≡ flit ∷ more
@@ -43,7 +43,7 @@ pub record CanInjectRest (n : Net) (l : Line) (x flit : ℕ) (more : List ℕ) :
 
 -- a router may take the first flit of an input if the latch behind it is empty (Dally and Towles,
 -- chapter 16)
-pub record CanLatch (n : Net) (l : Line) (x flit : ℕ) (more : List ℕ) : Type 0 where
+pub record CanLatch (n : Net) (l : NetLine) (x flit : ℕ) (more : List ℕ) : Type 0 where
   pub here : x < n.channels
   pub input : n.ejects x ≡ false
   pub free : l.latch ≡ None
@@ -51,7 +51,7 @@ pub record CanLatch (n : Net) (l : Line) (x flit : ℕ) (more : List ℕ) : Type
 
 -- a head flit may go to the router's choice for it, if no input owns that output and a credit is
 -- held (chapter 16)
-pub record CanForwardHead (n : Net) (l m : Line) (x y flit : ℕ) : Type 0 where
+pub record CanForwardHead (n : Net) (l m : NetLine) (x y flit : ℕ) : Type 0 where
   pub here : x < n.channels
   pub input : n.ejects x ≡ false
   pub full : l.latch ≡ Some flit
@@ -61,7 +61,7 @@ pub record CanForwardHead (n : Net) (l m : Line) (x y flit : ℕ) : Type 0 where
   pub credit : 0 < m.held
 
 -- a body or tail flit may go to the output that its input owns, if a credit is held (chapter 16)
-pub record CanForwardRest (n : Net) (l m : Line) (x y flit : ℕ) : Type 0 where
+pub record CanForwardRest (n : Net) (l m : NetLine) (x y flit : ℕ) : Type 0 where
   pub here : x < n.channels
   pub input : n.ejects x ≡ false
   pub full : l.latch ≡ Some flit
@@ -70,19 +70,19 @@ pub record CanForwardRest (n : Net) (l m : Line) (x y flit : ℕ) : Type 0 where
   pub credit : 0 < m.held
 
 -- a receiver may take the first flit of its channel, with the head bit or without
-pub record CanAccept (n : Net) (l : Line) (x flit : ℕ) (more : List ℕ) (bit : Bool) : Type 0 where
+pub record CanAccept (n : Net) (l : NetLine) (x flit : ℕ) (more : List ℕ) (bit : Bool) : Type 0 where
   pub here : x < n.channels
   pub ejects : n.ejects x ≡ true
   pub first : l.flits ≡ flit ∷ more
   pub head : n.is_head flit ≡ bit
 
 -- a credit may come back where one returns (Dally and Towles, chapter 13)
-pub record CanReturn (n : Net) (l : Line) (x : ℕ) : Type 0 where
+pub record CanReturn (n : Net) (l : NetLine) (x : ℕ) : Type 0 where
   pub here : x < n.channels
   pub returns : 0 < l.returning
 
 -- when an event may happen: what the channels say of it
-abbrev pub CanHappen : Net → (ℕ → Line) → Event → Type 0
+abbrev pub CanHappen : Net → (ℕ → NetLine) → NetEvent → Type 0
 CanHappen n ls (InjectHead x k) = CanInjectHead n (ls x) x k
 CanHappen n ls (InjectRest x flit more) = CanInjectRest n (ls x) x flit more
 CanHappen n ls (Latch x flit more) = CanLatch n (ls x) x flit more
@@ -94,34 +94,34 @@ CanHappen n ls (Return x) = CanReturn n (ls x) x
 
 -- a channel after a put: the flit is its last, and one credit less is held (Dally and Towles,
 -- chapter 13)
-abbrev pub put : ℕ → Line → Line
+abbrev pub put : ℕ → NetLine → NetLine
 put flit l = record l { flits = l.flits ++ flit ∷ []; held = l.held - 1 }
 
 -- a channel after its first flit was taken: the flit's credit returns (Dally and Towles, chapter
 -- 13)
-abbrev pub taken : List ℕ → Line → Line
+abbrev pub taken : List ℕ → NetLine → NetLine
 taken more l = record l { flits = more; returning = l.returning + 1 }
 
 -- an output after a put from an input: the input owns it until the tail flit (Dally and Towles,
 -- chapter 16)
-abbrev pub forwarded : Net → ℕ → ℕ → Line → Line
+abbrev pub forwarded : Net → ℕ → ℕ → NetLine → NetLine
 forwarded n x flit m = record (put flit m) { owner = if n.is_tail flit then None else Some x }
 
 -- an ejection channel after its receiver took a flit: with a tail flit the packet is whole
-abbrev pub accepted : Net → ℕ → List ℕ → Line → Line
+abbrev pub accepted : Net → ℕ → List ℕ → NetLine → NetLine
 accepted n flit more l = record (taken more l)
     { so_far = if n.is_tail flit then [] else l.so_far ++ flit ∷ [] }
 
 -- an input after its latched flit was put
-abbrev pub unlatched : Line → Line
+abbrev pub unlatched : NetLine → NetLine
 unlatched l = record l { latch = None }
 
 -- a channel after a credit came back (Dally and Towles, chapter 13)
-abbrev pub credited : Line → Line
+abbrev pub credited : NetLine → NetLine
 credited l = record l { held = l.held + 1; returning = l.returning - 1 }
 
 -- the channels after an event
-abbrev pub lines_after : Net → (ℕ → Line) → Event → ℕ → Line
+abbrev pub lines_after : Net → (ℕ → NetLine) → NetEvent → ℕ → NetLine
 lines_after n ls (InjectHead x k) = update ls x (record (put k.head (ls x)) { rest = k.tail })
 lines_after n ls (InjectRest x flit more) = update ls x (record (put flit (ls x)) { rest = more })
 lines_after n ls (Latch x flit more) =
@@ -150,7 +150,7 @@ abbrev pub pushed : List Parcel → Note → Note
 pushed ks h = record h { parcels = h.parcels ++ take 1 ks; owed = first_tail ks }
 
 -- what is noted after an event
-abbrev pub notes_after : (ℕ → Note) → Event → ℕ → Note
+abbrev pub notes_after : (ℕ → Note) → NetEvent → ℕ → Note
 notes_after ns (InjectHead x k) =
     update ns x (record (pushed (k ∷ []) (ns x)) { sent = (ns x).sent ++ k ∷ [] })
 notes_after ns (InjectRest x flit more) = update ns x (record (ns x) { owed = more })
@@ -167,20 +167,20 @@ notes_after ns (AcceptRest x flit more) =
 notes_after ns (Return x) = ns
 
 -- the network after an event
-abbrev pub after : Net → State → Event → State
+abbrev pub after : Net → NetState → NetEvent → NetState
 after n s e = record { lines = lines_after n s.lines e; notes = notes_after s.notes e }
 
 -- the network after an event, or none
-abbrev pub network_after : Net → State → Option Event → State
+abbrev pub network_after : Net → NetState → Option NetEvent → NetState
 network_after n s None = s
 network_after n s (Some e) = after n s e
 
 -- the network after some events
-abbrev pub after_all : Net → State → List Event → State
+abbrev pub after_all : Net → NetState → List NetEvent → NetState
 after_all n s [] = s
 after_all n s (e ∷ es) = after_all n (after n s e) es
 
 -- each event may happen where it does
-abbrev pub CanAllHappen : Net → State → List Event → Type 0
+abbrev pub CanAllHappen : Net → NetState → List NetEvent → Type 0
 CanAllHappen n s [] = Unit {0}
 CanAllHappen n s (e ∷ es) = CanHappen n s.lines e × CanAllHappen n (after n s e) es

@@ -53,16 +53,16 @@ pub record IsNet (n : Net) : Type 0 where
   pub bounded : (x : ℕ) → x < n.channels → n.number x < n.top
 
 -- whether there are no flits
-abbrev pub is_empty : List ℕ → Bool
-is_empty [] = true
-is_empty (flit ∷ flits) = false
+abbrev pub has_no_flit : List ℕ → Bool
+has_no_flit [] = true
+has_no_flit (flit ∷ flits) = false
 
 -- body flits and a tail flit, or none: no head bit, and the tail bit on the last alone (Dally and
 -- Towles, chapter 12)
-abbrev pub IsTailShaped : Net → List ℕ → Type 0
-IsTailShaped n [] = Unit {0}
-IsTailShaped n (flit ∷ flits) =
-    (n.is_head flit ≡ false) × (n.is_tail flit ≡ is_empty flits) × IsTailShaped n flits
+abbrev pub EndsWithTail : Net → List ℕ → Type 0
+EndsWithTail n [] = Unit {0}
+EndsWithTail n (flit ∷ flits) =
+    (n.is_head flit ≡ false) × (n.is_tail flit ≡ has_no_flit flits) × EndsWithTail n flits
 
 -- a packet: the channels that it goes from and to, a number that its sender gives it, its head flit
 -- and those after it
@@ -74,13 +74,13 @@ pub record Parcel : Type 0 where
   pub tail : List ℕ
 
 -- the flits of a packet, in order
-abbrev pub flits_of : Parcel → List ℕ
-flits_of k = k.head ∷ k.tail
+abbrev pub net_flits : Parcel → List ℕ
+net_flits k = k.head ∷ k.tail
 
 -- the flits of some packets, one packet after the other
 abbrev pub flits_of_all : List Parcel → List ℕ
 flits_of_all [] = []
-flits_of_all (k ∷ ks) = flits_of k ++ flits_of_all ks
+flits_of_all (k ∷ ks) = net_flits k ++ flits_of_all ks
 
 -- a packet of the network (Dally and Towles, chapter 12): its head flit alone has the head bit, and
 -- tells where it goes
@@ -89,5 +89,5 @@ pub record IsParcel (n : Net) (k : Parcel) : Type 0 where
   pub head : n.is_head k.head ≡ true
   pub told : n.told k.head ≡ k.destination
   -- a packet of one flit has the tail bit in its head flit
-  pub alone : n.is_tail k.head ≡ is_empty k.tail
-  pub tail : IsTailShaped n k.tail
+  pub alone : n.is_tail k.head ≡ has_no_flit k.tail
+  pub tail : EndsWithTail n k.tail

@@ -2,7 +2,7 @@
 -- two ends.
 use Rattle.std.specs.Prelude.{◌≡◌, ℕ, ◌<◌, ◌==◌, ◌&&◌, true, List, [], ◌∷◌, ◌++◌, Some, All, filter}
 use Rattle.wormhole.specs.Net.{Net, Parcel, IsParcel, IsOn}
-use Rattle.wormhole.specs.State.{State}
+use Rattle.wormhole.specs.State.{NetState}
 
 -- those of some packets that go from an injection channel to an ejection channel
 abbrev pub between : ℕ → ℕ → List Parcel → List Parcel
@@ -15,7 +15,7 @@ on_the_way i j parcels (x ∷ xs) = on_the_way i j parcels xs ++ between i j (pa
 
 -- the packets of two ends: those begun at the receiver, then those on the way, are those sent, in
 -- that order
-abbrev pub IsFlow : Net → State → ℕ → ℕ → Type 0
+abbrev pub IsFlow : Net → NetState → ℕ → ℕ → Type 0
 IsFlow n s i j =
     between i j (s.notes j).begun ++ on_the_way i j (λ x. (s.notes x).parcels) (n.route i j)
     ≡ between i j (s.notes i).sent
@@ -32,7 +32,7 @@ pub record IsBegunHere (n : Net) (x : ℕ) (k : Parcel) : Type 0 where
 
 -- packets are on their routes and in order, and from owner to owned the numbers rise (Dally and
 -- Towles, chapter 14)
-pub record Routes (n : Net) (s : State) : Type 0 where
+pub record Routes (n : Net) (s : NetState) : Type 0 where
   pub on_route : (x : ℕ) → All (λ k. IsOn x (n.route k.source k.destination)) (s.notes x).parcels
   pub rising : (x y : ℕ) → (s.lines y).owner ≡ Some x → n.number x < n.number y
   pub sent : (x : ℕ) → All (IsSentHere n x) (s.notes x).sent

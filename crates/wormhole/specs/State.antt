@@ -3,7 +3,7 @@ use Rattle.std.specs.Prelude.{ℕ, ◌==◌, if◌then◌else◌, List, [], ◌+
 use Rattle.wormhole.specs.Net.{Net, Parcel}
 
 -- a channel and what stands at its two ends (Dally and Towles, chapters 13 and 16)
-pub record Line : Type 0 where
+pub record NetLine : Type 0 where
   -- the flits in its buffer, the first to come out first
   pub flits : List ℕ
   -- the credits that its sending end holds, and those that are on their way back there
@@ -34,12 +34,12 @@ pub record Note : Type 0 where
   pub begun : List Parcel
 
 -- the channels of a network by their numbers, and what is noted of them
-pub record State : Type 0 where
-  pub lines : ℕ → Line
+pub record NetState : Type 0 where
+  pub lines : ℕ → NetLine
   pub notes : ℕ → Note
 
 -- the flits that went into a channel and haven't left the latch behind it, the first to leave first
-abbrev pub in_line : Line → List ℕ
+abbrev pub in_line : NetLine → List ℕ
 in_line l = option_to_list l.latch ++ l.flits
 
 -- a function with a new value at one place
@@ -47,7 +47,7 @@ abbrev pub update : {A : Type 0} → (ℕ → A) → ℕ → A → ℕ → A
 update f x v y = if y == x then v else f y
 
 -- a channel in which nothing is, and of which the sending end holds all credits
-abbrev pub empty_line : Net → Line
+abbrev pub empty_line : Net → NetLine
 empty_line n = record {
   flits = [];
   held = n.depth;
@@ -63,5 +63,5 @@ abbrev pub empty_note : Note
 empty_note = record { parcels = []; awaited = []; owed = []; sent = []; begun = [] }
 
 -- the network before any packet
-abbrev pub empty : Net → State
+abbrev pub empty : Net → NetState
 empty n = record { lines = λ x. empty_line n; notes = λ x. empty_note }

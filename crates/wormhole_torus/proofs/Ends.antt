@@ -15,8 +15,8 @@ use Rattle.channel_number.specs.Number.{number_of}
 use Rattle.channel_number.proofs.Orders.{index_below, one_index}
 use Rattle.channel_number.specs.Order.{channel_at}
 use Rattle.channel_number.specs.Ports.{is_injection, is_ejection, injection_channel, ejection_channel}
-use Rattle.wormhole_torus.specs.TorusNet.{net_of}
-use Rattle.wormhole_torus.specs.Ends.{IsInjection, IsEjection, AreEnds}
+use Rattle.wormhole_torus.specs.TorusNet.{torus_net}
+use Rattle.wormhole_torus.specs.Ends.{IsInjection, IsEjection, AreTorusEnds}
 use Rattle.channel_number.proofs.Decoding.{decoded, encoded}
 use Rattle.wormhole_torus.proofs.Meeting.{injection_is, ejection_is, are_ends}
 
@@ -50,7 +50,7 @@ is_ejection_at s x low e =
           (same_channel c (ejection c.tile c.class) refl refl (ejection_is c.kind e));
     }
 
-pub ends_are : (s : Shape) (depth t : ℕ) (class : Class) → t < tiles_of s → AreEnds (net_of s depth) s t class
+pub ends_are : (s : Shape) (depth t : ℕ) (class : Class) → t < tiles_of s → AreTorusEnds (torus_net s depth) s t class
 ends_are s depth t class low =
     let a = injection_inside s t class low in
     let b = ejection_inside s t class low in
@@ -80,7 +80,7 @@ one_ejection s t u class other low high e =
 
 -- replies are numbered above requests
 pub replies_above : (s : Shape) (depth t u : ℕ) → t < tiles_of s → u < tiles_of s
-    → (net_of s depth).number (ejection_channel s t Request) < (net_of s depth).number (injection_channel s u Reply)
+    → (torus_net s depth).number (ejection_channel s t Request) < (torus_net s depth).number (injection_channel s u Reply)
 replies_above s depth t u low high =
     let e : number_of s (channel_at s (ejection_channel s t Request)) ≡ 0 + 1 + 2 * sum s.radices =
     ap (number_of s) (encoded s (ejection t Request) (ejection_inside s t Request low)) in
@@ -89,7 +89,7 @@ replies_above s depth t u low high =
     omega arith
 
 -- routes are short
-pub few_channels : (s : Shape) (depth i j : ℕ) → IsAccepted s → (net_of s depth).joins i j ≡ true → length ((net_of s depth).route i j) ≤ 10
+pub few_channels : (s : Shape) (depth i j : ℕ) → IsAccepted s → (torus_net s depth).joins i j ≡ true → length ((torus_net s depth).route i j) ≤ 10
 few_channels s depth i j h e =
     let ends = are_ends s i j h e in
     let src : ℕ = (channel_at s i).tile in

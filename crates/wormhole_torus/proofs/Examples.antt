@@ -6,8 +6,8 @@ use Rattle.torus.specs.declared.shape.Dir.TheVariants.{Plus}
 use Rattle.packet.specs.Flit.{field}
 use Rattle.dateline_route.specs.declared.channel.Kind.TheVariants.{Hop, Ejection}
 use Rattle.wormhole.specs.Net.{Net}
-use Rattle.wormhole_torus.specs.TorusNet.{channel_after, joins_in, net_of}
-use Rattle.wormhole_torus.specs.Heads.{output_for}
+use Rattle.wormhole_torus.specs.TorusNet.{torus_channel_after, joins_in, torus_net}
+use Rattle.wormhole_torus.specs.Heads.{head_output}
 
 -- a ring of two tiles, with channels of four flits, and a ring of eight
 abbrev two_tiles : Shape
@@ -17,7 +17,7 @@ abbrev ring_of_eight : Shape
 ring_of_eight = record { radices = 8 ∷ []; datelines = 7 ∷ [] }
 
 abbrev net : Net
-net = net_of two_tiles 4
+net = torus_net two_tiles 4
 
 -- the head flit of a store from tile 0 to tile 1, that of one from tile 1 to tile 3, and a tail flit
 abbrev head : ℕ
@@ -55,15 +55,15 @@ no_request_becomes_a_reply : joins_in two_tiles 8 11 ≡ false
 no_request_becomes_a_reply = refl
 
 -- behind the hop from tile 0 to tile 1 a packet to tile 1 leaves the network there
-hop_then_ejection : channel_after two_tiles (record { tile = 0; class = Request; kind = Hop 0 Plus false }) 1
+hop_then_ejection : torus_channel_after two_tiles (record { tile = 0; class = Request; kind = Hop 0 Plus false }) 1
     ≡ record { tile = 1; class = Request; kind = Ejection }
 hop_then_ejection = refl
 
 -- a packet that comes over the dateline, by input 1 of tile 1, goes on by output 1; one by input 0 goes on by output 0
-bit_is_kept : output_for ring_of_eight 1 1 head_to_3 ≡ 1
+bit_is_kept : head_output ring_of_eight 1 1 head_to_3 ≡ 1
 unfolding field
 bit_is_kept = refl
 
-no_bit_is_made : output_for ring_of_eight 1 0 head_to_3 ≡ 0
+no_bit_is_made : head_output ring_of_eight 1 0 head_to_3 ≡ 0
 unfolding field
 no_bit_is_made = refl

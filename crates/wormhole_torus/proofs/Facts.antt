@@ -19,7 +19,7 @@ use Rattle.wormhole.specs.Net.{IsNet, IsOn}
 use Rattle.wormhole.proofs.Lists.{all_on}
 use Rattle.channel_number.specs.Order.{channel_at}
 use Rattle.channel_number.specs.Ports.{is_injection, is_ejection}
-use Rattle.wormhole_torus.specs.TorusNet.{same_class, joins_in, channel_after, net_of}
+use Rattle.wormhole_torus.specs.TorusNet.{same_class, joins_in, torus_channel_after, torus_net}
 use Rattle.channel_number.proofs.Decoding.{decoded, encoded}
 use Rattle.wormhole_torus.proofs.Meeting.{AreEnds, are_ends, Met, met, split, goes_from, follows_is}
 use Rattle.wormhole_torus.proofs.Numbers.{rises_apart, number_below}
@@ -51,7 +51,7 @@ on_path s i j x before after ends e =
 -- the last channel of a walk is an ejection; after any other comes the router's choice
 walks_on : (s : Shape) → IsAccepted s → (dst : ℕ) (c : Channel) (vs : List Channel) → IsChannel s c → is_ejection c.kind ≡ false
     → WalksOn s dst c vs
-    → (rest : List Channel) × (vs ≡ channel_after s c dst ∷ rest)
+    → (rest : List Channel) × (vs ≡ torus_channel_after s c dst ∷ rest)
 walks_on s h dst c [] inside other w = let e : is_ejection c.kind ≡ true = ap is_ejection w in cc
 walks_on s h dst c (y ∷ ys) inside other w = (ys, ap (λ z. z ∷ ys) (follows_is s h dst c y inside w.0))
 
@@ -83,7 +83,7 @@ rise s i j x y before between after ends e =
     subst (λ z. f c < f z) same risen
 
 -- what packets go between are injections and ejections
-ends_are : (s : Shape) (depth i j : ℕ) → joins_in s i j ≡ true → ((net_of s depth).injects i ≡ true) × ((net_of s depth).ejects j ≡ true)
+ends_are : (s : Shape) (depth i j : ℕ) → joins_in s i j ≡ true → ((torus_net s depth).injects i ≡ true) × ((torus_net s depth).ejects j ≡ true)
 ends_are s depth i j e =
     let x : Channel = channel_at s i in
     let y : Channel = channel_at s j in
@@ -92,7 +92,7 @@ ends_are s depth i j e =
     let both = and_parts from to (and_parts (from && to) (same_class x.class y.class) e).0 in
     ((and_parts (ltb i (channel_count s)) (is_injection x.kind) both.0).1, (and_parts (ltb j (channel_count s)) (is_ejection y.kind) both.1).1)
 
-pub is_net : (s : Shape) (depth : ℕ) → IsAccepted s → IsNet (net_of s depth)
+pub is_net : (s : Shape) (depth : ℕ) → IsAccepted s → IsNet (torus_net s depth)
 is_net s depth h = record {
   senders = λ i j e. (ends_are s depth i j e).0;
   receivers = λ i j e. (ends_are s depth i j e).1;

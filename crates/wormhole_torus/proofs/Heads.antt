@@ -21,16 +21,16 @@ use Rattle.channel_number.proofs.Decoding.{kind_by, encoded}
 use Rattle.channel_number.proofs.Ports.{is_input}
 use Rattle.channel_number.proofs.Leading.{input_by, output_is}
 use Rattle.wormhole.specs.Net.{Parcel}
-use Rattle.wormhole.specs.State.{State}
+use Rattle.wormhole.specs.State.{NetState}
 use Rattle.wormhole.specs.Delivery.{IsRouted}
 use Rattle.wormhole.proofs.Lists.{all_on}
-use Rattle.wormhole_torus.specs.TorusNet.{channel_after, net_of}
-use Rattle.wormhole_torus.specs.Heads.{output_for}
+use Rattle.wormhole_torus.specs.TorusNet.{torus_channel_after, torus_net}
+use Rattle.wormhole_torus.specs.Heads.{head_output}
 use Rattle.wormhole_torus.proofs.Meeting.{are_ends, met}
 
 -- the network's next channel is at the output that the router chooses
 pub next_is : (s : Shape) (depth x dst : ℕ) (class : Class) → dst < tiles_of s
-    → (net_of s depth).next x (ejection_channel s dst class)
+    → (torus_net s depth).next x (ejection_channel s dst class)
     ≡ output_channel s (input_router s x)
     (output_number (dims_of s) (channel_at s x).class (next_of s (input_router s x) (input_of (channel_at s x).kind) dst))
 next_is s depth x dst class low =
@@ -38,7 +38,7 @@ next_is s depth x dst class low =
     let t : ℕ = input_router s x in
     let at : channel_at s (ejection_channel s dst class) ≡ ejection dst class =
     encoded s (ejection dst class) (record { tile = low; kind = tt }) in
-    ap (λ (y : Channel). channel_index s (channel_after s c y.tile)) at
+    ap (λ (y : Channel). channel_index s (torus_channel_after s c y.tile)) at
     ∙ sym (output_is s t c.class (next_of s t (input_of c.kind) dst) (chosen_inside s t (input_of c.kind) dst))
 
 class_one : (a b : Class) → class_place a ≡ class_place b → a ≡ b
@@ -61,7 +61,7 @@ ejection_tells s t u class other e =
     (sym (div-mul-add t per p low) ∙ (ap (λ m. m / per) e ∙ div-mul-add u per q high), class_one class other (omega arith))
 
 -- a head flit in a channel tells a tile of the torus, and the class of the channel
-pub head_tells : (s : Shape) (depth : ℕ) (st : State) (x flit : ℕ) → IsAccepted s → IsRouted (net_of s depth) st x flit
+pub head_tells : (s : Shape) (depth : ℕ) (st : NetState) (x flit : ℕ) → IsAccepted s → IsRouted (torus_net s depth) st x flit
     → (field flit 51 6 < tiles_of s) × ((channel_at s x).class ≡ class_numbered (field flit 57 1))
 head_tells s depth st x flit h r =
     let a : ℕ = field flit 51 6 in
@@ -73,7 +73,7 @@ head_tells s depth st x flit h r =
     let class : Class = (channel_at s k.source).class in
     let path : List Channel = route_of s src dst class in
     let told : ejection_channel s a c ≡ ejection_channel s dst class =
-    ap (net_of s depth).told (sym r.head) ∙ (r.parcel.told ∙ ends.last) in
+    ap (torus_net s depth).told (sym r.head) ∙ (r.parcel.told ∙ ends.last) in
     let same = ejection_tells s a dst c class told in
     let m = met s path r.here.0 x r.here.1 (channels s h src dst ends.trip.from ends.trip.to class) r.here.2 in
     let classes_are = classes s h src dst ends.trip.from ends.trip.to class in (
@@ -84,7 +84,7 @@ head_tells s depth st x flit h r =
 -- the next channel for a tile and the class of an input, at the output that the router chooses
 pub chosen_is : (s : Shape) (depth : ℕ) (t i dst : ℕ) (class : Class) → IsAccepted s → t < tiles_of s → i < port_count (dims_of s)
     → dst < tiles_of s → (channel_at s (input_channel s t i)).class ≡ class
-    → (net_of s depth).next (input_channel s t i) (ejection_channel s dst class)
+    → (torus_net s depth).next (input_channel s t i) (ejection_channel s dst class)
     ≡ output_channel s t (output_number (dims_of s) class (next_of s t (input_numbered (dims_of s) i) dst))
 chosen_is s depth t i dst class h low small there own =
     let x : ℕ = input_channel s t i in
@@ -98,10 +98,10 @@ chosen_is s depth t i dst class h low small there own =
     ∙ (ap (λ u. out class u (input_of (channel_at s x).kind)) at.router ∙ ap (out class t) came))
 
 -- a head flit's next channel, at the output that the router finds from the flit, its tile and the input
-pub head_goes_on : (s : Shape) (depth : ℕ) (st : State) (t i flit : ℕ) → IsAccepted s → t < tiles_of s → i < port_count (dims_of s)
-    → IsRouted (net_of s depth) st (input_channel s t i) flit
+pub head_goes_on : (s : Shape) (depth : ℕ) (st : NetState) (t i flit : ℕ) → IsAccepted s → t < tiles_of s → i < port_count (dims_of s)
+    → IsRouted (torus_net s depth) st (input_channel s t i) flit
     → (field flit 51 6 < tiles_of s)
-    × ((net_of s depth).next (input_channel s t i) ((net_of s depth).told flit) ≡ output_channel s t (output_for s t i flit))
+    × ((torus_net s depth).next (input_channel s t i) ((torus_net s depth).told flit) ≡ output_channel s t (head_output s t i flit))
 head_goes_on s depth st t i flit h low small r =
     let tells = head_tells s depth st (input_channel s t i) flit h r in
     (tells.0, chosen_is s depth t i (field flit 51 6) (class_numbered (field flit 57 1)) h low small tells.0 tells.1)

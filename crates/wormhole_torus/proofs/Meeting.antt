@@ -16,7 +16,7 @@ use Rattle.channel_number.specs.Order.{channel_index, channel_count}
 use Rattle.wormhole.proofs.Lists.{all_on}
 use Rattle.channel_number.specs.Order.{channel_at}
 use Rattle.channel_number.specs.Ports.{is_injection, is_ejection, tile_after}
-use Rattle.wormhole_torus.specs.TorusNet.{same_class, joins_in, channel_after}
+use Rattle.wormhole_torus.specs.TorusNet.{same_class, joins_in, torus_channel_after}
 use Rattle.channel_number.proofs.Decoding.{decoded, encoded}
 use Rattle.channel_number.proofs.Leading.{leads_to_after}
 
@@ -132,7 +132,7 @@ goes_from s src dst class us c vs trip e = at (route_of s src dst class) (route_
     at (x ∷ xs) w e = walks_from s dst x xs us c vs w.1 e
 
 -- the channel that follows another is the router's choice
-pub follows_is : (s : Shape) → IsAccepted s → (dst : ℕ) (x y : Channel) → IsChannel s x → Follows s dst x y → y ≡ channel_after s x dst
+pub follows_is : (s : Shape) → IsAccepted s → (dst : ℕ) (x y : Channel) → IsChannel s x → Follows s dst x y → y ≡ torus_channel_after s x dst
 follows_is s h dst x y c f =
     let tile : y.tile ≡ tile_after s x.tile x.kind = leads_to_after s h x.tile x.kind y.tile c.tile c.kind f.tile in
-    same_channel y (channel_after s x dst) tile f.class (sym f.choice ∙ ap (λ t. kind_of (next_of s t (input_of x.kind) dst)) tile)
+    same_channel y (torus_channel_after s x dst) tile f.class (sym f.choice ∙ ap (λ t. kind_of (next_of s t (input_of x.kind) dst)) tile)

@@ -13,10 +13,10 @@ use Rattle.dateline_route.specs.Walk.{IsChannel}
 use Rattle.dateline_route.proofs.Walks.{injection, ejection}
 use Rattle.channel_number.specs.Order.{channel_index, channel_count}
 use Rattle.channel_number.proofs.Orders.{index_below}
-use Rattle.wormhole.specs.Net.{IsParcel, IsTailShaped, is_empty}
+use Rattle.wormhole.specs.Net.{IsParcel, EndsWithTail, has_no_flit}
 use Rattle.channel_number.specs.Order.{channel_at}
 use Rattle.channel_number.specs.Ports.{is_injection, is_ejection, injection_channel, ejection_channel}
-use Rattle.wormhole_torus.specs.TorusNet.{same_class, joins_in, net_of, parcel_of}
+use Rattle.wormhole_torus.specs.TorusNet.{same_class, joins_in, torus_net, torus_parcel}
 use Rattle.channel_number.proofs.Decoding.{encoded}
 
 own_class : (class : Class) → same_class class class ≡ true
@@ -46,15 +46,15 @@ joined s src dst class from to =
     (ap₂ (λ (v w : Channel). same_class v.class w.class) e f ∙ own_class class)
 
 -- the tail bit of a flit
-alone_is : (bit : ℕ) (tail : List ℕ) → ((bit ≡ 1) → tail ≡ []) → (tail ≡ [] → bit ≡ 1) → eqb bit 1 ≡ is_empty tail
+alone_is : (bit : ℕ) (tail : List ℕ) → ((bit ≡ 1) → tail ≡ []) → (tail ≡ [] → bit ≡ 1) → eqb bit 1 ≡ has_no_flit tail
 alone_is bit [] h g = eq-eqb bit 1 (g refl)
 alone_is bit (f ∷ fs) h g = ne_eqb bit 1 (λ e. let none = h e in cc)
 
-tail_is : (bit : ℕ) (tail : List ℕ) → bit ≡ tail_bit_before tail → eqb bit 1 ≡ is_empty tail
+tail_is : (bit : ℕ) (tail : List ℕ) → bit ≡ tail_bit_before tail → eqb bit 1 ≡ has_no_flit tail
 tail_is bit [] h = eq-eqb bit 1 h
 tail_is bit (f ∷ fs) h = ne_eqb bit 1 (λ e. let none : 0 ≡ 1 = sym h ∙ e in cc)
 
-pub shaped : (s : Shape) (depth : ℕ) (flits : List ℕ) → HasTailShape flits → IsTailShaped (net_of s depth) flits
+pub shaped : (s : Shape) (depth : ℕ) (flits : List ℕ) → HasTailShape flits → EndsWithTail (torus_net s depth) flits
 shaped s depth [] h = tt
 shaped s depth (flit ∷ flits) h = (
   ap (λ (b : Bool). b && eqb (field flit 61 1) 1) (ne_eqb (field flit 63 1) 1 (λ e. let none : 0 ≡ 1 = sym h.0 ∙ e in cc)),
@@ -64,7 +64,7 @@ shaped s depth (flit ∷ flits) h = (
 
 pub is_parcel : (s : Shape) (depth : ℕ) (p : Packet) (index head : ℕ) (tail : List ℕ) → source_of p < tiles_of s
     → destination_of p < tiles_of s → Spells p (head ∷ tail)
-    → IsParcel (net_of s depth) (parcel_of s p index head tail)
+    → IsParcel (torus_net s depth) (torus_parcel s p index head tail)
 is_parcel s depth p index head tail from to spelled =
     let tells : TellsPacket p head = TellsPacket-spelled p head tail spelled in
     let alone = tail_bit-head p head tail spelled in

@@ -20,7 +20,7 @@ pub record IsEjection (s : Shape) (x : ℕ) : Type 0 where
   pub same : x ≡ ejection_channel s tile class
 
 -- what the network says of a tile's injection and ejection for a class
-pub record AreEnds (n : Net) (s : Shape) (t : ℕ) (class : Class) : Type 0 where
+pub record AreTorusEnds (n : Net) (s : Shape) (t : ℕ) (class : Class) : Type 0 where
   pub injection_here : injection_channel s t class < n.channels
   pub ejection_here : ejection_channel s t class < n.channels
   pub injects : n.injects (injection_channel s t class) ≡ true

@@ -24,8 +24,8 @@ same_class _ _ = false
 
 -- the channel that the router behind a channel chooses for packets to a tile (Dally and Towles,
 -- chapter 8)
-abbrev pub channel_after : Shape → Channel → ℕ → Channel
-channel_after s x dst = record {
+abbrev pub torus_channel_after : Shape → Channel → ℕ → Channel
+torus_channel_after s x dst = record {
   tile = tile_after s x.tile x.kind;
   class = x.class;
   kind = kind_of (next_of s (tile_after s x.tile x.kind) (input_of x.kind) dst);
@@ -41,8 +41,8 @@ joins_in s i j =
 
 -- the network of a torus whose channels hold so many flits, in channel order (Dally and Towles,
 -- chapters 5, 8 and 14)
-abbrev pub net_of : Shape → ℕ → Net
-net_of s depth = record {
+abbrev pub torus_net : Shape → ℕ → Net
+torus_net s depth = record {
   channels = channel_count s;
   depth = depth;
   injects = λ x. is_injection (channel_at s x).kind;
@@ -51,7 +51,7 @@ net_of s depth = record {
   route = λ i j.
       map (channel_index s) (route_of s (channel_at s i).tile (channel_at s j).tile
       (channel_at s i).class);
-  next = λ x j. channel_index s (channel_after s (channel_at s x) (channel_at s j).tile);
+  next = λ x j. channel_index s (torus_channel_after s (channel_at s x) (channel_at s j).tile);
   number = λ x. number_of s (channel_at s x);
   top = 4 + 4 * sum s.radices;
   is_head = λ flit. field flit 63 1 == 1 && field flit 61 1 == 1;
@@ -60,8 +60,8 @@ net_of s depth = record {
 }
 
 -- a packet in the network of a torus, spelled by a head flit and the flits after it
-abbrev pub parcel_of : Shape → Packet → ℕ → ℕ → List ℕ → Parcel
-parcel_of s p index head tail = record {
+abbrev pub torus_parcel : Shape → Packet → ℕ → ℕ → List ℕ → Parcel
+torus_parcel s p index head tail = record {
   source = injection_channel s (source_of p) (class_of p);
   destination = ejection_channel s (destination_of p) (class_of p);
   index = index;

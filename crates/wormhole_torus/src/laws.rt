@@ -14,23 +14,23 @@ ghost use Rattle.packet.specs.declared.kinds.Packet.{Packet};
 ghost use Rattle.packet.specs.Spelling.{Spells, source_of, destination_of};
 ghost use Rattle.packet.specs.Flit.{field};
 ghost use Rattle.wormhole.specs.Net.{IsNet, IsParcel};
-ghost use Rattle.wormhole.specs.State.{State};
+ghost use Rattle.wormhole.specs.State.{NetState};
 ghost use Rattle.wormhole.specs.Delivery.{IsRouted};
-ghost use Rattle.wormhole_torus.specs.TorusNet.{net_of, parcel_of};
-ghost use Rattle.wormhole_torus.specs.Ends.{IsInjection, IsEjection, AreEnds};
-ghost use Rattle.wormhole_torus.specs.Heads.{output_for};
+ghost use Rattle.wormhole_torus.specs.TorusNet.{torus_net, torus_parcel};
+ghost use Rattle.wormhole_torus.specs.Ends.{IsInjection, IsEjection, AreTorusEnds};
+ghost use Rattle.wormhole_torus.specs.Heads.{head_output};
 
 /// Every accepted torus, of any depth of its channels, is a wormhole network: its routes go from
 /// end to end, each channel the router's choice, and its numbers rise along them.
 pub fn toruses_are_networks()
-    ensures { (s : Shape) (depth : ℕ) → IsAccepted s → IsNet (net_of s depth) }
+    ensures { (s : Shape) (depth : ℕ) → IsAccepted s → IsNet (torus_net s depth) }
 {}
 
 /// The flits that spell a packet between two tiles are a packet of the network.
 pub fn spellings_are_parcels()
     ensures { (s : Shape) (depth : ℕ) (p : Packet) (index head : ℕ) (tail : List ℕ)
         → source_of p < tiles_of s → destination_of p < tiles_of s → Spells p (head ∷ tail)
-        → IsParcel (net_of s depth) (parcel_of s p index head tail) }
+        → IsParcel (torus_net s depth) (torus_parcel s p index head tail) }
 {}
 
 /// Each input of a router is at a channel of the network that leads to it, and each channel that
@@ -38,46 +38,46 @@ pub fn spellings_are_parcels()
 pub fn routers_have_all_channels()
     ensures inputs { (s : Shape) (depth : ℕ) → IsAccepted s → (t i : ℕ) → t < tiles_of s
         → i < port_count (dims_of s)
-        → IsInput s t i × ((net_of s depth).ejects (input_channel s t i) ≡ false) }
+        → IsInput s t i × ((torus_net s depth).ejects (input_channel s t i) ≡ false) }
     ensures each_input { (s : Shape) (depth : ℕ) → IsAccepted s → (x : ℕ)
-        → x < (net_of s depth).channels
-        → (net_of s depth).ejects x ≡ false → HasInput s x }
+        → x < (torus_net s depth).channels
+        → (torus_net s depth).ejects x ≡ false → HasInput s x }
     ensures outputs { (s : Shape) (depth : ℕ) → IsAccepted s → (t o : ℕ) → t < tiles_of s
         → o < port_count (dims_of s)
-        → IsOutput s t o × ((net_of s depth).injects (output_channel s t o) ≡ false) }
+        → IsOutput s t o × ((torus_net s depth).injects (output_channel s t o) ≡ false) }
     ensures each_output { (s : Shape) (depth : ℕ) → IsAccepted s → (x : ℕ)
-        → x < (net_of s depth).channels
-        → (net_of s depth).injects x ≡ false → HasOutput s x }
+        → x < (torus_net s depth).channels
+        → (torus_net s depth).injects x ≡ false → HasOutput s x }
 {}
 
 /// The next channel of a packet is at the output that the router chooses for its destination, and a
 /// head flit at an input of a router, of a packet that was sent, tells that output.
 pub fn routers_choose_next_channels()
     ensures next { (s : Shape) (depth x dst : ℕ) (class : Class) → dst < tiles_of s
-        → (net_of s depth).next x (ejection_channel s dst class)
+        → (torus_net s depth).next x (ejection_channel s dst class)
         ≡ output_channel s (input_router s x)
         (output_number (dims_of s) (channel_at s x).class
         (next_of s (input_router s x) (input_of (channel_at s x).kind) dst)) }
-    ensures head { (s : Shape) (depth : ℕ) (st : State) (t i flit : ℕ) → IsAccepted s
+    ensures head { (s : Shape) (depth : ℕ) (st : NetState) (t i flit : ℕ) → IsAccepted s
         → t < tiles_of s → i < port_count (dims_of s)
-        → IsRouted (net_of s depth) st (input_channel s t i) flit
+        → IsRouted (torus_net s depth) st (input_channel s t i) flit
         → (field flit 51 6 < tiles_of s)
-        × ((net_of s depth).next (input_channel s t i) ((net_of s depth).told flit)
-        ≡ output_channel s t (output_for s t i flit)) }
+        × ((torus_net s depth).next (input_channel s t i) ((torus_net s depth).told flit)
+        ≡ output_channel s t (head_output s t i flit)) }
 {}
 
 /// The injections and ejections of the network are those of its tiles, each tile's its own, and
 /// replies are numbered above requests.
 pub fn tiles_have_their_ends()
     ensures ends { (s : Shape) (depth t : ℕ) (class : Class) → t < tiles_of s
-        → AreEnds (net_of s depth) s t class }
-    ensures injections { (s : Shape) (depth x : ℕ) → x < (net_of s depth).channels
-        → (net_of s depth).injects x ≡ true → IsInjection s x }
-    ensures ejections { (s : Shape) (depth x : ℕ) → x < (net_of s depth).channels
-        → (net_of s depth).ejects x ≡ true → IsEjection s x }
+        → AreTorusEnds (torus_net s depth) s t class }
+    ensures injections { (s : Shape) (depth x : ℕ) → x < (torus_net s depth).channels
+        → (torus_net s depth).injects x ≡ true → IsInjection s x }
+    ensures ejections { (s : Shape) (depth x : ℕ) → x < (torus_net s depth).channels
+        → (torus_net s depth).ejects x ≡ true → IsEjection s x }
     ensures joined { (s : Shape) (depth src dst : ℕ) (class : Class) → src < tiles_of s
         → dst < tiles_of s
-        → (net_of s depth).joins (injection_channel s src class) (ejection_channel s dst class)
+        → (torus_net s depth).joins (injection_channel s src class) (ejection_channel s dst class)
         ≡ true }
     ensures own_injection { (s : Shape) (t u : ℕ) (class other : Class) → t < tiles_of s → u < tiles_of s
         → injection_channel s t class ≡ injection_channel s u other → (t ≡ u) × (class ≡ other) }
@@ -85,12 +85,12 @@ pub fn tiles_have_their_ends()
         → u < tiles_of s
         → ejection_channel s t class ≡ ejection_channel s u other → (t ≡ u) × (class ≡ other) }
     ensures above { (s : Shape) (depth t u : ℕ) → t < tiles_of s → u < tiles_of s
-        → (net_of s depth).number (ejection_channel s t Request)
-        < (net_of s depth).number (injection_channel s u Reply) }
+        → (torus_net s depth).number (ejection_channel s t Request)
+        < (torus_net s depth).number (injection_channel s u Reply) }
 {}
 
 /// Packets go over at most 10 channels.
 pub fn ways_are_short()
     ensures { (s : Shape) (depth i j : ℕ) → IsAccepted s
-        → (net_of s depth).joins i j ≡ true → length ((net_of s depth).route i j) ≤ 10 }
+        → (torus_net s depth).joins i j ≡ true → length ((torus_net s depth).route i j) ≤ 10 }
 {}

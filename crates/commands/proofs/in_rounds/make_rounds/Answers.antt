@@ -1,8 +1,8 @@
 -- The rounds stop where every script is finished, or where no more are allowed; who watches is told of each, and changes nothing of it.
 use Rattle.std.proofs.Common.{◌≡◌, ℕ, ◌+◌, [], refl, sym, subst, ◌∙◌, arith}
-use Rattle.machine_texts.specs.order_abstract.specs.Load.{Load}
+use Rattle.order_abstract.specs.Load.{Load}
 use Rattle.core_machine.specs.Machine.{IsAfter}
-use Rattle.machine_texts.specs.Rounds.{AreFewest}
+use Rattle.machine_core.specs.FewestRounds.{AreFewest}
 use Rattle.commands.specs.Telling.{AreCallsOf}
 use Rattle.commands.proofs.InRounds.{HasMade, as_allowed, enough, none_made, one_more}
 use Rattle.commands.proofs.Telling.{hears_none, round_heard}

@@ -1,5 +1,5 @@
 use Rattle.std.proofs.Common.{[]}
-use Rattle.machine_texts.specs.order_abstract.specs.Load.{Load}
+use Rattle.order_abstract.specs.Load.{Load}
 use Rattle.core_machine.specs.Machine.{IsAfter}
 use Rattle.commands.specs.Telling.{AreCallsOf, HearsSome}
 use Rattle.commands.proofs.InRounds.{HasMade}

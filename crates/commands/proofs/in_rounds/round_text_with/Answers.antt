@@ -3,12 +3,12 @@ use Rattle.std.proofs.Common.{◌≡◌, ◌-◌, ℕ, Result, ap, subst, sym, �
 use Rattle.std.proofs.lemmas.Result.{err_from_is_err_and}
 use Rattle.std.specs.Str.Lines.{lines}
 use Rattle.script.specs.declared.fault.LineFault.{LineFault}
-use Rattle.machine_texts.specs.order_abstract.specs.Load.{Load}
-use Rattle.machine_texts.specs.machine_core.specs.Rounds.{rounds_of}
-use Rattle.core_machine.specs.core_progress.specs.Moves.{moves_made}
+use Rattle.order_abstract.specs.Load.{Load}
+use Rattle.machine_core.specs.Rounds.{rounds_of}
+use Rattle.core_progress.specs.Moves.{moves_made}
 use Rattle.program_fault.specs.Outcome.{IsReadFault, IsTextsFault}
 use Rattle.commands.specs.Run.{IsNoFault, IsOfMachine}
-use Rattle.machine_texts.specs.Loading.{HasLoaded, load_by}
+use Rattle.machine_core.specs.Loading.{HasLoaded, load_by}
 use Rattle.commands.specs.Rounds.{HasMadeRounds, IsRoundText}
 use Rattle.commands.specs.Telling.{AreRoundsCalls, AreRunCalls, HearsSome}
 use Rattle.commands.proofs.Asked.{does_more}

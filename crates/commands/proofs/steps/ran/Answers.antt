@@ -2,7 +2,7 @@
 use Rattle.std.proofs.Common.{◌-◌, ℕ, List, [], ap, subst, ◌∙◌}
 use Rattle.std.specs.Str.Lines.{lines}
 use Rattle.torus.specs.declared.step.Step.{Step}
-use Rattle.machine_texts.specs.order_abstract.specs.Load.{Load, load_of}
+use Rattle.order_abstract.specs.Load.{Load, load_of}
 use Rattle.core_machine.specs.Machine.{IsAfter}
 use Rattle.commands.proofs.Asked.{all_read}
 use Rattle.commands.proofs.Telling.{moved_since}

@@ -1,4 +1,4 @@
-use Rattle.core_moves.specs.script_follower.proofs.Grown.{first_with, next_with, issue_with, answer_with}
+use Rattle.script_follower.proofs.Grown.{first_with, next_with, issue_with, answer_with}
 use Rattle.core_growth.proofs.laws.followers_take_lines.Goals as goal
 
 pub returns : goal.returns

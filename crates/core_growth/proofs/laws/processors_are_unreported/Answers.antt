@@ -1,4 +1,4 @@
-use Rattle.core_moves.specs.core_laws.specs.Core.{design_of, first_state}
+use Rattle.core_laws.specs.Core.{design_of, first_state}
 use Rattle.core_growth.proofs.Reports.{first_unreported, unfinished_unreported, unreported_step, unreported_after}
 use Rattle.core_growth.proofs.laws.processors_are_unreported.Goals as goal
 

@@ -1,7 +1,7 @@
 use Rattle.script.specs.declared.line.Line.TheVariants as line
 use Rattle.std.proofs.Common.{ap, List}
 use Rattle.core_growth.specs.Appended.{tile_with}
-use Rattle.core_moves.specs.tile_laws.specs.Tile.{TileState}
+use Rattle.core_laws.specs.Tile.{TileState}
 use Rattle.core_growth.proofs.Places.{changed_is}
 use Rattle.core_growth.proofs.Steps.{grown_step, same_event, unreported_with}
 use Rattle.core_growth.proofs.Loads.{state_first}

@@ -1,4 +1,4 @@
-use Rattle.core_progress.specs.order_abstract.proofs.LoadingAccepted.{accepted_load}
+use Rattle.order_abstract.proofs.LoadingAccepted.{accepted_load}
 use Rattle.core_machine.proofs.laws.readers_give_accepted_loads.Goals as goal
 
 pub returns : goal.returns

@@ -1,4 +1,4 @@
-use Rattle.core_row.proofs.Reached as reached
+use Rattle.core_row.proofs.RowOfRuns as reached
 use Rattle.core_row.proofs.laws.attempts_are_word_operations.Goals as goal
 
 pub returns : goal.returns

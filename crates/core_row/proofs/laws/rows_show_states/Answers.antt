@@ -1,4 +1,4 @@
-use Rattle.core_row.proofs.Reached as reached
+use Rattle.core_row.proofs.RowOfRuns as reached
 use Rattle.core_row.proofs.laws.rows_show_states.Goals as goal
 
 pub returns : goal.returns

@@ -1,4 +1,4 @@
-use Rattle.core_seen.specs.core_laws.specs.Core.{design_of, after}
+use Rattle.core_laws.specs.Core.{design_of, after}
 use Rattle.core_wake.proofs.Wakes.{ready_after, disturbed_wake, others_sleep, services_wake}
 use Rattle.core_wake.proofs.laws.moves_wake_few.Goals as goal
 

@@ -1,4 +1,4 @@
-use Rattle.core_seen.specs.core_laws.specs.Core.{design_of, after}
+use Rattle.core_laws.specs.Core.{design_of, after}
 use Rattle.core_wake.proofs.Wakes.{ready_after, distant}
 use Rattle.core_wake.proofs.laws.steps_leave_distant_choices.Goals as goal
 

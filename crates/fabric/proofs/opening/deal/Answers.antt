@@ -1,7 +1,7 @@
 use Rattle.std.proofs.Common.{rules, arith, refl, sym, ◌≡◌, ℕ, List, [], ◌∷◌, ◌++◌, drop, map, ap, ◌∙◌, subst}
 use Rattle.std.proofs.lemmas.List.{drop_more}
 use Rattle.torus.specs.Shape.{tiles_of}
-use Rattle.fabric_rule.specs.core_laws.specs.Core.{Load}
+use Rattle.fabric_rule.specs.Core.{Load}
 use Rattle.fabric_rule.specs.Groups.{other_groups}
 use Rattle.fabric.specs.Key.{ranges, Rises}
 use Rattle.fabric.specs.Seats.{Knowing}

@@ -1,6 +1,6 @@
 use Rattle.std.proofs.Common.{◌≡◌, ℕ, ◌∙◌, subst, arith, rules}
-use Rattle.machine_asked.specs.machine_core.specs.core_machine.specs.Machine.{core_after}
-use Rattle.machine_asked.specs.machine_core.specs.Rounds.{rounds_of}
+use Rattle.core_machine.specs.Machine.{core_after}
+use Rattle.machine_asked.specs.Rounds.{rounds_of}
 use Rattle.live_command.proofs.RoundsMade.{led_on, one_more}
 use Rattle.live_command.proofs.obeying.made.Goals as goal
 

@@ -1,6 +1,6 @@
 use Rattle.std.proofs.Common.{◌≡◌}
-use Rattle.machine_asked.specs.machine_core.specs.core_machine.specs.Machine.{core_after}
-use Rattle.machine_asked.specs.machine_core.specs.Rounds.{rounds_of}
+use Rattle.core_machine.specs.Machine.{core_after}
+use Rattle.machine_asked.specs.Rounds.{rounds_of}
 use Rattle.live_command.proofs.obeying.made.Given as goal
 
 -- so many rounds are made

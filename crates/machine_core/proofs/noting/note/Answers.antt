@@ -1,9 +1,9 @@
 use Rattle.std.proofs.Common.{◌≡◌, ◌<◌, ℕ, length, sym, ◌∙◌, ap, arith, slice_get}
 use Rattle.std.proofs.lemmas.Option.{same_Some}
-use Rattle.machine_growth.specs.order_abstract.specs.EventBook.{noted_service}
-use Rattle.machine_growth.specs.tile_laws.specs.Agents.{state_of}
-use Rattle.machine_growth.specs.tile.specs.Placed.{PlacedTile}
-use Rattle.machine_growth.specs.core_seen.specs.Notes.{RoomToNoteAnswer, index_served}
+use Rattle.machine_parts.specs.EventBook.{noted_service}
+use Rattle.tile_laws.specs.Agents.{state_of}
+use Rattle.machine_parts.specs.Placed.{PlacedTile}
+use Rattle.machine_parts.specs.Notes.{RoomToNoteAnswer, index_served}
 use Rattle.machine_core.specs.Noted.{HasRoomForIssue, HasRoomForService, records_in}
 use Rattle.machine_core.proofs.NotedBooks.{seen_at, looked_up, noted_as_issue, noted_as_answer, noted_as_service, noted_as_nothing, served_at}
 use Rattle.machine_core.proofs.noting.note.Given.{Over}

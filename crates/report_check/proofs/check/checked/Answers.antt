@@ -3,7 +3,7 @@ use Rattle.std.proofs.lemmas.Bool.{eqb-false}
 use Rattle.report_lines.specs.Line.{line_text}
 use Rattle.report_check.specs.Seen.{seen_of}
 use Rattle.report_check.specs.Shows.{Checks}
-use Rattle.report_reader.proofs.Joined.{line_some}
+use Rattle.report_lines.proofs.Joined.{line_some}
 use Rattle.report_check.proofs.Progress.{progress_more, stuck_refused, stuck_unread, first_bad}
 use Rattle.report_check.proofs.check.checked.Goals as goal
 use Rattle.report_check.proofs.check.checked.Goals.{else-checker-eq8-via-then-checker-eq8+else-is_empty, else-checker-eq8-via-else-checker-eq8}

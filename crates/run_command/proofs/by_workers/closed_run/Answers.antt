@@ -3,7 +3,7 @@ use Rattle.std.proofs.Common.{◌≡◌, List, [], map, refl, rules, sym, ap, �
 use Rattle.std.specs.Prelude.{min}
 use Rattle.std.proofs.lemmas.List.{length-map}
 use Rattle.torus.specs.Shape.{tiles_of}
-use Rattle.history.specs.worker_run.specs.fabric.specs.Seats.{Knowing}
+use Rattle.history.specs.Seats.{Knowing}
 use Rattle.core_machine.specs.Machine.{core_after}
 use Rattle.run_command.specs.Workers.{crew, new_worker}
 use Rattle.run_command.proofs.ByWorkers.{IsCrew, crew_made, crew_whole, made_by_workers, seats_count, seats_own}

@@ -1,7 +1,7 @@
 -- The cuts can be dealt, and the seats between them are those of the workers.
 use Rattle.std.proofs.Common.{ℕ, List, Err, ap, sym, ◌∙◌, subst, ⊎_elim}
 use Rattle.torus.specs.Shape.{tiles_of}
-use Rattle.history.specs.worker_run.specs.fabric.specs.Opening.{CanDeal}
+use Rattle.history.specs.Opening.{CanDeal}
 use Rattle.run_command.proofs.Shares.{can_deal_shares}
 use Rattle.run_command.proofs.ByWorkers.{seats_dealt}
 use Rattle.run_command.proofs.by_workers.opened.Goals as goal

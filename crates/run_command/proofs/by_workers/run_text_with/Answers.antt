@@ -3,10 +3,10 @@ use Rattle.std.proofs.Common.{Result, subst, sym}
 use Rattle.std.proofs.lemmas.Result.{err_from_is_err_and}
 use Rattle.std.specs.Str.Lines.{lines}
 use Rattle.script.specs.declared.fault.LineFault.{LineFault}
-use Rattle.machine_texts.specs.order_abstract.specs.Load.{Load}
+use Rattle.order_abstract.specs.Load.{Load}
 use Rattle.program_fault.specs.Outcome.{IsReadFault, IsTextsFault}
 use Rattle.commands.specs.Run.{IsNoFault}
-use Rattle.machine_texts.specs.Loading.{HasLoaded, load_by}
+use Rattle.machine_core.specs.Loading.{HasLoaded, load_by}
 use Rattle.run_command.specs.Workers.{IsMadeByWorkers, IsOfEnded, IsWorkersText}
 use Rattle.commands.proofs.Asked.{does_more}
 use Rattle.run_command.proofs.ByWorkers.{workers_printed}

@@ -3,9 +3,9 @@ use Rattle.std.proofs.Common.{◌≡◌, ◌++◌, ℕ, All, List, take, drop, l
 use Rattle.std.specs.Prelude.{slice_index_or}
 use Rattle.std.proofs.lemmas.List.{length-map}
 use Rattle.std.proofs.lemmas.List.Elements.{All-map}
-use Rattle.history.specs.worker_run.specs.fabric.specs.Seats.{IsOf}
-use Rattle.history.specs.worker_run.specs.Watching.{IsWatched}
-use Rattle.history.specs.worker_run.specs.Working.{Working, HasWorked}
+use Rattle.history.specs.Seats.{IsSeatOf}
+use Rattle.worker_run.specs.Watching.{IsWatched}
+use Rattle.worker_run.specs.Working.{Working, HasWorked}
 use Rattle.run_command.specs.Workers.{new_worker}
 use Rattle.run_command.proofs.ByWorkers.{own_after, worked_open}
 use Rattle.run_command.proofs.Lent.{lent}
@@ -15,8 +15,8 @@ use Rattle.run_command.proofs.by_workers.worked.Goals as goal
 pub run_workers-requires-clause-own : goal.run_workers-requires-clause-own
 run_workers-requires-clause-own g c κs within =
     let is = c.as_mut_slice.ensures.value ∙ c.in_ok-workers.ensures in
-    subst (All (λ (w : Working). IsOf c.args.fabric.now w.knows)) (sym is)
-    (All-map (λ (w : Working). IsOf c.args.fabric.now w.knows) new_worker c.args.seats.items c.requires.own)
+    subst (All (λ (w : Working). IsSeatOf c.args.fabric.now w.knows)) (sym is)
+    (All-map (λ (w : Working). IsSeatOf c.args.fabric.now w.knows) new_worker c.args.seats.items c.requires.own)
 
 pub run_workers-requires-clause-few : goal.run_workers-requires-clause-few
 run_workers-requires-clause-few g c κs within =
@@ -36,10 +36,10 @@ returns-clause-own g c =
     let new : List Working = c.run_workers.new.workers in
     let size : length old ≡ v.len = (let n = v.ok.0 in omega (arith, n)) in
     let is = c.as_mut_slice.ensures.value ∙ c.in_ok-workers.ensures in
-    let own : All (λ (w : Working). IsOf c.args.fabric.now w.knows) c.as_mut_slice.result.now =
-    subst (All (λ (w : Working). IsOf c.args.fabric.now w.knows)) (sym is)
-    (All-map (λ (w : Working). IsOf c.args.fabric.now w.knows) new_worker c.args.seats.items c.requires.own) in
-    subst (All (λ (w : Working). IsOf c.args.fabric.now w.knows))
+    let own : All (λ (w : Working). IsSeatOf c.args.fabric.now w.knows) c.as_mut_slice.result.now =
+    subst (All (λ (w : Working). IsSeatOf c.args.fabric.now w.knows)) (sym is)
+    (All-map (λ (w : Working). IsSeatOf c.args.fabric.now w.knows) new_worker c.args.seats.items c.requires.own) in
+    subst (All (λ (w : Working). IsSeatOf c.args.fabric.now w.knows))
     (sym (back v.len old c.as_mut_slice.result.now new size c.as_mut_slice.ensures.value c.run_workers.ensures.count))
     (own_after c.args.fabric.now c.args.turns c.as_mut_slice.result.now new c.run_workers.ensures.count own
     (λ i d lt. worked_open (g.G.Gate.holds c.args.gate.now) (g.G.Gate.stops c.args.gate.now) c.args.turns i

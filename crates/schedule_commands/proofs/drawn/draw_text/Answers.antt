@@ -4,9 +4,9 @@ use Rattle.std.specs.Prelude.{unwrap_or}
 use Rattle.std.proofs.lemmas.Result.{err_from_is_err_and}
 use Rattle.std.specs.Str.Lines.{lines}
 use Rattle.script.specs.declared.fault.LineFault.{LineFault}
-use Rattle.core_machine.specs.order_abstract.specs.Load.{Load}
-use Rattle.core_machine.specs.core_laws.specs.Core.{round}
-use Rattle.machine_texts.specs.Loading.{load_by}
+use Rattle.order_abstract.specs.Load.{Load}
+use Rattle.core_laws.specs.Core.{round}
+use Rattle.machine_core.specs.Loading.{load_by}
 use Rattle.schedule_commands.proofs.DrawTold.{draw_begun, draw_last, draw_whole}
 use Rattle.schedule_commands.proofs.drawn.draw_text.Given.{Over}
 use Rattle.schedule_commands.proofs.drawn.draw_text.Goals as goal

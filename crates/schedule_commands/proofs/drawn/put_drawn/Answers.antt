@@ -2,7 +2,7 @@
 use Rattle.std.proofs.Common.{◌≡◌, ℕ, ◌-◌, List, [], ◌∷◌, refl, sym, ap, ◌∙◌, arith}
 use Rattle.torus.specs.declared.step.Step.{Step}
 use Rattle.std.proofs.lemmas.Result.{err_from_is_err_and}
-use Rattle.core_machine.specs.core_laws.specs.Core.{round}
+use Rattle.core_laws.specs.Core.{round}
 use Rattle.core_machine.specs.Machine.{Core}
 use Rattle.machine_core.proofs.Rounds.{same_shape}
 use Rattle.schedule_commands.specs.Drawn.{drawn_of, enabled_now}

@@ -1,5 +1,5 @@
 use Rattle.std.proofs.Common.{◌≡◌}
-use Rattle.core_machine.specs.core_laws.specs.Core.{round}
+use Rattle.core_laws.specs.Core.{round}
 use Rattle.program_fault.specs.Done.{output}
 use Rattle.schedule_commands.proofs.Drawing.{HasDrawn}
 use Rattle.schedule_commands.proofs.drawn.put_drawn.Given as goal

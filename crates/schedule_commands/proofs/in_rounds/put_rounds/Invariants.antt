@@ -1,6 +1,6 @@
 use Rattle.std.proofs.Common.{◌≡◌, []}
-use Rattle.core_machine.specs.order_abstract.specs.Load.{Load}
-use Rattle.core_machine.specs.core_laws.specs.Core.{round}
+use Rattle.order_abstract.specs.Load.{Load}
+use Rattle.core_laws.specs.Core.{round}
 use Rattle.core_machine.specs.Machine.{IsAfter}
 use Rattle.program_fault.specs.Done.{output}
 use Rattle.schedule_commands.proofs.InRounds.{HasMade}

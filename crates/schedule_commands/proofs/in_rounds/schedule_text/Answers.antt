@@ -3,9 +3,9 @@ use Rattle.std.proofs.Common.{Result, ap, ◌∙◌}
 use Rattle.std.proofs.lemmas.Result.{err_from_is_err_and}
 use Rattle.std.specs.Str.Lines.{lines}
 use Rattle.script.specs.declared.fault.LineFault.{LineFault}
-use Rattle.core_machine.specs.order_abstract.specs.Load.{Load}
-use Rattle.core_machine.specs.core_laws.specs.Core.{round}
-use Rattle.machine_texts.specs.Loading.{HasLoaded, load_by}
+use Rattle.order_abstract.specs.Load.{Load}
+use Rattle.core_laws.specs.Core.{round}
+use Rattle.machine_core.specs.Loading.{HasLoaded, load_by}
 use Rattle.schedule_commands.proofs.Told.{rounds_front, rounds_last, rounds_whole}
 use Rattle.schedule_commands.proofs.in_rounds.schedule_text.Goals as goal
 

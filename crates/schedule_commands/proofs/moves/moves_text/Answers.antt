@@ -3,7 +3,7 @@ use Rattle.std.proofs.Common.{Result, sym, subst}
 use Rattle.std.proofs.lemmas.Result.{err_from_is_err_and}
 use Rattle.std.specs.Str.Lines.{lines}
 use Rattle.script.specs.declared.fault.LineFault.{LineFault}
-use Rattle.machine_texts.specs.Run.{Asked, asked_of}
+use Rattle.machine_core.specs.Run.{Asked, asked_of}
 use Rattle.schedule_commands.specs.Asked.{HasOpened}
 use Rattle.schedule_commands.proofs.Told.{moves_front, moves_last, moves_whole}
 use Rattle.schedule_commands.proofs.moves.moves_text.Goals as goal

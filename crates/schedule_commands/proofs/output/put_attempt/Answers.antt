@@ -2,7 +2,7 @@
 use Rattle.std.proofs.Common.{List, sym, ap, ◌∙◌}
 use Rattle.std.proofs.lemmas.Result.{err_from_is_err_and}
 use Rattle.torus.specs.declared.step.Step.{Step}
-use Rattle.schedule_lines.specs.Line.{text_of}
+use Rattle.schedule_commands.specs.Line.{text_of}
 use Rattle.schedule_commands.specs.Output.{headed, heading_behind}
 use Rattle.schedule_commands.proofs.Attempts.{one_idle, one_moved}
 use Rattle.schedule_commands.proofs.Headed.{headed_none}

@@ -1,8 +1,8 @@
 -- The last line says whether every script is finished.
 use Rattle.std.proofs.Common.{Bool, ap}
 use Rattle.std.proofs.lemmas.Result.{err_from_is_err_and}
-use Rattle.schedule_lines.specs.declared.line.ScheduleLine.TheVariants.{End}
-use Rattle.schedule_lines.specs.Line.{line_text}
+use Rattle.schedule_commands.specs.declared.line.ScheduleLine.TheVariants.{End}
+use Rattle.schedule_commands.specs.Line.{line_text}
 use Rattle.schedule_commands.proofs.Outputs.{all_same, front_same}
 use Rattle.schedule_commands.proofs.output.put_end.Goals as goal
 

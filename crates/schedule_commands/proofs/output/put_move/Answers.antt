@@ -1,8 +1,8 @@
 -- The line of the move comes behind the heading, where there is one.
 use Rattle.std.proofs.Common.{subst}
 use Rattle.std.proofs.lemmas.Result.{err_from_is_err_and}
-use Rattle.schedule_lines.specs.declared.line.ScheduleLine.TheVariants.{Move, Round}
-use Rattle.schedule_lines.specs.Line.{line_text}
+use Rattle.schedule_commands.specs.declared.line.ScheduleLine.TheVariants.{Move, Round}
+use Rattle.schedule_commands.specs.Line.{line_text}
 use Rattle.program_fault.specs.Done.{TookFront}
 use Rattle.schedule_commands.proofs.Headed.{one_bare, one_headed}
 use Rattle.schedule_commands.proofs.Outputs.{front_of_more, then_took, took_same}

@@ -5,7 +5,7 @@ use Rattle.std.proofs.lemmas.List.{at_drop_all, at_drop_more}
 use Rattle.std.proofs.lemmas.Result.{err_from_is_err_and}
 use Rattle.torus.specs.declared.step.Step.{Step}
 use Rattle.core_machine.specs.Machine.{core_after}
-use Rattle.schedule_lines.specs.Line.{text_of}
+use Rattle.schedule_commands.specs.Line.{text_of}
 use Rattle.program_fault.specs.Done.{TookAll}
 use Rattle.schedule_commands.specs.Output.{headed}
 use Rattle.schedule_commands.proofs.Attempts.{HasPut, put_front, put_more, start_put, all_put, all_led}

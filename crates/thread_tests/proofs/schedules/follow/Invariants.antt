@@ -1,8 +1,8 @@
-use Rattle.fabric.specs.Seats.{IsOf}
+use Rattle.fabric.specs.Seats.{IsSeatOf}
 use Rattle.thread_tests.proofs.schedules.follow.Given as goal
 
 abbrev pub invariant-loop-schedule : goal.invariant-loop-schedule
-invariant-loop-schedule l = IsOf l.fabric l.seat
+invariant-loop-schedule l = IsSeatOf l.fabric l.seat
 
 abbrev pub invariant-loop-place : goal.invariant-loop-place
-invariant-loop-place l = IsOf l.fabric l.seat
+invariant-loop-place l = IsSeatOf l.fabric l.seat

@@ -1,7 +1,7 @@
 -- What is named is an operation.
 use Rattle.std.proofs.Common.{◌≡◌, true, sym, subst}
 use Rattle.std.specs.Prelude.{IfSome}
-use Rattle.machine_handle.specs.machine_asked.specs.Asked.{is_operation}
+use Rattle.machine_asked.specs.Asked.{is_operation}
 use Rattle.torusmem_c.proofs.Asking.{named_operation}
 use Rattle.torusmem_c.proofs.appending.torusmem_ask.Goals as goal
 

@@ -1,6 +1,6 @@
 use Rattle.std.proofs.Common.{◌≡◌, ◌<◌, ◌≤◌, ◌∙◌, ◌++◌, List, length, map, ap, arith}
 use Rattle.std.proofs.lemmas.List.{take_all}
-use Rattle.spins_told.specs.declared.spins.SpentSpin.{SpentSpin}
+use Rattle.sentences.specs.declared.spins.SpentSpin.{SpentSpin}
 use Rattle.torusmem_c.specs.Spins.{spin_record}
 use Rattle.torusmem_c.proofs.SpinLists.{spin_more}
 use Rattle.torusmem_c.proofs.spinning.add_records.Goals as goal

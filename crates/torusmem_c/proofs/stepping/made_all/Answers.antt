@@ -1,13 +1,13 @@
 use Rattle.std.proofs.Common.{◌≡◌, ◌≤◌, ◌-◌, ◌+◌, ◌++◌, ℕ, List, length, sym, ◌∙◌, ap, subst, arith}
 use Rattle.std.proofs.lemmas.List.{at_drop_all}
 use Rattle.torus.specs.declared.step.Step.{Step}
-use Rattle.rounds.specs.Rounds.{moves_in}
-use Rattle.machine_handle.specs.machine_core.specs.core_laws.specs.Core.{step}
-use Rattle.machine_handle.specs.core_machine.specs.Machine.{Core, IsAfter, built_to, core_after}
-use Rattle.machine_handle.specs.core_machine.proofs.Machines.{after_steps}
+use Rattle.core_progress.specs.Rounds.{moves_in}
+use Rattle.core_laws.specs.Core.{step}
+use Rattle.core_machine.specs.Machine.{Core, IsAfter, built_to, core_after}
+use Rattle.core_machine.proofs.Machines.{after_steps}
 use Rattle.torusmem_c.specs.declared.outcome.Code.TheVariants as code
 use Rattle.torusmem_c.specs.declared.stepping.AttemptRecord.{AttemptRecord}
-use Rattle.torusmem_c.specs.Outcome.{outcome}
+use Rattle.torusmem_c.specs.Outcome.{c_outcome}
 use Rattle.torusmem_c.specs.Steps.{steps_named}
 use Rattle.torusmem_c.proofs.Runs.{falls}
 use Rattle.torusmem_c.proofs.stepping.made_all.Goals as goal
@@ -44,7 +44,7 @@ returns c =
       spins = c.loop-it.invariant.spins;
       core = record {
         state = led c;
-        answer = ap (λ (n : ℕ). outcome code.Done n) moves;
+        answer = ap (λ (n : ℕ). c_outcome code.Done n) moves;
         left = falls c.reached.ensures.load now c.loop-it.machine.core c.reached.ensures.steps steps c.reached.ensures.after (led c);
         runs_on = λ l before h. subst (λ (x : Core). IsAfter l x (before ++ steps)) (sym (led c)) (after_steps l now before steps h);
       };

@@ -2,23 +2,23 @@
 use Rattle.std.proofs.Common.{ℕ, List, IfOk, IfErr, sym, subst}
 use Rattle.std.specs.Prelude.{Option, Result, Ok, Err}
 use Rattle.std.specs.Global.{Global}
-use Rattle.trace_order.specs.declared.event.Event.{Event}
+use Rattle.trace_laws.specs.declared.event.Event.{Event}
 use Rattle.trace_watch.specs.declared.watch.Watch.{Watch}
 use Rattle.trace_watch.specs.declared.watch.Seen.{Seen}
 use Rattle.trace_watch.specs.declared.watch.Full.{Full}
-use Rattle.trace_watch.specs.Follows.{AnswersFew, Follows, TellsFull, TellsSeen}
+use Rattle.trace_watch.specs.Follows.{AnswersFew, Tracks, TellsFull, TellsSeen}
 use Rattle.torusmem_c.specs.Watching.{TakesEvent, Watches}
 use Rattle.torusmem_c.proofs.watching.taken.Goals as goal
 
 -- the four clauses of the event of a watch
 watched : (event : Event) (bound : ℕ) (old new : Watch Global) (r : Result Seen Full)
-    → IfOk r (λ seen. (opening : List ℕ) (trace : List Event) → Follows opening trace old
+    → IfOk r (λ seen. (opening : List ℕ) (trace : List Event) → Tracks opening trace old
     → TellsSeen opening trace event new seen)
-    → IfErr r (λ full. (opening : List ℕ) (trace : List Event) → Follows opening trace old
-    → Follows opening trace new)
-    → IfErr r (λ full. (opening : List ℕ) (trace : List Event) → Follows opening trace old
+    → IfErr r (λ full. (opening : List ℕ) (trace : List Event) → Tracks opening trace old
+    → Tracks opening trace new)
+    → IfErr r (λ full. (opening : List ℕ) (trace : List Event) → Tracks opening trace old
     → TellsFull opening trace event bound full)
-    → IfOk r (λ seen. (opening : List ℕ) (trace : List Event) → Follows opening trace old
+    → IfOk r (λ seen. (opening : List ℕ) (trace : List Event) → Tracks opening trace old
     → AnswersFew trace event bound old)
     → Watches event bound old new r
 watched event bound old new (Ok told) seen same full few =

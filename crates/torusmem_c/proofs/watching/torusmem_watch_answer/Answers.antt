@@ -1,7 +1,7 @@
 -- The watch that was held takes the event that is named.
 use Rattle.std.proofs.Common.{refl, subst}
 use Rattle.std.specs.Prelude.{Option}
-use Rattle.trace_order.specs.declared.event.Event.{Event}
+use Rattle.trace_laws.specs.declared.event.Event.{Event}
 use Rattle.torusmem_c.specs.Watching.{TakesEvent}
 use Rattle.torusmem_c.proofs.watching.torusmem_watch_answer.Goals as goal
 

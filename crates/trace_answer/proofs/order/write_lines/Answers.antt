@@ -3,7 +3,7 @@ use Rattle.std.proofs.lemmas.Result.{err_from_is_err_and}
 use Rattle.packet.specs.declared.kinds.Op.TheVariants.{Load}
 use Rattle.report_lines.specs.Taken.{AppendsFront}
 use Rattle.report_lines.proofs.Fronts.{front_behind, pieces_at}
-use Rattle.trace_order.specs.declared.event.Call.{Call}
+use Rattle.trace_laws.specs.declared.event.Call.{Call}
 use Rattle.trace_answer.specs.Texts.{call_line, lines_text}
 use Rattle.trace_answer.proofs.order.write_lines.Goals as goal
 

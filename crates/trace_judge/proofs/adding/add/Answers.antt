@@ -1,7 +1,7 @@
 use Rattle.std.proofs.Common.{List, subst}
-use Rattle.trace_search.specs.declared.opened.Branch.{Branch}
-use Rattle.trace_search.specs.Configs.{HasAsGood}
-use Rattle.trace_search.specs.Searches.{configs_of}
+use Rattle.trace_laws.specs.declared.opened.Branch.{Branch}
+use Rattle.trace_laws.specs.Configs.{HasAsGood}
+use Rattle.trace_laws.specs.Searches.{configs_of}
 use Rattle.trace_judge.proofs.Joining.{settled_has, settled_pushed, joins_push}
 use Rattle.trace_judge.proofs.adding.add.Goals as goal
 

@@ -1,6 +1,6 @@
 use Rattle.std.proofs.Common.{rules, ◌<◌, length, arith}
 use Rattle.std.proofs.lemmas.Option.{slice_get-get_or}
-use Rattle.trace_search.specs.Searches.{configs_of}
+use Rattle.trace_laws.specs.Searches.{configs_of}
 use Rattle.trace_judge.proofs.Joining.{waiting_has}
 use Rattle.trace_judge.proofs.adding.is_dominated.Goals as goal
 

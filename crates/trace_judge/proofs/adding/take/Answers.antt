@@ -1,8 +1,8 @@
 use Rattle.std.proofs.Common.{◌≡◌, ℕ, List, Some, length, arith, subst}
-use Rattle.trace_search.specs.declared.opened.Branch.{Branch}
-use Rattle.trace_search.specs.Configs.{HasAsGood}
-use Rattle.trace_search.specs.Searches.{configs_of}
-use Rattle.trace_judge.specs.Sets.{LeadsTo}
+use Rattle.trace_laws.specs.declared.opened.Branch.{Branch}
+use Rattle.trace_laws.specs.Configs.{HasAsGood}
+use Rattle.trace_laws.specs.Searches.{configs_of}
+use Rattle.trace_judge.specs.Sets.{Replaces}
 use Rattle.trace_judge.proofs.Joining.{settled_has, settled_pushed, takes_push}
 use Rattle.trace_judge.proofs.adding.take.Goals as goal
 
@@ -26,7 +26,7 @@ returns-clause-ways g c =
     takes_push c.args.table.now c.args.address c.args.from c.in_ok-branch.branch c.args.opened c.args.config
     c.args.found.now.items c.put.new.found.items c.args.nodes.now.items c.push_node.new.nodes.items c.follow.new.nodes.items
     c.in_ok-push_node.ensures
-    (subst (λ (n : ℕ). LeadsTo c.args.table.now c.args.address (record { config = c.args.config; trail = Some n })
+    (subst (λ (n : ℕ). Replaces c.args.table.now c.args.address (record { config = c.args.config; trail = Some n })
     c.push_node.new.nodes.items c.in_ok-branch.branch c.follow.new.nodes.items) long
     (c.in_ok-branch.ensures.ways c.args.table.now c.args.address c.requires.listed))
     c.in_ok-put.ensures

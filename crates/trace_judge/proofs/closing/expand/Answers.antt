@@ -1,6 +1,6 @@
 use Rattle.std.proofs.Common.{◌<◌, Some, length, arith}
 use Rattle.std.proofs.lemmas.Option.{slice_get-get_or}
-use Rattle.trace_order.proofs.Lists.{get_within}
+use Rattle.trace_laws.proofs.Lists.{get_within}
 use Rattle.trace_judge.proofs.Growth.{expanding_skip, expanding_add}
 use Rattle.trace_judge.proofs.closing.expand.Goals as goal
 use Rattle.trace_judge.proofs.closing.expand.Goals.{in-Some+in_ok-take, in_default}

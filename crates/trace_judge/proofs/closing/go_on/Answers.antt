@@ -1,7 +1,7 @@
 use Rattle.std.proofs.Common.{◌<◌, List, length, arith, refl, subst}
 use Rattle.std.specs.Int.{bit_at}
-use Rattle.trace_search.specs.declared.opened.Branch.{Branch}
-use Rattle.trace_search.proofs.Bits.{not_both}
+use Rattle.trace_laws.specs.declared.opened.Branch.{Branch}
+use Rattle.trace_laws.proofs.Bits.{not_both}
 use Rattle.trace_judge.specs.Crowds.{IsCrowd}
 use Rattle.std.proofs.lemmas.Option.{slice_get_read}
 use Rattle.trace_judge.proofs.Branches.{stays_more}

@@ -2,8 +2,8 @@
 use Rattle.std.proofs.Common.{◌<◌, List, length, arith, refl, sym, subst}
 use Rattle.std.specs.Int.{bit_at}
 use Rattle.std.proofs.lemmas.Option.{slice_get-get_or}
-use Rattle.trace_search.specs.declared.opened.Branch.{Branch}
-use Rattle.trace_search.proofs.Bits.{not_both}
+use Rattle.trace_laws.specs.declared.opened.Branch.{Branch}
+use Rattle.trace_laws.proofs.Bits.{not_both}
 use Rattle.trace_judge.proofs.Closings.{Keeping, keeping_none, keeping_skip, keeping_pushed, keeping_all}
 use Rattle.trace_judge.proofs.closing.keep.Goals as goal
 use Rattle.trace_judge.proofs.closing.keep.Goals.{then-has+in_ok-push, else-has}

@@ -1,6 +1,6 @@
 use Rattle.std.proofs.Common.{◌<◌, List, length, arith, sym, subst}
 use Rattle.std.proofs.lemmas.Option.{slice_get-get_or}
-use Rattle.trace_search.specs.declared.opened.Branch.{Branch}
+use Rattle.trace_laws.specs.declared.opened.Branch.{Branch}
 use Rattle.trace_judge.proofs.Growth.{Settling, settling_none, settling_more, settling_kept, settling_sound}
 use Rattle.trace_judge.proofs.closing.settle_all.Goals as goal
 

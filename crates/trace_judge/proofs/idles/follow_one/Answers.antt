@@ -1,5 +1,5 @@
 use Rattle.std.proofs.Common.{◌≡◌, length, arith, sym, ◌∙◌}
-use Rattle.trace_search.specs.Configs.{with_bit}
+use Rattle.trace_laws.specs.Configs.{with_bit}
 use Rattle.trace_judge.proofs.Calm.{leads_one, branch_is}
 use Rattle.trace_judge.proofs.idles.follow_one.Goals as goal
 

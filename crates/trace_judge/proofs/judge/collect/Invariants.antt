@@ -1,5 +1,5 @@
 use Rattle.std.proofs.Common.{◌≡◌, take}
-use Rattle.trace_search.specs.Searches.{order_of}
+use Rattle.trace_laws.specs.Searches.{order_of}
 use Rattle.trace_judge.proofs.judge.collect.Given as goal
 
 abbrev pub invariant-loop-i : goal.invariant-loop-i

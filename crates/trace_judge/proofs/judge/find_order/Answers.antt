@@ -1,14 +1,14 @@
 use Rattle.std.proofs.Common.{◌≤◌, List, Bool, length, arith, sym, ◌∙◌, ap, subst}
 use Rattle.std.proofs.lemmas.Option.{MatchOption-at_none, MatchOption-at_some}
 use Rattle.std.proofs.lemmas.Result.{err_from_is_err_and}
-use Rattle.trace_order.specs.declared.event.Call.{Call}
-use Rattle.trace_search.specs.declared.opened.Node.{Node}
-use Rattle.trace_order.specs.Orders.{IsOrder}
-use Rattle.trace_search.specs.Searches.{order_of}
+use Rattle.trace_laws.specs.declared.event.Call.{Call}
+use Rattle.trace_laws.specs.declared.opened.Node.{Node}
+use Rattle.trace_laws.specs.Orders.{IsOrder}
+use Rattle.trace_laws.specs.Searches.{order_of}
 use Rattle.trace_judge.specs.Sets.{lists_of}
 use Rattle.trace_judge.specs.Stops.{IsUndecided, TellsMany}
 use Rattle.trace_judge.specs.declared.undecided.Undecided.{Undecided}
-use Rattle.trace_search.proofs.Sound.{sound_all}
+use Rattle.trace_laws.proofs.Sound.{sound_all}
 use Rattle.trace_judge.proofs.judge.find_order.Goals as goal
 
 pub returns-clause-decided : goal.returns-clause-decided

@@ -1,7 +1,7 @@
 use Rattle.std.proofs.Common.{◌<◌, ℕ, Option, Some, None, length, subst, refl}
 use Rattle.packet.specs.declared.kinds.Op.TheVariants.{Load}
 use Rattle.std.proofs.lemmas.Option.{slice_get-get_or}
-use Rattle.trace_search.specs.declared.opened.Node.{Node}
+use Rattle.trace_laws.specs.declared.opened.Node.{Node}
 use Rattle.trace_judge.proofs.Marking.{Marking, marking_more, marking_all}
 use Rattle.trace_judge.proofs.judge.mark.Goals as goal
 

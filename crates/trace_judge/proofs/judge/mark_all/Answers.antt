@@ -1,6 +1,6 @@
 use Rattle.std.proofs.Common.{◌≡◌, ◌<◌, ◌+◌, ℕ, Bool, length, arith, sym, ◌∙◌, subst, List}
-use Rattle.trace_search.specs.declared.opened.Node.{Node}
-use Rattle.trace_search.specs.Searches.{Picks}
+use Rattle.trace_laws.specs.declared.opened.Node.{Node}
+use Rattle.trace_laws.specs.Searches.{Picks}
 use Rattle.trace_judge.specs.Sets.{lists_of}
 use Rattle.std.proofs.lemmas.List.{with_items_is}
 use Rattle.trace_judge.proofs.Firsts.{filled_length, head_in, firsts, picks_word}

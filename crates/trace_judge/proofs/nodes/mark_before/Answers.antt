@@ -1,7 +1,7 @@
 use Rattle.std.proofs.Common.{◌<◌, false, None, length, arith}
 use Rattle.std.proofs.lemmas.Option.{slice_get-get_or}
 use Rattle.packet.specs.declared.kinds.Op.TheVariants.{Load}
-use Rattle.trace_search.specs.declared.opened.Node.{Node}
+use Rattle.trace_laws.specs.declared.opened.Node.{Node}
 use Rattle.trace_judge.proofs.Ranks.{closes_marked, above_same}
 use Rattle.trace_judge.proofs.nodes.mark_before.Goals as goal
 

@@ -1,5 +1,5 @@
 use Rattle.std.proofs.Common.{◌<◌, ◌∙◌, List, ℕ, length, arith, refl, subst, sym}
-use Rattle.trace_search.specs.declared.opened.Branch.{Branch}
+use Rattle.trace_laws.specs.declared.opened.Branch.{Branch}
 use Rattle.trace_judge.specs.Kept.{AreWithin}
 use Rattle.trace_judge.proofs.Ranks.{words_end_more}
 use Rattle.trace_judge.proofs.Searching.{read_set}

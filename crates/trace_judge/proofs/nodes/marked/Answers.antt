@@ -1,7 +1,7 @@
 use Rattle.std.proofs.Common.{◌<◌, length, arith, Bool, true, false, Some, None, sym, ◌∙◌, ap, append-nil}
 use Rattle.std.proofs.lemmas.Option.{slice_get-get_or}
 use Rattle.packet.specs.declared.kinds.Op.TheVariants.{Load}
-use Rattle.trace_search.specs.declared.opened.Node.{Node}
+use Rattle.trace_laws.specs.declared.opened.Node.{Node}
 use Rattle.trace_judge.proofs.Ranks.{marked_more, marked_all, number_low, node_renumbered}
 use Rattle.trace_judge.proofs.nodes.marked.Goals as goal
 use Rattle.trace_judge.proofs.nodes.marked.Goals.{then-marks-i+in_ok-push, else-marks-i}

@@ -1,7 +1,7 @@
 use Rattle.std.proofs.Common.{◌<◌, List, length, arith, ap, ◌∙◌}
 use Rattle.std.proofs.lemmas.Option.{slice_get-get_or}
 use Rattle.std.proofs.lemmas.List.{take_all}
-use Rattle.trace_search.specs.declared.opened.Branch.{Branch}
+use Rattle.trace_laws.specs.declared.opened.Branch.{Branch}
 use Rattle.trace_judge.specs.Kept.{renumbered_all}
 use Rattle.trace_judge.proofs.Ranks.{renumbered_more}
 use Rattle.trace_judge.proofs.nodes.renumber.Goals as goal

@@ -1,6 +1,6 @@
 use Rattle.std.proofs.Common.{◌<◌, ◌≡◌, ◌≢◌, ⊎_elim, ◌∙◌, List, ℕ, length, arith, subst, sym, ap}
 use Rattle.std.proofs.lemmas.Bool.{cases_eq}
-use Rattle.trace_search.specs.declared.opened.Branch.{Branch}
+use Rattle.trace_laws.specs.declared.opened.Branch.{Branch}
 use Rattle.trace_judge.specs.Kept.{AreWithin, renumbered_all}
 use Rattle.trace_judge.specs.Sets.{lists_of}
 use Rattle.trace_judge.proofs.Ranks.{lists_pushed, lists_before, length_pushed}

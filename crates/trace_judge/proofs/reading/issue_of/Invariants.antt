@@ -1,12 +1,12 @@
 use Rattle.std.proofs.Common.{◌≡◌, ℕ, ◌<◌, ◌≤◌}
-use Rattle.trace_order.specs.declared.event.Call.{Call}
-use Rattle.trace_order.specs.Traces.{IsIssuedAt}
+use Rattle.trace_laws.specs.declared.event.Call.{Call}
+use Rattle.trace_laws.specs.Traces.{TraceIssuesAt}
 use Rattle.trace_judge.proofs.reading.issue_of.Given as goal
 
 abbrev pub invariant-loop-i : goal.invariant-loop-i
 invariant-loop-i l = record {
   low : l.i ≤ l.k;
-  none : (j : ℕ) (call : Call) → l.i ≤ j → j < l.k → IsIssuedAt l.events j call → call.id ≡ l.id → ⊥;
+  none : (j : ℕ) (call : Call) → l.i ≤ j → j < l.k → TraceIssuesAt l.events j call → call.id ≡ l.id → ⊥;
 }
 
 abbrev pub decreases-loop-i : goal.decreases-loop-i

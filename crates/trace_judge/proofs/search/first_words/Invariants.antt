@@ -1,5 +1,5 @@
 use Rattle.std.proofs.Common.{◌≡◌, ◌<◌, ℕ, [], ◌∷◌, length, get_or}
-use Rattle.trace_search.specs.Searches.{first_branch}
+use Rattle.trace_laws.specs.Searches.{first_branch}
 use Rattle.trace_judge.specs.Sets.{lists_of}
 use Rattle.trace_judge.proofs.search.first_words.Given as goal
 

@@ -1,7 +1,7 @@
 use Rattle.std.proofs.Common.{◌≡◌, ◌≢◌, ⊎_elim, ◌<◌, ℕ, None, length, slice_get, sym, ◌∙◌, ap, arith}
 use Rattle.std.proofs.lemmas.Bool.{cases_eq}
 use Rattle.std.proofs.lemmas.Option.{slice_get-get_or}
-use Rattle.trace_order.proofs.Lists.{get_within}
+use Rattle.trace_laws.proofs.Lists.{get_within}
 use Rattle.trace_judge.proofs.Parting.{is_free, is_filled}
 use Rattle.trace_judge.proofs.slots.free_slot.Goals as goal
 

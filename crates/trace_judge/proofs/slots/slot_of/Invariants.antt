@@ -1,6 +1,6 @@
 use Rattle.std.proofs.Common.{◌≡◌, ℕ, ◌<◌}
-use Rattle.trace_search.specs.declared.opened.Open.{Open}
-use Rattle.trace_search.specs.Searches.{IsAt}
+use Rattle.trace_laws.specs.declared.opened.Open.{Open}
+use Rattle.trace_laws.specs.Searches.{IsAt}
 use Rattle.trace_judge.proofs.slots.slot_of.Given as goal
 
 abbrev pub invariant-loop-slot : goal.invariant-loop-slot

@@ -1,6 +1,6 @@
 use Rattle.std.proofs.Common.{◌<◌, Some, length, arith, ◌∙◌, ap, refl}
 use Rattle.std.proofs.lemmas.Option.{slice_get-get_or}
-use Rattle.trace_order.specs.declared.event.Event.{Event}
+use Rattle.trace_laws.specs.declared.event.Event.{Event}
 use Rattle.trace_judge.proofs.Checking.{checked_issue, checked_answer, checked_all}
 use Rattle.trace_judge.proofs.trace.is_trace.Goals as goal
 use Rattle.trace_judge.proofs.trace.is_trace.Goals.{in-Issue+else-call-words+else-not-is_above, in-Answer+else-not-is_open}

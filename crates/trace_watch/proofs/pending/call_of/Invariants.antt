@@ -1,5 +1,5 @@
 use Rattle.std.proofs.Common.{◌≡◌, ℕ, ◌<◌, Some, slice_get}
-use Rattle.trace_order.specs.declared.event.Call.{Call}
+use Rattle.trace_laws.specs.declared.event.Call.{Call}
 use Rattle.trace_watch.proofs.pending.call_of.Given as goal
 
 abbrev pub invariant-loop-i : goal.invariant-loop-i

@@ -1,6 +1,6 @@
 use Rattle.std.proofs.Common.{◌≡◌, ◌<◌, ◌+◌, List, length, sym, subst, arith}
 use Rattle.std.proofs.lemmas.Option.{slice_get-get_or}
-use Rattle.trace_order.specs.declared.event.Call.{Call}
+use Rattle.trace_laws.specs.declared.event.Call.{Call}
 use Rattle.trace_watch.proofs.Sifting.{Filtered, filtered_none, filtered_skip, filtered_push, filtered_all}
 use Rattle.trace_watch.proofs.pending.without_call.Goals as goal
 use Rattle.trace_watch.proofs.pending.without_call.Goals.{then-call-id+in_ok-push, else-call-id}

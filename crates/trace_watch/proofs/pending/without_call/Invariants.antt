@@ -1,5 +1,5 @@
 use Rattle.std.proofs.Common.{◌≡◌}
-use Rattle.trace_order.specs.declared.event.Call.{Call}
+use Rattle.trace_laws.specs.declared.event.Call.{Call}
 use Rattle.trace_watch.proofs.Sifting.{Filtered}
 use Rattle.trace_watch.proofs.pending.without_call.Given as goal
 

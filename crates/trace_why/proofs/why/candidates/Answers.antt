@@ -1,8 +1,8 @@
 use Rattle.std.proofs.Common.{◌≤◌, ℕ, List, length, sym, subst, arith}
-use Rattle.trace_order.specs.declared.event.Event.{Event}
-use Rattle.trace_order.specs.declared.event.Event.TheVariants.{Answer}
-use Rattle.trace_order.specs.Traces.{IsTrace}
-use Rattle.trace_order.proofs.Lists.{get_within}
+use Rattle.trace_laws.specs.declared.event.Event.{Event}
+use Rattle.trace_laws.specs.declared.event.Event.TheVariants.{Answer}
+use Rattle.trace_laws.specs.Traces.{IsTrace}
+use Rattle.trace_laws.proofs.Lists.{get_within}
 use Rattle.trace_text.specs.Traced.{opening_of}
 use Rattle.trace_text.proofs.Opening.{length-opening}
 use Rattle.trace_why.specs.Values.{AreLeftBetween, IsReachedIn}

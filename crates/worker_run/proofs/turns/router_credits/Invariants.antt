@@ -1,12 +1,12 @@
 use Rattle.std.proofs.Common.{◌+◌, ◌*◌}
-use Rattle.fabric.specs.Seats.{IsOf}
+use Rattle.fabric.specs.Seats.{IsSeatOf}
 use Rattle.worker_run.specs.Going.{Leads, at_place}
 use Rattle.worker_run.proofs.turns.router_credits.Given as goal
 
 -- the ports so far are attempted
 abbrev pub invariant-loop-output : goal.invariant-loop-output
 invariant-loop-output g l = record {
-  own : IsOf l.fabric l.seat;
+  own : IsSeatOf l.fabric l.seat;
   leads : Leads (g.G.Gate.stops l.gate l.worker) l.ports l.initial.run l.initial.seat (at_place l.tile (5 + 2 * l.ports)) l.run l.seat
       (at_place l.tile (5 + 2 * l.ports + l.output));
 }

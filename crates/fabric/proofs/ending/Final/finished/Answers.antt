@@ -1,11 +1,11 @@
 use Rattle.std.proofs.Common.{rules, ◌≡◌, ◌↔◌, Bool, true, length, sym, ◌∙◌, subst}
 use Rattle.std.proofs.lemmas.Iterator.{YieldsList-from_slice}
 use Rattle.std.proofs.lemmas.Iterator.Search.{all_from_yields_List}
-use Rattle.fabric_rule.specs.order_abstract.specs.Scripts.{AreFinished}
-use Rattle.fabric_rule.specs.core_laws.specs.Core.{run_of, after}
-use Rattle.fabric_rule.specs.core_laws.specs.Runs.{IsAccepted}
-use Rattle.fabric_rule.specs.core_machine.specs.Machine.{all_finished}
-use Rattle.fabric_rule.specs.core_machine.proofs.Lawful.{finishes}
+use Rattle.fabric_rule.specs.Scripts.{AreFinished}
+use Rattle.fabric_rule.specs.Core.{run_of, after}
+use Rattle.fabric_rule.specs.Runs.{IsAcceptedLoad}
+use Rattle.fabric_rule.specs.Machine.{all_finished}
+use Rattle.fabric_rule.proofs.Lawful.{finishes}
 use Rattle.fabric.specs.Ending.{Ended, slot_finished}
 use Rattle.fabric.proofs.EndsShown.{finished_slots}
 use Rattle.fabric.proofs.ending.Final.finished.Goals as goal
@@ -23,4 +23,4 @@ returns-clause-scripts g c =
     let value : c.all.result ≡ all_finished (after c.args.self.now.load c.args.self.now.run) = returns-clause-value g c in
     subst (λ (b : Bool). (b ≡ true) ↔ AreFinished (run_of c.args.self.now.load c.args.self.now.run) (length c.args.self.now.run) c.args.self.now.load.scripts)
     (sym value)
-    (finishes c.args.self.now.load (subst (λ (e : Ended). IsAccepted e.load) c.self.view_is c.self.invariant.0.accepted) c.args.self.now.run)
+    (finishes c.args.self.now.load (subst (λ (e : Ended). IsAcceptedLoad e.load) c.self.view_is c.self.invariant.0.accepted) c.args.self.now.run)

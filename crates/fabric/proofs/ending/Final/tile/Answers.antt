@@ -1,6 +1,6 @@
 use Rattle.std.proofs.Common.{◌≤◌, Some, None, true≢false, arith, refl, subst}
 use Rattle.torus.specs.Shape.{tiles_of}
-use Rattle.fabric_rule.specs.core_laws.specs.Runs.{IsAccepted}
+use Rattle.fabric_rule.specs.Runs.{IsAcceptedLoad}
 use Rattle.fabric.specs.Ending.{Ended}
 use Rattle.fabric.proofs.EndsShown.{slot_at}
 use Rattle.fabric.proofs.Closing.{tile_there, tile_stands, tile_missing}
@@ -32,10 +32,10 @@ returns-clause-some g c =
     (slot_at c.self.inside.slots c.args.number c.index.result.now (Some c.in-Some.tile) (omega arith) c.index.ensures c.in-Some.is)
 
 pub returns-then-at-len-clause-accepted : goal.returns-then-at-len-clause-accepted
-returns-then-at-len-clause-accepted g c = subst (λ (e : Ended). IsAccepted e.load) c.self.view_is c.self.invariant.0.accepted
+returns-then-at-len-clause-accepted g c = subst (λ (e : Ended). IsAcceptedLoad e.load) c.self.view_is c.self.invariant.0.accepted
 
 pub returns-in_default-clause-accepted : goal.returns-in_default-clause-accepted
-returns-in_default-clause-accepted g c = subst (λ (e : Ended). IsAccepted e.load) c.self.view_is c.self.invariant.0.accepted
+returns-in_default-clause-accepted g c = subst (λ (e : Ended). IsAcceptedLoad e.load) c.self.view_is c.self.invariant.0.accepted
 
 pub returns-clause-accepted : goal.returns-clause-accepted
-returns-clause-accepted g c = subst (λ (e : Ended). IsAccepted e.load) c.self.view_is c.self.invariant.0.accepted
+returns-clause-accepted g c = subst (λ (e : Ended). IsAcceptedLoad e.load) c.self.view_is c.self.invariant.0.accepted

@@ -1,8 +1,8 @@
 use Rattle.std.proofs.Common.{rules, arith, [], map, replicate, ◌≡◌, sym, subst, ap, ◌∙◌, ℕ, List, ◌<◌, length}
 use Rattle.torus.specs.Shape.{tiles_of}
 use Rattle.fabric.specs.Key.{Opening, ranges, Rises}
-use Rattle.fabric_rule.specs.core_laws.specs.Core.{Load}
-use Rattle.fabric_rule.specs.core_machine.specs.Machine.{IsAfter}
+use Rattle.fabric_rule.specs.Core.{Load}
+use Rattle.fabric_rule.specs.Machine.{IsAfter}
 use Rattle.fabric.specs.Opening.{fresh, HasRest}
 use Rattle.fabric.proofs.Fresh.{fresh_as, is_fresh, rises_as, shows_as, holds_first, first_seat, rest_at}
 use Rattle.fabric.proofs.Parting.{depth_small, sound_made}

@@ -2,7 +2,7 @@ use Rattle.std.proofs.Common.{arith, ◌⊎◌, [], ◌∷◌, ◌++◌, sym, ap
 use Rattle.fabric_rule.specs.View.{View}
 use Rattle.fabric_rule.specs.Groups.{both, flat, Extends}
 use Rattle.fabric_rule.specs.Rule.{Learned}
-use Rattle.fabric_rule.specs.core_laws.specs.Runs.{IsAccepted}
+use Rattle.fabric_rule.specs.Runs.{IsAcceptedLoad}
 use Rattle.fabric.specs.Seats.{Knowing, Origin, JoinsTo, seat_knows}
 use Rattle.fabric.proofs.Meetings.{lawful_view, joined_first}
 use Rattle.fabric.proofs.Sharing.{joins, merges}
@@ -58,5 +58,5 @@ returns-clause-one_order g c =
 
 pub returns-clause-answers_first : goal.returns-clause-answers_first
 returns-clause-answers_first g c =
-    let one : IsAccepted c.args.one.load = subst IsAccepted (ap (λ (k : Knowing). k.load) c.one.view_is) c.one.invariant.placed.accepted in
+    let one : IsAcceptedLoad c.args.one.load = subst IsAcceptedLoad (ap (λ (k : Knowing). k.load) c.one.view_is) c.one.invariant.placed.accepted in
     joined_first c.args.one c.args.other (seat_knows c.load.new.seat) one (c.requires.1.1 ∙ sym c.requires.0.1) (joined_here g c)

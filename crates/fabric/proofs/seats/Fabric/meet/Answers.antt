@@ -1,5 +1,5 @@
 use Rattle.std.proofs.Common.{◌≡◌, arith, sym, ap, ◌∙◌, subst}
-use Rattle.fabric_rule.specs.core_laws.specs.Runs.{IsAccepted}
+use Rattle.fabric_rule.specs.Runs.{IsAcceptedLoad}
 use Rattle.fabric_rule.specs.View.{View}
 use Rattle.fabric.specs.Seats.{Knowing, Origin, Learns, seat_knows}
 use Rattle.fabric.proofs.Sharing.{halves}
@@ -79,8 +79,8 @@ returns-clause-one_order g c = (
 
 pub returns-clause-answers_first : goal.returns-clause-answers_first
 returns-clause-answers_first g c =
-    let one : IsAccepted c.args.one.load = subst IsAccepted (ap (λ (k : Knowing). k.load) c.one.view_is) c.one.invariant.placed.accepted in
-    let other : IsAccepted c.args.other.load = subst IsAccepted (ap (λ (k : Knowing). k.load) c.other.view_is) c.other.invariant.placed.accepted in
+    let one : IsAcceptedLoad c.args.one.load = subst IsAcceptedLoad (ap (λ (k : Knowing). k.load) c.one.view_is) c.one.invariant.placed.accepted in
+    let other : IsAcceptedLoad c.args.other.load = subst IsAcceptedLoad (ap (λ (k : Knowing). k.load) c.other.view_is) c.other.invariant.placed.accepted in
     let same : c.args.other.load ≡ c.args.one.load = c.requires.1.1 ∙ sym c.requires.0.1 in (
       met_first c.args.one c.args.other (seat_knows c.split_seat-other_seat.new.seat) one same (first_learns g c),
       swap_first c.args.one c.args.other (seat_knows c.split_seat-other_seat.result)

@@ -3,7 +3,7 @@ use Rattle.std.specs.Prelude.{Option, is_some}
 use Rattle.std.proofs.lemmas.Iterator.{YieldsList-from_slice}
 use Rattle.std.proofs.lemmas.Iterator.Search.{all_from_yields_List}
 use Rattle.std.proofs.Common.{◌∙◌}
-use Rattle.fabric_rule.specs.tile.specs.Placed.{PlacedTile}
+use Rattle.fabric_rule.specs.Placed.{PlacedTile}
 use Rattle.fabric.proofs.EndsShown.{whole_told}
 use Rattle.fabric.proofs.seats.TileSeat.is_whole.Goals as goal
 

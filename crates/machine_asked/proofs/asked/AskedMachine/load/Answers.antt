@@ -1,9 +1,9 @@
 -- Both texts were read, and what they ask for was loaded.
 use Rattle.std.proofs.Common.{◌≡◌, map, Ok, sym, ◌∙◌, ap}
 use Rattle.std.specs.Str.Lines.{lines}
-use Rattle.machine_texts.specs.order_abstract.specs.Load.{Load, load_of}
-use Rattle.machine_texts.specs.Loading.{load_by}
-use Rattle.machine_texts.proofs.BothRead.{load_read}
+use Rattle.machine_parts.specs.Load.{Load, load_of}
+use Rattle.machine_core.specs.Loading.{load_by}
+use Rattle.machine_core.proofs.BothRead.{load_read}
 use Rattle.machine_asked.specs.Asked.{has_spin}
 use Rattle.machine_asked.proofs.Standing.{same_load}
 use Rattle.machine_asked.proofs.asked.AskedMachine.load.Goals as goal

@@ -1,8 +1,8 @@
 use Rattle.std.proofs.Common.{◌≡◌, None, sym, ◌∙◌, subst}
-use Rattle.machine_growth.specs.core_machine.specs.Machine.{Core, IsAfter}
-use Rattle.machine_growth.specs.core_growth.specs.Appended.{load_with}
-use Rattle.machine_growth.specs.core_reopening.specs.Handed.{refused, moves_kept}
-use Rattle.machine_growth.specs.core_reopening.proofs.Handed.{stands, taken}
+use Rattle.machine_parts.specs.Machine.{Core, IsAfter}
+use Rattle.machine_parts.specs.Appended.{load_with}
+use Rattle.machine_parts.specs.Handed.{refused, moves_kept}
+use Rattle.machine_parts.proofs.Handed.{stands, taken}
 use Rattle.machine_core.proofs.machine.Machine.append.Goals as goal
 
 pub returns-in-Ok-clause-law : goal.returns-in-Ok-clause-law

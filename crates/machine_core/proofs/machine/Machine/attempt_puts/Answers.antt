@@ -1,7 +1,7 @@
 use Rattle.std.proofs.Common.{◌≡◌, ℕ, ◌+◌, ◌*◌, refl, ◌∙◌, ap, arith}
 use Rattle.torus.specs.declared.step.Choice.TheVariants.{Put}
-use Rattle.machine_growth.specs.core_laws.specs.Core.{attempts_of}
-use Rattle.machine_growth.specs.core_machine.specs.Machine.{core_after}
+use Rattle.machine_parts.specs.Core.{attempts_of}
+use Rattle.machine_parts.specs.Machine.{core_after}
 use Rattle.torus.specs.Choices.{puts_of_all}
 use Rattle.machine_core.proofs.Rounds.{tile_stays}
 use Rattle.machine_core.proofs.Skips.{further}

@@ -1,6 +1,6 @@
 use Rattle.std.proofs.Common.{◌≡◌, ◌+◌, ◌-◌, ◌*◌, ◌≤◌}
-use Rattle.machine_growth.specs.core_laws.specs.Core.{attempts_of}
-use Rattle.machine_growth.specs.core_machine.specs.Machine.{core_after}
+use Rattle.machine_parts.specs.Core.{attempts_of}
+use Rattle.machine_parts.specs.Machine.{core_after}
 use Rattle.torus.specs.Choices.{puts_of_all}
 use Rattle.machine_core.proofs.machine.Machine.attempt_puts.Given as goal
 

@@ -5,8 +5,8 @@ use Rattle.script.specs.declared.lists.LineList.{LineList}
 use Rattle.script.specs.declared.line.Line.{Line}
 use Rattle.script.specs.Scripts.{operation_count, script_of, total_count}
 use Rattle.script.specs.ScriptViews.{lists_of}
-use Rattle.machine_growth.specs.order_abstract.proofs.LoadingAccepted.{followable}
-use Rattle.machine_growth.specs.core_laws.specs.Core.{Load}
+use Rattle.machine_parts.proofs.LoadingAccepted.{followable}
+use Rattle.machine_parts.specs.Core.{Load}
 use Rattle.machine_core.proofs.Begins.{Begun, is_machine, is_after_none, has_room, home_small, homes_as, tiles_as, row_as, book_as, allowed_as, part_small}
 use Rattle.machine_core.proofs.machine.Machine.begin.Given.{Over}
 use Rattle.machine_core.proofs.machine.Machine.begin.Goals as goal

@@ -1,7 +1,7 @@
 use Rattle.std.proofs.Common.{◌≤◌, ◌+◌, List, length, refl, sym, ◌∙◌, drop}
 use Rattle.std.proofs.lemmas.List.{at_drop_all, at_drop_more}
 use Rattle.torus.specs.declared.step.Choice.{Choice}
-use Rattle.machine_growth.specs.core_laws.specs.Core.{attempts_of}
+use Rattle.machine_parts.specs.Core.{attempts_of}
 use Rattle.machine_core.specs.Rounds.{first_in}
 use Rattle.machine_core.proofs.FirstEnabled.{skipped, found}
 use Rattle.machine_core.proofs.machine.Machine.enabled_choice.Goals as goal

@@ -1,5 +1,5 @@
 use Rattle.std.proofs.Common.{◌≡◌, drop}
-use Rattle.machine_growth.specs.core_laws.specs.Core.{attempts_of}
+use Rattle.machine_parts.specs.Core.{attempts_of}
 use Rattle.machine_core.specs.Rounds.{first_in}
 use Rattle.machine_core.proofs.machine.Machine.enabled_choice.Given as goal
 

@@ -1,6 +1,6 @@
 use Rattle.std.proofs.Common.{◌≡◌}
 use Rattle.torus.specs.Shape.{tiles_of}
-use Rattle.machine_growth.specs.core_laws.specs.Core.{round}
+use Rattle.machine_parts.specs.Core.{round}
 use Rattle.machine_core.specs.Rounds.{first_in}
 use Rattle.machine_core.proofs.FirstEnabled.{from_tile}
 use Rattle.machine_core.proofs.machine.Machine.enabled_step.Given as goal

@@ -1,6 +1,6 @@
 use Rattle.std.proofs.Common.{◌≡◌, ℕ, ◌+◌, ◌-◌, ◌*◌, ◌≤◌}
 use Rattle.torus.specs.declared.step.Choice.TheVariants.{TakeFrom}
-use Rattle.machine_growth.specs.core_laws.specs.Core.{attempts_of}
+use Rattle.machine_parts.specs.Core.{attempts_of}
 use Rattle.torus.specs.Choices.{takes_of_all}
 use Rattle.machine_core.specs.Rounds.{first_in}
 use Rattle.machine_core.proofs.FirstEnabled.{from_port}

@@ -1,6 +1,6 @@
 use Rattle.std.proofs.Common.{◌≡◌, ◌++◌, true, sym, ◌∙◌, ap, subst, arith}
-use Rattle.machine_growth.specs.core_machine.specs.Machine.{Core, IsAfter, all_finished}
-use Rattle.machine_growth.specs.core_machine.proofs.Machines.{after_steps}
+use Rattle.machine_parts.specs.Machine.{Core, IsAfter, all_finished}
+use Rattle.machine_parts.proofs.Machines.{after_steps}
 use Rattle.machine_core.specs.Rounds.{rounds_of}
 use Rattle.machine_core.proofs.Finishing.{finished_after, has_none, has_more, few_rounds, few_now, still_few, finished_run}
 use Rattle.machine_core.proofs.machine.Machine.finish.Goals as goal

@@ -1,14 +1,14 @@
 use Rattle.std.proofs.Common.{rules, ◌≡◌, ◌↔◌, Bool, true, length, sym, ◌∙◌, ap, subst}
 use Rattle.std.proofs.lemmas.Iterator.{YieldsList-from_slice}
 use Rattle.std.proofs.lemmas.Iterator.Search.{all_from_yields_List}
-use Rattle.machine_growth.specs.script_follower.specs.Following.{is_finished}
-use Rattle.machine_growth.specs.order_abstract.specs.Scripts.{AreFinished}
-use Rattle.machine_growth.specs.tile.specs.Placed.{PlacedTile}
-use Rattle.machine_growth.specs.core_laws.specs.Core.{run_of}
-use Rattle.machine_growth.specs.core_progress.specs.Moves.{IsLive}
-use Rattle.machine_growth.specs.core_machine.specs.Machine.{Core, built_to, all_finished}
-use Rattle.machine_growth.specs.core_machine.proofs.Machines.{finished_of_machine}
-use Rattle.machine_growth.specs.core_machine.proofs.Moves.{lives}
+use Rattle.script_follower.specs.Following.{is_finished}
+use Rattle.machine_parts.specs.Scripts.{AreFinished}
+use Rattle.machine_parts.specs.Placed.{PlacedTile}
+use Rattle.machine_parts.specs.Core.{run_of}
+use Rattle.machine_parts.specs.Moves.{IsLive}
+use Rattle.machine_parts.specs.Machine.{Core, built_to, all_finished}
+use Rattle.machine_parts.proofs.Machines.{finished_of_machine}
+use Rattle.machine_parts.proofs.Moves.{lives}
 use Rattle.machine_core.specs.Inside.{core_of}
 use Rattle.machine_core.proofs.Views.{finished_tiles}
 use Rattle.machine_core.proofs.machine.Machine.finished.Goals as goal

@@ -1,8 +1,8 @@
 use Rattle.std.proofs.Common.{◌≤◌, ap, ◌∙◌, subst}
-use Rattle.rounds.specs.Rounds.{moves_in}
-use Rattle.machine_growth.specs.core_laws.specs.Core.{step}
-use Rattle.machine_growth.specs.core_machine.specs.Machine.{Core, built_to}
-use Rattle.machine_growth.specs.core_machine.proofs.Moves.{most_left}
+use Rattle.machine_parts.specs.Rounds.{moves_in}
+use Rattle.machine_parts.specs.Core.{step}
+use Rattle.machine_parts.specs.Machine.{Core, built_to}
+use Rattle.machine_parts.proofs.Moves.{most_left}
 use Rattle.machine_core.specs.Inside.{core_of}
 use Rattle.machine_core.proofs.machine.Machine.moves_left.Goals as goal
 

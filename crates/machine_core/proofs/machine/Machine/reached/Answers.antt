@@ -1,5 +1,5 @@
 use Rattle.std.proofs.Common.{subst}
-use Rattle.machine_growth.specs.core_machine.specs.Machine.{Core, IsAfter}
+use Rattle.machine_parts.specs.Machine.{Core, IsAfter}
 use Rattle.machine_core.proofs.machine.Machine.reached.Goals as goal
 
 pub returns : goal.returns

@@ -1,6 +1,6 @@
 use Rattle.std.proofs.Common.{◌≡◌, ◌≤◌, ℕ, List, length, sym, ◌∙◌, ap, subst, arith, slice_index}
-use Rattle.machine_growth.specs.core_machine.specs.Machine.{Core}
-use Rattle.machine_growth.specs.core_reopening.specs.Handed.{refused}
+use Rattle.machine_parts.specs.Machine.{Core}
+use Rattle.machine_parts.specs.Handed.{refused}
 use Rattle.machine_core.specs.Inside.{core_of}
 use Rattle.machine_core.proofs.Allowed.{each_small}
 use Rattle.machine_core.proofs.machine.Machine.refusal.Goals as goal

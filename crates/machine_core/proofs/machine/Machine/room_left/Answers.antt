@@ -1,6 +1,6 @@
 use Rattle.std.proofs.Common.{◌≡◌, ℕ, List, Some, sum, ◌∙◌, ap, slice_get}
 use Rattle.std.specs.Prelude.{Option}
-use Rattle.machine_growth.specs.core_machine.specs.Machine.{Core}
+use Rattle.machine_parts.specs.Machine.{Core}
 use Rattle.machine_core.specs.Growing.{room_left}
 use Rattle.machine_core.proofs.Allowed.{own_small, room_is}
 use Rattle.machine_core.proofs.NotedBooks.{looked_up}

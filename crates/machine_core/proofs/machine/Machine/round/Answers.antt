@@ -1,11 +1,11 @@
 use Rattle.std.proofs.Common.{◌≡◌, ℕ, ◌<◌, ◌+◌, ◌*◌, ◌++◌, refl, sym, ◌∙◌, ap, subst, arith}
 use Rattle.std.specs.List.{flat_map, range_with_len}
 use Rattle.torus.specs.Shape.{Shape, dims_of, tiles_of}
-use Rattle.rounds.specs.Rounds.{moves_in}
-use Rattle.machine_growth.specs.core_laws.specs.Core.{step, round_at, round}
-use Rattle.machine_growth.specs.core_machine.specs.Machine.{Core, IsAfter, built_to, core_after}
-use Rattle.machine_growth.specs.core_machine.proofs.Machines.{after_steps}
-use Rattle.machine_growth.specs.core_machine.proofs.Moves.{left_after, round_moves}
+use Rattle.machine_parts.specs.Rounds.{moves_in}
+use Rattle.machine_parts.specs.Core.{step, round_at, round}
+use Rattle.machine_parts.specs.Machine.{Core, IsAfter, built_to, core_after}
+use Rattle.machine_parts.proofs.Machines.{after_steps}
+use Rattle.machine_parts.proofs.Moves.{left_after, round_moves}
 use Rattle.machine_core.proofs.Rounds.{part_more, all_parts, tile_stays, same_shape}
 use Rattle.machine_core.proofs.machine.Machine.round.Given.{Over}
 use Rattle.machine_core.proofs.machine.Machine.round.Goals as goal

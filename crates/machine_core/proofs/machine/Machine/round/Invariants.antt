@@ -1,7 +1,7 @@
 use Rattle.std.proofs.Common.{◌≡◌}
 use Rattle.std.specs.List.{flat_map, range_with_len}
-use Rattle.machine_growth.specs.core_laws.specs.Core.{round_at}
-use Rattle.machine_growth.specs.core_machine.specs.Machine.{core_after}
+use Rattle.machine_parts.specs.Core.{round_at}
+use Rattle.machine_parts.specs.Machine.{core_after}
 use Rattle.machine_core.proofs.machine.Machine.round.Given as goal
 
 -- the tiles so far have made their part

@@ -1,8 +1,8 @@
 use Rattle.std.proofs.Common.{◌+◌, ◌*◌, sym, ◌∙◌, ap}
 use Rattle.torus.specs.Shape.{Shape, dims_of}
 use Rattle.channel_number.specs.Ports.{port_count}
-use Rattle.machine_growth.specs.core_laws.specs.Core.{attempts_of}
-use Rattle.machine_growth.specs.core_machine.specs.Machine.{Core}
+use Rattle.machine_parts.specs.Core.{attempts_of}
+use Rattle.machine_parts.specs.Machine.{Core}
 use Rattle.torus.specs.Choices.{processor_choices, router_choices}
 use Rattle.machine_core.proofs.Rounds.{tile_parts, tile_stays, same_shape}
 use Rattle.machine_core.proofs.machine.Machine.round_at.Goals as goal

@@ -1,7 +1,7 @@
 use Rattle.std.proofs.Common.{◌≡◌, ◌≤◌, ◌++◌, ◌+◌, length, refl, sym, ◌∙◌, ap, subst, drop}
 use Rattle.std.proofs.lemmas.List.{at_drop_all, at_drop_more}
-use Rattle.machine_growth.specs.core_machine.specs.Machine.{Core, IsAfter, core_after}
-use Rattle.machine_growth.specs.core_machine.proofs.Machines.{after_steps}
+use Rattle.machine_parts.specs.Machine.{Core, IsAfter, core_after}
+use Rattle.machine_parts.proofs.Machines.{after_steps}
 use Rattle.machine_core.proofs.machine.Machine.run.Goals as goal
 
 pub loop-step-init : goal.loop-step-init

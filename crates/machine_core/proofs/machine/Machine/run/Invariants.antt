@@ -1,5 +1,5 @@
 use Rattle.std.proofs.Common.{◌≡◌, drop}
-use Rattle.machine_growth.specs.core_machine.specs.Machine.{core_after}
+use Rattle.machine_parts.specs.Machine.{core_after}
 use Rattle.machine_core.proofs.machine.Machine.run.Given as goal
 
 -- what is left of the steps leads where all of them lead from the start

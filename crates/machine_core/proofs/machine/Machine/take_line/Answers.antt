@@ -4,11 +4,11 @@ use Rattle.std.specs.Prelude.{sum}
 use Rattle.std.specs.Vec.{with_item}
 use Rattle.torus.specs.Shape.{tiles_of}
 use Rattle.script.specs.Scripts.{operations_of}
-use Rattle.machine_growth.specs.script_follower.specs.Homes.{line_home_count}
-use Rattle.machine_growth.specs.tile.specs.Placed.{PlacedTile}
-use Rattle.machine_growth.specs.core_growth.specs.Appended.{changed_at}
-use Rattle.machine_growth.specs.Grown.{tile_given, tile_wider, tiles_given, AreAsReported}
-use Rattle.machine_growth.proofs.Items.{seen_at, changed_long}
+use Rattle.script_follower.specs.Homes.{line_home_count}
+use Rattle.machine_parts.specs.Placed.{PlacedTile}
+use Rattle.machine_parts.specs.Appended.{changed_at}
+use Rattle.machine_parts.specs.Grown.{tile_given, tile_wider, tiles_given, AreAsReported}
+use Rattle.machine_parts.proofs.Items.{seen_at, changed_long}
 use Rattle.machine_core.proofs.Standing.{few_tiles}
 use Rattle.machine_core.proofs.Handing as handing
 use Rattle.machine_core.proofs.HandedMachines as machines

@@ -3,8 +3,8 @@ use Rattle.torus.specs.Choices.{bank_choices}
 use Rattle.torus.specs.declared.step.Step.{Step}
 use Rattle.torus.specs.declared.step.Choice.{Choice}
 use Rattle.torus.specs.declared.step.Choice.TheVariants.{Take, Serve, Send, Credit}
-use Rattle.machine_growth.specs.core_laws.specs.Core.{attempts_of}
-use Rattle.machine_growth.specs.core_machine.specs.Machine.{Core, core_after}
+use Rattle.machine_parts.specs.Core.{attempts_of}
+use Rattle.machine_parts.specs.Machine.{Core, core_after}
 use Rattle.machine_core.proofs.Standing.{few_tiles}
 use Rattle.machine_core.proofs.Agents.{tile_within}
 use Rattle.machine_core.proofs.Rounds.{attempt_more, tile_stays_once}

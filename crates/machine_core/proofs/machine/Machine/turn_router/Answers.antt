@@ -1,6 +1,6 @@
 use Rattle.std.proofs.Common.{◌≡◌, ◌+◌, ◌*◌, sym, ◌∙◌, subst, arith}
-use Rattle.machine_growth.specs.core_laws.specs.Core.{attempts_of}
-use Rattle.machine_growth.specs.core_machine.specs.Machine.{Core, core_after}
+use Rattle.machine_parts.specs.Core.{attempts_of}
+use Rattle.machine_parts.specs.Machine.{Core, core_after}
 use Rattle.torus.specs.Choices.{router_choices, takes_of_all, puts_of_all}
 use Rattle.machine_core.proofs.Standing.{few_tiles, ports_few}
 use Rattle.machine_core.proofs.Agents.{tile_within}

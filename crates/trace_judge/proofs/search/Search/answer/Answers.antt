@@ -1,6 +1,6 @@
 use Rattle.std.proofs.Common.{◌<◌, ◌∙◌, length, refl, arith}
 use Rattle.std.specs.Vec.{with_item}
-use Rattle.trace_search.proofs.Table.{at_within}
+use Rattle.trace_laws.proofs.Table.{at_within}
 use Rattle.trace_judge.specs.Sets.{lists_of}
 use Rattle.trace_judge.proofs.Many.{answer_in, full_told, has_many}
 use Rattle.trace_judge.proofs.Searching.{read_set}

@@ -1,5 +1,5 @@
 use Rattle.std.proofs.Common.{◌<◌, List, Option, length, refl, subst, arith}
-use Rattle.trace_search.specs.declared.opened.Open.{Open}
+use Rattle.trace_laws.specs.declared.opened.Open.{Open}
 use Rattle.trace_judge.specs.Slots.{IsFull}
 use Rattle.trace_judge.specs.Sets.{lists_of}
 use Rattle.trace_judge.proofs.Crowds.{crowded}

@@ -1,7 +1,7 @@
 use Rattle.std.proofs.Common.{Some, ◌∙◌, ap}
 use Rattle.std.proofs.lemmas.Option.{slice_get-get_or}
 use Rattle.std.proofs.lemmas.Result.{err_from_is_err_and}
-use Rattle.trace_order.specs.declared.event.Event.{Event}
+use Rattle.trace_laws.specs.declared.event.Event.{Event}
 use Rattle.trace_judge.proofs.search.Search.step.Goals as goal
 
 pub returns-in_err-issue-in-Issue-clause-full : goal.returns-in_err-issue-in-Issue-clause-full

@@ -1,6 +1,6 @@
 use Rattle.std.proofs.Common.{◌≡◌, ◌∙◌, ap, map, ℕ, List, [], ◌∷◌, ◌++◌, take}
-use Rattle.trace_order.specs.declared.event.Event.{Event}
-use Rattle.trace_order.specs.declared.event.Event.TheVariants.{Answer}
+use Rattle.trace_laws.specs.declared.event.Event.{Event}
+use Rattle.trace_laws.specs.declared.event.Event.TheVariants.{Answer}
 use Rattle.trace_text.specs.Allowed.{answered_so}
 use Rattle.trace_text.specs.Findings.{place_of_address, opening_words_at, unfound_at}
 use Rattle.trace_text.specs.Renumbered.{moved_event}

@@ -1,8 +1,8 @@
 use Rattle.std.proofs.Common.{List, refl, ◌∙◌, ap, subst, arith, slice_get}
 use Rattle.std.proofs.lemmas.Option.{MatchOption-at_none}
 use Rattle.std.proofs.lemmas.Result.{err_from_is_err_and}
-use Rattle.trace_order.specs.declared.event.Call.{Call}
-use Rattle.trace_search.specs.Configs.{IsIn}
+use Rattle.trace_laws.specs.declared.event.Call.{Call}
+use Rattle.trace_laws.specs.Configs.{IsIn}
 use Rattle.trace_watch.proofs.Crowding.{calls_read, over_read, full_told, answers_many}
 use Rattle.trace_watch.proofs.Few.{answers_few, far_few, few_read, none_few}
 use Rattle.trace_watch.proofs.Watching.{seen_not_pending, seen_no_word}

@@ -1,4 +1,4 @@
--- `is_full` meets its contract: a walk of its MIR by hand, which opens the slot, reads one field of it and shuts it as it was.
+-- `is_full` meets its contract: a walk of its MIR by hand, which opens the slot, reads one field of it and shuts it was.
 use Rattle.watch_handle.proofs.Steps.{List, [], ◌∷◌, refl, sym, proved, full_share, ftrue, flft, named, Val, ‵, ◌⊛◌, ◌$◌, ◌∵◌, !, qed, move, keep, split}
 use Rattle.watch_handle.proofs.Steps.{join, fsplit3, rewrite, suffices, frame, group, enter, of_opd, load, stop, fld, returns, alloc_all, pass_all}
 use Rattle.watch_handle.proofs.Steps.{free_all, look_at, through, sets, whole, sub, look_in, bool, shows, bool_Makes, cell_at, MutRef, mut_vals, mut_Tells}

@@ -1,0 +1,4 @@
+pub mod Printed
+pub mod Judging
+pub mod Reporting
+pub mod Told

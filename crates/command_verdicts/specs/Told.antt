@@ -1,0 +1,44 @@
+-- What is said of a trace that is judged (this project's own format).
+use Rattle.std.specs.Prelude.{ℕ, List, ◌∷◌, ◌++◌, Option, Some, None, Result, Ok, Err, codes}
+use Rattle.std.specs.Prelude.{decimal}
+use Rattle.program_fault.specs.declared.fault.ProgramFault.{ProgramFault}
+use Rattle.program_fault.specs.Outcome.{fault_status}
+use Rattle.command_verdicts.specs.declared.command.Judged.{Judged}
+use Rattle.command_verdicts.specs.declared.command.Judged.TheVariants.{Linearizable}
+use Rattle.command_verdicts.specs.declared.command.Judged.TheVariants.{NotLinearizable, TooMany}
+use Rattle.command_verdicts.specs.declared.command.Judged.TheVariants.{TooOpen}
+use Rattle.command_verdicts.specs.declared.command.Judged.TheVariants.{NoReport}
+use Rattle.trace_answer.specs.declared.unfit.Unfit.{Unfit}
+use Rattle.trace_answer.specs.declared.unfit.Unfit.TheVariants.{Memory, Words, Processors, Indexes}
+use Rattle.trace_answer.specs.declared.unfit.Unfit.TheVariants.{Operations, Events}
+
+-- why an order has no report; nothing where memory was refused
+abbrev pub unfit_text : Unfit → Option (List ℕ)
+unfit_text Memory = None
+unfit_text Words = Some (codes "no report: more than 65536 words")
+unfit_text Processors = Some (codes "no report: a processor above 63")
+unfit_text Indexes = Some (codes "no report: a processor with more than 4096 operations")
+unfit_text Operations = Some (codes "no report: more than 65536 operations")
+unfit_text Events = Some (codes "no report: more than 196608 events")
+
+-- the line of standard error for a verdict, without its line feed; none where an order was printed
+abbrev pub verdict_text_of : Judged → ℕ → Option (List ℕ)
+verdict_text_of Linearizable bound = None
+verdict_text_of (NotLinearizable line) bound =
+    Some (codes "not linearizable at line" ++ 32 ∷ decimal line)
+verdict_text_of (TooMany line) bound =
+    Some (codes "undecided at line" ++ (32 ∷ decimal line) ++ codes ": more than"
+    ++ (32 ∷ decimal bound) ++ codes " configurations")
+verdict_text_of (TooOpen line) bound =
+    Some (codes "undecided at line" ++ (32 ∷ decimal line)
+    ++ codes ": more than 64 operations are open on one word")
+verdict_text_of (NoReport why) bound = unfit_text why
+
+-- the status that the program ends with
+abbrev pub judged_status : Result Judged ProgramFault → ℕ
+judged_status (Ok Linearizable) = 0
+judged_status (Ok (NotLinearizable line)) = 1
+judged_status (Ok (TooMany line)) = 5
+judged_status (Ok (TooOpen line)) = 5
+judged_status (Ok (NoReport why)) = 1
+judged_status (Err f) = fault_status f

@@ -1,0 +1,29 @@
+//! The judge of networks, from a text to an output.
+
+ghost use Rattle.std.specs.Str.Lines.{lines};
+ghost use Rattle.program_fault.specs.Done.{output};
+ghost use Rattle.command_verdicts.specs.Printed.{PrintsNetwork};
+
+use network_text::network_answer;
+use program_fault::ProgramFault;
+use report_lines::Out;
+use report_lines::output::put_all;
+use std::alloc::Allocator;
+
+/// Judges the network of a text, and prints the verdict: the numbers of its channels if they can rise,
+/// or the first pair without a route, or a cycle of channels. Answers whether the numbers rise.
+///
+/// Errors: the text's first fault, or out of memory; and nothing was written then. If the output
+/// fails, a beginning was written.
+pub fn network_text<A: Allocator + Copy, W: Out>(
+    alloc: A,
+    network: &[u8],
+    out: &mut W,
+) -> Result<bool, ProgramFault>
+    ensures { PrintsNetwork A (lines network.now) (output (W.taken out.old) (W.failures out.old))
+        (output (W.taken out.new) (W.failures out.new)) result }
+{
+    let answer = network_answer(alloc, network)?;
+    put_all(out, &answer.text)?;
+    Ok(answer.rising)
+}

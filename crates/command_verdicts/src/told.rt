@@ -1,0 +1,57 @@
+//! What is said of a trace that is judged: a line of text, and the status that the program ends with.
+
+ghost use Rattle.std.specs.Prelude.{◌≡◌, option_map};
+ghost use Rattle.command_verdicts.specs.Told.{judged_status, unfit_text, verdict_text_of};
+
+use crate::Judged;
+use program_fault::{ProgramFault, status_of};
+use trace_answer::{LineText, Unfit, not_linearizable, undecided};
+use trace_text::Unfound;
+
+/// Why an order has no report. It has no line feed. `None` where memory was refused.
+fn unfit_text(why: Unfit) -> Option<LineText>
+    ensures { option_map (λ t. t.bytes) result ≡ unfit_text why }
+{
+    let mut text = LineText::new();
+    match why {
+        Unfit::Memory => return None,
+        Unfit::Words => text.push_str("no report: more than 65536 words"),
+        Unfit::Processors => text.push_str("no report: a processor above 63"),
+        Unfit::Indexes => {
+            text.push_str("no report: a processor with more than 4096 operations");
+        }
+        Unfit::Operations => text.push_str("no report: more than 65536 operations"),
+        Unfit::Events => text.push_str("no report: more than 196608 events"),
+    }
+    Some(text)
+}
+
+/// What is said where nothing was printed, with at most so many configurations of a word at once: the
+/// line from which on there is no order, or at which the trace isn't decided and why; or why the order
+/// has no report. It has no line feed. `None` where an order or its report was printed.
+pub fn verdict_text(judged: Judged, configurations: u64) -> Option<LineText>
+    ensures { option_map (λ t. t.bytes) result ≡ verdict_text_of judged configurations }
+{
+    match judged {
+        Judged::Linearizable => None,
+        Judged::NotLinearizable { line } => Some(not_linearizable(line)),
+        Judged::TooMany { line } => undecided(Unfound::Configurations { line }, configurations),
+        Judged::TooOpen { line } => undecided(Unfound::Operations { line }, configurations),
+        Judged::NoReport { why } => unfit_text(why),
+    }
+}
+
+/// The status that the program ends with: 0 where an order was printed, 1 where there is none or the
+/// text has a fault or memory was refused, 4 where the output failed, 5 where the trace isn't decided.
+pub fn status(answer: &Result<Judged, ProgramFault>) -> u8
+    ensures { result ≡ judged_status answer.now }
+{
+    match answer {
+        Ok(Judged::Linearizable) => 0,
+        Ok(Judged::NotLinearizable { .. }) => 1,
+        Ok(Judged::TooMany { .. }) => 5,
+        Ok(Judged::TooOpen { .. }) => 5,
+        Ok(Judged::NoReport { .. }) => 1,
+        Err(fault) => status_of(&Err(*fault)),
+    }
+}

@@ -1,3 +1,0 @@
-pub mod Enabled
-pub mod Moves
-pub mod Examples

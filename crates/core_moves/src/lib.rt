@@ -1,4 +1,0 @@
-//! Laws of the moves of a list of steps: they alone lead where all the steps lead.
-#![tactic(auto)]
-
-pub mod laws;

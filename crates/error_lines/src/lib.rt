@@ -1,0 +1,13 @@
+//! Lines on standard error, behind the one that names a fault or behind a report, that say why or
+//! how.
+#![tactic(auto)]
+
+pub mod end_lines;
+pub mod explaining;
+pub mod kept;
+pub mod telling;
+
+pub use end_lines::tell_end;
+pub use explaining::{Kind, explain, explain_unread};
+pub use kept::Kept;
+pub use telling::{explain_by, is_of_texts, named, told};

@@ -1,4 +1,0 @@
-pub mod Items
-pub mod Refused
-pub mod Handing
-pub mod Rooms

@@ -1,0 +1,36 @@
+pub use Rattle.core_growth.proofs.Handed
+pub use Rattle.core_growth.proofs.Loads
+pub use Rattle.core_growth.proofs.Places
+pub use Rattle.core_growth.proofs.Reports
+pub use Rattle.core_laws.proofs.EveryRun
+pub use Rattle.core_laws.proofs.OnTheWay
+pub use Rattle.core_laws.proofs.Reached
+pub use Rattle.core_machine.proofs.Books
+pub use Rattle.core_machine.proofs.Lawful
+pub use Rattle.core_machine.proofs.Machines
+pub use Rattle.core_machine.proofs.Moves
+pub use Rattle.core_progress.proofs.Finish
+pub use Rattle.core_progress.proofs.Live
+pub use Rattle.core_progress.proofs.OfRound
+pub use Rattle.core_row.proofs.Attempts
+pub use Rattle.core_row.proofs.First
+pub use Rattle.core_row.proofs.Fronts
+pub use Rattle.core_row.proofs.Notes
+pub use Rattle.core_row.proofs.ReachedRows
+pub use Rattle.core_row.proofs.Room
+pub use Rattle.core_row.proofs.RowOfRuns
+pub use Rattle.core_row.proofs.Tries
+pub use Rattle.core_wake.proofs.PortsAlike
+pub use Rattle.core_wake.proofs.PortsKept
+pub use Rattle.core_wake.proofs.Sleepers
+pub use Rattle.order_abstract.proofs.LoadingAccepted
+pub use Rattle.tile.proofs.OwnAttempts
+mod PlacesOfLines
+mod SetFlags
+pub mod PortSets
+pub mod PortFlags
+pub mod KeptSleepers
+pub mod Items
+pub mod Refused
+pub mod Handing
+pub mod Rooms

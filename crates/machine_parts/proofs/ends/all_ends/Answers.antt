@@ -1,0 +1,14 @@
+use Rattle.std.proofs.Common.{◌/◌, List, [], ◌∷◌, ◌++◌, sym, ◌∙◌, ap, arith, map}
+use Rattle.std.specs.List.{range_with_len}
+use Rattle.std.proofs.lemmas.List.FromFn.{map-range_with_len_more}
+use Rattle.machine_parts.specs.Ends.{ends_of}
+use Rattle.machine_parts.specs.declared.ends.Ends.{Ends}
+use Rattle.machine_parts.proofs.ends.all_ends.Goals as goal
+
+pub loop-place-preserved : goal.loop-place-preserved
+loop-place-preserved g c =
+    let so_far : List Ends = map (λ place. ends_of c.args.torus.now (place / c.args.depth)) (range_with_len 0 c.loop-place.place) in
+    c.in_ok-push.ensures.items
+    ∙ (ap (λ (xs : List Ends). xs ++ c.ends_of.result ∷ []) c.loop-place.invariant
+    ∙ (ap (λ (e : Ends). so_far ++ e ∷ []) c.ends_of.ensures
+    ∙ sym (map-range_with_len_more (λ place. ends_of c.args.torus.now (place / c.args.depth)) 0 c.loop-place.place c.loop-place.place (omega arith))))

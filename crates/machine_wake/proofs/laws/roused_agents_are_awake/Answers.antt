@@ -1,5 +1,0 @@
-use Rattle.machine_wake.proofs.KeptSleepers.{one_roused, everyone, choice_roused, every_choice}
-use Rattle.machine_wake.proofs.laws.roused_agents_are_awake.Goals as goal
-
-pub returns : goal.returns
-returns c = record { one = one_roused; all = everyone; choice = choice_roused; choices = every_choice }

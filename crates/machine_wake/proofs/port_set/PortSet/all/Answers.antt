@@ -1,5 +1,0 @@
-use Rattle.machine_wake.proofs.PortSets.{all_shown}
-use Rattle.machine_wake.proofs.port_set.PortSet.all.Goals as goal
-
-pub returns : goal.returns
-returns c = λ t k. all_shown t k

@@ -1,6 +1,0 @@
-use Rattle.machine_wake.proofs.PortSets.{raised_in}
-use Rattle.machine_wake.proofs.port_set.PortSet.raise.Goals as goal
-
-pub returns-then-port-lt32 : goal.returns-then-port-lt32
-returns-then-port-lt32 c =
-    rw (← c.self.view_is) (λ t k. raised_in c.self.inside.words c.self.invariant c.args.tile c.requires c.args.port c.if-port-lt32.true t k)

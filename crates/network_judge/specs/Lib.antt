@@ -1,0 +1,13 @@
+pub mod Table
+pub mod Columns
+pub mod Ways
+pub mod Replies
+pub mod TableNet
+pub mod Cycles
+pub mod Verdicts
+pub mod Marks
+pub mod Graph
+pub mod Search
+pub mod Links
+pub mod Exactly
+pub mod Receivers

@@ -1,0 +1,89 @@
+-- What is written of a verdict, and what is answered to a network text (this project's own format).
+use Rattle.std.specs.Prelude.{◌≡◌, ◌⊎◌, ℕ, ◌+◌, ◌==◌, Bool, true, false, if◌then◌else◌, List, []}
+use Rattle.std.specs.Prelude.{◌++◌, length, slice_index, Result, Ok, Err, codes, decimal}
+use Rattle.std.specs.List.{flat_map, range_with_len}
+use Rattle.torus.specs.declared.fault.Fault.TheVariants as fault
+use Rattle.script.specs.declared.fault.LineFault.{LineFault}
+use Rattle.network_judge.specs.declared.table.By.{By}
+use Rattle.network_judge.specs.declared.table.By.TheVariants.{To, Replied}
+use Rattle.network_judge.specs.declared.table.Link.{Link}
+use Rattle.network_judge.specs.declared.table.NoRoute as no_route
+use Rattle.network_judge.specs.declared.table.Why.{Why}
+use Rattle.network_judge.specs.declared.table.Why.TheVariants.{NoSender, NoReceiver, Leaves}
+use Rattle.network_judge.specs.declared.table.Why.TheVariants.{Ejects, Injects, Round}
+use Rattle.network_judge.specs.declared.table.Verdict.{Verdict}
+use Rattle.network_judge.specs.declared.table.Verdict.TheVariants.{Rising, NoRoute, Cycle}
+use Rattle.network_judge.specs.Cycles.{link_at}
+use Rattle.network_judge.specs.Verdicts.{IsVerdict}
+use Rattle.network_text.specs.declared.answer.Answer.{Answer}
+use Rattle.network_text.specs.Network.{NetworkSpec, network_of}
+
+-- two numbers, with these words before, between and behind them
+abbrev pub pair_line : List ℕ → ℕ → List ℕ → ℕ → List ℕ → List ℕ
+pair_line before a between b behind = before ++ decimal a ++ between ++ decimal b ++ behind
+
+-- the lines of the first n
+abbrev pub first_lines : (ℕ → List ℕ) → ℕ → List ℕ
+first_lines line n = flat_map line (range_with_len 0 n)
+
+-- the line of a channel with its number
+abbrev pub number_line : List ℕ → ℕ → List ℕ
+number_line numbers x = pair_line (codes "number ") x (codes " ") (slice_index numbers x)
+    (codes "\n")
+
+-- why a walk is no route
+abbrev pub why_words : Why → List ℕ
+why_words NoSender = codes "the first is no injection channel"
+why_words NoReceiver = codes "the second is no ejection channel"
+why_words (Leaves n) = codes "no channel at step " ++ decimal n
+why_words (Ejects n) = codes "another ejection channel at step " ++ decimal n
+why_words (Injects n) = codes "an injection channel at step " ++ decimal n
+why_words Round = codes "round for ever"
+
+-- how a channel leads on: over packets to an ejection channel, or to the channel on which it is
+-- answered
+abbrev pub by_line : ℕ → By → ℕ → List ℕ
+by_line x (To j) y = pair_line [] x (codes " to ") j (codes "\n")
+by_line x Replied y = pair_line [] x (codes " replies ") y (codes "\n")
+
+-- the place of a cycle that comes after a place
+abbrev pub next_place : ℕ → ℕ → ℕ
+next_place n k = if k + 1 == n then 0 else k + 1
+
+-- the line of the link at a place of a cycle
+abbrev pub link_line : List Link → ℕ → List ℕ
+link_line links k =
+    by_line (link_at links k).channel (link_at links k).by
+    (link_at links (next_place (length links) k)).channel
+
+-- the line of a pair without a route
+abbrev pub no_route_line : no_route.NoRoute → List ℕ
+no_route_line r = pair_line (codes "no route ") r.join.from (codes " ") r.join.to (codes ": ")
+    ++ why_words r.why ++ codes "\n"
+
+-- what is written of a verdict
+abbrev pub verdict_text : {A : Type 0} → Verdict A → List ℕ
+verdict_text (Rising numbers) =
+    first_lines (number_line numbers.items) (length numbers.items) ++ codes "rising\n"
+verdict_text (NoRoute r) = no_route_line r
+verdict_text (Cycle links) =
+    codes "cycle\n" ++ first_lines (link_line links.items) (length links.items)
+
+-- whether a verdict has numbers
+abbrev pub is_rising : {A : Type 0} → Verdict A → Bool
+is_rising (Rising numbers) = true
+is_rising (NoRoute r) = false
+is_rising (Cycle links) = false
+
+-- what the verdict of a network says, and whether its numbers rise
+pub record Tells {A : Type 0} (n : NetworkSpec) (a : Answer A) : Type 0 where
+  pub verdict : Verdict A
+  pub holds : IsVerdict n.table n.replies verdict
+  pub text : a.text.items ≡ verdict_text verdict
+  pub rising : a.rising ≡ is_rising verdict
+
+-- what is answered to a text of these lines: the verdict of its network, or its first fault, or
+-- out of memory
+abbrev pub Answers : {A : Type 0} → List (List ℕ) → Result (Answer A) LineFault → Type 0
+Answers lines (Ok a) = (n : NetworkSpec) × (network_of lines ≡ Ok n) × Tells n a
+Answers lines (Err e) = (e ≡ record { fault = fault.Memory; line = 0 }) ⊎ (network_of lines ≡ Err e)

@@ -1,0 +1,72 @@
+-- The line of a network text before a refused one that gave already what it gives.
+use Rattle.std.specs.Prelude.{ℕ, ◌&&◌, ◌==◌, Bool, true, false, List, [], ◌∷◌, Option, Some, None}
+use Rattle.std.specs.Prelude.{unwrap_or}
+use Rattle.lexer.specs.Words.{first_words, line_at}
+use Rattle.lexer.specs.Spelled.{first_index, second_index}
+use Rattle.lexer.specs.Before.{line_that_gives}
+use Rattle.lexer.specs.declared.refusal.Refusal.{Refusal}
+use Rattle.network_text.specs.declared.before.Wanted.{Wanted}
+use Rattle.network_text.specs.declared.before.Wanted.TheVariants as wanted
+use Rattle.network_text.specs.declared.reason.Keyword.{Keyword}
+use Rattle.network_text.specs.declared.reason.Keyword.TheVariants.{Channels, Inject, Eject}
+use Rattle.network_text.specs.declared.reason.Keyword.TheVariants.{Next, Reply}
+use Rattle.network_text.specs.declared.reason.NetworkReason.{NetworkReason}
+use Rattle.network_text.specs.declared.reason.NetworkReason.TheVariants as reason
+use Rattle.network_text.specs.Reasons.{network_keyword_of}
+
+-- whether a line of a keyword and these first numbers gives what is wanted
+abbrev pub numbers_give : Wanted → Keyword → ℕ → ℕ → Bool
+numbers_give wanted.Channels Channels a b = true
+numbers_give (wanted.Kind x) Inject a b = a == x
+numbers_give (wanted.Kind x) Eject a b = a == x
+numbers_give wanted.Next Next a b = true
+numbers_give (wanted.Choice x j) Next a b = (a == x) && (b == j)
+numbers_give (wanted.Reply x y) Reply a b = (a == x) && (b == y)
+numbers_give _ _ a b = false
+
+-- whether a line of a keyword gives what is wanted
+abbrev pub keyword_gives : Wanted → Keyword → List (List ℕ) → Bool
+keyword_gives w keyword values =
+    numbers_give w keyword (first_index values) (second_index values)
+
+-- whether a line does whose first word may be a keyword
+abbrev pub word_gives : Wanted → Option Keyword → List (List ℕ) → Bool
+word_gives w None values = false
+word_gives w (Some keyword) values = keyword_gives w keyword values
+
+-- whether words give what is wanted
+abbrev pub words_give : Wanted → List (List ℕ) → Bool
+words_give w [] = false
+words_give w (word ∷ values) = word_gives w (network_keyword_of word) values
+
+-- what a line before gave, by the reason for which a line is refused and the words behind its
+-- keyword
+abbrev pub wanted_of : NetworkReason → List (List ℕ) → Option Wanted
+wanted_of reason.ChannelsTwice values = Some wanted.Channels
+wanted_of reason.KindTwice values = Some (wanted.Kind (first_index values))
+wanted_of reason.EjectionLate values = Some wanted.Next
+wanted_of reason.ChoiceTwice values =
+    Some (wanted.Choice (first_index values) (second_index values))
+wanted_of reason.ReplyTwice values =
+    Some (wanted.Reply (first_index values) (second_index values))
+wanted_of _ values = None
+
+-- the number of the first line before the line `stop` that gave what is wanted; 0 where none did
+abbrev pub line_giving : Option Wanted → ℕ → List (List ℕ) → ℕ
+line_giving None stop lines = 0
+line_giving (Some w) stop lines = unwrap_or (line_that_gives (words_give w) stop lines) 0
+
+-- the same for the words of the refused line
+abbrev pub earlier_by_words : NetworkReason → ℕ → List (List ℕ) → List (List ℕ) → ℕ
+earlier_by_words why stop lines [] = 0
+earlier_by_words why stop lines (word ∷ values) = line_giving (wanted_of why values) stop lines
+
+-- the same for the refused line
+abbrev pub earlier_by_line : Refusal NetworkReason → List (List ℕ) → Option (List ℕ) → ℕ
+earlier_by_line s lines (Some line) = earlier_by_words s.reason s.line lines (first_words line)
+earlier_by_line s lines None = 0
+
+-- the number of the line before a refused one that gave what the reason says: the same thing
+-- already, or the first choice; 0 where the reason says nothing of a line
+abbrev pub earlier_line : Refusal NetworkReason → List (List ℕ) → ℕ
+earlier_line s lines = earlier_by_line s lines (line_at s.line 1 lines)

@@ -1,0 +1,136 @@
+//! The line of a network text before a refused one that gave already what it gives.
+
+ghost use Rattle.std.specs.Prelude.{◌≡◌, map};
+ghost use Rattle.std.specs.Str.Lines.{lines};
+ghost use Rattle.network_text.specs.Before.{numbers_give, keyword_gives, wanted_of};
+ghost use Rattle.network_text.specs.Before.{line_giving, earlier_by_words, earlier_line};
+
+use crate::reason::{Keyword, NetworkReason};
+use lexer::{Before, Refusal, Sought, first_index, first_words, line_at, second_index};
+
+/// What a line is looked for: that it gives this.
+#[derive(Clone, Copy)]
+pub(crate) enum Wanted {
+    /// The number of channels.
+    Channels,
+    /// The kind of a channel.
+    Kind(u32),
+    /// Any choice.
+    Next,
+    /// The choice behind a channel for packets to an ejection channel.
+    Choice(u32, u32),
+    /// The reply to packets from an ejection channel on an injection channel.
+    Reply(u32, u32),
+}
+
+impl Sought for Wanted {
+    ghost use Rattle.network_text.specs.Before.{words_give};
+
+    ghost gives = { words_give };
+
+    fn is_in(self, words: &[&[u8]]) -> bool {
+        match words {
+            [] => false,
+            [word, values @ ..] => match Keyword::of(word) {
+                None => false,
+                Some(keyword) => self.keyword_gives(keyword, values),
+            },
+        }
+    }
+}
+
+impl Wanted {
+    /// Whether a line of a keyword gives it.
+    fn keyword_gives(self, keyword: Keyword, values: &[&[u8]]) -> bool
+        ensures { result ≡ keyword_gives self keyword (map (λ value. value.now) values.now) }
+    {
+        self.numbers_give(keyword, first_index(values), second_index(values))
+    }
+
+    /// Whether a line of a keyword and these first numbers gives it.
+    fn numbers_give(self, keyword: Keyword, a: u32, b: u32) -> bool
+        ensures { result ≡ numbers_give self keyword a b }
+    {
+        match keyword {
+            Keyword::Channels => match self {
+                Wanted::Channels => true,
+                _ => false,
+            },
+            Keyword::Inject => match self {
+                Wanted::Kind(x) => a == x,
+                _ => false,
+            },
+            Keyword::Eject => match self {
+                Wanted::Kind(x) => a == x,
+                _ => false,
+            },
+            Keyword::Join => false,
+            Keyword::Next => match self {
+                Wanted::Next => true,
+                Wanted::Choice(x, j) => a == x && b == j,
+                _ => false,
+            },
+            Keyword::Reply => match self {
+                Wanted::Reply(x, y) => a == x && b == y,
+                _ => false,
+            },
+        }
+    }
+}
+
+/// What a line before gave, by the reason for which a line is refused and the words behind its
+/// keyword.
+fn wanted_of(reason: NetworkReason, values: &[&[u8]]) -> Option<Wanted>
+    ensures { result ≡ wanted_of reason (map (λ value. value.now) values.now) }
+{
+    let a = first_index(values);
+    let b = second_index(values);
+    match reason {
+        NetworkReason::ChannelsTwice => Some(Wanted::Channels),
+        NetworkReason::KindTwice => Some(Wanted::Kind(a)),
+        NetworkReason::EjectionLate => Some(Wanted::Next),
+        NetworkReason::ChoiceTwice => Some(Wanted::Choice(a, b)),
+        NetworkReason::ReplyTwice => Some(Wanted::Reply(a, b)),
+        _ => None,
+    }
+}
+
+/// The number of the first line before that gives what is wanted; 0 where none does.
+fn line_giving(before: Before<'_>, wanted: Option<Wanted>) -> u64
+    ensures { result ≡ line_giving wanted before.entry.stop (lines before.entry.text.now) }
+{
+    match wanted {
+        Some(wanted) => before.line_that_gives(wanted).unwrap_or(0),
+        None => 0,
+    }
+}
+
+/// The number of the first line before that gave what the reason says, by the words of the refused
+/// line.
+fn earlier_by_words(before: Before<'_>, reason: NetworkReason, words: &[&[u8]]) -> u64
+    ensures { result ≡ earlier_by_words reason before.entry.stop (lines before.entry.text.now)
+        (map (λ word. word.now) words.now) }
+{
+    match words {
+        [] => 0,
+        [_, values @ ..] => line_giving(before, wanted_of(reason, values)),
+    }
+}
+
+/// The number of the line before a refused one that gave what the reason says: the same thing
+/// already, or the first choice. 0 where the reason says nothing of a line.
+pub fn earlier_line(text: &[u8], refusal: Refusal<NetworkReason>) -> u64
+    ensures { result ≡ earlier_line refusal (lines text.now) }
+{
+    let before = Before {
+        text,
+        stop: refusal.line,
+    };
+    match line_at(text, refusal.line) {
+        Some(found) => {
+            let (words, count) = first_words(found);
+            earlier_by_words(before, refusal.reason, &words[..count])
+        }
+        None => 0,
+    }
+}

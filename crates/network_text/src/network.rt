@@ -1,0 +1,130 @@
+//! The network of a text.
+
+ghost use Rattle.std.specs.Prelude.{◌≡◌};
+ghost use Rattle.std.specs.Str.Lines.{lines};
+ghost use Rattle.network_judge.specs.Table.{IsFull};
+ghost use Rattle.network_judge.specs.Replies.{AreReplies};
+ghost use Rattle.lexer.specs.Outcome.{Gives as GivesOrWhy};
+ghost use Rattle.script.specs.Outcome.{Gives};
+ghost use Rattle.network_text.specs.Network.{MakesNetwork};
+ghost use Rattle.network_text.specs.Network.{NetworkSpec, network_of, network_or_why, network_with};
+ghost use Rattle.network_text.specs.Reading.{reading_of, IsRead};
+
+use crate::reading::Reading;
+use crate::reason::NetworkReason;
+use lexer::{Refusal, first_words, next_line};
+use network_judge::{Join, Kind, Reply};
+use script::LineFault;
+use std::alloc::{Allocator, Global};
+use std::marker::Model;
+
+/// A network as its text gives it.
+#[derive(Drop)]
+pub struct Network<A: Allocator = Global> {
+    kinds: Vec<Kind, A>,
+    joins: Vec<Join, A>,
+    replies: Vec<Reply, A>,
+    choices: Vec<u32, A>,
+}
+
+impl<A: Allocator> Model for Network<A> {
+    ghost use Rattle.network_text.specs.Network.{NetworkSpec};
+
+    ghost Value = { NetworkSpec };
+
+    ghost use Rattle.network_text.specs.Inside.{network_of_fields, IsNetwork};
+
+    ghost view = { network_of_fields };
+
+    ghost invariant = { IsNetwork };
+}
+
+impl<A: Allocator> Network<A> {
+    /// The kind of each channel, 1 to 16384 of them.
+    pub fn kinds(&self) -> &[Kind]
+        ensures value { result.now ≡ self.now.table.kinds }
+        ensures full { IsFull self.now.table }
+        ensures replies { AreReplies self.now.table self.now.replies }
+    {
+        &self.kinds
+    }
+
+    /// The pairs that packets go between, in the order of the text.
+    pub fn joins(&self) -> &[Join]
+        ensures { result.now ≡ self.now.table.joins }
+    {
+        &self.joins
+    }
+
+    /// Which packets are answered where, in the order of the text.
+    pub fn replies(&self) -> &[Reply]
+        ensures { result.now ≡ self.now.replies }
+    {
+        &self.replies
+    }
+
+    /// The choice behind each channel for each ejection channel, both in channel order; where there
+    /// is none, the number of channels.
+    pub fn choices(&self) -> &[u32]
+        ensures { result.now ≡ self.now.table.choices }
+    {
+        &self.choices
+    }
+}
+
+/// Reads a network text.
+///
+/// Errors: where and why its first bad line is refused, or that a request for memory was.
+pub fn read_network_or_why<A: Allocator + Copy>(
+    alloc: A,
+    text: &[u8],
+) -> Result<Network<A>, Refusal<NetworkReason>>
+    ensures { GivesOrWhy NetworkReason.Memory (λ n. n) result (network_or_why (lines text.now)) }
+{
+    let mut reading = Reading::none(alloc);
+    let mut number = 1u64;
+    let mut rest = text;
+    while let Some((line, after)) = next_line(rest) {
+        let (words, count) = first_words(line);
+        if let Err(reason) = reading.take(alloc, &words[..count]) {
+            return Err(Refusal::at(number, reason));
+        }
+        number += 1;
+        rest = after;
+    }
+    match network_with(alloc, reading) {
+        Ok(network) => Ok(network),
+        Err(reason) => Err(Refusal::at(number, reason)),
+    }
+}
+
+/// Reads a network text.
+///
+/// Errors: the first fault and its line, or `Fault::Memory` at line 0.
+pub fn read_network<A: Allocator + Copy>(alloc: A, text: &[u8]) -> Result<Network<A>, LineFault>
+    ensures { Gives (λ n. n) result (network_of (lines text.now)) }
+{
+    let network = read_network_or_why(alloc, text)?;
+    Ok(network)
+}
+
+/// The network of all lines.
+fn network_with<A: Allocator + Copy>(
+    alloc: A,
+    reading: Reading<A>,
+) -> Result<Network<A>, NetworkReason>
+    requires { IsRead reading }
+    ensures { MakesNetwork result (network_with (reading_of reading)) }
+{
+    let mut reading = reading;
+    if reading.kinds.is_empty() {
+        return Err(NetworkReason::ChannelsMissing);
+    }
+    reading.begin(alloc)?;
+    Ok(Network {
+        kinds: reading.kinds,
+        joins: reading.joins,
+        replies: reading.replies,
+        choices: reading.choices,
+    })
+}

@@ -1,0 +1,124 @@
+//! Why a line of a network text is refused.
+
+ghost use Rattle.std.specs.Prelude.{◌≡◌};
+ghost use Rattle.network_text.specs.Reasons.{network_keyword_of};
+
+use lexer::Reason;
+use std::alloc::AllocError;
+use torus::Fault;
+
+/// What a line of a network text begins with.
+#[derive(Clone, Copy)]
+pub enum Keyword {
+    Channels,
+    Inject,
+    Eject,
+    Join,
+    Next,
+    Reply,
+}
+
+/// Why a line of a network text is refused. A word of the line is named by its place, from 0.
+#[derive(Clone, Copy)]
+pub enum NetworkReason {
+    /// The first word of the line is no keyword.
+    UnknownKeyword,
+    /// A keyword has too few or too many numbers behind it.
+    NumberCount(Keyword),
+    /// The word at this place is no number, where one belongs.
+    NotNumber(u32),
+    /// The line comes before the number of channels.
+    ChannelsFirst,
+    /// The text ends without the number of channels.
+    ChannelsMissing,
+    /// The number of channels is given already.
+    ChannelsTwice,
+    /// The number of channels is not 1 to 16384.
+    ChannelsLimits,
+    /// The channel at this place is not below this number of channels.
+    ChannelLimits(u32, usize),
+    /// The channel was made an injection or an ejection channel already.
+    KindTwice,
+    /// The ejection channel comes behind the first choice.
+    EjectionLate,
+    /// There are 1024 ejection channels already.
+    EjectionsLimits,
+    /// There are 1048576 pairs already.
+    JoinsLimits,
+    /// The channel at this place is no ejection channel.
+    NotEjection(u32),
+    /// The channel at this place is no injection channel.
+    NotInjection(u32),
+    /// The choice behind the channel for the ejection channel is given already.
+    ChoiceTwice,
+    /// The reply is given already.
+    ReplyTwice,
+    /// A request for memory was refused while the text was read.
+    Memory,
+}
+
+impl Reason for NetworkReason {
+    ghost use Rattle.network_text.specs.Reasons.{network_fault_of};
+
+    ghost fault_of = { network_fault_of };
+
+    fn fault(self) -> Fault {
+        match self {
+            NetworkReason::UnknownKeyword => Fault::Line,
+            NetworkReason::NumberCount(_) => Fault::Line,
+            NetworkReason::NotNumber(_) => Fault::Line,
+            NetworkReason::ChannelsFirst => Fault::Setting,
+            NetworkReason::ChannelsMissing => Fault::Setting,
+            NetworkReason::ChannelsTwice => Fault::Setting,
+            NetworkReason::ChannelsLimits => Fault::Range,
+            NetworkReason::ChannelLimits(_, _) => Fault::Range,
+            NetworkReason::KindTwice => Fault::Setting,
+            NetworkReason::EjectionLate => Fault::Setting,
+            NetworkReason::EjectionsLimits => Fault::Length,
+            NetworkReason::JoinsLimits => Fault::Length,
+            NetworkReason::NotEjection(_) => Fault::Range,
+            NetworkReason::NotInjection(_) => Fault::Range,
+            NetworkReason::ChoiceTwice => Fault::Setting,
+            NetworkReason::ReplyTwice => Fault::Setting,
+            NetworkReason::Memory => Fault::Memory,
+        }
+    }
+}
+
+impl From<AllocError> for NetworkReason {
+    ghost use Rattle.std.specs.Prelude.{◌≡◌};
+    ghost use Rattle.network_text.specs.declared.reason.NetworkReason.TheVariants as reason;
+
+    ghost from_gives = { λ _ made. made ≡ reason.Memory };
+
+    fn from(_refused: AllocError) -> NetworkReason {
+        NetworkReason::Memory
+    }
+}
+
+impl Keyword {
+    /// The keyword that a word spells.
+    pub fn of(word: &[u8]) -> Option<Keyword>
+        ensures { result ≡ network_keyword_of word.now }
+    {
+        if word == b"channels".as_slice() {
+            return Some(Keyword::Channels);
+        }
+        if word == b"inject".as_slice() {
+            return Some(Keyword::Inject);
+        }
+        if word == b"eject".as_slice() {
+            return Some(Keyword::Eject);
+        }
+        if word == b"join".as_slice() {
+            return Some(Keyword::Join);
+        }
+        if word == b"next".as_slice() {
+            return Some(Keyword::Next);
+        }
+        if word == b"reply".as_slice() {
+            return Some(Keyword::Reply);
+        }
+        None
+    }
+}

@@ -1,0 +1,129 @@
+//! The sentence that tells a reader why a network text is refused.
+
+ghost use Rattle.std.specs.Prelude.{IfSome, option_map};
+ghost use Rattle.std.specs.Str.Lines.{lines};
+ghost use Rattle.lexer.specs.Named.{IsAbout};
+ghost use Rattle.network_text.specs.Sentences.{TellsRefusal, refusal_in};
+
+use crate::before::earlier_line;
+use crate::network::read_network_or_why;
+use crate::reason::{Keyword, NetworkReason};
+use lexer::{Filled, Named, QuotedWords, Refusal};
+use std::alloc::Allocator;
+use std::fmt;
+
+/// Why a network text is refused, as a sentence: `net.txt:3: channel 70: the network has the
+/// channels 0 to 63`.
+#[derive(Clone, Copy)]
+pub struct NetworkSentence<'a> {
+    /// The name of the text.
+    pub name: &'a str,
+    pub text: &'a [u8],
+    pub refusal: Refusal<NetworkReason>,
+}
+
+/// Why a network text is refused; `None` where it has no fault.
+pub fn network_sentence<'a, A: Allocator + Copy>(
+    alloc: A,
+    network: Named<'a>,
+) -> Option<NetworkSentence<'a>>
+    ensures tells { TellsRefusal (lines network.entry.text.now) (option_map refusal_in result) }
+    ensures text { IfSome result (λ s. IsAbout network.entry s.name.now s.text.now) }
+{
+    match read_network_or_why(alloc, network.text) {
+        Ok(_) => None,
+        Err(refusal) => Some(NetworkSentence {
+            name: network.name,
+            text: network.text,
+            refusal,
+        }),
+    }
+}
+
+/// What stands behind a keyword.
+fn numbers_text(keyword: Keyword) -> &'static str {
+    match keyword {
+        Keyword::Channels => "stands one number",
+        Keyword::Inject => "stands one channel",
+        Keyword::Eject => "stands one channel",
+        Keyword::Join => "stand two channels",
+        Keyword::Next => "stand three channels",
+        Keyword::Reply => "stand two channels",
+    }
+}
+
+/// The sentence of a reason, with its gaps.
+fn text_of(reason: NetworkReason) -> &'static str {
+    match reason {
+        NetworkReason::UnknownKeyword => {
+            "A: a line begins with channels, inject, eject, join, next or reply"
+        }
+        NetworkReason::NumberCount(_) => "A: behind it K",
+        NetworkReason::NotNumber(_) => "W: a number belongs there",
+        NetworkReason::ChannelsFirst => "A: it comes behind channels, which is not given yet",
+        NetworkReason::ChannelsMissing => "the text ends without channels",
+        NetworkReason::ChannelsTwice => "channels: it is given at line N already",
+        NetworkReason::ChannelsLimits => "channels B: a network has 1 to 16384 channels",
+        NetworkReason::ChannelLimits(_, _) => { "channel W: the network has the channels 0 to N" }
+        NetworkReason::KindTwice => "channel B: its kind is given at line N already",
+        NetworkReason::EjectionLate => {
+            "eject B: ejection channels come before the first next, which is at line N"
+        }
+        NetworkReason::EjectionsLimits => {
+            "eject B: a network has at most 1024 ejection channels"
+        }
+        NetworkReason::JoinsLimits => "join B C: a network has at most 1048576 joins",
+        NetworkReason::NotEjection(_) => "channel W: it is no ejection channel",
+        NetworkReason::NotInjection(_) => "channel W: it is no injection channel",
+        NetworkReason::ChoiceTwice => "next B C: it is given at line N already",
+        NetworkReason::ReplyTwice => "reply B C: it is given at line N already",
+        NetworkReason::Memory => "a request for memory was refused while it was read",
+    }
+}
+
+/// The place of the word that a reason is about.
+fn place_of(reason: NetworkReason) -> u32 {
+    match reason {
+        NetworkReason::NotNumber(place) => place,
+        NetworkReason::ChannelLimits(place, _) => place,
+        NetworkReason::NotEjection(place) => place,
+        NetworkReason::NotInjection(place) => place,
+        _ => 0,
+    }
+}
+
+/// The number of a sentence: the last channel, or the line before that gave what the reason says.
+fn number_of(text: &[u8], refusal: Refusal<NetworkReason>) -> u64 {
+    match refusal.reason {
+        NetworkReason::ChannelLimits(_, count) => count.saturating_sub(1) as u64,
+        _ => earlier_line(text, refusal),
+    }
+}
+
+/// What the sentence of a reason says to stand behind a keyword.
+fn name_of(reason: NetworkReason) -> &'static str {
+    match reason {
+        NetworkReason::NumberCount(keyword) => numbers_text(keyword),
+        _ => "",
+    }
+}
+
+impl<'a> fmt::Display for NetworkSentence<'a> {
+    fn fmt<W: fmt::Write>(&self, f: &mut fmt::Formatter<W>) -> fmt::Result {
+        f.write_str(self.name)?;
+        if self.refusal.line != 0 {
+            write!(f, ":{}", self.refusal.line)?;
+        }
+        f.write_str(": ")?;
+        let reason = self.refusal.reason;
+        let filled = Filled {
+            text: text_of(reason),
+            words: QuotedWords::of_line(self.text, self.refusal.line),
+            place: place_of(reason),
+            number: u128::from(number_of(self.text, self.refusal)),
+            other: 0,
+            name: name_of(reason),
+        };
+        write!(f, "{filled}")
+    }
+}

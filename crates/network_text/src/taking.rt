@@ -1,0 +1,184 @@
+//! What a line gives, by its numbers.
+
+ghost use Rattle.std.specs.Prelude.{◌<◌, length, OnOk};
+ghost use Rattle.lexer.specs.Outcome.{Makes};
+ghost use Rattle.network_text.specs.Network.{after_channels, after_inject, after_eject, after_join};
+ghost use Rattle.network_text.specs.Network.{after_choice, after_next, after_reply};
+ghost use Rattle.network_text.specs.Reading.{reading_of, IsRead};
+
+use crate::reading::{Reading, has_reply, is_hop};
+use crate::reason::NetworkReason;
+use network_judge::{Join, Kind, Reply};
+use std::alloc::Allocator;
+
+/// The most channels of a network.
+const MOST_CHANNELS: u32 = 16384;
+
+/// The most ejection channels.
+const MOST_EJECTIONS: usize = 1024;
+
+/// The most pairs that packets go between.
+const MOST_JOINS: usize = 1048576;
+
+impl<A: Allocator + Copy> Reading<A> {
+    /// Takes the number of channels.
+    pub(crate) fn take_channels(&mut self, alloc: A, count: u32) -> Result<(), NetworkReason>
+        requires { IsRead self.old }
+        ensures value { Makes NetworkReason.Memory (reading_of self.new) result
+            (after_channels (reading_of self.old) count) }
+        ensures read { OnOk result (IsRead self.new) }
+    {
+        if !self.kinds.is_empty() {
+            return Err(NetworkReason::ChannelsTwice);
+        }
+        if !(1 <= count && count <= MOST_CHANNELS) {
+            return Err(NetworkReason::ChannelsLimits);
+        }
+        self.kinds = vec![in alloc; Kind::Hop; count as usize]?;
+        Ok(())
+    }
+
+    /// Takes an injection channel.
+    pub(crate) fn take_inject(&mut self, channel: u32) -> Result<(), NetworkReason>
+        requires { IsRead self.old }
+        ensures value { Makes NetworkReason.Memory (reading_of self.new) result
+            (after_inject (reading_of self.old) channel) }
+        ensures read { OnOk result (IsRead self.new) }
+    {
+        let x = channel as usize;
+        if let Some(reason) = self.lacks(1, x) {
+            return Err(reason);
+        }
+        if !is_hop(self.kinds[x]) {
+            return Err(NetworkReason::KindTwice);
+        }
+        self.kinds[x] = Kind::Injection;
+        Ok(())
+    }
+
+    /// Takes an ejection channel.
+    pub(crate) fn take_eject(&mut self, channel: u32) -> Result<(), NetworkReason>
+        requires { IsRead self.old }
+        ensures value { Makes NetworkReason.Memory (reading_of self.new) result
+            (after_eject (reading_of self.old) channel) }
+        ensures read { OnOk result (IsRead self.new) }
+    {
+        let x = channel as usize;
+        if let Some(reason) = self.lacks(1, x) {
+            return Err(reason);
+        }
+        if self.begun {
+            return Err(NetworkReason::EjectionLate);
+        }
+        if !is_hop(self.kinds[x]) {
+            return Err(NetworkReason::KindTwice);
+        }
+        if self.ejections >= MOST_EJECTIONS {
+            return Err(NetworkReason::EjectionsLimits);
+        }
+        self.kinds[x] = Kind::Ejection;
+        self.ejections += 1;
+        Ok(())
+    }
+
+    /// Takes a pair that packets go between.
+    pub(crate) fn take_join(&mut self, from: u32, to: u32) -> Result<(), NetworkReason>
+        requires { IsRead self.old }
+        ensures value { Makes NetworkReason.Memory (reading_of self.new) result
+            (after_join (reading_of self.old) from to) }
+        ensures read { OnOk result (IsRead self.new) }
+    {
+        let from = from as usize;
+        let to = to as usize;
+        if let Some(reason) = self.lacks(1, from) {
+            return Err(reason);
+        }
+        if let Some(reason) = self.lacks(2, to) {
+            return Err(reason);
+        }
+        if self.joins.len() >= MOST_JOINS {
+            return Err(NetworkReason::JoinsLimits);
+        }
+        if self.joins.push(Join { from, to }).is_err() {
+            return Err(NetworkReason::Memory);
+        }
+        Ok(())
+    }
+
+    /// Takes the choice at a place.
+    fn take_choice(&mut self, cell: usize, choice: u32) -> Result<(), NetworkReason>
+        requires read { IsRead self.old }
+        requires cell { cell < length self.old.choices.items }
+        ensures value { Makes NetworkReason.Memory (reading_of self.new) result
+            (after_choice (reading_of self.old) cell choice) }
+        ensures read { OnOk result (IsRead self.new) }
+    {
+        if self.choices[cell] as usize != self.kinds.len() {
+            return Err(NetworkReason::ChoiceTwice);
+        }
+        self.choices[cell] = choice;
+        Ok(())
+    }
+
+    /// Takes a choice.
+    pub(crate) fn take_next(
+        &mut self,
+        alloc: A,
+        channel: u32,
+        to: u32,
+        choice: u32,
+    ) -> Result<(), NetworkReason>
+        requires { IsRead self.old }
+        ensures value { Makes NetworkReason.Memory (reading_of self.new) result
+            (after_next (reading_of self.old) channel to choice) }
+        ensures read { OnOk result (IsRead self.new) }
+    {
+        let x = channel as usize;
+        let j = to as usize;
+        if let Some(reason) = self.lacks(1, x) {
+            return Err(reason);
+        }
+        if let Some(reason) = self.lacks(2, j) {
+            return Err(reason);
+        }
+        if !self.ejects(j) {
+            return Err(NetworkReason::NotEjection(2));
+        }
+        if let Some(reason) = self.lacks(3, choice as usize) {
+            return Err(reason);
+        }
+        self.begin(alloc)?;
+        let cell = x * self.ejections + self.columns[j];
+        self.take_choice(cell, choice)
+    }
+
+    /// Takes where packets from an ejection channel are answered.
+    pub(crate) fn take_reply(&mut self, from: u32, to: u32) -> Result<(), NetworkReason>
+        requires { IsRead self.old }
+        ensures value { Makes NetworkReason.Memory (reading_of self.new) result
+            (after_reply (reading_of self.old) from to) }
+        ensures read { OnOk result (IsRead self.new) }
+    {
+        let from = from as usize;
+        let to = to as usize;
+        if let Some(reason) = self.lacks(1, from) {
+            return Err(reason);
+        }
+        if !self.ejects(from) {
+            return Err(NetworkReason::NotEjection(1));
+        }
+        if let Some(reason) = self.lacks(2, to) {
+            return Err(reason);
+        }
+        if !self.injects(to) {
+            return Err(NetworkReason::NotInjection(2));
+        }
+        if has_reply(&self.replies, from, to) {
+            return Err(NetworkReason::ReplyTwice);
+        }
+        if self.replies.push(Reply { from, to }).is_err() {
+            return Err(NetworkReason::Memory);
+        }
+        Ok(())
+    }
+}

@@ -1,4 +1,0 @@
-pub mod Members
-pub mod Rounds
-pub mod Simulates
-mod Examples

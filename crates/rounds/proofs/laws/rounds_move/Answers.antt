@@ -1,5 +1,0 @@
-use Rattle.rounds.proofs.Rounds as rounds
-use Rattle.rounds.proofs.laws.rounds_move.Goals as goal
-
-pub returns : goal.returns
-returns g c = λ step s d cs. rounds.round_moves step s d cs

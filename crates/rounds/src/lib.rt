@@ -1,4 +1,0 @@
-//! Laws of rounds: attempts of a machine's choices in turn, again and again.
-#![tactic(auto)]
-
-pub mod laws;

@@ -1,2 +1,0 @@
-pub mod OfTorus
-pub mod Again

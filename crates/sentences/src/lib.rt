@@ -1,0 +1,21 @@
+//! The sentences that people read: why a machine, script or steps text is refused, how a run ended,
+//! and which spins ran out of loads.
+#![tactic(auto)]
+
+pub mod answers;
+mod before;
+pub mod end_sentence;
+pub mod laws;
+mod replies;
+pub mod scripts;
+pub mod sentence;
+pub mod spins;
+pub mod text;
+pub mod texts;
+
+pub use end_sentence::{Course, EndSentence, SpinSentence};
+pub use scripts::{EndedScripts, EndedSpin, told};
+pub use sentence::{Sentence, TileSentence};
+pub use spins::SpentSpin;
+pub use text::spent_lines;
+pub use texts::{machine_sentence, scripts_sentence, steps_sentence, tile_sentence};

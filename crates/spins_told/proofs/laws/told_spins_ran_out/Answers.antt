@@ -1,6 +1,0 @@
-use Rattle.spins_told.proofs.RunningOut.{told_ran_out}
-use Rattle.spins_told.proofs.RanOutTold.{ran_out_told}
-use Rattle.spins_told.proofs.laws.told_spins_ran_out.Goals as goal
-
-pub returns : goal.returns
-returns c = λ script replies spin. (told_ran_out script replies spin, ran_out_told script replies spin)

@@ -1,4 +1,0 @@
-pub mod Spins
-pub mod Replies
-pub mod Texts
-pub mod RunsOut

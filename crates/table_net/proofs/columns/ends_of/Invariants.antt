@@ -1,8 +1,0 @@
-use Rattle.table_net.proofs.Ends.{AreEndsTo}
-use Rattle.table_net.proofs.columns.ends_of.Given as goal
-
--- the ejection channels so far
-abbrev pub invariant-loop-x : goal.invariant-loop-x
-invariant-loop-x g l = record {
-  so_far : AreEndsTo l.kinds l.x l.ends.items;
-}

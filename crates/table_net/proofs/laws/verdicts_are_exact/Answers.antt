@@ -1,5 +1,0 @@
-use Rattle.table_net.proofs.Exactly.{alike, network_rises}
-use Rattle.table_net.proofs.laws.verdicts_are_exact.Goals as goal
-
-pub returns : goal.returns
-returns g c = record { alike = alike; rising = network_rises }

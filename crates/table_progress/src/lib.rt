@@ -1,4 +1,0 @@
-//! Laws of judged networks: none locks up, and all that was sent comes.
-#![tactic(auto)]
-
-pub mod laws;

@@ -1,7 +1,0 @@
-use Rattle.table_net.specs.Replies.{AreReplies}
-use Rattle.table_text.specs.Network.{NetworkSpec}
-use Rattle.std.proofs.Common.{subst}
-use Rattle.table_text.proofs.network.Network.kinds.Goals as goal
-
-pub returns-clause-replies : goal.returns-clause-replies
-returns-clause-replies g c = subst (λ (n : NetworkSpec). AreReplies n.table n.replies) c.self.view_is c.self.invariant.replies

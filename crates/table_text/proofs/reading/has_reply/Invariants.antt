@@ -1,6 +1,0 @@
-use Rattle.std.proofs.Common.{◌≡◌, false, take}
-use Rattle.table_text.specs.Network.{has_reply}
-use Rattle.table_text.proofs.reading.has_reply.Given as goal
-
-abbrev pub invariant-loop-reply : goal.invariant-loop-reply
-invariant-loop-reply l = has_reply (take l.reply-index l.replies) l.from l.to ≡ false

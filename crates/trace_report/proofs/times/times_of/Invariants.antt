@@ -1,6 +1,0 @@
-use Rattle.trace_report.specs.Times.{AreTimesBelow}
-use Rattle.trace_report.proofs.times.times_of.Given as goal
-
--- the events so far are noted
-abbrev pub invariant-loop-i : goal.invariant-loop-i
-invariant-loop-i g l = AreTimesBelow l.events l.i l.count l.times.items

@@ -1,6 +1,0 @@
-use Rattle.trace_search.proofs.Sound.{sound_all}
-use Rattle.trace_search.proofs.laws.branches_give_an_order.Goals as goal
-
-pub returns : goal.returns
-returns c = λ opening trace k tables sets nodes is all pick trails marks picks.
-    sound_all opening trace k tables sets nodes all is.sound pick trails marks picks

@@ -1,5 +1,0 @@
-use Rattle.trace_search.proofs.Start.{searched_none}
-use Rattle.trace_search.proofs.laws.searches_begin.Goals as goal
-
-pub returns : goal.returns
-returns c = λ opening trace tables sets empty first. searched_none opening trace tables sets empty first

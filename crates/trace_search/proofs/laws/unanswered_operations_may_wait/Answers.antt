@@ -1,5 +1,0 @@
-use Rattle.trace_search.proofs.Dominance.{good_unanswered}
-use Rattle.trace_search.proofs.laws.unanswered_operations_may_wait.Goals as goal
-
-pub returns : goal.returns
-returns c = λ table word config s o low pending none. good_unanswered table word config s o low pending none

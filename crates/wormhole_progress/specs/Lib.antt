@@ -1,3 +1,0 @@
-pub mod Ends
-pub mod Weight
-pub mod Work
