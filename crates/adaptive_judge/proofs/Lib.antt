@@ -1,0 +1,9 @@
+pub mod Flags
+pub mod Begins
+pub mod Bare
+pub mod Puts
+pub mod Ends
+pub mod Bridge
+pub mod Circles
+pub mod Rising
+mod Examples

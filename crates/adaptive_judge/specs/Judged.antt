@@ -1,0 +1,38 @@
+-- What each verdict says of a network of choices.
+use Rattle.std.specs.Prelude.{◌≡◌, ℕ, ◌*◌, ◌%◌, ◌<◌, ◌==◌, ◌&&◌, Bool, List, length, slice_index}
+use Rattle.network_judge.specs.declared.search.Look.{Look}
+use Rattle.network_judge.specs.Search.{look_at}
+use Rattle.std.specs.List.{list_any}
+use Rattle.network_judge.specs.declared.table.Reply.{Reply}
+use Rattle.network_judge.specs.TableNet.{Flits}
+use Rattle.adaptive.specs.Choices.{HasEscapes, AreRising}
+use Rattle.adaptive.specs.Verdicts.{IsDependencyCycle, LacksEscapeFirst}
+use Rattle.adaptive_judge.specs.declared.verdict.Verdict.{Verdict}
+use Rattle.adaptive_judge.specs.declared.verdict.Verdict.TheVariants.{Rising, NoEscape, Cycle}
+use Rattle.adaptive_judge.specs.Choosing.{ChoiceTable, network}
+
+-- on which channels packets from a channel are answered
+abbrev pub answers_of : List Reply → ℕ → ℕ → Bool
+answers_of replies x y = list_any (λ (r : Reply). r.from == x && r.to == y) replies
+
+-- exactly what the verdict says, whatever the depth and the flits
+abbrev pub IsAdaptiveVerdict : {A : Type 0} → ChoiceTable → List Reply → Verdict A → Type 0
+IsAdaptiveVerdict t replies (Rising numbers) = (depth : ℕ) (flits : Flits)
+    → HasEscapes (network t depth flits) × (length numbers.items ≡ length t.kinds)
+    × AreRising (network t depth flits) (answers_of replies) (slice_index numbers.items)
+IsAdaptiveVerdict t replies (NoEscape f) = (depth : ℕ) (flits : Flits)
+    → LacksEscapeFirst (network t depth flits) f.to f.at
+IsAdaptiveVerdict t replies (Cycle channels) = (depth : ℕ) (flits : Flits)
+    → HasEscapes (network t depth flits)
+    × IsDependencyCycle (network t depth flits) (answers_of replies) (length channels.items)
+    (slice_index channels.items)
+
+-- in a row for each channel, all channels in order
+pub record AreOwn (count : ℕ) (own : List ℕ) : Type 0 where
+  pub size : length own ≡ count * count
+  pub each : (k : ℕ) → k < length own → slice_index own k ≡ k % count
+
+-- the channels of a path
+pub record AreChannels (looks : List Look) (channels : List ℕ) : Type 0 where
+  pub size : length channels ≡ length looks
+  pub each : (k : ℕ) → k < length looks → slice_index channels k ≡ (look_at looks k).channel

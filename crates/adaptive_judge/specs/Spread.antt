@@ -1,0 +1,73 @@
+-- Flags that spread over steps from channel to channel.
+use Rattle.std.specs.Prelude.{◌≡◌, ◌⊎◌, ℕ, ◌+◌, ◌*◌, ◌≤◌, zero, suc, ◌==◌, nat_lt, ◌&&◌, ◌||◌, not, if◌then◌else◌, Bool, true, false, List, length}
+use Rattle.std.specs.Prelude.{slice_get, slice_index}
+use Rattle.std.specs.List.{count_by}
+use Rattle.network_judge.specs.declared.table.Kind.{Kind}
+use Rattle.network_judge.specs.Table.{is_receiver}
+use Rattle.network_judge.specs.Marks.{is_marked_at}
+
+-- steps that lead from x to a number
+pub data Path (step : ℕ → ℕ → Bool) (x : ℕ) : ℕ → Type 0 where
+  Stop : Path step x x
+  Go : (y z : ℕ) → Path step x y → step y z ≡ true → Path step x z
+
+-- whether a test passes below n
+abbrev pub any_below : (ℕ → Bool) → ℕ → Bool
+any_below p zero = false
+any_below p (suc n) = p n || any_below p n
+
+-- whether a channel is one of so many choices, from a place on
+abbrev pub names : List ℕ → ℕ → ℕ → ℕ → Bool
+names choices start ways y = any_below (λ k. slice_index choices (start + k) == y) ways
+
+-- whether it is a channel, chosen and not shut
+abbrev pub opens : ℕ → List ℕ → ℕ → ℕ → List Bool → ℕ → Bool
+opens count choices start ways shut y =
+    nat_lt y count && (not (is_marked_at shut y) && names choices start ways y)
+
+-- whether packets go on from a channel of this kind
+abbrev pub leads_on : List Kind → ℕ → Bool
+leads_on kinds x = not (is_receiver (slice_get kinds x))
+
+-- whether a step leads from x to y: by a choice behind x, to a channel that isn't shut
+abbrev pub choice_step : List Kind → List ℕ → ℕ → ℕ → List Bool → ℕ → ℕ → Bool
+choice_step kinds choices base ways shut x y =
+    leads_on kinds x && opens (length kinds) choices (base + x * ways) ways shut y
+
+-- how many flags are down
+abbrev pub down : List Bool → ℕ
+down flags = count_by not flags
+
+-- the flags that a test passes are up, and no others more
+pub record HasMore (test : ℕ → Bool) (old new : List Bool) (changed : Bool) : Type 0 where
+  pub size : length new ≡ length old
+  pub kept : (y : ℕ) → is_marked_at old y ≡ true → is_marked_at new y ≡ true
+  pub only : (y : ℕ) → is_marked_at new y ≡ true → (is_marked_at old y ≡ true) ⊎ (test y ≡ true)
+  pub all : (y : ℕ) → test y ≡ true → is_marked_at new y ≡ true
+  pub same : changed ≡ false → (y : ℕ) → is_marked_at new y ≡ true → is_marked_at old y ≡ true
+  pub fewer : down new + (if changed then 1 else 0) ≤ down old
+
+-- flags are up only where steps lead from one that was
+abbrev pub AreLed : (ℕ → ℕ → Bool) → List Bool → List Bool → Type 0
+AreLed step old new = (y : ℕ) → is_marked_at new y ≡ true
+    → (x : ℕ) × (is_marked_at old x ≡ true) × Path step x y
+
+-- where a step leads from a flag that is up, the next is up
+abbrev pub AreClosed : (ℕ → ℕ → Bool) → List Bool → Type 0
+AreClosed step flags = (x y : ℕ) → is_marked_at flags x ≡ true → step x y ≡ true
+    → is_marked_at flags y ≡ true
+
+-- flags after one look at each channel
+pub record HasPassed (step : ℕ → ℕ → Bool) (old new : List Bool) (changed : Bool) : Type 0 where
+  pub size : length new ≡ length old
+  pub kept : (y : ℕ) → is_marked_at old y ≡ true → is_marked_at new y ≡ true
+  pub led : AreLed step old new
+  pub closed : changed ≡ false → AreClosed step new
+  pub fewer : down new + (if changed then 1 else 0) ≤ down old
+
+-- flags after all
+pub record HasSpread (step : ℕ → ℕ → Bool) (old new : List Bool) : Type 0 where
+  pub size : length new ≡ length old
+  pub kept : (y : ℕ) → is_marked_at old y ≡ true → is_marked_at new y ≡ true
+  pub led : AreLed step old new
+  pub closed : AreClosed step new

@@ -1,0 +1,84 @@
+//! The judgement of a network whose routers choose.
+
+ghost use Rattle.std.specs.Prelude.{◌≡◌, ◌+◌, ◌*◌, ◌%◌, ◌^◌, ◌<◌, ◌≤◌, ℕ, length, slice_index};
+ghost use Rattle.std.specs.Prelude.{IfOk};
+ghost use Rattle.network_judge.specs.Replies.{AreReplies};
+ghost use Rattle.network_judge.specs.Search.{look_at};
+ghost use Rattle.adaptive_judge.specs.Choosing.{choosing_of, table, IsShaped};
+ghost use Rattle.adaptive_judge.specs.Judged.{IsAdaptiveVerdict, AreOwn, AreChannels};
+
+use crate::verdict::Verdict;
+use crate::waits::waits_of;
+use network_judge::search::{Look, Mark, numbers_of, visit_all};
+use network_judge::{Join, Kind, Reply};
+use std::alloc::{AllocError, Allocator};
+
+/// In a row for each channel, all channels in order.
+///
+/// Errors: memory.
+fn own_of<A: Allocator + Copy>(alloc: A, count: usize) -> Result<Vec<u32, A>, AllocError>
+    requires small { count ≤ 2 ^ 32 }
+    requires square { count * count < 2 ^ 64 }
+    ensures { IfOk result (λ v. AreOwn count v.items) }
+{
+    let square = count * count;
+    let mut own = Vec::new(alloc);
+    for k in 0..square {
+        own.push((k % count) as u32)?;
+    }
+    Ok(own)
+}
+
+/// The channels of a path.
+///
+/// Errors: memory.
+fn channels_of<A: Allocator + Copy>(alloc: A, looks: &[Look]) -> Result<Vec<usize, A>, AllocError>
+    ensures { IfOk result (λ v. AreChannels looks.now v.items) }
+{
+    let mut channels = Vec::with_capacity(alloc, looks.len())?;
+    for k in 0..looks.len() {
+        let look = looks[k];
+        channels.push(look.channel)?;
+    }
+    Ok(channels)
+}
+
+/// Judges a network by its lists: the kind of each channel, the pairs that packets go between, on
+/// which injection channels packets from an ejection channel are answered, the routers' choices,
+/// and which channels are escapes. The choices have a block for each channel as destination, in
+/// it a row for each channel, and in it so many places: a number that is no channel's is no
+/// choice.
+///
+/// Errors: memory, and no other.
+pub fn judge<A: Allocator + Copy>(
+    alloc: A,
+    kinds: &[Kind],
+    joins: &[Join],
+    replies: &[Reply],
+    ways: usize,
+    choices: &[u32],
+    marks: &[bool],
+) -> Result<Verdict<A>, AllocError>
+    requires shaped { IsShaped (choosing_of kinds.now joins.now ways choices.now marks.now) }
+    requires replies { AreReplies
+        (table (choosing_of kinds.now joins.now ways choices.now marks.now)) replies.now }
+    requires small { length kinds.now ≤ 2 ^ 32 }
+    requires square { length kinds.now * length kinds.now < 2 ^ 64 }
+    requires room { length kinds.now + length replies.now < 2 ^ 64 }
+    ensures { IfOk result (IsAdaptiveVerdict
+        (choosing_of kinds.now joins.now ways choices.now marks.now) replies.now) }
+{
+    let count = kinds.len();
+    let none = vec![in alloc; false; count]?;
+    let mut edges = vec![in alloc; false; count * count]?;
+    match waits_of(alloc, kinds, joins, choices, ways, marks, &none, &mut edges)? {
+        Some(fault) => return Ok(Verdict::NoEscape(fault)),
+        None => {}
+    }
+    let own = own_of(alloc, count)?;
+    let mut search = vec![in alloc; Mark::New; count]?;
+    match visit_all(alloc, count, &own, &edges, replies, &mut search, count)? {
+        Some(looks) => Ok(Verdict::Cycle(channels_of(alloc, &looks)?)),
+        None => Ok(Verdict::Rising(numbers_of(alloc, &search)?)),
+    }
+}

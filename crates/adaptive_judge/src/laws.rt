@@ -1,0 +1,48 @@
+//! Laws of networks that are judged to be rising, each the contract of a function that does
+//! nothing.
+
+ghost use Rattle.std.specs.Prelude.{◌≡◌, ℕ, ◌≤◌, ◌<◌, List, All, length, slice_index};
+ghost use Rattle.wormhole.specs.Net.{Parcel};
+ghost use Rattle.wormhole.specs.State.{NetState};
+ghost use Rattle.wormhole.specs.Delivery.{whole, WasSentTo};
+ghost use Rattle.wormhole.specs.Ends.{IsQuiet};
+ghost use Rattle.network_judge.specs.declared.table.Reply.{Reply};
+ghost use Rattle.network_judge.specs.Replies.{AreReplies};
+ghost use Rattle.network_judge.specs.TableNet.{Flits};
+ghost use Rattle.adaptive.specs.Flow.{IsReachable};
+ghost use Rattle.adaptive.specs.Progress.{GoesByEscapes, MoveByEscapes};
+ghost use Rattle.adaptive.specs.Arrivals.{sum_of_packets};
+ghost use Rattle.adaptive_judge.specs.declared.verdict.Verdict.{Verdict};
+ghost use Rattle.adaptive_judge.specs.declared.verdict.Verdict.TheVariants.{Rising};
+ghost use Rattle.adaptive_judge.specs.Choosing.{ChoiceTable, table, network, IsShaped};
+ghost use Rattle.adaptive_judge.specs.Judged.{answers_of, IsAdaptiveVerdict};
+
+use std::alloc::Allocator;
+
+/// A network that is judged to be rising never locks up: a channel that isn't quiet gives a move,
+/// and where nothing can move, all packets that were sent have come whole. And always what is
+/// whole was sent to where it is, and no more often.
+pub fn rising_networks_never_lock_up<A: Allocator>()
+    ensures moving { (t : ChoiceTable) (replies : List Reply) → IsShaped t
+        → AreReplies (table t) replies
+        → (v : Verdict A) (numbers : _) → v ≡ Rising numbers → IsAdaptiveVerdict t replies v
+        → (depth : ℕ) (flits : Flits) → 0 < depth
+        → (s : NetState) → IsReachable (network t depth flits) s
+        → (x : ℕ) → x < length t.kinds → (IsQuiet (network t depth flits).frame s x → ⊥)
+        → MoveByEscapes (network t depth flits) s (answers_of replies) }
+    ensures delivered { (t : ChoiceTable) (replies : List Reply) → IsShaped t
+        → AreReplies (table t) replies
+        → (v : Verdict A) (numbers : _) → v ≡ Rising numbers → IsAdaptiveVerdict t replies v
+        → (depth : ℕ) (flits : Flits) → 0 < depth
+        → (s : NetState) → IsReachable (network t depth flits) s
+        → GoesByEscapes (network t depth flits) s (answers_of replies) ⊥
+        → (f : Parcel → ℕ) → sum_of_packets (network t depth flits) f (whole s)
+        ≡ sum_of_packets (network t depth flits) f (λ x. (s.notes x).sent) }
+    ensures sent { (t : ChoiceTable) → IsShaped t → (depth : ℕ) (flits : Flits)
+        → (s : NetState) → IsReachable (network t depth flits) s
+        → (x : ℕ) → All (WasSentTo (network t depth flits).frame s x) (whole s x) }
+    ensures once { (t : ChoiceTable) → IsShaped t → (depth : ℕ) (flits : Flits)
+        → (s : NetState) → IsReachable (network t depth flits) s
+        → (f : Parcel → ℕ) → sum_of_packets (network t depth flits) f (whole s)
+        ≤ sum_of_packets (network t depth flits) f (λ x. (s.notes x).sent) }
+{}

@@ -1,0 +1,12 @@
+use Rattle.memory_models.specs.Arcs.{ExtendsEdges, AreArcs, RisesByRule}
+use Rattle.memory_models.proofs.Lasts.{AreLasts}
+use Rattle.memory_models.proofs.program.rule_arcs.Given as goal
+
+-- the arcs so far, and the last operations so far
+abbrev pub invariant-loop-y : goal.invariant-loop-y
+invariant-loop-y g l = record {
+  arcs : AreArcs l.rules l.operations l.writes l.edges.items;
+  more : ExtendsEdges l.fn.edges.items l.edges.items;
+  rises : RisesByRule l.rule l.operations l.y l.edges.items;
+  lasts : AreLasts l.rule l.operations l.words l.y l.lasts.items;
+}
