@@ -1,4 +1,4 @@
--- What whoever watches a run by steps or in rounds is told (this project's own format).
+-- What a watcher of a run by steps or in rounds gets to know (this project's own format).
 use Rattle.std.specs.Prelude.{◌≡◌, ℕ, zero, suc, ◌+◌, List, [], ◌∷◌, ◌++◌, Bool, true, false, Result, Ok, Err, ◌⊎◌}
 use Rattle.std.specs.Prelude.{length}
 use Rattle.std.specs.Io.Iter.{u64_saturate}
@@ -65,7 +65,7 @@ HearsSome are old new = (calls : List Call) × are calls × Hears old new calls
 abbrev pub HearsNothing : (List Call → Type 0) → (List Call → Type 0) → Type 0
 HearsNothing old new = (calls : List Call) → old calls → new calls
 
--- whoever watches is told all such calls, unless a text has a fault, or memory is wanting for the
+-- a watcher gets all such calls, unless a text has a fault, or memory is wanting for the
 -- machine
 abbrev pub Tells : (List Call → Type 0) → (List Call → Type 0) → (List Call → Type 0)
     → Result Bool ProgramFault → Type 0
@@ -76,12 +76,12 @@ Tells are old new (Err (program.Line found)) = HearsNothing old new
 Tells are old new (Err program.Tile) = ⊥
 Tells are old new (Err (program.Bad line)) = ⊥
 
--- whoever watches a run in rounds is told of each round and of the end
+-- a watcher of a run in rounds is called at each round and at the end
 abbrev pub TellsRounds : Result Load LineFault → ℕ → (List Call → Type 0) → (List Call → Type 0)
     → Result Bool ProgramFault → Type 0
 TellsRounds asked most = Tells (AreRunCalls asked most)
 
--- whoever watches a run of steps is told of its end
+-- a watcher of a run of steps is called at its end
 abbrev pub TellsSteps : Result Asked LineFault → (List Call → Type 0) → (List Call → Type 0)
     → Result Bool ProgramFault → Type 0
 TellsSteps asked = Tells (AreStepsCalls asked)

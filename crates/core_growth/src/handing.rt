@@ -19,7 +19,7 @@ pub fn lines_are_handed()
     ensures book { (c : Core) (p : ℕ) (line : Line) → (handed c p line).book ≡ c.book }
 {}
 
-/// Which lines may follow is told by the machine alone: those that it doesn't refuse.
+/// The machine alone decides which lines may follow: those that it doesn't refuse.
 pub fn machines_tell_what_may_follow()
     ensures { (l : Load) (c : Core) (steps : List Step) (p : ℕ) (line : Line)
         → IsAfter l c steps → BringsWords line → (refused c p line ≡ None) ↔ MayFollow l p line }

@@ -21,7 +21,7 @@ use Rattle.core_laws.specs.Core.{State, show}
 abbrev pub asked_operation : ℕ → Request → Operation
 asked_operation tiles r = record { address = address_of r.destination tiles r.word; op = r.op }
 
--- what is told of a service: to which processor, by which bank, its place, and the reply
+-- what a service says: to which processor, by which bank, its place, and the reply
 pub record Notice : Type 0 where
   pub processor : ℕ
   pub bank : ℕ

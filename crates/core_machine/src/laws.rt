@@ -43,7 +43,7 @@ pub fn order_respects_real_time()
 
 /// Packets are delivered in order: between each two tiles and of both classes, those that the
 /// receiver has whole are a beginning of those that the sender has sent there. None is invented,
-/// doubled, mixed or overtaken. What was sent is told by the load and the steps.
+/// doubled, mixed or overtaken. The load and the steps say what was sent.
 pub fn packets_are_delivered()
     ensures { (l : Load) (c : Core) (steps : List Step) → IsAfter l c steps
         → DeliversInOrder l steps c }

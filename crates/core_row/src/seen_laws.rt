@@ -30,7 +30,7 @@ pub fn attempts_lead_on()
         → LeadsOn (design_of l) (state_after l steps n) places row attempt p }
 {}
 
-/// Which event an enabled attempt is, and what is noted of it, is told by its tile: by how many
+/// The tile of an enabled attempt shows which event it is, and what is noted of it: by how many
 /// operations are issued and answered there, and how many entries its bank has, before and after it.
 pub fn events_are_told_by_counts()
     ensures { (l : Load) → IsAcceptedLoad l

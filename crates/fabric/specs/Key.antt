@@ -1,4 +1,4 @@
--- What the table is told once: what is loaded, and how its tiles are dealt.
+-- What is fixed when the table is made: what is loaded, and how its tiles are dealt.
 use Rattle.std.specs.Prelude.{ℕ, zero, suc, ◌-◌, ◌<◌, List, [], ◌∷◌, true}
 use Rattle.torus.specs.Shape.{tiles_of}
 use Rattle.torus.specs.declared.step.Step.{Step}

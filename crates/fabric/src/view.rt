@@ -1,4 +1,4 @@
-//! What a seat at the table knows, and what the table is told once.
+//! What a seat at the table knows, and what is fixed when the table is made.
 
 use atomic_table::Seat;
 use std::marker::Model;

@@ -15,7 +15,7 @@ abbrev pub ◌>>=◌ : {A B R : Type 0} → Result A R → (A → Result B R) �
 abbrev pub refusal_at : {R : Type 0} → ℕ → R → Refusal R
 refusal_at number reason = record { line = number; reason = reason }
 
--- the line that a fault is told at: a refusal of memory is at none
+-- the line at which a fault is reported: a refusal of memory is at none
 abbrev pub line_of_fault : Fault → ℕ → ℕ
 line_of_fault fault.Memory line = 0
 line_of_fault _ line = line

@@ -23,7 +23,7 @@ use Rattle.live_command.specs.declared.said.Said.{Said}
 use Rattle.live_command.specs.declared.said.Said.TheVariants.{Told, Report}
 
 -- processor p is handed a line: the machine stands where its moves lead from the load with the line,
--- and the index of the line's operation is told, where it is known: the operation that p issues
+-- and the answer gives the index of the line's operation, where it is known: the operation that p issues
 -- under it, whenever it does, is that of the line
 pub record TakesLine (p : ℕ) (line : Line) (old new : Asked) (told : ToldLine) : Type 0 where
   pub taken : refused old.core p line ≡ None
@@ -47,7 +47,7 @@ pub record RefusesLine (p : ℕ) (line : Line) (old new : Asked) (told : ToldLin
 abbrev pub Asks : ℕ → Line → Asked → Asked → ToldLine → Type 0
 Asks p line old new told = TakesLine p line old new told ⊎ RefusesLine p line old new told
 
--- the machine makes so many rounds, and their number is told
+-- the machine makes so many rounds, and the answer is their number
 pub record MakesRounds (count : ℕ) (old new : Asked) (told : ToldLine) : Type 0 where
   pub state : new.core ≡ core_after old.core (rounds_of old.core.shape count)
   pub spins : new.spins ≡ old.spins
@@ -60,7 +60,7 @@ pub record Finishes (old new : Asked) (told : ToldLine) : Type 0 where
   pub needed : NeedsRounds old.core rounds
   pub made : MakesRounds rounds old new told
 
--- what is told at the end of a wait: the reply, or that every script is finished without it
+-- the answer at the end of a wait: the reply, or that every script is finished without it
 abbrev pub told_of_wait : ℕ → ℕ → Option Answer → ToldLine
 told_of_wait p index None = reply.Idle
 told_of_wait p index (Some answer) = reply.Answered p index answer.reply
@@ -75,7 +75,7 @@ pub record Waits (p index : ℕ) (old new : Asked) (told : ToldLine) : Type 0 wh
   pub runs_on : RunsOn old.core new.core (rounds_of old.core.shape rounds)
   pub answer : told ≡ told_of_wait p index (answer_to new.core p index)
 
--- nothing changes, and this is told
+-- nothing changes, and the answer says so
 abbrev pub Tells : {T : Type 0} → T → Asked → Asked → T → Type 0
 Tells what old new told = (new ≡ old) × (told ≡ what)
 
@@ -90,7 +90,7 @@ abbrev pub WaitsFor : ℕ → ℕ → Asked → Asked → ToldLine → Type 0
 WaitsFor p index old new told =
     WaitsWithin p index (slice_get old.core.allowed p) old new told
 
--- the machine's report is told, a good one, unless there is no memory
+-- the answer is the machine's report, a good one, unless there is no memory
 pub record TellsReport {A : Type 0} (v : Asked) (said : Said A) : Type 0 where
   pub is : said ≡ Report (machine_report v.core)
   pub good : GoodReport (text_of (machine_report v.core))
@@ -98,7 +98,7 @@ pub record TellsReport {A : Type 0} (v : Asked) (said : Said A) : Type 0 where
 abbrev pub Reports : {A : Type 0} → Asked → Said A → Type 0
 Reports v said = TellsReport v said ⊎ (said ≡ Told (reply.Refused fault.Memory))
 
--- one line is told, as is said of it
+-- the answer is one line, as it says
 pub record IsLine {A : Type 0} (is : ToldLine → Type 0) (said : Said A) : Type 0 where
   pub line : ToldLine
   pub said_is : said ≡ Told line

@@ -39,7 +39,7 @@ order_line r = record {
 }
 
 -- the report of a run: the torus, the opening words, the entries, answers and words that are shown,
--- the rows of the one order, if they are told, and whether every script is finished
+-- the rows of the one order, if there are any, and whether every script is finished
 abbrev pub report_of : Shape → List ℕ → Observed → List Ordered → Bool → List ReportLine
 report_of shape opening seen rows finished =
     report_lines_of shape opening (map (map entry_row) seen.entries)

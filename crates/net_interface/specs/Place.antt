@@ -41,7 +41,7 @@ abbrev pub IsAcceptableToProcessor : ProcessorState → Choice → ℕ → Type 
 IsAcceptableToProcessor p choice.Take found = found ≢ 0 → IsForProcessor p.operations (offered p.so_far found)
 IsAcceptableToProcessor p _ found = Unit {0}
 
--- whether the tag is out that is told by the head flit of the packet that a flit begins or goes on
+-- whether the tag is out that stands in the head flit of the packet that a flit begins or goes on
 -- with (this project's own format)
 abbrev pub is_tagged : ProcessorState → ℕ → Bool
 is_tagged p flit = is_some

@@ -187,8 +187,8 @@ impl<A: Allocator> Processor<A> {
         self.ports.op(want)
     }
 
-    /// Whether the tag is out that is told by the head flit of a reply: of the one that has begun to
-    /// come in, else this flit.
+    /// Whether the tag in the head flit of a reply is out: of the one that has begun to come in, else
+    /// of this flit.
     fn is_tagged(&self, flit: u64) -> bool
         ensures value { result ≡ is_tagged self.now.agent.state flit }
         ensures acceptable { IsTrue result → IsAcceptableToProcessor self.now.agent.state chosen.Take flit }
@@ -198,7 +198,7 @@ impl<A: Allocator> Processor<A> {
     }
 
     /// Whether a word may be taken that the operation of a choice found: it is no flit that is taken, or
-    /// the tag is out that is told by the head flit of the packet that it begins or goes on with.
+    /// the tag is out that stands in the head flit of the packet that it begins or goes on with.
     pub fn is_acceptable(&self, choice: Choice, got: u64) -> bool
         ensures value { result ≡ accepts self.now.agent.state choice got }
         ensures acceptable { IsTrue result → IsAcceptableToProcessor self.now.agent.state choice got }

@@ -1,6 +1,7 @@
 //! The words that name the operations in every text.
 
 ghost use Rattle.std.specs.Prelude.{◌≡◌};
+ghost use Rattle.std.specs.Str.{bytes_eq};
 ghost use Rattle.packet.specs.Names.{arity, code_named, code_word};
 
 use crate::kinds::Code;
@@ -43,7 +44,7 @@ impl Code {
         ensures { result ≡ code_named word.now }
     {
         for code in CODES {
-            if word == code.word().as_bytes() {
+            if spells(word, code.word().as_bytes()) {
                 return Some(code);
             }
         }
@@ -60,4 +61,11 @@ impl Code {
             _ => 1,
         }
     }
+}
+
+/// Whether a word is this name. Most words differ in length, which is seen at once.
+fn spells(word: &[u8], name: &[u8]) -> bool
+    ensures { result ≡ bytes_eq word.now name.now }
+{
+    word.len() == name.len() && word == name
 }

@@ -72,7 +72,7 @@ fn text<'a, R: Files + Input + AllocGlobal>(
     }
 }
 
-/// All bytes of a file. One that is too long is told by its size, before it is read.
+/// All bytes of a file. One that is too long is refused by its size, before it is read.
 fn file_bytes<R: Files + AllocGlobal>(rt: &R, name: &str) -> Result<Vec<u8>, Unread> {
     let file = File::open(rt, name)?;
     if file.metadata()?.len() > MOST_BYTES {

@@ -125,7 +125,7 @@ pub record HasNewEvents (s : Seen) (o : OrderLine) : Type 0 where
   pub issued_first : o.issued < o.served
   pub answered : IfSome o.answered (λ n. (o.served < n) × IsNewEvent s n)
 
--- an `order` line: every word is told, and the numbers of service rise
+-- an `order` line: every word has its line, and the numbers of service rise
 pub record AllowedOrder (s : Seen) (o : OrderLine) : Type 0 where
   pub section : BehindEntries s 7
   pub told : ToldBelow s.told s.memory s.words
@@ -144,7 +144,7 @@ IsAllAnswered entries answers =
     (bank place : ℕ) → place < length (entries_at entries bank)
     → is_answered answers bank place ≡ true
 
--- the last line: every word is told, the order is whole, and behind `end complete` each entry has
+-- the last line: every word has its line, the order is whole, and behind `end complete` each entry has
 -- an answer
 pub record AllowedEnd (s : Seen) (complete : Bool) : Type 0 where
   pub section : BehindEntries s 7

@@ -3,7 +3,7 @@ use packet::{Op, Reply};
 use std::alloc::{Allocator, Global};
 use torus::Torus;
 
-/// An entry of a bank; its bank and its place are told by where it stands.
+/// An entry of a bank; where it stands says its bank and its place.
 #[derive(Clone, Copy)]
 pub struct EntryRow {
     /// The processor that asked.
@@ -15,7 +15,7 @@ pub struct EntryRow {
     pub reply: Reply,
 }
 
-/// An answer of a processor, which is told by where it stands.
+/// An answer of a processor; where it stands says of which one.
 #[derive(Clone, Copy)]
 pub struct AnswerRow {
     /// The number of the operation among those of its processor, below 4096.

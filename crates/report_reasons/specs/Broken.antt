@@ -198,7 +198,7 @@ events_broken s o =
     <|> event_broken s o.served
     <|> answer_event_broken s o.answered
 
--- an `order` line: every word is told
+-- an `order` line: every word has its line
 abbrev pub order_broken : Seen → OrderLine → Option Rule
 order_broken s o =
     behind_broken s 7 kind.Order <|> left_out s s.words <|> turn_broken s o <|> events_broken s o

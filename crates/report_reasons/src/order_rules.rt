@@ -38,7 +38,7 @@ fn is_same(first: bool, second: bool) -> bool
 }
 
 impl<'a> Before<'a> {
-    /// Whether a number is none of an event, or is told already.
+    /// Whether a number is none of an event, or is given already.
     fn event_broken(self, event: u32) -> Option<Rule>
         ensures { result ≡ event_broken (seen self.entry) event }
     {

@@ -62,7 +62,7 @@ pub fn run_text<R: Threads + Wait + Sync, A: Allocator + Copy + Send + Sync, W: 
 }
 
 /// Does what `run_text` does, with workers that ask `gate` whether they may begin, and ahead of each
-/// attempt whether they may go on; it is one that lets all, at its time. `watch` is told when a worker
+/// attempt whether they may go on; it is one that lets all, at its time. `watch` hears when a worker
 /// comes, after each pass over its tiles, and when it has ended, with how many turns it has made.
 ///
 /// Errors: as `run_text`.

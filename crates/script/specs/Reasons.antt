@@ -64,13 +64,13 @@ keyword_word Init = codes "init"
 -- the keyword that a word spells
 abbrev pub setting_named : List ℕ → Option Keyword
 setting_named word =
-    if bytes_eq word (codes "radix") then Some Radix
+    if bytes_eq word (codes "init") then Some Init
+    else (if bytes_eq word (codes "radix") then Some Radix
     else (if bytes_eq word (codes "dims") then Some Dims
     else (if bytes_eq word (codes "dateline") then Some Dateline
     else (if bytes_eq word (codes "depth") then Some Depth
     else (if bytes_eq word (codes "tags") then Some Tags
     else (if bytes_eq word (codes "words") then Some Words
-    else (if bytes_eq word (codes "init") then Some Init
     else None))))))
 
 -- the kind of an agent: each tile has a processor, a router and a bank

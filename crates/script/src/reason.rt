@@ -155,6 +155,10 @@ impl Keyword {
     pub fn of(word: &[u8]) -> Option<Keyword>
         ensures { result ≡ setting_named word.now }
     {
+        // Most lines of a long text are these.
+        if word == b"init".as_slice() {
+            return Some(Keyword::Init);
+        }
         if word == b"radix".as_slice() {
             return Some(Keyword::Radix);
         }
@@ -172,9 +176,6 @@ impl Keyword {
         }
         if word == b"words".as_slice() {
             return Some(Keyword::Words);
-        }
-        if word == b"init".as_slice() {
-            return Some(Keyword::Init);
         }
         None
     }

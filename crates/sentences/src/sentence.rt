@@ -4,8 +4,7 @@ use packet::Code;
 use script::{Agent, Keyword, TextReason};
 use std::fmt;
 
-/// Why a text has a fault at a line, as a reader is told: `script.txt:12: address 300: the machine has
-/// the words 0 to 255`.
+/// Why a text has a fault at a line: `script.txt:12: address 300: the machine has the words 0 to 255`.
 #[derive(Clone, Copy)]
 pub struct Sentence<'a> {
     /// The name of the text.
@@ -62,7 +61,7 @@ fn kind_text(agent: Agent) -> &'static str {
     }
 }
 
-/// What is told of a reason.
+/// The text of a reason, with gaps for its numbers.
 fn text_of(reason: TextReason) -> &'static str {
     match reason {
         TextReason::UnknownKeyword => {
