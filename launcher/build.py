@@ -154,7 +154,7 @@ class Run:
         words = ["run", "--jobs", str(jobs), "--", "check", "stdout"] if is_program(name) else ["lib", "--jobs", str(jobs)]
         with open(f"{view}/said", "wb") as said:
             self.child = subprocess.Popen(
-                ["rt", *words],
+                [sys.executable, f"{ROOT}/launcher/rt_once.py", *words],
                 cwd=self.folder,
                 stdin=subprocess.DEVNULL,
                 stdout=said,
