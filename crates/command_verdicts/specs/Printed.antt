@@ -3,20 +3,20 @@ use Rattle.std.specs.Prelude.{◌≡◌, List, ℕ, Bool, Result, Ok, Err}
 use Rattle.network_judge.specs.declared.table.Verdict.{Verdict}
 use Rattle.network_judge.specs.Verdicts.{IsVerdict}
 use Rattle.network_text.specs.Network.{NetworkSpec, network_of}
-use Rattle.network_text.specs.Answer.{verdict_text, is_rising}
+use Rattle.network_text.specs.Answer.{IsJudgedText, is_rising}
 use Rattle.program_fault.specs.declared.fault.ProgramFault.{ProgramFault}
 use Rattle.program_fault.specs.declared.fault.ProgramFault.TheVariants as program
 use Rattle.program_fault.specs.Done.{Does, Output}
 
--- a text is that of a verdict which holds of the network that the lines of a text give, and whether
--- its numbers rise
+-- a text is that of a verdict which holds of the network that the lines of a text give, and of what
+-- stands behind it; and whether the verdict's numbers rise
 pub record IsNetworkText (A : Type 0) (lines : List (List ℕ)) (rising : Bool) (text : List ℕ) : Type
     0 where
   pub network : NetworkSpec
   pub read : network_of lines ≡ Ok network
   pub verdict : Verdict A
   pub holds : IsVerdict network.table network.replies verdict
-  pub is : text ≡ verdict_text verdict
+  pub is : IsJudgedText network verdict text
   pub rises : rising ≡ is_rising verdict
 
 -- the network text has this as its first fault

@@ -11,7 +11,8 @@ use report_lines::output::put_all;
 use std::alloc::Allocator;
 
 /// Judges the network of a text, and prints the verdict: the numbers of its channels if they can rise,
-/// or the first pair without a route, or a cycle of channels. Answers whether the numbers rise.
+/// so that it never locks up; or the first pair without a route; or a cycle of channels, and behind it
+/// the channels that fill up where the network locks up. Answers whether the numbers rise.
 ///
 /// Errors: the text's first fault, or out of memory; and nothing was written then. If the output
 /// fails, a beginning was written.

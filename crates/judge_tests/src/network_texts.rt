@@ -194,10 +194,13 @@ fn verdicts_are_written(rt: HostRuntime) -> Result<(), Fail> {
             == b"number 0 1\nnumber 1 0\nnumber 2 5\nnumber 3 4\nnumber 4 2\nnumber 5 3\nrising\n".as_slice()
     );
     let rows: [(&[u8], &[u8]); 9] = [
-        (BOTH_WAYS, b"cycle\n4 to 2\n5 to 3\n"),
+        (
+            BOTH_WAYS,
+            b"cycle\n4 to 2\n5 to 3\nfill 1 3 1\nfill 0 2 1\nlocks up\n",
+        ),
         (
             b"next 0 2 4\nnext 4 2 5\nnext 5 2 2\nnext 1 3 4\nnext 4 3 5\nnext 5 3 3\nreply 2 1\n",
-            b"cycle\n4 to 2\n5 to 2\n2 replies 1\n1 to 3\n",
+            b"cycle\n4 to 2\n5 to 2\n2 replies 1\n1 to 3\nfill 1 3 0\nfill 0 2 3\nfill 0 2 2\nfill 0 2 1\nlocks up\n",
         ),
         (
             b"join 4 2\nnext 0 2 2\nnext 1 3 3\n",
@@ -261,7 +264,7 @@ fn each_budget(rt: HostRuntime) -> Result<(), Fail> {
     });
     let rows: [(&[u8], &[u8], Result<(bool, usize), LineFault>); 4] = [
         (ONE_WAY, b"", Ok((true, 73))),
-        (BOTH_WAYS, b"reply 2 0\n", Ok((false, 39))),
+        (BOTH_WAYS, b"reply 2 0\n", Ok((false, 92))),
         (b"next 0 2 2\n", b"", Ok((false, 35))),
         (ONE_WAY, b"end\n", late),
     ];

@@ -7,3 +7,4 @@ pub mod Cells
 pub mod Refused
 pub mod Pieces
 pub mod Behind
+pub mod Jams

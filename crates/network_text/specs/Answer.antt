@@ -1,6 +1,8 @@
--- What is written of a verdict, and what is answered to a network text (this project's own format).
-use Rattle.std.specs.Prelude.{◌≡◌, ◌⊎◌, ℕ, ◌+◌, ◌==◌, Bool, true, false, if◌then◌else◌, List, []}
-use Rattle.std.specs.Prelude.{◌++◌, length, slice_index, Result, Ok, Err, codes, decimal}
+-- What is written of a verdict and of a jam, and what is answered to a network text (this project's
+-- own format).
+use Rattle.std.specs.Prelude.{◌≡◌, ◌⊎◌, ℕ, ◌+◌, ◌-◌, ◌<◌, ◌==◌, Bool, true, false}
+use Rattle.std.specs.Prelude.{if◌then◌else◌, List, [], ◌++◌, length, slice_index, Vec}
+use Rattle.std.specs.Prelude.{Result, Ok, Err, Option, None, IfSome, codes, decimal}
 use Rattle.std.specs.List.{flat_map, range_with_len}
 use Rattle.torus.specs.declared.fault.Fault.TheVariants as fault
 use Rattle.script.specs.declared.fault.LineFault.{LineFault}
@@ -14,7 +16,12 @@ use Rattle.network_judge.specs.declared.table.Why.TheVariants.{Ejects, Injects, 
 use Rattle.network_judge.specs.declared.table.Verdict.{Verdict}
 use Rattle.network_judge.specs.declared.table.Verdict.TheVariants.{Rising, NoRoute, Cycle}
 use Rattle.network_judge.specs.Cycles.{link_at}
+use Rattle.network_judge.specs.TableNet.{Flits}
 use Rattle.network_judge.specs.Verdicts.{IsVerdict}
+use Rattle.network_jam.specs.declared.fill.Fill.{Fill}
+use Rattle.network_jam.specs.Jams.{IsJam}
+use Rattle.network_jam.specs.LockUps.{LocksUp, HasOneFlitPackets}
+use Rattle.jam_search.specs.Clear.{fill_at}
 use Rattle.network_text.specs.declared.answer.Answer.{Answer}
 use Rattle.network_text.specs.Network.{NetworkSpec, network_of}
 
@@ -75,11 +82,62 @@ is_rising (Rising numbers) = true
 is_rising (NoRoute r) = false
 is_rising (Cycle links) = false
 
+-- the line of a channel that is filled: whose packets fill it, and at which step of their route
+abbrev pub fill_line : Fill → List ℕ
+fill_line f = pair_line (codes "fill ") f.from (codes " ") f.to [] ++ codes " " ++ decimal f.step
+    ++ codes "\n"
+
+-- the line of the channel of a jam that is filled after so many others
+abbrev pub fill_line_at : List Fill → ℕ → List ℕ
+fill_line_at fs k = fill_line (fill_at fs (length fs - 1 - k))
+
+-- what is written of a jam: its channels, the first to be filled first, and that they lock up
+abbrev pub jam_text : List Fill → List ℕ
+jam_text fs = first_lines (fill_line_at fs) (length fs) ++ codes "locks up\n"
+
+-- a network never locks up, whatever the depth of its channels and the format of its flits
+abbrev pub NeverLocksUp : NetworkSpec → Type 0
+NeverLocksUp n = (depth : ℕ) (flits : Flits) → 0 < depth → LocksUp n.table n.replies depth flits → ⊥
+
+-- a network locks up, whatever the depth of its channels, in each format that has packets of one
+-- flit
+abbrev pub AlwaysLocksUp : NetworkSpec → Type 0
+AlwaysLocksUp n = (depth : ℕ) (flits : Flits) → 0 < depth → HasOneFlitPackets n.table flits
+    → LocksUp n.table n.replies depth flits
+
+-- a text is that of a jam of a network, by which it locks up
+pub record IsJamText (n : NetworkSpec) (text : List ℕ) : Type 0 where
+  pub jam : List Fill
+  pub holds : IsJam n.table n.replies jam
+  pub is : text ≡ jam_text jam
+  pub locks : AlwaysLocksUp n
+
+-- what is found of a network with a verdict: a jam or none where it is a cycle, and else none; with
+-- numbers the network never locks up
+abbrev pub IsFound : {A : Type 0} → NetworkSpec → Verdict A → Option (Vec Fill A) → Type 0
+IsFound n (Rising numbers) found = (found ≡ None) × NeverLocksUp n
+IsFound n (NoRoute r) found = found ≡ None
+IsFound n (Cycle links) found = IfSome found (λ jam. IsJam n.table n.replies jam.items)
+
+-- what may stand behind the text of a verdict: nothing behind numbers, with which the network never
+-- locks up, nor behind a pair without a route; behind a cycle nothing, or the text of a jam
+abbrev pub IsBehind : {A : Type 0} → NetworkSpec → Verdict A → List ℕ → Type 0
+IsBehind n (Rising numbers) behind = (behind ≡ []) × NeverLocksUp n
+IsBehind n (NoRoute r) behind = behind ≡ []
+IsBehind n (Cycle links) behind = (behind ≡ []) ⊎ IsJamText n behind
+
+-- what is written of a network with a verdict: the text of the verdict, and what stands behind it
+pub record IsJudgedText {A : Type 0} (n : NetworkSpec) (v : Verdict A) (text : List ℕ) : Type 0
+  where
+    pub behind : List ℕ
+    pub follows : IsBehind n v behind
+    pub is : text ≡ verdict_text v ++ behind
+
 -- what the verdict of a network says, and whether its numbers rise
 pub record Tells {A : Type 0} (n : NetworkSpec) (a : Answer A) : Type 0 where
   pub verdict : Verdict A
   pub holds : IsVerdict n.table n.replies verdict
-  pub text : a.text.items ≡ verdict_text verdict
+  pub text : IsJudgedText n verdict a.text.items
   pub rising : a.rising ≡ is_rising verdict
 
 -- what is answered to a text of these lines: the verdict of its network, or its first fault, or

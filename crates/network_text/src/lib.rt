@@ -1,18 +1,23 @@
 //! The text of a network: its channels, who sends to whom, the routers' choices and the replies;
-//! where and why it is refused, and the sentence that says so; and the text of what is judged of it.
+//! where and why it is refused, and the sentence that says so; and the text of what is judged of it,
+//! with the channels that fill up where it locks up.
 #![tactic(auto)]
 
 pub mod answer;
 pub mod before;
+pub mod jam;
 mod lines;
 pub mod network;
 mod reading;
 pub mod reason;
 pub mod sentence;
 mod taking;
+pub mod verdict;
 
-pub use answer::{Answer, judge_network, network_answer, verdict_text};
+pub use answer::{Answer, judge_network, network_answer};
 pub use before::earlier_line;
+pub use jam::judged_text;
 pub use network::{Network, read_network, read_network_or_why};
 pub use reason::{Keyword, NetworkReason};
 pub use sentence::{NetworkSentence, network_sentence};
+pub use verdict::verdict_text;

@@ -5,7 +5,7 @@ use Rattle.network_judge.specs.declared.table.Verdict.{Verdict}
 use Rattle.network_judge.specs.declared.table.Verdict.TheVariants as verdict
 use Rattle.network_judge.specs.Verdicts.{IsVerdict}
 use Rattle.network_text.specs.Network.{NetworkSpec}
-use Rattle.network_text.specs.Answer.{verdict_text}
+use Rattle.network_text.specs.Answer.{IsJudgedText}
 use Rattle.torusmem_c.specs.declared.outcome.Outcome.{Outcome}
 use Rattle.torusmem_c.specs.declared.outcome.Code.{Code}
 use Rattle.torusmem_c.specs.declared.outcome.Code.TheVariants as code
@@ -18,16 +18,19 @@ verdict_code (verdict.Rising numbers) = code.Done
 verdict_code (verdict.NoRoute r) = code.NoRoute
 verdict_code (verdict.Cycle links) = code.Cycle
 
--- the text of a verdict is put into a buffer, and its code is told
-pub record PutsVerdict {A : Type 0} (v : Verdict A) (before after : List ℕ) (r : Outcome) : Type 0
-  where
-    pub buffer : after ≡ put_over (verdict_text v) before
-    pub answer : r ≡ put_as (verdict_code v) (verdict_text v) before
+-- the text of a verdict on a network, and of what stands behind it, is put into a buffer, and the
+-- verdict's code is told
+pub record PutsVerdict {A : Type 0} (n : NetworkSpec) (v : Verdict A) (before after : List ℕ)
+    (r : Outcome) : Type 0 where
+  pub text : List ℕ
+  pub is : IsJudgedText n v text
+  pub buffer : after ≡ put_over text before
+  pub answer : r ≡ put_as (verdict_code v) text before
 
 -- what is told of a network: the verdict that holds of it
 abbrev pub TellsNetwork : Type 0 → NetworkSpec → List ℕ → List ℕ → Outcome → Type 0
 TellsNetwork A n before after r =
-    (v : Verdict A) × IsVerdict n.table n.replies v × PutsVerdict v before after r
+    (v : Verdict A) × IsVerdict n.table n.replies v × PutsVerdict n v before after r
 
 -- what is told of a network text: of the network that it gives, or its first fault
 abbrev pub TellsText : Type 0 → Result NetworkSpec LineFault → List ℕ → List ℕ → Outcome → Type 0

@@ -2,6 +2,7 @@
 
 ghost use Rattle.std.specs.Prelude.{◌≡◌, ◌⊎◌};
 ghost use Rattle.std.specs.Str.Lines.{lines};
+ghost use Rattle.network_judge.specs.Verdicts.{IsVerdict};
 ghost use Rattle.network_text.specs.Network.{network_of};
 ghost use Rattle.torusmem_c.specs.Networks.{PutsVerdict, TellsText, verdict_code};
 ghost use Rattle.torusmem_c.specs.Room.{LacksMemory};
@@ -9,7 +10,7 @@ ghost use Rattle.torusmem_c.specs.Room.{LacksMemory};
 use crate::outcome::{Code, Outcome, fault_outcome, no_memory};
 use crate::room::put_as;
 use network_judge::Verdict;
-use network_text::{judge_network, read_network, verdict_text};
+use network_text::{Network, judge_network, judged_text, read_network};
 use std::alloc::Global;
 
 /// The code of a verdict.
@@ -23,17 +24,25 @@ fn verdict_code(verdict: &Verdict<Global>) -> Code
     }
 }
 
-/// Puts the text of a verdict into a buffer, unless memory is refused.
-fn put_verdict(alloc: Global, verdict: &Verdict<Global>, out: &mut [u8]) -> Outcome
-    ensures { PutsVerdict verdict.now out.old out.new result ⊎ LacksMemory out.old out.new result }
+/// Puts the text of what is judged of a network into a buffer, unless memory is refused.
+fn put_verdict(
+    alloc: Global,
+    network: &Network<Global>,
+    verdict: &Verdict<Global>,
+    out: &mut [u8],
+) -> Outcome
+    requires { IsVerdict network.now.table network.now.replies verdict.now }
+    ensures { PutsVerdict network.now verdict.now out.old out.new result
+        ⊎ LacksMemory out.old out.new result }
 {
-    match verdict_text(alloc, verdict) {
+    match judged_text(alloc, network, verdict) {
         Ok(text) => put_as(verdict_code(verdict), text.as_slice(), out),
         Err(_) => no_memory(),
     }
 }
 
-/// Judges the network of a text, and puts the text of the verdict into a buffer.
+/// Judges the network of a text, and puts the text of the verdict into a buffer, and behind a cycle
+/// that of a jam, where one is found.
 ///
 /// Errors: the text's first fault, or out of memory. The buffer is as it was then.
 #[unsafe(no_mangle)]
@@ -46,7 +55,7 @@ pub extern "C" fn torusmem_network(alloc: Global, network: &[u8], out: &mut [u8]
         Err(fault) => return fault_outcome(fault),
     };
     match judge_network(alloc, &network) {
-        Ok(verdict) => put_verdict(alloc, &verdict, out),
+        Ok(verdict) => put_verdict(alloc, &network, &verdict, out),
         Err(_) => no_memory(),
     }
 }

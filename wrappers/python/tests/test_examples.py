@@ -13,7 +13,7 @@ import unittest
 import warnings
 
 import torusmem
-from torusmem import Answer, Answered, BadReport, Channel, Choice, Closed, Cycle, Entry, EventFault, Issued, Kind
+from torusmem import Answer, Answered, BadReport, Channel, Choice, Closed, Cycle, Entry, EventFault, Fill, Issued, Kind
 from torusmem import Linearizable, Link, Machine, NoRoute, NotLinearizable, Operation, Rising, Spin, TextFault
 from torusmem import TooMany, Undecided, Watch, WrongThread, linearize, network
 
@@ -293,10 +293,12 @@ class Networks(unittest.TestCase):
 
     def test_cycles(self):
         there, back = Link(2, 5, None), Link(3, 4, None)
-        self.assertIn(network(self.RING), [Cycle((there, back)), Cycle((back, there))])
+        one, two = Fill(0, 5, 1), Fill(1, 4, 1)
+        self.assertIn(network(self.RING), [Cycle((there, back), (two, one)), Cycle((back, there), (one, two))])
         asked, answered = Link(0, 1, None), Link(1, None, 0)
         found = network(self.LINE + "reply 1 0\n")
-        self.assertIn(found, [Cycle((asked, answered)), Cycle((answered, asked))])
+        jam = (Fill(0, 1, 1), Fill(0, 1, 0))
+        self.assertIn(found, [Cycle((asked, answered), jam), Cycle((answered, asked), jam)])
         self.assertIsInstance(found, Cycle)
 
     def test_numbers_that_rise(self):

@@ -19,7 +19,7 @@ Tile t has the agents 3t (its processor),
 the reason: TextFault, BadReport.
 
 network() judges any network that is written down, and answers numbers that rise along every route, a pair without a
-route, or a cycle. linearize() finds an order that explains a trace of calls and answers, or the event from which on there
+route, or a cycle with the channels that fill up. linearize() finds an order that explains a trace of calls and answers, or the event from which on there
 is none, or that the trace is undecided. A Watch judges a trace event by event, while it goes on.
 
 The library beneath is proved; this package, which only passes numbers and texts on, is tested.
@@ -53,6 +53,7 @@ __all__ = [
     "Event",
     "EventFault",
     "FENCE",
+    "Fill",
     "Issued",
     "Judged",
     "Kind",
@@ -720,10 +721,21 @@ class Link(NamedTuple):
     replies: Optional[int]
 
 
+class Fill(NamedTuple):
+    """A channel that fills up: the one at this step, from 0, of the route of packets of one flit from channel src to
+    channel dst."""
+
+    src: int
+    dst: int
+    step: int
+
+
 class Cycle(NamedTuple):
-    """A network whose channels have a cycle: channels that can wait for one another in a circle, in their order."""
+    """A network that locks up: channels that wait for one another in a circle, in their order, and the channels that fill
+    up then, the first to be filled first. There are none of these where they weren't found."""
 
     links: Tuple[Link, ...]
+    jam: Tuple[Fill, ...] = ()
 
 
 Verdict = Union[Rising, NoRoute, Cycle]
@@ -754,7 +766,9 @@ def network(text: Text, file: str = "network text") -> Verdict:
     if said.code == _library.OK:
         return Rising(tuple(int(line.split()[2]) for line in lines[:-1]))
     if said.code == _library.CYCLE:
-        return Cycle(tuple(_link(*line.split()) for line in lines[1:]))
+        said_of = [line.split() for line in lines[1:] if line != "locks up"]
+        links = tuple(_link(*words) for words in said_of if words[0] != "fill")
+        return Cycle(links, tuple(Fill(*map(int, words[1:])) for words in said_of if words[0] == "fill"))
     pair, _, why = lines[0].partition(": ")
     reason, _, step = why.partition(" at step ")
     return NoRoute(int(pair.split()[2]), int(pair.split()[3]), reason, int(step) if step else None)

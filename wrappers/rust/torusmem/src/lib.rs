@@ -26,7 +26,7 @@ mod trace;
 mod watch;
 
 pub use line::{Line, Refused, Value};
-pub use network::{network, By, Link, Verdict, Why};
+pub use network::{network, By, Fill, Link, Verdict, Why};
 use raw::Raw;
 use std::error::Error;
 use std::fmt;

@@ -9,8 +9,9 @@ pub enum Verdict {
     Rising(Vec<u64>),
     /// The first pair of a `join` line that has no route, and why.
     NoRoute { from: u32, to: u32, why: Why },
-    /// Channels that can wait for one another in a circle: each for the next one, and the last one for the first.
-    Cycle(Vec<Link>),
+    /// Channels that wait for one another in a circle: each for the next one, and the last one for the first. And the
+    /// channels that fill up where the network locks up, the first to be filled first; none where they weren't found.
+    Cycle { links: Vec<Link>, jam: Vec<Fill> },
 }
 
 /// Why the walk of a pair is no route. A step is counted from 0, the first channel.
@@ -46,8 +47,17 @@ pub enum By {
     Replies(u32),
 }
 
+/// A channel that fills up: at this step, from 0, of the route of packets of one flit from a channel to another.
+#[derive(Clone, Copy, Debug, PartialEq, Eq, Hash)]
+pub struct Fill {
+    pub from: u32,
+    pub to: u32,
+    pub step: u64,
+}
+
 /// Judges the network of a network text (docs/FORMATS.md, "Network text"): numbers that rise along every route, a
-/// pair without a route, or a cycle. The faults are those of the text, and memory that is refused.
+/// pair without a route, or a cycle with the channels that fill up. The faults are those of the text, and memory that is
+/// refused.
 ///
 /// ```
 /// use torusmem::{network, Verdict};
@@ -65,7 +75,7 @@ pub fn network(text: &[u8]) -> Result<Verdict, Fault> {
     let read = |room: &[u8]| String::from_utf8_lossy(&room[..said.value as usize]).into_owned();
     match said.code {
         sys::TORUSMEM_NO_ROUTE => Ok(no_route(&read(&room))),
-        sys::TORUSMEM_CYCLE => Ok(Verdict::Cycle(read(&room).lines().skip(1).map(link).collect())),
+        sys::TORUSMEM_CYCLE => Ok(cycle(&read(&room))),
         _ => {
             granted(said)?;
             let text = read(&room);
@@ -104,4 +114,12 @@ fn no_route(line: &str) -> Verdict {
 fn link(line: &str) -> Link {
     let by = if line.contains(" replies ") { By::Replies(channel(line, 2)) } else { By::To(channel(line, 2)) };
     Link { channel: channel(line, 0), by }
+}
+
+/// The lines of a cycle, and of the channels that fill up behind it.
+fn cycle(text: &str) -> Verdict {
+    let lines = text.lines().filter(|line| *line != "cycle" && *line != "locks up");
+    let (fills, links): (Vec<_>, Vec<_>) = lines.partition(|line| line.starts_with("fill "));
+    let fill = |line: &str| Fill { from: channel(line, 1), to: channel(line, 2), step: last(line) };
+    Verdict::Cycle { links: links.into_iter().map(link).collect(), jam: fills.into_iter().map(fill).collect() }
 }

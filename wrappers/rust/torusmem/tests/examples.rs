@@ -3,7 +3,7 @@ use std::fs;
 use std::path::{Path, PathBuf};
 use std::thread;
 use torusmem::{check, explain, linearize, network, Answer, Asked, By, Channel, Choice, Class, Dir, Entry, Event, EventFault};
-use torusmem::{Fault, Judged, Kind, Line, Link, Machine, NotTaken, Operation, Refused, Reply, Spin, Text, Value};
+use torusmem::{Fault, Fill, Judged, Kind, Line, Link, Machine, NotTaken, Operation, Refused, Reply, Spin, Text, Value};
 use torusmem::{Verdict, Watch, Why};
 
 fn path(name: &str) -> PathBuf {
@@ -322,10 +322,13 @@ fn networks_are_judged() {
     let ring = "channels 6\ninject 0\ninject 1\neject 4\neject 5\njoin 0 5\njoin 1 4\nnext 0 5 2\nnext 2 5 3\n\
                 next 3 5 5\nnext 1 4 3\nnext 3 4 2\nnext 2 4 4\n";
     let (there, back) = (Link { channel: 2, by: By::To(5) }, Link { channel: 3, by: By::To(4) });
-    assert!([vec![there, back], vec![back, there]].map(Verdict::Cycle).contains(&judged(ring)));
+    let (one, two) = (Fill { from: 0, to: 5, step: 1 }, Fill { from: 1, to: 4, step: 1 });
+    let cycles = [(vec![there, back], vec![two, one]), (vec![back, there], vec![one, two])];
+    assert!(cycles.map(|(links, jam)| Verdict::Cycle { links, jam }).contains(&judged(ring)));
     let line = "channels 2\ninject 0\neject 1\njoin 0 1\nnext 0 1 1\n";
     let (asked, answered) = (Link { channel: 0, by: By::To(1) }, Link { channel: 1, by: By::Replies(0) });
-    let cycles = [vec![asked, answered], vec![answered, asked]].map(Verdict::Cycle);
+    let jam = vec![Fill { from: 0, to: 1, step: 1 }, Fill { from: 0, to: 1, step: 0 }];
+    let cycles = [vec![asked, answered], vec![answered, asked]].map(|links| Verdict::Cycle { links, jam: jam.clone() });
     assert!(cycles.contains(&judged(&format!("{line}reply 1 0\n"))));
     assert!(matches!(judged(line), Verdict::Rising(numbers) if numbers.len() == 2 && numbers[0] < numbers[1]));
     assert_eq!(network(b"channels 2\ninject 2\n"), Err(Fault::Text { fault: 6, line: 2 }));

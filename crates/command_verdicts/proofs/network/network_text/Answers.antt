@@ -16,7 +16,11 @@ returns-in_err-put_all g c =
           read = told.1;
           verdict = told.2.verdict;
           holds = told.2.holds;
-          is = c.deref.ensures.value ∙ told.2.text;
+          is = record {
+            behind = told.2.text.behind;
+            follows = told.2.text.follows;
+            is = c.deref.ensures.value ∙ told.2.text.is;
+          };
           rises = told.2.rising;
         },
         record { bytes = c.in_err-put_all.ensures.err; failed = c.in_err-put_all.ensures.failed },

@@ -1,6 +1,6 @@
 use Rattle.network_text.specs.Answer.{number_line}
 use Rattle.network_text.proofs.Pieces.{line_put}
-use Rattle.network_text.proofs.answer.put_numbers.Goals as goal
+use Rattle.network_text.proofs.verdict.put_numbers.Goals as goal
 
 pub loop-x-preserved : goal.loop-x-preserved
 loop-x-preserved g c =

@@ -1,6 +1,6 @@
 use Rattle.network_text.specs.Answer.{link_line}
 use Rattle.network_text.proofs.Pieces.{line_put}
-use Rattle.network_text.proofs.answer.put_links.Goals as goal
+use Rattle.network_text.proofs.verdict.put_links.Goals as goal
 
 pub loop-k-preserved : goal.loop-k-preserved
 loop-k-preserved g c =
