@@ -52,7 +52,7 @@ fn explain_report<R: Eprint + AllocGlobal>(rt: &R, kind: Kind, names: &Names, te
         return;
     };
     if let Ok(Some(bad)) = why_bad(rt.alloc(), &texts.first) {
-        let _ = eprintln!(rt; "{report}:{}: {}", bad.line, bad.rule);
+        let _ = eprintln!(rt; "{report}:{}: {}", bad.line, bad.reason);
     }
 }
 

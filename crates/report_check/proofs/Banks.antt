@@ -12,33 +12,11 @@ use Rattle.report_lines.specs.Contents.{is_newer}
 use Rattle.report_lines.specs.declared.line.EntryLine.{EntryLine}
 use Rattle.report_lines.specs.declared.line.AnswerLine.{AnswerLine}
 use Rattle.report_check.specs.Seen.{entries_at, has_newer, is_answered}
-use Rattle.report_check.specs.Shows.{bank_of, AreAllAnswered, EntriesShown, kept, marked}
+use Rattle.report_check.specs.Shows.{bank_of, EntriesShown, kept, marked}
 
 -- a bank that was read
 pub bank_of_read : {A : Type 0} → (banks : List (Vec Served A)) (i : ℕ) (v : Vec Served A) → i < length banks → v ≡ get_or banks i v → bank_of banks i ≡ v.items
 bank_of_read {A} banks i v inside read = get_or-map (λ (w : Vec Served A). w.items) banks i v [] inside ∙ ap (λ (w : Vec Served A). w.items) (sym read)
-
--- each entry has an answer, in the words of the banks and of the lines
-pub all_answered : {A : Type 0} → (entries : List EntryLine) (answers : List AnswerLine) (last count : ℕ) (newer : Bool) (banks : List (Vec Served A))
-    → EntriesShown entries answers last count newer banks → ((bank : ℕ) → AreAllAnswered (bank_of banks bank)) → (bank place : ℕ)
-    → place < length (entries_at entries bank) → is_answered answers bank place ≡ true
-all_answered {A} entries answers last count newer banks shown all bank place inside =
-    let here : (e : EntryLine) → slice_get (entries_at entries bank) place ≡ Some e → is_answered answers bank place ≡ true =
-    λ e is. all bank place (kept answers bank place e) (shown.each bank place ∙ ap (option_map (kept answers bank place)) is) in
-    ⊎_elim (λ w. here w.0 w.2) (λ w. absurd (omega (arith, w.0))) (slice_get_cases (entries_at entries bank) place).1
-
--- and back
-pub all_kept_answered : {A : Type 0} → (entries : List EntryLine) (answers : List AnswerLine) (last count : ℕ) (newer : Bool) (banks : List (Vec Served A))
-    → EntriesShown entries answers last count newer banks
-    → ((bank place : ℕ) → place < length (entries_at entries bank) → is_answered answers bank place ≡ true) → (bank : ℕ) → AreAllAnswered (bank_of banks bank)
-all_kept_answered {A} entries answers last count newer banks shown all bank place k is =
-    let inside : place < length (bank_of banks bank) = slice_get_within (bank_of banks bank) place k is in
-    let e_inside : place < length (entries_at entries bank) = omega (arith, shown.sized bank) in
-    let here : (e : EntryLine) → slice_get (entries_at entries bank) place ≡ Some e → k.answered ≡ true =
-    λ e found. ap (λ (w : Served). w.answered)
-    (same_Some k (kept answers bank place e) (sym is ∙ shown.each bank place ∙ ap (option_map (kept answers bank place)) found))
-    ∙ all bank place e_inside in
-    ⊎_elim (λ w. here w.0 w.2) (λ w. absurd (omega (arith, w.0))) (slice_get_cases (entries_at entries bank) place).1
 
 -- a write to one bank
 pub bank_of_set : {A : Type 0} → (banks : List (Vec Served A)) (i : ℕ) (v : Vec Served A) → i < length banks → bank_of (set banks i v) i ≡ v.items
@@ -87,13 +65,13 @@ kept_first answers bank place e none =
     let P : List AnswerLine → Type 0 = λ a. unanswered e ≡ kept a bank place e in subst P (sym none) refl
 
 pub entry_shown : {A : Type 0}
-    → (entries : List EntryLine) (answers : List AnswerLine) (last count : ℕ) (newer : Bool) (banks new : List (Vec Served A)) (e : EntryLine) (now : Bool)
-    → now ≡ (newer || is_newer e.op) → EntriesShown entries answers last count newer banks → answers ≡ [] → e.place ≡ length (entries_at entries e.bank)
+    → (entries : List EntryLine) (answers : List AnswerLine) (last count : ℕ) (newer : Bool) (banks new : List (Vec Served A)) (e : EntryLine) (now : Bool) (after : ℕ)
+    → after ≡ count + 1 → now ≡ (newer || is_newer e.op) → EntriesShown entries answers last count newer banks → answers ≡ [] → e.place ≡ length (entries_at entries e.bank)
     → bank_of new e.bank ≡ bank_of banks e.bank ++ unanswered e ∷ [] → ((other : ℕ) → other ≢ e.bank → bank_of new other ≡ bank_of banks other)
-    → EntriesShown (entries ++ e ∷ []) answers e.bank (count + 1) now new
-entry_shown {A} entries answers last count newer banks new e now is shown none next here others = record {
+    → EntriesShown (entries ++ e ∷ []) answers e.bank after now new
+entry_shown {A} entries answers last count newer banks new e now after more is shown none next here others = record {
   last_bank = sym (fold_push (λ _ x. x.bank) 0 entries e);
-  count_is = omega (arith, shown.count_is, length_push entries e);
+  count_is = omega (arith, more, shown.count_is, length_push entries e);
   newer_is = is ∙ ap (λ b. b || is_newer e.op) shown.newer_is ∙ sym (has_newer-push entries e);
   sized = λ bank.
       let P : ℕ → Type 0 = λ b. length (bank_of new b) ≡ length (entries_at (entries ++ e ∷ []) b) in

@@ -1,10 +1,10 @@
 -- The order lines of a good report give one order of its entries.
 use Rattle.std.proofs.Common.{◌≡◌, ◌≢◌, ◌≤◌, ◌<◌, ℕ, zero, suc, ◌+◌, List, [], ◌∷◌, ◌++◌, All, IfSome, Option, Some, None, length, get_or, map, fold}
-use Rattle.std.proofs.Common.{slice_index, refl, sym, ap, subst, ◌∙◌, arith, ⊎_elim}
+use Rattle.std.proofs.Common.{refl, sym, ap, subst, ◌∙◌, arith, ⊎_elim}
 use Rattle.std.specs.List.{range_with_len}
 use Rattle.std.specs.List.Sorted.{IsStrictlyIncreasing}
 use Rattle.std.proofs.lemmas.Bool.{cases_eq, cases_lt}
-use Rattle.std.proofs.lemmas.List.{length_push, length-map, map-append, get_or_append_left, get_or-append_right}
+use Rattle.std.proofs.lemmas.List.{length_push, map-append, get_or_append_left}
 use Rattle.std.proofs.lemmas.List.Elements.{All-push}
 use Rattle.report_lines.proofs.Indexes.{range-more}
 use Rattle.report_lines.specs.declared.line.OrderLine.{OrderLine}

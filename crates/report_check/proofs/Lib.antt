@@ -25,5 +25,16 @@ pub mod AnswerNext
 pub mod Counts
 pub mod OrderNext
 pub mod Whole
+pub mod Firsts
+pub mod RuleTests
+pub mod Banked
+pub mod HeadRules
+pub mod EntryRules
+pub mod AnswerRules
+pub mod OrderRules
+pub mod RulesKept
+pub mod Unbroken
+pub mod OrdersKept
+pub mod Judged
 mod WrongOnes
 mod WholeReport

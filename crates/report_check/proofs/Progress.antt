@@ -1,5 +1,5 @@
 -- How far a report is checked.
-use Rattle.std.proofs.Common.{◌≡◌, ◌≢◌, ◌<◌, ℕ, ◌+◌, List, [], ◌∷◌, ◌++◌, length, fold, Option, Some, None, sym, refl, ap, subst, ◌∙◌, arith, append_assoc}
+use Rattle.std.proofs.Common.{◌≡◌, ◌≢◌, ℕ, ◌+◌, List, [], ◌∷◌, ◌++◌, length, fold, Some, None, sym, refl, ap, subst, ◌∙◌, arith, append_assoc}
 use Rattle.std.proofs.lemmas.List.{append-nil, length_push}
 use Rattle.std.proofs.lemmas.List.Sums.{fold_push}
 use Rattle.std.proofs.lemmas.List.Concat.{flat_map-append}
@@ -10,7 +10,7 @@ use Rattle.report_check.specs.declared.checker.Checker.{Checker}
 use Rattle.report_lines.specs.Fits.{FitsLine}
 use Rattle.report_lines.specs.Reading.{report_line_at}
 use Rattle.report_check.specs.Seen.{Seen, nothing_seen, seen_after, seen_of}
-use Rattle.report_check.specs.Good.{Allowed, MayStand, AllStand, AreGood, GoodReport, FirstBad, IsStuck}
+use Rattle.report_check.specs.Good.{Allowed, MayStand, AllStand, GoodReport, FirstBad, IsStuck}
 use Rattle.report_check.specs.Shows.{KeepsSeen}
 use Rattle.report_lines.proofs.LinesFound.{read_of}
 use Rattle.report_lines.proofs.Joined.{line_some}

@@ -1,5 +1,5 @@
 -- The entries of a good report replay.
-use Rattle.std.proofs.Common.{◌≡◌, ◌≢◌, ◌≤◌, ◌<◌, ℕ, ◌+◌, ◌%◌, List, [], ◌∷◌, ◌++◌, length, take, get_or, set, map, fold, flat_map, replicate, slice_index}
+use Rattle.std.proofs.Common.{◌≡◌, ◌≢◌, ◌≤◌, ◌<◌, ℕ, ◌+◌, ◌%◌, List, [], ◌∷◌, ◌++◌, length, take, map, fold, replicate, slice_index}
 use Rattle.std.proofs.Common.{slice_set, refl, sym, ap, subst, ◌∙◌, arith, ⊎_elim, append_assoc}
 use Rattle.std.proofs.lemmas.Bool.{cases_eq, cases_lt}
 use Rattle.std.proofs.lemmas.List.{append-nil, get_or-set_same, get_or-set_other, length-set, length-replicate, map-append, take_all}
@@ -13,7 +13,7 @@ use Rattle.report_lines.specs.declared.line.EntryLine.{EntryLine}
 use Rattle.report_lines.specs.declared.line.ReportLine.{ReportLine}
 use Rattle.report_lines.specs.declared.line.ReportLine.TheVariants.{Header, Shape, Init, Entry, Answer, Word, Order, End}
 use Rattle.report_check.specs.Seen.{Seen, nothing_seen, seen_after, seen_of, above_last, entries_at, line_operation}
-use Rattle.report_check.specs.Good.{MayStand, AllStand, AreGood, ToldBelow}
+use Rattle.report_check.specs.Good.{MayStand, AreGood, ToldBelow}
 use Rattle.report_check.specs.Meaning.{opening_after, opening_of, told_words, word_in, EntriesReplay}
 use Rattle.report_check.proofs.Banks.{entries_at_here, entries_at_other}
 use Rattle.report_check.proofs.Standing.{kept_by_all}

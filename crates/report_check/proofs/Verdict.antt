@@ -1,5 +1,5 @@
 -- A text has one verdict.
-use Rattle.std.proofs.Common.{◌≡◌, ◌≢◌, ◌<◌, ℕ, ◌+◌, List, [], ◌∷◌, ◌++◌, Result, IfErr, length, suc, fold, Some, sym, refl, ap, subst, ◌∙◌, arith}
+use Rattle.std.proofs.Common.{◌≡◌, ℕ, List, [], ◌∷◌, ◌++◌, Result, IfErr, length, suc, fold, sym, refl, ap, subst, ◌∙◌, arith}
 use Rattle.std.proofs.Common.{append_assoc}
 use Rattle.std.proofs.lemmas.List.{append-nil}
 use Rattle.std.proofs.lemmas.Option.{same_Some}
@@ -7,8 +7,8 @@ use Rattle.std.proofs.lemmas.Result.{IfErr-weaker}
 use Rattle.report_lines.specs.Line.{line_text, text_of}
 use Rattle.report_lines.specs.declared.line.ReportLine.{ReportLine}
 use Rattle.report_lines.specs.Fits.{FitsLine}
-use Rattle.report_check.specs.Seen.{Seen, nothing_seen, seen_after, seen_of}
-use Rattle.report_check.specs.Good.{MayStand, AllStand, GoodReport, FirstBad, IsStuck, HasFault}
+use Rattle.report_check.specs.Seen.{Seen, nothing_seen, seen_after}
+use Rattle.report_check.specs.Good.{AllStand, GoodReport, FirstBad, IsStuck, HasFault}
 use Rattle.report_check.specs.declared.fault.CheckFault.{CheckFault}
 use Rattle.report_check.specs.declared.fault.CheckFault.TheVariants.{BadReport, Memory}
 use Rattle.report_lines.proofs.Joined.{line_some}

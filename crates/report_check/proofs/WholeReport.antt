@@ -11,7 +11,7 @@ use Rattle.report_lines.specs.declared.line.Radices.TheVariants.{One}
 use Rattle.report_lines.specs.declared.line.ReportLine.{ReportLine}
 use Rattle.report_lines.specs.declared.line.ReportLine.TheVariants.{Header, Shape, Entry, Answer, Word, Order, End}
 use Rattle.report_lines.specs.Fits.{FitsOp, FitsReply, FitsEntry, FitsAnswer, FitsOrder}
-use Rattle.report_check.specs.Seen.{seen_of, nothing_seen, entries_at, is_answered, orders_at}
+use Rattle.report_check.specs.Seen.{seen_of, nothing_seen, entries_at, orders_at}
 use Rattle.report_check.specs.Good.{ToldBelow, IsAllAnswered}
 use Rattle.report_check.specs.Good.{MayStand, AllStand, AreGood}
 use Rattle.report_check.proofs.WrongOnes.{shaped, entry, answer, order, store, behind_the_store, load, load_replies_what_was_stored, behind_all, two_if}

@@ -2,5 +2,8 @@ pub mod Seen
 pub mod Good
 pub mod Shows
 pub mod Meaning
+pub mod Lists
+pub mod Broken
+pub mod Reason
 pub mod Message
 pub mod Facts

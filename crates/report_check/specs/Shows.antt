@@ -1,6 +1,6 @@
 -- What the checker keeps of the lines so far.
-use Rattle.std.specs.Prelude.{◌≡◌, ◌≢◌, ℕ, ◌≤◌, List, [], ◌∷◌, length, map, Bool, true, false, zero}
-use Rattle.std.specs.Prelude.{suc, Some}
+use Rattle.std.specs.Prelude.{◌≡◌, ℕ, ◌≤◌, List, [], ◌∷◌, length, map, Bool, true, false, zero}
+use Rattle.std.specs.Prelude.{suc, Option, Some, None}
 use Rattle.std.specs.Prelude.{slice_index, slice_index_or, slice_get, option_map, Vec}
 use Rattle.report_lines.specs.declared.line.EntryLine.{EntryLine}
 use Rattle.report_lines.specs.declared.line.AnswerLine.{AnswerLine}
@@ -11,7 +11,9 @@ use Rattle.report_check.specs.declared.checker.Checker.{Checker}
 use Rattle.report_check.specs.Seen.{Seen, seen_after, above_last, last_bank, entries_at, has_newer}
 use Rattle.report_check.specs.Seen.{is_answered, key_of}
 use Rattle.report_check.specs.Seen.{orders_at, is_named}
-use Rattle.report_check.specs.Good.{Allowed, ToldBelow}
+use Rattle.report_check.specs.Good.{ToldBelow}
+use Rattle.report_check.specs.Broken.{line_broken}
+use Rattle.report_check.specs.declared.rule.Rule.{Rule}
 
 -- what is kept of an entry
 abbrev pub kept : List AnswerLine → ℕ → ℕ → EntryLine → Served
@@ -21,10 +23,6 @@ kept answers bank place e =
 -- what is kept of the entries of a bank
 abbrev pub bank_of : {A : Type 0} → List (Vec Served A) → ℕ → List Served
 bank_of banks bank = slice_index_or (map (λ v. v.items) banks) bank []
-
--- each entry of a bank has an answer
-abbrev pub AreAllAnswered : List Served → Type 0
-AreAllAnswered bank = (place : ℕ) (k : Served) → slice_get bank place ≡ Some k → k.answered ≡ true
 
 -- the entry at that place has an answer from now on
 abbrev pub marked : List Served → ℕ → List Served
@@ -64,11 +62,9 @@ pub record KeepsSeen {A : Type 0} (s : Seen) (c : Checker A) : Type 0 where
   pub next_word : c.next_word ≡ above_last s.told
   pub orders : OrdersShown s.orders c.next_served c.ordered.items c.used.items
   pub unanswered : s.section ≤ 4 → s.answers ≡ []
-  pub unordered : s.section ≤ 6 → s.orders ≡ []
-  pub ordered : s.section ≡ 7 → s.orders ≢ []
   pub told : s.section ≡ 7 → ToldBelow s.told s.memory s.words
 
 -- what a check of one more line answers and leaves
-abbrev pub Checks : {A : Type 0} → Seen → ReportLine → Bool → Checker A → Type 0
-Checks s line true new = Allowed s line × KeepsSeen (seen_after s line) new
-Checks s line false new = Allowed s line → ⊥
+abbrev pub Checks : {A : Type 0} → Seen → ReportLine → Option Rule → Checker A → Type 0
+Checks s line None new = (line_broken s line ≡ None) × KeepsSeen (seen_after s line) new
+Checks s line (Some rule) new = line_broken s line ≡ Some rule

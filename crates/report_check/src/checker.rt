@@ -27,9 +27,9 @@ pub struct Checker<A: Allocator = Global> {
     /// The words by address.
     pub memory: Vec<u64, A>,
     /// One more than the address of the last `init` line.
-    pub next_init: u32,
+    pub next_init: u64,
     pub last_bank: u32,
-    pub entry_count: u32,
+    pub entry_count: u64,
     /// Whether some entry is one of and, or, xor, max and min.
     pub has_newer: bool,
     /// The entries of each bank.
@@ -37,9 +37,9 @@ pub struct Checker<A: Allocator = Global> {
     /// One more than the key of the last answer.
     pub next_answer: u64,
     /// One more than the address of the last `word` line.
-    pub next_word: u32,
+    pub next_word: u64,
     /// One more than the last number of service.
-    pub next_served: u32,
+    pub next_served: u64,
     /// How many order lines each bank has.
     pub ordered: Vec<u64, A>,
     /// Which event numbers are named.

@@ -1,4 +1,1 @@
-pub mod Lists
-pub mod Broken
-pub mod Kept
-pub mod Reason
+pub mod Origins

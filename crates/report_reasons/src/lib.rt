@@ -1,16 +1,11 @@
-//! Why a report is bad: its first bad line, and the rule of good reports that the line breaks.
+//! The sentence that says why a report is bad: its first bad line, the rule of good reports that the
+//! line breaks, and where the word of an address is from.
 #![tactic(auto)]
 
-mod before;
-mod kept;
-pub mod laws;
-mod line_rules;
-mod order_rules;
+pub mod origin;
 mod pieces;
-mod queries;
-pub mod rule;
 pub mod sentence;
 pub mod why;
 
-pub use rule::{BadReport, Kind, Origin, Rule};
-pub use why::why_bad;
+pub use origin::Origin;
+pub use why::{Reason, WhyBad, why_bad};

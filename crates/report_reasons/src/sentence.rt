@@ -1,8 +1,10 @@
 //! The sentence that tells a reader which rule a line breaks.
 
+use crate::origin::Origin;
 use crate::pieces::{Sentence, but, number, one, plain, two, up_to, words};
-use crate::rule::{BadReport, Kind, Origin, Rule};
+use crate::why::{Reason, WhyBad};
 use packet::Reply;
+use report_check::{Kind, Rule};
 use std::fmt;
 
 /// The word that lines of a kind begin with.
@@ -16,12 +18,6 @@ fn first_word(kind: Kind) -> &'static str {
         Kind::Word => "word",
         Kind::Order => "order",
         Kind::End => "end",
-    }
-}
-
-impl fmt::Display for Kind {
-    fn fmt<W: fmt::Write>(&self, f: &mut fmt::Formatter<W>) -> fmt::Result {
-        f.write_str(first_word(*self))
     }
 }
 
@@ -66,10 +62,10 @@ impl fmt::Display for WrongReply {
     }
 }
 
-impl Rule {
+impl Reason {
     /// The sentence of a rule; None of those about replies, which have sentences of their own.
     fn sentence(self) -> Option<Sentence> {
-        let sentence = match self {
+        let sentence = match self.rule {
             Rule::BehindEnd => plain("nothing stands behind the line of the end"),
             Rule::NoEnd => plain("the report ends without `end complete` or `end incomplete`"),
             Rule::FirstLine => plain("a report begins with `torusmem 1` or `torusmem 2`"),
@@ -217,18 +213,18 @@ impl Rule {
     }
 }
 
-impl fmt::Display for Rule {
+impl fmt::Display for Reason {
     fn fmt<W: fmt::Write>(&self, f: &mut fmt::Formatter<W>) -> fmt::Result {
-        match *self {
+        match self.rule {
             Rule::Reply {
                 found,
                 expected,
-                origin,
+                ..
             } => {
                 let reply = WrongReply {
                     found,
                     expected,
-                    origin,
+                    origin: self.origin,
                 };
                 write!(f, "{reply}")
             }
@@ -238,7 +234,7 @@ impl fmt::Display for Rule {
                 Replied(found),
                 Replied(expected)
             ),
-            rule => match rule.sentence() {
+            _ => match self.sentence() {
                 None => Ok(()),
                 Some(sentence) => write!(f, "{sentence}"),
             },
@@ -246,8 +242,8 @@ impl fmt::Display for Rule {
     }
 }
 
-impl fmt::Display for BadReport {
+impl fmt::Display for WhyBad {
     fn fmt<W: fmt::Write>(&self, f: &mut fmt::Formatter<W>) -> fmt::Result {
-        write!(f, "line {}: {}", self.line, self.rule)
+        write!(f, "line {}: {}", self.line, self.reason)
     }
 }

@@ -25,7 +25,5 @@ returns g c = record {
     named = λ event low. c.in_ok-no_events.ensures.blank event;
   };
   unanswered = λ is. refl;
-  unordered = λ is. refl;
-  ordered = λ is. cc;
   told = λ is. cc;
 }

@@ -1,23 +1,22 @@
-use Rattle.std.proofs.Common.{◌<◌, length, arith, refl}
-use Rattle.report_check.specs.Good.{BehindEntries, OrdersNext, HasNewEvents, ToldBelow}
-use Rattle.report_check.proofs.Orders.{order_shown, not_empty}
+use Rattle.std.proofs.Common.{◌≡◌, ◌<◌, ◌∙◌, None, length, arith, refl, sym}
+use Rattle.report_check.specs.Good.{AllowedOrder}
+use Rattle.report_check.specs.Broken.{order_broken}
+use Rattle.report_check.specs.Shows.{bank_of}
+use Rattle.report_check.proofs.Banks.{bank_inside}
+use Rattle.report_check.proofs.OrderRules.{order_kept}
+use Rattle.report_check.proofs.Orders.{order_shown}
 use Rattle.report_check.proofs.checker.Checker.take_order.Goals as goal
 
 pub returns : goal.returns
 returns g c s shows =
-    let behind : BehindEntries s 7 = (c.is_behind_entries.ensures.behind s shows).0 c.if-not-is_behind_entries.false in
-    let told : ToldBelow s.told s.memory s.words = (c.is_told.ensures s shows).0 c.if-not-is_told.false in
-    let next : OrdersNext s c.args.order.now = (c.orders_next.ensures.next s shows).0 c.if-not-orders_next.false in
-    let events : HasNewEvents s c.args.order.now = (c.has_new_events.ensures.new s shows).0 c.if-not-has_new_events.false in
+    let none : order_broken s c.args.order.now ≡ None = cc (c.order_broken.ensures s shows) in
+    let allowed : AllowedOrder s c.args.order.now = order_kept s c.args.order.now none in
+    let there : c.args.order.now.place < length (bank_of c.args.self.now.banks.items c.args.order.now.bank) =
+    omega (arith, allowed.next.there, shows.entries.sized c.args.order.now.bank) in
+    let tile : c.args.order.now.bank < length c.args.self.now.banks.items = bank_inside c.args.self.now.banks.items c.args.order.now.bank _ there in
     let inside : c.args.order.now.bank < length c.args.self.now.ordered.items =
-    omega (arith, c.orders_next.ensures.inside c.if-not-orders_next.false, c.args.self.now.ordered.ok, c.args.self.now.ordered_sized) in (
-      record {
-        section = behind;
-        told = told;
-        next = next;
-        rises = omega (arith, shows.orders.next_is);
-        events = events;
-      },
+    omega (arith, tile, c.args.self.now.banks.ok, c.args.self.now.ordered.ok, c.args.self.now.banks_sized, c.args.self.now.ordered_sized) in (
+      none,
       record {
         section = refl;
         version = shows.version;
@@ -28,11 +27,10 @@ returns g c s shows =
         entries = shows.entries;
         next_answer = shows.next_answer;
         next_word = shows.next_word;
-        orders = order_shown _ _ _ _ _ c.args.order.now c.from.result c.from.ensures shows.orders inside (c.orders_next.ensures.few c.if-not-orders_next.false)
-            c.mark_events.ensures.named;
+        orders = order_shown _ _ _ _ _ _ c.args.order.now _ (omega arith) (cc c.write_at.ensures.written) shows.orders inside
+            (shows.orders.at_bank c.args.order.now.bank ∙ sym allowed.next.next)
+            (λ other low. c.mark_events.ensures.named other (omega (arith, low, c.args.self.now.used_sized)));
         unanswered = λ is. absurd (omega (arith, is));
-        unordered = λ is. absurd (omega (arith, is));
-        ordered = λ is. not_empty s.orders c.args.order.now;
-        told = λ is. told;
+        told = λ is. allowed.told;
       },
     )

@@ -1,0 +1,11 @@
+use Rattle.std.proofs.Common.{◌≡◌, ◌-◌}
+use Rattle.report_reasons.specs.declared.origin.Origin.TheVariants.{Nothing}
+use Rattle.report_reasons.specs.Origins.{origin_before}
+use Rattle.report_reasons.proofs.origin.origin_before.Given as goal
+
+abbrev pub decreases-loop-number : goal.decreases-loop-number
+decreases-loop-number l = l.line - l.number
+
+abbrev pub invariant-loop-number : goal.invariant-loop-number
+invariant-loop-number l =
+    origin_before l.address l.number l.found l.rest (l.line - l.number) ≡ origin_before l.address 1 Nothing l.text (l.line - 1)
