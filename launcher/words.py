@@ -137,7 +137,7 @@ def top(words: list[str]) -> Answer | Job:
     if first in ("-h", "--help"):
         return help_of("torusmem")
     if first in ("-V", "--version"):
-        return Answer(VERSION, 0, True)
+        return Answer(VERSION, 2 if rest else 0, True)
     if first == "help":
         return help_on(rest)
     if first in COMMANDS:

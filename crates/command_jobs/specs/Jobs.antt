@@ -1,10 +1,10 @@
 -- The jobs whose work stands in `commands`, and what each answers (this project's own format).
-use Rattle.std.specs.Prelude.{◌≡◌, Bool, true, false, Result, Ok, Err, IfOk}
+use Rattle.std.specs.Prelude.{◌≡◌, Bool, true, false, Result, Ok, Err, IfOk, codes}
 use Rattle.std.specs.Str.Lines.{lines}
 use Rattle.program_fault.specs.declared.texts.Texts.{Texts}
 use Rattle.machine_core.specs.Loading.{load_by}
 use Rattle.program_fault.specs.declared.fault.ProgramFault.{ProgramFault}
-use Rattle.program_fault.specs.Done.{Output}
+use Rattle.program_fault.specs.Done.{Output, Does}
 use Rattle.commands.specs.Run.{PrintsRun, asked_of}
 use Rattle.commands.specs.Rounds.{PrintsRounds}
 use Rattle.commands.specs.Done.{PrintsRoute, PrintsChannels, PrintsVerdict}
@@ -62,3 +62,7 @@ Answers (Channels machine) texts old new result =
 Answers (Check report) texts old new result =
     PrintsVerdict texts.first.items old new (done_in result) × IsFinished result
 Answers _ texts old new result = Unit {0}
+
+-- the version of the program was printed
+abbrev pub PrintsVersion : {A : Type 0} → Output → Output → Result A ProgramFault → Type 0
+PrintsVersion = Does (λ done text. text ≡ codes "torusmem 0.1.0\n") (λ fault. ⊥)

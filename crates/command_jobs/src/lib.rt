@@ -1,5 +1,5 @@
 //! The jobs that both programs do: reading the texts, running the command, printing its output and
-//! the end of the run, and the exit status.
+//! the end of the run, and the exit status; and the version.
 #![tactic(auto)]
 
 pub mod answering;
@@ -8,6 +8,7 @@ pub mod naming;
 pub mod printing;
 pub mod progress_line;
 pub mod reading;
+pub mod version;
 
 pub use answering::{Ended, answer, is_of_commands};
 pub use doing::done;
@@ -15,3 +16,4 @@ pub use naming::{kind, names};
 pub use printing::{fault_told, flushed, tell_end_of, writer};
 pub use progress_line::ProgressLine;
 pub use reading::texts_of;
+pub use version::{version_text, version_told};

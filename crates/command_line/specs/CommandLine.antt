@@ -1,5 +1,6 @@
 -- The command line, in the words of `clap` (this project's own format).
-use Rattle.std.specs.Prelude.{pos, ℤ, List, [], ◌∷◌, Option, Some, codes, true, option_map}
+use Rattle.std.specs.Prelude.{◌≡◌, ◌⊎◌, pos, ℤ, List, [], ◌∷◌, Option, Some, codes, true}
+use Rattle.std.specs.Prelude.{option_map}
 use Rattle.clap.specs.Words.{App, Row, Rule, Text, new_app, new_rule, subcommand_of}
 use Rattle.clap.specs.Words.{with_rule, with_subcommand}
 use Rattle.clap.specs.declared.builder.action.ArgAction.TheVariants.{SetTrue}
@@ -158,3 +159,8 @@ name_by words = option_map (λ found. found.0) (subcommand_of torusmem_app words
 -- the values that the words give to its arguments
 abbrev pub rows_by : List Text → Option (List Row)
 rows_by words = rows_in (subcommand_of torusmem_app words)
+
+-- the words, the program's own name among them, ask for the version and for nothing else
+abbrev pub AsksVersion : List Text → Type 0
+AsksVersion (name ∷ word ∷ []) = (word ≡ codes "--version") ⊎ (word ≡ codes "-V")
+AsksVersion _ = ⊥

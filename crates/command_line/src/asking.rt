@@ -1,7 +1,7 @@
 //! What the words of the program's own command line ask for, or what is told of them.
 
-ghost use Rattle.std.specs.Prelude.{◌≡◌, IfSome, Some, map, codes};
-ghost use Rattle.command_line.specs.CommandLine.{name_by, rows_by};
+ghost use Rattle.std.specs.Prelude.{◌≡◌, ◌↔◌, IfSome, Some, map, codes, true};
+ghost use Rattle.command_line.specs.CommandLine.{AsksVersion, name_by, rows_by};
 ghost use Rattle.command_line.specs.Job.{AreOf, IsFlag, AreJobLimits, name_of};
 
 use crate::command::{Request, read_request};
@@ -23,6 +23,16 @@ pub fn words_told<R: Env + Eprint + AllocGlobal>(rt: &R) -> Option<Vec<String>> 
 
 fn words<R: Env + AllocGlobal>(rt: &R) -> io::Result<Vec<String>> {
     Ok(env::args(rt)?.collect(rt.alloc())?)
+}
+
+/// Whether the words of a command line ask for the version and for nothing else.
+pub fn asks_version<S: AsStr>(words: &[S]) -> bool
+    ensures { (result ≡ true) ↔ AsksVersion (map S.text words.entry.now) }
+{
+    match words {
+        [_, word] => matches!(word.as_str(), "--version" | "-V"),
+        _ => false,
+    }
 }
 
 /// What the words of a command line ask for; `None` where `read_request` answers an error, which is

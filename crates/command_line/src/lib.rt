@@ -10,5 +10,5 @@ mod making;
 mod subcommands;
 mod values;
 
-pub use asking::{request_told, words_told};
+pub use asking::{asks_version, request_told, words_told};
 pub use command::{Job, Request, read_command, read_request};

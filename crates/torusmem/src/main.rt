@@ -9,8 +9,8 @@ mod talking;
 mod telling;
 
 use answering::{Outcome, answer};
-use command_jobs::{done, fault_told, flushed, tell_end_of, texts_of, writer};
-use command_line::{Job, Request, request_told, words_told};
+use command_jobs::{done, fault_told, flushed, tell_end_of, texts_of, version_told, writer};
+use command_line::{Job, Request, asks_version, request_told, words_told};
 use error_lines::Kept;
 use program_fault::{ProgramFault, Texts};
 use report_lines::Piped;
@@ -36,6 +36,9 @@ fn run<R: Env + Files + Input + Print + Eprint + Clock + AllocGlobal + Threads +
     let Some(words) = words_told(rt) else {
         return 2;
     };
+    if asks_version(words.as_slice()) {
+        return version_told(rt);
+    }
     let Some(request) = request_told(rt, words.as_slice()) else {
         return 2;
     };
