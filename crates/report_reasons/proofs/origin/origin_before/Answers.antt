@@ -1,4 +1,4 @@
-use Rattle.std.proofs.Common.{◌≡◌, ◌+◌, ◌-◌, ◌∙◌, ap, sym}
+use Rattle.std.proofs.Common.{◌+◌, ◌-◌, ◌∙◌, ap, sym}
 use Rattle.report_reasons.specs.Origins.{origin_before}
 use Rattle.report_reasons.proofs.Steps.{goes_on}
 use Rattle.report_reasons.proofs.origin.origin_before.Goals as goal
