@@ -19,8 +19,9 @@ Tile t has the agents 3t (its processor),
 the reason: TextFault, BadReport.
 
 network() judges any network that is written down, and answers numbers that rise along every route, a pair without a
-route, or a cycle with the channels that fill up. linearize() finds an order that explains a trace of calls and answers, or the event from which on there
-is none, or that the trace is undecided. A Watch judges a trace event by event, while it goes on.
+route, or a cycle with the channels that fill up. linearize() finds an order that explains a trace of calls and answers,
+or the event from which on there is none, or that the trace is undecided. A Watch judges a trace event by event, while it
+goes on.
 
 The library beneath is proved; this package, which only passes numbers and texts on, is tested.
 """
@@ -731,8 +732,8 @@ class Fill(NamedTuple):
 
 
 class Cycle(NamedTuple):
-    """A network that locks up: channels that wait for one another in a circle, in their order, and the channels that fill
-    up then, the first to be filled first. There are none of these where they weren't found."""
+    """A network that locks up: channels that wait for one another in a circle, in their order, and the channels that
+    fill up then, the first to be filled first. There are none of these where they weren't found."""
 
     links: Tuple[Link, ...]
     jam: Tuple[Fill, ...] = ()
@@ -743,7 +744,7 @@ Verdict = Union[Rising, NoRoute, Cycle]
 
 def network(text: Text, file: str = "network text") -> Verdict:
     """Judges the network of a network text (docs/FORMATS.md, "Network text"): whether each pair that it joins has a
-    route, and whether its channels can wait for one another in a circle. TextFault tells the first fault of the text;
+    route, and whether its channels can wait for one another in a circle, so that it locks up. TextFault tells the first fault of the text;
     file is how it names the text.
 
         >>> from torusmem import network

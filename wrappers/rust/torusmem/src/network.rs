@@ -56,8 +56,8 @@ pub struct Fill {
 }
 
 /// Judges the network of a network text (docs/FORMATS.md, "Network text"): numbers that rise along every route, a
-/// pair without a route, or a cycle with the channels that fill up. The faults are those of the text, and memory that is
-/// refused.
+/// pair without a route, or a cycle with the channels that fill up. The faults are those of the text, and memory that
+/// is refused.
 ///
 /// ```
 /// use torusmem::{network, Verdict};

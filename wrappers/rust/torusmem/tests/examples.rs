@@ -3,8 +3,8 @@ use std::fs;
 use std::path::{Path, PathBuf};
 use std::thread;
 use torusmem::{check, explain, linearize, network, Answer, Asked, By, Channel, Choice, Class, Dir, Entry, Event, EventFault};
-use torusmem::{Fault, Fill, Judged, Kind, Line, Link, Machine, NotTaken, Operation, Refused, Reply, Spin, Text, Value};
-use torusmem::{Verdict, Watch, Why};
+use torusmem::{Fault, Judged, Kind, Line, Link, Machine, NotTaken, Operation, Refused, Reply, Spin, Text, Value};
+use torusmem::{Fill, Verdict, Watch, Why};
 
 fn path(name: &str) -> PathBuf {
     Path::new(env!("CARGO_MANIFEST_DIR")).join("../../..").join(name)
