@@ -2,15 +2,18 @@
 ghost use Rattle.std.specs.Prelude.{◌≡◌, true};
 ghost use Rattle.std.specs.Str.Lines.{lines};
 ghost use Rattle.machine_core.specs.Loading.{load_by};
-ghost use Rattle.program_fault.specs.Done.{output};
-ghost use Rattle.commands.specs.Run.{PrintsRun, asked_of};
+ghost use Rattle.program_fault.specs.Done.{Does, output};
+ghost use Rattle.program_fault.specs.Outcome.{IsTextsFault};
+ghost use Rattle.commands.specs.Ends.{HasEndedRounds, IsShown};
+ghost use Rattle.commands.specs.Run.{HasRun, PrintsRun, asked_of};
 ghost use Rattle.commands.specs.Rounds.{PrintsRounds};
+ghost use Rattle.command_jobs.specs.Ends.{ShowsEnd};
 ghost use Rattle.command_jobs.specs.Jobs.{Answers, IsFinished, done_in, finished_in};
 ghost use Rattle.command_jobs.specs.Jobs.{is_of_commands};
 
 use crate::progress_line::ProgressLine;
 use command_line::Job;
-use commands::{channels_text, check_text, round_text_with, route_text, steps_text_with};
+use commands::{Ending, channels_text, check_text, round_text_with, route_text, steps_text_with};
 use program_fault::{ProgramFault, Texts};
 use report_lines::Out;
 use sentences::Course;
@@ -40,25 +43,29 @@ pub fn is_of_commands(job: &Job) -> bool
 }
 
 /// Does a job whose work stands in `commands`, over its texts: what it prints goes to `out`. Where
-/// standard error `is_seen`, a long run says there how far it is.
+/// standard error `is_seen`, a long run says there how far it is; `ending` is shown what it reached.
 ///
 /// Errors: as the function of `commands` that does it.
-pub fn answer<R: Eprint + Clock + AllocGlobal, W: Out>(
+pub fn answer<R: Eprint + Clock + AllocGlobal, W: Out, E: Ending>(
     rt: &R,
     job: &Job,
     texts: &Texts,
     is_seen: bool,
     out: &mut W,
+    ending: &mut E,
 ) -> Result<Ended, ProgramFault>
     requires { is_of_commands job.now ≡ true }
-    ensures { Answers job.now texts.now (output (W.taken out.old) (W.failures out.old))
+    ensures answers { Answers job.now texts.now (output (W.taken out.old) (W.failures out.old))
         (output (W.taken out.new) (W.failures out.new)) result }
+    ensures ends { ShowsEnd job.now texts.now (E.saw ending.new)
+        (output (W.taken out.old) (W.failures out.old))
+        (output (W.taken out.new) (W.failures out.new)) (finished_in result) }
 {
     let alloc = rt.alloc();
     let first = texts.first.as_slice();
     match *job {
-        Job::Steps { .. } => by_steps(rt, texts, is_seen, out),
-        Job::Round { rounds, .. } => in_rounds(rt, texts, u64::from(rounds), is_seen, out),
+        Job::Steps { .. } => by_steps(rt, texts, is_seen, out, ending),
+        Job::Round { rounds, .. } => in_rounds(rt, texts, u64::from(rounds), is_seen, out, ending),
         Job::Route {
             src,
             dst,
@@ -86,21 +93,30 @@ fn plain(done: Result<(), ProgramFault>) -> Result<Ended, ProgramFault>
 }
 
 /// Runs the listed steps.
-fn by_steps<R: Eprint + Clock + AllocGlobal, W: Out>(
+fn by_steps<R: Eprint + Clock + AllocGlobal, W: Out, E: Ending>(
     rt: &R,
     texts: &Texts,
     is_seen: bool,
     out: &mut W,
+    ending: &mut E,
 ) -> Result<Ended, ProgramFault>
-    ensures { PrintsRun
+    ensures prints { PrintsRun
         (asked_of (lines texts.now.first.items) (lines texts.now.second.items)
         (lines texts.now.third.items))
+        (output (W.taken out.old) (W.failures out.old))
+        (output (W.taken out.new) (W.failures out.new)) (finished_in result) }
+    ensures ends { Does
+        (IsShown (HasRun (asked_of (lines texts.now.first.items)
+        (lines texts.now.second.items) (lines texts.now.third.items))) (E.saw ending.new))
+        (IsTextsFault (asked_of (lines texts.now.first.items)
+        (lines texts.now.second.items) (lines texts.now.third.items)))
         (output (W.taken out.old) (W.failures out.old))
         (output (W.taken out.new) (W.failures out.new)) (finished_in result) }
 {
     let (machine, script) = (texts.first.as_slice(), texts.second.as_slice());
     let mut line = ProgressLine::new(rt, is_seen);
-    match steps_text_with(rt.alloc(), machine, script, &texts.third, out, &mut line) {
+    let alloc = rt.alloc();
+    match steps_text_with(alloc, machine, script, &texts.third, out, &mut line, ending) {
         Ok(finished) => {
             let moves = line.moves_made();
             Ok(Ended {
@@ -113,21 +129,30 @@ fn by_steps<R: Eprint + Clock + AllocGlobal, W: Out>(
 }
 
 /// Runs in rounds, at most so many.
-fn in_rounds<R: Eprint + Clock + AllocGlobal, W: Out>(
+fn in_rounds<R: Eprint + Clock + AllocGlobal, W: Out, E: Ending>(
     rt: &R,
     texts: &Texts,
     rounds: u64,
     is_seen: bool,
     out: &mut W,
+    ending: &mut E,
 ) -> Result<Ended, ProgramFault>
-    ensures { PrintsRounds
+    ensures prints { PrintsRounds
         (load_by (lines texts.now.first.items) (lines texts.now.second.items)) rounds
+        (output (W.taken out.old) (W.failures out.old))
+        (output (W.taken out.new) (W.failures out.new)) (finished_in result) }
+    ensures ends { Does
+        (IsShown (HasEndedRounds
+        (load_by (lines texts.now.first.items) (lines texts.now.second.items)) rounds)
+        (E.saw ending.new))
+        (IsTextsFault (load_by (lines texts.now.first.items) (lines texts.now.second.items)))
         (output (W.taken out.old) (W.failures out.old))
         (output (W.taken out.new) (W.failures out.new)) (finished_in result) }
 {
     let (machine, script) = (texts.first.as_slice(), texts.second.as_slice());
     let mut line = ProgressLine::new(rt, is_seen);
-    match round_text_with(rt.alloc(), machine, script, rounds, out, &mut line) {
+    let alloc = rt.alloc();
+    match round_text_with(alloc, machine, script, rounds, out, &mut line, ending) {
         Ok(finished) => {
             let course = Course::Rounds {
                 rounds: line.rounds_made(),

@@ -6,8 +6,9 @@ use crate::answering::{answer, is_of_commands};
 use crate::naming::{kind, names};
 use crate::printing::{fault_told, flushed, tell_end_of, writer};
 use crate::reading::texts_of;
+use crate::run_end::RunEnd;
 use command_line::Request;
-use error_lines::{Kept, explain};
+use error_lines::explain;
 use program_fault::{ProgramFault, Texts, status_of};
 use report_lines::Piped;
 use std::io::Input;
@@ -54,11 +55,11 @@ fn printed<R: Print + Eprint + Clock + AllocGlobal>(
     requires { is_of_commands request.now.job ≡ true }
 {
     let is_told = request.explain || is_seen;
+    let mut end = RunEnd::new(rt.alloc(), is_told, &texts.first, &texts.second);
     let mut writer = writer(rt)?;
-    let mut out = Kept::new(Piped::new(&mut writer), Vec::new(rt.alloc()), is_told);
-    let ended = answer(rt, &request.job, texts, is_seen, &mut out)?;
-    let report = out.into_kept();
+    let mut out = Piped::new(&mut writer);
+    let ended = answer(rt, &request.job, texts, is_seen, &mut out, &mut end)?;
     flushed(&mut writer)?;
-    tell_end_of(rt, &request.job, texts, report, ended);
+    tell_end_of(rt, &request.job, &end, ended);
     Ok(ended.finished)
 }

@@ -8,6 +8,7 @@ pub mod naming;
 pub mod printing;
 pub mod progress_line;
 pub mod reading;
+pub mod run_end;
 pub mod version;
 
 pub use answering::{Ended, answer, is_of_commands};
@@ -16,4 +17,5 @@ pub use naming::{kind, names};
 pub use printing::{fault_told, flushed, tell_end_of, writer};
 pub use progress_line::ProgressLine;
 pub use reading::texts_of;
+pub use run_end::RunEnd;
 pub use version::{version_text, version_told};

@@ -2,9 +2,10 @@
 
 use crate::answering::Ended;
 use crate::naming::names;
+use crate::run_end::RunEnd;
 use command_line::Job;
 use error_lines::tell_end;
-use program_fault::{ProgramFault, Texts, fault_text, status_of};
+use program_fault::{ProgramFault, fault_text, status_of};
 use std::io::{self, BufWriter, Printer, Write};
 use torus::Fault;
 
@@ -28,16 +29,14 @@ pub fn flushed<W: Write>(writer: &mut W) -> Result<(), ProgramFault> {
     Ok(())
 }
 
-/// Tells how the run of a job ended, behind its report, where that was kept.
-pub fn tell_end_of<R: Eprint + AllocGlobal>(
-    rt: &R,
-    job: &Job,
-    texts: &Texts,
-    report: Option<Vec<u8>>,
-    ended: Ended,
-) {
-    if let (Some(course), Some(report), Some(name)) = (ended.course, report, names(job).second) {
-        tell_end(rt, name, &texts.second, &report, ended.finished, course);
+/// Says how the run of a job ended, behind its report, where that was found.
+pub fn tell_end_of<R: Eprint>(rt: &R, job: &Job, end: &RunEnd, ended: Ended) {
+    if let (Some(course), Some(found), Some(name)) = (
+        ended.course,
+        end.found(),
+        names(job).second,
+    ) {
+        tell_end(rt, name, found, ended.finished, course);
     }
 }
 

@@ -2,7 +2,7 @@ ghost use Rattle.std.specs.Prelude.{None};
 
 use arrayvec::{ArrayString, ArrayVec};
 use commands::{
-    ProgramFault, Progress, channel_count, channels_text, check_text, fault_text, finished,
+    ProgramFault, Progress, Silent, channel_count, channels_text, check_text, fault_text, finished,
     put_numbers, round_text, round_text_with, route_text, status_of, steps_text, steps_text_with,
 };
 use linked_list_allocator::LocalHeap;
@@ -1016,7 +1016,15 @@ fn is_same_watched(alloc: Global, script: &str, rounds: u64, watch: &mut Watch) 
     let mut alone = Sink::whole();
     let answer = round_text(alloc, machine, scripts, rounds, &mut alone);
     let mut sink = Sink::whole();
-    let seen = round_text_with(alloc, machine, scripts, rounds, &mut sink, watch);
+    let seen = round_text_with(
+        alloc,
+        machine,
+        scripts,
+        rounds,
+        &mut sink,
+        watch,
+        &mut Silent,
+    );
     seen == answer && sink.bytes.as_slice() == alone.bytes.as_slice()
 }
 
@@ -1090,7 +1098,15 @@ fn each_round_is_told(rt: HostRuntime) {
         };
         let (machine, scripts) = (PAIR.as_bytes(), script.as_bytes());
         let mut sink = Sink::whole();
-        let answer = round_text_with(rt.alloc(), machine, scripts, 1000, &mut sink, &mut recorder);
+        let answer = round_text_with(
+            rt.alloc(),
+            machine,
+            scripts,
+            1000,
+            &mut sink,
+            &mut recorder,
+            &mut Silent,
+        );
         let has_all = recorder.told.len() == count
             && recorder.asked == count
             && recorder.ended == 1;
@@ -1116,6 +1132,7 @@ fn watched_runs_have_faults(rt: HostRuntime) {
         12,
         &mut Sink::whole(),
         &mut watch,
+        &mut Silent,
     );
     assert!(rt;
         matches!(faulty, Err(ProgramFault::Line(_))) && watch.asked == 0 && watch.ended == 0
@@ -1128,6 +1145,7 @@ fn watched_runs_have_faults(rt: HostRuntime) {
         12,
         &mut sink,
         &mut watch,
+        &mut Silent,
     );
     assert!(rt; failed == Err(ProgramFault::Output) && watch.saw(12, 12, 2, 78));
 }
@@ -1144,7 +1162,15 @@ fn moves_of_steps_are_told(rt: HostRuntime) -> Result<(), Fail> {
         let answer = steps_text(rt.alloc(), machine, scripts, steps, &mut alone);
         let mut watch = Watch::new(1);
         let mut sink = Sink::whole();
-        let seen = steps_text_with(rt.alloc(), machine, scripts, steps, &mut sink, &mut watch);
+        let seen = steps_text_with(
+            rt.alloc(),
+            machine,
+            scripts,
+            steps,
+            &mut sink,
+            &mut watch,
+            &mut Silent,
+        );
         let is_same = seen == answer && sink.bytes.as_slice() == alone.bytes.as_slice();
         assert!(rt;
             is_same && watch.asked == 0 && watch.saw(0, 0, 0, moves),
@@ -1159,6 +1185,7 @@ fn moves_of_steps_are_told(rt: HostRuntime) -> Result<(), Fail> {
         b"6 take\n",
         &mut Sink::whole(),
         &mut watch,
+        &mut Silent,
     );
     assert!(rt; matches!(faulty, Err(ProgramFault::Line(_))) && watch.ended == 0);
     Ok(())

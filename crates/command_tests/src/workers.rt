@@ -1,5 +1,5 @@
 use crate::answers::{PAIR, SCRIPT, Sink};
-use commands::{ProgramFault, check_text};
+use commands::{ProgramFault, Silent, check_text};
 use report_lines::{Out, Piped};
 use run_command::{Gate, Open, Unwatched, Watch, run_text, run_text_with};
 use script::LineFault;
@@ -146,6 +146,7 @@ fn workers_run_side_by_side(rt: HostRuntime) {
         &gate,
         &Unwatched,
         &mut sink,
+        &mut Silent,
     );
     let is_text = sink.bytes.as_slice() == UNORDERED.as_bytes();
     assert!(rt; answer == Ok(true) && is_text);
@@ -219,6 +220,7 @@ fn workers_are_watched(rt: HostRuntime) {
             &Open,
             &listener,
             &mut sink,
+            &mut Silent,
         );
         let passes = turns / PASS;
         assert!(rt;

@@ -4,3 +4,4 @@ pub mod Run
 pub mod Rounds
 pub mod Calls
 pub mod Telling
+pub mod Ends

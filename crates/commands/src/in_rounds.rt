@@ -3,13 +3,15 @@ ghost use Rattle.std.specs.Str.Lines.{lines};
 ghost use Rattle.order_abstract.specs.Load.{Load};
 ghost use Rattle.core_machine.specs.Machine.{IsAfter};
 ghost use Rattle.machine_core.specs.Loading.{HasLoaded, load_by};
-ghost use Rattle.program_fault.specs.Done.{output};
-ghost use Rattle.program_fault.specs.Outcome.{IsReadFault};
+ghost use Rattle.program_fault.specs.Done.{Does, output};
+ghost use Rattle.program_fault.specs.Outcome.{IsReadFault, IsTextsFault};
+ghost use Rattle.commands.specs.Ends.{HasEndedRounds, IsShown};
 ghost use Rattle.commands.specs.Rounds.{HasMadeRounds, PrintsRounds};
 ghost use Rattle.commands.specs.Calls.{Hears};
 ghost use Rattle.commands.specs.Telling.{AreRoundsCalls, HearsSome, TellsRounds, answered_by, round_calls};
 
 use crate::ProgramFault;
+use crate::ending::Ending;
 use crate::steps::{moves_since, print_run};
 use core_machine::laws::{
     moves_are_counted, reached_machines_report_well, steps_decide_the_machine,
@@ -71,34 +73,51 @@ pub fn round_text<A: Allocator + Copy, W: Out>(
         (output (W.taken out.old) (W.failures out.old))
         (output (W.taken out.new) (W.failures out.new)) result }
 {
-    round_text_with(alloc, machine, scripts, rounds, out, &mut Silent)
+    round_text_with(
+        alloc,
+        machine,
+        scripts,
+        rounds,
+        out,
+        &mut Silent,
+        &mut Silent,
+    )
 }
 
 /// Does what `round_text` does, and tells `progress` how far the run is: after each round it asks
 /// whether that is wanted, and where it is, tells how many rounds are made and how many operations
 /// answered; and behind the last round it tells the end, with how many moves all rounds made. A fault
-/// of the texts, and memory refused for the machine, come before it is told anything.
+/// of the texts, and memory refused for the machine, come before it is told anything. `ending` is
+/// shown the machine whose report is printed.
 ///
 /// Errors: as `round_text`.
-pub fn round_text_with<A: Allocator + Copy, W: Out, P: Progress>(
+pub fn round_text_with<A: Allocator + Copy, W: Out, P: Progress, E: Ending>(
     alloc: A,
     machine: &[u8],
     scripts: &[u8],
     rounds: u64,
     out: &mut W,
     progress: &mut P,
+    ending: &mut E,
 ) -> Result<bool, ProgramFault>
     ensures prints { PrintsRounds (load_by (lines machine.now) (lines scripts.now)) rounds
         (output (W.taken out.old) (W.failures out.old))
         (output (W.taken out.new) (W.failures out.new)) result }
     ensures told { TellsRounds (load_by (lines machine.now) (lines scripts.now)) rounds
         (P.heard progress.old) (P.heard progress.new) result }
+    ensures ends { Does
+        (IsShown (HasEndedRounds (load_by (lines machine.now) (lines scripts.now)) rounds)
+        (E.saw ending.new))
+        (IsTextsFault (load_by (lines machine.now) (lines scripts.now)))
+        (output (W.taken out.old) (W.failures out.old))
+        (output (W.taken out.new) (W.failures out.new)) result }
 {
     let mut machine = loaded(alloc, machine, scripts)?;
     let most = machine.moves_left();
     make_rounds(&mut machine, rounds, progress);
     moves_are_counted();
     progress.ended(moves_since(most, &machine));
+    ending.shown(&machine);
     steps_decide_the_machine();
     print_run(alloc, &machine, out)
 }

@@ -4,6 +4,7 @@
 
 pub mod channels;
 pub mod check;
+pub mod ending;
 pub mod in_rounds;
 mod line;
 pub mod route;
@@ -12,6 +13,7 @@ pub mod steps;
 pub use channel_number::channel_count;
 pub use channels::{channels_text, put_numbers};
 pub use check::check_text;
+pub use ending::Ending;
 pub use in_rounds::{Progress, Silent, round_text, round_text_with};
 pub use program_fault::{ProgramFault, fault_text, finished, status_of};
 pub use route::route_text;

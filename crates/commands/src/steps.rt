@@ -1,11 +1,13 @@
 ghost use Rattle.std.specs.Prelude.{◌≡◌, ◌-◌, IfErr, IfOk};
 ghost use Rattle.std.specs.Str.Lines.{lines};
 ghost use Rattle.program_fault.specs.Done.{Does, output};
-ghost use Rattle.program_fault.specs.Outcome.{IsReadFault};
+ghost use Rattle.program_fault.specs.Outcome.{IsReadFault, IsTextsFault};
+ghost use Rattle.commands.specs.Ends.{IsShown};
 ghost use Rattle.commands.specs.Run.{HasMoved, HasRun, IsOfMachine, IsNoFault, PrintsRun, asked_of};
 ghost use Rattle.commands.specs.Telling.{TellsSteps};
 
 use crate::ProgramFault;
+use crate::ending::Ending;
 use crate::in_rounds::{Progress, Silent};
 use core_machine::laws::{moves_are_counted, steps_decide_the_machine};
 use machine_core::Machine;
@@ -30,29 +32,46 @@ pub fn steps_text<A: Allocator + Copy, W: Out>(
         (output (W.taken out.old) (W.failures out.old))
         (output (W.taken out.new) (W.failures out.new)) result }
 {
-    steps_text_with(alloc, machine, scripts, steps, out, &mut Silent)
+    steps_text_with(
+        alloc,
+        machine,
+        scripts,
+        steps,
+        out,
+        &mut Silent,
+        &mut Silent,
+    )
 }
 
 /// Does what `steps_text` does, and tells `progress` the end of the run, with how many of the steps
 /// moved. A fault of the texts, and memory refused for the machine, come before it is told anything.
+/// `ending` is shown the machine whose report is printed.
 ///
 /// Errors: as `steps_text`.
-pub fn steps_text_with<A: Allocator + Copy, W: Out, P: Progress>(
+pub fn steps_text_with<A: Allocator + Copy, W: Out, P: Progress, E: Ending>(
     alloc: A,
     machine: &[u8],
     scripts: &[u8],
     steps: &[u8],
     out: &mut W,
     progress: &mut P,
+    ending: &mut E,
 ) -> Result<bool, ProgramFault>
     ensures prints { PrintsRun (asked_of (lines machine.now) (lines scripts.now) (lines steps.now))
         (output (W.taken out.old) (W.failures out.old))
         (output (W.taken out.new) (W.failures out.new)) result }
     ensures told { TellsSteps (asked_of (lines machine.now) (lines scripts.now) (lines steps.now))
         (P.heard progress.old) (P.heard progress.new) result }
+    ensures ends { Does
+        (IsShown (HasRun (asked_of (lines machine.now) (lines scripts.now) (lines steps.now)))
+        (E.saw ending.new))
+        (IsTextsFault (asked_of (lines machine.now) (lines scripts.now) (lines steps.now)))
+        (output (W.taken out.old) (W.failures out.old))
+        (output (W.taken out.new) (W.failures out.new)) result }
 {
     let (machine, moves) = ran(alloc, machine, scripts, steps)?;
     progress.ended(moves);
+    ending.shown(&machine);
     print_run(alloc, &machine, out)
 }
 

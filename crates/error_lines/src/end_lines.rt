@@ -1,20 +1,17 @@
 //! Lines on standard error, behind a report on standard output, that tell how its run ended.
 
-use sentences::{Course, EndSentence, SpinSentence, told};
+use sentences::{Course, EndSentence, EndedScripts, SpinSentence};
+use std::alloc::Global;
 
-/// Tells which spins of the scripts ran out of loads, and how the run of a report ended; the scripts'
-/// text has this name. Nothing is told where memory runs out.
-pub fn tell_end<R: Eprint + AllocGlobal>(
+/// Says which spins of the scripts ran out of loads, and how the run of a report ended; the scripts'
+/// text has this name.
+pub fn tell_end<R: Eprint>(
     rt: &R,
     name: &str,
-    scripts: &[u8],
-    report: &[u8],
+    ended: &EndedScripts<Global>,
     finished: bool,
     course: Course,
 ) {
-    let Ok(ended) = told(rt.alloc(), scripts, report) else {
-        return;
-    };
     for spin in ended.spins.iter() {
         let sentence = SpinSentence { name, spin: *spin };
         let _ = eprintln!(rt; "{sentence}");

@@ -4,10 +4,8 @@
 
 pub mod end_lines;
 pub mod explaining;
-pub mod kept;
 pub mod telling;
 
 pub use end_lines::tell_end;
 pub use explaining::{Kind, explain, explain_unread};
-pub use kept::Kept;
 pub use telling::{explain_by, is_of_texts, named, told};

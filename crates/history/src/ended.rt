@@ -10,8 +10,8 @@ use worker_run::Final;
 
 /// A closed fabric, as what its run reached.
 #[derive(Clone, Copy)]
-pub(crate) struct Ended<'a, B: Allocator> {
-    pub(crate) last: &'a Final<B>,
+pub struct Ended<'a, B: Allocator> {
+    pub last: &'a Final<B>,
 }
 
 impl<B: Allocator> Reached for Ended<'_, B> {

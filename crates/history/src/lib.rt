@@ -1,9 +1,10 @@
 //! The reports of runs: of a machine, and of a closed fabric.
 #![tactic(auto)]
 
-mod ended;
+pub mod ended;
 pub mod run;
 
+pub use ended::Ended;
 pub use machine_report::{
     AnswerLine, AnswerRow, CheckFault, EntryLine, EntryRow, LineText, OrderLine, Out, OutputFailed,
     Parts, Piped, Radices, Report, ReportLine, check_report, line_of, of_run, write_report,

@@ -1,5 +1,5 @@
 -- One row more.
-use Rattle.std.proofs.Common.{◌≡◌, ℕ, zero, suc, ◌+◌, ◌<◌, List, [], ◌∷◌, ◌++◌, length, map, take, Vec, Some, None, sym, ◌∙◌, ap, arith, slice_get}
+use Rattle.std.proofs.Common.{Bor, ◌≡◌, ℕ, zero, suc, ◌+◌, ◌<◌, List, [], ◌∷◌, ◌++◌, length, map, take, Vec, Some, None, sym, ◌∙◌, ap, arith, slice_get}
 use Rattle.std.proofs.lemmas.List.{map_push, take_more}
 use Rattle.std.proofs.lemmas.Option.{none-some, slice_get_within, get_or_from_slice_get}
 use Rattle.report_lines.specs.Contents.{items_of}
@@ -30,3 +30,13 @@ row_more {X} {Y} {A} f xss vs new k xs v there is grown so_far =
 -- one word more
 pub word_more : {X : Type 0} (xs out new : List X) (k : ℕ) (x : X) → Some x ≡ slice_get xs k → new ≡ out ++ x ∷ [] → out ≡ take k xs → new ≡ take (k + 1) xs
 word_more xs out new k x there grown so_far = grown ∙ (ap (λ ys. ys ++ x ∷ []) so_far ∙ sym (take_read xs k x there))
+
+-- one list more that is lent
+pub lent_more : {X : Type 0} (xss : List (List X)) (rows new : List (Bor (List X))) (k : ℕ) (own : Bor (List X)) → Some own.now ≡ slice_get xss k
+    → new ≡ rows ++ own ∷ []
+    → map (λ (row : Bor (List X)). row.now) rows ≡ take k xss → map (λ (row : Bor (List X)). row.now) new ≡ take (k + 1) xss
+lent_more {X} xss rows new k own there grown so_far =
+    ap (map (λ (row : Bor (List X)). row.now)) grown
+    ∙ (map_push (λ (row : Bor (List X)). row.now) rows own
+    ∙ (ap (λ yss. yss ++ own.now ∷ []) so_far
+    ∙ sym (take_read xss k own.now there)))

@@ -1,10 +1,12 @@
 //! The report of a machine, and of whatever else is reached by steps from a load.
 #![tactic(auto)]
 
+pub mod answers;
 pub mod reached;
 mod rows;
 pub mod run;
 
+pub use answers::answers_of;
 pub use machine_core::{Answer, Entry, Machine};
 pub use reached::Reached;
 pub use report_check::{CheckFault, check_report};

@@ -11,19 +11,22 @@ ghost use Rattle.history.specs.Seats.{IsSeatOf};
 ghost use Rattle.worker_run.specs.Watching.{IsWatched};
 ghost use Rattle.worker_run.specs.Working.{HasWorked, Working};
 ghost use Rattle.program_fault.specs.Done.{Does, output};
+ghost use Rattle.program_fault.specs.Outcome.{IsTextsFault};
 ghost use Rattle.commands.specs.Run.{IsNoFault};
 ghost use Rattle.run_command.specs.Workers.{IsMadeByWorkers, IsOfEnded, IsTakenIn, LetsAll, PrintsWorkers, first_held};
 ghost use Rattle.run_command.specs.Workers.{tiles_of_worker, new_worker};
+ghost use Rattle.run_command.specs.Ends.{IsShownEnd};
 ghost use Rattle.run_command.specs.Watched.{HearsWorkers, TellsWorkers};
 
 use arrayvec::ArrayVec;
 use commands::in_rounds::loaded;
+use commands::{Ending, Silent};
 use core_machine::laws::{
     ended_followers_finish_scripts, steps_decide_the_machine, steps_lead_on,
     steps_lead_to_a_machine,
 };
 use history::{
-    Fabric, Final, Gate, Open, TileSeat, Unwatched, Watch, Worker, of_final, run_workers,
+    Ended, Fabric, Final, Gate, Open, TileSeat, Unwatched, Watch, Worker, of_final, run_workers,
     write_report,
 };
 use machine_core::Machine;
@@ -57,13 +60,23 @@ pub fn run_text<R: Threads + Wait + Sync, A: Allocator + Copy + Send + Sync, W: 
         (output (W.taken out.new) (W.failures out.new)) result }
 {
     run_text_with(
-        rt, alloc, machine, scripts, workers, turns, &Open, &Unwatched, out,
+        rt,
+        alloc,
+        machine,
+        scripts,
+        workers,
+        turns,
+        &Open,
+        &Unwatched,
+        out,
+        &mut Silent,
     )
 }
 
 /// Does what `run_text` does, with workers that ask `gate` whether they may begin, and ahead of each
 /// attempt whether they may go on; it is one that lets all, at its time. `watch` hears when a worker
 /// comes, after each pass over its tiles, and when it has ended, with how many turns it has made.
+/// `ending` is shown what the run reached whose report is printed.
 ///
 /// Errors: as `run_text`.
 pub fn run_text_with<
@@ -72,6 +85,7 @@ pub fn run_text_with<
     G: Gate,
     V: Watch,
     W: Out,
+    E: Ending,
 >(
     rt: &R,
     alloc: A,
@@ -82,6 +96,7 @@ pub fn run_text_with<
     gate: &G,
     watch: &V,
     out: &mut W,
+    ending: &mut E,
 ) -> Result<bool, ProgramFault>
     requires workers { (1 ≤ workers) × (workers ≤ 16) }
     requires turns { (1 ≤ turns) × (turns ≤ 1000000000) }
@@ -91,9 +106,16 @@ pub fn run_text_with<
         (output (W.taken out.new) (W.failures out.new)) result }
     ensures told { TellsWorkers (load_by (lines machine.now) (lines scripts.now)) workers turns
         (V.over watch.now) result }
+    ensures ends { Does
+        (IsShownEnd (load_by (lines machine.now) (lines scripts.now)) workers turns
+        (E.saw ending.new))
+        (IsTextsFault (load_by (lines machine.now) (lines scripts.now)))
+        (output (W.taken out.old) (W.failures out.old))
+        (output (W.taken out.new) (W.failures out.new)) result }
 {
     let machine = loaded(alloc, machine, scripts)?;
     let end = closed_run(rt, alloc, machine, workers, turns, gate, watch)?;
+    ending.shown(&Ended { last: &end });
     steps_lead_to_a_machine();
     ended_followers_finish_scripts();
     print_end(alloc, &end, out)

@@ -6,5 +6,6 @@ pub mod by_workers;
 pub mod turns_line;
 
 pub use by_workers::{run_text, run_text_with};
+pub use commands::Ending;
 pub use history::{Gate, Open, Unwatched, Watch};
 pub use turns_line::TurnsLine;

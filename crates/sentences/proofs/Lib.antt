@@ -2,3 +2,6 @@ mod Noted
 mod RanOutTold
 mod RunningOut
 mod Spent
+mod Behind
+mod Ending
+mod AllAnswered

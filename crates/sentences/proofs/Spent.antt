@@ -7,7 +7,7 @@ use Rattle.sentences.specs.declared.spins.SpentSpin.{SpentSpin}
 use Rattle.sentences.specs.Spins.{replied, reply_of_next, spent_from, spun}
 
 -- the reply that is next, and those behind it
-next_is : (replies : List (Option ℕ)) (at reply : ℕ) → reply_of_next (drop at replies) ≡ Some reply
+pub next_is : (replies : List (Option ℕ)) (at reply : ℕ) → reply_of_next (drop at replies) ≡ Some reply
     → drop at replies ≡ Some reply ∷ drop (at + 1) replies
 next_is [] zero reply h = absurd (let e : None ≡ Some reply = h in cc)
 next_is [] (suc at) reply h = absurd (let e : None ≡ Some reply = h in cc)

@@ -1,8 +1,9 @@
 pub mod Before
 pub mod Told
-pub mod Answers
 pub mod Sentences
 pub mod Spins
 pub mod Replies
+pub mod Answered
 pub mod Texts
+pub mod Ended
 pub mod RunsOut

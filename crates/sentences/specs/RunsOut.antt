@@ -44,3 +44,8 @@ pub record RanOut (script : List Line) (replies : List (Option ℕ)) (spin : Spe
   pub replied : replies ≡ before ++ (loads ++ after)
   pub reached : AreRepliesTo front before
   pub spent : AreSpent spin.sought spin.loads loads
+
+-- the replies to all operations of a script stand in front of these
+abbrev pub HasAllReplies : List Line → List (Option ℕ) → Type 0
+HasAllReplies script replies =
+    (before after : List (Option ℕ)) × (replies ≡ before ++ after) × AreRepliesTo script before

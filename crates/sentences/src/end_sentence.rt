@@ -53,9 +53,9 @@ pub struct EndSentence {
     /// Whether every script is finished.
     pub finished: bool,
     /// How many operations are answered.
-    pub answered: usize,
+    pub answered: u64,
     /// How many processors have an operation that isn't answered.
-    pub unfinished: usize,
+    pub unfinished: u64,
 }
 
 impl EndSentence {
@@ -111,8 +111,7 @@ impl fmt::Display for EndSentence {
     fn fmt<W: fmt::Write>(&self, f: &mut fmt::Formatter<W>) -> fmt::Result {
         f.write_str(begin_word(self.finished))?;
         self.put_course(f)?;
-        let answered = self.answered as u64;
-        put_count(f, answered, "operation", answered_words(answered))?;
+        put_count(f, self.answered, "operation", answered_words(self.answered))?;
         self.put_rest(f)
     }
 }

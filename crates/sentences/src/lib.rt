@@ -2,7 +2,6 @@
 //! and which spins ran out of loads.
 #![tactic(auto)]
 
-pub mod answers;
 mod before;
 pub mod end_sentence;
 pub mod laws;
@@ -14,8 +13,8 @@ pub mod text;
 pub mod texts;
 
 pub use end_sentence::{Course, EndSentence, SpinSentence};
-pub use scripts::{EndedScripts, EndedSpin, told};
+pub use one_order::Answer;
+pub use scripts::{EndedScripts, EndedSpin, ended_in_text_order, ended_scripts};
 pub use sentence::{Sentence, TileSentence};
 pub use spins::SpentSpin;
-pub use text::spent_lines;
 pub use texts::{machine_sentence, scripts_sentence, steps_sentence, tile_sentence};

@@ -1,15 +1,17 @@
-//! A run's answers beside the lines of its scripts.
+//! What became of the scripts of a run, by the answers that its processors had.
 
-ghost use Rattle.std.specs.Prelude.{◌≡◌, IfOk, length};
+ghost use Rattle.std.specs.Prelude.{◌≡◌, ◌≤◌, ◌++◌, IfOk, IfErr, OnOk, map, if◌then◌else◌};
+ghost use Rattle.std.specs.List.Sorted.{IsNonDecreasingBy, IsPermutation};
 ghost use Rattle.std.specs.Str.Lines.{lines};
-ghost use Rattle.sentences.specs.Answers.{report_answers};
+ghost use Rattle.sentences.specs.Ended.{ended_spin, answered_in, IsEndOf, IsEndOfTexts};
+ghost use Rattle.sentences.specs.Ended.{IsEndInTextOrder, IsScriptsFault};
 
-use crate::answers::{Answer, number, report_answers};
-use lexer::{first_words, index, next_line};
+use crate::spins::{ScriptEnd, SpentSpin};
+use crate::text::end_at_lines;
+use one_order::Answer;
+use script::{LineFault, Scripts, read_machine, read_scripts};
 use std::alloc::{AllocError, Allocator};
-
-/// How many processors a machine has at most.
-const MOST_PROCESSORS: usize = 64;
+use torus::Fault;
 
 /// A spin that made all its loads, of which none found the number that it waits for.
 #[derive(Clone, Copy)]
@@ -17,6 +19,7 @@ pub struct EndedSpin {
     pub processor: u32,
     /// The line of the script text, from 1.
     pub line: u64,
+    pub address: u32,
     pub loads: u32,
     pub wanted: u64,
 }
@@ -24,148 +27,143 @@ pub struct EndedSpin {
 /// What became of the scripts of a run.
 #[derive(Drop)]
 pub struct EndedScripts<A: Allocator> {
-    /// The spins that ran out of loads, in the order of the script text.
+    /// The spins that ran out of loads, processor by processor, and each one's in the order of its
+    /// script.
     pub spins: Vec<EndedSpin, A>,
     /// How many processors have an operation that isn't answered.
-    pub unfinished: usize,
+    pub unfinished: u64,
     /// How many operations are answered.
-    pub answered: usize,
+    pub answered: u64,
 }
 
-/// Where a processor stands in its answers.
-#[derive(Clone, Copy)]
-struct Place {
-    /// The place of its next answer among all.
-    at: usize,
-    /// The number of its next operation.
-    index: u32,
-    /// An operation isn't answered, so what its further lines did can't be told.
-    is_open: bool,
-}
-
-/// How a spin ended.
-#[derive(Clone, Copy)]
-enum End {
-    Found,
-    RanOut,
-    Open,
-}
-
-/// What became of the scripts of a text, which the machine of a run accepted, by the run's report.
-///
-/// Errors: memory ran out.
-pub fn told<A: Allocator + Copy>(
-    alloc: A,
-    scripts: &[u8],
-    report: &[u8],
-) -> Result<EndedScripts<A>, AllocError>
-    ensures answered { IfOk result
-        (λ ended. ended.answered ≡ length (report_answers (lines report.now))) }
+/// A spin of a processor that ran out of loads, whose place is its line in the text of the scripts.
+fn ended_spin(processor: u32, spin: SpentSpin) -> EndedSpin
+    ensures { result ≡ ended_spin processor spin }
 {
-    let answers = report_answers(alloc, report)?;
-    let mut places = first_places(&answers);
-    let mut spins = Vec::new(alloc);
-    let mut rest = scripts;
-    for before in 0..u64::MAX {
-        let Some((words, after)) = next_line(rest) else {
-            break;
-        };
-        let line = before + 1;
-        if let Some(spin) = follow(&answers, &mut places, words, line) {
-            spins.push(spin)?;
-        }
-        rest = after;
+    EndedSpin {
+        processor,
+        line: spin.place,
+        address: spin.address,
+        loads: spin.loads,
+        wanted: spin.sought,
     }
-    let unfinished = open_places(&places);
+}
+
+/// Adds the spins of a processor that ran out of loads.
+fn add_spins<A: Allocator>(
+    found: &mut Vec<EndedSpin, A>,
+    processor: u32,
+    spins: &[SpentSpin],
+) -> Result<(), AllocError>
+    ensures { OnOk result
+        (found.new.items ≡ found.old.items ++ map (ended_spin processor) spins.now) }
+{
+    for spin in spins {
+        found.push(ended_spin(processor, *spin))?;
+    }
+    Ok(())
+}
+
+/// How many operations are answered; at most `u64::MAX`.
+fn answered_in(answers: &[&[Answer]]) -> u64
+    ensures { result ≡ answered_in (map (λ own. own.now) answers.now) }
+{
+    let mut count = 0u64;
+    for own in answers {
+        count = count.saturating_add(own.len() as u64);
+    }
+    count
+}
+
+/// How many scripts aren't finished, of one whose operations are all answered or not.
+fn unfinished_of(is_answered: bool) -> u64
+    ensures is { result ≡ if is_answered then 0 else 1 }
+    ensures few { result ≤ 1 }
+{
+    if is_answered { 0 } else { 1 }
+}
+
+/// What became of scripts, by the answers of each processor; the text is that of the scripts.
+fn end_of_lists<A: Allocator + Copy>(
+    alloc: A,
+    text: &[u8],
+    scripts: &Scripts<A>,
+    answers: &[&[Answer]],
+) -> Result<EndedScripts<A>, AllocError>
+    ensures { IfOk result
+        (IsEndOf (lines text.now) scripts.now.lists (map (λ own. own.now) answers.now)) }
+{
+    let answered = answered_in(answers);
+    let mut spins = Vec::new(alloc);
+    let mut unfinished = 0u64;
+    let mut processor = 0u32;
+    for own in answers {
+        let Some(script) = scripts.lines(processor) else {
+            return Ok(EndedScripts {
+                spins,
+                unfinished,
+                answered,
+            });
+        };
+        let end = end_at_lines(alloc, processor, text, script, own)?;
+        add_spins(&mut spins, processor, &end.spins)?;
+        unfinished += unfinished_of(end.is_answered);
+        processor += 1;
+    }
     Ok(EndedScripts {
         spins,
         unfinished,
-        answered: answers.len(),
+        answered,
     })
 }
 
-/// How many processors have an operation that isn't answered.
-fn open_places(places: &[Place; MOST_PROCESSORS]) -> usize {
-    let mut open = 0usize;
-    for place in places.iter() {
-        if place.is_open {
-            open = open.saturating_add(1);
-        }
-    }
-    open
-}
-
-/// Where each processor's first answer stands, or would stand.
-fn first_places(answers: &[Answer]) -> [Place; MOST_PROCESSORS] {
-    let mut places = [Place {
-        at: answers.len(),
-        index: 0,
-        is_open: false,
-    }; MOST_PROCESSORS];
-    for (at, answer) in answers.iter().enumerate() {
-        let processor = answer.processor as usize;
-        if processor < MOST_PROCESSORS && at < places[processor].at {
-            places[processor].at = at;
-        }
-    }
-    places
-}
-
-/// Goes over the answers of a line of the scripts, and gives the spin that it is, if that ran out.
-fn follow(
-    answers: &[Answer],
-    places: &mut [Place; MOST_PROCESSORS],
-    line: &[u8],
-    number_of_line: u64,
-) -> Option<EndedSpin> {
-    let (words, count) = first_words(line);
-    if count < 2 || words[1] == b"fence".as_slice() {
-        return None;
-    }
-    let processor = index(words[0])?;
-    let place = places.get_mut(processor as usize)?;
-    if words[1] != b"spin".as_slice() {
-        let _ = next_reply(answers, processor, place);
-        return None;
-    }
-    let (wanted, loads) = (number(words[3])?, index(words[4])?);
-    match spun(answers, processor, place, wanted, loads) {
-        End::Found => None,
-        End::RanOut => Some(EndedSpin {
-            processor,
-            line: number_of_line,
-            loads,
-            wanted,
+/// What became of the scripts of a text for the machine of a text, by the answers that each processor
+/// had in a run.
+///
+/// Errors: the first fault of the texts, taken in this order, or out of memory.
+pub fn ended_scripts<A: Allocator + Copy>(
+    alloc: A,
+    machine: &[u8],
+    scripts: &[u8],
+    answers: &[&[Answer]],
+) -> Result<EndedScripts<A>, LineFault>
+    ensures ok { IfOk result (IsEndOfTexts (lines machine.now) (lines scripts.now)
+        (map (λ own. own.now) answers.now)) }
+    ensures err { IfErr result (IsScriptsFault (lines machine.now) (lines scripts.now)) }
+{
+    let read = read_machine(alloc, machine)?;
+    let lists = read_scripts(alloc, scripts, &read)?;
+    match end_of_lists(alloc, scripts, &lists, answers) {
+        Ok(ended) => Ok(ended),
+        Err(_) => Err(LineFault {
+            fault: Fault::Memory,
+            line: 0,
         }),
-        End::Open => None,
     }
 }
 
-/// How a spin of a processor for a number ended, with so many loads at most.
-fn spun(answers: &[Answer], processor: u32, place: &mut Place, wanted: u64, loads: u32) -> End {
-    for _ in 0..loads {
-        match next_reply(answers, processor, place) {
-            Some(reply) if reply == wanted => return End::Found,
-            Some(_) => {}
-            None => return End::Open,
-        }
-    }
-    End::RanOut
+/// Puts spins in the order of their lines.
+fn put_in_text_order<A: Allocator>(spins: &mut Vec<EndedSpin, A>)
+    ensures rising { IsNonDecreasingBy (λ spin. spin.line) spins.new.items }
+    ensures same { IsPermutation spins.old.items spins.new.items }
+{
+    spins.sort_unstable_by_key(|spin| spin.line);
 }
 
-/// The reply of a processor's next operation; `None` where it isn't answered, and then for ever.
-fn next_reply(answers: &[Answer], processor: u32, place: &mut Place) -> Option<u64> {
-    if place.is_open {
-        return None;
-    }
-    if place.at < answers.len() {
-        let answer = answers[place.at];
-        if answer.processor == processor && answer.index == place.index {
-            place.at = place.at.saturating_add(1);
-            place.index = place.index.saturating_add(1);
-            return Some(answer.reply);
-        }
-    }
-    place.is_open = true;
-    None
+/// What `ended_scripts` answers, with the spins in the order of the script text.
+///
+/// Errors: as `ended_scripts`.
+pub fn ended_in_text_order<A: Allocator + Copy>(
+    alloc: A,
+    machine: &[u8],
+    scripts: &[u8],
+    answers: &[&[Answer]],
+) -> Result<EndedScripts<A>, LineFault>
+    ensures ok { IfOk result (IsEndInTextOrder (lines machine.now) (lines scripts.now)
+        (map (λ own. own.now) answers.now)) }
+    ensures err { IfErr result (IsScriptsFault (lines machine.now) (lines scripts.now)) }
+{
+    let mut ended = ended_scripts(alloc, machine, scripts, answers)?;
+    put_in_text_order(&mut ended.spins);
+    Ok(ended)
 }

@@ -1,9 +1,10 @@
 //! The spins of a script that ran out of loads.
 
-ghost use Rattle.std.specs.Prelude.{◌≡◌, ◌+◌, ◌∷◌, ℕ, List, [], Option, MatchOption, IfOk, drop};
+ghost use Rattle.std.specs.Prelude.{◌≡◌, ◌+◌, ◌∷◌, ℕ, List, [], Option, MatchOption, IfOk, drop, option_map};
 ghost use Rattle.std.specs.List.{cons_option};
 ghost use Rattle.script.specs.declared.line.Line.{Line};
 ghost use Rattle.sentences.specs.Spins.{spun, spent_from, spent_spins, reply_of_next};
+ghost use Rattle.sentences.specs.Answered.{are_answered, behind_line, behind_spin};
 
 use script::Line;
 use std::alloc::{AllocError, Allocator};
@@ -36,10 +37,12 @@ fn reply_of_next(replies: &[Option<u64>], at: usize) -> Option<u64>
 
 /// What a spin came to, whose first load is this operation.
 fn end_of_spin(replies: &[Option<u64>], first: usize, spin: SpentSpin) -> Option<LineEnd>
-    ensures { (over : List (Option ℕ) → List SpentSpin) → MatchOption result
+    ensures spent { (over : List (Option ℕ) → List SpentSpin) → MatchOption result
         (spun spin.loads spin over (drop first replies.now) ≡ [])
         (λ f. spun spin.loads spin over (drop first replies.now)
         ≡ cons_option f.spent (over (drop f.next replies.now))) }
+    ensures behind { option_map (λ f. drop f.next replies.now) result
+        ≡ behind_spin spin.loads spin.sought (drop first replies.now) }
 {
     let mut next = first;
     let mut left = spin.loads;
@@ -59,10 +62,12 @@ fn end_of_spin(replies: &[Option<u64>], first: usize, spin: SpentSpin) -> Option
 
 /// What the line at a place of a script came to, whose first operation is this one.
 fn end_of_line(replies: &[Option<u64>], first: usize, place: u64, line: Line) -> Option<LineEnd>
-    ensures { (rest : List Line) → MatchOption result
+    ensures spent { (rest : List Line) → MatchOption result
         (spent_from place (line ∷ rest) (drop first replies.now) ≡ [])
         (λ f. spent_from place (line ∷ rest) (drop first replies.now)
         ≡ cons_option f.spent (spent_from (place + 1) rest (drop f.next replies.now))) }
+    ensures behind { option_map (λ f. drop f.next replies.now) result
+        ≡ behind_line line (drop first replies.now) }
 {
     match line {
         Line::Fence => Some(LineEnd {
@@ -88,24 +93,42 @@ fn end_of_line(replies: &[Option<u64>], first: usize, place: u64, line: Line) ->
     }
 }
 
-/// The spins of a script that ran out of loads, where its operations are replied so.
-pub(crate) fn spent_spins<A: Allocator>(
+/// What became of a script.
+#[derive(Drop)]
+pub(crate) struct ScriptEnd<A: Allocator> {
+    /// The spins that ran out of loads, in the order of the script.
+    pub(crate) spins: Vec<SpentSpin, A>,
+    /// Whether all its operations are answered.
+    pub(crate) is_answered: bool,
+}
+
+/// What became of a script, where its operations are replied so.
+pub(crate) fn end_of_script<A: Allocator>(
     alloc: A,
     script: &[Line],
     replies: &[Option<u64>],
-) -> Result<Vec<SpentSpin, A>, AllocError>
-    ensures { IfOk result (λ spins. spins.items ≡ spent_spins script.now replies.now) }
+) -> Result<ScriptEnd<A>, AllocError>
+    ensures spins { IfOk result
+        (λ end. end.spins.items ≡ spent_spins script.now replies.now) }
+    ensures answered { IfOk result
+        (λ end. end.is_answered ≡ are_answered script.now replies.now) }
 {
     let mut spins = Vec::new(alloc);
     let mut next = 0;
     for place in 0..script.len() {
         let Some(line) = end_of_line(replies, next, place as u64, script[place]) else {
-            return Ok(spins);
+            return Ok(ScriptEnd {
+                spins,
+                is_answered: false,
+            });
         };
         if let Some(spin) = line.spent {
             spins.push(spin)?;
         }
         next = line.next;
     }
-    Ok(spins)
+    Ok(ScriptEnd {
+        spins,
+        is_answered: true,
+    })
 }

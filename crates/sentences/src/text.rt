@@ -3,10 +3,12 @@
 ghost use Rattle.std.specs.Prelude.{◌≡◌, IfOk, map};
 ghost use Rattle.std.specs.Str.Lines.{lines};
 ghost use Rattle.lexer.specs.Words.{words_of};
+ghost use Rattle.sentences.specs.Answered.{are_answered};
+ghost use Rattle.sentences.specs.Replies.{replies_in};
 ghost use Rattle.sentences.specs.Texts.{placed_at_line, is_script_line, numbers_from, spent_lines};
 
 use crate::replies::replies_in;
-use crate::spins::{SpentSpin, spent_spins};
+use crate::spins::{ScriptEnd, SpentSpin, end_of_script};
 use lexer::{first_words, index, next_line};
 use one_order::Answer;
 use script::Line;
@@ -83,25 +85,29 @@ fn at_lines<A: Allocator>(
     Ok(lines)
 }
 
-/// The spins of a processor's script that ran out of loads, by the answers that it had, each with its
-/// line in the text of the scripts, from 1.
-///
-/// Errors: memory was refused.
-pub fn spent_lines<A: Allocator + Copy>(
+/// What became of a processor's script, by the answers that it had; each spin that ran out of loads
+/// has its line in the text of the scripts, from 1.
+pub(crate) fn end_at_lines<A: Allocator + Copy>(
     alloc: A,
     processor: u32,
     text: &[u8],
     script: &[Line],
     answers: &[Answer],
-) -> Result<Vec<SpentSpin, A>, AllocError>
-    ensures { IfOk result (λ spins. spins.items
+) -> Result<ScriptEnd<A>, AllocError>
+    ensures spins { IfOk result (λ end. end.spins.items
         ≡ spent_lines processor (lines text.now) script.now answers.now) }
+    ensures answered { IfOk result
+        (λ end. end.is_answered ≡ are_answered script.now (replies_in answers.now)) }
 {
     let replies = replies_in(alloc, answers)?;
-    let spins = spent_spins(alloc, script, &replies)?;
-    if spins.is_empty() {
-        return Ok(spins);
+    let end = end_of_script(alloc, script, &replies)?;
+    if end.spins.is_empty() {
+        return Ok(end);
     }
     let numbers = numbers_of(alloc, processor, text)?;
-    at_lines(alloc, &numbers, &spins)
+    let spins = at_lines(alloc, &numbers, &end.spins)?;
+    Ok(ScriptEnd {
+        spins,
+        is_answered: end.is_answered,
+    })
 }

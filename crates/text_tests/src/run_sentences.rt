@@ -1,37 +1,76 @@
-use sentences::{Course, EndSentence, EndedSpin, SpinSentence, told};
+use packet::{Op, Reply};
+use sentences::{Answer, Course, EndSentence, EndedSpin, SpinSentence, ended_in_text_order};
 use std::alloc::Global;
 use std::process::Abort;
 use std::test::Fail;
 
-/// A script of three processors: two spins, of which the second finds its number at its second load,
-/// and a fence between operations.
-const SCRIPT: &[u8] =
-    b"# spins\n0 store 5 17\n1 spin 5 18 2\n\n2 spin 5 17 4\n1 fence\n1 add 6 1\n2 load 6\n";
+/// A machine of four tiles.
+const MACHINE: &[u8] = b"radix 2 2\ndims 2\ndepth 1\ntags 1\nwords 8\n";
 
-/// The report of a run in which processor 1's spin ran out, and the last load isn't answered.
-const REPORT: &[u8] =
-    b"torusmem 1\nshape 2 2 8\nentry 1 0 0 0 store 5 17 ok\nanswer 0 0 1 0 ok\nanswer 1 0 1 1 0\n\
-        answer 1 1 1 2 17\nanswer 1 2 2 0 0\nanswer 2 0 1 3 0\nanswer 2 1 1 4 17\nend incomplete\n";
+/// A script of three processors: two spins, of which the second finds its number at its second load,
+/// and a fence between operations; and two spins more, of which one lacks its last answer.
+const SCRIPT: &[u8] =
+    b"# spins\n0 store 5 17\n1 spin 5 18 2\n\n2 spin 5 17 4\n1 fence\n1 add 6 1\n2 load 6\n\
+        3 spin 5 0 2\n0 spin 5 18 1\n";
+
+/// An answer to an operation, with this word.
+fn answer(index: u32, word: u64) -> Answer {
+    Answer {
+        index,
+        op: Op::Load,
+        reply: Reply::Old(word),
+        bank: 1,
+        place: 0,
+    }
+}
 
 #[test]
-fn a_spin_that_ran_out(rt: HostRuntime) -> Result<(), Fail> {
-    let told = told(rt.alloc(), SCRIPT, REPORT)?;
-    assert_eq!(rt; told.spins.len(), 1);
-    for spin in told.spins.iter() {
-        let found = (spin.processor, spin.line, spin.loads, spin.wanted);
-        assert_eq!(rt; found, (1, 3, 2, 18));
+fn spins_that_ran_out(rt: HostRuntime) -> Result<(), Fail> {
+    let first = [
+        Answer {
+            index: 0,
+            op: Op::Store(17),
+            reply: Reply::Ok,
+            bank: 1,
+            place: 0,
+        },
+        answer(1, 17),
+    ];
+    // Answers of different banks come in any order.
+    let second = [answer(2, 0), answer(0, 0), answer(1, 17)];
+    let third = [answer(0, 0), answer(1, 17)];
+    let fourth = [answer(0, 17)];
+    let answers = [
+        first.as_slice(),
+        second.as_slice(),
+        third.as_slice(),
+        fourth.as_slice(),
+    ];
+    let ended = ended_in_text_order(rt.alloc(), MACHINE, SCRIPT, &answers)?;
+    let mut found = [(0, 0, 0, 0, 0); 2];
+    assert_eq!(rt; ended.spins.len(), 2);
+    for (at, spin) in ended.spins.iter().enumerate() {
+        found[at] = (
+            spin.processor,
+            spin.line,
+            spin.address,
+            spin.loads,
+            spin.wanted,
+        );
     }
-    assert_eq!(rt; told.unfinished, 1);
-    assert_eq!(rt; told.answered, 6);
+    assert_eq!(rt; found, [(1, 3, 5, 2, 18), (0, 10, 5, 1, 18)]);
+    assert_eq!(rt; ended.unfinished, 2);
+    assert_eq!(rt; ended.answered, 8);
     Ok(())
 }
 
 #[test]
 fn nothing_to_tell(rt: HostRuntime) -> Result<(), Fail> {
-    let told = told(rt.alloc(), b"", b"torusmem 1\nshape 2 1 8\nend complete\n")?;
-    assert!(rt; told.spins.is_empty());
-    assert_eq!(rt; told.unfinished, 0);
-    assert_eq!(rt; told.answered, 0);
+    let none: &[Answer] = &[];
+    let ended = ended_in_text_order(rt.alloc(), MACHINE, b"", &[none, none, none, none])?;
+    assert!(rt; ended.spins.is_empty());
+    assert_eq!(rt; ended.unfinished, 0);
+    assert_eq!(rt; ended.answered, 0);
     Ok(())
 }
 
@@ -87,6 +126,7 @@ fn a_spin_in_words(rt: HostRuntime) -> Result<(), Fail> {
     let spin = EndedSpin {
         processor: 5,
         line: 7,
+        address: 9,
         loads: 400,
         wanted: 64,
     };

@@ -7,6 +7,7 @@ use command_line::Job;
 use command_verdicts::{Judged, linearize_text, network_text, report_text};
 use program_fault::{ProgramFault, Texts};
 use report_lines::Out;
+use run_command::Ending;
 use schedule_commands::{draw_text, moves_text, schedule_text};
 use std::alloc::Global;
 use std::rt::Clock;
@@ -26,13 +27,14 @@ pub(crate) enum Outcome {
     Judged(Judged, u32),
 }
 
-/// The answer of the job.
-pub(crate) fn answer<R: Eprint + Clock + AllocGlobal + Threads + Wait + Sync, W: Out>(
+/// The answer of the job; `ending` is shown what a run reached.
+pub(crate) fn answer<R: Eprint + Clock + AllocGlobal + Threads + Wait + Sync, W: Out, E: Ending>(
     rt: &R,
     job: &Job,
     texts: &Texts,
     is_seen: bool,
     out: &mut W,
+    ending: &mut E,
 ) -> Result<Outcome, ProgramFault>
     requires { AreJobLimits job.now }
 {
@@ -50,7 +52,7 @@ pub(crate) fn answer<R: Eprint + Clock + AllocGlobal + Threads + Wait + Sync, W:
         }
         Job::Run { workers, turns, .. } => {
             let (workers, turns) = (workers as usize, u64::from(turns));
-            by_workers(rt, texts, workers, turns, is_seen, out)
+            by_workers(rt, texts, workers, turns, is_seen, out, ending)
         }
         _ => moved(scheduled(alloc, job, texts, out)),
     }

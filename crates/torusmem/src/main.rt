@@ -9,9 +9,10 @@ mod talking;
 mod telling;
 
 use answering::{Outcome, answer};
-use command_jobs::{done, fault_told, flushed, tell_end_of, texts_of, version_told, writer};
+use command_jobs::{
+    RunEnd, done, fault_told, flushed, tell_end_of, texts_of, version_told, writer,
+};
 use command_line::{Job, Request, asks_version, request_told, words_told};
-use error_lines::Kept;
 use program_fault::{ProgramFault, Texts};
 use report_lines::Piped;
 use std::io::{Input, IsTerminal};
@@ -94,13 +95,13 @@ fn printed<R: Input + Print + Eprint + Clock + AllocGlobal + Threads + Wait + Sy
         return Ok(Outcome::Talked);
     }
     let is_told = request.explain || is_seen;
+    let mut end = RunEnd::new(rt.alloc(), is_told, &texts.first, &texts.second);
     let mut writer = writer(rt)?;
-    let mut out = Kept::new(Piped::new(&mut writer), Vec::new(rt.alloc()), is_told);
-    let outcome = answer(rt, &request.job, texts, is_seen, &mut out)?;
-    let report = out.into_kept();
+    let mut out = Piped::new(&mut writer);
+    let outcome = answer(rt, &request.job, texts, is_seen, &mut out, &mut end)?;
     flushed(&mut writer)?;
     if let Outcome::Ran(ended) = outcome {
-        tell_end_of(rt, &request.job, texts, report, ended);
+        tell_end_of(rt, &request.job, &end, ended);
     }
     Ok(outcome)
 }

@@ -5,20 +5,25 @@ use crate::answering::Outcome;
 use command_jobs::Ended;
 use program_fault::{ProgramFault, Texts};
 use report_lines::Out;
-use run_command::{Open, TurnsLine, run_text_with};
+use run_command::{Ending, Open, TurnsLine, run_text_with};
 use sentences::Course;
 use std::rt::Clock;
 use std::sync::Wait;
 use std::thread::Threads;
 
 /// Runs the scripts by so many workers, each with at most so many turns, and prints the report.
-pub(crate) fn by_workers<R: Eprint + Clock + AllocGlobal + Threads + Wait + Sync, W: Out>(
+pub(crate) fn by_workers<
+    R: Eprint + Clock + AllocGlobal + Threads + Wait + Sync,
+    W: Out,
+    E: Ending,
+>(
     rt: &R,
     texts: &Texts,
     workers: usize,
     turns: u64,
     is_seen: bool,
     out: &mut W,
+    ending: &mut E,
 ) -> Result<Outcome, ProgramFault>
     requires workers { (1 ≤ workers) × (workers ≤ 16) }
     requires turns { (1 ≤ turns) × (turns ≤ 1000000000) }
@@ -35,6 +40,7 @@ pub(crate) fn by_workers<R: Eprint + Clock + AllocGlobal + Threads + Wait + Sync
         &Open,
         &line,
         out,
+        ending,
     )?;
     Ok(Outcome::Ran(Ended {
         finished,

@@ -1,19 +1,18 @@
 //! The spins of the scripts that ran out of loads, as C sees them.
 
-ghost use Rattle.std.specs.Prelude.{◌≡◌, ◌⊎◌, ◌++◌, IfOk, None, OnOk, map};
+ghost use Rattle.std.specs.Prelude.{◌≡◌, ◌⊎◌, IfOk, None, map};
 ghost use Rattle.std.specs.Str.Lines.{lines};
-ghost use Rattle.script.specs.Outcome.{Gives};
 ghost use Rattle.machine_handle.specs.Held.{held};
+ghost use Rattle.sentences.specs.Told.{scripts_read};
 ghost use Rattle.torusmem_c.specs.Held.{OnHeld};
 ghost use Rattle.torusmem_c.specs.Room.{LacksMemory};
-ghost use Rattle.torusmem_c.specs.Spins.{PutsSpins, TellsSpins, scripts_by, spin_record, spins_in, spins_of};
+ghost use Rattle.torusmem_c.specs.Spins.{PutsSpins, TellsSpins, spin_record};
 
 use crate::outcome::{Outcome, fault_outcome, no_memory};
 use crate::room::put_over;
 use machine_handle::Handle;
-use machine_report::Machine;
-use script::{LineFault, Scripts, read_machine, read_scripts};
-use sentences::{SpentSpin, spent_lines};
+use machine_report::{Machine, answers_of};
+use sentences::{EndedSpin, ended_scripts};
 use std::alloc::{AllocError, Global};
 
 /// A spin that ran out of loads: its processor, its line in the scripts text, from 1, and the number
@@ -29,81 +28,27 @@ pub struct SpinRecord {
 }
 
 /// What C sees of a spin that ran out of loads.
-fn spin_record(processor: u32, spin: SpentSpin) -> SpinRecord
-    ensures { result ≡ spin_record processor spin }
+fn spin_record(spin: EndedSpin) -> SpinRecord
+    ensures { result ≡ spin_record spin }
 {
     SpinRecord {
-        processor,
+        processor: spin.processor,
         address: spin.address,
         loads: spin.loads,
-        line: spin.place,
-        sought: spin.sought,
+        line: spin.line,
+        sought: spin.wanted,
     }
 }
 
-/// The scripts of a text for the machine of a text.
-///
-/// Errors: the first fault of the texts, taken in this order, or out of memory.
-fn scripts_by(alloc: Global, machine: &[u8], scripts: &[u8]) -> Result<Scripts, LineFault>
-    ensures { Gives (λ s. s) result (scripts_by (lines machine.now) (lines scripts.now)) }
+/// What C sees of spins that ran out of loads.
+fn records_of(alloc: Global, spins: &[EndedSpin]) -> Result<Vec<SpinRecord>, AllocError>
+    ensures { IfOk result (λ records. records.items ≡ map spin_record spins.now) }
 {
-    let machine = read_machine(alloc, machine)?;
-    read_scripts(alloc, scripts, &machine)
-}
-
-/// Adds what C sees of some spins of a processor.
-fn add_records(
-    found: &mut Vec<SpinRecord>,
-    processor: u32,
-    spins: &[SpentSpin],
-) -> Result<(), AllocError>
-    ensures { OnOk result
-        (found.new.items ≡ found.old.items ++ map (spin_record processor) spins.now) }
-{
-    for at in 0..spins.len() {
-        found.push(spin_record(processor, spins[at]))?;
+    let mut records = Vec::new(alloc);
+    for spin in spins {
+        records.push(spin_record(*spin))?;
     }
-    Ok(())
-}
-
-/// Adds the spins of a processor that ran out of loads.
-fn add_spins(
-    alloc: Global,
-    found: &mut Vec<SpinRecord>,
-    machine: &Machine,
-    scripts: &Scripts,
-    text: &[u8],
-    processor: u32,
-) -> Result<(), AllocError>
-    ensures { OnOk result (found.new.items ≡ found.old.items
-        ++ spins_of scripts.now.lists (lines text.now) machine.now processor) }
-{
-    let Some(script) = scripts.lines(processor) else {
-        return Ok(());
-    };
-    let Some(answers) = machine.answers(processor) else {
-        return Ok(());
-    };
-    let spins = spent_lines(alloc, processor, text, script, answers)?;
-    add_records(found, processor, spins.as_slice())
-}
-
-/// The spins of all processors that ran out of loads, by the answers that they have.
-fn spins_in(
-    alloc: Global,
-    machine: &Machine,
-    scripts: &Scripts,
-    text: &[u8],
-) -> Result<Vec<SpinRecord>, AllocError>
-    ensures { IfOk result (λ found. found.items
-        ≡ spins_in scripts.now.lists (lines text.now) machine.now) }
-{
-    let mut found = Vec::new(alloc);
-    let tiles = machine.torus().tiles();
-    for processor in 0..tiles {
-        add_spins(alloc, &mut found, machine, scripts, text, processor)?;
-    }
-    Ok(found)
+    Ok(records)
 }
 
 /// Puts the spins that ran out of loads into a buffer, unless memory is refused.
@@ -114,15 +59,18 @@ fn put_spins(
     scripts: &[u8],
     out: &mut [SpinRecord],
 ) -> Outcome
-    ensures { TellsSpins (scripts_by (lines machine.now) (lines scripts.now)) (lines scripts.now)
+    ensures { TellsSpins (scripts_read (lines machine.now) (lines scripts.now)) (lines scripts.now)
         held.now out.old out.new result ⊎ LacksMemory out.old out.new result }
 {
-    let read = match scripts_by(alloc, machine, scripts) {
-        Ok(read) => read,
+    let Ok(answers) = answers_of(alloc, held) else {
+        return no_memory();
+    };
+    let ended = match ended_scripts(alloc, machine, scripts, &answers) {
+        Ok(ended) => ended,
         Err(fault) => return fault_outcome(fault),
     };
-    match spins_in(alloc, held, &read, scripts) {
-        Ok(found) => put_over(found.as_slice(), out),
+    match records_of(alloc, &ended.spins) {
+        Ok(records) => put_over(records.as_slice(), out),
         Err(_) => no_memory(),
     }
 }

@@ -2,5 +2,8 @@
 use Rattle.std.proofs.Common.{sym}
 use Rattle.command_jobs.proofs.answering.answer.Goals as goal
 
-pub returns-in-Round : goal.returns-in-Round
-returns-in-Round g c = rw c.in-Round.is rw (sym c.from.ensures) c.in_rounds.ensures
+pub returns-in-Round-clause-answers : goal.returns-in-Round-clause-answers
+returns-in-Round-clause-answers g c = rw c.in-Round.is rw (sym c.from.ensures) c.in_rounds.ensures.prints
+
+pub returns-in-Round-clause-ends : goal.returns-in-Round-clause-ends
+returns-in-Round-clause-ends g c = rw c.in-Round.is rw (sym c.from.ensures) c.in_rounds.ensures.ends

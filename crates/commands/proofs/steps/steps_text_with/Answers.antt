@@ -4,7 +4,8 @@ use Rattle.std.proofs.lemmas.Result.{err_from_is_err_and}
 use Rattle.std.specs.Str.Lines.{lines}
 use Rattle.script.specs.declared.fault.LineFault.{LineFault}
 use Rattle.program_fault.specs.Outcome.{IsReadFault, IsTextsFault}
-use Rattle.commands.specs.Run.{Asked, IsNoFault, IsOfMachine, IsRunText, asked_of}
+use Rattle.commands.specs.Ends.{IsShown}
+use Rattle.commands.specs.Run.{Asked, HasRun, IsNoFault, IsOfMachine, IsRunText, asked_of}
 use Rattle.commands.specs.Telling.{AreStepsCalls}
 use Rattle.commands.proofs.Asked.{does_more, run_printed}
 use Rattle.commands.proofs.Telling.{none_told, steps_told}
@@ -28,3 +29,16 @@ returns-clause-told g c =
     let asked : Result Asked LineFault = asked_of (lines c.args.machine.now) (lines c.args.scripts.now) (lines c.args.steps.now) in
     steps_told asked c.in_ok-machine.moves c.in_ok-machine.ensures.moved (g.P.Progress.heard c.args.progress.now) (g.P.Progress.heard c.ended.new.self)
     c.ended.ensures (IsOfMachine c.in_ok-machine.machine) _ _ c.print_run.result c.print_run.ensures
+
+pub returns-clause-ends : goal.returns-clause-ends
+returns-clause-ends g c =
+    let asked : Result Asked LineFault = asked_of (lines c.args.machine.now) (lines c.args.scripts.now) (lines c.args.steps.now) in
+    does_more (IsOfMachine c.in_ok-machine.machine) (IsShown (HasRun asked) (g.E.Ending.saw c.shown.new.self)) IsNoFault (IsTextsFault asked) _ _
+    c.print_run.result
+    (λ finished text printed. record {
+      end = c.in_ok-machine.machine;
+      is = c.in_ok-machine.ensures.ok;
+      report = printed.is;
+      seen = c.shown.ensures;
+    })
+    (λ e h. absurd h) c.print_run.ensures

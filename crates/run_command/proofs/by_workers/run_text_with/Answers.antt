@@ -7,6 +7,7 @@ use Rattle.order_abstract.specs.Load.{Load}
 use Rattle.program_fault.specs.Outcome.{IsReadFault, IsTextsFault}
 use Rattle.commands.specs.Run.{IsNoFault}
 use Rattle.machine_core.specs.Loading.{HasLoaded, load_by}
+use Rattle.run_command.specs.Ends.{IsShownEnd}
 use Rattle.run_command.specs.Workers.{IsMadeByWorkers, IsOfEnded, IsWorkersText}
 use Rattle.commands.proofs.Asked.{does_more}
 use Rattle.run_command.proofs.ByWorkers.{workers_printed}
@@ -36,3 +37,19 @@ returns-in_err-machine-clause-told g c =
     let asked : Result Load LineFault = load_by (lines c.args.machine.now) (lines c.args.scripts.now) in
     rw p.1 (no_workers_told asked c.args.workers c.args.turns (g.V.Watch.over c.args.watch.now) p.0
     (subst (IsReadFault asked) (sym p.2) c.in_err-machine.ensures.err))
+
+pub returns-clause-ends : goal.returns-clause-ends
+returns-clause-ends g c =
+    let asked : Result Load LineFault = load_by (lines c.args.machine.now) (lines c.args.scripts.now) in
+    let loaded : HasLoaded asked c.in_ok-machine.machine = c.in_ok-machine.ensures.ok in
+    does_more (IsOfEnded c.in_ok-end.end) (IsShownEnd asked c.args.workers c.args.turns (g.E.Ending.saw c.shown.new.self)) IsNoFault (IsTextsFault asked) _ _
+    c.print_end.result
+    (λ finished text printed. record {
+      load = loaded.load;
+      read = loaded.read;
+      end = c.in_ok-end.end;
+      made = c.in_ok-end.ensures.run loaded.load loaded.after;
+      report = printed.is;
+      seen = c.shown.ensures;
+    })
+    (λ e h. absurd h) c.print_end.ensures
