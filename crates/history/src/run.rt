@@ -21,7 +21,7 @@ fn lines_of_final<A: Allocator + Copy, B: Allocator>(
     ensures good { IfOk result (λ report. GoodReport (text_of report)) }
 {
     let ended = Ended { last };
-    let report = lines_with(alloc, &ended, Vec::new(alloc))?;
+    let report = lines_with(alloc, &ended, &[])?;
     goodness(&ended, &report);
     Ok(report)
 }

@@ -1,4 +1,5 @@
 pub mod RowMore
+pub mod Told
 pub mod Limits
 pub mod Fitting
 pub mod Mapped

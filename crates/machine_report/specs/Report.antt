@@ -8,8 +8,8 @@ use Rattle.report_lines.specs.declared.line.OrderLine.{OrderLine}
 use Rattle.report_lines.specs.declared.line.ReportLine.{ReportLine}
 use Rattle.report_lines.specs.declared.parts.EntryRow.{EntryRow}
 use Rattle.report_lines.specs.declared.parts.AnswerRow.{AnswerRow}
-use Rattle.report_lines.specs.declared.parts.Parts.{Parts}
-use Rattle.report_lines.specs.Contents.{items_of, report_lines_of}
+use Rattle.report_lines.specs.Contents.{report_lines_of}
+use Rattle.report_lines.specs.Parts.{Contents, lines_of_contents}
 use Rattle.one_order.specs.Observed.{Observed, event_count}
 use Rattle.core_machine.specs.Machine.{Core, shown, all_finished}
 
@@ -49,25 +49,25 @@ report_of shape opening seen rows finished =
 abbrev pub machine_report : Core → List ReportLine
 machine_report c = report_of c.shape c.opening (shown c) c.book.rows (all_finished c.state)
 
+-- what is reported of a machine, with these order lines
+abbrev pub contents_with : Core → List OrderLine → Contents
+contents_with c order = record {
+  shape = c.shape;
+  opening = c.opening;
+  entries = map (map entry_row) (shown c).entries;
+  answers = map (map answer_row) (shown c).answers;
+  last = (shown c).memory;
+  order = order;
+  finished = all_finished c.state;
+}
+
 -- the report of a machine, with these order lines
 abbrev pub report_with : Core → List OrderLine → List ReportLine
-report_with c order = report_lines_of c.shape c.opening (map (map entry_row) (shown c).entries)
-    (map (map answer_row) (shown c).answers) (shown c).memory order (all_finished c.state)
+report_with c order = lines_of_contents (contents_with c order)
 
 -- the report of a machine, without order lines or with those of its one order
 abbrev pub IsReportOf : Core → List ReportLine → Type 0
 IsReportOf c lines = (lines ≡ report_with c []) ⊎ (lines ≡ machine_report c)
-
--- these are the parts of the report of a machine, with these order lines
-pub record IsMadeOf {A : Type 0} (c : Core) (lines : List OrderLine) (parts : Parts A) : Type 0
-  where
-    pub torus : parts.torus ≡ c.shape
-    pub opening : parts.opening.items ≡ c.opening
-    pub entries : items_of parts.entries.items ≡ map (map entry_row) (shown c).entries
-    pub answers : items_of parts.answers.items ≡ map (map answer_row) (shown c).answers
-    pub last : parts.last.items ≡ (shown c).memory
-    pub order : parts.order.items ≡ lines
-    pub finished : parts.finished ≡ all_finished c.state
 
 -- a machine has a bank and a processor for each of at most 64 tiles, a word for each of at most
 -- 65536 addresses, at most 65536 entries in each bank, and at most 196608 events (this project's

@@ -3,8 +3,8 @@
 
 pub mod answers;
 pub mod reached;
-mod rows;
 pub mod run;
+mod told;
 
 pub use answers::answers_of;
 pub use machine_core::{Answer, Entry, Machine};

@@ -1,16 +1,16 @@
 //! The reports of what is reached, and of a machine.
 
-ghost use Rattle.std.specs.Prelude.{◌≡◌, IfErr, IfOk};
+ghost use Rattle.std.specs.Prelude.{◌≡◌, IfErr, IfOk, map};
 ghost use Rattle.report_lines.specs.Line.{text_of};
 ghost use Rattle.report_check.specs.Good.{GoodReport};
-ghost use Rattle.machine_report.specs.Report.{IsMadeOf, IsReportOf, IsWithinLimits, machine_report, report_with};
+ghost use Rattle.machine_report.specs.Report.{IsReportOf, IsWithinLimits, machine_report, order_line, report_with};
 
 use crate::reached::Reached;
-use crate::rows::{bank_rows, last_words, opening_words, order_lines, processor_rows};
-use machine_core::Machine;
+use crate::told::Told;
+use machine_core::{Machine, Ordered};
 use report_check::good_laws::contents_are_good;
 use report_check::numbers_fit;
-use report_lines::{OrderLine, Parts, Report};
+use report_lines::Report;
 use std::alloc::{AllocError, Allocator};
 use torus::Fault;
 
@@ -21,45 +21,19 @@ fn limits<S: Reached>(reached: &S)
     reached.reports_well();
 }
 
-/// The parts of a report with these order lines.
-fn parts_of<A: Allocator + Copy, S: Reached>(
-    alloc: A,
-    reached: &S,
-    order: Vec<OrderLine, A>,
-) -> Result<Parts<A>, AllocError>
-    requires { IsWithinLimits (S.core reached.now) }
-    ensures { IfOk result (λ parts. IsMadeOf (S.core reached.now) order.items parts) }
-{
-    let torus = *reached.torus();
-    let opening = opening_words(alloc, reached)?;
-    let entries = bank_rows(alloc, reached, torus.tiles())?;
-    let answers = processor_rows(alloc, reached, torus.tiles())?;
-    let last = last_words(alloc, reached)?;
-    let finished = reached.finished();
-    Ok(Parts {
-        torus,
-        opening,
-        entries,
-        answers,
-        last,
-        order,
-        finished,
-    })
-}
-
-/// The report of what is reached, with these order lines.
+/// The report of what is reached, with the lines of these rows of the one order.
 ///
 /// Errors: out of memory alone.
 pub fn lines_with<A: Allocator + Copy, S: Reached>(
     alloc: A,
     reached: &S,
-    order: Vec<OrderLine, A>,
+    order: &[Ordered],
 ) -> Result<Report<A>, AllocError>
-    ensures { IfOk result (λ report. report ≡ report_with (S.core reached.now) order.items) }
+    ensures { IfOk result
+        (λ report. report ≡ report_with (S.core reached.now) (map order_line order.now)) }
 {
     limits(reached);
-    let parts = parts_of(alloc, reached, order)?;
-    Report::of_parts(alloc, &parts)
+    Report::of_shown(alloc, &Told { reached, order })
 }
 
 /// The report of what is reached, with its one order or without order lines, is a good one.
@@ -83,8 +57,7 @@ fn lines_of_run<A: Allocator + Copy, B: Allocator>(
     let Ok(rows) = machine.order(alloc) else {
         return Err(AllocError);
     };
-    let order = order_lines(alloc, rows.as_slice())?;
-    let report = lines_with(alloc, machine, order)?;
+    let report = lines_with(alloc, machine, rows.as_slice())?;
     goodness(machine, &report);
     Ok(report)
 }

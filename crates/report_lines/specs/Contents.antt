@@ -1,6 +1,6 @@
 -- Which lines the report of given contents has (this project's own format).
-use Rattle.std.specs.Prelude.{ℕ, ◌+◌, ◌==◌, ◌<◌, List, [], ◌∷◌, ◌++◌, Bool, true, false, not, if◌then◌else◌, Option}
-use Rattle.std.specs.Prelude.{Some, None, filter, map, flat_map, fold, max, length, Vec}
+use Rattle.std.specs.Prelude.{ℕ, ◌+◌, ◌==◌, List, [], ◌∷◌, ◌++◌, Bool, true, false, not, if◌then◌else◌, Option}
+use Rattle.std.specs.Prelude.{filter, map, flat_map, fold, max, length, Vec}
 use Rattle.std.specs.List.{list_any, enumerate_from, range_with_len, find}
 use Rattle.std.specs.Option.{option_to_list}
 use Rattle.torus.specs.Shape.{Shape}
@@ -8,8 +8,6 @@ use Rattle.packet.specs.declared.kinds.Op.{Op}
 use Rattle.packet.specs.declared.kinds.Op.TheVariants.{Load, Store, Swap, Cas, Add, And, Or, Xor, Max, Min}
 use Rattle.report_lines.specs.declared.line.Radices.{Radices}
 use Rattle.report_lines.specs.declared.line.Radices.TheVariants.{One, Two, Three}
-use Rattle.report_lines.specs.declared.line.EntryLine.{EntryLine}
-use Rattle.report_lines.specs.declared.line.AnswerLine.{AnswerLine}
 use Rattle.report_lines.specs.declared.line.OrderLine.{OrderLine}
 use Rattle.report_lines.specs.declared.line.ReportLine.{ReportLine}
 use Rattle.report_lines.specs.declared.line.ReportLine.TheVariants as lines
@@ -44,17 +42,29 @@ radices_of (k ∷ []) = One k
 radices_of (j ∷ k ∷ []) = Two j k
 radices_of (j ∷ k ∷ l ∷ _) = Three j k l
 
+-- the words that are not 0, each with its address, from an address on
+abbrev pub set_words_from : ℕ → List ℕ → List (ℕ × ℕ)
+set_words_from address words = filter (λ w. not (w.1 == 0)) (enumerate_from address words)
+
 -- the words that are not 0, each with its address
 abbrev pub set_words : List ℕ → List (ℕ × ℕ)
-set_words words = filter (λ w. not (w.1 == 0)) (enumerate_from 0 words)
+set_words words = set_words_from 0 words
+
+-- a line for each opening word that is not 0, addresses rising from one on
+abbrev pub init_lines_from : ℕ → List ℕ → List ReportLine
+init_lines_from address opening = map (λ w. lines.Init w.0 w.1) (set_words_from address opening)
 
 -- a line for each opening word that is not 0, addresses rising
 abbrev pub init_lines : List ℕ → List ReportLine
-init_lines opening = map (λ w. lines.Init w.0 w.1) (set_words opening)
+init_lines opening = init_lines_from 0 opening
+
+-- a line for each last word that is not 0, addresses rising from one on
+abbrev pub word_lines_from : ℕ → List ℕ → List ReportLine
+word_lines_from address last = map (λ w. lines.Word w.0 w.1) (set_words_from address last)
 
 -- a line for each last word that is not 0, addresses rising
 abbrev pub word_lines : List ℕ → List ReportLine
-word_lines last = map (λ w. lines.Word w.0 w.1) (set_words last)
+word_lines last = word_lines_from 0 last
 
 -- the line of an entry
 abbrev pub entry_line : ℕ → ℕ → EntryRow → ReportLine
@@ -69,9 +79,14 @@ entry_line bank place e =
       reply = e.reply;
     })
 
+-- a line for each entry of a bank, places rising from one on
+abbrev pub bank_lines_from : ℕ → ℕ → List EntryRow → List ReportLine
+bank_lines_from bank place entries =
+    map (λ e. entry_line bank e.0 e.1) (enumerate_from place entries)
+
 -- a line for each entry of a bank, places rising
 abbrev pub bank_lines : ℕ → List EntryRow → List ReportLine
-bank_lines bank entries = map (λ e. entry_line bank e.0 e.1) (enumerate_from 0 entries)
+bank_lines bank entries = bank_lines_from bank 0 entries
 
 -- a line for each entry, banks rising
 abbrev pub entry_lines : List (List EntryRow) → List ReportLine
@@ -88,9 +103,13 @@ answer_line processor a =
       reply = a.reply;
     })
 
+-- one more than the greatest index of some answers, or a number that is greater
+abbrev pub counted_indexes : ℕ → List AnswerRow → ℕ
+counted_indexes count answers = fold (λ n a. max n (a.index + 1)) count answers
+
 -- one more than the greatest index, or 0
 abbrev pub index_count : List AnswerRow → ℕ
-index_count answers = fold (λ n a. max n (a.index + 1)) 0 answers
+index_count answers = counted_indexes 0 answers
 
 -- the answer of an index, where there is one
 abbrev pub answer_row_of : List AnswerRow → ℕ → Option AnswerRow

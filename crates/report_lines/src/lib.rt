@@ -11,6 +11,7 @@ pub mod reading;
 pub mod report;
 mod sections;
 mod shape;
+pub mod shows;
 mod tail;
 pub mod text;
 
@@ -20,4 +21,5 @@ pub use parts::{AnswerRow, EntryRow, Parts};
 pub use reading::read_line;
 pub use report::{Report, write_report};
 pub use sections::is_newer;
+pub use shows::Shows;
 pub use text::{LineText, line_of};

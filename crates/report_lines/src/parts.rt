@@ -1,4 +1,11 @@
+//! The rows of a report, and the parts that it is made of.
+
+ghost use Rattle.std.specs.Prelude.{◌≡◌, [], slice_index_or};
+ghost use Rattle.report_lines.specs.Contents.{items_of};
+ghost use Rattle.report_lines.specs.Parts.{contents_of};
+
 use crate::line::OrderLine;
+use crate::shows::Shows;
 use packet::{Op, Reply};
 use std::alloc::{Allocator, Global};
 use torus::Torus;
@@ -41,4 +48,62 @@ pub struct Parts<A: Allocator = Global> {
     pub order: Vec<OrderLine, A>,
     /// Whether every script is finished.
     pub finished: bool,
+}
+
+/// The list at a place among some lists; none at all past the last one.
+fn row_at<T, A: Allocator>(rows: &[Vec<T, A>], place: u32) -> &[T]
+    ensures { result.now ≡ slice_index_or (items_of rows.now) place [] }
+{
+    match rows.get(place as usize) {
+        Some(row) => row,
+        None => &[],
+    }
+}
+
+impl<A: Allocator> Shows for Parts<A> {
+    ghost contents = { λ parts. contents_of parts };
+
+    fn torus(&self) -> &Torus {
+        &self.torus
+    }
+
+    fn words(&self) -> usize {
+        self.opening.len()
+    }
+
+    fn opening(&self, address: u32) -> Option<u64> {
+        self.opening.get(address as usize).copied()
+    }
+
+    fn entries(&self, bank: u32) -> usize {
+        row_at(&self.entries, bank).len()
+    }
+
+    fn entry(&self, bank: u32, place: usize) -> Option<EntryRow> {
+        row_at(&self.entries, bank).get(place).copied()
+    }
+
+    fn answers(&self, processor: u32) -> usize {
+        row_at(&self.answers, processor).len()
+    }
+
+    fn answer(&self, processor: u32, number: usize) -> Option<AnswerRow> {
+        row_at(&self.answers, processor).get(number).copied()
+    }
+
+    fn word(&self, address: u32) -> Option<u64> {
+        self.last.get(address as usize).copied()
+    }
+
+    fn order_lines(&self) -> usize {
+        self.order.len()
+    }
+
+    fn order_line(&self, number: usize) -> Option<OrderLine> {
+        self.order.get(number).copied()
+    }
+
+    fn finished(&self) -> bool {
+        self.finished
+    }
 }

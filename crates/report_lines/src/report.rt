@@ -1,5 +1,5 @@
-ghost use Rattle.std.specs.Prelude.{◌≡◌, ◌≤◌, All, IfOk, OnOk, OnErr, vec_len};
-ghost use Rattle.report_lines.specs.Parts.{lines_of_parts};
+ghost use Rattle.std.specs.Prelude.{◌≡◌, IfOk, OnOk, OnErr};
+ghost use Rattle.report_lines.specs.Parts.{FitReport, lines_of_contents};
 ghost use Rattle.std.specs.Io.KnownBytes.{Appends};
 ghost use Rattle.report_lines.specs.Line.{text_of};
 ghost use Rattle.report_lines.specs.Taken.{Rose, AppendsFront};
@@ -7,8 +7,8 @@ ghost use Rattle.report_lines.specs.Taken.{Rose, AppendsFront};
 use crate::answers::push_all_answers;
 use crate::line::{Radices, ReportLine};
 use crate::output::{Out, OutputFailed, put_all};
-use crate::parts::Parts;
 use crate::sections::{push_entries, push_inits, push_order, push_words, version_of};
+use crate::shows::Shows;
 use crate::tail::Tail;
 use crate::text::put_line;
 use std::alloc::{AllocError, Allocator, Global};
@@ -37,25 +37,20 @@ impl<A: Allocator + Copy> Report<A> {
         Report { lines }
     }
 
-    /// The report of a shape with its opening words, the entries of each bank, the answers of each
-    /// processor, its last words, the order of service, and whether every script is finished.
-    pub fn of_parts(alloc: A, parts: &Parts<A>) -> Result<Self, AllocError>
-        requires opening { vec_len parts.now.opening ≤ 65536 }
-        requires banks { vec_len parts.now.entries ≤ 64 }
-        requires places { All (λ v. vec_len v ≤ 65536) parts.now.entries.items }
-        requires processors { vec_len parts.now.answers ≤ 64 }
-        requires last { vec_len parts.now.last ≤ 65536 }
-        ensures { IfOk result (λ report. report ≡ lines_of_parts parts.now) }
+    /// The report of what is shown: its lines are made of the rows that are lent, one by one.
+    pub fn of_shown<S: Shows>(alloc: A, shown: &S) -> Result<Self, AllocError>
+        requires { FitReport (S.contents shown.now) }
+        ensures { IfOk result (λ report. report ≡ lines_of_contents (S.contents shown.now)) }
     {
         let mut lines = Vec::new(alloc);
-        lines.push(ReportLine::Header(version_of(&parts.entries)))?;
-        lines.push(ReportLine::Shape(Radices::of_torus(&parts.torus), parts.opening.len() as u32))?;
-        push_inits(&mut lines, &parts.opening)?;
-        push_entries(&mut lines, &parts.entries)?;
-        push_all_answers(alloc, &mut lines, &parts.answers)?;
-        push_words(&mut lines, &parts.last)?;
-        push_order(&mut lines, &parts.order)?;
-        lines.push(ReportLine::End(parts.finished))?;
+        lines.push(ReportLine::Header(version_of(shown)))?;
+        lines.push(ReportLine::Shape(Radices::of_torus(shown.torus()), shown.words() as u32))?;
+        push_inits(&mut lines, shown)?;
+        push_entries(&mut lines, shown)?;
+        push_all_answers(alloc, &mut lines, shown)?;
+        push_words(&mut lines, shown)?;
+        push_order(&mut lines, shown)?;
+        lines.push(ReportLine::End(shown.finished()))?;
         Ok(Report { lines })
     }
 

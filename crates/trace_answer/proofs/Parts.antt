@@ -1,66 +1,68 @@
 -- The parts of the report of an order are within the limits of a report.
-use Rattle.std.proofs.Common.{◌≡◌, Bool, ℕ, ◌<◌, ◌≤◌, List, [], length, Vec, sym, ◌∙◌, ap, arith, slice_index_or, vec_len}
+use Rattle.std.proofs.Common.{◌≡◌, ◌<◌, ◌≤◌, ℕ, All, Bool, List, length, sym, subst, ◌∙◌, ap, arith}
 use Rattle.std.specs.Prelude.{filter, Result, Ok, Err, IfOk}
-use Rattle.std.proofs.lemmas.List.{length-map, get_or-map}
-use Rattle.std.proofs.lemmas.List.FromFn.{length-map-range_with_len}
+use Rattle.std.proofs.lemmas.List.{length-map}
+use Rattle.std.proofs.lemmas.List.FromFn.{get_or-map-range_with_len, length-map-range_with_len}
 use Rattle.std.proofs.lemmas.List.Sums.{length-filter, count_by-le-length}
 use Rattle.packet.proofs.Folds.{length-memory_after}
 use Rattle.torus.specs.Shape.{Shape, IsAccepted}
 use Rattle.report_lines.specs.declared.line.OrderLine.{OrderLine}
 use Rattle.report_lines.specs.declared.line.ReportLine.{ReportLine}
 use Rattle.report_lines.specs.declared.parts.AnswerRow.{AnswerRow}
-use Rattle.report_lines.specs.Parts.{lines_of_parts}
+use Rattle.report_lines.specs.Parts.{FitReport, contents_of, lines_of_parts}
 use Rattle.report_lines.specs.declared.parts.Parts.{Parts}
 use Rattle.report_lines.specs.declared.parts.EntryRow.{EntryRow}
-use Rattle.report_lines.specs.Contents.{items_of, report_lines_of}
+use Rattle.report_lines.specs.Contents.{report_lines_of}
 use Rattle.trace_laws.specs.declared.event.Call.{Call}
 use Rattle.trace_laws.specs.Orders.{operations_of}
 use Rattle.trace_text.specs.Traced.{TraceSpec, opening_of}
 use Rattle.trace_answer.specs.declared.service.Service.{Service}
 use Rattle.trace_answer.specs.declared.times.Times.{Times}
-use Rattle.trace_answer.specs.Contents.{entry_of_service, entries_of_bank, answers_at, is_at_bank}
+use Rattle.trace_answer.specs.Contents.{answers_at, entries_of, entries_of_bank, entry_of_service, is_at_bank}
 use Rattle.trace_answer.specs.Fitting.{IsFit}
 use Rattle.trace_answer.specs.Report.{AreParts, IsReportOfOrder, banks_of, shape_told}
 use Rattle.trace_answer.specs.Times.{AreTimes}
 use Rattle.trace_answer.specs.Services.{service_of, services_told}
 use Rattle.trace_text.proofs.Opening.{length-opening}
-use Rattle.trace_answer.proofs.Lists.{rows_of}
 
 abbrev all_of : TraceSpec → List Times → List Call → List Service
 all_of t times order = services_told t (banks_of t) times order
 
-pub opening_fits : {A : Type 0} (t : TraceSpec) (times : List Times) (order : List Call) (p : Parts A) → IsFit t order → AreParts t times order p
-    → vec_len p.opening ≤ 65536
-opening_fits t times order p fit made =
-    let len = p.opening.ok.0 in let same = ap length made.opening in let few = fit.words in omega (arith, len, same, few, length-opening t)
+-- the entries of each bank are at most as many as the operations
+places_fit : (t : TraceSpec) (times : List Times) (order : List Call) → IsFit t order
+    → All (λ es. length es ≤ 65536) (entries_of (banks_of t) (all_of t times order))
+places_fit t times order fit k d below =
+    let all : List Service = all_of t times order in
+    let inside : k < banks_of t = omega (arith, below, length-map-range_with_len (entries_of_bank all) 0 (banks_of t)) in
+    let rows = get_or-map-range_with_len (entries_of_bank all) 0 (banks_of t) k k d inside (omega arith) in
+    let few = fit.operations in
+    omega (
+      arith,
+      ap length rows,
+      length-map (filter (is_at_bank k) all) entry_of_service,
+      length-filter (is_at_bank k) all,
+      count_by-le-length (is_at_bank k) all,
+      length-map-range_with_len (service_of t (banks_of t) times order) 0 (length order),
+      few,
+    )
 
-pub last_fits : {A : Type 0} (t : TraceSpec) (times : List Times) (order : List Call) (p : Parts A) → IsFit t order → AreParts t times order p
-    → vec_len p.last ≤ 65536
-last_fits t times order p fit made =
-    let len = p.last.ok.0 in
-    let same = ap length made.last in
-    let few = fit.words in
-    omega (arith, len, same, few, length-opening t, length-memory_after (operations_of order) (opening_of t))
-
-banks_are : {A : Type 0} (t : TraceSpec) (times : List Times) (order : List Call) (p : Parts A) → AreParts t times order p
-    → length p.entries.items ≡ banks_of t
-banks_are {A} t times order p made =
-    sym (length-map p.entries.items (λ (v : Vec EntryRow A). v.items))
-    ∙ (ap length made.entries ∙ length-map-range_with_len (entries_of_bank (all_of t times order)) 0 (banks_of t))
-
-pub banks_fit : {A : Type 0} (t : TraceSpec) (times : List Times) (order : List Call) (p : Parts A) → IsAccepted (shape_told t) → AreParts t times order p
-    → vec_len p.entries ≤ 64
-banks_fit t times order p accepted made =
-    let len = p.entries.ok.0 in let few = accepted.tiles in omega (arith, len, few, banks_are t times order p made)
-
-pub processors_fit : {A : Type 0} (t : TraceSpec) (times : List Times) (order : List Call) (p : Parts A) → IsAccepted (shape_told t) → AreParts t times order p
-    → vec_len p.answers ≤ 64
-processors_fit t times order p accepted made =
-    let len = p.answers.ok.0 in
+-- a report has room for the parts
+pub parts_fit : {A : Type 0} (t : TraceSpec) (times : List Times) (order : List Call) (p : Parts A) → IsFit t order → IsAccepted (shape_told t)
+    → AreParts t times order p → FitReport (contents_of p)
+parts_fit t times order p fit accepted made =
     let few = accepted.tiles in
-    let count : length (items_of p.answers.items) ≡ length p.answers.items = length-map p.answers.items (λ v. v.items) in
-    let same = ap length made.answers in
-    omega (arith, len, few, count, same, length-map-range_with_len (answers_at (all_of t times order)) 0 (banks_of t))
+    let opening = ap length made.opening in
+    let words = fit.words in
+    let entries = ap length made.entries in
+    let answers = ap length made.answers in
+    let last = ap length made.last in
+    record {
+      opening = omega (arith, opening, words, length-opening t);
+      banks = omega (arith, few, entries, length-map-range_with_len (entries_of_bank (all_of t times order)) 0 (banks_of t));
+      places = subst (All (λ es. length es ≤ 65536)) (sym made.entries) (places_fit t times order fit);
+      processors = omega (arith, few, answers, length-map-range_with_len (answers_at (all_of t times order)) 0 (banks_of t));
+      last = omega (arith, opening, last, length-memory_after (operations_of order) (opening_of t));
+    }
 
 -- what is so of a value, where there is one
 pub if_ok : {T E : Type 0} (P Q : T → Type 0) (r : Result T E) → ((x : T) → P x → Q x) → IfOk r P → IfOk r Q
@@ -86,24 +88,3 @@ reported t times order p told made lines is = record {
   told = told;
   is = is ∙ lines_same _ _ _ _ _ _ _ _ _ _ _ _ _ _ made.torus made.opening made.entries made.answers made.last made.ordered made.finished;
 }
-
-pub places_fit : {A : Type 0} (t : TraceSpec) (times : List Times) (order : List Call) (p : Parts A) → IsFit t order → AreParts t times order p
-    → (k : ℕ) (d : Vec EntryRow A) → k < length p.entries.items → vec_len (slice_index_or p.entries.items k d) ≤ 65536
-places_fit {A} t times order p fit made k d below =
-    let all : List Service = all_of t times order in
-    let inside : k < banks_of t = omega (arith, banks_are t times order p made) in
-    let len : vec_len (slice_index_or p.entries.items k d) ≡ length (slice_index_or p.entries.items k d).items = (slice_index_or p.entries.items k d).ok.0 in
-    let rows : (slice_index_or p.entries.items k d).items ≡ entries_of_bank all k =
-    sym (get_or-map (λ (v : Vec EntryRow A). v.items) p.entries.items k d [] below)
-    ∙ (ap (λ (yss : List (List EntryRow)). slice_index_or yss k []) made.entries ∙ rows_of (entries_of_bank all) (banks_of t) k inside) in
-    let few = fit.operations in
-    omega (
-      arith,
-      len,
-      ap length rows,
-      length-map (filter (is_at_bank k) all) entry_of_service,
-      length-filter (is_at_bank k) all,
-      count_by-le-length (is_at_bank k) all,
-      length-map-range_with_len (service_of t (banks_of t) times order) 0 (length order),
-      few,
-    )

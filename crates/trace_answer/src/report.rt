@@ -102,7 +102,7 @@ fn report_within<A: Allocator + Copy>(
     let _tiles = torus.tiles();
     let times = times_of(alloc, trace.events(), trace.issued().len())?;
     let parts = parts_of(alloc, trace, torus, &times, order)?;
-    Report::of_parts(alloc, &parts)
+    Report::of_shown(alloc, &parts)
 }
 
 /// The report of an order of a trace is a good one.

@@ -1,7 +1,9 @@
-use Rattle.std.proofs.Common.{◌≡◌, ◌++◌, take}
-use Rattle.report_lines.specs.Contents.{order_lines}
+use Rattle.std.proofs.Common.{◌≡◌, ◌++◌, drop}
+use Rattle.report_lines.proofs.Pieces.{order_from}
 use Rattle.report_lines.proofs.sections.push_order.Given as goal
 
--- the lines of the entries so far are there
-abbrev pub invariant-loop-line : goal.invariant-loop-line
-invariant-loop-line g l = l.lines.items ≡ l.fn.lines.items ++ order_lines (take l.line-index l.order)
+-- the lines so far and those of the services that are left are all the lines
+abbrev pub invariant-loop-number : goal.invariant-loop-number
+invariant-loop-number g l =
+    l.lines.items ++ order_from l.number (drop l.number (g.S.Shows.contents l.shown).order)
+    ≡ l.fn.lines.items ++ order_from 0 (g.S.Shows.contents l.shown).order

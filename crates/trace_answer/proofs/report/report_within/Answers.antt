@@ -6,28 +6,13 @@ use Rattle.trace_text.specs.declared.issued.Issued.{Issued}
 use Rattle.trace_answer.specs.declared.times.Times.{Times}
 use Rattle.trace_answer.specs.Report.{IsReportOfOrder}
 use Rattle.trace_answer.specs.Times.{AreTimes}
-use Rattle.trace_answer.proofs.Parts.{opening_fits, last_fits, banks_fit, processors_fit, places_fit, if_ok, reported}
+use Rattle.trace_answer.proofs.Parts.{if_ok, parts_fit, reported}
 use Rattle.trace_answer.proofs.report.report_within.Goals as goal
 
-pub of_parts-requires-clause-opening : goal.of_parts-requires-clause-opening
-of_parts-requires-clause-opening g c =
-    opening_fits c.args.trace.now c.deref.result.now c.args.order.now c.in_ok-parts.parts c.requires.fit c.in_ok-parts.ensures
-
-pub of_parts-requires-clause-banks : goal.of_parts-requires-clause-banks
-of_parts-requires-clause-banks g c =
-    banks_fit c.args.trace.now c.deref.result.now c.args.order.now c.in_ok-parts.parts (subst IsAccepted c.requires.torus c.tiles-tiles.ensures.accepted) c.in_ok-parts.ensures
-
-pub of_parts-requires-clause-places : goal.of_parts-requires-clause-places
-of_parts-requires-clause-places g c =
-    places_fit c.args.trace.now c.deref.result.now c.args.order.now c.in_ok-parts.parts c.requires.fit c.in_ok-parts.ensures
-
-pub of_parts-requires-clause-processors : goal.of_parts-requires-clause-processors
-of_parts-requires-clause-processors g c =
-    processors_fit c.args.trace.now c.deref.result.now c.args.order.now c.in_ok-parts.parts (subst IsAccepted c.requires.torus c.tiles-tiles.ensures.accepted) c.in_ok-parts.ensures
-
-pub of_parts-requires-clause-last : goal.of_parts-requires-clause-last
-of_parts-requires-clause-last g c =
-    last_fits c.args.trace.now c.deref.result.now c.args.order.now c.in_ok-parts.parts c.requires.fit c.in_ok-parts.ensures
+pub of_shown-requires : goal.of_shown-requires
+of_shown-requires g c =
+    parts_fit c.args.trace.now c.deref.result.now c.args.order.now c.in_ok-parts.parts c.requires.fit
+    (subst IsAccepted c.requires.torus c.tiles-tiles.ensures.accepted) c.in_ok-parts.ensures
 
 pub returns : goal.returns
 returns g c =
@@ -37,7 +22,7 @@ returns g c =
     (subst (λ (es : List Event). AreTimes es (length c.args.trace.now.issued) times) c.events.ensures.value
     (subst (λ (is : List Issued). AreTimes c.events.result.now (length is) times) c.issued.ensures c.in_ok-times.ensures)) in
     record {
-      report = if_ok (λ lines. lines ≡ lines_of_parts c.in_ok-parts.parts) (IsReportOfOrder c.args.trace.now c.args.order.now) c.of_parts.result
+      report = if_ok (λ lines. lines ≡ lines_of_parts c.in_ok-parts.parts) (IsReportOfOrder c.args.trace.now c.args.order.now) c.of_shown.result
           (λ lines is. reported c.args.trace.now c.deref.result.now c.args.order.now c.in_ok-parts.parts told c.in_ok-parts.ensures lines is)
-          c.of_parts.ensures;
+          c.of_shown.ensures;
     }

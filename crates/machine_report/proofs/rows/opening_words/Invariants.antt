@@ -1,6 +1,0 @@
-use Rattle.std.proofs.Common.{◌≡◌, take}
-use Rattle.machine_report.proofs.rows.opening_words.Given as goal
-
--- the words of the addresses so far are there
-abbrev pub invariant-loop-address : goal.invariant-loop-address
-invariant-loop-address g l = l.words.items ≡ take l.address (g.S.Reached.core l.reached).opening

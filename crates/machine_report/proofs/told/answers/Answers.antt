@@ -1,0 +1,9 @@
+use Rattle.std.proofs.Common.{◌∙◌, ap, sym}
+use Rattle.std.specs.Option.{option_copied}
+use Rattle.core_machine.specs.Machine.{shown}
+use Rattle.machine_report.proofs.Told.{none_there}
+use Rattle.machine_report.proofs.told.answers.Goals as goal
+
+pub returns-in-None : goal.returns-in-None
+returns-in-None g c =
+    none_there (shown (g.S.Reached.core c.args.reached.now)).answers c.args.processor (ap option_copied (sym c.in-None.is) ∙ c.answers.ensures)
