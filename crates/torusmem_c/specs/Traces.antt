@@ -19,12 +19,12 @@ abbrev pub numbers_in : List Call → List ℕ
 numbers_in order = map (λ c. c.id) order
 
 -- an order is put into a buffer, as the numbers of its operations; where there is none, the first
--- event up to which there is none is told
-abbrev pub PutsVerdict : {A : Type 0} → Verdict A → List ℕ → List ℕ → Outcome → Type 0
-PutsVerdict (Linearizable order) before after r =
+-- event up to which there is none is answered
+abbrev pub PutsOrder : {A : Type 0} → Verdict A → List ℕ → List ℕ → Outcome → Type 0
+PutsOrder (Linearizable order) before after r =
     (after ≡ put_over (numbers_in order.items) before)
     × (r ≡ put_outcome (numbers_in order.items) before)
-PutsVerdict (No event) before after r =
+PutsOrder (No event) before after r =
     (after ≡ before) × (r ≡ c_outcome code.NotLinearizable event)
 
 -- why a trace is not judged, and at which event
@@ -33,18 +33,18 @@ undecided_outcome undecided.Memory = no_memory
 undecided_outcome (undecided.Configurations event) = c_outcome code.TooMany event
 undecided_outcome (undecided.Operations event) = c_outcome code.TooOpen event
 
--- what is told of a trace that is judged: a verdict that holds of it
+-- the answer on a trace that is judged: a verdict that holds of it
 abbrev pub TellsVerdict : Type 0 → List ℕ → List Event → List ℕ → List ℕ → Outcome → Type 0
 TellsVerdict A opening trace before after r =
-    (v : Verdict A) × Tells opening trace v × PutsVerdict v before after r
+    (v : Verdict A) × Tells opening trace v × PutsOrder v before after r
 
--- what is told of one that isn't: a reason that holds of it; of too many configurations, that a
+-- the answer on one that isn't: a reason that holds of it; on too many configurations, that a
 -- word has more than so many
 abbrev pub TellsUnjudged : List ℕ → List Event → ℕ → List ℕ → List ℕ → Outcome → Type 0
 TellsUnjudged opening trace bound before after r = (why : Undecided) × IsUndecided trace why
     × TellsMany opening trace bound why × (after ≡ before) × (r ≡ undecided_outcome why)
 
--- what is told of the trace that records are, with so many configurations of a word: its verdict,
+-- the answer on the trace that records are, with so many configurations of a word: its verdict,
 -- or why there is none; or the first record that can't stand
 abbrev pub TellsTrace : Type 0 → List ℕ → Result (List Event) LineFault → ℕ → List ℕ → List ℕ
     → Outcome → Type 0

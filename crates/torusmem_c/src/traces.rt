@@ -4,7 +4,7 @@ ghost use Rattle.std.specs.Prelude.{◌≡◌, ◌⊎◌, IfOk, length};
 ghost use Rattle.trace_laws.specs.Traces.{IsTrace};
 ghost use Rattle.trace_records.specs.Gathered.{trace_of};
 ghost use Rattle.torusmem_c.specs.Room.{LacksMemory};
-ghost use Rattle.torusmem_c.specs.Traces.{PutsVerdict, TellsTrace, TellsUnjudged, TellsVerdict, numbers_in};
+ghost use Rattle.torusmem_c.specs.Traces.{PutsOrder, TellsTrace, TellsUnjudged, TellsVerdict, numbers_in};
 ghost use Rattle.torusmem_c.specs.Traces.{undecided_outcome};
 
 use crate::outcome::{Code, Outcome, fault_outcome, no_memory};
@@ -24,7 +24,7 @@ fn numbers_in(alloc: Global, order: &[Call]) -> Result<Vec<u64>, AllocError>
 
 /// Puts an order into a buffer, unless memory is refused, or tells the event up to which there is none.
 fn put_verdict(alloc: Global, verdict: &Verdict<Global>, out: &mut [u64]) -> Outcome
-    ensures { PutsVerdict verdict.now out.old out.new result ⊎ LacksMemory out.old out.new result }
+    ensures { PutsOrder verdict.now out.old out.new result ⊎ LacksMemory out.old out.new result }
 {
     match verdict {
         Verdict::Linearizable(order) => match numbers_in(alloc, order.as_slice()) {
