@@ -9,7 +9,7 @@ use Rattle.program_fault.specs.Done.{Does, Output}
 use Rattle.program_fault.specs.Outcome.{IsTextsFault}
 use Rattle.sentences.specs.declared.scripts.EndedScripts.{EndedScripts}
 use Rattle.sentences.specs.Ended.{IsEndInTextOrder}
-use Rattle.commands.specs.Ends.{HasEndedRounds, IsShown}
+use Rattle.commands.specs.Ends.{HasEndedRounds, ShowsReached}
 use Rattle.commands.specs.Run.{HasRun, asked_of}
 use Rattle.command_line.specs.declared.command.Job.{Job}
 use Rattle.command_line.specs.declared.command.Job.TheVariants.{Steps, Round}
@@ -25,12 +25,12 @@ HasFound machine scripts core found =
 abbrev pub ShowsEnd : Job → Texts → (Core → Type 0) → Output → Output → Result Bool ProgramFault
     → Type 0
 ShowsEnd (Steps machine script steps) texts saw old new result = Does
-    (IsShown (HasRun (asked_of (lines texts.first.items) (lines texts.second.items)
+    (ShowsReached (HasRun (asked_of (lines texts.first.items) (lines texts.second.items)
     (lines texts.third.items))) saw)
     (IsTextsFault (asked_of (lines texts.first.items) (lines texts.second.items)
     (lines texts.third.items))) old new result
 ShowsEnd (Round machine script rounds) texts saw old new result = Does
-    (IsShown (HasEndedRounds (load_by (lines texts.first.items) (lines texts.second.items))
+    (ShowsReached (HasEndedRounds (load_by (lines texts.first.items) (lines texts.second.items))
     rounds) saw)
     (IsTextsFault (load_by (lines texts.first.items) (lines texts.second.items))) old new result
 ShowsEnd _ texts saw old new result = Unit {0}

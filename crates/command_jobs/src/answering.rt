@@ -4,7 +4,7 @@ ghost use Rattle.std.specs.Str.Lines.{lines};
 ghost use Rattle.machine_core.specs.Loading.{load_by};
 ghost use Rattle.program_fault.specs.Done.{Does, output};
 ghost use Rattle.program_fault.specs.Outcome.{IsTextsFault};
-ghost use Rattle.commands.specs.Ends.{HasEndedRounds, IsShown};
+ghost use Rattle.commands.specs.Ends.{HasEndedRounds, ShowsReached};
 ghost use Rattle.commands.specs.Run.{HasRun, PrintsRun, asked_of};
 ghost use Rattle.commands.specs.Rounds.{PrintsRounds};
 ghost use Rattle.command_jobs.specs.Ends.{ShowsEnd};
@@ -106,7 +106,7 @@ fn by_steps<R: Eprint + Clock + AllocGlobal, W: Out, E: Ending>(
         (output (W.taken out.old) (W.failures out.old))
         (output (W.taken out.new) (W.failures out.new)) (finished_in result) }
     ensures ends { Does
-        (IsShown (HasRun (asked_of (lines texts.now.first.items)
+        (ShowsReached (HasRun (asked_of (lines texts.now.first.items)
         (lines texts.now.second.items) (lines texts.now.third.items))) (E.saw ending.new))
         (IsTextsFault (asked_of (lines texts.now.first.items)
         (lines texts.now.second.items) (lines texts.now.third.items)))
@@ -142,7 +142,7 @@ fn in_rounds<R: Eprint + Clock + AllocGlobal, W: Out, E: Ending>(
         (output (W.taken out.old) (W.failures out.old))
         (output (W.taken out.new) (W.failures out.new)) (finished_in result) }
     ensures ends { Does
-        (IsShown (HasEndedRounds
+        (ShowsReached (HasEndedRounds
         (load_by (lines texts.now.first.items) (lines texts.now.second.items)) rounds)
         (E.saw ending.new))
         (IsTextsFault (load_by (lines texts.now.first.items) (lines texts.now.second.items)))

@@ -14,7 +14,7 @@ abbrev pub HasEndedRounds : Result Load LineFault → ℕ → Core → Type 0
 HasEndedRounds asked most c = (load : Load) × (asked ≡ Ok load) × HasMadeRounds load most c
 
 -- a text is the report of the machine that a run reached, and this machine was shown
-pub record IsShown (reached saw : Core → Type 0) (finished : Bool) (text : List ℕ) : Type 0 where
+pub record ShowsReached (reached saw : Core → Type 0) (finished : Bool) (text : List ℕ) : Type 0 where
   pub end : Core
   pub is : reached end
   pub report : text ≡ text_of (machine_report end)

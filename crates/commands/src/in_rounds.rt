@@ -5,7 +5,7 @@ ghost use Rattle.core_machine.specs.Machine.{IsAfter};
 ghost use Rattle.machine_core.specs.Loading.{HasLoaded, load_by};
 ghost use Rattle.program_fault.specs.Done.{Does, output};
 ghost use Rattle.program_fault.specs.Outcome.{IsReadFault, IsTextsFault};
-ghost use Rattle.commands.specs.Ends.{HasEndedRounds, IsShown};
+ghost use Rattle.commands.specs.Ends.{HasEndedRounds, ShowsReached};
 ghost use Rattle.commands.specs.Rounds.{HasMadeRounds, PrintsRounds};
 ghost use Rattle.commands.specs.Calls.{Hears};
 ghost use Rattle.commands.specs.Telling.{AreRoundsCalls, HearsSome, TellsRounds, answered_by, round_calls};
@@ -106,7 +106,7 @@ pub fn round_text_with<A: Allocator + Copy, W: Out, P: Progress, E: Ending>(
     ensures told { TellsRounds (load_by (lines machine.now) (lines scripts.now)) rounds
         (P.heard progress.old) (P.heard progress.new) result }
     ensures ends { Does
-        (IsShown (HasEndedRounds (load_by (lines machine.now) (lines scripts.now)) rounds)
+        (ShowsReached (HasEndedRounds (load_by (lines machine.now) (lines scripts.now)) rounds)
         (E.saw ending.new))
         (IsTextsFault (load_by (lines machine.now) (lines scripts.now)))
         (output (W.taken out.old) (W.failures out.old))

@@ -2,7 +2,7 @@ ghost use Rattle.std.specs.Prelude.{◌≡◌, ◌-◌, IfErr, IfOk};
 ghost use Rattle.std.specs.Str.Lines.{lines};
 ghost use Rattle.program_fault.specs.Done.{Does, output};
 ghost use Rattle.program_fault.specs.Outcome.{IsReadFault, IsTextsFault};
-ghost use Rattle.commands.specs.Ends.{IsShown};
+ghost use Rattle.commands.specs.Ends.{ShowsReached};
 ghost use Rattle.commands.specs.Run.{HasMoved, HasRun, IsOfMachine, IsNoFault, PrintsRun, asked_of};
 ghost use Rattle.commands.specs.Telling.{TellsSteps};
 
@@ -63,7 +63,7 @@ pub fn steps_text_with<A: Allocator + Copy, W: Out, P: Progress, E: Ending>(
     ensures told { TellsSteps (asked_of (lines machine.now) (lines scripts.now) (lines steps.now))
         (P.heard progress.old) (P.heard progress.new) result }
     ensures ends { Does
-        (IsShown (HasRun (asked_of (lines machine.now) (lines scripts.now) (lines steps.now)))
+        (ShowsReached (HasRun (asked_of (lines machine.now) (lines scripts.now) (lines steps.now)))
         (E.saw ending.new))
         (IsTextsFault (asked_of (lines machine.now) (lines scripts.now) (lines steps.now)))
         (output (W.taken out.old) (W.failures out.old))

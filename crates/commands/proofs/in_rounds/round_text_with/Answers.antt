@@ -9,7 +9,7 @@ use Rattle.core_progress.specs.Moves.{moves_made}
 use Rattle.program_fault.specs.Outcome.{IsReadFault, IsTextsFault}
 use Rattle.commands.specs.Run.{IsNoFault, IsOfMachine}
 use Rattle.machine_core.specs.Loading.{HasLoaded, load_by}
-use Rattle.commands.specs.Ends.{HasEndedRounds, IsShown}
+use Rattle.commands.specs.Ends.{HasEndedRounds, ShowsReached}
 use Rattle.commands.specs.Rounds.{HasMadeRounds, IsRoundText}
 use Rattle.commands.specs.Telling.{AreRoundsCalls, AreRunCalls, HearsSome}
 use Rattle.commands.proofs.Asked.{does_more}
@@ -57,7 +57,7 @@ returns-clause-ends g c =
     let asked : Result Load LineFault = load_by (lines c.args.machine.now) (lines c.args.scripts.now) in
     let loaded : HasLoaded asked c.in_ok-machine.machine = c.in_ok-machine.ensures.ok in
     let made : HasMadeRounds loaded.load c.args.rounds c.make_rounds.new.machine = c.make_rounds.ensures.made loaded.load loaded.after in
-    does_more (IsOfMachine c.make_rounds.new.machine) (IsShown (HasEndedRounds asked c.args.rounds) (g.E.Ending.saw c.shown.new.self)) IsNoFault
+    does_more (IsOfMachine c.make_rounds.new.machine) (ShowsReached (HasEndedRounds asked c.args.rounds) (g.E.Ending.saw c.shown.new.self)) IsNoFault
     (IsTextsFault asked) _ _ c.print_run.result
     (λ finished text printed. record {
       end = c.make_rounds.new.machine;

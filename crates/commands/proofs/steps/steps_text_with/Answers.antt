@@ -4,7 +4,7 @@ use Rattle.std.proofs.lemmas.Result.{err_from_is_err_and}
 use Rattle.std.specs.Str.Lines.{lines}
 use Rattle.script.specs.declared.fault.LineFault.{LineFault}
 use Rattle.program_fault.specs.Outcome.{IsReadFault, IsTextsFault}
-use Rattle.commands.specs.Ends.{IsShown}
+use Rattle.commands.specs.Ends.{ShowsReached}
 use Rattle.commands.specs.Run.{Asked, HasRun, IsNoFault, IsOfMachine, IsRunText, asked_of}
 use Rattle.commands.specs.Telling.{AreStepsCalls}
 use Rattle.commands.proofs.Asked.{does_more, run_printed}
@@ -33,7 +33,7 @@ returns-clause-told g c =
 pub returns-clause-ends : goal.returns-clause-ends
 returns-clause-ends g c =
     let asked : Result Asked LineFault = asked_of (lines c.args.machine.now) (lines c.args.scripts.now) (lines c.args.steps.now) in
-    does_more (IsOfMachine c.in_ok-machine.machine) (IsShown (HasRun asked) (g.E.Ending.saw c.shown.new.self)) IsNoFault (IsTextsFault asked) _ _
+    does_more (IsOfMachine c.in_ok-machine.machine) (ShowsReached (HasRun asked) (g.E.Ending.saw c.shown.new.self)) IsNoFault (IsTextsFault asked) _ _
     c.print_run.result
     (λ finished text printed. record {
       end = c.in_ok-machine.machine;
