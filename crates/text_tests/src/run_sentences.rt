@@ -7,8 +7,8 @@ use std::test::Fail;
 /// A machine of four tiles.
 const MACHINE: &[u8] = b"radix 2 2\ndims 2\ndepth 1\ntags 1\nwords 8\n";
 
-/// A script of three processors: two spins, of which the second finds its number at its second load,
-/// and a fence between operations; and two spins more, of which one lacks its last answer.
+/// Scripts of four processors, with four spins: two find nothing, one finds its number at its second
+/// load, and one lacks its last answer; a fence stands between operations.
 const SCRIPT: &[u8] =
     b"# spins\n0 store 5 17\n1 spin 5 18 2\n\n2 spin 5 17 4\n1 fence\n1 add 6 1\n2 load 6\n\
         3 spin 5 0 2\n0 spin 5 18 1\n";
@@ -46,19 +46,18 @@ fn spins_that_ran_out(rt: HostRuntime) -> Result<(), Fail> {
         third.as_slice(),
         fourth.as_slice(),
     ];
-    let ended = ended_in_text_order(rt.alloc(), MACHINE, SCRIPT, &answers)?;
-    let mut found = [(0, 0, 0, 0, 0); 2];
+    let ended = ended_in_text_order(rt.alloc(), MACHINE, SCRIPT, answers.as_slice())?;
     assert_eq!(rt; ended.spins.len(), 2);
     for (at, spin) in ended.spins.iter().enumerate() {
-        found[at] = (
-            spin.processor,
-            spin.line,
-            spin.address,
-            spin.loads,
-            spin.wanted,
-        );
+        let found = (spin.processor, spin.line, spin.loads, spin.wanted);
+        let wanted = if at == 0 {
+            (1, 3, 2, 18)
+        } else {
+            (0, 10, 1, 18)
+        };
+        assert_eq!(rt; found, wanted);
+        assert_eq!(rt; spin.address, 5);
     }
-    assert_eq!(rt; found, [(1, 3, 5, 2, 18), (0, 10, 5, 1, 18)]);
     assert_eq!(rt; ended.unfinished, 2);
     assert_eq!(rt; ended.answered, 8);
     Ok(())
