@@ -1,5 +1,5 @@
 pub mod RowMore
-pub mod Told
+pub mod Rows
 pub mod Limits
 pub mod Fitting
 pub mod Mapped

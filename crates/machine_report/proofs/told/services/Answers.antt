@@ -1,7 +1,7 @@
 use Rattle.std.proofs.Common.{◌∙◌, ap, sym}
 use Rattle.std.specs.Option.{option_copied}
 use Rattle.core_machine.specs.Machine.{shown}
-use Rattle.machine_report.proofs.Told.{none_there}
+use Rattle.machine_report.proofs.Rows.{none_there}
 use Rattle.machine_report.proofs.told.services.Goals as goal
 
 pub returns-in-None : goal.returns-in-None
