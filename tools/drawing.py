@@ -50,14 +50,14 @@ def path(points: Iterable[Point]) -> str:
     return "M" + " L".join(f"{short(x)},{short(y)}" for x, y in points)
 
 
-def svg(width: float, height: float, parts: Iterable[str], named: Optional[Tuple[str, str]] = None) -> str:
+def svg(width: float, height: float, parts: Iterable[str], named: Optional[Tuple[str, str]] = None, unit: str = "") -> str:
     """A picture on a white ground; with a title and a description where it's named, which screen readers say."""
     inside, more = [element("rect", width=width, height=height, fill="#ffffff"), *parts], ""
     if named:
         heads = [element(name, escape(it), id=name) for name, it in zip(("title", "desc"), named)]
         inside, more = [*heads, *inside], ' role="img" aria-labelledby="title desc"'
     return (
-        f'<svg xmlns="http://www.w3.org/2000/svg" width="{short(width)}" height="{short(height)}" '
+        f'<svg xmlns="http://www.w3.org/2000/svg" width="{short(width)}{unit}" height="{short(height)}{unit}" '
         f'viewBox="0 0 {short(width)} {short(height)}" font-family="{SANS}"{more}>\n' + "\n".join(inside) + "\n</svg>\n"
     )
 

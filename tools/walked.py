@@ -3,35 +3,54 @@ from __future__ import annotations
 
 from collections import deque
 from dataclasses import dataclass, field
-from typing import Dict, List, Optional, Set, Tuple
+from typing import Dict, List, NamedTuple, Optional, Set, Tuple
 
 from command import Refusal
 
 Place = Tuple[float, float]
 # What `torusmem network` takes at most.
 MOST_CHANNELS, MOST_EJECTIONS, MOST_PAIRS = 16384, 1024, 1048576
+# How many bytes a name has at most.
+MOST_NAME = 64
+
+
+class Router(NamedTuple):
+    """What a router is called, and where it is drawn."""
+
+    name: str
+    place: Optional[Place] = None
+
+
+class Link(NamedTuple):
+    """The routers from and to which a channel goes, and which virtual channel of its link it is. Of an injection or
+    an ejection channel both are the router at its end."""
+
+    start: int
+    end: int
+    virtual: int = 0
 
 
 @dataclass
 class Network:
-    """Channels with their kinds, pairs, choices and replies, and where each channel is drawn."""
+    """Channels with their kinds, pairs, choices and replies; routers, links and names, which change no verdict."""
 
     kinds: List[str] = field(default_factory=list)
     joins: List[Tuple[int, int]] = field(default_factory=list)
     choices: Dict[Tuple[int, int], int] = field(default_factory=dict)
     replies: List[Tuple[int, int]] = field(default_factory=list)
-    places: Dict[int, Tuple[Place, Place]] = field(default_factory=dict)
+    routers: Dict[int, Router] = field(default_factory=dict)
+    links: Dict[int, Link] = field(default_factory=dict)
+    names: Dict[int, str] = field(default_factory=dict)
     ejections: int = 0
 
-    def channel(self, kind: str, tail: Optional[Place] = None, head: Optional[Place] = None) -> int:
-        """A new channel."""
+    def channel(self, kind: str, start: int, end: int, virtual: int = 0) -> int:
+        """A new channel between these routers."""
         self.kinds.append(kind)
         number = len(self.kinds) - 1
         self.ejections += kind == "eject"
         if number == MOST_CHANNELS or self.ejections > MOST_EJECTIONS:
             raise Refusal(f"the network has more than {MOST_CHANNELS} channels, or {MOST_EJECTIONS} ejection channels")
-        if tail is not None and head is not None:
-            self.places[number] = (tail, head)
+        self.links[number] = Link(start, end, virtual)
         return number
 
     def route(self, channels: List[int]) -> None:
@@ -41,9 +60,14 @@ class Network:
             if self.choices.setdefault((x, channels[-1]), y) != y:
                 raise Refusal(f"two choices behind channel {x} for packets to channel {channels[-1]}")
 
-    def text(self) -> str:
-        """The text of the network."""
+    def text(self, named: bool = False) -> str:
+        """The text of the network; with its routers and links where they are asked for."""
         lines = [f"channels {len(self.kinds)}"]
+        if named:
+            lines += [f"router {r} {it.name}" + ("" if it.place is None else " {:.0f} {:.0f}".format(*it.place))
+                      for r, it in sorted(self.routers.items())]
+            lines += [f"link {x} {it.start} {it.end} {it.virtual}" for x, it in sorted(self.links.items())]
+            lines += [f"name {x} {it}" for x, it in sorted(self.names.items())]
         lines += [f"{kind} {x}" for x, kind in enumerate(self.kinds) if kind != "hop"]
         lines += [f"join {i} {j}" for i, j in self.joins]
         lines += [f"next {x} {j} {y}" for (x, j), y in sorted(self.choices.items())]
@@ -57,17 +81,24 @@ def number_of(word: str) -> int:
 
 
 SHAPES = {"channels": 1, "inject": 1, "eject": 1, "join": 2, "next": 3, "reply": 2}
+# The lines that `torusmem network` of this version doesn't take: how many words each has behind its first.
+NAMES = {"router": (2, 4), "link": (3, 4), "name": (2, 1 << 30)}
 
 
 class Reader:
-    """Takes the lines of a text, as `torusmem network` does. A line that it refuses raises a ValueError that says why."""
+    """Takes the lines of a text, as `torusmem network` does, and those of NAMES. A line that it refuses raises a
+    ValueError that says why."""
 
     def __init__(self) -> None:
         self.net = Network()
         self.given: Set[Tuple[str, ...]] = set()
 
-    def take(self, kind: str, numbers: List[int]) -> None:
+    def take(self, kind: str, words: List[str]) -> None:
         """Takes a line."""
+        if kind in NAMES:
+            self.take_name(kind, words)
+            return
+        numbers = [number_of(word) for word in words]
         if SHAPES.get(kind) != len(numbers) or min(numbers) < 0:
             raise ValueError("no line of a network begins so, or it hasn't so many numbers")
         if (kind == "channels") == bool(self.net.kinds):
@@ -79,6 +110,30 @@ class Reader:
         for it in numbers:
             self.below(it, len(self.net.kinds), "the channel")
         getattr(self, kind)(*numbers)
+
+    def take_name(self, kind: str, words: List[str]) -> None:
+        """Takes a line that names something, or says where it lies."""
+        least, most = NAMES[kind]
+        figures = {"router": words[:1] + words[2:], "link": words, "name": words[:1]}[kind]
+        numbers = [number_of(word) for word in figures]
+        if not least <= len(words) <= most or (kind, len(words)) == ("router", 3) or min(numbers) < 0:
+            raise ValueError("no line of a network begins so, or it hasn't so many numbers")
+        if not self.net.kinds:
+            raise ValueError("`channels` is the first line, and stands once")
+        first, *others = numbers
+        self.below(first, MOST_CHANNELS if kind == "router" else len(self.net.kinds), f"the {'router' if kind == 'router' else 'channel'}")
+        for it in others:
+            self.below(it, MOST_CHANNELS, "a number")
+        self.once(f"the line `{kind}` of", first)
+        name = words[1] if kind == "router" else " ".join(words[1:])
+        if kind != "link" and (len(name.encode()) > MOST_NAME or not name.isprintable()):
+            raise ValueError(f"the name is longer than {MOST_NAME} bytes, or can't be printed")
+        if kind == "router":
+            self.net.routers[first] = Router(name, (float(others[0]), float(others[1])) if others else None)
+        elif kind == "link":
+            self.net.links[first] = Link(*others)
+        else:
+            self.net.names[first] = name
 
     def below(self, number: int, most: int, what: str) -> int:
         if not 0 <= number < most:
@@ -123,13 +178,13 @@ class Reader:
 
 
 def parsed(text: str, path: str) -> Network:
-    """The network of a text. Refused with the first line that `torusmem network` refuses."""
+    """The network of a text. Refused with the first line that `torusmem network` refuses, but for those of NAMES."""
     reader, number = Reader(), 0
     for number, line in enumerate(text.split("\n"), 1):
         words = line.split()
         if words and not words[0].startswith("#"):
             try:
-                reader.take(words[0], [number_of(word) for word in words[1:]])
+                reader.take(words[0], words[1:])
             except ValueError as why:
                 raise Refusal(f"{path}, line {number}: {why}") from None
     if not reader.net.kinds:
