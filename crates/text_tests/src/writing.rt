@@ -1,4 +1,5 @@
-ghost use Rattle.std.specs.Prelude.{◌≤◌, All, IfOk, None, vec_len};
+ghost use Rattle.std.specs.Prelude.{◌≡◌, ◌≤◌, All, IfOk, None, length};
+ghost use Rattle.report_lines.specs.Parts.{FitReport, contents_of};
 
 use arrayvec::ArrayVec;
 use linked_list_allocator::LocalHeap;
@@ -321,8 +322,8 @@ fn banks_of<A: Allocator + Copy>(
     alloc: A,
     told: &Told,
 ) -> Result<Vec<Vec<EntryRow, A>, A>, AllocError>
-    ensures banks { IfOk result (λ banks. vec_len banks ≤ 64) }
-    ensures places { IfOk result (λ banks. All (λ v. vec_len v ≤ 65536) banks.items) }
+    ensures banks { IfOk result (λ banks. length banks.items ≤ 64) }
+    ensures places { IfOk result (λ banks. All (λ v. length v.items ≤ 65536) banks.items) }
 {
     let mut banks = Vec::new(alloc);
     if told.order.is_empty() {
@@ -339,7 +340,7 @@ fn answers_of<A: Allocator + Copy>(
     alloc: A,
     told: &Told,
 ) -> Result<Vec<Vec<AnswerRow, A>, A>, AllocError>
-    ensures { IfOk result (λ answers. vec_len answers ≤ 64) }
+    ensures { IfOk result (λ answers. length answers.items ≤ 64) }
 {
     let mut answers = Vec::new(alloc);
     if told.order.is_empty() {
@@ -349,22 +350,45 @@ fn answers_of<A: Allocator + Copy>(
     Ok(answers)
 }
 
+/// Eight words.
+fn words_of<A: Allocator + Copy>(alloc: A, words: &[u64; 8]) -> Result<Vec<u64, A>, AllocError>
+    ensures { IfOk result (λ list. length list.items ≡ 8) }
+{
+    Vec::from_slice(alloc, words)
+}
+
+/// The parts of the report of what is told.
+fn parts_of<A: Allocator + Copy>(
+    alloc: A,
+    torus: &Torus,
+    told: &Told,
+) -> Result<Parts<A>, AllocError>
+    ensures { IfOk result (λ parts. FitReport (contents_of parts)) }
+{
+    let opening = words_of(alloc, &told.opening)?;
+    let entries = banks_of(alloc, told)?;
+    let answers = answers_of(alloc, told)?;
+    let last = words_of(alloc, &told.last)?;
+    let order = Vec::from_slice(alloc, told.order)?;
+    Ok(Parts {
+        torus: *torus,
+        opening,
+        entries,
+        answers,
+        last,
+        order,
+        finished: told.finished,
+    })
+}
+
 /// The report of what is told.
 fn report_of<A: Allocator + Copy>(
     alloc: A,
     torus: &Torus,
     told: &Told,
 ) -> Result<Report<A>, AllocError> {
-    let parts = Parts {
-        torus: *torus,
-        opening: Vec::from_slice(alloc, &told.opening)?,
-        entries: banks_of(alloc, told)?,
-        answers: answers_of(alloc, told)?,
-        last: Vec::from_slice(alloc, &told.last)?,
-        order: Vec::from_slice(alloc, told.order)?,
-        finished: told.finished,
-    };
-    Report::of_parts(alloc, &parts)
+    let parts = parts_of(alloc, torus, told)?;
+    Report::of_shown(alloc, &parts)
 }
 
 /// Whether an output that takes so many bytes a put takes this text.
