@@ -89,4 +89,6 @@ VERSIONS = [
     ("wrappers/python/pyproject.toml", r'(?m)^version = "(.*?)"'),
     ("wrappers/python/torusmem/__init__.py", r'(?m)^__version__ = "(.*?)"'),
     ("crates/command_line/src/making.rt", r'\.version\("(.*?)"\)'),
+    ("crates/command_jobs/src/version.rt", r'b"torusmem (.*?)\\n"'),
+    ("launcher/words.py", r'(?m)^VERSION = "torusmem (.*?)\\n"'),
 ]

@@ -77,12 +77,12 @@ def call_of(row: Dict[str, str], line: int) -> Tuple[Call, int, Optional[int]]:
     kind, address = row["operation"], address_of(row["address"])
     values = "".join(f" {it}" for it in table.values_of(kind, row["values"].split()))
     call = Call(processor_of(row["processor"]), f"{kind} {address}{values}", address, line)
-    issued = report.number(row["issued"], 0, table.LATEST, "the time `issued`")
+    issued = table.moment(row["issued"], "the time `issued`")
     if not row["answered"]:
         return call, issued, None
     told = table.reply_of(kind, row["reply"])
     call.reply, call.answered = "ok" if told is None else str(told), line
-    answered = report.number(row["answered"], 0, table.LATEST, "the time `answered`")
+    answered = table.moment(row["answered"], "the time `answered`")
     if answered < issued:
         raise BadLine("it is answered before it is issued")
     return call, issued, answered

@@ -17,7 +17,7 @@ from operator import itemgetter
 from typing import Dict, Iterator, List, Optional, Tuple
 
 import command
-from table import Row, written
+from table import Row, moment_text, written
 
 MOST_ENTRIES = 65536
 LATER_KINDS = {"and", "or", "xor", "max", "min"}
@@ -194,9 +194,9 @@ def why_bad(row: Row, word: int, last: Optional[Row]) -> str:
         origin = "as it opens" if last is None else f"line {last[LINE]}"
         return f"reply {reply}, but the word is {word} ({origin})"
     if served < issued:
-        return f"served at {served}, but issued at {issued}"
+        return f"served at {moment_text(served)}, but issued at {moment_text(issued)}"
     if answered is not None and answered < served:
-        return f"served at {served}, but answered at {answered}"
+        return f"served at {moment_text(served)}, but answered at {moment_text(answered)}"
     return ""
 
 

@@ -20,6 +20,8 @@ from report import BadLine, Entry
 COLUMNS = "processor,index,tag,operation,address,values,reply,bank,issued,served,answered".split(",")
 MASK = 2**64 - 1
 LATEST = 10**20 - 1
+# Times are kept in parts of this size, so that those with a point are whole numbers too.
+BILLION = 10**9
 # An operation that was served: its address, the time of its service, its line, the times of its issue and of its
 # answer, its kind, its values as a report spells them, each with a space before it, and its reply as a report does.
 Row = Tuple[int, int, int, int, Optional[int], str, str, str]
@@ -83,6 +85,20 @@ def reply_of(kind: str, word: str) -> int | None:
     return report.number(word, 0, MASK, "the reply") if word != "ok" else None
 
 
+def moment(word: str, what: str) -> int:
+    """The time that a word spells, in billionths: a whole number, or one with one to nine digits behind a point."""
+    whole, point, part = word.partition(".")
+    if point and not (part.isascii() and part.isdigit() and len(part) <= 9):
+        raise BadLine(f"{what} is no number")
+    return report.number(whole, 0, LATEST, what) * BILLION + int(part.ljust(9, "0"))
+
+
+def moment_text(moment: int) -> str:
+    """A time as a table has it."""
+    whole, part = divmod(moment, BILLION)
+    return f"{whole}.{part:09}".rstrip("0") if part else str(whole)
+
+
 def entry_of(fields: list[str], limits: Limits) -> Entry | None:
     """The operation of a row, with its times in place of event numbers, and no place yet; None if it isn't served."""
     if len(fields) != len(COLUMNS):
@@ -91,7 +107,7 @@ def entry_of(fields: list[str], limits: Limits) -> Entry | None:
     if not row["served"] and not row["answered"]:
         return None
     tile = lambda name, word: report.number(word, 0, limits.last_tile(), f"the {name}")
-    time = lambda name: report.number(row[name], 0, LATEST, f"the time `{name}`")
+    time = lambda name: moment(row[name], f"the time `{name}`")
     address = report.number(row["address"], 0, limits.last_address(), "the address")
     kind = row["operation"]
     bank = tile("bank", row["bank"] or str(address % (limits.tiles or 1)))
@@ -195,9 +211,10 @@ class Rows:
             if is_far or (kind, count, reply == "ok") not in PLAIN_KINDS:
                 self.take_all(text.split("\n")[line - before - 1].encode("utf-8"), line - 1)
                 continue
-            end = int(answered) if answered else None
+            end = int(answered) * BILLION if answered else None
             spelled = f" {values}" if values else ""
-            self.served.append((address, int(served), line, int(issued), end, kind, spelled, reply))
+            times = (int(served) * BILLION, line, int(issued) * BILLION, end)
+            self.served.append((address, *times, kind, spelled, reply))
             self.names.append(processor << 64 | int(index))
 
     def take_text(self, text: bytes, before: int) -> None:
