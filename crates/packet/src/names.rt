@@ -1,24 +1,9 @@
 //! The words that name the operations in every text.
 
 ghost use Rattle.std.specs.Prelude.{◌≡◌};
-ghost use Rattle.std.specs.Str.{bytes_eq};
 ghost use Rattle.packet.specs.Names.{arity, code_named, code_word};
 
 use crate::kinds::Code;
-
-/// Every operation, in the order of its number.
-const CODES: [Code; 10] = [
-    Code::Load,
-    Code::Store,
-    Code::Swap,
-    Code::Cas,
-    Code::Add,
-    Code::And,
-    Code::Or,
-    Code::Xor,
-    Code::Max,
-    Code::Min,
-];
 
 impl Code {
     /// The word that names the operation in every text.
@@ -43,12 +28,19 @@ impl Code {
     pub fn named(word: &[u8]) -> Option<Code>
         ensures { result ≡ code_named word.now }
     {
-        for code in CODES {
-            if spells(word, code.word().as_bytes()) {
-                return Some(code);
-            }
+        match word {
+            b"load" => Some(Code::Load),
+            b"store" => Some(Code::Store),
+            b"swap" => Some(Code::Swap),
+            b"cas" => Some(Code::Cas),
+            b"add" => Some(Code::Add),
+            b"and" => Some(Code::And),
+            b"or" => Some(Code::Or),
+            b"xor" => Some(Code::Xor),
+            b"max" => Some(Code::Max),
+            b"min" => Some(Code::Min),
+            _ => None,
         }
-        None
     }
 
     /// How many values stand behind the operation and its address: none to two.
@@ -61,11 +53,4 @@ impl Code {
             _ => 1,
         }
     }
-}
-
-/// Whether a word is this name. Most words differ in length, which is seen at once.
-fn spells(word: &[u8], name: &[u8]) -> bool
-    ensures { result ≡ bytes_eq word.now name.now }
-{
-    word.len() == name.len() && word == name
 }
