@@ -2,9 +2,9 @@
 use Rattle.std.proofs.Common.{◌≡◌, ◌⊎◌, inl, inr, ⊎_elim, ℕ, zero, suc, ◌+◌, ◌-◌, ◌<◌, ◌≤◌, not, Bool, true, false, List, length, refl, sym, ◌∙◌, subst, arith}
 use Rattle.std.specs.Prelude.{slice_index}
 use Rattle.std.proofs.lemmas.Bool.{cases_Bool}
-use Rattle.network_judge.specs.Graph.{Graph}
-use Rattle.network_judge.specs.Search.{look_at, LooksOn, IsCircle}
-use Rattle.network_judge.specs.declared.search.Look.{Look}
+use Rattle.rising.specs.Graph.{Digraph}
+use Rattle.rising.specs.Search.{path_look, StepsOn, IsCircuit}
+use Rattle.rising.specs.declared.search.Look.{Look}
 use Rattle.network_judge.proofs.Chains.{RiseOn, circle_or_ranks}
 use Rattle.network_judge.proofs.Firsts.{any, any_at, any_from, first, fails, none, is_first}
 use Rattle.adaptive.specs.Choices.{AdaptiveNet, IsAdaptiveNet, Comes, ExtendedDependency, HasEscapes, AreReplyEnds, AreRising, ByChoice}
@@ -38,18 +38,18 @@ no_numbers n answers size at c number r =
         omega arith
 
 -- the graph of what leads on
-abbrev graph : AdaptiveNet → (ℕ → ℕ → Bool) → Graph
-graph n answers = record { channels = n.frame.channels; columns = n.frame.channels; leads = leads n answers; after = λ x y. y }
+abbrev graph : AdaptiveNet → (ℕ → ℕ → Bool) → Digraph
+graph n answers = record { nodes = n.frame.channels; columns = n.frame.channels; leads = leads n answers; after = λ x y. y }
 
 module _ (n : AdaptiveNet) (answers : ℕ → ℕ → Bool) (net : IsAdaptiveNet n) (are : AreReplyEnds n answers) where
-  looks_on : (look : Look) (y : ℕ) → LooksOn (graph n answers) look y → IsEdge n answers look.channel y
-  looks_on look y l = subst (λ z. IsEdge n answers look.channel z) l.next (leads_from n answers look.channel look.column l.marked)
+  looks_on : (look : Look) (y : ℕ) → StepsOn (graph n answers) look y → IsEdge n answers look.node y
+  looks_on look y l = subst (λ z. IsEdge n answers look.node z) l.next (leads_from n answers look.node look.column l.marked)
 
-  from_circle : (looks : List Look) → IsCircle (graph n answers) looks → IsDependencyCycle n answers (length looks) (λ k. (look_at looks k).channel)
+  from_circle : (looks : List Look) → IsCircuit (graph n answers) looks → IsDependencyCycle n answers (length looks) (λ k. (path_look looks k).node)
   from_circle looks c = record {
     some = c.some;
-    each = λ k l. looks_on (look_at looks k) (look_at looks (k + 1)).channel (c.each k l);
-    last = looks_on (look_at looks (length looks - 1)) (look_at looks 0).channel c.last;
+    each = λ k l. looks_on (path_look looks k) (path_look looks (k + 1)).node (c.each k l);
+    last = looks_on (path_look looks (length looks - 1)) (path_look looks 0).node c.last;
   }
 
   escape_low : (x j y : ℕ) → ExtendedDependency n x j y → y < n.frame.channels
@@ -68,7 +68,7 @@ module _ (n : AdaptiveNet) (answers : ℕ → ℕ → Bool) (net : IsAdaptiveNet
 
   numbers_or_cycle : HasEscapes n → HasNumbers n answers ⊎ HasCycle n answers
   numbers_or_cycle escapes = elim (circle_or_ranks (graph n answers) (λ x j low e. low)) [
-    | inl c ↦ inr (escapes, (length c.0, (λ k. (look_at c.0 k).channel, from_circle c.0 c.1)))
+    | inl c ↦ inr (escapes, (length c.0, (λ k. (path_look c.0 k).node, from_circle c.0 c.1)))
     | inr r ↦ inl (escapes, (slice_index r.0, from_ranks r.0 r.1))
   ]
 

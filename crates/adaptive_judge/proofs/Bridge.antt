@@ -66,14 +66,14 @@ module _ (t : ChoiceTable) (none : List Bool) (down : AreDown none) (depth : ℕ
   leads_input x e = not_true (is_receiver (slice_get t.kinds x)) e
 
   -- a step of the flags
-  step_goes : (j x y : ℕ) → step j x y ≡ true → IsChoice n j x y
+  pub step_goes : (j x y : ℕ) → step j x y ≡ true → IsChoice n j x y
   step_goes j x y e =
       let a = and_parts (leads_on t.kinds x) (opens count t.choices (base_of t j + x * t.ways) t.ways none y) e in
       let b = and_parts (nat_lt y count) (not (is_marked_at none y) && names t.choices (base_of t j + x * t.ways) t.ways y) a.1 in
       let d = and_parts (not (is_marked_at none y)) (names t.choices (base_of t j + x * t.ways) t.ways y) b.1 in
       record { input = leads_input x a.0; chosen = and_from (nat_lt y count) (names t.choices (base_of t j + x * t.ways) t.ways y) b.0 d.1 }
 
-  goes_step : (j x y : ℕ) → IsChoice n j x y → step j x y ≡ true
+  pub goes_step : (j x y : ℕ) → IsChoice n j x y → step j x y ≡ true
   goes_step j x y s =
       let b = and_parts (nat_lt y count) (names t.choices (base_of t j + x * t.ways) t.ways y) s.chosen in
       and_from (leads_on t.kinds x) (opens count t.choices (base_of t j + x * t.ways) t.ways none y) (input_leads x s.input)

@@ -1,6 +1,6 @@
 -- Lists of a network of four channels: the sender chooses between channels 1 and 2, both lead to
 -- channel 3, and channel 2 is no escape.
-use Rattle.std.proofs.Common.{◌≡◌, ◌≢◌, ◌⊎◌, inl, inr, ⊎_elim, ℕ, zero, suc, ◌+◌, ◌*◌, ◌<◌, ◌≤◌, ◌==◌, ◌&&◌, ◌||◌, not, Bool, true, false, [], ◌∷◌, Some, refl, sym, ap, ◌∙◌, subst, arith, eq-eqb, ne_eqb}
+use Rattle.std.proofs.Common.{◌≡◌, ◌≢◌, ◌⊎◌, inl, inr, ⊎_elim, ℕ, zero, suc, ◌+◌, ◌*◌, ◌<◌, ◌≤◌, ◌==◌, ◌&&◌, ◌||◌, not, Bool, true, false, List, [], ◌∷◌, Some, refl, sym, ap, ◌∙◌, subst, arith, eq-eqb, ne_eqb}
 use Rattle.std.specs.Prelude.{nat_lt}
 use Rattle.std.proofs.lemmas.Bool.{cases_eq, and_parts, and_from, eqb-true, ltb-true, or_left, or_right}
 use Rattle.std.proofs.lemmas.Option.{slice_get_within}
@@ -10,8 +10,9 @@ use Rattle.network_judge.specs.Marks.{is_marked_at}
 use Rattle.network_judge.specs.Table.{kind_of, joins_of, is_sender, is_receiver}
 use Rattle.network_judge.proofs.Firsts.{any, any_at}
 use Rattle.adaptive.proofs.Reach.{or_cases}
-use Rattle.adaptive_judge.specs.Spread.{names}
+use Rattle.adaptive_judge.specs.Spread.{Stop, Go, names}
 use Rattle.adaptive_judge.specs.Choosing.{ChoiceTable, table, base_of, chooses_of, IsWritten, IsShaped}
+use Rattle.adaptive_judge.specs.Travel.{GoesRoundAt}
 
 -- a block of rows for each destination; 4 is no channel, so no choice
 abbrev lists : ChoiceTable
@@ -90,3 +91,12 @@ shaped = record {
   marked = λ x e. marked x Ejection e (λ f. cc);
   sends = λ x e. marked x Injection e (λ f. cc);
 }
+
+-- with a choice from channel 1 to channel 2, and one back, packets to channel 3 can go round
+abbrev around : List ℕ
+around =
+    4 ∷ 4 ∷ 4 ∷ 4 ∷ 4 ∷ 4 ∷ 4 ∷ 4 ∷ 4 ∷ 4 ∷ 4 ∷ 4 ∷ 4 ∷ 4 ∷ 4 ∷ 4 ∷ 4 ∷ 4 ∷ 4 ∷ 4 ∷ 4 ∷ 4 ∷ 4 ∷ 4
+    ∷ 1 ∷ 2 ∷ 3 ∷ 2 ∷ 1 ∷ 3 ∷ 4 ∷ 4 ∷ []
+
+packets_go_round : GoesRoundAt lists.kinds lists.joins around 2 [] 3 1
+packets_go_round = record { comes = (0, refl, Go 0 1 Stop refl); last = 2; way = Go 1 2 Stop refl; back = refl }

@@ -5,5 +5,6 @@ pub mod Puts
 pub mod Ends
 pub mod Bridge
 pub mod Circles
+pub mod Travelled
 pub mod Rising
 mod Examples

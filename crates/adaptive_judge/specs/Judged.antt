@@ -1,7 +1,7 @@
 -- What each verdict says of a network of choices.
-use Rattle.std.specs.Prelude.{◌≡◌, ℕ, ◌*◌, ◌%◌, ◌<◌, ◌==◌, ◌&&◌, Bool, List, length, slice_index}
-use Rattle.network_judge.specs.declared.search.Look.{Look}
-use Rattle.network_judge.specs.Search.{look_at}
+use Rattle.std.specs.Prelude.{◌≡◌, ℕ, ◌<◌, ◌==◌, ◌&&◌, Bool, List, length, slice_index}
+use Rattle.rising.specs.declared.search.Look.{Look}
+use Rattle.rising.specs.Search.{path_look}
 use Rattle.std.specs.List.{list_any}
 use Rattle.network_judge.specs.declared.table.Reply.{Reply}
 use Rattle.network_judge.specs.TableNet.{Flits}
@@ -10,6 +10,7 @@ use Rattle.adaptive.specs.Verdicts.{IsDependencyCycle, LacksEscapeFirst}
 use Rattle.adaptive_judge.specs.declared.verdict.Verdict.{Verdict}
 use Rattle.adaptive_judge.specs.declared.verdict.Verdict.TheVariants.{Rising, NoEscape, Cycle}
 use Rattle.adaptive_judge.specs.Choosing.{ChoiceTable, network}
+use Rattle.adaptive_judge.specs.Travel.{IsTravel}
 
 -- on which channels packets from a channel are answered
 abbrev pub answers_of : List Reply → ℕ → ℕ → Bool
@@ -17,9 +18,10 @@ answers_of replies x y = list_any (λ (r : Reply). r.from == x && r.to == y) rep
 
 -- exactly what the verdict says, whatever the depth and the flits
 abbrev pub IsAdaptiveVerdict : {A : Type 0} → ChoiceTable → List Reply → Verdict A → Type 0
-IsAdaptiveVerdict t replies (Rising numbers) = (depth : ℕ) (flits : Flits)
+IsAdaptiveVerdict t replies (Rising numbers travel) = (depth : ℕ) (flits : Flits)
     → HasEscapes (network t depth flits) × (length numbers.items ≡ length t.kinds)
     × AreRising (network t depth flits) (answers_of replies) (slice_index numbers.items)
+    × IsTravel (network t depth flits) travel
 IsAdaptiveVerdict t replies (NoEscape f) = (depth : ℕ) (flits : Flits)
     → LacksEscapeFirst (network t depth flits) f.to f.at
 IsAdaptiveVerdict t replies (Cycle channels) = (depth : ℕ) (flits : Flits)
@@ -27,12 +29,7 @@ IsAdaptiveVerdict t replies (Cycle channels) = (depth : ℕ) (flits : Flits)
     × IsDependencyCycle (network t depth flits) (answers_of replies) (length channels.items)
     (slice_index channels.items)
 
--- in a row for each channel, all channels in order
-pub record AreOwn (count : ℕ) (own : List ℕ) : Type 0 where
-  pub size : length own ≡ count * count
-  pub each : (k : ℕ) → k < length own → slice_index own k ≡ k % count
-
 -- the channels of a path
 pub record AreChannels (looks : List Look) (channels : List ℕ) : Type 0 where
   pub size : length channels ≡ length looks
-  pub each : (k : ℕ) → k < length looks → slice_index channels k ≡ (look_at looks k).channel
+  pub each : (k : ℕ) → k < length looks → slice_index channels k ≡ (path_look looks k).node

@@ -3,31 +3,17 @@
 ghost use Rattle.std.specs.Prelude.{◌≡◌, ◌+◌, ◌*◌, ◌%◌, ◌^◌, ◌<◌, ◌≤◌, ℕ, length, slice_index};
 ghost use Rattle.std.specs.Prelude.{IfOk};
 ghost use Rattle.network_judge.specs.Replies.{AreReplies};
-ghost use Rattle.network_judge.specs.Search.{look_at};
+ghost use Rattle.rising.specs.Search.{path_look};
 ghost use Rattle.adaptive_judge.specs.Choosing.{choosing_of, table, IsShaped};
-ghost use Rattle.adaptive_judge.specs.Judged.{IsAdaptiveVerdict, AreOwn, AreChannels};
+ghost use Rattle.adaptive_judge.specs.Judged.{IsAdaptiveVerdict, AreChannels};
 
+use crate::travel::travel_of;
 use crate::verdict::Verdict;
+use crate::waiting::Waiting;
 use crate::waits::waits_of;
-use network_judge::search::{Look, Mark, numbers_of, visit_all};
 use network_judge::{Join, Kind, Reply};
+use rising::{Look, Searched, find};
 use std::alloc::{AllocError, Allocator};
-
-/// In a row for each channel, all channels in order.
-///
-/// Errors: memory.
-fn own_of<A: Allocator + Copy>(alloc: A, count: usize) -> Result<Vec<u32, A>, AllocError>
-    requires small { count ≤ 2 ^ 32 }
-    requires square { count * count < 2 ^ 64 }
-    ensures { IfOk result (λ v. AreOwn count v.items) }
-{
-    let square = count * count;
-    let mut own = Vec::new(alloc);
-    for k in 0..square {
-        own.push((k % count) as u32)?;
-    }
-    Ok(own)
-}
 
 /// The channels of a path.
 ///
@@ -38,7 +24,7 @@ fn channels_of<A: Allocator + Copy>(alloc: A, looks: &[Look]) -> Result<Vec<usiz
     let mut channels = Vec::with_capacity(alloc, looks.len())?;
     for k in 0..looks.len() {
         let look = looks[k];
-        channels.push(look.channel)?;
+        channels.push(look.node)?;
     }
     Ok(channels)
 }
@@ -75,10 +61,16 @@ pub fn judge<A: Allocator + Copy>(
         Some(fault) => return Ok(Verdict::NoEscape(fault)),
         None => {}
     }
-    let own = own_of(alloc, count)?;
-    let mut search = vec![in alloc; Mark::New; count]?;
-    match visit_all(alloc, count, &own, &edges, replies, &mut search, count)? {
-        Some(looks) => Ok(Verdict::Cycle(channels_of(alloc, &looks)?)),
-        None => Ok(Verdict::Rising(numbers_of(alloc, &search)?)),
+    let graph = Waiting {
+        count,
+        edges: &edges,
+        replies,
+    };
+    match find(alloc, &graph)? {
+        Searched::Circuit(looks) => Ok(Verdict::Cycle(channels_of(alloc, &looks)?)),
+        Searched::Rising(numbers) => Ok(Verdict::Rising(
+            numbers,
+            travel_of(alloc, kinds, joins, choices, ways, &none)?,
+        )),
     }
 }

@@ -12,6 +12,9 @@ ghost use Rattle.network_judge.specs.TableNet.{Flits};
 ghost use Rattle.adaptive.specs.Flow.{IsReachable};
 ghost use Rattle.adaptive.specs.Progress.{GoesByEscapes, MoveByEscapes};
 ghost use Rattle.adaptive.specs.Arrivals.{sum_of_packets};
+ghost use Rattle.adaptive.specs.Choices.{AdaptiveNet};
+ghost use Rattle.adaptive.specs.Work.{AreNearer};
+ghost use Rattle.adaptive_judge.specs.Travel.{CanGoRound};
 ghost use Rattle.adaptive_judge.specs.declared.verdict.Verdict.{Verdict};
 ghost use Rattle.adaptive_judge.specs.declared.verdict.Verdict.TheVariants.{Rising};
 ghost use Rattle.adaptive_judge.specs.Choosing.{ChoiceTable, table, network, IsShaped};
@@ -25,14 +28,14 @@ use std::alloc::Allocator;
 pub fn rising_networks_never_lock_up<A: Allocator>()
     ensures moving { (t : ChoiceTable) (replies : List Reply) → IsShaped t
         → AreReplies (table t) replies
-        → (v : Verdict A) (numbers : _) → v ≡ Rising numbers → IsAdaptiveVerdict t replies v
+        → (v : Verdict A) (numbers : _) (travel : _) → v ≡ Rising numbers travel → IsAdaptiveVerdict t replies v
         → (depth : ℕ) (flits : Flits) → 0 < depth
         → (s : NetState) → IsReachable (network t depth flits) s
         → (x : ℕ) → x < length t.kinds → (IsQuiet (network t depth flits).frame s x → ⊥)
         → MoveByEscapes (network t depth flits) s (answers_of replies) }
     ensures delivered { (t : ChoiceTable) (replies : List Reply) → IsShaped t
         → AreReplies (table t) replies
-        → (v : Verdict A) (numbers : _) → v ≡ Rising numbers → IsAdaptiveVerdict t replies v
+        → (v : Verdict A) (numbers : _) (travel : _) → v ≡ Rising numbers travel → IsAdaptiveVerdict t replies v
         → (depth : ℕ) (flits : Flits) → 0 < depth
         → (s : NetState) → IsReachable (network t depth flits) s
         → GoesByEscapes (network t depth flits) s (answers_of replies) ⊥
@@ -45,4 +48,11 @@ pub fn rising_networks_never_lock_up<A: Allocator>()
         → (s : NetState) → IsReachable (network t depth flits) s
         → (f : Parcel → ℕ) → sum_of_packets (network t depth flits) f (whole s)
         ≤ sum_of_packets (network t depth flits) f (λ x. (s.notes x).sent) }
+{}
+
+/// Where packets can go round, no distances fall with each choice: so a verdict tells either that the
+/// work is bounded or that packets can go round, and never both.
+pub fn rounds_have_no_distances()
+    ensures { (n : AdaptiveNet) (j x : ℕ) → CanGoRound n j x
+        → (far : ℕ → ℕ → ℕ) → AreNearer n far → ⊥ }
 {}

@@ -11,12 +11,32 @@ pub struct NoEscape {
     pub at: usize,
 }
 
+/// Packets to a channel can go round: choices lead them from another channel, which they come to, back to
+/// it.
+#[derive(Clone, Copy)]
+pub struct Round {
+    /// The ejection channel that they go to.
+    pub to: usize,
+    /// The channel that they can come back to.
+    pub at: usize,
+}
+
+/// How far packets can go.
+#[derive(Clone, Copy)]
+pub enum Travel {
+    /// Each choice brings a packet nearer to its ejection channel: none goes over more channels than
+    /// there are, and the network's work is bounded.
+    Bounded,
+    /// Packets can go round: they never lock up, but nothing bounds how far they go.
+    Round(Round),
+}
+
 /// What is judged of a network.
 #[derive(Drop)]
 pub enum Verdict<A: Allocator = Global> {
     /// A number for each channel, in channel order: they rise over every extended dependency and
-    /// over every reply.
-    Rising(Vec<usize, A>),
+    /// over every reply. And how far packets can go.
+    Rising(Vec<usize, A>, Travel),
     /// The first channel without an escape, by destination.
     NoEscape(NoEscape),
     /// Channels that wait for one another in a cycle: each leads on to the next, and the last to

@@ -1,5 +1,5 @@
 -- Where all walks arrive, there is a cycle of dependencies or there are numbers that rise.
-use Rattle.std.proofs.Common.{◌≡◌, ◌⊎◌, inl, inr, ℕ, ◌-◌, ◌<◌, List}
+use Rattle.std.proofs.Common.{◌≡◌, ◌⊎◌, inl, inr, ℕ, ◌<◌, List}
 use Rattle.std.proofs.Common.{◌∙◌, subst, arith}
 use Rattle.std.specs.Prelude.{◌==◌, slice_index, map}
 use Rattle.std.proofs.lemmas.List.{length-map, get_or-map}
@@ -7,9 +7,10 @@ use Rattle.network_judge.specs.declared.table.Link.{Link}
 use Rattle.network_judge.specs.Table.{Table, channels_of, table_next}
 use Rattle.network_judge.specs.declared.table.Reply.{Reply}
 use Rattle.network_judge.specs.declared.table.By.TheVariants.{Replied}
-use Rattle.network_judge.specs.declared.search.Look.{Look}
+use Rattle.rising.specs.declared.search.Look.{Look}
 use Rattle.network_judge.specs.Replies.{reply_at, AreReplies}
-use Rattle.network_judge.specs.Graph.{Graph, graph_with}
+use Rattle.rising.specs.Graph.{Digraph}
+use Rattle.network_judge.specs.Graph.{graph_with}
 use Rattle.network_judge.specs.Links.{link_of, AreLinks}
 use Rattle.network_judge.specs.Cycles.{IsCycle}
 use Rattle.network_judge.specs.Verdicts.{AllArrive, IsNumbered}
@@ -21,14 +22,14 @@ use Rattle.network_judge.proofs.Passing.{passes, from_passes, to_passes, depende
 use Rattle.network_judge.proofs.Chains.{RiseOn, circle_or_ranks}
 
 -- the graph of all dependencies of a table, in a column for each channel, and of replies
-abbrev all_of : Table → List Reply → Graph
+abbrev all_of : Table → List Reply → Digraph
 all_of t replies = graph_with (channels_of t) (channels_of t) (passes t) (table_next t) replies
 
 -- the links of channels that lead around
 links_are : (columns : ℕ) (to : ℕ → ℕ) (looks : List Look) → AreLinks columns to looks (map (link_of columns to) looks)
 links_are columns to looks = record {
   size = length-map looks (link_of columns to);
-  each = λ k l. get_or-map (link_of columns to) looks k (record { channel = 0; column = 0 }) (record { channel = 0; by = Replied }) l;
+  each = λ k l. get_or-map (link_of columns to) looks k (record { node = 0; column = 0 }) (record { channel = 0; by = Replied }) l;
 }
 
 -- a dependency is a column

@@ -8,12 +8,13 @@ use Rattle.network_judge.specs.declared.table.By.TheVariants.{To, Replied}
 use Rattle.network_judge.specs.declared.table.Kind.TheVariants.{Injection, Ejection}
 use Rattle.network_judge.specs.declared.table.Link.{Link}
 use Rattle.network_judge.specs.declared.table.Reply.{Reply}
-use Rattle.network_judge.specs.declared.search.Look.{Look}
+use Rattle.rising.specs.declared.search.Look.{Look}
 use Rattle.network_judge.specs.Table.{Table, channels_of}
 use Rattle.network_judge.specs.Replies.{reply_at, IsReply, AreReplies}
 use Rattle.network_judge.specs.Cycles.{Depends, Leads, link_at, IsCycle}
-use Rattle.network_judge.specs.Graph.{Graph, either, graph_with}
-use Rattle.network_judge.specs.Search.{look_at, LooksOn, IsCircle, StayWithin}
+use Rattle.rising.specs.Graph.{Digraph}
+use Rattle.network_judge.specs.Graph.{either, graph_with}
+use Rattle.rising.specs.Search.{path_look, StepsOn, IsCircuit, LeadsWithin}
 use Rattle.network_judge.specs.Links.{by_of, link_of, AreLinks}
 
 -- the first columns, and those behind them
@@ -31,7 +32,7 @@ reply_leads replies n f x c high low e =
     record { place = c - n; here = omega arith; from = eqb-true (reply_at replies (c - n)).from x is; to = refl }
 
 -- a reply is a column
-pub record IsEdge (g : Graph) (x y : ℕ) : Type 0 where
+pub record IsEdge (g : Digraph) (x y : ℕ) : Type 0 where
   pub column : ℕ
   pub low : column < g.columns
   pub leads : g.leads x column ≡ true
@@ -61,7 +62,7 @@ reply_to t replies are x y r = slice_get_within t.kinds y Injection (are x y r).
 -- where functions stay among the channels, so does the graph
 pub stay_with : (t : Table) (replies : List Reply) (columns : ℕ) (f : ℕ → ℕ → Bool) (h : ℕ → ℕ → ℕ) → AreReplies t replies
     → ((x c : ℕ) → c < columns → f x c ≡ true → h x c < channels_of t)
-    → StayWithin (graph_with (channels_of t) columns f h replies)
+    → LeadsWithin (graph_with (channels_of t) columns f h replies)
 stay_with t replies columns f h are stay x c low e =
     elim (cases_lt c columns) [
       | inl less ↦ subst (λ z. z < channels_of t) (sym (either_low columns (h x) (λ p. (reply_at replies p).to) c less))
@@ -74,27 +75,27 @@ stay_with t replies columns f h are stay x c low e =
 pub cycle_with : (t : Table) (replies : List Reply) (channels columns : ℕ) (f : ℕ → ℕ → Bool) (h : ℕ → ℕ → ℕ)
     (to : ℕ → ℕ) (looks : List Look) (links : List Link)
     → ((x c y : ℕ) → c < columns → f x c ≡ true → h x c ≡ y → Depends t x (to c) y)
-    → IsCircle (graph_with channels columns f h replies) looks → AreLinks columns to looks links → IsCycle t replies links
+    → IsCircuit (graph_with channels columns f h replies) looks → AreLinks columns to looks links → IsCycle t replies links
 cycle_with t replies channels columns f h to looks links depends c l =
     let size = l.size in
     let some = c.some in
     record {
       some = omega arith;
       each = λ k low. (let there = l.each (k + 1) (omega arith) in
-          joined (link_at links k) (link_at links (k + 1)).channel (look_at looks k) (l.each k (omega arith))
-          (subst (λ z. LooksOn (graph_with channels columns f h replies) (look_at looks k) z) (sym (ap (λ (v : Link). v.channel) there))
+          joined (link_at links k) (link_at links (k + 1)).channel (path_look looks k) (l.each k (omega arith))
+          (subst (λ z. StepsOn (graph_with channels columns f h replies) (path_look looks k) z) (sym (ap (λ (v : Link). v.channel) there))
           (c.each k (omega arith))));
       last = (let there = l.each 0 (omega arith) in
           let same : length looks - 1 ≡ length links - 1 = omega arith in
-          joined (link_at links (length links - 1)) (link_at links 0).channel (look_at looks (length links - 1)) (l.each (length links - 1) (omega arith))
-          (subst (λ z. LooksOn (graph_with channels columns f h replies) (look_at looks z) (link_at links 0).channel) same
-          (subst (λ z. LooksOn (graph_with channels columns f h replies) (look_at looks (length looks - 1)) z) (sym (ap (λ (v : Link). v.channel) there))
+          joined (link_at links (length links - 1)) (link_at links 0).channel (path_look looks (length links - 1)) (l.each (length links - 1) (omega arith))
+          (subst (λ z. StepsOn (graph_with channels columns f h replies) (path_look looks z) (link_at links 0).channel) same
+          (subst (λ z. StepsOn (graph_with channels columns f h replies) (path_look looks (length looks - 1)) z) (sym (ap (λ (v : Link). v.channel) there))
           c.last)));
     }
   where
-    leads : (look : Look) (y : ℕ) → LooksOn (graph_with channels columns f h replies) look y → Leads t replies look.channel (by_of columns to look.column) y
+    leads : (look : Look) (y : ℕ) → StepsOn (graph_with channels columns f h replies) look y → Leads t replies look.node (by_of columns to look.column) y
     leads look y l =
-        let x : ℕ = look.channel in
+        let x : ℕ = look.node in
         let c : ℕ = look.column in
         elim (cases_lt c columns) [
           | inl low ↦ subst (λ (z : By). Leads t replies x z y) (sym (either_low columns (λ c. To (to c)) (λ p. Replied) c low))
@@ -105,6 +106,6 @@ cycle_with t replies channels columns f h to looks links depends c l =
               (reply_leads replies columns (f x) x c high l.end l.marked))
         ]
 
-    joined : (link : Link) (y : ℕ) (look : Look) → link ≡ link_of columns to look → LooksOn (graph_with channels columns f h replies) look y
+    joined : (link : Link) (y : ℕ) (look : Look) → link ≡ link_of columns to look → StepsOn (graph_with channels columns f h replies) look y
         → Leads t replies link.channel link.by y
     joined link y look e l = subst (λ (v : Link). Leads t replies v.channel v.by y) (sym e) (leads look y l)

@@ -6,9 +6,6 @@ pub mod Graphs
 pub mod Rounds
 pub mod Tracing
 pub mod Marking
-pub mod Written
-pub mod Searching
-pub mod Left
 pub mod Ranks
 pub mod Exactly
 pub mod Firsts

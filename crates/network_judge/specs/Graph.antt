@@ -1,19 +1,12 @@
--- A graph of channels: from each, in some columns, one leads on to another.
+-- A graph of channels: from each, in some columns, one leads on to another (Dally and Seitz: the
+-- dependency graph).
 use Rattle.std.specs.Prelude.{ℕ, ◌+◌, ◌-◌, ◌*◌, ◌==◌, nat_lt, if◌then◌else◌, Bool, List, length}
 use Rattle.std.specs.Prelude.{slice_index}
+use Rattle.rising.specs.Graph.{Digraph}
 use Rattle.network_judge.specs.declared.table.Reply.{Reply}
 use Rattle.network_judge.specs.Replies.{reply_at}
 use Rattle.network_judge.specs.Marks.{is_marked_at}
 use Rattle.network_judge.specs.Table.{Table, channels_of, columns_of}
-
--- channels, each with as many columns; whether a channel leads on in a column, and to which (Dally
--- and Seitz: the
--- dependency graph)
-pub record Graph : Type 0 where
-  pub channels : ℕ
-  pub columns : ℕ
-  pub leads : ℕ → ℕ → Bool
-  pub after : ℕ → ℕ → ℕ
 
 -- in the first columns what one function says, and behind them what another says
 abbrev pub either : {A : Type 0} → ℕ → (ℕ → A) → (ℕ → A) → ℕ → A
@@ -38,19 +31,19 @@ after_of columns choices replies x =
     either columns (choice_at columns choices x) (λ p. (reply_at replies p).to)
 
 -- the graph of two functions and of replies
-abbrev pub graph_with : ℕ → ℕ → (ℕ → ℕ → Bool) → (ℕ → ℕ → ℕ) → List Reply → Graph
+abbrev pub graph_with : ℕ → ℕ → (ℕ → ℕ → Bool) → (ℕ → ℕ → ℕ) → List Reply → Digraph
 graph_with channels columns leads after replies = record {
-  channels = channels;
+  nodes = channels;
   columns = columns + length replies;
   leads = λ x. either columns (leads x) (λ p. (reply_at replies p).from == x);
   after = λ x. either columns (after x) (λ p. (reply_at replies p).to);
 }
 
 -- the graph of flags, choices and replies
-abbrev pub graph_of : ℕ → ℕ → List ℕ → List Bool → List Reply → Graph
+abbrev pub graph_of : ℕ → ℕ → List ℕ → List Bool → List Reply → Digraph
 graph_of channels columns choices used replies =
     graph_with channels columns (flag_at columns used) (choice_at columns choices) replies
 
 -- the graph of a table's choices that are marked, and of replies
-abbrev pub marked_of : Table → List Bool → List Reply → Graph
+abbrev pub marked_of : Table → List Bool → List Reply → Digraph
 marked_of t used replies = graph_of (channels_of t) (columns_of t) t.choices used replies

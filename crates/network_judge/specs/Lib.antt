@@ -7,7 +7,6 @@ pub mod Cycles
 pub mod Verdicts
 pub mod Marks
 pub mod Graph
-pub mod Search
 pub mod Links
 pub mod Exactly
 pub mod Receivers

@@ -6,9 +6,11 @@ ghost use Rattle.network_judge.specs.Replies.{AreReplies};
 ghost use Rattle.network_judge.specs.Verdicts.{IsVerdict};
 
 use crate::columns::{columns_of, ends_of};
-use crate::search::{Mark, links_of, numbers_of, visit_all};
+use crate::dependencies::Dependencies;
+use crate::links::links_of;
 use crate::table::{Join, Kind, Reply, Verdict};
 use crate::walk::trace_all;
+use rising::{Searched, find};
 use std::alloc::{AllocError, Allocator};
 
 /// Judges a network by its tables: the kind of each channel, the pairs that packets go between, and
@@ -37,17 +39,15 @@ pub fn judge<A: Allocator + Copy>(
         Ok(()) => {}
         Err(fault) => return Ok(Verdict::NoRoute(fault)),
     }
-    let mut marks = vec![in alloc; Mark::New; kinds.len()]?;
-    match visit_all(
-        alloc,
+    let graph = Dependencies {
+        count: kinds.len(),
         width,
         choices,
-        &used,
+        used: &used,
         replies,
-        &mut marks,
-        kinds.len(),
-    )? {
-        Some(looks) => Ok(Verdict::Cycle(links_of(alloc, &ends, &looks)?)),
-        None => Ok(Verdict::Rising(numbers_of(alloc, &marks)?)),
+    };
+    match find(alloc, &graph)? {
+        Searched::Circuit(looks) => Ok(Verdict::Cycle(links_of(alloc, &ends, &looks)?)),
+        Searched::Rising(numbers) => Ok(Verdict::Rising(numbers)),
     }
 }

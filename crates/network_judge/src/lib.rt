@@ -3,10 +3,11 @@
 #![tactic(auto)]
 
 pub mod columns;
+pub mod dependencies;
 pub mod judging;
 pub mod laws;
+pub mod links;
 pub mod progress_laws;
-pub mod search;
 pub mod table;
 pub mod walk;
 

@@ -1,17 +1,12 @@
 -- What a search in depth finds: a circuit, or that all behind a node is done with.
-use Rattle.std.proofs.Common.{◌≡◌, ◌≢◌, inl, inr, ℕ, ◌+◌, ◌-◌, ◌<◌, ◌≤◌, true, List, [], ◌∷◌, ◌++◌, length, get_or, set}
-use Rattle.std.proofs.Common.{take, drop, refl, sym, ◌∙◌, ap, subst, arith}
-use Rattle.std.proofs.lemmas.Bool.{cases_lt, cases_eq, eqb-true}
-use Rattle.std.proofs.lemmas.List.{length-set, length-take-le, length-drop, length_push, get_or-set_same, get_or-take, get_or-drop}
-use Rattle.std.proofs.lemmas.List.{get_or_push, get_or_read, get_or_append_left}
+use Rattle.std.proofs.Common.{◌≡◌, ℕ, ◌+◌, ◌-◌, List, [], length}
+use Rattle.std.proofs.Common.{drop, refl, sym, ◌∙◌, ap, subst, arith}
+use Rattle.std.proofs.lemmas.List.{length-drop, get_or-drop}
 use Rattle.rising.specs.declared.search.Look.{Look}
 use Rattle.rising.specs.declared.search.Mark.{Mark}
 use Rattle.rising.specs.declared.search.Mark.TheVariants.{New, Open, Done}
-use Rattle.rising.specs.declared.edge.Edge.{Edge}
-use Rattle.rising.specs.Graph.{Digraph, edge_at, digraph_of, EdgesAreWithin}
-use Rattle.rising.specs.Chains.{IsNextColumn}
-use Rattle.rising.specs.Search.{node_mark, path_look, is_unvisited, IsFinishedBelow, SuccessorsAreBelow, StepsOn, IsDepthSearch, IsCircuit}
-use Rattle.rising.proofs.Written.{NotDone, stay_done, below_kept, here, there, marked_at, links_kept, nodes_kept, new_less, new_same, open_inside}
+use Rattle.rising.specs.Graph.{Digraph}
+use Rattle.rising.specs.Search.{node_mark, path_look, IsFinishedBelow, StepsOn, IsDepthSearch, IsCircuit}
 
 -- the links from an open node on lead around
 pub circle : (g : Digraph) (marks : List Mark) (path : List Look) (finished place y : ℕ) → IsDepthSearch g marks path finished

@@ -10,9 +10,10 @@ use Rattle.rising.specs.declared.edge.Edge.{Edge}
 use Rattle.rising.specs.declared.search.Look.{Look}
 use Rattle.rising.specs.declared.search.Mark.{Mark}
 use Rattle.rising.specs.declared.search.Mark.TheVariants.{New, Open, Done}
-use Rattle.rising.specs.Graph.{Digraph, edge_at, digraph_of, EdgesAreWithin, RisesOnEdges}
+use Rattle.rising.specs.Graph.{Digraph, edge_at, digraph_of, EdgesAreWithin, RisesOnEdges, RisesAlong}
 use Rattle.rising.specs.Found.{IsJoined, IsPermutationBelow, IsEdgeCycle}
 use Rattle.rising.specs.Search.{node_mark, path_look, is_unvisited, finish_height, IsFinishedBelow, StepsOn, IsDepthSearch, StayFinished, IsCircuit, AreUnvisited, AreFinishedNodes, AreHeightNumbers, AreLookedColumns}
+use Rattle.rising.proofs.Written.{done_inside}
 use Rattle.rising.proofs.Circuits.{begun_below}
 
 -- all are new
@@ -115,26 +116,24 @@ pub written : {X : Type 0} (n : ℕ) (new old : List X) → n ≡ length new →
 written n new old e = take_at new (drop (length new) old) n (sym e)
 
 -- the numbers rise along each edge, and no two are the same
-pub rises : (nodes : ℕ) (edges : List Edge) (marks : List Mark) (numbers : List ℕ) → EdgesAreWithin nodes edges → AreFinishedNodes (digraph_of nodes edges) marks
-    → AreHeightNumbers marks numbers → RisesOnEdges edges (slice_index numbers)
-rises nodes edges marks numbers within r n k low =
-    let x : ℕ = (edge_at edges k).from in
-    let y : ℕ = (edge_at edges k).to in
+pub rises : (g : Digraph) (marks : List Mark) (numbers : List ℕ) → AreFinishedNodes g marks → AreHeightNumbers marks numbers
+    → RisesAlong g (slice_index numbers)
+rises g marks numbers r n x j inside low leads =
+    let y : ℕ = g.after x j in
     let size = r.size in
-    let inside = within.from k low in
-    let inside_too = within.to k low in
     let from = r.each x inside in
-    let b : IsFinishedBelow marks y from.rank = from.behind k low (eq-eqb x x refl) in
+    let b : IsFinishedBelow marks y from.rank = from.behind j low leads in
     let less = b.2 in
+    let inside_too = done_inside marks y b.0 b.1 in
     let hx : finish_height (node_mark marks x) ≡ from.rank = ap finish_height from.mark in
     let hy : finish_height (node_mark marks y) ≡ b.0 = ap finish_height b.1 in
     let nx = n.each x (omega arith) in
     let ny = n.each y (omega arith) in
     omega arith
 
-pub is_placing : (nodes : ℕ) (edges : List Edge) (marks : List Mark) (numbers : List ℕ) → AreFinishedNodes (digraph_of nodes edges) marks
-    → AreHeightNumbers marks numbers → IsPermutationBelow nodes numbers
-is_placing nodes edges marks numbers r n =
+pub is_placing : (g : Digraph) (marks : List Mark) (numbers : List ℕ) → AreFinishedNodes g marks
+    → AreHeightNumbers marks numbers → IsPermutationBelow g.nodes numbers
+is_placing g marks numbers r n =
     let size = r.size in
     record {
       size = n.size ∙ r.size;
@@ -148,6 +147,13 @@ is_placing nodes edges marks numbers r n =
           let one : b.rank ≡ a.rank = omega arith in
           r.apart x y a.rank a.mark (b.mark ∙ ap Done one));
     }
+
+-- numbers that rise so along the edges of a list
+pub rise_on_list : (nodes : ℕ) (edges : List Edge) (number : ℕ → ℕ) → EdgesAreWithin nodes edges
+    → RisesAlong (digraph_of nodes edges) number → RisesOnEdges edges number
+rise_on_list nodes edges number within up k low =
+    let x : ℕ = (edge_at edges k).from in
+    up x k (within.from k low) low (eq-eqb x x refl)
 
 -- a node of a circle looks on
 looks_on : (g : Digraph) (looks : List Look) → IsCircuit g looks → (k : ℕ) → k < length looks → (y : ℕ) × StepsOn g (path_look looks k) y

@@ -1,22 +1,21 @@
 -- The steps of a search in depth.
 use Rattle.std.proofs.Common.{◌≡◌, ◌≢◌, inl, inr, ℕ, ◌+◌, ◌-◌, ◌<◌, ◌≤◌, true, List, [], ◌∷◌, ◌++◌, length, get_or, set}
-use Rattle.std.proofs.Common.{take, drop, refl, sym, ◌∙◌, ap, subst, arith}
-use Rattle.std.proofs.lemmas.Bool.{cases_lt, cases_eq, eqb-true}
-use Rattle.std.proofs.lemmas.List.{length-set, length-take-le, length-drop, length_push, get_or-set_same, get_or-take, get_or-drop}
+use Rattle.std.proofs.Common.{take, refl, sym, ◌∙◌, ap, subst, arith}
+use Rattle.std.proofs.lemmas.Bool.{cases_lt, cases_eq}
+use Rattle.std.proofs.lemmas.List.{length-set, length-take-le, length_push, get_or-set_same, get_or-take}
 use Rattle.std.proofs.lemmas.List.{get_or_push, get_or_read, get_or_append_left}
 use Rattle.rising.specs.declared.search.Look.{Look}
 use Rattle.rising.specs.declared.search.Mark.{Mark}
 use Rattle.rising.specs.declared.search.Mark.TheVariants.{New, Open, Done}
-use Rattle.rising.specs.declared.edge.Edge.{Edge}
-use Rattle.rising.specs.Graph.{Digraph, edge_at, digraph_of, EdgesAreWithin}
+use Rattle.rising.specs.Graph.{Digraph}
 use Rattle.rising.specs.Chains.{IsNextColumn}
-use Rattle.rising.specs.Search.{node_mark, path_look, is_unvisited, IsFinishedBelow, SuccessorsAreBelow, StepsOn, IsDepthSearch, IsCircuit}
+use Rattle.rising.specs.Search.{node_mark, path_look, is_unvisited, IsFinishedBelow, SuccessorsAreBelow, StepsOn, IsDepthSearch}
 use Rattle.rising.proofs.Written.{NotDone, stay_done, below_kept, here, there, marked_at, links_kept, nodes_kept, new_less, new_same, open_inside}
 
 -- one edge more is looked at
 pub advanced : (g : Digraph) (marks : List Mark) (path : List Look) (finished last x to more : ℕ) → IsDepthSearch g marks path finished
     → last + 1 ≡ length path → path_look path last ≡ record { node = x; column = to } → to < g.columns
-    → (g.leads x to ≡ true → IsFinishedBelow marks (g.after to) finished) → to < more → IsNextColumn g x (to + 1) more
+    → (g.leads x to ≡ true → IsFinishedBelow marks (g.after x to) finished) → to < more → IsNextColumn g x (to + 1) more
     → IsDepthSearch g marks (set path last (record { node = x; column = more })) finished
 advanced g marks path finished last x to more s e at low below high following =
     let v : Look = record { node = x; column = more } in
@@ -43,7 +42,7 @@ advanced g marks path finished last x to more s e at low below high following =
             λ j m. elim (cases_lt j to) [
               | inl less ↦ old j less
               | inr far ↦ elim (cases_eq j to) [
-                | inl one ↦ subst (λ z. g.leads x z ≡ true → IsFinishedBelow marks (g.after z) finished) (sym one) below
+                | inl one ↦ subst (λ z. g.leads x z ≡ true → IsFinishedBelow marks (g.after x z) finished) (sym one) below
                 | inr other ↦ λ leads. absurd (following.none j (omega arith) m leads)
               ]
             ] in
@@ -124,7 +123,7 @@ pushed g marks path finished y to s low e leads following =
       ];
       behind = λ k l. elim (cases_lt k n) [
         | inl less ↦ (let old : SuccessorsAreBelow g new (path_look path k).node (path_look path k).column finished =
-            λ j m f. below_kept marks new (g.after j) finished finished stay (omega arith) (s.behind k less j m f) in
+            λ j m f. below_kept marks new (g.after (path_look path k).node j) finished finished stay (omega arith) (s.behind k less j m f) in
             subst (λ (z : Look). SuccessorsAreBelow g new z.node z.column finished) (sym (front k less)) old)
         | inr high ↦ (let same : k ≡ n = omega arith in
             let at : path_look next k ≡ v = ap (path_look next) same ∙ back in
@@ -141,7 +140,7 @@ pushed g marks path finished y to s low e leads following =
       done = λ x h m. elim (marked_at marks y (Open n) x inside) [
         | here same f ↦ (let bad : Open n ≡ Done h = sym f ∙ m in cc)
         | there apart f ↦ (let o = s.done x h (sym f ∙ m) in
-            (o.0, λ j l u. below_kept marks new (g.after j) h h stay (omega arith) (o.1 j l u)))
+            (o.0, λ j l u. below_kept marks new (g.after x j) h h stay (omega arith) (o.1 j l u)))
       ];
       count = let c = s.count in let less = new_less marks y (Open n) inside e refl in omega arith;
     }
@@ -183,7 +182,7 @@ popped g marks path finished last x to s e at all =
           (subst (λ (z : Look). StepsOn g (path_look path k) z.node) (sym (front (k + 1) (omega arith))) old));
       ends = λ k l. subst (λ (z : Look). z.column ≤ g.columns) (sym (front k (omega arith))) (s.ends k (omega arith));
       behind = λ k l. (let old : SuccessorsAreBelow g new (path_look path k).node (path_look path k).column (finished + 1) =
-          λ j m f. below_kept marks new (g.after j) finished (finished + 1) stay (omega arith) (s.behind k (omega arith) j m f) in
+          λ j m f. below_kept marks new (g.after (path_look path k).node j) finished (finished + 1) stay (omega arith) (s.behind k (omega arith) j m f) in
           subst (λ (z : Look). SuccessorsAreBelow g new z.node z.column (finished + 1)) (sym (front k (omega arith))) old);
       at = λ k l. subst (λ (z : Look). z.column < g.columns → g.leads z.node z.column ≡ true) (sym (front k (omega arith))) (s.at k (omega arith));
       apart = λ y z h m w. elim (marked_at marks x (Done finished) y inside) [
@@ -203,11 +202,11 @@ popped g marks path finished last x to s e at all =
             let one : finished ≡ h = cc in
             let old : SuccessorsAreBelow g marks x to finished = subst (λ (z : Look). SuccessorsAreBelow g marks z.node z.column finished) at (s.behind last (omega arith)) in
             let whole : SuccessorsAreBelow g new x g.columns h =
-            λ j l u. below_kept marks new (g.after j) finished h stay (omega arith) (old j (omega arith) u) in
+            λ j l u. below_kept marks new (g.after x j) finished h stay (omega arith) (old j (omega arith) u) in
             (omega arith, subst (λ z. SuccessorsAreBelow g new z g.columns h) (sym same) whole))
         | there apart f ↦ (let o = s.done y h (sym f ∙ m) in
             let l = o.0 in
-            (omega arith, λ j i u. below_kept marks new (g.after j) h h stay (omega arith) (o.1 j i u)))
+            (omega arith, λ j i u. below_kept marks new (g.after y j) h h stay (omega arith) (o.1 j i u)))
       ];
       count = let c = s.count in let same = new_same marks x (Done finished) inside (ap is_unvisited was) refl in omega arith;
     }
@@ -238,7 +237,7 @@ top g marks path finished n last v s e some f read =
 
 -- the last link of the path leads to the next node
 pub top_leads : (g : Digraph) (marks : List Mark) (path : List Look) (last x to y : ℕ) → IsTop g marks path last x to
-    → to < g.columns → g.leads x to ≡ true → g.after to ≡ y
+    → to < g.columns → g.leads x to ≡ true → g.after x to ≡ y
     → (k : ℕ) → k + 1 ≡ length path → StepsOn g (path_look path k) y
 top_leads g marks path last x to y top low marked next k e =
     let size = top.size in
@@ -246,19 +245,16 @@ top_leads g marks path last x to y top low marked next k e =
     let one : StepsOn g (record { node = x; column = to }) y = record { end = low; marked = marked; next = next } in
     subst (λ z. StepsOn g (path_look path z) y) same (subst (λ z. StepsOn g z y) (sym top.at) one)
 
--- the edge that is looked at leads to a node
-pub record IsRead (edges : List Edge) (nodes x to : ℕ) : Type 0 where
-  pub low : to < length edges
-  pub marked : (digraph_of nodes edges).leads x to ≡ true
-  pub from : x < nodes
-  pub within : (edge_at edges to).to < nodes
+-- the edge that is looked at is one
+pub record IsRead (g : Digraph) (x to : ℕ) : Type 0 where
+  pub low : to < g.columns
+  pub marked : g.leads x to ≡ true
 
-pub read_next : (edges : List Edge) (nodes x to : ℕ) → EdgesAreWithin nodes edges → to ≤ length edges → (to ≡ length edges → ⊥)
-    → (to < length edges → (digraph_of nodes edges).leads x to ≡ true) → IsRead edges nodes x to
-read_next edges nodes x to within end other leads =
-    let low : to < length edges = omega arith in
-    let same : (edge_at edges to).from ≡ x = eqb-true (edge_at edges to).from x (leads low) in
-    record { low = low; marked = leads low; from = subst (λ z. z < nodes) same (within.from to low); within = within.to to low }
+pub read_next : (g : Digraph) (x to width : ℕ) → width ≡ g.columns → to ≤ g.columns → (to ≡ width → ⊥)
+    → (to < g.columns → g.leads x to ≡ true) → IsRead g x to
+read_next g x to width wide end other leads =
+    let low : to < g.columns = omega arith in
+    record { low = low; marked = leads low }
 
 -- the same steps, as the code has them
 pub pushed_at : (g : Digraph) (marks : List Mark) (path : List Look) (finished y to n : ℕ) (next : List Look) → IsDepthSearch g marks path finished

@@ -75,6 +75,12 @@ open_inside [] x k f = cc
 open_inside (m ∷ marks) zero k f = omega arith
 open_inside (m ∷ marks) (suc x) k f = let r = open_inside marks x k f in omega arith
 
+-- and so is one that is done with
+pub done_inside : (marks : List Mark) (x h : ℕ) → node_mark marks x ≡ Done h → x < length marks
+done_inside [] x h f = cc
+done_inside (m ∷ marks) zero h f = omega arith
+done_inside (m ∷ marks) (suc x) h f = let r = done_inside marks x h f in omega arith
+
 -- what was new is no more
 pub is_begun : (marks : List Mark) (y : ℕ) (v : Mark) (x : ℕ) → y < length marks → is_unvisited v ≡ false → (node_mark marks x ≡ New → ⊥)
     → node_mark (set marks y v) x ≡ New → ⊥

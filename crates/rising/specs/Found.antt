@@ -4,7 +4,10 @@ use Rattle.std.specs.Prelude.{◌≡◌, ℕ, ◌+◌, ◌-◌, ◌<◌, List, l
 use Rattle.rising.specs.declared.edge.Edge.{Edge}
 use Rattle.rising.specs.declared.edge.Found.{Found}
 use Rattle.rising.specs.declared.edge.Found.TheVariants.{Rising, Cycle}
-use Rattle.rising.specs.Graph.{edge_at, RisesOnEdges}
+use Rattle.rising.specs.declared.finding.Searched.{Searched}
+use Rattle.rising.specs.declared.finding.Searched.TheVariants as searched
+use Rattle.rising.specs.Graph.{Digraph, edge_at, RisesOnEdges, RisesAlong}
+use Rattle.rising.specs.Search.{IsCircuit}
 
 -- one edge leads to where the other leads from
 pub record IsJoined (edges : List Edge) (j k : ℕ) : Type 0 where
@@ -30,3 +33,9 @@ abbrev pub IsOrderOrCycle : {A : Type 0} → ℕ → List Edge → Found A → T
 IsOrderOrCycle nodes edges (Rising numbers) =
     IsPermutationBelow nodes numbers.items × RisesOnEdges edges (slice_index numbers.items)
 IsOrderOrCycle nodes edges (Cycle cycle) = IsEdgeCycle edges cycle.items
+
+-- numbers that rise along each edge, or nodes that lead around
+abbrev pub IsOrderOrCircuit : {A : Type 0} → Digraph → Searched A → Type 0
+IsOrderOrCircuit g (searched.Rising numbers) =
+    IsPermutationBelow g.nodes numbers.items × RisesAlong g (slice_index numbers.items)
+IsOrderOrCircuit g (searched.Circuit looks) = IsCircuit g looks.items

@@ -1,5 +1,5 @@
 -- A directed graph: nodes by number, and edges.
-use Rattle.std.specs.Prelude.{ℕ, ◌<◌, ◌==◌, Bool, List, length, slice_index_or}
+use Rattle.std.specs.Prelude.{◌≡◌, ℕ, ◌<◌, ◌==◌, Bool, true, List, length, slice_index_or}
 use Rattle.rising.specs.declared.edge.Edge.{Edge}
 
 -- the edge at a place
@@ -16,18 +16,24 @@ abbrev pub RisesOnEdges : List Edge → (ℕ → ℕ) → Type 0
 RisesOnEdges edges number =
     (k : ℕ) → k < length edges → number (edge_at edges k).from < number (edge_at edges k).to
 
--- the same graph in columns, one for each edge: whether a node leads on in a column, and to which
+-- a graph in columns: whether a node leads on in a column, and to which node (an adjacency list, each
+-- node's edges numbered by columns)
 pub record Digraph : Type 0 where
   pub nodes : ℕ
   pub columns : ℕ
   pub leads : ℕ → ℕ → Bool
-  pub after : ℕ → ℕ
+  pub after : ℕ → ℕ → ℕ
 
--- the columns of a list of edges
+-- a list of edges, each in a column of its own
 abbrev pub digraph_of : ℕ → List Edge → Digraph
 digraph_of nodes edges = record {
   nodes = nodes;
   columns = length edges;
   leads = λ x j. (edge_at edges j).from == x;
-  after = λ j. (edge_at edges j).to;
+  after = λ x j. (edge_at edges j).to;
 }
+
+-- numbers of the nodes rise along each edge of such a graph
+abbrev pub RisesAlong : Digraph → (ℕ → ℕ) → Type 0
+RisesAlong g number = (x j : ℕ) → x < g.nodes → j < g.columns → g.leads x j ≡ true
+    → number x < number (g.after x j)

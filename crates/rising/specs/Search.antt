@@ -37,13 +37,13 @@ IsFinishedBelow marks x high = (h : ℕ) × (node_mark marks x ≡ Done h) × (h
 -- all nodes that node x leads on to in the first n columns are done with, below this height
 abbrev pub SuccessorsAreBelow : Digraph → List Mark → ℕ → ℕ → ℕ → Type 0
 SuccessorsAreBelow g marks x n high =
-    (j : ℕ) → j < n → g.leads x j ≡ true → IsFinishedBelow marks (g.after j) high
+    (j : ℕ) → j < n → g.leads x j ≡ true → IsFinishedBelow marks (g.after x j) high
 
 -- a node leads in a column on to this node
 pub record StepsOn (g : Digraph) (look : Look) (y : ℕ) : Type 0 where
   pub end : look.column < g.columns
   pub marked : g.leads look.node look.column ≡ true
-  pub next : g.after look.column ≡ y
+  pub next : g.after look.node look.column ≡ y
 
 -- a step of the search: the path from where it began, and all nodes' marks
 pub record IsDepthSearch (g : Digraph) (marks : List Mark) (path : List Look) (finished : ℕ) : Type 0
@@ -90,7 +90,7 @@ IsExplored g old new start (Circle looks) = IsCircuit g looks.items
 
 -- no node leads beyond the nodes
 abbrev pub LeadsWithin : Digraph → Type 0
-LeadsWithin g = (x j : ℕ) → j < g.columns → g.leads x j ≡ true → g.after j < g.nodes
+LeadsWithin g = (x j : ℕ) → j < g.columns → g.leads x j ≡ true → g.after x j < g.nodes
 
 -- no node was come to
 abbrev pub AreUnvisited : List Mark → Type 0

@@ -1,13 +1,11 @@
 //! A search in depth for a cycle: from each node that no search came to.
 
 ghost use Rattle.std.specs.Prelude.{◌≡◌, ◌+◌, ◌*◌, ◌^◌, ◌<◌, ℕ, [], length, IfOk, MatchOption};
-ghost use Rattle.rising.specs.Graph.{EdgesAreWithin, digraph_of};
-ghost use Rattle.rising.specs.Chains.{AreChains};
 ghost use Rattle.rising.specs.Search.{node_mark, finish_height, IsDepthSearch, IsExplored};
 ghost use Rattle.rising.specs.Search.{IsCircuit, AreUnvisited, AreFinishedNodes};
 ghost use Rattle.rising.specs.Search.{AreHeightNumbers, AreLookedColumns};
 
-use crate::edge::Edge;
+use crate::graph::Graph;
 use std::alloc::{AllocError, Allocator, Global};
 
 /// How far the search has come with a node.
@@ -21,12 +19,12 @@ pub enum Mark {
     Done(usize),
 }
 
-/// A node on the path of the search, and the edge that is looked at next.
+/// A node, and one of its edges: on the path of the search the one that is looked at next.
 #[derive(Clone, Copy)]
 pub struct Look {
     /// The node.
     pub node: usize,
-    /// The edge: those below it are looked at already.
+    /// The edge's column: those below it are looked at already.
     pub column: usize,
 }
 
@@ -42,30 +40,25 @@ pub enum Visited<A: Allocator = Global> {
 /// Searches in depth from a node.
 ///
 /// Errors: memory.
-pub fn visit<A: Allocator + Copy>(
+pub fn visit<A: Allocator + Copy, G: Graph>(
     alloc: A,
-    nodes: usize,
-    edges: &[Edge],
-    heads: &[usize],
-    nexts: &[usize],
+    graph: &G,
     marks: &mut [Mark],
     finished: usize,
     start: usize,
 ) -> Result<Visited<A>, AllocError>
-    requires within { EdgesAreWithin nodes edges.now }
-    requires chains { AreChains (digraph_of nodes edges.now) heads.now nexts.now }
-    requires start { start < nodes }
+    requires start { start < (G.digraph graph.now).nodes }
     requires new { node_mark marks.old start ≡ Mark.New }
-    requires search { IsDepthSearch (digraph_of nodes edges.now) marks.old [] finished }
-    ensures { IfOk result (IsExplored (digraph_of nodes edges.now) marks.old marks.new start) }
+    requires search { IsDepthSearch (G.digraph graph.now) marks.old [] finished }
+    ensures { IfOk result (IsExplored (G.digraph graph.now) marks.old marks.new start) }
 {
-    let width = edges.len();
+    let width = graph.columns();
     let mut finished = finished;
     let mut path = Vec::new(alloc);
     marks[start] = Mark::Open(0);
     path.push(Look {
         node: start,
-        column: heads[start],
+        column: graph.first(start),
     })?;
     'steps: while path.len() > 0 {
         let last = path.len() - 1;
@@ -76,13 +69,13 @@ pub fn visit<A: Allocator + Copy>(
             path.truncate(last);
             continue;
         }
-        let next = edges[column].to;
+        let next = graph.end(node, column);
         match marks[next] {
             Mark::New => {
                 marks[next] = Mark::Open(path.len());
                 path.push(Look {
                     node: next,
-                    column: heads[next],
+                    column: graph.first(next),
                 })?;
             }
             Mark::Open(place) => return Ok(Visited::Circle(Vec::from_slice(
@@ -91,7 +84,7 @@ pub fn visit<A: Allocator + Copy>(
             )?)),
             Mark::Done(_) => path[last] = Look {
                 node,
-                column: nexts[column],
+                column: graph.next(node, column),
             },
         }
     }
@@ -101,28 +94,23 @@ pub fn visit<A: Allocator + Copy>(
 /// Searches in depth from all nodes: nodes that lead around, or none.
 ///
 /// Errors: memory.
-pub fn visit_all<A: Allocator + Copy>(
+pub fn visit_all<A: Allocator + Copy, G: Graph>(
     alloc: A,
-    nodes: usize,
-    edges: &[Edge],
-    heads: &[usize],
-    nexts: &[usize],
+    graph: &G,
     marks: &mut [Mark],
 ) -> Result<Option<Vec<Look, A>>, AllocError>
-    requires within { EdgesAreWithin nodes edges.now }
-    requires chains { AreChains (digraph_of nodes edges.now) heads.now nexts.now }
-    requires size { length marks.old ≡ nodes }
+    requires size { length marks.old ≡ (G.digraph graph.now).nodes }
     requires new { AreUnvisited marks.old }
     ensures { IfOk result (λ found. MatchOption found
-        (AreFinishedNodes (digraph_of nodes edges.now) marks.new)
-        (λ looks. IsCircuit (digraph_of nodes edges.now) looks.items)) }
+        (AreFinishedNodes (G.digraph graph.now) marks.new)
+        (λ looks. IsCircuit (G.digraph graph.now) looks.items)) }
 {
     let mut finished = 0;
-    for start in 0..nodes {
+    for start in 0..graph.nodes() {
         if marks[start] != Mark::New {
             continue;
         }
-        match visit(alloc, nodes, edges, heads, nexts, marks, finished, start)? {
+        match visit(alloc, graph, marks, finished, start)? {
             Visited::Finished(count) => finished = count,
             Visited::Circle(looks) => return Ok(Some(looks)),
         }

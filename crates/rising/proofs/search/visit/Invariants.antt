@@ -1,6 +1,5 @@
-use Rattle.std.proofs.Common.{◌≡◌, length}
+use Rattle.std.proofs.Common.{◌≡◌}
 use Rattle.rising.specs.declared.search.Mark.TheVariants.{New}
-use Rattle.rising.specs.Graph.{digraph_of}
 use Rattle.rising.specs.Search.{node_mark, IsDepthSearch, StayFinished}
 use Rattle.rising.proofs.Left.{left}
 use Rattle.rising.proofs.search.visit.Given as goal
@@ -8,11 +7,11 @@ use Rattle.rising.proofs.search.visit.Given as goal
 -- a step of the search, in which the first node was come to
 abbrev pub invariant-steps : goal.invariant-steps
 invariant-steps g l = record {
-  search : IsDepthSearch (digraph_of l.nodes l.edges) l.marks l.path.items l.finished;
+  search : IsDepthSearch (g.G.Graph.digraph l.graph) l.marks l.path.items l.finished;
   stay : StayFinished l.fn.marks l.marks;
   begun : node_mark l.marks l.start ≡ New → ⊥;
 }
 
 -- the nodes to come to, and the edges to look at on the path
 abbrev pub decreases-steps : goal.decreases-steps
-decreases-steps g l = left (length l.edges) l.marks l.path.items
+decreases-steps g l = left (g.G.Graph.digraph l.graph).columns l.marks l.path.items

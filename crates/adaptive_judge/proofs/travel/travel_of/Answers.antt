@@ -1,0 +1,49 @@
+use Rattle.std.proofs.Common.{◌≡◌, inl, inr, ℕ, ◌*◌, List, Bool, length, sym, subst, arith}
+use Rattle.std.proofs.lemmas.Bool.{cases_lt}
+use Rattle.std.proofs.lemmas.List.{get_or_read}
+use Rattle.rising.specs.declared.search.Look.{Look}
+use Rattle.rising.specs.declared.finding.Searched.TheVariants.{Rising, Circuit}
+use Rattle.rising.specs.Graph.{Digraph}
+use Rattle.rising.specs.Search.{path_look}
+use Rattle.rising.specs.Found.{IsOrderOrCircuit}
+use Rattle.adaptive_judge.specs.Flags.{AreComes}
+use Rattle.adaptive_judge.specs.Travel.{choice_graph, step_to, HasNumbersTo, GoesRoundAt}
+use Rattle.adaptive_judge.proofs.Travelled.{numbers_to, round_at}
+use Rattle.adaptive_judge.proofs.travel.travel_of.Goals as goal
+
+pub returns-in-Circuit : goal.returns-in-Circuit
+returns-in-Circuit g c =
+    let to : ℕ = c.loop-to.to in
+    let base : ℕ = to * (length c.args.kinds.now * c.args.ways) in
+    let are : AreComes c.args.kinds.now c.args.joins.now (step_to c.args.kinds.now c.args.choices.now c.args.ways c.args.none.now to) to c.deref.result.now =
+    subst (λ (v : List Bool). AreComes c.args.kinds.now c.args.joins.now (step_to c.args.kinds.now c.args.choices.now c.args.ways c.args.none.now to) to v)
+    (sym c.deref.ensures.value) c.in_ok-seen.ensures in
+    let graph : Digraph = choice_graph c.args.kinds.now c.args.choices.now base c.args.ways c.deref.result.now in
+    let circuit : IsOrderOrCircuit {A = g.row.A.Denot} graph (Circuit c.in-Circuit.looks) =
+    subst (λ z. IsOrderOrCircuit {A = g.row.A.Denot} graph z) c.in-Circuit.is c.in_ok-looks.ensures in
+    let first : path_look c.in-Circuit.looks.items 0 ≡ c.index.result.now =
+    sym (get_or_read c.in-Circuit.looks.items 0 c.index.result.now circuit.some c.index.ensures (record { node = 0; column = 0 })) in
+    subst (λ (z : Look). GoesRoundAt c.args.kinds.now c.args.joins.now c.args.choices.now c.args.ways c.args.none.now to z.node) first
+    (round_at c.args.kinds.now c.args.joins.now c.args.choices.now c.args.ways c.args.none.now c.requires.down to c.deref.result.now are
+    c.in-Circuit.looks.items circuit)
+
+pub loop-to-preserved : goal.loop-to-preserved
+loop-to-preserved g c =
+    let to : ℕ = c.loop-to.to in
+    let base : ℕ = to * (length c.args.kinds.now * c.args.ways) in
+    let are : AreComes c.args.kinds.now c.args.joins.now (step_to c.args.kinds.now c.args.choices.now c.args.ways c.args.none.now to) to c.deref.result.now =
+    subst (λ (v : List Bool). AreComes c.args.kinds.now c.args.joins.now (step_to c.args.kinds.now c.args.choices.now c.args.ways c.args.none.now to) to v)
+    (sym c.deref.ensures.value) c.in_ok-seen.ensures in
+    let graph : Digraph = choice_graph c.args.kinds.now c.args.choices.now base c.args.ways c.deref.result.now in
+    let order : IsOrderOrCircuit {A = g.row.A.Denot} graph (Rising c.in-Rising.field-0) =
+    subst (λ z. IsOrderOrCircuit {A = g.row.A.Denot} graph z) c.in-Rising.is c.in_ok-looks.ensures in
+    let here : HasNumbersTo c.args.kinds.now c.args.joins.now c.args.choices.now c.args.ways c.args.none.now to =
+    numbers_to c.args.kinds.now c.args.joins.now c.args.choices.now c.args.ways c.args.none.now c.requires.down to c.deref.result.now are
+    c.in-Rising.field-0.items order.0 order.1 in
+    record {
+      numbers = λ j low. elim (cases_lt j c.loop-to.to) [
+        | inl less ↦ c.loop-to.invariant.numbers j less
+        | inr high ↦ (let same : c.loop-to.to ≡ j = omega arith in
+            subst (λ z. HasNumbersTo c.args.kinds.now c.args.joins.now c.args.choices.now c.args.ways c.args.none.now z) same here)
+      ];
+    }

@@ -1,0 +1,9 @@
+use Rattle.std.proofs.Common.{ℕ, ◌<◌}
+use Rattle.adaptive_judge.specs.Travel.{HasNumbersTo}
+use Rattle.adaptive_judge.proofs.travel.travel_of.Given as goal
+
+-- numbers rise over the choices for each destination so far
+abbrev pub invariant-loop-to : goal.invariant-loop-to
+invariant-loop-to g l = record {
+  numbers : (j : ℕ) → j < l.to → HasNumbersTo l.kinds l.joins l.choices l.ways l.none j;
+}
