@@ -1,0 +1,14 @@
+pub mod Packets
+pub mod Keeping
+pub mod Lists
+pub mod Columns
+pub mod Which
+pub mod Sets
+pub mod Forwards
+pub mod Puts
+pub mod Owners
+pub mod Hindering
+pub mod Still
+pub mod Making
+pub mod Running
+mod Examples

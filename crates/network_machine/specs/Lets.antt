@@ -1,0 +1,34 @@
+-- What a channel's line lets its ends do, or a hindrance.
+use Rattle.std.specs.Prelude.{◌≡◌, ◌≢◌, ℕ, ◌<◌, Bool, true, false, List, [], ◌∷◌, Option, Some, None}
+use Rattle.wormhole.specs.State.{NetLine, in_line}
+use Rattle.network_machine.specs.declared.moves.Hindrance.{Hindrance}
+
+-- the router behind it takes a flit
+abbrev pub LetsTake : NetLine → Option Hindrance → Type 0
+LetsTake l None = (flit : ℕ) × (more : List ℕ) × (l.latch ≡ None) × (l.flits ≡ flit ∷ more)
+LetsTake l (Some h) = (flit : ℕ) (more : List ℕ) → l.latch ≡ None → l.flits ≡ flit ∷ more → ⊥
+
+-- a credit comes back
+abbrev pub LetsReturn : NetLine → Option Hindrance → Type 0
+LetsReturn l None = 0 < l.returning
+LetsReturn l (Some h) = 0 < l.returning → ⊥
+
+-- its receiver takes a flit
+abbrev pub LetsAccept : NetLine → Option Hindrance → Type 0
+LetsAccept l None = (flit : ℕ) × (more : List ℕ) × (l.flits ≡ flit ∷ more)
+LetsAccept l (Some h) = (flit : ℕ) (more : List ℕ) → l.flits ≡ flit ∷ more → ⊥
+
+-- its sender begins a packet
+abbrev pub LetsBegin : NetLine → Option Hindrance → Type 0
+LetsBegin l None = (l.rest ≡ []) × (0 < l.held)
+LetsBegin l (Some h) = l.rest ≡ [] → 0 < l.held → ⊥
+
+-- its sender goes on with a packet
+abbrev pub LetsGoOn : NetLine → Option Hindrance → Type 0
+LetsGoOn l None = (flit : ℕ) × (more : List ℕ) × (l.rest ≡ flit ∷ more) × (0 < l.held)
+LetsGoOn l (Some h) = (flit : ℕ) (more : List ℕ) → l.rest ≡ flit ∷ more → 0 < l.held → ⊥
+
+-- whether flits are in it or in the latch behind it
+abbrev pub TellsFlits : NetLine → Bool → Type 0
+TellsFlits l true = in_line l ≢ []
+TellsFlits l false = in_line l ≡ []

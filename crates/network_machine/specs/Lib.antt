@@ -1,0 +1,11 @@
+pub mod Endings
+pub mod Forwards
+pub mod Inside
+pub mod Keeping
+pub mod Lets
+pub mod Lines
+pub mod Machine
+pub mod Moves
+pub mod Outputs
+pub mod Packets
+pub mod Runs

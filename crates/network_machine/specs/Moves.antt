@@ -1,0 +1,71 @@
+-- The moves of a network, as its events, and when each may be made.
+use Rattle.std.specs.Prelude.{◌≡◌, ℕ, ◌<◌, true, false, Bool, List, length, Option, Some, None}
+use Rattle.std.specs.Prelude.{slice_index_or}
+use Rattle.wormhole.specs.Net.{Net, net_flits}
+use Rattle.wormhole.specs.State.{NetLine}
+use Rattle.wormhole.specs.Events.{NetEvent, InjectHead, InjectRest, Latch, ForwardHead, ForwardRest}
+use Rattle.wormhole.specs.Events.{AcceptHead, AcceptRest, Return, CanHappen, lines_after}
+use Rattle.network_judge.specs.declared.table.Reply.{Reply}
+use Rattle.network_judge.specs.Replies.{IsReply}
+use Rattle.network_machine.specs.declared.moves.Move.{Move}
+use Rattle.network_machine.specs.declared.moves.Move.TheVariants.{Send, More, Take, Put, Accept}
+use Rattle.network_machine.specs.declared.moves.Move.TheVariants.{Credit}
+use Rattle.network_machine.specs.declared.moves.Hindrance.{Hindrance}
+use Rattle.network_machine.specs.declared.channel.Channel.{Channel}
+use Rattle.network_machine.specs.Lines.{ShowsLine, HasRoom}
+
+-- the move that an event is
+abbrev pub move_of : NetEvent → Move
+move_of (InjectHead x k) =
+    Send (record { from = x; to = k.destination; length = length (net_flits k) })
+move_of (InjectRest x flit more) = More x
+move_of (Latch x flit more) = Take x
+move_of (ForwardHead x y flit) = Put x
+move_of (ForwardRest x y flit) = Put x
+move_of (AcceptHead x flit more) = Accept x
+move_of (AcceptRest x flit more) = Accept x
+move_of (Return x) = Credit x
+
+-- the channel of a move
+abbrev pub channel_of : Move → ℕ
+channel_of (Send p) = p.from
+channel_of (More x) = x
+channel_of (Take x) = x
+channel_of (Put x) = x
+channel_of (Accept x) = x
+channel_of (Credit x) = x
+
+-- a receiver that takes a flit has a credit on each channel on which it answers
+abbrev pub HasAnswerCredits : List Reply → (ℕ → NetLine) → Move → Type 0
+HasAnswerCredits replies ls (Send p) = Unit {0}
+HasAnswerCredits replies ls (More x) = Unit {0}
+HasAnswerCredits replies ls (Take x) = Unit {0}
+HasAnswerCredits replies ls (Put x) = Unit {0}
+HasAnswerCredits replies ls (Accept x) = (y : ℕ) → IsReply replies x y → 0 < (ls y).held
+HasAnswerCredits replies ls (Credit x) = Unit {0}
+
+-- an event by which a move may be made
+pub record CanMove (n : Net) (replies : List Reply) (ls : ℕ → NetLine) (m : Move) (e : NetEvent) : Type 0
+  where
+    pub is : move_of e ≡ m
+    pub may : CanHappen n ls e
+    pub answers : HasAnswerCredits replies ls m
+
+-- an event makes the move, or nothing hinders it; or there is a hindrance, and no event makes it
+abbrev pub Hinders : Net → List Reply → (ℕ → NetLine) → Move → Option Hindrance → Type 0
+Hinders n replies ls m None = (e : NetEvent) × CanMove n replies ls m e
+Hinders n replies ls m (Some h) = (e : NetEvent) → CanMove n replies ls m e → ⊥
+
+-- each channel shows its line
+abbrev pub ShowAll : (ℕ → NetLine) → List Channel → Type 0
+ShowAll ls cs = (x : ℕ) (d : Channel) → x < length cs → ShowsLine (ls x) (slice_index_or cs x d)
+
+-- each has room
+abbrev pub HaveRoom : List Channel → Type 0
+HaveRoom cs = (x : ℕ) (d : Channel) → x < length cs → HasRoom (slice_index_or cs x d)
+
+-- an event makes the move, and the channels show the lines after it; or none does
+abbrev pub Makes : Net → (ℕ → NetLine) → Move → List Channel → Bool → Type 0
+Makes n ls m cs true =
+    (e : NetEvent) × (move_of e ≡ m) × CanHappen n ls e × ShowAll (lines_after n ls e) cs
+Makes n ls m cs false = (e : NetEvent) → move_of e ≡ m → CanHappen n ls e → ⊥

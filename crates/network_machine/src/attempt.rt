@@ -1,0 +1,116 @@
+//! Moves that are attempted.
+
+ghost use Rattle.std.specs.Prelude.{◌≡◌, OnOk, OnErr, IfErr};
+ghost use Rattle.network_machine.specs.declared.moves.Move.TheVariants.{Send, More, Take, Put, Accept, Credit};
+ghost use Rattle.network_machine.specs.Machine.{SameTables, MovesAll, Prevents, MakesAll, IsInReach};
+
+use crate::flit::{is_head, is_tail};
+use crate::machine::Machine;
+use crate::moves::{Hindrance, Move, Packet};
+use crate::steps::{accept_at, begin_at, credit_at, forward_at, send_more_at, take_at};
+use network_judge::walk::{is_receiver, is_sender};
+use std::alloc::Allocator;
+
+impl<'a, A: Allocator> Machine<'a, A> {
+    /// Begins a packet.
+    fn make_send(&mut self, packet: Packet) -> bool
+        requires { IsInReach self.old (Send packet) }
+        ensures made { MakesAll self.old self.new (Send packet) result }
+        ensures same { SameTables self.old self.new }
+    {
+        begin_at(&mut self.channels, packet)
+    }
+
+    /// Goes on with a packet.
+    fn make_more(&mut self, x: usize) -> bool
+        requires { IsInReach self.old (More x) }
+        ensures made { MakesAll self.old self.new (More x) result }
+        ensures same { SameTables self.old self.new }
+    {
+        if !is_sender(self.kind(x)) {
+            return false;
+        }
+        send_more_at(&mut self.channels, x)
+    }
+
+    /// Takes a flit into a latch.
+    fn make_take(&mut self, x: usize) -> bool
+        requires { IsInReach self.old (Take x) }
+        ensures made { MakesAll self.old self.new (Take x) result }
+        ensures same { SameTables self.old self.new }
+    {
+        if is_receiver(self.kind(x)) {
+            return false;
+        }
+        take_at(&mut self.channels, x)
+    }
+
+    /// Puts the flit from a latch.
+    fn make_put(&mut self, x: usize) -> bool
+        requires { IsInReach self.old (Put x) }
+        ensures made { MakesAll self.old self.new (Put x) result }
+        ensures same { SameTables self.old self.new }
+    {
+        match self.way_out(x) {
+            Err(_) => false,
+            Ok((flit, y)) => {
+                let head = is_head(flit);
+                forward_at(&mut self.channels, x, y, flit, head, is_tail(flit))
+            }
+        }
+    }
+
+    /// Takes a flit from an ejection channel.
+    fn make_accept(&mut self, x: usize) -> bool
+        requires { IsInReach self.old (Accept x) }
+        ensures made { MakesAll self.old self.new (Accept x) result }
+        ensures same { SameTables self.old self.new }
+    {
+        if !is_receiver(self.kind(x)) {
+            return false;
+        }
+        accept_at(&mut self.channels, x)
+    }
+
+    /// Gives a credit back.
+    fn make_credit(&mut self, x: usize) -> bool
+        requires { IsInReach self.old (Credit x) }
+        ensures made { MakesAll self.old self.new (Credit x) result }
+        ensures same { SameTables self.old self.new }
+    {
+        credit_at(&mut self.channels, x)
+    }
+
+    /// Makes a move, if an event does.
+    fn make(&mut self, of: Move) -> bool
+        requires { IsInReach self.old of }
+        ensures made { MakesAll self.old self.new of result }
+        ensures same { SameTables self.old self.new }
+    {
+        match of {
+            Move::Send(packet) => self.make_send(packet),
+            Move::More(x) => self.make_more(x),
+            Move::Take(x) => self.make_take(x),
+            Move::Put(x) => self.make_put(x),
+            Move::Accept(x) => self.make_accept(x),
+            Move::Credit(x) => self.make_credit(x),
+        }
+    }
+
+    /// Attempts a move: where an event makes it, the machine shows the state after the event; where
+    /// none does, nothing changes. It takes no memory.
+    ///
+    /// Errors: why the move may not be made.
+    pub fn attempt(&mut self, of: Move) -> Result<(), Hindrance>
+        ensures moves { OnOk result (MovesAll self.old self.new of) }
+        ensures prevented { IfErr result (λ h. Prevents self.old of) }
+        ensures stays { OnErr result (self.new ≡ self.old) }
+        ensures same { SameTables self.old self.new }
+    {
+        if let Some(hindrance) = self.hindrance(of) {
+            return Err(hindrance);
+        }
+        let _made = self.make(of);
+        Ok(())
+    }
+}

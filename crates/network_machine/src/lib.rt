@@ -1,0 +1,20 @@
+//! The network of a table as a machine: moves of flits and credits, one at a time, none of which
+//! takes memory; and whether it is locked, empty, or may still go on.
+#![tactic(auto)]
+
+mod attempt;
+pub mod channel;
+mod ending;
+pub mod flit;
+mod hindrance;
+pub mod laws;
+pub mod machine;
+pub mod moves;
+mod opening;
+mod output;
+mod run;
+mod steps;
+
+pub use channel::Channel;
+pub use machine::Machine;
+pub use moves::{Ending, Hindrance, Move, Packet};

@@ -1,0 +1,110 @@
+//! The network of a table, with what stands in its channels.
+
+ghost use Rattle.std.specs.Prelude.{◌≡◌, ◌<◌, ◌≤◌, ◌^◌, ℕ, length, IfOk, Some, IfSome, IfNone};
+ghost use Rattle.network_judge.specs.Table.{table_of, joins_of, kind_of, table_next, IsFull};
+ghost use Rattle.network_judge.specs.declared.table.Kind.TheVariants.{Ejection};
+ghost use Rattle.network_judge.specs.Replies.{AreReplies};
+ghost use Rattle.network_judge.specs.Verdicts.{AllArrive};
+ghost use Rattle.network_machine.specs.Machine.{IsOpened};
+
+use crate::channel::Channel;
+use crate::opening::empty_channels;
+use network_judge::columns::{columns_of, ends_of};
+use network_judge::walk::{cell, kind_at};
+use network_judge::{Join, Kind, Reply};
+use std::alloc::{AllocError, Allocator, Global};
+use std::marker::Model;
+
+/// A network of a table as a machine.
+#[derive(Drop)]
+pub struct Machine<'a, A: Allocator = Global> {
+    pub(crate) kinds: &'a [Kind],
+    pub(crate) joins: &'a [Join],
+    pub(crate) replies: &'a [Reply],
+    pub(crate) choices: &'a [u32],
+    pub(crate) columns: Vec<usize, A>,
+    pub(crate) width: usize,
+    pub(crate) channels: Vec<Channel, A>,
+}
+
+impl<'a, A: Allocator> Model for Machine<'a, A> {
+    ghost use Rattle.network_machine.specs.Machine.{MachineSpec};
+
+    ghost Value = { MachineSpec };
+
+    ghost use Rattle.network_machine.specs.Inside.{machine_of_fields, IsMachine};
+
+    ghost view = { machine_of_fields };
+
+    ghost invariant = { IsMachine };
+}
+
+impl<'a, A: Allocator + Copy> Machine<'a, A> {
+    /// The network of these tables, with no flit in it; a channel holds 1 to 8 flits. Of all calls
+    /// this one alone takes memory.
+    ///
+    /// Errors: memory.
+    pub fn open(
+        alloc: A,
+        kinds: &'a [Kind],
+        joins: &'a [Join],
+        replies: &'a [Reply],
+        choices: &'a [u32],
+        depth: u64,
+    ) -> Result<Machine<'a, A>, AllocError>
+        requires full { IsFull (table_of kinds.now joins.now choices.now) }
+        requires replies { AreReplies (table_of kinds.now joins.now choices.now) replies.now }
+        requires arrive { AllArrive (table_of kinds.now joins.now choices.now) }
+        requires few { length kinds.now < 2 ^ 32 }
+        requires depth { depth ≤ 8 }
+        ensures { IfOk result (IsOpened (table_of kinds.now joins.now choices.now) replies.now
+            depth) }
+    {
+        let columns = columns_of(alloc, kinds)?;
+        let width = ends_of(alloc, kinds)?.len();
+        let channels = empty_channels(alloc, kinds.len(), depth)?;
+        Ok(Machine {
+            kinds,
+            joins,
+            replies,
+            choices,
+            columns,
+            width,
+            channels,
+        })
+    }
+}
+
+impl<'a, A: Allocator> Machine<'a, A> {
+    /// Whether packets go from one channel to another.
+    pub(crate) fn is_joined(&self, from: usize, to: usize) -> bool
+        ensures { result ≡ joins_of self.now.table from to }
+    {
+        self.joins
+            .iter()
+            .any(|pair| pair.from == from && pair.to == to)
+    }
+
+    /// The kind of a channel, and none beyond the channels.
+    pub(crate) fn kind(&self, x: usize) -> Option<Kind>
+        ensures { result ≡ kind_of self.now.table x }
+    {
+        kind_at(self.kinds, x)
+    }
+
+    /// The choice behind a channel for packets to an ejection channel, if these are channels.
+    pub(crate) fn choice(&self, x: usize, to: usize) -> Option<usize>
+        ensures value { IfSome result (λ y. y ≡ table_next self.now.table x to) }
+        ensures none { IfNone result (x < length self.now.table.kinds
+            → kind_of self.now.table to ≡ Some Ejection → ⊥) }
+    {
+        if to >= self.columns.len() || x >= self.kinds.len() {
+            return None;
+        }
+        let column = self.columns[to];
+        if column >= self.width {
+            return None;
+        }
+        Some(self.choices[cell(self.kinds.len(), self.width, x, column)] as usize)
+    }
+}
