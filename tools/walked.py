@@ -9,9 +9,9 @@ from command import Refusal
 
 Place = Tuple[float, float]
 # What `torusmem network` takes at most.
-MOST_CHANNELS, MOST_EJECTIONS, MOST_PAIRS = 16384, 1024, 1048576
-# How many bytes a name has at most.
-MOST_NAME = 64
+MOST_CHANNELS, MOST_CHOICES, MOST_PAIRS = 16384, 1 << 27, 1048576
+# How many bytes a word of a name has at most.
+MOST_NAME = 40
 
 
 class Router(NamedTuple):
@@ -48,8 +48,8 @@ class Network:
         self.kinds.append(kind)
         number = len(self.kinds) - 1
         self.ejections += kind == "eject"
-        if number == MOST_CHANNELS or self.ejections > MOST_EJECTIONS:
-            raise Refusal(f"the network has more than {MOST_CHANNELS} channels, or {MOST_EJECTIONS} ejection channels")
+        if number == MOST_CHANNELS:
+            raise Refusal(f"the network has more than {MOST_CHANNELS} channels")
         self.links[number] = Link(start, end, virtual)
         return number
 
@@ -62,6 +62,8 @@ class Network:
 
     def text(self, named: bool = False) -> str:
         """The text of the network; with its routers and links where they are asked for."""
+        if len(self.kinds) * self.ejections > MOST_CHOICES:
+            raise Refusal(f"the network has more than {MOST_CHOICES} channels times ejection channels")
         lines = [f"channels {len(self.kinds)}"]
         if named:
             lines += [f"router {r} {it.name}" + ("" if it.place is None else " {:.0f} {:.0f}".format(*it.place))
@@ -81,13 +83,13 @@ def number_of(word: str) -> int:
 
 
 SHAPES = {"channels": 1, "inject": 1, "eject": 1, "join": 2, "next": 3, "reply": 2}
-# The lines that `torusmem network` of this version doesn't take: how many words each has behind its first.
-NAMES = {"router": (2, 4), "link": (3, 4), "name": (2, 1 << 30)}
+# The lines that change no verdict: how many words each may have behind its first.
+NAMES = {"router": (2, 4), "link": (3, 4), "name": (2, 3, 4, 5)}
 
 
 class Reader:
-    """Takes the lines of a text, as `torusmem network` does, and those of NAMES. A line that it refuses raises a
-    ValueError that says why."""
+    """Takes the lines of a text, as `torusmem network` does. A line that it refuses raises a ValueError that says
+    why."""
 
     def __init__(self) -> None:
         self.net = Network()
@@ -113,27 +115,25 @@ class Reader:
 
     def take_name(self, kind: str, words: List[str]) -> None:
         """Takes a line that names something, or says where it lies."""
-        least, most = NAMES[kind]
-        figures = {"router": words[:1] + words[2:], "link": words, "name": words[:1]}[kind]
+        figures, names = {"router": (words[:1] + words[2:], words[1:2]), "link": (words, []), "name": (words[:1], words[1:])}[kind]
         numbers = [number_of(word) for word in figures]
-        if not least <= len(words) <= most or (kind, len(words)) == ("router", 3) or min(numbers) < 0:
+        if len(words) not in NAMES[kind] or min(numbers) < 0:
             raise ValueError("no line of a network begins so, or it hasn't so many numbers")
+        if any(len(it) > MOST_NAME or not all("!" <= letter <= "~" for letter in it) for it in names):
+            raise ValueError(f"a word of a name has at most {MOST_NAME} bytes, all visible ASCII")
         if not self.net.kinds:
             raise ValueError("`channels` is the first line, and stands once")
         first, *others = numbers
         self.below(first, MOST_CHANNELS if kind == "router" else len(self.net.kinds), f"the {'router' if kind == 'router' else 'channel'}")
-        for it in others:
-            self.below(it, MOST_CHANNELS, "a number")
+        if kind == "link" and not set(others[:2]) <= set(self.net.routers):
+            raise ValueError("a router is not given before it")
         self.once(f"the line `{kind}` of", first)
-        name = words[1] if kind == "router" else " ".join(words[1:])
-        if kind != "link" and (len(name.encode()) > MOST_NAME or not name.isprintable()):
-            raise ValueError(f"the name is longer than {MOST_NAME} bytes, or can't be printed")
         if kind == "router":
-            self.net.routers[first] = Router(name, (float(others[0]), float(others[1])) if others else None)
+            self.net.routers[first] = Router(names[0], (float(others[0]), float(others[1])) if others else None)
         elif kind == "link":
             self.net.links[first] = Link(*others)
         else:
-            self.net.names[first] = name
+            self.net.names[first] = " ".join(names)
 
     def below(self, number: int, most: int, what: str) -> int:
         if not 0 <= number < most:
@@ -157,7 +157,7 @@ class Reader:
         self.once("the kind of channel", x)
         self.net.kinds[x] = "eject"
         self.net.ejections += 1
-        self.below(self.net.ejections - 1, MOST_EJECTIONS, "the number of ejection channels")
+        self.below(len(self.net.kinds) * self.net.ejections - 1, MOST_CHOICES, "the number of channels times ejection channels")
 
     def join(self, i: int, j: int) -> None:
         self.net.joins.append((i, j))
@@ -178,7 +178,7 @@ class Reader:
 
 
 def parsed(text: str, path: str) -> Network:
-    """The network of a text. Refused with the first line that `torusmem network` refuses, but for those of NAMES."""
+    """The network of a text. Refused with the first line that `torusmem network` refuses."""
     reader, number = Reader(), 0
     for number, line in enumerate(text.split("\n"), 1):
         words = line.split()

@@ -1,8 +1,7 @@
 -- The place of the choice that a line gives.
-use Rattle.std.proofs.Common.{◌≡◌, ℕ, ◌+◌, ◌*◌, ◌<◌, ◌≤◌, true, Some, length, get_or, take, ◌∙◌, ap, arith}
+use Rattle.std.proofs.Common.{◌≡◌, ℕ, ◌+◌, ◌*◌, ◌^◌, ◌<◌, ◌≤◌, true, Some, length, get_or, take, ◌∙◌, ap, arith}
 use Rattle.std.specs.Prelude.{slice_get}
 use Rattle.std.specs.List.{count_by}
-use Rattle.std.proofs.Math.Nat.{mul-le-mul_right}
 use Rattle.std.proofs.lemmas.List.{get_or_read}
 use Rattle.std.proofs.lemmas.Option.{slice_get_within}
 use Rattle.network_judge.specs.declared.table.Kind.TheVariants.{Ejection}
@@ -18,7 +17,7 @@ use Rattle.network_text.proofs.Begun.{is_begun, begun_kinds, cell_low}
 pub record Cell {A : Type 0} (old : Reading) (r : reading.Reading A) (x j at : ℕ) : Type 0 where
   pub cell : x * r.ejections + at ≡ cell_of old x j
   pub low : x * r.ejections + at < length r.choices.items
-  pub small : length r.choices.items ≤ 16384 * 1024
+  pub small : length r.choices.items ≤ 2 ^ 27
 
 pub cell_at : {A : Type 0} (old : Reading) (r : reading.Reading A) (x j at : ℕ) → x < count_of old
     → is_receiver (slice_get old.table.kinds j) ≡ true → reading_of r ≡ begun old → IsRead r
@@ -36,11 +35,8 @@ cell_at old r x j at low ends is read here =
     let full : length r.choices.items ≡ length r.kinds.items * count_by ejects r.kinds.items = read.full b in
     let count : length r.kinds.items ≡ count_of old = ap length kinds in
     let few = read.few in
-    let many = read.channels in
     let low_cell = cell_low (length r.kinds.items) (count_by ejects r.kinds.items) x at (omega arith) (omega arith) in
     let rows : x * r.ejections ≡ x * count_by ejects r.kinds.items = ap (λ w. x * w) width in
-    let most : length r.kinds.items * count_by ejects r.kinds.items ≤ 16384 * count_by ejects r.kinds.items =
-    mul-le-mul_right (count_by ejects r.kinds.items) many in
     record {
       cell = ap (λ w. x * w + at) width ∙ ap (λ z. x * count_by ejects r.kinds.items + z) column
           ∙ ap (λ k. x * count_by ejects k + count_by ejects (take j k)) kinds;

@@ -8,3 +8,5 @@ pub mod Refused
 pub mod Pieces
 pub mod Behind
 pub mod Jams
+pub mod Bounds
+pub mod Without

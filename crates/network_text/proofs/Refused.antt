@@ -31,6 +31,12 @@ at_line (reason.NotEjection p) n = inr refl
 at_line (reason.NotInjection p) n = inr refl
 at_line reason.ChoiceTwice n = inr refl
 at_line reason.ReplyTwice n = inr refl
+at_line reason.NotName n = inr refl
+at_line reason.RouterLimits n = inr refl
+at_line (reason.NotRouter p) n = inr refl
+at_line reason.RouterTwice n = inr refl
+at_line reason.LinkTwice n = inr refl
+at_line reason.NameTwice n = inr refl
 at_line reason.Memory n = inl refl
 
 -- the refusal of a line is what the reader answers

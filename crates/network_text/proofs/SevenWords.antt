@@ -8,8 +8,10 @@ use Rattle.network_text.specs.declared.reason.Keyword.{Keyword}
 use Rattle.network_text.specs.declared.reason.Keyword.TheVariants as key
 use Rattle.network_text.specs.declared.reason.NetworkReason.{NetworkReason}
 use Rattle.network_text.specs.Reasons.{network_keyword_of}
-use Rattle.network_text.specs.Network.{Reading, NetworkSpec, after_one, after_two, after_three, after_first, after_words, network_from}
+use Rattle.network_text.specs.Shapes.{after_one, after_two, after_three, after_router_words, after_link_words, after_name_words}
+use Rattle.network_text.specs.Network.{Reading, NetworkSpec, after_first, after_words, network_from}
 use Rattle.network_text.specs.Network.{after_channels, after_inject, after_eject, after_join, after_next, after_reply}
+use Rattle.network_text.specs.Network.{after_router, after_link, after_name}
 
 one_six : (k : Keyword) (f : ℕ → Result Reading NetworkReason) (ws : List (List ℕ)) → after_one k f (take 6 ws) ≡ after_one k f ws
 one_six k f [] = refl
@@ -30,6 +32,31 @@ three_six k f (a ∷ b ∷ []) = refl
 three_six k f (a ∷ b ∷ c ∷ []) = refl
 three_six k f (a ∷ b ∷ c ∷ d ∷ more) = refl
 
+router_six : (f : ℕ → Result Reading NetworkReason) (ws : List (List ℕ)) → after_router_words f (take 6 ws) ≡ after_router_words f ws
+router_six f [] = refl
+router_six f (a ∷ []) = refl
+router_six f (a ∷ b ∷ []) = refl
+router_six f (a ∷ b ∷ c ∷ []) = refl
+router_six f (a ∷ b ∷ c ∷ d ∷ []) = refl
+router_six f (a ∷ b ∷ c ∷ d ∷ e ∷ more) = refl
+
+link_six : (f : ℕ → ℕ → ℕ → Result Reading NetworkReason) (ws : List (List ℕ)) → after_link_words f (take 6 ws) ≡ after_link_words f ws
+link_six f [] = refl
+link_six f (a ∷ []) = refl
+link_six f (a ∷ b ∷ []) = refl
+link_six f (a ∷ b ∷ c ∷ []) = refl
+link_six f (a ∷ b ∷ c ∷ d ∷ []) = refl
+link_six f (a ∷ b ∷ c ∷ d ∷ e ∷ more) = refl
+
+name_six : (f : ℕ → Result Reading NetworkReason) (ws : List (List ℕ)) → after_name_words f (take 6 ws) ≡ after_name_words f ws
+name_six f [] = refl
+name_six f (a ∷ []) = refl
+name_six f (a ∷ b ∷ []) = refl
+name_six f (a ∷ b ∷ c ∷ []) = refl
+name_six f (a ∷ b ∷ c ∷ d ∷ []) = refl
+name_six f (a ∷ b ∷ c ∷ d ∷ e ∷ []) = refl
+name_six f (a ∷ b ∷ c ∷ d ∷ e ∷ g ∷ more) = refl
+
 first_six : (r : Reading) (k : Option Keyword) (ws : List (List ℕ)) → after_first r k (take 6 ws) ≡ after_first r k ws
 first_six r None ws = refl
 first_six r (Some key.Channels) ws = one_six key.Channels (after_channels r) ws
@@ -38,6 +65,9 @@ first_six r (Some key.Eject) ws = one_six key.Eject (after_eject r) ws
 first_six r (Some key.Join) ws = two_six key.Join (after_join r) ws
 first_six r (Some key.Next) ws = three_six key.Next (after_next r) ws
 first_six r (Some key.Reply) ws = two_six key.Reply (after_reply r) ws
+first_six r (Some key.Router) ws = router_six (after_router r) ws
+first_six r (Some key.Link) ws = link_six (after_link r) ws
+first_six r (Some key.Name) ws = name_six (after_name r) ws
 
 pub words_seven : (r : Reading) (ws : List (List ℕ)) → after_words r (take 7 ws) ≡ after_words r ws
 words_seven r [] = refl

@@ -9,7 +9,8 @@ use Rattle.network_text.specs.declared.before.Wanted.{Wanted}
 use Rattle.network_text.specs.declared.before.Wanted.TheVariants as wanted
 use Rattle.network_text.specs.declared.reason.Keyword.{Keyword}
 use Rattle.network_text.specs.declared.reason.Keyword.TheVariants.{Channels, Inject, Eject}
-use Rattle.network_text.specs.declared.reason.Keyword.TheVariants.{Next, Reply}
+use Rattle.network_text.specs.declared.reason.Keyword.TheVariants.{Next, Reply, Router}
+use Rattle.network_text.specs.declared.reason.Keyword.TheVariants.{Link, Name}
 use Rattle.network_text.specs.declared.reason.NetworkReason.{NetworkReason}
 use Rattle.network_text.specs.declared.reason.NetworkReason.TheVariants as reason
 use Rattle.network_text.specs.Reasons.{network_keyword_of}
@@ -22,6 +23,9 @@ numbers_give (wanted.Kind x) Eject a b = a == x
 numbers_give wanted.Next Next a b = true
 numbers_give (wanted.Choice x j) Next a b = (a == x) && (b == j)
 numbers_give (wanted.Reply x y) Reply a b = (a == x) && (b == y)
+numbers_give (wanted.Router r) Router a b = a == r
+numbers_give (wanted.Link x) Link a b = a == x
+numbers_give (wanted.Name x) Name a b = a == x
 numbers_give _ _ a b = false
 
 -- whether a line of a keyword gives what is wanted
@@ -49,6 +53,9 @@ wanted_of reason.ChoiceTwice values =
     Some (wanted.Choice (first_index values) (second_index values))
 wanted_of reason.ReplyTwice values =
     Some (wanted.Reply (first_index values) (second_index values))
+wanted_of reason.RouterTwice values = Some (wanted.Router (first_index values))
+wanted_of reason.LinkTwice values = Some (wanted.Link (first_index values))
+wanted_of reason.NameTwice values = Some (wanted.Name (first_index values))
 wanted_of _ values = None
 
 -- the number of the first line before the line `stop` that gave what is wanted; 0 where none did

@@ -1,12 +1,11 @@
 -- The network text: what each line makes of what the lines before it made, and what the whole text
 -- is (this project's own format).
-use Rattle.std.specs.Prelude.{◌≡◌, ◌⊎◌, ℕ, ◌+◌, ◌*◌, ◌==◌, ◌&&◌, Bool, true, false, not}
+use Rattle.std.specs.Prelude.{◌≡◌, ◌⊎◌, ℕ, ◌+◌, ◌*◌, ◌^◌, ◌==◌, ◌&&◌, Bool, true, false, not}
 use Rattle.std.specs.Prelude.{nat_le, nat_lt, List, [], ◌∷◌, ◌++◌}
 use Rattle.std.specs.Prelude.{length, replicate, slice_index, slice_index_or, slice_get, slice_set}
 use Rattle.std.specs.Prelude.{Result, Ok, Err, Option, Some, None, ok_or, if◌then◌else◌}
 use Rattle.std.specs.List.{list_any}
 use Rattle.lexer.specs.Words.{words_of, begins_comment}
-use Rattle.lexer.specs.Numbers.{index_of}
 use Rattle.lexer.specs.declared.refusal.Refusal.{Refusal}
 use Rattle.lexer.specs.Outcome.{◌>>=◌, then_lines}
 use Rattle.script.specs.declared.fault.LineFault.{LineFault}
@@ -15,26 +14,31 @@ use Rattle.network_text.specs.declared.reason.Keyword.{Keyword}
 use Rattle.network_text.specs.declared.reason.Keyword.TheVariants as key
 use Rattle.network_text.specs.declared.reason.NetworkReason.{NetworkReason}
 use Rattle.network_text.specs.declared.reason.NetworkReason.TheVariants as reason
+use Rattle.network_text.specs.declared.reading.GivenNames.{GivenNames}
 use Rattle.network_text.specs.Reasons.{network_fault_of, network_keyword_of}
+use Rattle.network_text.specs.Shapes.{unless, after_one, after_two, after_three, after_router_words}
+use Rattle.network_text.specs.Shapes.{after_link_words, after_name_words}
 use Rattle.network_judge.specs.declared.table.Kind.{Kind}
 use Rattle.network_judge.specs.declared.table.Kind.TheVariants.{Injection, Hop, Ejection}
 use Rattle.network_judge.specs.declared.table.Reply.{Reply}
 use Rattle.network_judge.specs.Table.{Table, table_of, columns_of, column_of, is_sender, is_receiver}
 
--- what is read so far: the tables, the replies, and whether a choice was given yet; there are no
--- choices before
+-- what is read so far: the tables, the replies, whether a choice was given yet (there are no
+-- choices before), and which names are given
 pub record Reading : Type 0 where
   pub table : Table
   pub replies : List Reply
   pub begun : Bool
+  pub names : List GivenNames
 
 -- these
-abbrev pub reading_with : Table → List Reply → Bool → Reading
-reading_with table replies begun = record { table = table; replies = replies; begun = begun }
+abbrev pub reading_with : Table → List Reply → Bool → List GivenNames → Reading
+reading_with table replies begun names =
+    record { table = table; replies = replies; begun = begun; names = names }
 
 -- nothing is given
 abbrev pub nothing_read : Reading
-nothing_read = reading_with (table_of [] [] []) [] false
+nothing_read = reading_with (table_of [] [] []) [] false []
 
 -- how many channels there are; none before their number is given
 abbrev pub count_of : Reading → ℕ
@@ -47,19 +51,13 @@ lacks r place x =
     else (if not (nat_lt x (count_of r)) then Some (reason.ChannelLimits place (count_of r))
     else None)
 
--- what a line makes, unless something is wrong with it
-abbrev pub unless : {A : Type 0} → Option NetworkReason → Result A NetworkReason
-    → Result A NetworkReason
-unless None made = made
-unless (Some e) made = Err e
-
 -- the number of channels is given once, and all are hops at first
 abbrev pub after_channels : Reading → ℕ → Result Reading NetworkReason
 after_channels r count =
     if not (count_of r == 0) then Err reason.ChannelsTwice
     else (if nat_le 1 count && nat_le count 16384
     then Ok (reading_with (table_of (replicate count Hop) r.table.joins r.table.choices) r.replies
-    r.begun)
+    r.begun r.names)
     else Err reason.ChannelsLimits)
 
 -- whether a kind is that of hops
@@ -72,7 +70,7 @@ is_hop Ejection = false
 abbrev pub with_kind : Reading → ℕ → Kind → Reading
 with_kind r x kind =
     reading_with (table_of (slice_set r.table.kinds x kind) r.table.joins r.table.choices) r.replies
-    r.begun
+    r.begun r.names
 
 -- a channel is made an injection channel, once
 abbrev pub after_inject : Reading → ℕ → Result Reading NetworkReason
@@ -80,12 +78,13 @@ after_inject r x = unless (lacks r 1 x)
     (if not (is_hop (slice_index_or r.table.kinds x Hop)) then Err reason.KindTwice
     else Ok (with_kind r x Injection))
 
--- a channel is made an ejection channel, once, before all choices
+-- a channel is made an ejection channel, once, before all choices, of which there may be 2 ^ 27
 abbrev pub after_eject : Reading → ℕ → Result Reading NetworkReason
 after_eject r x = unless (lacks r 1 x)
     (if r.begun then Err reason.EjectionLate
     else (if not (is_hop (slice_index_or r.table.kinds x Hop)) then Err reason.KindTwice
-    else (if nat_le 1024 (columns_of r.table) then Err reason.EjectionsLimits
+    else (if nat_lt (2 ^ 27) (count_of r * (columns_of r.table + 1))
+    then Err reason.EjectionsLimits
     else Ok (with_kind r x Ejection))))
 
 -- packets go from one channel to another
@@ -94,14 +93,14 @@ after_join r i j = unless (lacks r 1 i) (unless (lacks r 2 j)
     (if nat_le 1048576 (length r.table.joins) then Err reason.JoinsLimits
     else Ok (reading_with (table_of r.table.kinds
     (r.table.joins ++ record { from = i; to = j } ∷ []) r.table.choices)
-    r.replies r.begun)))
+    r.replies r.begun r.names)))
 
 -- with choices: none yet behind any channel for any ejection channel
 abbrev pub started : Reading → Reading
 started r =
     reading_with (table_of r.table.kinds r.table.joins
     (replicate (count_of r * columns_of r.table) (count_of r)))
-    r.replies true
+    r.replies true r.names
 
 -- with choices, if none was given
 abbrev pub begun : Reading → Reading
@@ -116,7 +115,7 @@ abbrev pub after_choice : Reading → ℕ → ℕ → Result Reading NetworkReas
 after_choice r cell y =
     if not (slice_index r.table.choices cell == count_of r) then Err reason.ChoiceTwice
     else Ok (reading_with (table_of r.table.kinds r.table.joins (slice_set r.table.choices cell y))
-    r.replies r.begun)
+    r.replies r.begun r.names)
 
 -- the choice behind a channel for packets to an ejection channel
 abbrev pub after_next : Reading → ℕ → ℕ → ℕ → Result Reading NetworkReason
@@ -135,34 +134,61 @@ after_reply r x y = unless (lacks r 1 x)
     else unless (lacks r 2 y)
     (if not (is_sender (slice_get r.table.kinds y)) then Err (reason.NotInjection 2)
     else (if has_reply r.replies x y then Err reason.ReplyTwice
-    else Ok (reading_with r.table (r.replies ++ record { from = x; to = y } ∷ []) r.begun))))
+    else Ok (reading_with r.table (r.replies ++ record { from = x; to = y } ∷ []) r.begun r.names))))
 
--- the number that a word spells where one belongs, of the word at this place of its line
-abbrev pub number_at : ℕ → List ℕ → Result ℕ NetworkReason
-number_at place word = ok_or (index_of word) (reason.NotNumber place)
+-- no name is given
+abbrev pub unnamed : GivenNames
+unnamed = record { router = false; link = false; name = false }
 
--- the one, two or three numbers after a keyword
-abbrev pub after_one :
-    Keyword → (ℕ → Result Reading NetworkReason) → List (List ℕ) → Result Reading NetworkReason
-after_one keyword f (a ∷ []) = number_at 1 a >>= f
-after_one keyword f [] = Err (reason.NumberCount keyword)
-after_one keyword f (a ∷ b ∷ more) = Err (reason.NumberCount keyword)
+-- which names are given under a number
+abbrev pub names_at : Reading → ℕ → GivenNames
+names_at r x = slice_index_or r.names x unnamed
 
-abbrev pub after_two :
-    Keyword → (ℕ → ℕ → Result Reading NetworkReason) → List (List ℕ) → Result Reading NetworkReason
-after_two keyword f (a ∷ b ∷ []) = number_at 1 a >>= λ x. number_at 2 b >>= f x
-after_two keyword f [] = Err (reason.NumberCount keyword)
-after_two keyword f (a ∷ []) = Err (reason.NumberCount keyword)
-after_two keyword f (a ∷ b ∷ c ∷ more) = Err (reason.NumberCount keyword)
+-- with room for the names under so many numbers, without one, if none was given
+abbrev pub begun_names : ℕ → Reading → Reading
+begun_names room r = if length r.names == 0
+    then reading_with r.table r.replies r.begun (replicate room unnamed)
+    else r
 
-abbrev pub after_three : Keyword → (ℕ → ℕ → ℕ → Result Reading NetworkReason) → List (List ℕ)
-    → Result Reading NetworkReason
-after_three keyword f (a ∷ b ∷ c ∷ []) =
-    number_at 1 a >>= λ x. number_at 2 b >>= λ y. number_at 3 c >>= f x y
-after_three keyword f [] = Err (reason.NumberCount keyword)
-after_three keyword f (a ∷ []) = Err (reason.NumberCount keyword)
-after_three keyword f (a ∷ b ∷ []) = Err (reason.NumberCount keyword)
-after_three keyword f (a ∷ b ∷ c ∷ d ∷ more) = Err (reason.NumberCount keyword)
+-- with these names under a number
+abbrev pub with_names : Reading → ℕ → GivenNames → Reading
+with_names r x n =
+    let b = begun_names 16384 r in
+    reading_with b.table b.replies b.begun (slice_set b.names x n)
+
+-- a router is given once; its number is below 16384
+abbrev pub after_router : Reading → ℕ → Result Reading NetworkReason
+after_router r x =
+    if count_of r == 0 then Err reason.ChannelsFirst
+    else (if nat_le 16384 x then Err reason.RouterLimits
+    else (if (names_at r x).router then Err reason.RouterTwice
+    else Ok (with_names r x (record {
+      router = true;
+      link = (names_at r x).link;
+      name = (names_at r x).name;
+    }))))
+
+-- the routers at the ends of a channel are given once, behind the routers
+abbrev pub after_link : Reading → ℕ → ℕ → ℕ → Result Reading NetworkReason
+after_link r x a b = unless (lacks r 1 x)
+    (if not (names_at r a).router then Err (reason.NotRouter 2)
+    else (if not (names_at r b).router then Err (reason.NotRouter 3)
+    else (if (names_at r x).link then Err reason.LinkTwice
+    else Ok (with_names r x (record {
+      router = (names_at r x).router;
+      link = true;
+      name = (names_at r x).name;
+    })))))
+
+-- the name of a channel is given once
+abbrev pub after_name : Reading → ℕ → Result Reading NetworkReason
+after_name r x = unless (lacks r 1 x)
+    (if (names_at r x).name then Err reason.NameTwice
+    else Ok (with_names r x (record {
+      router = (names_at r x).router;
+      link = (names_at r x).link;
+      name = true;
+    })))
 
 -- what a line of a keyword and these words makes of it
 abbrev pub after_keyword : Reading → Keyword → List (List ℕ) → Result Reading NetworkReason
@@ -172,6 +198,9 @@ after_keyword r key.Eject values = after_one key.Eject (after_eject r) values
 after_keyword r key.Join values = after_two key.Join (after_join r) values
 after_keyword r key.Next values = after_three key.Next (after_next r) values
 after_keyword r key.Reply values = after_two key.Reply (after_reply r) values
+after_keyword r key.Router values = after_router_words (after_router r) values
+after_keyword r key.Link values = after_link_words (after_link r) values
+after_keyword r key.Name values = after_name_words (after_name r) values
 
 -- what a line makes of it whose first word may be a keyword
 abbrev pub after_first : Reading → Option Keyword → List (List ℕ) → Result Reading NetworkReason

@@ -6,7 +6,8 @@ use Rattle.torus.specs.declared.fault.Fault.{Fault}
 use Rattle.torus.specs.declared.fault.Fault.TheVariants as fault
 use Rattle.network_text.specs.declared.reason.Keyword.{Keyword}
 use Rattle.network_text.specs.declared.reason.Keyword.TheVariants.{Channels, Inject, Eject, Join}
-use Rattle.network_text.specs.declared.reason.Keyword.TheVariants.{Next, Reply}
+use Rattle.network_text.specs.declared.reason.Keyword.TheVariants.{Next, Reply, Router}
+use Rattle.network_text.specs.declared.reason.Keyword.TheVariants.{Link, Name}
 use Rattle.network_text.specs.declared.reason.NetworkReason.{NetworkReason}
 use Rattle.network_text.specs.declared.reason.NetworkReason.TheVariants as reason
 
@@ -28,6 +29,12 @@ network_fault_of (reason.NotEjection place) = fault.Range
 network_fault_of (reason.NotInjection place) = fault.Range
 network_fault_of reason.ChoiceTwice = fault.Setting
 network_fault_of reason.ReplyTwice = fault.Setting
+network_fault_of reason.NotName = fault.Line
+network_fault_of reason.RouterLimits = fault.Range
+network_fault_of (reason.NotRouter place) = fault.Range
+network_fault_of reason.RouterTwice = fault.Setting
+network_fault_of reason.LinkTwice = fault.Setting
+network_fault_of reason.NameTwice = fault.Setting
 network_fault_of reason.Memory = fault.Memory
 
 -- the keyword that a word spells
@@ -39,4 +46,7 @@ network_keyword_of word =
     else (if bytes_eq word (codes "join") then Some Join
     else (if bytes_eq word (codes "next") then Some Next
     else (if bytes_eq word (codes "reply") then Some Reply
-    else None)))))
+    else (if bytes_eq word (codes "router") then Some Router
+    else (if bytes_eq word (codes "link") then Some Link
+    else (if bytes_eq word (codes "name") then Some Name
+    else None))))))))

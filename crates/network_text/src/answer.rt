@@ -22,7 +22,7 @@ pub struct Answer<A: Allocator = Global> {
 }
 
 /// Whether a verdict has numbers.
-fn is_rising<A: Allocator>(verdict: &Verdict<A>) -> bool
+pub(crate) fn is_rising<A: Allocator>(verdict: &Verdict<A>) -> bool
     ensures { result ≡ is_rising verdict.now }
 {
     match verdict {

@@ -21,6 +21,12 @@ pub(crate) enum Wanted {
     Choice(u32, u32),
     /// The reply to packets from an ejection channel on an injection channel.
     Reply(u32, u32),
+    /// The name of a router.
+    Router(u32),
+    /// The routers at the ends of a channel.
+    Link(u32),
+    /// The name of a channel.
+    Name(u32),
 }
 
 impl Sought for Wanted {
@@ -74,6 +80,18 @@ impl Wanted {
                 Wanted::Reply(x, y) => a == x && b == y,
                 _ => false,
             },
+            Keyword::Router => match self {
+                Wanted::Router(r) => a == r,
+                _ => false,
+            },
+            Keyword::Link => match self {
+                Wanted::Link(x) => a == x,
+                _ => false,
+            },
+            Keyword::Name => match self {
+                Wanted::Name(x) => a == x,
+                _ => false,
+            },
         }
     }
 }
@@ -91,6 +109,9 @@ fn wanted_of(reason: NetworkReason, values: &[&[u8]]) -> Option<Wanted>
         NetworkReason::EjectionLate => Some(Wanted::Next),
         NetworkReason::ChoiceTwice => Some(Wanted::Choice(a, b)),
         NetworkReason::ReplyTwice => Some(Wanted::Reply(a, b)),
+        NetworkReason::RouterTwice => Some(Wanted::Router(a)),
+        NetworkReason::LinkTwice => Some(Wanted::Link(a)),
+        NetworkReason::NameTwice => Some(Wanted::Name(a)),
         _ => None,
     }
 }

@@ -43,7 +43,7 @@ fn put_jam<A: Allocator>(out: &mut Vec<u8, A>, fills: &[Fill]) -> Result<(), All
 /// A jam of a network with this verdict, if it is a cycle and one is found.
 ///
 /// Errors: memory.
-fn jam_of<A: Allocator + Copy>(
+pub(crate) fn jam_of<A: Allocator + Copy>(
     alloc: A,
     network: &Network<A>,
     verdict: &Verdict<A>,

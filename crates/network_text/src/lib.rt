@@ -1,12 +1,14 @@
-//! The text of a network: its channels, who sends to whom, the routers' choices and the replies;
-//! where and why it is refused, and the sentence that says so; and the text of what is judged of it,
-//! with the channels that fill up where it locks up.
+//! The text of a network: its channels, who sends to whom, the routers' choices, the replies and the
+//! names; where and why it is refused, and the sentence that says so; and the text of what is judged
+//! of it, with the channels that fill up where it locks up.
 #![tactic(auto)]
 
 pub mod answer;
 pub mod before;
 pub mod jam;
+pub mod laws;
 mod lines;
+mod naming;
 pub mod network;
 mod reading;
 pub mod reason;

@@ -6,8 +6,8 @@ ghost use Rattle.lexer.specs.Outcome.{Makes};
 ghost use Rattle.network_text.specs.Network.{Reading as ReadSpec};
 ghost use Rattle.network_text.specs.Network.{after_channels, after_inject, after_eject, after_join};
 ghost use Rattle.network_text.specs.Network.{after_next, after_reply};
-ghost use Rattle.network_text.specs.Network.{after_one, after_two, after_three};
-ghost use Rattle.network_text.specs.Network.{after_keyword, after_words, number_at};
+ghost use Rattle.network_text.specs.Network.{after_keyword, after_words};
+ghost use Rattle.network_text.specs.Shapes.{after_one, after_two, after_three, number_at, three_at};
 ghost use Rattle.network_text.specs.Reading.{reading_of, IsRead};
 
 use crate::reading::Reading;
@@ -16,7 +16,7 @@ use lexer::index;
 use std::alloc::Allocator;
 
 /// The number that a word spells where one belongs, of the word at this place of its line.
-fn number_at(place: u32, word: &[u8]) -> Result<u32, NetworkReason>
+pub(crate) fn number_at(place: u32, word: &[u8]) -> Result<u32, NetworkReason>
     ensures { result ≡ number_at place word.now }
 {
     match index(word) {
@@ -46,12 +46,27 @@ fn two_indexes(keyword: Keyword, values: &[&[u8]]) -> Result<(u32, u32), Network
         → after_two keyword f (map (λ value. value.now) values.now) ≡ Err e) }
 {
     match values {
-        [a, b] => {
-            let x = number_at(1, a)?;
-            let y = number_at(2, b)?;
-            Ok((x, y))
-        }
+        [a, b] => match (number_at(1, a), number_at(2, b)) {
+            (Ok(x), Ok(y)) => Ok((x, y)),
+            (Err(reason), _) => Err(reason),
+            (Ok(_), Err(reason)) => Err(reason),
+        },
         _ => Err(NetworkReason::NumberCount(keyword)),
+    }
+}
+
+/// The numbers that the three words behind a keyword spell.
+pub(crate) fn three_numbers(a: &[u8], b: &[u8], c: &[u8]) -> Result<(u32, u32, u32), NetworkReason>
+    ensures numbers { IfOk result (λ r. (f : ℕ → ℕ → ℕ → Result ReadSpec NetworkReason)
+        → three_at f a.now b.now c.now ≡ f r.0 r.1 r.2) }
+    ensures reason { IfErr result (λ e. (f : ℕ → ℕ → ℕ → Result ReadSpec NetworkReason)
+        → three_at f a.now b.now c.now ≡ Err e) }
+{
+    match (number_at(1, a), number_at(2, b), number_at(3, c)) {
+        (Ok(x), Ok(j), Ok(y)) => Ok((x, j, y)),
+        (Err(reason), _, _) => Err(reason),
+        (Ok(_), Err(reason), _) => Err(reason),
+        (Ok(_), Ok(_), Err(reason)) => Err(reason),
     }
 }
 
@@ -63,12 +78,7 @@ fn three_indexes(keyword: Keyword, values: &[&[u8]]) -> Result<(u32, u32, u32), 
         → after_three keyword f (map (λ value. value.now) values.now) ≡ Err e) }
 {
     match values {
-        [a, b, c] => match (number_at(1, a), number_at(2, b), number_at(3, c)) {
-            (Ok(x), Ok(j), Ok(y)) => Ok((x, j, y)),
-            (Err(reason), _, _) => Err(reason),
-            (Ok(_), Err(reason), _) => Err(reason),
-            (Ok(_), Ok(_), Err(reason)) => Err(reason),
-        },
+        [a, b, c] => three_numbers(a, b, c),
         _ => Err(NetworkReason::NumberCount(keyword)),
     }
 }
@@ -110,6 +120,9 @@ impl<A: Allocator + Copy> Reading<A> {
             Keyword::Join => self.join_line(values),
             Keyword::Next => self.next_line(alloc, values),
             Keyword::Reply => self.reply_line(values),
+            Keyword::Router => self.router_line(alloc, values),
+            Keyword::Link => self.link_line(alloc, values),
+            Keyword::Name => self.name_line(alloc, values),
         }
     }
 

@@ -9,6 +9,22 @@ use network_judge::walk::{is_receiver, is_sender, kind_at};
 use network_judge::{Join, Kind, Reply};
 use std::alloc::{AllocError, Allocator};
 
+/// Which names are given under a number: that of the router, the routers at the ends of the channel,
+/// and that of the channel.
+#[derive(Clone, Copy)]
+pub(crate) struct GivenNames {
+    pub(crate) router: bool,
+    pub(crate) link: bool,
+    pub(crate) name: bool,
+}
+
+/// No name.
+pub(crate) const UNNAMED: GivenNames = GivenNames {
+    router: false,
+    link: false,
+    name: false,
+};
+
 /// What the lines of a network text gave so far.
 #[derive(Drop)]
 pub(crate) struct Reading<A: Allocator> {
@@ -24,6 +40,8 @@ pub(crate) struct Reading<A: Allocator> {
     pub(crate) columns: Vec<usize, A>,
     /// The choices, once one was given; where there is none, the number of channels.
     pub(crate) choices: Vec<u32, A>,
+    /// Which names are given under each number below 16384; none before the first.
+    pub(crate) names: Vec<GivenNames, A>,
 }
 
 /// Whether a kind is that of hops.
@@ -63,6 +81,7 @@ impl<A: Allocator + Copy> Reading<A> {
             begun: false,
             columns: Vec::new(alloc),
             choices: Vec::new(alloc),
+            names: Vec::new(alloc),
         }
     }
 

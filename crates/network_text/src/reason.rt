@@ -16,6 +16,9 @@ pub enum Keyword {
     Join,
     Next,
     Reply,
+    Router,
+    Link,
+    Name,
 }
 
 /// Why a line of a network text is refused. A word of the line is named by its place, from 0.
@@ -41,7 +44,7 @@ pub enum NetworkReason {
     KindTwice,
     /// The ejection channel comes behind the first choice.
     EjectionLate,
-    /// There are 1024 ejection channels already.
+    /// One more ejection channel, times the number of channels, is more than 134217728.
     EjectionsLimits,
     /// There are 1048576 pairs already.
     JoinsLimits,
@@ -53,6 +56,18 @@ pub enum NetworkReason {
     ChoiceTwice,
     /// The reply is given already.
     ReplyTwice,
+    /// A word of a name is longer than 40 bytes, or isn't all visible ASCII.
+    NotName,
+    /// The number of the router is not below 16384.
+    RouterLimits,
+    /// The router at this place isn't given.
+    NotRouter(u32),
+    /// The router is given already.
+    RouterTwice,
+    /// The link of the channel is given already.
+    LinkTwice,
+    /// The name of the channel is given already.
+    NameTwice,
     /// A request for memory was refused while the text was read.
     Memory,
 }
@@ -80,6 +95,12 @@ impl Reason for NetworkReason {
             NetworkReason::NotInjection(_) => Fault::Range,
             NetworkReason::ChoiceTwice => Fault::Setting,
             NetworkReason::ReplyTwice => Fault::Setting,
+            NetworkReason::NotName => Fault::Line,
+            NetworkReason::RouterLimits => Fault::Range,
+            NetworkReason::NotRouter(_) => Fault::Range,
+            NetworkReason::RouterTwice => Fault::Setting,
+            NetworkReason::LinkTwice => Fault::Setting,
+            NetworkReason::NameTwice => Fault::Setting,
             NetworkReason::Memory => Fault::Memory,
         }
     }
@@ -118,6 +139,15 @@ impl Keyword {
         }
         if word == b"reply".as_slice() {
             return Some(Keyword::Reply);
+        }
+        if word == b"router".as_slice() {
+            return Some(Keyword::Router);
+        }
+        if word == b"link".as_slice() {
+            return Some(Keyword::Link);
+        }
+        if word == b"name".as_slice() {
+            return Some(Keyword::Name);
         }
         None
     }

@@ -49,6 +49,9 @@ fn numbers_text(keyword: Keyword) -> &'static str {
         Keyword::Join => "stand two channels",
         Keyword::Next => "stand three channels",
         Keyword::Reply => "stand two channels",
+        Keyword::Router => "stand a number, a name of one word, and a place of two numbers or none",
+        Keyword::Link => "stand a channel, two routers, and a virtual channel or none",
+        Keyword::Name => "stand a channel and one to four words",
     }
 }
 
@@ -56,7 +59,7 @@ fn numbers_text(keyword: Keyword) -> &'static str {
 fn text_of(reason: NetworkReason) -> &'static str {
     match reason {
         NetworkReason::UnknownKeyword => {
-            "A: a line begins with channels, inject, eject, join, next or reply"
+            "A: a line begins with channels, inject, eject, join, next, reply, router, link or name"
         }
         NetworkReason::NumberCount(_) => "A: behind it K",
         NetworkReason::NotNumber(_) => "W: a number belongs there",
@@ -70,13 +73,19 @@ fn text_of(reason: NetworkReason) -> &'static str {
             "eject B: ejection channels come before the first next, which is at line N"
         }
         NetworkReason::EjectionsLimits => {
-            "eject B: a network has at most 1024 ejection channels"
+            "eject B: channels times ejection channels are at most 134217728"
         }
         NetworkReason::JoinsLimits => "join B C: a network has at most 1048576 joins",
         NetworkReason::NotEjection(_) => "channel W: it is no ejection channel",
         NetworkReason::NotInjection(_) => "channel W: it is no injection channel",
         NetworkReason::ChoiceTwice => "next B C: it is given at line N already",
         NetworkReason::ReplyTwice => "reply B C: it is given at line N already",
+        NetworkReason::NotName => { "A B: a word of a name has at most 40 bytes, each from ! to ~" }
+        NetworkReason::RouterLimits => "router B: routers have the numbers 0 to 16383",
+        NetworkReason::NotRouter(_) => "link B: router W is not given before it",
+        NetworkReason::RouterTwice => "router B: it is given at line N already",
+        NetworkReason::LinkTwice => "link B: it is given at line N already",
+        NetworkReason::NameTwice => "name B: it is given at line N already",
         NetworkReason::Memory => "a request for memory was refused while it was read",
     }
 }
@@ -88,6 +97,7 @@ fn place_of(reason: NetworkReason) -> u32 {
         NetworkReason::ChannelLimits(place, _) => place,
         NetworkReason::NotEjection(place) => place,
         NetworkReason::NotInjection(place) => place,
+        NetworkReason::NotRouter(place) => place,
         _ => 0,
     }
 }

@@ -14,8 +14,8 @@ use std::alloc::Allocator;
 /// The most channels of a network.
 const MOST_CHANNELS: u32 = 16384;
 
-/// The most ejection channels.
-const MOST_EJECTIONS: usize = 1024;
+/// The most choices: channels times ejection channels.
+const MOST_CHOICES: usize = 1 << 27;
 
 /// The most pairs that packets go between.
 const MOST_JOINS: usize = 1048576;
@@ -73,7 +73,7 @@ impl<A: Allocator + Copy> Reading<A> {
         if !is_hop(self.kinds[x]) {
             return Err(NetworkReason::KindTwice);
         }
-        if self.ejections >= MOST_EJECTIONS {
+        if self.kinds.len() * (self.ejections + 1) > MOST_CHOICES {
             return Err(NetworkReason::EjectionsLimits);
         }
         self.kinds[x] = Kind::Ejection;

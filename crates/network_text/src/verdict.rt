@@ -40,7 +40,7 @@ pub(crate) fn put_pair<A: Allocator>(
 }
 
 /// Adds why a walk is no route.
-fn put_why<A: Allocator>(out: &mut Vec<u8, A>, why: Why) -> Result<(), AllocError>
+pub(crate) fn put_why<A: Allocator>(out: &mut Vec<u8, A>, why: Why) -> Result<(), AllocError>
     ensures { OnOk result (out.new.items ≡ out.old.items ++ why_words why) }
 {
     match why {
@@ -90,7 +90,7 @@ fn put_by<A: Allocator>(
 }
 
 /// The place of a cycle of so many links that comes after a place.
-fn next_place(count: usize, k: usize) -> usize
+pub(crate) fn next_place(count: usize, k: usize) -> usize
     requires { k < count }
     ensures value { result ≡ next_place count k }
     ensures within { result < count }

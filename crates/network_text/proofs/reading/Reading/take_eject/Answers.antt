@@ -1,8 +1,9 @@
-use Rattle.std.proofs.Common.{◌≡◌, ◌<◌, true, length, get_or, refl, sym, ◌∙◌, ap, arith}
+use Rattle.std.proofs.Common.{◌≡◌, ◌+◌, ◌<◌, true, length, get_or, refl, sym, ◌∙◌, ap, arith}
 use Rattle.std.proofs.lemmas.List.{length-set, get_or_read}
 use Rattle.network_judge.specs.declared.table.Kind.TheVariants.{Ejection, Hop}
 use Rattle.network_text.specs.Network.{is_hop, with_kind}
 use Rattle.network_text.specs.Reading.{reading_of}
+use Rattle.network_text.proofs.Bounds.{product_same}
 use Rattle.network_text.proofs.Hops.{one_more, same_replies}
 use Rattle.network_text.proofs.reading.Reading.take_eject.Goals as goal
 
@@ -19,9 +20,10 @@ returns-clause-read g c =
     record {
       channels = omega (arith, c.requires.channels);
       ejections = omega arith;
-      few = omega (arith, c.if-self-ge-MOST_EJECTIONS.false);
+      few = product_same c.len.result _ (r.ejections + 1) _ (omega (arith, size, c.len.ensures)) (omega arith) (omega (arith, c.if-len-self-gt-MOST_CHOICES.false));
       given = λ b. let no = c.if-self.false in absurd (cc);
       full = λ b. let no = c.if-self.false in absurd (cc);
       columns = λ b. let no = c.if-self.false in absurd (cc);
       replies = same_replies (reading_of r).table (with_kind (reading_of r) x Ejection).table r.replies.items x Ejection hop refl c.requires.replies;
+      names = c.requires.names;
     }

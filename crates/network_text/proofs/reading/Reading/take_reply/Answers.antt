@@ -20,4 +20,5 @@ returns-clause-read g c =
           (added (reading_of r).table r.replies.items c.args.from c.args.to
           (ejects_there (slice_get r.kinds.items c.args.from) (sym c.ejects.ensures ∙ c.if-not-ejects.false))
           (injects_there (slice_get r.kinds.items c.args.to) (sym c.injects.ensures ∙ c.if-not-injects.false)) c.requires.replies);
+      names = c.requires.names;
     }

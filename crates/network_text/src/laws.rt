@@ -1,0 +1,14 @@
+//! Laws of network texts, each the contract of a function that does nothing.
+
+ghost use Rattle.std.specs.Prelude.{◌≡◌, ℕ, List, Ok};
+ghost use Rattle.network_text.specs.Network.{NetworkSpec, network_of, network_or_why};
+ghost use Rattle.network_text.specs.Names.{without_names};
+
+/// Names change no network, and so no verdict: where the lines of a text give one, the same lines but
+/// those that name a router or a channel give the same one.
+pub fn names_change_no_network()
+    ensures why { (lines : List (List ℕ)) (n : NetworkSpec) → network_or_why lines ≡ Ok n
+        → network_or_why (without_names lines) ≡ Ok n }
+    ensures fault { (lines : List (List ℕ)) (n : NetworkSpec) → network_of lines ≡ Ok n
+        → network_of (without_names lines) ≡ Ok n }
+{}
