@@ -12,7 +12,8 @@ from typing import NoReturn
 
 HERE = os.path.dirname(os.path.realpath(__file__))
 VERSION = "torusmem 0.1.0\n"
-# The positional words of each command, and its options: the limits of a number, or None for a flag.
+# The positional words of each command, and its options: the limits of a number, WORD for any word, or None for a flag.
+WORD = (0, -1)
 COMMANDS: dict[str, tuple[list[str], dict[str, tuple[int, int] | None]]] = {
     "steps": (["MACHINE", "SCRIPT", "STEPS"], {"moves": None, "explain": None}),
     "round": (["MACHINE", "SCRIPT"], {"rounds": (1, 1000000), "explain": None}),
@@ -25,10 +26,11 @@ COMMANDS: dict[str, tuple[list[str], dict[str, tuple[int, int] | None]]] = {
     "check": (["REPORT"], {"explain": None}),
     "network": (["NETWORK"], {"explain": None}),
     "linearize": (["TRACE"], {"configurations": (1, 4294967295), "report": None, "explain": None}),
+    "model": (["LOG"], {"model": WORD, "order": None, "explain": None}),
 }
 REQUIRED = {"draw": ["seed"]}  # the options that have to be given
 TILES = (0, 4294967295)
-FILES = ("MACHINE", "SCRIPT", "STEPS", "REPORT", "NETWORK", "TRACE")
+FILES = ("MACHINE", "SCRIPT", "STEPS", "REPORT", "NETWORK", "TRACE", "LOG")
 TRY = "\n\nFor more information, try '--help'.\n"
 
 
@@ -187,7 +189,9 @@ def command(name: str, rest: list[str]) -> Answer | Job:
                 value = rest[at]
                 at += 1
             shown = f"--{option} <{option}>" if limits else f"--{option}"
-            if limits:
+            if limits == WORD:
+                pass
+            elif limits:
                 number(value, shown, limits)
             elif has_value:
                 raise Unclear

@@ -3,18 +3,20 @@
 _torusmem() {
   local word=${COMP_WORDS[COMP_CWORD]} before=${COMP_WORDS[COMP_CWORD - 1]} words=""
   if [ "$COMP_CWORD" = 1 ]; then
-    words="steps round run live schedule draw route channels check network linearize help --help --version"
+    words="steps round run live schedule draw route channels check network linearize model help --help --version"
   else
     case ${COMP_WORDS[1]} in
-    help) words="steps round run live schedule draw route channels check network linearize help" ;;
+    help) words="steps round run live schedule draw route channels check network linearize model help" ;;
     steps) words="--moves --explain --help" ;;
     round | schedule) words="--rounds --explain --help" ;;
     draw) words="--seed --steps --explain --help" ;;
     run) words="--workers --turns --explain --help" ;;
     route) words="--reply --explain --help" ;;
     linearize) words="--configurations --report --explain --help" ;;
+    model) words="--model --order --explain --help" ;;
     live | channels | check | network) words="--explain --help" ;;
     esac
+    case "${COMP_WORDS[1]} $before" in "model --model") COMPREPLY=($(compgen -W "coherent fenced pso tso sc" -- "$word")) && return ;; esac
     case $before in --rounds | --workers | --turns | --configurations | --seed | --steps) words="" ;; esac
     case "${COMP_WORDS[1]} $word" in
     "help "*) ;;

@@ -1,6 +1,6 @@
 # Completions of fish for torusmem and torusmem-tools.
 
-set -l commands steps round run live schedule draw route channels check network linearize help
+set -l commands steps round run live schedule draw route channels check network linearize model help
 
 complete -c torusmem -n "not __fish_seen_subcommand_from $commands" -f -a "$commands"
 complete -c torusmem -n "not __fish_seen_subcommand_from $commands" -f -l version -d "the version"
@@ -16,6 +16,8 @@ complete -c torusmem -n "__fish_seen_subcommand_from run" -x -l turns -d "the mo
 complete -c torusmem -n "__fish_seen_subcommand_from route" -l reply -d "the route of a reply"
 complete -c torusmem -n "__fish_seen_subcommand_from linearize" -x -l configurations -d "the most configurations of a word"
 complete -c torusmem -n "__fish_seen_subcommand_from linearize" -l report -d "print a report"
+complete -c torusmem -n "__fish_seen_subcommand_from model" -x -l model -a "coherent fenced pso tso sc" -d "the model of the status"
+complete -c torusmem -n "__fish_seen_subcommand_from model" -l order -d "print an order"
 
 complete -c torusmem-tools -n "__fish_is_first_arg" -f -a "(torusmem-tools --help 2>/dev/null | string replace -rf '^  ([a-z_]+) .*' '\$1')"
 complete -c torusmem-tools -n "__fish_is_first_arg" -f -l help -d "the tools"

@@ -13,6 +13,7 @@ _torusmem_commands=(
   'check:whether a report is good'
   'network:whether a network can lock up'
   'linearize:an order that explains a trace'
+  'model:which memory models a log obeys'
   'help:the help of a command'
 )
 
@@ -31,8 +32,10 @@ _torusmem() {
   run) options=(--workers --turns) ;;
   route) options=(--reply) ;;
   linearize) options=(--configurations --report) ;;
+  model) options=(--model --order) ;;
   esac
   case $words[CURRENT-1] in
+  --model) compadd -- coherent fenced pso tso sc; return ;;
   --rounds | --workers | --turns | --configurations | --seed | --steps) return ;;
   esac
   if [[ $words[CURRENT] == -* ]]; then

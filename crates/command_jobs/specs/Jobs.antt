@@ -11,7 +11,7 @@ use Rattle.commands.specs.Done.{PrintsRoute, PrintsChannels, PrintsVerdict}
 use Rattle.command_line.specs.declared.command.Job.{Job}
 use Rattle.command_line.specs.declared.command.Job.TheVariants.{Steps, Round, Run, Live, Route}
 use Rattle.command_line.specs.declared.command.Job.TheVariants.{Channels, Check}
-use Rattle.command_line.specs.declared.command.Job.TheVariants.{Network, Linearize, Report}
+use Rattle.command_line.specs.declared.command.Job.TheVariants.{Network, Linearize, Report, Model}
 use Rattle.command_line.specs.declared.command.Job.TheVariants.{Schedule, Draw, Moves}
 use Rattle.command_jobs.specs.declared.answering.Ended.{Ended}
 
@@ -27,6 +27,7 @@ is_of_commands (Live machine) = false
 is_of_commands (Network network) = false
 is_of_commands (Linearize trace configurations) = false
 is_of_commands (Report trace configurations) = false
+is_of_commands (Model log model order) = false
 is_of_commands (Schedule machine script rounds) = false
 is_of_commands (Draw machine script seed steps) = false
 is_of_commands (Moves machine script steps) = false

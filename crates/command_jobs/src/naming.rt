@@ -43,7 +43,8 @@ pub fn names<'a>(job: &Job<'a>) -> Names<'a> {
         | Job::Check { report: name }
         | Job::Network { network: name }
         | Job::Linearize { trace: name, .. }
-        | Job::Report { trace: name, .. } => (name, None, None),
+        | Job::Report { trace: name, .. }
+        | Job::Model { log: name, .. } => (name, None, None),
     };
     Names {
         first: Some(first),

@@ -66,6 +66,10 @@ seed = record (long_number (codes "seed")) { required = true }
 abbrev pub steps_option : Rule
 steps_option = long_number (codes "steps")
 
+-- the option of this name, any word, which is the usual one where it isn't given
+abbrev pub word_option : Text → Text → Rule
+word_option name usual = record (new_rule name) { long = Some name; defaults = usual ∷ [] }
+
 -- the option to say more of what is wrong, of each subcommand
 abbrev pub explain : Rule
 explain = flag_option (codes "explain")
@@ -123,6 +127,12 @@ abbrev pub linearize_app : App
 linearize_app = with_rule (with_rule (with_rule (with_rule (new_app (codes "linearize"))
     (needed (codes "TRACE"))) configurations) (flag_option (codes "report"))) explain
 
+-- `model LOG [--model NAME] [--order] [--explain]`
+abbrev pub model_app : App
+model_app = with_rule (with_rule (with_rule (with_rule (new_app (codes "model"))
+    (needed (codes "LOG"))) (word_option (codes "model") (codes "sc")))
+    (flag_option (codes "order"))) explain
+
 -- the program, whose subcommand has to stand there
 abbrev pub top_app : App
 top_app = let app = new_app (codes "torusmem") in
@@ -148,9 +158,13 @@ routing_app = with_subcommand (with_subcommand scheduling_app route_app.top) cha
 abbrev pub checking_app : App
 checking_app = with_subcommand routing_app check_app.top
 
--- the program with all its subcommands: last those that judge networks and traces
+-- and with those that judge networks and traces
+abbrev pub judging_app : App
+judging_app = with_subcommand (with_subcommand checking_app network_app.top) linearize_app.top
+
+-- the program with all its subcommands: last the one that judges logs by memory models
 abbrev pub torusmem_app : App
-torusmem_app = with_subcommand (with_subcommand checking_app network_app.top) linearize_app.top
+torusmem_app = with_subcommand judging_app model_app.top
 
 -- the name of the subcommand that the words name
 abbrev pub name_by : List Text → Option Text

@@ -7,7 +7,7 @@ use Rattle.torus.specs.declared.shape.Class.TheVariants.{Request, Reply}
 use Rattle.command_line.specs.declared.command.Job.{Job}
 use Rattle.command_line.specs.declared.command.Job.TheVariants.{Steps, Round, Run, Live, Route}
 use Rattle.command_line.specs.declared.command.Job.TheVariants.{Channels, Check}
-use Rattle.command_line.specs.declared.command.Job.TheVariants.{Network, Linearize, Report}
+use Rattle.command_line.specs.declared.command.Job.TheVariants.{Network, Linearize, Report, Model}
 use Rattle.command_line.specs.declared.command.Job.TheVariants.{Schedule, Draw, Moves}
 
 -- the values of a subcommand's arguments
@@ -42,6 +42,7 @@ name_of (Check report) = codes "check"
 name_of (Network network) = codes "network"
 name_of (Linearize trace configurations) = codes "linearize"
 name_of (Report trace configurations) = codes "linearize"
+name_of (Model log model order) = codes "model"
 name_of (Schedule machine script rounds) = codes "schedule"
 name_of (Draw machine script seed steps) = codes "draw"
 name_of (Moves machine script steps) = codes "steps"
@@ -78,6 +79,9 @@ AreOf (Report trace configurations) rows =
     (first_of (codes "TRACE") rows ≡ Some trace.now)
     × (number_in (codes "configurations") rows ≡ Some configurations)
     × IsFlag (codes "report") true rows
+AreOf (Model log model order) rows = (first_of (codes "LOG") rows ≡ Some log.now)
+    × (first_of (codes "model") rows ≡ Some model.now)
+    × IsFlag (codes "order") order rows
 AreOf (Schedule machine script rounds) rows = (first_of (codes "MACHINE") rows ≡ Some machine.now)
     × (first_of (codes "SCRIPT") rows ≡ Some script.now)
     × (number_in (codes "rounds") rows ≡ Some rounds)

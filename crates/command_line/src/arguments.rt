@@ -2,6 +2,7 @@
 ghost use Rattle.std.specs.Prelude.{◌≡◌, false};
 ghost use Rattle.clap.specs.Words.{rule_of};
 ghost use Rattle.command_line.specs.CommandLine.{count, flag_option, long_number, needed, seed, tile};
+ghost use Rattle.command_line.specs.CommandLine.{word_option};
 
 use clap::builder::ValueParser;
 use clap::{Arg, ArgAction};
@@ -63,6 +64,22 @@ pub(crate) fn long_number<'a>(alloc: Global, name: &'a str, help: &'a str) -> Ar
     Arg::new(alloc, name)
         .long(name)
         .value_parser(ValueParser::Unsigned(0, 18446744073709551615))
+        .help(help)
+}
+
+/// An option of this name, any word, which is the `usual` one where it isn't given.
+pub(crate) fn word_option<'a>(
+    alloc: Global,
+    name: &'a str,
+    usual: &'a str,
+    help: &'a str,
+) -> Arg<'a>
+    ensures rule { rule_of result ≡ word_option name.entry.now usual.entry.now }
+    ensures local { result.global ≡ false }
+{
+    Arg::new(alloc, name)
+        .long(name)
+        .default_value(usual)
         .help(help)
 }
 

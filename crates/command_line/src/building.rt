@@ -3,7 +3,7 @@ ghost use Rattle.command_line.specs.CommandLine.{routing_app, running_app, torus
 ghost use Rattle.command_line.specs.Making.{IsCommand};
 
 use crate::making::{Making, program, with_subcommand};
-use crate::subcommands::{draw, in_rounds, linearize, of_one_file, route, run, steps};
+use crate::subcommands::{draw, in_rounds, linearize, model, of_one_file, route, run, steps};
 use std::alloc::Global;
 
 /// The program with the subcommands that run scripts and print reports.
@@ -52,5 +52,6 @@ pub(crate) fn command<'a>(alloc: Global) -> Making<'a>
         "The file with the network",
     );
     let command = with_subcommand(command, network);
-    with_subcommand(command, linearize(alloc))
+    let command = with_subcommand(command, linearize(alloc));
+    with_subcommand(command, model(alloc))
 }

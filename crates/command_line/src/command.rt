@@ -5,8 +5,8 @@ ghost use Rattle.command_line.specs.Job.{AreOf, IsFlag, NamesJob, AreJobLimits, 
 
 use crate::building::command;
 use crate::jobs::{
-    channels_job, check_job, draw_job, linearize_job, live_job, network_job, round_job, route_job,
-    run_job, schedule_job, steps_job,
+    channels_job, check_job, draw_job, linearize_job, live_job, model_job, network_job, round_job,
+    route_job, run_job, schedule_job, steps_job,
 };
 use crate::values::flag_of;
 use clap::error::ErrorKind;
@@ -71,6 +71,12 @@ pub enum Job<'a> {
     Report {
         trace: &'a str,
         configurations: u32,
+    },
+    /// Judge a log by memory models, of which this one decides the status; and print an order too.
+    Model {
+        log: &'a str,
+        model: &'a str,
+        order: bool,
     },
     /// Print the moves of rounds, at most so many, until every script is finished.
     Schedule {
@@ -172,6 +178,7 @@ fn job_by<'a>(name: &str, given: &ArgMatches<'a>) -> Option<Job<'a>>
         "check" => check_job(given),
         "network" => network_job(given),
         "linearize" => linearize_job(given),
+        "model" => model_job(given),
         _ => None,
     }
 }

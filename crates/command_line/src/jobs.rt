@@ -134,3 +134,13 @@ pub(crate) fn linearize_job<'a>(given: &ArgMatches<'a>) -> Option<Job<'a>>
         })
     }
 }
+
+pub(crate) fn model_job<'a>(given: &ArgMatches<'a>) -> Option<Job<'a>>
+    ensures { IfSome result (NamesJob (codes "model") (rows_of (found_of given.now))) }
+{
+    Some(Job::Model {
+        log: word(given, "LOG")?,
+        model: word(given, "model")?,
+        order: flag_of(given, "order")?,
+    })
+}

@@ -1,12 +1,13 @@
 //! The subcommands, each with its arguments.
 ghost use Rattle.clap.specs.Words.{new_app, with_rule};
 ghost use Rattle.command_line.specs.CommandLine.{channels_app, check_app, draw_app, explain};
-ghost use Rattle.command_line.specs.CommandLine.{linearize_app, loading_app, needed, network_app};
+ghost use Rattle.command_line.specs.CommandLine.{linearize_app, loading_app, model_app, needed};
+ghost use Rattle.command_line.specs.CommandLine.{network_app};
 ghost use Rattle.command_line.specs.CommandLine.{round_app, rounds, route_app, run_app};
 ghost use Rattle.command_line.specs.CommandLine.{schedule_app, steps_app};
 ghost use Rattle.command_line.specs.Making.{IsCommand};
 
-use crate::arguments::{count, file, flag, long_number, seed, tile};
+use crate::arguments::{count, file, flag, long_number, seed, tile, word_option};
 use crate::making::{Making, loading, named, with_argument, with_explain};
 use clap::builder::ValueParser;
 use std::alloc::Global;
@@ -102,5 +103,19 @@ pub(crate) fn linearize<'a>(alloc: Global) -> Making<'a>
     );
     let help = "Prints the order as a report";
     let command = with_argument(command, flag(alloc, "report", help));
+    with_explain(alloc, command)
+}
+
+pub(crate) fn model<'a>(alloc: Global) -> Making<'a>
+    ensures { IsCommand model_app result }
+{
+    let about =
+        "Judges a log by five memory models, and prints the cycle of the weakest that fails";
+    let command = named(alloc, "model", about);
+    let command = with_argument(command, file(alloc, "LOG", "The file with the log"));
+    let help = "The model that decides the status: coherent, fenced, pso, tso or sc";
+    let command = with_argument(command, word_option(alloc, "model", "sc", help));
+    let help = "Prints an order of the strongest model that holds, too";
+    let command = with_argument(command, flag(alloc, "order", help));
     with_explain(alloc, command)
 }

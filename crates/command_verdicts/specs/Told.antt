@@ -1,6 +1,11 @@
 -- What is said of a trace that is judged (this project's own format).
-use Rattle.std.specs.Prelude.{ℕ, List, ◌∷◌, ◌++◌, Option, Some, None, Result, Ok, Err, codes}
-use Rattle.std.specs.Prelude.{decimal}
+use Rattle.std.specs.Prelude.{ℕ, List, ◌∷◌, ◌++◌, Option, Some, None, Result, Ok, Err, codes, Bool}
+use Rattle.std.specs.Prelude.{decimal, if◌then◌else◌}
+use Rattle.model_answer.specs.declared.judged.Obeys.{Obeys}
+use Rattle.model_answer.specs.declared.model.MemoryModel.{MemoryModel}
+use Rattle.model_answer.specs.declared.model.MemoryModel.TheVariants.{Coherent, Fenced, Pso, Tso, Sc}
+use Rattle.command_verdicts.specs.declared.model.Modelled.{Modelled}
+use Rattle.command_verdicts.specs.declared.model.Modelled.TheVariants.{Obeys as ObeysModels, Wrong}
 use Rattle.program_fault.specs.declared.fault.ProgramFault.{ProgramFault}
 use Rattle.program_fault.specs.Outcome.{fault_status}
 use Rattle.command_verdicts.specs.declared.command.Judged.{Judged}
@@ -42,3 +47,16 @@ judged_status (Ok (TooMany line)) = 5
 judged_status (Ok (TooOpen line)) = 5
 judged_status (Ok (NoReport why)) = 1
 judged_status (Err f) = fault_status f
+
+-- whether a model is among those that a log obeys
+abbrev pub is_obeyed : Obeys → MemoryModel → Bool
+is_obeyed obeys Coherent = obeys.coherent
+is_obeyed obeys Fenced = obeys.fenced
+is_obeyed obeys Pso = obeys.pso
+is_obeyed obeys Tso = obeys.tso
+is_obeyed obeys Sc = obeys.sc
+
+-- the status that the program ends with where a log was judged
+abbrev pub modelled_status : Modelled → MemoryModel → ℕ
+modelled_status (ObeysModels obeys) model = if is_obeyed obeys model then 0 else 1
+modelled_status (Wrong wrong) model = 1

@@ -1,6 +1,8 @@
-//! The lines on the texts of networks and traces.
+//! The lines on the texts of networks, traces and logs.
 
 use error_lines::{explain_by, is_of_texts, named, told};
+use model_answer::LogSentence;
+use model_text::read_log;
 use network_text::network_sentence;
 use program_fault::ProgramFault;
 use trace_why::{no_order_sentence, trace_sentence};
@@ -30,6 +32,21 @@ pub fn explain_trace<R: Eprint + AllocGlobal>(
 ) {
     if is_of_texts(fault) {
         explain_by(rt, fault, trace_sentence(rt.alloc(), named(name, trace)));
+    }
+}
+
+/// Says why the text of a log has the fault that the command answers, where that can be told.
+pub fn explain_log<R: Eprint + AllocGlobal>(rt: &R, name: &str, log: &[u8], fault: &ProgramFault) {
+    if is_of_texts(fault) {
+        let sentence = match read_log(rt.alloc(), log) {
+            Ok(_) => None,
+            Err(refusal) => Some(LogSentence {
+                name,
+                text: log,
+                refusal,
+            }),
+        };
+        explain_by(rt, fault, sentence);
     }
 }
 

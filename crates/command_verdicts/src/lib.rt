@@ -1,15 +1,17 @@
-//! The commands that judge networks and traces, and the lines that explain their verdicts.
+//! The commands that judge networks, traces and logs, and the lines that explain their verdicts.
 #![tactic(auto)]
 
 pub mod command;
 pub mod explaining;
+pub mod model;
 pub mod network;
 pub mod report;
 pub mod told;
 
 pub use command::{Judged, linearize_text};
-pub use explaining::{explain_network, explain_no_order, explain_trace};
+pub use explaining::{explain_log, explain_network, explain_no_order, explain_trace};
+pub use model::{Modelled, model_text};
 pub use network::network_text;
 pub use report::report_text;
-pub use told::{status, verdict_text};
+pub use told::{model_status, status, verdict_text};
 pub use trace_answer::LineText;

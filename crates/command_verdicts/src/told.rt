@@ -1,9 +1,12 @@
-//! What is said of a trace that is judged: a line of text, and the status that the program ends with.
+//! What is said of a trace or log that is judged: a line of text, and the status that the program ends
+//! with.
 
 ghost use Rattle.std.specs.Prelude.{◌≡◌, option_map};
 ghost use Rattle.command_verdicts.specs.Told.{judged_status, unfit_text, verdict_text_of};
+ghost use Rattle.command_verdicts.specs.Told.{is_obeyed, modelled_status};
 
-use crate::Judged;
+use crate::{Judged, Modelled};
+use model_answer::{MemoryModel, Obeys};
 use program_fault::{ProgramFault, status_of};
 use trace_answer::{LineText, Unfit, not_linearizable, undecided};
 use trace_text::Unfound;
@@ -53,5 +56,29 @@ pub fn status(answer: &Result<Judged, ProgramFault>) -> u8
         Ok(Judged::TooOpen { .. }) => 5,
         Ok(Judged::NoReport { .. }) => 1,
         Err(fault) => status_of(&Err(*fault)),
+    }
+}
+
+/// Whether a model is among those that a log obeys.
+fn is_obeyed(obeys: Obeys, model: MemoryModel) -> bool
+    ensures { result ≡ is_obeyed obeys model }
+{
+    match model {
+        MemoryModel::Coherent => obeys.coherent,
+        MemoryModel::Fenced => obeys.fenced,
+        MemoryModel::Pso => obeys.pso,
+        MemoryModel::Tso => obeys.tso,
+        MemoryModel::Sc => obeys.sc,
+    }
+}
+
+/// The status that the program ends with where a log was judged: 0 where it obeys the model, 1 where it
+/// doesn't or a reply is wrong.
+pub fn model_status(modelled: Modelled, model: MemoryModel) -> u8
+    ensures { result ≡ modelled_status modelled model }
+{
+    match modelled {
+        Modelled::Obeys(obeys) => u8::from(!is_obeyed(obeys, model)),
+        Modelled::Wrong(_) => 1,
     }
 }

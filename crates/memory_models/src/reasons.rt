@@ -22,7 +22,7 @@ fn applies(rule: Rule, operations: &[Operation], x: usize, y: usize) -> bool
 }
 
 /// Whether a model keeps two operations in their order.
-fn keeps(rules: &[Rule], operations: &[Operation], x: usize, y: usize) -> bool
+pub(crate) fn keeps(rules: &[Rule], operations: &[Operation], x: usize, y: usize) -> bool
     requires x { x < length operations.now }
     requires y { y < length operations.now }
     ensures kept { result ≡ true → KeepsOrder rules.now operations.now x y }
@@ -37,7 +37,7 @@ fn keeps(rules: &[Rule], operations: &[Operation], x: usize, y: usize) -> bool
 }
 
 /// Whether a load read what an operation wrote that isn't of its processor before it.
-fn reads_from(operations: &[Operation], writes: &[usize], x: usize, y: usize) -> bool
+pub(crate) fn reads_from(operations: &[Operation], writes: &[usize], x: usize, y: usize) -> bool
     requires x { x < length operations.now }
     requires y { y < length operations.now }
     ensures { result ≡ reads_from_at operations.now writes.now x y }
@@ -54,7 +54,7 @@ fn reads_from(operations: &[Operation], writes: &[usize], x: usize, y: usize) ->
 }
 
 /// Whether a load read an older write than one that its processor made before it on its word.
-fn is_stale_write(operations: &[Operation], x: usize, y: usize) -> bool
+pub(crate) fn is_stale_write(operations: &[Operation], x: usize, y: usize) -> bool
     requires x { x < length operations.now }
     requires y { y < length operations.now }
     ensures { result ≡ is_stale_write_at operations.now x y }

@@ -4,7 +4,8 @@ ghost use Rattle.command_line.specs.Job.{AreJobLimits};
 use crate::running::by_workers;
 use command_jobs::Ended;
 use command_line::Job;
-use command_verdicts::{Judged, linearize_text, network_text, report_text};
+use command_verdicts::{Judged, Modelled, linearize_text, model_text, network_text, report_text};
+use model_answer::{MemoryModel, Options};
 use program_fault::{ProgramFault, Texts};
 use report_lines::Out;
 use run_command::Ending;
@@ -25,6 +26,8 @@ pub(crate) enum Outcome {
     Rising(bool),
     /// What a trace is judged to be, with so many configurations at most.
     Judged(Judged, u32),
+    /// What a log is judged to be, of which this model decides the status.
+    Modelled(Modelled, MemoryModel),
 }
 
 /// The answer of the job; `ending` is shown what a run reached.
@@ -50,6 +53,9 @@ pub(crate) fn answer<R: Eprint + Clock + AllocGlobal + Threads + Wait + Sync, W:
             let judged = report_text(alloc, first, u64::from(configurations), out);
             judged_with(judged, configurations)
         }
+        Job::Model { model, order, .. } => {
+            modelled_by(model_text(alloc, first, Options { order }, out), model)
+        }
         Job::Run { workers, turns, .. } => {
             let (workers, turns) = (workers as usize, u64::from(turns));
             by_workers(rt, texts, workers, turns, is_seen, out, ending)
@@ -69,6 +75,15 @@ fn judged_with(
     configurations: u32,
 ) -> Result<Outcome, ProgramFault> {
     Ok(Outcome::Judged(judged?, configurations))
+}
+
+/// The answer of a job that judges a log, of which the model of this name decides the status.
+fn modelled_by(
+    modelled: Result<Modelled, ProgramFault>,
+    model: &str,
+) -> Result<Outcome, ProgramFault> {
+    let model = MemoryModel::named(model).unwrap_or(MemoryModel::Sc);
+    Ok(Outcome::Modelled(modelled?, model))
 }
 
 /// The answer of a job that prints moves.

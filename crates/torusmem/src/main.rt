@@ -13,6 +13,7 @@ use command_jobs::{
     RunEnd, done, fault_told, flushed, tell_end_of, texts_of, version_told, writer,
 };
 use command_line::{Job, Request, asks_version, request_told, words_told};
+use model_answer::MemoryModel;
 use program_fault::{ProgramFault, Texts};
 use report_lines::Piped;
 use std::io::{Input, IsTerminal};
@@ -43,10 +44,27 @@ fn run<R: Env + Files + Input + Print + Eprint + Clock + AllocGlobal + Threads +
     let Some(request) = request_told(rt, words.as_slice()) else {
         return 2;
     };
+    if is_other_model(rt, &request.job) {
+        return 2;
+    }
     match done(rt, &request, is_seen) {
         Some(status) => status,
         None => other_done(rt, &request, is_seen),
     }
+}
+
+/// Whether the job names a memory model that there isn't, which standard error says then.
+fn is_other_model<R: Eprint>(rt: &R, job: &Job) -> bool {
+    let Job::Model { model, .. } = *job else {
+        return false;
+    };
+    let is_other = MemoryModel::named(model).is_none();
+    if is_other {
+        let _ = eprintln!(rt;
+            "there is no model {model}: the models are coherent, fenced, pso, tso and sc"
+        );
+    }
+    is_other
 }
 
 /// Does a job whose work doesn't stand in `commands`, as `done` does the others.

@@ -4,12 +4,15 @@ use crate::answering::Outcome;
 use command_jobs::{kind, names};
 use command_line::Job;
 use command_verdicts::{
-    Judged, explain_network, explain_no_order, explain_trace, status, verdict_text,
+    Judged, Modelled, explain_log, explain_network, explain_no_order, explain_trace, model_status,
+    status, verdict_text,
 };
 use error_lines::explain;
+use model_answer::WrongSentence;
 use program_fault::{ProgramFault, Texts, status_of};
 
-/// The exit status of an answer. Where a trace has no order, standard error says so.
+/// The exit status of an answer. Where a trace has no order, or a log a wrong reply, standard error
+/// says so.
 pub(crate) fn status_told<R: Eprint>(rt: &R, outcome: &Outcome) -> u8 {
     match *outcome {
         Outcome::Talked => 0,
@@ -20,6 +23,13 @@ pub(crate) fn status_told<R: Eprint>(rt: &R, outcome: &Outcome) -> u8 {
                 let _ = eprintln!(rt; "{text}");
             }
             status(&Ok(judged))
+        }
+        Outcome::Modelled(modelled, model) => {
+            if let Modelled::Wrong(wrong) = modelled {
+                let sentence = WrongSentence { wrong };
+                let _ = eprintln!(rt; "{sentence}");
+            }
+            model_status(modelled, model)
         }
     }
 }
@@ -49,6 +59,7 @@ pub(crate) fn explain_fault<R: Eprint + AllocGlobal>(
 ) {
     match *job {
         Job::Network { network } => explain_network(rt, network, &texts.first, fault),
+        Job::Model { log, .. } => explain_log(rt, log, &texts.first, fault),
         Job::Linearize { trace, .. } | Job::Report { trace, .. } => {
             explain_trace(rt, trace, &texts.first, fault);
         }

@@ -1,0 +1,18 @@
+use Rattle.std.proofs.Common.{◌≡◌, ◌++◌, ◌∙◌, ap}
+use Rattle.model_answer.specs.Answer.{obeys_of}
+use Rattle.model_answer.specs.Texts.{obeys_text}
+use Rattle.model_answer.proofs.answer.text_of.Goals as goal
+
+pub returns : goal.returns
+returns g c =
+    let cycle = c.in_ok-put_failing.ensures in
+    let order = c.in_ok-put_asked.ensures in
+    let first : c.put_obeys.new.text.items ≡ obeys_text (obeys_of c.args.verdicts.now) =
+    c.in_ok-put_obeys.ensures ∙ (ap (λ t. t ++ obeys_text c.obeys.result) c.new-text.ensures.items ∙ ap obeys_text c.obeys.ensures.value) in
+    record {
+      cycle = cycle.part;
+      order = order.part;
+      cycle_is = cycle.is;
+      order_is = order.is;
+      is = order.grown ∙ ap (λ t. t ++ order.part) (cycle.grown ∙ ap (λ t. t ++ cycle.part) first);
+    }

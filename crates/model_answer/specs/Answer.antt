@@ -1,0 +1,169 @@
+-- The answer to the question which memory models a log obeys (this project's own format).
+use Rattle.std.specs.Prelude.{◌≡◌, ◌⊎◌, ℕ, ◌<◌, Bool, true, false, not, List, [], ◌++◌, Option}
+use Rattle.std.specs.Prelude.{Some, None, Ok, Err, codes, length, if◌then◌else◌}
+use Rattle.lexer.specs.Outcome.{refusal_at}
+use Rattle.memory_models.specs.declared.kinds.Operation.{Operation}
+use Rattle.memory_models.specs.declared.kinds.Rule.{Rule}
+use Rattle.memory_models.specs.declared.kinds.Step.{Step}
+use Rattle.memory_models.specs.declared.kinds.Verdict.{Verdict}
+use Rattle.memory_models.specs.declared.kinds.Verdict.TheVariants.{Ordered, Cycle}
+use Rattle.memory_models.specs.declared.kinds.Why.{Why}
+use Rattle.memory_models.specs.Arcs.{IsWhy}
+use Rattle.memory_models.specs.Verdict.{AreAround, step_at}
+use Rattle.model_text.specs.declared.logged.Logged.{Logged}
+use Rattle.model_text.specs.declared.reason.LogReason.TheVariants as reason
+use Rattle.model_text.specs.declared.trace.LogTrace.{LogTrace}
+use Rattle.model_text.specs.declared.values.WrongReply.{WrongReply}
+use Rattle.model_text.specs.Lines.{LogLines, log_of}
+use Rattle.model_text.specs.Traces.{IsTraceOfLog, steps_of_log, operations_of_log, writes_of_log}
+use Rattle.model_text.specs.Values.{AreReplies, IsWrongReply}
+use Rattle.model_answer.specs.declared.answer.Answer.{Answer}
+use Rattle.model_answer.specs.declared.answer.NoAnswer.{NoAnswer}
+use Rattle.model_answer.specs.declared.answer.NoAnswer.TheVariants.{Refused, Wrong, Memory}
+use Rattle.model_answer.specs.declared.answer.Options.{Options}
+use Rattle.model_answer.specs.declared.judged.Obeys.{Obeys}
+use Rattle.model_answer.specs.declared.judged.Verdicts.{Verdicts}
+use Rattle.model_answer.specs.declared.model.MemoryModel.{MemoryModel}
+use Rattle.model_answer.specs.declared.model.MemoryModel.TheVariants.{Coherent, Fenced, Pso, Tso, Sc}
+use Rattle.model_answer.specs.Judged.{AreVerdicts, TellsObeyed, is_ordered}
+use Rattle.model_answer.specs.Model.{model_word, rules_of_model}
+use Rattle.model_answer.specs.Texts.{cycle_text, obeys_text, order_text, why_at}
+
+-- the reasons of the steps of a cycle
+pub record AreWhys (rules : List Rule) (ops : List Operation) (writes : List ℕ)
+    (steps : List Step) (whys : List Why) : Type 0
+  where
+    pub size : length whys ≡ length steps
+    pub each : (k : ℕ) → k < length steps
+        → IsWhy rules ops writes (step_at steps k).from (step_at steps k).to (why_at whys k)
+
+-- a text tells a cycle: steps that have these reasons and go around
+pub record TellsCycle (rules : List Rule) (ops : List Operation) (writes : List ℕ)
+    (logged : List Logged) (text : List ℕ) : Type 0
+  where
+    pub steps : List Step
+    pub whys : List Why
+    pub around : AreAround rules ops writes steps
+    pub reasons : AreWhys rules ops writes steps whys
+    pub is : text ≡ cycle_text logged ops steps whys
+
+-- a text has one part more, of which something is true
+pub record AddsPart (old new : List ℕ) (Is : List ℕ → Type 0) : Type 0 where
+  pub part : List ℕ
+  pub grown : new ≡ old ++ part
+  pub is : Is part
+
+-- the weakest model that a trace breaks
+abbrev pub weakest_broken : Obeys → Option MemoryModel
+weakest_broken o =
+    if not o.coherent then Some Coherent
+    else (if not o.fenced then Some Fenced
+    else (if not o.pso then Some Pso
+    else (if not o.tso then Some Tso
+    else (if not o.sc then Some Sc
+    else None))))
+
+-- the strongest model that it obeys
+abbrev pub strongest_obeyed : Obeys → Option MemoryModel
+strongest_obeyed o =
+    if o.sc then Some Sc
+    else (if o.tso then Some Tso
+    else (if o.pso then Some Pso
+    else (if o.fenced then Some Fenced
+    else (if o.coherent then Some Coherent
+    else None))))
+
+-- the verdict of a model
+abbrev pub verdict_by : {A : Type 0} → MemoryModel → Verdicts A → Verdict A
+verdict_by Coherent v = v.coherent
+verdict_by Fenced v = v.fenced
+verdict_by Pso v = v.pso
+verdict_by Tso v = v.tso
+verdict_by Sc v = v.sc
+
+-- which models are obeyed, by their verdicts
+abbrev pub obeys_of : {A : Type 0} → Verdicts A → Obeys
+obeys_of v = record {
+  coherent = is_ordered v.coherent;
+  fenced = is_ordered v.fenced;
+  pso = is_ordered v.pso;
+  tso = is_ordered v.tso;
+  sc = is_ordered v.sc;
+}
+
+-- the line before a cycle, and the one before an order
+abbrev pub cycle_heading : MemoryModel → List ℕ
+cycle_heading model = codes "no order of " ++ model_word model ++ codes ":\n"
+
+abbrev pub order_heading : MemoryModel → List ℕ
+order_heading model = codes "an order of " ++ model_word model ++ codes ":\n"
+
+-- the part of a cycle: of a verdict that is one, the heading and its lines
+abbrev pub IsCycleOf : {A : Type 0} → LogTrace A → MemoryModel → Verdict A → List ℕ → Type 0
+IsCycleOf t model (Ordered turns) part = part ≡ []
+IsCycleOf t model (Cycle first) part = AddsPart (cycle_heading model) part
+    (TellsCycle (rules_of_model model) t.operations.items t.writes.items t.steps.items)
+
+-- nothing where each model is obeyed, and else the cycle of the weakest one that is not
+abbrev pub IsCyclePart : {A : Type 0} → LogTrace A → Verdicts A → Option MemoryModel → List ℕ → Type 0
+IsCyclePart t v None part = part ≡ []
+IsCyclePart t v (Some model) part = IsCycleOf t model (verdict_by model v) part
+
+-- the part of an order: of a verdict that is one, the heading and the operations by their turns
+abbrev pub IsOrderOf : {A : Type 0} → LogTrace A → MemoryModel → Verdict A → List ℕ → Type 0
+IsOrderOf t model (Cycle first) part = part ≡ []
+IsOrderOf t model (Ordered turns) part =
+    part ≡ order_heading model ++ order_text t.openings t.steps.items turns.items
+
+-- nothing where no model is obeyed, and else the order of the strongest one that is
+abbrev pub IsOrderPart : {A : Type 0} → LogTrace A → Verdicts A → Option MemoryModel → List ℕ → Type 0
+IsOrderPart t v None part = part ≡ []
+IsOrderPart t v (Some model) part = IsOrderOf t model (verdict_by model v) part
+
+-- nothing where no order is asked for
+abbrev pub IsAskedPart : {A : Type 0} → LogTrace A → Verdicts A → Bool → List ℕ → Type 0
+IsAskedPart t v false part = part ≡ []
+IsAskedPart t v true part = IsOrderPart t v (strongest_obeyed (obeys_of v)) part
+
+-- what is printed: the models, the cycle, the order
+pub record IsAnswerText {A : Type 0} (t : LogTrace A) (v : Verdicts A) (options : Options)
+    (text : List ℕ) : Type 0
+  where
+    pub cycle : List ℕ
+    pub order : List ℕ
+    pub cycle_is : IsCyclePart t v (weakest_broken (obeys_of v)) cycle
+    pub order_is : IsAskedPart t v options.order order
+    pub is : text ≡ (obeys_text (obeys_of v) ++ cycle) ++ order
+
+-- the answer on a trace: which models it obeys, and what is printed
+pub record IsAnswer {A : Type 0} (t : LogTrace A) (options : Options) (a : Answer A) : Type 0 where
+  pub verdicts : Verdicts A
+  pub judged : AreVerdicts t.operations.items t.writes.items verdicts
+  pub obeys : a.obeys ≡ obeys_of verdicts
+  pub told : TellsObeyed t.operations.items t.writes.items a.obeys
+  pub text : IsAnswerText t verdicts options a.text.items
+
+-- the answer to a log: it is one, its trace is the one that its lines say, each reply is due, and
+-- the answer is that on the trace
+pub record IsAnswerTo {A : Type 0} (lines : List (List ℕ)) (options : Options) (a : Answer A) :
+    Type 0
+  where
+    pub log : LogLines
+    pub read : log_of lines ≡ Ok log
+    pub trace : LogTrace A
+    pub traced : IsTraceOfLog log trace
+    pub due : AreReplies trace.steps.items trace.operations.items trace.writes.items
+    pub answer : IsAnswer trace options a
+
+-- a reply of a log that isn't due
+pub record IsWrongIn (lines : List (List ℕ)) (wrong : WrongReply) : Type 0 where
+  pub log : LogLines
+  pub read : log_of lines ≡ Ok log
+  pub is : IsWrongReply (steps_of_log log) (operations_of_log log) (writes_of_log log) wrong
+
+-- why there is no answer: the text is refused there, or a reply isn't due, or memory was refused
+abbrev pub IsNoAnswerTo : List (List ℕ) → NoAnswer → Type 0
+IsNoAnswerTo lines (Refused refusal) =
+    (refusal ≡ refusal_at 0 reason.Memory) ⊎ (log_of lines ≡ Err refusal)
+IsNoAnswerTo lines (Wrong wrong) = IsWrongIn lines wrong
+IsNoAnswerTo lines Memory = Unit {0}

@@ -1,0 +1,4 @@
+pub mod Answer
+pub mod Judged
+pub mod Model
+pub mod Texts

@@ -1,0 +1,89 @@
+-- What is printed of the models that a log obeys (this project's own format).
+use Rattle.std.specs.Prelude.{ℕ, ◌==◌, Bool, true, false, if◌then◌else◌, List, [], ◌∷◌, ◌++◌}
+use Rattle.std.specs.Prelude.{Option, Some, None, codes, decimal, length, nat_lt, slice_index_or}
+use Rattle.std.specs.List.{flat_map, range_with_len}
+use Rattle.packet.specs.declared.kinds.Operation.{Operation as Asked}
+use Rattle.packet.specs.Kinds.{code_of}
+use Rattle.packet.specs.Names.{code_word}
+use Rattle.packet.specs.Spelling.{values_of_op}
+use Rattle.memory_models.specs.declared.kinds.Kind.{Kind}
+use Rattle.memory_models.specs.declared.kinds.Kind.TheVariants as kind
+use Rattle.memory_models.specs.declared.kinds.Operation.{Operation}
+use Rattle.memory_models.specs.declared.kinds.Step.{Step}
+use Rattle.memory_models.specs.declared.kinds.Why.{Why}
+use Rattle.memory_models.specs.declared.kinds.Why.TheVariants as why
+use Rattle.memory_models.specs.Trace.{operation_at}
+use Rattle.memory_models.specs.Verdict.{step_at}
+use Rattle.model_text.specs.declared.logged.Logged.{Logged}
+use Rattle.model_text.specs.Traces.{logged_at, place_in}
+use Rattle.model_answer.specs.declared.judged.Obeys.{Obeys}
+use Rattle.model_answer.specs.declared.model.MemoryModel.{MemoryModel}
+use Rattle.model_answer.specs.declared.model.MemoryModel.TheVariants.{Coherent, Fenced, Pso, Tso, Sc}
+use Rattle.model_answer.specs.Model.{model_word}
+
+-- the line of a model
+abbrev pub verdict_text : MemoryModel → Bool → List ℕ
+verdict_text model true = model_word model ++ codes " yes\n"
+verdict_text model false = model_word model ++ codes " no\n"
+
+-- the lines of the models, weakest first
+abbrev pub obeys_text : Obeys → List ℕ
+obeys_text o = verdict_text Coherent o.coherent ++ verdict_text Fenced o.fenced
+    ++ verdict_text Pso o.pso ++ verdict_text Tso o.tso ++ verdict_text Sc o.sc
+
+-- some values, each behind a space
+abbrev pub values_text : List ℕ → List ℕ
+values_text [] = []
+values_text (v ∷ vs) = (codes " " ++ decimal v) ++ values_text vs
+
+-- an operation, its address and its values
+abbrev pub operation_text : Asked → List ℕ
+operation_text o = code_word (code_of o.op) ++ (codes " " ++ decimal o.address)
+    ++ values_text (values_of_op o.op)
+
+abbrev pub fence_or_operation : Option Asked → List ℕ
+fence_or_operation None = codes "fence"
+fence_or_operation (Some o) = operation_text o
+
+-- where an operation stands: the line that made it and its processor; or it is an opening store
+abbrev pub step_front : Logged → List ℕ
+step_front l = if l.line == 0 then codes "opening: "
+    else codes "line " ++ decimal l.line ++ codes ": " ++ decimal l.processor ++ codes " "
+
+-- the line of an operation
+abbrev pub step_text : Logged → List ℕ
+step_text l = step_front l ++ fence_or_operation l.operation ++ codes "\n"
+
+-- why one operation comes before the next. What is overwritten is the first one's write, or what it
+-- read
+abbrev pub reason_text : Why → Kind → List ℕ
+reason_text why.Program k = codes "  before, in program order\n"
+reason_text why.Read k = codes "  was read by\n"
+reason_text why.Overwritten kind.Load = codes "  read a word that was overwritten by\n"
+reason_text why.Overwritten _ = codes "  was overwritten by\n"
+reason_text why.Stale k = codes "  was missed by the later load\n"
+
+-- the reason at a place of a list
+abbrev pub why_at : List Why → ℕ → Why
+why_at whys k = slice_index_or whys k why.Program
+
+-- the lines of a step: of its first operation, and of the reason
+abbrev pub arc_text : List Logged → List Operation → List Step → List Why → ℕ → List ℕ
+arc_text logged ops steps whys k =
+    step_text (logged_at logged (step_at steps k).from)
+    ++ reason_text (why_at whys k) (operation_at ops (step_at steps k).from).kind
+
+-- the lines of a cycle: those of its steps, and of its first operation once more
+abbrev pub cycle_text : List Logged → List Operation → List Step → List Why → List ℕ
+cycle_text logged ops steps whys =
+    flat_map (arc_text logged ops steps whys) (range_with_len 0 (length steps))
+    ++ step_text (logged_at logged (step_at steps 0).from)
+
+-- the line of an operation in the order; none for an opening store
+abbrev pub order_line : ℕ → List Logged → ℕ → List ℕ
+order_line openings logged x = if nat_lt x openings then [] else step_text (logged_at logged x)
+
+-- the operations by their turns
+abbrev pub order_text : ℕ → List Logged → List ℕ → List ℕ
+order_text openings logged turns =
+    flat_map (λ k. order_line openings logged (place_in turns k)) (range_with_len 0 (length turns))

@@ -1,0 +1,134 @@
+//! Which memory models a log obeys.
+
+ghost use Rattle.std.specs.Prelude.{◌≡◌, ◌+◌, IfOk, IfErr, OnOk};
+ghost use Rattle.std.specs.Str.Lines.{lines};
+ghost use Rattle.memory_models.specs.Trace.{IsMemoryTrace};
+ghost use Rattle.model_answer.specs.Answer.{AddsPart, IsAskedPart};
+ghost use Rattle.model_answer.specs.Answer.{IsAnswerTo, IsNoAnswerTo, IsAnswer, IsAnswerText};
+ghost use Rattle.model_answer.specs.Judged.{AreVerdicts};
+
+use crate::cycle::put_failing;
+use crate::judged::{Obeys, Verdicts, verdicts_of};
+use crate::order::put_strongest;
+use crate::text::put_obeys;
+use lexer::Refusal;
+use model_text::{LogReason, LogTrace, WrongReply, read_log, replies_of, trace_of_log};
+use std::alloc::{AllocError, Allocator, Global};
+
+/// What is asked beside the verdicts.
+#[derive(Clone, Copy, Debug, PartialEq, Eq)]
+pub struct Options {
+    /// An order of the strongest model that the log obeys.
+    pub order: bool,
+}
+
+/// Which models a log obeys, and what is printed of it.
+#[derive(Drop)]
+pub struct Answer<A: Allocator = Global> {
+    /// Which models the log obeys.
+    pub obeys: Obeys,
+    /// The lines that are printed.
+    pub text: Vec<u8, A>,
+}
+
+/// Why there is no answer.
+#[derive(Clone, Copy)]
+pub enum NoAnswer {
+    /// The text is no log.
+    Refused(Refusal<LogReason>),
+    /// A reply isn't what its operation does to the word that it found.
+    Wrong(WrongReply),
+    /// A request for memory was refused.
+    Memory,
+}
+
+/// Adds the order of the strongest model that a trace obeys, where it is asked for.
+fn put_asked<A: Allocator + Copy>(
+    alloc: A,
+    text: &mut Vec<u8, A>,
+    trace: &LogTrace<A>,
+    verdicts: &Verdicts<A>,
+    order: bool,
+) -> Result<(), AllocError>
+    ensures { OnOk result (AddsPart text.old.items text.new.items
+        (IsAskedPart trace.now verdicts.now order)) }
+{
+    if !order {
+        return Ok(());
+    }
+    put_strongest(alloc, text, trace, verdicts)?;
+    Ok(())
+}
+
+/// What is printed of the verdicts on a trace.
+///
+/// Errors: memory.
+fn text_of<A: Allocator + Copy>(
+    alloc: A,
+    trace: &LogTrace<A>,
+    verdicts: &Verdicts<A>,
+    options: Options,
+) -> Result<Vec<u8, A>, AllocError>
+    requires trace { IsMemoryTrace (trace.now.openings + 1) trace.now.operations.items
+        trace.now.writes.items }
+    requires verdicts { AreVerdicts trace.now.operations.items trace.now.writes.items
+        verdicts.now }
+    ensures { IfOk result (λ text. IsAnswerText trace.now verdicts.now options text.items) }
+{
+    let mut text = Vec::new(alloc);
+    put_obeys(&mut text, verdicts.obeys())?;
+    put_failing(alloc, &mut text, trace, verdicts)?;
+    put_asked(alloc, &mut text, trace, verdicts, options.order)?;
+    Ok(text)
+}
+
+/// The answer on a trace.
+///
+/// Errors: memory.
+fn answer_on<A: Allocator + Copy>(
+    alloc: A,
+    trace: &LogTrace<A>,
+    options: Options,
+) -> Result<Answer<A>, AllocError>
+    requires { IsMemoryTrace (trace.now.openings + 1) trace.now.operations.items
+        trace.now.writes.items }
+    ensures { IfOk result (IsAnswer trace.now options) }
+{
+    let verdicts = verdicts_of(alloc, trace)?;
+    let text = text_of(alloc, trace, &verdicts, options)?;
+    Ok(Answer {
+        obeys: verdicts.obeys(),
+        text,
+    })
+}
+
+/// Which memory models a log obeys, weakest first; a short cycle of the weakest that it breaks; and, if
+/// that is asked, an order of the strongest that it obeys.
+///
+/// Errors: where and why the text is no log, a reply that isn't what its operation does to its word,
+/// or memory.
+pub fn model_answer<A: Allocator + Copy>(
+    alloc: A,
+    log: &[u8],
+    options: Options,
+) -> Result<Answer<A>, NoAnswer>
+    ensures answer { IfOk result (IsAnswerTo (lines log.now) options) }
+    ensures none { IfErr result (IsNoAnswerTo (lines log.now)) }
+{
+    let log = match read_log(alloc, log) {
+        Ok(log) => log,
+        Err(refusal) => return Err(NoAnswer::Refused(refusal)),
+    };
+    let Ok(trace) = trace_of_log(alloc, &log) else {
+        return Err(NoAnswer::Memory);
+    };
+    match replies_of(alloc, &trace) {
+        Ok(None) => {}
+        Ok(Some(wrong)) => return Err(NoAnswer::Wrong(wrong)),
+        Err(_) => return Err(NoAnswer::Memory),
+    }
+    match answer_on(alloc, &trace, options) {
+        Ok(answer) => Ok(answer),
+        Err(_) => Err(NoAnswer::Memory),
+    }
+}

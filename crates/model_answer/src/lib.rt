@@ -1,0 +1,17 @@
+//! Which memory models the trace of a log obeys, what is printed of that, and a short cycle where the
+//! trace breaks one.
+#![tactic(auto)]
+
+pub mod answer;
+mod cycle;
+pub mod judged;
+pub mod model;
+mod order;
+pub mod sentence;
+mod shorten;
+mod text;
+
+pub use answer::{Answer, NoAnswer, Options, model_answer};
+pub use judged::{Obeys, Verdicts, verdicts_of};
+pub use model::MemoryModel;
+pub use sentence::{LogSentence, WrongSentence};

@@ -1,0 +1,122 @@
+//! The order of the strongest model that a trace obeys.
+
+ghost use Rattle.std.specs.Prelude.{◌≡◌, ◌++◌, OnOk};
+ghost use Rattle.model_answer.specs.Answer.{AddsPart, IsOrderPart, IsOrderOf, strongest_obeyed, obeys_of};
+ghost use Rattle.model_answer.specs.Answer.{order_heading};
+ghost use Rattle.model_answer.specs.Texts.{order_line, order_text};
+
+use crate::judged::{Obeys, Verdicts};
+use crate::model::MemoryModel;
+use crate::text::{put, put_step};
+use memory_models::Verdict;
+use model_text::LogTrace;
+use model_text::placing::places_in;
+use model_text::trace::logged_at;
+use std::alloc::{AllocError, Allocator};
+
+/// The strongest model that a trace obeys.
+fn strongest_obeyed(obeys: Obeys) -> Option<MemoryModel>
+    ensures { result ≡ strongest_obeyed obeys }
+{
+    if obeys.sc {
+        return Some(MemoryModel::Sc);
+    }
+    if obeys.tso {
+        return Some(MemoryModel::Tso);
+    }
+    if obeys.pso {
+        return Some(MemoryModel::Pso);
+    }
+    if obeys.fenced {
+        return Some(MemoryModel::Fenced);
+    }
+    if obeys.coherent {
+        return Some(MemoryModel::Coherent);
+    }
+    None
+}
+
+/// Adds the line of an operation; none of an opening store.
+fn put_order_line<A: Allocator>(
+    text: &mut Vec<u8, A>,
+    trace: &LogTrace<A>,
+    x: usize,
+) -> Result<(), AllocError>
+    ensures { OnOk result (text.new.items ≡ text.old.items
+        ++ order_line trace.now.openings trace.now.steps.items x) }
+{
+    if x < trace.openings {
+        return Ok(());
+    }
+    put_step(text, logged_at(&trace.steps, x))
+}
+
+/// Adds the operations by their turns.
+fn put_order<A: Allocator + Copy>(
+    alloc: A,
+    text: &mut Vec<u8, A>,
+    trace: &LogTrace<A>,
+    turns: &[usize],
+) -> Result<(), AllocError>
+    ensures { OnOk result (text.new.items ≡ text.old.items
+        ++ order_text trace.now.openings trace.now.steps.items turns.now) }
+{
+    let order = places_in(alloc, turns, turns.len())?;
+    for k in 0..order.len() {
+        put_order_line(text, trace, order[k])?;
+    }
+    Ok(())
+}
+
+/// Adds the line before an order.
+fn put_heading<A: Allocator>(text: &mut Vec<u8, A>, model: MemoryModel) -> Result<(), AllocError>
+    ensures { OnOk result (text.new.items ≡ text.old.items ++ order_heading model) }
+{
+    put(text, b"an order of ")?;
+    put(text, model.word().as_bytes())?;
+    put(text, b":\n")?;
+    Ok(())
+}
+
+/// Adds the order of a model, if its verdict is one.
+fn put_verdict_of<A: Allocator + Copy>(
+    alloc: A,
+    text: &mut Vec<u8, A>,
+    trace: &LogTrace<A>,
+    model: MemoryModel,
+    verdict: &Verdict<A>,
+) -> Result<(), AllocError>
+    ensures { OnOk result (AddsPart text.old.items text.new.items
+        (IsOrderOf trace.now model verdict.now)) }
+{
+    match verdict {
+        Verdict::Cycle(_) => Ok(()),
+        Verdict::Ordered(turns) => {
+            put_heading(text, model)?;
+            put_order(alloc, text, trace, turns)?;
+            Ok(())
+        }
+    }
+}
+
+/// Adds the order of the strongest model that a trace obeys, behind its heading; nothing where it
+/// obeys none.
+///
+/// Errors: memory.
+pub(crate) fn put_strongest<A: Allocator + Copy>(
+    alloc: A,
+    text: &mut Vec<u8, A>,
+    trace: &LogTrace<A>,
+    verdicts: &Verdicts<A>,
+) -> Result<(), AllocError>
+    ensures { OnOk result (AddsPart text.old.items text.new.items
+        (IsOrderPart trace.now verdicts.now (strongest_obeyed (obeys_of verdicts.now)))) }
+{
+    match strongest_obeyed(verdicts.obeys()) {
+        None => Ok(()),
+        Some(model) => {
+            put_verdict_of(alloc, text, trace, model, verdicts.by(model))?;
+            Ok(())
+        }
+    }
+}

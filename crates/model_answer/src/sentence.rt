@@ -1,0 +1,154 @@
+//! The sentences that say why a log is refused.
+
+use lexer::{Filled, QuotedWords, Refusal};
+use model_text::{LogKeyword, LogReason, WrongReply};
+use packet::{Code, Reply};
+use std::fmt;
+
+/// Why a log is refused, as a reader is told: the name of the text, the line, the words that stand
+/// there, and what may stand there: `log.txt:3: wrote 0 1: the operation is a load, which writes nothing`.
+#[derive(Clone, Copy)]
+pub struct LogSentence<'a> {
+    /// The name of the text.
+    pub name: &'a str,
+    pub text: &'a [u8],
+    pub refusal: Refusal<LogReason>,
+}
+
+/// A reply of a log that isn't the one that is due: `reply 3 at line 9, but the word is 2 (line 4)`.
+#[derive(Clone, Copy)]
+pub struct WrongSentence {
+    pub wrong: WrongReply,
+}
+
+/// What is said of a reason, with gaps.
+fn text_of(reason: LogReason) -> &'static str {
+    match reason {
+        LogReason::NoTitle => "the first line of a log is log 1",
+        LogReason::TitleMissing => "the text ends without log 1",
+        LogReason::UnknownKeyword => {
+            "A: a line begins with words, init, made, wrote, read, served or replied"
+        }
+        LogReason::WordCount(_) => "A: behind it K",
+        LogReason::NotNumber(_) => "W: a number belongs there",
+        LogReason::UnknownOperation => "C: an operation or fence belongs there",
+        LogReason::OperandCount => "C: behind it K",
+        LogReason::NotReply => "D: a number or ok belongs there",
+        LogReason::NotSource => "D: from or opening belongs there",
+        LogReason::WordsFirst => "A: it comes behind words, which is not given yet",
+        LogReason::WordsMissing => "the text ends without words",
+        LogReason::WordsTwice => "words: it is given already",
+        LogReason::WordsLimits => "words B: a memory has 1 to 4294967296 words",
+        LogReason::InitLate => "init: it comes before all made lines",
+        LogReason::InitTwice => "address B: its opening word is given already",
+        LogReason::ProcessorLimits => "a processor is below 4096",
+        LogReason::AddressLimits(_, _) => "address W: the memory has the words 0 to N",
+        LogReason::ValueLimits(_) => "value W: a value is below 2^64",
+        LogReason::OperationsLimits => "made: a log has at most 4194304 operations",
+        LogReason::AddressesLimits => {
+            "address D: a log has operations on at most 1048576 addresses"
+        }
+        LogReason::NotMade(_) => "A: a processor that it names has made N operations so far",
+        LogReason::FenceNamed => "A: it names a fence, and belongs to an operation on a word",
+        LogReason::NotWrite => "A: it names a load where a write belongs",
+        LogReason::NotLoad => "A: it names a write where a load belongs",
+        LogReason::OtherWord => "read: the load and the write are on different words",
+        LogReason::SourceTwice => "A: a line before says where the operation stands",
+        LogReason::SourceMissing => {
+            "made: no line says where it stands: wrote for a write, read or served for a load"
+        }
+        LogReason::OkUnwanted => "ok: the operation is no store: a number belongs there",
+        LogReason::NumberUnwanted => "D: the operation is a store: ok belongs there",
+        LogReason::RepliedTwice => "replied: the reply of the operation is given already",
+        LogReason::Memory => "a request for memory was refused while it was read",
+    }
+}
+
+/// What stands behind a keyword.
+fn words_text(keyword: LogKeyword) -> &'static str {
+    match keyword {
+        LogKeyword::Words => "stands one number",
+        LogKeyword::Init => "stand an address and a value",
+        LogKeyword::Made => "stand a processor and an operation",
+        LogKeyword::Wrote => "stand a processor and an index",
+        LogKeyword::Read => {
+            "stand a processor and an index, then opening, or from, a processor and an index"
+        }
+        LogKeyword::Served => "stand a processor and an index",
+        LogKeyword::Replied => "stand a processor, an index and a reply",
+    }
+}
+
+/// What stands behind the operation that a word names.
+fn operands_text(word: &[u8]) -> &'static str {
+    match Code::named(word) {
+        None => "stands nothing",
+        Some(code) => match code.arity() {
+            0 => "stands an address",
+            1 => "stand an address and a value",
+            _ => "stand an address and two values",
+        },
+    }
+}
+
+/// The name in what is said of a reason.
+fn name_of(words: QuotedWords<'_>, reason: LogReason) -> &'static str {
+    match reason {
+        LogReason::WordCount(keyword) => words_text(keyword),
+        LogReason::OperandCount => operands_text(words.at(2).word),
+        _ => "",
+    }
+}
+
+/// The place of the word that a reason is about.
+fn place_of(reason: LogReason) -> u32 {
+    match reason {
+        LogReason::NotNumber(place) => place,
+        LogReason::AddressLimits(place, _) => place,
+        LogReason::ValueLimits(place) => place,
+        _ => 0,
+    }
+}
+
+/// The number in what is said of a reason: the last address, or a count.
+fn number_of(reason: LogReason) -> u128 {
+    match reason {
+        LogReason::AddressLimits(_, words) => u128::from(words.saturating_sub(1)),
+        LogReason::NotMade(made) => made as u128,
+        _ => 0,
+    }
+}
+
+impl<'a> fmt::Display for LogSentence<'a> {
+    fn fmt<W: fmt::Write>(&self, f: &mut fmt::Formatter<W>) -> fmt::Result {
+        let reason = self.refusal.reason;
+        let words = QuotedWords::of_line(self.text, self.refusal.line);
+        let said = Filled {
+            text: text_of(reason),
+            words,
+            place: place_of(reason),
+            number: number_of(reason),
+            other: 0,
+            name: name_of(words, reason),
+        };
+        match reason {
+            LogReason::Memory => write!(f, "{} {said}", self.name),
+            LogReason::NoTitle => write!(f, "{}:{}: {words}: {said}", self.name, self.refusal.line),
+            _ => write!(f, "{}:{}: {said}", self.name, self.refusal.line),
+        }
+    }
+}
+
+impl fmt::Display for WrongSentence {
+    fn fmt<W: fmt::Write>(&self, f: &mut fmt::Formatter<W>) -> fmt::Result {
+        match self.wrong.told.reply {
+            Reply::Ok => write!(f, "reply ok at line {}", self.wrong.told.line)?,
+            Reply::Old(word) => write!(f, "reply {word} at line {}", self.wrong.told.line)?,
+        }
+        write!(f, ", but the word is {}", self.wrong.word)?;
+        match self.wrong.line {
+            0 => f.write_str(" (opening)"),
+            line => write!(f, " (line {line})"),
+        }
+    }
+}

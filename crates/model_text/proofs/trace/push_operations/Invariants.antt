@@ -1,0 +1,11 @@
+use Rattle.std.proofs.Common.{◌≡◌, ◌++◌, map, take}
+use Rattle.model_text.specs.Traces.{logged_at, operation_of_log}
+use Rattle.model_text.specs.Views.{log_so_far}
+use Rattle.model_text.proofs.trace.push_operations.Given as goal
+
+-- the operations so far
+abbrev pub invariant-loop-i : goal.invariant-loop-i
+invariant-loop-i g l = record {
+  steps : l.steps.items ≡ l.fn.steps.items ++ map (logged_at l.log.made.items) (take l.i l.numbers);
+  operations : l.operations.items ≡ l.fn.operations.items ++ map (operation_of_log (log_so_far l.log)) (take l.i l.numbers);
+}

@@ -1,0 +1,9 @@
+pub mod Form
+pub mod InsideRows
+pub mod Kinds
+pub mod Lines
+pub mod Reasons
+pub mod Rows
+pub mod Traces
+pub mod Values
+pub mod Views

@@ -1,0 +1,24 @@
+//! The log of a memory: which operations processors made, the order of each word's writes, what each
+//! load read and what was replied; as a trace that a memory model is asked of.
+#![tactic(auto)]
+
+pub mod form;
+pub mod log;
+pub mod logged;
+mod number;
+pub mod placing;
+mod reading;
+pub mod reason;
+mod replies;
+pub mod rows;
+mod sources;
+pub mod text;
+pub mod trace;
+pub mod values;
+
+pub use log::Log;
+pub use logged::{Logged, Source, Told};
+pub use reason::{LogKeyword, LogReason};
+pub use text::read_log;
+pub use trace::{LogTrace, trace_of_log};
+pub use values::{WrongReply, replies_of};

@@ -1,0 +1,55 @@
+//! Reads a log text.
+
+ghost use Rattle.std.specs.Prelude.{◌≡◌};
+ghost use Rattle.std.specs.Str.Lines.{lines};
+ghost use Rattle.lexer.specs.Outcome.{Gives};
+ghost use Rattle.model_text.specs.Lines.{log_of, first_untold};
+ghost use Rattle.model_text.specs.Views.{log_so_far};
+
+use crate::log::Log;
+use crate::logged::Logged;
+use crate::reason::LogReason;
+use crate::sources::is_told;
+use lexer::{Refusal, first_words, next_line};
+use std::alloc::Allocator;
+
+/// The first operation of which no line says what it read, or where it stands among the writes.
+fn first_untold(made: &[Logged]) -> Option<Logged>
+    ensures { result ≡ first_untold made.now }
+{
+    for i in 0..made.len() {
+        let logged = made[i];
+        if !is_told(logged.source) {
+            return Some(logged);
+        }
+    }
+    None
+}
+
+/// Reads a log text.
+///
+/// Errors: where and why its first bad line is refused, or that a request for memory was.
+pub fn read_log<A: Allocator + Copy>(alloc: A, text: &[u8]) -> Result<Log<A>, Refusal<LogReason>>
+    ensures { Gives LogReason.Memory log_so_far result (log_of (lines text.now)) }
+{
+    let Ok(mut log) = Log::none(alloc) else {
+        return Err(Refusal::at(0, LogReason::Memory));
+    };
+    let mut number = 1u64;
+    let mut rest = text;
+    while let Some((line, after)) = next_line(rest) {
+        let (words, count) = first_words(line);
+        if let Err(reason) = log.take(alloc, number, &words[..count]) {
+            return Err(Refusal::at(number, reason));
+        }
+        number += 1;
+        rest = after;
+    }
+    if let Some(reason) = log.missing() {
+        return Err(Refusal::at(number, reason));
+    }
+    match first_untold(&log.made) {
+        None => Ok(log),
+        Some(logged) => Err(Refusal::at(logged.line, LogReason::SourceMissing)),
+    }
+}
