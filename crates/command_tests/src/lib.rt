@@ -7,6 +7,14 @@ mod answers;
 #[cfg(test)]
 mod dialogues;
 #[cfg(test)]
+mod faults;
+#[cfg(test)]
+mod jobs;
+#[cfg(test)]
+mod runs;
+#[cfg(test)]
 mod schedules;
+#[cfg(test)]
+mod watching;
 #[cfg(test)]
 mod workers;

@@ -1,65 +1,10 @@
-ghost use Rattle.std.specs.Prelude.{None};
-
-use arrayvec::ArrayVec;
+use crate::jobs::{PAIR, SCRIPT, Sink, line_count, says};
 use linked_list_allocator::LocalHeap;
 use program_fault::ProgramFault;
-use report_lines::Out;
 use schedule_commands::{draw_text, moves_text, schedule_text};
-use script::LineFault;
-use std::alloc::{Allocator, Global};
+use std::alloc::{AllocError, Allocator, Global};
 use std::test::Fail;
 use torus::Fault;
-
-/// Takes at most so many bytes a put, and none at the put of one number, counted from 1.
-#[derive(Drop)]
-struct Sink {
-    bytes: ArrayVec<u8, 4096>,
-    most: usize,
-    failing: usize,
-    puts: usize,
-    failures: u64,
-}
-
-impl Sink {
-    fn new(most: usize, failing: usize) -> Self {
-        Sink {
-            bytes: ArrayVec::new(),
-            most,
-            failing,
-            puts: 0,
-            failures: 0,
-        }
-    }
-
-    /// Takes all bytes.
-    fn whole() -> Self {
-        Sink::new(4096, 0)
-    }
-}
-
-impl Out for Sink {
-    ghost taken = { λ _. None };
-
-    ghost failures = { λ s. s.failures };
-
-    fn put(&mut self, bytes: &[u8]) -> usize {
-        self.puts = self.puts.saturating_add(1);
-        let mut taken = bytes.len().min(self.most);
-        if self.puts == self.failing || self.bytes.try_extend_from_slice(&bytes[..taken]).is_err() {
-            taken = 0;
-        }
-        if !bytes.is_empty() && taken == 0 {
-            self.failures = self.failures.saturating_add(1);
-        }
-        taken
-    }
-}
-
-/// Two tiles.
-const PAIR: &str = "radix 2\ndims 1\ndepth 4\ntags 4\nwords 8\n";
-
-/// A store and a load of it, which end well.
-const SCRIPT: &str = "0 store 5 17\n0 fence\n0 load 5\n";
 
 /// Its rounds: 78 moves, of them 24 takes, 24 credits, 16 puts, 8 sends, and 2 each of serve, done and
 /// look.
@@ -118,9 +63,13 @@ fn done<A: Allocator + Copy>(
 /// this text.
 fn writes<A: Allocator + Copy>(alloc: A, scripts: &str, job: &Job<'_>, text: &str) -> bool {
     let mut sink = Sink::whole();
-    let is_finished = text.ends_with("# finished\n");
-    done(alloc, PAIR, scripts, job, &mut sink) == Ok(is_finished)
-        && sink.bytes.as_slice() == text.as_bytes()
+    let answer = done(alloc, PAIR, scripts, job, &mut sink);
+    let word = if text.ends_with("# finished\n") {
+        "finished"
+    } else {
+        "stopped"
+    };
+    says(&answer, word) && sink.bytes.as_slice() == text.as_bytes()
 }
 
 /// Schedules: the scripts, what is asked for, and the text.
@@ -168,83 +117,79 @@ fn schedules_are_written(rt: HostRuntime) {
     }
 }
 
-/// How many lines a text has.
-fn line_count(text: &[u8]) -> usize {
-    let mut count = 0usize;
-    for byte in text {
-        if *byte == b'\n' {
-            count = count.saturating_add(1);
-        }
-    }
-    count
+/// Whether moves are drawn by seed 7, at most so many, and answered so, in so many lines.
+fn draws(alloc: Global, most: Option<u64>, word: &str, lines: usize) -> bool {
+    let mut sink = Sink::whole();
+    let answer = done(alloc, PAIR, SCRIPT, &Job::Draw(7, most), &mut sink);
+    says(&answer, word) && line_count(sink.bytes.as_slice()) == lines
 }
 
 /// Without a greatest number of moves they are drawn until the script is finished: 73 with seed 7; and
 /// as many suffice, and one fewer doesn't.
 #[test]
 fn draws_end(rt: HostRuntime) {
-    for &(most, is_finished, lines) in &[
-        (None, true, 74),
-        (Some(18446744073709551615), true, 74),
-        (Some(73), true, 74),
-        (Some(72), false, 73),
+    for &(most, word, lines) in &[
+        (None, "finished", 74),
+        (Some(18446744073709551615), "finished", 74),
+        (Some(73), "finished", 74),
+        (Some(72), "stopped", 73),
     ] {
-        let mut sink = Sink::whole();
-        let answer = done(rt.alloc(), PAIR, SCRIPT, &Job::Draw(7, most), &mut sink);
-        assert!(rt; answer == Ok(is_finished) && line_count(&sink.bytes) == lines);
+        assert!(rt; draws(rt.alloc(), most, word, lines));
     }
 }
 
-/// Faults: the machine, the scripts, what is asked for, the code and the line.
-const REFUSED: [(&str, &str, Job<'static>, Fault, u64); 7] = [
+/// Faults: the machine, the scripts, what is asked for, and what is printed.
+const REFUSED: [(&str, &str, Job<'static>, &str); 7] = [
     (
         "radix 9\ndims 1\n",
         "0 jump 1\n",
         Job::Rounds(1),
-        Fault::Radix,
-        1,
+        "fault F1 at line 1",
     ),
-    (PAIR, "0 load 8\n", Job::Rounds(1), Fault::Address, 1),
+    (PAIR, "0 load 8\n", Job::Rounds(1), "fault F7 at line 1"),
     (
         "radix 9\ndims 1\n",
         "0 jump 1\n",
         Job::Moves("7 send\n"),
-        Fault::Radix,
-        1,
+        "fault F1 at line 1",
     ),
     (
         PAIR,
         "0 load 7\n0 jump\n",
         Job::Moves("7 send\n"),
-        Fault::Line,
-        2,
+        "fault F4 at line 2",
     ),
     (
         PAIR,
         SCRIPT,
         Job::Moves("0 send\n1 serve\n"),
-        Fault::Step,
-        2,
+        "fault F11 at line 2",
     ),
     (
         "radix 9\ndims 1\n",
         "0 jump 1\n",
         Job::Draw(7, None),
-        Fault::Radix,
-        1,
+        "fault F1 at line 1",
     ),
-    (PAIR, "2 load 7\n", Job::Draw(7, None), Fault::Processor, 1),
+    (PAIR, "2 load 7\n", Job::Draw(7, None), "fault F8 at line 1"),
 ];
+
+/// Whether a job is refused so, and nothing is written.
+fn refuses(alloc: Global, machine: &str, scripts: &str, job: &Job<'_>, printed: &str) -> bool {
+    let mut sink = Sink::whole();
+    let answer = done(alloc, machine, scripts, job, &mut sink);
+    answer.is_err() && says(&answer, printed) && sink.puts == 0
+}
 
 /// The first fault of the texts is told, machine first, then scripts, then steps, and nothing is
 /// written.
 #[test]
 fn faults_are_told(rt: HostRuntime) {
-    for &(machine, scripts, ref job, fault, line) in &REFUSED {
-        let mut sink = Sink::whole();
-        let answer = done(rt.alloc(), machine, scripts, job, &mut sink);
-        let told = ProgramFault::Line(LineFault { fault, line });
-        assert!(rt; answer == Err(told) && sink.puts == 0, "{scripts}");
+    for (machine, scripts, job, printed) in &REFUSED {
+        assert!(rt;
+            refuses(rt.alloc(), machine, scripts, job, printed),
+            "{scripts}"
+        );
     }
 }
 
@@ -276,24 +221,41 @@ fn tried<A: Allocator + Copy>(alloc: A, job: &Job<'_>, text: &str) -> Outcome {
     }
 }
 
+/// The same within a budget of bytes, all of which is free again afterwards.
+fn within(alloc: Global, job: &Job<'_>, text: &str, budget: usize) -> Result<Outcome, AllocError> {
+    let heap = LocalHeap::new(alloc, budget)?;
+    let made = tried(&heap, job, text);
+    Ok(if heap.used() == 0 {
+        made
+    } else {
+        Outcome::Wrong
+    })
+}
+
+/// Whether a job is refused up to some budget of memory, and writes the whole text from it on.
+fn suffices_at_last(alloc: Global, job: &Job<'_>, text: &str) -> Result<bool, AllocError> {
+    let mut suffices = false;
+    for step in 0..128 {
+        match within(alloc, job, text, 128 * step)? {
+            Outcome::Whole => suffices = true,
+            Outcome::Refused => {
+                if suffices {
+                    return Ok(false);
+                }
+            }
+            Outcome::Wrong => return Ok(false),
+        }
+    }
+    Ok(suffices)
+}
+
 /// Every budget of memory from none up: refused and nothing written, or the whole text; and nothing
 /// is kept.
 #[test]
 fn budgets(rt: HostRuntime) -> Result<(), Fail> {
     for (job, text, _) in &WHOLE {
-        let mut least = Outcome::Refused;
-        for step in 0..128 {
-            let heap = LocalHeap::new(rt.alloc(), 128 * step)?;
-            let made = tried(&heap, job, text);
-            let fits = match made {
-                Outcome::Whole => true,
-                Outcome::Refused => matches!(least, Outcome::Refused),
-                Outcome::Wrong => false,
-            };
-            assert!(rt; fits && heap.used() == 0, "at {step}");
-            least = made;
-        }
-        assert!(rt; matches!(least, Outcome::Whole), "{text}");
+        let suffices = suffices_at_last(rt.alloc(), job, text)?;
+        assert!(rt; suffices, "{text}");
     }
     Ok(())
 }
@@ -301,25 +263,35 @@ fn budgets(rt: HostRuntime) -> Result<(), Fail> {
 /// Whether a job that writes this text writes a beginning of it where this put of the output fails.
 fn stops_at(alloc: Global, job: &Job<'_>, text: &str, failing: usize) -> bool {
     let mut sink = Sink::new(4096, failing);
-    done(alloc, PAIR, SCRIPT, job, &mut sink) == Err(ProgramFault::Output)
+    let answer = done(alloc, PAIR, SCRIPT, job, &mut sink);
+    says(&answer, "output failed")
         && sink.failures == 1
         && text.as_bytes().starts_with(sink.bytes.as_slice())
+}
+
+/// Whether it does where each of so many puts fails in turn.
+fn stops_at_each(alloc: Global, job: &Job<'_>, text: &str, puts: usize) -> bool {
+    for failing in 1..=puts {
+        if !stops_at(alloc, job, text, failing) {
+            return false;
+        }
+    }
+    true
 }
 
 /// Whether a job that writes this text writes all of it where the output takes one byte a put.
 fn goes_byte_by_byte(alloc: Global, job: &Job<'_>, text: &str) -> bool {
     let mut sink = Sink::new(1, 0);
-    done(alloc, PAIR, SCRIPT, job, &mut sink).is_ok() && sink.bytes.as_slice() == text.as_bytes()
+    let is_done = done(alloc, PAIR, SCRIPT, job, &mut sink).is_ok();
+    is_done && sink.bytes.as_slice() == text.as_bytes()
 }
 
 /// Each line's put fails in turn: a beginning of the text is written. And an output that takes one
 /// byte a put gets the whole text.
 #[test]
 fn outputs(rt: HostRuntime) {
-    for &(ref job, text, puts) in &WHOLE {
-        for failing in 1..=puts {
-            assert!(rt; stops_at(rt.alloc(), job, text, failing), "{text}");
-        }
+    for (job, text, puts) in &WHOLE {
+        assert!(rt; stops_at_each(rt.alloc(), job, text, *puts), "{text}");
         assert!(rt; goes_byte_by_byte(rt.alloc(), job, text), "{text}");
     }
 }

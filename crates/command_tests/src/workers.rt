@@ -1,14 +1,13 @@
-use crate::answers::{PAIR, SCRIPT, Sink};
-use commands::{ProgramFault, Silent, check_text};
+use crate::jobs::{PAIR, SCRIPT, Sink, is_good, says};
+use commands::{ProgramFault, Silent};
 use report_lines::{Out, Piped};
 use run_command::{Gate, Open, Unwatched, Watch, run_text, run_text_with};
-use script::LineFault;
 use std::alloc::AllocError;
 use std::sync::Wait;
 use std::sync::atomic::{AtomicU64, Ordering};
 use std::test::Fail;
 use std::thread::{self, Threads};
-use torus::{Fault, Step};
+use torus::Step;
 
 /// Four tiles.
 const BOX: &str = "radix 2\ndims 2\ndepth 4\ntags 4\nwords 8\n";
@@ -44,21 +43,21 @@ fn ran<R: Threads + Wait + Sync + AllocGlobal, W: Out>(
     )
 }
 
-/// Runs that have one report: the machine, the scripts, how many workers, how many turns each; whether
-/// all scripts are finished, and the report.
-const RUNS: [(&str, &str, usize, u64, bool, &str); 9] = [
-    (PAIR, "", 1, MOST, true, NOTHING),
-    (PAIR, "", 2, MOST, true, NOTHING),
-    (PAIR, "", 16, MOST, true, NOTHING),
-    (PAIR, SCRIPT, 1, MOST, true, UNORDERED),
-    (PAIR, SCRIPT, 2, MOST, true, UNORDERED),
-    (PAIR, SCRIPT, 16, MOST, true, UNORDERED),
+/// Runs that have one report: the machine, the scripts, how many workers, how many turns each; the answer, and the
+/// report.
+const RUNS: [(&str, &str, usize, u64, &str, &str); 9] = [
+    (PAIR, "", 1, MOST, "finished", NOTHING),
+    (PAIR, "", 2, MOST, "finished", NOTHING),
+    (PAIR, "", 16, MOST, "finished", NOTHING),
+    (PAIR, SCRIPT, 1, MOST, "finished", UNORDERED),
+    (PAIR, SCRIPT, 2, MOST, "finished", UNORDERED),
+    (PAIR, SCRIPT, 16, MOST, "finished", UNORDERED),
     (
         PAIR,
         "0 load 0\n1 load 1\n",
         2,
         1,
-        false,
+        "stopped",
         "torusmem 1\nshape 2 1 8\nend incomplete\n",
     ),
     (
@@ -66,7 +65,7 @@ const RUNS: [(&str, &str, usize, u64, bool, &str); 9] = [
         "0 spin 0 1 3\n",
         2,
         MOST,
-        true,
+        "finished",
         "torusmem 1\nshape 2 1 8\nentry 0 0 0 0 load 0 0\nentry 0 1 0 0 load 0 0\nentry 0 2 0 0 load 0 0\n\
             answer 0 0 0 0 0\nanswer 0 1 0 1 0\nanswer 0 2 0 2 0\nend complete\n",
     ),
@@ -75,22 +74,32 @@ const RUNS: [(&str, &str, usize, u64, bool, &str); 9] = [
         "3 store 1 7\n3 fence\n3 add 1 1\n",
         4,
         MOST,
-        true,
+        "finished",
         "torusmem 1\nshape 2 2 8\nentry 1 0 3 0 store 1 7 ok\nentry 1 1 3 0 add 1 1 7\nanswer 3 0 1 0 ok\n\
             answer 3 1 1 1 7\nword 1 8\nend complete\n",
     ),
 ];
 
+/// Whether a run answers so, and writes this text.
+fn writes<R: Threads + Wait + Sync + AllocGlobal>(
+    rt: &R,
+    machine: &str,
+    scripts: &str,
+    workers: usize,
+    turns: u64,
+    word: &str,
+    text: &str,
+) -> bool {
+    let mut sink = Sink::whole();
+    let answer = ran(rt, machine, scripts, workers, turns, &mut sink);
+    says(&answer, word) && sink.bytes.as_slice() == text.as_bytes()
+}
+
 #[test]
 fn workers_write_reports(rt: HostRuntime) {
-    for &(machine, scripts, workers, turns, is_finished, text) in &RUNS {
-        let mut sink = Sink::whole();
-        let answer = ran(&rt, machine, scripts, workers, turns, &mut sink);
-        let is_text = sink.bytes.as_slice() == text.as_bytes();
-        assert!(rt;
-            answer == Ok(is_finished) && is_text,
-            "{workers} workers: {text}"
-        );
+    for &(machine, scripts, workers, turns, word, text) in &RUNS {
+        let is_so = writes(&rt, machine, scripts, workers, turns, word, text);
+        assert!(rt; is_so, "{workers} workers: {text}");
     }
 }
 
@@ -125,33 +134,53 @@ impl Gate for Rendezvous {
     }
 }
 
-/// Two workers have begun before either makes a turn, so they are in threads of their own; and they ask
-/// ahead of each turn, of which this run takes many.
-#[test]
-fn workers_run_side_by_side(rt: HostRuntime) {
-    let gate = Rendezvous {
-        come: AtomicU64::new(0),
-        missed: AtomicU64::new(0),
-        asked: AtomicU64::new(0),
-    };
+impl Rendezvous {
+    fn new() -> Rendezvous {
+        Rendezvous {
+            come: AtomicU64::new(0),
+            missed: AtomicU64::new(0),
+            asked: AtomicU64::new(0),
+        }
+    }
+
+    /// Whether two workers came, none missed the other, and they asked so often at least.
+    fn has_seen(&self, asked: u64) -> bool {
+        self.come.load(Ordering::SeqCst) == 2
+            && self.missed.load(Ordering::SeqCst) == 0
+            && self.asked.load(Ordering::SeqCst) >= asked
+    }
+}
+
+/// Runs two tiles by two workers that pass a gate, and tells whether they write a report.
+fn writes_by_gate<R: Threads + Wait + Sync + AllocGlobal>(
+    rt: &R,
+    scripts: &str,
+    gate: &Rendezvous,
+    text: &str,
+) -> bool {
     let mut sink = Sink::whole();
-    let (machine, scripts) = (PAIR.as_bytes(), SCRIPT.as_bytes());
     let answer = run_text_with(
-        &rt,
+        rt,
         rt.alloc(),
-        machine,
-        scripts,
+        PAIR.as_bytes(),
+        scripts.as_bytes(),
         2,
         MOST,
-        &gate,
+        gate,
         &Unwatched,
         &mut sink,
         &mut Silent,
     );
-    let is_text = sink.bytes.as_slice() == UNORDERED.as_bytes();
-    assert!(rt; answer == Ok(true) && is_text);
-    assert!(rt; gate.come.load(Ordering::SeqCst) == 2 && gate.missed.load(Ordering::SeqCst) == 0);
-    assert!(rt; gate.asked.load(Ordering::SeqCst) >= 40);
+    says(&answer, "finished") && sink.bytes.as_slice() == text.as_bytes()
+}
+
+/// Two workers have begun before either makes a turn, so they are in threads of their own; and they ask
+/// ahead of each turn, of which this run takes many.
+#[test]
+fn workers_run_side_by_side(rt: HostRuntime) {
+    let gate = Rendezvous::new();
+    assert!(rt; writes_by_gate(&rt, SCRIPT, &gate, UNORDERED));
+    assert!(rt; gate.has_seen(40));
 }
 
 /// Counts what it hears of two workers, and whether each pass is told in turn.
@@ -202,62 +231,94 @@ impl Watch for Listener {
 /// The choices of a tile of a ring: five of the processor, thirty of the router, and four of the bank.
 const PASS: u64 = 39;
 
+impl Listener {
+    /// Whether both workers were told so many passes in turn, and their ends with so many turns together.
+    fn has_heard(&self, passes: u64, turns: u64) -> bool {
+        self.wrong.load(Ordering::SeqCst) == 0
+            && self.passes[0].load(Ordering::SeqCst) == passes
+            && self.passes[1].load(Ordering::SeqCst) == passes
+            && self.ends.load(Ordering::SeqCst) == 2
+            && self.turns.load(Ordering::SeqCst) == turns
+    }
+}
+
+/// Runs two tiles by two workers, to which somebody listens, and tells whether they are stopped.
+fn stops_heard<R: Threads + Wait + Sync + AllocGlobal>(
+    rt: &R,
+    scripts: &str,
+    turns: u64,
+    listener: &Listener,
+) -> bool {
+    let answer = run_text_with(
+        rt,
+        rt.alloc(),
+        PAIR.as_bytes(),
+        scripts.as_bytes(),
+        2,
+        turns.clamp(1, MOST),
+        &Open,
+        listener,
+        &mut Sink::whole(),
+        &mut Silent,
+    );
+    says(&answer, "stopped")
+}
+
 /// Two workers with a tile each, and a script that never ends within their turns: each is told of each
 /// pass with the turns until then, and of its end with all its turns.
 #[test]
 fn workers_are_watched(rt: HostRuntime) {
     for turns in [1, 38, 39, 40, 1000] {
         let listener = Listener::new();
-        let mut sink = Sink::whole();
-        let (machine, scripts) = (PAIR.as_bytes(), b"0 spin 0 1 1000\n1 spin 0 1 1000\n");
-        let answer = run_text_with(
-            &rt,
-            rt.alloc(),
-            machine,
-            scripts,
-            2,
-            turns,
-            &Open,
-            &listener,
-            &mut sink,
-            &mut Silent,
-        );
-        let passes = turns / PASS;
+        let scripts = "0 spin 0 1 1000\n1 spin 0 1 1000\n";
+        let is_stopped = stops_heard(&rt, scripts, turns, &listener);
         assert!(rt;
-            answer == Ok(false) && listener.wrong.load(Ordering::SeqCst) == 0,
-            "{turns}"
-        );
-        assert!(rt;
-            listener.passes[0].load(Ordering::SeqCst) == passes,
-            "{turns}"
-        );
-        assert!(rt;
-            listener.passes[1].load(Ordering::SeqCst) == passes,
-            "{turns}"
-        );
-        assert!(rt;
-            listener.ends.load(Ordering::SeqCst) == 2
-                && listener.turns.load(Ordering::SeqCst) == 2 * turns,
+            is_stopped && listener.has_heard(turns / PASS, 2 * turns),
             "{turns}"
         );
     }
 }
 
-/// Texts with a fault, machine and scripts, and the first fault.
-const FAULTS: [(&str, &str, Fault, u64); 3] = [
-    ("radix 9\n", "0 load 8\n", Fault::Radix, 1),
-    ("radix 2\n", "", Fault::Setting, 2),
-    (PAIR, "0 load 7\n0 load 8\n", Fault::Address, 2),
+/// Texts with a fault, machine and scripts, and what is printed of the first fault.
+const FAULTS: [[&str; 3]; 3] = [
+    ["radix 9\n", "0 load 8\n", "fault F1 at line 1"],
+    ["radix 2\n", "", "fault F5 at line 2"],
+    [PAIR, "0 load 7\n0 load 8\n", "fault F7 at line 2"],
 ];
+
+/// Whether texts are refused so, and nothing is written.
+fn refuses<R: Threads + Wait + Sync + AllocGlobal>(
+    rt: &R,
+    machine: &str,
+    scripts: &str,
+    printed: &str,
+) -> bool {
+    let mut sink = Sink::whole();
+    let answer = ran(rt, machine, scripts, 2, MOST, &mut sink);
+    says(&answer, printed) && sink.puts == 0
+}
 
 #[test]
 fn workers_refuse_texts(rt: HostRuntime) {
-    for &(machine, scripts, fault, line) in &FAULTS {
-        let mut sink = Sink::whole();
-        let answer = ran(&rt, machine, scripts, 2, MOST, &mut sink);
-        let is_fault = answer == Err(ProgramFault::Line(LineFault { fault, line }));
-        assert!(rt; is_fault && sink.puts == 0, "{scripts}");
+    for &[machine, scripts, printed] in &FAULTS {
+        assert!(rt; refuses(&rt, machine, scripts, printed), "{printed}");
     }
+}
+
+/// Whether a run writes a beginning of this text where this put of the output fails.
+fn stops_at<R: Threads + Wait + Sync + AllocGlobal>(rt: &R, text: &str, failing: usize) -> bool {
+    let mut sink = Sink::new(4096, failing);
+    let answer = ran(rt, PAIR, SCRIPT, 2, MOST, &mut sink);
+    says(&answer, "output failed")
+        && sink.failures == 1
+        && text.as_bytes().starts_with(sink.bytes.as_slice())
+}
+
+/// Whether a run writes this text to an output that takes a byte at a time.
+fn goes_byte_by_byte<R: Threads + Wait + Sync + AllocGlobal>(rt: &R, text: &str) -> bool {
+    let mut sink = Sink::new(1, 0);
+    let answer = ran(rt, PAIR, SCRIPT, 2, MOST, &mut sink);
+    says(&answer, "finished") && sink.bytes.as_slice() == text.as_bytes()
 }
 
 /// Each put of the output fails in turn: a beginning of the report is written. An output that takes a byte
@@ -265,16 +326,9 @@ fn workers_refuse_texts(rt: HostRuntime) {
 #[test]
 fn outputs_of_workers(rt: HostRuntime) {
     for failing in 1..=8 {
-        let mut sink = Sink::new(4096, failing);
-        let answer = ran(&rt, PAIR, SCRIPT, 2, MOST, &mut sink);
-        let has_failed = answer == Err(ProgramFault::Output) && sink.failures == 1;
-        let is_front = UNORDERED.as_bytes().starts_with(sink.bytes.as_slice());
-        assert!(rt; has_failed && is_front, "{failing}");
+        assert!(rt; stops_at(&rt, UNORDERED, failing), "{failing}");
     }
-    let mut sink = Sink::new(1, 0);
-    let answer = ran(&rt, PAIR, SCRIPT, 2, MOST, &mut sink);
-    let is_whole = sink.bytes.as_slice() == UNORDERED.as_bytes();
-    assert!(rt; answer == Ok(true) && is_whole, "a byte at a time");
+    assert!(rt; goes_byte_by_byte(&rt, UNORDERED), "a byte at a time");
 }
 
 /// Whether the answers of a report have these replies, from 0 on, each once.
@@ -300,6 +354,23 @@ fn has_each_reply<R: AllocGlobal>(rt: &R, report: &str, count: usize) -> Result<
     Ok(answers == count)
 }
 
+/// Whether four workers write a good report of two processors that add 1 to word 3 a thousand times each, where
+/// every sum is replied once.
+fn adds_once<R: Threads + Wait + Sync + AllocGlobal>(
+    rt: &R,
+    scripts: &str,
+) -> Result<bool, AllocError> {
+    let mut report: Vec<u8> = Vec::new(rt.alloc());
+    let answer = ran(rt, BOX, scripts, 4, MOST, &mut Piped::new(&mut report));
+    if !says(&answer, "finished") || !is_good(rt.alloc(), &report) {
+        return Ok(false);
+    }
+    let Ok(text) = str::from_utf8(report.as_slice()) else {
+        return Ok(false);
+    };
+    Ok(text.contains("\nword 3 2000\n") && has_each_reply(rt, text, 2000)?)
+}
+
 /// Two processors that add 1 to one word a thousand times each: every sum is replied once, whatever the
 /// threads do; and the report is good.
 #[test]
@@ -309,13 +380,8 @@ fn adds_are_replied_once(rt: HostRuntime) -> Result<(), Fail> {
         scripts.push_str("0 add 3 1\n1 add 3 1\n")?;
     }
     for _ in 0..25 {
-        let mut report: Vec<u8> = Vec::new(rt.alloc());
-        let answer = ran(&rt, BOX, &scripts, 4, MOST, &mut Piped::new(&mut report));
-        let verdict = check_text(rt.alloc(), &report, &mut Sink::whole());
-        assert!(rt; answer == Ok(true) && verdict == Ok(()));
-        let text = String::from_utf8(report).unwrap_or(String::new(rt.alloc()));
-        let is_each = has_each_reply(&rt, &text, 2000)?;
-        assert!(rt; is_each && text.contains("\nword 3 2000\n"));
+        let is_each = adds_once(&rt, &scripts)?;
+        assert!(rt; is_each);
     }
     Ok(())
 }

@@ -1,5 +1,6 @@
 ghost use Rattle.std.specs.Prelude.{◌+◌, ◌<◌, ◌^◌};
 
+use crate::told::{done, found, issue, issued, read};
 use linked_list_allocator::LocalHeap;
 use packet::{Op, Operation, Reply};
 use std::alloc::{AllocError, Allocator, Global};
@@ -34,131 +35,204 @@ fn verdict_on<A: Allocator + Copy>(alloc: A, events: &[Event], bound: usize) -> 
     }
 }
 
-const fn issue(id: u64, address: u32, op: Op) -> Event {
-    Event::Issue(Call {
-        id,
-        operation: Operation { address, op },
-    })
+/// Whether these are the same.
+fn is_same(one: Seen, other: Seen) -> bool {
+    one == other
 }
 
-const fn stored(id: u64) -> Event {
-    Event::Answer(id, Reply::Ok)
-}
-
-const fn read(id: u64, word: u64) -> Event {
-    Event::Answer(id, Reply::Old(word))
-}
-
-/// Whether the judge says so of some events.
-fn is_so(alloc: Global, events: &[Event], bound: usize, expected: Seen) -> bool {
-    verdict_on(alloc, events, bound) == expected
-}
-
-#[test]
-fn loads_beside_a_store(rt: HostRuntime) -> Result<(), Fail> {
-    let alloc = rt.alloc();
+/// Traces over two words that open with 0, and what the judge says of them.
+const TRACES: [(&[Event], Seen); 20] = [
     // The load stands before the store that is pending.
-    let old_word = [
-        issue(1, 1, Op::Store(17)),
-        issue(2, 1, Op::Load),
-        stored(1),
-        read(2, 0),
-    ];
+    (
+        &[
+            issued!(1, 1, Op::Store(17)),
+            issued!(2, 1, Op::Load),
+            done!(1),
+            found!(2, 0),
+        ],
+        Seen::Yes(2),
+    ),
     // A stale read: the store was answered before.
-    let stale = [
-        issue(1, 1, Op::Store(17)),
-        stored(1),
-        issue(2, 1, Op::Load),
-        read(2, 0),
-        issue(3, 1, Op::Load),
-    ];
+    (
+        &[
+            issued!(1, 1, Op::Store(17)),
+            done!(1),
+            issued!(2, 1, Op::Load),
+            found!(2, 0),
+            issued!(3, 1, Op::Load),
+        ],
+        Seen::No(3),
+    ),
     // Two reads that see the new word and then the old one.
-    let back_again = [
-        issue(1, 0, Op::Store(1)),
-        issue(2, 0, Op::Load),
-        read(2, 1),
-        issue(3, 0, Op::Load),
-        read(3, 0),
-        stored(1),
-    ];
+    (
+        &[
+            issued!(1, 0, Op::Store(1)),
+            issued!(2, 0, Op::Load),
+            found!(2, 1),
+            issued!(3, 0, Op::Load),
+            found!(3, 0),
+            done!(1),
+        ],
+        Seen::No(4),
+    ),
     // A store that is never answered, and is seen; and one that isn't seen.
-    let pending_seen = [issue(1, 0, Op::Store(1)), issue(2, 0, Op::Load), read(2, 1)];
-    let pending_unseen = [issue(1, 0, Op::Store(1)), issue(2, 0, Op::Load), read(2, 0)];
-    let all = is_so(alloc, &old_word, 100, Seen::Yes(2))
-        && is_so(alloc, &stale, 100, Seen::No(3))
-        && is_so(alloc, &back_again, 100, Seen::No(4))
-        && is_so(alloc, &pending_seen, 100, Seen::Yes(2))
-        && is_so(alloc, &pending_unseen, 100, Seen::Yes(1));
-    assert!(rt; all);
-    Ok(())
-}
-
-#[test]
-fn several_words_and_operations(rt: HostRuntime) -> Result<(), Fail> {
-    let alloc = rt.alloc();
+    (
+        &[
+            issued!(1, 0, Op::Store(1)),
+            issued!(2, 0, Op::Load),
+            found!(2, 1),
+        ],
+        Seen::Yes(2),
+    ),
+    (
+        &[
+            issued!(1, 0, Op::Store(1)),
+            issued!(2, 0, Op::Load),
+            found!(2, 0),
+        ],
+        Seen::Yes(1),
+    ),
     // A lost update: two sums that both found 0.
-    let lost = [
-        issue(1, 0, Op::Add(1)),
-        issue(2, 0, Op::Add(1)),
-        read(1, 0),
-        read(2, 0),
-    ];
+    (
+        &[
+            issued!(1, 0, Op::Add(1)),
+            issued!(2, 0, Op::Add(1)),
+            found!(1, 0),
+            found!(2, 0),
+        ],
+        Seen::No(3),
+    ),
     // Two compare-and-swaps of which one finds what the other left.
-    let exchanged = [
-        issue(1, 0, Op::Cas(0, 5)),
-        issue(2, 0, Op::Cas(5, 7)),
-        read(2, 5),
-        read(1, 0),
-        issue(3, 0, Op::Load),
-        read(3, 7),
-    ];
+    (
+        &[
+            issued!(1, 0, Op::Cas(0, 5)),
+            issued!(2, 0, Op::Cas(5, 7)),
+            found!(2, 5),
+            found!(1, 0),
+            issued!(3, 0, Op::Load),
+            found!(3, 7),
+        ],
+        Seen::Yes(3),
+    ),
     // Neither of two stores is seen by the other's processor: right for each word, but not in real time.
-    let crossed = [
-        issue(1, 0, Op::Store(1)),
-        stored(1),
-        issue(2, 1, Op::Load),
-        issue(3, 1, Op::Store(1)),
-        stored(3),
-        issue(4, 0, Op::Load),
-        read(2, 0),
-        read(4, 0),
-    ];
+    (
+        &[
+            issued!(1, 0, Op::Store(1)),
+            done!(1),
+            issued!(2, 1, Op::Load),
+            issued!(3, 1, Op::Store(1)),
+            done!(3),
+            issued!(4, 0, Op::Load),
+            found!(2, 0),
+            found!(4, 0),
+        ],
+        Seen::No(7),
+    ),
     // Words don't hold each other back.
-    let two_words = [
-        issue(1, 0, Op::Store(1)),
-        issue(2, 1, Op::Swap(2)),
-        read(2, 0),
-        stored(1),
-        issue(3, 0, Op::Load),
-        issue(4, 1, Op::Load),
-        read(4, 2),
-        read(3, 1),
-    ];
-    let none: [Event; 0] = [];
-    let all = is_so(alloc, &lost, 100, Seen::No(3))
-        && is_so(alloc, &exchanged, 100, Seen::Yes(3))
-        && is_so(alloc, &crossed, 100, Seen::No(7))
-        && is_so(alloc, &two_words, 100, Seen::Yes(4))
-        && is_so(alloc, &none, 100, Seen::Yes(0));
-    assert!(rt; all);
-    Ok(())
+    (
+        &[
+            issued!(1, 0, Op::Store(1)),
+            issued!(2, 1, Op::Swap(2)),
+            found!(2, 0),
+            done!(1),
+            issued!(3, 0, Op::Load),
+            issued!(4, 1, Op::Load),
+            found!(4, 2),
+            found!(3, 1),
+        ],
+        Seen::Yes(4),
+    ),
+    (&[], Seen::Yes(0)),
+    // Events that are no trace.
+    (&[done!(1)], Seen::NoTrace),
+    (
+        &[issued!(1, 0, Op::Load), found!(1, 0), found!(1, 0)],
+        Seen::NoTrace,
+    ),
+    (
+        &[issued!(2, 0, Op::Load), issued!(1, 0, Op::Load)],
+        Seen::NoTrace,
+    ),
+    (
+        &[
+            issued!(1, 0, Op::Load),
+            found!(1, 0),
+            issued!(1, 0, Op::Load),
+        ],
+        Seen::NoTrace,
+    ),
+    (&[issued!(1, 2, Op::Load)], Seen::NoTrace),
+    // A load takes effect at once where its reply fits, and waits where it doesn't.
+    (
+        &[
+            issued!(1, 0, Op::Load),
+            issued!(2, 0, Op::Store(1)),
+            done!(2),
+            found!(1, 0),
+        ],
+        Seen::Yes(2),
+    ),
+    (
+        &[
+            issued!(1, 0, Op::Load),
+            issued!(2, 0, Op::Store(1)),
+            done!(2),
+            found!(1, 1),
+        ],
+        Seen::Yes(2),
+    ),
+    // A store of the word that is there isn't idle: it is needed behind another store.
+    (
+        &[
+            issued!(1, 0, Op::Store(0)),
+            issued!(2, 0, Op::Store(7)),
+            done!(1),
+            done!(2),
+            issued!(3, 0, Op::Load),
+            found!(3, 0),
+        ],
+        Seen::Yes(3),
+    ),
+    // Nor is a swap that is never answered, whose reply fits anywhere.
+    (
+        &[
+            issued!(1, 0, Op::Swap(0)),
+            issued!(2, 0, Op::Store(7)),
+            done!(2),
+            issued!(3, 0, Op::Load),
+            found!(3, 0),
+        ],
+        Seen::Yes(3),
+    ),
+    // A compare-and-swap that fails is idle; one that doesn't is not.
+    (
+        &[
+            issued!(1, 0, Op::Cas(4, 5)),
+            issued!(2, 0, Op::Store(4)),
+            issued!(3, 0, Op::Cas(4, 6)),
+            found!(3, 4),
+            done!(2),
+            found!(1, 6),
+            issued!(4, 0, Op::Load),
+            found!(4, 6),
+        ],
+        Seen::Yes(4),
+    ),
+];
+
+/// The first of some traces of which the judge says something else.
+fn first_unlike(alloc: Global, traces: &[(&[Event], Seen)]) -> Option<usize> {
+    for (number, &(events, expected)) in traces.iter().enumerate() {
+        if !is_same(verdict_on(alloc, events, 100), expected) {
+            return Some(number);
+        }
+    }
+    None
 }
 
 #[test]
-fn events_that_are_no_trace(rt: HostRuntime) -> Result<(), Fail> {
-    let alloc = rt.alloc();
-    let unissued = [stored(1)];
-    let twice = [issue(1, 0, Op::Load), read(1, 0), read(1, 0)];
-    let falling = [issue(2, 0, Op::Load), issue(1, 0, Op::Load)];
-    let again = [issue(1, 0, Op::Load), read(1, 0), issue(1, 0, Op::Load)];
-    let outside = [issue(1, 2, Op::Load)];
-    let all = is_so(alloc, &unissued, 100, Seen::NoTrace)
-        && is_so(alloc, &twice, 100, Seen::NoTrace)
-        && is_so(alloc, &falling, 100, Seen::NoTrace)
-        && is_so(alloc, &again, 100, Seen::NoTrace)
-        && is_so(alloc, &outside, 100, Seen::NoTrace);
-    assert!(rt; all);
-    Ok(())
+fn traces_are_judged(rt: HostRuntime) {
+    assert!(rt; first_unlike(rt.alloc(), &TRACES).is_none());
 }
 
 /// A sum at address 0 that is answered while so many others are pending at this address.
@@ -186,61 +260,10 @@ fn bounds_are_kept(rt: HostRuntime) -> Result<(), Fail> {
     // Of three others each may have taken effect or not, or only the answered one has: nine configurations.
     let nine = beside_pending_sums(alloc, 3, 0, 9)?;
     let eight = beside_pending_sums(alloc, 3, 0, 8)?;
-    assert!(rt; most == Seen::Yes(1) && more == Seen::Not(Undecided::Operations { event: 65 }));
-    assert!(rt; nine == Seen::Yes(1) && eight == Seen::Not(Undecided::Configurations { event: 4 }));
-    Ok(())
-}
-
-#[test]
-fn idle_operations_and_others(rt: HostRuntime) -> Result<(), Fail> {
-    let alloc = rt.alloc();
-    // A load takes effect at once where its reply fits, and waits where it doesn't.
-    let early = [
-        issue(1, 0, Op::Load),
-        issue(2, 0, Op::Store(1)),
-        stored(2),
-        read(1, 0),
-    ];
-    let late = [
-        issue(1, 0, Op::Load),
-        issue(2, 0, Op::Store(1)),
-        stored(2),
-        read(1, 1),
-    ];
-    // A store of the word that is there isn't idle: it is needed behind another store.
-    let needed = [
-        issue(1, 0, Op::Store(0)),
-        issue(2, 0, Op::Store(7)),
-        stored(1),
-        stored(2),
-        issue(3, 0, Op::Load),
-        read(3, 0),
-    ];
-    // Nor is a swap that is never answered, whose reply fits anywhere.
-    let unanswered = [
-        issue(1, 0, Op::Swap(0)),
-        issue(2, 0, Op::Store(7)),
-        stored(2),
-        issue(3, 0, Op::Load),
-        read(3, 0),
-    ];
-    // A compare-and-swap that fails is idle; one that doesn't is not.
-    let compared = [
-        issue(1, 0, Op::Cas(4, 5)),
-        issue(2, 0, Op::Store(4)),
-        issue(3, 0, Op::Cas(4, 6)),
-        read(3, 4),
-        stored(2),
-        read(1, 6),
-        issue(4, 0, Op::Load),
-        read(4, 6),
-    ];
-    let all = is_so(alloc, &early, 100, Seen::Yes(2))
-        && is_so(alloc, &late, 100, Seen::Yes(2))
-        && is_so(alloc, &needed, 100, Seen::Yes(3))
-        && is_so(alloc, &unanswered, 100, Seen::Yes(3))
-        && is_so(alloc, &compared, 100, Seen::Yes(4));
-    assert!(rt; all);
+    let undecided = Seen::Not(Undecided::Operations { event: 65 });
+    assert!(rt; is_same(most, Seen::Yes(1)) && is_same(more, undecided));
+    let undecided = Seen::Not(Undecided::Configurations { event: 4 });
+    assert!(rt; is_same(nine, Seen::Yes(1)) && is_same(eight, undecided));
     Ok(())
 }
 
@@ -285,60 +308,74 @@ fn open_operations_up_to_the_limits(rt: HostRuntime) -> Result<(), Fail> {
     let both = open_at_once(alloc, 64, 64)?;
     let lost = open_at_once(alloc, 65, 1)?;
     let answered = open_at_once(alloc, 64, 65)?;
-    assert!(rt; most == Seen::Yes(64) && both == Seen::Yes(128));
-    assert!(rt;
-        more == Seen::Not(Undecided::Operations { event: 64 })
-            && lost == Seen::Not(Undecided::Operations { event: 64 })
-            && answered == Seen::Not(Undecided::Operations { event: 128 })
-    );
+    assert!(rt; is_same(most, Seen::Yes(64)) && is_same(both, Seen::Yes(128)));
+    let undecided = Seen::Not(Undecided::Operations { event: 64 });
+    assert!(rt; is_same(more, undecided) && is_same(lost, undecided));
+    let undecided = Seen::Not(Undecided::Operations { event: 128 });
+    assert!(rt; is_same(answered, undecided));
     Ok(())
+}
+
+/// Behind fifty stores that are never answered: one of them is seen at last, and only one has to be.
+const SEEN_AT_LAST: &[Event] = &[
+    issued!(100, 0, Op::Load),
+    found!(100, 0),
+    issued!(101, 0, Op::Store(3)),
+    done!(101),
+    issued!(102, 0, Op::Load),
+    found!(102, 9),
+];
+
+/// Then a word that nobody stores is read.
+const NOT_STORED: &[Event] = &[issued!(103, 0, Op::Load), found!(103, 4)];
+
+/// What the judge says of fifty stores and these events.
+fn behind_fifty_stores(alloc: Global, events: &[Event]) -> Result<Seen, AllocError> {
+    let mut all = Vec::new(alloc);
+    for id in 0..50u64 {
+        all.push(issued!(id, 0, Op::Store(9)))?;
+    }
+    for event in events {
+        all.push(*event)?;
+    }
+    Ok(verdict_on(alloc, &all, 1000))
 }
 
 #[test]
 fn fifty_that_are_never_answered(rt: HostRuntime) -> Result<(), Fail> {
-    let alloc = rt.alloc();
-    let mut events = Vec::new(alloc);
-    for id in 0..50u64 {
-        events.push(issue(id, 0, Op::Store(9)))?;
-    }
-    // One of them is seen at last, and only one has to be.
-    let seen = [
-        issue(100, 0, Op::Load),
-        read(100, 0),
-        issue(101, 0, Op::Store(3)),
-        stored(101),
-        issue(102, 0, Op::Load),
-        read(102, 9),
-    ];
-    for event in seen {
-        events.push(event)?;
-    }
-    let yes = verdict_on(alloc, &events, 1000);
-    // Nobody stores 4.
-    events.push(issue(103, 0, Op::Load))?;
-    events.push(read(103, 4))?;
-    let no = verdict_on(alloc, &events, 1000);
-    assert!(rt; yes == Seen::Yes(4) && no == Seen::No(57));
+    let yes = behind_fifty_stores(rt.alloc(), SEEN_AT_LAST)?;
+    let mut more = Vec::from_slice(rt.alloc(), SEEN_AT_LAST)?;
+    more.extend_from_slice(NOT_STORED)?;
+    let no = behind_fifty_stores(rt.alloc(), &more)?;
+    assert!(rt; is_same(yes, Seen::Yes(4)) && is_same(no, Seen::No(57)));
     Ok(())
+}
+
+/// What the judge says of a store that may take effect at each moment, and never has to, of so many swaps
+/// that find each other's words, and of these events.
+fn behind_swaps(alloc: Global, count: u64, events: &[Event]) -> Result<Seen, AllocError> {
+    let mut all = Vec::new(alloc);
+    all.push(issued!(0, 0, Op::Store(9)))?;
+    for id in 1..count.saturating_add(1) {
+        all.push(issued!(id, 0, Op::Swap(id)))?;
+        all.push(found!(id, id - 1))?;
+    }
+    for event in events {
+        all.push(*event)?;
+    }
+    Ok(verdict_on(alloc, &all, 1000))
 }
 
 #[test]
 fn an_order_of_many_operations(rt: HostRuntime) -> Result<(), Fail> {
-    let alloc = rt.alloc();
-    // A store that may take effect at each moment, and never has to.
-    let mut events = Vec::new(alloc);
-    events.push(issue(0, 0, Op::Store(9)))?;
-    for id in 1..5001u64 {
-        events.push(issue(id, 0, Op::Swap(id)))?;
-        events.push(read(id, id - 1))?;
-    }
-    let yes = verdict_on(alloc, &events, 1000);
-    events.push(issue(6000, 0, Op::Load))?;
-    events.push(read(6000, 4999))?;
-    let no = verdict_on(alloc, &events, 1000);
-    assert!(rt; yes == Seen::Yes(5000) && no == Seen::No(10002));
+    let yes = behind_swaps(rt.alloc(), 5000, &[])?;
+    let no = behind_swaps(rt.alloc(), 5000, STALE)?;
+    assert!(rt; is_same(yes, Seen::Yes(5000)) && is_same(no, Seen::No(10002)));
     Ok(())
 }
+
+/// A load that finds the word before the last.
+const STALE: &[Event] = &[issued!(6000, 0, Op::Load), found!(6000, 4999)];
 
 /// What is seen within a budget of bytes.
 fn within(alloc: Global, events: &[Event], budget: usize) -> Result<Seen, AllocError> {
@@ -350,32 +387,34 @@ fn within(alloc: Global, events: &[Event], budget: usize) -> Result<Seen, AllocE
     Ok(verdict)
 }
 
-#[test]
-fn memory_refused_at_every_budget(rt: HostRuntime) -> Result<(), Fail> {
-    let events = [
-        issue(1, 1, Op::Store(17)),
-        issue(2, 1, Op::Load),
-        stored(1),
-        read(2, 17),
-    ];
-    let mut refused = 0;
+/// A load beside a store, which sees it.
+const BESIDE: &[Event] = &[
+    issued!(1, 1, Op::Store(17)),
+    issued!(2, 1, Op::Load),
+    done!(1),
+    found!(2, 17),
+];
+
+/// Whether memory is refused up to some of so many budgets, and never from it on.
+fn suffices_at_last(alloc: Global, budgets: usize, bytes: usize) -> Result<bool, AllocError> {
+    let mut is_refused = false;
     let mut suffices = false;
-    let mut unlike = None;
-    for steps in 0..70 {
-        let expected_now = match within(rt.alloc(), &events, steps * 256)? {
-            Seen::Not(Undecided::Memory) => {
-                refused = steps;
-                !suffices
-            }
-            verdict => {
-                suffices = true;
-                verdict == Seen::Yes(2)
-            }
-        };
-        if !expected_now {
-            unlike = Some(steps);
+    for step in 0..budgets {
+        let seen = within(alloc, BESIDE, step.saturating_mul(bytes))?;
+        if is_same(seen, Seen::Yes(2)) {
+            suffices = true;
+        } else if suffices || !is_same(seen, Seen::Not(Undecided::Memory)) {
+            return Ok(false);
+        } else {
+            is_refused = true;
         }
     }
-    assert!(rt; unlike.is_none() && suffices && refused >= 1);
+    Ok(is_refused && suffices)
+}
+
+#[test]
+fn memory_refused_at_every_budget(rt: HostRuntime) -> Result<(), Fail> {
+    let suffices = suffices_at_last(rt.alloc(), 70, 256)?;
+    assert!(rt; suffices);
     Ok(())
 }

@@ -35,17 +35,42 @@ pub(crate) fn told_of<A: Allocator + Copy>(alloc: A, events: &[Event], bound: us
     Told::Taken
 }
 
-pub(crate) const fn issue(id: u64, address: u32, op: Op) -> Event {
+pub(crate) fn issue(id: u64, address: u32, op: Op) -> Event {
     Event::Issue(Call {
         id,
         operation: Operation { address, op },
     })
 }
 
-pub(crate) const fn stored(id: u64) -> Event {
-    Event::Answer(id, Reply::Ok)
-}
-
-pub(crate) const fn read(id: u64, word: u64) -> Event {
+pub(crate) fn read(id: u64, word: u64) -> Event {
     Event::Answer(id, Reply::Old(word))
 }
+
+/// An event in a constant, where no function may be called.
+macro_rules! issued {
+    ($id:expr, $address:expr, $op:expr) => {
+        Event::Issue(Call {
+            id: $id,
+            operation: Operation {
+                address: $address,
+                op: $op,
+            },
+        })
+    };
+}
+
+macro_rules! done {
+    ($id:expr) => {
+        Event::Answer($id, Reply::Ok)
+    };
+}
+
+macro_rules! found {
+    ($id:expr, $word:expr) => {
+        Event::Answer($id, Reply::Old($word))
+    };
+}
+
+pub(crate) use done;
+pub(crate) use found;
+pub(crate) use issued;

@@ -100,25 +100,33 @@ fn text_of(alloc: Global, torus: &Torus) -> Result<Vec<u8>, Fail> {
     Ok(text)
 }
 
+/// Whether the numbers of a torus rise.
+fn rises(alloc: Global, torus: &Torus) -> Result<bool, Fail> {
+    let text = text_of(alloc, torus)?;
+    Ok(network_answer(alloc, &text)?.rising)
+}
+
+/// Radices and datelines of ten toruses.
+const TORUSES: [(&[u32], &[u32]); 10] = [
+    (&[2], &[1]),
+    (&[8], &[7]),
+    (&[2, 2], &[1, 1]),
+    (&[3, 3], &[2, 2]),
+    (&[8, 8], &[7, 7]),
+    (&[2, 2, 2], &[1, 1, 1]),
+    (&[3, 3, 3], &[2, 2, 2]),
+    (&[4, 4, 4], &[3, 3, 3]),
+    (&[5, 4], &[2, 0]),
+    (&[2, 3, 4], &[1, 0, 2]),
+];
+
 /// Ten toruses: their numbers rise.
 #[test]
 fn toruses_rise(rt: HostRuntime) -> Result<(), Fail> {
-    let toruses = [
-        Torus::new(2, 1)?,
-        Torus::new(8, 1)?,
-        Torus::new(2, 2)?,
-        Torus::new(3, 2)?,
-        Torus::new(8, 2)?,
-        Torus::new(2, 3)?,
-        Torus::new(3, 3)?,
-        Torus::new(4, 3)?,
-        Torus::mixed(&[5, 4], &[2, 0])?,
-        Torus::mixed(&[2, 3, 4], &[1, 0, 2])?,
-    ];
-    for torus in &toruses {
-        let text = text_of(rt.alloc(), torus)?;
-        let answer = network_answer(rt.alloc(), &text)?;
-        assert!(rt; answer.rising);
+    for &(radices, datelines) in &TORUSES {
+        let torus = Torus::mixed(radices, datelines)?;
+        let is_so = rises(rt.alloc(), &torus)?;
+        assert!(rt; is_so);
     }
     Ok(())
 }

@@ -1,11 +1,11 @@
 ghost use Rattle.std.specs.Prelude.{◌+◌, ◌<◌};
 
-use crate::told::{Told, issue, read, stored, told_of};
+use crate::told::{Told, done, found, issue, issued, read, told_of};
 use linked_list_allocator::LocalHeap;
-use packet::Op;
+use packet::{Op, Operation, Reply};
 use std::alloc::{AllocError, Allocator, Global};
 use std::test::Fail;
-use trace_laws::Event;
+use trace_laws::{Call, Event};
 use trace_watch::{Full, Seen, Watch, begin};
 
 /// What is told within a budget of bytes.
@@ -18,39 +18,36 @@ fn within(alloc: Global, events: &[Event], budget: usize) -> Result<Told, AllocE
     Ok(told)
 }
 
-#[test]
-fn memory_refused_at_every_budget(rt: HostRuntime) -> Result<(), Fail> {
-    let events = [
-        issue(1, 1, Op::Store(17)),
-        issue(2, 1, Op::Load),
-        stored(1),
-        read(2, 17),
-    ];
+/// A load beside a store, which sees it.
+const BESIDE: &[Event] = &[
+    issued!(1, 1, Op::Store(17)),
+    issued!(2, 1, Op::Load),
+    done!(1),
+    found!(2, 17),
+];
+
+/// Whether memory is refused up to some of so many budgets, and never from it on: before the watch is begun,
+/// at the first event and at the third.
+fn suffices_at_last(alloc: Global, budgets: usize) -> Result<bool, AllocError> {
     let mut not_begun = false;
     let mut refused = [false; 4];
     let mut suffices = false;
-    let mut unlike = None;
-    for steps in 0..512 {
-        let expected_now = match within(rt.alloc(), &events, steps * 16)? {
-            Told::NotBegun => {
-                not_begun = true;
-                !suffices
-            }
-            Told::Full(at, Full::Memory) => {
-                refused[at % 4] = true;
-                !suffices
-            }
-            told => {
-                suffices = true;
-                told == Told::Taken
-            }
-        };
-        if !expected_now {
-            unlike = Some(steps);
+    for step in 0..budgets {
+        match within(alloc, BESIDE, step.saturating_mul(16))? {
+            Told::Taken => suffices = true,
+            _ if suffices => return Ok(false),
+            Told::NotBegun => not_begun = true,
+            Told::Full(at, Full::Memory) => refused[at % 4] = true,
+            _ => return Ok(false),
         }
     }
-    assert!(rt; unlike.is_none() && suffices && not_begun);
-    assert!(rt; refused[0] && refused[2]);
+    Ok(suffices && not_begun && refused[0] && refused[2])
+}
+
+#[test]
+fn memory_refused_at_every_budget(rt: HostRuntime) -> Result<(), Fail> {
+    let suffices = suffices_at_last(rt.alloc(), 512)?;
+    assert!(rt; suffices);
     Ok(())
 }
 

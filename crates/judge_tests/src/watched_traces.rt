@@ -1,203 +1,249 @@
-use crate::told::{Told, issue, read, stored, told_of};
-use packet::Op;
+use crate::told::{Told, done, found, issued, told_of};
+use packet::{Op, Operation, Reply};
 use std::alloc::{AllocError, Global};
 use std::test::Fail;
-use trace_laws::Event;
+use trace_laws::{Call, Event};
 use trace_watch::{Full, Seen, begin};
 
-/// Whether a watch tells so of some events, with at most 100 configurations.
-fn is_so(alloc: Global, events: &[Event], expected: Told) -> bool {
-    told_of(alloc, events, 100) == expected
-}
-
-#[test]
-fn histories_of_a_register(rt: HostRuntime) -> Result<(), Fail> {
-    let alloc = rt.alloc();
+/// Events over two words that open with 0, and what a watch tells of them, with at most 100 configurations.
+const HISTORIES: [(&[Event], Told); 17] = [
     // Herlihy and Wing, TOPLAS 12(3), 1990: two reads beside a write, of which the later one may read the
     // newer word, and not the older one.
-    let forth = [
-        issue(1, 1, Op::Store(1)),
-        issue(2, 1, Op::Load),
-        read(2, 0),
-        issue(3, 1, Op::Load),
-        read(3, 1),
-        stored(1),
-    ];
-    let back = [
-        issue(1, 1, Op::Store(1)),
-        issue(2, 1, Op::Load),
-        read(2, 1),
-        issue(3, 1, Op::Load),
-        read(3, 0),
-        stored(1),
-    ];
+    (
+        &[
+            issued!(1, 1, Op::Store(1)),
+            issued!(2, 1, Op::Load),
+            found!(2, 0),
+            issued!(3, 1, Op::Load),
+            found!(3, 1),
+            done!(1),
+        ],
+        Told::Taken,
+    ),
+    (
+        &[
+            issued!(1, 1, Op::Store(1)),
+            issued!(2, 1, Op::Load),
+            found!(2, 1),
+            issued!(3, 1, Op::Load),
+            found!(3, 0),
+            done!(1),
+        ],
+        Told::Unexplained(4),
+    ),
     // A stale read: the store was answered before.
-    let stale = [
-        issue(1, 0, Op::Store(17)),
-        stored(1),
-        issue(2, 0, Op::Load),
-        read(2, 0),
-        issue(3, 0, Op::Load),
-    ];
+    (
+        &[
+            issued!(1, 0, Op::Store(17)),
+            done!(1),
+            issued!(2, 0, Op::Load),
+            found!(2, 0),
+            issued!(3, 0, Op::Load),
+        ],
+        Told::Unexplained(3),
+    ),
     // A store that is never answered, and is seen; and one that isn't seen.
-    let seen = [issue(1, 0, Op::Store(1)), issue(2, 0, Op::Load), read(2, 1)];
-    let unseen = [issue(1, 0, Op::Store(1)), issue(2, 0, Op::Load), read(2, 0)];
+    (
+        &[
+            issued!(1, 0, Op::Store(1)),
+            issued!(2, 0, Op::Load),
+            found!(2, 1),
+        ],
+        Told::Taken,
+    ),
+    (
+        &[
+            issued!(1, 0, Op::Store(1)),
+            issued!(2, 0, Op::Load),
+            found!(2, 0),
+        ],
+        Told::Taken,
+    ),
     // Once it was seen it has taken effect.
-    let unseen_again = [
-        issue(1, 0, Op::Store(1)),
-        issue(2, 0, Op::Load),
-        read(2, 1),
-        issue(3, 0, Op::Load),
-        read(3, 0),
-    ];
-    let none: [Event; 0] = [];
-    let all = is_so(alloc, &forth, Told::Taken)
-        && is_so(alloc, &back, Told::Unexplained(4))
-        && is_so(alloc, &stale, Told::Unexplained(3))
-        && is_so(alloc, &seen, Told::Taken)
-        && is_so(alloc, &unseen, Told::Taken)
-        && is_so(alloc, &unseen_again, Told::Unexplained(4))
-        && is_so(alloc, &none, Told::Taken);
-    assert!(rt; all);
-    Ok(())
-}
-
-#[test]
-fn several_words_and_operations(rt: HostRuntime) -> Result<(), Fail> {
-    let alloc = rt.alloc();
+    (
+        &[
+            issued!(1, 0, Op::Store(1)),
+            issued!(2, 0, Op::Load),
+            found!(2, 1),
+            issued!(3, 0, Op::Load),
+            found!(3, 0),
+        ],
+        Told::Unexplained(4),
+    ),
+    (&[], Told::Taken),
     // A lost update: two sums that both found 0.
-    let lost = [
-        issue(1, 0, Op::Add(1)),
-        issue(2, 0, Op::Add(1)),
-        read(1, 0),
-        read(2, 0),
-    ];
+    (
+        &[
+            issued!(1, 0, Op::Add(1)),
+            issued!(2, 0, Op::Add(1)),
+            found!(1, 0),
+            found!(2, 0),
+        ],
+        Told::Unexplained(3),
+    ),
     // Two compare-and-swaps of which one finds what the other left.
-    let exchanged = [
-        issue(1, 0, Op::Cas(0, 5)),
-        issue(2, 0, Op::Cas(5, 7)),
-        read(2, 5),
-        read(1, 0),
-        issue(3, 0, Op::Load),
-        read(3, 7),
-    ];
+    (
+        &[
+            issued!(1, 0, Op::Cas(0, 5)),
+            issued!(2, 0, Op::Cas(5, 7)),
+            found!(2, 5),
+            found!(1, 0),
+            issued!(3, 0, Op::Load),
+            found!(3, 7),
+        ],
+        Told::Taken,
+    ),
     // Neither of two stores is seen by the other's processor: right for each word, but not in real time.
-    let crossed = [
-        issue(1, 0, Op::Store(1)),
-        stored(1),
-        issue(2, 1, Op::Load),
-        issue(3, 1, Op::Store(1)),
-        stored(3),
-        issue(4, 0, Op::Load),
-        read(2, 0),
-        read(4, 0),
-    ];
+    (
+        &[
+            issued!(1, 0, Op::Store(1)),
+            done!(1),
+            issued!(2, 1, Op::Load),
+            issued!(3, 1, Op::Store(1)),
+            done!(3),
+            issued!(4, 0, Op::Load),
+            found!(2, 0),
+            found!(4, 0),
+        ],
+        Told::Unexplained(7),
+    ),
     // A store is answered by no word, and a load by nothing else.
-    let unlike = [issue(1, 0, Op::Store(1)), read(1, 0)];
-    let no_word = [issue(1, 0, Op::Load), stored(1)];
-    let all = is_so(alloc, &lost, Told::Unexplained(3))
-        && is_so(alloc, &exchanged, Told::Taken)
-        && is_so(alloc, &crossed, Told::Unexplained(7))
-        && is_so(alloc, &unlike, Told::Unexplained(1))
-        && is_so(alloc, &no_word, Told::Unexplained(1));
-    assert!(rt; all);
-    Ok(())
+    (
+        &[issued!(1, 0, Op::Store(1)), found!(1, 0)],
+        Told::Unexplained(1),
+    ),
+    (&[issued!(1, 0, Op::Load), done!(1)], Told::Unexplained(1)),
+    // Events that are no trace.
+    (&[done!(1)], Told::NoTrace(0)),
+    (
+        &[issued!(1, 0, Op::Load), found!(1, 0), found!(1, 0)],
+        Told::NoTrace(2),
+    ),
+    (
+        &[issued!(2, 0, Op::Load), issued!(1, 0, Op::Load)],
+        Told::NoTrace(1),
+    ),
+    (
+        &[
+            issued!(1, 0, Op::Load),
+            found!(1, 0),
+            issued!(1, 0, Op::Load),
+        ],
+        Told::NoTrace(2),
+    ),
+    (
+        &[issued!(1, 1, Op::Load), issued!(2, 2, Op::Load)],
+        Told::NoTrace(1),
+    ),
+];
+
+/// Whether these are the same.
+fn is_same(one: Told, other: Told) -> bool {
+    one == other
+}
+
+/// The first of some histories of which a watch tells something else.
+fn first_unlike(alloc: Global, histories: &[(&[Event], Told)]) -> Option<usize> {
+    for (number, &(events, expected)) in histories.iter().enumerate() {
+        if !is_same(told_of(alloc, events, 100), expected) {
+            return Some(number);
+        }
+    }
+    None
 }
 
 #[test]
-fn events_that_are_no_trace(rt: HostRuntime) -> Result<(), Fail> {
-    let alloc = rt.alloc();
-    let unissued = [stored(1)];
-    let twice = [issue(1, 0, Op::Load), read(1, 0), read(1, 0)];
-    let falling = [issue(2, 0, Op::Load), issue(1, 0, Op::Load)];
-    let again = [issue(1, 0, Op::Load), read(1, 0), issue(1, 0, Op::Load)];
-    let outside = [issue(1, 1, Op::Load), issue(2, 2, Op::Load)];
-    let all = is_so(alloc, &unissued, Told::NoTrace(0))
-        && is_so(alloc, &twice, Told::NoTrace(2))
-        && is_so(alloc, &falling, Told::NoTrace(1))
-        && is_so(alloc, &again, Told::NoTrace(2))
-        && is_so(alloc, &outside, Told::NoTrace(1));
-    assert!(rt; all);
-    Ok(())
+fn histories_are_watched(rt: HostRuntime) {
+    assert!(rt; first_unlike(rt.alloc(), &HISTORIES).is_none());
 }
 
 /// A sum that is answered while three others are pending on its word.
-fn beside_three_sums(alloc: Global, bound: usize) -> Told {
-    let events = [
-        issue(0, 0, Op::Add(1)),
-        issue(1, 0, Op::Add(1)),
-        issue(2, 0, Op::Add(1)),
-        issue(3, 0, Op::Add(1)),
-        read(0, 0),
-    ];
-    told_of(alloc, &events, bound)
+const BESIDE_SUMS: &[Event] = &[
+    issued!(0, 0, Op::Add(1)),
+    issued!(1, 0, Op::Add(1)),
+    issued!(2, 0, Op::Add(1)),
+    issued!(3, 0, Op::Add(1)),
+    found!(0, 0),
+];
+
+/// One operation at a time, which needs two configurations: before it took effect, and after it.
+const ALONE: &[Event] = &[issued!(1, 0, Op::Store(1)), done!(1)];
+
+/// A swap that is answered while six others are pending on its word. In 1957 ways some of the six took effect,
+/// in some order; and then the answered one did, or didn't yet.
+const BESIDE_SWAPS: &[Event] = &[
+    issued!(0, 0, Op::Swap(1)),
+    issued!(1, 0, Op::Swap(2)),
+    issued!(2, 0, Op::Swap(3)),
+    issued!(3, 0, Op::Swap(4)),
+    issued!(4, 0, Op::Swap(5)),
+    issued!(5, 0, Op::Swap(6)),
+    issued!(6, 0, Op::Swap(7)),
+    found!(0, 0),
+];
+
+/// Events, a bound of the configurations, and what is told.
+const BOUNDED: [(&[Event], usize, Told); 6] = [
+    (BESIDE_SUMS, 1, Told::Full(4, Full::Configurations)),
+    (BESIDE_SUMS, 1000, Told::Taken),
+    (ALONE, 2, Told::Taken),
+    (ALONE, 1, Told::Full(1, Full::Configurations)),
+    (BESIDE_SWAPS, 3913, Told::Full(7, Full::Configurations)),
+    (BESIDE_SWAPS, 3914, Told::Taken),
+];
+
+/// The first of them of which something else is told.
+fn first_unbounded(alloc: Global, rows: &[(&[Event], usize, Told)]) -> Option<usize> {
+    for (number, &(events, bound, expected)) in rows.iter().enumerate() {
+        if !is_same(told_of(alloc, events, bound), expected) {
+            return Some(number);
+        }
+    }
+    None
 }
 
 #[test]
-fn bounds_are_kept(rt: HostRuntime) -> Result<(), Fail> {
-    let alloc = rt.alloc();
-    let most = Told::Full(4, Full::Configurations);
-    assert!(rt; beside_three_sums(alloc, 1) == most);
-    assert!(rt; beside_three_sums(alloc, 1000) == Told::Taken);
-    // One operation at a time needs two: before it took effect, and after it.
-    let alone = [issue(1, 0, Op::Store(1)), stored(1)];
-    assert!(rt; told_of(alloc, &alone, 2) == Told::Taken);
-    assert!(rt; told_of(alloc, &alone, 1) == Told::Full(1, Full::Configurations));
-    Ok(())
+fn bounds_are_kept(rt: HostRuntime) {
+    assert!(rt; first_unbounded(rt.alloc(), &BOUNDED).is_none());
 }
 
-/// A swap that is answered while six others are pending on its word.
-fn beside_six_swaps(alloc: Global, bound: usize) -> Told {
-    let events = [
-        issue(0, 0, Op::Swap(1)),
-        issue(1, 0, Op::Swap(2)),
-        issue(2, 0, Op::Swap(3)),
-        issue(3, 0, Op::Swap(4)),
-        issue(4, 0, Op::Swap(5)),
-        issue(5, 0, Op::Swap(6)),
-        issue(6, 0, Op::Swap(7)),
-        read(0, 0),
-    ];
-    told_of(alloc, &events, bound)
+/// What a watch has seen: `taken`, `unexplained`, `no trace`, or that the event isn't judged.
+fn word_of(seen: Result<Seen, Full>) -> &'static str {
+    match seen {
+        Ok(Seen::Linearizable) => "taken",
+        Ok(Seen::NotLinearizable) => "unexplained",
+        Ok(Seen::NoTrace) => "no trace",
+        Err(_) => "not judged",
+    }
 }
 
-#[test]
-fn bounds_of_thousands(rt: HostRuntime) -> Result<(), Fail> {
-    let alloc = rt.alloc();
-    // In 1957 ways some of the six took effect, in some order; and then the answered one did, or didn't yet.
-    let most = Told::Full(7, Full::Configurations);
-    assert!(rt; beside_six_swaps(alloc, 3913) == most);
-    assert!(rt; beside_six_swaps(alloc, 3914) == Told::Taken);
-    Ok(())
-}
+/// Two sums.
+const SUMS: [Event; 2] = [issued!(1, 0, Op::Add(1)), issued!(2, 0, Op::Add(1))];
 
-/// What a watch tells of an answer, where an event before it was not taken.
-fn told_after(
-    alloc: Global,
-    refused: Event,
-    bound: usize,
-) -> Result<(Option<Seen>, Option<Seen>), AllocError> {
+/// Whether a watch tells this of an event, and takes an answer behind it.
+fn goes_on(alloc: Global, event: Event, bound: usize, word: &str) -> Result<bool, AllocError> {
     let opening = [0; 2];
     let mut watch = begin(alloc, &opening)?;
-    let issues = [issue(1, 0, Op::Add(1)), issue(2, 0, Op::Add(1))];
-    for event in issues {
-        let _ = watch.event(alloc, event, 100);
+    for sum in SUMS {
+        let _ = watch.event(alloc, sum, 100);
     }
-    let first = watch.event(alloc, refused, bound).ok();
-    let second = watch.event(alloc, read(1, 1), 100).ok();
-    Ok((first, second))
+    let first = word_of(watch.event(alloc, event, bound));
+    let second = word_of(watch.event(alloc, found!(1, 1), 100));
+    Ok(first == word && second == "taken")
 }
+
+/// Behind an answer that no order explains, one that is no answer, and one that isn't judged.
+const BEFORE: [(Event, usize, &str); 3] = [
+    (found!(1, 5), 100, "unexplained"),
+    (found!(3, 0), 100, "no trace"),
+    (found!(1, 1), 1, "not judged"),
+];
 
 #[test]
 fn a_watch_goes_on(rt: HostRuntime) -> Result<(), Fail> {
-    let alloc = rt.alloc();
-    let taken = Some(Seen::Linearizable);
-    // Behind an answer that no order explains, one that is no answer, and one that isn't judged.
-    let unexplained = told_after(alloc, read(1, 5), 100)?;
-    let unknown = told_after(alloc, read(3, 0), 100)?;
-    let unjudged = told_after(alloc, read(1, 1), 1)?;
-    assert!(rt; unexplained.0 == Some(Seen::NotLinearizable) && unexplained.1 == taken);
-    assert!(rt; unknown.0 == Some(Seen::NoTrace) && unknown.1 == taken);
-    assert!(rt; unjudged.0.is_none() && unjudged.1 == taken);
+    for &(event, bound, word) in &BEFORE {
+        let is_so = goes_on(rt.alloc(), event, bound, word)?;
+        assert!(rt; is_so, "{word}");
+    }
     Ok(())
 }

@@ -1,11 +1,11 @@
-use crate::machines::{PAIR, SQUARE, are_alike, drawn_machine, loaded, machine_of, round_steps};
+use crate::machines::{PAIR, Refusal, SQUARE, loaded, machine_of};
 use linked_list_allocator::LocalHeap;
 use machine_core::Machine;
 use packet::Reply;
 use script::{Line, Value};
 use std::alloc::{AllocError, Allocator, Global};
 use std::test::Fail;
-use torus::{Choice, Fault, Step, Stepped};
+use torus::Fault;
 
 /// What is done to a machine, and what is wanted of it.
 #[derive(Clone, Copy)]
@@ -35,7 +35,6 @@ const DONE: u32 = 104;
 struct Story {
     machine: &'static [u8],
     scripts: &'static [u8],
-    times: u32,
     deeds: &'static [Deed],
 }
 
@@ -44,7 +43,6 @@ const STORIES: [Story; 8] = [
     Story {
         machine: PAIR,
         scripts: b"",
-        times: 1,
         deeds: &[
             Deed::Room(0, Some(4096)),
             Deed::Takes(0, STORE),
@@ -61,7 +59,6 @@ const STORIES: [Story; 8] = [
     Story {
         machine: PAIR,
         scripts: b"0 store 5 17\n",
-        times: 1,
         deeds: &[
             Deed::Rounds(3),
             Deed::Takes(0, LOAD),
@@ -76,7 +73,6 @@ const STORIES: [Story; 8] = [
     Story {
         machine: PAIR,
         scripts: b"0 store 5 17\n",
-        times: 1,
         deeds: &[
             Deed::Reports,
             Deed::Takes(1, LOAD),
@@ -94,7 +90,6 @@ const STORIES: [Story; 8] = [
     Story {
         machine: PAIR,
         scripts: b"0 load 5\n1 store 6 9\n",
-        times: 1,
         deeds: &[
             Deed::Reports,
             Deed::Takes(1, Line::Fence),
@@ -111,7 +106,6 @@ const STORIES: [Story; 8] = [
     Story {
         machine: PAIR,
         scripts: b"0 store 5 17\n",
-        times: 1,
         deeds: &[
             Deed::Refuses(2, Line::Load(8), Fault::Processor),
             Deed::Refuses(4294967295, Line::Fence, Fault::Processor),
@@ -139,7 +133,6 @@ const STORIES: [Story; 8] = [
             4 spin 0 0 4096\n5 spin 0 0 4096\n6 spin 0 0 4096\n7 spin 0 0 4096\n\
             8 spin 0 0 4096\n9 spin 0 0 4096\n10 spin 0 0 4096\n11 spin 0 0 4096\n\
             12 spin 0 0 4096\n13 spin 0 0 4096\n14 spin 0 0 4096\n15 spin 0 0 4095\n",
-        times: 1,
         deeds: &[
             Deed::Room(63, Some(1)),
             Deed::Refuses(63, Line::Spin(0, 0, 2), Fault::Length),
@@ -156,7 +149,6 @@ const STORIES: [Story; 8] = [
     Story {
         machine: PAIR,
         scripts: b"1 spin 5 17 4000\n",
-        times: 1,
         deeds: &[
             Deed::Rounds(50),
             Deed::Takes(0, STORE),
@@ -168,7 +160,6 @@ const STORIES: [Story; 8] = [
     Story {
         machine: PAIR,
         scripts: b"1 spin 5 17 4000\n",
-        times: 1,
         deeds: &[
             Deed::Rounds(2),
             Deed::Takes(0, Line::Fence),
@@ -189,18 +180,39 @@ fn answered<A: Allocator>(machine: &Machine<A>, processor: u32) -> usize {
     }
 }
 
-/// What the tests look at of a machine that has refused a line: the moves left, whether it is finished, the
-/// done word, and the room and the answers of two processors.
-type Looks = (u64, bool, Option<u64>, [Option<usize>; 2], [usize; 2]);
+/// The room that is left for a processor; 99999 where there is no such processor.
+fn room<A: Allocator>(machine: &Machine<A>, processor: u32) -> usize {
+    machine.room_left(processor).unwrap_or(99999)
+}
 
-fn seen<A: Allocator>(machine: &Machine<A>) -> Looks {
-    (
+/// What the tests look at of a machine that has refused a line: the moves left and the done word, whether it
+/// is finished, and the room and the answers of two processors.
+fn seen<A: Allocator>(machine: &Machine<A>) -> [u64; 7] {
+    [
         machine.moves_left(),
-        machine.finished(),
-        machine.row(DONE),
-        [machine.room_left(0), machine.room_left(1)],
-        [answered(machine, 0), answered(machine, 1)],
-    )
+        machine.row(DONE).unwrap_or(99999),
+        u64::from(machine.finished()),
+        room(machine, 0) as u64,
+        room(machine, 1) as u64,
+        answered(machine, 0) as u64,
+        answered(machine, 1) as u64,
+    ]
+}
+
+/// Whether a machine refuses a line with this fault, and stays as it is.
+fn refuses(machine: &mut Machine, processor: u32, line: Line, fault: Fault) -> bool {
+    let before = seen(machine);
+    match machine.append(processor, line) {
+        Ok(()) => false,
+        Err(found) => found == fault && seen(machine) == before,
+    }
+}
+
+/// Makes so many rounds.
+fn make_rounds(machine: &mut Machine, count: u32) {
+    for _ in 0..count {
+        machine.round();
+    }
 }
 
 /// Whether the last of so many answers is this one.
@@ -223,14 +235,9 @@ fn reports(machine: &mut Machine) -> bool {
 fn does(machine: &mut Machine, deed: Deed) -> bool {
     match deed {
         Deed::Takes(processor, line) => machine.append(processor, line).is_ok(),
-        Deed::Refuses(processor, line, fault) => {
-            let before = seen(machine);
-            machine.append(processor, line) == Err(fault) && seen(machine) == before
-        }
+        Deed::Refuses(processor, line, fault) => refuses(machine, processor, line, fault),
         Deed::Rounds(count) => {
-            for _ in 0..count {
-                machine.round();
-            }
+            make_rounds(machine, count);
             true
         }
         Deed::Reports => reports(machine),
@@ -243,7 +250,7 @@ fn does(machine: &mut Machine, deed: Deed) -> bool {
 
 /// The first deed of a story that doesn't come out as wanted.
 fn first_wrong(alloc: Global, story: &Story) -> Result<Option<usize>, Fault> {
-    let mut machine = machine_of(alloc, story.machine, story.scripts, story.times)?;
+    let mut machine = machine_of(alloc, story.machine, story.scripts)?;
     for (number, deed) in story.deeds.iter().enumerate() {
         if !does(&mut machine, *deed) {
             return Ok(Some(number));
@@ -262,193 +269,101 @@ fn lines_come_at_any_time(rt: HostRuntime) -> Result<(), Fail> {
     Ok(())
 }
 
-/// The done word counts who has reported: both, nobody once one that had is handed a line, both again.
+/// Whether the done word counts who has reported: both, nobody once one that had is handed a line, both again.
+fn takes_reports_back(machine: &mut Machine) -> bool {
+    if !reports(machine) || machine.row(DONE) != Some(2) {
+        return false;
+    }
+    let left = machine.moves_left();
+    if machine.append(1, LOAD).is_err() || machine.row(DONE) != Some(0) {
+        return false;
+    }
+    let more = machine.moves_left() == left.saturating_add(241 + 4);
+    more && reports(machine) && machine.row(DONE) == Some(2)
+}
+
 #[test]
 fn reports_are_taken_back(rt: HostRuntime) -> Result<(), Fail> {
-    let mut machine = machine_of(rt.alloc(), PAIR, b"0 store 5 17\n", 1)?;
-    let good = reports(&mut machine) && machine.row(DONE) == Some(2);
-    assert!(rt; good, "reported");
-    let left = machine.moves_left();
-    let good = machine.append(1, LOAD).is_ok() && machine.row(DONE) == Some(0);
-    assert!(rt; good, "taken back");
-    assert!(rt;
-        machine.moves_left() == left.saturating_add(241 + 4),
-        "four marks"
-    );
-    let good = reports(&mut machine) && machine.row(DONE) == Some(2);
-    assert!(rt; good, "reported again");
+    let mut machine = machine_of(rt.alloc(), PAIR, b"0 store 5 17\n")?;
+    assert!(rt; takes_reports_back(&mut machine));
     Ok(())
 }
 
-/// Lines as the reader of scripts reads them, for processors 0 and 1.
-const LINES: [(u32, Line, &[u8]); 7] = [
-    (0, STORE, b"0 store 5 17\n"),
-    (1, Line::Spin(5, 17, 9), b"1 spin 5 17 9\n"),
-    (1, Line::Fence, b"1 fence\n"),
-    (0, Line::Add(0, Value::Number(1)), b"0 add 0 1\n"),
-    (
-        1,
-        Line::Cas(0, Value::Last, Value::Number(9)),
-        b"1 cas 0 last 9\n",
-    ),
-    (0, Line::Fence, b"0 fence\n"),
-    (0, LOAD, b"0 load 5\n"),
-];
-
-/// The machine that is loaded with so many of the lines.
-fn with_lines(alloc: Global, count: usize) -> Result<Machine, Fault> {
-    let mut text = Vec::new(alloc);
-    for &(_, _, line) in LINES.iter().take(count) {
-        if text.extend_from_slice(line).is_err() {
-            return Err(Fault::Memory);
-        }
-    }
-    machine_of(alloc, PAIR, text.as_slice(), 1)
-}
-
-fn is_report(step: Step) -> bool {
-    step.choice == Choice::Done || step.choice == Choice::Look
-}
-
-/// The moves that a machine of two tiles makes in so many rounds.
-fn moves_in(alloc: Global, machine: &mut Machine, rounds: u32) -> Result<Vec<Step>, AllocError> {
-    let steps = round_steps(alloc, 2, 10)?;
-    let mut moves = Vec::new(alloc);
-    for _ in 0..rounds {
-        for &step in steps.as_slice() {
-            if machine.step(step) == Stepped::Moved {
-                moves.push(step)?;
-            }
-        }
-    }
-    Ok(moves)
-}
-
-/// Gives a machine that has made these moves the lines from one on; where a line's processor has reported,
-/// its moves are those without the reports then.
-fn handed(machine: &mut Machine, moves: &mut Vec<Step>, from: usize) -> Result<(), Fault> {
-    for &(processor, line, _) in LINES.iter().skip(from) {
-        let report = Step {
-            agent: processor.wrapping_mul(3),
-            choice: Choice::Done,
-        };
-        if moves.as_slice().contains(&report) {
-            moves.retain(|step| !is_report(*step));
-        }
-        machine.append(processor, line)?;
-    }
-    Ok(())
-}
-
-/// Whether a machine that is handed the lines from one on after so many rounds stands where its moves lead
-/// from the load with all the lines, and is round by round the same as that one.
-fn leads_alike(alloc: Global, from: usize, rounds: u32) -> Result<bool, Fault> {
-    let mut grown = with_lines(alloc, from)?;
-    let mut longer = with_lines(alloc, LINES.len())?;
-    let Ok(mut moves) = moves_in(alloc, &mut grown, rounds) else {
-        return Err(Fault::Memory);
-    };
-    handed(&mut grown, &mut moves, from)?;
-    longer.run(moves.as_slice());
-    for _ in 0..100 {
-        if !are_alike(alloc, &longer, &grown) {
-            return Ok(false);
-        }
-        longer.round();
-        grown.round();
-    }
-    Ok(longer.finished() && grown.finished())
-}
-
-#[test]
-fn lines_lead_where_the_longer_load_leads(rt: HostRuntime) -> Result<(), Fail> {
-    for from in 0..8 {
-        for &rounds in &[0, 1, 2, 3, 5, 8, 12, 20, 60] {
-            let alike = leads_alike(rt.alloc(), from, rounds)?;
-            assert!(rt; alike, "lines from {from} on, after {rounds} rounds");
-        }
-    }
-    Ok(())
-}
-
-/// Loads for a processor of a machine on so many bytes, until memory is refused or so many are taken: how
-/// many were, and whether the machine was as it is when one was refused.
-fn grown_within(heap: &LocalHeap, most: usize) -> Result<(usize, bool), Fault> {
-    let mut machine = match loaded(heap, PAIR, b"0 store 5 17\n") {
-        Ok(machine) => machine,
-        Err((_, fault)) => return Err(fault),
-    };
-    for count in 0..most {
-        let before = seen(&machine);
+/// Hands a machine loads for processor 1, until memory is refused or so many are taken, and finishes: how many
+/// were, where they are all answered, and the machine stayed as it was when one was refused.
+fn grown<A: Allocator + Copy>(machine: &mut Machine<A>, most: usize) -> Option<usize> {
+    let mut count = 0usize;
+    for _ in 0..most {
+        let before = seen(machine);
         match machine.append(1, LOAD) {
-            Ok(()) => {}
+            Ok(()) => count = count.saturating_add(1),
             Err(fault) => {
-                let same = fault == Fault::Memory && seen(&machine) == before;
-                let _ = machine.finish();
-                return Ok((
-                    count,
-                    same && answered(&machine, 1) == count && machine.finished(),
-                ));
+                if fault != Fault::Memory || seen(machine) != before {
+                    return None;
+                }
+                break;
             }
         }
     }
     let _ = machine.finish();
-    Ok((most, answered(&machine, 1) == most && machine.finished()))
+    if machine.finished() && answered(machine, 1) == count {
+        Some(count)
+    } else {
+        None
+    }
 }
 
-/// The same within a budget of bytes; `None` where the load was refused.
-fn within(alloc: Global, budget: usize) -> Result<Option<(usize, bool)>, AllocError> {
+/// What comes of a machine within a budget of bytes.
+#[derive(Drop)]
+enum Outcome {
+    /// Its load was refused.
+    NotLoaded,
+    /// So many lines were taken and answered.
+    Lines(usize),
+    /// Something else.
+    Wrong,
+}
+
+fn grown_within(heap: &LocalHeap) -> Outcome {
+    match loaded(heap, PAIR, b"0 store 5 17\n") {
+        Ok(mut machine) => match grown(&mut machine, 40) {
+            Some(count) => Outcome::Lines(count),
+            None => Outcome::Wrong,
+        },
+        Err(Refusal::Other) => Outcome::Wrong,
+        Err(_) => Outcome::NotLoaded,
+    }
+}
+
+/// The same, where nothing is kept of the heap.
+fn within(alloc: Global, budget: usize) -> Result<Outcome, AllocError> {
     let heap = LocalHeap::new(alloc, budget)?;
-    let grown = grown_within(&heap, 40);
+    let grown = grown_within(&heap);
     if heap.used() != 0 {
         return Err(AllocError);
     }
-    match grown {
-        Ok(found) => Ok(Some(found)),
-        Err(_) => Ok(None),
+    Ok(grown)
+}
+
+/// How many of some budgets, by 16 bytes each, are refused at a line, and how many suffice for all lines.
+fn tried_budgets(alloc: Global, budgets: usize) -> Result<Option<(u32, u32)>, AllocError> {
+    let mut refused = 0u32;
+    let mut taken = 0u32;
+    for number in 0..budgets {
+        match within(alloc, number.saturating_mul(16))? {
+            Outcome::NotLoaded => {}
+            Outcome::Lines(40) => taken = taken.saturating_add(1),
+            Outcome::Lines(_) => refused = refused.saturating_add(1),
+            Outcome::Wrong => return Ok(None),
+        }
     }
+    Ok(Some((refused, taken)))
 }
 
 /// Memory is refused at a line, at any of its requests, and the machine is as it was and goes on.
 #[test]
 fn memory_is_refused_at_a_line(rt: HostRuntime) -> Result<(), Fail> {
-    let mut refused = 0u32;
-    let mut taken = 0u32;
-    for number in 0..2048 {
-        if let Some((count, good)) = within(rt.alloc(), number * 16)? {
-            assert!(rt; good, "{number} times 16 bytes: {count} lines");
-            if count < 40 {
-                refused = refused.wrapping_add(1);
-            } else {
-                taken = taken.wrapping_add(1);
-            }
-        }
-    }
-    assert!(rt;
-        refused > 20 && taken > 20,
-        "{refused} refused, {taken} taken"
-    );
-    Ok(())
-}
-
-/// A drawn machine that is handed lines between rounds follows them: each is answered.
-#[test]
-fn lines_between_rounds_are_answered(rt: HostRuntime) -> Result<(), Fail> {
-    let text: &[u8] = b"radix 2\ndims 3\ndepth 1\ntags 1\nwords 8\n";
-    let mut machine = drawn_machine(rt.alloc(), text, 8, 3)?;
-    let _ = machine.finish();
-    let mut before = [0; 8];
-    for (tile, count) in before.iter_mut().enumerate() {
-        *count = answered(&machine, tile as u32);
-    }
-    for number in 0..64u32 {
-        machine.append(number % 8, Line::Add(number / 8, Value::Number(1)))?;
-        machine.round();
-    }
-    let _ = machine.finish();
-    for (tile, count) in before.iter().enumerate() {
-        let answers = answered(&machine, tile as u32);
-        assert!(rt; answers == count.saturating_add(8), "processor {tile}");
-    }
+    let (refused, taken) = tried_budgets(rt.alloc(), 2048)?.ok_or("a wrong machine")?;
+    assert!(rt; refused > 20 && taken > 20);
     Ok(())
 }

@@ -1,4 +1,4 @@
-use crate::service_lists::two_tiles;
+use crate::bench::ring_of;
 use flit_buffer::perform;
 use home_bank::{BankAgent, Entry, is_acceptable};
 use packet::{Op, Reply};
@@ -106,7 +106,7 @@ struct Play {
 /// The first event of a play that goes otherwise with a new bank, or their number where the entries are
 /// others.
 fn first_unlike(alloc: Global, play: &Play) -> Result<Option<usize>, AllocError> {
-    let bank = BankAgent::new(alloc, &two_tiles()?, 1, 1, 12)?;
+    let bank = BankAgent::new(alloc, &ring_of(2, 1)?, 1, 1, 12)?;
     let row = vec![in alloc; 0u64; 33]?;
     let mut bench = Bench {
         bank,
@@ -399,7 +399,7 @@ const PLAYS: [Play; 4] = [
 fn events_go_as_they_say(rt: HostRuntime) -> Result<(), Fail> {
     for (number, play) in PLAYS.iter().enumerate() {
         let unlike = first_unlike(rt.alloc(), play)?;
-        assert_eq!(rt; unlike, None, "in play {number}");
+        assert!(rt; unlike.is_none(), "in play {number}");
     }
     Ok(())
 }

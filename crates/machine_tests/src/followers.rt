@@ -17,30 +17,45 @@ enum Act {
     Ends,
 }
 
-/// Looks at which operation is ready, and at whether the script is finished.
-fn looks<R: Abort>(rt: &R, follower: &Follower, next: Option<(u32, Op)>, finished: bool) {
-    assert_eq!(rt;
-        (follower.next_operation(), follower.finished()),
-        (next, finished)
-    );
+/// Whether this operation is ready, and the script is finished or not.
+fn is_at(follower: &Follower, next: Option<(u32, Op)>, finished: bool) -> bool {
+    follower.next_operation() == next && follower.finished() == finished
 }
 
-fn walk<R: Abort>(rt: &R, mut follower: Follower, acts: &[Act]) {
+/// Issues the next operation, if it is this one and has this index.
+fn issues(follower: &mut Follower, address: u32, op: Op, index: u32) -> bool {
+    is_at(follower, Some((address, op)), false)
+        && follower.next_operation().is_some()
+        && follower.issue() == index
+}
+
+/// The first of some acts that goes otherwise.
+fn first_unlike(mut follower: Follower, acts: &[Act]) -> Option<usize> {
     let mut issued = 0u32;
-    for act in acts {
-        match *act {
+    for (number, act) in acts.iter().enumerate() {
+        let is_so = match *act {
             Act::Issues(address, op) => {
-                looks(rt, &follower, Some((address, op)), false);
-                if follower.next_operation().is_some() {
-                    assert_eq!(rt; follower.issue(), issued);
-                }
+                let index = issued;
                 issued = issued.saturating_add(1);
+                issues(&mut follower, address, op, index)
             }
-            Act::Waits => looks(rt, &follower, None, false),
-            Act::Answers(index, reply) => follower.answer(index, reply),
-            Act::Ends => looks(rt, &follower, None, true),
+            Act::Waits => is_at(&follower, None, false),
+            Act::Answers(index, reply) => {
+                follower.answer(index, reply);
+                true
+            }
+            Act::Ends => is_at(&follower, None, true),
+        };
+        if !is_so {
+            return Some(number);
         }
     }
+    None
+}
+
+fn walk<R: Abort>(rt: &R, follower: Follower, acts: &[Act]) {
+    let unlike = first_unlike(follower, acts);
+    assert!(rt; unlike.is_none(), "act {}", unlike.unwrap_or(0));
 }
 
 #[test]

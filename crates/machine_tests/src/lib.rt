@@ -1,4 +1,4 @@
-//! Tests of the machine and of its parts, by their public calls: shapes, packets, channels, routes, tags,
+//! Tests of the machine and of its parts, by their public calls: shapes, packets, channels, tags,
 //! followers, banks, routers, processors and whole machines. They stand in a crate of their own, since a crate
 //! with tests is proved twice.
 #![tactic(auto)]
@@ -25,8 +25,6 @@ mod operations;
 mod processors;
 #[cfg(test)]
 mod routers;
-#[cfg(test)]
-mod routes;
 #[cfg(test)]
 mod service_lists;
 #[cfg(test)]

@@ -1,10 +1,10 @@
 use linked_list_allocator::LocalHeap;
-use machine_core::{Answer, Entry, Machine, Ordered, load};
+use machine_core::{Answer, Machine, load};
 use packet::{Op, Reply};
 use script::{read_machine, read_scripts};
 use std::alloc::{AllocError, Allocator, Global};
 use std::test::Fail;
-use torus::{Choice, Fault, Step, Stepped, Tag};
+use torus::{Choice, Fault, Step, Stepped};
 
 /// Two tiles, eight words.
 pub const PAIR: &[u8] = b"radix 2\ndims 1\ndepth 4\ntags 4\nwords 8\n";
@@ -12,28 +12,27 @@ pub const PAIR: &[u8] = b"radix 2\ndims 1\ndepth 4\ntags 4\nwords 8\n";
 /// Sixty-four tiles, channels of one flit, one tag.
 pub const SQUARE: &[u8] = b"radix 8\ndims 2\ndepth 1\ntags 1\nwords 64\ninit 36 5\n";
 
-/// What was asked for when a call failed.
+/// Where memory was refused, or that something else was wrong.
 #[derive(Clone, Copy)]
-pub enum Call {
+pub enum Refusal {
     Read,
     Load,
     Order,
+    Other,
 }
 
-/// The machine of a text and of scripts, which are a text that stands so many times, or the fault.
-pub fn machine_of(
-    alloc: Global,
-    machine: &[u8],
-    scripts: &[u8],
-    times: u32,
-) -> Result<Machine, Fault> {
-    let mut text = Vec::new(alloc);
-    for _ in 0..times {
-        if text.extend_from_slice(scripts).is_err() {
-            return Err(Fault::Memory);
-        }
+/// Memory was refused there, if this is what a fault says.
+fn refusal_at(fault: Fault, at: Refusal) -> Refusal {
+    if fault == Fault::Memory {
+        at
+    } else {
+        Refusal::Other
     }
-    match load(alloc, machine, text.as_slice()) {
+}
+
+/// The machine of a text and of scripts, or the fault.
+pub fn machine_of(alloc: Global, machine: &[u8], scripts: &[u8]) -> Result<Machine, Fault> {
+    match load(alloc, machine, scripts) {
         Ok(machine) => Ok(machine),
         Err(found) => Err(found.fault),
     }
@@ -69,62 +68,38 @@ fn rounds<A: Allocator>(machine: &mut Machine<A>, most: u32) -> Option<u32> {
     Some(most)
 }
 
-/// A row of the order: bank and place, processor and index, the numbers of issue, service and answer.
-type Row = (u32, u32, u32, u32, u32, u32, Option<u32>);
-
-fn are_rows(found: &[Ordered], rows: &[Row]) -> bool {
-    if found.len() != rows.len() {
-        return false;
-    }
-    for (found, &(bank, place, source, index, issued, served, answered)) in found.iter().zip(rows) {
-        let row = Ordered {
-            bank,
-            place,
-            source,
-            index,
-            issued,
-            served,
-            answered,
-        };
-        if *found != row {
-            return false;
-        }
-    }
-    true
-}
-
-/// Whether these are all rows of the order from some place on.
-fn has_order(alloc: Global, machine: &Machine, from: usize, rows: &[Row]) -> bool {
-    match machine.order(alloc) {
-        Ok(order) => are_rows(order.as_slice().get(from..).unwrap_or(&[]), rows),
-        Err(_) => false,
-    }
-}
-
-/// Whether the answers of a processor have these indexes and replies.
-fn has_replies(machine: &Machine, processor: u32, replies: &[(u32, Reply)]) -> bool {
-    let Some(answers) = machine.answers(processor) else {
-        return false;
+/// How many rows the order has, and of the last one bank and place, processor and index, the numbers of issue,
+/// service and answer; 0 where there is none.
+fn last_row(alloc: Global, machine: &Machine) -> [usize; 8] {
+    let Ok(order) = machine.order(alloc) else {
+        return [0; 8];
     };
-    if answers.len() != replies.len() {
-        return false;
-    }
-    for (answer, &(index, reply)) in answers.iter().zip(replies) {
-        if answer.index != index || answer.reply != reply {
-            return false;
-        }
-    }
-    true
+    let Some(row) = order.last() else {
+        return [0; 8];
+    };
+    [
+        order.len(),
+        row.bank as usize,
+        row.place as usize,
+        row.source as usize,
+        row.index as usize,
+        row.issued as usize,
+        row.served as usize,
+        row.answered.unwrap_or(0) as usize,
+    ]
 }
 
-/// Whether these are the words of these addresses.
-fn has_words(machine: &Machine, words: &[(u32, u64)]) -> bool {
-    for &(address, word) in words {
-        if machine.word(address) != Some(word) {
-            return false;
-        }
-    }
-    true
+/// How many answers a processor has, and how many entries its bank; 99 where there is no such tile.
+fn counts(machine: &Machine, tile: u32) -> [usize; 2] {
+    let answers = match machine.answers(tile) {
+        Some(answers) => answers.len(),
+        None => 99,
+    };
+    let entries = match machine.bank(tile) {
+        Some(entries) => entries.len(),
+        None => 99,
+    };
+    [answers, entries]
 }
 
 /// The steps by which a flit of a request of processor 0 comes to bank 1 of two tiles; which word of
@@ -150,40 +125,42 @@ fn pass(machine: &mut Machine, times: u32) -> bool {
     true
 }
 
-/// A store of 7 at address 1 goes flit by flit to its bank, which serves it.
-fn store_goes_through_the_row(alloc: Global, machine: &mut Machine) -> bool {
+/// Whether the steps of the first flit are enabled, and change the row as they say.
+fn first_flit_goes_through_the_row(machine: &mut Machine) -> bool {
     for &(agent, choice, place, word) in &FIRST_FLIT {
         if made(machine, agent, choice) != Some(true) || machine.row(place) != Some(word) {
             return false;
         }
     }
-    if !pass(machine, 2) || made(machine, 5, Choice::Serve) != Some(true) || machine.finished() {
-        return false;
-    }
-    // the memory, the done word, and the end
-    if machine.row(97) != Some(7) || machine.row(104) != Some(0) || machine.row(105).is_some() {
-        return false;
-    }
-    has_replies(machine, 0, &[])
-        && has_words(machine, &[(1, 7)])
-        && has_order(alloc, machine, 0, &[(1, 0, 0, 0, 1, 2, None)])
-        && machine.bank(1) == Some(STORED)
-        && machine.bank(0) == Some(&[])
+    true
 }
 
-/// What bank 1 has done then.
-const STORED: &[Entry] = &[Entry {
-    source: 0,
-    tag: Tag(0),
-    address: 1,
-    op: Op::Store(7),
-    reply: Reply::Ok,
-}];
+/// Whether a store of 7 at address 1 is served: the memory, the done word, and the end of the row; one entry
+/// in bank 1 and no answer.
+fn store_is_served(alloc: Global, machine: &mut Machine) -> bool {
+    if made(machine, 5, Choice::Serve) != Some(true) || machine.finished() {
+        return false;
+    }
+    let words = [machine.row(97), machine.row(104), machine.row(105)];
+    words == [Some(7), Some(0), None]
+        && machine.word(1) == Some(7)
+        && counts(machine, 0) == [0, 0]
+        && counts(machine, 1) == [0, 1]
+        && last_row(alloc, machine) == [1, 1, 0, 0, 0, 1, 2, 0]
+}
+
+/// A store of 7 at address 1 goes flit by flit to its bank, which serves it.
+fn store_goes_through_the_row(alloc: Global, machine: &mut Machine) -> bool {
+    first_flit_goes_through_the_row(machine) && pass(machine, 2) && store_is_served(alloc, machine)
+}
 
 /// How many moves are left: a store allows 241, and each of two tiles 2. The three flits of its request
 /// take eighteen, its service one; an attempt that isn't enabled takes none.
 fn moves_are_counted_down(machine: &mut Machine) -> bool {
-    if machine.moves_left() != 245 || !pass(machine, 3) || machine.moves_left() != 227 {
+    if machine.moves_left() != 245 || !is_first(machine, 0, Choice::Send) {
+        return false;
+    }
+    if !pass(machine, 3) || machine.moves_left() != 227 {
         return false;
     }
     let is_served = made(machine, 5, Choice::Serve) == Some(true);
@@ -209,26 +186,17 @@ fn no_round_is_needed(machine: &mut Machine) -> bool {
     begins && finishes && machine.enabled_step().is_none() && machine.moves_left() == 0
 }
 
-/// What rounds make of scripts that begin with an operation of processor 0: how many are made, where it
-/// is told, the order, the replies to processor 0, and words.
-#[derive(Clone, Copy)]
-struct Outcome {
-    count: Option<u32>,
-    order: &'static [Row],
-    replies: &'static [(u32, Reply)],
-    words: &'static [(u32, u64)],
-}
-
-fn rounds_finish_scripts(alloc: Global, machine: &mut Machine, wanted: Outcome) -> bool {
-    if !is_first(machine, 0, Choice::Send) {
-        return false;
+/// Whether the answers are loads of 5 from bank 36, one after the other.
+fn are_far_loads(answers: &[Answer]) -> bool {
+    let mut at = 0u32;
+    for answer in answers {
+        let places = answer.index == at && answer.bank == 36 && answer.place == at;
+        if !places || answer.op != Op::Load || answer.reply != Reply::Old(5) {
+            return false;
+        }
+        at = at.saturating_add(1);
     }
-    let made = rounds(machine, 1000);
-    (wanted.count.is_none() || made == wanted.count)
-        && machine.finished()
-        && has_order(alloc, machine, 0, wanted.order)
-        && has_replies(machine, 0, wanted.replies)
-        && has_words(machine, wanted.words)
+    true
 }
 
 /// One processor loads the farthest word 4096 times.
@@ -237,23 +205,9 @@ fn far_loads_come_in_order(alloc: Global, machine: &mut Machine) -> bool {
         return false;
     }
     let answers = machine.answers(0).unwrap_or(&[]);
-    if answers.len() != 4096 {
-        return false;
-    }
-    for (at, answer) in answers.iter().enumerate() {
-        let wanted = Answer {
-            index: at as u32,
-            op: Op::Load,
-            reply: Reply::Old(5),
-            bank: 36,
-            place: at as u32,
-        };
-        if *answer != wanted {
-            return false;
-        }
-    }
-    let last = (36, 4095, 0, 4095, 12286, 12287, Some(12288));
-    has_order(alloc, machine, 4095, &[last])
+    answers.len() == 4096
+        && are_far_loads(answers)
+        && last_row(alloc, machine) == [4096, 36, 4095, 0, 4095, 12286, 12287, 12288]
 }
 
 /// Steps that name no agent, or a choice that the agent hasn't.
@@ -291,224 +245,51 @@ fn choices_that_no_agent_has_are_idle(machine: &mut Machine) -> bool {
 
 fn nothing_is_out_of_range(machine: &Machine) -> bool {
     for &(at, address) in &[(2, 8), (3, 9), (u32::MAX, u32::MAX)] {
-        if machine.answers(at).is_some() || machine.bank(at).is_some() {
-            return false;
-        }
-        if machine.word(address).is_some() || machine.opening(address).is_some() {
+        let words = [machine.word(address), machine.opening(address)];
+        if counts(machine, at) != [99, 99] || words != [None, None] {
             return false;
         }
     }
-    machine.torus().tiles() == 2
+    let words = [machine.word(7), machine.opening(7)];
+    words == [Some(0), Some(0)]
+        && machine.torus().tiles() == 2
         && machine.words() == 8
-        && machine.opening(7) == Some(0)
-        && has_words(machine, &[(7, 0)])
         && machine.finished()
 }
 
-/// What is tested of a machine.
-#[derive(Clone, Copy)]
-enum Part {
-    Store,
-    Moves,
-    Empty,
-    Rounds(Outcome),
-    FarLoads,
-    NoChoices,
-    Range,
+#[test]
+fn a_store_is_followed(rt: HostRuntime) -> Result<(), Fail> {
+    let mut machine = machine_of(rt.alloc(), PAIR, b"0 store 1 7\n")?;
+    assert!(rt; store_goes_through_the_row(rt.alloc(), &mut machine));
+    let mut machine = machine_of(rt.alloc(), PAIR, b"0 store 1 7\n")?;
+    assert!(rt; moves_are_counted_down(&mut machine));
+    Ok(())
 }
-
-/// A machine's text, scripts' text and how many times it stands, and what is tested of this machine.
-struct Case {
-    machine: &'static [u8],
-    scripts: &'static [u8],
-    times: u32,
-    part: Part,
-}
-
-fn tested(alloc: Global, machine: &mut Machine, part: Part) -> bool {
-    match part {
-        Part::Store => store_goes_through_the_row(alloc, machine),
-        Part::Moves => moves_are_counted_down(machine),
-        Part::Empty => no_round_is_needed(machine),
-        Part::Rounds(wanted) => rounds_finish_scripts(alloc, machine, wanted),
-        Part::FarLoads => far_loads_come_in_order(alloc, machine),
-        Part::NoChoices => choices_that_no_agent_has_are_idle(machine),
-        Part::Range => nothing_is_out_of_range(machine),
-    }
-}
-
-fn holds(alloc: Global, case: &Case) -> Result<bool, Fault> {
-    let mut machine = machine_of(alloc, case.machine, case.scripts, case.times)?;
-    Ok(tested(alloc, &mut machine, case.part))
-}
-
-const CASES: [Case; 15] = [
-    Case {
-        machine: PAIR,
-        scripts: b"0 store 5 17\n0 fence\n0 load 5\n",
-        times: 1,
-        part: Part::Rounds(Outcome {
-            count: None,
-            order: &[(1, 0, 0, 0, 1, 2, Some(3)), (1, 1, 0, 1, 4, 5, Some(6))],
-            replies: &[(0, Reply::Ok), (1, Reply::Old(17))],
-            words: &[(5, 17)],
-        }),
-    },
-    // A sum wraps.
-    Case {
-        machine: b"radix 2\ndims 1\ndepth 4\ntags 4\nwords 8\ninit 0 18446744073709551615\n",
-        scripts: b"0 add 0 1\n",
-        times: 1,
-        part: Part::Rounds(Outcome {
-            count: None,
-            order: &[(0, 0, 0, 0, 1, 2, Some(3))],
-            replies: &[(0, Reply::Old(18446744073709551615))],
-            words: &[(0, 0)],
-        }),
-    },
-    // A word is exchanged where it is the one that is expected.
-    Case {
-        machine: b"radix 2\ndims 1\ndepth 4\ntags 4\nwords 8\ninit 2 7\n",
-        scripts: b"0 cas 2 7 9\n0 fence\n0 cas 2 7 8\n",
-        times: 1,
-        part: Part::Rounds(Outcome {
-            count: None,
-            order: &[(0, 0, 0, 0, 1, 2, Some(3)), (0, 1, 0, 1, 4, 5, Some(6))],
-            replies: &[(0, Reply::Old(7)), (1, Reply::Old(9))],
-            words: &[(2, 9)],
-        }),
-    },
-    // A spin gives up after three loads.
-    Case {
-        machine: PAIR,
-        scripts: b"0 spin 0 1 3\n",
-        times: 1,
-        part: Part::Rounds(Outcome {
-            count: None,
-            order: &[
-                (0, 0, 0, 0, 1, 2, Some(3)),
-                (0, 1, 0, 1, 4, 5, Some(6)),
-                (0, 2, 0, 2, 7, 8, Some(9)),
-            ],
-            replies: &[(0, Reply::Old(0)), (1, Reply::Old(0)), (2, Reply::Old(0))],
-            words: &[],
-        }),
-    },
-    // The last reply is stored.
-    Case {
-        machine: b"radix 2\ndims 1\ndepth 4\ntags 4\nwords 8\ninit 4 9\n",
-        scripts: b"0 load 4\n0 store 5 last\n",
-        times: 1,
-        part: Part::Rounds(Outcome {
-            count: None,
-            order: &[(0, 0, 0, 0, 1, 2, Some(3)), (1, 0, 0, 1, 4, 5, Some(6))],
-            replies: &[(0, Reply::Old(9)), (1, Reply::Ok)],
-            words: &[(4, 9), (5, 9)],
-        }),
-    },
-    Case {
-        machine: PAIR,
-        scripts: b"0 swap 7 3\n0 fence\n0 swap 7 3\n",
-        times: 1,
-        part: Part::Rounds(Outcome {
-            count: None,
-            order: &[(1, 0, 0, 0, 1, 2, Some(3)), (1, 1, 0, 1, 4, 5, Some(6))],
-            replies: &[(0, Reply::Old(0)), (1, Reply::Old(3))],
-            words: &[(7, 3)],
-        }),
-    },
-    // The newer operations.
-    Case {
-        machine: b"radix 2\ndims 1\ndepth 4\ntags 4\nwords 8\ninit 0 12\n",
-        scripts: b"0 and 0 10\n0 fence\n0 or 0 3\n0 fence\n0 xor 0 6\n0 fence\n0 max 0 20\n0 fence\n0 min 0 5\n",
-        times: 1,
-        part: Part::Rounds(Outcome {
-            count: None,
-            order: &[
-                (0, 0, 0, 0, 1, 2, Some(3)),
-                (0, 1, 0, 1, 4, 5, Some(6)),
-                (0, 2, 0, 2, 7, 8, Some(9)),
-                (0, 3, 0, 3, 10, 11, Some(12)),
-                (0, 4, 0, 4, 13, 14, Some(15)),
-            ],
-            replies: &[
-                (0, Reply::Old(12)),
-                (1, Reply::Old(8)),
-                (2, Reply::Old(11)),
-                (3, Reply::Old(13)),
-                (4, Reply::Old(20)),
-            ],
-            words: &[(0, 5)],
-        }),
-    },
-    // Two processors.
-    Case {
-        machine: PAIR,
-        scripts: b"0 load 0\n1 load 1\n",
-        times: 1,
-        part: Part::Rounds(Outcome {
-            count: Some(5),
-            order: &[(0, 0, 0, 0, 1, 2, Some(5)), (1, 0, 1, 0, 3, 4, Some(6))],
-            replies: &[(0, Reply::Old(0))],
-            words: &[],
-        }),
-    },
-    // Radices that differ, a dateline that is stated, and the least channels and tags.
-    Case {
-        machine: b"radix 2 4\ndims 2\ndateline 0 2\ndepth 1\ntags 1\nwords 8\ninit 5 3\n",
-        scripts: b"0 add 5 1\n0 fence\n0 load 5\n",
-        times: 1,
-        part: Part::Rounds(Outcome {
-            count: None,
-            order: &[(5, 0, 0, 0, 1, 2, Some(3)), (5, 1, 0, 1, 4, 5, Some(6))],
-            replies: &[(0, Reply::Old(3)), (1, Reply::Old(4))],
-            words: &[(5, 4)],
-        }),
-    },
-    Case {
-        machine: PAIR,
-        scripts: b"0 store 1 7\n",
-        times: 1,
-        part: Part::Store,
-    },
-    Case {
-        machine: PAIR,
-        scripts: b"0 store 1 7\n",
-        times: 1,
-        part: Part::Moves,
-    },
-    Case {
-        machine: PAIR,
-        scripts: b"",
-        times: 1,
-        part: Part::Empty,
-    },
-    Case {
-        machine: SQUARE,
-        scripts: b"0 load 36\n",
-        times: 4096,
-        part: Part::FarLoads,
-    },
-    Case {
-        machine: PAIR,
-        scripts: b"0 load 0\n",
-        times: 1,
-        part: Part::NoChoices,
-    },
-    Case {
-        machine: PAIR,
-        scripts: b"",
-        times: 1,
-        part: Part::Range,
-    },
-];
 
 #[test]
-fn machines_hold(rt: HostRuntime) -> Result<(), Fail> {
-    for (number, case) in CASES.iter().enumerate() {
-        let good = holds(rt.alloc(), case)?;
-        assert!(rt; good, "case {number}");
+fn nothing_is_done(rt: HostRuntime) -> Result<(), Fail> {
+    let mut machine = machine_of(rt.alloc(), PAIR, b"")?;
+    assert!(rt; nothing_is_out_of_range(&machine));
+    assert!(rt; no_round_is_needed(&mut machine));
+    Ok(())
+}
+
+#[test]
+fn loads_of_two_processors(rt: HostRuntime) -> Result<(), Fail> {
+    let mut machine = machine_of(rt.alloc(), PAIR, b"0 load 0\n1 load 1\n")?;
+    assert!(rt; choices_that_no_agent_has_are_idle(&mut machine));
+    assert!(rt; machine.finish() == 5);
+    Ok(())
+}
+
+#[test]
+fn far_loads(rt: HostRuntime) -> Result<(), Fail> {
+    let mut script = Vec::new(rt.alloc());
+    for _ in 0..4096 {
+        script.extend_from_slice(b"0 load 36\n")?;
     }
+    let mut machine = machine_of(rt.alloc(), SQUARE, script.as_slice())?;
+    assert!(rt; far_loads_come_in_order(rt.alloc(), &mut machine));
     Ok(())
 }
 
@@ -569,7 +350,7 @@ const PROCESSOR_CHOICES: &[Choice] = &[
 const BANK_CHOICES: &[Choice] = &[Choice::Take, Choice::Serve, Choice::Send, Choice::Credit];
 
 /// The attempts of a round: each choice of each agent, in order.
-pub fn round_steps(alloc: Global, tiles: u8, ports: u8) -> Result<Vec<Step>, AllocError> {
+fn round_steps(alloc: Global, tiles: u8, ports: u8) -> Result<Vec<Step>, AllocError> {
     let mut steps = Vec::new(alloc);
     for tile in 0..tiles {
         let agent = 3 * u32::from(tile);
@@ -597,124 +378,48 @@ pub fn round_steps(alloc: Global, tiles: u8, ports: u8) -> Result<Vec<Step>, All
     Ok(steps)
 }
 
-/// The machine of a text, with drawn scripts for its tiles.
-pub fn drawn_machine(alloc: Global, text: &[u8], tiles: u8, seed: u64) -> Result<Machine, Fault> {
-    match drawn_script(alloc, tiles, seed) {
-        Ok(script) => machine_of(alloc, text, script.as_slice(), 1),
-        Err(_) => Err(Fault::Memory),
-    }
-}
-
-/// Whether two machines of at most eight tiles show the same, word by word.
-pub fn are_alike(alloc: Global, one: &Machine, other: &Machine) -> bool {
-    for at in 0..400 {
-        if one.row(at) != other.row(at) {
-            return false;
-        }
-    }
-    for tile in 0..8 {
-        if one.answers(tile) != other.answers(tile) || one.bank(tile) != other.bank(tile) {
-            return false;
-        }
-    }
-    let (Ok(order), Ok(other_order)) = (one.order(alloc), other.order(alloc)) else {
-        return false;
-    };
-    order.as_slice() == other_order.as_slice() && one.moves_left() == other.moves_left()
-}
-
-/// Whether rounds lead one machine where the list of a round's steps leads the other, also with drawn
-/// single steps between them; and to the end of all scripts.
-fn stay_alike(
-    alloc: Global,
-    rounds: &mut Machine,
-    lists: &mut Machine,
-    steps: &[Step],
-    seed: u64,
-) -> bool {
-    let mut number = seed;
-    for _ in 0..1000 {
-        number = drawn(number);
-        for &step in steps.iter().skip((number >> 40) as usize % 400).take(5) {
-            if rounds.step(step) != lists.step(step) {
-                return false;
-            }
-        }
-        rounds.round();
-        lists.run(steps);
-        if !are_alike(alloc, rounds, lists) {
-            return false;
-        }
-    }
-    rounds.finished()
-}
-
-fn lead_alike(
-    alloc: Global,
-    text: &[u8],
-    tiles: u8,
-    steps: &[Step],
-    seed: u64,
-) -> Result<bool, Fault> {
-    let mut rounds = drawn_machine(alloc, text, tiles, seed)?;
-    let mut lists = drawn_machine(alloc, text, tiles, seed)?;
-    Ok(stay_alike(alloc, &mut rounds, &mut lists, steps, seed))
-}
-
-/// Rounds, which leave out agents that are asleep, lead where the list of a round's steps leads; also with
-/// single steps between them, by which agents are woken too.
-#[test]
-fn rounds_lead_where_their_steps_lead(rt: HostRuntime) -> Result<(), Fail> {
-    let alloc = rt.alloc();
-    for &(text, tiles, ports) in &DRAWN {
-        let steps = round_steps(alloc, tiles, ports)?;
-        for seed in 1..4 {
-            let alike = lead_alike(alloc, text, tiles, steps.as_slice(), seed)?;
-            assert!(rt; alike, "script {seed} of {tiles} tiles");
-        }
-    }
-    Ok(())
-}
-
-/// Reads both texts and loads the machine, so that it is told which of them was refused.
+/// Reads both texts and loads the machine, so that it is told which of these was refused.
 pub fn loaded<A: Allocator + Copy>(
     alloc: A,
     machine: &[u8],
     scripts: &[u8],
-) -> Result<Machine<A>, (Call, Fault)> {
+) -> Result<Machine<A>, Refusal> {
     let text = match read_machine(alloc, machine) {
         Ok(text) => text,
-        Err(fault) => return Err((Call::Read, fault.fault)),
+        Err(found) => return Err(refusal_at(found.fault, Refusal::Read)),
     };
     let scripts = match read_scripts(alloc, scripts, &text) {
         Ok(scripts) => scripts,
-        Err(fault) => return Err((Call::Read, fault.fault)),
+        Err(found) => return Err(refusal_at(found.fault, Refusal::Read)),
     };
     match Machine::load(alloc, text, scripts) {
         Ok(machine) => Ok(machine),
-        Err(fault) => Err((Call::Load, fault)),
+        Err(fault) => Err(refusal_at(fault, Refusal::Load)),
     }
 }
 
-/// Loads a machine on one allocator, makes rounds, and tells how many rows its order on the other has.
-fn used<A: Allocator + Copy, B: Allocator + Copy>(
-    alloc: A,
+/// How many rows the order of a machine has that is made on an allocator, after rounds.
+fn row_count<A: Allocator, B: Allocator + Copy>(
+    machine: &mut Machine<A>,
     rows: B,
-) -> Result<usize, (Call, Fault)> {
-    let mut machine = loaded(alloc, PAIR, b"0 store 5 17\n0 fence\n0 load 5\n")?;
-    let _ = rounds(&mut machine, 1000);
+) -> Result<usize, Refusal> {
+    let _ = rounds(machine, 1000);
     match machine.order(rows) {
         Ok(rows) => Ok(rows.len()),
-        Err(fault) => Err((Call::Order, fault)),
+        Err(fault) => Err(refusal_at(fault, Refusal::Order)),
+    }
+}
+
+/// The same of a machine that is loaded on another allocator.
+fn used<A: Allocator + Copy, B: Allocator + Copy>(alloc: A, rows: B) -> Result<usize, Refusal> {
+    match loaded(alloc, PAIR, b"0 store 5 17\n0 fence\n0 load 5\n") {
+        Ok(mut machine) => row_count(&mut machine, rows),
+        Err(refused) => Err(refused),
     }
 }
 
 /// The same within budgets of bytes.
-fn within(
-    alloc: Global,
-    budget: usize,
-    rows: usize,
-) -> Result<Result<usize, (Call, Fault)>, AllocError> {
+fn within(alloc: Global, budget: usize, rows: usize) -> Result<Result<usize, Refusal>, AllocError> {
     let heap = LocalHeap::new(alloc, budget)?;
     let other = LocalHeap::new(alloc, rows)?;
     let made = used(&heap, &other);
@@ -724,43 +429,73 @@ fn within(
     Ok(made)
 }
 
-/// Budgets of memory from none up, by so many bytes: those of the machine, where the order has enough,
-/// or those of the order. Refused up to some budget, at a load or at an order, and never from it on.
-const BUDGETS: [(Call, u16, u8); 2] = [(Call::Load, 1024, 64), (Call::Order, 64, 8)];
-
-/// Tries the budgets: whether refused at this call up to some budget, and never from it on.
-fn is_refused_first(
-    alloc: Global,
-    call: Call,
-    budgets: u16,
-    bytes: u8,
-) -> Result<bool, AllocError> {
-    let mut is_refused = false;
-    let mut suffices = false;
-    for number in 0..budgets {
-        let budget = usize::from(number) * usize::from(bytes);
-        let tried = match call {
-            Call::Order => within(alloc, 131072, budget)?,
-            _ => within(alloc, budget, 4096)?,
-        };
-        match (tried, call) {
-            (Ok(2), _) => suffices = true,
-            (Ok(_), _) => return Ok(false),
-            (Err((_, fault)), _) if suffices || fault != Fault::Memory => return Ok(false),
-            (Err((Call::Load, _)), Call::Load) => is_refused = true,
-            (Err((Call::Order, _)), Call::Order) => is_refused = true,
-            (Err(_), _) => {}
-        }
-    }
-    Ok(is_refused && suffices)
+/// What budgets of memory from none up have come to: whether some was refused at the load, at the order,
+/// and whether some sufficed.
+#[derive(Clone, Copy)]
+struct Budgets {
+    load: bool,
+    order: bool,
+    suffices: bool,
 }
 
+impl Budgets {
+    /// Notes what one more came to; answers whether that may be, where a greater one never comes to less.
+    fn note(&mut self, tried: Result<usize, Refusal>) -> bool {
+        match tried {
+            Ok(rows) => {
+                self.suffices = true;
+                rows == 2
+            }
+            Err(refused) => {
+                match refused {
+                    Refusal::Load => self.load = true,
+                    Refusal::Order => self.order = true,
+                    Refusal::Read => {}
+                    Refusal::Other => return false,
+                }
+                !self.suffices
+            }
+        }
+    }
+}
+
+/// Tries budgets of the machine, where the order has enough.
+fn load_budgets(alloc: Global) -> Result<Option<Budgets>, AllocError> {
+    let mut budgets = Budgets {
+        load: false,
+        order: false,
+        suffices: false,
+    };
+    for number in 0..1024 {
+        if !budgets.note(within(alloc, 64 * number, 4096)?) {
+            return Ok(None);
+        }
+    }
+    Ok(Some(budgets))
+}
+
+/// Tries budgets of the order, where the machine has enough.
+fn order_budgets(alloc: Global) -> Result<Option<Budgets>, AllocError> {
+    let mut budgets = Budgets {
+        load: false,
+        order: false,
+        suffices: false,
+    };
+    for number in 0..64 {
+        if !budgets.note(within(alloc, 131072, 8 * number)?) {
+            return Ok(None);
+        }
+    }
+    Ok(Some(budgets))
+}
+
+/// Refused up to some budget, at a load or at an order, and never from it on.
 #[test]
 fn memory_is_refused(rt: HostRuntime) -> Result<(), Fail> {
-    for &(call, budgets, bytes) in &BUDGETS {
-        let good = is_refused_first(rt.alloc(), call, budgets, bytes)?;
-        assert!(rt; good, "budgets by {bytes} bytes");
-    }
+    let loads = load_budgets(rt.alloc())?.ok_or("a load")?;
+    assert!(rt; loads.load && loads.suffices);
+    let orders = order_budgets(rt.alloc())?.ok_or("an order")?;
+    assert!(rt; orders.order && orders.suffices);
     Ok(())
 }
 

@@ -352,6 +352,6 @@ fn events_go_as_they_say(rt: HostRuntime) -> Result<(), Fail> {
             (false, false, false, 2),
         )?,
     ];
-    assert!(rt; unlike == [None; 6], "{unlike:?}");
+    assert!(rt; unlike == [None; 6]);
     Ok(())
 }

@@ -1,200 +1,146 @@
 use std::process::Abort;
 use std::test::Fail;
-use torus::{Choice, Dir, Fault, Step, Torus};
+use torus::{Dir, Fault, Torus};
 
-/// The tile that one hop leads to, where there is such a hop.
-fn hop(torus: &Torus, t: u32, d: u32, dir: Dir) -> Option<u32> {
-    if t < torus.tiles() && d < torus.dims() {
-        Some(torus.neighbour(t, d, dir))
-    } else {
-        None
-    }
+/// Hops: a radix, dimensions, a tile, a dimension, 0 for plus and 1 for minus, and the tile that is reached.
+const HOPS: [[u32; 6]; 13] = [
+    [4, 2, 0, 0, 0, 1],
+    [4, 2, 1, 0, 0, 2],
+    [4, 2, 2, 1, 0, 6],
+    [4, 2, 6, 1, 0, 10],
+    [4, 2, 11, 0, 0, 8],
+    [4, 2, 12, 1, 0, 0],
+    [8, 1, 6, 0, 0, 7],
+    [8, 1, 7, 0, 0, 0],
+    [8, 1, 0, 0, 1, 7],
+    [5, 1, 0, 0, 1, 4],
+    [5, 1, 4, 0, 1, 3],
+    [2, 1, 0, 0, 0, 1],
+    [2, 1, 0, 0, 1, 1],
+];
+
+/// The same of radices 2 and 4, whose datelines stand behind digits 1 and 3.
+const MIXED_HOPS: [[u32; 4]; 2] = [[1, 0, 0, 0], [0, 1, 1, 6]];
+
+/// Whether a hop leads to a tile.
+fn leads(torus: &Torus, from: u32, d: u32, dir: u32, to: u32) -> bool {
+    let dir = if dir == 0 { Dir::Plus } else { Dir::Minus };
+    from < torus.tiles() && d < torus.dims() && torus.neighbour(from, d, dir) == to
 }
 
-/// A tile's digit, where there is such a digit.
-fn digit(torus: &Torus, t: u32, d: u32) -> Option<u32> {
-    if t < torus.tiles() && d < torus.dims() {
-        Some(torus.digit(t, d))
-    } else {
-        None
+/// The first of some hops that leads elsewhere.
+fn first_astray(hops: &[[u32; 6]]) -> Result<Option<usize>, Fault> {
+    for (number, &[radix, dims, from, d, dir, to]) in hops.iter().enumerate() {
+        if !leads(&Torus::new(radix, dims)?, from, d, dir, to) {
+            return Ok(Some(number));
+        }
     }
+    Ok(None)
 }
 
-/// The radix and the dateline of a dimension, where there is one.
-fn ring(torus: &Torus, d: u32) -> Option<(u32, u32)> {
+/// The radix of a dimension; 0 where there is no such dimension.
+fn radix(torus: &Torus, d: u32) -> u32 {
     if d < torus.dims() {
-        Some((torus.radix_of(d), torus.dateline_of(d)))
+        torus.radix_of(d)
     } else {
-        None
+        0
     }
 }
 
-/// Follows hops: from a tile, in a dimension and a direction, to a tile.
-fn follow<R: Abort>(rt: &R, torus: &Torus, hops: &[(u32, u32, Dir, u32)]) {
-    for &(from, d, dir, to) in hops {
-        assert_eq!(rt; hop(torus, from, d, dir), Some(to), "from {from}");
+/// The digit behind which the dateline of a dimension stands; 9 where there is no such dimension.
+fn dateline(torus: &Torus, d: u32) -> u32 {
+    if d < torus.dims() {
+        torus.dateline_of(d)
+    } else {
+        9
     }
 }
 
-/// Compares the radix and the dateline of each of two dimensions.
-fn compare_rings<R: Abort>(rt: &R, torus: &Torus, first: (u32, u32), second: (u32, u32)) {
-    assert_eq!(rt;
-        (ring(torus, 0), ring(torus, 1)),
-        (Some(first), Some(second))
-    );
+/// A tile's digit; 9 where there is no such digit.
+fn digit(torus: &Torus, t: u32, d: u32) -> u32 {
+    if t < torus.tiles() && d < torus.dims() {
+        torus.digit(t, d)
+    } else {
+        9
+    }
+}
+
+/// The radices and the datelines of two dimensions.
+fn rings(torus: &Torus) -> [u32; 4] {
+    [
+        radix(torus, 0),
+        dateline(torus, 0),
+        radix(torus, 1),
+        dateline(torus, 1),
+    ]
+}
+
+#[test]
+fn hops_lead_to_neighbours(rt: HostRuntime) -> Result<(), Fail> {
+    let astray = first_astray(&HOPS)?;
+    assert!(rt; astray.is_none());
+    let mixed = Torus::mixed(&[2, 4], &[1, 3])?;
+    for &[from, d, dir, to] in &MIXED_HOPS {
+        assert!(rt; leads(&mixed, from, d, dir, to), "from {from}");
+    }
+    Ok(())
+}
+
+#[test]
+fn dimensions_have_radices_datelines_and_digits(rt: HostRuntime) -> Result<(), Fail> {
+    let square = Torus::new(4, 2)?;
+    assert!(rt; square.tiles() == 16 && square.dims() == 2);
+    assert!(rt; rings(&square) == [4, 3, 4, 3]);
+    assert!(rt; digit(&square, 6, 0) == 2 && digit(&square, 6, 1) == 1);
+    let mixed = Torus::mixed(&[2, 4], &[1, 3])?;
+    assert!(rt; rings(&mixed) == [2, 1, 4, 3]);
+    assert!(rt; mixed.tiles() == 8 && Torus::mixed(&[4, 4], &[3, 3])? == square);
+    let pair = Torus::new(2, 1)?;
+    assert!(rt; pair.tiles() == 2 && pair.home(5) == (1, 2) && pair.home(0) == (0, 0));
+    Ok(())
+}
+
+/// The code of a refusal; none where the torus is made.
+fn code_of(made: Result<Torus, Fault>) -> &'static str {
+    match made {
+        Ok(_) => "",
+        Err(fault) => fault.code(),
+    }
 }
 
 /// Looks for a refusal.
-fn refused<R: Abort>(rt: &R, made: Result<Torus, Fault>, fault: Fault) {
-    assert_eq!(rt; made.err(), Some(fault));
+fn refused<R: Abort>(rt: &R, made: Result<Torus, Fault>, code: &str) {
+    assert!(rt; code_of(made) == code, "{code}");
 }
 
 #[test]
-fn radix_4_dims_2(rt: HostRuntime) -> Result<(), Fail> {
-    let torus = Torus::new(4, 2)?;
-    assert_eq!(rt; (torus.tiles(), torus.dims()), (16, 2));
-    compare_rings(&rt, &torus, (4, 3), (4, 3));
-    assert_eq!(rt;
-        (digit(&torus, 6, 0), digit(&torus, 6, 1)),
-        (Some(2), Some(1))
-    );
-    let hops = [
-        (0, 0, Dir::Plus, 1),
-        (1, 0, Dir::Plus, 2),
-        (2, 1, Dir::Plus, 6),
-        (6, 1, Dir::Plus, 10),
-        (11, 0, Dir::Plus, 8),
-        (12, 1, Dir::Plus, 0),
-    ];
-    follow(&rt, &torus, &hops);
-    Ok(())
+fn radices_and_dimensions_are_refused(rt: HostRuntime) {
+    refused(&rt, Torus::new(1, 1), "F1");
+    refused(&rt, Torus::new(9, 1), "F1");
+    refused(&rt, Torus::new(2, 0), "F2");
+    refused(&rt, Torus::new(2, 4), "F2");
+    refused(&rt, Torus::new(5, 3), "F3");
+    refused(&rt, Torus::new(0, 0), "F1");
+    refused(&rt, Torus::new(u32::MAX, u32::MAX), "F1");
 }
+
+/// Lists of radices and of datelines that are refused, each with its first fault.
+const REFUSED: [(&[u32], &[u32], &str); 10] = [
+    (&[], &[], "F2"),
+    (&[2, 2, 2, 2], &[1, 1, 1, 1], "F2"),
+    (&[2, 9], &[1, 1], "F1"),
+    (&[8, 8, 2], &[1, 1, 1], "F3"),
+    (&[2, 4], &[1], "F13"),
+    (&[4], &[4], "F14"),
+    (&[9, 9, 9, 9], &[], "F2"),
+    (&[u32::MAX, u32::MAX, 8], &[], "F1"),
+    (&[8, 8, 8], &[], "F3"),
+    (&[2, 4], &[9], "F13"),
+];
 
 #[test]
-fn one_dimension(rt: HostRuntime) -> Result<(), Fail> {
-    let torus = Torus::new(8, 1)?;
-    follow(
-        &rt,
-        &torus,
-        &[
-            (6, 0, Dir::Plus, 7),
-            (7, 0, Dir::Plus, 0),
-            (0, 0, Dir::Minus, 7),
-        ],
-    );
-    let torus = Torus::new(5, 1)?;
-    follow(&rt, &torus, &[(0, 0, Dir::Minus, 4), (4, 0, Dir::Minus, 3)]);
-    let torus = Torus::new(2, 1)?;
-    follow(&rt, &torus, &[(0, 0, Dir::Plus, 1), (0, 0, Dir::Minus, 1)]);
-    assert_eq!(rt;
-        (torus.tiles(), torus.home(5), torus.home(0)),
-        (2, (1, 2), (0, 0))
-    );
-    Ok(())
-}
-
-#[test]
-fn a_radix_for_each_dimension(rt: HostRuntime) -> Result<(), Fail> {
-    let torus = Torus::mixed(&[2, 4], &[1, 3])?;
-    compare_rings(&rt, &torus, (2, 1), (4, 3));
-    follow(&rt, &torus, &[(1, 0, Dir::Plus, 0), (0, 1, Dir::Minus, 6)]);
-    let both = (torus.tiles(), Torus::mixed(&[4, 4], &[3, 3])?);
-    assert_eq!(rt; both, (8, Torus::new(4, 2)?));
-    Ok(())
-}
-
-#[test]
-fn refusals_of_new(rt: HostRuntime) {
-    let refusals = [
-        (1, 1, Fault::Radix),
-        (9, 1, Fault::Radix),
-        (2, 0, Fault::Dimensions),
-        (2, 4, Fault::Dimensions),
-        (5, 3, Fault::Tiles),
-        (0, 0, Fault::Radix),
-        (u32::MAX, u32::MAX, Fault::Radix),
-    ];
-    for &(radix, dims, fault) in &refusals {
-        refused(&rt, Torus::new(radix, dims), fault);
-    }
-}
-
-#[test]
-fn refusals_of_mixed(rt: HostRuntime) {
-    refused(&rt, Torus::mixed(&[], &[]), Fault::Dimensions);
-    refused(
-        &rt,
-        Torus::mixed(&[2, 2, 2, 2], &[1, 1, 1, 1]),
-        Fault::Dimensions,
-    );
-    refused(&rt, Torus::mixed(&[2, 9], &[1, 1]), Fault::Radix);
-    refused(&rt, Torus::mixed(&[8, 8, 2], &[1, 1, 1]), Fault::Tiles);
-    refused(&rt, Torus::mixed(&[2, 4], &[1]), Fault::Count);
-    refused(&rt, Torus::mixed(&[4], &[4]), Fault::Dateline);
-}
-
-#[test]
-fn the_first_refusal_of_mixed_is_given(rt: HostRuntime) {
-    refused(&rt, Torus::mixed(&[9, 9, 9, 9], &[]), Fault::Dimensions);
-    refused(
-        &rt,
-        Torus::mixed(&[u32::MAX, u32::MAX, 8], &[]),
-        Fault::Radix,
-    );
-    refused(&rt, Torus::mixed(&[8, 8, 8], &[]), Fault::Tiles);
-    refused(&rt, Torus::mixed(&[2, 4], &[9]), Fault::Count);
-}
-
-#[test]
-fn faults_print_their_codes(rt: HostRuntime) -> Result<(), Fail> {
-    let codes = [
-        (Fault::Radix, "F1"),
-        (Fault::Dimensions, "F2"),
-        (Fault::Tiles, "F3"),
-        (Fault::Line, "F4"),
-        (Fault::Setting, "F5"),
-        (Fault::Range, "F6"),
-        (Fault::Address, "F7"),
-        (Fault::Processor, "F8"),
-        (Fault::Length, "F9"),
-        (Fault::Last, "F10"),
-        (Fault::Step, "F11"),
-        (Fault::Memory, "F12"),
-        (Fault::Count, "F13"),
-        (Fault::Dateline, "F14"),
-    ];
-    for &(fault, code) in &codes {
-        assert_eq!(rt; format!(in rt.alloc(); "{fault}")?.as_str(), code);
-    }
-    Ok(())
-}
-
-/// Compares which choices agent `kind` of a tile has, its router with ten inputs and outputs, with these answers.
-fn compare_choices<R: Abort>(rt: &R, kind: u32, has: &[(Choice, bool)]) {
-    for &(choice, is_there) in has {
-        assert_eq!(rt; choice.is_of(kind, 10), is_there, "of agent {kind}");
-    }
-}
-
-#[test]
-fn agents_have_their_own_choices(rt: HostRuntime) {
-    let own = [
-        (Choice::Send, true, false, true),
-        (Choice::Take, true, false, true),
-        (Choice::TakeFrom(9), false, true, false),
-        (Choice::TakeFrom(10), false, false, false),
-        (Choice::Put(0), false, true, false),
-        (Choice::Put(10), false, false, false),
-        (Choice::Credit, true, false, true),
-        (Choice::CreditOf(9), false, true, false),
-        (Choice::CreditOf(10), false, false, false),
-        (Choice::Serve, false, false, true),
-        (Choice::Done, true, false, false),
-        (Choice::Look, true, false, false),
-    ];
-    for &(choice, processor, router, bank) in &own {
-        compare_choices(&rt, 0, &[(choice, processor)]);
-        compare_choices(&rt, 1, &[(choice, router)]);
-        compare_choices(&rt, 2, &[(choice, bank)]);
+fn lists_are_refused(rt: HostRuntime) {
+    for &(radices, datelines, code) in &REFUSED {
+        refused(&rt, Torus::mixed(radices, datelines), code);
     }
 }

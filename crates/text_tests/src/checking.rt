@@ -1,7 +1,6 @@
 use linked_list_allocator::LocalHeap;
 use report_check::{CheckFault, check_report};
 use std::alloc::{AllocError, Allocator, Global};
-use std::process::Abort;
 use std::test::Fail;
 
 const ROW: &str =
@@ -157,16 +156,20 @@ const TEXTS: [(&str, u64); 52] = [
     ),
 ];
 
-/// Compares the verdicts of texts.
-fn judge<R: Abort>(rt: &R, alloc: Global, texts: &[(&str, u64)]) {
+/// The first of some texts that has another verdict.
+fn first_unlike(alloc: Global, texts: &[(&'static str, u64)]) -> Option<&'static str> {
     for &(text, want) in texts {
-        assert_eq!(rt; verdict(alloc, text.as_bytes()), want, "{text}");
+        if verdict(alloc, text.as_bytes()) != want {
+            return Some(text);
+        }
     }
+    None
 }
 
 #[test]
 fn texts(rt: HostRuntime) {
-    judge(&rt, rt.alloc(), &TEXTS);
+    let unlike = first_unlike(rt.alloc(), &TEXTS);
+    assert!(rt; unlike.is_none(), "{}", unlike.unwrap_or(""));
 }
 
 /// How many texts are good that have another byte at one place.
@@ -184,27 +187,40 @@ fn good_changes(alloc: Global, row: &[u8], at: usize) -> Result<u32, AllocError>
     Ok(good)
 }
 
+/// How many texts are good that have another byte at some place.
+fn all_good_changes(alloc: Global, row: &[u8]) -> Result<u32, AllocError> {
+    let mut good = 0u32;
+    for at in 0..row.len() {
+        good = good.saturating_add(good_changes(alloc, row, at)?);
+    }
+    Ok(good)
+}
+
 #[test]
 fn changes_of_one_byte(rt: HostRuntime) -> Result<(), AllocError> {
-    let mut good = 0u32;
-    for at in 0..ROW.len() {
-        good = good.saturating_add(good_changes(rt.alloc(), ROW.as_bytes(), at)?);
-    }
-    assert_eq!(rt; good, 37);
+    let good = all_good_changes(rt.alloc(), ROW.as_bytes())?;
+    assert!(rt; good == 37);
     Ok(())
+}
+
+/// The first place where a text is cut and isn't bad at the line behind its whole lines.
+fn first_wrong_cut(alloc: Global, row: &[u8]) -> Option<usize> {
+    let mut line = 1u64;
+    for (at, &byte) in row.iter().enumerate() {
+        if verdict(alloc, &row[..at]) != line {
+            return Some(at);
+        }
+        if byte == b'\n' {
+            line = line.saturating_add(1);
+        }
+    }
+    None
 }
 
 /// A text that ends too early is bad at the line behind its whole lines.
 #[test]
 fn cut_texts(rt: HostRuntime) {
-    let row = ROW.as_bytes();
-    let mut line = 1u64;
-    for (at, &byte) in row.iter().enumerate() {
-        assert_eq!(rt; verdict(rt.alloc(), &row[..at]), line);
-        if byte == b'\n' {
-            line = line.saturating_add(1);
-        }
-    }
+    assert!(rt; first_wrong_cut(rt.alloc(), ROW.as_bytes()).is_none());
 }
 
 /// The lines of the first report.
@@ -234,6 +250,12 @@ fn exchanged(alloc: Global, first: usize, second: usize) -> Result<String, Alloc
     Ok(text)
 }
 
+/// The verdict on the first report with two of its lines exchanged.
+fn exchanged_verdict(alloc: Global, first: usize, second: usize) -> Result<u64, AllocError> {
+    let text = exchanged(alloc, first, second)?;
+    Ok(verdict(alloc, text.as_bytes()))
+}
+
 /// An answer may stand where an entry or another answer is missing, and a `word` line where an
 /// answer is.
 #[test]
@@ -253,12 +275,8 @@ fn exchanged_lines(rt: HostRuntime) -> Result<(), Fail> {
         (7, 8, 8),
         (8, 9, 9),
     ] {
-        let text = exchanged(rt.alloc(), first, second)?;
-        assert_eq!(rt;
-            verdict(rt.alloc(), text.as_bytes()),
-            want,
-            "{first} {second}"
-        );
+        let found = exchanged_verdict(rt.alloc(), first, second)?;
+        assert!(rt; found == want, "{first} {second}");
     }
     Ok(())
 }
@@ -273,23 +291,28 @@ fn long_report(alloc: Global, version: u32, count: u32, end: &str) -> Result<Str
     Ok(text)
 }
 
+/// The verdict on such a report.
+fn long_verdict(alloc: Global, version: u32, count: u32, end: &str) -> Result<u64, AllocError> {
+    let text = long_report(alloc, version, count, end)?;
+    Ok(verdict(alloc, text.as_bytes()))
+}
+
+/// Versions, numbers of entries, ends and verdicts.
+const LONG: [(u32, u32, &str, u64); 4] = [
+    // More entries of a processor than a script has operations.
+    (1, 4097, "end incomplete\n", 0),
+    // The greatest number of entries, and one more.
+    (1, 65536, "end incomplete\n", 0),
+    (1, 65537, "", 65539),
+    // No place is left for the operation that the version wants: the line behind is bad.
+    (2, 65536, "end incomplete\n", 65539),
+];
+
 #[test]
 fn more_than_a_machine_writes(rt: HostRuntime) -> Result<(), AllocError> {
-    for (version, count, end, want) in [
-        // More entries of a processor than a script has operations.
-        (1, 4097, "end incomplete\n", 0),
-        // The greatest number of entries, and one more.
-        (1, 65536, "end incomplete\n", 0),
-        (1, 65537, "", 65539),
-        // No place is left for the operation that the version wants: the line behind is bad.
-        (2, 65536, "end incomplete\n", 65539),
-    ] {
-        let text = long_report(rt.alloc(), version, count, end)?;
-        assert_eq!(rt;
-            verdict(rt.alloc(), text.as_bytes()),
-            want,
-            "{version} {count}"
-        );
+    for &(version, count, end, want) in &LONG {
+        let found = long_verdict(rt.alloc(), version, count, end)?;
+        assert!(rt; found == want, "{version} {count}");
     }
     Ok(())
 }
@@ -332,7 +355,7 @@ fn no_memory_is_taken(rt: HostRuntime) -> Result<(), Fail> {
         let bytes = 393_216 + 16 * step;
         good = good_within(rt.alloc(), bytes, ROW)?.ok_or("wrong")?;
         let short = good_within(rt.alloc(), bytes, ENTRIES)?.ok_or("wrong")?;
-        assert_eq!(rt; good, short, "{bytes} bytes");
+        assert!(rt; good == short, "{bytes} bytes");
     }
     assert!(rt; good);
     Ok(())

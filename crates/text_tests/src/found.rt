@@ -17,12 +17,12 @@ pub fn fault_of<T: Drop>(read: Result<T, LineFault>) -> Found {
     }
 }
 
+/// Whether two readings ended in the same.
+pub fn is_same(found: Found, wanted: Found) -> bool {
+    found == wanted
+}
+
 /// Looks for what holds.
 pub fn holds<R: Abort>(rt: &R, what: &str, held: bool) {
     assert!(rt; held, "{what}");
-}
-
-/// Looks at what a reading ended in.
-pub fn ends<R: Abort>(rt: &R, found: Found, wanted: Found) {
-    assert_eq!(rt; found, wanted);
 }

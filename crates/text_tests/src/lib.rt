@@ -12,6 +12,10 @@ mod machines;
 #[cfg(test)]
 mod memory;
 #[cfg(test)]
+mod model_texts;
+#[cfg(test)]
+mod network_names;
+#[cfg(test)]
 mod network_sentences;
 #[cfg(test)]
 mod report_sentences;

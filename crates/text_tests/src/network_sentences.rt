@@ -1,37 +1,40 @@
 use lexer::{Named, Reason, Refusal};
 use network_text::{NetworkReason, NetworkSentence, network_sentence};
-use std::alloc::Global;
-use std::process::Abort;
+use std::alloc::{AllocError, Global};
 use std::test::Fail;
 
-/// The sentence must be this, behind the code of its fault.
-fn reads<R: Abort>(
-    alloc: Global,
-    rt: &R,
-    sentence: NetworkSentence<'_>,
-    wanted: &str,
-) -> Result<(), Fail> {
+/// Whether a sentence is this, behind the code of its fault.
+fn reads(alloc: Global, sentence: NetworkSentence<'_>, wanted: &str) -> Result<bool, AllocError> {
     let text = format!(in alloc; "{} {}", sentence.refusal.reason.fault(), sentence)?;
-    assert_eq!(rt; text.as_str(), wanted);
-    Ok(())
+    Ok(text.as_str() == wanted)
 }
 
-/// The text must be refused with this fault and this sentence.
-fn tells<R: Abort>(alloc: Global, rt: &R, text: &[u8], wanted: &str) -> Result<(), Fail> {
+/// Whether a text is refused with this fault and this sentence.
+fn tells(alloc: Global, text: &[u8], wanted: &str) -> Result<bool, AllocError> {
     match network_sentence(alloc, Named { name: "n", text }) {
-        Some(sentence) => reads(alloc, rt, sentence, wanted),
-        None => {
-            assert!(rt; false, "no fault");
-            Ok(())
+        Some(sentence) => reads(alloc, sentence, wanted),
+        None => Ok(false),
+    }
+}
+
+/// The first sentence of some that isn't told of its text.
+fn first_untold(
+    alloc: Global,
+    rows: &[(&'static str, &'static str)],
+) -> Result<Option<&'static str>, AllocError> {
+    for &(text, wanted) in rows {
+        if !tells(alloc, text.as_bytes(), wanted)? {
+            return Ok(Some(wanted));
         }
     }
+    Ok(None)
 }
 
 /// Texts of which a line isn't understood.
 const WORDS: [(&str, &str); 9] = [
     (
         "channel 3\n",
-        "F4 n:1: channel: a line begins with channels, inject, eject, join, next or reply",
+        "F4 n:1: channel: a line begins with channels, inject, eject, join, next, reply, router, link or name",
     ),
     (
         "channels\n",
@@ -57,9 +60,8 @@ const WORDS: [(&str, &str); 9] = [
 
 #[test]
 fn words_are_told(rt: HostRuntime) -> Result<(), Fail> {
-    for (text, wanted) in WORDS {
-        tells(rt.alloc(), &rt, text.as_bytes(), wanted)?;
-    }
+    let untold = first_untold(rt.alloc(), &WORDS)?;
+    assert!(rt; untold.is_none(), "{}", untold.unwrap_or(""));
     Ok(())
 }
 
@@ -99,9 +101,8 @@ const CHANNELS: [(&str, &str); 9] = [
 
 #[test]
 fn channels_are_told(rt: HostRuntime) -> Result<(), Fail> {
-    for (text, wanted) in CHANNELS {
-        tells(rt.alloc(), &rt, text.as_bytes(), wanted)?;
-    }
+    let untold = first_untold(rt.alloc(), &CHANNELS)?;
+    assert!(rt; untold.is_none(), "{}", untold.unwrap_or(""));
     Ok(())
 }
 
@@ -151,59 +152,59 @@ const KINDS: [(&str, &str); 10] = [
 
 #[test]
 fn kinds_are_told(rt: HostRuntime) -> Result<(), Fail> {
-    for (text, wanted) in KINDS {
-        tells(rt.alloc(), &rt, text.as_bytes(), wanted)?;
-    }
+    let untold = first_untold(rt.alloc(), &KINDS)?;
+    assert!(rt; untold.is_none(), "{}", untold.unwrap_or(""));
     Ok(())
 }
 
 #[test]
 fn ejections_are_counted(rt: HostRuntime) -> Result<(), Fail> {
     let alloc = rt.alloc();
-    let mut text = format!(in alloc; "channels 2000\n")?;
-    for channel in 0..1025 {
+    let mut text = format!(in alloc; "channels 16384\n")?;
+    for channel in 0..8193 {
         let line = format!(in alloc; "eject {channel}\n")?;
         text.push_str(line.as_str())?;
     }
-    let wanted = "F9 n:1026: eject 1024: a network has at most 1024 ejection channels";
-    tells(alloc, &rt, text.as_bytes(), wanted)
+    let wanted = "F9 n:8194: eject 8192: channels times ejection channels are at most 134217728";
+    let is_told = tells(alloc, text.as_bytes(), wanted)?;
+    assert!(rt; is_told);
+    Ok(())
+}
+
+/// Whether a sentence tells this reason of a line of a text.
+fn reads_reason(
+    alloc: Global,
+    line: u64,
+    reason: NetworkReason,
+    wanted: &str,
+) -> Result<bool, AllocError> {
+    let sentence = NetworkSentence {
+        name: "n",
+        text: b"channels 2\njoin 0 1\n",
+        refusal: Refusal { line, reason },
+    };
+    reads(alloc, sentence, wanted)
 }
 
 /// Sentences of reasons that only a long text or little memory has.
 #[test]
 fn other_reasons_are_told(rt: HostRuntime) -> Result<(), Fail> {
-    let text = b"channels 2\njoin 0 1\n".as_slice();
-    let rows = [
-        (
-            2,
-            NetworkReason::JoinsLimits,
-            "F9 n:2: join 0 1: a network has at most 1048576 joins",
-        ),
-        (
-            0,
-            NetworkReason::Memory,
-            "F12 n: a request for memory was refused while it was read",
-        ),
-    ];
-    for (line, reason, wanted) in rows {
-        let refusal = Refusal { line, reason };
-        let sentence = NetworkSentence {
-            name: "n",
-            text,
-            refusal,
-        };
-        reads(rt.alloc(), &rt, sentence, wanted)?;
-    }
+    let wanted = "F9 n:2: join 0 1: a network has at most 1048576 joins";
+    let is_told = reads_reason(rt.alloc(), 2, NetworkReason::JoinsLimits, wanted)?;
+    assert!(rt; is_told);
+    let wanted = "F12 n: a request for memory was refused while it was read";
+    let is_told = reads_reason(rt.alloc(), 0, NetworkReason::Memory, wanted)?;
+    assert!(rt; is_told);
     Ok(())
 }
 
+/// Whether a text isn't refused.
+fn is_good(alloc: Global, text: &[u8]) -> bool {
+    network_sentence(alloc, Named { name: "n", text }).is_none()
+}
+
 #[test]
-fn networks_are_not_refused(rt: HostRuntime) -> Result<(), Fail> {
+fn networks_are_not_refused(rt: HostRuntime) {
     let text = b"channels 3\ninject 0\neject 2\njoin 0 2\nnext 0 2 1\nnext 1 2 2\nreply 2 0\n";
-    let named = Named {
-        name: "n",
-        text: text.as_slice(),
-    };
-    assert!(rt; network_sentence(rt.alloc(), named).is_none());
-    Ok(())
+    assert!(rt; is_good(rt.alloc(), text));
 }

@@ -2,7 +2,6 @@ use lexer::{Named, Reason};
 use linked_list_allocator::LocalHeap;
 use sentences::{Sentence, machine_sentence, scripts_sentence, steps_sentence, tile_sentence};
 use std::alloc::{AllocError, Global};
-use std::process::Abort;
 use std::test::Fail;
 
 /// Names and texts of a machine of two tiles and eight words.
@@ -194,49 +193,49 @@ const STEPS: [(&str, &str); 13] = [
     ),
 ];
 
-/// The sentence must be this.
-fn reads<R: Abort>(
-    alloc: Global,
-    rt: &R,
-    sentence: Sentence<'_>,
-    wanted: &str,
-) -> Result<(), Fail> {
+/// Whether a sentence is this.
+fn reads(alloc: Global, sentence: Sentence<'_>, wanted: &str) -> Result<bool, AllocError> {
     let text = format!(in alloc; "{sentence}")?;
-    assert_eq!(rt; text.as_str(), wanted);
-    Ok(())
+    Ok(text.as_str() == wanted)
 }
 
-/// There must be a sentence, which is this behind the code of its fault.
-fn tells<R: Abort>(
+/// Whether there is a sentence, which is this behind the code of its fault.
+fn tells(alloc: Global, found: Option<Sentence<'_>>, wanted: &str) -> Result<bool, AllocError> {
+    let Some(sentence) = found else {
+        return Ok(false);
+    };
+    let text = format!(in alloc; "{} {}", sentence.reason.fault(), sentence)?;
+    Ok(text.as_str() == wanted)
+}
+
+/// Whether a machine text is refused for this.
+fn machine_tells(alloc: Global, text: &[u8], wanted: &str) -> Result<bool, AllocError> {
+    let found = machine_sentence(alloc, Named { name: "m", text });
+    tells(alloc, found, wanted)
+}
+
+/// Whether a script text is refused for this.
+fn scripts_tell(
     alloc: Global,
-    rt: &R,
-    found: Option<Sentence<'_>>,
+    machine: Named<'_>,
+    text: &[u8],
     wanted: &str,
-) -> Result<(), Fail> {
-    match found {
-        Some(sentence) => {
-            let text = format!(in alloc; "{} {}", sentence.reason.fault(), sentence)?;
-            assert_eq!(rt; text.as_str(), wanted);
-        }
-        None => assert!(rt; false, "no fault"),
-    }
-    Ok(())
+) -> Result<bool, AllocError> {
+    let found = scripts_sentence(alloc, machine, Named { name: "s", text });
+    tells(alloc, found, wanted)
 }
 
-/// The machine text must be refused for this.
-fn machine_tells<R: Abort>(alloc: Global, rt: &R, text: &[u8], wanted: &str) -> Result<(), Fail> {
-    tells(
-        alloc,
-        rt,
-        machine_sentence(alloc, Named { name: "m", text }),
-        wanted,
-    )
+/// Whether a steps text is refused for this.
+fn steps_tell(alloc: Global, text: &[u8], wanted: &str) -> Result<bool, AllocError> {
+    let found = steps_sentence(alloc, SMALL, NONE, Named { name: "t", text });
+    tells(alloc, found, wanted)
 }
 
 #[test]
 fn machine_sentences(rt: HostRuntime) -> Result<(), Fail> {
-    for (text, wanted) in MACHINES {
-        machine_tells(rt.alloc(), &rt, text.as_bytes(), wanted)?;
+    for &(text, wanted) in &MACHINES {
+        let is_told = machine_tells(rt.alloc(), text.as_bytes(), wanted)?;
+        assert!(rt; is_told, "{wanted}");
     }
     Ok(())
 }
@@ -247,31 +246,25 @@ fn words_are_quoted(rt: HostRuntime) -> Result<(), Fail> {
     let text = b"a\x07\xFFbcdefghijklmnopqrstuvwxyzabcdefghijklmnopqrstuvwxyz\n";
     let wanted =
         "F4 m:1: a\\x07\\xffbcdefghijklmnopqrstuvwxyzabcdefghijkl..: a line begins with radix, dims, dateline, depth, tags, words or init";
-    machine_tells(rt.alloc(), &rt, text, wanted)
+    let is_told = machine_tells(rt.alloc(), text, wanted)?;
+    assert!(rt; is_told);
+    Ok(())
 }
 
 #[test]
 fn script_sentences(rt: HostRuntime) -> Result<(), Fail> {
-    for (text, wanted) in SCRIPTS {
-        let named = Named {
-            name: "s",
-            text: text.as_bytes(),
-        };
-        let found = scripts_sentence(rt.alloc(), SMALL, named);
-        tells(rt.alloc(), &rt, found, wanted)?;
+    for &(text, wanted) in &SCRIPTS {
+        let is_told = scripts_tell(rt.alloc(), SMALL, text.as_bytes(), wanted)?;
+        assert!(rt; is_told, "{wanted}");
     }
     Ok(())
 }
 
 #[test]
 fn step_sentences(rt: HostRuntime) -> Result<(), Fail> {
-    for (text, wanted) in STEPS {
-        let named = Named {
-            name: "t",
-            text: text.as_bytes(),
-        };
-        let found = steps_sentence(rt.alloc(), SMALL, NONE, named);
-        tells(rt.alloc(), &rt, found, wanted)?;
+    for &(text, wanted) in &STEPS {
+        let is_told = steps_tell(rt.alloc(), text.as_bytes(), wanted)?;
+        assert!(rt; is_told, "{wanted}");
     }
     Ok(())
 }
@@ -287,9 +280,46 @@ fn said_within(
     Ok(steps_sentence(&heap, texts[0], texts[1], texts[2]))
 }
 
-/// The sentence of a row; none behind the last one.
-fn wanted<'a>(rows: &[&'a str], row: usize) -> &'a str {
-    rows.get(row).copied().unwrap_or("")
+/// What is said while memory is refused at each of three texts.
+const REFUSED: [&str; 3] = [
+    "machine.txt: a request for memory was refused while it was read",
+    "s: a request for memory was refused while it was read",
+    "t: a request for memory was refused while it was read",
+];
+
+/// Which of these a sentence is, from one on; 3 where it is none of them.
+fn row_of(alloc: Global, sentence: Sentence<'_>, from: usize) -> Result<usize, AllocError> {
+    let text = format!(in alloc; "{sentence}")?;
+    for (row, wanted) in REFUSED.iter().enumerate() {
+        if row >= from && text.as_str() == *wanted {
+            return Ok(row);
+        }
+    }
+    Ok(3)
+}
+
+/// Thirty-six steps.
+const MANY_STEPS: &[u8] =
+    b"0 send\n0 send\n0 send\n0 send\n0 send\n0 send\n0 send\n0 send\n0 send\n\
+        0 send\n0 send\n0 send\n0 send\n0 send\n0 send\n0 send\n0 send\n0 send\n\
+        0 send\n0 send\n0 send\n0 send\n0 send\n0 send\n0 send\n0 send\n0 send\n\
+        0 send\n0 send\n0 send\n0 send\n0 send\n0 send\n0 send\n0 send\n0 send\n";
+
+/// The last text of which memory is refused, over budgets by 16 bytes from none up to one that suffices: each
+/// budget is told of a text that isn't before the last one's. 3 where something else is told, or none suffices.
+fn last_refused(alloc: Global, texts: [Named<'static>; 3]) -> Result<usize, AllocError> {
+    let mut row = 0usize;
+    for at in 0..200 {
+        let Some(sentence) = said_within(alloc, at * 16, texts)? else {
+            return Ok(row);
+        };
+        let next = row_of(alloc, sentence, row)?;
+        if next > row.saturating_add(1) {
+            return Ok(3);
+        }
+        row = next;
+    }
+    Ok(3)
 }
 
 /// A refusal of memory, while each of the texts is read.
@@ -301,30 +331,10 @@ fn refused_memory(rt: HostRuntime) -> Result<(), Fail> {
     };
     let steps = Named {
         name: "t",
-        text: b"0 send\n0 send\n0 send\n0 send\n0 send\n0 send\n0 send\n0 send\n0 send\n\
-            0 send\n0 send\n0 send\n0 send\n0 send\n0 send\n0 send\n0 send\n0 send\n\
-            0 send\n0 send\n0 send\n0 send\n0 send\n0 send\n0 send\n0 send\n0 send\n\
-            0 send\n0 send\n0 send\n0 send\n0 send\n0 send\n0 send\n0 send\n0 send\n",
+        text: MANY_STEPS,
     };
-    let rows = [
-        "machine.txt: a request for memory was refused while it was read",
-        "s: a request for memory was refused while it was read",
-        "t: a request for memory was refused while it was read",
-    ];
-    let mut row = 0usize;
-    for at in 0..200 {
-        let said = said_within(rt.alloc(), at * 16, [SMALL, scripts, steps])?;
-        let Some(sentence) = said else {
-            assert_eq!(rt; row, 2);
-            return Ok(());
-        };
-        let text = format!(in rt.alloc(); "{sentence}")?;
-        if text.as_str() != wanted(&rows, row) {
-            row = row.saturating_add(1);
-        }
-        assert_eq!(rt; text.as_str(), wanted(&rows, row));
-    }
-    assert!(rt; false, "no memory is enough");
+    let last = last_refused(rt.alloc(), [SMALL, scripts, steps])?;
+    assert!(rt; last == 2);
     Ok(())
 }
 
@@ -340,87 +350,137 @@ fn all_scripts_are_too_long(rt: HostRuntime) -> Result<(), Fail> {
         name: "m",
         text: b"radix 8\ndims 2\ndepth 4\ntags 4\nwords 8\n",
     };
-    let found = scripts_sentence(rt.alloc(), machine, Named { name: "s", text });
     let wanted = "F9 s:18: 65537 operations: all scripts together have at most 65536";
-    tells(rt.alloc(), &rt, found, wanted)
+    let is_told = scripts_tell(rt.alloc(), machine, text, wanted)?;
+    assert!(rt; is_told);
+    Ok(())
+}
+
+const BAD: Named<'static> = Named {
+    name: "bad.txt",
+    text: b"words 0\n",
+};
+
+const GOOD_SCRIPTS: Named<'static> = Named {
+    name: "script.txt",
+    text: b"0 load 7\n",
+};
+
+const WORSE: Named<'static> = Named {
+    name: "worse.txt",
+    text: b"\n0 load 8\n",
+};
+
+const GOOD_STEPS: Named<'static> = Named {
+    name: "steps.txt",
+    text: b"0 send\n",
+};
+
+const LAST: Named<'static> = Named {
+    name: "last.txt",
+    text: b"6 send\n",
+};
+
+/// Three texts, and what is told of them; nothing of good ones.
+const FIRST_FAULTS: [(Named<'static>, Named<'static>, Named<'static>, &str); 4] = [
+    (
+        BAD,
+        WORSE,
+        LAST,
+        "bad.txt:1: words 0: a memory has 1 to 65536 words",
+    ),
+    (
+        SMALL,
+        WORSE,
+        LAST,
+        "worse.txt:2: address 8: the machine has the words 0 to 7",
+    ),
+    (
+        SMALL,
+        GOOD_SCRIPTS,
+        LAST,
+        "last.txt:1: agent 6: the machine has the agents 0 to 5",
+    ),
+    (SMALL, GOOD_SCRIPTS, GOOD_STEPS, ""),
+];
+
+/// Whether a sentence is this, or there is none where this is empty.
+fn is_told(alloc: Global, found: Option<Sentence<'_>>, wanted: &str) -> Result<bool, AllocError> {
+    match found {
+        Some(sentence) => reads(alloc, sentence, wanted),
+        None => Ok(wanted.is_empty()),
+    }
+}
+
+/// Whether this is told of three texts.
+fn is_first(
+    alloc: Global,
+    machine: Named<'_>,
+    scripts: Named<'_>,
+    steps: Named<'_>,
+    wanted: &str,
+) -> Result<bool, AllocError> {
+    is_told(
+        alloc,
+        steps_sentence(alloc, machine, scripts, steps),
+        wanted,
+    )
+}
+
+/// Whether a machine text is good.
+fn is_machine(alloc: Global, machine: Named<'_>) -> bool {
+    machine_sentence(alloc, machine).is_none()
+}
+
+/// Whether a machine text and a script text are good.
+fn are_scripts(alloc: Global, machine: Named<'_>, scripts: Named<'_>) -> bool {
+    scripts_sentence(alloc, machine, scripts).is_none()
 }
 
 #[test]
 fn first_faults_are_told(rt: HostRuntime) -> Result<(), Fail> {
-    let bad = Named {
-        name: "bad.txt",
-        text: b"words 0\n",
-    };
-    let scripts = Named {
-        name: "script.txt",
-        text: b"0 load 7\n",
-    };
-    let worse = Named {
-        name: "worse.txt",
-        text: b"\n0 load 8\n",
-    };
-    let steps = Named {
-        name: "steps.txt",
-        text: b"0 send\n",
-    };
-    let last = Named {
-        name: "last.txt",
-        text: b"6 send\n",
-    };
-    let rows: [(Named<'_>, Named<'_>, Named<'_>, Option<&str>); 4] = [
-        (
-            bad,
-            worse,
-            last,
-            Some("bad.txt:1: words 0: a memory has 1 to 65536 words"),
-        ),
-        (
-            SMALL,
-            worse,
-            last,
-            Some("worse.txt:2: address 8: the machine has the words 0 to 7"),
-        ),
-        (
-            SMALL,
-            scripts,
-            last,
-            Some("last.txt:1: agent 6: the machine has the agents 0 to 5"),
-        ),
-        (SMALL, scripts, steps, None),
-    ];
-    for (machine, scripts, steps, wanted) in rows {
-        let found = steps_sentence(rt.alloc(), machine, scripts, steps);
-        assert_eq!(rt; found.is_some(), wanted.is_some());
-        if let Some(sentence) = found
-            && let Some(wanted) = wanted
-        {
-            reads(rt.alloc(), &rt, sentence, wanted)?;
-        }
+    for &(machine, scripts, steps, wanted) in &FIRST_FAULTS {
+        let is_so = is_first(rt.alloc(), machine, scripts, steps, wanted)?;
+        assert!(rt; is_so, "{wanted}");
     }
-    assert!(rt; machine_sentence(rt.alloc(), SMALL).is_none());
-    assert!(rt; machine_sentence(rt.alloc(), bad).is_some());
-    assert!(rt; scripts_sentence(rt.alloc(), SMALL, scripts).is_none());
-    assert!(rt; scripts_sentence(rt.alloc(), SMALL, worse).is_some());
+    assert!(rt; is_machine(rt.alloc(), SMALL) && !is_machine(rt.alloc(), BAD));
+    assert!(rt; are_scripts(rt.alloc(), SMALL, GOOD_SCRIPTS));
+    assert!(rt; !are_scripts(rt.alloc(), SMALL, WORSE));
     Ok(())
+}
+
+/// A machine of 64 tiles.
+const LARGE: &[u8] = b"radix 8\ndims 2\ndepth 4\ntags 4\nwords 8\n";
+
+/// Two tiles, and what is told of them; nothing where both are there.
+const TILES: [(u32, u32, &str); 3] = [
+    (70, 64, "tile 70: the machine has the tiles 0 to 63"),
+    (63, 64, "tile 64: the machine has the tiles 0 to 63"),
+    (0, 63, ""),
+];
+
+/// Whether this is told of two tiles of a machine.
+fn is_told_of_tiles(
+    alloc: Global,
+    machine: &[u8],
+    src: u32,
+    dst: u32,
+    wanted: &str,
+) -> Result<bool, Fail> {
+    match tile_sentence(alloc, machine, src, dst)? {
+        Some(sentence) => {
+            let text = format!(in alloc; "{sentence}")?;
+            Ok(text.as_str() == wanted)
+        }
+        None => Ok(wanted.is_empty()),
+    }
 }
 
 #[test]
 fn tiles_are_told(rt: HostRuntime) -> Result<(), Fail> {
-    let machine = b"radix 8\ndims 2\ndepth 4\ntags 4\nwords 8\n".as_slice();
-    let rows = [
-        (70, 64, Some("tile 70: the machine has the tiles 0 to 63")),
-        (63, 64, Some("tile 64: the machine has the tiles 0 to 63")),
-        (0, 63, None),
-    ];
-    for (src, dst, wanted) in rows {
-        let found = tile_sentence(rt.alloc(), machine, src, dst)?;
-        assert_eq!(rt; found.is_some(), wanted.is_some());
-        if let Some(sentence) = found
-            && let Some(wanted) = wanted
-        {
-            let text = format!(in rt.alloc(); "{sentence}")?;
-            assert_eq!(rt; text.as_str(), wanted);
-        }
+    for &(src, dst, wanted) in &TILES {
+        let is_so = is_told_of_tiles(rt.alloc(), LARGE, src, dst, wanted)?;
+        assert!(rt; is_so, "{wanted}");
     }
     Ok(())
 }
