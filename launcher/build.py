@@ -186,6 +186,8 @@ class Build:
         self.began, self.since = time.monotonic(), time.time()
         self.log_name = f"{ROOT}/out/build.log"
         self.running: dict[str, Run] = {}
+        # Of each crate that was proved here: its processes and its seconds.
+        self.took: dict[str, tuple[int, float]] = {}
         self.is_seen = sys.stderr.isatty()
         self.drawn = 0.0
         self.alone: set[str] = set()
@@ -366,6 +368,7 @@ class Build:
         self.end(run, is_proved)
         if is_proved:
             self.finished.add(run.name)
+            self.took[run.name] = run.jobs, took
             if not self.is_seen:
                 say(f"proved {run.name} in {took:.0f} s ({len(self.finished)} of {self.total})")
         elif status in (-9, 137, 247) and run.name not in self.alone:
@@ -380,7 +383,11 @@ class Build:
         if not self.is_seen or time.monotonic() - self.drawn < 1:
             return
         self.drawn = now = time.monotonic()
-        left = self.plan.left(self.finished, {it: (run.jobs, now - run.began) for it, run in self.running.items()})
+        gone = {it: (run.jobs, now - run.began) for it, run in self.running.items()}
+        late = {it: (jobs, seconds) for it, (jobs, seconds) in gone.items() if seconds > self.plan.wall(it, jobs)}
+        # A slower computer, or one with other work, shows in what is finished and in what is late.
+        pace = self.plan.pace({**self.took, **late})
+        left = pace * self.plan.left(self.finished, {it: (jobs, seconds / pace) for it, (jobs, seconds) in gone.items()})
         names = ", ".join(self.running)
         line = f"proved {len(self.finished)} of {self.total} crates, {minutes(now - self.began)} gone, about {minutes(left)} left: {names}"
         width = shutil.get_terminal_size().columns - 1

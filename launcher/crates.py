@@ -75,6 +75,13 @@ class Plan:
             return self.cost[it]
         return 2 * self.start[it] + (self.cost[it] - self.start[it]) * (ALONE + (1 - ALONE) / jobs)
 
+    def pace(self, took: dict[str, tuple[int, float]]) -> float:
+        """How many times the expected seconds crates take here, at least once, by the processes and seconds of some. Those that
+        took much less were taken up from earlier, and don't count."""
+        pairs = [(seconds, self.wall(it, jobs)) for it, (jobs, seconds) in took.items()]
+        pairs = [(seconds, wall) for seconds, wall in pairs if seconds > wall / 4]
+        return max(sum(it for it, _ in pairs) / sum(it for _, it in pairs), 1.0) if pairs else 1.0
+
     def chosen(self, done: set[str], running: dict[str, int]) -> tuple[str, int] | None:
         """The crate to begin now, and its number of processes."""
         free = self.cores - sum(running.values())

@@ -13,6 +13,7 @@ output `assumed` says whether its registers are ones that a machine can leave.
 """
 
 import argparse
+import math
 import os
 import sys
 
@@ -203,28 +204,49 @@ def numbers(word):
     return [int(it) for it in word.split("x")]
 
 
+def add_shape(made):
+    """The words that say which torus it is, and which of its tiles."""
+    made.add_argument("--shape", type=numbers, default=[4], help="radices, as 4x2")
+    made.add_argument("--datelines", type=numbers, help="a digit for each dimension; else each is the radix less 1")
+    made.add_argument("--depth", type=int, default=2, help="of a channel, in flits, 1 to 8")
+    made.add_argument("--tile", type=int, action="append", help="this tile alone; may be given more than once")
+
+
+def shape_of(made, given):
+    """The torus and the tiles that the words name; ends the program where there is no such torus."""
+    given.datelines = given.datelines or [it - 1 for it in given.shape]
+    if len(given.shape) > 3 or any(not 2 <= it <= 8 for it in given.shape) or math.prod(given.shape) > 64:
+        made.error("a shape has one to three radices of 2 to 8, as 4x2, and at most 64 tiles")
+    if len(given.datelines) != len(given.shape) or any(not 0 <= at < of for at, of in zip(given.datelines, given.shape)):
+        made.error("there is a dateline for each dimension, below its radix")
+    if not 1 <= given.depth <= 8:
+        made.error("the depth of a channel is 1 to 8")
+    shape = Shape(given.shape, given.datelines)
+    for tile in given.tile or []:
+        if not 0 <= tile < shape.tiles:
+            made.error(f"there is no tile {tile}: the tiles are 0 to {shape.tiles - 1}")
+    return shape, given.tile if given.tile is not None else range(shape.tiles)
+
+
 def parser():
     """The words of the command line."""
     made = argparse.ArgumentParser(description="Makes Verilog of the table of a router's choices.")
     made.add_argument("what", choices=["verilog", "routes", "page"])
-    made.add_argument("--shape", type=numbers, default=[4], help="radices, as 4x2")
-    made.add_argument("--datelines", type=numbers, help="a digit for each dimension; else each is the radix less 1")
-    made.add_argument("--depth", type=int, default=2, help="of a channel, in flits")
-    made.add_argument("--tile", type=int, action="append", help="this tile alone; may be given more than once")
+    add_shape(made)
     made.add_argument("--wrapped", action="store_true", help="with a module `router` around it")
     return made
 
 
 def main():
-    given = parser().parse_args()
+    made = parser()
+    given = made.parse_args()
     table = Table()
     if given.what == "page":
         missing = page(table, os.path.join(ROOT, "docs", "NETWORK-FORMATS.md"))
         for line in missing:
             print(f"docs/NETWORK-FORMATS.md has no line {line}")
         return 1 if missing else 0
-    shape = Shape(given.shape, given.datelines or [it - 1 for it in given.shape])
-    tiles = given.tile if given.tile is not None else range(shape.tiles)
+    shape, tiles = shape_of(made, given)
     if given.what == "routes":
         for row in routes(shape, tiles):
             print(*row)
