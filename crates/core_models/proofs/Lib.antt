@@ -1,0 +1,14 @@
+pub mod Rising
+pub mod Ranges
+pub mod Services
+pub mod Turns
+pub mod Orders
+pub mod Courses
+pub mod Rows
+pub mod Served
+pub mod Known
+pub mod Built
+pub mod Apart
+pub mod OneTag
+pub mod OfRuns
+mod Examples

@@ -1,0 +1,4 @@
+pub mod Programs
+pub mod Accesses
+pub mod Traces
+pub mod Runs

@@ -1,0 +1,58 @@
+//! Laws of the memory model of runs, each the contract of a function that does nothing.
+
+ghost use Rattle.std.specs.Prelude.{◌≡◌, ℕ, List, Some, length, slice_get};
+ghost use Rattle.torus.specs.declared.step.Step.{Step};
+ghost use Rattle.memory_models.specs.declared.kinds.Operation.{Operation};
+ghost use Rattle.memory_models.specs.Trace.{IsMemoryTrace};
+ghost use Rattle.memory_models.specs.Order.{IsMemoryOrder};
+ghost use Rattle.memory_models.specs.Models.{coherent, fenced};
+ghost use Rattle.memory_models.specs.Machines.{IsSequential};
+ghost use Rattle.one_order.specs.declared.ordered.Ordered.{Ordered};
+ghost use Rattle.core_laws.specs.Core.{Load, run_of};
+ghost use Rattle.core_laws.specs.Runs.{IsAcceptedLoad};
+ghost use Rattle.core_machine.specs.Machine.{IsLawful};
+ghost use Rattle.core_models.specs.Accesses.{access_by};
+ghost use Rattle.core_models.specs.Runs.{accesses_of_run, IsTraceOfRun, AreFencedApart};
+
+/// Each run has a memory trace, and each operation that took effect has its place there. A machine
+/// that is reached (`IsAfter`) has a lawful run, with the rows of its book.
+pub fn runs_have_traces()
+    ensures some { (l : Load) (steps : List Step) (rows : List Ordered)
+        → IsAcceptedLoad l → IsLawful l steps rows
+        → (ops : List Operation) × (writes : List ℕ) × IsTraceOfRun l steps rows ops writes }
+    ensures whole { (l : Load) (steps : List Step) (rows : List Ordered)
+        → IsAcceptedLoad l → IsLawful l steps rows
+        → (k : ℕ) (row : Ordered) → slice_get rows k ≡ Some row
+        → (x : ℕ) × (slice_get (accesses_of_run l steps rows) x
+        ≡ Some (access_by (length l.opening) (run_of l steps (length steps)) rows row)) }
+{}
+
+/// Every run is coherent and obeys its fences: its memory trace is one of the models `coherent` and
+/// `fenced`, whatever the steps.
+pub fn runs_are_fenced()
+    ensures trace { (l : Load) (steps : List Step) (rows : List Ordered)
+        → IsAcceptedLoad l → IsLawful l steps rows
+        → (ops : List Operation) (writes : List ℕ) → IsTraceOfRun l steps rows ops writes
+        → IsMemoryTrace (length l.opening) ops writes }
+    ensures coherent { (l : Load) (steps : List Step) (rows : List Ordered)
+        → IsAcceptedLoad l → IsLawful l steps rows
+        → (ops : List Operation) (writes : List ℕ) → IsTraceOfRun l steps rows ops writes
+        → (turn : ℕ → ℕ) × IsMemoryOrder coherent ops writes turn }
+    ensures fenced { (l : Load) (steps : List Step) (rows : List Ordered)
+        → IsAcceptedLoad l → IsLawful l steps rows
+        → (ops : List Operation) (writes : List ℕ) → IsTraceOfRun l steps rows ops writes
+        → (turn : ℕ → ℕ) × IsMemoryOrder fenced ops writes turn }
+{}
+
+/// With a fence between each two lines of each processor, or with one tag, every run is sequentially
+/// consistent.
+pub fn fenced_scripts_are_sequential()
+    ensures fences { (l : Load) (steps : List Step) (rows : List Ordered)
+        → IsAcceptedLoad l → IsLawful l steps rows
+        → (ops : List Operation) (writes : List ℕ) → IsTraceOfRun l steps rows ops writes
+        → AreFencedApart l.scripts → (turn : ℕ → ℕ) × IsSequential ops writes turn }
+    ensures one_tag { (l : Load) (steps : List Step) (rows : List Ordered)
+        → IsAcceptedLoad l → IsLawful l steps rows
+        → (ops : List Operation) (writes : List ℕ) → IsTraceOfRun l steps rows ops writes
+        → l.tags ≡ 1 → (turn : ℕ → ℕ) × IsSequential ops writes turn }
+{}
