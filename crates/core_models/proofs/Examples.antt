@@ -2,7 +2,12 @@
 use Rattle.std.proofs.Common.{◌≡◌, inl, inr, ℕ, zero, suc, ◌<◌, ◌≤◌, true, List, [], ◌∷◌, length, Some, None, refl, sym, ◌∙◌, ap, subst, arith}
 use Rattle.std.specs.Prelude.{slice_index}
 use Rattle.std.proofs.lemmas.Bool.{cases_order}
+use Rattle.packet.specs.declared.kinds.Op.{Op}
 use Rattle.packet.specs.declared.kinds.Op.TheVariants as op
+use Rattle.packet.specs.declared.kinds.Reply.{Reply}
+use Rattle.packet.specs.Memory.{new_word}
+use Rattle.home_bank.specs.declared.entry.Entry.{Entry}
+use Rattle.script_follower.specs.Scripts.{reply_number}
 use Rattle.packet.specs.declared.kinds.Operation.{Operation as Asked}
 use Rattle.packet.specs.declared.kinds.Reply.TheVariants.{Old, Ok as Stored}
 use Rattle.script.specs.declared.line.Line.{Line}
@@ -16,7 +21,8 @@ use Rattle.memory_models.specs.Machines.{IsSequential}
 use Rattle.one_order.specs.declared.ordered.Ordered.{Ordered}
 use Rattle.one_order.specs.Observed.{Observed}
 use Rattle.core_models.specs.Programs.{Made, Fenced, steps_of_lines}
-use Rattle.core_models.specs.Accesses.{Access, opening_store, accesses_shown}
+use Rattle.core_models.specs.Accesses.{Access, opening_store, operation_of_row, accesses_shown}
+use Rattle.core_models.specs.Values.{reply_of_row}
 use Rattle.core_models.specs.Traces.{access_at, ComesBefore, IsTraceOf}
 use Rattle.core_models.specs.Runs.{HasFencesBetween}
 
@@ -34,6 +40,9 @@ asks Load a v = record { address = a; op = op.Load }
 asks Store a v = record { address = a; op = op.Store v }
 asks other a v = record { address = a; op = op.Load }
 
+abbrev entry : ℕ → ℕ → Op → Reply → Entry
+entry source address op reply = record { source = source; tag = record { 0 = 0 }; address = address; op = op; reply = reply }
+
 -- processor 0 stores the data, 42, in word 1 and then the flag in word 0; processor 1 loads the flag and then the data
 abbrev passing : Observed
 passing = record {
@@ -43,7 +52,7 @@ passing = record {
       ∷ record { index = 0; op = op.Store 42; reply = Stored; bank = 1; place = 1 } ∷ [])
       ∷ (record { index = 1; op = op.Load; reply = Old 0; bank = 1; place = 0 } ∷ record { index = 0; op = op.Load; reply = Old 1; bank = 0; place = 1 } ∷ [])
       ∷ [];
-  entries = [] ∷ [] ∷ [];
+  entries = (entry 0 0 (op.Store 1) Stored ∷ entry 1 0 op.Load (Old 1) ∷ []) ∷ (entry 1 1 op.Load (Old 0) ∷ entry 0 1 (op.Store 42) Stored ∷ []) ∷ [];
   memory = 1 ∷ 42 ∷ [];
 }
 
@@ -54,12 +63,13 @@ abbrev fenced : List (List Line)
 fenced =
     (line.Store 1 (Number 42) ∷ line.Fence ∷ line.Store 0 (Number 1) ∷ []) ∷ (line.Load 0 ∷ line.Fence ∷ line.Load 1 ∷ []) ∷ []
 
-abbrev row : ℕ → ℕ → ℕ → Ordered
-row source index served = record { bank = 0; place = 0; source = source; index = index; issued = 0; served = served; answered = None }
+abbrev row : ℕ → ℕ → ℕ → ℕ → ℕ → Ordered
+row bank place source index served =
+    record { bank = bank; place = place; source = source; index = index; issued = 0; served = served; answered = None }
 
 -- the data is loaded before it is stored, and the flag is stored before it is loaded
 abbrev rows : List Ordered
-rows = row 1 1 5 ∷ row 0 1 6 ∷ row 1 0 8 ∷ row 0 0 10 ∷ []
+rows = row 1 0 1 1 5 ∷ row 0 0 0 1 6 ∷ row 0 1 1 0 8 ∷ row 1 1 0 0 10 ∷ []
 
 abbrev access : ℕ → ℕ → Kind → ℕ → ℕ → Access
 access processor index kind word served = record { processor = processor; index = index; kind = kind; word = word; served = served }
@@ -81,8 +91,15 @@ fences_stand_between : accesses_shown 2 passing rows fenced
 fences_stand_between = refl
 
 -- an operation that has not taken effect is left out
-unserved_is_left_out : accesses_shown 2 passing (row 0 1 6 ∷ []) plain ≡ opening_store 0 ∷ opening_store 1 ∷ access 2 1 Store 0 6 ∷ []
+unserved_is_left_out : accesses_shown 2 passing (row 0 0 0 1 6 ∷ []) plain ≡ opening_store 0 ∷ opening_store 1 ∷ access 2 1 Store 0 6 ∷ []
 unserved_is_left_out = refl
+
+-- the flag's load replied what the flag's store left, and an addition leaves the sum with what it replied
+flag_replied : reply_of_row passing (row 0 1 1 0 8) ≡ Some (Old (new_word (operation_of_row passing (row 0 0 0 1 6)).op (reply_number Stored)))
+flag_replied = refl
+
+sum_is_left : new_word (op.Add 5) (reply_number (Old 2)) ≡ 7
+sum_is_left = refl
 
 -- two lines without a fence between them aren't kept apart
 plain_is_not_apart : HasFencesBetween (line.Load 0 ∷ line.Load 1 ∷ []) → ⊥

@@ -10,5 +10,7 @@ pub mod Known
 pub mod Built
 pub mod Apart
 pub mod OneTag
+pub mod Words
+pub mod Replied
 pub mod OfRuns
 mod Examples

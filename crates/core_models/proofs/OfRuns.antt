@@ -1,9 +1,9 @@
 -- The traces of runs, and the orders of the models that they have.
-use Rattle.std.proofs.Common.{◌≡◌, inr, ℕ, List, [], length, Some, arith, slice_get}
+use Rattle.std.proofs.Common.{true, ◌≡◌, inr, ℕ, List, [], length, Some, arith, slice_get}
 use Rattle.torus.specs.Shape.{tiles_of}
 use Rattle.torus.specs.declared.step.Step.{Step}
 use Rattle.memory_models.specs.declared.kinds.Operation.{Operation}
-use Rattle.memory_models.specs.Trace.{IsMemoryTrace}
+use Rattle.memory_models.specs.Trace.{IsMemoryTrace, is_load, source_at}
 use Rattle.memory_models.specs.Order.{IsMemoryOrder}
 use Rattle.memory_models.specs.Models.{coherent, fenced}
 use Rattle.memory_models.specs.Machines.{IsSequential}
@@ -14,7 +14,10 @@ use Rattle.one_order.proofs.Lists.{list_within}
 use Rattle.core_laws.specs.Core.{Load, run_of}
 use Rattle.core_laws.specs.Runs.{IsAcceptedLoad}
 use Rattle.core_machine.specs.Machine.{IsLawful}
-use Rattle.core_models.specs.Accesses.{access_by}
+use Rattle.core_models.specs.Accesses.{access_by, operation_of_row}
+use Rattle.core_models.specs.Traces.{access_at}
+use Rattle.core_models.specs.Values.{RepliesWordOf}
+use Rattle.model_text.specs.Kinds.{kind_of_op}
 use Rattle.core_models.specs.Runs.{accesses_of_run, IsTraceOfRun, AreFencedApart}
 use Rattle.core_models.proofs.Rising.{place_of}
 use Rattle.core_models.proofs.Turns.{turn_of}
@@ -23,6 +26,7 @@ use Rattle.core_models.proofs.Orders.{trace_is, fenced_order, coherent_order, se
 use Rattle.core_models.proofs.Rows.{point, row_operation}
 use Rattle.core_models.proofs.Known.{are_served, are_in_turn, has_row}
 use Rattle.core_models.proofs.Built.{built}
+use Rattle.core_models.proofs.Replied.{source_left}
 use Rattle.core_models.proofs.Apart.{apart_turns}
 use Rattle.core_models.proofs.OneTag.{one_tag_turns}
 
@@ -54,6 +58,14 @@ module _ (l : Load) (steps : List Step) (rows : List Ordered) (ok : IsAcceptedLo
 
     pub is_fenced : (turn : ℕ → ℕ) × IsMemoryOrder fenced ops writes turn
     is_fenced = (turn_of (accesses_of_run l steps rows), fenced_order (length l.opening) (accesses_of_run l steps rows) ops writes served t)
+
+    pub loads_reply : (x k : ℕ) (row : Ordered) → slice_get rows k ≡ Some row
+        → slice_get (accesses_of_run l steps rows) x ≡ Some (access_by (length l.opening) (run_of l steps (length steps)) rows row)
+        → is_load (kind_of_op (operation_of_row (run_of l steps (length steps)) row).op) ≡ true
+        → RepliesWordOf l.opening (run_of l steps (length steps)) rows (access_at (accesses_of_run l steps rows) (source_at ops writes x)) row
+    loads_reply x k row at here load = source_left (tiles_of l.shape) l.tags l.opening (run_of l steps)
+        (length steps) rows lawful.order l.scripts lawful.scripts
+        ok.processors ops writes t x k row here at load
 
     in_one_order : AreInTurn (accesses_of_run l steps rows) → (turn : ℕ → ℕ) × IsSequential ops writes turn
     in_one_order turns = (

@@ -69,3 +69,8 @@ pub get_map_range : {A : Type 0} (f : ℕ → A) (n a k j : ℕ) → k < n → a
 get_map_range f zero a k j low is = absurd (omega arith)
 get_map_range f (suc n) a zero j low is = (let e : a ≡ j = omega (arith, is) in ap (λ i. Some (f i)) e)
 get_map_range f (suc n) a (suc k) j low is = get_map_range f n (a + 1) k j (omega arith) (omega (arith, is))
+
+pub get_of_map : {A B : Type 0} (f : A → B) (xs : List A) (k : ℕ) (x : A) → slice_get xs k ≡ Some x → slice_get (map f xs) k ≡ Some (f x)
+get_of_map f [] k x h = absurd (cc)
+get_of_map f (y ∷ ys) zero x h = ap (λ z. Some (f z)) (same_Some y x h)
+get_of_map f (y ∷ ys) (suc k) x h = get_of_map f ys k x h

@@ -1,17 +1,20 @@
 //! Laws of the memory model of runs, each the contract of a function that does nothing.
 
-ghost use Rattle.std.specs.Prelude.{◌≡◌, ℕ, List, Some, length, slice_get};
+ghost use Rattle.std.specs.Prelude.{◌≡◌, ℕ, List, Some, true, length, slice_get};
 ghost use Rattle.torus.specs.declared.step.Step.{Step};
 ghost use Rattle.memory_models.specs.declared.kinds.Operation.{Operation};
-ghost use Rattle.memory_models.specs.Trace.{IsMemoryTrace};
+ghost use Rattle.memory_models.specs.Trace.{IsMemoryTrace, is_load, source_at};
 ghost use Rattle.memory_models.specs.Order.{IsMemoryOrder};
 ghost use Rattle.memory_models.specs.Models.{coherent, fenced};
 ghost use Rattle.memory_models.specs.Machines.{IsSequential};
+ghost use Rattle.model_text.specs.Kinds.{kind_of_op};
 ghost use Rattle.one_order.specs.declared.ordered.Ordered.{Ordered};
 ghost use Rattle.core_laws.specs.Core.{Load, run_of};
 ghost use Rattle.core_laws.specs.Runs.{IsAcceptedLoad};
 ghost use Rattle.core_machine.specs.Machine.{IsLawful};
-ghost use Rattle.core_models.specs.Accesses.{access_by};
+ghost use Rattle.core_models.specs.Accesses.{access_by, operation_of_row};
+ghost use Rattle.core_models.specs.Traces.{access_at};
+ghost use Rattle.core_models.specs.Values.{RepliesWordOf};
 ghost use Rattle.core_models.specs.Runs.{accesses_of_run, IsTraceOfRun, AreFencedApart};
 
 /// Each run has a memory trace, and each operation that took effect has its place there. A machine
@@ -25,6 +28,20 @@ pub fn runs_have_traces()
         → (k : ℕ) (row : Ordered) → slice_get rows k ≡ Some row
         → (x : ℕ) × (slice_get (accesses_of_run l steps rows) x
         ≡ Some (access_by (length l.opening) (run_of l steps (length steps)) rows row)) }
+{}
+
+/// Each load of a run's memory trace replied the word that the write left which it read there: an
+/// opening word, or what a write made of the word before it.
+pub fn loads_reply_what_they_read()
+    ensures { (l : Load) (steps : List Step) (rows : List Ordered)
+        → IsAcceptedLoad l → IsLawful l steps rows
+        → (ops : List Operation) (writes : List ℕ) → IsTraceOfRun l steps rows ops writes
+        → (x k : ℕ) (row : Ordered) → slice_get rows k ≡ Some row
+        → slice_get (accesses_of_run l steps rows) x
+        ≡ Some (access_by (length l.opening) (run_of l steps (length steps)) rows row)
+        → is_load (kind_of_op (operation_of_row (run_of l steps (length steps)) row).op) ≡ true
+        → RepliesWordOf l.opening (run_of l steps (length steps)) rows
+        (access_at (accesses_of_run l steps rows) (source_at ops writes x)) row }
 {}
 
 /// Every run is coherent and obeys its fences: its memory trace is one of the models `coherent` and
@@ -44,8 +61,8 @@ pub fn runs_are_fenced()
         → (turn : ℕ → ℕ) × IsMemoryOrder fenced ops writes turn }
 {}
 
-/// With a fence between each two lines of each processor, or with one tag, every run is sequentially
-/// consistent.
+/// With a fence between each two lines of each processor, or with one tag, every run is
+/// sequentially consistent.
 pub fn fenced_scripts_are_sequential()
     ensures fences { (l : Load) (steps : List Step) (rows : List Ordered)
         → IsAcceptedLoad l → IsLawful l steps rows
