@@ -339,7 +339,8 @@ class Build:
         is_small = self.top == SMALL_PROGRAM
         above, made = (f"{OF_SMALL} stand", "a program of these") if is_small else (f"the {what_of(self.top)} stands", "it")
         say(f"proves {len(todo)} of the {len(self.names)} crates that {above} on, up to {self.plan.cores} at a time,")
-        say(f"and builds {made}. That takes about {minutes(left)}; then the next start is immediate. Ctrl-C keeps what is proved.")
+        once = "once" if self.top == LIBRARY else "once; then the next start is immediate"
+        say(f"and builds {made}. That takes about {minutes(left)}, {once}. Ctrl-C keeps what is proved.")
         if is_small:
             say(f"The other commands stand on {self.others} crates more, which the first of them proves.")
         if is_program(self.top):
@@ -370,12 +371,22 @@ class Build:
             self.finished.add(run.name)
             self.took[run.name] = run.jobs, took
             if not self.is_seen:
-                say(f"proved {run.name} in {took:.0f} s ({len(self.finished)} of {self.total})")
+                left = f", about {minutes(self.left())} left" if len(self.finished) < self.total else ""
+                say(f"proved {run.name} in {took:.0f} s ({len(self.finished)} of {self.total}{left})")
         elif status in (-9, 137, 247) and run.name not in self.alone:
             self.alone.add(run.name)
         else:
             lines = [it for it in said.decode("utf-8", "replace").splitlines() if it.strip()]
             raise Failed(run.name, lines[-12:])
+
+    def left(self) -> float:
+        """The seconds that are left, about."""
+        now = time.monotonic()
+        gone = {it: (run.jobs, now - run.began) for it, run in self.running.items()}
+        late = {it: (jobs, seconds) for it, (jobs, seconds) in gone.items() if seconds > self.plan.wall(it, jobs)}
+        # A slower computer, or one with other work, shows in what is finished and in what is late.
+        pace = self.plan.pace({**self.took, **late})
+        return pace * self.plan.left(self.finished, {it: (jobs, seconds / pace) for it, (jobs, seconds) in gone.items()})
 
     # The line on the terminal.
 
@@ -383,13 +394,8 @@ class Build:
         if not self.is_seen or time.monotonic() - self.drawn < 1:
             return
         self.drawn = now = time.monotonic()
-        gone = {it: (run.jobs, now - run.began) for it, run in self.running.items()}
-        late = {it: (jobs, seconds) for it, (jobs, seconds) in gone.items() if seconds > self.plan.wall(it, jobs)}
-        # A slower computer, or one with other work, shows in what is finished and in what is late.
-        pace = self.plan.pace({**self.took, **late})
-        left = pace * self.plan.left(self.finished, {it: (jobs, seconds / pace) for it, (jobs, seconds) in gone.items()})
-        names = ", ".join(self.running)
-        line = f"proved {len(self.finished)} of {self.total} crates, {minutes(now - self.began)} gone, about {minutes(left)} left: {names}"
+        counts = f"proved {len(self.finished)} of {self.total} crates, {minutes(now - self.began)} gone"
+        line = f"{counts}, about {minutes(self.left())} left: {', '.join(self.running)}"
         width = shutil.get_terminal_size().columns - 1
         sys.stderr.write("\r\x1b[K" + (line if len(line) <= width else line[: width - 2] + ".."))
         sys.stderr.flush()
@@ -417,6 +423,13 @@ def interrupt(*_: object) -> None:
     for it in SIGNALS:
         signal.signal(it, signal.SIG_IGN)
     raise Interrupted
+
+
+def is_marked(top: str) -> bool:
+    """Whether what a crate makes stands there, proved from the sources as they are, whatever the times of the files."""
+    with Build(top) as work:
+        work.look()
+        return top in work.done
 
 
 def build(top: str = PROGRAM) -> int:

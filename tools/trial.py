@@ -68,7 +68,7 @@ def built_driver(folder: str) -> str:
     own = os.path.join(command.ROOT, "crates", "torusmem_c", "out", "libtorusmem_c.a")
     library = os.environ.get("TORUSMEM_LIB") or own
     if not os.path.isfile(library):
-        how = "`rt lib` in crates/torusmem_c makes it, and TORUSMEM_LIB names another"
+        how = "`./torusmem --library` makes it, and TORUSMEM_LIB names another"
         raise command.Refusal(f"there is no {library}: {how}")
     made, include = os.path.join(folder, "driver"), os.path.join(command.ROOT, "include")
     compiler = os.environ.get("CC") or "cc"
