@@ -34,7 +34,7 @@ fn first_untold(
 const SETTINGS: [(&[u8], &str); 19] = [
     (
         b"words 8\n",
-        "F4 t:1: words 8: the first line of a trace text is trace 1",
+        "F4 t:1: words 8: the first line of a trace text is trace 1; tools/from_csv makes one from a table",
     ),
     (
         b"# one\n\ntrace 01\n",

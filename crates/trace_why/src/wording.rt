@@ -8,7 +8,7 @@ use trace_text::{Keyword, TraceReason};
 /// What is said of a reason, with gaps.
 fn text_of(reason: TraceReason) -> &'static str {
     match reason {
-        TraceReason::NoTitle => "the first line of a trace text is trace 1",
+        TraceReason::NoTitle => "the first line of a trace text is trace 1K",
         TraceReason::TitleMissing => "the text ends without trace 1",
         TraceReason::UnknownKeyword => "A: a line begins with words, init, issue or answer",
         TraceReason::WordCount(_) => "A: behind it K",
@@ -60,9 +60,18 @@ fn operands_text(word: &[u8]) -> &'static str {
     }
 }
 
+/// What makes a trace text, where the first word of a text isn't that of a title.
+fn maker_text(word: &[u8]) -> &'static str {
+    match word {
+        b"trace" => "",
+        _ => "; tools/from_csv makes one from a table",
+    }
+}
+
 /// The name in what is said of a reason.
 fn name_of(words: QuotedWords<'_>, reason: TraceReason) -> &'static str {
     match reason {
+        TraceReason::NoTitle => maker_text(words.at(0).word),
         TraceReason::WordCount(keyword) => words_text(keyword),
         TraceReason::OperandCount => operands_text(words.at(2).word),
         TraceReason::NotIssued(1) => "operation",
