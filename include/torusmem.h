@@ -10,9 +10,9 @@
    what a watch needs at first, torusmem_watch_issue and torusmem_watch_answer allocate and free as operations open and
    end, and torusmem_watch_end frees all of it. No other call allocates.
 
-   LINKING. Link libtorusmem_c.a and torusmem_heap.c; or what `make install` makes of them, libtorusmem.so or
-   libtorusmem.a, as `pkg-config --cflags --libs torusmem` says. Both of these contain the three functions of
-   torusmem_heap.c. A program that defines these three itself uses its own with libtorusmem.a.
+   LINKING. Link libtorusmem_c.a, torusmem_heap.c and torusmem_text.c; or what `make install` makes of them,
+   libtorusmem.so or libtorusmem.a, as `pkg-config --cflags --libs torusmem` says. A program that defines the three
+   functions of torusmem_heap.c itself uses its own with libtorusmem.a.
 
    WHAT THE CALLER MUST ENSURE. Nothing checks it, and without it nothing that is said here holds.
    - Each `m` points to a torusmem_machine that was initialized by TORUSMEM_MACHINE_INIT and then changed by calls of
@@ -21,7 +21,10 @@
    - Each pointer that comes with a length points to that many readable bytes or items. Where the length is 0 the
      pointer may be anything, also null. Texts, attempts, events and opening words are only read, and may overlap;
      what `out` points to is writable. None of them contains a byte of the machine or watch.
-   - One call at a time for each machine and watch, and all calls for it from one thread. Machines share nothing.
+   - One call at a time for each machine and watch, from any thread: each begins after the one before it has returned,
+     which a lock, a join or an atomic orders where these are two threads. Machines and watches share nothing, and the
+     library keeps nothing of its own. That a handle may change its thread is tested, and not proved: to rest on what is
+     proved alone, make all calls for it from one thread.
    - malloc, realloc and free, which torusmem_heap.c calls, belong to one allocator and align each block to every power
      of two up to 16 that divides its size. No call comes from a signal handler, or in the child that a process with
      threads forked.
@@ -31,12 +34,21 @@
 #ifndef TORUSMEM_H
 #define TORUSMEM_H
 #define TORUSMEM_VERSION "0.1.0"
+#define TORUSMEM_VERSION_NUMBER 1000 /* 1000000 times the first number, 1000 times the second, and the third */
 #include <stdbool.h>
 #include <stddef.h>
 #include <stdint.h>
+#if defined(__GNUC__)
+#define TORUSMEM_RESULT __attribute__((warn_unused_result)) /* of a call whose answer has to be looked at */
+#else
+#define TORUSMEM_RESULT
+#endif
 #ifdef __cplusplus
 extern "C" {
 #endif
+
+/* The version of the library that runs, as TORUSMEM_VERSION has that of the header. */
+const char *torusmem_version(void) TORUSMEM_RESULT;
 
 /* Room for a machine. It belongs to the caller, on the stack, in a struct or elsewhere: initialized by
    TORUSMEM_MACHINE_INIT (all zeros), then changed by calls alone. Only torusmem_free frees what it holds. */
@@ -55,9 +67,21 @@ typedef struct torusmem_outcome {
 /* Codes. */
 enum {
   TORUSMEM_OK = 0,
-  /* 1 to 14: the fault F1 to F14 of a text (docs/FORMATS.md); value: the line, from 1. F12 is out of memory, and then
-     value is 0. */
+  /* The faults F1 to F14 of a text (docs/FORMATS.md); value: the line, from 1; 0 where memory was refused. */
+  TORUSMEM_FAULT_RADIX = 1,
+  TORUSMEM_FAULT_DIMENSIONS = 2,
+  TORUSMEM_FAULT_TILES = 3,
+  TORUSMEM_FAULT_LINE = 4,
+  TORUSMEM_FAULT_SETTING = 5,
+  TORUSMEM_FAULT_RANGE = 6,
+  TORUSMEM_FAULT_ADDRESS = 7,
+  TORUSMEM_FAULT_PROCESSOR = 8,
+  TORUSMEM_FAULT_LENGTH = 9,
+  TORUSMEM_FAULT_LAST = 10,
+  TORUSMEM_FAULT_STEP = 11,
   TORUSMEM_FAULT_MEMORY = 12,
+  TORUSMEM_FAULT_COUNT = 13,
+  TORUSMEM_FAULT_DATELINE = 14,
   TORUSMEM_BAD_REPORT = 15, /* value: the first bad line, from 1 */
   TORUSMEM_EMPTY = 16,      /* there is no machine: none was loaded, or it was freed; or there is no watch */
   TORUSMEM_FULL = 17,       /* there is a machine already: free it first; or a watch: end it first */
@@ -72,6 +96,9 @@ enum {
   TORUSMEM_BEHIND_SPIN = 25, /* the script has a spin, so the index of an operation behind it is not known */
   TORUSMEM_NOT_YET = 26      /* the operation is not answered yet */
 };
+
+/* What a code says, in a few words of ASCII, as "an address is not below the number of words". For any number. */
+const char *torusmem_code_text(uint32_t code) TORUSMEM_RESULT;
 
 /* Choices of agents. Tile t has the agents 3t, its processor; 3t + 1, its router; and 3t + 2, its bank. */
 enum {
@@ -110,7 +137,7 @@ enum { TORUSMEM_REQUEST = 0, TORUSMEM_REPLY = 1 };
    OK; FULL; or a fault: the first one of the machine text, else the first one of the scripts, or out of memory.
    On anything but OK, *m is as it was and no memory is kept. The texts may go after the call. */
 torusmem_outcome torusmem_load(torusmem_machine *m, const uint8_t *machine, size_t machine_length,
-                               const uint8_t *scripts, size_t scripts_length);
+                               const uint8_t *scripts, size_t scripts_length) TORUSMEM_RESULT;
 
 /* Texts of a load. */
 enum { TORUSMEM_NO_TEXT = 0, TORUSMEM_MACHINE_TEXT = 1, TORUSMEM_SCRIPTS_TEXT = 2 };
@@ -131,7 +158,7 @@ typedef struct torusmem_explanation {
    OK: the sentence is the first `length` bytes of out, and the bytes behind them are as they were.
    SHORT: `length` is what it needs, and out is as it was; so is it on FAULT_MEMORY. */
 torusmem_explanation torusmem_explain(const uint8_t *machine, size_t machine_length, const uint8_t *scripts,
-                                      size_t scripts_length, uint8_t *out, size_t out_length);
+                                      size_t scripts_length, uint8_t *out, size_t out_length) TORUSMEM_RESULT;
 
 /* Frees what *m holds, if anything. It may be loaded again then. */
 void torusmem_free(torusmem_machine *m);
@@ -152,7 +179,8 @@ typedef struct torusmem_attempt {
 torusmem_outcome torusmem_run(torusmem_machine *m, const torusmem_attempt *attempts, size_t attempts_length);
 
 /* Whether torusmem_step would move now. OK, value 1 or 0; EMPTY. */
-torusmem_outcome torusmem_enabled(torusmem_machine *m, uint32_t agent, uint32_t choice, uint32_t number);
+torusmem_outcome torusmem_enabled(torusmem_machine *m, uint32_t agent, uint32_t choice, uint32_t number)
+    TORUSMEM_RESULT;
 
 /* Makes one round: each choice of each agent is attempted once, in order. OK, value 0; EMPTY. */
 torusmem_outcome torusmem_round(torusmem_machine *m);
@@ -179,7 +207,7 @@ enum { TORUSMEM_FIRST_IS_LAST = 1, TORUSMEM_SECOND_IS_LAST = 2 };
    TORUSMEM_FAULT_MEMORY. But for OK nothing has changed. It and torusmem_ask are the calls after torusmem_load that take
    memory for the machine. */
 torusmem_outcome torusmem_append(torusmem_machine *m, uint32_t processor, uint32_t operation, uint32_t address,
-                                 uint64_t first, uint64_t second, uint32_t lasts);
+                                 uint64_t first, uint64_t second, uint32_t lasts) TORUSMEM_RESULT;
 
 /* Gives a processor an operation, TORUSMEM_LOAD .. TORUSMEM_MIN, as torusmem_append does, and tells which one it is: the
    operation that the processor issues under this index, whenever it does, is the one that was asked. So a host asks,
@@ -188,29 +216,29 @@ torusmem_outcome torusmem_append(torusmem_machine *m, uint32_t processor, uint32
    a spin, from its text or appended, and nobody can tell beforehand how many loads that makes; NONE: no operation has
    this number; EMPTY; or a fault, as of torusmem_append. But for OK nothing has changed. Takes memory as it does. */
 torusmem_outcome torusmem_ask(torusmem_machine *m, uint32_t processor, uint32_t operation, uint32_t address,
-                              uint64_t first, uint64_t second, uint32_t lasts);
+                              uint64_t first, uint64_t second, uint32_t lasts) TORUSMEM_RESULT;
 
 /* Whether every script is finished. OK, value 1 or 0; EMPTY. */
-torusmem_outcome torusmem_finished(torusmem_machine *m);
+torusmem_outcome torusmem_finished(torusmem_machine *m) TORUSMEM_RESULT;
 
 /* At most how many moves are left: no steps make more than this. OK, value: the number; EMPTY. */
-torusmem_outcome torusmem_moves_left(torusmem_machine *m);
+torusmem_outcome torusmem_moves_left(torusmem_machine *m) TORUSMEM_RESULT;
 
 /* The number of tiles, 2 to 64, and of words, 1 to 65536. OK, value: the number; EMPTY. */
-torusmem_outcome torusmem_tiles(torusmem_machine *m);
-torusmem_outcome torusmem_words(torusmem_machine *m);
+torusmem_outcome torusmem_tiles(torusmem_machine *m) TORUSMEM_RESULT;
+torusmem_outcome torusmem_words(torusmem_machine *m) TORUSMEM_RESULT;
 
 /* The word of an address. OK, value: the word; NONE: no such address; EMPTY. */
-torusmem_outcome torusmem_word(torusmem_machine *m, uint32_t address);
+torusmem_outcome torusmem_word(torusmem_machine *m, uint32_t address) TORUSMEM_RESULT;
 
 /* The word at a place of the machine's row: the places of the channels, then the words of the memory by address, then
    the done word. OK, value: the word; NONE: the row is not so long; EMPTY. */
-torusmem_outcome torusmem_row(torusmem_machine *m, uint32_t at);
+torusmem_outcome torusmem_row(torusmem_machine *m, uint32_t at) TORUSMEM_RESULT;
 
 /* All words of the row in one call, each as torusmem_row tells it.
    OK: they are the first `value` of out, at most 79873, and those behind them are as they were.
    SHORT: value is how many there are, and out is as it was; so is it on EMPTY. */
-torusmem_outcome torusmem_rows(torusmem_machine *m, uint64_t *out, size_t out_length);
+torusmem_outcome torusmem_rows(torusmem_machine *m, uint64_t *out, size_t out_length) TORUSMEM_RESULT;
 
 /* An answer of a processor. */
 typedef struct torusmem_answer {
@@ -226,15 +254,15 @@ typedef struct torusmem_answer {
 } torusmem_answer;
 
 /* How many answers a processor (by its tile) has. OK, value: the number; NONE: no such tile; EMPTY. */
-torusmem_outcome torusmem_answers(torusmem_machine *m, uint32_t processor);
+torusmem_outcome torusmem_answers(torusmem_machine *m, uint32_t processor) TORUSMEM_RESULT;
 
 /* Answer i of a processor, from 0 in the order of answering. Code NONE: no such tile, or no such answer yet. */
-torusmem_answer torusmem_answer_at(torusmem_machine *m, uint32_t processor, uint32_t i);
+torusmem_answer torusmem_answer_at(torusmem_machine *m, uint32_t processor, uint32_t i) TORUSMEM_RESULT;
 
 /* The answer of a processor to its operation of this index, from 0 in the order of issue, as torusmem_ask tells it.
    Code NOT_YET: it isn't answered yet; of a script with a spin it may never be issued. NONE: no such tile, or the script
    can't make so many operations. EMPTY. */
-torusmem_answer torusmem_answer_of(torusmem_machine *m, uint32_t processor, uint32_t index);
+torusmem_answer torusmem_answer_of(torusmem_machine *m, uint32_t processor, uint32_t index) TORUSMEM_RESULT;
 
 /* An entry of a bank: one service. */
 typedef struct torusmem_entry {
@@ -249,10 +277,10 @@ typedef struct torusmem_entry {
 } torusmem_entry;
 
 /* How many entries a bank (by its tile) has. OK, value: the number; NONE: no such tile; EMPTY. */
-torusmem_outcome torusmem_entries(torusmem_machine *m, uint32_t bank);
+torusmem_outcome torusmem_entries(torusmem_machine *m, uint32_t bank) TORUSMEM_RESULT;
 
 /* Entry i of a bank, from 0 in the order of its services. Code NONE: no such tile, or no such entry yet. */
-torusmem_entry torusmem_entry_at(torusmem_machine *m, uint32_t bank, uint32_t i);
+torusmem_entry torusmem_entry_at(torusmem_machine *m, uint32_t bank, uint32_t i) TORUSMEM_RESULT;
 
 /* A spin that ran out of loads: it made all its loads, and none of them found the number that it sought. */
 typedef struct torusmem_spin {
@@ -270,16 +298,16 @@ typedef struct torusmem_spin {
    FAULT_MEMORY and on EMPTY. */
 torusmem_outcome torusmem_spins_out(torusmem_machine *m, const uint8_t *machine, size_t machine_length,
                                     const uint8_t *scripts, size_t scripts_length, torusmem_spin *out,
-                                    size_t out_length);
+                                    size_t out_length) TORUSMEM_RESULT;
 
 /* The report of the run so far, the text that the program prints.
    OK: it is the first `value` bytes of out, and the bytes behind them are as they were.
    SHORT: value is its length, and out is as it was; so is it on FAULT_MEMORY and EMPTY. */
-torusmem_outcome torusmem_report(torusmem_machine *m, uint8_t *out, size_t out_length);
+torusmem_outcome torusmem_report(torusmem_machine *m, uint8_t *out, size_t out_length) TORUSMEM_RESULT;
 
 /* Checks a report; needs no machine. OK: it is a good one. BAD_REPORT: value is its first bad line, from 1.
    FAULT_MEMORY. */
-torusmem_outcome torusmem_check(const uint8_t *report, size_t report_length);
+torusmem_outcome torusmem_check(const uint8_t *report, size_t report_length) TORUSMEM_RESULT;
 
 /* A channel of a route. */
 typedef struct torusmem_channel {
@@ -293,11 +321,11 @@ typedef struct torusmem_channel {
    OK: its channels are the first `value` of out, 2 to 10, and those behind them are as they were.
    SHORT: value is how many there are, and out is as it was; so is it on NONE (no such tile or class) and EMPTY. */
 torusmem_outcome torusmem_route(torusmem_machine *m, uint32_t src, uint32_t dst, uint32_t reply,
-                                torusmem_channel *out, size_t out_length);
+                                torusmem_channel *out, size_t out_length) TORUSMEM_RESULT;
 
 /* The way on of a packet for tile dst that came to tile at by this input of its router (docs/NETWORK-FORMATS.md, "Channels and
    ports"). OK, value: the number of the router's output; NONE: no such tile or input; EMPTY. */
-torusmem_outcome torusmem_next(torusmem_machine *m, uint32_t at, uint32_t input, uint32_t dst);
+torusmem_outcome torusmem_next(torusmem_machine *m, uint32_t at, uint32_t input, uint32_t dst) TORUSMEM_RESULT;
 
 /* Judges the network of a network text, whatever its routers and channels are (docs/FORMATS.md, "Network text"):
    whether each pair that it joins has a route, and numbers of its channels can rise along every route and every reply,
@@ -311,7 +339,8 @@ torusmem_outcome torusmem_next(torusmem_machine *m, uint32_t at, uint32_t input,
    they were.
    SHORT: value is that length, and out is as it was; so is it on a fault of the text, where value is its line, and on
    FAULT_MEMORY. A verdict takes time; where a buffer was short, it is made again. */
-torusmem_outcome torusmem_network(const uint8_t *network, size_t network_length, uint8_t *out, size_t out_length);
+torusmem_outcome torusmem_network(const uint8_t *network, size_t network_length, uint8_t *out, size_t out_length)
+    TORUSMEM_RESULT;
 
 /* Kinds of events. */
 enum { TORUSMEM_ISSUE = 0, TORUSMEM_ANSWER = 1 };
@@ -341,7 +370,8 @@ typedef struct torusmem_event {
    doesn't go with its operation; F5: the operation is answered already; F6: its processor has no such operation yet;
    F7: its address is not below opening_length; F8: its processor is not below 4096. F12 is out of memory, with 0. */
 torusmem_outcome torusmem_linearize(const uint64_t *opening, size_t opening_length, const torusmem_event *events,
-                                    size_t events_length, uint64_t configurations, uint64_t *out, size_t out_length);
+                                    size_t events_length, uint64_t configurations, uint64_t *out, size_t out_length)
+    TORUSMEM_RESULT;
 
 /* A watch of a trace that goes on: what torusmem_linearize judges at the end, it judges at each event, so that a host
    checks itself while it runs. Its memory follows the operations that are open, and not the length of the trace. Room
@@ -354,14 +384,15 @@ typedef struct torusmem_watch {
 
 /* Begins a watch of a trace, before its first event, over a memory that opens with these words. Each address is below
    opening_length. OK; FULL; FAULT_MEMORY. On anything but OK, *w is as it was. The words may go after the call. */
-torusmem_outcome torusmem_watch_begin(torusmem_watch *w, const uint64_t *opening, size_t opening_length);
+torusmem_outcome torusmem_watch_begin(torusmem_watch *w, const uint64_t *opening, size_t opening_length)
+    TORUSMEM_RESULT;
 
 /* Takes the next event, the issue of an operation, TORUSMEM_LOAD .. TORUSMEM_MIN with its values as in a
    torusmem_event. number: any that is above the numbers of all operations that were issued before; its answer names it.
    OK: the event is taken. Else it isn't, and the watch goes on as if it had not been given:
    NONE: there is no such operation or address, or the number isn't above the last one; FAULT_MEMORY; EMPTY. */
 torusmem_outcome torusmem_watch_issue(torusmem_watch *w, uint64_t number, uint32_t operation, uint32_t address,
-                                      uint64_t first, uint64_t second);
+                                      uint64_t first, uint64_t second) TORUSMEM_RESULT;
 
 /* Takes the next event, the answer to the operation of a number: has_old is 1 for an old word, 0 for `ok`, that of a
    store. configurations: how many of its word are looked at, at once; 1000000 is what the program takes.
@@ -371,7 +402,7 @@ torusmem_outcome torusmem_watch_issue(torusmem_watch *w, uint64_t number, uint32
    TOO_MANY: it isn't decided, since its word has more configurations; FAULT_MEMORY.
    NONE: no operation of this number is open, or has_old is neither 0 nor 1; EMPTY. */
 torusmem_outcome torusmem_watch_answer(torusmem_watch *w, uint64_t number, uint32_t has_old, uint64_t old,
-                                       uint64_t configurations);
+                                       uint64_t configurations) TORUSMEM_RESULT;
 
 /* Ends the watch that *w holds, if any, and gives its memory back. It may be begun again then. */
 void torusmem_watch_end(torusmem_watch *w);
@@ -383,6 +414,7 @@ static inline const uint8_t *torusmem_text_at(const uint8_t *at, size_t length) 
   return length > 0 ? at : &none;
 }
 
+TORUSMEM_RESULT
 static inline torusmem_outcome torusmem_load_texts(torusmem_machine *m, const uint8_t *machine, size_t machine_length,
                                                    const uint8_t *scripts, size_t scripts_length) {
   return torusmem_load(m, torusmem_text_at(machine, machine_length), machine_length,
@@ -390,6 +422,7 @@ static inline torusmem_outcome torusmem_load_texts(torusmem_machine *m, const ui
 }
 #define torusmem_load torusmem_load_texts
 
+TORUSMEM_RESULT
 static inline torusmem_explanation torusmem_explain_texts(const uint8_t *machine, size_t machine_length,
                                                           const uint8_t *scripts, size_t scripts_length, uint8_t *out,
                                                           size_t out_length) {
@@ -407,12 +440,14 @@ static inline torusmem_outcome torusmem_run_all(torusmem_machine *m, const torus
 }
 #define torusmem_run torusmem_run_all
 
+TORUSMEM_RESULT
 static inline torusmem_outcome torusmem_rows_into(torusmem_machine *m, uint64_t *out, size_t out_length) {
   uint64_t none = 0;
   return torusmem_rows(m, out_length > 0 ? out : &none, out_length);
 }
 #define torusmem_rows torusmem_rows_into
 
+TORUSMEM_RESULT
 static inline torusmem_outcome torusmem_spins_out_into(torusmem_machine *m, const uint8_t *machine,
                                                        size_t machine_length, const uint8_t *scripts,
                                                        size_t scripts_length, torusmem_spin *out, size_t out_length) {
@@ -423,17 +458,20 @@ static inline torusmem_outcome torusmem_spins_out_into(torusmem_machine *m, cons
 }
 #define torusmem_spins_out torusmem_spins_out_into
 
+TORUSMEM_RESULT
 static inline torusmem_outcome torusmem_report_into(torusmem_machine *m, uint8_t *out, size_t out_length) {
   uint8_t none = 0;
   return torusmem_report(m, out_length > 0 ? out : &none, out_length);
 }
 #define torusmem_report torusmem_report_into
 
+TORUSMEM_RESULT
 static inline torusmem_outcome torusmem_check_text(const uint8_t *report, size_t report_length) {
   return torusmem_check(torusmem_text_at(report, report_length), report_length);
 }
 #define torusmem_check torusmem_check_text
 
+TORUSMEM_RESULT
 static inline torusmem_outcome torusmem_network_text(const uint8_t *network, size_t network_length, uint8_t *out,
                                                      size_t out_length) {
   uint8_t none = 0;
@@ -442,6 +480,7 @@ static inline torusmem_outcome torusmem_network_text(const uint8_t *network, siz
 }
 #define torusmem_network torusmem_network_text
 
+TORUSMEM_RESULT
 static inline torusmem_outcome torusmem_linearize_events(const uint64_t *opening, size_t opening_length,
                                                          const torusmem_event *events, size_t events_length,
                                                          uint64_t configurations, uint64_t *out, size_t out_length) {
@@ -453,6 +492,7 @@ static inline torusmem_outcome torusmem_linearize_events(const uint64_t *opening
 }
 #define torusmem_linearize torusmem_linearize_events
 
+TORUSMEM_RESULT
 static inline torusmem_outcome torusmem_watch_begin_at(torusmem_watch *w, const uint64_t *opening,
                                                        size_t opening_length) {
   static const uint64_t none = 0;
@@ -460,6 +500,7 @@ static inline torusmem_outcome torusmem_watch_begin_at(torusmem_watch *w, const 
 }
 #define torusmem_watch_begin torusmem_watch_begin_at
 
+TORUSMEM_RESULT
 static inline torusmem_outcome torusmem_route_into(torusmem_machine *m, uint32_t src, uint32_t dst, uint32_t reply,
                                                    torusmem_channel *out, size_t out_length) {
   torusmem_channel none = { 0, 0, 0, 0, 0, 0 };

@@ -8,15 +8,11 @@
 //
 // In SystemC, Signal is sc_signal, In and Out are sc_in and sc_out, Module is sc_module with a method sensitive to the
 // clock, and Clock is the kernel; in gem5, Memory is a ClockedObject whose tick() is edge().
-#include <cstdint>
 #include <fstream>
 #include <iostream>
 #include <iterator>
 #include <memory>
-#include <stdexcept>
-#include <string>
-#include <vector>
-#include "torusmem.h"
+#include "torusmem.hpp"
 
 namespace {
 
@@ -94,47 +90,34 @@ class Out {
 
 // The machine as a module.
 
-uint64_t granted(torusmem_outcome said) {
-  if (said.code != TORUSMEM_OK)
-    throw std::runtime_error("code " + std::to_string(said.code) + ", value " + std::to_string(said.value));
-  return said.value;
-}
-
-const uint8_t *bytes_of(const std::string &text) { return reinterpret_cast<const uint8_t *>(text.data()); }
-
 class Memory : public Module {
  public:
   std::vector<In<bool>> enable;                            // of each tile: whether it is clocked at this edge
   std::vector<Out<std::vector<torusmem_answer>>> answers;  // of each processor: what it was answered at the last edge
   Out<bool> finished;                                      // whether every script is finished
 
-  Memory(const std::string &machine, const std::string &scripts) {
-    granted(torusmem_load(&held_, bytes_of(machine), machine.size(), bytes_of(scripts), scripts.size()));
-    uint32_t tiles = static_cast<uint32_t>(granted(torusmem_tiles(&held_))), ports = 0;
-    while (torusmem_next(&held_, 0, ports, 0).code == TORUSMEM_OK) ports++;
+  Memory(const std::string &machine, const std::string &scripts) : machine_(machine, scripts) {
+    uint32_t tiles = machine_.tiles(), ports = machine_.ports();
     for (uint32_t tile = 0; tile < tiles; tile++) turns_.push_back(turn(tile, ports));
     enable.resize(tiles);
     answers.resize(tiles);
     told_.resize(tiles);
   }
-  Memory(const Memory &) = delete;
-  Memory &operator=(const Memory &) = delete;
-  ~Memory() override { torusmem_free(&held_); }
 
   uint32_t tiles() const { return static_cast<uint32_t>(turns_.size()); }
 
   void edge() override {
     for (uint32_t tile = 0; tile < tiles(); tile++)
-      if (enable[tile].read()) granted(torusmem_run(&held_, turns_[tile].data(), turns_[tile].size()));
-    for (uint32_t tile = 0; tile < tiles(); tile++) answers[tile].write(new_answers(tile));
-    finished.write(granted(torusmem_finished(&held_)) == 1);
+      if (enable[tile].read()) machine_.run(turns_[tile]);
+    for (uint32_t tile = 0; tile < tiles(); tile++) {
+      std::vector<torusmem_answer> found = machine_.answers(tile, told_[tile]);
+      told_[tile] += static_cast<uint32_t>(found.size());
+      answers[tile].write(found);
+    }
+    finished.write(machine_.finished());
   }
 
-  std::string report() {
-    std::string text(torusmem_report(&held_, nullptr, 0).value, ' ');
-    granted(torusmem_report(&held_, reinterpret_cast<uint8_t *>(&text[0]), text.size()));
-    return text;
-  }
+  std::string report() { return machine_.report(); }
 
  private:
   // The choices of a tile's agents, in the order of a round.
@@ -149,18 +132,9 @@ class Memory : public Module {
     return made;
   }
 
-  // The answers of a processor that were not told yet.
-  std::vector<torusmem_answer> new_answers(uint32_t processor) {
-    std::vector<torusmem_answer> found;
-    uint32_t count = static_cast<uint32_t>(granted(torusmem_answers(&held_, processor)));
-    for (; told_[processor] < count; told_[processor]++)
-      found.push_back(torusmem_answer_at(&held_, processor, told_[processor]));
-    return found;
-  }
-
-  torusmem_machine held_ = TORUSMEM_MACHINE_INIT;
+  torusmem::machine machine_;
   std::vector<std::vector<torusmem_attempt>> turns_;
-  std::vector<uint32_t> told_;
+  std::vector<uint32_t> told_;  // how many answers of each processor were shown
 };
 
 // What drives the inputs, and what watches the outputs.
@@ -247,7 +221,7 @@ int main(int count, char **words) try {
   clock.tick();  // the probe sees the last answers
 
   std::string report = memory.report();
-  granted(torusmem_check(bytes_of(report), report.size()));
+  torusmem::check(report);
   std::cerr << cycles << " cycles, " << probe.count() << " answers, the last in cycle " << probe.last() - start + 1 << "\n";
   std::cout << report << std::flush;
   if (!std::cout) throw std::runtime_error("output failed");

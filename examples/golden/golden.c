@@ -58,12 +58,9 @@ static bool read_number(const char *word, uint64_t *number) {
 
 /* Says what a call refused; true if it was granted. */
 static bool granted(const char *call, torusmem_outcome said) {
-  if (said.code == TORUSMEM_OK) return true;
-  if (said.code < TORUSMEM_BAD_REPORT)
-    fprintf(stderr, "%s: fault F%" PRIu32 " at line %" PRIu64 "\n", call, said.code, said.value);
-  else
-    fprintf(stderr, "%s: code %" PRIu32 ", value %" PRIu64 "\n", call, said.code, said.value);
-  return false;
+  if (said.code != TORUSMEM_OK)
+    fprintf(stderr, "%s: %s (code %" PRIu32 ", value %" PRIu64 ")\n", call, torusmem_code_text(said.code), said.code, said.value);
+  return said.code == TORUSMEM_OK;
 }
 
 /* How many inputs a router has: there is no next channel for a packet that came by one more. */
@@ -101,8 +98,7 @@ static bool drive(torusmem_machine *m, uint64_t seed) {
 
 /* Prints the report, once it is found good. */
 static bool print_report(torusmem_machine *m) {
-  uint8_t none = 0;
-  size_t length = (size_t)torusmem_report(m, &none, 0).value;
+  size_t length = (size_t)torusmem_report(m, NULL, 0).value;
   uint8_t *report = malloc(length + 1);
   bool is_good = report && granted("report", torusmem_report(m, report, length)) &&
                  granted("check", torusmem_check(report, length));

@@ -54,10 +54,9 @@ typedef struct runtime {
 
 /* Says what a call refused; true if it was granted. */
 static bool granted(const char *call, torusmem_outcome said) {
-  if (said.code == TORUSMEM_OK) return true;
-  const char *kind = said.code < TORUSMEM_BAD_REPORT ? "fault F" : "code ";
-  fprintf(stderr, "%s: %s%" PRIu32 ", value %" PRIu64 "\n", call, kind, said.code, said.value);
-  return false;
+  if (said.code != TORUSMEM_OK)
+    fprintf(stderr, "%s: %s (code %" PRIu32 ", value %" PRIu64 ")\n", call, torusmem_code_text(said.code), said.code, said.value);
+  return said.code == TORUSMEM_OK;
 }
 
 /* Says what, of which processor or address, isn't what it is in the plain memory or should be; true if it is. */

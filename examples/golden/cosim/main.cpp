@@ -58,6 +58,11 @@ struct Shape {
   }
 };
 
+// Reads the machine's row into a list that has its length.
+void read_row(torusmem_machine *m, std::vector<uint64_t> &row) {
+  if (torusmem_rows(m, row.data(), row.size()).code != TORUSMEM_OK) std::abort();
+}
+
 Step drawn(Numbers &numbers, const Shape &shape) {
   uint32_t agent = numbers.below(3 * shape.tiles);
   uint32_t choices = agent % 3 == 0 ? 5 : agent % 3 == 1 ? 3 : 4;
@@ -97,13 +102,13 @@ struct Tested {
 // Makes drawn steps till every script is finished; false at the first step that a router makes otherwise.
 bool run(torusmem_machine *m, const Shape &shape, std::vector<Tested> &tested, Numbers numbers) {
   std::vector<uint64_t> row(torusmem_rows(m, nullptr, 0).value), after;
-  torusmem_rows(m, row.data(), row.size());
+  read_row(m, row);
   after = row;
   std::vector<uint64_t> verilog;
   for (uint64_t draws = 0; torusmem_finished(m).value == 0; draws++) {
     Step step = drawn(numbers, shape);
     bool moved = made(m, step).value == 1;
-    if (moved) torusmem_rows(m, after.data(), after.size());
+    if (moved) read_row(m, after);
     Tested &it = tested[step.agent / 3];
     if (step.agent % 3 == 1 && it.router) {
       verilog = row;

@@ -7,6 +7,7 @@
 // reports it for the processor (`done`, `look`), since a tile has no done word.
 #include <cinttypes>
 #include <cstdio>
+#include <cstdlib>
 #include <cstring>
 #include <fstream>
 #include <iterator>
@@ -193,7 +194,7 @@ class Bench {
   }
 
   bool is_same_row() {
-    torusmem_rows(m_, row_.data(), row_.size());
+    if (torusmem_rows(m_, row_.data(), row_.size()).code != TORUSMEM_OK) std::abort();
     for (size_t at = 0; at < row_.size(); at++) {
       size_t address = at - places_;
       uint64_t here = at < places_ ? bits(verilog_.row, 64 * at, 64) :

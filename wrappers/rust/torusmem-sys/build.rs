@@ -1,6 +1,6 @@
 //! Links the static library of torusmem: the file that TORUSMEM_LIB names, or crates/torusmem_c/out/libtorusmem_c.a
-//! of this repository, or else the one that is installed, as pkg-config tells it. The memory that it asks for comes from
-//! include/torusmem_heap.c, which `cc` compiles; one that is installed has it already.
+//! of this repository, or else the one that is installed, as pkg-config tells it. Its memory and its words are those of
+//! include/torusmem_heap.c and torusmem_text.c, which `cc` compiles; one that is installed has them already.
 use std::path::{Path, PathBuf};
 use std::process::Command;
 use std::{env, fs};
@@ -14,11 +14,12 @@ fn main() {
         None if built.exists() => built,
         None => installed().unwrap_or(built),
     };
-    let heap = root.join("include/torusmem_heap.c");
+    let include = root.join("include");
+    let heap = include.join("torusmem_heap.c");
     for variable in ["TORUSMEM_LIB", "CC", "PKG_CONFIG_PATH"] {
         println!("cargo:rerun-if-env-changed={variable}");
     }
-    for file in [&library, &heap].into_iter().filter(|it| it.exists()) {
+    for file in [&library, &include].into_iter().filter(|it| it.exists()) {
         println!("cargo:rerun-if-changed={}", file.display());
     }
     if let Err(error) = fs::copy(&library, out.join("libtorusmem_c.a")) {
@@ -30,12 +31,16 @@ fn main() {
     println!("cargo:rustc-link-search=native={}", out.display());
     println!("cargo:rustc-link-lib=static=torusmem_c");
     if heap.exists() {
-        let object = out.join("torusmem_heap.o");
-        run(Command::new(env::var_os("CC").unwrap_or("cc".into()))
-            .args(["-O2", "-fPIC", "-c", "-o"])
-            .arg(&object)
-            .arg(&heap));
-        run(Command::new("ar").arg("crs").arg(out.join("libtorusmem_heap.a")).arg(&object));
+        let mut archive = Command::new("ar");
+        archive.arg("crs").arg(out.join("libtorusmem_heap.a"));
+        for name in ["torusmem_heap", "torusmem_text"] {
+            let object = out.join(name).with_extension("o");
+            let mut compiler = Command::new(env::var_os("CC").unwrap_or("cc".into()));
+            compiler.args(["-O2", "-fPIC", "-I"]).arg(&include).args(["-c", "-o"]).arg(&object);
+            run(compiler.arg(include.join(name).with_extension("c")));
+            archive.arg(&object);
+        }
+        run(&mut archive);
         println!("cargo:rustc-link-lib=static=torusmem_heap");
     }
 }

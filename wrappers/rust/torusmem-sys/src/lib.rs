@@ -3,7 +3,7 @@
 #![no_std]
 #![allow(non_camel_case_types)]
 
-use core::ffi::c_void;
+use core::ffi::{c_char, c_void};
 
 /// A machine: `TORUSMEM_MACHINE_INIT` before the first call, then changed by calls alone. It may be moved.
 #[repr(C)]
@@ -32,7 +32,20 @@ pub struct torusmem_outcome {
 }
 
 pub const TORUSMEM_OK: u32 = 0;
+pub const TORUSMEM_FAULT_RADIX: u32 = 1;
+pub const TORUSMEM_FAULT_DIMENSIONS: u32 = 2;
+pub const TORUSMEM_FAULT_TILES: u32 = 3;
+pub const TORUSMEM_FAULT_LINE: u32 = 4;
+pub const TORUSMEM_FAULT_SETTING: u32 = 5;
+pub const TORUSMEM_FAULT_RANGE: u32 = 6;
+pub const TORUSMEM_FAULT_ADDRESS: u32 = 7;
+pub const TORUSMEM_FAULT_PROCESSOR: u32 = 8;
+pub const TORUSMEM_FAULT_LENGTH: u32 = 9;
+pub const TORUSMEM_FAULT_LAST: u32 = 10;
+pub const TORUSMEM_FAULT_STEP: u32 = 11;
 pub const TORUSMEM_FAULT_MEMORY: u32 = 12;
+pub const TORUSMEM_FAULT_COUNT: u32 = 13;
+pub const TORUSMEM_FAULT_DATELINE: u32 = 14;
 pub const TORUSMEM_BAD_REPORT: u32 = 15;
 pub const TORUSMEM_EMPTY: u32 = 16;
 pub const TORUSMEM_FULL: u32 = 17;
@@ -176,6 +189,8 @@ pub struct torusmem_explanation {
 }
 
 extern "C" {
+    pub fn torusmem_version() -> *const c_char;
+    pub fn torusmem_code_text(code: u32) -> *const c_char;
     pub fn torusmem_load(
         m: *mut torusmem_machine,
         machine: *const u8,

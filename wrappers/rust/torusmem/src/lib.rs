@@ -48,8 +48,8 @@ pub enum Fault {
 impl fmt::Display for Fault {
     fn fmt(&self, f: &mut fmt::Formatter) -> fmt::Result {
         match self {
-            Fault::Text { fault, line } => write!(f, "fault F{fault} at line {line}"),
-            Fault::Memory => write!(f, "fault F12 at line 0"),
+            Fault::Text { fault, line } => write!(f, "fault F{fault} at line {line}: {}", code_text(*fault)),
+            Fault::Memory => write!(f, "fault F12: {}", code_text(sys::TORUSMEM_FAULT_MEMORY)),
             Fault::Report { line } => write!(f, "bad report at line {line}"),
         }
     }
@@ -251,9 +251,9 @@ pub struct Channel {
     pub number: u32,
 }
 
-/// A machine: its tiles, their channels, and the memory. It stays on its thread, and isn't shared:
+/// A machine: its tiles, their channels, and the memory. It may go from thread to thread, and isn't shared:
 ///
-/// ```compile_fail,E0277
+/// ```
 /// fn sent<T: Send>() {}
 /// sent::<torusmem::Machine>();
 /// ```
@@ -430,6 +430,20 @@ impl Machine {
     pub fn next(&mut self, at: u32, input: u32, to: u32) -> Option<u32> {
         found(self.raw.next(at, input, to)).map(|output| output as u32)
     }
+}
+
+/// What a code of include/torusmem.h says, as that of a fault: 7 for F7.
+///
+/// ```
+/// assert_eq!(torusmem::code_text(7), "an address is not below the number of words");
+/// ```
+pub fn code_text(code: u32) -> &'static str {
+    raw::code_text(code)
+}
+
+/// The version of the library beneath.
+pub fn version() -> &'static str {
+    raw::version()
 }
 
 /// Whether a text is a good report. A good one replays on one memory, whichever machine wrote it.

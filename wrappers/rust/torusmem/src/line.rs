@@ -99,11 +99,11 @@ fn refused(said: sys::torusmem_outcome) -> Result<u64, Refused> {
         sys::TORUSMEM_OK => return Ok(said.value),
         sys::TORUSMEM_NONE => Refused::NoOperation,
         sys::TORUSMEM_BEHIND_SPIN => Refused::BehindSpin,
-        8 => Refused::Processor,
-        7 => Refused::Address,
-        6 => Refused::Loads,
-        10 => Refused::Last,
-        9 => Refused::Length,
+        sys::TORUSMEM_FAULT_PROCESSOR => Refused::Processor,
+        sys::TORUSMEM_FAULT_ADDRESS => Refused::Address,
+        sys::TORUSMEM_FAULT_RANGE => Refused::Loads,
+        sys::TORUSMEM_FAULT_LAST => Refused::Last,
+        sys::TORUSMEM_FAULT_LENGTH => Refused::Length,
         _ => Refused::Memory,
     })
 }

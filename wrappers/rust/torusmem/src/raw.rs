@@ -1,15 +1,19 @@
 //! The calls of the C library, one method each. All that is unsafe stands here.
 //!
 //! What a caller owes is what include/torusmem.h says: a machine that began as zeros, was changed by calls alone, isn't
-//! doubled, goes to one call at a time, and stays on one thread; and for each pointer as much behind it as the length
-//! says, where what is written is nobody else's and what is read may overlap. So it is with a watch. Each is a private
-//! field behind a `&mut`, and has a raw pointer, so that it is neither `Send` nor `Sync`; pointers with their lengths come
-//! from slices.
+//! doubled, and goes to one call at a time, each after the one before it; and for each pointer as much behind it as the
+//! length says, where what is written is nobody else's and what is read may overlap. So it is with a watch. Each is a
+//! private field behind a `&mut`, so that it is nobody else's during a call; pointers with their lengths come from slices.
 //! The library's own calls, which these are, take no null pointer. That of an empty slice becomes one to a byte, or a
 //! channel, that is there, as in the header.
+use std::ffi::{c_char, CStr};
 use torusmem_sys::*;
 
 pub struct Raw(torusmem_machine);
+
+// SAFETY: calls may come from any thread, one after the other, as include/torusmem.h says: what a machine holds is its
+// own, and the library has no static data.
+unsafe impl Send for Raw {}
 
 /// The pointer of a slice; of an empty one that of a byte.
 fn text_at(text: &[u8]) -> *const u8 {
@@ -141,6 +145,22 @@ impl Raw {
     }
 }
 
+/// A text that the library keeps for good.
+fn kept_text(text: *const c_char) -> &'static str {
+    // SAFETY: the library's texts are constants in ASCII that end with a zero.
+    unsafe { CStr::from_ptr(text) }.to_str().unwrap_or("")
+}
+
+pub fn version() -> &'static str {
+    // SAFETY: the call takes nothing.
+    kept_text(unsafe { torusmem_version() })
+}
+
+pub fn code_text(code: u32) -> &'static str {
+    // SAFETY: the code may be any number.
+    kept_text(unsafe { torusmem_code_text(code) })
+}
+
 pub fn check(report: &[u8]) -> torusmem_outcome {
     // SAFETY: the slice has as many bytes as it says. There is no machine.
     unsafe { torusmem_check(text_at(report), report.len()) }
@@ -167,6 +187,9 @@ pub fn linearize(opening: &[u64], events: &[torusmem_event], configurations: u64
 }
 
 pub struct RawWatch(torusmem_watch);
+
+// SAFETY: as of a machine.
+unsafe impl Send for RawWatch {}
 
 impl Drop for RawWatch {
     fn drop(&mut self) {

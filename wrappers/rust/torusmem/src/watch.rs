@@ -49,11 +49,16 @@ impl Error for NotTaken {}
 /// # Ok::<(), NotTaken>(())
 /// ```
 ///
-/// It stays on its thread, and isn't shared:
+/// It may go from thread to thread, and isn't shared:
 ///
-/// ```compile_fail,E0277
+/// ```
 /// fn sent<T: Send>() {}
 /// sent::<torusmem::Watch>();
+/// ```
+///
+/// ```compile_fail,E0277
+/// fn shared<T: Sync>() {}
+/// shared::<torusmem::Watch>();
 /// ```
 pub struct Watch {
     raw: RawWatch,

@@ -271,7 +271,7 @@ fn faults_of_texts() {
     assert_eq!(refused(b"", b""), Fault::Text { fault: 5, line: 1 });
     assert_eq!(refused(b"radix 2\n", b""), Fault::Text { fault: 5, line: 2 });
     assert_eq!(refused(&machine, b"0 load 8\n"), Fault::Text { fault: 7, line: 1 });
-    assert_eq!(refused(&machine, b"\n0 jump 1\n").to_string(), "fault F4 at line 2");
+    assert_eq!(refused(&machine, b"\n0 jump 1\n").to_string(), "fault F4 at line 2: a line is not understood");
     assert!(Machine::load(&machine, b"").is_ok_and(|mut machine| machine.finished()));
 }
 
@@ -507,4 +507,11 @@ fn machines_of_many_threads_share_nothing() {
     let reports: Vec<_> = threads.into_iter().map(|it| it.join().expect("the thread ends")).collect();
     assert!(reports.iter().all(|it| it[0] == read("examples/report.txt") && it[1] == reports[0][1]));
     assert_eq!(check(&reports[0][1]), Ok(()));
+}
+
+#[test]
+fn a_machine_goes_from_thread_to_thread() {
+    let mut machine = thread::spawn(first).join().expect("it is loaded in one thread");
+    let (rounds, mut machine) = thread::spawn(move || (machine.finish(), machine)).join().expect("run in another");
+    assert_eq!((rounds, machine.report()), (12, Ok(read("examples/report.txt"))));
 }
