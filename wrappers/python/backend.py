@@ -17,7 +17,7 @@ import zipfile
 from typing import Any, Dict, Optional, Union
 
 HERE = os.path.dirname(os.path.realpath(__file__))
-FILES = ["torusmem/__init__.py", "torusmem/_library.py", "torusmem/py.typed"]
+FILES = [f"torusmem/{it}" for it in sorted(os.listdir(os.path.join(HERE, "torusmem"))) if it.endswith((".py", ".typed"))]
 LICENSES = ["LICENSE-APACHE", "LICENSE-MIT"]
 # A zip has no earlier time.
 EPOCH = max(int(os.environ.get("SOURCE_DATE_EPOCH") or 0), 315532800)

@@ -5,6 +5,7 @@ from __future__ import annotations
 import copy
 import doctest
 import gc
+import importlib.util
 import os
 import pickle
 import re
@@ -15,7 +16,7 @@ import warnings
 import torusmem
 from torusmem import Answer, Answered, BadReport, Channel, Choice, Closed, Cycle, Entry, EventFault, Fill, Issued, Kind
 from torusmem import Linearizable, Link, Machine, NoRoute, NotLinearizable, Operation, Rising, Spin, TextFault
-from torusmem import TooMany, Undecided, Watch, WrongThread, linearize, network
+from torusmem import Steps, TooMany, Undecided, Watch, linearize, network
 
 ROOT = os.path.dirname(os.path.dirname(os.path.dirname(os.path.dirname(os.path.realpath(__file__)))))
 EXAMPLES = os.path.join(ROOT, "examples")
@@ -33,6 +34,27 @@ def path(name):
 
 def first():
     return Machine(read("machine.txt"), read("script.txt"))
+
+
+def in_threads(works, at_once=True):
+    """Runs functions in threads of their own, at once or one after the other; what one raises is raised here."""
+    failed = []
+
+    def guarded(work):
+        try:
+            work()
+        except BaseException as why:
+            failed.append(why)
+
+    threads = [threading.Thread(target=guarded, args=(work,)) for work in works]
+    for thread in threads:
+        thread.start()
+        if not at_once:
+            thread.join()
+    for thread in threads:
+        thread.join()
+    for why in failed:
+        raise why
 
 
 def steps(name):
@@ -443,21 +465,19 @@ class Watches(unittest.TestCase):
                 self.assertTrue(watch.answer(watch.issue(Operation[name], 0, *values), old), name)
                 self.assertTrue(watch.answer(watch.issue(Operation.LOAD, 0), left), name)
 
-    def test_a_watch_stays_in_its_thread(self):
-        watch, seen = Watch([0]), []
+    def test_a_watch_goes_from_thread_to_thread(self):
+        watch = Watch([0])
 
         def elsewhere():
-            for call in (watch.close, lambda: watch.issue(Operation.LOAD, 0), lambda: watch.answer(0, 0)):
-                try:
-                    seen.append(call())
-                except WrongThread as why:
-                    seen.append(type(why))
+            for _ in range(50):
+                number = watch.issue(Operation.ADD, 0, 0)
+                taken.append(watch.answer(number, 0))
 
-        thread = threading.Thread(target=elsewhere)
-        thread.start()
-        thread.join()
-        self.assertEqual(seen, [WrongThread] * 3)
-        self.assertTrue(watch.answer(watch.issue(Operation.LOAD, 0), 0))
+        taken = []
+        in_threads([elsewhere] * 4)
+        self.assertEqual(taken, [True] * 200)
+        in_threads([watch.close])
+        self.assertTrue(watch.closed)
 
     def test_a_long_trace_takes_no_more_memory(self):
         with Watch([0]) as watch:
@@ -469,31 +489,30 @@ class Watches(unittest.TestCase):
 
 
 class Threads(unittest.TestCase):
-    def test_a_machine_stays_in_its_thread(self):
-        machine, seen = first(), []
+    def test_a_machine_goes_from_thread_to_thread(self):
+        made, rounds = [], []
+        in_threads([lambda: made.append(first())])
+        in_threads([lambda: rounds.append(made[0].finish())])
+        in_threads([lambda: self.assertEqual(made[0].report(), read("report.txt")), lambda: made[0].close()], False)
+        self.assertEqual((rounds, made[0].closed), ([12], True))
 
-        def elsewhere():
-            looks = (machine.round, machine.report, machine.close, lambda: machine.tiles)
-            for call in (*looks, lambda: machine.step(0, 0)):
-                try:
-                    seen.append(call())
-                except WrongThread as why:
-                    seen.append(type(why))
+    def test_a_machine_takes_one_call_at_a_time(self):
+        def run():
+            while not machine.finished:
+                moved.append(machine.run([(0, Choice.LOOK)]))
+                machine.round()
+                report = machine.report()
+                torusmem.check(report)
+                self.assertEqual(len(machine.row_array()), len(machine.row()))
 
-        thread = threading.Thread(target=elsewhere)
-        thread.start()
-        thread.join()
-        self.assertEqual(seen, [WrongThread] * 5)
-        self.assertEqual(machine.finish(), 12)
-
-    def test_a_later_thread_is_another_one(self):
-        made, seen = [], []
-        refused = lambda: self.assertRaises(WrongThread, made[0].round) or seen.append(1)
-        for work in (lambda: made.append(first()), refused):
-            thread = threading.Thread(target=work)
-            thread.start()
-            thread.join()
-        self.assertEqual(seen, [1])
+        moved = []
+        with Machine.read(path("flag/machine.txt"), path("flag/script.txt")) as machine:
+            in_threads([run] * 4)
+            ended = machine.report()
+        self.assertTrue(moved)
+        with Machine.read(path("flag/machine.txt"), path("flag/script.txt")) as machine:
+            machine.finish()
+            self.assertEqual(ended.split("\norder")[0].count("answer"), machine.report().count("answer"))
 
     def test_machines_of_many_threads_share_nothing(self):
         reports = []
@@ -505,11 +524,7 @@ class Threads(unittest.TestCase):
                     other.round()
                 reports.append((one.report(), other.report()))
 
-        threads = [threading.Thread(target=run) for _ in range(4)]
-        for thread in threads:
-            thread.start()
-        for thread in threads:
-            thread.join()
+        in_threads([run] * 4)
         self.assertEqual(len(reports), 4)
         self.assertEqual(len(set(reports)), 1)
         self.assertEqual(reports[0][0], read("report.txt"))
@@ -527,8 +542,9 @@ class Threads(unittest.TestCase):
 
 class Words(unittest.TestCase):
     def test_the_example_of_the_help(self):
-        found = doctest.testmod(torusmem)
-        self.assertEqual((found.failed, found.attempted > 0), (0, True))
+        for module in (torusmem, torusmem._judges, torusmem._watch):
+            found = doctest.testmod(module)
+            self.assertEqual((found.failed, found.attempted > 0), (0, True), module)
 
     def test_everything_public_says_what_it_is(self):
         for name in torusmem.__all__:
@@ -542,6 +558,9 @@ class Words(unittest.TestCase):
         with open(os.path.join(ROOT, "include", "torusmem.h"), encoding="ascii") as file:
             header = file.read()
         numbers = {name: int(number) for name, number in re.findall(r"TORUSMEM_([A-Z_]+) = (\d+)", header)}
+        faults = {int(number) for name, number in numbers.items() if name.startswith("FAULT_")}
+        numbers = {name: it for name, it in numbers.items() if not name.startswith("FAULT_") or name == "FAULT_MEMORY"}
+        self.assertEqual(faults, set(torusmem.REASONS))
         for names in (Choice, Operation, Kind):
             for it in names:
                 self.assertEqual(numbers.pop(it.name), it, it.name)
@@ -552,11 +571,55 @@ class Words(unittest.TestCase):
         names += ["FENCE", "SPIN", "FIRST_IS_LAST", "SECOND_IS_LAST"]
         codes = {name: getattr(library, name) for name in names}
         self.assertEqual(numbers, {**codes, "REQUEST": 0, "REPLY": 1})
-        calls = set(re.findall(r"(?m)^(?:void|torusmem_\w+) torusmem_(\w+)\(", header))
+        calls = set(re.findall(r"(?m)^(?:void|const char|torusmem_\w+) \*?torusmem_(\w+)\(", header))
         self.assertEqual(calls, set(library.CALLS))
         version = re.findall(r'TORUSMEM_VERSION "(.*)"', header)[0]
         self.assertEqual(version, torusmem.__version__)
         self.assertEqual(library.SONAME, "libtorusmem.so." + version.rpartition(".")[0])
+
+    def test_what_faults_say_is_what_the_library_says(self):
+        calls = torusmem._library.library()
+        said = {code: calls.code_text(code).decode("ascii") for code in range(1, 15)}
+        self.assertEqual(said, torusmem.REASONS)
+        self.assertEqual(calls.version().decode("ascii"), torusmem.__version__)
+
+
+class Arrays(unittest.TestCase):
+    def test_words_and_answers_are_buffers(self):
+        with Machine.read(path("flag/machine.txt"), path("flag/script.txt")) as machine:
+            before = machine.words_array()
+            machine.finish()
+            row, words = machine.row_array(), machine.words_array()
+            self.assertEqual((row.format, row.tolist(), words.tolist()), ("Q", machine.row(), machine.words()))
+            self.assertNotEqual(before.tolist(), words.tolist())
+            for tile in range(machine.tiles):
+                answers, entries = machine.answers_array(tile), machine.entries_array(tile, 1)
+                self.assertEqual([it.old if it.has_old else None for it in answers], [it.old for it in machine.answers(tile)])
+                self.assertEqual([it.index for it in answers], [it.index for it in machine.answers(tile)])
+                self.assertEqual([it.address for it in entries], [it.address for it in machine.entries(tile, 1)])
+                self.assertEqual(memoryview(answers).itemsize, 48)
+            self.assertEqual(len(machine.answers_array(0, 10**6)), 0)
+            self.assertRaises(IndexError, machine.answers_array, 64)
+
+    @unittest.skipUnless(importlib.util.find_spec("numpy"), "there is no numpy")
+    def test_numpy_takes_them_without_copying(self):
+        import numpy
+
+        with Machine.read(path("flag/machine.txt"), path("flag/script.txt")) as machine:
+            machine.finish()
+            words, answers = machine.words_array(), machine.answers_array(0)
+            of_words, of_answers = numpy.asarray(words), numpy.asarray(answers)
+            self.assertEqual((of_words.dtype, of_words.tolist()), (numpy.uint64, machine.words()))
+            words[0], answers[0].old = 77, 78
+            self.assertEqual((int(of_words[0]), int(of_answers["old"][0])), (77, 78))
+
+    def test_steps_are_pickled(self):
+        made = Steps(steps("steps.txt"))
+        for it in (pickle.loads(pickle.dumps(made)), copy.copy(made)):
+            with first() as machine:
+                self.assertEqual((len(it), machine.run(it)), (len(made), len(made)))
+                self.assertEqual(machine.report(), read("report.txt"))
+        self.assertEqual(len(pickle.loads(pickle.dumps(Steps([])))), 0)
 
 
 if __name__ == "__main__":

@@ -88,7 +88,7 @@ class Beside(unittest.TestCase):
         self.assertEqual(machine.row(), model.row)
         self.assertEqual(machine.finished, model.is_finished())
         for tile in range(model.shape.tiles):
-            answers = [(*it[:1], it[1].name.lower(), *it[2:]) for it in machine.answers(tile)]
+            answers = [(it.index, it.operation.name.lower(), it.values, it.bank, it.place, it.old) for it in machine.answers(tile)]
             self.assertEqual(answers, model.agents[3 * tile].answers)
             entries = [(*it[:3], it[3].name.lower(), *it[4:]) for it in machine.entries(tile)]
             self.assertEqual(entries, model.agents[3 * tile + 2].entries)

@@ -78,6 +78,8 @@ class Explanation(Structure):
 _M = POINTER(Held)
 # Each call: what it answers, and what it takes.
 CALLS = {
+    "version": (c_char_p, []),
+    "code_text": (c_char_p, [c_uint32]),
     "load": (Outcome, [_M, c_char_p, c_size_t, c_char_p, c_size_t]),
     "explain": (Explanation, [c_char_p, c_size_t, c_char_p, c_size_t, c_void_p, c_size_t]),
     "free": (None, [_M]),
@@ -141,7 +143,11 @@ def places() -> Iterator[str]:
 
 def loaded(path: str) -> Library:
     """The library of a file, or an OSError or AttributeError that says why there is none."""
-    return Library(ctypes.CDLL(path))
+    made = Library(ctypes.CDLL(path))
+    version = made.version().decode("ascii")
+    if not SONAME.endswith(f".so.{version.rpartition('.')[0]}"):
+        raise OSError(f"{path}: it is of version {version}, not one of {SONAME}")
+    return made
 
 
 def find() -> Library:

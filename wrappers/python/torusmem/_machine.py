@@ -1,0 +1,170 @@
+"""A machine."""
+
+from __future__ import annotations
+
+import os
+from operator import index as whole
+from typing import Any, Iterable, Optional, Sequence, Tuple, Union
+
+from . import _library
+from ._faults import REASONS, fault_of
+from ._kept import alone
+from ._looks import Looks
+from ._records import MOST, Path, Steps, Text, bytes_of, number_of
+
+
+# What a fault of a line speaks of.
+_SUBJECTS = {6: "{loads} loads: ", 7: "address {address}: ", 8: "processor {processor}: "}
+
+
+class Machine(Looks):
+    """A machine: its tiles, with a processor, a router and a bank each, their channels, and the memory.
+
+    Machine(machine_text, scripts_text) is loaded and hasn't moved yet; Machine.read(machine_file, scripts_file) reads
+    both from files. TextFault tells the first fault of the first bad text.
+
+    Any thread may call it: it takes one call at a time, and others wait. `with` or close() gives its memory back, and so
+    does dropping it.
+    """
+
+    _what, _letting_go = "machine", "free"
+
+    def __init__(self, machine: Text, scripts: Text = b"") -> None:
+        self._load(bytes_of(machine, "machine"), bytes_of(scripts, "scripts"), ("machine text", "scripts text"))
+
+    @classmethod
+    def read(cls, machine: Path, scripts: Path) -> Machine:
+        """The machine of two files. A fault names the file."""
+        texts = []
+        for path in (machine, scripts):
+            with open(path, "rb") as file:
+                texts.append(file.read())
+        made = cls.__new__(cls)
+        made._load(texts[0], texts[1], (os.fspath(machine), os.fspath(scripts)))
+        return made
+
+    def _load(self, machine: bytes, scripts: bytes, files: Tuple[str, str]) -> None:
+        self._begin()
+        self._step = self._calls.step
+        said = self._calls.load(self._at, machine, len(machine), scripts, len(scripts))
+        if said.code == _library.OK:
+            return
+        if said.code == _library.FAULT_MEMORY:
+            raise MemoryError(f"torusmem: {REASONS[12]} (F12)")
+        raise fault_of(self._calls, machine, scripts, files)
+
+    # Steps.
+
+    def step(self, agent: int, choice: int, number: int = 0) -> bool:
+        """Attempts one choice of one agent; whether it moved. What isn't enabled, or isn't there, changes nothing.
+
+        number: the router's input of TAKE_FROM and PUT, its output of CREDIT_OF; not looked at for other choices.
+        """
+        if not (0 <= agent <= MOST and 0 <= choice <= MOST and 0 <= number <= MOST):
+            agent, choice, number = number_of(agent, "agent"), number_of(choice, "choice"), number_of(number, "number")
+        with self._lock:
+            said = self._step(self._at, agent, choice, number)
+        if said.code:
+            self._refuse(said.code, "such step")
+        return bool(said.value == 1)
+
+    @alone
+    def enabled(self, agent: int, choice: int, number: int = 0) -> bool:
+        """Whether such a step would move now."""
+        words = number_of(agent, "agent"), number_of(choice, "choice"), number_of(number, "number")
+        return self._value(self._calls.enabled(self._at, *words)) == 1
+
+    @alone
+    def run(self, steps: Union[Steps, Iterable[Sequence[int]]]) -> int:
+        """Makes these steps, (agent, choice) or (agent, choice, number) each, in one call; how many of them moved. What is
+        made again and again is best made ready as Steps. Such a call ends, and can't be interrupted before."""
+        made = steps if isinstance(steps, Steps) else Steps(steps)
+        return self._value(self._calls.run(self._at, made._attempts, len(made)))
+
+    @alone
+    def round(self) -> None:
+        """Attempts each choice of each agent once."""
+        self._value(self._calls.round(self._at))
+
+    @alone
+    def finish(self) -> int:
+        """Makes rounds until every script is finished; how many. Such a call ends, and can't be interrupted before."""
+        return self._value(self._calls.finish(self._at))
+
+    @alone
+    def append(
+        self,
+        processor: int,
+        operation: int,
+        address: int = 0,
+        first: Optional[int] = 0,
+        second: Optional[int] = 0,
+    ) -> None:
+        """Gives a processor a further line at the end of its script, at any time: an Operation, FENCE or SPIN.
+
+        first: the value of a store, swap, add, and, or, xor, max or min; what a cas expects; what a spin waits for
+        second: what a cas writes; how many loads a spin may make, 1 to 4096
+
+        A value that is None is `last`, the number replied to the operation just before it. What the line doesn't have
+        isn't looked at. ValueError tells why the line is refused; the machine is as it was then.
+        """
+        self._given(self._calls.append, processor, operation, address, first, second)
+
+    @alone
+    def ask(
+        self,
+        processor: int,
+        operation: int,
+        address: int = 0,
+        first: Optional[int] = 0,
+        second: Optional[int] = 0,
+    ) -> int:
+        """Gives a processor an Operation, as append() does; its index among the operations of the processor, from 0 in the
+        order of issue: what the processor issues under this index, whenever it does, is what was asked.
+
+        ValueError tells why it is refused, as of append(); also where the script has a spin, since nobody can tell
+        beforehand how many loads that makes.
+        """
+        return self._given(self._calls.ask, processor, operation, address, first, second)
+
+    def _given(
+        self, call: Any, processor: int, operation: int, address: int, first: Optional[int], second: Optional[int]
+    ) -> int:
+        """What a call answers that gives a processor a line."""
+        words = number_of(processor, "processor"), number_of(operation, "operation"), number_of(address, "address")
+        values = [0 if it is None else whole(it) for it in (first, second)]
+        if not all(0 <= it < 2**64 for it in values):
+            raise ValueError("a value is a word of 64 bits")
+        lasts = (_library.FIRST_IS_LAST if first is None else 0) + (_library.SECOND_IS_LAST if second is None else 0)
+        said = call(self._at, *words, *values, lasts)
+        if said.code in REASONS and said.code != _library.FAULT_MEMORY:
+            named = _SUBJECTS.get(said.code, "").format(processor=words[0], address=words[2], loads=values[1])
+            raise ValueError(f"torusmem: {named}{REASONS[said.code]} (F{said.code})")
+        if said.code == _library.BEHIND_SPIN:
+            raise ValueError("torusmem: the script has a spin, and the index of what comes behind it isn't known")
+        return self._value(said, "such line")
+
+    @property
+    @alone
+    def finished(self) -> bool:
+        """Whether every script is finished."""
+        return self._value(self._calls.finished(self._at)) == 1
+
+    @property
+    @alone
+    def moves_left(self) -> int:
+        """How many moves any schedule can still make, at most."""
+        return self._value(self._calls.moves_left(self._at))
+
+    # Its end.
+
+    def close(self) -> None:
+        """Gives its memory back. A second time nothing happens."""
+        super().close()
+        self._row = None
+
+    def __repr__(self) -> str:
+        return f"<torusmem.Machine {'closed' if self.closed else 'of ' + str(self._size()) + ' tiles'}>"
+
+    def _size(self) -> Any:
+        return self._calls.tiles(self._at).value
