@@ -1,4 +1,4 @@
-/* library_words: what the library says of codes and of itself, as a C program sees it. Prints a line for each thing that
+/* library_words: what the library says of codes and of itself, and how many open operations a watch decides. Prints a line for each thing that
    is wrong. The words of F7 are those of docs/FORMATS.md; `checks/library` compares all of them with the sources. */
 #include <stdio.h>
 #include <string.h>
@@ -12,6 +12,18 @@ static void must(bool is_so, const char *what, int line) {
 #define MUST(is_so) must(is_so, #is_so, __LINE__)
 
 static bool is_text(const char *text, const char *wanted) { return text && strcmp(text, wanted) == 0; }
+
+/* What comes of the first answer to adds of 1 that are all open on one word. */
+static uint32_t first_answer(uint64_t count) {
+  static const uint64_t zero = 0;
+  torusmem_watch w = TORUSMEM_WATCH_INIT;
+  bool is_begun = torusmem_watch_begin(&w, &zero, 1).code == TORUSMEM_OK;
+  for (uint64_t at = 0; at < count; at++)
+    is_begun = is_begun && torusmem_watch_issue(&w, at, TORUSMEM_ADD, 0, 1, 0).code == TORUSMEM_OK;
+  uint32_t code = torusmem_watch_answer(&w, 0, 1, count - 1, 1000000).code;
+  torusmem_watch_end(&w);
+  return is_begun ? code : TORUSMEM_EMPTY;
+}
 
 int main(void) {
   static const char machine[] = "radix 2\ndims 1\ndepth 4\ntags 4\nwords 8\n", scripts[] = "0 load 8\n";
@@ -29,5 +41,6 @@ int main(void) {
   int first = 0, second = 0, third = 0;
   MUST(sscanf(torusmem_version(), "%d.%d.%d", &first, &second, &third) == 3);
   MUST(TORUSMEM_VERSION_NUMBER == 1000000 * first + 1000 * second + third);
+  MUST(first_answer(9) == TORUSMEM_OK && first_answer(10) == TORUSMEM_TOO_MANY);
   return wrongs == 0 ? 0 : 1;
 }

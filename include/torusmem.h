@@ -395,7 +395,8 @@ torusmem_outcome torusmem_watch_issue(torusmem_watch *w, uint64_t number, uint32
                                       uint64_t first, uint64_t second) TORUSMEM_RESULT;
 
 /* Takes the next event, the answer to the operation of a number: has_old is 1 for an old word, 0 for `ok`, that of a
-   store. configurations: how many of its word are looked at, at once; 1000000 is what the program takes.
+   store. configurations: how many of its word are looked at, at once; 1000000 is what the program takes. That is enough
+   while at most 9 operations are open on one word; of 10 adds of equal values it is not.
    OK: the event is taken, and one order explains the trace with it. Else it isn't taken, and the watch goes on as if it
    had not been given:
    NOT_LINEARIZABLE: with this event no order explains the trace any more, and without it one does.

@@ -63,7 +63,8 @@ class Watch(Kept):
     def answer(self, number: int, old: Optional[int] = None, configurations: int = 1_000_000) -> bool:
         """Takes the answer to the operation of a number, whose old word is None of a store; whether one order explains
         the trace with it. Where none does the answer isn't taken, and the watch goes on as if it had not been given; so
-        it is where more configurations of the word than these would be looked at, at once (TooMany)."""
+        it is where more configurations of the word than these would be looked at, at once (TooMany): with the default never
+        while at most 9 operations are open on one word."""
         has_old, word = (0, 0) if old is None else (1, word_of(old, "an old word"))
         told = word_of(number, "a number"), has_old, word, word_of(configurations, "configurations")
         return self._taken(self._calls.watch_answer(self._at, *told), f"open operation {number}")
