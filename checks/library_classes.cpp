@@ -1,0 +1,77 @@
+// library_classes: the classes of torusmem.hpp over small texts; prints a line for each thing that is not so. It compiles
+// as C++11, with spans of its own, and as C++20, with those of the library.
+#include <cstdio>
+#include "torusmem.hpp"
+
+namespace {
+
+int wrongs = 0;
+
+void must(bool is_so, const char *what, int line) {
+  if (!is_so) wrongs += std::printf("line %d: not so: %s\n", line, what) > 0;
+}
+#define MUST(is_so) must(is_so, #is_so, __LINE__)
+
+const std::string shape = "radix 2\ndims 1\ndepth 4\ntags 4\nwords 8\n";
+
+// What a call throws: its code and its words.
+template <class Call>
+std::string thrown(uint32_t code, Call call) {
+  try {
+    call();
+  } catch (const torusmem::error &fault) {
+    return fault.code() == code ? fault.what() : "another code";
+  }
+  return "nothing";
+}
+
+void machines() {
+  torusmem::machine first(shape, "0 store 5 17\n0 fence\n0 load 5\n"), other(shape);
+  other = std::move(first);
+  torusmem::machine m(std::move(other));
+  std::vector<torusmem_attempt> steps = {{0, TORUSMEM_SEND, 0}, {1, TORUSMEM_TAKE_FROM, 8}, {1, TORUSMEM_TAKE_FROM, 8}};
+  MUST(m.run(steps) == 2 && m.finish() == 12 && m.finished() && m.word(5) == 17);
+  MUST(m.answers(0).size() == 2 && m.answers(0, 1).at(0).old == 17 && m.entries(1).size() == 2);
+  MUST(m.rows().size() == 24 * 4 + 8 + 1 && m.rows()[24 * 4 + 5] == 17 && m.ports() == 10);
+  MUST(m.route(0, 1).size() == 3 && m.next(0, 8, 1) < 10);
+  uint32_t index = m.ask(1, TORUSMEM_ADD, 5, 3);
+  torusmem_answer got;
+  MUST(!m.answered(1, index, got));
+  m.finish();
+  MUST(m.answered(1, index, got) && got.old == 17 && m.word(5) == 20);
+  torusmem::check(m.report());
+  MUST(thrown(TORUSMEM_NONE, [&] { m.word(8); }).find("word: there is no such") == 0);
+  MUST(thrown(TORUSMEM_FAULT_ADDRESS, [&] { m.append(0, TORUSMEM_LOAD, 8); }).find("append: an address is not below") == 0);
+  MUST(thrown(TORUSMEM_FAULT_ADDRESS, [] { torusmem::machine(shape, "0 load 8\n"); }) ==
+       "scripts:1: address 8: the machine has the words 0 to 7");
+  MUST(thrown(TORUSMEM_BAD_REPORT, [] { torusmem::check("torusmem 2\n"); }).find("check: a report breaks a rule") == 0);
+  MUST(thrown(TORUSMEM_EMPTY, [&] { other.round(); }).find("round: the handle holds no machine") == 0);
+}
+
+void judges() {
+  uint64_t opening[2] = {0, 0};
+  torusmem::watch w{torusmem::span<const uint64_t>(opening, 2)};
+  uint64_t store = w.issue(TORUSMEM_STORE, 1, 7), load = w.issue(TORUSMEM_LOAD, 1);
+  MUST(!w.answer(load, 8) && w.answer(load, 7) && w.stored(store));
+  std::vector<torusmem_event> events(2, torusmem_event());
+  events[0].operation = TORUSMEM_ADD;
+  events[0].first = 1;
+  events[1].kind = TORUSMEM_ANSWER;
+  events[1].has_old = 1;
+  torusmem::judged said = torusmem::linearize(std::vector<uint64_t>(1), events);
+  MUST(said.code == TORUSMEM_OK && said.order == std::vector<uint64_t>(1));
+  events[1].old = 9;
+  said = torusmem::linearize(std::vector<uint64_t>(1), events);
+  MUST(said.code == TORUSMEM_NOT_LINEARIZABLE && said.event == 1 && said.order.empty());
+  torusmem::verdict rises = torusmem::network("channels 3\ninject 0\neject 2\njoin 0 2\nnext 0 2 1\nnext 1 2 2\n");
+  MUST(rises.code == TORUSMEM_OK && rises.text.find("rising") != std::string::npos);
+  MUST(torusmem::network("channels 2\ninject 0\neject 1\njoin 0 1\n").code == TORUSMEM_NO_ROUTE);
+}
+
+}  // namespace
+
+int main() {
+  machines();
+  judges();
+  return wrongs == 0 ? 0 : 1;
+}
