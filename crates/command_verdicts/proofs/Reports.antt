@@ -10,7 +10,7 @@ use Rattle.report_check.specs.Good.{GoodReport}
 use Rattle.trace_laws.specs.declared.event.Call.{Call}
 use Rattle.trace_laws.specs.Orders.{IsOrder, IsLinearizable}
 use Rattle.trace_judge.specs.Stops.{IsCrowded}
-use Rattle.trace_text.specs.Findings.{AnswersMany}
+use Rattle.trace_text.specs.Findings.{AnswersPastBound}
 use Rattle.trace_text.specs.Traced.{TraceSpec, trace_of, opening_of}
 use Rattle.trace_answer.specs.declared.unfit.Unfit.{Unfit}
 use Rattle.trace_answer.specs.declared.unfit.Unfit.TheVariants.{Memory, Words, Processors, Indexes, Operations, Events}
@@ -85,7 +85,7 @@ refused lines bound t o line read h = (
 
 -- the trace isn't decided
 pub too_many : (lines : List (List ℕ)) (bound : ℕ) (t : TraceSpec) (o : Output) (line : ℕ) → trace_of lines ≡ Ok t
-    → ((k : ℕ) × (slice_get t.lines k ≡ Some line) × AnswersMany t bound k)
+    → ((k : ℕ) × (slice_get t.lines k ≡ Some line) × AnswersPastBound t bound k)
     → PrintsReport lines bound o o (Ok (TooMany line))
 too_many lines bound t o line read h =
     ([], record { trace = t; read = read; reported = (h.0, record { there = h.1; silent = refl }, h.2) }, took_nothing o)

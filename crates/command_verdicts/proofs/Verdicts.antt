@@ -4,7 +4,7 @@ use Rattle.std.specs.Prelude.{Ok}
 use Rattle.std.proofs.KnownBytes.{Appends-nil}
 use Rattle.trace_laws.specs.Orders.{IsLinearizable}
 use Rattle.trace_judge.specs.Stops.{IsCrowded}
-use Rattle.trace_text.specs.Findings.{AnswersMany}
+use Rattle.trace_text.specs.Findings.{AnswersPastBound}
 use Rattle.trace_text.specs.Traced.{TraceSpec, trace_of, opening_of}
 use Rattle.program_fault.specs.Done.{Output, TookAll}
 use Rattle.command_verdicts.specs.declared.command.Judged.TheVariants.{NotLinearizable, TooMany, TooOpen}
@@ -30,7 +30,7 @@ refused lines bound t o line read h = (
 
 -- the trace isn't decided
 pub too_many : (lines : List (List ℕ)) (bound : ℕ) (t : TraceSpec) (o : Output) (line : ℕ) → trace_of lines ≡ Ok t
-    → ((k : ℕ) × (slice_get t.lines k ≡ Some line) × AnswersMany t bound k)
+    → ((k : ℕ) × (slice_get t.lines k ≡ Some line) × AnswersPastBound t bound k)
     → PrintsOrder lines bound o o (Ok (TooMany line))
 too_many lines bound t o line read h =
     ([], record { trace = t; read = read; judged = (h.0, record { there = h.1; silent = refl }, h.2) }, took_nothing o)

@@ -3,7 +3,7 @@ use Rattle.std.specs.Prelude.{◌≡◌, ◌+◌, ℕ, List, [], Some, slice_get
 use Rattle.trace_laws.specs.declared.event.Call.{Call}
 use Rattle.trace_laws.specs.Orders.{IsOrder, IsLinearizable}
 use Rattle.trace_judge.specs.Stops.{IsCrowded}
-use Rattle.trace_text.specs.Findings.{AnswersMany}
+use Rattle.trace_text.specs.Findings.{AnswersPastBound}
 use Rattle.trace_text.specs.Traced.{TraceSpec, trace_of, opening_of}
 use Rattle.trace_answer.specs.Texts.{order_text}
 use Rattle.program_fault.specs.declared.fault.ProgramFault.{ProgramFault}
@@ -39,7 +39,7 @@ IsJudged t bound Linearizable text = IsOrderText t text
 IsJudged t bound (NotLinearizable line) text =
     (k : ℕ) × StandsAtLine t line k text × IsFirstBad t k
 IsJudged t bound (TooMany line) text =
-    (k : ℕ) × StandsAtLine t line k text × AnswersMany t bound k
+    (k : ℕ) × StandsAtLine t line k text × AnswersPastBound t bound k
 IsJudged t bound (TooOpen line) text = (k : ℕ) × StandsAtLine t line k text × IsCrowded t.events k
 IsJudged t bound (NoReport why) text = ⊥
 

@@ -12,11 +12,13 @@ use Rattle.memory_models.specs.Arcs.{IsWhy}
 use Rattle.memory_models.specs.Verdict.{AreAround, step_at}
 use Rattle.model_text.specs.declared.logged.Logged.{Logged}
 use Rattle.model_text.specs.declared.reason.LogReason.TheVariants as reason
+use Rattle.trace_lines.specs.declared.reason.LineReason.TheVariants as line
 use Rattle.model_text.specs.declared.trace.LogTrace.{LogTrace}
 use Rattle.model_text.specs.declared.values.WrongReply.{WrongReply}
-use Rattle.model_text.specs.Lines.{LogLines, log_of}
+use Rattle.model_text.specs.Lines.{log_of}
+use Rattle.model_text.specs.Made.{LogLines}
 use Rattle.model_text.specs.Traces.{IsTraceOfLog, steps_of_log, operations_of_log, writes_of_log}
-use Rattle.model_text.specs.Values.{AreReplies, IsWrongReply}
+use Rattle.model_text.specs.Values.{AreDueReplies, IsWrongReply}
 use Rattle.model_answer.specs.declared.answer.Answer.{Answer}
 use Rattle.model_answer.specs.declared.answer.NoAnswer.{NoAnswer}
 use Rattle.model_answer.specs.declared.answer.NoAnswer.TheVariants.{Refused, Wrong, Memory}
@@ -27,7 +29,7 @@ use Rattle.model_answer.specs.declared.model.MemoryModel.{MemoryModel}
 use Rattle.model_answer.specs.declared.model.MemoryModel.TheVariants.{Coherent, Fenced, Pso, Tso, Sc}
 use Rattle.model_answer.specs.Judged.{AreVerdicts, TellsObeyed, is_ordered}
 use Rattle.model_answer.specs.Model.{model_word, rules_of_model}
-use Rattle.model_answer.specs.Texts.{cycle_text, obeys_text, order_text, why_at}
+use Rattle.model_answer.specs.Texts.{cycle_text, obeys_text, turns_text, why_at}
 
 -- the reasons of the steps of a cycle
 pub record AreWhys (rules : List Rule) (ops : List Operation) (writes : List ℕ)
@@ -113,7 +115,7 @@ IsCyclePart t v (Some model) part = IsCycleOf t model (verdict_by model v) part
 abbrev pub IsOrderOf : {A : Type 0} → LogTrace A → MemoryModel → Verdict A → List ℕ → Type 0
 IsOrderOf t model (Cycle first) part = part ≡ []
 IsOrderOf t model (Ordered turns) part =
-    part ≡ order_heading model ++ order_text t.openings t.steps.items turns.items
+    part ≡ order_heading model ++ turns_text t.openings t.steps.items turns.items
 
 -- nothing where no model is obeyed, and else the order of the strongest one that is
 abbrev pub IsOrderPart : {A : Type 0} → LogTrace A → Verdicts A → Option MemoryModel → List ℕ → Type 0
@@ -152,7 +154,7 @@ pub record IsAnswerTo {A : Type 0} (lines : List (List ℕ)) (options : Options)
     pub read : log_of lines ≡ Ok log
     pub trace : LogTrace A
     pub traced : IsTraceOfLog log trace
-    pub due : AreReplies trace.steps.items trace.operations.items trace.writes.items
+    pub due : AreDueReplies trace.steps.items trace.operations.items trace.writes.items
     pub answer : IsAnswer trace options a
 
 -- a reply of a log that isn't due
@@ -164,6 +166,6 @@ pub record IsWrongIn (lines : List (List ℕ)) (wrong : WrongReply) : Type 0 whe
 -- why there is no answer: the text is refused there, or a reply isn't due, or memory was refused
 abbrev pub IsNoAnswerTo : List (List ℕ) → NoAnswer → Type 0
 IsNoAnswerTo lines (Refused refusal) =
-    (refusal ≡ refusal_at 0 reason.Memory) ⊎ (log_of lines ≡ Err refusal)
+    (refusal ≡ refusal_at 0 (reason.Line line.Memory)) ⊎ (log_of lines ≡ Err refusal)
 IsNoAnswerTo lines (Wrong wrong) = IsWrongIn lines wrong
 IsNoAnswerTo lines Memory = Unit {0}

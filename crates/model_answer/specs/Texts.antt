@@ -22,14 +22,14 @@ use Rattle.model_answer.specs.declared.model.MemoryModel.TheVariants.{Coherent, 
 use Rattle.model_answer.specs.Model.{model_word}
 
 -- the line of a model
-abbrev pub verdict_text : MemoryModel → Bool → List ℕ
-verdict_text model true = model_word model ++ codes " yes\n"
-verdict_text model false = model_word model ++ codes " no\n"
+abbrev pub model_line : MemoryModel → Bool → List ℕ
+model_line model true = model_word model ++ codes " yes\n"
+model_line model false = model_word model ++ codes " no\n"
 
 -- the lines of the models, weakest first
 abbrev pub obeys_text : Obeys → List ℕ
-obeys_text o = verdict_text Coherent o.coherent ++ verdict_text Fenced o.fenced
-    ++ verdict_text Pso o.pso ++ verdict_text Tso o.tso ++ verdict_text Sc o.sc
+obeys_text o = model_line Coherent o.coherent ++ model_line Fenced o.fenced
+    ++ model_line Pso o.pso ++ model_line Tso o.tso ++ model_line Sc o.sc
 
 -- some values, each behind a space
 abbrev pub values_text : List ℕ → List ℕ
@@ -80,10 +80,10 @@ cycle_text logged ops steps whys =
     ++ step_text (logged_at logged (step_at steps 0).from)
 
 -- the line of an operation in the order; none for an opening store
-abbrev pub order_line : ℕ → List Logged → ℕ → List ℕ
-order_line openings logged x = if nat_lt x openings then [] else step_text (logged_at logged x)
+abbrev pub turn_line : ℕ → List Logged → ℕ → List ℕ
+turn_line openings logged x = if nat_lt x openings then [] else step_text (logged_at logged x)
 
 -- the operations by their turns
-abbrev pub order_text : ℕ → List Logged → List ℕ → List ℕ
-order_text openings logged turns =
-    flat_map (λ k. order_line openings logged (place_in turns k)) (range_with_len 0 (length turns))
+abbrev pub turns_text : ℕ → List Logged → List ℕ → List ℕ
+turns_text openings logged turns =
+    flat_map (λ k. turn_line openings logged (place_in turns k)) (range_with_len 0 (length turns))

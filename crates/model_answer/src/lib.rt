@@ -3,6 +3,7 @@
 #![tactic(auto)]
 
 pub mod answer;
+mod arrows;
 mod cycle;
 pub mod judged;
 pub mod model;

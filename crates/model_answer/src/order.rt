@@ -3,7 +3,7 @@
 ghost use Rattle.std.specs.Prelude.{◌≡◌, ◌++◌, OnOk};
 ghost use Rattle.model_answer.specs.Answer.{AddsPart, IsOrderPart, IsOrderOf, strongest_obeyed, obeys_of};
 ghost use Rattle.model_answer.specs.Answer.{order_heading};
-ghost use Rattle.model_answer.specs.Texts.{order_line, order_text};
+ghost use Rattle.model_answer.specs.Texts.{turn_line, turns_text};
 
 use crate::judged::{Obeys, Verdicts};
 use crate::model::MemoryModel;
@@ -43,7 +43,7 @@ fn put_order_line<A: Allocator>(
     x: usize,
 ) -> Result<(), AllocError>
     ensures { OnOk result (text.new.items ≡ text.old.items
-        ++ order_line trace.now.openings trace.now.steps.items x) }
+        ++ turn_line trace.now.openings trace.now.steps.items x) }
 {
     if x < trace.openings {
         return Ok(());
@@ -59,7 +59,7 @@ fn put_order<A: Allocator + Copy>(
     turns: &[usize],
 ) -> Result<(), AllocError>
     ensures { OnOk result (text.new.items ≡ text.old.items
-        ++ order_text trace.now.openings trace.now.steps.items turns.now) }
+        ++ turns_text trace.now.openings trace.now.steps.items turns.now) }
 {
     let order = places_in(alloc, turns, turns.len())?;
     for k in 0..order.len() {

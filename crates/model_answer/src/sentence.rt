@@ -4,6 +4,8 @@ use lexer::{Filled, QuotedWords, Refusal};
 use model_text::{LogKeyword, LogReason, WrongReply};
 use packet::{Code, Reply};
 use std::fmt;
+use trace_lines::LineReason;
+use trace_lines::wording::{behind_keyword, common_text, last_address, place_of};
 
 /// Why a log is refused, as a reader is told: the name of the text, the line, the words that stand
 /// there, and what may stand there: `log.txt:3: wrote 0 1: the operation is a load, which writes nothing`.
@@ -21,29 +23,32 @@ pub struct WrongSentence {
     pub wrong: WrongReply,
 }
 
+/// What is said of a reason that a trace and a log have in common, with gaps.
+fn line_text(reason: LineReason) -> &'static str {
+    match reason {
+        LineReason::NoTitle => "the first line of a log is log 1",
+        LineReason::TitleMissing => "the text ends without log 1",
+        LineReason::UnknownOperation => "C: an operation or fence belongs there",
+        LineReason::OperandCount => "C: behind it K",
+        LineReason::WordsTwice => "words: it is given already",
+        LineReason::InitLate => "init: it comes before all made lines",
+        LineReason::InitTwice => "address B: its opening word is given already",
+        LineReason::ProcessorLimits => "a processor is below 4096",
+        LineReason::OkUnwanted => "ok: the operation is no store: a number belongs there",
+        LineReason::NumberUnwanted => "D: the operation is a store: ok belongs there",
+        _ => common_text(reason),
+    }
+}
+
 /// What is said of a reason, with gaps.
 fn text_of(reason: LogReason) -> &'static str {
     match reason {
-        LogReason::NoTitle => "the first line of a log is log 1",
-        LogReason::TitleMissing => "the text ends without log 1",
+        LogReason::Line(why) => line_text(why),
         LogReason::UnknownKeyword => {
             "A: a line begins with words, init, made, wrote, read, served or replied"
         }
         LogReason::WordCount(_) => "A: behind it K",
-        LogReason::NotNumber(_) => "W: a number belongs there",
-        LogReason::UnknownOperation => "C: an operation or fence belongs there",
-        LogReason::OperandCount => "C: behind it K",
-        LogReason::NotReply => "D: a number or ok belongs there",
         LogReason::NotSource => "D: from or opening belongs there",
-        LogReason::WordsFirst => "A: it comes behind words, which is not given yet",
-        LogReason::WordsMissing => "the text ends without words",
-        LogReason::WordsTwice => "words: it is given already",
-        LogReason::WordsLimits => "words B: a memory has 1 to 4294967296 words",
-        LogReason::InitLate => "init: it comes before all made lines",
-        LogReason::InitTwice => "address B: its opening word is given already",
-        LogReason::ProcessorLimits => "a processor is below 4096",
-        LogReason::AddressLimits(_, _) => "address W: the memory has the words 0 to N",
-        LogReason::ValueLimits(_) => "value W: a value is below 2^64",
         LogReason::OperationsLimits => "made: a log has at most 4194304 operations",
         LogReason::AddressesLimits => {
             "address D: a log has operations on at most 1048576 addresses"
@@ -57,18 +62,13 @@ fn text_of(reason: LogReason) -> &'static str {
         LogReason::SourceMissing => {
             "made: no line says where it stands: wrote for a write, read or served for a load"
         }
-        LogReason::OkUnwanted => "ok: the operation is no store: a number belongs there",
-        LogReason::NumberUnwanted => "D: the operation is a store: ok belongs there",
         LogReason::RepliedTwice => "replied: the reply of the operation is given already",
-        LogReason::Memory => "a request for memory was refused while it was read",
     }
 }
 
 /// What stands behind a keyword.
 fn words_text(keyword: LogKeyword) -> &'static str {
     match keyword {
-        LogKeyword::Words => "stands one number",
-        LogKeyword::Init => "stand an address and a value",
         LogKeyword::Made => "stand a processor and an operation",
         LogKeyword::Wrote => "stand a processor and an index",
         LogKeyword::Read => {
@@ -94,18 +94,17 @@ fn operands_text(word: &[u8]) -> &'static str {
 /// The name in what is said of a reason.
 fn name_of(words: QuotedWords<'_>, reason: LogReason) -> &'static str {
     match reason {
+        LogReason::Line(LineReason::WordCount(keyword)) => behind_keyword(keyword),
+        LogReason::Line(LineReason::OperandCount) => operands_text(words.at(2).word),
         LogReason::WordCount(keyword) => words_text(keyword),
-        LogReason::OperandCount => operands_text(words.at(2).word),
         _ => "",
     }
 }
 
 /// The place of the word that a reason is about.
-fn place_of(reason: LogReason) -> u32 {
+fn place_in(reason: LogReason) -> u32 {
     match reason {
-        LogReason::NotNumber(place) => place,
-        LogReason::AddressLimits(place, _) => place,
-        LogReason::ValueLimits(place) => place,
+        LogReason::Line(why) => place_of(why),
         _ => 0,
     }
 }
@@ -113,7 +112,7 @@ fn place_of(reason: LogReason) -> u32 {
 /// The number in what is said of a reason: the last address, or a count.
 fn number_of(reason: LogReason) -> u128 {
     match reason {
-        LogReason::AddressLimits(_, words) => u128::from(words.saturating_sub(1)),
+        LogReason::Line(why) => u128::from(last_address(why).unwrap_or(0)),
         LogReason::NotMade(made) => made as u128,
         _ => 0,
     }
@@ -126,14 +125,16 @@ impl<'a> fmt::Display for LogSentence<'a> {
         let said = Filled {
             text: text_of(reason),
             words,
-            place: place_of(reason),
+            place: place_in(reason),
             number: number_of(reason),
             other: 0,
             name: name_of(words, reason),
         };
         match reason {
-            LogReason::Memory => write!(f, "{} {said}", self.name),
-            LogReason::NoTitle => write!(f, "{}:{}: {words}: {said}", self.name, self.refusal.line),
+            LogReason::Line(LineReason::Memory) => write!(f, "{} {said}", self.name),
+            LogReason::Line(LineReason::NoTitle) => {
+                write!(f, "{}:{}: {words}: {said}", self.name, self.refusal.line)
+            }
             _ => write!(f, "{}:{}: {said}", self.name, self.refusal.line),
         }
     }

@@ -1,7 +1,7 @@
 //! The text of an answer.
 
 ghost use Rattle.std.specs.Prelude.{◌≡◌, ◌++◌, OnOk, decimal, codes};
-ghost use Rattle.model_answer.specs.Texts.{verdict_text, obeys_text, operation_text, values_text};
+ghost use Rattle.model_answer.specs.Texts.{model_line, obeys_text, operation_text, values_text};
 ghost use Rattle.packet.specs.Names.{values_listed};
 ghost use Rattle.model_answer.specs.Texts.{step_text, fence_or_operation};
 
@@ -42,7 +42,7 @@ fn put_verdict<A: Allocator>(
     model: MemoryModel,
     yes: bool,
 ) -> Result<(), AllocError>
-    ensures { OnOk result (text.new.items ≡ text.old.items ++ verdict_text model yes) }
+    ensures { OnOk result (text.new.items ≡ text.old.items ++ model_line model yes) }
 {
     put(text, model.word().as_bytes())?;
     if yes {

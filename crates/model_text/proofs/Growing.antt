@@ -8,12 +8,13 @@ use Rattle.std.proofs.lemmas.List.FromFn.{map-range_with_len_more}
 use Rattle.std.proofs.lemmas.List.Sums.{fold_more, prefix_len-le-length}
 use Rattle.std.proofs.lemmas.Grind.{flat_map-append}
 use Rattle.packet.specs.Memory.{new_word}
+use Rattle.trace_lines.specs.Head.{HeadSpec, no_head}
 use Rattle.model_text.specs.declared.logged.Logged.{Logged}
 use Rattle.model_text.specs.InsideRows.{row_lists}
-use Rattle.model_text.specs.Lines.{LogLines}
+use Rattle.model_text.specs.Made.{LogLines}
 use Rattle.model_text.specs.Rows.{no_rows}
 use Rattle.model_text.specs.Traces.{place_in, place_below, logged_at}
-use Rattle.model_text.specs.Values.{op_at, word_left, line_left}
+use Rattle.model_text.specs.Values.{op_logged, word_of_writes, line_left}
 
 append_nil : {X : Type 0} (xs : List X) → xs ++ [] ≡ xs
 append_nil [] = refl
@@ -56,8 +57,8 @@ flat_more f k items new grown so_far =
 
 -- the word that one write more leaves
 pub word_more : (steps : List Logged) (writes : List ℕ) (i d : ℕ) → i < length writes
-    → new_word (op_at steps (get_or writes i d)) (word_left steps writes i) ≡ word_left steps writes (i + 1)
-word_more steps writes i d low = sym (fold_more (λ (w : ℕ) (z : ℕ). new_word (op_at steps z) w) 0 writes i d low)
+    → new_word (op_logged steps (get_or writes i d)) (word_of_writes steps writes i) ≡ word_of_writes steps writes (i + 1)
+word_more steps writes i d low = sym (fold_more (λ (w : ℕ) (z : ℕ). new_word (op_logged steps z) w) 0 writes i d low)
 
 -- the line that left it
 pub line_more : (steps : List Logged) (writes : List ℕ) (i d : ℕ) → i < length writes
@@ -73,11 +74,9 @@ pub place_low : (list : List ℕ) (count x : ℕ) → place_below list count x �
 place_low list count x = low_cond (nat_lt x count) (place_in list x) (length list) (prefix_len-le-length (λ (y : ℕ). not (y == x)) list)
 
 -- nothing is given at first
-abbrev pub logged_so : List (ℕ × ℕ) → List (ℕ × ℕ) → List ℕ → List (List ℕ) → List (List ℕ) → List Logged → LogLines
-logged_so inits places addresses rows orders made = record {
-  begun = false;
-  words = 0;
-  inits = inits;
+abbrev pub logged_so : HeadSpec → List (ℕ × ℕ) → List ℕ → List (List ℕ) → List (List ℕ) → List Logged → LogLines
+logged_so head places addresses rows orders made = record {
+  head = head;
   places = places;
   addresses = addresses;
   rows = rows;
@@ -85,20 +84,20 @@ logged_so inits places addresses rows orders made = record {
   made = made;
 }
 
-pub nothing_is : (n : ℕ) (inits places : List (ℕ × ℕ)) (addresses : List ℕ) (rows orders : List (List ℕ)) (made : List Logged)
-    → inits ≡ [] → places ≡ [] → addresses ≡ [] → rows ≡ no_rows n → orders ≡ no_rows 0 → made ≡ []
-    → logged_so inits places addresses rows orders made ≡ logged_so [] [] [] (no_rows n) (no_rows 0) []
-nothing_is n inits places addresses rows orders made i p a r o m =
-    ap (λ z. logged_so z places addresses rows orders made) i
-    ∙ (ap (λ z. logged_so [] z addresses rows orders made) p
-    ∙ (ap (λ z. logged_so [] [] z rows orders made) a
-    ∙ (ap (λ z. logged_so [] [] [] z orders made) r
-    ∙ (ap (λ z. logged_so [] [] [] (no_rows n) z made) o
-    ∙ ap (λ z. logged_so [] [] [] (no_rows n) (no_rows 0) z) m))))
+pub nothing_is : (n : ℕ) (head : HeadSpec) (places : List (ℕ × ℕ)) (addresses : List ℕ) (rows orders : List (List ℕ)) (made : List Logged)
+    → head ≡ no_head → places ≡ [] → addresses ≡ [] → rows ≡ no_rows n → orders ≡ no_rows 0 → made ≡ []
+    → logged_so head places addresses rows orders made ≡ logged_so no_head [] [] (no_rows n) (no_rows 0) []
+nothing_is n head places addresses rows orders made h p a r o m =
+    ap (λ z. logged_so z places addresses rows orders made) h
+    ∙ (ap (λ z. logged_so no_head z addresses rows orders made) p
+    ∙ (ap (λ z. logged_so no_head [] z rows orders made) a
+    ∙ (ap (λ z. logged_so no_head [] [] z orders made) r
+    ∙ (ap (λ z. logged_so no_head [] [] (no_rows n) z made) o
+    ∙ ap (λ z. logged_so no_head [] [] (no_rows n) (no_rows 0) z) m))))
 
 -- more writes than there are leave what all leave
-pub word_of_min : (steps : List Logged) (writes : List ℕ) (n : ℕ) → word_left steps writes (min n (length writes)) ≡ word_left steps writes n
-word_of_min steps writes n = ap (λ (xs : List ℕ). fold (λ (w : ℕ) (z : ℕ). new_word (op_at steps z) w) 0 xs) (take_min n writes)
+pub word_of_min : (steps : List Logged) (writes : List ℕ) (n : ℕ) → word_of_writes steps writes (min n (length writes)) ≡ word_of_writes steps writes n
+word_of_min steps writes n = ap (λ (xs : List ℕ). fold (λ (w : ℕ) (z : ℕ). new_word (op_logged steps z) w) 0 xs) (take_min n writes)
 
 pub line_of_min : (steps : List Logged) (writes : List ℕ) (n : ℕ) → line_left steps writes (min n (length writes)) ≡ line_left steps writes n
 line_of_min steps writes n = ap (λ (xs : List ℕ). fold (λ (l : ℕ) (z : ℕ). (logged_at steps z).line) 0 xs) (take_min n writes)

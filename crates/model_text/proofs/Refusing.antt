@@ -4,31 +4,23 @@ use Rattle.std.specs.Prelude.{Result, Ok, Err}
 use Rattle.lexer.specs.declared.refusal.Refusal.{Refusal}
 use Rattle.lexer.specs.Outcome.{line_of_fault, refusal_at, then_lines}
 use Rattle.lexer.specs.Words.{first_words}
+use Rattle.trace_lines.specs.declared.reason.LineReason.TheVariants as line
+use Rattle.trace_lines.proofs.Refused.{at_line as line_at, refused_at}
 use Rattle.model_text.specs.declared.reason.LogReason.{LogReason}
 use Rattle.model_text.specs.declared.reason.LogReason.TheVariants as reason
-use Rattle.model_text.specs.Lines.{LogLines, after_words_of_log, log_from}
+use Rattle.model_text.specs.Lines.{after_words_of_log, log_from}
+use Rattle.model_text.specs.Made.{LogLines}
 use Rattle.model_text.specs.Reasons.{log_fault_of}
 
 -- but for out of memory it stands at its line
-at_line : (e : LogReason) (n : ℕ) → (e ≡ reason.Memory) ⊎ (line_of_fault (log_fault_of e) n ≡ n)
-at_line reason.NoTitle n = inr refl
-at_line reason.TitleMissing n = inr refl
+at_line : (e : LogReason) (n : ℕ) → (e ≡ reason.Line line.Memory) ⊎ (line_of_fault (log_fault_of e) n ≡ n)
+at_line (reason.Line why) n = elim (line_at why n) [
+  | inl m ↦ inl (ap reason.Line m)
+  | inr here ↦ inr here
+]
 at_line reason.UnknownKeyword n = inr refl
 at_line (reason.WordCount keyword) n = inr refl
-at_line (reason.NotNumber place) n = inr refl
-at_line reason.UnknownOperation n = inr refl
-at_line reason.OperandCount n = inr refl
-at_line reason.NotReply n = inr refl
 at_line reason.NotSource n = inr refl
-at_line reason.WordsFirst n = inr refl
-at_line reason.WordsMissing n = inr refl
-at_line reason.WordsTwice n = inr refl
-at_line reason.WordsLimits n = inr refl
-at_line reason.InitLate n = inr refl
-at_line reason.InitTwice n = inr refl
-at_line reason.ProcessorLimits n = inr refl
-at_line (reason.AddressLimits place words) n = inr refl
-at_line (reason.ValueLimits place) n = inr refl
 at_line reason.OperationsLimits n = inr refl
 at_line reason.AddressesLimits n = inr refl
 at_line (reason.NotMade made) n = inr refl
@@ -38,25 +30,13 @@ at_line reason.NotLoad n = inr refl
 at_line reason.OtherWord n = inr refl
 at_line reason.SourceTwice n = inr refl
 at_line reason.SourceMissing n = inr refl
-at_line reason.OkUnwanted n = inr refl
-at_line reason.NumberUnwanted n = inr refl
 at_line reason.RepliedTwice n = inr refl
-at_line reason.Memory n = inl refl
 
 -- it is what the reader answers
 pub told : {A : Type 0} (e : LogReason) (n : ℕ) (got : Refusal LogReason) (all : Result A (Refusal LogReason))
-    → got ≡ refusal_at (line_of_fault (log_fault_of e) n) e → (e ≡ reason.Memory) ⊎ (all ≡ Err (refusal_at n e))
-    → (got ≡ refusal_at 0 reason.Memory) ⊎ (all ≡ Err got)
-told e n got all is found =
-    let none : e ≡ reason.Memory → got ≡ refusal_at 0 reason.Memory =
-    λ m. is ∙ ap (λ (f : LogReason). refusal_at (line_of_fault (log_fault_of f) n) f) m in
-    elim found [
-      | inl m ↦ inl (none m)
-      | inr bad ↦ elim (at_line e n) [
-        | inl m ↦ inl (none m)
-        | inr here ↦ inr (bad ∙ ap (λ (l : ℕ). Err (refusal_at l e)) (sym here) ∙ ap Err (sym is))
-      ]
-    ]
+    → got ≡ refusal_at (line_of_fault (log_fault_of e) n) e → (e ≡ reason.Line line.Memory) ⊎ (all ≡ Err (refusal_at n e))
+    → (got ≡ refusal_at 0 (reason.Line line.Memory)) ⊎ (all ≡ Err got)
+told e n got all is found = refused_at log_fault_of (reason.Line line.Memory) e n got all refl (at_line e n) is found
 
 -- one more line of a log
 pub log_step : (n : ℕ) (r new : LogLines) (line : List ℕ) (rest after ws : List (List ℕ)) (all : Result LogLines (Refusal LogReason)) →

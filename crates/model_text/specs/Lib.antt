@@ -2,8 +2,10 @@ pub mod Form
 pub mod InsideRows
 pub mod Kinds
 pub mod Lines
+pub mod Made
 pub mod Reasons
 pub mod Rows
+pub mod Sources
 pub mod Traces
 pub mod Values
 pub mod Views

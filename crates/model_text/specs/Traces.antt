@@ -9,13 +9,14 @@ use Rattle.memory_models.specs.declared.kinds.Kind.{Kind}
 use Rattle.memory_models.specs.declared.kinds.Kind.TheVariants.{Store, Fence}
 use Rattle.memory_models.specs.declared.kinds.Operation.{Operation}
 use Rattle.memory_models.specs.Trace.{IsMemoryTrace}
+use Rattle.trace_lines.specs.Head.{value_in}
 use Rattle.model_text.specs.declared.logged.Logged.{Logged}
 use Rattle.model_text.specs.declared.logged.Source.{Source}
 use Rattle.model_text.specs.declared.logged.Source.TheVariants.{Untold, Own, Opening, Write}
 use Rattle.model_text.specs.declared.trace.LogTrace.{LogTrace}
 use Rattle.model_text.specs.Kinds.{kind_of_op}
-use Rattle.model_text.specs.Lines.{LogLines, at_address}
-use Rattle.model_text.specs.Rows.{row_of}
+use Rattle.model_text.specs.Made.{LogLines}
+use Rattle.model_text.specs.Rows.{numbers_of_row}
 
 -- the first place of a number in a list, and the list's length where it has none
 abbrev pub place_in : List ℕ → ℕ → ℕ
@@ -53,7 +54,7 @@ opening_step log w = record {
   processor = 0;
   operation = Some (record {
     address = slice_index log.addresses w;
-    op = op.Store (unwrap_or (at_address log.inits (slice_index log.addresses w)) 0);
+    op = op.Store (unwrap_or (value_in log.head.inits (slice_index log.addresses w)) 0);
   });
   word = w;
   source = Own;
@@ -71,13 +72,13 @@ steps_of_log log =
     ++ map (logged_at log.made) (numbers_of_log log)
 
 -- the place in the trace of the operation of a number, behind the opening stores
-abbrev pub spot_of : LogLines → ℕ → ℕ
-spot_of log n =
+abbrev pub trace_spot : LogLines → ℕ → ℕ
+trace_spot log n =
     length log.addresses + place_below (numbers_of_log log) (length log.made) n
 
 -- the writes of a word in its order: the opening store, then those of the `wrote` lines
 abbrev pub writes_of_word : LogLines → ℕ → List ℕ
-writes_of_word log w = w ∷ map (spot_of log) (row_of log.orders w)
+writes_of_word log w = w ∷ map (trace_spot log) (numbers_of_row log.orders w)
 
 -- the writes of all words
 abbrev pub writes_of_log : LogLines → List ℕ
@@ -91,10 +92,10 @@ write_place log x = place_below (writes_of_log log)
 
 -- the place in the trace of what the operation of a number read; of its own where it is a write
 abbrev pub source_spot : LogLines → ℕ → Logged → Source → ℕ
-source_spot log n logged Untold = spot_of log n
-source_spot log n logged Own = spot_of log n
+source_spot log n logged Untold = trace_spot log n
+source_spot log n logged Own = trace_spot log n
 source_spot log n logged Opening = logged.word
-source_spot log n logged (Write m) = spot_of log m
+source_spot log n logged (Write m) = trace_spot log m
 
 -- the opening store of a word, to a model
 abbrev pub opening_operation : LogLines → ℕ → Operation

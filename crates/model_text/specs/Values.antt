@@ -18,14 +18,14 @@ abbrev pub op_of_step : Option Asked → Op
 op_of_step None = Load
 op_of_step (Some o) = o.op
 
-abbrev pub op_at : List Logged → ℕ → Op
-op_at steps x = op_of_step (logged_at steps x).operation
+abbrev pub op_logged : List Logged → ℕ → Op
+op_logged steps x = op_of_step (logged_at steps x).operation
 
 -- the word that the first writes leave, one after the other: each word's opening store begins it
 -- anew
-abbrev pub word_left : List Logged → List ℕ → ℕ → ℕ
-word_left steps writes count =
-    fold (λ w x. new_word (op_at steps x) w) 0 (take count writes)
+abbrev pub word_of_writes : List Logged → List ℕ → ℕ → ℕ
+word_of_writes steps writes count =
+    fold (λ w x. new_word (op_logged steps x) w) 0 (take count writes)
 
 -- how many writes stand before what an operation finds: a load finds what its source left, and a
 -- write what the one before it in its word's order left
@@ -37,15 +37,15 @@ writes_before ops x = writes_before_one (operation_at ops x)
 
 -- the word that an operation finds
 abbrev pub word_met : List Logged → List Operation → List ℕ → ℕ → ℕ
-word_met steps ops writes x = word_left steps writes (writes_before ops x)
+word_met steps ops writes x = word_of_writes steps writes (writes_before ops x)
 
 -- the reply that is due to an operation
 abbrev pub reply_due : List Logged → List Operation → List ℕ → ℕ → Reply
-reply_due steps ops writes x = reply_to (op_at steps x) (word_met steps ops writes x)
+reply_due steps ops writes x = reply_to (op_logged steps x) (word_met steps ops writes x)
 
 -- each reply of the log is the one that is due
-abbrev pub AreReplies : List Logged → List Operation → List ℕ → Type 0
-AreReplies steps ops writes = (x : ℕ) (told : Told) → x < length steps
+abbrev pub AreDueReplies : List Logged → List Operation → List ℕ → Type 0
+AreDueReplies steps ops writes = (x : ℕ) (told : Told) → x < length steps
     → (logged_at steps x).told ≡ Some told → told.reply ≡ reply_due steps ops writes x
 
 -- the line of the last of the first writes; 0 where there is none, and where it is an opening store
@@ -65,5 +65,5 @@ pub record IsWrongReply (steps : List Logged) (ops : List Operation) (writes : L
 
 -- no reply is wrong, or one is
 abbrev pub AreRepliesOr : List Logged → List Operation → List ℕ → Option WrongReply → Type 0
-AreRepliesOr steps ops writes None = AreReplies steps ops writes
+AreRepliesOr steps ops writes None = AreDueReplies steps ops writes
 AreRepliesOr steps ops writes (Some wrong) = IsWrongReply steps ops writes wrong

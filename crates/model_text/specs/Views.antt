@@ -1,13 +1,11 @@
 -- What the program's own types stand for.
 use Rattle.model_text.specs.declared.log.Log as log
 use Rattle.model_text.specs.InsideRows.{rows_now}
-use Rattle.model_text.specs.Lines.{LogLines}
+use Rattle.model_text.specs.Made.{LogLines}
 
 abbrev pub log_so_far : {A : Type 0} → log.Log A → LogLines
 log_so_far r = record {
-  begun = r.begun;
-  words = r.words;
-  inits = r.inits.entries;
+  head = r.head;
   places = r.places.entries;
   addresses = r.addresses.items;
   rows = rows_now r.rows;

@@ -2,10 +2,11 @@
 //! load read and what was replied; as a trace that a memory model is asked of.
 #![tactic(auto)]
 
-pub mod form;
+mod form;
+mod kinds;
 pub mod log;
 pub mod logged;
-mod number;
+mod made;
 pub mod placing;
 mod reading;
 pub mod reason;

@@ -1,23 +1,20 @@
 //! What the lines of a log give.
 
 ghost use Rattle.std.specs.Prelude.{◌≡◌, IfOk};
-ghost use Rattle.model_text.specs.Lines.{nothing_logged};
+ghost use Rattle.model_text.specs.Made.{nothing_logged};
 ghost use Rattle.model_text.specs.Views.{log_so_far};
 
 use crate::logged::Logged;
 use crate::rows::Rows;
 use std::alloc::{AllocError, Allocator, Global};
 use std::collections::BTreeMap;
+use trace_lines::Head;
 
 /// What the lines of a log give.
 #[derive(Drop)]
 pub struct Log<A: Allocator = Global> {
-    /// Whether the line `log 1` came.
-    pub begun: bool,
-    /// The words of the memory, 0 before their number is given.
-    pub words: u64,
-    /// The opening words that `init` lines gave, by address.
-    pub inits: BTreeMap<u32, u64, A>,
+    /// The head: the line `log 1`, the number of words and the opening words.
+    pub head: Head<A>,
     /// The numbers of addresses among those that operations are on.
     pub places: BTreeMap<u32, usize, A>,
     /// The addresses that operations are on, by their numbers.
@@ -38,9 +35,7 @@ impl<A: Allocator + Copy> Log<A> {
         let rows = Rows::empty(alloc, 4096)?;
         let orders = Rows::empty(alloc, 0)?;
         Ok(Log {
-            begun: false,
-            words: 0,
-            inits: BTreeMap::new(alloc),
+            head: Head::none(alloc),
             places: BTreeMap::new(alloc),
             addresses: Vec::new(alloc),
             rows,

@@ -3,7 +3,7 @@
 ghost use Rattle.std.specs.Prelude.{◌≡◌, ◌++◌, ◌∷◌, [], length, OnOk, IfOk};
 ghost use Rattle.std.specs.List.{concat};
 ghost use Rattle.model_text.specs.InsideRows.{row_lists, rows_now};
-ghost use Rattle.model_text.specs.Rows.{no_rows, row_of, with_number};
+ghost use Rattle.model_text.specs.Rows.{no_rows, numbers_of_row, with_row_number};
 
 use std::alloc::{AllocError, Allocator, Global};
 
@@ -55,7 +55,7 @@ impl<A: Allocator> Rows<A> {
 
     /// The numbers of a row; none where there is no such row.
     pub fn row(&self, k: usize) -> &[usize]
-        ensures { result.now ≡ row_of (rows_now self.now) k }
+        ensures { result.now ≡ numbers_of_row (rows_now self.now) k }
     {
         if k >= self.lists.len() {
             return &[];
@@ -65,7 +65,7 @@ impl<A: Allocator> Rows<A> {
 
     /// One number more in a row; none where there is no such row.
     pub fn add(&mut self, k: usize, number: usize) -> Result<(), AllocError>
-        ensures { OnOk result (rows_now self.new ≡ with_number (rows_now self.old) k number) }
+        ensures { OnOk result (rows_now self.new ≡ with_row_number (rows_now self.old) k number) }
     {
         push_number(&mut self.lists, k, number)
     }
@@ -78,7 +78,7 @@ fn push_number<A: Allocator>(
     number: usize,
 ) -> Result<(), AllocError>
     ensures { OnOk result
-        (row_lists lists.new.items ≡ with_number (row_lists lists.old.items) k number) }
+        (row_lists lists.new.items ≡ with_row_number (row_lists lists.old.items) k number) }
 {
     if k >= lists.len() {
         return Ok(());

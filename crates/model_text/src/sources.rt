@@ -1,25 +1,20 @@
-//! Operations of a log, and what they read and wrote.
+//! What operations of a log read, and where they stand among the writes.
 
-ghost use Rattle.std.specs.Prelude.{◌≡◌, ◌≤◌, ◌<◌, ◌^◌, ◌∷◌, ◌++◌, [], Some, map, slice_get, slice_set};
+ghost use Rattle.std.specs.Prelude.{◌≡◌, map, slice_get, slice_set};
 ghost use Rattle.lexer.specs.Outcome.{Makes};
-ghost use Rattle.memory_models.specs.Trace.{is_load, is_write};
-ghost use Rattle.model_text.specs.Kinds.{kind_of_op};
-ghost use Rattle.model_text.specs.Lines.{after_made_line, made_read, add_step, add_operation};
-ghost use Rattle.model_text.specs.Lines.{placed, add_logged, found, found_of, with_logged};
-ghost use Rattle.model_text.specs.Lines.{after_wrote_line, add_write, after_served_line, add_served};
-ghost use Rattle.model_text.specs.Lines.{after_read_line, read_opening, read_write, add_source};
-ghost use Rattle.model_text.specs.Lines.{is_told, last_source, number_in, source_wrong};
-ghost use Rattle.model_text.specs.Lines.{load_wrong, write_wrong};
+ghost use Rattle.model_text.specs.Sources.{found, found_of, with_logged, after_wrote_line};
+ghost use Rattle.model_text.specs.Sources.{add_write, after_served_line, after_read_line, read_opening};
+ghost use Rattle.model_text.specs.Sources.{read_write, add_source, is_told, last_source};
+ghost use Rattle.model_text.specs.Sources.{source_wrong, load_wrong, write_wrong};
 ghost use Rattle.model_text.specs.Views.{log_so_far};
 
-use crate::form::{Form, spelled_step};
+use crate::form::two_numbers;
 use crate::log::Log;
 use crate::logged::{Logged, Source};
-use crate::number::number_of_log;
 use crate::reason::{LogKeyword, LogReason};
-use memory_models::Kind;
 use packet::{Op, Operation};
 use std::alloc::Allocator;
+use trace_lines::LineReason;
 
 /// An operation that a line names.
 #[derive(Clone, Copy)]
@@ -27,24 +22,6 @@ pub(crate) struct Found {
     pub(crate) number: usize,
     pub(crate) logged: Logged,
     pub(crate) operation: Operation,
-}
-
-/// The kind of an operation.
-pub(crate) fn kind_of_op(op: Op) -> Kind
-    ensures { result ≡ kind_of_op op }
-{
-    match op {
-        Op::Load => Kind::Load,
-        Op::Store(_) => Kind::Store,
-        Op::Swap(_) => Kind::Atomic,
-        Op::Cas(_, _) => Kind::Atomic,
-        Op::Add(_) => Kind::Atomic,
-        Op::And(_) => Kind::Atomic,
-        Op::Or(_) => Kind::Atomic,
-        Op::Xor(_) => Kind::Atomic,
-        Op::Max(_) => Kind::Atomic,
-        Op::Min(_) => Kind::Atomic,
-    }
 }
 
 /// Whether a line says what an operation read, or where it stands among the writes.
@@ -59,7 +36,7 @@ pub(crate) fn is_told(source: Source) -> bool
     }
 }
 
-/// Why an operation doesn't read, or isn't told now what it read.
+/// Why a line may not say what an operation read.
 fn load_wrong(found: Found) -> Option<LogReason>
     ensures { result ≡ load_wrong found }
 {
@@ -72,7 +49,7 @@ fn load_wrong(found: Found) -> Option<LogReason>
     None
 }
 
-/// Why an operation doesn't write, or isn't put among the writes now.
+/// Why an operation may not be the next write.
 fn write_wrong(found: Found) -> Option<LogReason>
     ensures { result ≡ write_wrong found }
 {
@@ -85,7 +62,7 @@ fn write_wrong(found: Found) -> Option<LogReason>
     None
 }
 
-/// Why a load didn't read what a write wrote.
+/// Why a load may not have read what an operation wrote.
 fn source_wrong(found: Found, write: Found) -> Option<LogReason>
     ensures { result ≡ source_wrong found write }
 {
@@ -118,130 +95,12 @@ pub(crate) fn set_logged(made: &mut [Logged], number: usize, logged: Logged)
 }
 
 impl<A: Allocator + Copy> Log<A> {
-    /// Takes the processor and the operation of a `made` line.
-    pub(crate) fn take_made(
-        &mut self,
-        alloc: A,
-        line: u64,
-        values: &[&[u8]],
-    ) -> Result<(), LogReason>
-        ensures { Makes LogReason.Memory (log_so_far self.new) result
-            (after_made_line (log_so_far self.old) line (map (λ value. value.now) values.now)) }
-    {
-        match values {
-            [processor, word, operands @ ..] => {
-                let p = number_of_log(1, processor)?;
-                let step = spelled_step(word, operands)?;
-                self.made(alloc, line, p, step)
-            }
-            _ => Err(LogReason::WordCount(LogKeyword::Made)),
-        }
-    }
-
-    /// A processor made an operation or a fence.
-    fn made(&mut self, alloc: A, line: u64, p: u128, step: Option<Form>) -> Result<(), LogReason>
-        ensures { Makes LogReason.Memory (log_so_far self.new) result
-            (made_read (log_so_far self.old) line p step) }
-    {
-        if let Some(reason) = self.lacks(p) {
-            return Err(reason);
-        }
-        match step {
-            None => self.add_logged(Logged {
-                line,
-                processor: p as u32,
-                operation: None,
-                word: 0,
-                source: Source::Own,
-                told: None,
-            }),
-            Some(form) => {
-                let operation = form.operation(self.words)?;
-                self.add_operation(alloc, line, p as u32, operation)
-            }
-        }
-    }
-
-    /// Adds an operation.
-    fn add_operation(
-        &mut self,
-        alloc: A,
-        line: u64,
-        p: u32,
-        operation: Operation,
-    ) -> Result<(), LogReason>
-        ensures { Makes LogReason.Memory (log_so_far self.new) result
-            (add_operation (log_so_far self.old) line p operation) }
-    {
-        self.place(alloc, operation.address)?;
-        let word = self.number_in(operation.address);
-        self.add_logged(Logged {
-            line,
-            processor: p,
-            operation: Some(operation),
-            word,
-            source: Source::Untold,
-            told: None,
-        })
-    }
-
-    /// The number of an address among those that occur; 0 where it has none.
-    fn number_in(&self, address: u32) -> usize
-        ensures { result ≡ number_in (log_so_far self.now) address }
-    {
-        self.places.get(&address).copied().unwrap_or(0)
-    }
-
-    /// Gives an address a number, where it has none.
-    fn place(&mut self, alloc: A, address: u32) -> Result<(), LogReason>
-        ensures { Makes LogReason.Memory (log_so_far self.new) result
-            (placed (log_so_far self.old) address) }
-    {
-        if self.places.contains_key(&address) {
-            return Ok(());
-        }
-        let place = self.addresses.len();
-        if place >= 1 << 20 {
-            return Err(LogReason::AddressesLimits);
-        }
-        if self.places.insert(address, place).is_err() {
-            return Err(LogReason::Memory);
-        }
-        if self.addresses.push(address).is_err() {
-            return Err(LogReason::Memory);
-        }
-        match self.orders.begin(alloc) {
-            Ok(()) => Ok(()),
-            Err(_) => Err(LogReason::Memory),
-        }
-    }
-
-    /// Adds an operation, or a fence, to those that are made.
-    fn add_logged(&mut self, logged: Logged) -> Result<(), LogReason>
-        ensures { Makes LogReason.Memory (log_so_far self.new) result
-            (add_logged (log_so_far self.old) logged) }
-    {
-        let number = self.made.len();
-        if number >= 1 << 22 {
-            return Err(LogReason::OperationsLimits);
-        }
-        if self.rows.add(logged.processor as usize, number).is_err() {
-            return Err(LogReason::Memory);
-        }
-        match self.made.push(logged) {
-            Ok(()) => Ok(()),
-            Err(_) => Err(LogReason::Memory),
-        }
-    }
-
     /// The operation of a processor at an index, from 0.
     pub(crate) fn found(&self, p: u128, index: u128) -> Result<Found, LogReason>
         ensures { result ≡ found (log_so_far self.now) p index }
     {
-        match self.lacks(p) {
-            Some(reason) => Err(reason),
-            None => self.found_of(p as usize, index),
-        }
+        let p = self.head.processor(p)?;
+        self.found_of(p as usize, index)
     }
 
     /// The operation of a processor below 4096 at an index, from 0.
@@ -268,13 +127,12 @@ impl<A: Allocator + Copy> Log<A> {
 
     /// Takes the processor and the index of a `wrote` line.
     pub(crate) fn take_wrote(&mut self, values: &[&[u8]]) -> Result<(), LogReason>
-        ensures { Makes LogReason.Memory (log_so_far self.new) result
+        ensures { Makes (LogReason.Line LineReason.Memory) (log_so_far self.new) result
             (after_wrote_line (log_so_far self.old) (map (λ value. value.now) values.now)) }
     {
         match values {
             [processor, index] => {
-                let p = number_of_log(1, processor)?;
-                let index = number_of_log(2, index)?;
+                let (p, index) = two_numbers(1, processor, index)?;
                 let found = self.found(p, index)?;
                 self.add_write(found)
             }
@@ -284,14 +142,14 @@ impl<A: Allocator + Copy> Log<A> {
 
     /// A write is the next one of its word.
     fn add_write(&mut self, found: Found) -> Result<(), LogReason>
-        ensures { Makes LogReason.Memory (log_so_far self.new) result
+        ensures { Makes (LogReason.Line LineReason.Memory) (log_so_far self.new) result
             (add_write (log_so_far self.old) found) }
     {
         if let Some(reason) = write_wrong(found) {
             return Err(reason);
         }
         if self.orders.add(found.logged.word, found.number).is_err() {
-            return Err(LogReason::Memory);
+            return Err(LogReason::Line(LineReason::Memory));
         }
         self.set_source(found, Source::Own);
         Ok(())
@@ -319,7 +177,7 @@ impl<A: Allocator + Copy> Log<A> {
 
     /// A load read from a source.
     fn add_source(&mut self, found: Found, source: Source) -> Result<(), LogReason>
-        ensures { Makes LogReason.Memory (log_so_far self.new) result
+        ensures { Makes (LogReason.Line LineReason.Memory) (log_so_far self.new) result
             (add_source (log_so_far self.old) found source) }
     {
         if let Some(reason) = load_wrong(found) {
@@ -331,13 +189,12 @@ impl<A: Allocator + Copy> Log<A> {
 
     /// Takes the processor and the index of a `served` line.
     pub(crate) fn take_served(&mut self, values: &[&[u8]]) -> Result<(), LogReason>
-        ensures { Makes LogReason.Memory (log_so_far self.new) result
+        ensures { Makes (LogReason.Line LineReason.Memory) (log_so_far self.new) result
             (after_served_line (log_so_far self.old) (map (λ value. value.now) values.now)) }
     {
         match values {
             [processor, index] => {
-                let p = number_of_log(1, processor)?;
-                let index = number_of_log(2, index)?;
+                let (p, index) = two_numbers(1, processor, index)?;
                 let found = self.found(p, index)?;
                 let source = last_source(self.orders.row(found.logged.word));
                 self.add_source(found, source)
@@ -348,7 +205,7 @@ impl<A: Allocator + Copy> Log<A> {
 
     /// Takes the load and the source of a `read` line.
     pub(crate) fn take_read(&mut self, values: &[&[u8]]) -> Result<(), LogReason>
-        ensures { Makes LogReason.Memory (log_so_far self.new) result
+        ensures { Makes (LogReason.Line LineReason.Memory) (log_so_far self.new) result
             (after_read_line (log_so_far self.old) (map (λ value. value.now) values.now)) }
     {
         match values {
@@ -357,10 +214,8 @@ impl<A: Allocator + Copy> Log<A> {
                 if *word != b"from".as_slice() {
                     return Err(LogReason::NotSource);
                 }
-                let p = number_of_log(1, processor)?;
-                let index = number_of_log(2, index)?;
-                let q = number_of_log(4, writer)?;
-                let place = number_of_log(5, place)?;
+                let (p, index) = two_numbers(1, processor, index)?;
+                let (q, place) = two_numbers(4, writer, place)?;
                 let found = self.found(p, index)?;
                 let write = self.found(q, place)?;
                 self.read_write(found, write)
@@ -371,21 +226,20 @@ impl<A: Allocator + Copy> Log<A> {
 
     /// Takes a load that read the opening word.
     fn take_opening(&mut self, processor: &[u8], index: &[u8], word: &[u8]) -> Result<(), LogReason>
-        ensures { Makes LogReason.Memory (log_so_far self.new) result
+        ensures { Makes (LogReason.Line LineReason.Memory) (log_so_far self.new) result
             (read_opening (log_so_far self.old) processor.now index.now word.now) }
     {
         if word != b"opening".as_slice() {
             return Err(LogReason::NotSource);
         }
-        let p = number_of_log(1, processor)?;
-        let index = number_of_log(2, index)?;
+        let (p, index) = two_numbers(1, processor, index)?;
         let found = self.found(p, index)?;
         self.add_source(found, Source::Opening)
     }
 
     /// A load read what an operation wrote.
     fn read_write(&mut self, found: Found, write: Found) -> Result<(), LogReason>
-        ensures { Makes LogReason.Memory (log_so_far self.new) result
+        ensures { Makes (LogReason.Line LineReason.Memory) (log_so_far self.new) result
             (read_write (log_so_far self.old) found write) }
     {
         if let Some(reason) = source_wrong(found, write) {

@@ -12,6 +12,7 @@ use crate::reason::LogReason;
 use crate::sources::is_told;
 use lexer::{Refusal, first_words, next_line};
 use std::alloc::Allocator;
+use trace_lines::LineReason;
 
 /// The first operation of which no line says what it read, or where it stands among the writes.
 fn first_untold(made: &[Logged]) -> Option<Logged>
@@ -30,10 +31,10 @@ fn first_untold(made: &[Logged]) -> Option<Logged>
 ///
 /// Errors: where and why its first bad line is refused, or that a request for memory was.
 pub fn read_log<A: Allocator + Copy>(alloc: A, text: &[u8]) -> Result<Log<A>, Refusal<LogReason>>
-    ensures { Gives LogReason.Memory log_so_far result (log_of (lines text.now)) }
+    ensures { Gives (LogReason.Line LineReason.Memory) log_so_far result (log_of (lines text.now)) }
 {
     let Ok(mut log) = Log::none(alloc) else {
-        return Err(Refusal::at(0, LogReason::Memory));
+        return Err(Refusal::at(0, LogReason::Line(LineReason::Memory)));
     };
     let mut number = 1u64;
     let mut rest = text;
@@ -45,8 +46,8 @@ pub fn read_log<A: Allocator + Copy>(alloc: A, text: &[u8]) -> Result<Log<A>, Re
         number += 1;
         rest = after;
     }
-    if let Some(reason) = log.missing() {
-        return Err(Refusal::at(number, reason));
+    if let Some(reason) = log.head.missing() {
+        return Err(Refusal::at(number, LogReason::Line(reason)));
     }
     match first_untold(&log.made) {
         None => Ok(log),

@@ -3,18 +3,18 @@
 ghost use Rattle.std.specs.Prelude.{◌≡◌, ◌+◌, ◌<◌, ◌^◌, ◌++◌, ◌∷◌, false, IfOk, IfErr, OnOk, length, map};
 ghost use Rattle.std.specs.Prelude.{slice_index, unwrap_or};
 ghost use Rattle.std.specs.List.{range_with_len};
-ghost use Rattle.model_text.specs.Traces.{ArePlaces, logged_at, kind_of_step, opening_step, spot_of};
+ghost use Rattle.model_text.specs.Traces.{ArePlaces, logged_at, kind_of_step, opening_step};
+ghost use Rattle.model_text.specs.Traces.{trace_spot};
 ghost use Rattle.model_text.specs.Traces.{writes_of_word, writes_of_log, write_place, source_spot};
 ghost use Rattle.model_text.specs.Traces.{opening_operation, operation_of_log, numbers_of_log};
 ghost use Rattle.model_text.specs.Traces.{steps_of_log, operations_of_log, TellsLog, IsTraceOfLog};
-ghost use Rattle.model_text.specs.Lines.{at_address};
-ghost use Rattle.model_text.specs.Rows.{row_of};
+ghost use Rattle.model_text.specs.Rows.{numbers_of_row};
 ghost use Rattle.model_text.specs.Views.{log_so_far};
 
+use crate::kinds::kind_of_op;
 use crate::log::Log;
 use crate::logged::{Logged, Source};
 use crate::placing::{place_of, places_in};
-use crate::sources::kind_of_op;
 use memory_models::{Kind, Operation, is_trace};
 use packet::{Op, Operation as Asked};
 use std::alloc::{AllocError, Allocator, Global};
@@ -65,7 +65,7 @@ fn opening_step<A: Allocator>(log: &Log<A>, w: usize) -> Logged
     ensures { result ≡ opening_step (log_so_far log.now) w }
 {
     let address = log.addresses[w];
-    let word = log.inits.get(&address).copied().unwrap_or(0);
+    let word = log.head.opening(address);
     Logged {
         line: 0,
         processor: 0,
@@ -80,10 +80,10 @@ fn opening_step<A: Allocator>(log: &Log<A>, w: usize) -> Logged
 }
 
 /// The place in the trace of the operation of a number.
-fn spot_of<A: Allocator>(log: &Log<A>, numbers: &[usize], places: &[usize], n: usize) -> usize
+fn trace_spot<A: Allocator>(log: &Log<A>, numbers: &[usize], places: &[usize], n: usize) -> usize
     requires numbers { numbers.now ≡ numbers_of_log (log_so_far log.now) }
     requires places { ArePlaces numbers.now (length log.now.made.items) places.now }
-    ensures { result ≡ spot_of (log_so_far log.now) n }
+    ensures { result ≡ trace_spot (log_so_far log.now) n }
 {
     log.addresses.len() + place_of(numbers, places, n)
 }
@@ -106,7 +106,7 @@ fn push_writes<A: Allocator + Copy>(
     writes.push(w)?;
     let order = log.orders.row(w);
     for i in 0..order.len() {
-        let spot = spot_of(log, numbers, places, order[i]);
+        let spot = trace_spot(log, numbers, places, order[i]);
         writes.push(spot)?;
     }
     Ok(())
@@ -145,10 +145,10 @@ fn source_spot<A: Allocator>(
     ensures { result ≡ source_spot (log_so_far log.now) n logged logged.source }
 {
     match logged.source {
-        Source::Untold => spot_of(log, numbers, places, n),
-        Source::Own => spot_of(log, numbers, places, n),
+        Source::Untold => trace_spot(log, numbers, places, n),
+        Source::Own => trace_spot(log, numbers, places, n),
         Source::Opening => logged.word,
-        Source::Write(m) => spot_of(log, numbers, places, m),
+        Source::Write(m) => trace_spot(log, numbers, places, m),
     }
 }
 

@@ -6,8 +6,8 @@ ghost use Rattle.std.specs.List.{range_with_len};
 ghost use Rattle.packet.specs.Memory.{reply_to};
 ghost use Rattle.model_text.specs.declared.logged.Told.{Told};
 ghost use Rattle.model_text.specs.Traces.{logged_at};
-ghost use Rattle.model_text.specs.Values.{op_of_step, word_left, word_met, reply_due, writes_before};
-ghost use Rattle.model_text.specs.Values.{line_left, IsWrongReply, AreRepliesOr, writes_before_one};
+ghost use Rattle.model_text.specs.Values.{op_of_step, word_of_writes, word_met, reply_due};
+ghost use Rattle.model_text.specs.Values.{writes_before, line_left, IsWrongReply, AreRepliesOr, writes_before_one};
 
 use crate::logged::{Logged, Told};
 use crate::trace::{LogTrace, logged_at};
@@ -47,7 +47,7 @@ fn words_left<A: Allocator>(
     writes: &[usize],
 ) -> Result<Vec<u64, A>, AllocError>
     ensures { IfOk result (λ words. words.items
-        ≡ map (word_left steps.now writes.now) (range_with_len 0 (length writes.now + 1))) }
+        ≡ map (word_of_writes steps.now writes.now) (range_with_len 0 (length writes.now + 1))) }
 {
     let mut words = Vec::new(alloc);
     let mut word = 0u64;
@@ -100,7 +100,7 @@ fn is_same(a: Reply, b: Reply) -> bool
 /// The word that an operation finds, by the words that the first writes leave.
 fn word_met<A: Allocator>(trace: &LogTrace<A>, words: &[u64], x: usize) -> u64
     requires x { x < length trace.now.operations.items }
-    requires words { words.now ≡ map (word_left trace.now.steps.items trace.now.writes.items)
+    requires words { words.now ≡ map (word_of_writes trace.now.steps.items trace.now.writes.items)
         (range_with_len 0 (length trace.now.writes.items + 1)) }
     ensures { result ≡ word_met trace.now.steps.items trace.now.operations.items
         trace.now.writes.items x }
@@ -131,7 +131,7 @@ fn due_reply(step: Logged, word: u64) -> Reply
 fn wrong_reply<A: Allocator>(trace: &LogTrace<A>, words: &[u64], x: usize) -> Option<WrongReply>
     requires x { x < length trace.now.operations.items }
     requires steps { x < length trace.now.steps.items }
-    requires words { words.now ≡ map (word_left trace.now.steps.items trace.now.writes.items)
+    requires words { words.now ≡ map (word_of_writes trace.now.steps.items trace.now.writes.items)
         (range_with_len 0 (length trace.now.writes.items + 1)) }
     ensures none { IfNone result ((told : Told)
         → (logged_at trace.now.steps.items x).told ≡ Some told

@@ -6,6 +6,7 @@ pub mod Begun
 pub mod Cells
 pub mod Refused
 pub mod Pieces
+pub mod Plain
 pub mod Behind
 pub mod Jams
 pub mod Bounds

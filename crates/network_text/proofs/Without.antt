@@ -1,170 +1,23 @@
 -- Lines that give names change no network.
-use Rattle.std.proofs.Common.{◌≡◌, ℕ, ◌+◌, Bool, true, false, cond, List, [], ◌∷◌, ◌++◌, refl, sym, ◌∙◌, ap, subst}
-use Rattle.std.specs.Prelude.{Result, Ok, Err, Option, Some, None, if◌then◌else◌, not, replicate, slice_get, slice_set, slice_index_or, slice_index, nat_lt, nat_le, length, ◌==◌, ◌&&◌}
+use Rattle.std.proofs.Common.{◌≡◌, ℕ, ◌+◌, Bool, true, false, cond, List, [], ◌∷◌, refl, sym, ◌∙◌, ap, subst}
+use Rattle.std.specs.Prelude.{Result, Ok, Err, Option, Some, None, if◌then◌else◌, not, replicate, nat_le, length, ◌==◌}
 use Rattle.lexer.specs.Words.{words_of, begins_comment}
 use Rattle.lexer.specs.declared.refusal.Refusal.{Refusal}
 use Rattle.lexer.specs.Outcome.{◌>>=◌, then_lines}
 use Rattle.script.specs.declared.fault.LineFault.{LineFault}
 use Rattle.script.specs.Outcome.{by_fault}
-use Rattle.network_judge.specs.declared.table.Kind.TheVariants.{Injection, Hop, Ejection}
-use Rattle.network_judge.specs.Table.{table_of, columns_of, is_sender, is_receiver}
 use Rattle.network_text.specs.declared.reading.GivenNames.{GivenNames}
 use Rattle.network_text.specs.declared.reason.Keyword.{Keyword}
 use Rattle.network_text.specs.declared.reason.Keyword.TheVariants as key
 use Rattle.network_text.specs.declared.reason.NetworkReason.{NetworkReason}
 use Rattle.network_text.specs.declared.reason.NetworkReason.TheVariants as reason
 use Rattle.network_text.specs.Reasons.{network_keyword_of, network_fault_of}
-use Rattle.network_text.specs.Shapes.{unless, after_one, after_two, after_three, after_router_words, after_link_words, after_name_words, number_at}
-use Rattle.network_text.specs.Network.{Reading, NetworkSpec, reading_with, nothing_read, lacks, is_hop, with_kind, count_of, begun, started, cell_of, has_reply}
-use Rattle.network_text.specs.Network.{after_channels, after_inject, after_eject, after_join, after_choice, after_next, after_reply}
-use Rattle.network_text.specs.Network.{after_router, after_link, after_name, names_at, with_names, begun_names, unnamed}
+use Rattle.network_text.specs.Shapes.{unless, after_router_words, after_link_words, after_name_words, number_at}
+use Rattle.network_text.specs.Network.{Reading, NetworkSpec, reading_with, nothing_read, lacks, count_of}
+use Rattle.network_text.specs.Network.{after_router, after_link, after_name, names_at, with_names, unnamed}
 use Rattle.network_text.specs.Network.{after_first, after_words, network_with, network_from, network_or_why, network_of}
 use Rattle.network_text.specs.Names.{is_naming, words_name, without_names}
-
-abbrev Read : Type 0
-Read = Result Reading NetworkReason
-
--- with other names
-abbrev forget : List GivenNames → Reading → Reading
-forget s r = reading_with r.table r.replies r.begun s
-
-abbrev mapped : List GivenNames → Read → Read
-mapped s (Ok r) = Ok (forget s r)
-mapped s (Err e) = Err e
-
--- it goes with tests and steps
-if_mapped : (s : List GivenNames) (b : Bool) (x y : Read) → (if b then mapped s x else mapped s y) ≡ mapped s (if b then x else y)
-if_mapped s true x y = refl
-if_mapped s false x y = refl
-
-unless_mapped : (s : List GivenNames) (o : Option NetworkReason) (m n : Read) → n ≡ mapped s m → unless o n ≡ mapped s (unless o m)
-unless_mapped s None m n is = is
-unless_mapped s (Some e) m n is = refl
-
-bind_mapped : (s : List GivenNames) (m : Result ℕ NetworkReason) (f h : ℕ → Read) → ((x : ℕ) → h x ≡ mapped s (f x)) → (m >>= h) ≡ mapped s (m >>= f)
-bind_mapped s (Ok x) f h each = each x
-bind_mapped s (Err e) f h each = refl
-
-one_mapped : (s : List GivenNames) (k : Keyword) (f h : ℕ → Read) (ws : List (List ℕ)) → ((x : ℕ) → h x ≡ mapped s (f x))
-    → after_one k h ws ≡ mapped s (after_one k f ws)
-one_mapped s k f h [] each = refl
-one_mapped s k f h (a ∷ []) each = bind_mapped s (number_at 1 a) f h each
-one_mapped s k f h (a ∷ b ∷ more) each = refl
-
-two_mapped : (s : List GivenNames) (k : Keyword) (f h : ℕ → ℕ → Read) (ws : List (List ℕ)) → ((x y : ℕ) → h x y ≡ mapped s (f x y))
-    → after_two k h ws ≡ mapped s (after_two k f ws)
-two_mapped s k f h [] each = refl
-two_mapped s k f h (a ∷ []) each = refl
-two_mapped s k f h (a ∷ b ∷ []) each =
-    bind_mapped s (number_at 1 a) (λ x. number_at 2 b >>= f x) (λ x. number_at 2 b >>= h x)
-    (λ x. bind_mapped s (number_at 2 b) (f x) (h x) (each x))
-two_mapped s k f h (a ∷ b ∷ c ∷ more) each = refl
-
-three_mapped : (s : List GivenNames) (k : Keyword) (f h : ℕ → ℕ → ℕ → Read) (ws : List (List ℕ)) → ((x y z : ℕ) → h x y z ≡ mapped s (f x y z))
-    → after_three k h ws ≡ mapped s (after_three k f ws)
-three_mapped s k f h [] each = refl
-three_mapped s k f h (a ∷ []) each = refl
-three_mapped s k f h (a ∷ b ∷ []) each = refl
-three_mapped s k f h (a ∷ b ∷ c ∷ []) each =
-    bind_mapped s (number_at 1 a) (λ x. number_at 2 b >>= λ y. number_at 3 c >>= f x y) (λ x. number_at 2 b >>= λ y. number_at 3 c >>= h x y)
-    (λ x. bind_mapped s (number_at 2 b) (λ y. number_at 3 c >>= f x y) (λ y. number_at 3 c >>= h x y)
-    (λ y. bind_mapped s (number_at 3 c) (f x y) (h x y) (each x y)))
-three_mapped s k f h (a ∷ b ∷ c ∷ d ∷ more) each = refl
-
--- what each line gives
-channels_mapped : (s : List GivenNames) (r : Reading) (x : ℕ) → after_channels (forget s r) x ≡ mapped s (after_channels r x)
-channels_mapped s r x =
-    ap (λ (o : Read). if not (count_of r == 0) then Err reason.ChannelsTwice else o) (if_mapped s (nat_le 1 x && nat_le x 16384)
-    (Ok (reading_with (table_of (replicate x Hop) r.table.joins r.table.choices) r.replies r.begun r.names)) (Err reason.ChannelsLimits))
-    ∙ if_mapped s (not (count_of r == 0)) (Err reason.ChannelsTwice)
-    (if nat_le 1 x && nat_le x 16384
-    then Ok (reading_with (table_of (replicate x Hop) r.table.joins r.table.choices) r.replies r.begun r.names)
-    else Err reason.ChannelsLimits)
-
-inject_mapped : (s : List GivenNames) (r : Reading) (x : ℕ) → after_inject (forget s r) x ≡ mapped s (after_inject r x)
-inject_mapped s r x =
-    unless_mapped s (lacks r 1 x) _ _ (if_mapped s (not (is_hop (slice_index_or r.table.kinds x Hop))) (Err reason.KindTwice) (Ok (with_kind r x Injection)))
-
-four_mapped : (s : List GivenNames) (b c d : Bool) (x y z w : Read)
-    → (if b then mapped s x else (if c then mapped s y else (if d then mapped s z else mapped s w))) ≡ mapped s (if b then x else (if c then y else (if d then z else w)))
-four_mapped s true c d x y z w = refl
-four_mapped s false true d x y z w = refl
-four_mapped s false false true x y z w = refl
-four_mapped s false false false x y z w = refl
-
-eject_mapped : (s : List GivenNames) (r : Reading) (x : ℕ) → after_eject (forget s r) x ≡ mapped s (after_eject r x)
-eject_mapped s r x =
-    unless_mapped s (lacks r 1 x) _ _
-    (four_mapped s r.begun (not (is_hop (slice_index_or r.table.kinds x Hop))) _ (Err reason.EjectionLate) (Err reason.KindTwice) (Err reason.EjectionsLimits) (Ok (with_kind r x Ejection)))
-
-join_mapped : (s : List GivenNames) (r : Reading) (i j : ℕ) → after_join (forget s r) i j ≡ mapped s (after_join r i j)
-join_mapped s r i j = unless_mapped s (lacks r 1 i) _ _ (unless_mapped s (lacks r 2 j) _ _
-    (if_mapped s (nat_le 1048576 (length r.table.joins)) (Err reason.JoinsLimits)
-    (Ok (reading_with (table_of r.table.kinds (r.table.joins ++ record { from = i; to = j } ∷ []) r.table.choices) r.replies r.begun r.names))))
-
-begun_by : (s : List GivenNames) (r : Reading) (b : Bool) → (if b then forget s r else started (forget s r)) ≡ forget s (if b then r else started r)
-begun_by s r true = refl
-begun_by s r false = refl
-
-begun_mapped : (s : List GivenNames) (r : Reading) → begun (forget s r) ≡ forget s (begun r)
-begun_mapped s r = begun_by s r r.begun
-
-choice_mapped : (s : List GivenNames) (r : Reading) (cell y : ℕ) → after_choice (forget s r) cell y ≡ mapped s (after_choice r cell y)
-choice_mapped s r cell y =
-    if_mapped s (not (slice_index r.table.choices cell == count_of r)) (Err reason.ChoiceTwice)
-    (Ok (reading_with (table_of r.table.kinds r.table.joins (slice_set r.table.choices cell y)) r.replies r.begun r.names))
-
-next_mapped : (s : List GivenNames) (r : Reading) (x j y : ℕ) → after_next (forget s r) x j y ≡ mapped s (after_next r x j y)
-next_mapped s r x j y =
-    unless_mapped s (lacks r 1 x) _ _ (unless_mapped s (lacks r 2 j) _ _
-    (ap (λ (o : Read). if not (is_receiver (slice_get r.table.kinds j)) then Err (reason.NotEjection 2) else o)
-    (unless_mapped s (lacks r 3 y) _ _
-    (ap (λ q. after_choice q (cell_of r x j) y) (begun_mapped s r) ∙ choice_mapped s (begun r) (cell_of r x j) y))
-    ∙ if_mapped s (not (is_receiver (slice_get r.table.kinds j))) (Err (reason.NotEjection 2))
-    (unless (lacks r 3 y) (after_choice (begun r) (cell_of r x j) y))))
-
-reply_mapped : (s : List GivenNames) (r : Reading) (x y : ℕ) → after_reply (forget s r) x y ≡ mapped s (after_reply r x y)
-reply_mapped s r x y =
-    let made : Read = Ok (reading_with r.table (r.replies ++ record { from = x; to = y } ∷ []) r.begun r.names) in
-    let fresh : Read = if has_reply r.replies x y then Err reason.ReplyTwice else made in
-    let sends : Read = if not (is_sender (slice_get r.table.kinds y)) then Err (reason.NotInjection 2) else fresh in
-    unless_mapped s (lacks r 1 x) _ _
-    (ap (λ (o : Read). if not (is_receiver (slice_get r.table.kinds x)) then Err (reason.NotEjection 1) else o)
-    (unless_mapped s (lacks r 2 y) sends _
-    (ap (λ (o : Read). if not (is_sender (slice_get r.table.kinds y)) then Err (reason.NotInjection 2) else o)
-    (if_mapped s (has_reply r.replies x y) (Err reason.ReplyTwice) made)
-    ∙ if_mapped s (not (is_sender (slice_get r.table.kinds y))) (Err (reason.NotInjection 2)) fresh))
-    ∙ if_mapped s (not (is_receiver (slice_get r.table.kinds x))) (Err (reason.NotEjection 1)) (unless (lacks r 2 y) sends))
-
--- a line without names goes as with them
-pub record Goes (s : List GivenNames) (o : Read) (next : Reading) : Type 0 where
-  pub names : List GivenNames
-  pub made : o ≡ Ok (forget names next)
-
-goes_by : (s : List GivenNames) (r next : Reading) (b : Bool) (k : Option Keyword) (ws : List (List ℕ)) → is_naming k ≡ false
-    → (if b then Ok r else after_first r k ws) ≡ Ok next → Goes s (if b then Ok (forget s r) else after_first (forget s r) k ws) next
-goes_by s r next true k ws plain made = record { names = s; made = ap (mapped s) made }
-goes_by s r next false None ws plain made = absurd (cc)
-goes_by s r next false (Some key.Channels) ws plain made =
-    record { names = s; made = one_mapped s key.Channels (after_channels r) (after_channels (forget s r)) ws (channels_mapped s r) ∙ ap (mapped s) made }
-goes_by s r next false (Some key.Inject) ws plain made =
-    record { names = s; made = one_mapped s key.Inject (after_inject r) (after_inject (forget s r)) ws (inject_mapped s r) ∙ ap (mapped s) made }
-goes_by s r next false (Some key.Eject) ws plain made =
-    record { names = s; made = one_mapped s key.Eject (after_eject r) (after_eject (forget s r)) ws (eject_mapped s r) ∙ ap (mapped s) made }
-goes_by s r next false (Some key.Join) ws plain made =
-    record { names = s; made = two_mapped s key.Join (after_join r) (after_join (forget s r)) ws (join_mapped s r) ∙ ap (mapped s) made }
-goes_by s r next false (Some key.Next) ws plain made =
-    record { names = s; made = three_mapped s key.Next (after_next r) (after_next (forget s r)) ws (next_mapped s r) ∙ ap (mapped s) made }
-goes_by s r next false (Some key.Reply) ws plain made =
-    record { names = s; made = two_mapped s key.Reply (after_reply r) (after_reply (forget s r)) ws (reply_mapped s r) ∙ ap (mapped s) made }
-goes_by s r next false (Some key.Router) ws plain made = absurd (cc)
-goes_by s r next false (Some key.Link) ws plain made = absurd (cc)
-goes_by s r next false (Some key.Name) ws plain made = absurd (cc)
-
-goes : (s : List GivenNames) (r next : Reading) (ws : List (List ℕ)) → words_name ws ≡ false → after_words r ws ≡ Ok next
-    → Goes s (after_words (forget s r) ws) next
-goes s r next [] plain made = record { names = s; made = ap (mapped s) made }
-goes s r next (w ∷ ws) plain made = goes_by s r next (begins_comment w) (network_keyword_of w) ws plain made
+use Rattle.network_text.proofs.Plain.{Read, forget, begun_mapped, goes}
 
 -- what gives a name keeps all else
 abbrev Keeps : List GivenNames → Reading → Read → Type 0

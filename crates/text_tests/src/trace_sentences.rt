@@ -1,6 +1,7 @@
 use lexer::{Named, Reason};
 use std::alloc::{AllocError, Global};
 use std::test::Fail;
+use trace_lines::LineReason;
 use trace_text::TraceReason;
 use trace_why::{TraceSentence, trace_sentence};
 
@@ -254,7 +255,7 @@ const OTHERS: [(TraceReason, u64, &str); 3] = [
         "F9 t:1: address 6: a trace has operations on at most 1048576 addresses",
     ),
     (
-        TraceReason::Memory,
+        TraceReason::Line(LineReason::Memory),
         0,
         "F12 t: a request for memory was refused while it was read",
     ),

@@ -2,7 +2,7 @@
 
 ghost use Rattle.std.specs.Prelude.{◌≡◌, ◌⊎◌, IfOk, length};
 ghost use Rattle.trace_laws.specs.Traces.{IsTrace};
-ghost use Rattle.trace_records.specs.Gathered.{trace_of};
+ghost use Rattle.trace_records.specs.Gathered.{trace_of_records};
 ghost use Rattle.torusmem_c.specs.Room.{LacksMemory};
 ghost use Rattle.torusmem_c.specs.Traces.{PutsOrder, TellsTrace, TellsUnjudged, TellsVerdict, numbers_in};
 ghost use Rattle.torusmem_c.specs.Traces.{undecided_outcome};
@@ -13,7 +13,7 @@ use std::alloc::{AllocError, Global};
 use trace_judge::Undecided;
 use trace_judge::judge::{Verdict, judge};
 use trace_laws::{Call, Event};
-use trace_records::{EventRecord, trace_of};
+use trace_records::{EventRecord, trace_of_records};
 
 /// The numbers of an order's operations.
 fn numbers_in(alloc: Global, order: &[Call]) -> Result<Vec<u64>, AllocError>
@@ -78,10 +78,10 @@ pub extern "C" fn torusmem_linearize(
     configurations: u64,
     out: &mut [u64],
 ) -> Outcome
-    ensures { TellsTrace Global opening.now (trace_of (length opening.now) events.now)
+    ensures { TellsTrace Global opening.now (trace_of_records (length opening.now) events.now)
         configurations out.old out.new result ⊎ LacksMemory out.old out.new result }
 {
-    let trace = match trace_of(alloc, opening.len(), events) {
+    let trace = match trace_of_records(alloc, opening.len(), events) {
         Ok(trace) => trace,
         Err(fault) => return fault_outcome(fault),
     };

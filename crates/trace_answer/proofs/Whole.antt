@@ -13,9 +13,9 @@ use Rattle.trace_answer.specs.Whole.{IsWholeTrace}
 not_zero : (n : ℕ) → (n == 0) ≡ false → 1 ≤ n
 not_zero n h = grind (arith, nat_tests, h)
 
-read_whole : (r : TraceReading) → IsKept r → (r.words == 0) ≡ false → IsWholeTrace (trace_read r)
+read_whole : (r : TraceReading) → IsKept r → (r.head.words == 0) ≡ false → IsWholeTrace (trace_read r)
 read_whole r k some = record {
-  words = not_zero r.words some;
+  words = not_zero r.head.words some;
   trace = k.trace;
   known = k.known;
   apart = λ n m i j hi hj processor index.

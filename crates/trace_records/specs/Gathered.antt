@@ -97,5 +97,5 @@ events_from words g place (e ∷ records) =
     (λ next. events_from words next (place + 1) records)
 
 -- the trace that records are, over a memory of so many words
-abbrev pub trace_of : ℕ → List EventRecord → Result (List Event) LineFault
-trace_of words records = events_from words nothing_gathered 0 records
+abbrev pub trace_of_records : ℕ → List EventRecord → Result (List Event) LineFault
+trace_of_records words records = events_from words nothing_gathered 0 records

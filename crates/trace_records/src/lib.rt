@@ -7,4 +7,4 @@ pub mod record;
 pub mod records;
 
 pub use record::EventRecord;
-pub use records::trace_of;
+pub use records::trace_of_records;

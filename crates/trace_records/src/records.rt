@@ -3,7 +3,7 @@
 ghost use Rattle.std.specs.Prelude.{◌≡◌, ◌<◌, IfOk, Some, length, slice_get};
 ghost use Rattle.script.specs.Outcome.{Gives};
 ghost use Rattle.trace_laws.specs.Traces.{IsTrace};
-ghost use Rattle.trace_records.specs.Gathered.{trace_of};
+ghost use Rattle.trace_records.specs.Gathered.{trace_of_records};
 
 use crate::fault::fault_at;
 use crate::gathering::Gathering;
@@ -26,12 +26,12 @@ fn record_at(records: &[EventRecord], place: usize) -> EventRecord
 ///
 /// Errors: the fault of the first record that can't stand, with its place from 0; or `Fault::Memory`,
 /// with 0.
-pub fn trace_of<A: Allocator + Copy>(
+pub fn trace_of_records<A: Allocator + Copy>(
     alloc: A,
     words: usize,
     records: &[EventRecord],
 ) -> Result<Vec<Event, A>, LineFault>
-    ensures value { Gives (λ v. v.items) result (trace_of words records.now) }
+    ensures value { Gives (λ v. v.items) result (trace_of_records words records.now) }
     ensures trace { IfOk result (λ v. IsTrace words v.items) }
 {
     let Ok(mut gathering) = Gathering::none(alloc) else {

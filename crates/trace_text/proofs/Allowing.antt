@@ -141,8 +141,8 @@ given_is r n id reply begun es b e =
 pub answered_given : (r : TraceReading) → IsKept r → (n id : ℕ) (reply told : Reply) → TraceAnswersAt r.events n id told → (ws : List ℕ) (es : List Event)
     → ws ≡ others r → es ≡ map (moved_event (place_of_address r.places)) (answered_so r.events n id reply) → IsTrace (length ws) es
 answered_given r k n id reply told at ws es w e = rw (w, e)
-    (trace_placed (place_of_address r.places) (placed_address r.addresses) (opening_of (trace_read r)) (others r) (answered_so r.events n id reply) r.words
-    (trace_answered r.words r.events n id reply told k.trace at)
+    (trace_placed (place_of_address r.places) (placed_address r.addresses) (opening_of (trace_read r)) (others r) (answered_so r.events n id reply) r.head.words
+    (trace_answered r.head.words r.events n id reply told k.trace at)
     (renumbering_answered (place_of_address r.places) (placed_address r.addresses) (opening_of (trace_read r)) (others r) r.events n id reply (renumbering r k)))
 
 -- it is linearizable where it is with places

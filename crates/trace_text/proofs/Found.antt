@@ -22,7 +22,8 @@ use Rattle.trace_text.specs.declared.linearize.Unfound.{Unfound}
 use Rattle.trace_text.specs.Findings.{place_of_address, placed_address, opening_words_at, trace_read, unfound_at, IsUnfound}
 use Rattle.trace_text.specs.Kept.{IsKept}
 use Rattle.trace_text.specs.Renumbered.{moved_call, moved_event, IsRenumbering}
-use Rattle.trace_text.specs.Traced.{TraceReading, opening_of, value_in}
+use Rattle.trace_lines.specs.Head.{value_in}
+use Rattle.trace_text.specs.Traced.{TraceReading, opening_of}
 use Rattle.trace_text.proofs.Renumbered.{map_get, get_map, take_map, issue_back, answer_back, order_there, order_back, renumbering_take}
 use Rattle.trace_text.proofs.Many.{many_back}
 
@@ -38,10 +39,10 @@ moved r = map (moved_event (place_of_address r.places)) r.events
 
 -- the words with places
 abbrev pub others : TraceReading → List ℕ
-others r = opening_words_at r.inits r.addresses
+others r = opening_words_at r.head.inits r.addresses
 
 abbrev word_at : TraceReading → ℕ → ℕ
-word_at r a = unwrap_or (value_in r.inits a) 0
+word_at r a = unwrap_or (value_in r.head.inits a) 0
 
 place_is : (r : TraceReading) (a p : ℕ) → value_in r.places a ≡ Some p → place_of_address r.places a ≡ p
 place_is r a p h = ap (λ o. unwrap_or o 0) h
@@ -52,7 +53,7 @@ pub renumbering : (r : TraceReading) → IsKept r
 renumbering r k = record {
   inside = λ i c h.
       let low = k.trace.inside i c h in
-      let sized = length-map-range_with_len (word_at r) 0 r.words in
+      let sized = length-map-range_with_len (word_at r) 0 r.head.words in
       omega arith;
   placed = λ i c h.
       let q = k.placed i c h in
@@ -65,7 +66,7 @@ renumbering r k = record {
       let low = k.trace.inside i c h in
       ap (λ (n : ℕ). get_or (others r) n 0) (place_is r c.operation.address q.0 q.1)
       ∙ (read_is (others r) q.0 (word_at r c.operation.address) 0 (map_get (word_at r) r.addresses q.0 c.operation.address at)
-      ∙ sym (get_or-map-range_with_len (word_at r) 0 r.words c.operation.address c.operation.address 0 low (omega arith)));
+      ∙ sym (get_or-map-range_with_len (word_at r) 0 r.head.words c.operation.address c.operation.address 0 low (omega arith)));
   inverse = λ i c h.
       let q = k.placed i c h in
       ap (placed_address r.addresses) (place_is r c.operation.address q.0 q.1)

@@ -1,5 +1,5 @@
 -- What the line of an issue keeps true.
-use Rattle.std.proofs.Common.{◌≡◌, ◌≢◌, ⊎_elim, ℕ, ◌<◌, ◌^◌, ◌==◌, ◌+◌, true, List, [], ◌∷◌, ◌++◌, length, Some, None, refl, sym, ◌∙◌}
+use Rattle.std.proofs.Common.{◌≡◌, ◌≢◌, ⊎_elim, ℕ, ◌<◌, ◌^◌, ◌+◌, true, List, [], ◌∷◌, ◌++◌, length, Some, None, refl, sym, ◌∙◌}
 use Rattle.std.proofs.Common.{ap, subst, arith, slice_get, get_or-set_same, get_or-set_other}
 use Rattle.std.specs.Prelude.{Option, nat_lt, not, is_some, Ok, Err, if◌then◌else◌}
 use Rattle.std.proofs.lemmas.Bool.{cases_eq}
@@ -9,16 +9,19 @@ use Rattle.packet.specs.Reading.{op_with}
 use Rattle.trace_laws.specs.declared.event.Call.{Call}
 use Rattle.trace_laws.specs.declared.event.Event.TheVariants.{Issue}
 use Rattle.trace_laws.proofs.Lists.{get_push_cases, get_append_left, get_push, get_within}
+use Rattle.trace_lines.specs.declared.form.Form.{Form}
+use Rattle.trace_lines.specs.Form.{number_at, spelled_form, limited_word, form_operation}
+use Rattle.trace_lines.specs.Head.{value_in, with_value, processor_read}
+use Rattle.trace_lines.specs.Reasons.{map_err}
+use Rattle.trace_lines.proofs.Refused.{unmapped}
 use Rattle.trace_text.specs.declared.issued.Issued.{Issued}
-use Rattle.trace_text.specs.declared.form.Form.{Form}
 use Rattle.trace_text.specs.declared.reason.TraceReason.TheVariants as reason
-use Rattle.trace_text.specs.Form.{number_at, spelled_form, checked_word, form_operation}
 use Rattle.trace_text.specs.IssueNumbers.{numbers_of, with_number}
 use Rattle.trace_text.specs.Kept.{IsKept, IsKnownAs, AreIndexed}
-use Rattle.trace_text.specs.Traced.{TraceReading, value_in, with_value, with_issue, placed, lacks, after_issue_line}
+use Rattle.trace_text.specs.Traced.{TraceReading, with_issue, placed, after_issue_line}
 use Rattle.trace_text.proofs.Entries.{value_new, value_old}
 use Rattle.trace_text.proofs.Growing.{longer, issued_with, answered_before, was_issued, issued_later, issue_grows}
-use Rattle.trace_text.proofs.Outcomes.{one_ok, bind_ok, else_ok, then_ok, if_ok, unless_ok, passed, not_true, lt_true}
+use Rattle.trace_text.proofs.Outcomes.{one_ok, bind_ok, else_ok, then_ok, if_ok, lt_true, low_processor}
 
 -- operations are found by processor and index once there is one more
 issue_indexed : (numbers : List (List ℕ)) (issued : List Issued) → length numbers ≡ 4096 → AreIndexed numbers issued → (p : ℕ) → p < 4096
@@ -46,7 +49,7 @@ issue_indexed numbers issued count found p low one processor index n i h =
     (get_push_cases issued one n i h)
 
 -- a new issue
-issue_kept : (r : TraceReading) → IsKept r → (line p : ℕ) (o : Operation) → p < 4096 → o.address < r.words
+issue_kept : (r : TraceReading) → IsKept r → (line p : ℕ) (o : Operation) → p < 4096 → o.address < r.head.words
     → (q : ℕ) → value_in r.places o.address ≡ Some q → IsKept (with_issue r line p o)
 issue_kept r k line p o small low q place =
     let new : Call = record { id = length r.issued; operation = o } in
@@ -55,7 +58,7 @@ issue_kept r k line p o small low q place =
       words = k.words;
       processors = length-set r.numbers p (numbers_of r.numbers p ++ length r.issued ∷ []) ∙ k.processors;
       opened = k.opened;
-      trace = issue_grows r.words r.events new k.trace
+      trace = issue_grows r.head.words r.events new k.trace
           (λ i c h. let named = k.known i c h in get_within r.issued c.id named.0 named.1) low;
       lines = longer r.lines line ∙ (ap (λ n. n + 1) k.lines ∙ sym (longer r.events (Issue new)));
       known = λ i c h. ⊎_elim
@@ -84,7 +87,7 @@ issue_kept r k line p o small low q place =
     }
 
 -- a new place
-new_place : (r : TraceReading) → IsKept r → (a : ℕ) → a < r.words
+new_place : (r : TraceReading) → IsKept r → (a : ℕ) → a < r.head.words
     → IsKept (record r { places = with_value r.places a (length r.addresses); addresses = r.addresses ++ a ∷ [] })
 new_place r k a low = record {
   words = k.words;
@@ -112,7 +115,7 @@ new_place r k a low = record {
       (cases_eq b a);
   below = λ p b h. ⊎_elim
       (λ old. k.below p b old)
-      (λ last. subst (λ (n : ℕ). n < r.words) last.1 low)
+      (λ last. subst (λ (n : ℕ). n < r.head.words) last.1 low)
       (get_push_cases r.addresses a p b h);
 }
 
@@ -123,11 +126,11 @@ some_is None h = absurd (cc)
 -- what placing leaves: the same, and a place
 record IsPlaced (r next : TraceReading) (a : ℕ) : Type 0 where
   pub kept : IsKept next
-  pub words : next.words ≡ r.words
+  pub words : next.head.words ≡ r.head.words
   pub place : ℕ
   pub there : value_in next.places a ≡ Some place
 
-placed_kept : (r next : TraceReading) → IsKept r → (a : ℕ) → a < r.words → placed r a ≡ Ok next → IsPlaced r next a
+placed_kept : (r next : TraceReading) → IsKept r → (a : ℕ) → a < r.head.words → placed r a ≡ Ok next → IsPlaced r next a
 placed_kept r next k a low h = ⊎_elim
     (λ old.
     let same : r ≡ next = one_ok r next old.1 in
@@ -147,8 +150,8 @@ placed_kept r next k a low h = ⊎_elim
 inside_of : (words : ℕ) (form : Form) (o : Operation) → form_operation words form ≡ Ok o → o.address < words
 inside_of words form o h =
     let low = then_ok (nat_lt form.address words) _ _ o h in
-    let first = bind_ok (checked_word 4 form.first) _ o low.1 in
-    let second = bind_ok (checked_word 5 form.second) _ o first.2 in
+    let first = bind_ok (limited_word 4 form.first) _ o low.1 in
+    let second = bind_ok (limited_word 5 form.second) _ o first.2 in
     let same : record { address = form.address; op = op_with form.code first.0 second.0 } ≡ o = one_ok _ o second.2 in
     subst (λ (p : Operation). p.address < words) same (lt_true form.address words low.0)
 
@@ -156,17 +159,15 @@ pub issue_line_kept : (r next : TraceReading) → IsKept r → (line : ℕ) (val
 issue_line_kept r next k line [] h = absurd (cc)
 issue_line_kept r next k line (processor ∷ []) h = absurd (cc)
 issue_line_kept r next k line (processor ∷ word ∷ operands) h =
-    let p = bind_ok (number_at 1 processor) _ next h in
-    let form = bind_ok (spelled_form word operands) _ next p.2 in
-    let good = unless_ok (lacks r p.0) _ next form.2 in
-    let given = passed (r.words == 0) _ _ good.0 in
-    let low = passed (not (nat_lt p.0 4096)) _ _ given.1 in
-    let o = bind_ok (form_operation r.words form.0) _ next good.1 in
+    let p = bind_ok (map_err reason.Line (number_at 1 processor)) _ next h in
+    let form = bind_ok (map_err reason.Line (spelled_form word operands)) _ next p.2 in
+    let q = bind_ok (map_err reason.Line (processor_read r.head p.0)) _ next form.2 in
+    let o = bind_ok (map_err reason.Line (form_operation r.head.words form.0)) _ next q.2 in
     let room = else_ok (not (nat_lt (length r.issued) (2 ^ 22))) _ _ next o.2 in
     let place = bind_ok (placed r o.0.address) _ next room.1 in
-    let inside = inside_of r.words form.0 o.0 o.1 in
+    let inside = inside_of r.head.words form.0 o.0 (unmapped reason.Line _ o.0 o.1) in
     let there = placed_kept r place.0 k o.0.address inside place.1 in
-    let same : with_issue place.0 line p.0 o.0 ≡ next = one_ok _ next place.2 in
+    let same : with_issue place.0 line q.0 o.0 ≡ next = one_ok _ next place.2 in
     subst IsKept same
-    (issue_kept place.0 there.kept line p.0 o.0 (lt_true p.0 4096 (not_true (nat_lt p.0 4096) low.0))
+    (issue_kept place.0 there.kept line q.0 o.0 (low_processor r.head p.0 q.0 (unmapped reason.Line _ q.0 q.1))
     (subst (λ (n : ℕ). o.0.address < n) (sym there.words) inside) there.place there.there)

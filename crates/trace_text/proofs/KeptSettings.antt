@@ -1,14 +1,19 @@
 -- What the title and the lines of settings keep true.
 use Rattle.std.proofs.Common.{◌≡◌, ◌≢◌, ⊎_elim, ℕ, ◌<◌, ◌≤◌, ◌^◌, ◌==◌, ◌&&◌, true, false, List, [], ◌∷◌, length, Some, None, refl, sym, ◌∙◌}
 use Rattle.std.proofs.Common.{subst, arith}
-use Rattle.std.specs.Prelude.{Bool, nat_lt, nat_le, not, Ok, codes}
+use Rattle.std.specs.Prelude.{Bool, nat_lt, nat_le, not, Result, Ok, codes}
 use Rattle.std.specs.Str.{bytes_eq}
 use Rattle.std.proofs.lemmas.Bool.{cases_eq}
 use Rattle.std.proofs.lemmas.Bool.Decides.{nat_tests}
 use Rattle.std.proofs.lemmas.List.{length-replicate}
-use Rattle.trace_text.specs.Form.{number_at}
+use Rattle.trace_lines.specs.declared.reason.LineReason.{LineReason}
+use Rattle.trace_lines.specs.Form.{number_at}
+use Rattle.trace_lines.specs.Head.{HeadSpec, value_in, with_value, opening_wrong, after_init_line, after_words_line, after_title}
+use Rattle.trace_lines.specs.Reasons.{map_err}
+use Rattle.trace_lines.proofs.Refused.{unmapped}
+use Rattle.trace_text.specs.declared.reason.TraceReason.TheVariants as reason
 use Rattle.trace_text.specs.Kept.{IsKept}
-use Rattle.trace_text.specs.Traced.{TraceReading, no_trace_read, value_in, with_value, opening_wrong, after_init_line, after_words_line, after_title}
+use Rattle.trace_text.specs.Traced.{TraceReading, no_trace_read, with_head}
 use Rattle.trace_text.proofs.Entries.{value_old}
 use Rattle.trace_text.proofs.Growing.{none_issued, none_answered, none_trace}
 use Rattle.trace_text.proofs.Outcomes.{one_ok, bind_ok, else_ok, then_ok, unless_ok, passed, not_true, lt_true}
@@ -29,7 +34,7 @@ kept_none = record {
   below = λ p a h. absurd (let e : None ≡ Some a = h in cc);
 }
 
--- an opening word
+-- one opening word more
 opened_more : (entries : List (ℕ × ℕ)) (words a v : ℕ) → a < words → ((b w : ℕ) → value_in entries b ≡ Some w → b < words)
     → (b w : ℕ) → value_in (with_value entries a v) b ≡ Some w → b < words
 opened_more entries words a v low before b w h = ⊎_elim
@@ -37,32 +42,65 @@ opened_more entries words a v low before b w h = ⊎_elim
     (λ (ne : b ≢ a). before b w (sym (value_old entries a v b ne) ∙ h))
     (cases_eq b a)
 
-pub init_line_kept : (r next : TraceReading) → IsKept r → (values : List (List ℕ)) → after_init_line r values ≡ Ok next → IsKept next
-init_line_kept r next k [] h = absurd (cc)
-init_line_kept r next k (a ∷ []) h = absurd (cc)
-init_line_kept r next k (a ∷ b ∷ c ∷ more) h = absurd (cc)
-init_line_kept r next k (address ∷ value ∷ []) h =
-    let a = bind_ok (number_at 1 address) _ next h in
-    let v = bind_ok (number_at 2 value) _ next a.2 in
-    let good = unless_ok (opening_wrong r a.0 v.0) _ next v.2 in
-    let given = passed (r.words == 0) _ _ good.0 in
-    let early = passed (not (length r.issued == 0)) _ _ given.1 in
-    let low = passed (not (nat_lt a.0 r.words)) _ _ early.1 in
-    let same : record r { inits = with_value r.inits a.0 v.0 } ≡ next = one_ok _ next good.1 in
-    subst IsKept same (record {
-      words = k.words;
-      processors = k.processors;
-      opened = opened_more r.inits r.words a.0 v.0 (lt_true a.0 r.words (not_true (nat_lt a.0 r.words) low.0)) k.opened;
-      trace = k.trace;
-      lines = k.lines;
-      known = k.known;
-      issued = k.issued;
-      replied = k.replied;
-      indexed = k.indexed;
-      placed = k.placed;
-      addressed = k.addressed;
-      below = k.below;
-    })
+-- a reading with another head: what was below the number of words still is
+head_kept : (r : TraceReading) → IsKept r → (head : HeadSpec) → head.words ≤ 2 ^ 32
+    → ((a w : ℕ) → value_in head.inits a ≡ Some w → a < head.words) → ((n : ℕ) → n < r.head.words → n < head.words)
+    → IsKept (record r { head = head })
+head_kept r k head most opened low = record {
+  words = most;
+  processors = k.processors;
+  opened = opened;
+  trace = record {
+    rising = k.trace.rising;
+    issued = k.trace.issued;
+    once = k.trace.once;
+    inside = λ i c at. low c.operation.address (k.trace.inside i c at);
+  };
+  lines = k.lines;
+  known = k.known;
+  issued = k.issued;
+  replied = k.replied;
+  indexed = k.indexed;
+  placed = k.placed;
+  addressed = k.addressed;
+  below = λ p a at. low a (k.below p a at);
+}
+
+-- a line of the head that is taken leaves a head
+head_taken : (r next : TraceReading) (made : Result HeadSpec LineReason) → with_head r made ≡ Ok next
+    → (head : HeadSpec) × (made ≡ Ok head) × (record r { head = head } ≡ next)
+head_taken r next made h =
+    let w = bind_ok (map_err reason.Line made) _ next h in
+    (w.0, unmapped reason.Line made w.0 w.1, one_ok _ next w.2)
+
+taken_kept : (r next : TraceReading) (made : Result HeadSpec LineReason) → with_head r made ≡ Ok next
+    → ((head : HeadSpec) → made ≡ Ok head → IsKept (record r { head = head })) → IsKept next
+taken_kept r next made h kept =
+    let t = head_taken r next made h in
+    subst IsKept t.2 (kept t.0 t.1)
+
+-- an opening word
+init_kept : (r : TraceReading) → IsKept r → (late : Bool) (values : List (List ℕ)) (head : HeadSpec)
+    → after_init_line r.head late values ≡ Ok head → IsKept (record r { head = head })
+init_kept r k late [] head h = absurd (cc)
+init_kept r k late (a ∷ []) head h = absurd (cc)
+init_kept r k late (a ∷ b ∷ c ∷ more) head h = absurd (cc)
+init_kept r k late (address ∷ value ∷ []) head h =
+    let a = bind_ok (number_at 1 address) _ head h in
+    let v = bind_ok (number_at 2 value) _ head a.2 in
+    let good = unless_ok (opening_wrong r.head late a.0 v.0) _ head v.2 in
+    let given = passed (r.head.words == 0) _ _ good.0 in
+    let early = passed late _ _ given.1 in
+    let low = passed (not (nat_lt a.0 r.head.words)) _ _ early.1 in
+    let same : record (r.head) { inits = with_value r.head.inits a.0 v.0 } ≡ head = one_ok _ head good.1 in
+    subst (λ (n : HeadSpec). IsKept (record r { head = n })) same
+    (head_kept r k (record (r.head) { inits = with_value r.head.inits a.0 v.0 }) k.words
+    (opened_more r.head.inits r.head.words a.0 v.0 (lt_true a.0 r.head.words (not_true (nat_lt a.0 r.head.words) low.0)) k.opened)
+    (λ n l. l))
+
+pub init_line_kept : (r next : TraceReading) → IsKept r → (late : Bool) (values : List (List ℕ))
+    → with_head r (after_init_line r.head late values) ≡ Ok next → IsKept next
+init_line_kept r next k late values h = taken_kept r next _ h (init_kept r k late values)
 
 zero_is : (n : ℕ) → (n == 0) ≡ true → n ≡ 0
 zero_is n h = grind (arith, nat_tests, h)
@@ -74,52 +112,34 @@ both : (a b : Bool) → (a && b) ≡ true → b ≡ true
 both true b h = h
 both false b h = absurd (cc)
 
-pub words_line_kept : (r next : TraceReading) → IsKept r → (values : List (List ℕ)) → after_words_line r values ≡ Ok next → IsKept next
-words_line_kept r next k [] h = absurd (cc)
-words_line_kept r next k (a ∷ b ∷ more) h = absurd (cc)
-words_line_kept r next k (count ∷ []) h =
-    let w = bind_ok (number_at 1 count) _ next h in
-    let new = else_ok (not (r.words == 0)) _ _ next w.2 in
-    let small = then_ok (nat_le 1 w.0 && nat_le w.0 (2 ^ 32)) _ _ next new.1 in
-    let same : record r { words = w.0 } ≡ next = one_ok _ next small.1 in
-    let none : r.words ≡ 0 = zero_is r.words (not_true (r.words == 0) new.0) in
-    subst IsKept same (record {
-      words = le_true w.0 (2 ^ 32) (both (nat_le 1 w.0) (nat_le w.0 (2 ^ 32)) small.0);
-      processors = k.processors;
-      opened = λ a v at. absurd (let l = k.opened a v at in omega arith);
-      trace = record {
-        rising = k.trace.rising;
-        issued = k.trace.issued;
-        once = k.trace.once;
-        inside = λ i c at. absurd (let l = k.trace.inside i c at in omega arith);
-      };
-      lines = k.lines;
-      known = k.known;
-      issued = k.issued;
-      replied = k.replied;
-      indexed = k.indexed;
-      placed = k.placed;
-      addressed = k.addressed;
-      below = λ p a at. absurd (let l = k.below p a at in omega arith);
-    })
+words_kept : (r : TraceReading) → IsKept r → (values : List (List ℕ)) (head : HeadSpec)
+    → after_words_line r.head values ≡ Ok head → IsKept (record r { head = head })
+words_kept r k [] head h = absurd (cc)
+words_kept r k (a ∷ b ∷ more) head h = absurd (cc)
+words_kept r k (count ∷ []) head h =
+    let w = bind_ok (number_at 1 count) _ head h in
+    let new = else_ok (not (r.head.words == 0)) _ _ head w.2 in
+    let small = then_ok (nat_le 1 w.0 && nat_le w.0 (2 ^ 32)) _ _ head new.1 in
+    let same : record (r.head) { words = w.0 } ≡ head = one_ok _ head small.1 in
+    let none : r.head.words ≡ 0 = zero_is r.head.words (not_true (r.head.words == 0) new.0) in
+    subst (λ (n : HeadSpec). IsKept (record r { head = n })) same
+    (head_kept r k (record (r.head) { words = w.0 }) (le_true w.0 (2 ^ 32) (both (nat_le 1 w.0) (nat_le w.0 (2 ^ 32)) small.0))
+    (λ a v at. absurd (let l = k.opened a v at in omega arith)) (λ n l. absurd (omega arith)))
 
-pub title_kept : (r next : TraceReading) → IsKept r → (keyword : List ℕ) (values : List (List ℕ)) → after_title r keyword values ≡ Ok next → IsKept next
-title_kept r next k keyword [] h = absurd (cc)
-title_kept r next k keyword (a ∷ b ∷ more) h = absurd (cc)
-title_kept r next k keyword (version ∷ []) h =
-    let known = then_ok (bytes_eq keyword (codes "trace") && bytes_eq version (codes "1")) _ _ next h in
-    let same : record r { begun = true } ≡ next = one_ok _ next known.1 in
-    subst IsKept same (record {
-      words = k.words;
-      processors = k.processors;
-      opened = k.opened;
-      trace = k.trace;
-      lines = k.lines;
-      known = k.known;
-      issued = k.issued;
-      replied = k.replied;
-      indexed = k.indexed;
-      placed = k.placed;
-      addressed = k.addressed;
-      below = k.below;
-    })
+pub words_line_kept : (r next : TraceReading) → IsKept r → (values : List (List ℕ))
+    → with_head r (after_words_line r.head values) ≡ Ok next → IsKept next
+words_line_kept r next k values h = taken_kept r next _ h (words_kept r k values)
+
+titled : (r : TraceReading) → IsKept r → (keyword : List ℕ) (values : List (List ℕ)) (head : HeadSpec)
+    → after_title r.head (codes "trace") keyword values ≡ Ok head → IsKept (record r { head = head })
+titled r k keyword [] head h = absurd (cc)
+titled r k keyword (a ∷ b ∷ more) head h = absurd (cc)
+titled r k keyword (version ∷ []) head h =
+    let known = then_ok (bytes_eq keyword (codes "trace") && bytes_eq version (codes "1")) _ _ head h in
+    let same : record (r.head) { begun = true } ≡ head = one_ok _ head known.1 in
+    subst (λ (n : HeadSpec). IsKept (record r { head = n })) same
+    (head_kept r k (record (r.head) { begun = true }) k.words k.opened (λ n l. l))
+
+pub title_kept : (r next : TraceReading) → IsKept r → (keyword : List ℕ) (values : List (List ℕ))
+    → with_head r (after_title r.head (codes "trace") keyword values) ≡ Ok next → IsKept next
+title_kept r next k keyword values h = taken_kept r next _ h (titled r k keyword values)

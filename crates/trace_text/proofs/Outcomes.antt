@@ -1,10 +1,11 @@
 -- What is so where a line is taken.
-use Rattle.std.proofs.Common.{◌≡◌, ◌⊎◌, inl, inr, ℕ, ◌<◌, Bool, true, false, refl, arith}
-use Rattle.std.specs.Prelude.{Result, Ok, Err, nat_lt, not, if◌then◌else◌, Option, Some, None, ok_or}
+use Rattle.std.proofs.Common.{◌≡◌, ◌⊎◌, inl, inr, ℕ, ◌<◌, ◌==◌, Bool, subst, true, false, refl, arith}
+use Rattle.std.specs.Prelude.{Result, Ok, Err, option_map, nat_lt, not, if◌then◌else◌, Option, Some, None, ok_or}
 use Rattle.std.proofs.lemmas.Bool.Decides.{nat_tests}
 use Rattle.lexer.specs.Outcome.{◌>>=◌}
-use Rattle.trace_text.specs.declared.reason.TraceReason.{TraceReason}
-use Rattle.trace_text.specs.Reasons.{unless}
+use Rattle.trace_lines.specs.declared.reason.LineReason.{LineReason}
+use Rattle.trace_lines.specs.Head.{HeadSpec, processor_read}
+use Rattle.trace_lines.specs.Reasons.{unless_refused}
 
 -- a line is taken, and leaves this
 abbrev pub Leaves : {A R : Type 0} → Result A R → A → Type 0
@@ -38,7 +39,7 @@ pub or_ok : {A R : Type 0} (o : Option A) (e : R) (y : A) → ok_or o e ≡ Ok y
 or_ok (Some x) e y h = cc
 or_ok None e y h = absurd (cc)
 
-pub unless_ok : {A : Type 0} (o : Option TraceReason) (m : Result A TraceReason) (y : A) → unless o m ≡ Ok y → (o ≡ None) × (m ≡ Ok y)
+pub unless_ok : {A R : Type 0} (o : Option R) (m : Result A R) (y : A) → unless_refused o m ≡ Ok y → (o ≡ None) × (m ≡ Ok y)
 unless_ok (Some e) m y h = absurd (cc)
 unless_ok None m y h = (refl, h)
 
@@ -53,3 +54,14 @@ lt_true a b h = grind (arith, nat_tests, h)
 pub not_true : (b : Bool) → not b ≡ false → b ≡ true
 not_true true h = refl
 not_true false h = absurd (cc)
+
+pub none_mapped : {A B : Type 0} (f : A → B) (o : Option A) → option_map f o ≡ None → o ≡ None
+none_mapped f None h = refl
+none_mapped f (Some x) h = absurd (cc)
+
+-- a processor is below 4096
+pub low_processor : (h : HeadSpec) (p q : ℕ) → Leaves (processor_read h p) q → q < 4096
+low_processor h p q is =
+    let given = else_ok {R = LineReason} (h.words == 0) _ _ q is in
+    let low = then_ok (nat_lt p 4096) _ _ q given.1 in
+    subst (λ (n : ℕ). n < 4096) (one_ok p q low.1) (lt_true p 4096 low.0)

@@ -5,12 +5,13 @@ use Rattle.trace_laws.specs.Orders.{IsOrder, IsLinearizable}
 use Rattle.trace_judge.specs.declared.undecided.Undecided.{Undecided}
 use Rattle.trace_judge.specs.declared.undecided.Undecided.TheVariants as undecided
 use Rattle.trace_judge.specs.Stops.{HasMany, IsCrowded, IsAnAnswer}
+use Rattle.trace_lines.specs.Head.{value_in}
 use Rattle.trace_text.specs.declared.linearize.Finding.{Finding}
 use Rattle.trace_text.specs.declared.linearize.Finding.TheVariants.{Linearizable, No}
 use Rattle.trace_text.specs.declared.linearize.Unfound.{Unfound}
 use Rattle.trace_text.specs.declared.linearize.Unfound.TheVariants.{Memory, Configurations}
 use Rattle.trace_text.specs.declared.linearize.Unfound.TheVariants.{Operations}
-use Rattle.trace_text.specs.Traced.{TraceReading, TraceSpec, opening_of, value_in}
+use Rattle.trace_text.specs.Traced.{TraceReading, TraceSpec, opening_of}
 
 -- the place of an address; 0 where it has none
 abbrev pub place_of_address : List (ℕ × ℕ) → ℕ → ℕ
@@ -27,8 +28,8 @@ opening_words_at inits addresses = map (λ a. unwrap_or (value_in inits a) 0) ad
 -- the trace that was read
 abbrev pub trace_read : TraceReading → TraceSpec
 trace_read r = record {
-  words = r.words;
-  inits = r.inits;
+  words = r.head.words;
+  inits = r.head.inits;
   issued = r.issued;
   events = r.events;
   lines = r.lines;
@@ -49,7 +50,7 @@ TellsFinding t (No line) = (event : ℕ) × (slice_get t.lines event ≡ Some li
     × (IsLinearizable (opening_of t) (take (event + 1) t.events) → ⊥)
 
 -- event k answers an operation, and a word has more than so many configurations before it
-pub record AnswersMany (t : TraceSpec) (bound k : ℕ) : Type 0 where
+pub record AnswersPastBound (t : TraceSpec) (bound k : ℕ) : Type 0 where
   pub answer : IsAnAnswer t.events k
   pub many : HasMany (opening_of t) t.events k bound
 
@@ -58,6 +59,6 @@ pub record AnswersMany (t : TraceSpec) (bound k : ℕ) : Type 0 where
 abbrev pub IsUnfound : TraceSpec → ℕ → Unfound → Type 0
 IsUnfound t bound Memory = Unit {0}
 IsUnfound t bound (Configurations line) =
-    (event : ℕ) × (slice_get t.lines event ≡ Some line) × AnswersMany t bound event
+    (event : ℕ) × (slice_get t.lines event ≡ Some line) × AnswersPastBound t bound event
 IsUnfound t bound (Operations line) =
     (event : ℕ) × (slice_get t.lines event ≡ Some line) × IsCrowded t.events event

@@ -6,8 +6,8 @@ use Rattle.trace_text.specs.Views.{trace_so_far}
 
 abbrev pub trace_of_fields : {A : Type 0} → Inside A → TraceSpec
 trace_of_fields t = record {
-  words = t.reading.words;
-  inits = t.reading.inits.entries;
+  words = t.reading.head.words;
+  inits = t.reading.head.inits;
   issued = t.reading.issued.items;
   events = t.reading.events.items;
   lines = t.reading.lines.items;

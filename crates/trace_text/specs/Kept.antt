@@ -3,9 +3,10 @@ use Rattle.std.specs.Prelude.{◌≡◌, ◌<◌, ◌≤◌, ◌^◌, ℕ, List,
 use Rattle.packet.specs.declared.kinds.Reply.{Reply}
 use Rattle.trace_laws.specs.declared.event.Call.{Call}
 use Rattle.trace_laws.specs.Traces.{IsTrace, TraceIssuesAt, TraceAnswersAt, WasIssued}
+use Rattle.trace_lines.specs.Head.{value_in}
 use Rattle.trace_text.specs.declared.issued.Issued.{Issued}
 use Rattle.trace_text.specs.IssueNumbers.{numbers_of}
-use Rattle.trace_text.specs.Traced.{TraceReading, value_in}
+use Rattle.trace_text.specs.Traced.{TraceReading}
 
 -- the operation of this number is known as it was issued
 abbrev pub IsKnownAs : List Issued → Call → Type 0
@@ -24,10 +25,10 @@ AreIndexed numbers issued = (n : ℕ) (k : Issued) → slice_get issued n ≡ So
 -- opening words are words of the memory, events make a trace, each has its line, what is issued is
 -- known with its reply, and has an index and a place of its own
 pub record IsKept (r : TraceReading) : Type 0 where
-  pub words : r.words ≤ 2 ^ 32
+  pub words : r.head.words ≤ 2 ^ 32
   pub processors : length r.numbers ≡ 4096
-  pub opened : (a w : ℕ) → value_in r.inits a ≡ Some w → a < r.words
-  pub trace : IsTrace r.words r.events
+  pub opened : (a w : ℕ) → value_in r.head.inits a ≡ Some w → a < r.head.words
+  pub trace : IsTrace r.head.words r.events
   pub lines : length r.lines ≡ length r.events
   pub known : (i : ℕ) (call : Call) → TraceIssuesAt r.events i call → IsKnownAs r.issued call
   pub issued : (n : ℕ) → n < length r.issued → WasIssued r.events (length r.events) n
@@ -37,4 +38,4 @@ pub record IsKept (r : TraceReading) : Type 0 where
   pub placed : (i : ℕ) (call : Call) → TraceIssuesAt r.events i call
       → (p : ℕ) × (value_in r.places call.operation.address ≡ Some p)
   pub addressed : (a p : ℕ) → value_in r.places a ≡ Some p → slice_get r.addresses p ≡ Some a
-  pub below : (p a : ℕ) → slice_get r.addresses p ≡ Some a → a < r.words
+  pub below : (p a : ℕ) → slice_get r.addresses p ≡ Some a → a < r.head.words

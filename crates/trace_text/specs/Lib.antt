@@ -1,6 +1,5 @@
 pub mod Allowed
 pub mod Findings
-pub mod Form
 pub mod Inside
 pub mod InsideNumbers
 pub mod IssueNumbers

@@ -1,18 +1,12 @@
 -- The trace text: what each line makes of what the lines before it made, and what the whole text is
 -- (this project's own format).
-use Rattle.std.specs.Prelude.{ℕ, ◌+◌, ◌^◌, ◌&&◌, ◌==◌, Bool, true, false, not, nat_le, nat_lt, List}
-use Rattle.std.specs.Prelude.{[], ◌∷◌, ◌++◌}
-use Rattle.std.specs.Prelude.{length, map}
-use Rattle.std.specs.Prelude.{slice_get, slice_set, Option, Some, None, is_some, ok_or, unwrap_or}
-use Rattle.std.specs.Prelude.{Result, Ok, Err, if◌then◌else◌, codes}
+use Rattle.std.specs.Prelude.{ℕ, ◌+◌, ◌^◌, ◌==◌, not, nat_lt, List, [], ◌∷◌, ◌++◌, length, map}
+use Rattle.std.specs.Prelude.{slice_get, slice_set, Option, Some, None, is_some, option_map, ok_or}
+use Rattle.std.specs.Prelude.{unwrap_or, Result, Ok, Err, if◌then◌else◌, codes}
 use Rattle.std.specs.List.{range_with_len}
 use Rattle.std.specs.Str.{bytes_eq}
-use Rattle.std.specs.Ordering.{nat_cmp}
-use Rattle.std.specs.BTreeMap.{is_at, insert_entry}
-use Rattle.std.specs.Map.{lookup}
-use Rattle.packet.specs.declared.kinds.Code.{Code}
 use Rattle.packet.specs.declared.kinds.Operation.{Operation}
-use Rattle.packet.specs.Kinds.{code_of, is_store}
+use Rattle.packet.specs.Kinds.{code_of}
 use Rattle.trace_laws.specs.declared.event.Event.{Event}
 use Rattle.trace_laws.specs.declared.event.Event.TheVariants.{Issue, Answer}
 use Rattle.lexer.specs.Words.{words_of, begins_comment}
@@ -20,22 +14,19 @@ use Rattle.lexer.specs.Outcome.{◌>>=◌, then_lines}
 use Rattle.lexer.specs.declared.refusal.Refusal.{Refusal}
 use Rattle.script.specs.declared.fault.LineFault.{LineFault}
 use Rattle.script.specs.Outcome.{by_fault}
-use Rattle.trace_text.specs.declared.form.Form.{Form}
+use Rattle.trace_lines.specs.declared.form.Form.{Form}
+use Rattle.trace_lines.specs.declared.reason.LineReason.{LineReason}
+use Rattle.trace_lines.specs.Form.{number_at, spelled_form, form_operation, told_of, reply_read}
+use Rattle.trace_lines.specs.Form.{unwanted_reply}
+use Rattle.trace_lines.specs.Head.{HeadSpec, no_head, value_in, with_value, after_title}
+use Rattle.trace_lines.specs.Head.{after_words_line, after_init_line, processor_read, head_missing}
+use Rattle.trace_lines.specs.Reasons.{map_err, unless_refused}
 use Rattle.trace_text.specs.declared.issued.Issued.{Issued}
 use Rattle.trace_text.specs.declared.reason.Keyword.TheVariants as key
 use Rattle.trace_text.specs.declared.reason.TraceReason.{TraceReason}
 use Rattle.trace_text.specs.declared.reason.TraceReason.TheVariants as reason
-use Rattle.trace_text.specs.Form.{number_at, spelled_form, form_operation, told_of, reply_read}
 use Rattle.trace_text.specs.IssueNumbers.{no_numbers, numbers_of, with_number}
-use Rattle.trace_text.specs.Reasons.{trace_fault_of, unless}
-
--- what stands at an address in a list of addresses with something each, addresses rising
-abbrev pub value_in : {X : Type 0} → List (ℕ × X) → ℕ → Option X
-value_in entries address = lookup (is_at (nat_cmp address)) entries
-
--- such a list with another address
-abbrev pub with_value : {X : Type 0} → List (ℕ × X) → ℕ → X → List (ℕ × X)
-with_value entries address x = insert_entry nat_cmp entries address x
+use Rattle.trace_text.specs.Reasons.{trace_fault_of}
 
 -- a trace as its text gives it: the words of the memory, those that `init` lines named with their
 -- opening values, the operations in the order of issue, the events (an issue has the number of
@@ -51,13 +42,11 @@ pub record TraceSpec : Type 0 where
 abbrev pub opening_of : TraceSpec → List ℕ
 opening_of t = map (λ a. unwrap_or (value_in t.inits a) 0) (range_with_len 0 t.words)
 
--- what the lines so far gave: beside the trace whether its first line came, the addresses of its
--- operations, each with the number of those that came before it, and for each processor the numbers
--- of its issues
+-- what the lines so far gave: the head; the addresses of the operations, each with the number of
+-- those that came before it; for each processor the numbers of its issues; and the rest of the
+-- trace
 pub record TraceReading : Type 0 where
-  pub begun : Bool
-  pub words : ℕ
-  pub inits : List (ℕ × ℕ)
+  pub head : HeadSpec
   pub places : List (ℕ × ℕ)
   pub addresses : List ℕ
   pub numbers : List (List ℕ)
@@ -68,9 +57,7 @@ pub record TraceReading : Type 0 where
 -- nothing is given
 abbrev pub no_trace_read : TraceReading
 no_trace_read = record {
-  begun = false;
-  words = 0;
-  inits = [];
+  head = no_head;
   places = [];
   addresses = [];
   numbers = no_numbers;
@@ -79,48 +66,9 @@ no_trace_read = record {
   lines = [];
 }
 
--- the first line is `trace 1`
-abbrev pub after_title : TraceReading → List ℕ → List (List ℕ) → Result TraceReading TraceReason
-after_title r keyword (version ∷ []) =
-    if bytes_eq keyword (codes "trace") && bytes_eq version (codes "1")
-    then Ok (record r { begun = true }) else Err reason.NoTitle
-after_title r keyword [] = Err reason.NoTitle
-after_title r keyword (version ∷ other ∷ more) = Err reason.NoTitle
-
--- the number of words is given once, 1 to 2^32
-abbrev pub words_read : TraceReading → ℕ → Result TraceReading TraceReason
-words_read r words =
-    if not (r.words == 0) then Err reason.WordsTwice
-    else (if nat_le 1 words && nat_le words (2 ^ 32) then Ok (record r { words = words })
-    else Err reason.WordsLimits)
-
-abbrev pub after_words_line : TraceReading → List (List ℕ) → Result TraceReading TraceReason
-after_words_line r (count ∷ []) = number_at 1 count >>= words_read r
-after_words_line r [] = Err (reason.WordCount key.Words)
-after_words_line r (count ∷ other ∷ more) = Err (reason.WordCount key.Words)
-
--- why an opening word is refused: the number of words is not given, an operation is issued already,
--- the address is not below that number, the value is no word, or a line before named the address
-abbrev pub opening_wrong : TraceReading → ℕ → ℕ → Option TraceReason
-opening_wrong r address value =
-    if r.words == 0 then Some reason.WordsFirst
-    else (if not (length r.issued == 0) then Some reason.InitLate
-    else (if not (nat_lt address r.words) then Some (reason.AddressLimits 1 r.words)
-    else (if not (nat_lt value (2 ^ 64)) then Some (reason.ValueLimits 2)
-    else (if is_some (value_in r.inits address) then Some reason.InitTwice
-    else None))))
-
--- an opening word
-abbrev pub init_read : TraceReading → ℕ → ℕ → Result TraceReading TraceReason
-init_read r address value = unless (opening_wrong r address value)
-    (Ok (record r { inits = with_value r.inits address value }))
-
-abbrev pub after_init_line : TraceReading → List (List ℕ) → Result TraceReading TraceReason
-after_init_line r (address ∷ value ∷ []) =
-    number_at 1 address >>= λ a. number_at 2 value >>= λ v. init_read r a v
-after_init_line r [] = Err (reason.WordCount key.Init)
-after_init_line r (address ∷ []) = Err (reason.WordCount key.Init)
-after_init_line r (address ∷ value ∷ other ∷ more) = Err (reason.WordCount key.Init)
+-- what a line of the head makes of it
+abbrev pub with_head : TraceReading → Result HeadSpec LineReason → Result TraceReading TraceReason
+with_head r made = map_err reason.Line made >>= λ head. Ok (record r { head = head })
 
 -- an address has a place: its own, or the next one. There are no more than 2^20
 abbrev pub placed : TraceReading → ℕ → Result TraceReading TraceReason
@@ -154,74 +102,56 @@ add_issue r line p o =
     if not (nat_lt (length r.issued) (2 ^ 22)) then Err reason.OperationsLimits
     else (placed r o.address >>= λ next. Ok (with_issue next line p o))
 
--- what an event of a processor lacks: the number of words, or a processor below 4096
-abbrev pub lacks : TraceReading → ℕ → Option TraceReason
-lacks r p =
-    if r.words == 0 then Some reason.WordsFirst
-    else (if not (nat_lt p 4096) then Some reason.ProcessorLimits
-    else None)
-
 -- an issue: the number of words is given, the processor is below 4096, and the address and the
 -- values are in their ranges
 abbrev pub issue_read : TraceReading → ℕ → ℕ → Form → Result TraceReading TraceReason
 issue_read r line p form =
-    unless (lacks r p) (form_operation r.words form >>= add_issue r line p)
+    map_err reason.Line (processor_read r.head p) >>= λ p.
+    map_err reason.Line (form_operation r.head.words form) >>= add_issue r line p
 
 abbrev pub after_issue_line : TraceReading → ℕ → List (List ℕ) → Result TraceReading TraceReason
 after_issue_line r line (processor ∷ word ∷ operands) =
-    number_at 1 processor >>= λ p. spelled_form word operands >>= issue_read r line p
+    map_err reason.Line (number_at 1 processor) >>= λ p.
+    map_err reason.Line (spelled_form word operands) >>= issue_read r line p
 after_issue_line r line [] = Err (reason.WordCount key.Issue)
 after_issue_line r line (processor ∷ []) = Err (reason.WordCount key.Issue)
 
 -- one answer more, at a line, to the operation of a number
 abbrev pub with_answer :
     TraceReading → ℕ → ℕ → Issued → Option ℕ → Result TraceReading TraceReason
-with_answer r line n i told = reply_read told >>= λ reply.
+with_answer r line n i told = map_err reason.Line (reply_read told) >>= λ reply.
     Ok (with_event
     (record r { issued = slice_set r.issued n (record i { reply = Some reply }) }) line
     (Answer n reply))
 
--- `ok` goes with a store, and a number with every other operation
-abbrev pub goes_with : Code → Option ℕ → Bool
-goes_with code None = is_store code
-goes_with code (Some n) = not (is_store code)
-
--- why a reply is refused that goes with another operation
-abbrev pub unwanted : Option ℕ → TraceReason
-unwanted None = reason.OkUnwanted
-unwanted (Some n) = reason.NumberUnwanted
-
--- why an operation is not answered so: the reply goes with another one, or it is answered already
-abbrev pub answer_wrong : Issued → Option ℕ → Option TraceReason
-answer_wrong i told =
-    if not (goes_with (code_of i.operation.op) told) then Some (unwanted told)
-    else (if is_some i.reply then Some reason.AnsweredTwice
-    else None)
-
 -- the reply goes with the operation, which is not answered yet
 abbrev pub add_answer :
     TraceReading → ℕ → ℕ → Issued → Option ℕ → Result TraceReading TraceReason
-add_answer r line n i told = unless (answer_wrong i told) (with_answer r line n i told)
+add_answer r line n i told =
+    unless_refused (option_map reason.Line (unwanted_reply (code_of i.operation.op) told))
+    (if is_some i.reply then Err reason.AnsweredTwice else with_answer r line n i told)
 
 -- something that a processor has of each operation that it issued, or how many it issued
 abbrev pub if_issued : {X : Type 0} → TraceReading → ℕ → Option X → Result X TraceReason
 if_issued r p found = ok_or found (reason.NotIssued (length (numbers_of r.numbers p)))
 
 -- an answer of a processor, which has issued an operation of this index
-abbrev pub answer_to : TraceReading → ℕ → ℕ → ℕ → Option ℕ → Result TraceReading TraceReason
-answer_to r line p index told =
+abbrev pub answer_of_index : TraceReading → ℕ → ℕ → ℕ → Option ℕ → Result TraceReading TraceReason
+answer_of_index r line p index told =
     if_issued r p (slice_get (numbers_of r.numbers p) index) >>= λ n.
     if_issued r p (slice_get r.issued n) >>= λ i. add_answer r line n i told
 
 -- an answer: the number of words is given, the processor is below 4096, and it has issued an
 -- operation of this index
 abbrev pub answer_read : TraceReading → ℕ → ℕ → ℕ → Option ℕ → Result TraceReading TraceReason
-answer_read r line p index told = unless (lacks r p) (answer_to r line p index told)
+answer_read r line p index told =
+    map_err reason.Line (processor_read r.head p) >>= λ p. answer_of_index r line p index told
 
 abbrev pub after_answer_line : TraceReading → ℕ → List (List ℕ) → Result TraceReading TraceReason
 after_answer_line r line (processor ∷ index ∷ reply ∷ []) =
-    number_at 1 processor >>= λ p. number_at 2 index >>= λ k. told_of reply
-    >>= answer_read r line p k
+    map_err reason.Line (number_at 1 processor) >>= λ p.
+    map_err reason.Line (number_at 2 index) >>= λ k.
+    map_err reason.Line (told_of reply) >>= answer_read r line p k
 after_answer_line r line [] = Err (reason.WordCount key.Answer)
 after_answer_line r line (processor ∷ []) = Err (reason.WordCount key.Answer)
 after_answer_line r line (processor ∷ index ∷ []) = Err (reason.WordCount key.Answer)
@@ -232,11 +162,12 @@ after_answer_line r line (processor ∷ index ∷ reply ∷ other ∷ more) =
 abbrev pub after_keyword :
     TraceReading → ℕ → List ℕ → List (List ℕ) → Result TraceReading TraceReason
 after_keyword r line keyword values =
-    if not r.begun then after_title r keyword values
+    if not r.head.begun then with_head r (after_title r.head (codes "trace") keyword values)
     else (if bytes_eq keyword (codes "issue") then after_issue_line r line values
     else (if bytes_eq keyword (codes "answer") then after_answer_line r line values
-    else (if bytes_eq keyword (codes "init") then after_init_line r values
-    else (if bytes_eq keyword (codes "words") then after_words_line r values
+    else (if bytes_eq keyword (codes "init")
+    then with_head r (after_init_line r.head (not (length r.issued == 0)) values)
+    else (if bytes_eq keyword (codes "words") then with_head r (after_words_line r.head values)
     else Err reason.UnknownKeyword))))
 
 -- what the words of a line make of it; a line without words and a comment are skipped
@@ -245,18 +176,11 @@ after_line_words r line [] = Ok r
 after_line_words r line (keyword ∷ values) =
     if begins_comment keyword then Ok r else after_keyword r line keyword values
 
--- what a text lacks that ends here: its first line, or the number of words
-abbrev pub missing : TraceReading → Option TraceReason
-missing r =
-    if not r.begun then Some reason.TitleMissing
-    else (if r.words == 0 then Some reason.WordsMissing
-    else None)
-
 -- the trace of a text that ends here
 abbrev pub trace_with : TraceReading → Result TraceSpec TraceReason
-trace_with r = unless (missing r) (Ok (record {
-  words = r.words;
-  inits = r.inits;
+trace_with r = unless_refused (option_map reason.Line (head_missing r.head)) (Ok (record {
+  words = r.head.words;
+  inits = r.head.inits;
   issued = r.issued;
   events = r.events;
   lines = r.lines;

@@ -4,9 +4,7 @@ use Rattle.trace_text.specs.Traced.{TraceReading}
 
 abbrev pub trace_so_far : {A : Type 0} → reading.Reading A → TraceReading
 trace_so_far r = record {
-  begun = r.begun;
-  words = r.words;
-  inits = r.inits.entries;
+  head = r.head;
   places = r.places.entries;
   addresses = r.addresses.items;
   numbers = r.numbers;

@@ -1,23 +1,22 @@
 //! Issues and answers as a trace text gives them.
 
-ghost use Rattle.std.specs.Prelude.{◌≡◌, ◌≤◌, ◌<◌, ◌^◌, ◌++◌, ◌∷◌, [], Some, map, length, OnOk};
+ghost use Rattle.std.specs.Prelude.{◌≡◌, ◌<◌, ◌^◌, ◌++◌, ◌∷◌, [], Some, map, length, OnOk};
 ghost use Rattle.std.specs.Prelude.{IfErr, slice_get, slice_set};
 ghost use Rattle.lexer.specs.Outcome.{Makes};
+ghost use Rattle.trace_lines.specs.Head.{with_value};
 ghost use Rattle.trace_text.specs.Traced.{after_issue_line, issue_read, add_issue};
-ghost use Rattle.trace_text.specs.Traced.{after_answer_line, answer_read, answer_to, answer_wrong};
-ghost use Rattle.trace_text.specs.Traced.{add_answer, goes_with, unwanted, placed, with_event};
-ghost use Rattle.trace_text.specs.Traced.{with_value};
+ghost use Rattle.trace_text.specs.Traced.{after_answer_line, answer_read, answer_of_index};
+ghost use Rattle.trace_text.specs.Traced.{add_answer, placed, with_event};
 ghost use Rattle.trace_text.specs.Views.{trace_so_far};
 
-use crate::form::{Form, reply_read, spelled_form, told_of};
 use crate::issued::Issued;
-use crate::number::number_at;
 use crate::reading::Reading;
 use crate::reason::{Keyword, TraceReason};
-use packet::{Code, Operation, Reply};
+use packet::{Operation, Reply};
 use std::alloc::Allocator;
 use std::collections::BTreeMap;
 use trace_laws::{Call, Event};
+use trace_lines::{Form, LineReason, number_at, reply_read, spelled_form, told_of, unwanted_reply};
 
 /// The operation of a number.
 fn issued_at(issued: &[Issued], number: u64) -> Option<Issued>
@@ -50,56 +49,22 @@ fn add_place<A: Allocator + Copy>(
         ≡ with_value places.old.entries address (length addresses.old.items)) }
     ensures addresses { OnOk result
         (addresses.new.items ≡ addresses.old.items ++ address ∷ []) }
-    ensures memory { IfErr result (λ e. e ≡ TraceReason.Memory) }
+    ensures memory { IfErr result (λ e. e ≡ TraceReason.Line LineReason.Memory) }
 {
     let place = addresses.len() as u32;
     if places.insert(address, place).is_err() {
-        return Err(TraceReason::Memory);
+        return Err(TraceReason::Line(LineReason::Memory));
     }
     if addresses.push(address).is_err() {
-        return Err(TraceReason::Memory);
+        return Err(TraceReason::Line(LineReason::Memory));
     }
     Ok(())
-}
-
-/// Whether a reply goes with an operation: `ok` with a store, and a number with every other one.
-fn goes_with(code: Code, told: Option<u128>) -> bool
-    ensures { result ≡ goes_with code told }
-{
-    match told {
-        None => matches!(code, Code::Store),
-        Some(_) => !matches!(code, Code::Store),
-    }
-}
-
-/// Why a reply is refused that goes with another operation.
-fn unwanted(told: Option<u128>) -> TraceReason
-    ensures { result ≡ unwanted told }
-{
-    match told {
-        None => TraceReason::OkUnwanted,
-        Some(_) => TraceReason::NumberUnwanted,
-    }
-}
-
-/// Why an operation is not answered so.
-fn answer_wrong(issued: Issued, told: Option<u128>) -> Option<TraceReason>
-    ensures { result ≡ answer_wrong issued told }
-{
-    if !goes_with(issued.operation.op.code(), told) {
-        return Some(unwanted(told));
-    }
-    if issued.reply.is_some() {
-        return Some(TraceReason::AnsweredTwice);
-    }
-    None
 }
 
 impl<A: Allocator + Copy> Reading<A> {
     /// Takes the processor and the operation of an issue.
     pub(crate) fn take_issue(&mut self, line: u64, values: &[&[u8]]) -> Result<(), TraceReason>
-        requires { self.old.words ≤ 2 ^ 32 }
-        ensures { Makes TraceReason.Memory (trace_so_far self.new) result
+        ensures { Makes (TraceReason.Line LineReason.Memory) (trace_so_far self.new) result
             (after_issue_line (trace_so_far self.old) line
             (map (λ value. value.now) values.now)) }
     {
@@ -115,21 +80,18 @@ impl<A: Allocator + Copy> Reading<A> {
 
     /// An operation is issued.
     fn issue(&mut self, line: u64, p: u128, form: Form) -> Result<(), TraceReason>
-        requires { self.old.words ≤ 2 ^ 32 }
-        ensures { Makes TraceReason.Memory (trace_so_far self.new) result
+        ensures { Makes (TraceReason.Line LineReason.Memory) (trace_so_far self.new) result
             (issue_read (trace_so_far self.old) line p form) }
     {
-        if let Some(reason) = self.lacks(p) {
-            return Err(reason);
-        }
-        let operation = form.operation(self.words)?;
-        self.add_issue(line, p as u32, operation)
+        let p = self.head.processor(p)?;
+        let operation = form.operation(self.head.words())?;
+        self.add_issue(line, p, operation)
     }
 
     /// Adds an operation.
     fn add_issue(&mut self, line: u64, p: u32, operation: Operation) -> Result<(), TraceReason>
         requires { p < 4096 }
-        ensures { Makes TraceReason.Memory (trace_so_far self.new) result
+        ensures { Makes (TraceReason.Line LineReason.Memory) (trace_so_far self.new) result
             (add_issue (trace_so_far self.old) line p operation) }
     {
         let number = self.issued.len();
@@ -140,7 +102,7 @@ impl<A: Allocator + Copy> Reading<A> {
         let id = number as u64;
         let index = self.numbers.count(p);
         if self.numbers.add(p, id).is_err() {
-            return Err(TraceReason::Memory);
+            return Err(TraceReason::Line(LineReason::Memory));
         }
         let issued = Issued {
             processor: p,
@@ -149,14 +111,14 @@ impl<A: Allocator + Copy> Reading<A> {
             reply: None,
         };
         if self.issued.push(issued).is_err() {
-            return Err(TraceReason::Memory);
+            return Err(TraceReason::Line(LineReason::Memory));
         }
         self.note(line, Event::Issue(Call { id, operation }))
     }
 
     /// Gives an address a place, where it has none.
     fn place(&mut self, address: u32) -> Result<(), TraceReason>
-        ensures { Makes TraceReason.Memory (trace_so_far self.new) result
+        ensures { Makes (TraceReason.Line LineReason.Memory) (trace_so_far self.new) result
             (placed (trace_so_far self.old) address) }
     {
         if self.places.contains_key(&address) {
@@ -173,20 +135,20 @@ impl<A: Allocator + Copy> Reading<A> {
     fn note(&mut self, line: u64, event: Event) -> Result<(), TraceReason>
         ensures value { OnOk result
             (trace_so_far self.new ≡ with_event (trace_so_far self.old) line event) }
-        ensures memory { IfErr result (λ e. e ≡ TraceReason.Memory) }
+        ensures memory { IfErr result (λ e. e ≡ TraceReason.Line LineReason.Memory) }
     {
         if self.events.push(event).is_err() {
-            return Err(TraceReason::Memory);
+            return Err(TraceReason::Line(LineReason::Memory));
         }
         if self.lines.push(line).is_err() {
-            return Err(TraceReason::Memory);
+            return Err(TraceReason::Line(LineReason::Memory));
         }
         Ok(())
     }
 
     /// Takes the processor, the index and the reply of an answer.
     pub(crate) fn take_answer(&mut self, line: u64, values: &[&[u8]]) -> Result<(), TraceReason>
-        ensures { Makes TraceReason.Memory (trace_so_far self.new) result
+        ensures { Makes (TraceReason.Line LineReason.Memory) (trace_so_far self.new) result
             (after_answer_line (trace_so_far self.old) line
             (map (λ value. value.now) values.now)) }
     {
@@ -209,17 +171,15 @@ impl<A: Allocator + Copy> Reading<A> {
         index: u128,
         told: Option<u128>,
     ) -> Result<(), TraceReason>
-        ensures { Makes TraceReason.Memory (trace_so_far self.new) result
+        ensures { Makes (TraceReason.Line LineReason.Memory) (trace_so_far self.new) result
             (answer_read (trace_so_far self.old) line p index told) }
     {
-        match self.lacks(p) {
-            Some(reason) => Err(reason),
-            None => self.answer_to(line, p as u32, index, told),
-        }
+        let p = self.head.processor(p)?;
+        self.answer_of_index(line, p, index, told)
     }
 
     /// An operation of a processor is answered.
-    fn answer_to(
+    fn answer_of_index(
         &mut self,
         line: u64,
         p: u32,
@@ -227,8 +187,8 @@ impl<A: Allocator + Copy> Reading<A> {
         told: Option<u128>,
     ) -> Result<(), TraceReason>
         requires { p < 4096 }
-        ensures { Makes TraceReason.Memory (trace_so_far self.new) result
-            (answer_to (trace_so_far self.old) line p index told) }
+        ensures { Makes (TraceReason.Line LineReason.Memory) (trace_so_far self.new) result
+            (answer_of_index (trace_so_far self.old) line p index told) }
     {
         let too_few = TraceReason::NotIssued(self.numbers.count(p));
         let Some(number) = self.numbers.number(p, index) else {
@@ -249,11 +209,14 @@ impl<A: Allocator + Copy> Reading<A> {
         told: Option<u128>,
     ) -> Result<(), TraceReason>
         requires { slice_get self.old.issued.items number ≡ Some issued }
-        ensures { Makes TraceReason.Memory (trace_so_far self.new) result
+        ensures { Makes (TraceReason.Line LineReason.Memory) (trace_so_far self.new) result
             (add_answer (trace_so_far self.old) line number issued told) }
     {
-        if let Some(reason) = answer_wrong(issued, told) {
-            return Err(reason);
+        if let Some(reason) = unwanted_reply(issued.operation.op.code(), told) {
+            return Err(TraceReason::Line(reason));
+        }
+        if issued.reply.is_some() {
+            return Err(TraceReason::AnsweredTwice);
         }
         let reply = reply_read(told)?;
         set_reply(&mut self.issued, number, issued, reply);

@@ -2,12 +2,10 @@
 #![tactic(auto)]
 
 mod events;
-mod form;
 pub mod issue_numbers;
 pub mod issued;
 pub mod laws;
 pub mod linearize;
-mod number;
 mod reading;
 pub mod reason;
 pub mod text;

@@ -1,6 +1,6 @@
 //! Judges the trace of a text: the words that its operations name are numbered from 0 for it.
 
-ghost use Rattle.std.specs.Prelude.{◌≡◌, true, false, map, unwrap_or, IfOk, IfErr};
+ghost use Rattle.std.specs.Prelude.{◌≡◌, true, false, map, IfOk, IfErr};
 ghost use Rattle.std.specs.List.{slice_index_or};
 ghost use Rattle.packet.specs.declared.kinds.Reply.{Reply};
 ghost use Rattle.trace_laws.specs.Traces.{TraceAnswersAt};
@@ -9,7 +9,7 @@ ghost use Rattle.trace_text.specs.Findings.{TellsFinding, IsUnfound, trace_read,
 ghost use Rattle.trace_text.specs.Findings.{placed_address, opening_words_at, unfound_at};
 ghost use Rattle.trace_text.specs.Kept.{IsKept};
 ghost use Rattle.trace_text.specs.Renumbered.{moved_call, moved_event};
-ghost use Rattle.trace_text.specs.Traced.{value_in, opening_of};
+ghost use Rattle.trace_text.specs.Traced.{opening_of};
 ghost use Rattle.trace_text.specs.Views.{trace_so_far};
 
 use crate::reading::Reading;
@@ -19,6 +19,7 @@ use std::collections::BTreeMap;
 use trace_judge::judge::{Verdict, decide, judge};
 use trace_judge::undecided::Undecided;
 use trace_laws::{Call, Event};
+use trace_lines::Head;
 
 /// What the trace of a text is judged to be.
 #[derive(Drop)]
@@ -45,13 +46,6 @@ fn place_of<A: Allocator>(places: &BTreeMap<u32, u32, A>, address: u32) -> u32
     ensures { result ≡ place_of_address places.now.entries address }
 {
     places.get(&address).copied().unwrap_or(0)
-}
-
-/// The opening word at an address, 0 where no line gave it.
-pub(crate) fn word_at<A: Allocator>(inits: &BTreeMap<u32, u64, A>, address: u32) -> u64
-    ensures { result ≡ unwrap_or (value_in inits.now.entries address) 0 }
-{
-    inits.get(&address).copied().unwrap_or(0)
 }
 
 /// The address at a place, 0 where there is none.
@@ -96,14 +90,14 @@ fn moved_events<A: Allocator + Copy>(
 /// The opening words at some addresses.
 fn opening_words_at<A: Allocator + Copy>(
     alloc: A,
-    inits: &BTreeMap<u32, u64, A>,
+    head: &Head<A>,
     addresses: &[u32],
 ) -> Result<Vec<u64, A>, AllocError>
-    ensures { IfOk result (λ v. v.items ≡ opening_words_at inits.now.entries addresses.now) }
+    ensures { IfOk result (λ v. v.items ≡ opening_words_at head.now.inits addresses.now) }
 {
     let mut words = Vec::new(alloc);
     for i in 0..addresses.len() {
-        words.push(word_at(inits, addresses[i]))?;
+        words.push(head.opening(addresses[i]))?;
     }
     Ok(words)
 }
@@ -177,7 +171,7 @@ impl<A: Allocator + Copy> Reading<A> {
         ensures found { IfOk result
             (λ finding. TellsFinding (trace_read (trace_so_far self.now)) finding) }
     {
-        let opening = opening_words_at(alloc, &self.inits, &self.addresses)?;
+        let opening = opening_words_at(alloc, &self.head, &self.addresses)?;
         let events = moved_events(alloc, &self.places, &self.events)?;
         match judge(alloc, &opening, &events, bound) {
             Ok(Verdict::Linearizable(order)) => {
@@ -212,7 +206,7 @@ impl<A: Allocator + Copy> Reading<A> {
         ensures unfound { IfErr result (IsUnfound (trace_answered_so
             (trace_read (trace_so_far self.now)) event id reply) bound) }
     {
-        let opening = opening_words_at(alloc, &self.inits, &self.addresses)?;
+        let opening = opening_words_at(alloc, &self.head, &self.addresses)?;
         let mut events = moved_events(alloc, &self.places, &self.events[..event])?;
         if events.push(Event::Answer(id, reply)).is_err() {
             return Err(Unfound::Memory);

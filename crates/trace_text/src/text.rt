@@ -13,7 +13,7 @@ ghost use Rattle.trace_text.specs.Kept.{IsKnownAs};
 ghost use Rattle.trace_text.specs.Traced.{trace_of, trace_or_why, opening_of};
 
 use crate::issued::Issued;
-use crate::linearize::{Finding, Unfound, word_at};
+use crate::linearize::{Finding, Unfound};
 use crate::reading::Reading;
 use crate::reason::TraceReason;
 use lexer::{Refusal, first_words, next_line};
@@ -22,6 +22,7 @@ use script::LineFault;
 use std::alloc::{Allocator, Global};
 use std::marker::Model;
 use trace_laws::Event;
+use trace_lines::LineReason;
 
 /// A trace as its text gives it.
 #[derive(Drop)]
@@ -46,7 +47,7 @@ impl<A: Allocator> TraceText<A> {
     pub fn words(&self) -> u64
         ensures { result ≡ self.now.words }
     {
-        self.reading.words
+        self.reading.head.words()
     }
 
     /// The operations in the order of issue.
@@ -78,7 +79,7 @@ impl<A: Allocator> TraceText<A> {
     pub fn opening(&self, address: u32) -> u64
         ensures { result ≡ slice_index (opening_of self.now) address }
     {
-        word_at(&self.reading.inits, address)
+        self.reading.head.opening(address)
     }
 }
 
@@ -127,10 +128,11 @@ pub fn read_trace_or_why<A: Allocator + Copy>(
     alloc: A,
     text: &[u8],
 ) -> Result<TraceText<A>, Refusal<TraceReason>>
-    ensures { GivesOrWhy TraceReason.Memory (λ t. t) result (trace_or_why (lines text.now)) }
+    ensures { GivesOrWhy (TraceReason.Line LineReason.Memory) (λ t. t) result
+        (trace_or_why (lines text.now)) }
 {
     let Ok(mut reading) = Reading::none(alloc) else {
-        return Err(Refusal::at(0, TraceReason::Memory));
+        return Err(Refusal::at(0, TraceReason::Line(LineReason::Memory)));
     };
     let mut number = 1u64;
     let mut rest = text;
@@ -142,8 +144,8 @@ pub fn read_trace_or_why<A: Allocator + Copy>(
         number += 1;
         rest = after;
     }
-    if let Some(reason) = reading.missing() {
-        return Err(Refusal::at(number, reason));
+    if let Some(reason) = reading.head.missing() {
+        return Err(Refusal::at(number, TraceReason::Line(reason)));
     }
     Ok(TraceText { reading })
 }

@@ -6,6 +6,8 @@ use Rattle.lexer.specs.Before.{given}
 use Rattle.lexer.specs.Spelled.{first_value, second_value}
 use Rattle.lexer.specs.Words.{first_words, line_at}
 use Rattle.lexer.specs.declared.refusal.Refusal.{Refusal}
+use Rattle.trace_lines.specs.declared.reason.LineReason.{LineReason}
+use Rattle.trace_lines.specs.declared.reason.LineReason.TheVariants as line
 use Rattle.trace_text.specs.declared.reason.TraceReason.{TraceReason}
 use Rattle.trace_text.specs.declared.reason.TraceReason.TheVariants as reason
 use Rattle.trace_why.specs.declared.before.Wanted.{Wanted}
@@ -27,14 +29,18 @@ gives_line w (word ∷ values) = first_word_gives w word (first_value values) (s
 
 -- what a line before a refused one gives, by the reason and the words behind the keyword, and how
 -- many other lines before that give it come first
+abbrev pub sought_in_line : LineReason → List (List ℕ) → Option (Wanted × ℕ)
+sought_in_line line.WordsTwice values = Some (wanted.Words, 0)
+sought_in_line line.InitLate values = Some (wanted.Issue, 0)
+sought_in_line line.InitTwice values = Some (wanted.Init (first_value values), 0)
+sought_in_line line.OkUnwanted values =
+    Some (wanted.IssueOf (first_value values), second_value values)
+sought_in_line line.NumberUnwanted values =
+    Some (wanted.IssueOf (first_value values), second_value values)
+sought_in_line _ values = None
+
 abbrev pub sought_by : TraceReason → List (List ℕ) → Option (Wanted × ℕ)
-sought_by reason.WordsTwice values = Some (wanted.Words, 0)
-sought_by reason.InitLate values = Some (wanted.Issue, 0)
-sought_by reason.InitTwice values = Some (wanted.Init (first_value values), 0)
-sought_by reason.OkUnwanted values =
-    Some (wanted.IssueOf (first_value values), second_value values)
-sought_by reason.NumberUnwanted values =
-    Some (wanted.IssueOf (first_value values), second_value values)
+sought_by (reason.Line why) values = sought_in_line why values
 sought_by reason.AnsweredTwice values =
     Some (wanted.Answer (first_value values) (second_value values), 0)
 sought_by _ values = None

@@ -2,6 +2,7 @@
 use Rattle.std.specs.Prelude.{◌≡◌, ◌⊎◌, ℕ, true, List, Option, Some, None, Err, is_ok}
 use Rattle.lexer.specs.declared.refusal.Refusal.{Refusal}
 use Rattle.lexer.specs.Outcome.{refusal_at}
+use Rattle.trace_lines.specs.declared.reason.LineReason.TheVariants as line
 use Rattle.trace_text.specs.declared.reason.TraceReason.{TraceReason}
 use Rattle.trace_text.specs.declared.reason.TraceReason.TheVariants as reason
 use Rattle.trace_text.specs.Traced.{trace_or_why}
@@ -13,6 +14,7 @@ refusal_in s = refusal_at s.line s.reason
 
 -- what is told of a text: the refusal that its reader gives, or that of memory; none where it has
 -- no fault
-abbrev pub TellsRefusal : List (List ℕ) → Option (Refusal TraceReason) → Type 0
-TellsRefusal lines None = is_ok (trace_or_why lines) ≡ true
-TellsRefusal lines (Some s) = (s ≡ refusal_at 0 reason.Memory) ⊎ (trace_or_why lines ≡ Err s)
+abbrev pub TellsTraceRefusal : List (List ℕ) → Option (Refusal TraceReason) → Type 0
+TellsTraceRefusal lines None = is_ok (trace_or_why lines) ≡ true
+TellsTraceRefusal lines (Some s) =
+    (s ≡ refusal_at 0 (reason.Line line.Memory)) ⊎ (trace_or_why lines ≡ Err s)

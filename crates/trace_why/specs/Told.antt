@@ -5,7 +5,7 @@ use Rattle.trace_text.specs.Traced.{TraceSpec, trace_of}
 use Rattle.trace_why.specs.declared.calls.CallAt.{CallAt}
 use Rattle.trace_why.specs.declared.sentence.IssueLine.{IssueLine}
 use Rattle.trace_why.specs.declared.sentence.NoOrderSentence.{NoOrderSentence}
-use Rattle.trace_why.specs.Why.{TellsWhy}
+use Rattle.trace_why.specs.Why.{TellsWhyNot}
 
 -- the line that issues an operation, its processor, and how many of this one were issued before
 pub record IsLineOf (t : TraceSpec) (c : CallAt) (l : IssueLine) : Type 0 where
@@ -30,5 +30,5 @@ pub record TellsNoOrder {A : Type 0} (lines : List (List ℕ)) (line : ℕ) (s :
   pub event : ℕ
   pub there : slice_get trace.lines event ≡ Some line
   pub named : s.line ≡ line
-  pub why : TellsWhy trace event s.why
+  pub why : TellsWhyNot trace event s.why
   pub issues : AreLinesOf trace s.why.pending.items s.pending.items

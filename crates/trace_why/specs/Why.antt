@@ -19,7 +19,7 @@ use Rattle.trace_why.specs.Values.{IsTried, HoldsOfMany}
 -- on its word before the event, and exactly the values with which the operation may be answered
 -- there: with any of them some order explains the trace up to the answer, and with no other one
 -- (Herlihy and Wing, TOPLAS 12(3), 1990).
-pub record TellsWhy {A : Type 0} (t : TraceSpec) (k : ℕ) (why : WhyNot A) : Type 0 where
+pub record TellsWhyNot {A : Type 0} (t : TraceSpec) (k : ℕ) (why : WhyNot A) : Type 0 where
   pub call : CallAt
   pub number : call.call.id ≡ why.id
   pub answer : IsAnsweredOn t.events k why.address call why.reply

@@ -2,10 +2,11 @@
 
 ghost use Rattle.std.specs.Prelude.{◌≡◌, map};
 ghost use Rattle.std.specs.Str.Lines.{lines};
-ghost use Rattle.trace_why.specs.Before.{first_word_gives, sought_by};
+ghost use Rattle.trace_why.specs.Before.{first_word_gives, sought_by, sought_in_line};
 ghost use Rattle.trace_why.specs.Before.{line_giving, earlier_words, earlier_line};
 
 use lexer::{Before, Refusal, Sought, first_value, first_words, line_at, second_value};
+use trace_lines::LineReason;
 use trace_text::TraceReason;
 
 /// What a line is looked for: that it gives this.
@@ -58,15 +59,28 @@ impl Wanted {
 fn sought_by(reason: TraceReason, values: &[&[u8]]) -> Option<(Wanted, u128)>
     ensures { result ≡ sought_by reason (map (λ value. value.now) values.now) }
 {
+    match reason {
+        TraceReason::Line(why) => sought_in_line(why, values),
+        TraceReason::AnsweredTwice => Some((
+            Wanted::Answer(first_value(values), second_value(values)),
+            0,
+        )),
+        _ => None,
+    }
+}
+
+/// The same by a reason that a trace and a log have in common.
+fn sought_in_line(reason: LineReason, values: &[&[u8]]) -> Option<(Wanted, u128)>
+    ensures { result ≡ sought_in_line reason (map (λ value. value.now) values.now) }
+{
     let a = first_value(values);
     let b = second_value(values);
     match reason {
-        TraceReason::WordsTwice => Some((Wanted::Words, 0)),
-        TraceReason::InitLate => Some((Wanted::Issue, 0)),
-        TraceReason::InitTwice => Some((Wanted::Init(a), 0)),
-        TraceReason::OkUnwanted => Some((Wanted::IssueOf(a), b)),
-        TraceReason::NumberUnwanted => Some((Wanted::IssueOf(a), b)),
-        TraceReason::AnsweredTwice => Some((Wanted::Answer(a, b), 0)),
+        LineReason::WordsTwice => Some((Wanted::Words, 0)),
+        LineReason::InitLate => Some((Wanted::Issue, 0)),
+        LineReason::InitTwice => Some((Wanted::Init(a), 0)),
+        LineReason::OkUnwanted => Some((Wanted::IssueOf(a), b)),
+        LineReason::NumberUnwanted => Some((Wanted::IssueOf(a), b)),
         _ => None,
     }
 }

@@ -3,12 +3,13 @@
 ghost use Rattle.std.specs.Prelude.{IfSome, option_map};
 ghost use Rattle.std.specs.Str.Lines.{lines};
 ghost use Rattle.lexer.specs.Named.{IsAbout};
-ghost use Rattle.trace_why.specs.Refused.{TellsRefusal, refusal_in};
+ghost use Rattle.trace_why.specs.Refused.{TellsTraceRefusal, refusal_in};
 
 use crate::wording::wording_of;
 use lexer::{Named, QuotedWords, Refusal};
 use std::alloc::Allocator;
 use std::fmt;
+use trace_lines::LineReason;
 use trace_text::{TraceReason, read_trace_or_why};
 
 /// Why a trace text is refused, as a reader is told: `trace.txt:7: answer 1 4: processor 1 has issued 3
@@ -29,7 +30,7 @@ pub fn trace_sentence<'a, A: Allocator + Copy>(
     alloc: A,
     trace: Named<'a>,
 ) -> Option<TraceSentence<'a>>
-    ensures tells { TellsRefusal (lines trace.entry.text.now) (option_map refusal_in result) }
+    ensures tells { TellsTraceRefusal (lines trace.entry.text.now) (option_map refusal_in result) }
     ensures text { IfSome result (λ s. IsAbout trace.entry s.name.now s.text.now) }
 {
     match read_trace_or_why(alloc, trace.text) {
@@ -51,7 +52,7 @@ impl<'a> fmt::Display for TraceSentence<'a> {
         }
         f.write_str(": ")?;
         let words = QuotedWords::of_line(self.text, self.line);
-        if let TraceReason::NoTitle = self.reason {
+        if let TraceReason::Line(LineReason::NoTitle) = self.reason {
             write!(f, "{words}: ")?;
         }
         let refusal = Refusal {

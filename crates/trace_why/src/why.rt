@@ -11,7 +11,7 @@ ghost use Rattle.trace_text.specs.Allowed.{IsAllowed};
 ghost use Rattle.trace_text.specs.Traced.{opening_of};
 ghost use Rattle.trace_why.specs.declared.calls.CallAt.{CallAt};
 ghost use Rattle.trace_why.specs.Calls.{AreOpenOn, IsAnsweredAtEvent};
-ghost use Rattle.trace_why.specs.Why.{TellsWhy, IsUntold};
+ghost use Rattle.trace_why.specs.Why.{TellsWhyNot, IsUntold};
 
 use crate::answers::add_answers;
 use crate::calls::{CallAt, issue_before};
@@ -155,7 +155,7 @@ pub fn why_not<A: Allocator + Copy>(
     bound: usize,
 ) -> Result<Option<WhyNot<A>>, Untold>
     ensures told { IfOk result (λ found. MatchOption found
-        (IsAnAnswer trace.now.events event → ⊥) (TellsWhy trace.now event)) }
+        (IsAnAnswer trace.now.events event → ⊥) (TellsWhyNot trace.now event)) }
     ensures untold { IfErr result (IsUntold trace.now event tries bound) }
 {
     let events = trace.events();

@@ -3,49 +3,47 @@
 use crate::before::earlier_line;
 use lexer::{Filled, QuotedWords, Refusal};
 use packet::Code;
+use trace_lines::LineReason;
+use trace_lines::wording::{behind_keyword, common_text, last_address, place_of};
 use trace_text::{Keyword, TraceReason};
+
+/// What is said of a reason that a trace and a log have in common, with gaps.
+fn line_text(reason: LineReason) -> &'static str {
+    match reason {
+        LineReason::NoTitle => "the first line of a trace text is trace 1K",
+        LineReason::TitleMissing => "the text ends without trace 1",
+        LineReason::UnknownOperation => "C: there is no such operation",
+        LineReason::OperandCount => "C: behind it stands K",
+        LineReason::WordsTwice => "words: it is given at line N already",
+        LineReason::InitLate => "init: it comes before all issues, and one stands at line N",
+        LineReason::InitTwice => "address B: its opening word is given at line N already",
+        LineReason::ProcessorLimits => "processor B: a processor is below 4096",
+        LineReason::OkUnwanted => {
+            "ok: the operation is that of line N, which is no store: a number belongs there"
+        }
+        LineReason::NumberUnwanted => "D: the operation is the store of line N: ok belongs there",
+        _ => common_text(reason),
+    }
+}
 
 /// What is said of a reason, with gaps.
 fn text_of(reason: TraceReason) -> &'static str {
     match reason {
-        TraceReason::NoTitle => "the first line of a trace text is trace 1K",
-        TraceReason::TitleMissing => "the text ends without trace 1",
+        TraceReason::Line(why) => line_text(why),
         TraceReason::UnknownKeyword => "A: a line begins with words, init, issue or answer",
         TraceReason::WordCount(_) => "A: behind it K",
-        TraceReason::NotNumber(_) => "W: a number belongs there",
-        TraceReason::UnknownOperation => "C: there is no such operation",
-        TraceReason::OperandCount => "C: behind it stands K",
-        TraceReason::NotReply => "D: a number or ok belongs there",
-        TraceReason::WordsFirst => "A: it comes behind words, which is not given yet",
-        TraceReason::WordsMissing => "the text ends without words",
-        TraceReason::WordsTwice => "words: it is given at line N already",
-        TraceReason::WordsLimits => "words B: a memory has 1 to 4294967296 words",
-        TraceReason::InitLate => "init: it comes before all issues, and one stands at line N",
-        TraceReason::InitTwice => "address B: its opening word is given at line N already",
-        TraceReason::ProcessorLimits => "processor B: a processor is below 4096",
-        TraceReason::AddressLimits(_, _) => "address W: the memory has the words 0 to N",
-        TraceReason::ValueLimits(_) => "value W: a value is below 2^64",
         TraceReason::OperationsLimits => "issue: a trace has at most 4194304 operations",
         TraceReason::AddressesLimits => {
             "address D: a trace has operations on at most 1048576 addresses"
         }
         TraceReason::NotIssued(_) => "answer B C: processor B has issued N K",
-        TraceReason::OkUnwanted => {
-            "ok: the operation is that of line N, which is no store: a number belongs there"
-        }
-        TraceReason::NumberUnwanted => {
-            "D: the operation is the store of line N: ok belongs there"
-        }
         TraceReason::AnsweredTwice => "answer B C: the operation is answered at line N already",
-        TraceReason::Memory => "a request for memory was refused while it was read",
     }
 }
 
 /// What stands behind a keyword.
 fn words_text(keyword: Keyword) -> &'static str {
     match keyword {
-        Keyword::Words => "stands one number",
-        Keyword::Init => "stand an address and a value",
         Keyword::Issue => "stand a processor and an operation",
         Keyword::Answer => "stand a processor, an index and a reply",
     }
@@ -71,9 +69,10 @@ fn maker_text(word: &[u8]) -> &'static str {
 /// The name in what is said of a reason.
 fn name_of(words: QuotedWords<'_>, reason: TraceReason) -> &'static str {
     match reason {
-        TraceReason::NoTitle => maker_text(words.at(0).word),
+        TraceReason::Line(LineReason::NoTitle) => maker_text(words.at(0).word),
+        TraceReason::Line(LineReason::WordCount(keyword)) => behind_keyword(keyword),
+        TraceReason::Line(LineReason::OperandCount) => operands_text(words.at(2).word),
         TraceReason::WordCount(keyword) => words_text(keyword),
-        TraceReason::OperandCount => operands_text(words.at(2).word),
         TraceReason::NotIssued(1) => "operation",
         TraceReason::NotIssued(_) => "operations",
         _ => "",
@@ -81,11 +80,9 @@ fn name_of(words: QuotedWords<'_>, reason: TraceReason) -> &'static str {
 }
 
 /// The place of the word that a reason is about.
-fn place_of(reason: TraceReason) -> u32 {
+fn place_in(reason: TraceReason) -> u32 {
     match reason {
-        TraceReason::NotNumber(place) => place,
-        TraceReason::AddressLimits(place, _) => place,
-        TraceReason::ValueLimits(place) => place,
+        TraceReason::Line(why) => place_of(why),
         _ => 0,
     }
 }
@@ -93,7 +90,10 @@ fn place_of(reason: TraceReason) -> u32 {
 /// The number in what is said of a refusal: the last address, a count, or a line before.
 fn number_of(text: &[u8], refusal: Refusal<TraceReason>) -> u64 {
     match refusal.reason {
-        TraceReason::AddressLimits(_, words) => words.saturating_sub(1),
+        TraceReason::Line(why) => match last_address(why) {
+            Some(last) => last,
+            None => earlier_line(text, refusal),
+        },
         TraceReason::NotIssued(issued) => issued,
         _ => earlier_line(text, refusal),
     }
@@ -108,7 +108,7 @@ pub(crate) fn wording_of<'a>(
     Filled {
         text: text_of(refusal.reason),
         words,
-        place: place_of(refusal.reason),
+        place: place_in(refusal.reason),
         number: u128::from(number_of(text, refusal)),
         other: 0,
         name: name_of(words, refusal.reason),

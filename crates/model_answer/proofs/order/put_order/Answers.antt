@@ -2,7 +2,7 @@ use Rattle.std.proofs.Common.{◌≡◌, ◌<◌, ◌∙◌, ◌++◌, ap, arith
 use Rattle.std.specs.List.{flat_map, range_with_len}
 use Rattle.model_text.specs.Traces.{place_in}
 use Rattle.model_text.proofs.Growing.{same_read}
-use Rattle.model_answer.specs.Texts.{order_line}
+use Rattle.model_answer.specs.Texts.{turn_line}
 use Rattle.model_answer.proofs.Grown.{text_more}
 use Rattle.model_answer.proofs.order.put_order.Goals as goal
 
@@ -15,6 +15,6 @@ loop-k-preserved g c =
     let inside : k < length c.args.turns.now = omega (arith, c.in_ok-order.ensures.sized) in
     let is : c.index.result.now ≡ place_in c.args.turns.now k =
     c.index.ensures ∙ (same_read c.in_ok-order.order.items k c.index.result.now 0 low ∙ c.in_ok-order.ensures.each k inside) in
-    text_more (λ (j : ℕ). order_line openings steps (place_in c.args.turns.now j)) k c.args.text.now.items c.loop-k.text.items
+    text_more (λ (j : ℕ). turn_line openings steps (place_in c.args.turns.now j)) k c.args.text.now.items c.loop-k.text.items
     c.put_order_line.new.text.items
-    (c.in_ok-put_order_line.ensures ∙ ap (λ (x : ℕ). c.loop-k.text.items ++ order_line openings steps x) is) c.loop-k.invariant
+    (c.in_ok-put_order_line.ensures ∙ ap (λ (x : ℕ). c.loop-k.text.items ++ turn_line openings steps x) is) c.loop-k.invariant

@@ -1,7 +1,7 @@
 use Rattle.std.proofs.Common.{◌≡◌, ◌∙◌, ap, length, List, ℕ}
 use Rattle.memory_models.specs.declared.kinds.Kind.TheVariants.{Store}
 use Rattle.memory_models.specs.declared.kinds.Operation.{Operation}
-use Rattle.model_text.specs.Lines.{LogLines}
+use Rattle.model_text.specs.Made.{LogLines}
 use Rattle.model_text.specs.Traces.{opening_step, opening_operation, place_below, write_place, writes_of_log}
 use Rattle.model_text.specs.Views.{log_so_far}
 use Rattle.model_text.proofs.Growing.{ranged_more}

@@ -13,7 +13,7 @@ pub decide-requires : goal.decide-requires
 decide-requires g c =
     let r = trace_so_far c.args.self.now in
     let words : c.deref-3.result.now ≡ others r =
-    c.deref-3.ensures.value ∙ (c.in_ok-opening.ensures ∙ ap (opening_words_at r.inits) c.deref.ensures.value) in
+    c.deref-3.ensures.value ∙ (c.in_ok-opening.ensures ∙ ap (opening_words_at r.head.inits) c.deref.ensures.value) in
     let begun : c.in_ok-events.events.items ≡ map (moved_event (place_of_address r.places)) (take c.args.event r.events) =
     c.in_ok-events.ensures ∙ ap (λ (xs : List Event). map (moved_event (place_of_address r.places)) (take c.args.event xs)) c.deref-2.ensures.value in
     let grown : c.push.new.self.items ≡ c.in_ok-events.events.items ++ Answer c.args.id c.args.reply ∷ [] =
@@ -26,7 +26,7 @@ pub returns-in-Ok-clause-yes : goal.returns-in-Ok-clause-yes
 returns-in-Ok-clause-yes g c = λ b.
     let r = trace_so_far c.args.self.now in
     let words : c.deref-3.result.now ≡ others r =
-    c.deref-3.ensures.value ∙ (c.in_ok-opening.ensures ∙ ap (opening_words_at r.inits) c.deref.ensures.value) in
+    c.deref-3.ensures.value ∙ (c.in_ok-opening.ensures ∙ ap (opening_words_at r.head.inits) c.deref.ensures.value) in
     let begun : c.in_ok-events.events.items ≡ map (moved_event (place_of_address r.places)) (take c.args.event r.events) =
     c.in_ok-events.ensures ∙ ap (λ (xs : List Event). map (moved_event (place_of_address r.places)) (take c.args.event xs)) c.deref-2.ensures.value in
     let grown : c.push.new.self.items ≡ c.in_ok-events.events.items ++ Answer c.args.id c.args.reply ∷ [] =
@@ -40,7 +40,7 @@ pub returns-in-Ok-clause-no : goal.returns-in-Ok-clause-no
 returns-in-Ok-clause-no g c = λ b is.
     let r = trace_so_far c.args.self.now in
     let words : c.deref-3.result.now ≡ others r =
-    c.deref-3.ensures.value ∙ (c.in_ok-opening.ensures ∙ ap (opening_words_at r.inits) c.deref.ensures.value) in
+    c.deref-3.ensures.value ∙ (c.in_ok-opening.ensures ∙ ap (opening_words_at r.head.inits) c.deref.ensures.value) in
     let begun : c.in_ok-events.events.items ≡ map (moved_event (place_of_address r.places)) (take c.args.event r.events) =
     c.in_ok-events.ensures ∙ ap (λ (xs : List Event). map (moved_event (place_of_address r.places)) (take c.args.event xs)) c.deref-2.ensures.value in
     let grown : c.push.new.self.items ≡ c.in_ok-events.events.items ++ Answer c.args.id c.args.reply ∷ [] =
@@ -54,7 +54,7 @@ pub returns-clause-unfound : goal.returns-clause-unfound
 returns-clause-unfound g c =
     let r = trace_so_far c.args.self.now in
     let words : c.deref-3.result.now ≡ others r =
-    c.deref-3.ensures.value ∙ (c.in_ok-opening.ensures ∙ ap (opening_words_at r.inits) c.deref.ensures.value) in
+    c.deref-3.ensures.value ∙ (c.in_ok-opening.ensures ∙ ap (opening_words_at r.head.inits) c.deref.ensures.value) in
     let begun : c.in_ok-events.events.items ≡ map (moved_event (place_of_address r.places)) (take c.args.event r.events) =
     c.in_ok-events.ensures ∙ ap (λ (xs : List Event). map (moved_event (place_of_address r.places)) (take c.args.event xs)) c.deref-2.ensures.value in
     let grown : c.push.new.self.items ≡ c.in_ok-events.events.items ++ Answer c.args.id c.args.reply ∷ [] =

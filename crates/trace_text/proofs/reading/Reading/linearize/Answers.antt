@@ -9,7 +9,7 @@ use Rattle.trace_text.proofs.reading.Reading.linearize.Goals as goal
 pub judge-requires : goal.judge-requires
 judge-requires g c =
     let words : c.deref-3.result.now ≡ others (trace_so_far c.args.self.now) =
-    c.deref-3.ensures.value ∙ (c.in_ok-opening.ensures ∙ ap (opening_words_at c.args.self.now.inits.entries) c.deref.ensures.value) in
+    c.deref-3.ensures.value ∙ (c.in_ok-opening.ensures ∙ ap (opening_words_at c.args.self.now.head.inits) c.deref.ensures.value) in
     let events : c.deref-4.result.now ≡ moved (trace_so_far c.args.self.now) =
     c.deref-4.ensures.value ∙ (c.in_ok-events.ensures ∙ ap (map (moved_event (place_of_address c.args.self.now.places.entries))) c.deref-2.ensures.value) in
     trace_given (trace_so_far c.args.self.now) c.requires _ _ words events
@@ -17,7 +17,7 @@ judge-requires g c =
 pub returns-in-Ok-Linearizable-clause-found : goal.returns-in-Ok-Linearizable-clause-found
 returns-in-Ok-Linearizable-clause-found g c =
     let words : c.deref-3.result.now ≡ others (trace_so_far c.args.self.now) =
-    c.deref-3.ensures.value ∙ (c.in_ok-opening.ensures ∙ ap (opening_words_at c.args.self.now.inits.entries) c.deref.ensures.value) in
+    c.deref-3.ensures.value ∙ (c.in_ok-opening.ensures ∙ ap (opening_words_at c.args.self.now.head.inits) c.deref.ensures.value) in
     let events : c.deref-4.result.now ≡ moved (trace_so_far c.args.self.now) =
     c.deref-4.ensures.value ∙ (c.in_ok-events.ensures ∙ ap (map (moved_event (place_of_address c.args.self.now.places.entries))) c.deref-2.ensures.value) in
     yes_given (trace_so_far c.args.self.now) c.requires _ _ words events c.in-Ok-Linearizable.order.items c.in_ok-order-in-Ok-Linearizable.order.items
@@ -29,7 +29,7 @@ returns-in-Ok-Linearizable-clause-found g c =
 pub returns-in-Ok-No-clause-found : goal.returns-in-Ok-No-clause-found
 returns-in-Ok-No-clause-found g c =
     let words : c.deref-3.result.now ≡ others (trace_so_far c.args.self.now) =
-    c.deref-3.ensures.value ∙ (c.in_ok-opening.ensures ∙ ap (opening_words_at c.args.self.now.inits.entries) c.deref.ensures.value) in
+    c.deref-3.ensures.value ∙ (c.in_ok-opening.ensures ∙ ap (opening_words_at c.args.self.now.head.inits) c.deref.ensures.value) in
     let events : c.deref-4.result.now ≡ moved (trace_so_far c.args.self.now) =
     c.deref-4.ensures.value ∙ (c.in_ok-events.ensures ∙ ap (map (moved_event (place_of_address c.args.self.now.places.entries))) c.deref-2.ensures.value) in
     no_given (trace_so_far c.args.self.now) c.requires _ _ words events c.in-Ok-No.event c.line_at.result
@@ -39,7 +39,7 @@ returns-in-Ok-No-clause-found g c =
 pub returns-clause-unfound : goal.returns-clause-unfound
 returns-clause-unfound g c =
     let words : c.deref-3.result.now ≡ others (trace_so_far c.args.self.now) =
-    c.deref-3.ensures.value ∙ (c.in_ok-opening.ensures ∙ ap (opening_words_at c.args.self.now.inits.entries) c.deref.ensures.value) in
+    c.deref-3.ensures.value ∙ (c.in_ok-opening.ensures ∙ ap (opening_words_at c.args.self.now.head.inits) c.deref.ensures.value) in
     let events : c.deref-4.result.now ≡ moved (trace_so_far c.args.self.now) =
     c.deref-4.ensures.value ∙ (c.in_ok-events.ensures ∙ ap (map (moved_event (place_of_address c.args.self.now.places.entries))) c.deref-2.ensures.value) in
     unfound_given (trace_so_far c.args.self.now) c.requires _ _ words events c.args.bound c.in-Err.why c.at_line.result c.in-Err.ensures.unjudged

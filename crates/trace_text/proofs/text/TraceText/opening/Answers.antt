@@ -7,6 +7,6 @@ use Rattle.trace_text.proofs.text.TraceText.opening.Goals as goal
 
 pub returns : goal.returns
 returns g c =
-    c.word_at.ensures
+    c.opening.ensures
     ∙ (opening_is (trace_so_far c.self.inside.reading) c.self.invariant c.args.address
     ∙ ap (λ (t : TraceSpec). slice_index (opening_of t) c.args.address) c.self.view_is)

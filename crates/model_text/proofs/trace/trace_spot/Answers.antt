@@ -1,6 +1,6 @@
 use Rattle.std.proofs.Common.{arith, length}
 use Rattle.model_text.proofs.Growing.{place_low}
-use Rattle.model_text.proofs.trace.spot_of.Goals as goal
+use Rattle.model_text.proofs.trace.trace_spot.Goals as goal
 
 pub overflow_add-result : goal.overflow_add-result
 overflow_add-result g c =

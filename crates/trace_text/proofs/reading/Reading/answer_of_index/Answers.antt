@@ -3,7 +3,7 @@ use Rattle.std.specs.Prelude.{slice_get}
 use Rattle.trace_text.specs.IssueNumbers.{numbers_of}
 use Rattle.trace_text.specs.Views.{trace_so_far}
 use Rattle.trace_text.proofs.Answered.{answer_reaches}
-use Rattle.trace_text.proofs.reading.Reading.answer_to.Goals as goal
+use Rattle.trace_text.proofs.reading.Reading.answer_of_index.Goals as goal
 
 pub returns : goal.returns
 returns g c =

@@ -6,7 +6,7 @@ use Rattle.trace_records.specs.Kept.{IsGathered}
 use Rattle.trace_records.specs.Views.{gathered_of}
 use Rattle.trace_records.proofs.Events.{kept_none}
 use Rattle.trace_records.proofs.Stands.{record_fails, record_stands, record_step}
-use Rattle.trace_records.proofs.records.trace_of.Goals as goal
+use Rattle.trace_records.proofs.records.trace_of_records.Goals as goal
 
 pub loop-place-init : goal.loop-place-init
 loop-place-init g c = record {

@@ -1,0 +1,4 @@
+pub mod Form
+pub mod Head
+pub mod InsideHead
+pub mod Reasons
