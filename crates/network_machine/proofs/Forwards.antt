@@ -8,7 +8,7 @@ use Rattle.wormhole.specs.Events.{put, forwarded, unlatched, CanHappen}
 use Rattle.wormhole.proofs.Changes.{update_same, update_other}
 use Rattle.network_machine.specs.declared.channel.Channel.{Channel}
 use Rattle.network_machine.specs.Lines.{ShowsLine}
-use Rattle.network_machine.specs.Forwards.{IsOutput, Forwards, forward}
+use Rattle.network_machine.specs.Forwards.{IsLatchOutput, Forwards, forward}
 use Rattle.network_machine.specs.Moves.{ShowAll}
 
 pub needs_owner : (n : Net) (ls : ℕ → NetLine) (x y flit : ℕ) (is_head : Bool) → CanHappen n ls (forward is_head x y flit)
@@ -20,7 +20,7 @@ pub needs_credit : (n : Net) (ls : ℕ → NetLine) (x y flit : ℕ) (is_head : 
 needs_credit n ls x y flit true c = c.credit
 needs_credit n ls x y flit false c = c.credit
 
-may : (n : Net) (ls : ℕ → NetLine) (x y flit : ℕ) (is_head is_tail : Bool) → IsOutput n ls x y flit is_head is_tail
+may : (n : Net) (ls : ℕ → NetLine) (x y flit : ℕ) (is_head is_tail : Bool) → IsLatchOutput n ls x y flit is_head is_tail
     → (ls y).owner ≡ cond is_head None (Some x) → 0 < (ls y).held → CanHappen n ls (forward is_head x y flit)
 may n ls x y flit true is_tail o owner credit =
     record { here = o.here; input = o.input; full = o.full; head = o.head; output = o.output refl; free = owner; credit = credit }
@@ -50,7 +50,7 @@ same_lines n ls x y flit is_tail apart tail z = ⊎_elim
     (cases_eq z y)
 
 pub forwards_at : (n : Net) (ls : ℕ → NetLine) (cs : List Channel) (x y flit : ℕ) (is_head is_tail : Bool) → x ≢ y
-    → IsOutput n ls x y flit is_head is_tail → (ls y).owner ≡ cond is_head None (Some x) → 0 < (ls y).held
+    → IsLatchOutput n ls x y flit is_head is_tail → (ls y).owner ≡ cond is_head None (Some x) → 0 < (ls y).held
     → ShowAll (update (after ls x y flit is_tail) x (unlatched (after ls x y flit is_tail x))) cs → Forwards n ls cs x y flit is_head true
 forwards_at n ls cs x y flit true is_tail apart o owner credit all = (
   may n ls x y flit true is_tail o owner credit,

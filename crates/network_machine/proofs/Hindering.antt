@@ -17,7 +17,7 @@ use Rattle.network_machine.specs.Lines.{ShowsLine}
 use Rattle.network_machine.specs.Lets.{LetsTake, LetsReturn, LetsAccept, LetsBegin, LetsGoOn}
 use Rattle.network_machine.specs.Moves.{CanMove}
 use Rattle.network_machine.specs.Packets.{packet_of}
-use Rattle.network_machine.specs.Machine.{MachineSpec, Shows, net_of, Prevents, Allows, Settles}
+use Rattle.network_machine.specs.Machine.{NetworkMachineSpec, ShowsNetwork, plain_network, Prevents, Permits, Settles}
 use Rattle.network_machine.specs.Outputs.{LacksAnswer, HasAnswers, IsWayOut}
 use Rattle.network_machine.specs.Forwards.{forward}
 use Rattle.network_machine.proofs.Which.{only_send, only_more, only_take, only_accept, only_credit}
@@ -26,7 +26,7 @@ use Rattle.network_machine.proofs.Puts.{line_at, same_way, latch_of}
 use Rattle.network_machine.proofs.Forwards.{needs_credit, needs_owner}
 
 -- what the channel at x lets happen, its line does
-module _ (m : MachineSpec) (size : length m.channels ≡ channels_of m.table) (x : ℕ) (here : x < length m.channels) (c : Channel) (at : c ≡ slice_index_or m.channels x c) where
+module _ (m : NetworkMachineSpec) (size : length m.channels ≡ channels_of m.table) (x : ℕ) (here : x < length m.channels) (c : Channel) (at : c ≡ slice_index_or m.channels x c) where
   inside : x < channels_of m.table
   inside = subst (λ z. x < z) size here
 
@@ -35,7 +35,7 @@ module _ (m : MachineSpec) (size : length m.channels ≡ channels_of m.table) (x
       (let l = lets (s.lines x) (line_at m s shows x here c at) in
       (Latch x l.0 l.1, record { is = refl; may = record { here = inside; input = input; free = l.2; first = l.3 }; answers = tt }))
   takes_settle input (Some h) lets = λ number top depth s shows e can.
-      only_take (λ e. CanHappen (net_of m.table number top depth) s.lines e → ⊥) x
+      only_take (λ e. CanHappen (plain_network m.table number top depth) s.lines e → ⊥) x
       (λ flit more may. lets (s.lines x) (line_at m s shows x here c at) flit more may.free may.first) e can.is can.may
 
   pub goes_on_settle : is_sender (kind_of m.table x) ≡ true → (r : Option Hindrance) → ((l : NetLine) → ShowsLine l c → LetsGoOn l r) → Settles m (More x) r
@@ -43,25 +43,25 @@ module _ (m : MachineSpec) (size : length m.channels ≡ channels_of m.table) (x
       (let l = lets (s.lines x) (line_at m s shows x here c at) in
       (InjectRest x l.0 l.1, record { is = refl; may = record { here = inside; injects = sends; course = l.2; credit = l.3 }; answers = tt }))
   goes_on_settle sends (Some h) lets = λ number top depth s shows e can.
-      only_more (λ e. CanHappen (net_of m.table number top depth) s.lines e → ⊥) x
+      only_more (λ e. CanHappen (plain_network m.table number top depth) s.lines e → ⊥) x
       (λ flit more may. lets (s.lines x) (line_at m s shows x here c at) flit more may.course may.credit) e can.is can.may
 
   pub credits_settle : (r : Option Hindrance) → ((l : NetLine) → ShowsLine l c → LetsReturn l r) → Settles m (Credit x) r
   credits_settle None lets = λ number top depth s shows.
       (Return x, record { is = refl; may = record { here = inside; returns = lets (s.lines x) (line_at m s shows x here c at) }; answers = tt })
   credits_settle (Some h) lets = λ number top depth s shows e can.
-      only_credit (λ e. CanHappen (net_of m.table number top depth) s.lines e → ⊥) x
+      only_credit (λ e. CanHappen (plain_network m.table number top depth) s.lines e → ⊥) x
       (λ may. lets (s.lines x) (line_at m s shows x here c at) may.returns) e can.is can.may
 
   accepting : is_receiver (kind_of m.table x) ≡ true → (flit : ℕ) (more : List ℕ) (number : ℕ → ℕ) (top depth : ℕ) (s : NetState)
       → (s.lines x).flits ≡ flit ∷ more → ((y : ℕ) → IsReply m.replies x y → 0 < (s.lines y).held) → (bit : Bool) → plain_format.is_head flit ≡ bit
-      → (e : NetEvent) × CanMove (net_of m.table number top depth) m.replies s.lines (Accept x) e
+      → (e : NetEvent) × CanMove (plain_network m.table number top depth) m.replies s.lines (Accept x) e
   accepting ends flit more number top depth s first answers true head =
       (AcceptHead x flit more, record { is = refl; may = record { here = inside; ejects = ends; first = first; head = head }; answers = answers })
   accepting ends flit more number top depth s first answers false head =
       (AcceptRest x flit more, record { is = refl; may = record { here = inside; ejects = ends; first = first; head = head }; answers = answers })
 
-  answered : AreReplies m.table m.replies → HasAnswers m.replies m.channels x → (s : NetState) → Shows m s
+  answered : AreReplies m.table m.replies → HasAnswers m.replies m.channels x → (s : NetState) → ShowsNetwork m s
       → (y : ℕ) → IsReply m.replies x y → y < length m.channels → 0 < (s.lines y).held
   answered replies has s shows y reply there = subst (λ n. 0 < n) (sym (shows.lines y c there).held) (has y c reply there)
 
@@ -73,23 +73,23 @@ module _ (m : MachineSpec) (size : length m.channels ≡ channels_of m.table) (x
       (λ y reply. answered replies has s shows y reply (subst (λ z. y < z) (sym size) (slice_get_within m.table.kinds y Injection (replies x y reply).1)))
       (plain_format.is_head l.0) refl)
   accepts_settle replies ends has (Some h) lets = λ number top depth s shows e can.
-      only_accept (λ e. CanHappen (net_of m.table number top depth) s.lines e → ⊥) x
+      only_accept (λ e. CanHappen (plain_network m.table number top depth) s.lines e → ⊥) x
       (λ flit more may. lets (s.lines x) (line_at m s shows x here c at) flit more may.first)
       (λ flit more may. lets (s.lines x) (line_at m s shows x here c at) flit more may.first) e can.is can.may
 
 -- hindrances by kinds, pairs and answers
-module _ (m : MachineSpec) where
+module _ (m : NetworkMachineSpec) where
   pub no_senders_go_on : (x : ℕ) → is_sender (kind_of m.table x) ≡ false → Prevents m (More x)
   no_senders_go_on x none number top depth s shows e can =
-      only_more (λ e. CanHappen (net_of m.table number top depth) s.lines e → ⊥) x (λ flit more may. (let sends = may.injects in absurd (cc))) e can.is can.may
+      only_more (λ e. CanHappen (plain_network m.table number top depth) s.lines e → ⊥) x (λ flit more may. (let sends = may.injects in absurd (cc))) e can.is can.may
 
   pub receivers_take_nothing : (x : ℕ) → is_receiver (kind_of m.table x) ≡ true → Prevents m (Take x)
   receivers_take_nothing x ends number top depth s shows e can =
-      only_take (λ e. CanHappen (net_of m.table number top depth) s.lines e → ⊥) x (λ flit more may. (let input = may.input in absurd (cc))) e can.is can.may
+      only_take (λ e. CanHappen (plain_network m.table number top depth) s.lines e → ⊥) x (λ flit more may. (let input = may.input in absurd (cc))) e can.is can.may
 
   pub no_receivers_accept : (x : ℕ) → is_receiver (kind_of m.table x) ≡ false → Prevents m (Accept x)
   no_receivers_accept x none number top depth s shows e can =
-      only_accept (λ e. CanHappen (net_of m.table number top depth) s.lines e → ⊥) x (λ flit more may. (let ends = may.ejects in absurd (cc)))
+      only_accept (λ e. CanHappen (plain_network m.table number top depth) s.lines e → ⊥) x (λ flit more may. (let ends = may.ejects in absurd (cc)))
       (λ flit more may. (let ends = may.ejects in absurd (cc))) e can.is can.may
 
   pub without_answers : (x y : ℕ) → (d : Channel) → LacksAnswer m.replies m.channels x y → Prevents m (Accept x)
@@ -101,13 +101,13 @@ module _ (m : MachineSpec) where
 
   pub not_joined : (p : Packet) → joins_of m.table p.from p.to ≡ false → Prevents m (Send p)
   not_joined p none number top depth s shows e can =
-      only_send (λ e. CanHappen (net_of m.table number top depth) s.lines e → ⊥) p
+      only_send (λ e. CanHappen (plain_network m.table number top depth) s.lines e → ⊥) p
       (λ k to count may. (let joined : joins_of m.table p.from p.to ≡ true =
       subst (λ z. joins_of m.table z p.to ≡ true) may.source (subst (λ z. joins_of m.table k.source z ≡ true) to may.parcel.joined) in absurd (cc))) e can.is can.may
 
   pub no_flits : (p : Packet) → p.length ≡ 0 → Prevents m (Send p)
   no_flits p none number top depth s shows e can =
-      only_send (λ e. CanHappen (net_of m.table number top depth) s.lines e → ⊥) p (λ k to count may. omega (arith, count)) e can.is can.may
+      only_send (λ e. CanHappen (plain_network m.table number top depth) s.lines e → ⊥) p (λ k to count may. omega (arith, count)) e can.is can.may
 
   pub sends_settle : (p : Packet) → length m.channels ≡ channels_of m.table → AllArrive m.table → p.from < length m.channels → joins_of m.table p.from p.to ≡ true → 0 < p.length
       → (c : Channel) → c ≡ slice_index_or m.channels p.from c
@@ -130,29 +130,29 @@ module _ (m : MachineSpec) where
         },
       ))
   sends_settle p size arrive here joined some c at (Some h) lets = λ number top depth s shows e can.
-      only_send (λ e. CanHappen (net_of m.table number top depth) s.lines e → ⊥) p
+      only_send (λ e. CanHappen (plain_network m.table number top depth) s.lines e → ⊥) p
       (λ k to count may. lets (s.lines p.from) (line_at m s shows p.from here c at) may.idle may.credit) e can.is can.may
 
 -- the flit in a latch, and its output
-module _ (m : MachineSpec) (x flit y : ℕ) (way : IsWayOut m.table m.channels x flit y) (size : length m.channels ≡ channels_of m.table) (c : Channel) (at : c ≡ slice_index_or m.channels y c) where
-  by_one_way : (number : ℕ → ℕ) (top depth : ℕ) (s : NetState) → Shows m s → (e : NetEvent) → CanMove (net_of m.table number top depth) m.replies s.lines (Put x) e
-      → CanHappen (net_of m.table number top depth) s.lines (forward (plain_format.is_head flit) x y flit)
+module _ (m : NetworkMachineSpec) (x flit y : ℕ) (way : IsWayOut m.table m.channels x flit y) (size : length m.channels ≡ channels_of m.table) (c : Channel) (at : c ≡ slice_index_or m.channels y c) where
+  by_one_way : (number : ℕ → ℕ) (top depth : ℕ) (s : NetState) → ShowsNetwork m s → (e : NetEvent) → CanMove (plain_network m.table number top depth) m.replies s.lines (Put x) e
+      → CanHappen (plain_network m.table number top depth) s.lines (forward (plain_format.is_head flit) x y flit)
   by_one_way number top depth s shows e can = same_way m x flit y way c number top depth s shows (plain_format.is_head flit) refl e can.is can.may
 
   pub no_credit_puts_nothing : c.held ≡ 0 → Prevents m (Put x)
   no_credit_puts_nothing none number top depth s shows e can =
-      (let credit = needs_credit (net_of m.table number top depth) s.lines x y flit (plain_format.is_head flit) (by_one_way number top depth s shows e can) in
+      (let credit = needs_credit (plain_network m.table number top depth) s.lines x y flit (plain_format.is_head flit) (by_one_way number top depth s shows e can) in
       let held = (line_at m s shows y way.1.there c at).held in
       absurd (omega arith))
 
   pub owned_puts_nothing : (owner : ℕ) → plain_format.is_head flit ≡ true → c.owner ≡ Some owner → Prevents m (Put x)
   owned_puts_nothing owner head owned number top depth s shows e can =
-      (let free = needs_owner (net_of m.table number top depth) s.lines x y flit (plain_format.is_head flit) (by_one_way number top depth s shows e can) in
+      (let free = needs_owner (plain_network m.table number top depth) s.lines x y flit (plain_format.is_head flit) (by_one_way number top depth s shows e can) in
       let line = (line_at m s shows y way.1.there c at).owner in
       let none : cond (plain_format.is_head flit) None (Some x) ≡ None = ap (λ b. cond b None (Some x)) head in
       absurd (cc))
 
-  pub rests_go : plain_format.is_head flit ≡ false → Allows m (Put x)
+  pub rests_go : plain_format.is_head flit ≡ false → Permits m (Put x)
   rests_go rest number top depth s shows =
       (let own = way.1.rest rest in (
         ForwardRest x y flit,
@@ -170,7 +170,7 @@ module _ (m : MachineSpec) (x flit y : ℕ) (way : IsWayOut m.table m.channels x
         },
       ))
 
-  pub heads_go : plain_format.is_head flit ≡ true → c.owner ≡ None → 0 < c.held → Allows m (Put x)
+  pub heads_go : plain_format.is_head flit ≡ true → c.owner ≡ None → 0 < c.held → Permits m (Put x)
   heads_go head free credit number top depth s shows =
       (let line = line_at m s shows y way.1.there c at in (
         ForwardHead x y flit,

@@ -15,7 +15,7 @@ use Rattle.network_judge.specs.Verdicts.{AllArrive}
 use Rattle.network_judge.proofs.Places.{place_next}
 use Rattle.network_jam.specs.LockUps.{plain_format}
 use Rattle.network_jam.proofs.Still.{on_within, simple}
-use Rattle.network_machine.specs.Keeping.{ComesTo, HeadComesTo, KeepsToRoutes, AllKeepToRoutes}
+use Rattle.network_machine.specs.Keeping.{PacketsComeTo, HeadComesTo, KeepsToRoutes, AllKeepToRoutes}
 
 -- what holds of the changed channel and of all others holds of all
 pub updates : (P : ℕ → NetLine → Type 0) (ls : ℕ → NetLine) (x : ℕ) (l : NetLine) → ((z : ℕ) → P z (ls z)) → P x l → (z : ℕ) → P z (update ls x l z)
@@ -26,11 +26,11 @@ updates P ls x l old new z = ⊎_elim
 
 -- the next channel of packets that come to a channel which is no ejection channel
 pub record GoesOnTo (t : Table) (x j : ℕ) : Type 0 where
-  pub comes : ComesTo t (table_next t x j) j
+  pub comes : PacketsComeTo t (table_next t x j) j
   pub inside : table_next t x j < channels_of t
   pub apart : x ≢ table_next t x j
 
-pub goes_on : (t : Table) (x j : ℕ) → ComesTo t x j → is_receiver (kind_of t x) ≡ false → GoesOnTo t x j
+pub goes_on : (t : Table) (x j : ℕ) → PacketsComeTo t x j → is_receiver (kind_of t x) ≡ false → GoesOnTo t x j
 goes_on t x j c input = elim (cases_lt c.step c.steps) [
   | inl low ↦
       let here : place t j c.from (suc c.step) ≡ table_next t x j = place_next t j c.from c.step ∙ ap (λ z. table_next t z j) c.here in
@@ -72,7 +72,7 @@ module _ (t : Table) (number : ℕ → ℕ) (top depth : ℕ) where
     where
       comes : HeadComesTo t x k.head
       comes is = (let way = arrive k.source k.destination can.parcel.joined in
-          subst (λ z. ComesTo t x z) (sym can.parcel.told)
+          subst (λ z. PacketsComeTo t x z) (sym can.parcel.told)
           (record { from = k.source; joined = can.parcel.joined; steps = way.0; way = way.1; step = 0; within = omega arith; here = can.source }))
 
   went_on : (x : ℕ) (l : NetLine) (flit : ℕ) (more : List ℕ) → KeepsToRoutes t x l → CanInjectRest net l x flit more
@@ -161,7 +161,7 @@ module _ (t : Table) (number : ℕ → ℕ) (top depth : ℕ) where
       updates (KeepsToRoutes t) ls x (record (taken more (ls x)) { latch = Some flit }) keeps (latches x (ls x) flit more (keeps x) can.first)
   keeps_on arrive ls (ForwardHead x y flit) keeps can =
       (let goes = head_goes ls x flit keeps can.input can.full can.head in
-      both ls x y flit keeps (λ head. subst (λ z. ComesTo t z (plain_format.told flit)) (sym can.output) goes.comes)
+      both ls x y flit keeps (λ head. subst (λ z. PacketsComeTo t z (plain_format.told flit)) (sym can.output) goes.comes)
       (subst (λ z. z < channels_of t) (sym can.output) goes.inside) (λ e. goes.apart (e ∙ can.output)))
   keeps_on arrive ls (ForwardRest x y flit) keeps can =
       both ls x y flit keeps (no_head y flit can.rest) ((keeps y).owned x can.owned) ((keeps y).apart x can.owned)

@@ -8,7 +8,7 @@ use Rattle.network_judge.specs.Table.{Table}
 use Rattle.network_jam.specs.LockUps.{IsLockUp}
 use Rattle.network_machine.specs.declared.moves.Move.{Move}
 use Rattle.network_machine.specs.Moves.{CanMove}
-use Rattle.network_machine.specs.Machine.{MachineSpec, Shows, net_of, SameTables, HasMoved}
+use Rattle.network_machine.specs.Machine.{NetworkMachineSpec, ShowsNetwork, plain_network, SameTables, HasMadeMove}
 use Rattle.network_machine.specs.Runs.{Runs, RunsTo}
 use Rattle.network_machine.specs.Endings.{IsLocked}
 
@@ -18,24 +18,24 @@ further n rs [] s t m e is can = (e, subst (λ (u : NetState). CanMove n rs u.li
 further n rs (k ∷ ms) s t m e runs can = (runs.0, runs.1, further n rs ms (after n s runs.0) t m e runs.2 can)
 
 -- a move that was made, with other names of its tables
-abbrev pub MovesIn : MachineSpec → Net → List Reply → NetState → Move → Type 0
-MovesIn c n rs t m = (e : NetEvent) × CanMove n rs t.lines m e × Shows c (after n t e)
+abbrev pub MovesIn : NetworkMachineSpec → Net → List Reply → NetState → Move → Type 0
+MovesIn c n rs t m = (e : NetEvent) × CanMove n rs t.lines m e × ShowsNetwork c (after n t e)
 
-moves_in : (b c : MachineSpec) (t : Table) (rs : List Reply) (number : ℕ → ℕ) (top depth : ℕ) (u : NetState) (m : Move) → b.table ≡ t → b.replies ≡ rs
-    → HasMoved b c (net_of b.table number top depth) u m → MovesIn c (net_of t number top depth) rs u m
+moves_in : (b c : NetworkMachineSpec) (t : Table) (rs : List Reply) (number : ℕ → ℕ) (top depth : ℕ) (u : NetState) (m : Move) → b.table ≡ t → b.replies ≡ rs
+    → HasMadeMove b c (plain_network b.table number top depth) u m → MovesIn c (plain_network t number top depth) rs u m
 moves_in b c t rs number top depth u m same answers h =
-    subst (λ (x : Table). MovesIn c (net_of x number top depth) rs u m) same
-    (subst (λ (x : List Reply). MovesIn c (net_of b.table number top depth) x u m) answers (h.event, h.can, h.shows))
+    subst (λ (x : Table). MovesIn c (plain_network x number top depth) rs u m) same
+    (subst (λ (x : List Reply). MovesIn c (plain_network b.table number top depth) x u m) answers (h.event, h.can, h.shows))
 
-pub runs_on : (a b c : MachineSpec) (ms : List Move) (m : Move) → SameTables a b → RunsTo a b ms
-    → ((number : ℕ → ℕ) (top depth : ℕ) (s : NetState) → Shows b s → HasMoved b c (net_of b.table number top depth) s m)
+pub runs_on : (a b c : NetworkMachineSpec) (ms : List Move) (m : Move) → SameTables a b → RunsTo a b ms
+    → ((number : ℕ → ℕ) (top depth : ℕ) (s : NetState) → ShowsNetwork b s → HasMadeMove b c (plain_network b.table number top depth) s m)
     → RunsTo a c (ms ++ m ∷ [])
 runs_on a b c ms m same runs moved number top depth s shows =
     (let r = runs number top depth s shows in
     let h = moves_in b c a.table a.replies number top depth r.0 m same.table same.replies (moved number top depth r.0 r.2) in
-    (after (net_of a.table number top depth) r.0 h.0, further (net_of a.table number top depth) a.replies ms s r.0 m h.0 r.1 h.1, h.2))
+    (after (plain_network a.table number top depth) r.0 h.0, further (plain_network a.table number top depth) a.replies ms s r.0 m h.0 r.1 h.1, h.2))
 
-pub no_move : (m : MachineSpec) → RunsTo m m []
+pub no_move : (m : NetworkMachineSpec) → RunsTo m m []
 no_move m number top depth s shows = (s, refl, shows)
 
 -- the events of a run
@@ -50,7 +50,7 @@ events_of n rs (m ∷ ms) s t runs =
     (let rest = events_of n rs ms (after n s runs.0) t runs.2 in
     record { events = runs.0 ∷ rest.events; may = (runs.1.may, rest.may); stands = rest.stands })
 
-pub locks : (n : Net) (m : MachineSpec) (ms : List Move) (s : NetState) → Runs n m.replies (empty n) ms s → IsLocked m n s
+pub locks : (n : Net) (m : NetworkMachineSpec) (ms : List Move) (s : NetState) → Runs n m.replies (empty n) ms s → IsLocked m n s
     → (events : List NetEvent) × IsLockUp n m.replies events
 locks n m ms s runs locked =
     (let run = events_of n m.replies ms (empty n) s runs in

@@ -12,8 +12,8 @@ use Rattle.network_machine.specs.declared.channel.Channel.{Channel}
 use Rattle.network_machine.specs.declared.moves.Packet.{Packet}
 use Rattle.network_machine.specs.declared.moves.Move.TheVariants.{Send, More, Take, Accept, Credit}
 use Rattle.network_machine.specs.Packets.{packet_of}
-use Rattle.network_machine.specs.Lines.{ShowsLine, Takes, Credits, PutsFrom, Accepts, Begins, GoesOn}
-use Rattle.network_machine.specs.Moves.{ShowAll, Makes}
+use Rattle.network_machine.specs.Lines.{ShowsLine, TakesFlit, Credits, PutsFrom, Accepts, Begins, SendsMore}
+use Rattle.network_machine.specs.Moves.{ShowAll, MakesEvent}
 use Rattle.network_machine.specs.Forwards.{PutsAt}
 use Rattle.network_machine.proofs.Packets.{packet_length}
 use Rattle.network_machine.proofs.Which.{only_send, only_more, only_take, only_accept, only_credit}
@@ -30,7 +30,7 @@ module _ (ls : ℕ → NetLine) (cs : List Channel) (x : ℕ) (low : x < length 
 
   pub begins_at : (n : Net) (p : Packet) → x ≡ p.from → p.from < n.channels → n.injects p.from ≡ true
       → (0 < p.length → IsParcel n (packet_of p.from p.to p.length))
-      → (b : Bool) → Begins (ls x) c p.to p.length b → Makes n ls (Send p) (set cs x c) b
+      → (b : Bool) → Begins (ls x) c p.to p.length b → MakesEvent n ls (Send p) (set cs x c) b
   begins_at n p at within injects parcel true h = (
     InjectHead x (packet_of x p.to p.length),
     ap Send (ap (λ z. record { from = z; to = p.to; length = length (net_flits (packet_of x p.to p.length)) }) at
@@ -49,22 +49,22 @@ module _ (ls : ℕ → NetLine) (cs : List Channel) (x : ℕ) (low : x < length 
       only_send (λ e. CanHappen n ls e → ⊥) p (λ k to count can.
       h (subst (λ z. (ls z).rest ≡ []) (sym at) can.idle) (subst (λ z. 0 < (ls z).held) (sym at) can.credit) (omega (arith, count)))
 
-  pub goes_on_at : (n : Net) → x < n.channels → n.injects x ≡ true → (b : Bool) → GoesOn (ls x) c b → Makes n ls (More x) (set cs x c) b
+  pub goes_on_at : (n : Net) → x < n.channels → n.injects x ≡ true → (b : Bool) → SendsMore (ls x) c b → MakesEvent n ls (More x) (set cs x c) b
   goes_on_at n within injects true h =
       (InjectRest x h.0 h.1, refl, record { here = within; injects = injects; course = h.2; credit = h.3 }, shows_set _ h.4)
   goes_on_at n within injects false h = only_more (λ e. CanHappen n ls e → ⊥) x (λ flit more can. h flit more can.course can.credit)
 
-  pub takes_at : (n : Net) → x < n.channels → n.ejects x ≡ false → (b : Bool) → Takes (ls x) c b → Makes n ls (Take x) (set cs x c) b
+  pub takes_at : (n : Net) → x < n.channels → n.ejects x ≡ false → (b : Bool) → TakesFlit (ls x) c b → MakesEvent n ls (Take x) (set cs x c) b
   takes_at n within input true h =
       (Latch x h.0 h.1, refl, record { here = within; input = input; free = h.2; first = h.3 }, shows_set _ h.4)
   takes_at n within input false h = only_take (λ e. CanHappen n ls e → ⊥) x (λ flit more can. h flit more can.free can.first)
 
-  pub credits_at : (n : Net) → x < n.channels → (b : Bool) → Credits (ls x) c b → Makes n ls (Credit x) (set cs x c) b
+  pub credits_at : (n : Net) → x < n.channels → (b : Bool) → Credits (ls x) c b → MakesEvent n ls (Credit x) (set cs x c) b
   credits_at n within true h = (Return x, refl, record { here = within; returns = h.0 }, shows_set _ h.1)
   credits_at n within false h = only_credit (λ e. CanHappen n ls e → ⊥) x (λ can. h can.returns)
 
   accepted_by : (n : Net) → x < n.channels → n.ejects x ≡ true → (flit : ℕ) (more : List ℕ) → (ls x).flits ≡ flit ∷ more → ShowsLine (taken more (ls x)) c
-      → (bit : Bool) → n.is_head flit ≡ bit → Makes n ls (Accept x) (set cs x c) true
+      → (bit : Bool) → n.is_head flit ≡ bit → MakesEvent n ls (Accept x) (set cs x c) true
   accepted_by n within ends flit more first h true head = (
     AcceptHead x flit more,
     refl,
@@ -78,7 +78,7 @@ module _ (ls : ℕ → NetLine) (cs : List Channel) (x : ℕ) (low : x < length 
     shows_set (accepted n flit more (ls x)) (record { flits = h.flits; held = h.held; returning = h.returning; latch = h.latch; owner = h.owner; rest = h.rest }),
   )
 
-  pub accepts_at : (n : Net) → x < n.channels → n.ejects x ≡ true → (b : Bool) → Accepts (ls x) c b → Makes n ls (Accept x) (set cs x c) b
+  pub accepts_at : (n : Net) → x < n.channels → n.ejects x ≡ true → (b : Bool) → Accepts (ls x) c b → MakesEvent n ls (Accept x) (set cs x c) b
   accepts_at n within ends true h = accepted_by n within ends h.0 h.1 h.2 h.3 (n.is_head h.0) refl
   accepts_at n within ends false h = only_accept (λ e. CanHappen n ls e → ⊥) x (λ flit more can. h flit more can.first) (λ flit more can. h flit more can.first)
 

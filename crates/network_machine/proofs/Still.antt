@@ -8,14 +8,14 @@ use Rattle.network_judge.specs.Table.{channels_of}
 use Rattle.network_judge.specs.Receivers.{GoesWhere, CanBeTaken}
 use Rattle.network_jam.specs.LockUps.{plain_format}
 use Rattle.network_machine.specs.declared.channel.Channel.{Channel}
-use Rattle.network_machine.specs.Machine.{MachineSpec, Shows, net_of}
-use Rattle.network_machine.specs.Endings.{PreventsAllAt, HoldsFlit, HoldsNone, IsLocked, IsAllEmpty}
+use Rattle.network_machine.specs.Machine.{NetworkMachineSpec, ShowsNetwork, plain_network}
+use Rattle.network_machine.specs.Endings.{PreventsAllAt, HoldsFlit, HoldsNoFlit, IsLocked, IsAllEmpty}
 use Rattle.network_machine.proofs.Puts.{some_channel}
 
-module _ (m : MachineSpec) (size : length m.channels ≡ channels_of m.table) (all : (x : ℕ) → x < length m.channels → PreventsAllAt m x)
-    (number : ℕ → ℕ) (top depth : ℕ) (s : NetState) (shows : Shows m s) where
+module _ (m : NetworkMachineSpec) (size : length m.channels ≡ channels_of m.table) (all : (x : ℕ) → x < length m.channels → PreventsAllAt m x)
+    (number : ℕ → ℕ) (top depth : ℕ) (s : NetState) (shows : ShowsNetwork m s) where
   abbrev net : Net
-  net = net_of m.table number top depth
+  net = plain_network m.table number top depth
 
   at : (x : ℕ) → x < channels_of m.table → PreventsAllAt m x
   at x here = all x (subst (λ n. x < n) (sym size) here)
@@ -54,7 +54,7 @@ module _ (m : MachineSpec) (size : length m.channels ≡ channels_of m.table) (a
     stands = (let c : Channel = some_channel m.channels x holds.here in holds.some c (s.lines x) (shows.lines x c holds.here));
   }
 
-  pub all_empty : ((x : ℕ) → x < length m.channels → HoldsNone m.channels x) → IsAllEmpty m net s
+  pub all_empty : ((x : ℕ) → x < length m.channels → HoldsNoFlit m.channels x) → IsAllEmpty m net s
   all_empty none = record {
     still = still;
     none = λ x here. (let there : x < length m.channels = subst (λ n. x < n) (sym size) here in

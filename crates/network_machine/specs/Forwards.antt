@@ -14,7 +14,7 @@ PutsAt ls cs y flit x is_tail true =
 PutsAt ls cs y flit x is_tail false = 0 < (ls y).held → ⊥
 
 -- where the flit in the latch behind channel x goes, with its bits
-pub record IsOutput (n : Net) (ls : ℕ → NetLine) (x y flit : ℕ) (is_head is_tail : Bool) : Type 0
+pub record IsLatchOutput (n : Net) (ls : ℕ → NetLine) (x y flit : ℕ) (is_head is_tail : Bool) : Type 0
   where
     pub here : x < n.channels
     pub input : n.ejects x ≡ false

@@ -6,26 +6,26 @@ use Rattle.network_judge.specs.Columns.{AreColumns}
 use Rattle.network_judge.specs.Verdicts.{AllArrive}
 use Rattle.network_machine.specs.declared.channel.Channel.{Channel}
 use Rattle.network_machine.specs.declared.machine.Machine.TheInside.{Inside}
-use Rattle.network_machine.specs.Machine.{MachineSpec}
-use Rattle.network_machine.specs.Moves.{HaveRoom}
+use Rattle.network_machine.specs.Machine.{NetworkMachineSpec}
+use Rattle.network_machine.specs.Moves.{ChannelsHaveRoom}
 
-abbrev pub machine_of_fields : {A : Type 0} → Inside A → MachineSpec
-machine_of_fields m = record {
+abbrev pub network_machine_of_fields : {A : Type 0} → Inside A → NetworkMachineSpec
+network_machine_of_fields m = record {
   table = table_of m.kinds.now m.joins.now m.choices.now;
   replies = m.replies.now;
   channels = m.channels.items;
 }
 
 -- a table in which all walks arrive, with its columns, and channels with room
-pub record IsMachine {A : Type 0} (m : Inside A) : Type 0 where
-  pub full : IsFull (machine_of_fields m).table
-  pub replies : AreReplies (machine_of_fields m).table m.replies.now
-  pub arrive : AllArrive (machine_of_fields m).table
+pub record IsNetworkMachine {A : Type 0} (m : Inside A) : Type 0 where
+  pub full : IsFull (network_machine_of_fields m).table
+  pub replies : AreReplies (network_machine_of_fields m).table m.replies.now
+  pub arrive : AllArrive (network_machine_of_fields m).table
   pub columns : AreColumns m.kinds.now m.columns.items
-  pub width : m.width ≡ columns_of (machine_of_fields m).table
+  pub width : m.width ≡ columns_of (network_machine_of_fields m).table
   pub few : length m.kinds.now < 2 ^ 32
   pub size : length m.channels.items ≡ length m.kinds.now
-  pub room : HaveRoom m.channels.items
+  pub room : ChannelsHaveRoom m.channels.items
 
 -- a channel in which nothing is
 pub record IsEmptyChannel (depth : ℕ) (c : Channel) : Type 0 where

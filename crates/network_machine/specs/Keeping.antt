@@ -6,7 +6,7 @@ use Rattle.network_judge.specs.Ways.{place, IsWay}
 use Rattle.network_jam.specs.LockUps.{plain_format}
 
 -- packets to ejection channel j come to channel x
-pub record ComesTo (t : Table) (x j : ℕ) : Type 0 where
+pub record PacketsComeTo (t : Table) (x j : ℕ) : Type 0 where
   pub from : ℕ
   pub joined : joins_of t from j ≡ true
   pub steps : ℕ
@@ -17,7 +17,7 @@ pub record ComesTo (t : Table) (x j : ℕ) : Type 0 where
 
 -- a flit at channel x: a head flit tells an ejection channel whose packets come there
 abbrev pub HeadComesTo : Table → ℕ → ℕ → Type 0
-HeadComesTo t x flit = plain_format.is_head flit ≡ true → ComesTo t x (plain_format.told flit)
+HeadComesTo t x flit = plain_format.is_head flit ≡ true → PacketsComeTo t x (plain_format.told flit)
 
 -- the flits of a channel keep to routes; what owns it is another channel
 pub record KeepsToRoutes (t : Table) (x : ℕ) (l : NetLine) : Type 0 where

@@ -16,20 +16,20 @@ pub record ShowsLine (l : NetLine) (c : Channel) : Type 0 where
   pub rest : l.rest ≡ rest_words c.left
 
 -- credits and flits are together no more than a channel can hold
-abbrev pub HasRoom : Channel → Type 0
-HasRoom c = c.held + length c.flits.items + c.returning ≤ 8
+abbrev pub ChannelHasRoom : Channel → Type 0
+ChannelHasRoom c = c.held + length c.flits.items + c.returning ≤ 8
 
 -- a flit is taken into the latch, or there is none, or the latch is full
-abbrev pub Takes : NetLine → Channel → Bool → Type 0
-Takes l c true =
+abbrev pub TakesFlit : NetLine → Channel → Bool → Type 0
+TakesFlit l c true =
     (flit : ℕ) × (more : List ℕ) × (l.latch ≡ None) × (l.flits ≡ flit ∷ more)
     × ShowsLine (record (taken more l) { latch = Some flit }) c
-Takes l c false = (flit : ℕ) (more : List ℕ) → l.latch ≡ None → l.flits ≡ flit ∷ more → ⊥
+TakesFlit l c false = (flit : ℕ) (more : List ℕ) → l.latch ≡ None → l.flits ≡ flit ∷ more → ⊥
 
 -- a flit is put, or no credit is held
-abbrev pub Puts : NetLine → Channel → ℕ → Bool → Type 0
-Puts l c flit true = (0 < l.held) × ShowsLine (put flit l) c
-Puts l c flit false = 0 < l.held → ⊥
+abbrev pub PutsFlit : NetLine → Channel → ℕ → Bool → Type 0
+PutsFlit l c flit true = (0 < l.held) × ShowsLine (put flit l) c
+PutsFlit l c flit false = 0 < l.held → ⊥
 
 -- a credit comes back, or none is on its way
 abbrev pub Credits : NetLine → Channel → Bool → Type 0
@@ -55,8 +55,8 @@ Begins l c to count true =
 Begins l c to count false = l.rest ≡ [] → 0 < l.held → 0 < count → ⊥
 
 -- a sender puts the next flit of the packet in course, or none is in course, or it holds no credit
-abbrev pub GoesOn : NetLine → Channel → Bool → Type 0
-GoesOn l c true =
+abbrev pub SendsMore : NetLine → Channel → Bool → Type 0
+SendsMore l c true =
     (flit : ℕ) × (more : List ℕ) × (l.rest ≡ flit ∷ more) × (0 < l.held)
     × ShowsLine (record (put flit l) { rest = more }) c
-GoesOn l c false = (flit : ℕ) (more : List ℕ) → l.rest ≡ flit ∷ more → 0 < l.held → ⊥
+SendsMore l c false = (flit : ℕ) (more : List ℕ) → l.rest ≡ flit ∷ more → 0 < l.held → ⊥

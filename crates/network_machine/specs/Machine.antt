@@ -14,57 +14,61 @@ use Rattle.network_machine.specs.declared.moves.Hindrance.{Hindrance}
 use Rattle.network_machine.specs.Keeping.{AllKeepToRoutes}
 use Rattle.network_machine.specs.declared.moves.Move.TheVariants.{Send, More, Take, Put, Accept}
 use Rattle.network_machine.specs.declared.moves.Move.TheVariants.{Credit}
-use Rattle.network_machine.specs.Moves.{CanMove, ShowAll, Makes}
+use Rattle.network_machine.specs.Moves.{CanMove, ShowAll, MakesEvent}
 
 -- a machine: its table, who answers where, and its channels
-pub record MachineSpec : Type 0 where
+pub record NetworkMachineSpec : Type 0 where
   pub table : Table
   pub replies : List Reply
   pub channels : List Channel
 
 -- the network of a table, with flits of the plain format; no event asks for its numbers
-abbrev pub net_of : Table → (ℕ → ℕ) → ℕ → ℕ → Net
-net_of t number top depth = table_network t number top depth plain_format
+abbrev pub plain_network : Table → (ℕ → ℕ) → ℕ → ℕ → Net
+plain_network t number top depth = table_network t number top depth plain_format
 
 -- the machine shows a state of its network: all of it but the notes and what receivers have so far
-pub record Shows (m : MachineSpec) (s : NetState) : Type 0 where
+pub record ShowsNetwork (m : NetworkMachineSpec) (s : NetState) : Type 0 where
   pub lines : ShowAll s.lines m.channels
   pub keep : AllKeepToRoutes m.table s.lines
 
 -- a machine that is opened shows the empty network
-pub record IsOpened (t : Table) (answers : List Reply) (depth : ℕ) (m : MachineSpec) : Type 0 where
-  pub table : m.table ≡ t
-  pub replies : m.replies ≡ answers
-  pub shows : (number : ℕ → ℕ) (top : ℕ) → Shows m (empty (net_of t number top depth))
+pub record IsOpened (t : Table) (answers : List Reply) (depth : ℕ) (m : NetworkMachineSpec) : Type 0
+  where
+    pub table : m.table ≡ t
+    pub replies : m.replies ≡ answers
+    pub shows : (number : ℕ → ℕ) (top : ℕ) → ShowsNetwork m (empty (plain_network t number top depth))
 
 -- the same table and replies
-pub record SameTables (old new : MachineSpec) : Type 0 where
+pub record SameTables (old new : NetworkMachineSpec) : Type 0 where
   pub table : new.table ≡ old.table
   pub replies : new.replies ≡ old.replies
 
 -- the move was made: an event makes it, and the machine shows the state after it
-pub record HasMoved (old new : MachineSpec) (n : Net) (s : NetState) (m : Move) : Type 0 where
-  pub event : NetEvent
-  pub can : CanMove n old.replies s.lines m event
-  pub shows : Shows new (after n s event)
+pub record HasMadeMove (old new : NetworkMachineSpec) (n : Net) (s : NetState) (m : Move) : Type 0
+  where
+    pub event : NetEvent
+    pub can : CanMove n old.replies s.lines m event
+    pub shows : ShowsNetwork new (after n s event)
 
 -- in each state that the machine shows an event makes the move
-abbrev pub Allows : MachineSpec → Move → Type 0
-Allows m move = (number : ℕ → ℕ) (top depth : ℕ) (s : NetState) → Shows m s
-    → (event : NetEvent) × CanMove (net_of m.table number top depth) m.replies s.lines move event
+abbrev pub Permits : NetworkMachineSpec → Move → Type 0
+Permits m move = (number : ℕ → ℕ) (top depth : ℕ) (s : NetState) → ShowsNetwork m s
+    → (event : NetEvent)
+    × CanMove (plain_network m.table number top depth) m.replies s.lines move event
 
 -- in none does
-abbrev pub Prevents : MachineSpec → Move → Type 0
-Prevents m move = (number : ℕ → ℕ) (top depth : ℕ) (s : NetState) → Shows m s
-    → (event : NetEvent) → CanMove (net_of m.table number top depth) m.replies s.lines move event → ⊥
+abbrev pub Prevents : NetworkMachineSpec → Move → Type 0
+Prevents m move = (number : ℕ → ℕ) (top depth : ℕ) (s : NetState) → ShowsNetwork m s
+    → (event : NetEvent)
+    → CanMove (plain_network m.table number top depth) m.replies s.lines move event → ⊥
 
 -- no hindrance, and an event makes the move; or one, and none does
-abbrev pub Settles : MachineSpec → Move → Option Hindrance → Type 0
-Settles m move None = Allows m move
+abbrev pub Settles : NetworkMachineSpec → Move → Option Hindrance → Type 0
+Settles m move None = Permits m move
 Settles m move (Some h) = Prevents m move
 
 -- the channel of a move, and where it is a packet's, its pair, are there
-abbrev pub IsInReach : MachineSpec → Move → Type 0
+abbrev pub IsInReach : NetworkMachineSpec → Move → Type 0
 IsInReach m (Send p) = (p.from < length m.channels) × (joins_of m.table p.from p.to ≡ true)
 IsInReach m (More x) = x < length m.channels
 IsInReach m (Take x) = x < length m.channels
@@ -73,11 +77,11 @@ IsInReach m (Accept x) = x < length m.channels
 IsInReach m (Credit x) = x < length m.channels
 
 -- the channels once a move is tried: it is made in each state, or no event makes it
-abbrev pub MakesAll : MachineSpec → MachineSpec → Move → Bool → Type 0
-MakesAll old new move made = (number : ℕ → ℕ) (top depth : ℕ) (s : NetState) → Shows old s
-    → Makes (net_of old.table number top depth) s.lines move new.channels made
+abbrev pub MakesAll : NetworkMachineSpec → NetworkMachineSpec → Move → Bool → Type 0
+MakesAll old new move made = (number : ℕ → ℕ) (top depth : ℕ) (s : NetState) → ShowsNetwork old s
+    → MakesEvent (plain_network old.table number top depth) s.lines move new.channels made
 
 -- in each state that the machine showed an event makes the move, and it shows the state after it
-abbrev pub MovesAll : MachineSpec → MachineSpec → Move → Type 0
-MovesAll old new move = (number : ℕ → ℕ) (top depth : ℕ) (s : NetState) → Shows old s
-    → HasMoved old new (net_of old.table number top depth) s move
+abbrev pub MovesAll : NetworkMachineSpec → NetworkMachineSpec → Move → Type 0
+MovesAll old new move = (number : ℕ → ℕ) (top depth : ℕ) (s : NetState) → ShowsNetwork old s
+    → HasMadeMove old new (plain_network old.table number top depth) s move

@@ -12,28 +12,28 @@ use Rattle.network_machine.specs.declared.moves.Move.TheVariants.{Send, More, Ta
 use Rattle.network_machine.specs.declared.moves.Move.TheVariants.{Credit}
 use Rattle.network_machine.specs.declared.moves.Hindrance.{Hindrance}
 use Rattle.network_machine.specs.declared.channel.Channel.{Channel}
-use Rattle.network_machine.specs.Lines.{ShowsLine, HasRoom}
+use Rattle.network_machine.specs.Lines.{ShowsLine, ChannelHasRoom}
 
 -- the move that an event is
-abbrev pub move_of : NetEvent → Move
-move_of (InjectHead x k) =
+abbrev pub event_move : NetEvent → Move
+event_move (InjectHead x k) =
     Send (record { from = x; to = k.destination; length = length (net_flits k) })
-move_of (InjectRest x flit more) = More x
-move_of (Latch x flit more) = Take x
-move_of (ForwardHead x y flit) = Put x
-move_of (ForwardRest x y flit) = Put x
-move_of (AcceptHead x flit more) = Accept x
-move_of (AcceptRest x flit more) = Accept x
-move_of (Return x) = Credit x
+event_move (InjectRest x flit more) = More x
+event_move (Latch x flit more) = Take x
+event_move (ForwardHead x y flit) = Put x
+event_move (ForwardRest x y flit) = Put x
+event_move (AcceptHead x flit more) = Accept x
+event_move (AcceptRest x flit more) = Accept x
+event_move (Return x) = Credit x
 
 -- the channel of a move
-abbrev pub channel_of : Move → ℕ
-channel_of (Send p) = p.from
-channel_of (More x) = x
-channel_of (Take x) = x
-channel_of (Put x) = x
-channel_of (Accept x) = x
-channel_of (Credit x) = x
+abbrev pub move_channel : Move → ℕ
+move_channel (Send p) = p.from
+move_channel (More x) = x
+move_channel (Take x) = x
+move_channel (Put x) = x
+move_channel (Accept x) = x
+move_channel (Credit x) = x
 
 -- a receiver that takes a flit has a credit on each channel on which it answers
 abbrev pub HasAnswerCredits : List Reply → (ℕ → NetLine) → Move → Type 0
@@ -47,7 +47,7 @@ HasAnswerCredits replies ls (Credit x) = Unit {0}
 -- an event by which a move may be made
 pub record CanMove (n : Net) (replies : List Reply) (ls : ℕ → NetLine) (m : Move) (e : NetEvent) : Type 0
   where
-    pub is : move_of e ≡ m
+    pub is : event_move e ≡ m
     pub may : CanHappen n ls e
     pub answers : HasAnswerCredits replies ls m
 
@@ -61,11 +61,11 @@ abbrev pub ShowAll : (ℕ → NetLine) → List Channel → Type 0
 ShowAll ls cs = (x : ℕ) (d : Channel) → x < length cs → ShowsLine (ls x) (slice_index_or cs x d)
 
 -- each has room
-abbrev pub HaveRoom : List Channel → Type 0
-HaveRoom cs = (x : ℕ) (d : Channel) → x < length cs → HasRoom (slice_index_or cs x d)
+abbrev pub ChannelsHaveRoom : List Channel → Type 0
+ChannelsHaveRoom cs = (x : ℕ) (d : Channel) → x < length cs → ChannelHasRoom (slice_index_or cs x d)
 
 -- an event makes the move, and the channels show the lines after it; or none does
-abbrev pub Makes : Net → (ℕ → NetLine) → Move → List Channel → Bool → Type 0
-Makes n ls m cs true =
-    (e : NetEvent) × (move_of e ≡ m) × CanHappen n ls e × ShowAll (lines_after n ls e) cs
-Makes n ls m cs false = (e : NetEvent) → move_of e ≡ m → CanHappen n ls e → ⊥
+abbrev pub MakesEvent : Net → (ℕ → NetLine) → Move → List Channel → Bool → Type 0
+MakesEvent n ls m cs true =
+    (e : NetEvent) × (event_move e ≡ m) × CanHappen n ls e × ShowAll (lines_after n ls e) cs
+MakesEvent n ls m cs false = (e : NetEvent) → event_move e ≡ m → CanHappen n ls e → ⊥

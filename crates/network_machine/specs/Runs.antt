@@ -6,7 +6,8 @@ use Rattle.wormhole.specs.Events.{NetEvent, after}
 use Rattle.network_judge.specs.declared.table.Reply.{Reply}
 use Rattle.network_machine.specs.declared.moves.Move.{Move}
 use Rattle.network_machine.specs.Moves.{CanMove}
-use Rattle.network_machine.specs.Machine.{MachineSpec, Shows, net_of, Prevents}
+use Rattle.network_machine.specs.Machine.{NetworkMachineSpec, ShowsNetwork, plain_network}
+use Rattle.network_machine.specs.Machine.{Prevents}
 
 -- events make these moves, from one state to another
 abbrev pub Runs : Net → List Reply → NetState → List Move → NetState → Type 0
@@ -15,12 +16,13 @@ Runs n replies s (m ∷ ms) t =
     (e : NetEvent) × CanMove n replies s.lines m e × Runs n replies (after n s e) ms t
 
 -- from each state that the one machine shows, such events lead to one that the other shows
-abbrev pub RunsTo : MachineSpec → MachineSpec → List Move → Type 0
-RunsTo old new ms = (number : ℕ → ℕ) (top depth : ℕ) (s : NetState) → Shows old s
-    → (t : NetState) × Runs (net_of old.table number top depth) old.replies s ms t × Shows new t
+abbrev pub RunsTo : NetworkMachineSpec → NetworkMachineSpec → List Move → Type 0
+RunsTo old new ms = (number : ℕ → ℕ) (top depth : ℕ) (s : NetState) → ShowsNetwork old s
+    → (t : NetState) × Runs (plain_network old.table number top depth) old.replies s ms t
+    × ShowsNetwork new t
 
 -- the moves before a place are made, and no event makes the move at it
-pub record StopsAt (old new : MachineSpec) (ms : List Move) (place : ℕ) : Type 0 where
+pub record StopsAt (old new : NetworkMachineSpec) (ms : List Move) (place : ℕ) : Type 0 where
   pub here : place < length ms
   pub before : RunsTo old new (take place ms)
   pub prevented : (d : Move) → Prevents new (slice_index_or ms place d)

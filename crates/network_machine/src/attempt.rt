@@ -33,7 +33,7 @@ impl<'a, A: Allocator> Machine<'a, A> {
         send_more_at(&mut self.channels, x)
     }
 
-    /// Takes a flit into a latch.
+    /// TakesFlit a flit into a latch.
     fn make_take(&mut self, x: usize) -> bool
         requires { IsInReach self.old (Take x) }
         ensures made { MakesAll self.old self.new (Take x) result }
@@ -45,7 +45,7 @@ impl<'a, A: Allocator> Machine<'a, A> {
         take_at(&mut self.channels, x)
     }
 
-    /// Puts the flit from a latch.
+    /// PutsFlit the flit from a latch.
     fn make_put(&mut self, x: usize) -> bool
         requires { IsInReach self.old (Put x) }
         ensures made { MakesAll self.old self.new (Put x) result }
@@ -60,7 +60,7 @@ impl<'a, A: Allocator> Machine<'a, A> {
         }
     }
 
-    /// Takes a flit from an ejection channel.
+    /// TakesFlit a flit from an ejection channel.
     fn make_accept(&mut self, x: usize) -> bool
         requires { IsInReach self.old (Accept x) }
         ensures made { MakesAll self.old self.new (Accept x) result }
@@ -81,7 +81,7 @@ impl<'a, A: Allocator> Machine<'a, A> {
         credit_at(&mut self.channels, x)
     }
 
-    /// Makes a move, if an event does.
+    /// MakesEvent a move, if an event does.
     fn make(&mut self, of: Move) -> bool
         requires { IsInReach self.old of }
         ensures made { MakesAll self.old self.new of result }

@@ -3,8 +3,8 @@
 ghost use Rattle.std.specs.Prelude.{◌≡◌, ◌<◌, ◌^◌, true, false, cond, Some, None};
 ghost use Rattle.wormhole.specs.State.{NetLine};
 ghost use Rattle.wormhole.specs.Events.{unlatched};
-ghost use Rattle.network_machine.specs.Lines.{ShowsLine, HasRoom, Takes, Puts, PutsFrom, Credits, Accepts};
-ghost use Rattle.network_machine.specs.Lines.{Begins, GoesOn};
+ghost use Rattle.network_machine.specs.Lines.{ShowsLine, ChannelHasRoom, TakesFlit, PutsFlit};
+ghost use Rattle.network_machine.specs.Lines.{PutsFrom, Credits, Accepts, Begins, SendsMore};
 ghost use Rattle.network_machine.specs.Lets.{LetsTake, LetsReturn, LetsAccept, LetsBegin, LetsGoOn};
 ghost use Rattle.network_machine.specs.Lets.{TellsFlits};
 
@@ -31,9 +31,9 @@ pub struct Channel {
 
 /// The router behind the channel takes its first flit, if its latch is empty.
 pub fn take(channel: &mut Channel) -> bool
-    requires { HasRoom channel.old }
-    ensures room { HasRoom channel.new }
-    ensures line { (l : NetLine) → ShowsLine l channel.old → Takes l channel.new result }
+    requires { ChannelHasRoom channel.old }
+    ensures room { ChannelHasRoom channel.new }
+    ensures line { (l : NetLine) → ShowsLine l channel.old → TakesFlit l channel.new result }
 {
     if channel.latch.is_some() || channel.flits.is_empty() {
         return false;
@@ -46,10 +46,10 @@ pub fn take(channel: &mut Channel) -> bool
 
 /// A flit is put, if a credit is held.
 pub fn put(channel: &mut Channel, flit: u64) -> bool
-    requires { HasRoom channel.old }
-    ensures room { HasRoom channel.new }
+    requires { ChannelHasRoom channel.old }
+    ensures room { ChannelHasRoom channel.new }
     ensures left { channel.new.left ≡ channel.old.left }
-    ensures line { (l : NetLine) → ShowsLine l channel.old → Puts l channel.new flit result }
+    ensures line { (l : NetLine) → ShowsLine l channel.old → PutsFlit l channel.new flit result }
 {
     if channel.held == 0 {
         return false;
@@ -61,8 +61,8 @@ pub fn put(channel: &mut Channel, flit: u64) -> bool
 
 /// A credit comes back, if one is on its way.
 pub fn credit(channel: &mut Channel) -> bool
-    requires { HasRoom channel.old }
-    ensures room { HasRoom channel.new }
+    requires { ChannelHasRoom channel.old }
+    ensures room { ChannelHasRoom channel.new }
     ensures line { (l : NetLine) → ShowsLine l channel.old → Credits l channel.new result }
 {
     if channel.returning == 0 {
@@ -82,8 +82,8 @@ fn owner_after(x: usize, is_tail: bool) -> Option<usize>
 
 /// A flit is put from input x, which owns the channel afterwards unless the flit `is_tail`.
 pub fn put_from(channel: &mut Channel, flit: u64, x: usize, is_tail: bool) -> bool
-    requires { HasRoom channel.old }
-    ensures room { HasRoom channel.new }
+    requires { ChannelHasRoom channel.old }
+    ensures room { ChannelHasRoom channel.new }
     ensures line { (l : NetLine) → ShowsLine l channel.old
         → PutsFrom l channel.new flit x is_tail result }
 {
@@ -96,8 +96,8 @@ pub fn put_from(channel: &mut Channel, flit: u64, x: usize, is_tail: bool) -> bo
 
 /// The flit in the latch is gone.
 pub fn unlatch(channel: &mut Channel)
-    requires { HasRoom channel.old }
-    ensures room { HasRoom channel.new }
+    requires { ChannelHasRoom channel.old }
+    ensures room { ChannelHasRoom channel.new }
     ensures line { (l : NetLine) → ShowsLine l channel.old → ShowsLine (unlatched l) channel.new }
 {
     channel.latch = None;
@@ -105,8 +105,8 @@ pub fn unlatch(channel: &mut Channel)
 
 /// A receiver takes the first flit, if there is one.
 pub fn accept(channel: &mut Channel) -> bool
-    requires { HasRoom channel.old }
-    ensures room { HasRoom channel.new }
+    requires { ChannelHasRoom channel.old }
+    ensures room { ChannelHasRoom channel.new }
     ensures line { (l : NetLine) → ShowsLine l channel.old → Accepts l channel.new result }
 {
     if channel.flits.is_empty() {
@@ -120,9 +120,9 @@ pub fn accept(channel: &mut Channel) -> bool
 /// A sender begins a packet of this length to an ejection channel, if none is in course and it holds
 /// a credit.
 pub fn begin(channel: &mut Channel, to: usize, length: u64) -> bool
-    requires room { HasRoom channel.old }
+    requires room { ChannelHasRoom channel.old }
     requires to { to < 2 ^ 32 }
-    ensures room { HasRoom channel.new }
+    ensures room { ChannelHasRoom channel.new }
     ensures line { (l : NetLine) → ShowsLine l channel.old → Begins l channel.new to length result }
 {
     if channel.left > 0 || length == 0 {
@@ -137,9 +137,9 @@ pub fn begin(channel: &mut Channel, to: usize, length: u64) -> bool
 
 /// A sender puts the next flit of the packet in course, if it holds a credit.
 pub fn send_more(channel: &mut Channel) -> bool
-    requires { HasRoom channel.old }
-    ensures room { HasRoom channel.new }
-    ensures line { (l : NetLine) → ShowsLine l channel.old → GoesOn l channel.new result }
+    requires { ChannelHasRoom channel.old }
+    ensures room { ChannelHasRoom channel.new }
+    ensures line { (l : NetLine) → ShowsLine l channel.old → SendsMore l channel.new result }
 {
     if channel.left == 0 {
         return false;

@@ -1,8 +1,9 @@
 //! How a run ends.
 
 ghost use Rattle.std.specs.Prelude.{◌≡◌, ◌<◌, ℕ, true, false, length, IfSome, IfNone};
-ghost use Rattle.network_machine.specs.Machine.{Allows, Prevents};
-ghost use Rattle.network_machine.specs.Endings.{IsFirstAt, PreventsAllAt, HoldsFlit, HoldsNone, IsEnding};
+ghost use Rattle.network_machine.specs.Machine.{Permits, Prevents};
+ghost use Rattle.network_machine.specs.Endings.{IsFirstAt, PreventsAllAt, IsEnding};
+ghost use Rattle.network_machine.specs.Endings.{HoldsFlit, HoldsNoFlit};
 
 use crate::channel::{Channel, has_flit};
 use crate::machine::Machine;
@@ -12,7 +13,7 @@ use std::alloc::Allocator;
 /// A channel with a flit, or with one in the latch behind it.
 fn standing(channels: &[Channel]) -> Option<usize>
     ensures some { IfSome result (HoldsFlit channels.now) }
-    ensures none { IfNone result ((x : ℕ) → x < length channels.now → HoldsNone channels.now x) }
+    ensures none { IfNone result ((x : ℕ) → x < length channels.now → HoldsNoFlit channels.now x) }
 {
     for x in 0..channels.len() {
         if has_flit(&channels[x]) {
@@ -25,7 +26,7 @@ fn standing(channels: &[Channel]) -> Option<usize>
 impl<'a, A: Allocator> Machine<'a, A> {
     /// Whether an event makes a move.
     fn is_free(&self, of: Move) -> bool
-        ensures yes { result ≡ true → Allows self.now of }
+        ensures yes { result ≡ true → Permits self.now of }
         ensures no { result ≡ false → Prevents self.now of }
     {
         match self.hindrance(of) {

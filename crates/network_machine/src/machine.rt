@@ -28,15 +28,15 @@ pub struct Machine<'a, A: Allocator = Global> {
 }
 
 impl<'a, A: Allocator> Model for Machine<'a, A> {
-    ghost use Rattle.network_machine.specs.Machine.{MachineSpec};
+    ghost use Rattle.network_machine.specs.Machine.{NetworkMachineSpec};
 
-    ghost Value = { MachineSpec };
+    ghost Value = { NetworkMachineSpec };
 
-    ghost use Rattle.network_machine.specs.Inside.{machine_of_fields, IsMachine};
+    ghost use Rattle.network_machine.specs.Inside.{network_machine_of_fields, IsNetworkMachine};
 
-    ghost view = { machine_of_fields };
+    ghost view = { network_machine_of_fields };
 
-    ghost invariant = { IsMachine };
+    ghost invariant = { IsNetworkMachine };
 }
 
 impl<'a, A: Allocator + Copy> Machine<'a, A> {

@@ -1,7 +1,7 @@
 //! Moves of a network, and why one may not be made.
 
 ghost use Rattle.std.specs.Prelude.{◌≡◌};
-ghost use Rattle.network_machine.specs.Moves.{channel_of};
+ghost use Rattle.network_machine.specs.Moves.{move_channel};
 
 /// A packet that a sender begins.
 #[derive(Clone, Copy, PartialEq, Eq)]
@@ -83,7 +83,7 @@ pub enum Ending {
 impl Move {
     /// The channel from or to which a flit moves, or whose credit comes back.
     pub fn channel(self) -> usize
-        ensures { result ≡ channel_of self }
+        ensures { result ≡ move_channel self }
     {
         match self {
             Move::Send(packet) => packet.from,

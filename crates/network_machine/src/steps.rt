@@ -5,9 +5,9 @@ ghost use Rattle.wormhole.specs.Net.{Net, IsParcel};
 ghost use Rattle.wormhole.specs.State.{NetLine, update};
 ghost use Rattle.wormhole.specs.Events.{unlatched};
 ghost use Rattle.network_machine.specs.declared.moves.Move.TheVariants.{Send, More, Take, Credit, Accept};
-ghost use Rattle.network_machine.specs.Moves.{ShowAll, HaveRoom, Makes};
+ghost use Rattle.network_machine.specs.Moves.{ShowAll, ChannelsHaveRoom, MakesEvent};
 ghost use Rattle.network_machine.specs.Packets.{packet_of};
-ghost use Rattle.network_machine.specs.Forwards.{PutsAt, IsOutput, Forwards};
+ghost use Rattle.network_machine.specs.Forwards.{PutsAt, IsLatchOutput, Forwards};
 
 use crate::channel::{Channel, accept, begin, credit, put_from, send_more, take, unlatch};
 use crate::moves::Packet;
@@ -16,13 +16,13 @@ use crate::moves::Packet;
 pub(crate) fn begin_at(channels: &mut [Channel], packet: Packet) -> bool
     requires x { packet.from < length channels.old }
     requires to { packet.to < 2 ^ 32 }
-    requires room { HaveRoom channels.old }
+    requires room { ChannelsHaveRoom channels.old }
     ensures count { length channels.new ≡ length channels.old }
-    ensures room { HaveRoom channels.new }
+    ensures room { ChannelsHaveRoom channels.new }
     ensures lines { (n : Net) (ls : ℕ → NetLine) → packet.from < n.channels
         → n.injects packet.from ≡ true
         → (0 < packet.length → IsParcel n (packet_of packet.from packet.to packet.length))
-        → ShowAll ls channels.old → Makes n ls (Send packet) channels.new result }
+        → ShowAll ls channels.old → MakesEvent n ls (Send packet) channels.new result }
 {
     begin(&mut channels[packet.from], packet.to, packet.length)
 }
@@ -30,11 +30,11 @@ pub(crate) fn begin_at(channels: &mut [Channel], packet: Packet) -> bool
 /// The sender of injection channel x puts the next flit of its packet, if it holds a credit.
 pub(crate) fn send_more_at(channels: &mut [Channel], x: usize) -> bool
     requires x { x < length channels.old }
-    requires room { HaveRoom channels.old }
+    requires room { ChannelsHaveRoom channels.old }
     ensures count { length channels.new ≡ length channels.old }
-    ensures room { HaveRoom channels.new }
+    ensures room { ChannelsHaveRoom channels.new }
     ensures lines { (n : Net) (ls : ℕ → NetLine) → x < n.channels → n.injects x ≡ true
-        → ShowAll ls channels.old → Makes n ls (More x) channels.new result }
+        → ShowAll ls channels.old → MakesEvent n ls (More x) channels.new result }
 {
     send_more(&mut channels[x])
 }
@@ -43,11 +43,11 @@ pub(crate) fn send_more_at(channels: &mut [Channel], x: usize) -> bool
 /// empty.
 pub(crate) fn take_at(channels: &mut [Channel], x: usize) -> bool
     requires x { x < length channels.old }
-    requires room { HaveRoom channels.old }
+    requires room { ChannelsHaveRoom channels.old }
     ensures count { length channels.new ≡ length channels.old }
-    ensures room { HaveRoom channels.new }
+    ensures room { ChannelsHaveRoom channels.new }
     ensures lines { (n : Net) (ls : ℕ → NetLine) → x < n.channels → n.ejects x ≡ false
-        → ShowAll ls channels.old → Makes n ls (Take x) channels.new result }
+        → ShowAll ls channels.old → MakesEvent n ls (Take x) channels.new result }
 {
     take(&mut channels[x])
 }
@@ -55,11 +55,11 @@ pub(crate) fn take_at(channels: &mut [Channel], x: usize) -> bool
 /// A credit of channel x comes back, if one is on its way.
 pub(crate) fn credit_at(channels: &mut [Channel], x: usize) -> bool
     requires x { x < length channels.old }
-    requires room { HaveRoom channels.old }
+    requires room { ChannelsHaveRoom channels.old }
     ensures count { length channels.new ≡ length channels.old }
-    ensures room { HaveRoom channels.new }
+    ensures room { ChannelsHaveRoom channels.new }
     ensures lines { (n : Net) (ls : ℕ → NetLine) → x < n.channels
-        → ShowAll ls channels.old → Makes n ls (Credit x) channels.new result }
+        → ShowAll ls channels.old → MakesEvent n ls (Credit x) channels.new result }
 {
     credit(&mut channels[x])
 }
@@ -67,11 +67,11 @@ pub(crate) fn credit_at(channels: &mut [Channel], x: usize) -> bool
 /// The receiver of ejection channel x takes its first flit, if there is one.
 pub(crate) fn accept_at(channels: &mut [Channel], x: usize) -> bool
     requires x { x < length channels.old }
-    requires room { HaveRoom channels.old }
+    requires room { ChannelsHaveRoom channels.old }
     ensures count { length channels.new ≡ length channels.old }
-    ensures room { HaveRoom channels.new }
+    ensures room { ChannelsHaveRoom channels.new }
     ensures lines { (n : Net) (ls : ℕ → NetLine) → x < n.channels → n.ejects x ≡ true
-        → ShowAll ls channels.old → Makes n ls (Accept x) channels.new result }
+        → ShowAll ls channels.old → MakesEvent n ls (Accept x) channels.new result }
 {
     accept(&mut channels[x])
 }
@@ -79,9 +79,9 @@ pub(crate) fn accept_at(channels: &mut [Channel], x: usize) -> bool
 /// A flit is put into channel y from input x, if a credit is held.
 fn put_at(channels: &mut [Channel], y: usize, flit: u64, x: usize, is_tail: bool) -> bool
     requires y { y < length channels.old }
-    requires room { HaveRoom channels.old }
+    requires room { ChannelsHaveRoom channels.old }
     ensures count { length channels.new ≡ length channels.old }
-    ensures room { HaveRoom channels.new }
+    ensures room { ChannelsHaveRoom channels.new }
     ensures lines { (ls : ℕ → NetLine) → ShowAll ls channels.old
         → PutsAt ls channels.new y flit x is_tail result }
 {
@@ -91,9 +91,9 @@ fn put_at(channels: &mut [Channel], y: usize, flit: u64, x: usize, is_tail: bool
 /// The flit in the latch behind channel x is gone.
 fn unlatch_at(channels: &mut [Channel], x: usize)
     requires x { x < length channels.old }
-    requires room { HaveRoom channels.old }
+    requires room { ChannelsHaveRoom channels.old }
     ensures count { length channels.new ≡ length channels.old }
-    ensures room { HaveRoom channels.new }
+    ensures room { ChannelsHaveRoom channels.new }
     ensures lines { (ls : ℕ → NetLine) → ShowAll ls channels.old
         → ShowAll (update ls x (unlatched (ls x))) channels.new }
 {
@@ -120,10 +120,10 @@ pub(crate) fn forward_at(
     requires x { x < length channels.old }
     requires y { y < length channels.old }
     requires apart { x ≢ y }
-    requires room { HaveRoom channels.old }
+    requires room { ChannelsHaveRoom channels.old }
     ensures count { length channels.new ≡ length channels.old }
-    ensures room { HaveRoom channels.new }
-    ensures lines { (n : Net) (ls : ℕ → NetLine) → IsOutput n ls x y flit is_head is_tail
+    ensures room { ChannelsHaveRoom channels.new }
+    ensures lines { (n : Net) (ls : ℕ → NetLine) → IsLatchOutput n ls x y flit is_head is_tail
         → ShowAll ls channels.old → Forwards n ls channels.new x y flit is_head result }
 {
     let owner = owner_before(is_head, x);

@@ -1,6 +1,6 @@
 use Rattle.std.proofs.Common.{◌≡◌, ◌<◌, ◌∙◌, sym, ap, subst, arith, length}
-use Rattle.network_machine.specs.Machine.{MachineSpec}
-use Rattle.network_machine.specs.Endings.{PreventsAllAt, HoldsFlit, HoldsNone}
+use Rattle.network_machine.specs.Machine.{NetworkMachineSpec}
+use Rattle.network_machine.specs.Endings.{PreventsAllAt, HoldsFlit, HoldsNoFlit}
 use Rattle.network_machine.proofs.Owners.{one_more}
 use Rattle.network_machine.proofs.Still.{locked, all_empty}
 use Rattle.network_machine.proofs.machine.Machine.ending.Goals as goal
@@ -24,7 +24,7 @@ returns-in-Some-standing g c =
     (let m = c.args.self.now in
     let count = c.channels-x-end.ensures.value in
     let end = c.loop-x-test.false in
-    let same : c.deref.result.now ≡ m.channels = c.deref.ensures.value ∙ ap (λ (k : MachineSpec). k.channels) c.self.view_is in
+    let same : c.deref.result.now ≡ m.channels = c.deref.ensures.value ∙ ap (λ (k : NetworkMachineSpec). k.channels) c.self.view_is in
     λ number top depth s shows. locked m c.channels-x-end.ensures.size (λ x here. c.loop-x.invariant.clear x (omega arith)) number top depth s shows
     c.in-Some-standing.field-0 (subst (λ cs. HoldsFlit cs c.in-Some-standing.field-0) same c.in-Some-standing.ensures.some))
 
@@ -33,6 +33,6 @@ returns-in-None g c =
     (let m = c.args.self.now in
     let count = c.channels-x-end.ensures.value in
     let end = c.loop-x-test.false in
-    let same : c.deref.result.now ≡ m.channels = c.deref.ensures.value ∙ ap (λ (k : MachineSpec). k.channels) c.self.view_is in
+    let same : c.deref.result.now ≡ m.channels = c.deref.ensures.value ∙ ap (λ (k : NetworkMachineSpec). k.channels) c.self.view_is in
     λ number top depth s shows. all_empty m c.channels-x-end.ensures.size (λ x here. c.loop-x.invariant.clear x (omega arith)) number top depth s shows
-    (λ x here. subst (λ cs. HoldsNone cs x) same (c.in-None.ensures.none x (subst (λ cs. x < length cs) (sym same) here))))
+    (λ x here. subst (λ cs. HoldsNoFlit cs x) same (c.in-None.ensures.none x (subst (λ cs. x < length cs) (sym same) here))))

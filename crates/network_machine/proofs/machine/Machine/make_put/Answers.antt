@@ -2,12 +2,12 @@ use Rattle.std.proofs.Common.{◌≡◌, length, sym, ◌∙◌, subst, ap, arit
 use Rattle.wormhole.specs.Net.{Net}
 use Rattle.network_judge.specs.Table.{channels_of}
 use Rattle.network_machine.specs.Moves.{ShowAll}
-use Rattle.network_machine.specs.Machine.{MachineSpec, net_of}
+use Rattle.network_machine.specs.Machine.{NetworkMachineSpec, plain_network}
 use Rattle.network_machine.proofs.Making.{made_by}
 use Rattle.network_machine.specs.declared.moves.Move.TheVariants.{Put}
 use Rattle.network_jam.specs.LockUps.{plain_format}
 use Rattle.network_machine.specs.Outputs.{IsWayOut}
-use Rattle.network_machine.specs.Forwards.{IsOutput}
+use Rattle.network_machine.specs.Forwards.{IsLatchOutput}
 use Rattle.network_machine.proofs.Puts.{some_channel, latch_of}
 use Rattle.network_machine.proofs.Making.{puts_make}
 use Rattle.network_machine.proofs.machine.Machine.make_put.Goals as goal
@@ -15,10 +15,10 @@ use Rattle.network_machine.proofs.machine.Machine.make_put.Goals as goal
 pub returns-in-Ok-clause-made : goal.returns-in-Ok-clause-made
 returns-in-Ok-clause-made g c = λ number top depth s shows.
     (let m = c.args.self.now in
-    let n : Net = net_of m.table number top depth in
-    let same : c.deref_mut.result.now ≡ m.channels = c.deref_mut.ensures.value ∙ ap (λ (k : MachineSpec). k.channels) c.self.view_is in
+    let n : Net = plain_network m.table number top depth in
+    let same : c.deref_mut.result.now ≡ m.channels = c.deref_mut.ensures.value ∙ ap (λ (k : NetworkMachineSpec). k.channels) c.self.view_is in
     let all : ShowAll s.lines c.deref_mut.result.now = subst (λ cs. ShowAll s.lines cs) (sym same) shows.lines in
-    let size : length m.channels ≡ channels_of m.table = subst (λ (m : MachineSpec). length m.channels ≡ channels_of m.table) c.self.view_is c.self.invariant.size in
+    let size : length m.channels ≡ channels_of m.table = subst (λ (m : NetworkMachineSpec). length m.channels ≡ channels_of m.table) c.self.view_is c.self.invariant.size in
     let count : length c.forward_at.new.channels ≡ c.self.inside.channels.len =
     (let a = c.forward_at.ensures.count in let b = ap length c.deref_mut.ensures.value in let d = c.self.inside.channels.ok.0 in omega arith) in
     let here : c.args.x < channels_of m.table = subst (λ z. c.args.x < z) size c.requires in
@@ -28,7 +28,7 @@ returns-in-Ok-clause-made g c = λ number top depth s shows.
     let way : IsWayOut m.table m.channels x flit y = c.in-Ok.ensures.some in
     let some = some_channel m.channels x way.0.here in
     let head : plain_format.is_head flit ≡ c.is_head-head.result = sym c.is_head-head.ensures in
-    let output : IsOutput n s.lines x y flit c.is_head-head.result c.is_tail.result = record {
+    let output : IsLatchOutput n s.lines x y flit c.is_head-head.result c.is_tail.result = record {
       here = here;
       input = way.0.input;
       full = latch_of m x flit way.0 some s shows;

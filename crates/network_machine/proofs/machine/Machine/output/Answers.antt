@@ -1,6 +1,6 @@
 use Rattle.std.proofs.Common.{◌≡◌, sym, ◌∙◌, ap, subst, false}
 use Rattle.network_jam.specs.LockUps.{plain_format}
-use Rattle.network_machine.specs.Machine.{MachineSpec}
+use Rattle.network_machine.specs.Machine.{NetworkMachineSpec}
 use Rattle.network_machine.specs.Outputs.{IsOwnedBy, HasNoOutput}
 use Rattle.network_machine.proofs.Owners.{if_none}
 use Rattle.network_machine.proofs.machine.Machine.output.Goals as goal
@@ -8,7 +8,7 @@ use Rattle.network_machine.proofs.machine.Machine.output.Goals as goal
 pub returns-then-not-is_head-clause-none : goal.returns-then-not-is_head-clause-none
 returns-then-not-is_head-clause-none g c =
     (let m = c.args.self.now in
-    let same : c.deref.result.now ≡ m.channels = c.deref.ensures.value ∙ ap (λ (k : MachineSpec). k.channels) c.self.view_is in
+    let same : c.deref.result.now ≡ m.channels = c.deref.ensures.value ∙ ap (λ (k : NetworkMachineSpec). k.channels) c.self.view_is in
     let rest : plain_format.is_head c.args.flit ≡ false = sym c.is_head.ensures ∙ c.if-not-is_head.true in
     if_none c.owned_by.result _ (HasNoOutput m.table m.channels c.args.x c.args.flit)
     (λ none. record {

@@ -1,7 +1,7 @@
 use Rattle.std.proofs.Common.{◌≡◌, ◌+◌, ◌≤◌, ◌∙◌, sym, ap, subst, arith, length, take, ◌++◌, ◌∷◌, []}
 use Rattle.std.proofs.lemmas.List.{take_more}
 use Rattle.network_machine.specs.declared.moves.Move.{Move}
-use Rattle.network_machine.specs.Machine.{MachineSpec, Prevents}
+use Rattle.network_machine.specs.Machine.{NetworkMachineSpec, Prevents}
 use Rattle.network_machine.specs.Runs.{RunsTo}
 use Rattle.network_machine.proofs.Running.{runs_on, take_whole}
 use Rattle.network_machine.proofs.machine.Machine.replay.Goals as goal
@@ -11,9 +11,9 @@ returns-in-Err-clause-stops g c =
     (let same = c.in-Err.ensures.stays in
     record {
       here = c.loop-place-test.true;
-      before = subst (λ (m : MachineSpec). RunsTo c.args.self.now m (take c.loop-place.place c.args.moves.now)) (sym same) c.loop-place.invariant.runs;
+      before = subst (λ (m : NetworkMachineSpec). RunsTo c.args.self.now m (take c.loop-place.place c.args.moves.now)) (sym same) c.loop-place.invariant.runs;
       prevented = λ d. subst (Prevents c.attempt.new.self) (c.move_at.ensures d)
-          (subst (λ (m : MachineSpec). Prevents m c.move_at.result) (sym same) c.in-Err.ensures.prevented);
+          (subst (λ (m : NetworkMachineSpec). Prevents m c.move_at.result) (sym same) c.in-Err.ensures.prevented);
     })
 
 pub loop-place-preserved : goal.loop-place-preserved
