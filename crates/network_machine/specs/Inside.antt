@@ -23,7 +23,7 @@ pub record IsNetworkMachine {A : Type 0} (m : Inside A) : Type 0 where
   pub arrive : AllArrive (network_machine_of_fields m).table
   pub columns : AreColumns m.kinds.now m.columns.items
   pub width : m.width ≡ columns_of (network_machine_of_fields m).table
-  pub few : length m.kinds.now < 2 ^ 32
+  pub few : length m.kinds.now < 2 ^ 60
   pub size : length m.channels.items ≡ length m.kinds.now
   pub room : ChannelsHaveRoom m.channels.items
 

@@ -33,7 +33,7 @@ impl<'a, A: Allocator> Machine<'a, A> {
         send_more_at(&mut self.channels, x)
     }
 
-    /// TakesFlit a flit into a latch.
+    /// Takes a flit into a latch.
     fn make_take(&mut self, x: usize) -> bool
         requires { IsInReach self.old (Take x) }
         ensures made { MakesAll self.old self.new (Take x) result }
@@ -45,7 +45,7 @@ impl<'a, A: Allocator> Machine<'a, A> {
         take_at(&mut self.channels, x)
     }
 
-    /// PutsFlit the flit from a latch.
+    /// Puts the flit from a latch.
     fn make_put(&mut self, x: usize) -> bool
         requires { IsInReach self.old (Put x) }
         ensures made { MakesAll self.old self.new (Put x) result }
@@ -60,7 +60,7 @@ impl<'a, A: Allocator> Machine<'a, A> {
         }
     }
 
-    /// TakesFlit a flit from an ejection channel.
+    /// Takes a flit from an ejection channel.
     fn make_accept(&mut self, x: usize) -> bool
         requires { IsInReach self.old (Accept x) }
         ensures made { MakesAll self.old self.new (Accept x) result }
@@ -81,7 +81,7 @@ impl<'a, A: Allocator> Machine<'a, A> {
         credit_at(&mut self.channels, x)
     }
 
-    /// MakesEvent a move, if an event does.
+    /// Makes a move, if an event does.
     fn make(&mut self, of: Move) -> bool
         requires { IsInReach self.old of }
         ensures made { MakesAll self.old self.new of result }

@@ -121,7 +121,7 @@ pub fn accept(channel: &mut Channel) -> bool
 /// a credit.
 pub fn begin(channel: &mut Channel, to: usize, length: u64) -> bool
     requires room { ChannelHasRoom channel.old }
-    requires to { to < 2 ^ 32 }
+    requires to { to < 2 ^ 60 }
     ensures room { ChannelHasRoom channel.new }
     ensures line { (l : NetLine) → ShowsLine l channel.old → Begins l channel.new to length result }
 {

@@ -27,7 +27,7 @@ pub fn told(flit: u64) -> usize
 
 /// The head flit of a packet of this length, at least 1.
 pub fn head_flit(to: usize, length: u64) -> u64
-    requires { to < 2 ^ 32 }
+    requires { to < 2 ^ 60 }
     ensures { result ≡ head_word to length }
 {
     let bits = if length == 1 { 3 } else { 2 };

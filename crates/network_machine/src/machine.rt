@@ -55,7 +55,6 @@ impl<'a, A: Allocator + Copy> Machine<'a, A> {
         requires full { IsFull (table_of kinds.now joins.now choices.now) }
         requires replies { AreReplies (table_of kinds.now joins.now choices.now) replies.now }
         requires arrive { AllArrive (table_of kinds.now joins.now choices.now) }
-        requires few { length kinds.now < 2 ^ 32 }
         requires depth { depth ≤ 8 }
         ensures { IfOk result (IsOpened (table_of kinds.now joins.now choices.now) replies.now
             depth) }

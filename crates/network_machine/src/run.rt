@@ -18,7 +18,7 @@ fn move_at(moves: &[Move], place: usize) -> Move
 }
 
 impl<'a, A: Allocator> Machine<'a, A> {
-    /// MakesEvent moves one after the other, up to the first that may not be made.
+    /// Makes moves one after the other, up to the first that may not be made.
     ///
     /// Errors: the place of that move, from 0, and why it may not be made.
     pub fn replay(&mut self, moves: &[Move]) -> Result<(), (usize, Hindrance)>

@@ -15,7 +15,7 @@ use crate::moves::Packet;
 /// The sender of a packet's injection channel begins it, if none is in course and it holds a credit.
 pub(crate) fn begin_at(channels: &mut [Channel], packet: Packet) -> bool
     requires x { packet.from < length channels.old }
-    requires to { packet.to < 2 ^ 32 }
+    requires to { packet.to < 2 ^ 60 }
     requires room { ChannelsHaveRoom channels.old }
     ensures count { length channels.new ≡ length channels.old }
     ensures room { ChannelsHaveRoom channels.new }
