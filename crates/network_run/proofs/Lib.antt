@@ -1,0 +1,4 @@
+pub mod SevenWords
+pub mod Refused
+pub mod Locking
+pub mod Telling

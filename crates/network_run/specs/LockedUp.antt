@@ -1,0 +1,17 @@
+-- Runs after which a network is locked, as events of a wormhole network.
+-- Dally and Towles, Principles and Practices of Interconnection Networks, 2004, chapter 14.
+use Rattle.std.specs.Prelude.{◌≡◌, ℕ, List, map}
+use Rattle.wormhole.specs.Events.{NetEvent}
+use Rattle.network_jam.specs.LockUps.{IsLockUp}
+use Rattle.network_text.specs.Network.{NetworkSpec}
+use Rattle.network_machine.specs.declared.moves.Move.{Move}
+use Rattle.network_machine.specs.Moves.{event_move}
+use Rattle.network_machine.specs.Machine.{plain_network}
+
+-- the moves lock a network up whose channels hold so many flits, whatever numbers its channels are
+-- given: they are events from the empty network after which flits stand and nothing can go (Dally
+-- and Towles, chapter 14: a deadlock)
+abbrev pub MovesLockUp : NetworkSpec → ℕ → List Move → Type 0
+MovesLockUp n depth moves = (number : ℕ → ℕ) (top : ℕ)
+    → (events : List NetEvent) × (map event_move events ≡ moves)
+    × IsLockUp (plain_network n.table number top depth) n.replies events

@@ -1,0 +1,43 @@
+-- What is answered where the run is asked for by which a network locks up (this project's own
+-- format).
+use Rattle.std.specs.Prelude.{◌≡◌, ◌⊎◌, ℕ, List, Vec, Option, None, IfSome}
+use Rattle.network_judge.specs.declared.table.Verdict.{Verdict}
+use Rattle.network_judge.specs.declared.table.Verdict.TheVariants.{Rising, NoRoute, Cycle}
+use Rattle.network_judge.specs.Verdicts.{IsVerdict}
+use Rattle.network_text.specs.Network.{NetworkSpec}
+use Rattle.network_text.specs.Answer.{verdict_text, is_rising}
+use Rattle.network_text.specs.declared.answer.Answer.{Answer}
+use Rattle.network_machine.specs.declared.moves.Move.{Move}
+use Rattle.network_run.specs.LockedUp.{MovesLockUp}
+use Rattle.network_run.specs.Written.{moves_text}
+
+-- moves, if any are found, lock the network up
+abbrev pub IsLockingRun : {A : Type 0} → NetworkSpec → ℕ → Option (Vec Move A) → Type 0
+IsLockingRun n depth found = IfSome found (λ moves. MovesLockUp n depth moves.items)
+
+-- moves are found only where the verdict is a cycle
+abbrev pub FindsRun : {A : Type 0} → NetworkSpec → ℕ → Verdict A → Option (Vec Move A) → Type 0
+FindsRun n depth (Rising numbers) found = found ≡ None
+FindsRun n depth (NoRoute r) found = found ≡ None
+FindsRun n depth (Cycle links) found = IsLockingRun n depth found
+
+-- a text has a line for each of some moves, which lock the network up
+pub record IsTextOfRun (n : NetworkSpec) (depth : ℕ) (text : List ℕ) : Type 0 where
+  pub moves : List Move
+  pub locks : MovesLockUp n depth moves
+  pub is : text ≡ moves_text moves
+
+-- the text of the verdict, or where that is a cycle, that of a run
+abbrev pub IsOfVerdict : {A : Type 0} → NetworkSpec → ℕ → Verdict A → List ℕ → Type 0
+IsOfVerdict {A} n depth (Rising numbers) text = text ≡ verdict_text {A = A} (Rising numbers)
+IsOfVerdict {A} n depth (NoRoute r) text = text ≡ verdict_text {A = A} (NoRoute r)
+IsOfVerdict {A} n depth (Cycle links) text =
+    (text ≡ verdict_text {A = A} (Cycle links)) ⊎ IsTextOfRun n depth text
+
+-- what is answered of a network: the text of a run by which it locks up, only if there is one, and
+-- else that of its verdict; and whether its numbers rise
+pub record AnswersRun {A : Type 0} (n : NetworkSpec) (depth : ℕ) (a : Answer A) : Type 0 where
+  pub verdict : Verdict A
+  pub holds : IsVerdict n.table n.replies verdict
+  pub text : IsOfVerdict n depth verdict a.text.items
+  pub rising : a.rising ≡ is_rising verdict

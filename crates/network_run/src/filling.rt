@@ -1,0 +1,114 @@
+//! The moves that fill the channels of a jam. What they come to is asked of the network itself.
+
+ghost use Rattle.std.specs.Prelude.{◌≡◌, ◌≤◌};
+ghost use Rattle.network_judge.specs.Columns.{AreColumns};
+ghost use Rattle.network_judge.specs.Table.{columns_of};
+
+use jam_search::check::next_of;
+use network_jam::Fill;
+use network_judge::columns::{columns_of, ends_of};
+use network_machine::{Move, Packet};
+use network_text::Network;
+use std::alloc::{AllocError, Allocator};
+
+/// A part of a route: its channels before the last, and the last.
+#[derive(Drop)]
+struct Way<A: Allocator> {
+    before: Vec<usize, A>,
+    last: usize,
+}
+
+/// The route of a fill, up to the channel that is filled.
+///
+/// Errors: memory.
+fn way_of<A: Allocator + Copy>(
+    alloc: A,
+    network: &Network<A>,
+    columns: &[usize],
+    width: usize,
+    fill: Fill,
+) -> Result<Way<A>, AllocError>
+    requires columns { AreColumns network.now.table.kinds columns.now }
+    requires width { width ≡ columns_of network.now.table }
+{
+    let (kinds, joins, choices) = (network.kinds(), network.joins(), network.choices());
+    let mut before = Vec::new(alloc);
+    let mut last = fill.from;
+    for _step in 0..fill.step {
+        match next_of(kinds, joins, choices, columns, width, last, fill.to) {
+            None => break,
+            Some(next) => {
+                before.push(last)?;
+                last = next;
+            }
+        }
+    }
+    Ok(Way { before, last })
+}
+
+/// Adds the moves of a packet of one flit from its sender to the last channel of a way.
+///
+/// Errors: memory.
+fn put_packet<A: Allocator>(
+    moves: &mut Vec<Move, A>,
+    before: &[usize],
+    packet: Packet,
+) -> Result<(), AllocError> {
+    moves.push(Move::Send(packet))?;
+    for x in before {
+        moves.push(Move::Take(*x))?;
+        moves.push(Move::Credit(*x))?;
+        moves.push(Move::Put(*x))?;
+    }
+    Ok(())
+}
+
+/// Adds the moves that fill the last channel of a way with packets: as many as it holds, and one
+/// more in the latch behind it, where it is no ejection channel.
+///
+/// Errors: memory.
+fn put_fill<A: Allocator>(
+    moves: &mut Vec<Move, A>,
+    way: &Way<A>,
+    packet: Packet,
+    depth: u64,
+) -> Result<(), AllocError>
+    requires { depth ≤ 8 }
+{
+    if way.last != packet.to {
+        put_packet(moves, &way.before, packet)?;
+        moves.push(Move::Take(way.last))?;
+        moves.push(Move::Credit(way.last))?;
+    }
+    for _held in 0..depth {
+        put_packet(moves, &way.before, packet)?;
+    }
+    Ok(())
+}
+
+/// The moves that fill the channels of a jam, the last of the list first.
+///
+/// Errors: memory.
+pub(crate) fn filling_moves<A: Allocator + Copy>(
+    alloc: A,
+    network: &Network<A>,
+    fills: &[Fill],
+    depth: u64,
+) -> Result<Vec<Move, A>, AllocError>
+    requires { depth ≤ 8 }
+{
+    let columns = columns_of(alloc, network.kinds())?;
+    let width = ends_of(alloc, network.kinds())?.len();
+    let mut moves = Vec::new(alloc);
+    for k in 0..fills.len() {
+        let fill = fills[fills.len() - 1 - k];
+        let way = way_of(alloc, network, &columns, width, fill)?;
+        let packet = Packet {
+            from: fill.from,
+            to: fill.to,
+            length: 1,
+        };
+        put_fill(&mut moves, &way, packet, depth)?;
+    }
+    Ok(moves)
+}

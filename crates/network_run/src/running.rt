@@ -1,0 +1,121 @@
+//! The run by which a network locks up.
+
+ghost use Rattle.std.specs.Prelude.{◌≡◌, ◌≤◌, IfOk};
+ghost use Rattle.network_judge.specs.Verdicts.{AllArrive, IsVerdict};
+ghost use Rattle.network_text.specs.Answer.{is_rising};
+ghost use Rattle.network_run.specs.Printed.{FindsRun, IsLockingRun, AnswersRun};
+
+use crate::filling::filling_moves;
+use crate::replaying::{Made, make_moves};
+use crate::writing::moves_text;
+use jam_search::find_jam;
+use network_jam::Fill;
+use network_judge::{Link, Verdict};
+use network_machine::{Ending, Move};
+use network_text::{Answer, Network, judge_network, verdict_text};
+use std::alloc::{AllocError, Allocator};
+
+/// The moves that fill a jam, if they lock the network up.
+///
+/// Errors: memory.
+fn locking_run<A: Allocator + Copy>(
+    alloc: A,
+    network: &Network<A>,
+    fills: &[Fill],
+    depth: u64,
+) -> Result<Option<Vec<Move, A>>, AllocError>
+    requires arrive { AllArrive network.now.table }
+    requires depth { depth ≤ 8 }
+    ensures { IfOk result (IsLockingRun network.now depth) }
+{
+    let moves = filling_moves(alloc, network, fills, depth)?;
+    match make_moves(alloc, network, &moves, depth)? {
+        Made::Ended(Ending::Locked) => Ok(Some(moves)),
+        _ => Ok(None),
+    }
+}
+
+/// A run by which a network with a cycle locks up, if one is found.
+///
+/// Errors: memory.
+fn run_of_cycle<A: Allocator + Copy>(
+    alloc: A,
+    network: &Network<A>,
+    links: &[Link],
+    depth: u64,
+) -> Result<Option<Vec<Move, A>>, AllocError>
+    requires arrive { AllArrive network.now.table }
+    requires depth { depth ≤ 8 }
+    ensures { IfOk result (IsLockingRun network.now depth) }
+{
+    let found = find_jam(
+        alloc,
+        network.kinds(),
+        network.joins(),
+        network.replies(),
+        network.choices(),
+        links,
+    )?;
+    match found {
+        None => Ok(None),
+        Some(fills) => locking_run(alloc, network, &fills, depth),
+    }
+}
+
+/// A run by which a network with this verdict locks up, if it is a cycle and one is found.
+///
+/// Errors: memory.
+fn run_of<A: Allocator + Copy>(
+    alloc: A,
+    network: &Network<A>,
+    verdict: &Verdict<A>,
+    depth: u64,
+) -> Result<Option<Vec<Move, A>>, AllocError>
+    requires verdict { IsVerdict network.now.table network.now.replies verdict.now }
+    requires depth { depth ≤ 8 }
+    ensures { IfOk result (FindsRun network.now depth verdict.now) }
+{
+    match verdict {
+        Verdict::Rising(_) => Ok(None),
+        Verdict::NoRoute(_) => Ok(None),
+        Verdict::Cycle(links) => run_of_cycle(alloc, network, links, depth),
+    }
+}
+
+/// Judges a network whose channels hold so many flits, and makes the text of the run by which it
+/// locks up, from the empty network on; where there is none, the text of the verdict.
+///
+/// Errors: memory.
+pub fn run_text<A: Allocator + Copy>(
+    alloc: A,
+    network: &Network<A>,
+    depth: u64,
+) -> Result<Answer<A>, AllocError>
+    requires { depth ≤ 8 }
+    ensures { IfOk result (AnswersRun network.now depth) }
+{
+    let verdict = judge_network(alloc, network)?;
+    let found = run_of(alloc, network, &verdict, depth)?;
+    let rising = is_rising(&verdict);
+    match found {
+        Some(moves) => Ok(Answer {
+            text: moves_text(alloc, &moves)?,
+            rising,
+        }),
+        None => Ok(Answer {
+            text: verdict_text(alloc, &verdict)?,
+            rising,
+        }),
+    }
+}
+
+/// Whether a verdict has numbers.
+fn is_rising<A: Allocator>(verdict: &Verdict<A>) -> bool
+    ensures { result ≡ is_rising verdict.now }
+{
+    match verdict {
+        Verdict::Rising(_) => true,
+        Verdict::NoRoute(_) => false,
+        Verdict::Cycle(_) => false,
+    }
+}
