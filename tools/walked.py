@@ -37,6 +37,9 @@ class Network:
     kinds: List[str] = field(default_factory=list)
     joins: List[Tuple[int, int]] = field(default_factory=list)
     choices: Dict[Tuple[int, int], int] = field(default_factory=dict)
+    # Choices behind the first one for a channel and a destination, and the escapes that `escape` lines name.
+    further: List[Tuple[int, int, int]] = field(default_factory=list)
+    escapes: Set[int] = field(default_factory=set)
     replies: List[Tuple[int, int]] = field(default_factory=list)
     routers: Dict[int, Router] = field(default_factory=dict)
     links: Dict[int, Link] = field(default_factory=dict)
@@ -60,6 +63,16 @@ class Network:
             if self.choices.setdefault((x, channels[-1]), y) != y:
                 raise Refusal(f"two choices behind channel {x} for packets to channel {channels[-1]}")
 
+    def choose(self, x: int, j: int, ys: List[int]) -> None:
+        """The choices behind a channel for packets to an ejection channel."""
+        for y in ys:
+            if self.choices.setdefault((x, j), y) != y:
+                self.further.append((x, j, y))
+
+    def is_adaptive(self) -> bool:
+        """Whether routers choose among several channels, or escapes are named."""
+        return bool(self.further or self.escapes)
+
     def text(self, named: bool = False) -> str:
         """The text of the network; with its routers and links where they are asked for."""
         if len(self.kinds) * self.ejections > MOST_CHOICES:
@@ -72,7 +85,8 @@ class Network:
             lines += [f"name {x} {it}" for x, it in sorted(self.names.items())]
         lines += [f"{kind} {x}" for x, kind in enumerate(self.kinds) if kind != "hop"]
         lines += [f"join {i} {j}" for i, j in self.joins]
-        lines += [f"next {x} {j} {y}" for (x, j), y in sorted(self.choices.items())]
+        lines += [f"next {x} {j} {y}" for x, j, y in sorted([*((x, j, y) for (x, j), y in self.choices.items()), *self.further])]
+        lines += [f"escape {y}" for y in sorted(self.escapes)]
         lines += [f"reply {x} {y}" for x, y in self.replies]
         return "\n".join(lines) + "\n"
 
@@ -82,7 +96,7 @@ def number_of(word: str) -> int:
     return int(word) if word.isascii() and word.isdigit() and len(word) <= 20 else -1
 
 
-SHAPES = {"channels": 1, "inject": 1, "eject": 1, "join": 2, "next": 3, "reply": 2}
+SHAPES = {"channels": 1, "inject": 1, "eject": 1, "join": 2, "next": 3, "reply": 2, "escape": 1}
 # The lines that change no verdict: how many words each may have behind its first.
 NAMES = {"router": (2, 4), "link": (3, 4), "name": (2, 3, 4, 5)}
 
@@ -94,6 +108,7 @@ class Reader:
     def __init__(self) -> None:
         self.net = Network()
         self.given: Set[Tuple[str, ...]] = set()
+        self.given_choices: Set[Tuple[int, int, int]] = set()
 
     def take(self, kind: str, words: List[str]) -> None:
         """Takes a line."""
@@ -166,9 +181,14 @@ class Reader:
     def next(self, x: int, j: int, y: int) -> None:
         if self.net.kinds[j] != "eject":
             raise ValueError(f"channel {j} is no ejection channel")
-        if (x, j) in self.net.choices:
+        if (x, j) in self.net.choices and (self.net.choices[x, j] == y or (x, j, y) in self.given_choices):
             raise ValueError(f"the choice behind channel {x} for packets to channel {j} is given already")
-        self.net.choices[x, j] = y
+        self.given_choices.add((x, j, y))
+        self.net.choose(x, j, [y])
+
+    def escape(self, y: int) -> None:
+        self.once("the escape", y)
+        self.net.escapes.add(y)
 
     def reply(self, x: int, y: int) -> None:
         if (self.net.kinds[x], self.net.kinds[y]) != ("eject", "inject"):
