@@ -7,4 +7,5 @@ pub mod Bridge
 pub mod Circles
 pub mod Travelled
 pub mod Rising
+pub mod Shaped
 mod Examples
