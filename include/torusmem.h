@@ -22,9 +22,8 @@
      pointer may be anything, also null. Texts, attempts, events and opening words are only read, and may overlap;
      what `out` points to is writable. None of them contains a byte of the machine or watch.
    - One call at a time for each machine and watch, from any thread: each begins after the one before it has returned,
-     which a lock, a join or an atomic orders where these are two threads. Machines and watches share nothing, and the
-     library keeps nothing of its own. That a handle may change its thread is tested, and not proved: to rest on what is
-     proved alone, make all calls for it from one thread.
+     which a lock, a join or a sequentially consistent atomic orders where these are two threads. Machines and watches
+     share nothing.
    - malloc, realloc and free, which torusmem_heap.c calls, belong to one allocator and align each block to every power
      of two up to 16 that divides its size. No call comes from a signal handler, or in the child that a process with
      threads forked.

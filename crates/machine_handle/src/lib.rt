@@ -5,3 +5,11 @@ mod handle;
 mod slot;
 
 pub use handle::Handle;
+
+/// Of what may go to another thread.
+fn crosses<T: Send>() {}
+
+/// A handle may go to another thread between two calls.
+pub fn handles_cross() {
+    crosses::<Handle>()
+}

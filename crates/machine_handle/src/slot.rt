@@ -22,6 +22,9 @@ impl Model for Slot {
     ghost also_owns = { λ s. slot_owns s.full s.at s.core };
 }
 
+// The machine, the right to free its block and the heap may go to another thread, so it may.
+unsafe impl Send for Slot {}
+
 impl Slot {
     ghost use Rattle.machine_handle.specs.Held.{LendsMachine};
 

@@ -7,3 +7,11 @@ mod slot;
 
 pub use handle::Handle;
 pub use kept::Kept;
+
+/// Of what may go to another thread.
+fn crosses<T: Send>() {}
+
+/// A handle may go to another thread between two calls.
+pub fn handles_cross() {
+    crosses::<Handle>()
+}

@@ -23,6 +23,9 @@ impl Model for Slot {
     ghost also_owns = { λ s. slot_owns s.full s.at s.watch };
 }
 
+// The watch, the right to free its block and the heap may go to another thread, so it may.
+unsafe impl Send for Slot {}
+
 impl Slot {
     ghost use Rattle.watch_handle.specs.Held.{LendsWatch};
 

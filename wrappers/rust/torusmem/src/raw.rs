@@ -12,7 +12,7 @@ use torusmem_sys::*;
 pub struct Raw(torusmem_machine);
 
 // SAFETY: calls may come from any thread, one after the other, as include/torusmem.h says: what a machine holds is its
-// own, and the library has no static data.
+// own, and the proof has the library's handle as `Send`.
 unsafe impl Send for Raw {}
 
 /// The pointer of a slice; of an empty one that of a byte.
